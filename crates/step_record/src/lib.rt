@@ -1,24 +1,27 @@
-//! The words that the crates of the simulator share.
+//! The words that all crates of the simulator share: keys and items, configurations and jobs,
+//! outcomes and their counts, and what an engine is whose every step can be undone.
+//!
+//! The crate promises that a configuration is accepted exactly where each of its numbers is in
+//! its range, and states the law that every engine keeps: a step's reply and new data depend on
+//! the step and the data before it alone, and undoing the step's record gives those data back.
 #![tactic(auto)]
 
-/// What a trace accesses and a cache holds: the number of a block.
-pub type Key = u64;
+mod config;
+mod engine;
+mod entry;
+mod gate;
+mod item;
+mod job;
+mod kept;
+mod outcome;
+mod stats;
 
-/// The number of one addition to a cache, so that two stays of one key are told apart.
-pub type Node = u64;
-
-/// A key with the number of the addition that brought it.
-#[derive(Clone, Copy, Debug, PartialEq, Eq)]
-pub struct Item {
-    pub key: Key,
-    pub node: Node,
-}
-
-/// How keys are spread over the columns of a sketch and the bits of a doorkeeper.
-#[derive(Clone, Copy, Debug, PartialEq, Eq)]
-pub enum Spread {
-    /// By a mixing function, for real traces.
-    Mixed,
-    /// By remainders, for examples that a reader can follow by hand.
-    Plain,
-}
+pub use config::{Config, ConfigFault, Spread};
+pub use engine::{Engine, StepFault};
+pub use entry::Entry;
+pub use gate::{Gate, OpenGate};
+pub use item::{Item, Key, Node};
+pub use job::{Job, Policy};
+pub use kept::{ByWorker, Kept};
+pub use outcome::Outcome;
+pub use stats::Stats;
