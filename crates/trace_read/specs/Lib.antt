@@ -1,0 +1,3 @@
+pub mod LineFault
+pub mod Lines
+pub mod Reading

@@ -1,0 +1,25 @@
+//! Reads trace files: bytes to the accesses that they name.
+//!
+//! Two formats of recorded block traces are read, LIRS and ARC. The bytes are cut into lines at
+//! each line feed, and each line by itself gives some accesses or is faulty. `read_trace` gives
+//! the accesses of all lines in order where no line is faulty, and else the fault of the first
+//! faulty line, with its number. The rules of both formats are this project's profile.
+#![tactic(auto)]
+
+mod arc;
+mod blanks;
+mod fault;
+mod format;
+mod lirs;
+mod number;
+mod parser;
+mod reader;
+mod trace;
+
+pub use fault::TraceFault;
+pub use format::Format;
+pub use reader::read_trace;
+pub use trace::Trace;
+
+#[cfg(test)]
+mod tests;

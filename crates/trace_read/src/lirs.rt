@@ -1,0 +1,38 @@
+//! A line of the LIRS format.
+ghost use Rattle.std.specs.Prelude.{◌≡◌, ◌≤◌, ◌^◌, [], ◌∷◌, OnOk, IfErr, vec_len};
+ghost use Rattle.std.specs.Str.{bytes_eq};
+ghost use Rattle.trace_read.specs.Reading.{IsRead, IsRefused};
+
+use super::TraceFault;
+use super::blanks::trimmed;
+use super::format::Format;
+use super::number::number;
+use super::trace::MOST_ACCESSES;
+use step_record::Key;
+
+fn is_lone_star(text: &[u8]) -> bool
+    ensures { result ≡ bytes_eq text.now (42 ∷ []) }
+{
+    text == b"*".as_slice()
+}
+
+/// Adds the access of a line to those of the lines before it.
+pub fn add_lirs(text: &[u8], line: u64, keys: &mut Vec<Key>) -> Result<(), TraceFault>
+    requires { vec_len keys.old ≤ 2 ^ 24 }
+    ensures ok { OnOk result (IsRead Format.Lirs line keys.old.items text.now keys.new.items) }
+    ensures within { OnOk result (vec_len keys.new ≤ 2 ^ 24) }
+    ensures err { IfErr result (IsRefused Format.Lirs line keys.old.items text.now) }
+{
+    let text = trimmed(text);
+    if text.is_empty() || is_lone_star(text) {
+        return Ok(());
+    }
+    let Some(key) = number(text) else {
+        return Err(TraceFault::BadNumber { line });
+    };
+    if keys.len() == MOST_ACCESSES {
+        return Err(TraceFault::TooLong { line });
+    }
+    keys.push(key)?;
+    Ok(())
+}

@@ -1,0 +1,55 @@
+//! A recorded trace.
+ghost use Rattle.std.specs.Prelude.{◌≡◌, ◌≤◌, ◌^◌, ◌↔◌, ℕ, List, IsTrue, length};
+
+use std::marker::Model;
+use step_record::Key;
+
+/// The most accesses that a trace has.
+pub const MOST_ACCESSES: usize = 1 << 24;
+
+/// The accesses of a trace, in order: at most 2^24 of them.
+#[derive(Debug, Drop)]
+pub struct Trace {
+    keys: Vec<Key>,
+}
+
+impl Model for Trace {
+    ghost Value = { List ℕ };
+
+    ghost view = { λ t. t.keys.items };
+
+    ghost invariant = { λ t. length t.keys.items ≤ 2 ^ 24 };
+}
+
+impl Trace {
+    /// The trace of these accesses.
+    pub fn new(keys: Vec<Key>) -> Trace
+        requires { length keys.items ≤ 2 ^ 24 }
+        ensures { result ≡ keys.items }
+    {
+        Trace { keys }
+    }
+
+    /// The keys that are accessed, in order.
+    pub fn keys(&self) -> &[Key]
+        ensures keys { result.now ≡ self.now }
+        ensures few { length self.now ≤ 2 ^ 24 }
+    {
+        self.keys.as_slice()
+    }
+
+    /// How many accesses there are.
+    pub fn len(&self) -> usize
+        ensures len { result ≡ length self.now }
+        ensures few { result ≤ 2 ^ 24 }
+    {
+        self.keys.len()
+    }
+
+    /// Whether there is no access.
+    pub fn is_empty(&self) -> bool
+        ensures { IsTrue result ↔ (length self.now ≡ 0) }
+    {
+        self.keys.is_empty()
+    }
+}
