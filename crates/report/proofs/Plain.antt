@@ -1,0 +1,83 @@
+-- A record of fields that want no quotes is written as they are, between commas.
+use Rattle.std.proofs.Common.{◌≡◌, ◌∙◌, ◌<◌, ◌≤◌, ◌^◌, ◌*◌, ◌/◌, ◌%◌, ◌||◌, ◌==◌, ℕ, Bool, true, false, List, [], ◌∷◌, ◌++◌, length, refl, ap, sym, arith, cond, codes, append_assoc}
+use Rattle.std.proofs.lemmas.List.{append-nil}
+use Rattle.std.proofs.lemmas.List.Folds.{list_any-append}
+use Rattle.std.proofs.lemmas.Bool.{ne_eqb, or_from}
+use Rattle.std.proofs.lemmas.Str.Parse.{digit_from_value}
+use Rattle.std.proofs.lemmas.Fmt.{decimal_is_IsNumeral_wide}
+use Rattle.std.specs.List.{join_with_byte, list_any}
+use Rattle.std.specs.Fmt.{decimal}
+use Rattle.std.specs.Int.{IsInRange}
+use Rattle.std.specs.Str.Parse.{AllDigits}
+use Rattle.csv.specs.Writing.{default_writer, field_text, fields_text, is_blank, needs_byte, row_body, row_text}
+use Rattle.report.specs.Text.{line_text, rate_of, rate_text_of, report_fields, report_line}
+use Rattle.step_record.specs.Job.{word_of}
+use Rattle.step_record.specs.declared.job.Policy.{Policy}
+use Rattle.step_record.specs.declared.job.Policy.TheVariants.{Lru, SegmentedLru, TinyLfuLru, TinyLfuSegmented, WindowTinyLfu, Clairvoyant}
+use Rattle.report.specs.declared.summary.Report.{Report}
+
+abbrev pub IsPlain : List ℕ → Type 0
+IsPlain field = list_any (needs_byte default_writer) field ≡ false
+
+abbrev pub AllPlain : List (List ℕ) → Type 0
+AllPlain [] = Unit {0}
+AllPlain (f ∷ fs) = IsPlain f × AllPlain fs
+
+plain_text : (f : List ℕ) → IsPlain f → field_text default_writer f ≡ f
+plain_text f h = rw h refl
+
+body : (f : List ℕ) (fs : List (List ℕ)) → AllPlain (f ∷ fs) → row_body default_writer (f ∷ fs) ≡ join_with_byte 44 (f ∷ fs)
+unfolding fields_text
+body f [] h = append-nil (field_text default_writer f) ∙ plain_text f h.0
+body f (g ∷ gs) h = ap (λ t. t ++ (44 ∷ row_body default_writer (g ∷ gs))) (plain_text f h.0) ∙ ap (λ t. f ++ (44 ∷ t)) (body g gs h.1)
+
+pub plain_row : (f g : List ℕ) (fs : List (List ℕ)) → AllPlain (f ∷ g ∷ fs) → row_text default_writer (f ∷ g ∷ fs) ≡ line_text (f ∷ g ∷ fs)
+unfolding line_text is_blank
+plain_row f g fs h = ap (λ t. t ++ 10 ∷ []) (body f (g ∷ fs) h)
+
+-- ---- which fields want no quotes
+
+digit_plain : (b : ℕ) → 48 ≤ b → b ≤ 57 → needs_byte default_writer b ≡ false
+digit_plain b low high =
+    let comma : (b == 44) ≡ false = ne_eqb _ _ (λ e. omega arith) in
+    let quote : (b == 34) ≡ false = ne_eqb _ _ (λ e. omega arith) in
+    let cr : (b == 13) ≡ false = ne_eqb _ _ (λ e. omega arith) in
+    let lf : (b == 10) ≡ false = ne_eqb _ _ (λ e. omega arith) in
+    rw (comma, quote, cr, lf) refl
+
+digits_plain : (ds : List ℕ) → AllDigits 10 ds → IsPlain ds
+digits_plain [] h = refl
+digits_plain (d ∷ ds) h =
+    let r = digit_from_value d h.0 in
+    or_from _ _ (digit_plain d (omega arith) (omega arith)) (digits_plain ds h.1)
+
+pub decimal_plain : (n : ℕ) → n < 10 ^ 64 → IsPlain (decimal n)
+decimal_plain n h = digits_plain (decimal n) (decimal_is_IsNumeral_wide n h).0.1
+
+append_plain : (xs ys : List ℕ) → IsPlain xs → IsPlain ys → IsPlain (xs ++ ys)
+append_plain xs ys h k = list_any-append _ xs ys ∙ or_from _ _ h k
+
+pub rate_plain : (n : ℕ) → n < 10 ^ 64 → IsPlain (rate_text_of n)
+unfolding rate_text_of
+rate_plain n h =
+    let tens = decimal (n % 100 / 10) in
+    let ones = decimal (n % 10) in
+    append_plain (decimal (n / 100)) (46 ∷ (tens ++ ones)) (decimal_plain (n / 100) (omega arith))
+    (append_plain (46 ∷ []) (tens ++ ones) refl
+    (append_plain tens ones (decimal_plain (n % 100 / 10) (omega arith)) (decimal_plain (n % 10) (omega arith))))
+
+pub word_plain : (p : Policy) → IsPlain (word_of p)
+word_plain Lru = refl
+word_plain SegmentedLru = refl
+word_plain TinyLfuLru = refl
+word_plain TinyLfuSegmented = refl
+word_plain WindowTinyLfu = refl
+word_plain Clairvoyant = refl
+
+-- the fields of a report of machine numbers
+pub report_plain : (r : Report) → r.capacity < 10 ^ 64 → r.accesses < 10 ^ 64 → r.hits < 10 ^ 64 → r.misses < 10 ^ 64
+    → r.evictions < 10 ^ 64 → r.rejections < 10 ^ 64 → rate_of r < 10 ^ 64 → AllPlain (report_fields r)
+report_plain r c a h m e j rate = (
+  word_plain r.policy,
+  (decimal_plain _ c, (decimal_plain _ a, (decimal_plain _ h, (decimal_plain _ m, (decimal_plain _ e, (decimal_plain _ j, (rate_plain _ rate, tt))))))),
+)

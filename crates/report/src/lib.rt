@@ -1,0 +1,17 @@
+//! Reports of policies over traces, as comma-separated text.
+//!
+//! `write_reports` promises that with `Ok` it has written exactly the header line and one line a
+//! report, each ended by a line feed. A rate is a number of hundredths of a percent, rounded
+//! down, and is never computed by floating point.
+#![tactic(auto)]
+
+mod fault;
+mod rows;
+mod summary;
+
+pub use fault::WriteFault;
+pub use rows::write_reports;
+pub use summary::Report;
+
+#[cfg(test)]
+mod tests;

@@ -1,0 +1,118 @@
+//! The rows of reports.
+ghost use Rattle.std.specs.Prelude.{◌≡◌, IfOk, OnOk, map, string_bytes};
+ghost use Rattle.std.specs.Fmt.{decimal};
+ghost use Rattle.std.specs.Io.KnownBytes.{Appends};
+ghost use Rattle.csv.specs.Writing.{default_writer, row_text, text_written};
+ghost use Rattle.report.specs.Ready.{IsReady};
+ghost use Rattle.report.specs.Text.{header_fields, line_text, rate_text_of, report_line, text_of};
+
+use super::{Report, WriteFault};
+use csv::{Writer, WriterBuilder};
+use std::alloc::{AllocError, Global};
+use std::io::Write;
+
+// The rate in percent, with two decimals.
+fn rate_text(alloc: Global, rate: u128) -> Result<String, AllocError>
+    ensures { IfOk result (λ s. string_bytes s ≡ rate_text_of rate) }
+{
+    let whole = rate / 100;
+    let tens = rate % 100 / 10;
+    let ones = rate % 10;
+    format!(in alloc; "{whole}.{tens}{ones}")
+}
+
+fn number_text(alloc: Global, n: u64) -> Result<String, AllocError>
+    ensures { IfOk result (λ s. string_bytes s ≡ decimal n) }
+{
+    n.to_string(alloc)
+}
+
+// Writes a record; into memory that fails only for want of it.
+fn write_row<W: Write + Drop>(writer: &mut Writer<W>, fields: &[&[u8]]) -> Result<(), WriteFault>
+    ensures ready { IsReady writer.old → OnOk result (IsReady writer.new) }
+    ensures text { IsReady writer.old → OnOk result (Appends (text_written W.contents writer.old)
+        (text_written W.contents writer.new) (row_text default_writer (map (λ f. f.now) fields.now))) }
+{
+    match writer.write_fields(fields) {
+        Ok(()) => Ok(()),
+        Err(_) => Err(WriteFault::OutOfMemory),
+    }
+}
+
+// Writes the names of the fields.
+fn write_header<W: Write + Drop>(writer: &mut Writer<W>) -> Result<(), WriteFault>
+    ensures ready { IsReady writer.old → OnOk result (IsReady writer.new) }
+    ensures text { IsReady writer.old → OnOk result (Appends (text_written W.contents writer.old)
+        (text_written W.contents writer.new) (line_text header_fields)) }
+{
+    let fields = [
+        "policy".as_bytes(),
+        "capacity".as_bytes(),
+        "accesses".as_bytes(),
+        "hits".as_bytes(),
+        "misses".as_bytes(),
+        "evictions".as_bytes(),
+        "rejections".as_bytes(),
+        "rate".as_bytes(),
+    ];
+    write_row(writer, fields.as_slice())
+}
+
+// Writes the fields of a report.
+fn write_report<W: Write + Drop>(
+    alloc: Global,
+    writer: &mut Writer<W>,
+    report: &Report,
+) -> Result<(), WriteFault>
+    ensures ready { IsReady writer.old → OnOk result (IsReady writer.new) }
+    ensures text { IsReady writer.old → OnOk result (Appends (text_written W.contents writer.old)
+        (text_written W.contents writer.new) (report_line report.now)) }
+{
+    let capacity = number_text(alloc, u64::from(report.capacity))?;
+    let accesses = number_text(alloc, report.accesses)?;
+    let hits = number_text(alloc, report.hits)?;
+    let misses = number_text(alloc, report.misses)?;
+    let evictions = number_text(alloc, report.evictions)?;
+    let rejections = number_text(alloc, report.rejections)?;
+    let rate = rate_text(alloc, report.rate())?;
+    let fields = [
+        report.policy.word().as_bytes(),
+        capacity.as_bytes(),
+        accesses.as_bytes(),
+        hits.as_bytes(),
+        misses.as_bytes(),
+        evictions.as_bytes(),
+        rejections.as_bytes(),
+        rate.as_bytes(),
+    ];
+    write_row(writer, fields.as_slice())
+}
+
+// The header and a row for each report.
+fn reports_text(alloc: Global, reports: &[Report]) -> Result<Vec<u8>, WriteFault>
+    ensures { IfOk result (λ v. v.items ≡ text_of reports.now) }
+{
+    let mut writer = WriterBuilder::new().from_writer(Vec::new(alloc));
+    write_header(&mut writer)?;
+    for report in reports {
+        write_report(alloc, &mut writer, report)?;
+    }
+    match writer.into_inner() {
+        Ok(text) => Ok(text),
+        Err(_) => Err(WriteFault::OutOfMemory),
+    }
+}
+
+/// Writes the header and a line for each report, in order, and flushes. The writes and flushes
+/// of one call share its interruptions, of which the millionth is `Write`.
+pub fn write_reports<W: Write>(
+    alloc: Global,
+    reports: &[Report],
+    writer: &mut W,
+) -> Result<(), WriteFault>
+    ensures { OnOk result (Appends (W.contents writer.old) (W.contents writer.new) (text_of reports.now)) }
+{
+    let text = reports_text(alloc, reports)?;
+    streams::write_all(writer, text.as_slice())?;
+    Ok(())
+}

@@ -1,0 +1,109 @@
+use super::{Report, WriteFault, write_reports};
+use std::io::{Error, ErrorKind, Result, Write};
+use std::test::Fail;
+use step_record::Policy;
+
+const COUNTED: Report = Report {
+    policy: Policy::Lru,
+    capacity: 3,
+    accesses: 6,
+    hits: 1,
+    misses: 5,
+    evictions: 2,
+    rejections: 0,
+};
+
+const EMPTY: Report = Report {
+    policy: Policy::WindowTinyLfu,
+    capacity: 1,
+    accesses: 0,
+    hits: 0,
+    misses: 0,
+    evictions: 0,
+    rejections: 0,
+};
+
+const LARGE: Report = Report {
+    policy: Policy::Clairvoyant,
+    capacity: 1_048_576,
+    accesses: 18_446_744_073_709_551_615,
+    hits: 18_446_744_073_709_551_615,
+    misses: 0,
+    evictions: 7,
+    rejections: 4,
+};
+
+const TEXT: &str = "policy,capacity,accesses,hits,misses,evictions,rejections,rate
+lru,3,6,1,5,2,0,16.66
+wtinylfu,1,0,0,0,0,0,0.00
+clairvoyant,1048576,18446744073709551615,18446744073709551615,0,7,4,100.00
+";
+
+/// Takes one byte at a time, and fails once it took so many.
+#[derive(Drop)]
+struct Pipe {
+    taken: Vec<u8>,
+    most: usize,
+}
+
+impl Write for Pipe {
+    fn write(&mut self, buf: &[u8]) -> Result<usize> {
+        if self.taken.len() == self.most {
+            return Err(Error::from(ErrorKind::BrokenPipe));
+        }
+        if buf.is_empty() {
+            return Ok(0);
+        }
+        self.taken.push(buf[0])?;
+        Ok(1)
+    }
+
+    fn flush(&mut self) -> Result<()> {
+        Ok(())
+    }
+}
+
+#[test]
+fn the_text_of_reports(rt: HostRuntime) -> std::result::Result<(), Fail> {
+    let mut out = Vec::new(rt.alloc());
+    write_reports(rt.alloc(), &[COUNTED, EMPTY, LARGE], &mut out)?;
+    assert_eq!(rt; out.as_slice(), TEXT.as_bytes());
+    assert_eq!(rt; COUNTED.rate(), 1666);
+    assert_eq!(rt; EMPTY.rate(), 0);
+    Ok(())
+}
+
+#[test]
+fn a_writer_of_single_bytes_gets_the_same_text(rt: HostRuntime) -> std::result::Result<(), Fail> {
+    let mut pipe = Pipe {
+        taken: Vec::new(rt.alloc()),
+        most: TEXT.len(),
+    };
+    write_reports(rt.alloc(), &[COUNTED, EMPTY, LARGE], &mut pipe)?;
+    assert_eq!(rt; pipe.taken.as_slice(), TEXT.as_bytes());
+    Ok(())
+}
+
+#[test]
+fn a_writer_that_gives_up_in_a_row_is_told(rt: HostRuntime) {
+    for most in [0, 63, 70] {
+        let mut pipe = Pipe {
+            taken: Vec::new(rt.alloc()),
+            most,
+        };
+        let told = write_reports(rt.alloc(), &[COUNTED], &mut pipe);
+        assert_eq!(rt; told, Err(WriteFault::Write), "after {most} bytes");
+    }
+}
+
+#[test]
+fn a_fault_is_shown_by_its_name(rt: HostRuntime) -> std::result::Result<(), Fail> {
+    for (fault, text) in [
+        (WriteFault::OutOfMemory, "OutOfMemory"),
+        (WriteFault::Write, "Write"),
+    ] {
+        let shown = format!(in rt.alloc(); "{fault}")?;
+        assert_eq!(rt; shown.as_str(), text);
+    }
+    Ok(())
+}
