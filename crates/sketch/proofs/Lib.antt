@@ -1,0 +1,6 @@
+pub mod Digits
+pub mod Places
+pub mod Tables
+pub mod Halving
+pub mod Halves
+pub mod Undoing
