@@ -127,3 +127,14 @@ nibble_zero n i = rw (zeros n (i / 16)) (zero_nibble (i % 16))
 
 pub counter_at_lt : (ws : List ℕ) (i : ℕ) → nibble (get_or ws (i / 16) 0) (i % 16) < 16
 counter_at_lt ws i = nibble_lt (i % 16) (get_or ws (i / 16) 0)
+
+-- words of the same digits
+pub same_digits : (k x y : ℕ) → x < 2 ^ (4 * k) → y < 2 ^ (4 * k) → ((n : ℕ) → n < k → nibble x n ≡ nibble y n) → x ≡ y
+unfolding nibble
+same_digits zero x y f g h = omega arith
+same_digits (suc k) x y f g h =
+    let f' : x < 16 * 2 ^ (4 * k) = rw (four_more k) at f in
+    let g' : y < 16 * 2 ^ (4 * k) = rw (four_more k) at g in
+    let low : x % 16 ≡ y % 16 = h 0 (omega arith) in
+    let high : x / 16 ≡ y / 16 = same_digits k (x / 16) (y / 16) (omega arith) (omega arith) (λ n v. h (suc n) (omega arith)) in
+    omega (arith, low, high)

@@ -5,14 +5,15 @@ use Rattle.std.proofs.lemmas.Nat.{div-add-mod'}
 use Rattle.std.proofs.lemmas.Bool.{cases_lt}
 use Rattle.step_record.specs.declared.Spread.{Spread}
 use Rattle.sketch.specs.Counters.{nibble, counter_at}
-use Rattle.sketch.specs.Laws.{halved_word, odd_bits, lost_word, lost_of_word}
+use Rattle.sketch.specs.Laws.{halved_word, odd_bits, lost_word, lost_of_word, unhalved_words}
 use Rattle.sketch.specs.Laws.{lost_bit}
 use Rattle.sketch.specs.Places.{by_place}
 use Rattle.sketch.specs.HalveRecord.{halve_record_of, unhalved}
 use Rattle.sketch.specs.Sketch.{Table, halved, IsTable}
-use Rattle.sketch.proofs.Digits.{nibble_lt, zero_nibble}
+use Rattle.std.proofs.lemmas.Nat.{and_le_r}
+use Rattle.sketch.proofs.Digits.{same_digits, nibble_lt, zero_nibble}
 use Rattle.sketch.proofs.Halving.{nibble_halved, nibble_odd, lost_digit, nibble_doubled}
-use Rattle.sketch.proofs.Places.{length-by_place, get_or-by_place, by_place_same, small_by_place}
+use Rattle.sketch.proofs.Places.{length-by_place, get_or-by_place, by_place_same, by_place_whole, small_by_place}
 use Rattle.sketch.proofs.Tables.{table}
 
 module _ (ws : List ℕ) where
@@ -76,3 +77,39 @@ table_is w s ws wide = record {
   whole = length-by_place (4 * w) (counter_at ws);
   small = λ i. small_by_place (4 * w) (counter_at ws) (λ i h. let l : counter_at ws i < 16 = nibble_lt (i % 16) (get_or ws (i / 16) 0) in omega (arith, l)) i;
 }
+
+-- no counter is over 7 once it is halved
+pub low_halved : (ws : List ℕ) (i : ℕ) → counter_at (map halved_word ws) i ≤ 7
+low_halved ws i =
+    elim (cases_lt i (16 * length ws)) as (λ _. counter_at (map halved_word ws) i ≤ 7) [
+      | inl a ↦ let e = halved_at ws i a in let l : counter_at ws i < 16 = nibble_lt (i % 16) (get_or ws (i / 16) 0) in omega (arith, e, l)
+      | inr a ↦ let z : counter_at (map halved_word ws) i ≡ 0 = low_past (map halved_word ws) i (let n = length-map ws halved_word in omega (arith, n)) in omega (arith, z)
+    ]
+
+-- a word halved, and unhalved by the bits that it lost
+word_undone : (ws : List ℕ) (m i : ℕ) → i / 4 < m → get_or ws i 0 < 2 ^ 64 → 2 * halved_word (get_or ws i 0) + lost_of_word (by_place m (lost_word ws)) i ≡ get_or ws i 0
+word_undone ws m i w lt =
+    let x = get_or ws i 0 in
+    let h = halved_word x in
+    let b = lost_of_word (by_place m (lost_word ws)) i in
+    let q : 4 * (i / 4) + i % 4 ≡ i = omega arith in
+    let bits : (n : ℕ) → n < 16 → nibble b n ≡ nibble x n % 2 = λ n v.
+      ap (λ y. nibble (odd_bits (y / 2 ^ (i % 4))) n) (get_or-by_place m (lost_word ws) (i / 4) 0 w)
+      ∙ lost_digit ws (i / 4) (i % 4) n (omega arith) v
+      ∙ ap (λ j. nibble (get_or ws j 0) n % 2) q in
+    let halves : (n : ℕ) → n < 16 → nibble h n ≡ nibble x n / 2 = λ n v. nibble_halved n x v in
+    let low : (n : ℕ) → n < 16 → nibble h n ≤ 7 = λ n v. let e = halves n v in let l = nibble_lt n x in omega (arith, e, l) in
+    let few : (n : ℕ) → n < 16 → nibble b n ≤ 1 = λ n v. let e = bits n v in omega (arith, e) in
+    let hb : h ≤ 8608480567731124087 = and_le_r (x / 2) 8608480567731124087 in
+    let bb : b ≤ 1229782938247303441 = and_le_r (get_or (by_place m (lost_word ws)) (i / 4) 0 / 2 ^ (i % 4)) 1229782938247303441 in
+    same_digits 16 (2 * h + b) x (omega (arith, hb, bb)) lt (λ n v.
+      nibble_doubled 16 n h b v low few ∙ rw (halves n v, bits n v) (omega arith))
+
+pub words_undone : (ws new lost : List ℕ) (m : ℕ) → m ≡ (length ws + 3) / 4 → new ≡ map halved_word ws → lost ≡ by_place m (lost_word ws) → ((i : ℕ) → i < length ws → get_or ws i 0 < 2 ^ 64)
+  → unhalved_words new lost ≡ ws
+words_undone ws new lost m few e f fits =
+    let n : length (map halved_word ws) ≡ length ws = length-map ws halved_word in
+    ap (λ v. unhalved_words v lost) e ∙ ap (λ v. unhalved_words (map halved_word ws) v) f
+    ∙ ap (λ k. by_place k (λ i. 2 * get_or (map halved_word ws) i 0 + lost_of_word (by_place m (lost_word ws)) i)) n
+    ∙ by_place_same (length ws) _ (λ i. get_or ws i 0) 0 (λ i h. rw (get_or-map halved_word ws i 0 0 h) (word_undone ws m i (omega (arith, few)) (fits i h)))
+    ∙ by_place_whole ws (length ws) 0 refl

@@ -3,4 +3,5 @@ pub mod Places
 pub mod Tables
 pub mod Halving
 pub mod Halves
+pub mod Eights
 pub mod Undoing

@@ -1,6 +1,7 @@
 -- Words of counters, halved all at once, and the bits that are lost (this project's profile).
-use Rattle.std.specs.Prelude.{ℕ, ◌+◌, ◌*◌, ◌/◌, ◌%◌, ◌^◌, List, slice_index, bit_and, bit_or}
+use Rattle.std.specs.Prelude.{ℕ, ◌+◌, ◌*◌, ◌/◌, ◌%◌, ◌^◌, List, length, slice_index, bit_and, bit_or}
 use Rattle.sketch.specs.Counters.{nibble}
+use Rattle.sketch.specs.Places.{by_place}
 
 -- each of a word's counters floored to its half: the bit that comes from the counter above is masked out
 abbrev pub halved_word : ℕ → ℕ
@@ -19,6 +20,10 @@ lost_word words j =
 -- the lost bits of word i
 abbrev pub lost_of_word : List ℕ → ℕ → ℕ
 lost_of_word lost i = odd_bits (slice_index lost (i / 4) / 2 ^ (i % 4))
+
+-- each word doubled, with its lost bits added
+abbrev pub unhalved_words : List ℕ → List ℕ → List ℕ
+unhalved_words words lost = by_place (length words) (λ i. 2 * slice_index words i + lost_of_word lost i)
 
 -- the lost bit of counter i
 abbrev pub lost_bit : List ℕ → ℕ → ℕ

@@ -6,6 +6,7 @@
 //! leaves are each a function of the counters before the call.
 #![tactic(auto)]
 
+mod blocks;
 mod columns;
 mod counters;
 mod halve_record;

@@ -122,3 +122,57 @@ impl Sketch {
         a.min(b).min(c.min(d))
     }
 }
+
+#[cfg(test)]
+mod tests {
+    use super::*;
+    use std::test::Fail;
+
+    #[test]
+    fn touches_and_halves_and_undoes(rt: HostRuntime) -> Result<(), Fail> {
+        for spread in [Spread::Plain, Spread::Mixed] {
+            let mut sketch = Sketch::new(rt.alloc(), 16, spread)?;
+            let first = sketch.touch(5);
+            let second = sketch.touch(5);
+            let third = sketch.touch(5);
+            assert_eq!(rt; sketch.least(5), 3);
+            assert_eq!(rt; sketch.counter(1, column(spread, 5, 1, 16)), 3);
+            let halving = sketch.halve()?;
+            assert_eq!(rt; (sketch.least(5), halving.words()), (1, 1));
+            sketch.unhalve(halving);
+            assert_eq!(rt; sketch.least(5), 3);
+            sketch.untouch(third);
+            sketch.untouch(second);
+            assert_eq!(rt; sketch.least(5), 1);
+            sketch.untouch(first);
+            assert_eq!(rt; sketch.least(5), 0);
+        }
+        Ok(())
+    }
+
+    // A halving's record has a word for 16 columns.
+    #[test]
+    fn counts_the_words_of_a_halving(rt: HostRuntime) -> Result<(), Fail> {
+        let mut sketch = Sketch::new(rt.alloc(), 1024, Spread::Mixed)?;
+        assert_eq!(rt; sketch.halve()?.words(), 64);
+        Ok(())
+    }
+
+    // Where memory for a halving is refused, the counters stay as they were.
+    #[test]
+    fn keeps_its_counters_without_memory(rt: HostRuntime) -> Result<(), Fail> {
+        let mut sketch = match Sketch::new(rt.alloc(), 16, Spread::Plain) {
+            Ok(sketch) => sketch,
+            Err(AllocError) => Sketch::new(rt.alloc(), 16, Spread::Plain)?,
+        };
+        for _ in 0..20 {
+            let _ = sketch.touch(3);
+        }
+        if let Err(AllocError) = sketch.halve() {
+            assert_eq!(rt; sketch.least(3), 15);
+            let _ = sketch.halve()?;
+        }
+        assert_eq!(rt; sketch.least(3), 7);
+        Ok(())
+    }
+}
