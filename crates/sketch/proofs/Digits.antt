@@ -1,7 +1,6 @@
 -- One digit of a word.
-use Rattle.std.proofs.Common.{◌≡◌, ◌≢◌, ℕ, suc, zero, ◌+◌, ◌-◌, ◌*◌, ◌/◌, ◌%◌, ◌<◌, ◌≤◌, ◌^◌, min, List, length, get_or, set, replicate, bit_and, refl, ap, ◌∙◌, sym, arith, inl, inr, subst}
-use Rattle.std.proofs.Math.Nat.{pow-suc}
-use Rattle.std.proofs.lemmas.Nat.{shr-shr, and_mask, pow-add, one_shl}
+use Rattle.std.proofs.Common.{◌≡◌, ◌≢◌, ℕ, suc, zero, ◌+◌, ◌-◌, ◌*◌, ◌/◌, ◌%◌, ◌<◌, ◌≤◌, ◌^◌, List, length, get_or, set, replicate, refl, ap, ◌∙◌, arith, inl, inr}
+use Rattle.std.proofs.lemmas.Nat.{shr-shr, pow-add, one_shl}
 use Rattle.std.proofs.lemmas.List.{get_or-set_same, get_or-set_other}
 use Rattle.std.proofs.lemmas.Bool.{cases_eq}
 use Rattle.sketch.specs.Counters.{nibble}

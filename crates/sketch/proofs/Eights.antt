@@ -4,7 +4,7 @@ use Rattle.std.proofs.lemmas.List.{drop_more, get_or-map, length-map, get_or-set
 use Rattle.std.proofs.lemmas.Nat.{and_le_r, mul-le}
 use Rattle.std.proofs.lemmas.Bool.{cases_lt, cases_eq}
 use Rattle.std.proofs.lemmas.Bool.Decides.{nat_tests}
-use Rattle.std.proofs.lemmas.Simd.{get_or-put_chunk_below, get_or-put_chunk_at, get_or-put_chunk_above, length-chunk, get_or-chunk}
+use Rattle.std.proofs.lemmas.Simd.{get_or-put_chunk_at, get_or-put_chunk_above, length-chunk, get_or-chunk}
 use lib.Lanes.{chunk, put_chunk}
 use Rattle.sketch.specs.Counters.{nibble}
 use Rattle.sketch.specs.Laws.{halved_word, odd_bits, lost_word, lost_of_word}
@@ -82,15 +82,15 @@ lost_in_block lost b t h =
 
 -- two words written side by side
 pub two_more : (f : ℕ → ℕ) (xs : List ℕ) (at a b : ℕ) → at + 1 < length xs → ((j : ℕ) → j < at → get_or xs j 0 ≡ f j) → a ≡ f at → b ≡ f (at + 1)
-  → (j : ℕ) → j < at + 2 → get_or (set (set xs at a) (at + 1) b) j 0 ≡ f j
+    → (j : ℕ) → j < at + 2 → get_or (set (set xs at a) (at + 1) b) j 0 ≡ f j
 two_more f xs at a b w before here next j h =
     let n : length (set xs at a) ≡ length xs = length-set xs at a in
     elim (cases_eq j (at + 1)) as (λ _. get_or (set (set xs at a) (at + 1) b) j 0 ≡ f j) [
       | inl e ↦ rw e (get_or-set_same (set xs at a) (at + 1) b 0 (omega (arith, n)) ∙ next)
       | inr d ↦ get_or-set_other (set xs at a) (at + 1) j b 0 d ∙ elim (cases_eq j at) as (λ _. get_or (set xs at a) j 0 ≡ f j) [
-          | inl e ↦ rw e (get_or-set_same xs at a 0 (omega arith) ∙ here)
-          | inr o ↦ get_or-set_other xs at j a 0 o ∙ before j (omega arith)
-        ]
+        | inl e ↦ rw e (get_or-set_same xs at a 0 (omega arith) ∙ here)
+        | inr o ↦ get_or-set_other xs at j a 0 o ∙ before j (omega arith)
+      ]
     ]
 
 -- eight words doubled, with the lost bits of the first four and of the others

@@ -1,7 +1,6 @@
 -- A halving of a whole table, and its undoing.
-use Rattle.std.proofs.Common.{◌≡◌, ◌≢◌, ℕ, suc, zero, ◌+◌, ◌-◌, ◌*◌, ◌/◌, ◌%◌, ◌<◌, ◌≤◌, ◌^◌, List, length, get_or, map, refl, ap, ◌∙◌, sym, arith, inl, inr}
+use Rattle.std.proofs.Common.{◌≡◌, ℕ, ◌+◌, ◌*◌, ◌/◌, ◌%◌, ◌<◌, ◌≤◌, ◌^◌, List, length, get_or, map, refl, ap, ◌∙◌, sym, arith, inl, inr}
 use Rattle.std.proofs.lemmas.List.{get_or-map, get_or_past, length-map}
-use Rattle.std.proofs.lemmas.Nat.{div-add-mod'}
 use Rattle.std.proofs.lemmas.Bool.{cases_lt}
 use Rattle.step_record.specs.declared.Spread.{Spread}
 use Rattle.sketch.specs.Counters.{nibble, counter_at}
@@ -58,17 +57,20 @@ module _ (w : ℕ) (s : Spread) (some : 0 < w) (ws : List ℕ) (whole : w ≡ 4 
       let e : 64 * n ≡ 4 * w = omega (arith, whole, few) in
       ap (λ (k : ℕ). by_place k (lost_bit (by_place n (lost_word ws)))) e
       ∙ by_place_same (4 * w) (lost_bit (by_place n (lost_word ws))) (λ i. get_or (by_place (4 * w) (counter_at ws)) i 0 % 2) 0 (λ i h.
-          lost_at ws n i few (omega (arith, whole)) ∙ ap (λ x. x % 2) (sym (get_or-by_place (4 * w) (counter_at ws) i 0 h)))
+      lost_at ws n i few (omega (arith, whole)) ∙ ap (λ x. x % 2) (sym (get_or-by_place (4 * w) (counter_at ws) i 0 h)))
 
   pub unhalve_after : (lost : List ℕ) → ((i : ℕ) → counter_at ws i ≤ 7) → length ws ≡ 4 * length lost
-    → table w s some (counter_at (by_place (length ws) (λ i. 2 * get_or ws i 0 + lost_of_word lost i))) ≡ unhalved (by_place (64 * length lost) (lost_bit lost)) (table w s some (counter_at ws))
+      → table w s some (counter_at (by_place (length ws) (λ i. 2 * get_or ws i 0 + lost_of_word lost i))) ≡ unhalved (by_place (64 * length lost) (lost_bit lost)) (table w s some (counter_at ws))
   unhalve_after lost low few = ap (λ (cs : List ℕ). let t : Table = record { width = w; spread = s; counters = cs } in t)
       (by_place_same (4 * w) _ _ 0 (λ i h.
-        let v : i / 16 < length ws = omega (arith, whole) in
-        rw (get_or-by_place (length ws) (λ i. 2 * get_or ws i 0 + lost_of_word lost i) (i / 16) 0 v,
-          get_or-by_place (4 * w) (counter_at ws) i 0 h, get_or-by_place (64 * length lost) (lost_bit lost) i 0 (omega (arith, whole, few)))
-        (nibble_doubled 16 (i % 16) (get_or ws (i / 16) 0) (lost_of_word lost (i / 16)) (omega arith) (λ m b. low_digit ws (i / 16) m b low)
-          (λ m b. let o = nibble_odd m (get_or lost (i / 16 / 4) 0 / 2 ^ (i / 16 % 4)) b in omega (arith, o)))))
+      let v : i / 16 < length ws = omega (arith, whole) in
+      rw (
+        get_or-by_place (length ws) (λ i. 2 * get_or ws i 0 + lost_of_word lost i) (i / 16) 0 v,
+        get_or-by_place (4 * w) (counter_at ws) i 0 h,
+        get_or-by_place (64 * length lost) (lost_bit lost) i 0 (omega (arith, whole, few)),
+      )
+      (nibble_doubled 16 (i % 16) (get_or ws (i / 16) 0) (lost_of_word lost (i / 16)) (omega arith) (λ m b. low_digit ws (i / 16) m b low)
+      (λ m b. let o = nibble_odd m (get_or lost (i / 16 / 4) 0 / 2 ^ (i / 16 % 4)) b in omega (arith, o)))))
 
 -- the counters of any words make a table
 pub table_is : (w : ℕ) (s : Spread) (ws : List ℕ) → 16 ≤ w → IsTable record { width = w; spread = s; counters = by_place (4 * w) (counter_at ws) }
@@ -94,19 +96,19 @@ word_undone ws m i w lt =
     let b = lost_of_word (by_place m (lost_word ws)) i in
     let q : 4 * (i / 4) + i % 4 ≡ i = omega arith in
     let bits : (n : ℕ) → n < 16 → nibble b n ≡ nibble x n % 2 = λ n v.
-      ap (λ y. nibble (odd_bits (y / 2 ^ (i % 4))) n) (get_or-by_place m (lost_word ws) (i / 4) 0 w)
-      ∙ lost_digit ws (i / 4) (i % 4) n (omega arith) v
-      ∙ ap (λ j. nibble (get_or ws j 0) n % 2) q in
+    ap (λ y. nibble (odd_bits (y / 2 ^ (i % 4))) n) (get_or-by_place m (lost_word ws) (i / 4) 0 w)
+    ∙ lost_digit ws (i / 4) (i % 4) n (omega arith) v
+    ∙ ap (λ j. nibble (get_or ws j 0) n % 2) q in
     let halves : (n : ℕ) → n < 16 → nibble h n ≡ nibble x n / 2 = λ n v. nibble_halved n x v in
     let low : (n : ℕ) → n < 16 → nibble h n ≤ 7 = λ n v. let e = halves n v in let l = nibble_lt n x in omega (arith, e, l) in
     let few : (n : ℕ) → n < 16 → nibble b n ≤ 1 = λ n v. let e = bits n v in omega (arith, e) in
     let hb : h ≤ 8608480567731124087 = and_le_r (x / 2) 8608480567731124087 in
     let bb : b ≤ 1229782938247303441 = and_le_r (get_or (by_place m (lost_word ws)) (i / 4) 0 / 2 ^ (i % 4)) 1229782938247303441 in
     same_digits 16 (2 * h + b) x (omega (arith, hb, bb)) lt (λ n v.
-      nibble_doubled 16 n h b v low few ∙ rw (halves n v, bits n v) (omega arith))
+    nibble_doubled 16 n h b v low few ∙ rw (halves n v, bits n v) (omega arith))
 
 pub words_undone : (ws new lost : List ℕ) (m : ℕ) → m ≡ (length ws + 3) / 4 → new ≡ map halved_word ws → lost ≡ by_place m (lost_word ws) → ((i : ℕ) → i < length ws → get_or ws i 0 < 2 ^ 64)
-  → unhalved_words new lost ≡ ws
+    → unhalved_words new lost ≡ ws
 words_undone ws new lost m few e f fits =
     let n : length (map halved_word ws) ≡ length ws = length-map ws halved_word in
     ap (λ v. unhalved_words v lost) e ∙ ap (λ v. unhalved_words (map halved_word ws) v) f

@@ -1,10 +1,9 @@
 -- What a halving does to a word's digits.
-use Rattle.std.proofs.Common.{◌≡◌, ◌≢◌, ℕ, suc, zero, ◌+◌, ◌-◌, ◌*◌, ◌/◌, ◌%◌, ◌<◌, ◌≤◌, ◌^◌, List, length, get_or, bit_and, bit_or, refl, ap, ◌∙◌, sym, arith, inl, inr}
-use Rattle.std.proofs.lemmas.Nat.{and_mask, and_block, or_block, or_comm, or_shifted, or_lt, pow-add}
-use Rattle.sketch.specs.Counters.{nibble, counter_at}
-use Rattle.sketch.specs.Laws.{halved_word, odd_bits, lost_word, lost_of_word}
-use Rattle.sketch.specs.Laws.{lost_bit}
-use Rattle.sketch.proofs.Digits.{four_more, nibble_lt}
+use Rattle.std.proofs.Common.{◌≡◌, ℕ, suc, zero, ◌+◌, ◌*◌, ◌/◌, ◌%◌, ◌<◌, ◌≤◌, ◌^◌, List, get_or, bit_and, bit_or, ap, ◌∙◌, arith}
+use Rattle.std.proofs.lemmas.Nat.{and_mask, and_block, or_block, or_comm, or_shifted, or_lt}
+use Rattle.sketch.specs.Counters.{nibble}
+use Rattle.sketch.specs.Laws.{halved_word, odd_bits, lost_word}
+use Rattle.sketch.proofs.Digits.{four_more}
 
 mask : ℕ → ℕ → ℕ
 mask d zero = 0
@@ -87,14 +86,25 @@ union_digits : (k n a b c d : ℕ) → n < k → nibble (union (bit_and a (mask 
 unfolding nibble mask four_bits
 union_digits zero n a b c d w = absurd (omega arith)
 union_digits (suc k) zero a b c d w =
-    rw (odd_step a (mask 1 k), odd_step b (mask 1 k), odd_step c (mask 1 k), odd_step d (mask 1 k),
-      union_step (a % 2) (b % 2) (c % 2) (d % 2) (bit_and (a / 16) (mask 1 k)) (bit_and (b / 16) (mask 1 k)) (bit_and (c / 16) (mask 1 k)) (bit_and (d / 16) (mask 1 k)) (omega arith) (omega arith) (omega arith) (omega arith))
-      (omega arith)
+    rw (
+      odd_step a (mask 1 k),
+      odd_step b (mask 1 k),
+      odd_step c (mask 1 k),
+      odd_step d (mask 1 k),
+      union_step (a % 2) (b % 2) (c % 2) (d % 2) (bit_and (a / 16) (mask 1 k)) (bit_and (b / 16) (mask 1 k)) (bit_and (c / 16) (mask 1 k)) (bit_and (d / 16) (mask 1 k)) (omega arith) (omega arith) (omega arith) (omega arith),
+    )
+    (omega arith)
 union_digits (suc k) (suc n) a b c d w =
     let e : (union (bit_and (a / 16) (mask 1 k)) (bit_and (b / 16) (mask 1 k)) (bit_and (c / 16) (mask 1 k)) (bit_and (d / 16) (mask 1 k)) * 16 + (a % 2 + 2 * (b % 2) + 4 * (c % 2) + 8 * (d % 2))) / 16 ≡ union (bit_and (a / 16) (mask 1 k)) (bit_and (b / 16) (mask 1 k)) (bit_and (c / 16) (mask 1 k)) (bit_and (d / 16) (mask 1 k)) = omega arith in
-    rw (odd_step a (mask 1 k), odd_step b (mask 1 k), odd_step c (mask 1 k), odd_step d (mask 1 k),
-      union_step (a % 2) (b % 2) (c % 2) (d % 2) (bit_and (a / 16) (mask 1 k)) (bit_and (b / 16) (mask 1 k)) (bit_and (c / 16) (mask 1 k)) (bit_and (d / 16) (mask 1 k)) (omega arith) (omega arith) (omega arith) (omega arith), e)
-      (union_digits k n (a / 16) (b / 16) (c / 16) (d / 16) (omega arith))
+    rw (
+      odd_step a (mask 1 k),
+      odd_step b (mask 1 k),
+      odd_step c (mask 1 k),
+      odd_step d (mask 1 k),
+      union_step (a % 2) (b % 2) (c % 2) (d % 2) (bit_and (a / 16) (mask 1 k)) (bit_and (b / 16) (mask 1 k)) (bit_and (c / 16) (mask 1 k)) (bit_and (d / 16) (mask 1 k)) (omega arith) (omega arith) (omega arith) (omega arith),
+      e,
+    )
+    (union_digits k n (a / 16) (b / 16) (c / 16) (d / 16) (omega arith))
 
 nibble_lost : (ws : List ℕ) (j n : ℕ) → n < 16 → nibble (lost_word ws j) n ≡ four_bits n (get_or ws (4 * j) 0) (get_or ws (4 * j + 1) 0) (get_or ws (4 * j + 2) 0) (get_or ws (4 * j + 3) 0)
 unfolding mask union

@@ -1,7 +1,7 @@
 -- A table whose counters are given place by place.
-use Rattle.std.proofs.Common.{◌⊎◌, ◌≡◌, ◌≢◌, ℕ, suc, zero, ◌+◌, ◌-◌, ◌*◌, ◌/◌, ◌%◌, ◌^◌, ◌<◌, ◌≤◌, min, Bool, true, false, cond, eqb, nat_lt, ◌&&◌, List, length, get_or, refl, ap, ◌∙◌, sym, arith, inl, inr}
+use Rattle.std.proofs.Common.{◌⊎◌, ◌≡◌, ℕ, suc, zero, ◌+◌, ◌-◌, ◌*◌, ◌/◌, ◌%◌, ◌^◌, ◌<◌, ◌≤◌, min, Bool, true, false, cond, eqb, nat_lt, ◌&&◌, List, get_or, refl, ap, ◌∙◌, sym, arith, inl, inr}
 use Rattle.std.proofs.lemmas.Nat.{pow-add, div-mul-add, mod-mul-add, div-add-mod', div_below}
-use Rattle.std.proofs.lemmas.Bool.{cases_eq, eqb-true, eq-eqb, ltb-true, ltb-false}
+use Rattle.std.proofs.lemmas.Bool.{eqb-true, eq-eqb, ltb-true, ltb-false}
 use Rattle.std.proofs.lemmas.Bool.Decides.{nat_tests}
 use Rattle.step_record.specs.declared.Spread.{Spread}
 use Rattle.sketch.specs.declared.touch_record.TouchRecord.{TouchRecord}
@@ -9,7 +9,7 @@ use Rattle.sketch.specs.Columns.{column, column_below}
 use Rattle.sketch.specs.Places.{by_place}
 use Rattle.sketch.specs.Sketch.{Table, counter_of, is_of, at_key, touched}
 use Rattle.sketch.specs.TouchRecord.{touch_record_of, rose, untouched, FitsTouch}
-use Rattle.sketch.proofs.Places.{length-by_place, get_or-by_place, by_place_same}
+use Rattle.sketch.proofs.Places.{get_or-by_place, by_place_same}
 
 pub two : (b : Bool) → (b ≡ true) ⊎ (b ≡ false)
 two true = inl refl
@@ -47,10 +47,10 @@ module _ (w : ℕ) (s : Spread) (some : 0 < w) where
     pub unkeyed : (h : ℕ → ℕ → ℕ) → ((i : ℕ) → i < 4 * w → is_of s w key i ≡ true → h (i / w) (g (i / w) (f i)) ≡ f i) → at_key key h (at_key key g (table f)) ≡ table f
     unkeyed h back = ap (λ (cs : List ℕ). let t : Table = record { width = w; spread = s; counters = cs } in t)
         (by_place_same (4 * w) _ f 0 (λ i lt. rw (changed_at i lt)
-          (elim (two (is_of s w key i)) as (λ _. cond (is_of s w key i) (h (i / w) (cond (is_of s w key i) (g (i / w) (f i)) (f i))) (cond (is_of s w key i) (g (i / w) (f i)) (f i)) ≡ f i) [
-            | inl e ↦ rw e (back i lt e)
-            | inr e ↦ rw e refl
-          ])))
+        (elim (two (is_of s w key i)) as (λ _. cond (is_of s w key i) (h (i / w) (cond (is_of s w key i) (g (i / w) (f i)) (f i))) (cond (is_of s w key i) (g (i / w) (f i)) (f i)) ≡ f i) [
+          | inl e ↦ rw e (back i lt e)
+          | inr e ↦ rw e refl
+        ])))
 
     pub own_counter : (row : ℕ) → row < 4 → counter_of key (at_key key g (table f)) row ≡ g row (f (row * w + column s key row w))
     own_counter row h =
@@ -71,19 +71,19 @@ module _ (w : ℕ) (s : Spread) (some : 0 < w) where
 
     pub touch_undone : ((i : ℕ) → f i ≤ 15) → untouched (touch_record_of key (table f)) (touched key (table f)) ≡ table f
     touch_undone small = unkeyed key (λ row x. min 15 (x + 1)) f (λ row x. cond (rose (touch_record_of key (table f)) row) (x - 1) x) (λ i lt e.
-      let d : i / w < 4 = div_below i w 4 some lt in
-      let p : f (i / w * w + column s key (i / w) w) ≡ f i = ap f (sym (own_place key i e)) in
-      rw (flag (i / w) d, p) (elim (two (nat_lt (f i) 15)) as (λ _. cond (nat_lt (f i) 15) (min 15 (f i + 1) - 1) (min 15 (f i + 1)) ≡ f i) [
-        | inl q ↦ rw q (let lt15 : f i < 15 = ltb-true _ _ q in omega arith)
-        | inr q ↦ rw q (let ge15 : 15 ≤ f i = ltb-false _ _ q in omega (arith, small i))
-      ]))
+        let d : i / w < 4 = div_below i w 4 some lt in
+        let p : f (i / w * w + column s key (i / w) w) ≡ f i = ap f (sym (own_place key i e)) in
+        rw (flag (i / w) d, p) (elim (two (nat_lt (f i) 15)) as (λ _. cond (nat_lt (f i) 15) (min 15 (f i + 1) - 1) (min 15 (f i + 1)) ≡ f i) [
+          | inl q ↦ rw q (let lt15 : f i < 15 = ltb-true _ _ q in omega arith)
+          | inr q ↦ rw q (let ge15 : 15 ≤ f i = ltb-false _ _ q in omega (arith, small i))
+        ]))
 
     pub touch_fits : FitsTouch (touch_record_of key (table f)) (touched key (table f))
     touch_fits = record {
       raised = λ row h e. rw (own_counter key (λ row x. min 15 (x + 1)) f row h) (omega arith);
       full = λ row h e.
-        let ge15 : 15 ≤ f (row * w + column s key row w) = ltb-false _ _ (sym (flag row h) ∙ e) in
-        rw (own_counter key (λ row x. min 15 (x + 1)) f row h) (omega arith);
+          let ge15 : 15 ≤ f (row * w + column s key row w) = ltb-false _ _ (sym (flag row h) ∙ e) in
+          rw (own_counter key (λ row x. min 15 (x + 1)) f row h) (omega arith);
     }
 
   pub fits_some : (r : TouchRecord) (f : ℕ → ℕ) → FitsTouch r (table f) → (row : ℕ) → row < 4 → rose r row ≡ true → 0 < f (row * w + column s r.key row w)

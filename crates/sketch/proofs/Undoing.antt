@@ -1,7 +1,6 @@
 -- What undoes a touch and a halving, over any table.
-use Rattle.std.proofs.Common.{◌≡◌, ℕ, ◌+◌, ◌*◌, ◌/◌, ◌%◌, ◌≤◌, min, Bool, true, false, cond, List, length, get_or, ap, ◌∙◌, subst, arith}
+use Rattle.std.proofs.Common.{◌≡◌, ℕ, ◌+◌, ◌*◌, ◌/◌, ◌%◌, ◌≤◌, min, Bool, true, false, cond, List, get_or, ap, ◌∙◌, subst, arith}
 use Rattle.sketch.specs.declared.touch_record.TouchRecord.{TouchRecord}
-use Rattle.sketch.specs.Places.{by_place}
 use Rattle.sketch.specs.Sketch.{Table, is_of, touched, halved, IsTable}
 use Rattle.sketch.specs.TouchRecord.{touch_record_of, untouched, FitsTouch}
 use Rattle.sketch.specs.HalveRecord.{halve_record_of, unhalved, FitsHalve}
@@ -29,16 +28,16 @@ module _ (t : Table) (is : IsTable t) where
   pub halve_undone : unhalved (halve_record_of t) (halved t) ≡ t
   halve_undone =
       ap (λ (cs : List ℕ). let u : Table = record { width = t.width; spread = t.spread; counters = cs } in u)
-        (by_place_same (4 * t.width) _ (λ i. get_or t.counters i 0) 0 (λ i h.
-          rw (get_or-by_place (4 * t.width) (λ i. get_or t.counters i 0 / 2) i 0 h, get_or-by_place (4 * t.width) (λ i. get_or t.counters i 0 % 2) i 0 h) (omega arith)))
+      (by_place_same (4 * t.width) _ (λ i. get_or t.counters i 0) 0 (λ i h.
+      rw (get_or-by_place (4 * t.width) (λ i. get_or t.counters i 0 / 2) i 0 h, get_or-by_place (4 * t.width) (λ i. get_or t.counters i 0 % 2) i 0 h) (omega arith)))
       ∙ rebuilt
 
   pub halve_fits : FitsHalve (halve_record_of t) (halved t)
   halve_fits = record {
     whole = length-by_place (4 * t.width) (λ i. get_or t.counters i 0 % 2);
     low = λ i h.
-      let e = get_or-by_place (4 * t.width) (λ i. get_or t.counters i 0 / 2) i 0 h in
-      omega (arith, e, is.small i);
+        let e = get_or-by_place (4 * t.width) (λ i. get_or t.counters i 0 / 2) i 0 h in
+        omega (arith, e, is.small i);
   }
 
   -- the same of a record and a table that are known by equations

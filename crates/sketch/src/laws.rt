@@ -4,7 +4,7 @@ ghost use Rattle.sketch.specs.Counters.{nibble, counter_at};
 ghost use Rattle.sketch.specs.Laws.{halved_word, odd_bits, lost_word, lost_of_word, unhalved_words};
 ghost use Rattle.sketch.specs.Places.{by_place};
 
-use crate::blocks::{halve_block, unhalve_block, ONES, SEVENS};
+use crate::blocks::{ONES, SEVENS, halve_block, unhalve_block};
 
 /// Halves each of the sixteen counters of each word, and fills `lost` with the bits that are lost: those of the words
 /// 4j to 4j+3 fill its word j, each a place further than the one before, and a word that is missing counts as 0.
@@ -92,10 +92,8 @@ fn unhalve_rest(words: &mut [u64], lost: &[u64], from: usize)
     requires whole { length lost.now ≡ (length words.old + 3) / 4 }
     requires low { (k : ℕ) → from ≤ k → (n : ℕ) → n < 16 → nibble (slice_index words.old k) n ≤ 7 }
     ensures before { (k : ℕ) → k < from → slice_index words.new k ≡ slice_index words.old k }
-    ensures rest {
-        (k : ℕ) → from ≤ k → k < length words.old
-          → slice_index words.new k ≡ 2 * slice_index words.old k + lost_of_word lost.now k
-    }
+    ensures rest { (k : ℕ) → from ≤ k → k < length words.old
+        → slice_index words.new k ≡ 2 * slice_index words.old k + lost_of_word lost.now k }
 {
     for i in from..words.len() {
         words[i] = doubled(words[i], lost[i / 4], i % 4);
@@ -139,7 +137,9 @@ mod tests {
             let mut seed = 0x9E37_79B9_7F4A_7C15u64;
             let mut words = vec![in rt.alloc(); 0u64; len]?;
             for word in words.iter_mut() {
-                seed = seed.wrapping_mul(6364136223846793005).wrapping_add(1442695040888963407);
+                seed = seed
+                    .wrapping_mul(6364136223846793005)
+                    .wrapping_add(1442695040888963407);
                 *word = seed ^ (seed >> 29);
             }
             let old = words.clone()?;

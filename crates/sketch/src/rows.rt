@@ -16,10 +16,8 @@ pub fn raise_rows(words: &mut [u64], width: u32, spread: Spread, key: Key) -> [b
     requires low { 1 ≤ width }
     requires high { width ≤ 2 ^ 20 }
     requires whole { width ≡ 4 * length words.old }
-    ensures counters {
-        (i : ℕ) → counter_at words.new i
-          ≡ cond (nat_lt (i / width) 4 && is_of spread width key i) (min 15 (counter_at words.old i + 1)) (counter_at words.old i)
-    }
+    ensures counters { (i : ℕ) → counter_at words.new i
+        ≡ cond (nat_lt (i / width) 4 && is_of spread width key i) (min 15 (counter_at words.old i + 1)) (counter_at words.old i) }
     ensures rose { result ≡ by_place 4 (λ row. nat_lt (counter_at words.old (row * width + column_of spread key row width)) 15) }
 {
     let mut rose = [false; 4];
@@ -35,16 +33,12 @@ pub fn lower_rows(words: &mut [u64], width: u32, spread: Spread, done: &TouchRec
     requires low { 1 ≤ width }
     requires high { width ≤ 2 ^ 20 }
     requires whole { width ≡ 4 * length words.old }
-    requires some {
-        (row : ℕ) → row < 4 → rose_of done.now row ≡ true
-          → 0 < counter_at words.old (row * width + column_of spread done.now.key row width)
-    }
-    ensures {
-        (i : ℕ) → counter_at words.new i
-          ≡ cond (nat_lt (i / width) 4 && is_of spread width done.now.key i)
-              (cond (rose_of done.now (i / width)) (counter_at words.old i - 1) (counter_at words.old i))
-              (counter_at words.old i)
-    }
+    requires some { (row : ℕ) → row < 4 → rose_of done.now row ≡ true
+        → 0 < counter_at words.old (row * width + column_of spread done.now.key row width) }
+    ensures { (i : ℕ) → counter_at words.new i
+        ≡ cond (nat_lt (i / width) 4 && is_of spread width done.now.key i)
+        (cond (rose_of done.now (i / width)) (counter_at words.old i - 1) (counter_at words.old i))
+        (counter_at words.old i) }
 {
     for row in 0..4u32 {
         let at = row * width + column(spread, done.key, row, width);

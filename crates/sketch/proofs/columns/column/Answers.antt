@@ -1,4 +1,4 @@
-use Rattle.std.proofs.Common.{◌%◌, rules, refl, ◌∙◌, ap, sym}
+use Rattle.std.proofs.Common.{◌%◌, ◌∙◌, ap}
 use Rattle.sketch.specs.Columns.{column as column_of}
 use Rattle.sketch.proofs.columns.column.Goals as goal
 use Rattle.sketch.proofs.columns.column.Goals.{in-Mixed, in-Plain}

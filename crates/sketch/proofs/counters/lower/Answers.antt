@@ -1,4 +1,4 @@
-use Rattle.std.proofs.Common.{◌%◌, ◌/◌, ◌*◌, ◌^◌, ◌≤◌, get_or}
+use Rattle.std.proofs.Common.{◌%◌, ◌/◌, get_or}
 use Rattle.sketch.proofs.Digits.{some_le, unit, lowered_here, lowered_other}
 use Rattle.sketch.proofs.counters.lower.Goals as goal
 

@@ -1,4 +1,4 @@
-use Rattle.std.proofs.Common.{◌%◌, ◌/◌, ◌*◌, ◌^◌, ◌≤◌, ◌<◌, ◌+◌, min, get_or, nat_lt, arith, ◌∙◌, true, false, ◌≡◌, sym, Fits, w64}
+use Rattle.std.proofs.Common.{◌%◌, ◌/◌, ◌^◌, ◌<◌, ◌+◌, min, get_or, arith, ◌∙◌, ◌≡◌}
 use Rattle.sketch.specs.Counters.{nibble}
 use Rattle.sketch.proofs.Digits.{fits_more, unit, raised_here, raised_other, nibble_lt}
 use Rattle.sketch.proofs.counters.raise.Goals as goal

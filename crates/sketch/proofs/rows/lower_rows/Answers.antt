@@ -1,4 +1,4 @@
-use Rattle.std.proofs.Common.{◌≡◌, ℕ, ◌+◌, ◌-◌, ◌*◌, ◌<◌, min, nat_lt, cond, true, false, get_or, length, arith, ap, ◌∙◌, sym, refl}
+use Rattle.std.proofs.Common.{ℕ, ◌-◌, ◌<◌, cond}
 use Rattle.sketch.specs.Counters.{counter_at}
 use Rattle.sketch.specs.TouchRecord.{rose}
 use Rattle.sketch.specs.Columns.{column, column_below}

@@ -1,8 +1,7 @@
-use Rattle.std.proofs.Common.{◌≡◌, ℕ, ◌+◌, ◌-◌, ◌*◌, ◌/◌, ◌<◌, ◌&&◌, cond, nat_lt, min, false, length, get_or}
+use Rattle.std.proofs.Common.{◌≡◌, ℕ, ◌-◌, ◌/◌, ◌&&◌, cond, nat_lt}
 use Rattle.sketch.specs.Counters.{counter_at}
 use Rattle.sketch.specs.Sketch.{is_of}
 use Rattle.sketch.specs.TouchRecord.{rose}
-use Rattle.sketch.specs.Columns.{column}
 use Rattle.sketch.proofs.rows.lower_rows.Given as goal
 
 abbrev pub invariant-loop-row : goal.invariant-loop-row

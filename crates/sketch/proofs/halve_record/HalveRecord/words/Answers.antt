@@ -1,4 +1,4 @@
-use Rattle.std.proofs.Common.{◌≡◌, ℕ, ◌+◌, ◌*◌, ◌/◌, arith, length}
+use Rattle.std.proofs.Common.{◌*◌, arith, length}
 use Rattle.sketch.specs.Laws.{lost_bit}
 use Rattle.sketch.proofs.Places.{length-by_place}
 use Rattle.sketch.proofs.halve_record.HalveRecord.words.Goals as goal

@@ -1,6 +1,5 @@
-use Rattle.std.proofs.Common.{arith, ◌∙◌, sym, ap, ◌+◌, ◌*◌, ◌<◌, ◌≤◌, ◌≡◌, get_or}
+use Rattle.std.proofs.Common.{sym, ◌+◌, ◌*◌, ◌<◌}
 use Rattle.sketch.specs.Counters.{counter_at}
-use Rattle.sketch.specs.Places.{by_place}
 use Rattle.sketch.proofs.Places.{get_or-by_place}
 use Rattle.sketch.proofs.Tables.{cell_within}
 use Rattle.sketch.proofs.sketch.Sketch.counter.Goals as goal

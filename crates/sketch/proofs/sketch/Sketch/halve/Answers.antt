@@ -1,4 +1,4 @@
-use Rattle.std.proofs.Common.{◌≡◌, ℕ, List, arith, ◌∙◌, sym, ap, ◌+◌, ◌-◌, ◌*◌, ◌/◌, ◌<◌, ◌≤◌, get_or, length, map}
+use Rattle.std.proofs.Common.{◌≡◌, arith, ◌∙◌, ◌*◌, ◌<◌, length}
 use Rattle.std.specs.Vec.{with_items}
 use Rattle.std.proofs.lemmas.List.{with_items_is}
 use Rattle.sketch.specs.Laws.{lost_word}
@@ -23,7 +23,7 @@ returns-clause-record_is c =
     let m : length c.halve_words.new.lost ≡ c.in_ok-lost.lost.len = omega (arith, c.halve_words.auto.lost, c.deref_mut-2.ensures.len) in
     let few : 4 * length c.deref_mut-2.result.now ≡ length c.self.inside.words.items = omega (arith, c.deref_mut-2.ensures.len, c.in_ok-lost.ensures.len, c.len.ensures, c.self.inside.words.ok.0, c.self.invariant.2, c.self.invariant.3) in
     let lost : (with_items c.in_ok-lost.lost c.halve_words.new.lost).items ≡ by_place (length c.deref_mut-2.result.now) (lost_word c.self.inside.words.items) =
-      with_items_is c.in_ok-lost.lost c.halve_words.new.lost m ∙ rw c.deref_mut.ensures.value at c.halve_words.ensures.lost in
+    with_items_is c.in_ok-lost.lost c.halve_words.new.lost m ∙ rw c.deref_mut.ensures.value at c.halve_words.ensures.lost in
     let count = length-by_place (length c.deref_mut-2.result.now) (lost_word c.self.inside.words.items) in
     rw (← c.self.view_is, lost, count) (lost_is c.self.inside.width c.self.inside.spread some c.self.inside.words.items c.self.invariant.2 (length c.deref_mut-2.result.now) few)
 

@@ -1,5 +1,4 @@
-use Rattle.std.proofs.Common.{arith, rules, replicate, ◌∙◌, sym, ap, ◌≡◌, ◌+◌, ◌*◌, ◌/◌, ◌%◌, ◌<◌, ◌≤◌, length, get_or, refl, List, ℕ}
-use Rattle.std.proofs.lemmas.List.{get_or-replicate}
+use Rattle.std.proofs.Common.{arith, rules, replicate, ap, ◌≡◌, ◌*◌, ◌/◌, length, List, ℕ}
 use Rattle.sketch.specs.Counters.{counter_at}
 use Rattle.sketch.specs.Sketch.{Table}
 use Rattle.sketch.proofs.Places.{by_place_same}
@@ -18,4 +17,4 @@ pub returns : goal.returns
 returns c =
     let e : c.in_ok-words.words.items ≡ replicate (c.args.width / 4) 0 = search rules in
     ap (λ (cs : List ℕ). let t : Table = record { width = c.args.width; spread = c.args.spread; counters = cs } in t)
-      (by_place_same (4 * c.args.width) (counter_at c.in_ok-words.words.items) (λ i. 0) 0 (λ i h. rw e (nibble_zero (c.args.width / 4) i)))
+    (by_place_same (4 * c.args.width) (counter_at c.in_ok-words.words.items) (λ i. 0) 0 (λ i h. rw e (nibble_zero (c.args.width / 4) i)))

@@ -1,4 +1,4 @@
-use Rattle.std.proofs.Common.{◌≡◌, ℕ, List, Bool, arith, ◌∙◌, sym, ap, ◌+◌, ◌*◌, ◌<◌, ◌≤◌, min, nat_lt, length, get_or}
+use Rattle.std.proofs.Common.{◌≡◌, List, Bool, arith, ◌∙◌, ap, ◌+◌, ◌<◌, min, length}
 use Rattle.std.specs.Vec.{with_items}
 use Rattle.std.proofs.lemmas.List.{with_items_is}
 use Rattle.sketch.specs.declared.touch_record.TouchRecord.{TouchRecord}
@@ -22,7 +22,7 @@ returns-clause-record_is c =
     let some : 0 < c.self.inside.width = omega (arith, c.self.invariant.0) in
     let flags = rw c.deref_mut.ensures.value at c.raise_rows-rose.ensures.rose in
     rw (← c.self.view_is) (ap (λ (bs : List Bool). let r : TouchRecord = record { key = c.args.key; rose = bs } in r)
-      (flags ∙ record_is c.self.inside.width c.self.inside.spread some c.args.key (counter_at c.self.inside.words.items)))
+    (flags ∙ record_is c.self.inside.width c.self.inside.spread some c.args.key (counter_at c.self.inside.words.items)))
 
 pub returns-clause-fits : goal.returns-clause-fits
 returns-clause-fits c =

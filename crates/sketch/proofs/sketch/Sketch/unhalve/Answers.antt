@@ -1,10 +1,8 @@
-use Rattle.std.proofs.Common.{◌≡◌, ℕ, List, arith, ◌∙◌, sym, ap, ◌+◌, ◌-◌, ◌*◌, ◌/◌, ◌<◌, ◌≤◌, get_or, length}
+use Rattle.std.proofs.Common.{◌≡◌, arith, ◌*◌, ◌<◌, length}
 use Rattle.std.specs.Vec.{with_items}
 use Rattle.std.proofs.lemmas.List.{with_items_is}
 use Rattle.sketch.specs.Counters.{counter_at}
-use Rattle.sketch.specs.Laws.{lost_of_word}
 use Rattle.sketch.specs.Laws.{lost_bit}
-use Rattle.sketch.specs.Places.{by_place}
 use Rattle.sketch.proofs.Places.{length-by_place, get_or-by_place}
 use Rattle.sketch.proofs.Halves.{unhalve_after, low_everywhere}
 use Rattle.sketch.proofs.sketch.Sketch.unhalve.Goals as goal
@@ -19,7 +17,7 @@ pub unhalve_words-requires-clause-low : goal.unhalve_words-requires-clause-low
 unhalve_words-requires-clause-low c =
     let fit = rw (← c.self.view_is) at c.requires.low in
     rw c.deref_mut.ensures.value (low_everywhere c.self.inside.words.items c.self.inside.width c.self.invariant.2
-      (λ i h. let e = get_or-by_place (4 * c.self.inside.width) (counter_at c.self.inside.words.items) i 0 h in let f = fit i h in omega (arith, e, f)))
+    (λ i h. let e = get_or-by_place (4 * c.self.inside.width) (counter_at c.self.inside.words.items) i 0 h in let f = fit i h in omega (arith, e, f)))
 
 pub returns : goal.returns
 returns c =
@@ -31,6 +29,6 @@ returns c =
     let count = length-by_place (64 * length c.done.inside.words.items) (lost_bit c.done.inside.words.items) in
     let fit = rw (← c.self.view_is) at c.requires.low in
     let low = low_everywhere c.self.inside.words.items c.self.inside.width c.self.invariant.2
-      (λ i h. let e = get_or-by_place (4 * c.self.inside.width) (counter_at c.self.inside.words.items) i 0 h in let f = fit i h in omega (arith, e, f)) in
+    (λ i h. let e = get_or-by_place (4 * c.self.inside.width) (counter_at c.self.inside.words.items) i 0 h in let f = fit i h in omega (arith, e, f)) in
     rw (← c.self.view_is, ← c.done.view_is, items, words)
-      (unhalve_after c.self.inside.width c.self.inside.spread some c.self.inside.words.items c.self.invariant.2 c.done.inside.words.items low (omega (arith, whole, count, c.self.invariant.2)))
+    (unhalve_after c.self.inside.width c.self.inside.spread some c.self.inside.words.items c.self.invariant.2 c.done.inside.words.items low (omega (arith, whole, count, c.self.invariant.2)))

@@ -1,7 +1,7 @@
-use Rattle.std.proofs.Common.{◌≡◌, ℕ, List, arith, ◌∙◌, sym, ap, ◌+◌, ◌-◌, ◌*◌, ◌<◌, ◌≤◌, cond, get_or, length}
+use Rattle.std.proofs.Common.{◌≡◌, arith, ◌-◌, ◌<◌, cond, length}
 use Rattle.std.specs.Vec.{with_items}
 use Rattle.std.proofs.lemmas.List.{with_items_is}
-use Rattle.sketch.specs.Counters.{nibble, counter_at}
+use Rattle.sketch.specs.Counters.{counter_at}
 use Rattle.sketch.specs.TouchRecord.{rose}
 use Rattle.sketch.proofs.Tables.{keyed, fits_some}
 use Rattle.sketch.proofs.sketch.Sketch.untouch.Goals as goal
