@@ -174,3 +174,62 @@ fn all_bits(words: &[u64], a: usize, b: usize, c: usize) -> bool
     let c = bits::get(words, c);
     a & b & c
 }
+
+#[cfg(test)]
+mod tests {
+    use super::*;
+    use std::test::Fail;
+
+    // Worked out from the rule by a calculator of its own.
+    const PROBES: [(Spread, u32, Key, [usize; 3]); 16] = [
+        (Spread::Plain, 64, 0, [0, 0, 0]),
+        (Spread::Plain, 64, 1, [1, 1, 1]),
+        (Spread::Plain, 64, 1 << 32, [0, 0, 0]),
+        (Spread::Plain, 64, u64::MAX, [63, 62, 61]),
+        (Spread::Plain, 1 << 23, 0, [0, 0, 0]),
+        (Spread::Plain, 1 << 23, 1, [1, 1, 1]),
+        (Spread::Plain, 1 << 23, 1 << 32, [0, 512, 1024]),
+        (Spread::Plain, 1 << 23, u64::MAX, [8388607, 8388606, 8388605]),
+        (Spread::Mixed, 64, 0, [27, 42, 33]),
+        (Spread::Mixed, 64, 1, [57, 0, 37]),
+        (Spread::Mixed, 64, 1 << 32, [47, 32, 52]),
+        (Spread::Mixed, 64, u64::MAX, [46, 51, 37]),
+        (Spread::Mixed, 1 << 23, 0, [2651291, 8299242, 4535009]),
+        (Spread::Mixed, 1 << 23, 1, [112057, 1376896, 3554469]),
+        (Spread::Mixed, 1 << 23, 1 << 32, [2292975, 1834336, 3735988]),
+        (Spread::Mixed, 1 << 23, u64::MAX, [27054, 3717939, 540581]),
+    ];
+
+    #[test]
+    fn probes_by_the_rule(rt: HostRuntime) {
+        for (spread, size, key, want) in PROBES {
+            assert!(rt; 1 <= size && size <= 1 << 23);
+            let found = [probe(spread, key, 0, size), probe(spread, key, 1, size), probe(spread, key, 2, size)];
+            assert_eq!(rt; found, want, "of key {key} in {size} bits");
+        }
+    }
+
+    #[test]
+    fn holds_and_forgets_and_restores(rt: HostRuntime) -> Result<(), Fail> {
+        for spread in [Spread::Plain, Spread::Mixed] {
+            let mut door = Doorkeeper::new(rt.alloc(), 64, spread)?;
+            let put = door.put(5);
+            assert!(rt; door.has(5) && !door.has(6));
+            let old = door.clear()?;
+            assert!(rt; !door.has(5));
+            assert_eq!(rt; old.words(), 1);
+            door.restore(old);
+            assert!(rt; door.has(5));
+            door.unput(put);
+            assert!(rt; !door.has(5));
+        }
+        Ok(())
+    }
+
+    #[test]
+    fn counts_the_words_of_an_emptying(rt: HostRuntime) -> Result<(), Fail> {
+        let mut door = Doorkeeper::new(rt.alloc(), 8192, Spread::Mixed)?;
+        assert_eq!(rt; door.clear()?.words(), 128);
+        Ok(())
+    }
+}

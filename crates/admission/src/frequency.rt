@@ -207,3 +207,133 @@ impl Frequency {
         self.door.restore(door);
     }
 }
+
+#[cfg(test)]
+mod tests {
+    use super::*;
+    use std::process::Abort;
+    use std::test::Fail;
+
+    // Records a key; where memory is refused, sees that nothing changed, and asks again.
+    fn record(rt: &impl Abort, frequency: &mut Frequency, key: Key) -> Result<FreqRecord, AllocError>
+        ensures fits { IfOk result (λ r. FitsRecord r frequency.new) }
+        ensures undone { IfOk result (λ r. undone r frequency.new ≡ frequency.old) }
+    {
+        assert!(rt; frequency.halvings() < u64::MAX);
+        let before = (frequency.age(), frequency.halvings(), frequency.estimate(key));
+        match frequency.record(key) {
+            Ok(done) => Ok(done),
+            Err(AllocError) => {
+                assert_eq!(rt; (frequency.age(), frequency.halvings(), frequency.estimate(key)), before);
+                frequency.record(key)
+            }
+        }
+    }
+
+    fn open(alloc: Global, capacity: u32, spread: Spread) -> Result<Frequency, AllocError>
+        requires some { 1 ≤ capacity }
+        requires few { capacity ≤ 2 ^ 20 }
+    {
+        match Frequency::new(alloc, capacity, spread) {
+            Ok(frequency) => Ok(frequency),
+            Err(AllocError) => Frequency::new(alloc, capacity, spread),
+        }
+    }
+
+    // A key that comes twenty times, so that its counters stand at 15 when they are halved; then six steps back.
+    #[test]
+    fn undoes_a_touch_and_a_halving_in_one(rt: HostRuntime) -> Result<(), Fail> {
+        for spread in [Spread::Plain, Spread::Mixed] {
+            let mut frequency = open(rt.alloc(), 2, spread)?;
+            for _ in 0..14 {
+                let _ = record(&rt, &mut frequency, 5)?;
+            }
+            let fifteenth = record(&rt, &mut frequency, 5)?;
+            let sixteenth = record(&rt, &mut frequency, 5)?;
+            let seventeenth = record(&rt, &mut frequency, 5)?;
+            let eighteenth = record(&rt, &mut frequency, 5)?;
+            let nineteenth = record(&rt, &mut frequency, 5)?;
+            assert_eq!(rt; nineteenth.words(), 0);
+            assert_eq!(rt; (frequency.sketch().least(5), frequency.age(), frequency.estimate(5)), (15, 19, 16));
+            let twentieth = record(&rt, &mut frequency, 5)?;
+            assert_eq!(rt; twentieth.words(), 2);
+            assert_eq!(rt; (frequency.sketch().least(5), frequency.age(), frequency.estimate(5)), (7, 10, 7));
+            assert!(rt; !frequency.doorkeeper().has(5) && frequency.halvings() == 1);
+            frequency.unrecord(twentieth);
+            assert_eq!(rt; (frequency.sketch().least(5), frequency.age(), frequency.estimate(5)), (15, 19, 16));
+            frequency.unrecord(nineteenth);
+            frequency.unrecord(eighteenth);
+            frequency.unrecord(seventeenth);
+            frequency.unrecord(sixteenth);
+            frequency.unrecord(fifteenth);
+            assert_eq!(rt; (frequency.sketch().least(5), frequency.age(), frequency.estimate(5)), (13, 14, 14));
+        }
+        Ok(())
+    }
+
+    #[test]
+    fn gives_odd_counters_back(rt: HostRuntime) -> Result<(), Fail> {
+        for spread in [Spread::Plain, Spread::Mixed] {
+            let mut frequency = open(rt.alloc(), 2, spread)?;
+            for i in 0..19u64 {
+                let _ = record(&rt, &mut frequency, if i < 4 { 3 } else { 5 })?;
+            }
+            assert_eq!(rt; (frequency.sketch().least(3), frequency.sketch().least(5)), (3, 14));
+            let last = record(&rt, &mut frequency, 5)?;
+            assert_eq!(rt; (frequency.sketch().least(3), frequency.sketch().least(5)), (1, 7));
+            frequency.unrecord(last);
+            assert_eq!(rt; (frequency.sketch().least(3), frequency.sketch().least(5)), (3, 14));
+        }
+        Ok(())
+    }
+
+    // The squares modulo 7, of which the definition was worked out by a calculator of its own, over lists of keys.
+    #[test]
+    fn estimates_by_the_definition(rt: HostRuntime) -> Result<(), Fail> {
+        for spread in [Spread::Plain, Spread::Mixed] {
+            for (count, age, halvings, estimates) in [
+                (19, 19, 0, [3, 5, 6, 0, 5, 0, 0]),
+                (20, 10, 1, [1, 2, 2, 0, 2, 0, 0]),
+                (29, 19, 1, [3, 5, 4, 0, 4, 0, 0]),
+                (45, 15, 3, [1, 3, 2, 0, 3, 0, 0]),
+                (49, 19, 3, [1, 4, 4, 0, 4, 0, 0]),
+            ] {
+                let mut frequency = open(rt.alloc(), 2, spread)?;
+                for i in 0..count {
+                    let _ = record(&rt, &mut frequency, u64::wrapping_mul(i, i) % 7)?;
+                }
+                assert_eq!(rt; (frequency.age(), frequency.halvings()), (age, halvings), "after {count} keys");
+                for key in 0..7u64 {
+                    assert_eq!(rt; frequency.estimate(key), estimates[key as usize], "of {key} after {count} keys");
+                }
+            }
+        }
+        Ok(())
+    }
+
+    #[test]
+    fn admits_no_tie(rt: HostRuntime) -> Result<(), Fail> {
+        for spread in [Spread::Plain, Spread::Mixed] {
+            let mut frequency = open(rt.alloc(), 1, spread)?;
+            let _ = record(&rt, &mut frequency, 1)?;
+            let _ = record(&rt, &mut frequency, 2)?;
+            assert_eq!(rt; (frequency.estimate(1), frequency.estimate(2), frequency.admits(2, 1)), (1, 1, false));
+            let _ = record(&rt, &mut frequency, 2)?;
+            assert_eq!(rt; (frequency.estimate(1), frequency.estimate(2), frequency.admits(2, 1)), (1, 2, true));
+        }
+        Ok(())
+    }
+
+    // A capacity of 1000: 64 words of lost bits and 128 of the doorkeeper.
+    #[test]
+    fn counts_the_words_of_a_halving(rt: HostRuntime) -> Result<(), Fail> {
+        let mut frequency = open(rt.alloc(), 1000, Spread::Mixed)?;
+        for key in 0..9999u64 {
+            let _ = record(&rt, &mut frequency, key % 1500)?;
+        }
+        assert_eq!(rt; frequency.halvings(), 0);
+        assert_eq!(rt; record(&rt, &mut frequency, 7)?.words(), 192);
+        assert_eq!(rt; (frequency.halvings(), frequency.age()), (1, 5000));
+        Ok(())
+    }
+}

@@ -21,3 +21,23 @@ pub fn size_for(capacity: u32) -> u32
 {
     (8 * capacity).max(64).next_power_of_two()
 }
+
+#[cfg(test)]
+mod tests {
+    use super::*;
+
+    #[test]
+    fn grows_with_the_capacity(rt: HostRuntime) {
+        for (capacity, width, size) in [
+            (1, 16, 64),
+            (2, 16, 64),
+            (16, 16, 128),
+            (17, 32, 256),
+            (1000, 1024, 8192),
+            (1 << 20, 1 << 20, 1 << 23),
+        ] {
+            assert!(rt; 1 <= capacity && capacity <= 1 << 20);
+            assert_eq!(rt; (width_for(capacity), size_for(capacity)), (width, size), "of {capacity}");
+        }
+    }
+}

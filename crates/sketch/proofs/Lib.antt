@@ -4,4 +4,5 @@ pub mod Tables
 pub mod Halving
 pub mod Halves
 pub mod Eights
+pub mod Masks
 pub mod Undoing

@@ -1,5 +1,5 @@
 //! Where a key counts.
-ghost use Rattle.std.specs.Prelude.{◌≡◌, ◌<◌, ◌≤◌, ◌^◌};
+ghost use Rattle.std.specs.Prelude.{◌≡◌, ◌<◌, ◌≤◌, ◌%◌, ◌^◌};
 ghost use Rattle.sketch.specs.Columns.{column as column_of, mix as mix_of};
 
 use step_record::{Key, Spread};
@@ -11,6 +11,14 @@ fn mix(z: u64) -> u64
     let a = (z ^ (z >> 30)).wrapping_mul(0xBF58476D1CE4E5B9);
     let b = (a ^ (a >> 27)).wrapping_mul(0x94D049BB133111EB);
     b ^ (b >> 31)
+}
+
+// A power of two, as every table's width is, is masked by and not divided by.
+fn remainder(n: u64, width: u64) -> u64
+    requires { 1 ≤ width }
+    ensures { result ≡ n % width }
+{
+    if width.is_power_of_two() { n & (width - 1) } else { n % width }
 }
 
 /// The column of a key in a row, of 1 to 2^23 columns. A sketch has the rows 0 to 3; the rows 4 to 6 are there for
@@ -29,7 +37,7 @@ pub fn column(spread: Spread, key: Key, row: u32, width: u32) -> u32
     let at = match spread {
         Spread::Mixed => {
             let step = (row as u64 + 1).wrapping_mul(0x9E3779B97F4A7C15);
-            mix(key.wrapping_add(step)) % width
+            remainder(mix(key.wrapping_add(step)), width)
         }
         Spread::Plain => (key % width + row as u64 * (key / width % width)) % width,
     };

@@ -7,6 +7,6 @@ pub returns-clause-value : goal.returns-clause-value
 unfolding column_of
 returns-clause-value c =
     elim c.match-spread.branch [
-      | in-Mixed w ↦ rw w.in-Mixed.is (w.at-is ∙ ap (λ m. m % c.args.width) w.mix.ensures)
+      | in-Mixed w ↦ rw w.in-Mixed.is (w.at-is ∙ w.remainder-at.ensures ∙ ap (λ m. m % c.args.width) w.mix.ensures)
       | in-Plain w ↦ rw w.in-Plain.is w.at-is
     ]
