@@ -1,5 +1,5 @@
 -- A doorkeeper whose bits are given by their numbers.
-use Rattle.std.proofs.Common.{◌≡◌, ◌≢◌, ℕ, suc, zero, ◌+◌, ◌*◌, ◌/◌, ◌%◌, ◌^◌, ◌<◌, ◌≤◌, Bool, true, false, not, cond, eqb, ◌&&◌, ◌||◌, List, [], ◌∷◌, length, get_or, refl, ap, ◌∙◌, sym, arith, inl, inr, ◌⊎◌}
+use Rattle.std.proofs.Common.{◌≡◌, ℕ, suc, zero, ◌+◌, ◌*◌, ◌/◌, ◌^◌, ◌<◌, ◌≤◌, Bool, true, false, not, eqb, ◌&&◌, ◌||◌, List, [], ◌∷◌, get_or, refl, ap, ◌∙◌, sym, arith}
 use Rattle.std.proofs.lemmas.Nat.{pow-add}
 use Rattle.std.proofs.lemmas.Bool.{eqb-true}
 use Rattle.step_record.specs.declared.Spread.{Spread}
@@ -7,8 +7,8 @@ use Rattle.sketch.specs.Places.{by_place}
 use Rattle.sketch.proofs.Places.{length-by_place, get_or-by_place, by_place_same}
 use Rattle.admission.specs.declared.door_record.DoorRecord.{DoorRecord}
 use Rattle.admission.specs.DoorRecord.{door_record_of, was_set, taken_out, FitsPut}
-use Rattle.admission.specs.Doorkeeper.{Door, probe, is_probe, has, is_set, put_in, IsDoor}
-use Rattle.admission.proofs.Recording.{probe_below, two}
+use Rattle.admission.specs.Doorkeeper.{Door, probe, is_probe, has, put_in, IsDoor}
+use Rattle.admission.proofs.Recording.{probe_below}
 
 part : (f0 fa a : Bool) → (a ≡ true → fa ≡ f0) → (not fa && a) ≡ (not f0 && a)
 part f0 fa true p = rw (p refl) refl
@@ -27,7 +27,7 @@ last false a b c = anti (a || b || c)
 
 -- what was clear and is set now, taken out again
 gone : (f0 fa fb fc a b c : Bool) → (a ≡ true → fa ≡ f0) → (b ≡ true → fb ≡ f0) → (c ≡ true → fc ≡ f0)
-  → ((f0 || (a || b || c)) && not ((not fa && a) || (not fb && b) || (not fc && c))) ≡ f0
+    → ((f0 || (a || b || c)) && not ((not fa && a) || (not fb && b) || (not fc && c))) ≡ f0
 gone f0 fa fb fc a b c p q r = rw (part f0 fa a p, part f0 fb b q, part f0 fc c r) (last f0 a b c)
 
 -- one that was clear is one of the three
@@ -74,13 +74,13 @@ module _ (d : ℕ) (s : Spread) (some : 0 < d) where
       pub put_undone : taken_out r (door f') ≡ door f
       put_undone = ap (λ (bs : List Bool). let t : Door = record { size = d; spread = s; bits = bs } in t)
           (by_place_same d _ f false (λ i h. rw (was i, get_or-by_place d f' i false h, after i)
-            (gone (f i) (f (probe s key 0 d)) (f (probe s key 1 d)) (f (probe s key 2 d)) (eqb (probe s key 0 d) i) (eqb (probe s key 1 d) i) (eqb (probe s key 2 d) i)
-              (same_bit (probe s key 0 d) i) (same_bit (probe s key 1 d) i) (same_bit (probe s key 2 d) i))))
+          (gone (f i) (f (probe s key 0 d)) (f (probe s key 1 d)) (f (probe s key 2 d)) (eqb (probe s key 0 d) i) (eqb (probe s key 1 d) i) (eqb (probe s key 2 d) i)
+          (same_bit (probe s key 0 d) i) (same_bit (probe s key 1 d) i) (same_bit (probe s key 2 d) i))))
 
       pub put_fits : FitsPut r (door f')
       put_fits = record {
         set = λ i h w.
-          get_or-by_place d f' i false h ∙ after i ∙ held (f i) (f (probe s key 0 d)) (f (probe s key 1 d)) (f (probe s key 2 d)) (eqb (probe s key 0 d) i) (eqb (probe s key 1 d) i) (eqb (probe s key 2 d) i) (sym (was i) ∙ w);
+            get_or-by_place d f' i false h ∙ after i ∙ held (f i) (f (probe s key 0 d)) (f (probe s key 1 d)) (f (probe s key 2 d)) (eqb (probe s key 0 d) i) (eqb (probe s key 1 d) i) (eqb (probe s key 2 d) i) (sym (was i) ∙ w);
       }
 
   pub take_after : (r : DoorRecord) (f f' : ℕ → Bool) → ((i : ℕ) → f' i ≡ (f i && not (was_set r (door f) i))) → door f' ≡ taken_out r (door f)

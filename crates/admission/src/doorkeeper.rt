@@ -139,7 +139,11 @@ fn put_bits(words: &mut [u64], a: usize, b: usize, c: usize) -> [bool; 3]
     ensures bits { (i : ℕ) → bit_of words.new i ≡ (bit_of words.old i || (a == i || b == i || c == i)) }
     ensures set { result ≡ not (bit_of words.old a) ∷ not (bit_of words.old b) ∷ not (bit_of words.old c) ∷ [] }
 {
-    let set = [!bits::get(words, a), !bits::get(words, b), !bits::get(words, c)];
+    let set = [
+        !bits::get(words, a),
+        !bits::get(words, b),
+        !bits::get(words, c),
+    ];
     bits::set(words, a);
     bits::set(words, b);
     bits::set(words, c);
@@ -151,11 +155,9 @@ fn take_bits(words: &mut [u64], a: usize, b: usize, c: usize, set: [bool; 3])
     requires a { a < 64 * length words.old }
     requires b { b < 64 * length words.old }
     requires c { c < 64 * length words.old }
-    ensures {
-        (i : ℕ) → bit_of words.new i
-          ≡ (bit_of words.old i
-              && not ((slice_index_or set 0 false && a == i) || (slice_index_or set 1 false && b == i) || (slice_index_or set 2 false && c == i)))
-    }
+    ensures { (i : ℕ) → bit_of words.new i
+        ≡ (bit_of words.old i
+        && not ((slice_index_or set 0 false && a == i) || (slice_index_or set 1 false && b == i) || (slice_index_or set 2 false && c == i))) }
 {
     bits::clear(words, a, set[0]);
     bits::clear(words, b, set[1]);
@@ -189,7 +191,12 @@ mod tests {
         (Spread::Plain, 1 << 23, 0, [0, 0, 0]),
         (Spread::Plain, 1 << 23, 1, [1, 1, 1]),
         (Spread::Plain, 1 << 23, 1 << 32, [0, 512, 1024]),
-        (Spread::Plain, 1 << 23, u64::MAX, [8388607, 8388606, 8388605]),
+        (
+            Spread::Plain,
+            1 << 23,
+            u64::MAX,
+            [8388607, 8388606, 8388605],
+        ),
         (Spread::Mixed, 64, 0, [27, 42, 33]),
         (Spread::Mixed, 64, 1, [57, 0, 37]),
         (Spread::Mixed, 64, 1 << 32, [47, 32, 52]),
@@ -204,7 +211,11 @@ mod tests {
     fn probes_by_the_rule(rt: HostRuntime) {
         for (spread, size, key, want) in PROBES {
             assert!(rt; 1 <= size && size <= 1 << 23);
-            let found = [probe(spread, key, 0, size), probe(spread, key, 1, size), probe(spread, key, 2, size)];
+            let found = [
+                probe(spread, key, 0, size),
+                probe(spread, key, 1, size),
+                probe(spread, key, 2, size),
+            ];
             assert_eq!(rt; found, want, "of key {key} in {size} bits");
         }
     }

@@ -66,15 +66,16 @@ impl Frequency {
         ensures err { OnErr result (self.new ≡ self.old) }
 
         // Of the frequency of a list of keys it makes that of the list with the key at its end.
-        ensures appends {
-            (s : Shape) (keys : List ℕ) → IsShape s → self.old ≡ frequency_of s keys
-              → OnOk result (self.new ≡ frequency_of s (keys ++ key ∷ []))
-        }
+        ensures appends { (s : Shape) (keys : List ℕ) → IsShape s → self.old ≡ frequency_of s keys
+            → OnOk result (self.new ≡ frequency_of s (keys ++ key ∷ [])) }
     {
         let mark = self.mark(key);
         if self.age + 1 < 10 * self.capacity {
             self.age += 1;
-            return Ok(FreqRecord { mark, halving: None });
+            return Ok(FreqRecord {
+                mark,
+                halving: None,
+            });
         }
         match self.fade() {
             Ok(lost) => {
@@ -215,16 +216,31 @@ mod tests {
     use std::test::Fail;
 
     // Records a key; where memory is refused, sees that nothing changed, and asks again.
-    fn record(rt: &impl Abort, frequency: &mut Frequency, key: Key) -> Result<FreqRecord, AllocError>
+    fn record(
+        rt: &impl Abort,
+        frequency: &mut Frequency,
+        key: Key,
+    ) -> Result<FreqRecord, AllocError>
         ensures fits { IfOk result (λ r. FitsRecord r frequency.new) }
         ensures undone { IfOk result (λ r. undone r frequency.new ≡ frequency.old) }
     {
         assert!(rt; frequency.halvings() < u64::MAX);
-        let before = (frequency.age(), frequency.halvings(), frequency.estimate(key));
+        let before = (
+            frequency.age(),
+            frequency.halvings(),
+            frequency.estimate(key),
+        );
         match frequency.record(key) {
             Ok(done) => Ok(done),
             Err(AllocError) => {
-                assert_eq!(rt; (frequency.age(), frequency.halvings(), frequency.estimate(key)), before);
+                assert_eq!(rt;
+                    (
+                        frequency.age(),
+                        frequency.halvings(),
+                        frequency.estimate(key)
+                    ),
+                    before
+                );
                 frequency.record(key)
             }
         }
@@ -240,7 +256,41 @@ mod tests {
         }
     }
 
-    // A key that comes twenty times, so that its counters stand at 15 when they are halved; then six steps back.
+    // Records the key 5 once for each of the states that are wanted after it, and undoes it all: the counters, the age
+    // and the estimate are those states on the way there and on the way back.
+    fn go_and_come_back(
+        rt: &impl Abort,
+        frequency: &mut Frequency,
+        wanted: &[(u8, u32, u8)],
+    ) -> Result<(), AllocError>
+        ensures { OnOk result (frequency.new ≡ frequency.old) }
+    {
+        let [want, rest @ ..] = wanted else {
+            return Ok(());
+        };
+        let done = record(rt, frequency, 5)?;
+        assert_eq!(rt;
+            (
+                frequency.sketch().least(5),
+                frequency.age(),
+                frequency.estimate(5)
+            ),
+            *want
+        );
+        go_and_come_back(rt, frequency, rest)?;
+        assert_eq!(rt;
+            (
+                frequency.sketch().least(5),
+                frequency.age(),
+                frequency.estimate(5)
+            ),
+            *want
+        );
+        frequency.unrecord(done);
+        Ok(())
+    }
+
+    // A key that comes twenty times: its counters stand at 15 when they are halved.
     #[test]
     fn undoes_a_touch_and_a_halving_in_one(rt: HostRuntime) -> Result<(), Fail> {
         for spread in [Spread::Plain, Spread::Mixed] {
@@ -248,25 +298,23 @@ mod tests {
             for _ in 0..14 {
                 let _ = record(&rt, &mut frequency, 5)?;
             }
-            let fifteenth = record(&rt, &mut frequency, 5)?;
-            let sixteenth = record(&rt, &mut frequency, 5)?;
-            let seventeenth = record(&rt, &mut frequency, 5)?;
-            let eighteenth = record(&rt, &mut frequency, 5)?;
-            let nineteenth = record(&rt, &mut frequency, 5)?;
-            assert_eq!(rt; nineteenth.words(), 0);
-            assert_eq!(rt; (frequency.sketch().least(5), frequency.age(), frequency.estimate(5)), (15, 19, 16));
-            let twentieth = record(&rt, &mut frequency, 5)?;
-            assert_eq!(rt; twentieth.words(), 2);
-            assert_eq!(rt; (frequency.sketch().least(5), frequency.age(), frequency.estimate(5)), (7, 10, 7));
-            assert!(rt; !frequency.doorkeeper().has(5) && frequency.halvings() == 1);
-            frequency.unrecord(twentieth);
-            assert_eq!(rt; (frequency.sketch().least(5), frequency.age(), frequency.estimate(5)), (15, 19, 16));
-            frequency.unrecord(nineteenth);
-            frequency.unrecord(eighteenth);
-            frequency.unrecord(seventeenth);
-            frequency.unrecord(sixteenth);
-            frequency.unrecord(fifteenth);
-            assert_eq!(rt; (frequency.sketch().least(5), frequency.age(), frequency.estimate(5)), (13, 14, 14));
+            let wanted = [
+                (14, 15, 15),
+                (15, 16, 16),
+                (15, 17, 16),
+                (15, 18, 16),
+                (15, 19, 16),
+                (7, 10, 7),
+            ];
+            go_and_come_back(&rt, &mut frequency, &wanted)?;
+            assert_eq!(rt;
+                (
+                    frequency.sketch().least(5),
+                    frequency.age(),
+                    frequency.estimate(5)
+                ),
+                (13, 14, 14)
+            );
         }
         Ok(())
     }
@@ -278,11 +326,21 @@ mod tests {
             for i in 0..19u64 {
                 let _ = record(&rt, &mut frequency, if i < 4 { 3 } else { 5 })?;
             }
-            assert_eq!(rt; (frequency.sketch().least(3), frequency.sketch().least(5)), (3, 14));
+            assert_eq!(rt;
+                (frequency.sketch().least(3), frequency.sketch().least(5)),
+                (3, 14)
+            );
             let last = record(&rt, &mut frequency, 5)?;
-            assert_eq!(rt; (frequency.sketch().least(3), frequency.sketch().least(5)), (1, 7));
+            assert_eq!(rt;
+                (frequency.sketch().least(3), frequency.sketch().least(5)),
+                (1, 7)
+            );
+            assert!(rt; !frequency.doorkeeper().has(5) && last.words() == 2);
             frequency.unrecord(last);
-            assert_eq!(rt; (frequency.sketch().least(3), frequency.sketch().least(5)), (3, 14));
+            assert_eq!(rt;
+                (frequency.sketch().least(3), frequency.sketch().least(5)),
+                (3, 14)
+            );
         }
         Ok(())
     }
@@ -302,9 +360,17 @@ mod tests {
                 for i in 0..count {
                     let _ = record(&rt, &mut frequency, u64::wrapping_mul(i, i) % 7)?;
                 }
-                assert_eq!(rt; (frequency.age(), frequency.halvings()), (age, halvings), "after {count} keys");
+                assert_eq!(rt;
+                    (frequency.age(), frequency.halvings()),
+                    (age, halvings),
+                    "after {count} keys"
+                );
                 for key in 0..7u64 {
-                    assert_eq!(rt; frequency.estimate(key), estimates[key as usize], "of {key} after {count} keys");
+                    assert_eq!(rt;
+                        frequency.estimate(key),
+                        estimates[key as usize],
+                        "of {key} after {count} keys"
+                    );
                 }
             }
         }
@@ -317,9 +383,23 @@ mod tests {
             let mut frequency = open(rt.alloc(), 1, spread)?;
             let _ = record(&rt, &mut frequency, 1)?;
             let _ = record(&rt, &mut frequency, 2)?;
-            assert_eq!(rt; (frequency.estimate(1), frequency.estimate(2), frequency.admits(2, 1)), (1, 1, false));
+            assert_eq!(rt;
+                (
+                    frequency.estimate(1),
+                    frequency.estimate(2),
+                    frequency.admits(2, 1)
+                ),
+                (1, 1, false)
+            );
             let _ = record(&rt, &mut frequency, 2)?;
-            assert_eq!(rt; (frequency.estimate(1), frequency.estimate(2), frequency.admits(2, 1)), (1, 2, true));
+            assert_eq!(rt;
+                (
+                    frequency.estimate(1),
+                    frequency.estimate(2),
+                    frequency.admits(2, 1)
+                ),
+                (1, 2, true)
+            );
         }
         Ok(())
     }

@@ -1,4 +1,4 @@
-use Rattle.std.proofs.Common.{◌≡◌, ℕ, List, arith, ◌∙◌, sym, ap, ◌+◌, ◌*◌, ◌<◌, ◌≤◌, length}
+use Rattle.std.proofs.Common.{arith, ◌∙◌, sym, ◌<◌}
 use Rattle.admission.specs.Bits.{bit_of}
 use Rattle.admission.proofs.Doors.{door_has}
 use Rattle.admission.proofs.doorkeeper.Doorkeeper.has.Goals as goal

@@ -1,4 +1,4 @@
-use Rattle.std.proofs.Common.{◌≡◌, ℕ, suc, zero, arith, ◌∙◌, sym, ap, ◌+◌, ◌*◌, ◌/◌, ◌^◌, ◌<◌, ◌≤◌, length}
+use Rattle.std.proofs.Common.{◌≡◌, arith, ◌*◌, ◌/◌, length}
 use Rattle.admission.proofs.Doors.{part_64}
 use Rattle.admission.proofs.doorkeeper.Doorkeeper.new.Goals as goal
 

@@ -1,4 +1,4 @@
-use Rattle.std.proofs.Common.{◌≡◌, ℕ, List, Bool, arith, ◌∙◌, sym, refl, ap, ◌+◌, ◌*◌, ◌<◌, ◌≤◌, length}
+use Rattle.std.proofs.Common.{◌≡◌, List, Bool, arith, ◌∙◌, ap, ◌<◌, length}
 use Rattle.std.specs.Vec.{with_items}
 use Rattle.std.proofs.lemmas.List.{with_items_is}
 use Rattle.admission.specs.declared.door_record.DoorRecord.{DoorRecord}
@@ -21,7 +21,7 @@ returns-clause-record_is c =
     let some : 0 < c.self.inside.size = omega (arith, c.self.invariant.0) in
     let set = rw (c.deref_mut.ensures.value, c.probe-a.ensures.value, c.probe-b.ensures.value, c.probe-c.ensures.value) at c.put_bits-set.ensures.set in
     rw (← c.self.view_is) (ap (λ (bs : List Bool). let r : DoorRecord = record { key = c.args.key; set = bs } in r)
-      (set ∙ record_is c.self.inside.size c.self.inside.spread some (bit_of c.self.inside.words.items) c.args.key))
+    (set ∙ record_is c.self.inside.size c.self.inside.spread some (bit_of c.self.inside.words.items) c.args.key))
 
 pub returns-clause-undone : goal.returns-clause-undone
 returns-clause-undone c =
