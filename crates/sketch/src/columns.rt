@@ -18,7 +18,11 @@ fn remainder(n: u64, width: u64) -> u64
     requires { 1 ≤ width }
     ensures { result ≡ n % width }
 {
-    if width.is_power_of_two() { n & (width - 1) } else { n % width }
+    if width.is_power_of_two() {
+        n & (width - 1)
+    } else {
+        n % width
+    }
 }
 
 /// The column of a key in a row, of 1 to 2^23 columns. A sketch has the rows 0 to 3; the rows 4 to 6 are there for
