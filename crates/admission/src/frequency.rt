@@ -1,0 +1,419 @@
+//! How often keys came.
+ghost use Rattle.std.specs.Prelude.{◌≡◌, ◌<◌, ◌≤◌, ◌+◌, ◌-◌, ◌^◌, ◌*◌, ◌++◌, ◌∷◌, List, [], ℕ, nat_lt, cond, IfOk, OnOk, OnErr};
+ghost use Rattle.admission.specs.Shape.{Shape, IsShape};
+ghost use Rattle.admission.specs.Frequency.{StandsFor, frequency_of, marked, faded, recorded, halves, halving_words, estimate as estimate_of};
+ghost use Rattle.admission.specs.FreqRecord.{record_of, mark_of, lost_of, undone, FitsRecord, unmarked, FitsMark, unfaded, FitsFade, size_of};
+
+use crate::doorkeeper::Doorkeeper;
+use crate::freq_record::{FreqRecord, Halving, Mark};
+use crate::shape::{size_for, width_for};
+use sketch::Sketch;
+use std::alloc::{AllocError, Global};
+use std::marker::Model;
+use step_record::{Key, Spread};
+
+/// How often keys came: a sketch behind a doorkeeper, both aged by halvings. Contracts see the capacity, the table of
+/// the sketch, the doorkeeper, the age and the halvings.
+#[derive(Drop)]
+pub struct Frequency {
+    capacity: u32,
+    sketch: Sketch,
+    door: Doorkeeper,
+    age: u32,
+    halvings: u64,
+}
+
+impl Model for Frequency {
+    ghost use Rattle.std.specs.Prelude.{◌≤◌, ◌<◌, ◌*◌};
+    ghost use Rattle.admission.specs.Frequency.{FrequencyData};
+
+    ghost Value = { FrequencyData };
+
+    ghost view = { λ f. record { capacity = f.capacity; table = f.sketch; door = f.door; age = f.age; halvings = f.halvings } };
+
+    ghost invariant = { λ f. (1 ≤ f.capacity) × (f.capacity ≤ 1048576) × (f.age < 10 * f.capacity) };
+}
+
+impl Frequency {
+    /// The frequency of no key, for a cache of 1 to 2^20 keys. The one error is that memory was refused.
+    pub fn new(alloc: Global, capacity: u32, spread: Spread) -> Result<Frequency, AllocError>
+        requires some { 1 ≤ capacity }
+        requires few { capacity ≤ 2 ^ 20 }
+        ensures { IfOk result (λ f. StandsFor capacity spread [] f) }
+    {
+        let width = width_for(capacity);
+        let size = size_for(capacity);
+        Ok(Frequency {
+            capacity,
+            sketch: Sketch::new(alloc, width, spread)?,
+            door: Doorkeeper::new(alloc, size, spread)?,
+            age: 0,
+            halvings: 0,
+        })
+    }
+
+    /// Records a key, and hands out what it takes to undo that. A key whose three bits in the doorkeeper are not all
+    /// set gets them set, another one has its four counters touched; the age rises by 1, and at ten times the capacity
+    /// all counters are halved, the doorkeeper is emptied and the age is halved. The one error is that memory for a
+    /// halving was refused; nothing is changed then.
+    pub fn record(&mut self, key: Key) -> Result<FreqRecord, AllocError>
+        requires { self.old.halvings < 2 ^ 64 - 1 }
+        ensures after { OnOk result (self.new ≡ recorded key self.old) }
+        ensures record_is { IfOk result (λ r. r ≡ record_of key self.old) }
+        ensures fits { IfOk result (λ r. FitsRecord r self.new) }
+        ensures undone { IfOk result (λ r. undone r self.new ≡ self.old) }
+        ensures size { IfOk result (λ r. size_of r ≡ cond (halves self.old) (halving_words self.old) 0) }
+        ensures err { OnErr result (self.new ≡ self.old) }
+
+        // Of the frequency of a list of keys it makes that of the list with the key at its end.
+        ensures appends { (s : Shape) (keys : List ℕ) → IsShape s → self.old ≡ frequency_of s keys
+            → OnOk result (self.new ≡ frequency_of s (keys ++ key ∷ [])) }
+    {
+        let mark = self.mark(key);
+        if self.age + 1 < 10 * self.capacity {
+            self.age += 1;
+            return Ok(FreqRecord {
+                mark,
+                halving: None,
+            });
+        }
+        match self.fade() {
+            Ok(lost) => {
+                self.age = 5 * self.capacity;
+                self.halvings += 1;
+                Ok(FreqRecord {
+                    mark,
+                    halving: Some(lost),
+                })
+            }
+            Err(AllocError) => {
+                self.unmark(mark);
+                Err(AllocError)
+            }
+        }
+    }
+
+    /// Undoes the recording of a key. The record has to fit, as that of the last recording that is not undone does.
+    pub fn unrecord(&mut self, done: FreqRecord)
+        requires { FitsRecord done self.old }
+        ensures { self.new ≡ undone done self.old }
+    {
+        let FreqRecord { mark, halving } = done;
+        match halving {
+            None => {
+                self.age -= 1;
+                self.unmark(mark);
+            }
+            Some(lost) => {
+                self.unfade(lost);
+                self.halvings -= 1;
+                self.age = 10 * self.capacity - 1;
+                self.unmark(mark);
+            }
+        }
+    }
+
+    /// How often a key came, about: the least of its four counters, and 1 more where the doorkeeper has it.
+    pub fn estimate(&self, key: Key) -> u8
+        ensures value { result ≡ estimate_of key self.now }
+    {
+        let known = self.door.has(key);
+        let least = self.sketch.least(key);
+        least + known as u8
+    }
+
+    /// Whether the candidate came more often than the victim, about. A tie admits nobody.
+    pub fn admits(&self, candidate: Key, victim: Key) -> bool
+        ensures { result ≡ nat_lt (estimate_of victim self.now) (estimate_of candidate self.now) }
+    {
+        self.estimate(candidate) > self.estimate(victim)
+    }
+
+    /// How many keys were recorded, less half the sample for each halving.
+    pub fn age(&self) -> u32
+        ensures { result ≡ self.now.age }
+    {
+        self.age
+    }
+
+    /// How many halvings there were.
+    pub fn halvings(&self) -> u64
+        ensures { result ≡ self.now.halvings }
+    {
+        self.halvings
+    }
+
+    /// The sketch.
+    pub fn sketch(&self) -> &Sketch
+        ensures { result.now ≡ self.now.table }
+    {
+        &self.sketch
+    }
+
+    /// The doorkeeper.
+    pub fn doorkeeper(&self) -> &Doorkeeper
+        ensures { result.now ≡ self.now.door }
+    {
+        &self.door
+    }
+
+    // Sets a key's bits, or touches its counters where its bits are set.
+    fn mark(&mut self, key: Key) -> Mark
+        ensures after { self.new ≡ marked key self.old }
+        ensures record_is { result ≡ mark_of key self.old }
+        ensures fits { FitsMark result self.new }
+        ensures undone { unmarked result self.new ≡ self.old }
+    {
+        if self.door.has(key) {
+            Mark::Touch(self.sketch.touch(key))
+        } else {
+            Mark::Put(self.door.put(key))
+        }
+    }
+
+    fn unmark(&mut self, mark: Mark)
+        requires { FitsMark mark self.old }
+        ensures { self.new ≡ unmarked mark self.old }
+    {
+        match mark {
+            Mark::Put(done) => self.door.unput(done),
+            Mark::Touch(done) => self.sketch.untouch(done),
+        }
+    }
+
+    // Halves the counters and empties the doorkeeper, or neither.
+    fn fade(&mut self) -> Result<Halving, AllocError>
+        ensures after { OnOk result (self.new ≡ faded self.old) }
+        ensures record_is { IfOk result (λ r. r ≡ lost_of self.old) }
+        ensures fits { IfOk result (λ r. FitsFade r self.new) }
+        ensures undone { IfOk result (λ r. unfaded r self.new ≡ self.old) }
+        ensures err { OnErr result (self.new ≡ self.old) }
+    {
+        let counters = self.sketch.halve()?;
+        match self.door.clear() {
+            Ok(door) => Ok(Halving { counters, door }),
+            Err(AllocError) => {
+                self.sketch.unhalve(counters);
+                Err(AllocError)
+            }
+        }
+    }
+
+    fn unfade(&mut self, lost: Halving)
+        requires { FitsFade lost self.old }
+        ensures { self.new ≡ unfaded lost self.old }
+    {
+        let Halving { counters, door } = lost;
+        self.sketch.unhalve(counters);
+        self.door.restore(door);
+    }
+}
+
+#[cfg(test)]
+mod tests {
+    use super::*;
+    use std::process::Abort;
+    use std::test::Fail;
+
+    // Records a key; where memory is refused, sees that nothing changed, and asks again.
+    fn record(
+        rt: &impl Abort,
+        frequency: &mut Frequency,
+        key: Key,
+    ) -> Result<FreqRecord, AllocError>
+        ensures fits { IfOk result (λ r. FitsRecord r frequency.new) }
+        ensures undone { IfOk result (λ r. undone r frequency.new ≡ frequency.old) }
+    {
+        assert!(rt; frequency.halvings() < u64::MAX);
+        let before = (
+            frequency.age(),
+            frequency.halvings(),
+            frequency.estimate(key),
+        );
+        match frequency.record(key) {
+            Ok(done) => Ok(done),
+            Err(AllocError) => {
+                assert_eq!(rt;
+                    (
+                        frequency.age(),
+                        frequency.halvings(),
+                        frequency.estimate(key)
+                    ),
+                    before
+                );
+                frequency.record(key)
+            }
+        }
+    }
+
+    fn open(alloc: Global, capacity: u32, spread: Spread) -> Result<Frequency, AllocError>
+        requires some { 1 ≤ capacity }
+        requires few { capacity ≤ 2 ^ 20 }
+    {
+        match Frequency::new(alloc, capacity, spread) {
+            Ok(frequency) => Ok(frequency),
+            Err(AllocError) => Frequency::new(alloc, capacity, spread),
+        }
+    }
+
+    // Records the key 5 once for each of the states that are wanted after it, and undoes it all: the counters, the age
+    // and the estimate are those states on the way there and on the way back.
+    fn go_and_come_back(
+        rt: &impl Abort,
+        frequency: &mut Frequency,
+        wanted: &[(u8, u32, u8)],
+    ) -> Result<(), AllocError>
+        ensures { OnOk result (frequency.new ≡ frequency.old) }
+    {
+        let [want, rest @ ..] = wanted else {
+            return Ok(());
+        };
+        let done = record(rt, frequency, 5)?;
+        assert_eq!(rt;
+            (
+                frequency.sketch().least(5),
+                frequency.age(),
+                frequency.estimate(5)
+            ),
+            *want
+        );
+        go_and_come_back(rt, frequency, rest)?;
+        assert_eq!(rt;
+            (
+                frequency.sketch().least(5),
+                frequency.age(),
+                frequency.estimate(5)
+            ),
+            *want
+        );
+        frequency.unrecord(done);
+        Ok(())
+    }
+
+    // A key that comes twenty times: its counters stand at 15 when they are halved.
+    #[test]
+    fn undoes_a_touch_and_a_halving_in_one(rt: HostRuntime) -> Result<(), Fail> {
+        for spread in [Spread::Plain, Spread::Mixed] {
+            let mut frequency = open(rt.alloc(), 2, spread)?;
+            for _ in 0..14 {
+                let _ = record(&rt, &mut frequency, 5)?;
+            }
+            let wanted = [
+                (14, 15, 15),
+                (15, 16, 16),
+                (15, 17, 16),
+                (15, 18, 16),
+                (15, 19, 16),
+                (7, 10, 7),
+            ];
+            go_and_come_back(&rt, &mut frequency, &wanted)?;
+            assert_eq!(rt;
+                (
+                    frequency.sketch().least(5),
+                    frequency.age(),
+                    frequency.estimate(5)
+                ),
+                (13, 14, 14)
+            );
+        }
+        Ok(())
+    }
+
+    #[test]
+    fn gives_odd_counters_back(rt: HostRuntime) -> Result<(), Fail> {
+        for spread in [Spread::Plain, Spread::Mixed] {
+            let mut frequency = open(rt.alloc(), 2, spread)?;
+            for i in 0..19u64 {
+                let _ = record(&rt, &mut frequency, if i < 4 { 3 } else { 5 })?;
+            }
+            assert_eq!(rt;
+                (frequency.sketch().least(3), frequency.sketch().least(5)),
+                (3, 14)
+            );
+            let last = record(&rt, &mut frequency, 5)?;
+            assert_eq!(rt;
+                (frequency.sketch().least(3), frequency.sketch().least(5)),
+                (1, 7)
+            );
+            assert!(rt; !frequency.doorkeeper().has(5) && last.words() == 2);
+            frequency.unrecord(last);
+            assert_eq!(rt;
+                (frequency.sketch().least(3), frequency.sketch().least(5)),
+                (3, 14)
+            );
+        }
+        Ok(())
+    }
+
+    // The squares modulo 7, of which the definition was worked out by a calculator of its own, over lists of keys.
+    #[test]
+    fn estimates_by_the_definition(rt: HostRuntime) -> Result<(), Fail> {
+        for spread in [Spread::Plain, Spread::Mixed] {
+            for (count, age, halvings, estimates) in [
+                (19, 19, 0, [3, 5, 6, 0, 5, 0, 0]),
+                (20, 10, 1, [1, 2, 2, 0, 2, 0, 0]),
+                (29, 19, 1, [3, 5, 4, 0, 4, 0, 0]),
+                (45, 15, 3, [1, 3, 2, 0, 3, 0, 0]),
+                (49, 19, 3, [1, 4, 4, 0, 4, 0, 0]),
+            ] {
+                let mut frequency = open(rt.alloc(), 2, spread)?;
+                for i in 0..count {
+                    let _ = record(&rt, &mut frequency, u64::wrapping_mul(i, i) % 7)?;
+                }
+                assert_eq!(rt;
+                    (frequency.age(), frequency.halvings()),
+                    (age, halvings),
+                    "after {count} keys"
+                );
+                for key in 0..7u64 {
+                    assert_eq!(rt;
+                        frequency.estimate(key),
+                        estimates[key as usize],
+                        "of {key} after {count} keys"
+                    );
+                }
+            }
+        }
+        Ok(())
+    }
+
+    #[test]
+    fn admits_no_tie(rt: HostRuntime) -> Result<(), Fail> {
+        for spread in [Spread::Plain, Spread::Mixed] {
+            let mut frequency = open(rt.alloc(), 1, spread)?;
+            let _ = record(&rt, &mut frequency, 1)?;
+            let _ = record(&rt, &mut frequency, 2)?;
+            assert_eq!(rt;
+                (
+                    frequency.estimate(1),
+                    frequency.estimate(2),
+                    frequency.admits(2, 1)
+                ),
+                (1, 1, false)
+            );
+            let _ = record(&rt, &mut frequency, 2)?;
+            assert_eq!(rt;
+                (
+                    frequency.estimate(1),
+                    frequency.estimate(2),
+                    frequency.admits(2, 1)
+                ),
+                (1, 2, true)
+            );
+        }
+        Ok(())
+    }
+
+    // A capacity of 1000: 64 words of lost bits and 128 of the doorkeeper.
+    #[test]
+    fn counts_the_words_of_a_halving(rt: HostRuntime) -> Result<(), Fail> {
+        let mut frequency = open(rt.alloc(), 1000, Spread::Mixed)?;
+        for key in 0..9999u64 {
+            let _ = record(&rt, &mut frequency, key % 1500)?;
+        }
+        assert_eq!(rt; frequency.halvings(), 0);
+        assert_eq!(rt; record(&rt, &mut frequency, 7)?.words(), 192);
+        assert_eq!(rt; (frequency.halvings(), frequency.age()), (1, 5000));
+        Ok(())
+    }
+}

@@ -1,0 +1,122 @@
+-- Eight words of counters among the others.
+use Rattle.std.proofs.Common.{◌≡◌, ℕ, List, [], ◌∷◌, zero, suc, ◌+◌, ◌-◌, ◌*◌, ◌/◌, ◌%◌, ◌^◌, ◌<◌, ◌≤◌, true, false, cond, nat_lt, length, get_or, set, map, drop, take, bit_and, bit_or, arith, refl, sym, ◌∙◌, ap, inl, inr}
+use Rattle.std.proofs.lemmas.List.{drop_more, get_or-map, length-map, get_or-set_same, get_or-set_other, length-set}
+use Rattle.std.proofs.lemmas.Nat.{and_le_r, mul-le}
+use Rattle.std.proofs.lemmas.Bool.{cases_lt, cases_eq}
+use Rattle.std.proofs.lemmas.Bool.Decides.{nat_tests}
+use Rattle.std.proofs.lemmas.Simd.{get_or-put_chunk_at, get_or-put_chunk_above, length-chunk, get_or-chunk}
+use lib.Lanes.{chunk, put_chunk}
+use Rattle.sketch.specs.Counters.{nibble}
+use Rattle.sketch.specs.Laws.{halved_word, odd_bits, lost_word, lost_of_word}
+use Rattle.sketch.proofs.Halving.{low_word}
+
+step : (ws : List ℕ) (at next n : ℕ) → at < length ws → at + 1 ≡ next → take (suc n) (drop at ws) ≡ get_or ws at 0 ∷ take n (drop next ws)
+step ws at next n h e = ap (take (suc n)) (drop_more ws at 0 h) ∙ ap (λ i. get_or ws at 0 ∷ take n (drop i ws)) e
+
+-- the eight words, one by one
+pub eight : (ws : List ℕ) (at : ℕ) → at + 8 ≤ length ws → take 8 (drop at ws) ≡ get_or ws at 0 ∷ get_or ws (at + 1) 0 ∷ get_or ws (at + 2) 0 ∷ get_or ws (at + 3) 0 ∷ get_or ws (at + 4) 0 ∷ get_or ws (at + 5) 0 ∷ get_or ws (at + 6) 0 ∷ get_or ws (at + 7) 0 ∷ []
+eight ws at h =
+    let e0 : take 8 (drop (at) ws) ≡ get_or ws (at) 0 ∷ take 7 (drop (at + 1) ws) = step ws at (at + 1) 7 (omega arith) (omega arith) in
+    let e1 : take 7 (drop (at + 1) ws) ≡ get_or ws (at + 1) 0 ∷ take 6 (drop (at + 2) ws) = step ws (at + 1) (at + 2) 6 (omega arith) (omega arith) in
+    let e2 : take 6 (drop (at + 2) ws) ≡ get_or ws (at + 2) 0 ∷ take 5 (drop (at + 3) ws) = step ws (at + 2) (at + 3) 5 (omega arith) (omega arith) in
+    let e3 : take 5 (drop (at + 3) ws) ≡ get_or ws (at + 3) 0 ∷ take 4 (drop (at + 4) ws) = step ws (at + 3) (at + 4) 4 (omega arith) (omega arith) in
+    let e4 : take 4 (drop (at + 4) ws) ≡ get_or ws (at + 4) 0 ∷ take 3 (drop (at + 5) ws) = step ws (at + 4) (at + 5) 3 (omega arith) (omega arith) in
+    let e5 : take 3 (drop (at + 5) ws) ≡ get_or ws (at + 5) 0 ∷ take 2 (drop (at + 6) ws) = step ws (at + 5) (at + 6) 2 (omega arith) (omega arith) in
+    let e6 : take 2 (drop (at + 6) ws) ≡ get_or ws (at + 6) 0 ∷ take 1 (drop (at + 7) ws) = step ws (at + 6) (at + 7) 1 (omega arith) (omega arith) in
+    let e7 : take 1 (drop (at + 7) ws) ≡ get_or ws (at + 7) 0 ∷ take 0 (drop (at + 8) ws) = step ws (at + 7) (at + 8) 0 (omega arith) (omega arith) in
+    rw (e0, e1, e2, e3, e4, e5, e6, e7) refl
+
+-- a lane moved left by less than 4 loses no bit
+lane : (x p : ℕ) → p ≤ 8 → odd_bits x * p % 2 ^ 64 ≡ odd_bits x * p
+lane x p h = let l : odd_bits x ≤ 1229782938247303441 = and_le_r x 1229782938247303441 in let m : odd_bits x * p ≤ 1229782938247303441 * 8 = mul-le (odd_bits x) p 1229782938247303441 8 l h in omega (arith, m)
+
+pub quad : (a b c d : ℕ) → bit_or (bit_or (bit_or (odd_bits a * 1 % 2 ^ 64) (odd_bits b * 2 % 2 ^ 64)) (odd_bits c * 4 % 2 ^ 64)) (odd_bits d * 8 % 2 ^ 64) ≡ bit_or (bit_or (bit_or (odd_bits a) (odd_bits b * 2)) (odd_bits c * 4)) (odd_bits d * 8)
+quad a b c d =
+    let o : odd_bits a * 1 % 2 ^ 64 ≡ odd_bits a = lane a 1 (omega arith) ∙ omega arith in
+    rw (o, lane b 2 (omega arith), lane c 4 (omega arith), lane d 8 (omega arith)) refl
+
+pub two_same : (a b c d : ℕ) → a ≡ c → b ≡ d → ◌≡◌ {A = List ℕ} (a ∷ b ∷ []) (c ∷ d ∷ [])
+two_same a b c d p q = rw (p, q) refl
+
+-- the words with eight of them halved
+pub block_at : (ws : List ℕ) (at k : ℕ) → at + 8 ≤ length ws → at ≤ k → k < at + 8 → get_or (put_chunk at ws (map halved_word (chunk at 8 ws))) k 0 ≡ halved_word (get_or ws k 0)
+block_at ws at k w lo hi =
+    let n : length (chunk at 8 ws) ≡ 8 = length-chunk at 8 ws w in
+    let m : length (map halved_word (chunk at 8 ws)) ≡ 8 = length-map (chunk at 8 ws) halved_word ∙ n in
+    let e : k ≡ at + (k - at) = omega arith in
+    ap (λ i. get_or (put_chunk at ws (map halved_word (chunk at 8 ws))) i 0) e
+    ∙ get_or-put_chunk_at at ws (map halved_word (chunk at 8 ws)) (k - at) 0 (omega (arith, m)) (omega (arith, m))
+    ∙ get_or-map halved_word (chunk at 8 ws) (k - at) 0 0 (omega (arith, n))
+    ∙ ap halved_word (get_or-chunk at 8 ws (k - at) 0 (omega arith) ∙ ap (λ i. get_or ws i 0) (sym e))
+
+pub block_past : (ws : List ℕ) (at k : ℕ) → at + 8 ≤ length ws → at + 8 ≤ k → get_or (put_chunk at ws (map halved_word (chunk at 8 ws))) k 0 ≡ get_or ws k 0
+block_past ws at k w hi =
+    let n : length (map halved_word (chunk at 8 ws)) ≡ 8 = length-map (chunk at 8 ws) halved_word ∙ length-chunk at 8 ws w in
+    get_or-put_chunk_above at ws (map halved_word (chunk at 8 ws)) k 0 (omega (arith, n))
+
+-- the lost words depend on four words alone
+pub lost_same : (ws vs : List ℕ) (j : ℕ) → ((k : ℕ) → 4 * j ≤ k → get_or ws k 0 ≡ get_or vs k 0) → lost_word ws j ≡ lost_word vs j
+lost_same ws vs j h = rw (h (4 * j + 0) (omega arith), h (4 * j + 1) (omega arith), h (4 * j + 2) (omega arith), h (4 * j + 3) (omega arith)) refl
+
+-- a lane of counters of at most 7, doubled, has room for its lost bits
+pub lane_doubled : (x b : ℕ) → x < 2 ^ 64 → ((n : ℕ) → n < 16 → nibble x n ≤ 7) → (x * 2 % 2 ^ 64 + odd_bits b) % 2 ^ 64 ≡ 2 * x + odd_bits b
+lane_doubled x b lt low =
+    let l : 15 * x + 7 ≤ 7 * 2 ^ 64 = low_word 16 x low lt in
+    let m : odd_bits b ≤ 1229782938247303441 = and_le_r b 1229782938247303441 in
+    omega (arith, l, m)
+
+-- where the lost bits of a word of a block are
+pub lost_in_block : (lost : List ℕ) (b t : ℕ) → t < 8 → odd_bits (cond (nat_lt t 4) (get_or lost (2 * b) 0) (get_or lost (2 * b + 1) 0) / 2 ^ (t % 4)) ≡ lost_of_word lost (8 * b + t)
+lost_in_block lost b t h =
+    let m : (8 * b + t) % 4 ≡ t % 4 = omega arith in
+    elim (cases_lt t 4) as (λ _. odd_bits (cond (nat_lt t 4) (get_or lost (2 * b) 0) (get_or lost (2 * b + 1) 0) / 2 ^ (t % 4)) ≡ lost_of_word lost (8 * b + t)) [
+      | inl a ↦
+          let d : (8 * b + t) / 4 ≡ 2 * b = omega arith in
+          let y : nat_lt t 4 ≡ true = grind (arith, nat_tests) in
+          rw (y, d, m) refl
+      | inr a ↦
+          let d : (8 * b + t) / 4 ≡ 2 * b + 1 = omega arith in
+          let y : nat_lt t 4 ≡ false = grind (arith, nat_tests) in
+          rw (y, d, m) refl
+    ]
+
+-- two words written side by side
+pub two_more : (f : ℕ → ℕ) (xs : List ℕ) (at a b : ℕ) → at + 1 < length xs → ((j : ℕ) → j < at → get_or xs j 0 ≡ f j) → a ≡ f at → b ≡ f (at + 1)
+    → (j : ℕ) → j < at + 2 → get_or (set (set xs at a) (at + 1) b) j 0 ≡ f j
+two_more f xs at a b w before here next j h =
+    let n : length (set xs at a) ≡ length xs = length-set xs at a in
+    elim (cases_eq j (at + 1)) as (λ _. get_or (set (set xs at a) (at + 1) b) j 0 ≡ f j) [
+      | inl e ↦ rw e (get_or-set_same (set xs at a) (at + 1) b 0 (omega (arith, n)) ∙ next)
+      | inr d ↦ get_or-set_other (set xs at a) (at + 1) j b 0 d ∙ elim (cases_eq j at) as (λ _. get_or (set xs at a) j 0 ≡ f j) [
+        | inl e ↦ rw e (get_or-set_same xs at a 0 (omega arith) ∙ here)
+        | inr o ↦ get_or-set_other xs at j a 0 o ∙ before j (omega arith)
+      ]
+    ]
+
+-- eight words doubled, with the lost bits of the first four and of the others
+abbrev pub doubled_eight : List ℕ → ℕ → ℕ → ℕ → List ℕ
+doubled_eight ws at low high =
+    (get_or ws at 0 * 2 % 2 ^ 64 + bit_and (low / 1) 0x1111111111111111) % 2 ^ 64
+    ∷ (get_or ws (at + 1) 0 * 2 % 2 ^ 64 + bit_and (low / 2) 0x1111111111111111) % 2 ^ 64
+    ∷ (get_or ws (at + 2) 0 * 2 % 2 ^ 64 + bit_and (low / 4) 0x1111111111111111) % 2 ^ 64
+    ∷ (get_or ws (at + 3) 0 * 2 % 2 ^ 64 + bit_and (low / 8) 0x1111111111111111) % 2 ^ 64
+    ∷ (get_or ws (at + 4) 0 * 2 % 2 ^ 64 + bit_and (high / 1) 0x1111111111111111) % 2 ^ 64
+    ∷ (get_or ws (at + 5) 0 * 2 % 2 ^ 64 + bit_and (high / 2) 0x1111111111111111) % 2 ^ 64
+    ∷ (get_or ws (at + 6) 0 * 2 % 2 ^ 64 + bit_and (high / 4) 0x1111111111111111) % 2 ^ 64
+    ∷ (get_or ws (at + 7) 0 * 2 % 2 ^ 64 + bit_and (high / 8) 0x1111111111111111) % 2 ^ 64
+    ∷ []
+
+module _ (ws : List ℕ) (at low high : ℕ) (fits : (k : ℕ) → get_or ws k 0 < 2 ^ 64) (small : (t : ℕ) → t < 8 → (n : ℕ) → n < 16 → nibble (get_or ws (at + t) 0) n ≤ 7) where
+  pub doubled_at : (t : ℕ) → t < 8 → get_or (doubled_eight ws at low high) t 0 ≡ 2 * get_or ws (at + t) 0 + odd_bits (cond (nat_lt t 4) low high / 2 ^ (t % 4))
+  doubled_at zero h =
+      let e : at + 0 ≡ at = omega arith in
+      let s = small 0 (omega arith) in
+      rw e (lane_doubled (get_or ws at 0) (low / 1) (fits at) (let r = rw e at s in r))
+  doubled_at (suc zero) h = lane_doubled (get_or ws (at + 1) 0) (low / 2) (fits (at + 1)) (small 1 (omega arith))
+  doubled_at (suc (suc zero)) h = lane_doubled (get_or ws (at + 2) 0) (low / 4) (fits (at + 2)) (small 2 (omega arith))
+  doubled_at (suc (suc (suc zero))) h = lane_doubled (get_or ws (at + 3) 0) (low / 8) (fits (at + 3)) (small 3 (omega arith))
+  doubled_at (suc (suc (suc (suc zero)))) h = lane_doubled (get_or ws (at + 4) 0) (high / 1) (fits (at + 4)) (small 4 (omega arith))
+  doubled_at (suc (suc (suc (suc (suc zero))))) h = lane_doubled (get_or ws (at + 5) 0) (high / 2) (fits (at + 5)) (small 5 (omega arith))
+  doubled_at (suc (suc (suc (suc (suc (suc zero)))))) h = lane_doubled (get_or ws (at + 6) 0) (high / 4) (fits (at + 6)) (small 6 (omega arith))
+  doubled_at (suc (suc (suc (suc (suc (suc (suc zero))))))) h = lane_doubled (get_or ws (at + 7) 0) (high / 8) (fits (at + 7)) (small 7 (omega arith))
+  doubled_at (suc (suc (suc (suc (suc (suc (suc (suc t)))))))) h = absurd (omega arith)

@@ -1,0 +1,117 @@
+-- A halving of a whole table, and its undoing.
+use Rattle.std.proofs.Common.{◌≡◌, ℕ, ◌+◌, ◌*◌, ◌/◌, ◌%◌, ◌<◌, ◌≤◌, ◌^◌, List, length, get_or, map, refl, ap, ◌∙◌, sym, arith, inl, inr}
+use Rattle.std.proofs.lemmas.List.{get_or-map, get_or_past, length-map}
+use Rattle.std.proofs.lemmas.Bool.{cases_lt}
+use Rattle.step_record.specs.declared.config.Spread.{Spread}
+use Rattle.sketch.specs.Counters.{nibble, counter_at}
+use Rattle.sketch.specs.Laws.{halved_word, odd_bits, lost_word, lost_of_word, unhalved_words}
+use Rattle.sketch.specs.Laws.{lost_bit}
+use Rattle.sketch.specs.Places.{by_place}
+use Rattle.sketch.specs.HalveRecord.{halve_record_of, unhalved}
+use Rattle.sketch.specs.Sketch.{Table, halved, IsTable}
+use Rattle.std.proofs.lemmas.Nat.{and_le_r}
+use Rattle.sketch.proofs.Digits.{same_digits, nibble_lt, zero_nibble}
+use Rattle.sketch.proofs.Halving.{nibble_halved, nibble_odd, lost_digit, nibble_doubled}
+use Rattle.sketch.proofs.Places.{length-by_place, get_or-by_place, by_place_same, by_place_whole, small_by_place}
+use Rattle.sketch.proofs.Tables.{table}
+
+module _ (ws : List ℕ) where
+  pub halved_at : (i : ℕ) → i < 16 * length ws → counter_at (map halved_word ws) i ≡ counter_at ws i / 2
+  halved_at i h =
+      let w : i / 16 < length ws = omega arith in
+      ap (λ x. nibble x (i % 16)) (get_or-map halved_word ws (i / 16) 0 0 w) ∙ nibble_halved (i % 16) (get_or ws (i / 16) 0) (omega arith)
+
+  pub lost_at : (n i : ℕ) → 4 * n ≡ length ws → i < 16 * length ws → lost_bit (by_place n (lost_word ws)) i ≡ counter_at ws i % 2
+  lost_at n i e h =
+      let w : i / 16 / 4 < n = omega (arith, e) in
+      let q : 4 * (i / 16 / 4) + i / 16 % 4 ≡ i / 16 = omega arith in
+      ap (λ x. nibble (odd_bits (x / 2 ^ (i / 16 % 4))) (i % 16)) (get_or-by_place n (lost_word ws) (i / 16 / 4) 0 w)
+      ∙ lost_digit ws (i / 16 / 4) (i / 16 % 4) (i % 16) (omega arith) (omega arith)
+      ∙ ap (λ j. nibble (get_or ws j 0) (i % 16) % 2) q
+
+pub low_past : (ws : List ℕ) (i : ℕ) → length ws ≤ i / 16 → counter_at ws i ≡ 0
+low_past ws i h = ap (λ x. nibble x (i % 16)) (get_or_past ws (i / 16) 0 h) ∙ zero_nibble (i % 16)
+
+pub low_everywhere : (ws : List ℕ) (w : ℕ) → w ≡ 4 * length ws → ((i : ℕ) → i < 4 * w → counter_at ws i ≤ 7) → (i : ℕ) → counter_at ws i ≤ 7
+low_everywhere ws w e h i =
+    elim (cases_lt i (4 * w)) as (λ _. counter_at ws i ≤ 7) [
+      | inl a ↦ h i a
+      | inr a ↦ let z : counter_at ws i ≡ 0 = low_past ws i (omega (arith, e)) in omega (arith, z)
+    ]
+
+-- digit n of a word of digits below 8, from the digits of all the words
+pub low_digit : (ws : List ℕ) (j n : ℕ) → n < 16 → ((i : ℕ) → counter_at ws i ≤ 7) → nibble (get_or ws j 0) n ≤ 7
+low_digit ws j n w h =
+    let d : (16 * j + n) / 16 ≡ j = omega arith in
+    let m : (16 * j + n) % 16 ≡ n = omega arith in
+    let a = h (16 * j + n) in rw (d, m) at a
+
+module _ (w : ℕ) (s : Spread) (some : 0 < w) (ws : List ℕ) (whole : w ≡ 4 * length ws) where
+  pub halve_after : table w s some (counter_at (map halved_word ws)) ≡ halved (table w s some (counter_at ws))
+  halve_after = ap (λ (cs : List ℕ). let t : Table = record { width = w; spread = s; counters = cs } in t)
+      (by_place_same (4 * w) (counter_at (map halved_word ws)) _ 0 (λ i h. halved_at ws i (omega (arith, whole)) ∙ ap (λ x. x / 2) (sym (get_or-by_place (4 * w) (counter_at ws) i 0 h))))
+
+  -- the lost words are the halving's record
+  pub lost_is : (n : ℕ) → 4 * n ≡ length ws → by_place (64 * n) (lost_bit (by_place n (lost_word ws))) ≡ halve_record_of (table w s some (counter_at ws))
+  lost_is n few =
+      let e : 64 * n ≡ 4 * w = omega (arith, whole, few) in
+      ap (λ (k : ℕ). by_place k (lost_bit (by_place n (lost_word ws)))) e
+      ∙ by_place_same (4 * w) (lost_bit (by_place n (lost_word ws))) (λ i. get_or (by_place (4 * w) (counter_at ws)) i 0 % 2) 0 (λ i h.
+      lost_at ws n i few (omega (arith, whole)) ∙ ap (λ x. x % 2) (sym (get_or-by_place (4 * w) (counter_at ws) i 0 h)))
+
+  pub unhalve_after : (lost : List ℕ) → ((i : ℕ) → counter_at ws i ≤ 7) → length ws ≡ 4 * length lost
+      → table w s some (counter_at (by_place (length ws) (λ i. 2 * get_or ws i 0 + lost_of_word lost i))) ≡ unhalved (by_place (64 * length lost) (lost_bit lost)) (table w s some (counter_at ws))
+  unhalve_after lost low few = ap (λ (cs : List ℕ). let t : Table = record { width = w; spread = s; counters = cs } in t)
+      (by_place_same (4 * w) _ _ 0 (λ i h.
+      let v : i / 16 < length ws = omega (arith, whole) in
+      rw (
+        get_or-by_place (length ws) (λ i. 2 * get_or ws i 0 + lost_of_word lost i) (i / 16) 0 v,
+        get_or-by_place (4 * w) (counter_at ws) i 0 h,
+        get_or-by_place (64 * length lost) (lost_bit lost) i 0 (omega (arith, whole, few)),
+      )
+      (nibble_doubled 16 (i % 16) (get_or ws (i / 16) 0) (lost_of_word lost (i / 16)) (omega arith) (λ m b. low_digit ws (i / 16) m b low)
+      (λ m b. let o = nibble_odd m (get_or lost (i / 16 / 4) 0 / 2 ^ (i / 16 % 4)) b in omega (arith, o)))))
+
+-- the counters of any words make a table
+pub table_is : (w : ℕ) (s : Spread) (ws : List ℕ) → 16 ≤ w → IsTable record { width = w; spread = s; counters = by_place (4 * w) (counter_at ws) }
+table_is w s ws wide = record {
+  some = omega arith;
+  whole = length-by_place (4 * w) (counter_at ws);
+  small = λ i. small_by_place (4 * w) (counter_at ws) (λ i h. let l : counter_at ws i < 16 = nibble_lt (i % 16) (get_or ws (i / 16) 0) in omega (arith, l)) i;
+}
+
+-- no counter is over 7 once it is halved
+pub low_halved : (ws : List ℕ) (i : ℕ) → counter_at (map halved_word ws) i ≤ 7
+low_halved ws i =
+    elim (cases_lt i (16 * length ws)) as (λ _. counter_at (map halved_word ws) i ≤ 7) [
+      | inl a ↦ let e = halved_at ws i a in let l : counter_at ws i < 16 = nibble_lt (i % 16) (get_or ws (i / 16) 0) in omega (arith, e, l)
+      | inr a ↦ let z : counter_at (map halved_word ws) i ≡ 0 = low_past (map halved_word ws) i (let n = length-map ws halved_word in omega (arith, n)) in omega (arith, z)
+    ]
+
+-- a word halved, and unhalved by the bits that it lost
+word_undone : (ws : List ℕ) (m i : ℕ) → i / 4 < m → get_or ws i 0 < 2 ^ 64 → 2 * halved_word (get_or ws i 0) + lost_of_word (by_place m (lost_word ws)) i ≡ get_or ws i 0
+word_undone ws m i w lt =
+    let x = get_or ws i 0 in
+    let h = halved_word x in
+    let b = lost_of_word (by_place m (lost_word ws)) i in
+    let q : 4 * (i / 4) + i % 4 ≡ i = omega arith in
+    let bits : (n : ℕ) → n < 16 → nibble b n ≡ nibble x n % 2 = λ n v.
+    ap (λ y. nibble (odd_bits (y / 2 ^ (i % 4))) n) (get_or-by_place m (lost_word ws) (i / 4) 0 w)
+    ∙ lost_digit ws (i / 4) (i % 4) n (omega arith) v
+    ∙ ap (λ j. nibble (get_or ws j 0) n % 2) q in
+    let halves : (n : ℕ) → n < 16 → nibble h n ≡ nibble x n / 2 = λ n v. nibble_halved n x v in
+    let low : (n : ℕ) → n < 16 → nibble h n ≤ 7 = λ n v. let e = halves n v in let l = nibble_lt n x in omega (arith, e, l) in
+    let few : (n : ℕ) → n < 16 → nibble b n ≤ 1 = λ n v. let e = bits n v in omega (arith, e) in
+    let hb : h ≤ 8608480567731124087 = and_le_r (x / 2) 8608480567731124087 in
+    let bb : b ≤ 1229782938247303441 = and_le_r (get_or (by_place m (lost_word ws)) (i / 4) 0 / 2 ^ (i % 4)) 1229782938247303441 in
+    same_digits 16 (2 * h + b) x (omega (arith, hb, bb)) lt (λ n v.
+    nibble_doubled 16 n h b v low few ∙ rw (halves n v, bits n v) (omega arith))
+
+pub words_undone : (ws new lost : List ℕ) (m : ℕ) → m ≡ (length ws + 3) / 4 → new ≡ map halved_word ws → lost ≡ by_place m (lost_word ws) → ((i : ℕ) → i < length ws → get_or ws i 0 < 2 ^ 64)
+    → unhalved_words new lost ≡ ws
+words_undone ws new lost m few e f fits =
+    let n : length (map halved_word ws) ≡ length ws = length-map ws halved_word in
+    ap (λ v. unhalved_words v lost) e ∙ ap (λ v. unhalved_words (map halved_word ws) v) f
+    ∙ ap (λ k. by_place k (λ i. 2 * get_or (map halved_word ws) i 0 + lost_of_word (by_place m (lost_word ws)) i)) n
+    ∙ by_place_same (length ws) _ (λ i. get_or ws i 0) 0 (λ i h. rw (get_or-map halved_word ws i 0 0 h) (word_undone ws m i (omega (arith, few)) (fits i h)))
+    ∙ by_place_whole ws (length ws) 0 refl

@@ -1,0 +1,8 @@
+pub mod Digits
+pub mod Places
+pub mod Tables
+pub mod Halving
+pub mod Halves
+pub mod Eights
+pub mod Masks
+pub mod Undoing

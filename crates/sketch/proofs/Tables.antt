@@ -1,0 +1,103 @@
+-- A table whose counters are given place by place.
+use Rattle.std.proofs.Common.{◌⊎◌, ◌≡◌, ℕ, suc, zero, ◌+◌, ◌-◌, ◌*◌, ◌/◌, ◌%◌, ◌^◌, ◌<◌, ◌≤◌, min, Bool, true, false, cond, eqb, nat_lt, ◌&&◌, List, get_or, refl, ap, ◌∙◌, sym, arith, inl, inr}
+use Rattle.std.proofs.lemmas.Nat.{pow-add, div-mul-add, mod-mul-add, div-add-mod', div_below}
+use Rattle.std.proofs.lemmas.Bool.{eqb-true, eq-eqb, ltb-true, ltb-false}
+use Rattle.std.proofs.lemmas.Bool.Decides.{nat_tests}
+use Rattle.step_record.specs.declared.config.Spread.{Spread}
+use Rattle.sketch.specs.declared.touch_record.TouchRecord.{TouchRecord}
+use Rattle.sketch.specs.Columns.{column, column_below}
+use Rattle.sketch.specs.Places.{by_place}
+use Rattle.sketch.specs.Sketch.{Table, counter_of, is_of, at_key, touched}
+use Rattle.sketch.specs.TouchRecord.{touch_record_of, rose, untouched, FitsTouch}
+use Rattle.sketch.proofs.Places.{get_or-by_place, by_place_same}
+
+pub two : (b : Bool) → (b ≡ true) ⊎ (b ≡ false)
+two true = inl refl
+two false = inr refl
+
+module _ (w : ℕ) (s : Spread) (some : 0 < w) where
+  abbrev pub table : (ℕ → ℕ) → Table
+  table f = record { width = w; spread = s; counters = by_place (4 * w) f }
+
+  pub in_rows : (i : ℕ) → i < 4 * w → nat_lt (i / w) 4 ≡ true
+  in_rows i h = let d : i / w < 4 = div_below i w 4 some h in grind (arith, nat_tests)
+
+  -- the place of a key in its row
+  pub own_place : (key i : ℕ) → is_of s w key i ≡ true → i ≡ i / w * w + column s key (i / w) w
+  own_place key i h = let e : column s key (i / w) w ≡ i % w = eqb-true _ _ h in rw e (sym (div-add-mod' i w))
+
+  pub place_within : (key row : ℕ) → row < 4 → row * w + column s key row w < 4 * w
+  place_within key row h = let c : column s key row w < w = column_below s key row w some in let m : row * w ≤ 3 * w = grind arith in omega arith
+
+  pub own_is : (key row : ℕ) → is_of s w key (row * w + column s key row w) ≡ true
+  own_is key row =
+      let c : column s key row w < w = column_below s key row w some in
+      let b : eqb (column s key row w) (column s key row w) ≡ true = eq-eqb _ _ refl in
+      rw (div-mul-add row w (column s key row w) c, mod-mul-add row w (column s key row w) c, b) refl
+
+  -- a change of a key's counters, and one that takes it back
+  module _ (key : ℕ) (g : ℕ → ℕ → ℕ) (f : ℕ → ℕ) where
+    pub keyed : (f' : ℕ → ℕ) → ((i : ℕ) → f' i ≡ cond (nat_lt (i / w) 4 && is_of s w key i) (g (i / w) (f i)) (f i)) → table f' ≡ at_key key g (table f)
+    keyed f' after = ap (λ (cs : List ℕ). let t : Table = record { width = w; spread = s; counters = cs } in t)
+        (by_place_same (4 * w) f' _ 0 (λ i h. rw (get_or-by_place (4 * w) f i 0 h) (after i ∙ rw (in_rows i h) refl)))
+
+    changed_at : (i : ℕ) → i < 4 * w → get_or (at_key key g (table f)).counters i 0 ≡ cond (is_of s w key i) (g (i / w) (f i)) (f i)
+    changed_at i h = get_or-by_place (4 * w) (λ i. cond (is_of s w key i) (g (i / w) (get_or (by_place (4 * w) f) i 0)) (get_or (by_place (4 * w) f) i 0)) i 0 h ∙ rw (get_or-by_place (4 * w) f i 0 h) refl
+
+    pub unkeyed : (h : ℕ → ℕ → ℕ) → ((i : ℕ) → i < 4 * w → is_of s w key i ≡ true → h (i / w) (g (i / w) (f i)) ≡ f i) → at_key key h (at_key key g (table f)) ≡ table f
+    unkeyed h back = ap (λ (cs : List ℕ). let t : Table = record { width = w; spread = s; counters = cs } in t)
+        (by_place_same (4 * w) _ f 0 (λ i lt. rw (changed_at i lt)
+        (elim (two (is_of s w key i)) as (λ _. cond (is_of s w key i) (h (i / w) (cond (is_of s w key i) (g (i / w) (f i)) (f i))) (cond (is_of s w key i) (g (i / w) (f i)) (f i)) ≡ f i) [
+          | inl e ↦ rw e (back i lt e)
+          | inr e ↦ rw e refl
+        ])))
+
+    pub own_counter : (row : ℕ) → row < 4 → counter_of key (at_key key g (table f)) row ≡ g row (f (row * w + column s key row w))
+    own_counter row h =
+        let c : column s key row w < w = column_below s key row w some in
+        changed_at (row * w + column s key row w) (place_within key row h) ∙ rw (own_is key row, div-mul-add row w (column s key row w) c) refl
+
+  -- a touch's record
+  module _ (key : ℕ) (f : ℕ → ℕ) where
+    own_before : (row : ℕ) → row < 4 → counter_of key (table f) row ≡ f (row * w + column s key row w)
+    own_before row h = get_or-by_place (4 * w) f (row * w + column s key row w) 0 (place_within key row h)
+
+    pub record_is : by_place 4 (λ row. nat_lt (f (row * w + column s key row w)) 15) ≡ (touch_record_of key (table f)).rose
+    record_is = by_place_same 4 (λ row. nat_lt (f (row * w + column s key row w)) 15) (λ row. nat_lt (counter_of key (table f) row) 15) false
+        (λ row h. ap (λ x. nat_lt x 15) (sym (own_before row h)))
+
+    flag : (row : ℕ) → row < 4 → rose (touch_record_of key (table f)) row ≡ nat_lt (f (row * w + column s key row w)) 15
+    flag row h = get_or-by_place 4 (λ row. nat_lt (counter_of key (table f) row) 15) row false h ∙ ap (λ x. nat_lt x 15) (own_before row h)
+
+    pub touch_undone : ((i : ℕ) → f i ≤ 15) → untouched (touch_record_of key (table f)) (touched key (table f)) ≡ table f
+    touch_undone small = unkeyed key (λ row x. min 15 (x + 1)) f (λ row x. cond (rose (touch_record_of key (table f)) row) (x - 1) x) (λ i lt e.
+        let d : i / w < 4 = div_below i w 4 some lt in
+        let p : f (i / w * w + column s key (i / w) w) ≡ f i = ap f (sym (own_place key i e)) in
+        rw (flag (i / w) d, p) (elim (two (nat_lt (f i) 15)) as (λ _. cond (nat_lt (f i) 15) (min 15 (f i + 1) - 1) (min 15 (f i + 1)) ≡ f i) [
+          | inl q ↦ rw q (let lt15 : f i < 15 = ltb-true _ _ q in omega arith)
+          | inr q ↦ rw q (let ge15 : 15 ≤ f i = ltb-false _ _ q in omega (arith, small i))
+        ]))
+
+    pub touch_fits : FitsTouch (touch_record_of key (table f)) (touched key (table f))
+    touch_fits = record {
+      raised = λ row h e. rw (own_counter key (λ row x. min 15 (x + 1)) f row h) (omega arith);
+      full = λ row h e.
+          let ge15 : 15 ≤ f (row * w + column s key row w) = ltb-false _ _ (sym (flag row h) ∙ e) in
+          rw (own_counter key (λ row x. min 15 (x + 1)) f row h) (omega arith);
+    }
+
+  pub fits_some : (r : TouchRecord) (f : ℕ → ℕ) → FitsTouch r (table f) → (row : ℕ) → row < 4 → rose r row ≡ true → 0 < f (row * w + column s r.key row w)
+  fits_some r f fit row h e =
+      let c : get_or (by_place (4 * w) f) (row * w + column s r.key row w) 0 ≡ f (row * w + column s r.key row w) = get_or-by_place (4 * w) f (row * w + column s r.key row w) 0 (place_within r.key row h) in
+      let a : 0 < get_or (by_place (4 * w) f) (row * w + column s r.key row w) 0 = fit.raised row h e in omega (arith, c, a)
+
+pub sixteenth : (k : ℕ) → 16 ≤ 2 ^ k → 2 ^ k ≡ 16 * (2 ^ k / 16)
+sixteenth zero h = absurd (omega arith)
+sixteenth (suc zero) h = absurd (omega arith)
+sixteenth (suc (suc zero)) h = absurd (omega arith)
+sixteenth (suc (suc (suc zero))) h = absurd (omega arith)
+sixteenth (suc (suc (suc (suc k)))) h =
+    let n : suc (suc (suc (suc k))) ≡ 4 + k = omega arith in let e : 2 ^ suc (suc (suc (suc k))) ≡ 16 * 2 ^ k = rw n (pow-add 2 4 k) in rw e (omega arith)
+
+pub cell_within : (w row col : ℕ) → row < 4 → col < w → row * w + col < 4 * w
+cell_within w row col r c = let m : row * w ≤ 3 * w = grind arith in omega arith

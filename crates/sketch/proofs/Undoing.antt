@@ -1,0 +1,63 @@
+-- What undoes a touch and a halving, over any table.
+use Rattle.std.proofs.Common.{◌≡◌, ℕ, ◌+◌, ◌*◌, ◌/◌, ◌%◌, ◌≤◌, min, Bool, true, false, cond, List, get_or, ap, ◌∙◌, subst, arith}
+use Rattle.sketch.specs.declared.touch_record.TouchRecord.{TouchRecord}
+use Rattle.sketch.specs.Sketch.{Table, is_of, touched, halved, IsTable}
+use Rattle.sketch.specs.TouchRecord.{touch_record_of, untouched, FitsTouch}
+use Rattle.sketch.specs.HalveRecord.{halve_record_of, unhalved, FitsHalve}
+use Rattle.sketch.proofs.Places.{length-by_place, get_or-by_place, by_place_same, by_place_whole, small_by_place}
+use Rattle.sketch.proofs.Tables as tables
+
+one_of : (b : Bool) (x : ℕ) → x ≤ 15 → cond b (min 15 (x + 1)) x ≤ 15
+one_of true x h = omega arith
+one_of false x h = h
+
+module _ (t : Table) (is : IsTable t) where
+  rebuilt : tables.table t.width t.spread is.some (λ i. get_or t.counters i 0) ≡ t
+  rebuilt = ap (λ (cs : List ℕ). let u : Table = record { width = t.width; spread = t.spread; counters = cs } in u) (by_place_whole t.counters (4 * t.width) 0 is.whole)
+
+  pub touch_undone : (key : ℕ) → untouched (touch_record_of key t) (touched key t) ≡ t
+  touch_undone key =
+      let P : Table → Type 0 = λ u. untouched (touch_record_of key u) (touched key u) ≡ u in
+      subst P rebuilt (tables.touch_undone t.width t.spread is.some key (λ i. get_or t.counters i 0) is.small)
+
+  pub touch_fits : (key : ℕ) → FitsTouch (touch_record_of key t) (touched key t)
+  touch_fits key =
+      let P : Table → Type 0 = λ u. FitsTouch (touch_record_of key u) (touched key u) in
+      subst P rebuilt (tables.touch_fits t.width t.spread is.some key (λ i. get_or t.counters i 0))
+
+  pub halve_undone : unhalved (halve_record_of t) (halved t) ≡ t
+  halve_undone =
+      ap (λ (cs : List ℕ). let u : Table = record { width = t.width; spread = t.spread; counters = cs } in u)
+      (by_place_same (4 * t.width) _ (λ i. get_or t.counters i 0) 0 (λ i h.
+      rw (get_or-by_place (4 * t.width) (λ i. get_or t.counters i 0 / 2) i 0 h, get_or-by_place (4 * t.width) (λ i. get_or t.counters i 0 % 2) i 0 h) (omega arith)))
+      ∙ rebuilt
+
+  pub halve_fits : FitsHalve (halve_record_of t) (halved t)
+  halve_fits = record {
+    whole = length-by_place (4 * t.width) (λ i. get_or t.counters i 0 % 2);
+    low = λ i h.
+        let e = get_or-by_place (4 * t.width) (λ i. get_or t.counters i 0 / 2) i 0 h in
+        omega (arith, e, is.small i);
+  }
+
+  -- the same of a record and a table that are known by equations
+  pub untouched_is : (key : ℕ) (r : TouchRecord) (u : Table) → r ≡ touch_record_of key t → u ≡ touched key t → untouched r u ≡ t
+  untouched_is key r u e f = rw (e, f) (touch_undone key)
+
+  pub unhalved_is : (bits : List ℕ) (u : Table) → bits ≡ halve_record_of t → u ≡ halved t → unhalved bits u ≡ t
+  unhalved_is bits u e f = rw (e, f) halve_undone
+
+  -- what a touch or a halving leaves is a table again
+  pub touched_is : (key : ℕ) → IsTable (touched key t)
+  touched_is key = record {
+    some = is.some;
+    whole = length-by_place (4 * t.width) (λ i. cond (is_of t.spread t.width key i) (min 15 (get_or t.counters i 0 + 1)) (get_or t.counters i 0));
+    small = small_by_place (4 * t.width) (λ i. cond (is_of t.spread t.width key i) (min 15 (get_or t.counters i 0 + 1)) (get_or t.counters i 0)) (λ i h. one_of (is_of t.spread t.width key i) (get_or t.counters i 0) (is.small i));
+  }
+
+  pub halved_is : IsTable (halved t)
+  halved_is = record {
+    some = is.some;
+    whole = length-by_place (4 * t.width) (λ i. get_or t.counters i 0 / 2);
+    small = small_by_place (4 * t.width) (λ i. get_or t.counters i 0 / 2) (λ i h. let s = is.small i in omega arith);
+  }

@@ -1,0 +1,20 @@
+use Rattle.std.proofs.Common.{get_or, arith, rules, Fits, w64, ◌∙◌}
+use Rattle.std.proofs.lemmas.Simd.{get_or-put_chunk_below, get_or-put_chunk_at, get_or-put_chunk_above}
+use Rattle.sketch.proofs.Eights.{eight, doubled_eight, doubled_at}
+use Rattle.sketch.proofs.blocks.unhalve_block.Goals as goal
+
+pub returns-clause-block : goal.returns-clause-block
+returns-clause-block c = λ t h.
+    rw (eight c.args.words.now c.args.at c.requires.within)
+    (get_or-put_chunk_at c.args.at c.args.words.now (doubled_eight c.args.words.now c.args.at c.args.low c.args.high) t 0 h (omega (arith, c.requires.within))
+    ∙ doubled_at c.args.words.now c.args.at c.args.low c.args.high (λ k. let fit : Fits w64 (get_or c.args.words.now k 0) = search rules in fit.fits) c.requires.low t h)
+
+pub returns-clause-below : goal.returns-clause-below
+returns-clause-below c = λ k h.
+    rw (eight c.args.words.now c.args.at c.requires.within)
+    (get_or-put_chunk_below c.args.at c.args.words.now (doubled_eight c.args.words.now c.args.at c.args.low c.args.high) k 0 h)
+
+pub returns-clause-above : goal.returns-clause-above
+returns-clause-above c = λ k h.
+    rw (eight c.args.words.now c.args.at c.requires.within)
+    (get_or-put_chunk_above c.args.at c.args.words.now (doubled_eight c.args.words.now c.args.at c.args.low c.args.high) k 0 h)

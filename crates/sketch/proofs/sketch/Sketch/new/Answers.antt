@@ -1,0 +1,20 @@
+use Rattle.std.proofs.Common.{arith, rules, replicate, ap, ◌≡◌, ◌*◌, ◌/◌, length, List, ℕ}
+use Rattle.sketch.specs.Counters.{counter_at}
+use Rattle.sketch.specs.Sketch.{Table}
+use Rattle.sketch.proofs.Places.{by_place_same}
+use Rattle.sketch.proofs.Digits.{nibble_zero}
+use Rattle.sketch.proofs.Tables.{sixteenth}
+use Rattle.sketch.proofs.sketch.Sketch.new.Goals as goal
+
+pub invariant_of-result : goal.invariant_of-result
+invariant_of-result c =
+    let p = c.requires.power in
+    let m : c.args.width ≡ 16 * (c.args.width / 16) = rw p.1 (sixteenth p.0 (let low = rw p.1 at c.requires.low in low)) in
+    let n : length c.in_ok-words.words.items ≡ c.args.width / 4 = omega (arith, c.in_ok-words.words.ok.0, c.in_ok-words.ensures.len) in
+    (c.requires.low, c.requires.high, omega (arith, n, m), m)
+
+pub returns : goal.returns
+returns c =
+    let e : c.in_ok-words.words.items ≡ replicate (c.args.width / 4) 0 = search rules in
+    ap (λ (cs : List ℕ). let t : Table = record { width = c.args.width; spread = c.args.spread; counters = cs } in t)
+    (by_place_same (4 * c.args.width) (counter_at c.in_ok-words.words.items) (λ i. 0) 0 (λ i h. rw e (nibble_zero (c.args.width / 4) i)))

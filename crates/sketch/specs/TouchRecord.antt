@@ -1,0 +1,21 @@
+-- A touch's record: what it is, when it fits a table, and what undoing it leaves.
+use Rattle.std.specs.Prelude.{◌≡◌, ℕ, ◌-◌, ◌<◌, nat_lt, Bool, true, false, cond, slice_index_or}
+use Rattle.sketch.specs.declared.touch_record.TouchRecord.{TouchRecord}
+use Rattle.sketch.specs.Places.{by_place}
+use Rattle.sketch.specs.Sketch.{Table, counter_of, at_key}
+
+-- the record of a touch, from the table before it: the key, and its rows whose counter has room to rise
+abbrev pub touch_record_of : ℕ → Table → TouchRecord
+touch_record_of key t = record { key = key; rose = by_place 4 (λ row. nat_lt (counter_of key t row) 15) }
+
+abbrev pub rose : TouchRecord → ℕ → Bool
+rose r row = slice_index_or r.rose row false
+
+-- the counters that rose fall by 1, and no other
+abbrev pub untouched : TouchRecord → Table → Table
+untouched r t = at_key r.key (λ row x. cond (rose r row) (x - 1) x) t
+
+-- the counters that rose are above 0, and the key's others are 15
+pub record FitsTouch (r : TouchRecord) (t : Table) : Type 0 where
+  pub raised : (row : ℕ) → row < 4 → rose r row ≡ true → 0 < counter_of r.key t row
+  pub full : (row : ℕ) → row < 4 → rose r row ≡ false → counter_of r.key t row ≡ 15

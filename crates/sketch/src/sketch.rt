@@ -1,0 +1,190 @@
+//! Four rows of counters up to 15.
+ghost use Rattle.std.specs.Prelude.{◌≡◌, ◌<◌, ◌≤◌, ◌*◌, ◌^◌, IfOk, OnOk, OnErr};
+ghost use Rattle.std.specs.Int.{IsPowerOfTwo};
+ghost use Rattle.sketch.specs.Places.{by_place};
+ghost use Rattle.sketch.specs.Sketch.{counter as counter_of, touched, halved, least as least_of};
+ghost use Rattle.sketch.specs.TouchRecord.{touch_record_of, untouched, FitsTouch};
+ghost use Rattle.sketch.specs.HalveRecord.{halve_record_of, unhalved, FitsHalve};
+
+use crate::columns::column;
+use crate::counters::get;
+use crate::halve_record::HalveRecord;
+use crate::laws::{halve_words, unhalve_words};
+use crate::rows::{lower_rows, raise_rows};
+use crate::touch_record::TouchRecord;
+use std::alloc::{AllocError, Global};
+use std::marker::Model;
+use step_record::{Key, Spread};
+
+/// Four rows of counters from 0 to 15. Contracts see a table: the width, the spread and the list of the counters, row
+/// after row.
+#[derive(Drop)]
+pub struct Sketch {
+    width: u32,
+    spread: Spread,
+    words: Vec<u64>,
+    alloc: Global,
+}
+
+impl Model for Sketch {
+    ghost use Rattle.std.specs.Prelude.{◌≡◌, ◌≤◌, ◌*◌, ◌/◌, length};
+    ghost use Rattle.sketch.specs.Sketch.{Table};
+    ghost use Rattle.sketch.specs.Places.{by_place};
+    ghost use Rattle.sketch.specs.Counters.{counter_at};
+
+    ghost Value = { Table };
+
+    ghost view = { λ s. record { width = s.width; spread = s.spread; counters = by_place (4 * s.width) (counter_at s.words.items) } };
+
+    ghost invariant = { λ s. (16 ≤ s.width) × (s.width ≤ 1048576) × (s.width ≡ 4 * length s.words.items) × (s.width ≡ 16 * (s.width / 16)) };
+}
+
+impl Sketch {
+    /// A sketch of four rows of `width` columns, a power of two from 16 to 2^20, with all counters 0. The one error is
+    /// that memory was refused. The allocator is kept for the records of halvings.
+    pub fn new(alloc: Global, width: u32, spread: Spread) -> Result<Sketch, AllocError>
+        requires power { IsPowerOfTwo width }
+        requires low { 16 ≤ width }
+        requires high { width ≤ 2 ^ 20 }
+        ensures { IfOk result (λ s. s ≡ record { width = width; spread = spread; counters = by_place (4 * width) (λ i. 0) }) }
+    {
+        let words = vec![in alloc; 0; (width / 4) as usize]?;
+        Ok(Sketch {
+            width,
+            spread,
+            words,
+            alloc,
+        })
+    }
+
+    /// The counter in a row below 4 and a column below the width.
+    pub fn counter(&self, row: u32, col: u32) -> u8
+        requires row { row < 4 }
+        requires col { col < self.now.width }
+        ensures value { result ≡ counter_of self.now row col }
+        ensures small { result ≤ 15 }
+    {
+        get(&self.words, (row * self.width + col) as usize)
+    }
+
+    /// Raises the key's four counters, each unless it is 15, and hands out which of them rose.
+    pub fn touch(&mut self, key: Key) -> TouchRecord
+        ensures after { self.new ≡ touched key self.old }
+        ensures record_is { result ≡ touch_record_of key self.old }
+        ensures fits { FitsTouch result self.new }
+        ensures undone { untouched result self.new ≡ self.old }
+    {
+        let rose = raise_rows(&mut self.words, self.width, self.spread, key);
+        TouchRecord { key, rose }
+    }
+
+    /// Undoes a touch: lowers the counters that it raised, and no other. The record has to fit, as that of the last
+    /// touch or halving that is not undone does.
+    pub fn untouch(&mut self, done: TouchRecord)
+        requires { FitsTouch done self.old }
+        ensures { self.new ≡ untouched done self.old }
+    {
+        lower_rows(&mut self.words, self.width, self.spread, &done);
+    }
+
+    /// Floors each counter to its half, and hands out the bits that are lost. The one error is that memory for them
+    /// was refused; nothing is changed then.
+    pub fn halve(&mut self) -> Result<HalveRecord, AllocError>
+        ensures after { OnOk result (self.new ≡ halved self.old) }
+        ensures record_is { IfOk result (λ r. r ≡ halve_record_of self.old) }
+        ensures fits { IfOk result (λ r. FitsHalve r self.new) }
+        ensures undone { IfOk result (λ r. unhalved r self.new ≡ self.old) }
+        ensures err { OnErr result (self.new ≡ self.old) }
+    {
+        let mut lost = vec![in self.alloc; 0; self.words.len() / 4]?;
+        halve_words(&mut self.words, &mut lost);
+        Ok(HalveRecord { words: lost })
+    }
+
+    /// Undoes a halving: doubles each counter and adds the bit that it lost. The record has to fit, as that of the
+    /// last touch or halving that is not undone does.
+    pub fn unhalve(&mut self, done: HalveRecord)
+        requires { FitsHalve done self.old }
+        ensures { self.new ≡ unhalved done self.old }
+    {
+        unhalve_words(&mut self.words, &done.words);
+    }
+
+    /// The least of the key's four counters.
+    pub fn least(&self, key: Key) -> u8
+        ensures value { result ≡ least_of key self.now }
+        ensures small { result ≤ 15 }
+    {
+        let a = self.counter(0, column(self.spread, key, 0, self.width));
+        let b = self.counter(1, column(self.spread, key, 1, self.width));
+        let c = self.counter(2, column(self.spread, key, 2, self.width));
+        let d = self.counter(3, column(self.spread, key, 3, self.width));
+        a.min(b).min(c.min(d))
+    }
+}
+
+#[cfg(test)]
+mod tests {
+    use super::*;
+    use std::test::Fail;
+
+    #[test]
+    fn undoes_touches(rt: HostRuntime) -> Result<(), Fail> {
+        for spread in [Spread::Plain, Spread::Mixed] {
+            let mut sketch = Sketch::new(rt.alloc(), 16, spread)?;
+            let _ = sketch.touch(5);
+            let second = sketch.touch(5);
+            let third = sketch.touch(5);
+            assert_eq!(rt;
+                (sketch.least(5), sketch.counter(1, column(spread, 5, 1, 16))),
+                (3, 3)
+            );
+            sketch.untouch(third);
+            sketch.untouch(second);
+            assert_eq!(rt; sketch.least(5), 1);
+        }
+        Ok(())
+    }
+
+    #[test]
+    fn undoes_a_halving(rt: HostRuntime) -> Result<(), Fail> {
+        for spread in [Spread::Plain, Spread::Mixed] {
+            let mut sketch = Sketch::new(rt.alloc(), 16, spread)?;
+            for _ in 0..3 {
+                let _ = sketch.touch(5);
+            }
+            assert_eq!(rt; sketch.least(5), 3);
+            let halving = sketch.halve()?;
+            assert_eq!(rt; (sketch.least(5), halving.words()), (1, 1));
+            sketch.unhalve(halving);
+            assert_eq!(rt; sketch.least(5), 3);
+        }
+        Ok(())
+    }
+
+    // A halving's record has a word for 16 columns.
+    #[test]
+    fn counts_the_words_of_a_halving(rt: HostRuntime) -> Result<(), Fail> {
+        let mut sketch = Sketch::new(rt.alloc(), 1024, Spread::Mixed)?;
+        assert_eq!(rt; sketch.halve()?.words(), 64);
+        Ok(())
+    }
+
+    // Where memory for a halving is refused, the counters stay as they were.
+    #[test]
+    fn keeps_its_counters_without_memory(rt: HostRuntime) -> Result<(), Fail> {
+        let mut sketch = match Sketch::new(rt.alloc(), 16, Spread::Plain) {
+            Ok(sketch) => sketch,
+            Err(AllocError) => Sketch::new(rt.alloc(), 16, Spread::Plain)?,
+        };
+        for _ in 0..20 {
+            let _ = sketch.touch(3);
+        }
+        if let Err(AllocError) = sketch.halve() {
+            assert_eq!(rt; sketch.least(3), 15);
+            let _ = sketch.halve()?;
+        }
+        assert_eq!(rt; sketch.least(3), 7);
+        Ok(())
+    }
+}
