@@ -33,6 +33,7 @@ fn tell<X: Write>(line: Result<String, AllocError>, fault_out: &mut X) {
 // Tells a fault, and answers its status.
 fn status_of<X: Write>(alloc: Global, fault: Fault, fault_out: &mut X) -> u8
     ensures refused { result ≡ 2 → fault ≡ Fault.Words }
+    ensures words { fault ≡ Fault.Words → result ≡ 2 }
     ensures done { result ≢ 0 }
 {
     if fault == Fault::Words {

@@ -1,6 +1,7 @@
 //! The subcommand `run`: a trace to the reports of policies.
-ghost use Rattle.std.specs.Prelude.{◌≡◌, Err, OnOk, option_map};
+ghost use Rattle.std.specs.Prelude.{◌≡◌, ◌<◌, Err, OnOk, length, option_map};
 ghost use Rattle.clap.specs.Words.{found_of, rows_of};
+ghost use Rattle.words.specs.Program.{policies_in};
 ghost use Rattle.cachesim.specs.Run.{format_named as format_of, NamesJobs, Reports};
 
 use crate::fault::Fault;
@@ -34,6 +35,8 @@ pub fn run<R: Read, W: Write>(
 ) -> Result<(), Fault>
     ensures ok { OnOk result (Reports (rows_of (found_of matches.now)) (R.remaining input.old)
         (W.contents out.old) (W.contents out.new)) }
+    // The policies are too many only where over 64 are named.
+    ensures actors { result ≡ Err Fault.Actors → 64 < length (policies_in (rows_of (found_of matches.now))) }
     ensures words { result ≡ Err Fault.Words → ¬ NamesJobs (rows_of (found_of matches.now)) }
 {
     let Some(capacity) = words::capacity(matches) else {
