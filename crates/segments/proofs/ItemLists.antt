@@ -1,0 +1,181 @@
+-- Lists of items.
+use Rattle.std.proofs.Common.{◌≡◌, ℕ, suc, zero, ◌+◌, ◌-◌, ◌<◌, ◌≤◌, true, false, cond, eqb, nat_lt, Option, Some, None, List, [], ◌∷◌, ◌++◌, length, take, drop, get_or, ap, ◌∙◌, sym, refl, arith, ◌⊎◌, inl, inr, add-one}
+use Rattle.std.specs.List.{position, insert}
+use Rattle.std.proofs.lemmas.Bool.{eqb-true, eq-eqb, and_parts, and_from, cases_Bool}
+use Rattle.std.specs.List.{position_or_len, slice_get}
+use Rattle.std.proofs.lemmas.List.Quantifiers.{position-Some}
+use Rattle.std.proofs.lemmas.List.Sums.{fails_before_first}
+use Rattle.std.proofs.lemmas.Bool.{cases_lt, lt-ltb}
+use Rattle.step_record.specs.declared.Item.{Item}
+use Rattle.segments.specs.Items.{same, times, without, last_from, last, before, behind, put_behind}
+
+pub same-true : (a b : Item) → same a b ≡ true → a ≡ b
+same-true a b h =
+    let p = and_parts (eqb a.key b.key) (eqb a.node b.node) h in
+    let k : a.key ≡ b.key = eqb-true a.key b.key p.0 in
+    let n : a.node ≡ b.node = eqb-true a.node b.node p.1 in
+    let e : a ≡ record { key = b.key; node = a.node } = ap (λ (x : ℕ). let r : Item = record { key = x; node = a.node } in r) k in
+    e ∙ ap (λ (x : ℕ). let r : Item = record { key = b.key; node = x } in r) n
+
+pub same-refl : (a : Item) → same a a ≡ true
+same-refl a = and_from _ _ (eq-eqb a.key a.key refl) (eq-eqb a.node a.node refl)
+
+pub same-sym : (a b : Item) → same a b ≡ false → same b a ≡ false
+same-sym a b h =
+    elim (cases_Bool (same b a)) [
+      | inl e ↦ absurd (let s : b ≡ a = same-true b a e in let t : same a a ≡ false = rw s at h in cc (t, same-refl a))
+      | inr e ↦ e
+    ]
+
+pub times-append : (i : Item) (xs ys : List Item) → times i (xs ++ ys) ≡ times i xs + times i ys
+times-append i [] ys = omega arith
+times-append i (x ∷ xs) ys = let h : times i (xs ++ ys) ≡ times i xs + times i ys = times-append i xs ys in omega (arith, h)
+
+pub times-one : (i : Item) → times i (i ∷ []) ≡ 1
+times-one i = let e = same-refl i in rw e refl
+
+pub times-without : (i j : Item) (l : List Item) → times j (without i l) ≤ times j l
+times-without i j [] = omega arith
+times-without i j (x ∷ l) =
+    let h : times j (without i l) ≤ times j l = times-without i j l in
+    elim (cases_Bool (same i x)) as (λ _. times j (cond (same i x) (without i l) (x ∷ without i l)) ≤ cond (same j x) 1 0 + times j l) [
+      | inl e ↦ rw e (omega arith)
+      | inr e ↦ rw e (omega arith)
+    ]
+
+pub times-gone : (i : Item) (l : List Item) → times i (without i l) ≡ 0
+times-gone i [] = refl
+times-gone i (x ∷ l) =
+    elim (cases_Bool (same i x)) as (λ _. times i (cond (same i x) (without i l) (x ∷ without i l)) ≡ 0) [
+      | inl e ↦ rw e (times-gone i l)
+      | inr e ↦ rw (e, e, times-gone i l) refl
+    ]
+
+pub length-without : (i : Item) (l : List Item) → length (without i l) + times i l ≡ length l
+length-without i [] = refl
+length-without i (x ∷ l) =
+    let h : length (without i l) + times i l ≡ length l = length-without i l in
+    elim (cases_Bool (same i x)) as (λ _. length (cond (same i x) (without i l) (x ∷ without i l)) + (cond (same i x) 1 0 + times i l) ≡ suc (length l)) [
+      | inl e ↦ rw e (omega arith)
+      | inr e ↦ rw e (omega arith)
+    ]
+
+pub without-none : (i : Item) (l : List Item) → times i l ≡ 0 → without i l ≡ l
+without-none i [] h = refl
+without-none i (x ∷ l) h =
+    elim (cases_Bool (same i x)) as (λ _. cond (same i x) (without i l) (x ∷ without i l) ≡ x ∷ l) [
+      | inl e ↦ absurd (let no : 1 + times i l ≡ 0 = rw e at h in omega arith)
+      | inr e ↦ rw e (ap (λ t. x ∷ t) (without-none i l (let r : 0 + times i l ≡ 0 = rw e at h in omega arith)))
+    ]
+
+pub without-append : (i : Item) (xs ys : List Item) → without i (xs ++ ys) ≡ without i xs ++ without i ys
+without-append i [] ys = refl
+without-append i (x ∷ xs) ys =
+    elim (cases_Bool (same i x)) as (λ _. cond (same i x) (without i (xs ++ ys)) (x ∷ without i (xs ++ ys)) ≡ cond (same i x) (without i xs) (x ∷ without i xs) ++ without i ys) [
+      | inl e ↦ rw e (without-append i xs ys)
+      | inr e ↦ rw e (ap (λ t. x ∷ t) (without-append i xs ys))
+    ]
+
+pub without-one : (i : Item) → without i (i ∷ []) ≡ []
+without-one i = let e = same-refl i in rw e refl
+
+-- an item that stands nowhere else
+pub without-at : (i : Item) (xs ys : List Item) → times i xs ≡ 0 → times i ys ≡ 0 → without i (xs ++ i ∷ ys) ≡ xs ++ ys
+without-at i xs ys g h =
+    let e = same-refl i in
+    rw (without-append i xs (i ∷ ys), e, without-none i xs g, without-none i ys h) refl
+
+-- ends
+
+pub last_from-append : (d : Option Item) (xs ys : List Item) → last_from d (xs ++ ys) ≡ last_from (last_from d xs) ys
+last_from-append d [] ys = refl
+last_from-append d (x ∷ xs) ys = last_from-append (Some x) xs ys
+
+pub last-push : (xs : List Item) (i : Item) → last (xs ++ i ∷ []) ≡ Some i
+last-push xs i = last_from-append None xs (i ∷ [])
+
+-- what is last is the one given before, or stands in the list
+pub last-among : (a x : Item) (l : List Item) → last_from (Some x) l ≡ Some a → (x ≡ a) ⊎ (1 ≤ times a l)
+last-among a x [] h = inl (cc)
+last-among a x (y ∷ l) h =
+    elim (last-among a y l h) as (λ _. (x ≡ a) ⊎ (1 ≤ times a (y ∷ l))) [
+      | inl e ↦ inr (rw e (let s = same-refl a in rw s (omega arith)))
+      | inr g ↦ inr (omega arith)
+    ]
+
+last-some : (x : Item) (l : List Item) → last_from (Some x) l ≡ None → ⊥
+last-some x [] h = cc
+last-some x (y ∷ l) h = last-some y l h
+
+pub last-none : (l : List Item) → last l ≡ None → l ≡ []
+last-none [] h = refl
+last-none (x ∷ l) h = absurd (last-some x l h)
+
+-- an item goes back between its neighbours
+pub put_behind-at : (older : Option Item) (i : Item) (xs ys : List Item) → ((j : Item) → times j xs ≤ 1) → last xs ≡ older → put_behind older i (xs ++ ys) ≡ xs ++ i ∷ ys
+put_behind-at None i xs ys u h = let e : xs ≡ [] = last-none xs h in rw e refl
+put_behind-at (Some a) i [] ys u h = absurd (cc (h))
+put_behind-at (Some a) i (x ∷ []) ys u h = let e : x ≡ a = cc in let s : same a x ≡ true = rw e (same-refl a) in rw s refl
+put_behind-at (Some a) i (x ∷ (y ∷ xs)) ys u h =
+    elim (cases_Bool (same a x)) as (λ _. cond (same a x) (x ∷ i ∷ (y ∷ xs) ++ ys) (x ∷ put_behind (Some a) i ((y ∷ xs) ++ ys)) ≡ x ∷ ((y ∷ xs) ++ i ∷ ys)) [
+      | inl e ↦ absurd (let few : cond (same a x) 1 0 + times a (y ∷ xs) ≤ 1 = u a in
+          let few2 : 1 + times a (y ∷ xs) ≤ 1 = rw e at few in
+          elim (last-among a y xs h) [
+            | inl g ↦ let s : same a y ≡ true = rw g (same-refl a) in let few3 : 1 + (1 + times a xs) ≤ 1 = rw s at few2 in omega arith
+            | inr g ↦ omega arith
+          ])
+      | inr e ↦ rw e (ap (λ t. x ∷ t) (put_behind-at (Some a) i (y ∷ xs) ys (λ j. let few : cond (same j x) 1 0 + times j (y ∷ xs) ≤ 1 = u j in omega arith) h))
+    ]
+
+-- places
+
+pub times-none : (i : Item) (l : List Item) → ((k : ℕ) → k < length l → same i (get_or l k i) ≡ false) → times i l ≡ 0
+times-none i [] h = refl
+times-none i (x ∷ l) h = let e : same i x ≡ false = h 0 (omega arith) in rw e (let r : times i l ≡ 0 = times-none i l (λ k w. h (suc k) (omega arith)) in omega arith)
+
+pub record IsFound (i : Item) (l : List Item) (k : ℕ) : Type 0 where
+  pub within : k < length l
+  pub here : get_or l k i ≡ i
+  pub not_before : (j : ℕ) → j < k → same i (get_or l j i) ≡ false
+
+pub found : (i : Item) (l : List Item) (k : ℕ) → position (same i) l ≡ Some k → IsFound i l k
+found i l k h =
+    let p = position-Some (same i) l k i h in
+    record { within = p.0; here = sym (same-true i (get_or l k i) p.1); not_before = p.2 }
+
+pub insert-found : (a i : Item) (l : List Item) (k : ℕ) → k < length l → get_or l k a ≡ a → ((j : ℕ) → j < k → same a (get_or l j a) ≡ false) → put_behind (Some a) i l ≡ insert l (k + 1) i
+insert-found a i [] k w g n = absurd (omega arith)
+insert-found a i (x ∷ l) zero w g n = let e : same a x ≡ true = rw g (same-refl a) in rw e refl
+insert-found a i (x ∷ l) (suc k) w g n =
+    let e : same a x ≡ false = n 0 (omega arith) in
+    rw (e, add-one) (ap (λ t. x ∷ t) (insert-found a i l k (omega arith) g (λ j h. n (suc j) (omega arith)) ∙ rw add-one refl))
+
+pub missing : (i : Item) (l : List Item) → position (same i) l ≡ None → (k : ℕ) → k < length l → same i (get_or l k i) ≡ false
+missing i l h k w =
+    elim (cases_lt (position_or_len (same i) l) (length l)) [
+      | inl e ↦ absurd (let t : nat_lt (position_or_len (same i) l) (length l) ≡ true = lt-ltb _ _ e in let no : Some (position_or_len (same i) l) ≡ None = rw t at h in cc (no))
+      | inr e ↦ fails_before_first (same i) l k i (omega arith)
+    ]
+
+pub insert-missing : (a i : Item) (l : List Item) → ((k : ℕ) → k < length l → same a (get_or l k a) ≡ false) → put_behind (Some a) i l ≡ l ++ i ∷ []
+insert-missing a i [] h = refl
+insert-missing a i (x ∷ l) h = let e : same a x ≡ false = h 0 (omega arith) in rw e (ap (λ t. x ∷ t) (insert-missing a i l (λ k w. h (suc k) (omega arith))))
+
+pub last-get : (l : List Item) → slice_get l (length l - 1) ≡ last l
+last-get [] = refl
+last-get (x ∷ []) = refl
+last-get (x ∷ (y ∷ l)) = let n : suc (suc (length l)) - 1 ≡ suc (suc (length l) - 1) = omega arith in rw n (last-get (y ∷ l))
+
+pub before-found : (i : Item) (l : List Item) (k : ℕ) → k < length l → get_or l k i ≡ i → ((j : ℕ) → j < k → same i (get_or l j i) ≡ false) → before i l ≡ take k l
+before-found i [] k w g n = absurd (omega arith)
+before-found i (x ∷ l) zero w g n = let e : same i x ≡ true = rw g (same-refl i) in rw e refl
+before-found i (x ∷ l) (suc k) w g n =
+    let e : same i x ≡ false = n 0 (omega arith) in
+    rw e (ap (λ t. x ∷ t) (before-found i l k (omega arith) g (λ j h. n (suc j) (omega arith))))
+
+pub behind-found : (i : Item) (l : List Item) (k : ℕ) → k < length l → get_or l k i ≡ i → ((j : ℕ) → j < k → same i (get_or l j i) ≡ false) → behind i l ≡ drop (k + 1) l
+behind-found i [] k w g n = absurd (omega arith)
+behind-found i (x ∷ l) zero w g n = let e : same i x ≡ true = rw g (same-refl i) in rw e refl
+behind-found i (x ∷ l) (suc k) w g n =
+    let e : same i x ≡ false = n 0 (omega arith) in
+    rw (e, add-one) (behind-found i l k (omega arith) g (λ j h. n (suc j) (omega arith)) ∙ rw add-one refl)

@@ -1,0 +1,4 @@
+pub mod ItemLists
+pub mod MoveLaws
+pub mod QueueLists
+pub mod CallLaws
