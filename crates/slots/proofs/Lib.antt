@@ -1,0 +1,12 @@
+pub mod Splices
+pub mod Hashing
+pub mod Turning
+pub mod Sections
+pub mod Indexing
+pub mod Orders
+pub mod Contents
+pub mod Holding
+pub mod Sending
+pub mod Finding
+pub mod Tables
+pub mod Growing

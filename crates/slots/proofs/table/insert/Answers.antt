@@ -1,0 +1,44 @@
+use Rattle.std.proofs.Common.{◌≡◌, ◌<◌, ◌≤◌, ◌∙◌, length, set, ap, sym, subst, arith, List, ℕ, get_or-set_other}
+use Rattle.slots.specs.Fields.{items, chains, newers, olders, tags}
+use Rattle.slots.specs.Rings.{ring_of, IsRing}
+use Rattle.slots.specs.Held.{Order, ring, used, order_in, order_of, sent, IsIndexed}
+use Rattle.slots.proofs.Orders.{used-more}
+use Rattle.slots.proofs.Tables.{free-real, free-unused, free-within, place-free, held-inserted}
+use Rattle.slots.proofs.table.insert.Goals as goal
+
+pub set_item-requires : goal.set_item-requires
+set_item-requires c = free-within c.args.slots.now (order_of c.args.slots.now) c.requires.held.queued c.newest_free-at.result c.newest_free-at.ensures
+
+pub add-requires-clause-at : goal.add-requires-clause-at
+add-requires-clause-at c =
+    let w = free-within c.args.slots.now (order_of c.args.slots.now) c.requires.held.queued c.newest_free-at.result c.newest_free-at.ensures in
+    let r = free-real c.args.slots.now (order_of c.args.slots.now) c.requires.held.queued c.newest_free-at.result c.newest_free-at.ensures in
+    (omega (arith, r), omega (arith, w))
+
+pub send-requires-clause-at : goal.send-requires-clause-at
+send-requires-clause-at c =
+    let w = free-within c.args.slots.now (order_of c.args.slots.now) c.requires.held.queued c.newest_free-at.result c.newest_free-at.ensures in
+    let r = free-real c.args.slots.now (order_of c.args.slots.now) c.requires.held.queued c.newest_free-at.result c.newest_free-at.ensures in
+    (omega (arith, r), omega (arith, w))
+
+pub send-requires-clause-place : goal.send-requires-clause-place
+send-requires-clause-place c =
+    let p = place-free c.args.slots.now (order_of c.args.slots.now) c.requires.held.queued c.newest_free-at.result c.newest_free-at.ensures c.args.before c.args.queue c.requires.place in
+    rw (c.add.ensures.newers, c.set_item.ensures.newers) p
+
+pub returns-clause-held : goal.returns-clause-held
+returns-clause-held c =
+    let h = c.requires.held in
+    let n = c.newest_free-at.ensures in
+    let order : order_of c.add.new.slots ≡ order_of c.args.slots.now = ap (λ (l : List ℕ). order_in (ring_of l)) (c.add.ensures.newers ∙ c.set_item.ensures.newers) in
+    let x : IsIndexed c.args.index.now.heads.items (chains c.set_item.new.slots) (items c.args.slots.now) c.args.index.now.bits (used (order_of c.args.slots.now)) = rw c.set_item.ensures.chains h.index in
+    let y = c.add.ensures.indexed (items c.args.slots.now) (used (order_of c.args.slots.now)) (used (sent c.newest_free-at.result c.args.queue c.args.before (order_of c.args.slots.now))) x
+    (free-unused c.args.slots.now (order_of c.args.slots.now) h.queued c.newest_free-at.result n)
+    (λ j d. rw c.set_item.ensures.items (get_or-set_other (items c.args.slots.now) c.newest_free-at.result j c.args.item _ d))
+    (λ j. used-more j c.newest_free-at.result c.args.before c.args.queue (order_of c.args.slots.now) (free-unused c.args.slots.now (order_of c.args.slots.now) h.queued c.newest_free-at.result n)) in
+    held-inserted c.args.slots.now c.send.new.slots c.add.new.self.heads.items c.add.new.self.bits (order_of c.args.slots.now) h.queued c.newest_free-at.result n c.args.queue c.args.before c.args.item
+    (subst (λ (o : Order). IsRing (newers c.send.new.slots) (olders c.send.new.slots) (ring (sent c.newest_free-at.result c.args.queue c.args.before o))) order c.send.ensures.ring)
+    (rw (c.send.ensures.chains, c.send.ensures.items) y)
+    (c.send.ensures.items ∙ c.add.ensures.items ∙ c.set_item.ensures.items)
+    (c.send.ensures.tags ∙ (rw (c.add.ensures.tags, c.set_item.ensures.tags)))
+    c.requires.absent
