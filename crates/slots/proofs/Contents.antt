@@ -12,7 +12,7 @@ use Rattle.segments.proofs.ItemLists.{same-true, same-refl, same-sym, times-appe
 use Rattle.segments.proofs.QueueLists.{IsAbsent, is_absent, placed, queue-few}
 use Rattle.slots.specs.Chains.{item_at}
 use Rattle.slots.specs.Rings.{count, without, put_before}
-use Rattle.slots.specs.Held.{Order, used, section, with_section, closing, order_without, sent, freed, lists_of, item_or}
+use Rattle.slots.specs.Held.{Order, used, section, with_section, closing, order_without, sent, freed, lists_of, item_or, IsNewer}
 use Rattle.slots.proofs.Splices.{count-append, count-here, apart, end_of, start_of}
 use Rattle.slots.proofs.Hashing.{without-none}
 use Rattle.slots.proofs.Sections.{map-without, put-sentinel}
@@ -162,11 +162,6 @@ cut_at f (k ∷ l) (x ∷ xs) ys h =
     let here : f k ≡ x = cc in
     let r = cut_at f l xs ys (cc) in
     record { front = k ∷ r.front; back = r.back; whole = ap (λ t. k ∷ t) r.whole; fronts = rw (here, r.fronts) refl; backs = r.backs }
-
--- b is the slot of the newer neighbour, or no slot of the list where there is none
-abbrev pub IsNewer : (ℕ → Item) → Option Item → ℕ → List ℕ → Type 0
-IsNewer f None b l = count b l ≡ 0
-IsNewer f (Some n) b l = (1 ≤ count b l) × (f b ≡ n)
 
 front-few : (f : ℕ → Item) (l : List ℕ) (xs ys : List Item) → map f l ≡ xs ++ ys → ((j : Item) → times j (map f l) ≤ 1) → (j : Item) → times j xs ≤ 1
 front-few f l xs ys e u j = let a = ap (times j) e in let b = times-append j xs ys in let c = u j in omega (arith, a, b, c)

@@ -10,3 +10,4 @@ pub mod Sending
 pub mod Finding
 pub mod Tables
 pub mod Growing
+pub mod Calls

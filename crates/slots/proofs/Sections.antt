@@ -48,7 +48,7 @@ count-without n k (x ∷ l) =
       | inr e ↦ rw e (omega (arith, g))
     ]
 
-length-without : (k : ℕ) (l : List ℕ) → length (without k l) + count k l ≡ length l
+pub length-without : (k : ℕ) (l : List ℕ) → length (without k l) + count k l ≡ length l
 length-without k [] = refl
 length-without k (x ∷ l) =
     let h = length-without k l in

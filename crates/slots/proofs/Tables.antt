@@ -40,7 +40,7 @@ module _ (slots : List Slot) (o : Order) (h : IsQueued slots o) (k : ℕ) (n : 1
   pub free-within : k < length slots
   free-within = let w = h.linked.within k (let c = count-ring k o in omega (arith, c, n)) in let l = slots-length slots in omega (arith, w, l)
 
-  section-kept : (q : Queue) → section q (order_without k o) ≡ section q o
+  pub section-kept : (q : Queue) → section q (order_without k o) ≡ section q o
   section-kept Window = without-none k o.window (let c = count-used k o in let u = free-unused in omega (arith, c, u))
   section-kept Probation = without-none k o.probation (let c = count-used k o in let u = free-unused in omega (arith, c, u))
   section-kept Protected = without-none k o.protected (let c = count-used k o in let u = free-unused in omega (arith, c, u))

@@ -126,3 +126,18 @@ no_slots = record { window = []; probation = []; protected = []; free = [] }
 
 abbrev pub more_free : ℕ → Order → Order
 more_free k o = record { window = o.window; probation = o.probation; protected = o.protected; free = o.free ++ k ∷ [] }
+
+abbrev pub first_of : List ℕ → Option ℕ
+first_of [] = None
+first_of (x ∷ l) = Some x
+
+-- b is the slot of the newer neighbour in the list, or no slot of it where there is none
+abbrev pub IsNewer : (ℕ → Item) → Option Item → ℕ → List ℕ → Type 0
+IsNewer f None b l = count b l ≡ 0
+IsNewer f (Some n) b l = (1 ≤ count b l) × (f b ≡ n)
+
+-- the slot is in use and holds the item
+pub record IsSlotOf (at : ℕ) (i : Item) (slots : List Slot) (heads : List ℕ) (bits : ℕ) : Type 0 where
+  pub held : IsHeld slots heads bits (order_of slots)
+  pub used : 1 ≤ count at (used (order_of slots))
+  pub item : item_at (items slots) at ≡ i

@@ -1,14 +1,15 @@
 //! One ring of all slots: slots 0 to 3 stand before the window, probation, protected and the free slots.
-ghost use Rattle.std.specs.Prelude.{◌≡◌, ◌≢◌, ◌<◌, ◌≤◌, ◌⊎◌, length, slice_index, slice_set};
+ghost use Rattle.std.specs.Prelude.{◌≡◌, ◌≢◌, ◌<◌, ◌≤◌, ◌⊎◌, Some, IfOk, map, length, slice_index, slice_set};
 ghost use Rattle.segments.specs.Moves.{place_in};
 ghost use Rattle.segments.specs.Queues.{place_of};
 ghost use Rattle.slots.specs.Chains.{item_at};
-ghost use Rattle.slots.specs.Rings.{count, IsRing, ring_of, moved_before};
-ghost use Rattle.slots.specs.Held.{ring, used, section, opening, closing, order_of, order_without, sent, freed, lists, item_or, IsPlace, IsQueued};
+ghost use Rattle.slots.specs.Rings.{count, walk, IsRing, ring_of, moved_before};
+ghost use Rattle.slots.specs.Held.{ring, used, section, opening, closing, order_of, order_without, sent, freed, lists, item_or, first_of, IsPlace, IsQueued};
 ghost use Rattle.slots.specs.Fields.{items, chains, olders, newers, tags};
 
 use crate::slot::{Slot, set_newer, set_older, set_queue};
 use segments::{Place, Queue};
+use std::alloc::{AllocError, Global};
 use step_record::Item;
 
 /// The first slot that holds an item.
@@ -94,6 +95,29 @@ pub fn newest_free(slots: &[Slot]) -> u32
     ensures { 1 ≤ count result (order_of slots.now).free }
 {
     slots[0].older
+}
+
+/// The first slot of a queue that is not empty.
+pub fn oldest_slot(slots: &[Slot], queue: Queue) -> u32
+    requires queued { IsQueued slots.now (order_of slots.now) }
+    requires some { 1 ≤ length (section queue (order_of slots.now)) }
+    ensures { first_of (section queue (order_of slots.now)) ≡ Some result }
+{
+    slots[slot_before(queue) as usize].newer
+}
+
+/// The items of so many slots from the one that stands before the queue on.
+pub fn items_in(slots: &[Slot], alloc: Global, queue: Queue, len: usize) -> Result<Vec<Item>, AllocError>
+    requires { 1 ≤ len → IsRing (newers slots.now) (olders slots.now) (ring (order_of slots.now)) }
+    ensures { IfOk result (λ v. v.items ≡ map (λ k. item_at (items slots.now) k) (walk (newers slots.now) (opening queue) len)) }
+{
+    let mut list = Vec::with_capacity(alloc, len)?;
+    let mut at = slot_before(queue);
+    for step in 0..len {
+        at = slots[at as usize].newer;
+        list.push(slots[at as usize].item)?;
+    }
+    Ok(list)
 }
 
 /// The item of a slot, `None` at those that stand between the queues.
