@@ -6,17 +6,14 @@ use Rattle.segments.specs.declared.records.Queue.{Queue}
 use Rattle.segments.specs.declared.records.Queue.TheVariants.{Window, Probation, Protected}
 use Rattle.segments.specs.declared.records.MoveRecord.{MoveRecord}
 use Rattle.std.specs.Prelude.{◌↔◌, IfSome}
-use Rattle.segments.specs.declared.lists.Gap.{Gap}
 use Rattle.segments.specs.Items.{same, times, has, without, first, last, before, behind, put_behind}
 use Rattle.segments.specs.Queues.{Queues, queue_of, with_queue, place_of, IsDistinct, total, pushed, taken, popped}
-use Rattle.segments.specs.Cuts.{IsCut}
 use Rattle.segments.specs.Moves.{place_in, IsAt, needed}
-use Rattle.segments.specs.Kept.{shown_of, IsKept}
 use Rattle.std.specs.List.{position}
 use Rattle.std.specs.Prelude.{is_some}
 use Rattle.std.specs.List.{remove}
 use Rattle.segments.proofs.MoveLaws.{without-parted}
-use Rattle.segments.proofs.ItemLists.{IsFound, before-found, behind-found, found, missing, times-none, same-true, same-refl, times-without, times-gone, length-without, without-none, without-one, last-push, last-among, put_behind-at}
+use Rattle.segments.proofs.ItemLists.{same-true, same-refl, times-without, times-gone, length-without, without-none, without-one, last-push, last-among, put_behind-at}
 
 -- one list
 
@@ -246,52 +243,6 @@ none (x ∷ l) h = absurd (cc (h))
 pub popped-none : (q : Queue) (s : Queues) → first (queue_of q s) ≡ None → popped q s ≡ s
 popped-none q s h = ap (λ (l : List Item). with_queue q l s) (none (queue_of q s) h) ∙ with-queue q s
 
--- lengths
-
-pub total-with : (q : Queue) (m : List Item) (s : Queues) → total (with_queue q m s) + length (queue_of q s) ≡ total s + length m
-total-with Window m s = omega arith
-total-with Probation m s = omega arith
-total-with Protected m s = omega arith
-
-pub total-put : (q : Queue) (o : Option Item) (i : Item) (s : Queues) → total (with_queue q (put_behind o i (queue_of q s)) s) ≡ total s + 1
-total-put q o i s = let a = total-with q (put_behind o i (queue_of q s)) s in let b = length-put_behind o i (queue_of q s) in omega arith
-
-pub total-cut : (q : Queue) (i : Item) (gap : Gap) (s : Queues) (m : List Item) → IsCut i gap (queue_of q s) m → total (with_queue q m s) + 1 ≡ total s
-total-cut q i gap s m c =
-    let a = total-with q m s in
-    let b = length-without i (queue_of q s) in
-    let d : length m ≡ length (without i (queue_of q s)) = ap length c.without in
-    let n = c.once in
-    omega arith
-
--- room
-
-module _ (q : Queue) (i : Item) (s : Queues) (a b c d e f : ℕ) (ad : a ≤ d) (be : b ≤ e) (cf : c ≤ f) where
-  pub kept-put : (o : Option Item) → IsKept s a b c → 1 ≤ (shown_of s a b c).spare → place_of i s ≡ None → IsKept (with_queue q (put_behind o i (queue_of q s)) s) d e f
-  kept-put o k r h =
-      let t = total-put q o i s in
-      record { distinct = distinct-put q o i s k.distinct (absent i s h); window = omega (arith, t); probation = omega (arith, t); protected = omega (arith, t) }
-
-  pub spare-put : (o : Option Item) → (shown_of s a b c).spare ≤ (shown_of (with_queue q (put_behind o i (queue_of q s)) s) d e f).spare + 1
-  spare-put o = let t = total-put q o i s in omega (arith, t)
-
-  pub kept-cut : (gap : Gap) (m : List Item) → IsKept s a b c → IsCut i gap (queue_of q s) m → IsKept (with_queue q m s) d e f
-  kept-cut gap m k h =
-      let t = total-cut q i gap s m h in
-      record { distinct = (let n : 1 ≤ times i (queue_of q s) = (let o = h.once in omega arith) in let g : taken i s ≡ with_queue q m s = taken-in q i s k.distinct n ∙ sym (ap (λ (l : List Item). with_queue q l s) h.without) in subst IsDistinct g (distinct-taken i s k.distinct)); window = omega (arith, t); probation = omega (arith, t); protected = omega (arith, t) }
-
-  pub spare-cut : (gap : Gap) (m : List Item) → IsKept s a b c → IsCut i gap (queue_of q s) m → (shown_of s a b c).spare + 1 ≤ (shown_of (with_queue q m s) d e f).spare
-  spare-cut gap m k h = let t = total-cut q i gap s m h in let w = k.window in let p = k.probation in let r = k.protected in omega (arith, t)
-
-count-found : (i : Item) (l : List Item) (k : ℕ) → k < length l → get_or l k i ≡ i → 1 ≤ times i l
-count-found i [] k w h = absurd (omega arith)
-count-found i (x ∷ l) zero w h = let s : same i x ≡ true = rw h (same-refl i) in rw s (omega arith)
-count-found i (x ∷ l) (suc k) w h = let r = count-found i l k (omega arith) h in omega (arith, r)
-
-pub has-position : (i : Item) (l : List Item) (r : Option ℕ) → r ≡ position (same i) l → is_some r ≡ has i l
-has-position i l None h = sym (has-none i l (times-none i l (missing i l (sym h))))
-has-position i l (Some k) h = let f = found i l k (sym h) in sym (has-one i l (count-found i l k f.within f.here))
-
 last-stands : (i : Item) (l : List Item) → last l ≡ Some i → 1 ≤ times i l
 last-stands i [] h = absurd (cc (h))
 last-stands i (x ∷ l) h =
@@ -303,33 +254,3 @@ last-stands i (x ∷ l) h =
 pub needs-room : (to : Option Queue) (i : Item) (s : Queues) → IsAt to i s → place_of i s ≡ None → needed to ≡ 1
 needs-room None i s h n = refl
 needs-room (Some q) i s h n = let a = last-stands i (queue_of q s) h in let b = queue-absent q i s (absent i s n) in absurd (omega arith)
-
-pub room-after : (r : Option MoveRecord) (to : Option Queue) (i : Item) (s : Queues) (m n : ℕ) → IsAt to i s → (r ≡ None ↔ place_of i s ≡ None) → IfSome r (λ _. m + 1 ≤ n) → m ≤ n → m + 1 ≤ n + needed to
-room-after None to i s m n h a g l = let k = needs-room to i s h (a.0 refl) in omega (arith, k)
-room-after (Some r) to i s m n h a g l = omega arith
-
--- an item taken out of one vector
-
-pub is_cut : (i : Item) (l : List Item) (k : ℕ) → ((j : Item) → times j l ≤ 1) → IsFound i l k →
-    IsCut i record { older = last (take k l); newer = first (drop (k + 1) l) } l (remove l k)
-is_cut i l k u f =
-    let b : before i l ≡ take k l = before-found i l k f.within f.here f.not_before in
-    let d : behind i l ≡ drop (k + 1) l = behind-found i l k f.within f.here f.not_before in
-    let some : 1 ≤ times i l = count-found i l k f.within f.here in
-    let few : times i l ≤ 1 = u i in
-    let once : times i l ≡ 1 = omega arith in
-    record {
-      once = once;
-      without = (let r : remove l k ≡ take k l ++ drop (k + 1) l = rw add-one refl in let w : without i l ≡ before i l ++ behind i l = without-parted i l once in cc (r, w, b, d));
-      older = ap last (sym b);
-      newer = ap first (sym d);
-    }
-
-pub place-cut : (q : Queue) (i : Item) (gap : Gap) (s : Queues) (m : List Item) → IsDistinct s → IsCut i gap (queue_of q s) m →
-    Some record { queue = q; older = gap.older; newer = gap.newer } ≡ place_in i (place_of i s) s
-place-cut q i gap s m u c =
-    let p : place_of i s ≡ Some q = placed q i s u (let n = c.once in omega arith) in
-    rw p (rw (c.older, c.newer) refl)
-
-pub taken-cut : (q : Queue) (i : Item) (gap : Gap) (s : Queues) (m : List Item) → IsDistinct s → IsCut i gap (queue_of q s) m → with_queue q m s ≡ taken i s
-taken-cut q i gap s m u c = ap (λ (l : List Item). with_queue q l s) c.without ∙ sym (taken-in q i s u (let n = c.once in omega arith))

@@ -1,11 +1,15 @@
-//! The queues, in three vectors.
+//! The queues, in linked slots.
 ghost use Rattle.std.specs.Prelude.{◌≡◌, ◌↔◌, ◌+◌, ◌≤◌, ◌∷◌, ℕ, List, [], length, Option, Some, None, MatchOption, IfOk, OnOk, IfSome, IfNone, OnSome};
-ghost use Rattle.segments.specs.Items.{first, last, put_behind};
-ghost use Rattle.segments.specs.Queues.{empty, queue_of, with_queue, place_of, IsDistinct, pushed, taken, moved, popped};
-ghost use Rattle.segments.specs.Moves.{place_in, move_record, undone, Fits, needed};
+ghost use Rattle.segments.specs.Items.{first};
+ghost use Rattle.segments.specs.Queues.{empty, queue_of, place_of, IsDistinct, pushed, taken, moved, popped};
+ghost use Rattle.segments.specs.Moves.{move_record, undone, Fits, needed};
 
-use crate::lists::{cut, holds, newest_of, oldest_of, splice};
-use crate::records::{MoveRecord, Place, Queue};
+use crate::index::Index;
+use crate::lengths::Lengths;
+use crate::links::{items_in, oldest_slot, slot_behind};
+use crate::slot::Slot;
+use crate::table::{find_slot, grow, insert, insert_at, remove, shift, shift_to};
+use crate::records::{MoveRecord, Queue};
 use std::alloc::{AllocError, Global};
 use std::marker::Model;
 use step_record::Item;
@@ -13,21 +17,21 @@ use step_record::Item;
 /// Three queues of items, each of which stands once, oldest first.
 #[derive(Drop)]
 pub struct Segments {
-    window: Vec<Item>,
-    probation: Vec<Item>,
-    protected: Vec<Item>,
+    alloc: Global,
+    slots: Vec<Slot>,
+    index: Index,
+    lengths: Lengths,
 }
 
 impl Model for Segments {
-    ghost use Rattle.std.specs.Prelude.{vec_capacity};
     ghost use Rattle.segments.specs.Queues.{Shown};
-    ghost use Rattle.segments.specs.Kept.{queues, shown_of, IsKept};
+    ghost use Rattle.segments.specs.Counts.{shown_of, IsKept};
 
     ghost Value = { Shown };
 
-    ghost view = { λ s. shown_of (queues s.window.items s.probation.items s.protected.items) (vec_capacity s.window) (vec_capacity s.probation) (vec_capacity s.protected) };
+    ghost view = { λ s. shown_of s.slots.items };
 
-    ghost invariant = { λ s. IsKept (queues s.window.items s.probation.items s.protected.items) (vec_capacity s.window) (vec_capacity s.probation) (vec_capacity s.protected) };
+    ghost invariant = { λ s. IsKept s.slots.items s.index.heads.items s.index.bits s.lengths };
 }
 
 impl Segments {
@@ -36,9 +40,18 @@ impl Segments {
         ensures lists { result.lists ≡ empty }
     {
         Segments {
-            window: Vec::new(alloc),
-            probation: Vec::new(alloc),
-            protected: Vec::new(alloc),
+            alloc,
+            slots: Vec::new(alloc),
+            index: Index {
+                heads: Vec::new(alloc),
+                bits: 0,
+            },
+            lengths: Lengths {
+                window: 0,
+                probation: 0,
+                protected: 0,
+                free: 0,
+            },
         }
     }
 
@@ -48,26 +61,19 @@ impl Segments {
         ensures room { OnOk result (1 ≤ self.new.spare) }
         ensures spare { self.old.spare ≤ self.new.spare }
     {
-        let (window, probation, protected) = (
-            self.window.len(),
-            self.probation.len(),
-            self.protected.len(),
-        );
-        self.window.reserve(probation + protected + 1)?;
-        self.probation.reserve(window + protected + 1)?;
-        self.protected.reserve(window + probation + 1)
+        if self.lengths.free > 0 {
+            return Ok(());
+        }
+        grow(self.alloc, &mut self.slots, &mut self.index)?;
+        self.lengths.free += 1;
+        Ok(())
     }
 
     /// For how many more items there is room.
     pub fn spare(&self) -> usize
         ensures { result ≡ self.now.spare }
     {
-        let room = self
-            .window
-            .capacity()
-            .min(self.probation.capacity())
-            .min(self.protected.capacity());
-        room - (self.window.len() + self.probation.len() + self.protected.len())
+        self.lengths.free
     }
 
     /// Puts an item that stands in no queue at the recent end of one. It asks for room, and takes no more than that.
@@ -80,8 +86,8 @@ impl Segments {
         ensures undone { undone result self.new.lists ≡ self.old.lists }
         ensures spare { self.old.spare ≤ self.new.spare + 1 }
     {
-        let older = self.newest(queue);
-        self.attach(queue, older, item);
+        let before = slot_behind(queue);
+        insert(&mut self.slots, &mut self.index, &mut self.lengths, item, queue, before);
         MoveRecord {
             item,
             from: None,
@@ -100,11 +106,9 @@ impl Segments {
         ensures undone { IfSome result (λ r. undone r self.new.lists ≡ self.old.lists) }
         ensures spare { self.old.spare ≤ self.new.spare }
     {
-        let Some(place) = self.detach(item) else {
-            return None;
-        };
-        let older = self.newest(queue);
-        self.attach(queue, older, item);
+        let at = find_slot(&self.slots, &self.index, item)?;
+        let before = slot_behind(queue);
+        let place = shift(&mut self.slots, &mut self.lengths, at, queue, before);
         Some(MoveRecord {
             item,
             from: Some(place),
@@ -116,17 +120,23 @@ impl Segments {
     pub fn pop_oldest(&mut self, queue: Queue) -> Option<(Item, MoveRecord)>
         ensures item { MatchOption result (queue_of queue self.old.lists ≡ []) (λ r. first (queue_of queue self.old.lists) ≡ Some r.0) }
         ensures lists { self.new.lists ≡ popped queue self.old.lists }
+        ensures none { IfNone result (self.new.lists ≡ self.old.lists) }
         ensures record { IfSome result (λ r. r.1 ≡ move_record r.0 None self.old.lists) }
         ensures fits { IfSome result (λ r. Fits r.1 self.new.lists) }
         ensures undone { IfSome result (λ r. undone r.1 self.new.lists ≡ self.old.lists) }
         ensures spare { self.old.spare ≤ self.new.spare }
         ensures gained { IfSome result (λ _. self.old.spare + 1 ≤ self.new.spare) }
     {
-        let Some(item) = self.oldest(queue) else {
+        if self.lengths.of(queue) == 0 {
             return None;
-        };
-        let Some(record) = self.take_out(item) else {
-            return None;
+        }
+        let at = oldest_slot(&self.slots, queue);
+        let item = self.slots[at as usize].item;
+        let place = remove(&mut self.slots, &mut self.index, &mut self.lengths, at);
+        let record = MoveRecord {
+            item,
+            from: Some(place),
+            to: None,
         };
         Some((item, record))
     }
@@ -135,15 +145,15 @@ impl Segments {
     pub fn take_out(&mut self, item: Item) -> Option<MoveRecord>
         ensures absent { result ≡ None ↔ place_of item self.old.lists ≡ None }
         ensures lists { self.new.lists ≡ taken item self.old.lists }
+        ensures none { IfNone result (self.new.lists ≡ self.old.lists) }
         ensures record { IfSome result (λ r. r ≡ move_record item None self.old.lists) }
         ensures fits { IfSome result (λ r. Fits r self.new.lists) }
         ensures undone { IfSome result (λ r. undone r self.new.lists ≡ self.old.lists) }
         ensures spare { self.old.spare ≤ self.new.spare }
         ensures gained { IfSome result (λ _. self.old.spare + 1 ≤ self.new.spare) }
     {
-        let Some(place) = self.detach(item) else {
-            return None;
-        };
+        let at = find_slot(&self.slots, &self.index, item)?;
+        let place = remove(&mut self.slots, &mut self.index, &mut self.lengths, at);
         Some(MoveRecord {
             item,
             from: Some(place),
@@ -159,9 +169,13 @@ impl Segments {
         ensures lists { self.new.lists ≡ undone done self.old.lists }
         ensures spare { self.old.spare ≤ self.new.spare + needed done.to }
     {
-        let _ = self.take_out(done.item);
-        if let Some(place) = done.from {
-            self.attach(place.queue, place.older, done.item);
+        let Some(place) = done.from else {
+            let _ = self.take_out(done.item);
+            return;
+        };
+        match find_slot(&self.slots, &self.index, done.item) {
+            Some(at) => shift_to(&mut self.slots, &self.index, &mut self.lengths, at, place),
+            None => insert_at(&mut self.slots, &mut self.index, &mut self.lengths, done.item, place),
         }
     }
 
@@ -169,22 +183,14 @@ impl Segments {
     pub fn list(&self, alloc: Global, queue: Queue) -> Result<Vec<Item>, AllocError>
         ensures { IfOk result (λ items. items.items ≡ queue_of queue self.now.lists) }
     {
-        match queue {
-            Queue::Window => Vec::from_slice(alloc, &self.window),
-            Queue::Probation => Vec::from_slice(alloc, &self.probation),
-            Queue::Protected => Vec::from_slice(alloc, &self.protected),
-        }
+        items_in(&self.slots, alloc, queue, self.lengths.of(queue))
     }
 
     /// How many items stand in the queue.
     pub fn len(&self, queue: Queue) -> usize
         ensures { result ≡ length (queue_of queue self.now.lists) }
     {
-        match queue {
-            Queue::Window => self.window.len(),
-            Queue::Probation => self.probation.len(),
-            Queue::Protected => self.protected.len(),
-        }
+        self.lengths.of(queue)
     }
 
     /// The queue in which the item stands.
@@ -193,84 +199,7 @@ impl Segments {
         // what holds of every Segments: no item stands twice
         ensures distinct { IsDistinct self.now.lists }
     {
-        if holds(&self.window, item) {
-            return Some(Queue::Window);
-        }
-        if holds(&self.probation, item) {
-            return Some(Queue::Probation);
-        }
-        if holds(&self.protected, item) {
-            return Some(Queue::Protected);
-        }
-        None
-    }
-
-    fn oldest(&self, queue: Queue) -> Option<Item>
-        ensures item { result ≡ first (queue_of queue self.now.lists) }
-        ensures distinct { IsDistinct self.now.lists }
-    {
-        match queue {
-            Queue::Window => oldest_of(&self.window),
-            Queue::Probation => oldest_of(&self.probation),
-            Queue::Protected => oldest_of(&self.protected),
-        }
-    }
-
-    fn newest(&self, queue: Queue) -> Option<Item>
-        ensures item { result ≡ last (queue_of queue self.now.lists) }
-        ensures distinct { IsDistinct self.now.lists }
-    {
-        match queue {
-            Queue::Window => newest_of(&self.window),
-            Queue::Probation => newest_of(&self.probation),
-            Queue::Protected => newest_of(&self.protected),
-        }
-    }
-
-    /// Takes the item out, and says where it stood.
-    fn detach(&mut self, item: Item) -> Option<Place>
-        ensures place { result ≡ place_in item (place_of item self.old.lists) self.old.lists }
-        ensures absent { result ≡ None ↔ place_of item self.old.lists ≡ None }
-        ensures lists { self.new.lists ≡ taken item self.old.lists }
-        ensures distinct { IsDistinct self.old.lists }
-        ensures spare { self.old.spare ≤ self.new.spare }
-        ensures gained { IfSome result (λ _. self.old.spare + 1 ≤ self.new.spare) }
-    {
-        if let Some(gap) = cut(&mut self.window, item) {
-            return Some(Place {
-                queue: Queue::Window,
-                older: gap.older,
-                newer: gap.newer,
-            });
-        }
-        if let Some(gap) = cut(&mut self.probation, item) {
-            return Some(Place {
-                queue: Queue::Probation,
-                older: gap.older,
-                newer: gap.newer,
-            });
-        }
-        if let Some(gap) = cut(&mut self.protected, item) {
-            return Some(Place {
-                queue: Queue::Protected,
-                older: gap.older,
-                newer: gap.newer,
-            });
-        }
-        None
-    }
-
-    /// Puts an item that stands nowhere right behind its older neighbour.
-    fn attach(&mut self, queue: Queue, older: Option<Item>, item: Item)
-        requires room { 1 ≤ self.old.spare }
-        requires absent { place_of item self.old.lists ≡ None }
-        ensures lists { self.new.lists ≡ with_queue queue (put_behind older item (queue_of queue self.old.lists)) self.old.lists }
-        ensures spare { self.old.spare ≤ self.new.spare + 1 }
-    {
-        match queue {
-            Queue::Window => splice(&mut self.window, older, item),
-            Queue::Probation => splice(&mut self.probation, older, item),
-            Queue::Protected => splice(&mut self.protected, older, item),
-        }
+        let at = find_slot(&self.slots, &self.index, item)?;
+        Some(self.slots[at as usize].queue)
     }
 }

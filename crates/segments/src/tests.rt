@@ -1,7 +1,10 @@
-ghost use Rattle.std.specs.Prelude.{◌≡◌, ◌≤◌, None};
-ghost use Rattle.segments.specs.Queues.{place_of};
+ghost use Rattle.std.specs.Prelude.{◌≡◌, IfSome, IfNone};
+ghost use Rattle.segments.specs.Moves.{Fits, undone};
+
+mod plain;
 
 use super::*;
+use plain::Plain;
 use std::alloc::Global;
 use std::process::Abort;
 use step_record::Item;
@@ -151,4 +154,101 @@ fn an_item_is_its_key_with_its_node(rt: HostRuntime) {
         &[(1, 0), (2, 1), (3, 2)],
     );
     assert_list(&rt, rt.alloc(), &segments, Queue::Probation, &[(2, 0)]);
+}
+
+/// Compares every list, its length and where its items are found.
+fn assert_same(rt: &impl Abort, alloc: Global, segments: &Segments, plain: &Plain) {
+    for queue in [Queue::Window, Queue::Probation, Queue::Protected] {
+        let list = segments.list(alloc, queue).expect(rt, "memory for a list");
+        assert_eq!(rt; list.as_slice(), plain.list(queue), "in {queue:?}");
+        assert_eq!(rt; segments.len(queue), plain.list(queue).len(), "told length of {queue:?}");
+    }
+}
+
+/// One call on both, picked by the number: a push, a move, a pop or a taking out, of one of 400 items.
+fn step(rt: &impl Abort, alloc: Global, segments: &mut Segments, plain: &mut Plain, number: u64) -> Option<MoveRecord>
+    ensures fits { IfSome result (λ r. Fits r segments.new.lists) }
+    ensures undone { IfSome result (λ r. undone r segments.new.lists ≡ segments.old.lists) }
+    ensures none { IfNone result (segments.new.lists ≡ segments.old.lists) }
+{
+    let picked = item(number / 16 % 200, number / 3200 % 2);
+    let queue = match number / 6400 % 3 {
+        0 => Queue::Window,
+        1 => Queue::Probation,
+        _ => Queue::Protected,
+    };
+    assert_eq!(rt; segments.find(picked), plain.find(picked), "where {picked:?} stands");
+    match number % 16 {
+        0 => {
+            let oldest = plain.list(queue).first().copied();
+            let popped = segments.pop_oldest(queue);
+            assert_eq!(rt; popped.map(|x| x.0), oldest, "popped of {queue:?}");
+            if let Some(oldest) = oldest {
+                plain.take_out(oldest);
+            }
+            popped.map(|x| x.1)
+        }
+        1 => {
+            plain.take_out(picked);
+            segments.take_out(picked)
+        }
+        2..=8 => {
+            if plain.find(picked).is_some() {
+                plain.take_out(picked);
+                plain.push(queue, picked).expect(rt, "memory for the plain list");
+            }
+            segments.move_recent(picked, queue)
+        }
+        _ => {
+            segments.reserve().expect(rt, "memory for one more");
+            if let Some(_) = segments.find(picked) {
+                return None;
+            }
+            plain.push(queue, picked).expect(rt, "memory for the plain list");
+            Some(segments.push_recent(queue, picked))
+        }
+    }
+}
+
+fn next(seed: u64) -> u64 {
+    seed.wrapping_mul(6364136223846793005).wrapping_add(1442695040888963407)
+}
+
+#[test]
+fn both_bodies_show_the_same_lists(rt: HostRuntime) {
+    let mut segments = Segments::new(rt.alloc());
+    let mut plain = Plain::new(rt.alloc());
+    let mut seed = 1;
+    for _ in 0..4000 {
+        seed = next(seed);
+        let _ = step(&rt, rt.alloc(), &mut segments, &mut plain, seed >> 33);
+        assert_same(&rt, rt.alloc(), &segments, &plain);
+    }
+    assert!(rt; plain.list(Queue::Probation).len() > 20, "the queues filled up");
+}
+
+/// So many calls on both, and then each undone, the last first.
+fn there_and_back(rt: &impl Abort, alloc: Global, segments: &mut Segments, plain: &Plain, seed: u64, steps: u32)
+    ensures { segments.new.lists ≡ segments.old.lists }
+{
+    if steps == 0 {
+        return;
+    }
+    let seed = next(seed);
+    let mut moved = plain.copy(alloc).expect(rt, "memory for the plain lists");
+    let done = step(rt, alloc, segments, &mut moved, seed >> 33);
+    assert_same(rt, alloc, segments, &moved);
+    there_and_back(rt, alloc, segments, &moved, seed, steps - 1);
+    if let Some(done) = done {
+        segments.reserve().expect(rt, "room for what comes back");
+        segments.put_back(done);
+    }
+    assert_same(rt, alloc, segments, plain);
+}
+
+#[test]
+fn a_long_run_is_undone_call_by_call(rt: HostRuntime) {
+    let mut segments = Segments::new(rt.alloc());
+    there_and_back(&rt, rt.alloc(), &mut segments, &Plain::new(rt.alloc()), 2, 1500);
+    assert_list(&rt, rt.alloc(), &segments, Queue::Window, &[]);
 }

@@ -1,23 +1,42 @@
-use Rattle.std.proofs.Common.{◌≡◌, ◌∙◌, sym, ap}
-use Rattle.segments.specs.Queues.{pushed}
-use Rattle.segments.proofs.QueueLists.{is_absent, absent-taken, put-last}
-use Rattle.segments.proofs.CallLaws.{move_led, taken-unplaced}
+use Rattle.std.proofs.Common.{◌≡◌, ◌<◌, ◌≤◌, ◌∙◌, ◌++◌, List, length, take, drop, Some, sym, ap, subst, arith}
+use Rattle.step_record.specs.declared.Item.{Item}
+use Rattle.segments.specs.Queues.{Queues, Shown, moved, place_of}
+use Rattle.segments.specs.Moves.{place_in}
+use Rattle.segments.proofs.MoveLaws.{Leads}
+use Rattle.segments.proofs.CallLaws.{move_led}
+use Rattle.segments.specs.declared.slot.Slot.{Slot}
+use Rattle.segments.specs.Fields.{items}
+use Rattle.segments.specs.Chains.{item_at}
+use Rattle.segments.specs.Held.{order_of, lists, IsHeld, IsSlotOf}
+use Rattle.segments.proofs.Tables.{take-front}
+use Rattle.segments.proofs.Calls.{placed-for, moved-for}
 use Rattle.segments.proofs.storage.Segments.move_recent.Goals as goal
 
-pub returns-in_default-clause-none : goal.returns-in_default-clause-none
-returns-in_default-clause-none c = c.detach.ensures.lists ∙ taken-unplaced c.args.item c.args.self.now.lists (c.detach.ensures.absent.0 c.in_default.is)
-
-pub attach-requires-clause-absent : goal.attach-requires-clause-absent
-attach-requires-clause-absent c = rw c.detach.ensures.lists (is_absent c.args.item _ (absent-taken c.args.item c.args.self.now.lists))
-
-pub returns-clause-lists : goal.returns-clause-lists
-returns-clause-lists c =
-    let put : c.attach.new.self.lists ≡ pushed c.args.queue c.args.item c.detach.new.self.lists =
-    c.attach.ensures.lists ∙ (rw c.newest-older.ensures.item (put-last c.args.queue c.args.item c.detach.new.self.lists c.newest-older.ensures.distinct)) in
-    put ∙ ap (pushed c.args.queue c.args.item) c.detach.ensures.lists
+pub invariant_of-self : goal.invariant_of-self
+invariant_of-self c =
+    let whole : take c.self.inside.slots.len (c.shift-place.new.slots ++ drop (length c.shift-place.new.slots) c.self.inside.slots.items) ≡ c.shift-place.new.slots = take-front _ _ _ (omega arith) in
+    let held : IsHeld c.deref_mut.result.now c.self.inside.index.heads.items c.self.inside.index.bits (order_of c.deref_mut.result.now) = subst (λ (s : List Slot). IsHeld s c.self.inside.index.heads.items c.self.inside.index.bits (order_of s)) (c.deref.ensures.value ∙ sym c.deref_mut.ensures.value) c.in_ok-at.ensures.there.held in
+    rw whole record {
+      held = λ _. c.shift-place.ensures.held c.self.inside.index.heads.items c.self.inside.index.bits held;
+      counted = c.shift-place.ensures.counted;
+      few = (let f = c.self.invariant.few in omega (arith, f));
+    }
 
 pub returns-clause-fits : goal.returns-clause-fits
-returns-clause-fits c = (move_led c.args.item c.args.self.now.lists c.attach.new.self.lists c.detach.ensures.distinct c.args.queue c.in-Some.place (sym c.in-Some.is ∙ c.detach.ensures.place) (returns-clause-lists c)).fits
+returns-clause-fits c =
+    let whole : take c.self.inside.slots.len (c.shift-place.new.slots ++ drop (length c.shift-place.new.slots) c.self.inside.slots.items) ≡ c.shift-place.new.slots = take-front _ _ _ (omega arith) in
+    let t = c.in_ok-at.ensures.there in
+    let same : c.deref_mut.result.now ≡ c.deref.result.now = c.deref_mut.ensures.value ∙ sym c.deref.ensures.value in
+    let p = placed-for c.deref_mut.result.now c.deref.result.now c.in_ok-at.at c.args.item c.shift-place.result same t.item c.shift-place.ensures.place in
+    let e = moved-for c.deref_mut.result.now c.deref.result.now c.shift-place.new.slots c.in_ok-at.at c.args.item c.args.queue same t.item (c.shift-place.ensures.recent c.slot_behind-before.ensures) in
+    rw whole (move_led c.args.item (lists c.deref.result.now) (lists c.shift-place.new.slots) t.held.queued.distinct c.args.queue c.shift-place.result p e).fits
 
 pub returns-clause-undone : goal.returns-clause-undone
-returns-clause-undone c = (move_led c.args.item c.args.self.now.lists c.attach.new.self.lists c.detach.ensures.distinct c.args.queue c.in-Some.place (sym c.in-Some.is ∙ c.detach.ensures.place) (returns-clause-lists c)).back
+returns-clause-undone c =
+    let whole : take c.self.inside.slots.len (c.shift-place.new.slots ++ drop (length c.shift-place.new.slots) c.self.inside.slots.items) ≡ c.shift-place.new.slots = take-front _ _ _ (omega arith) in
+    let t = c.in_ok-at.ensures.there in
+    let same : c.deref_mut.result.now ≡ c.deref.result.now = c.deref_mut.ensures.value ∙ sym c.deref.ensures.value in
+    let p = placed-for c.deref_mut.result.now c.deref.result.now c.in_ok-at.at c.args.item c.shift-place.result same t.item c.shift-place.ensures.place in
+    let e = moved-for c.deref_mut.result.now c.deref.result.now c.shift-place.new.slots c.in_ok-at.at c.args.item c.args.queue same t.item (c.shift-place.ensures.recent c.slot_behind-before.ensures) in
+    let v : lists c.deref.result.now ≡ c.args.self.now.lists = ap lists c.deref.ensures.value ∙ ap (λ (s : Shown). s.lists) c.self.view_is in
+    rw whole ((move_led c.args.item (lists c.deref.result.now) (lists c.shift-place.new.slots) t.held.queued.distinct c.args.queue c.shift-place.result p e).back ∙ v)
