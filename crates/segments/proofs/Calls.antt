@@ -1,6 +1,6 @@
 -- What an item that comes, moves or goes leaves of lists and lengths.
 use Rattle.std.proofs.Common.{◌≡◌, ℕ, suc, zero, ◌+◌, ◌-◌, ◌<◌, ◌≤◌, Bool, true, false, cond, eqb, Option, Some, None, List, [], ◌∷◌, ◌++◌, length, get_or, set, map, ap, ◌∙◌, sym, refl, subst, arith, ◌⊎◌, inl, inr, length-append, append_assoc, get_or-set_same, get_or-set_other}
-use Rattle.std.proofs.lemmas.Bool.{cases_Bool, cases_eq, eqb-true}
+use Rattle.std.proofs.lemmas.Bool.{cases_Bool, eqb-true}
 use Rattle.std.proofs.lemmas.List.{length-map}
 use Rattle.step_record.specs.declared.Item.{Item}
 use Rattle.segments.specs.declared.records.Queue.{Queue}
@@ -9,23 +9,23 @@ use Rattle.segments.specs.declared.records.Place.{Place}
 use Rattle.segments.specs.declared.records.MoveRecord.{MoveRecord}
 use Rattle.segments.specs.Moves.{place_in, move_record, IsOpen, restored, undone}
 use Rattle.segments.proofs.CallLaws.{taken-unplaced}
-use Rattle.segments.specs.Items.{same, times, first, IsGap, put_behind}
+use Rattle.segments.specs.Items.{same, first, IsGap, put_behind}
 use Rattle.segments.specs.Queues.{Queues, queue_of, with_queue, place_of, pushed, taken, moved, IsDistinct}
 use Rattle.segments.proofs.ItemLists.{same-refl}
 use Rattle.segments.proofs.QueueLists.{distinct-taken}
 use Rattle.segments.specs.declared.slot.Slot.{Slot}
 use Rattle.segments.specs.declared.lengths.Lengths.{Lengths}
-use Rattle.segments.specs.Fields.{items, chains, olders, newers, tags}
+use Rattle.segments.specs.Fields.{items, olders, newers}
 use Rattle.segments.specs.Chains.{item_at}
 use Rattle.segments.specs.Rings.{count, walk, IsRing, without, put_before}
-use Rattle.segments.specs.Held.{Order, ring, used, section, with_section, opening, closing, order_of, order_without, sent, freed, lists, lists_of, first_of, IsNewer, IsPlace, IsQueued, IsHeld}
+use Rattle.segments.specs.Held.{Order, ring, used, section, opening, closing, order_of, order_without, sent, freed, lists, lists_of, first_of, IsNewer, IsPlace, IsQueued, IsHeld}
 use Rattle.segments.specs.Counts.{length_in, raised, lowered, one_more, one_less, lengths_of, IsKept}
 use Rattle.segments.proofs.Splices.{newer-start, start_of, start-stands, count-append, count-here, walked}
 use Rattle.segments.proofs.Turning.{turned}
-use Rattle.segments.proofs.Sections.{gone, count-without, length-without}
-use Rattle.segments.proofs.Orders.{IsOnce, count-used, once-parts, section-with, used-gone}
+use Rattle.segments.proofs.Sections.{count-without, length-without}
+use Rattle.segments.proofs.Orders.{IsOnce, once-parts}
 use Rattle.segments.proofs.Contents.{IsCutAt, cut_at, alone, placed-at, section-used, taken-order, lists-queue, lists-recent, lists-back}
-use Rattle.segments.proofs.Holding.{linked-section, opening-first, closing-first, used-real, used-few, used-within, StandsIn, stands, stands_in}
+use Rattle.segments.proofs.Holding.{linked-section, closing-first, used-real, used-within, StandsIn, stands, stands_in}
 use Rattle.segments.proofs.Finding.{slots-length}
 use Rattle.segments.proofs.Tables.{section-kept, free-unused, free-within, lists-written}
 
@@ -123,7 +123,7 @@ module _ (slots slots2 : List Slot) (o : Order) (h : IsQueued slots o) (k : ℕ)
       let none : count b (section q (order_without k o)) ≡ 0 = subst (λ c. count c (section q (order_without k o)) ≡ 0) (sym e) (closing-without q q k o h.linked.once) in
       ap (λ (p : Order). lists_of p (items slots2)) eo
       ∙ (lists-recent q k b o (items slots2) none
-        ∙ (ap (λ (x : Item). pushed q x (lists_of (order_without k o) (items slots2))) here ∙ ap (pushed q i) rest))
+      ∙ (ap (λ (x : Item). pushed q x (lists_of (order_without k o) (items slots2))) here ∙ ap (pushed q i) rest))
 
   newer-kept : (newer : Option Item) → IsNewer (λ j. item_at (items slots) j) newer b (section q o) → IsNewer (λ j. item_at (items slots2) j) newer b (section q (order_without k o))
   newer-kept None m = subst (λ (l : List ℕ). count b l ≡ 0) (sym (section-kept slots o h k n q)) m
@@ -136,8 +136,8 @@ module _ (slots slots2 : List Slot) (o : Order) (h : IsQueued slots o) (k : ℕ)
   insert-back older newer g m =
       ap (λ (p : Order). lists_of p (items slots2)) eo
       ∙ (lists-back q k b o (items slots2) older newer (subst IsDistinct (sym rest) h.distinct) (subst (λ (s : Queues). IsGap older newer (queue_of q s)) (sym rest) g) (newer-kept newer m)
-        ∙ (ap (λ (x : Item). with_queue q (put_behind older x (queue_of q (lists_of (order_without k o) (items slots2)))) (lists_of (order_without k o) (items slots2))) here
-          ∙ ap (λ (s : Queues). with_queue q (put_behind older i (queue_of q s)) s) rest))
+      ∙ (ap (λ (x : Item). with_queue q (put_behind older x (queue_of q (lists_of (order_without k o) (items slots2)))) (lists_of (order_without k o) (items slots2))) here
+      ∙ ap (λ (s : Queues). with_queue q (put_behind older i (queue_of q s)) s) rest))
 
 -- an item moved
 
@@ -159,7 +159,7 @@ module _ (slots slots2 : List Slot) (o : Order) (h : IsQueued slots o) (k : ℕ)
       let d : IsDistinct (lists_of (order_without k o) (items slots)) = subst IsDistinct taken-is (distinct-taken (item_at (items slots) k) (lists_of o (items slots)) h.distinct) in
       shown
       ∙ (lists-back q k b o (items slots) older newer d (subst (λ (s : Queues). IsGap older newer (queue_of q s)) taken-is g) m
-        ∙ ap (λ (s : Queues). with_queue q (put_behind older (item_at (items slots) k) (queue_of q s)) s) (sym taken-is))
+      ∙ ap (λ (s : Queues). with_queue q (put_behind older (item_at (items slots) k) (queue_of q s)) s) (sym taken-is))
 
 -- an item went
 
@@ -200,8 +200,8 @@ spot-holds slots o h l q into older (Some n) b g a c =
     let there : 1 ≤ count v.at l = (let e = ap (count v.at) t.whole in let p = count-append v.at t.front t.back in let s = v.stands in omega (arith, e, p, s)) in
     let j_used : 1 ≤ count v.at (used o) = into v.at there in
     let placed_n : place_of n (lists_of o (items slots)) ≡ None → ⊥ = λ z. (
-        let z2 : place_of (f v.at) (lists_of o (items slots)) ≡ None = subst (λ (x : Item). place_of x (lists_of o (items slots)) ≡ None) (sym v.holds) z in
-        at_queue z2 (stands_in v.at o j_used)) in
+    let z2 : place_of (f v.at) (lists_of o (items slots)) ≡ None = subst (λ (x : Item). place_of x (lists_of o (items slots)) ≡ None) (sym v.holds) z in
+    at_queue z2 (stands_in v.at o j_used)) in
     let s = c n refl placed_n in
     let eb : b ≡ v.at = elim (cases_Bool (eqb b v.at)) [
       | inl y ↦ eqb-true b v.at y

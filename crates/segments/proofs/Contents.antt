@@ -1,19 +1,19 @@
 -- The items of slots.
-use Rattle.std.proofs.Common.{◌≡◌, ℕ, suc, zero, ◌+◌, ◌-◌, ◌<◌, ◌≤◌, Bool, true, false, cond, eqb, nat_lt, Option, Some, None, List, [], ◌∷◌, ◌++◌, length, get_or, set, map, ap, ◌∙◌, sym, refl, subst, arith, ◌⊎◌, inl, inr, get_or-set_same, get_or-set_other}
+use Rattle.std.proofs.Common.{◌≡◌, ℕ, ◌+◌, ◌<◌, ◌≤◌, true, false, cond, eqb, nat_lt, Option, Some, None, List, [], ◌∷◌, ◌++◌, set, map, ap, ◌∙◌, sym, refl, subst, arith, inl, inr, get_or-set_other}
 use Rattle.std.proofs.Common.{append-nil, append_assoc}
-use Rattle.std.proofs.lemmas.Bool.{cases_Bool, cases_eq, cases_lt, lt-ltb, le-ltb, ne_eqb, eq-eqb, eqb-true, eqb-false}
+use Rattle.std.proofs.lemmas.Bool.{cases_Bool, cases_eq, lt-ltb, le-ltb, ne_eqb, eq-eqb, eqb-true}
 use Rattle.step_record.specs.declared.Item.{Item}
 use Rattle.segments.specs.declared.records.Queue.{Queue}
 use Rattle.segments.specs.declared.records.Queue.TheVariants.{Window, Probation, Protected}
-use Rattle.segments.specs.Items.{same, times, has, first, last_from, last, before, behind, IsGap, put_behind}
+use Rattle.segments.specs.Items.{same, times, first, last_from, last, before, behind, IsGap, put_behind}
 use Rattle.segments.specs.Items.{without as without_item}
-use Rattle.segments.specs.Queues.{Queues, queue_of, with_queue, place_of, pushed, taken, moved, IsDistinct}
-use Rattle.segments.proofs.ItemLists.{same-true, same-refl, same-sym, times-append, put_behind-at, last_from-append}
+use Rattle.segments.specs.Queues.{Queues, queue_of, with_queue, place_of, pushed, taken, IsDistinct}
+use Rattle.segments.proofs.ItemLists.{same-true, same-refl, times-append, put_behind-at}
 use Rattle.segments.proofs.QueueLists.{IsAbsent, is_absent, placed, queue-few}
 use Rattle.segments.specs.Chains.{item_at}
-use Rattle.segments.specs.Rings.{count, without, put_before}
-use Rattle.segments.specs.Held.{Order, used, section, with_section, closing, order_without, sent, freed, lists_of, item_or, IsNewer}
-use Rattle.segments.proofs.Splices.{count-append, count-here, apart, end_of, start_of}
+use Rattle.segments.specs.Rings.{count, put_before}
+use Rattle.segments.specs.Held.{Order, used, section, with_section, order_without, sent, lists_of, item_or, IsNewer}
+use Rattle.segments.proofs.Splices.{count-append, count-here, end_of, start_of}
 use Rattle.segments.proofs.Hashing.{without-none}
 use Rattle.segments.proofs.Sections.{map-without, put-sentinel}
 use Rattle.segments.proofs.Orders.{count-used, put-end}
@@ -176,19 +176,19 @@ put_newer f (Some m) k b us (v ∷ vs) u h n =
     elim (cases_eq b v) [
       | inl e ↦ e
       | inr d ↦ absurd (
-        let t = times-two f m b v (us ++ v ∷ vs) d (rw n.1 (same-refl m)) (rw fv (same-refl m)) in
-        let a = count-append v us (v ∷ vs) in
-        let c = count-here v vs in
-        let w = u m in
-        let p = n.0 in
-        omega (arith, t, a, c, w, p))
+          let t = times-two f m b v (us ++ v ∷ vs) d (rw n.1 (same-refl m)) (rw fv (same-refl m)) in
+          let a = count-append v us (v ∷ vs) in
+          let c = count-here v vs in
+          let w = u m in
+          let p = n.0 in
+          omega (arith, t, a, c, w, p))
     ] in
     let none : count v us ≡ 0 = (
-        let t = times-map f m v (us ++ v ∷ vs) (rw fv (same-refl m)) in
-        let a = count-append v us (v ∷ vs) in
-        let c = count-here v vs in
-        let w = u m in
-        omega (arith, t, a, c, w)) in
+    let t = times-map f m v (us ++ v ∷ vs) (rw fv (same-refl m)) in
+    let a = count-append v us (v ∷ vs) in
+    let c = count-here v vs in
+    let w = u m in
+    omega (arith, t, a, c, w)) in
     ap (λ x. put_before k x (us ++ v ∷ vs)) same_slot ∙ (put-sentinel k v us vs none ∙ append_assoc us (k ∷ []) (v ∷ vs))
 
 pub map-put : (f : ℕ → Item) (older newer : Option Item) (k b : ℕ) (l : List ℕ) → ((j : Item) → times j (map f l) ≤ 1) → IsGap older newer (map f l) → IsNewer f newer b l →
@@ -289,9 +289,9 @@ item-start items b (x ∷ vs) s h = item-real items x (h x (let n = count-here x
 pub placed-at : (q : Queue) (k : ℕ) (o : Order) (items : List Item) → IsDistinct (lists_of o items) → 1 ≤ count k (section q o) → place_of (item_at items k) (lists_of o items) ≡ Some q
 placed-at q k o items d h =
     placed q (item_at items k) (lists_of o items) d (
-        let t = times-map (λ j. item_at items j) (item_at items k) k (section q o) (same-refl (item_at items k)) in
-        let e = ap (times (item_at items k)) (lists-queue q o items) in
-        omega (arith, t, e, h))
+    let t = times-map (λ j. item_at items j) (item_at items k) k (section q o) (same-refl (item_at items k)) in
+    let e = ap (times (item_at items k)) (lists-queue q o items) in
+    omega (arith, t, e, h))
 
 pub unplaced-at : (i : Item) (o : Order) (items : List Item) → ((k : ℕ) → 1 ≤ count k (used o) → same i (item_at items k) ≡ false) → place_of i (lists_of o items) ≡ None
 unplaced-at i o items h =

@@ -1,5 +1,5 @@
 -- The chain of one bucket.
-use Rattle.std.proofs.Common.{◌≡◌, ℕ, suc, zero, ◌+◌, ◌-◌, ◌<◌, ◌≤◌, ◌^◌, true, false, cond, eqb, None, List, [], ◌∷◌, length, get_or, set, ap, ◌∙◌, sym, refl, subst, arith, ◌⊎◌, inl, inr, length-set}
+use Rattle.std.proofs.Common.{◌≡◌, ℕ, suc, zero, ◌+◌, ◌-◌, ◌<◌, ◌≤◌, ◌^◌, true, false, cond, eqb, None, List, [], ◌∷◌, length, get_or, set, ap, ◌∙◌, sym, refl, subst, arith, inl, inr}
 use Rattle.std.proofs.Math.ListN.{length-replicate}
 use Rattle.std.proofs.Common.{replicate, ◌*◌, ◌/◌}
 use Rattle.std.proofs.Math.Nat.{div-lt_iff_lt-mul}
@@ -12,14 +12,14 @@ use Rattle.segments.specs.Items.{same}
 use Rattle.segments.specs.Queues.{place_of}
 use Rattle.segments.proofs.ItemLists.{same-true}
 use Rattle.segments.specs.declared.slot.Slot.{Slot}
-use Rattle.segments.specs.Fields.{items, chains, olders, newers, tags}
+use Rattle.segments.specs.Fields.{items, chains, newers}
 use Rattle.segments.specs.Chains.{IsChain, trail, item_at, found_in}
 use Rattle.segments.specs.Rings.{count, without}
-use Rattle.segments.specs.Held.{Order, used, order_of, freed, lists_of, bucket, from_four, IsIndexed, IsHeld}
+use Rattle.segments.specs.Held.{Order, used, freed, lists_of, bucket, from_four, IsIndexed, IsHeld}
 use Rattle.segments.proofs.Orders.{used-freed}
 use Rattle.segments.proofs.Indexing.{indexed_removed}
 use Rattle.segments.proofs.Contents.{unplaced-at}
-use Rattle.segments.proofs.Holding.{used-few, used-real, used-within, chain-trail, IsFoundIn, found-in}
+use Rattle.segments.proofs.Holding.{used-few, used-real, chain-trail, IsFoundIn, found-in}
 
 pub any_default : (l : List ℕ) (i d e : ℕ) → i < length l → get_or l i d ≡ get_or l i e
 any_default [] i d e w = absurd (omega (arith, w))
@@ -74,7 +74,7 @@ module _ (slots : List Slot) (heads : List ℕ) (bits : ℕ) (o : Order) (h : Is
         | inr y ↦ y
       ])
 
-  pub removed : (slots2 : List Slot) (heads2 : List ℕ) (k start2 : ℕ) → b ≡ bucket bits (item_at (items slots) k) → 
+  pub removed : (slots2 : List Slot) (heads2 : List ℕ) (k start2 : ℕ) → b ≡ bucket bits (item_at (items slots) k) →
       IsChain (chains slots2) start2 (without k (trail (chains slots) start (length slots))) →
       ((g : ℕ) (l : List ℕ) → ((j : ℕ) → count j l + count j (trail (chains slots) start (length slots)) ≤ 1) → IsChain (chains slots) g l → IsChain (chains slots2) g l) →
       items slots2 ≡ items slots → heads2 ≡ set heads b start2 → IsIndexed heads2 (chains slots2) (items slots2) bits (used (freed k o))

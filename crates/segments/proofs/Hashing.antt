@@ -1,6 +1,6 @@
 -- Chains of slots.
-use Rattle.std.proofs.Common.{◌≡◌, ℕ, suc, zero, ◌+◌, ◌-◌, ◌<◌, ◌≤◌, Bool, true, false, cond, eqb, List, [], ◌∷◌, ◌++◌, length, get_or, set, ap, ◌∙◌, sym, refl, subst, arith, ◌⊎◌, inl, inr, get_or-set_same, get_or-set_other, length-set, map}
-use Rattle.std.proofs.lemmas.Bool.{eqb-true, eqb-false, eq-eqb, ne_eqb, cases_Bool, cases_eq}
+use Rattle.std.proofs.Common.{◌≡◌, ℕ, suc, zero, ◌+◌, ◌<◌, ◌≤◌, true, false, cond, eqb, List, [], ◌∷◌, length, get_or, set, ap, ◌∙◌, sym, refl, subst, arith, inl, inr, get_or-set_same, get_or-set_other, length-set, map}
+use Rattle.std.proofs.lemmas.Bool.{eqb-true, eq-eqb, ne_eqb, cases_Bool}
 use Rattle.step_record.specs.declared.Item.{Item}
 use Rattle.segments.specs.Rings.{count, without}
 use Rattle.segments.specs.Items.{same}

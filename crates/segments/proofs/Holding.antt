@@ -1,26 +1,25 @@
 -- Slots and index hold together, whatever moves.
-use Rattle.std.proofs.Common.{◌≡◌, ℕ, suc, zero, ◌+◌, ◌-◌, ◌<◌, ◌≤◌, ◌^◌, Bool, true, false, cond, eqb, Option, Some, None, List, [], ◌∷◌, ◌++◌, length, get_or, set, map, ap, ◌∙◌, sym, refl, subst, arith, ◌⊎◌, inl, inr, get_or-set_same, get_or-set_other}
-use Rattle.std.proofs.lemmas.Bool.{cases_Bool, cases_eq, ne_eqb, eq-eqb, eqb-true, eqb-false}
+use Rattle.std.proofs.Common.{◌≡◌, ℕ, suc, zero, ◌+◌, ◌<◌, ◌≤◌, false, cond, eqb, Some, List, [], ◌∷◌, ◌++◌, length, get_or, set, map, ap, ◌∙◌, sym, refl, subst, arith, ◌⊎◌, inl, inr, get_or-set_same, get_or-set_other}
+use Rattle.std.proofs.lemmas.Bool.{cases_Bool, cases_eq, ne_eqb, eq-eqb}
 use Rattle.step_record.specs.declared.Item.{Item}
 use Rattle.segments.specs.declared.records.Queue.{Queue}
 use Rattle.segments.specs.declared.records.Queue.TheVariants.{Window, Probation, Protected}
-use Rattle.segments.specs.declared.records.Place.{Place}
-use Rattle.segments.specs.Items.{same, times, first, last, before, behind}
-use Rattle.segments.specs.Queues.{Queues, queue_of, place_of, taken, IsDistinct}
+use Rattle.segments.specs.Items.{same, first, last, before, behind}
+use Rattle.segments.specs.Queues.{queue_of, place_of, taken, IsDistinct}
 use Rattle.segments.specs.Moves.{place_in}
-use Rattle.segments.proofs.ItemLists.{same-true, same-refl, same-sym}
-use Rattle.segments.proofs.QueueLists.{IsAbsent, absent-taken, distinct-taken}
+use Rattle.segments.proofs.ItemLists.{same-true}
+use Rattle.segments.proofs.QueueLists.{IsAbsent, distinct-taken}
 use Rattle.segments.specs.declared.slot.Slot.{Slot}
 use Rattle.segments.specs.Fields.{items, chains, olders, newers, tags}
-use Rattle.segments.specs.Chains.{IsChain, trail, item_at, found_in}
+use Rattle.segments.specs.Chains.{trail, item_at, found_in}
 use Rattle.segments.specs.Rings.{count, IsLinked, IsRing, without, put_before}
-use Rattle.segments.specs.Held.{Order, ring, used, section, with_section, opening, closing, order_in, order_of, order_without, sent, freed, lists_of, tag_at, item_or, bucket, IsIndexed, IsQueued, IsHeld}
+use Rattle.segments.specs.Held.{Order, ring, used, section, opening, closing, order_of, order_without, sent, freed, lists_of, tag_at, item_or, bucket, IsIndexed, IsQueued, IsHeld}
 use Rattle.segments.proofs.Splices.{count-append, count-here, linked-split, older-end, newer-start, end_of, start_of}
 use Rattle.segments.proofs.Turning.{IsSplit, split_at, turned}
-use Rattle.segments.proofs.Sections.{gone, count-left, few, count-without}
+use Rattle.segments.proofs.Sections.{gone, few, count-without}
 use Rattle.segments.proofs.Hashing.{trail-is}
-use Rattle.segments.proofs.Orders.{IsOnce, count-ring, count-used, count-cut, once-parts, order-is, real, count-put, section-with}
-use Rattle.segments.proofs.Contents.{alone, section-used, taken-order, lists-queue, before-map, behind-map, item-end, item-start, placed-at, unplaced-at, distinct-sent}
+use Rattle.segments.proofs.Orders.{IsOnce, count-ring, count-used, count-cut, once-parts, order-is, real, count-put}
+use Rattle.segments.proofs.Contents.{alone, section-used, taken-order, lists-queue, before-map, behind-map, item-end, item-start, placed-at, distinct-sent}
 
 pub linked-section : (q : Queue) (ns os : List ℕ) (o : Order) → IsLinked ns os 0 (ring o) 0 → IsLinked ns os (opening q) (section q o) (closing q)
 linked-section Window ns os o k = (linked-split ns os 0 o.window 1 (o.probation ++ 2 ∷ (o.protected ++ 3 ∷ o.free)) 0 k).0
@@ -81,9 +80,9 @@ module _ (slots : List Slot) (o : Order) (h : IsQueued slots o) where
       let in_front : (j : ℕ) → 1 ≤ count j s.front → 1 ≤ count j (used o) = λ j m. section-used q j o (let c = split_count j in omega (arith, c, m)) in
       let in_back : (j : ℕ) → 1 ≤ count j s.back → 1 ≤ count j (used o) = λ j m. section-used q j o (let c = split_count j in omega (arith, c, m)) in
       let other : (j : ℕ) → 1 ≤ count j s.front → same (f k) (f j) ≡ false = λ j m. (
-          let a = alone o its k j h.distinct (section-used q k o n) (in_front j m) in
-          let d : k ≡ j → ⊥ = λ e. (let c = split_count k in let c2 = rw (eq-eqb k k refl) at c in let w = section-few q o k once in let x = ap (λ y. count y s.front) e in omega (arith, c2, w, x, m)) in
-          a ∙ ne_eqb k j d) in
+      let a = alone o its k j h.distinct (section-used q k o n) (in_front j m) in
+      let d : k ≡ j → ⊥ = λ e. (let c = split_count k in let c2 = rw (eq-eqb k k refl) at c in let w = section-few q o k once in let x = ap (λ y. count y s.front) e in omega (arith, c2, w, x, m)) in
+      a ∙ ne_eqb k j d) in
       let qe : queue_of q (lists_of o its) ≡ map f (s.front ++ k ∷ s.back) = lists-queue q o its ∙ ap (map f) s.whole in
       let older : item_or its (get_or (olders slots) k 0) ≡ last (before (f k) (queue_of q (lists_of o its))) =
       ap (item_or its) oe ∙ (item-end its (opening q) s.front (opening-first q) (λ j m. used-real o j once (in_front j m)) ∙ sym (ap (λ (l : List Item). last (before (f k) l)) qe ∙ ap last (before-map f k s.front s.back other))) in
@@ -96,14 +95,14 @@ module _ (slots : List Slot) (heads : List ℕ) (bits : ℕ) (o : Order) (h : Is
   pub chain-trail : (b n : ℕ) → b < length heads → length (newers slots) ≤ n → trail (chains slots) (get_or heads b 0) n ≡ h.index.lists b
   chain-trail b n w l =
       trail-is (chains slots) (get_or heads b 0) (h.index.lists b) n (h.index.chained b w) (
-        let once : (k : ℕ) → count k (h.index.lists b) ≤ count k (used o) = λ k. (
-            let p = h.index.placed b k w in
-            elim (cases_Bool (eqb (bucket bits (item_at (items slots) k)) b)) [
-              | inl e ↦ let p2 = rw e at p in omega (arith, p2)
-              | inr e ↦ let p2 = rw e at p in omega (arith, p2)
-            ]) in
-        let few_enough = few (length (newers slots)) (h.index.lists b) (λ k. (let a = once k in let c = used-few o k h.queued.linked.once in omega (arith, a, c))) (λ k m. used-within slots o h.queued k (let a = once k in omega (arith, a, m))) in
-        omega (arith, few_enough, l))
+      let once : (k : ℕ) → count k (h.index.lists b) ≤ count k (used o) = λ k. (
+      let p = h.index.placed b k w in
+      elim (cases_Bool (eqb (bucket bits (item_at (items slots) k)) b)) [
+        | inl e ↦ let p2 = rw e at p in omega (arith, p2)
+        | inr e ↦ let p2 = rw e at p in omega (arith, p2)
+      ]) in
+      let few_enough = few (length (newers slots)) (h.index.lists b) (λ k. (let a = once k in let c = used-few o k h.queued.linked.once in omega (arith, a, c))) (λ k m. used-within slots o h.queued k (let a = once k in omega (arith, a, m))) in
+      omega (arith, few_enough, l))
 
 -- what a search of a chain finds
 
@@ -196,12 +195,14 @@ module _ (slots slots2 : List Slot) (heads2 : List ℕ) (bits : ℕ) (o : Order)
       IsHeld slots2 heads2 bits (sent k q b o)
   held-sent q b r x t w d a = record {
     index = x;
-    queued = record { linked = r;
-    tagged = λ p j n. elim (sent-in k b q p j o n) [
-      | inl e ↦ rw t (ap (λ y. tag_at (set (tags slots) k q) y) e.0 ∙ (get_or-set_same (tags slots) k q Window w ∙ sym e.1))
-      | inr e ↦ rw t (get_or-set_other (tags slots) k j q Window e.0 ∙ h.tagged p j e.1)
-    ];
-    distinct = distinct-sent q k b o (items slots2) d a; };
+    queued = record {
+      linked = r;
+      tagged = λ p j n. elim (sent-in k b q p j o n) [
+        | inl e ↦ rw t (ap (λ y. tag_at (set (tags slots) k q) y) e.0 ∙ (get_or-set_same (tags slots) k q Window w ∙ sym e.1))
+        | inr e ↦ rw t (get_or-set_other (tags slots) k j q Window e.0 ∙ h.tagged p j e.1)
+      ];
+      distinct = distinct-sent q k b o (items slots2) d a;
+    };
   }
 
   pub held-freed : IsRing (newers slots2) (olders slots2) (ring (freed k o)) → IsIndexed heads2 (chains slots2) (items slots2) bits (used (freed k o)) →
@@ -210,9 +211,11 @@ module _ (slots slots2 : List Slot) (heads2 : List ℕ) (bits : ℕ) (o : Order)
       let e : taken (item_at (items slots) k) (lists_of o (items slots)) ≡ lists_of (freed k o) (items slots) = taken-order o (items slots) k h.distinct n in
       record {
         index = x;
-        queued = record { linked = r;
-        tagged = λ p j m. rw t (h.tagged p j (freed-in p j m));
-        distinct = rw i (subst IsDistinct e (distinct-taken (item_at (items slots) k) (lists_of o (items slots)) h.distinct)); };
+        queued = record {
+          linked = r;
+          tagged = λ p j m. rw t (h.tagged p j (freed-in p j m));
+          distinct = rw i (subst IsDistinct e (distinct-taken (item_at (items slots) k) (lists_of o (items slots)) h.distinct));
+        };
       }
     where
       freed-in : (p : Queue) (j : ℕ) → 1 ≤ count j (section p (freed k o)) → 1 ≤ count j (section p o)

@@ -1,13 +1,8 @@
 -- Lists of items.
-use Rattle.std.proofs.Common.{◌≡◌, ℕ, suc, zero, ◌+◌, ◌-◌, ◌<◌, ◌≤◌, true, false, cond, eqb, nat_lt, Option, Some, None, List, [], ◌∷◌, ◌++◌, length, take, drop, get_or, ap, ◌∙◌, sym, refl, arith, ◌⊎◌, inl, inr, add-one}
-use Rattle.std.specs.List.{position, insert}
+use Rattle.std.proofs.Common.{◌≡◌, ℕ, suc, ◌+◌, ◌≤◌, true, false, cond, eqb, Option, Some, None, List, [], ◌∷◌, ◌++◌, length, ap, ◌∙◌, refl, arith, ◌⊎◌, inl, inr}
 use Rattle.std.proofs.lemmas.Bool.{eqb-true, eq-eqb, and_parts, and_from, cases_Bool}
-use Rattle.std.specs.List.{position_or_len, slice_get}
-use Rattle.std.proofs.lemmas.List.Quantifiers.{position-Some}
-use Rattle.std.proofs.lemmas.List.Sums.{fails_before_first}
-use Rattle.std.proofs.lemmas.Bool.{cases_lt, lt-ltb}
 use Rattle.step_record.specs.declared.Item.{Item}
-use Rattle.segments.specs.Items.{same, times, without, last_from, last, before, behind, put_behind}
+use Rattle.segments.specs.Items.{same, times, without, last_from, last, put_behind}
 
 pub same-true : (a b : Item) → same a b ≡ true → a ≡ b
 same-true a b h =

@@ -1,19 +1,13 @@
 -- Three queues of distinct items.
-use Rattle.std.proofs.Common.{◌≡◌, ℕ, suc, zero, ◌+◌, ◌<◌, ◌≤◌, true, false, cond, Option, Some, None, List, [], ◌∷◌, ◌++◌, length, take, drop, get_or, ap, ◌∙◌, sym, refl, subst, arith, inl, inr, add-one, append-nil}
+use Rattle.std.proofs.Common.{◌≡◌, ℕ, suc, ◌+◌, ◌≤◌, true, false, cond, Option, Some, None, List, [], ◌∷◌, ◌++◌, length, drop, ap, ◌∙◌, sym, refl, arith, inl, inr, append-nil}
 use Rattle.std.proofs.lemmas.Bool.{cases_Bool, cases_lt, lt-ltb, le-ltb}
 use Rattle.step_record.specs.declared.Item.{Item}
 use Rattle.segments.specs.declared.records.Queue.{Queue}
 use Rattle.segments.specs.declared.records.Queue.TheVariants.{Window, Probation, Protected}
-use Rattle.segments.specs.declared.records.MoveRecord.{MoveRecord}
-use Rattle.std.specs.Prelude.{◌↔◌, IfSome}
-use Rattle.segments.specs.Items.{same, times, has, without, first, last, before, behind, put_behind}
-use Rattle.segments.specs.Queues.{Queues, queue_of, with_queue, place_of, IsDistinct, total, pushed, taken, popped}
-use Rattle.segments.specs.Moves.{place_in, IsAt, needed}
-use Rattle.std.specs.List.{position}
-use Rattle.std.specs.Prelude.{is_some}
-use Rattle.std.specs.List.{remove}
-use Rattle.segments.proofs.MoveLaws.{without-parted}
-use Rattle.segments.proofs.ItemLists.{same-true, same-refl, times-without, times-gone, length-without, without-none, without-one, last-push, last-among, put_behind-at}
+use Rattle.segments.specs.Items.{same, times, has, without, first, last, put_behind}
+use Rattle.segments.specs.Queues.{Queues, queue_of, with_queue, place_of, IsDistinct, pushed, taken, popped}
+use Rattle.segments.specs.Moves.{IsAt, needed}
+use Rattle.segments.proofs.ItemLists.{same-true, same-refl, times-without, times-gone, without-none, without-one, last-push, last-among, put_behind-at}
 
 -- one list
 

@@ -1,20 +1,20 @@
 -- What slots and index keep when an item comes, moves or goes.
-use Rattle.std.proofs.Common.{◌≡◌, ℕ, suc, zero, ◌+◌, ◌-◌, ◌<◌, ◌≤◌, true, false, cond, eqb, None, List, [], ◌∷◌, ◌++◌, length, get_or, set, map, take, ap, ◌∙◌, sym, refl, subst, arith, ◌⊎◌, inl, inr, length-set, length-append, get_or-set_same, get_or-set_other, append-nil, append_assoc}
-use Rattle.std.proofs.lemmas.Bool.{cases_Bool, cases_eq, cases_lt, eq-eqb, ne_eqb, eqb-true}
+use Rattle.std.proofs.Common.{◌≡◌, ℕ, suc, zero, ◌+◌, ◌-◌, ◌<◌, ◌≤◌, true, false, cond, eqb, None, List, [], ◌∷◌, ◌++◌, length, get_or, set, take, ap, ◌∙◌, sym, refl, subst, arith, ◌⊎◌, inl, inr, length-set, length-append, get_or-set_same, append-nil, append_assoc}
+use Rattle.std.proofs.lemmas.Bool.{cases_eq, cases_lt, eq-eqb, ne_eqb}
 use Rattle.std.proofs.lemmas.List.{length-map}
 use Rattle.step_record.specs.declared.Item.{Item}
 use Rattle.segments.specs.declared.records.Queue.{Queue}
 use Rattle.segments.specs.declared.records.Queue.TheVariants.{Window, Probation, Protected}
-use Rattle.segments.specs.Queues.{Queues, place_of, taken, IsDistinct}
+use Rattle.segments.specs.Queues.{place_of, taken, IsDistinct}
 use Rattle.segments.proofs.QueueLists.{IsAbsent, absent, absent-taken, distinct-taken}
 use Rattle.segments.specs.declared.slot.Slot.{Slot}
 use Rattle.segments.specs.Fields.{items, chains, olders, newers, tags}
 use Rattle.segments.specs.Chains.{IsChain, item_at}
-use Rattle.segments.specs.Rings.{count, IsLinked, IsRing, ring_of, without, put_before}
-use Rattle.segments.specs.Held.{Order, ring, used, section, closing, order_in, order_of, order_without, sent, freed, more_free, lists_of, lists, bucket, from_four, IsPlace, IsIndexed, IsQueued, IsHeld}
-use Rattle.segments.proofs.Splices.{count-append, count-here, older-end, end_of, start_of, end-stands, linked}
-use Rattle.segments.proofs.Hashing.{field_at, without-none}
-use Rattle.segments.proofs.Orders.{IsOnce, count-ring, count-used, once-parts, real, used-kept}
+use Rattle.segments.specs.Rings.{count, IsLinked, IsRing}
+use Rattle.segments.specs.Held.{Order, ring, used, section, order_of, order_without, sent, more_free, lists_of, lists, bucket, from_four, IsPlace, IsIndexed, IsQueued, IsHeld}
+use Rattle.segments.proofs.Splices.{count-append, count-here, older-end, end_of, end-stands, linked}
+use Rattle.segments.proofs.Hashing.{without-none}
+use Rattle.segments.proofs.Orders.{count-ring, count-used, once-parts, real, used-kept}
 use Rattle.segments.proofs.Contents.{map-same, taken-order, lists-unused, lists-kept}
 use Rattle.segments.proofs.Holding.{linked-free, used-within, used-few, held-sent}
 use Rattle.segments.proofs.Finding.{slots-length, count-from_four}
@@ -168,7 +168,7 @@ ring-more : (n : ℕ) (o : Order) → ring o ++ n ∷ [] ≡ ring (more_free n o
 ring-more n o =
     append_assoc o.window (1 ∷ (o.probation ++ 2 ∷ (o.protected ++ 3 ∷ o.free))) (n ∷ [])
     ∙ ap (λ t. o.window ++ 1 ∷ t) (append_assoc o.probation (2 ∷ (o.protected ++ 3 ∷ o.free)) (n ∷ [])
-      ∙ ap (λ t. o.probation ++ 2 ∷ t) (append_assoc o.protected (3 ∷ o.free) (n ∷ [])))
+    ∙ ap (λ t. o.probation ++ 2 ∷ t) (append_assoc o.protected (3 ∷ o.free) (n ∷ [])))
 
 pub ring-grown : (ns os : List ℕ) (o : Order) (n : ℕ) → IsRing ns os (ring o) → n ≡ length ns →
     (let e = get_or (os ++ 0 ∷ []) 0 0 in IsRing (set (set (ns ++ 0 ∷ []) e n) n 0) (set (set (os ++ 0 ∷ []) n e) 0 n) (ring (more_free n o)))

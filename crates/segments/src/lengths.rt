@@ -1,7 +1,4 @@
 //! How many items each queue holds.
-ghost use Rattle.std.specs.Prelude.{◌≡◌, ◌<◌, ◌≤◌, ◌+◌, ◌-◌, ◌^◌};
-ghost use Rattle.segments.specs.Counts.{length_in, raised, lowered};
-
 use crate::records::Queue;
 
 /// The lengths of the queues, and how many slots are free.
@@ -17,6 +14,7 @@ impl Lengths {
     ghost use Rattle.std.specs.Prelude.{◌≡◌, ◌<◌, ◌≤◌, ◌+◌, ◌-◌, ◌^◌};
     ghost use Rattle.segments.specs.Counts.{length_in, raised, lowered};
 
+    /// How many items stand in the queue.
     pub fn of(&self, queue: Queue) -> usize
         ensures { result ≡ length_in queue self.now }
     {
@@ -27,6 +25,14 @@ impl Lengths {
         }
     }
 
+    /// For how many more items there is room.
+    pub fn spare(&self) -> usize
+        ensures { result ≡ self.now.free }
+    {
+        self.free
+    }
+
+    /// One item more stands in the queue.
     pub fn raise(&mut self, queue: Queue)
         requires { length_in queue self.old + 1 < 2 ^ 64 }
         ensures { self.new ≡ raised queue self.old }
@@ -38,6 +44,7 @@ impl Lengths {
         }
     }
 
+    /// One item fewer stands in the queue.
     pub fn lower(&mut self, queue: Queue)
         requires { 1 ≤ length_in queue self.old }
         ensures { self.new ≡ lowered queue self.old }

@@ -7,8 +7,8 @@ ghost use Rattle.segments.specs.Rings.{count, walk, IsRing, ring_of, moved_befor
 ghost use Rattle.segments.specs.Held.{ring, used, section, opening, closing, order_of, order_without, sent, freed, lists, item_or, first_of, IsPlace, IsQueued};
 ghost use Rattle.segments.specs.Fields.{items, chains, olders, newers, tags};
 
-use crate::slot::{Slot, set_newer, set_older, set_queue};
 use crate::records::{Place, Queue};
+use crate::slot::{Slot, set_newer, set_older, set_queue};
 use std::alloc::{AllocError, Global};
 use step_record::Item;
 
@@ -107,7 +107,12 @@ pub fn oldest_slot(slots: &[Slot], queue: Queue) -> u32
 }
 
 /// The items of so many slots from the one that stands before the queue on.
-pub fn items_in(slots: &[Slot], alloc: Global, queue: Queue, len: usize) -> Result<Vec<Item>, AllocError>
+pub fn items_in(
+    slots: &[Slot],
+    alloc: Global,
+    queue: Queue,
+    len: usize,
+) -> Result<Vec<Item>, AllocError>
     requires { 1 ≤ len → IsRing (newers slots.now) (olders slots.now) (ring (order_of slots.now)) }
     ensures { IfOk result (λ v. v.items ≡ map (λ k. item_at (items slots.now) k) (walk (newers slots.now) (opening queue) len)) }
 {

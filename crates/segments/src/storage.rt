@@ -7,9 +7,9 @@ ghost use Rattle.segments.specs.Moves.{move_record, undone, Fits, needed};
 use crate::index::Index;
 use crate::lengths::Lengths;
 use crate::links::{items_in, oldest_slot, slot_behind};
+use crate::records::{MoveRecord, Queue};
 use crate::slot::Slot;
 use crate::table::{find_slot, grow, insert, insert_at, remove, shift, shift_to};
-use crate::records::{MoveRecord, Queue};
 use std::alloc::{AllocError, Global};
 use std::marker::Model;
 use step_record::Item;
@@ -73,7 +73,7 @@ impl Segments {
     pub fn spare(&self) -> usize
         ensures { result ≡ self.now.spare }
     {
-        self.lengths.free
+        self.lengths.spare()
     }
 
     /// Puts an item that stands in no queue at the recent end of one. It asks for room, and takes no more than that.
@@ -86,8 +86,14 @@ impl Segments {
         ensures undone { undone result self.new.lists ≡ self.old.lists }
         ensures spare { self.old.spare ≤ self.new.spare + 1 }
     {
-        let before = slot_behind(queue);
-        insert(&mut self.slots, &mut self.index, &mut self.lengths, item, queue, before);
+        insert(
+            &mut self.slots,
+            &mut self.index,
+            &mut self.lengths,
+            item,
+            queue,
+            slot_behind(queue),
+        );
         MoveRecord {
             item,
             from: None,
@@ -106,7 +112,9 @@ impl Segments {
         ensures undone { IfSome result (λ r. undone r self.new.lists ≡ self.old.lists) }
         ensures spare { self.old.spare ≤ self.new.spare }
     {
-        let at = find_slot(&self.slots, &self.index, item)?;
+        let Some(at) = find_slot(&self.slots, &self.index, item) else {
+            return None;
+        };
         let before = slot_behind(queue);
         let place = shift(&mut self.slots, &mut self.lengths, at, queue, before);
         Some(MoveRecord {
@@ -153,10 +161,10 @@ impl Segments {
         ensures gained { IfSome result (λ _. self.old.spare + 1 ≤ self.new.spare) }
     {
         let at = find_slot(&self.slots, &self.index, item)?;
-        let place = remove(&mut self.slots, &mut self.index, &mut self.lengths, at);
+        let from = remove(&mut self.slots, &mut self.index, &mut self.lengths, at);
         Some(MoveRecord {
             item,
-            from: Some(place),
+            from: Some(from),
             to: None,
         })
     }
@@ -175,7 +183,13 @@ impl Segments {
         };
         match find_slot(&self.slots, &self.index, done.item) {
             Some(at) => shift_to(&mut self.slots, &self.index, &mut self.lengths, at, place),
-            None => insert_at(&mut self.slots, &mut self.index, &mut self.lengths, done.item, place),
+            None => insert_at(
+                &mut self.slots,
+                &mut self.index,
+                &mut self.lengths,
+                done.item,
+                place,
+            ),
         }
     }
 

@@ -15,8 +15,8 @@ ghost use Rattle.segments.specs.declared.records.Queue.TheVariants.{Window};
 use crate::index::Index;
 use crate::lengths::Lengths;
 use crate::links::{link, newest_free, place_of_slot, release, send, slot_behind};
-use crate::slot::{Slot, set_item};
 use crate::records::{Place, Queue};
+use crate::slot::{Slot, set_item};
 use std::alloc::{AllocError, Global};
 use step_record::Item;
 
@@ -54,7 +54,14 @@ pub fn slot_at_place(slots: &[Slot], index: &Index, place: Place) -> u32
 }
 
 /// Puts an item that is not there into a free slot, and the slot before another one of a queue.
-pub fn insert(slots: &mut [Slot], index: &mut Index, lengths: &mut Lengths, item: Item, queue: Queue, before: u32)
+pub fn insert(
+    slots: &mut [Slot],
+    index: &mut Index,
+    lengths: &mut Lengths,
+    item: Item,
+    queue: Queue,
+    before: u32,
+)
     requires held { IsHeld slots.old index.old.heads.items index.old.bits (order_of slots.old) }
     requires counted { lengths.old ≡ lengths_of (order_of slots.old) }
     requires room { 1 ≤ lengths.old.free }
@@ -95,7 +102,13 @@ pub fn shift(slots: &mut [Slot], lengths: &mut Lengths, at: u32, queue: Queue, b
 }
 
 /// Puts an item that is not there into its place.
-pub fn insert_at(slots: &mut [Slot], index: &mut Index, lengths: &mut Lengths, item: Item, place: Place)
+pub fn insert_at(
+    slots: &mut [Slot],
+    index: &mut Index,
+    lengths: &mut Lengths,
+    item: Item,
+    place: Place,
+)
     requires held { IsHeld slots.old index.old.heads.items index.old.bits (order_of slots.old) }
     requires counted { lengths.old ≡ lengths_of (order_of slots.old) }
     requires room { 1 ≤ lengths.old.free }
