@@ -1,0 +1,219 @@
+//! The queues, in linked slots.
+ghost use Rattle.std.specs.Prelude.{◌≡◌, ◌↔◌, ◌+◌, ◌≤◌, ◌∷◌, ℕ, List, [], length, Option, Some, None, MatchOption, IfOk, OnOk, IfSome, IfNone, OnSome};
+ghost use Rattle.segments.specs.Items.{first};
+ghost use Rattle.segments.specs.Queues.{empty, queue_of, place_of, IsDistinct, pushed, taken, moved, popped};
+ghost use Rattle.segments.specs.Moves.{move_record, undone, Fits, needed};
+
+use crate::index::Index;
+use crate::lengths::Lengths;
+use crate::links::{items_in, oldest_slot, slot_behind};
+use crate::records::{MoveRecord, Queue};
+use crate::slot::Slot;
+use crate::table::{find_slot, grow, insert, insert_at, remove, shift, shift_to};
+use std::alloc::{AllocError, Global};
+use std::marker::Model;
+use step_record::Item;
+
+/// Three queues of items, each of which stands once, oldest first.
+#[derive(Drop)]
+pub struct Segments {
+    alloc: Global,
+    slots: Vec<Slot>,
+    index: Index,
+    lengths: Lengths,
+}
+
+impl Model for Segments {
+    ghost use Rattle.segments.specs.Queues.{Shown};
+    ghost use Rattle.segments.specs.Counts.{shown_of, IsKept};
+
+    ghost Value = { Shown };
+
+    ghost view = { λ s. shown_of s.slots.items };
+
+    ghost invariant = { λ s. IsKept s.slots.items s.index.heads.items s.index.bits s.lengths };
+}
+
+impl Segments {
+    /// Three empty queues, with no room yet; takes no memory.
+    pub fn new(alloc: Global) -> Segments
+        ensures lists { result.lists ≡ empty }
+    {
+        Segments {
+            alloc,
+            slots: Vec::new(alloc),
+            index: Index {
+                heads: Vec::new(alloc),
+                bits: 0,
+            },
+            lengths: Lengths {
+                window: 0,
+                probation: 0,
+                protected: 0,
+                free: 0,
+            },
+        }
+    }
+
+    /// Makes room for at least one more item. Where memory is refused, the queues and their room are as before.
+    pub fn reserve(&mut self) -> Result<(), AllocError>
+        ensures lists { self.new.lists ≡ self.old.lists }
+        ensures room { OnOk result (1 ≤ self.new.spare) }
+        ensures spare { self.old.spare ≤ self.new.spare }
+    {
+        if self.lengths.free > 0 {
+            return Ok(());
+        }
+        grow(self.alloc, &mut self.slots, &mut self.index)?;
+        self.lengths.free += 1;
+        Ok(())
+    }
+
+    /// For how many more items there is room.
+    pub fn spare(&self) -> usize
+        ensures { result ≡ self.now.spare }
+    {
+        self.lengths.spare()
+    }
+
+    /// Puts an item that stands in no queue at the recent end of one. It asks for room, and takes no more than that.
+    pub fn push_recent(&mut self, queue: Queue, item: Item) -> MoveRecord
+        requires room { 1 ≤ self.old.spare }
+        requires absent { place_of item self.old.lists ≡ None }
+        ensures lists { self.new.lists ≡ pushed queue item self.old.lists }
+        ensures record { result ≡ move_record item (Some queue) self.old.lists }
+        ensures fits { Fits result self.new.lists }
+        ensures undone { undone result self.new.lists ≡ self.old.lists }
+        ensures spare { self.old.spare ≤ self.new.spare + 1 }
+    {
+        insert(
+            &mut self.slots,
+            &mut self.index,
+            &mut self.lengths,
+            item,
+            queue,
+            slot_behind(queue),
+        );
+        MoveRecord {
+            item,
+            from: None,
+            to: Some(queue),
+        }
+    }
+
+    /// Takes the item from where it stands to the recent end of a queue. `None`, and nothing moved, where it stands in
+    /// no queue.
+    pub fn move_recent(&mut self, item: Item, queue: Queue) -> Option<MoveRecord>
+        ensures absent { result ≡ None ↔ place_of item self.old.lists ≡ None }
+        ensures lists { IfSome result (λ _. self.new.lists ≡ moved item queue self.old.lists) }
+        ensures none { IfNone result (self.new.lists ≡ self.old.lists) }
+        ensures record { IfSome result (λ r. r ≡ move_record item (Some queue) self.old.lists) }
+        ensures fits { IfSome result (λ r. Fits r self.new.lists) }
+        ensures undone { IfSome result (λ r. undone r self.new.lists ≡ self.old.lists) }
+        ensures spare { self.old.spare ≤ self.new.spare }
+    {
+        let Some(at) = find_slot(&self.slots, &self.index, item) else {
+            return None;
+        };
+        let before = slot_behind(queue);
+        let place = shift(&mut self.slots, &mut self.lengths, at, queue, before);
+        Some(MoveRecord {
+            item,
+            from: Some(place),
+            to: Some(queue),
+        })
+    }
+
+    /// Takes the oldest item of the queue out. `None`, and nothing moved, where the queue is empty.
+    pub fn pop_oldest(&mut self, queue: Queue) -> Option<(Item, MoveRecord)>
+        ensures item { MatchOption result (queue_of queue self.old.lists ≡ []) (λ r. first (queue_of queue self.old.lists) ≡ Some r.0) }
+        ensures lists { self.new.lists ≡ popped queue self.old.lists }
+        ensures none { IfNone result (self.new.lists ≡ self.old.lists) }
+        ensures record { IfSome result (λ r. r.1 ≡ move_record r.0 None self.old.lists) }
+        ensures fits { IfSome result (λ r. Fits r.1 self.new.lists) }
+        ensures undone { IfSome result (λ r. undone r.1 self.new.lists ≡ self.old.lists) }
+        ensures spare { self.old.spare ≤ self.new.spare }
+        ensures gained { IfSome result (λ _. self.old.spare + 1 ≤ self.new.spare) }
+    {
+        if self.lengths.of(queue) == 0 {
+            return None;
+        }
+        let at = oldest_slot(&self.slots, queue);
+        let item = self.slots[at as usize].item;
+        let place = remove(&mut self.slots, &mut self.index, &mut self.lengths, at);
+        let record = MoveRecord {
+            item,
+            from: Some(place),
+            to: None,
+        };
+        Some((item, record))
+    }
+
+    /// Takes the item out. `None`, and nothing moved, where it stands in no queue.
+    pub fn take_out(&mut self, item: Item) -> Option<MoveRecord>
+        ensures absent { result ≡ None ↔ place_of item self.old.lists ≡ None }
+        ensures lists { self.new.lists ≡ taken item self.old.lists }
+        ensures none { IfNone result (self.new.lists ≡ self.old.lists) }
+        ensures record { IfSome result (λ r. r ≡ move_record item None self.old.lists) }
+        ensures fits { IfSome result (λ r. Fits r self.new.lists) }
+        ensures undone { IfSome result (λ r. undone r self.new.lists ≡ self.old.lists) }
+        ensures spare { self.old.spare ≤ self.new.spare }
+        ensures gained { IfSome result (λ _. self.old.spare + 1 ≤ self.new.spare) }
+    {
+        let at = find_slot(&self.slots, &self.index, item)?;
+        let from = remove(&mut self.slots, &mut self.index, &mut self.lengths, at);
+        Some(MoveRecord {
+            item,
+            from: Some(from),
+            to: None,
+        })
+    }
+
+    /// Undoes a move from its record, which must fit the queues as they stand. Where the item went out, it asks for
+    /// room for it.
+    pub fn put_back(&mut self, done: MoveRecord)
+        requires fits { Fits done self.old.lists }
+        requires room { needed done.to ≤ self.old.spare }
+        ensures lists { self.new.lists ≡ undone done self.old.lists }
+        ensures spare { self.old.spare ≤ self.new.spare + needed done.to }
+    {
+        let Some(place) = done.from else {
+            let _ = self.take_out(done.item);
+            return;
+        };
+        match find_slot(&self.slots, &self.index, done.item) {
+            Some(at) => shift_to(&mut self.slots, &self.index, &mut self.lengths, at, place),
+            None => insert_at(
+                &mut self.slots,
+                &mut self.index,
+                &mut self.lengths,
+                done.item,
+                place,
+            ),
+        }
+    }
+
+    /// A copy of the queue's items, oldest first.
+    pub fn list(&self, alloc: Global, queue: Queue) -> Result<Vec<Item>, AllocError>
+        ensures { IfOk result (λ items. items.items ≡ queue_of queue self.now.lists) }
+    {
+        items_in(&self.slots, alloc, queue, self.lengths.of(queue))
+    }
+
+    /// How many items stand in the queue.
+    pub fn len(&self, queue: Queue) -> usize
+        ensures { result ≡ length (queue_of queue self.now.lists) }
+    {
+        self.lengths.of(queue)
+    }
+
+    /// The queue in which the item stands.
+    pub fn find(&self, item: Item) -> Option<Queue>
+        ensures queue { result ≡ place_of item self.now.lists }
+        // what holds of every Segments: no item stands twice
+        ensures distinct { IsDistinct self.now.lists }
+    {
+        let at = find_slot(&self.slots, &self.index, item)?;
+        Some(self.slots[at as usize].queue)
+    }
+}

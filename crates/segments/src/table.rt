@@ -1,0 +1,251 @@
+//! Slots, index and lengths together.
+ghost use Rattle.std.specs.Prelude.{◌≡◌, ◌≢◌, ◌<◌, ◌≤◌, ◌+◌, ◌^◌, ◌++◌, ◌∷◌, [], ℕ, List, Option, Some, None, OnOk, OnErr, IfOk, IfSome, IfNone, length, slice_set, vec_len};
+ghost use Rattle.step_record.specs.declared.item.Item.{Item};
+ghost use Rattle.segments.specs.Items.{put_behind, IsGap};
+ghost use Rattle.segments.specs.Queues.{queue_of, with_queue, place_of, pushed, taken, moved};
+ghost use Rattle.segments.specs.Moves.{place_in};
+ghost use Rattle.segments.specs.Chains.{item_at};
+ghost use Rattle.segments.specs.Fields.{items, chains, olders, newers, tags};
+ghost use Rattle.segments.specs.Rings.{count, IsRing};
+ghost use Rattle.segments.specs.Held.{ring, used, section, closing, order_of, order_without, no_slots, more_free, lists, IsNewer, IsPlace, IsQueued, IsHeld, IsSlotOf};
+ghost use Rattle.segments.specs.Counts.{lengths_of, one_more};
+ghost use Rattle.segments.specs.Growth.{IsSound, IsSame};
+ghost use Rattle.segments.specs.declared.records.Queue.TheVariants.{Window};
+
+use crate::index::Index;
+use crate::lengths::Lengths;
+use crate::links::{link, newest_free, place_of_slot, release, send, slot_behind};
+use crate::records::{Place, Queue};
+use crate::slot::{Slot, set_item};
+use std::alloc::{AllocError, Global};
+use step_record::Item;
+
+/// No more slots than numbers for them.
+const MOST_SLOTS: usize = 4294967295;
+
+/// The first index has 2^3 chains.
+const FIRST_BITS: u32 = 3;
+
+/// The slot in use that holds the item.
+pub fn find_slot(slots: &[Slot], index: &Index, item: Item) -> Option<u32>
+    requires { IsSound slots.now index.now.heads.items index.now.bits }
+    ensures there { IfSome result (λ at. IsSlotOf at item slots.now index.now.heads.items index.now.bits) }
+    ensures missing { IfNone result (place_of item (lists slots.now) ≡ None) }
+{
+    if slots.is_empty() {
+        return None;
+    }
+    match index.find(slots, item) {
+        0 => None,
+        at => Some(at),
+    }
+}
+
+/// The slot behind a place: that of its newer neighbour, or the one that closes the queue.
+pub fn slot_at_place(slots: &[Slot], index: &Index, place: Place) -> u32
+    requires { IsHeld slots.now index.now.heads.items index.now.bits (order_of slots.now) }
+    ensures last { place.newer ≡ None → result ≡ closing place.queue }
+    ensures newer { (n : Item) → place.newer ≡ Some n → place_of n (lists slots.now) ≢ None → IsSlotOf result n slots.now index.now.heads.items index.now.bits }
+{
+    let Some(newer) = place.newer else {
+        return slot_behind(place.queue);
+    };
+    find_slot(slots, index, newer).unwrap_or(slot_behind(place.queue))
+}
+
+/// Puts an item that is not there into a free slot, and the slot before another one of a queue.
+pub fn insert(
+    slots: &mut [Slot],
+    index: &mut Index,
+    lengths: &mut Lengths,
+    item: Item,
+    queue: Queue,
+    before: u32,
+)
+    requires held { IsHeld slots.old index.old.heads.items index.old.bits (order_of slots.old) }
+    requires counted { lengths.old ≡ lengths_of (order_of slots.old) }
+    requires room { 1 ≤ lengths.old.free }
+    requires absent { place_of item (lists slots.old) ≡ None }
+    requires place { IsPlace before queue (order_of slots.old) }
+    ensures held { IsHeld slots.new index.new.heads.items index.new.bits (order_of slots.new) }
+    ensures counted { lengths.new ≡ lengths_of (order_of slots.new) }
+    ensures free { lengths.new.free + 1 ≡ lengths.old.free }
+    ensures recent { before ≡ closing queue → lists slots.new ≡ pushed queue item (lists slots.old) }
+    ensures back { (older newer : Option Item) → IsGap older newer (queue_of queue (lists slots.old)) → IsNewer (λ k. item_at (items slots.old) k) newer before (section queue (order_of slots.old)) → lists slots.new ≡ with_queue queue (put_behind older item (queue_of queue (lists slots.old))) (lists slots.old) }
+{
+    let at = newest_free(slots);
+    set_item(slots, at as usize, item);
+    index.add(slots, at);
+    send(slots, at, queue, before);
+    lengths.free -= 1;
+    lengths.raise(queue);
+}
+
+/// Moves a slot in use to the place before another one of a queue, and says where it stood.
+pub fn shift(slots: &mut [Slot], lengths: &mut Lengths, at: u32, queue: Queue, before: u32) -> Place
+    requires queued { IsQueued slots.old (order_of slots.old) }
+    requires counted { lengths.old ≡ lengths_of (order_of slots.old) }
+    requires used { 1 ≤ count at (used (order_of slots.old)) }
+    requires place { IsPlace before queue (order_without at (order_of slots.old)) }
+    ensures held { (heads : List ℕ) (bits : ℕ) → IsHeld slots.old heads bits (order_of slots.old) → IsHeld slots.new heads bits (order_of slots.new) }
+    ensures counted { lengths.new ≡ lengths_of (order_of slots.new) }
+    ensures free { lengths.new.free ≡ lengths.old.free }
+    ensures place { Some result ≡ place_in (item_at (items slots.old) at) (place_of (item_at (items slots.old) at) (lists slots.old)) (lists slots.old) }
+    ensures recent { before ≡ closing queue → lists slots.new ≡ moved (item_at (items slots.old) at) queue (lists slots.old) }
+    ensures back { (older newer : Option Item) → IsGap older newer (queue_of queue (taken (item_at (items slots.old) at) (lists slots.old))) → IsNewer (λ k. item_at (items slots.old) k) newer before (section queue (order_without at (order_of slots.old))) → lists slots.new ≡ with_queue queue (put_behind older (item_at (items slots.old) at) (queue_of queue (taken (item_at (items slots.old) at) (lists slots.old)))) (taken (item_at (items slots.old) at) (lists slots.old)) }
+{
+    let from = place_of_slot(slots, at);
+    send(slots, at, queue, before);
+    lengths.lower(from.queue);
+    lengths.raise(queue);
+    from
+}
+
+/// Puts an item that is not there into its place.
+pub fn insert_at(
+    slots: &mut [Slot],
+    index: &mut Index,
+    lengths: &mut Lengths,
+    item: Item,
+    place: Place,
+)
+    requires held { IsHeld slots.old index.old.heads.items index.old.bits (order_of slots.old) }
+    requires counted { lengths.old ≡ lengths_of (order_of slots.old) }
+    requires room { 1 ≤ lengths.old.free }
+    requires absent { place_of item (lists slots.old) ≡ None }
+    requires gap { IsGap place.older place.newer (queue_of place.queue (lists slots.old)) }
+    ensures held { IsHeld slots.new index.new.heads.items index.new.bits (order_of slots.new) }
+    ensures counted { lengths.new ≡ lengths_of (order_of slots.new) }
+    ensures free { lengths.new.free + 1 ≡ lengths.old.free }
+    ensures lists { lists slots.new ≡ with_queue place.queue (put_behind place.older item (queue_of place.queue (lists slots.old))) (lists slots.old) }
+{
+    let before = slot_at_place(slots, index, place);
+    insert(slots, index, lengths, item, place.queue, before);
+}
+
+/// Moves a slot in use into a place.
+pub fn shift_to(slots: &mut [Slot], index: &Index, lengths: &mut Lengths, at: u32, place: Place)
+    requires held { IsHeld slots.old index.now.heads.items index.now.bits (order_of slots.old) }
+    requires counted { lengths.old ≡ lengths_of (order_of slots.old) }
+    requires used { 1 ≤ count at (used (order_of slots.old)) }
+    requires gap { IsGap place.older place.newer (queue_of place.queue (taken (item_at (items slots.old) at) (lists slots.old))) }
+    ensures held { IsHeld slots.new index.now.heads.items index.now.bits (order_of slots.new) }
+    ensures counted { lengths.new ≡ lengths_of (order_of slots.new) }
+    ensures free { lengths.new.free ≡ lengths.old.free }
+    ensures lists { lists slots.new ≡ with_queue place.queue (put_behind place.older (item_at (items slots.old) at) (queue_of place.queue (taken (item_at (items slots.old) at) (lists slots.old)))) (taken (item_at (items slots.old) at) (lists slots.old)) }
+{
+    let before = slot_at_place(slots, index, place);
+    let _ = shift(slots, lengths, at, place.queue, before);
+}
+
+/// Frees a slot in use, and says where it stood.
+pub fn remove(slots: &mut [Slot], index: &mut Index, lengths: &mut Lengths, at: u32) -> Place
+    requires held { IsHeld slots.old index.old.heads.items index.old.bits (order_of slots.old) }
+    requires counted { lengths.old ≡ lengths_of (order_of slots.old) }
+    requires used { 1 ≤ count at (used (order_of slots.old)) }
+    ensures held { IsHeld slots.new index.new.heads.items index.new.bits (order_of slots.new) }
+    ensures counted { lengths.new ≡ lengths_of (order_of slots.new) }
+    ensures free { lengths.new.free ≡ lengths.old.free + 1 }
+    ensures place { Some result ≡ place_in (item_at (items slots.old) at) (place_of (item_at (items slots.old) at) (lists slots.old)) (lists slots.old) }
+    ensures lists { lists slots.new ≡ taken (item_at (items slots.old) at) (lists slots.old) }
+{
+    let from = place_of_slot(slots, at);
+    index.remove(slots, at);
+    release(slots, at);
+    lengths.lower(from.queue);
+    lengths.free += 1;
+    from
+}
+
+/// A slot of the ring that holds no item.
+fn bare(older: u32, newer: u32) -> Slot
+    ensures { result ≡ record { item = record { key = 0; node = 0 }; chain = 0; older = older; newer = newer; queue = Window } }
+{
+    Slot {
+        item: Item { key: 0, node: 0 },
+        chain: 0,
+        older,
+        newer,
+        queue: Queue::Window,
+    }
+}
+
+/// The four slots that stand before the queues and the free slots.
+fn first_slots(alloc: Global) -> Result<Vec<Slot>, AllocError>
+    ensures queued { IfOk result (λ v. IsQueued v.items no_slots) }
+    ensures len { IfOk result (λ v. length v.items ≡ 4) }
+{
+    let slots = Vec::from_array(alloc, [bare(3, 1), bare(0, 2), bare(1, 3), bare(2, 0)])?;
+    Ok(slots)
+}
+
+/// Makes the first slots and chains where there are none.
+fn begin(alloc: Global, slots: &mut Vec<Slot>, index: &mut Index) -> Result<(), AllocError>
+    requires sound { IsSound slots.old.items index.old.heads.items index.old.bits }
+    requires few { length slots.old.items < 2 ^ 32 }
+    ensures held { OnOk result (IsHeld slots.new.items index.new.heads.items index.new.bits (order_of slots.new.items)) }
+    ensures same { IsSame slots.old.items slots.new.items }
+    ensures few { length slots.new.items < 2 ^ 32 }
+    ensures err { OnErr result (IsSound slots.new.items index.new.heads.items index.new.bits) }
+{
+    if !slots.is_empty() {
+        return Ok(());
+    }
+    let first = first_slots(alloc)?;
+    *index = Index::new(alloc, FIRST_BITS)?;
+    *slots = first;
+    Ok(())
+}
+
+/// Adds a free slot.
+fn add_slot(slots: &mut Vec<Slot>) -> Result<(), AllocError>
+    requires ring { IsRing (newers slots.old.items) (olders slots.old.items) (ring (order_of slots.old.items)) }
+    requires few { length slots.old.items < 2 ^ 32 }
+    ensures ring { OnOk result (IsRing (newers slots.new.items) (olders slots.new.items) (ring (more_free (length slots.old.items) (order_of slots.old.items)))) }
+    ensures chains { OnOk result (chains slots.new.items ≡ chains slots.old.items ++ 0 ∷ []) }
+    ensures items { OnOk result (items slots.new.items ≡ items slots.old.items ++ record { key = 0; node = 0 } ∷ []) }
+    ensures tags { OnOk result (tags slots.new.items ≡ tags slots.old.items ++ Window ∷ []) }
+    ensures err { OnErr result (slots.new.items ≡ slots.old.items) }
+{
+    let at = slots.len() as u32;
+    slots.push(bare(0, 0))?;
+    link(slots, at, 0);
+    Ok(())
+}
+
+/// Spreads the items over twice as many chains where there are more slots than chains; all slots are in use.
+fn widen(alloc: Global, slots: &mut [Slot], index: &mut Index) -> Result<(), AllocError>
+    requires held { IsHeld slots.old index.old.heads.items index.old.bits (order_of slots.old) }
+    requires free { (order_of slots.old).free ≡ [] }
+    requires few { length slots.old ≤ 2 ^ 32 }
+    ensures held { IsHeld slots.new index.new.heads.items index.new.bits (order_of slots.old) }
+    ensures items { items slots.new ≡ items slots.old }
+{
+    if slots.len() <= index.heads.len() || index.bits >= 31 {
+        return Ok(());
+    }
+    let mut wider = Index::new(alloc, index.bits + 1)?;
+    wider.fill(slots);
+    *index = wider;
+    Ok(())
+}
+
+/// Adds a free slot where there is none, and chains where there are too few. All room is made first.
+pub fn grow(alloc: Global, slots: &mut Vec<Slot>, index: &mut Index) -> Result<(), AllocError>
+    requires sound { IsSound slots.old.items index.old.heads.items index.old.bits }
+    requires none { (order_of slots.old.items).free ≡ [] }
+    requires few { length slots.old.items < 2 ^ 32 }
+    ensures sound { IsSound slots.new.items index.new.heads.items index.new.bits }
+    ensures lists { lists slots.new.items ≡ lists slots.old.items }
+    ensures few { length slots.new.items < 2 ^ 32 }
+    ensures ok { OnOk result (lengths_of (order_of slots.new.items) ≡ one_more (lengths_of (order_of slots.old.items))) }
+    ensures err { OnErr result (lengths_of (order_of slots.new.items) ≡ lengths_of (order_of slots.old.items)) }
+{
+    begin(alloc, slots, index)?;
+    if slots.len() >= MOST_SLOTS {
+        return Err(AllocError);
+    }
+    slots.reserve(1)?;
+    widen(alloc, slots, index)?;
+    add_slot(slots)
+}
