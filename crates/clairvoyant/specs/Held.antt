@@ -1,0 +1,16 @@
+-- A set of numbers below a size, as one test for each.
+use Rattle.std.specs.Prelude.{◌≡◌, ℕ, ◌*◌, ◌<◌, Bool, false, eqb, ◌&&◌, List, length, slice_index_or}
+use Rattle.step_record.specs.Keys.{has}
+use Rattle.clairvoyant.specs.Uses.{rank, key_at}
+
+abbrev pub holds : List Bool → ℕ → Bool
+holds h q = slice_index_or h q false
+
+-- q is the rank of one of the keys r, once the accesses below place i are made
+abbrev pub is_ranked : List ℕ → ℕ → List ℕ → ℕ → Bool
+is_ranked t i r q = has (key_at t q) r && eqb (rank t i (key_at t q)) q
+
+-- the numbers held are the ranks of the keys r
+pub record IsTied (t : List ℕ) (i : ℕ) (r : List ℕ) (h : List Bool) : Type 0 where
+  pub size : length h ≡ 2 * length t
+  pub ranks : (q : ℕ) → q < 2 * length t → holds h q ≡ is_ranked t i r q
