@@ -5,7 +5,8 @@ use Rattle.step_record.specs.Keys.{has, without}
 use Rattle.clairvoyant.specs.Keys.{put}
 use Rattle.clairvoyant.specs.Uses.{rank, key_at}
 use Rattle.clairvoyant.specs.Belady.{farthest, gone, residents, outcome}
-use Rattle.clairvoyant.specs.Held.{holds, IsTied}
+use Rattle.rank_tree.specs.Bits.{holds}
+use Rattle.clairvoyant.specs.Held.{IsTied}
 use Rattle.clairvoyant.proofs.Keys.{without-put}
 use Rattle.clairvoyant.proofs.Belady.{residents-ascending, residents-seen}
 use Rattle.clairvoyant.proofs.Steps.{same}

@@ -6,7 +6,8 @@ use Rattle.step_record.specs.Keys.{has, without}
 use Rattle.clairvoyant.specs.Keys.{put, IsAscending}
 use Rattle.clairvoyant.specs.Uses.{rank, key_at}
 use Rattle.clairvoyant.specs.Belady.{farthest, served, answer, gone}
-use Rattle.clairvoyant.specs.Held.{holds, IsTied}
+use Rattle.rank_tree.specs.Bits.{holds}
+use Rattle.clairvoyant.specs.Held.{IsTied}
 use Rattle.clairvoyant.proofs.Keys.{without-put, without-swap, put-without}
 use Rattle.clairvoyant.proofs.Uses.{IsSeen, seen-own, seen-more, IsNamed, named, rank-other}
 use Rattle.clairvoyant.proofs.Belady.{farthest-is}

@@ -8,7 +8,8 @@ use Rattle.step_record.specs.Keys.{has, without}
 use Rattle.clairvoyant.specs.Keys.{put}
 use Rattle.clairvoyant.specs.Uses.{rank, key_at}
 use Rattle.clairvoyant.specs.Belady.{farthest, answer, gone, residents}
-use Rattle.clairvoyant.specs.Held.{is_ranked, holds, IsTied}
+use Rattle.rank_tree.specs.Bits.{holds}
+use Rattle.clairvoyant.specs.Held.{is_ranked, IsTied}
 use Rattle.step_record.specs.Stats.{is_hit, is_eviction}
 use Rattle.clairvoyant.proofs.Keys.{without-put}
 use Rattle.clairvoyant.proofs.Uses.{IsNamed, named, seen-more, rank-other}

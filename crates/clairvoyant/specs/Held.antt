@@ -1,10 +1,8 @@
--- A set of numbers below a size, as one test for each.
-use Rattle.std.specs.Prelude.{◌≡◌, ℕ, ◌*◌, ◌<◌, Bool, false, eqb, ◌&&◌, List, length, slice_index_or}
+-- The residents as the set of their ranks.
+use Rattle.std.specs.Prelude.{◌≡◌, ℕ, ◌*◌, ◌<◌, Bool, eqb, ◌&&◌, List, length}
+use Rattle.rank_tree.specs.Bits.{holds}
 use Rattle.step_record.specs.Keys.{has}
 use Rattle.clairvoyant.specs.Uses.{rank, key_at}
-
-abbrev pub holds : List Bool → ℕ → Bool
-holds h q = slice_index_or h q false
 
 -- q is the rank of one of the keys r, once the accesses below place i are made
 abbrev pub is_ranked : List ℕ → ℕ → List ℕ → ℕ → Bool

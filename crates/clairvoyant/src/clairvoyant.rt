@@ -5,8 +5,8 @@ ghost use Rattle.clairvoyant.specs.Belady.{residents, outcome};
 ghost use Rattle.clairvoyant.specs.Seen.{outcome_of, undone_keys, IsFormer, IsRanked};
 
 use crate::next_use::NextUse;
-use crate::ranks::Ranks;
 use crate::use_record::{Gone, UseRecord};
+use rank_tree::Ranks;
 use std::alloc::{AllocError, Global};
 use std::marker::Model;
 use step_record::{Engine, Key, Outcome, Stats, StepFault};

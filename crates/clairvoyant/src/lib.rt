@@ -11,7 +11,6 @@
 mod clairvoyant;
 mod laws;
 mod next_use;
-mod ranks;
 mod use_record;
 
 pub use clairvoyant::Clairvoyant;
