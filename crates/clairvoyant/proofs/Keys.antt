@@ -68,7 +68,7 @@ pub below-all : (k b : ℕ) (l : List ℕ) → k ≤ b → IsBelowAll b l → Is
 below-all k b [] h w = tt
 below-all k b (a ∷ l) h w = (let n = w.0 in omega (arith, n), below-all k b l h w.1)
 
-below-none : (k : ℕ) (l : List ℕ) → IsBelowAll k l → has k l ≡ false
+pub below-none : (k : ℕ) (l : List ℕ) → IsBelowAll k l → has k l ≡ false
 below-none k [] w = refl
 below-none k (a ∷ l) w = let n = w.0 in let e : eqb k a ≡ false = ne_eqb k a (λ h. omega (arith, n, h)) in rw e (below-none k l w.1)
 
@@ -114,7 +114,7 @@ put-below : (k : ℕ) (l : List ℕ) → IsBelowAll k l → put k l ≡ k ∷ l
 put-below k [] w = refl
 put-below k (a ∷ l) w = let n = w.0 in let e : nat_lt k a ≡ true = lt-ltb k a n in rw e refl
 
-below-has : (a k : ℕ) (l : List ℕ) → IsBelowAll a l → has k l ≡ true → a < k
+pub below-has : (a k : ℕ) (l : List ℕ) → IsBelowAll a l → has k l ≡ true → a < k
 below-has a k [] w h = absurd (cc (h))
 below-has a k (x ∷ l) w h =
     elim (cases_Bool (eqb k x)) [

@@ -115,6 +115,23 @@ fn unserve(uses: &NextUse, ranks: &mut Ranks, _capacity: usize, place: usize, do
     }
 }
 
+/// The keys of the ranks that are held once the accesses below a place are made, ascending.
+fn keys_held(alloc: Global, uses: &NextUse, ranks: &Ranks, _capacity: usize, _place: usize) -> Result<Vec<Key>, AllocError>
+    requires place { _place ≤ length uses.now }
+    requires tied { IsTied uses.now _place (residents _capacity uses.now _place) ranks.now }
+    ensures { IfOk result (λ keys. keys.items ≡ residents _capacity uses.now _place) }
+{
+    let mut keys = Vec::new(alloc);
+    let size = 2 * uses.len();
+    for rank in 0..size {
+        if ranks.has(rank) {
+            keys.push(uses.key_at(rank))?;
+        }
+    }
+    keys.sort_unstable();
+    Ok(keys)
+}
+
 impl Clairvoyant {
     ghost use Rattle.clairvoyant.specs.Seen.{seen_at};
 
@@ -138,6 +155,13 @@ impl Clairvoyant {
         ensures { result ≡ self.now.stats }
     {
         self.stats
+    }
+
+    /// The keys that it holds, ascending. The only error is want of memory for the list.
+    pub fn residents(&self, alloc: Global) -> Result<Vec<Key>, AllocError>
+        ensures { IfOk result (λ keys. keys.items ≡ self.now.residents) }
+    {
+        keys_held(alloc, &self.uses, &self.ranks, self.capacity, self.stats.accesses as usize)
     }
 }
 

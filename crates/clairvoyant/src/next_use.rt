@@ -1,6 +1,6 @@
-//! The next use of each access, found beforehand.
+//! A trace with the next use of each access, found beforehand.
 ghost use Rattle.std.specs.Prelude.{◌≡◌, ℕ, suc, ◌+◌, ◌-◌, ◌*◌, ◌<◌, ◌≤◌, IfOk, IfSome, length, slice_index};
-ghost use Rattle.clairvoyant.specs.Uses.{rank, rank_by, key_at};
+ghost use Rattle.clairvoyant.specs.Uses.{next, rank, rank_by, key_at};
 
 use std::alloc::{AllocError, Global};
 use std::collections::HashMap;
@@ -8,7 +8,12 @@ use std::marker::Model;
 use step_record::Key;
 use trace_read::Trace;
 
-/// The accesses of a trace, and the rank of each one's key after it.
+/// The accesses of a trace, with the next use of each one's key.
+///
+/// It is kept as a rank, one number a key: of a trace of `n` accesses, a key that is used next at
+/// place `p` has rank `2 * n - 1 - p`, and a key that is never used again has the place of its
+/// last access for its rank. So the key whose next use is farthest ranks least, and of keys that
+/// are never used again the one whose last access is earliest.
 #[derive(Drop)]
 pub struct NextUse {
     keys: Vec<Key>,
@@ -41,7 +46,8 @@ fn rank_by(len: usize, next: Option<u32>, last: usize) -> u32
 }
 
 impl NextUse {
-    /// Goes backward over the trace once.
+    /// The trace with each next use, found in one pass from its end. The only error is want of
+    /// memory.
     pub fn build(alloc: Global, trace: &Trace) -> Result<NextUse, AllocError>
         ensures { IfOk result (λ u. u ≡ trace.now) }
     {
@@ -57,6 +63,7 @@ impl NextUse {
         Ok(NextUse { keys, ranks })
     }
 
+    /// How many accesses there are.
     pub fn len(&self) -> usize
         ensures len { result ≡ length self.now }
         ensures few { result ≤ 16777216 }
@@ -70,6 +77,21 @@ impl NextUse {
         ensures { result ≡ slice_index self.now place }
     {
         self.keys[place]
+    }
+
+    /// The next use of the key that is accessed at a place: the least later place that holds the
+    /// same key, or none.
+    pub fn next(&self, place: usize) -> Option<u32>
+        requires { place < length self.now }
+        ensures { result ≡ next self.now place (slice_index self.now place) }
+    {
+        let len = self.len();
+        let rank = self.rank(place) as usize;
+        if rank < len {
+            None
+        } else {
+            Some((2 * len - 1 - rank) as u32)
+        }
     }
 
     /// The rank of the key that is accessed at a place, after that access.
