@@ -141,9 +141,9 @@ module _ (t : List ℕ) (i : ℕ) (r : List ℕ) (le : i ≤ length t) (seen : (
     pub listed-other : holds h q ≡ false → (k : ℕ) → times k keys ≡ one (is_listed t i r (q + 1) k)
     listed-other none k =
         let apart : has k r ≡ true → rank t i k ≢ q = λ there same. (
-          let at : key_at t q ≡ k = keyed q k there same in
-          let is : is_ranked t i r q ≡ true = and-is _ _ true (ap (λ x. has x r) at ∙ there) (eq-eqb (rank t i (key_at t q)) q (ap (rank t i) at ∙ same)) in
-          let no : true ≡ false = sym is ∙ sym (tied.ranks q lt) ∙ none in cc (no)) in
+        let at : key_at t q ≡ k = keyed q k there same in
+        let is : is_ranked t i r q ≡ true = and-is _ _ true (ap (λ x. has x r) at ∙ there) (eq-eqb (rank t i (key_at t q)) q (ap (rank t i) at ∙ same)) in
+        let no : true ≡ false = sym is ∙ sym (tied.ranks q lt) ∙ none in cc (no)) in
         all k ∙ ap one (sym (unmoved q k apart))
 
     pub listed-held : (a : ℕ) → a ≡ key_at t q → holds h q ≡ true → (k : ℕ) → times k (keys ++ a ∷ []) ≡ one (is_listed t i r (q + 1) k)

@@ -116,7 +116,13 @@ fn unserve(uses: &NextUse, ranks: &mut Ranks, _capacity: usize, place: usize, do
 }
 
 /// The keys of the ranks that are held once the accesses below a place are made, ascending.
-fn keys_held(alloc: Global, uses: &NextUse, ranks: &Ranks, _capacity: usize, _place: usize) -> Result<Vec<Key>, AllocError>
+fn keys_held(
+    alloc: Global,
+    uses: &NextUse,
+    ranks: &Ranks,
+    _capacity: usize,
+    _place: usize,
+) -> Result<Vec<Key>, AllocError>
     requires place { _place ≤ length uses.now }
     requires tied { IsTied uses.now _place (residents _capacity uses.now _place) ranks.now }
     ensures { IfOk result (λ keys. keys.items ≡ residents _capacity uses.now _place) }
@@ -161,7 +167,13 @@ impl Clairvoyant {
     pub fn residents(&self, alloc: Global) -> Result<Vec<Key>, AllocError>
         ensures { IfOk result (λ keys. keys.items ≡ self.now.residents) }
     {
-        keys_held(alloc, &self.uses, &self.ranks, self.capacity, self.stats.accesses as usize)
+        keys_held(
+            alloc,
+            &self.uses,
+            &self.ranks,
+            self.capacity,
+            self.stats.accesses as usize,
+        )
     }
 }
 

@@ -18,6 +18,5 @@ pub use laws::{clairvoyant_accepts, clairvoyant_stands};
 pub use next_use::NextUse;
 pub use use_record::{Gone, UseRecord};
 
-
 #[cfg(test)]
 mod tests;

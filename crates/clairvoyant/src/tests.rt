@@ -118,8 +118,7 @@ fn last_place(keys: &[Key], place: usize, key: Key) -> usize {
 fn is_farther(keys: &[Key], place: usize, a: Key, b: Key) -> bool {
     let next_a = next_place(keys, place, a);
     let next_b = next_place(keys, place, b);
-    next_a > next_b
-        || next_a == next_b && last_place(keys, place, a) < last_place(keys, place, b)
+    next_a > next_b || next_a == next_b && last_place(keys, place, a) < last_place(keys, place, b)
 }
 
 /// Serves an access by scans of the trace and of the residents.
@@ -167,10 +166,18 @@ fn small_traces_against_a_plain_scan(rt: HostRuntime) -> Result<(), Fail> {
         for (place, key) in keys.iter().enumerate() {
             let expected = scanned(&mut residents, &keys, place, *key)?;
             let step = cache.apply(key);
-            assert_eq!(rt; step.ok().map(|step| step.0), Some(expected), "trace {code}, place {place}");
+            assert_eq!(rt;
+                step.ok().map(|step| step.0),
+                Some(expected),
+                "trace {code}, place {place}"
+            );
             let held = cache.residents(rt.alloc())?;
             residents.sort_unstable();
-            assert_eq!(rt; held.as_slice(), residents.as_slice(), "trace {code}, place {place}");
+            assert_eq!(rt;
+                held.as_slice(),
+                residents.as_slice(),
+                "trace {code}, place {place}"
+            );
         }
     }
     Ok(())

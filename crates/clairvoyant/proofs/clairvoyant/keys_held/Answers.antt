@@ -34,4 +34,4 @@ returns c =
     let end : c.loop-rank.rank ≡ 2 * length t = omega (arith, c.loop-rank-test.false, c.loop-rank.auto.rank-end, c.len-size.ensures.len) in
     let P : ℕ → Type 0 = λ n. (k : ℕ) → times k keys ≡ one (is_listed t i r n k) in
     listed-residents c.args._capacity t i keys c.sort_unstable.new.self.items c.requires.place (subst P end c.loop-rank.invariant.all) c.sort_unstable.ensures.permutation
-        (IsNonDecreasingBy-from_sort (λ x. x) c.sort_unstable.new.self.items c.sort_unstable.ensures.sorted)
+    (IsNonDecreasingBy-from_sort (λ x. x) c.sort_unstable.new.self.items c.sort_unstable.ensures.sorted)
