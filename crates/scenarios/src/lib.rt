@@ -27,4 +27,6 @@ pub fn lru_access(session: &mut Session<Lru>, key: Key) -> Result<Outcome, Sessi
 }
 
 #[cfg(test)]
+mod clairvoyant_tests;
+#[cfg(test)]
 mod tests;

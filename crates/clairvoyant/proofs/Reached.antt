@@ -1,0 +1,132 @@
+-- What the first accesses of a trace give, one access further.
+use Rattle.std.proofs.Common.{◌≡◌, ℕ, suc, zero, ◌+◌, ◌-◌, ◌<◌, ◌≤◌, Bool, true, false, cond, ◌&&◌, eqb, nat_lt, inl, inr, Some, None, List, [], ◌∷◌, ◌++◌, length, count_by, get_or, ap, ◌∙◌, sym, refl, subst, arith, add-one, length-append}
+use Rattle.std.proofs.lemmas.Bool.{cases_Bool, eq-eqb, ne_eqb, lt-ltb, le-ltb}
+use Rattle.std.proofs.lemmas.List.Sums.{sum_by-append, count_by-le-length}
+use Rattle.step_record.specs.declared.outcome.Outcome.{Outcome}
+use Rattle.step_record.specs.declared.stats.Stats.{Stats}
+use Rattle.step_record.specs.Keys.{has, without}
+use Rattle.clairvoyant.specs.Keys.{put, IsAscending}
+use Rattle.clairvoyant.specs.Belady.{farthest, served, answer, gone, residents, outcome, outcomes}
+use Rattle.step_record.specs.Stats.{is_hit, is_miss, is_eviction, is_rejection, one, counted, uncounted, IsCounted, IsSmall, stats_of}
+use Rattle.clairvoyant.specs.Seen.{IsReached, use_act, is_now, moved_on}
+use Rattle.clairvoyant.specs.Keeping.{shown}
+use Rattle.step_record.proofs.Counting.{stats-snoc}
+use Rattle.clairvoyant.proofs.Keys.{has-put, length-put, length-without, ascending-put}
+use Rattle.clairvoyant.proofs.Belady.{residents-ascending, farthest-among, soon}
+
+outcomes-length : (c : ℕ) (t : List ℕ) (i : ℕ) → length (outcomes c t i) ≡ i
+outcomes-length c t zero = refl
+outcomes-length c t (suc i) = length-append (outcomes c t i) (outcome c t i ∷ []) ∙ (let n : length (outcomes c t i) ≡ i = outcomes-length c t i in omega arith)
+
+count-snoc : (p : Outcome → Bool) (os : List Outcome) (o : Outcome) → count_by p (os ++ o ∷ []) ≡ count_by p os + one (p o)
+count-snoc p os o = sum_by-append (λ x. cond (p x) 1 0) os (o ∷ []) ∙ omega arith
+
+-- the counts after one access more
+pub stats-next : (c : ℕ) (t : List ℕ) (s : Stats) → s ≡ stats_of (outcomes c t s.accesses) → counted (outcome c t s.accesses) s ≡ stats_of (outcomes c t (s.accesses + 1))
+stats-next c t s e =
+    ap (counted (outcome c t s.accesses)) e ∙ sym (stats-snoc (outcomes c t s.accesses) (outcome c t s.accesses)) ∙ ap (λ n. stats_of (outcomes c t n)) (sym (add-one s.accesses))
+
+pub reached-next : (c : ℕ) (t : List ℕ) (s : Stats) → s.accesses < length t → IsReached (shown c t s) → IsReached (shown c t (counted (outcome c t s.accesses) s))
+reached-next c t s lt r = record {
+  gives = ap (λ x. record { trace = t; capacity = c; residents = residents c t (s.accesses + 1); stats = x }) (stats-next c t s (ap (λ d. d.stats) r.gives));
+  within = omega arith;
+  short = r.short;
+  room = r.room;
+}
+
+small : (p : Outcome → Bool) (c : ℕ) (t : List ℕ) (i : ℕ) → i ≤ 4294967296 → count_by p (outcomes c t i) ≤ 4294967296
+small p c t i h = omega (arith, count_by-le-length p (outcomes c t i), outcomes-length c t i)
+
+pub reached-small : (c : ℕ) (t : List ℕ) (s : Stats) → IsReached (shown c t s) → IsSmall s
+reached-small c t s r =
+    let few : s.accesses ≤ 4294967296 = let a = r.within in let b = r.short in omega (arith, a, b) in
+    let e : s ≡ stats_of (outcomes c t s.accesses) = ap (λ d. d.stats) r.gives in
+    record {
+      accesses = few;
+      hits = let f : s.hits ≡ count_by is_hit (outcomes c t s.accesses) = ap (λ x. x.hits) e in omega (arith, small is_hit c t s.accesses few);
+      misses = let f : s.misses ≡ count_by is_miss (outcomes c t s.accesses) = ap (λ x. x.misses) e in omega (arith, small is_miss c t s.accesses few);
+      evictions = let f : s.evictions ≡ count_by is_eviction (outcomes c t s.accesses) = ap (λ x. x.evictions) e in omega (arith, small is_eviction c t s.accesses few);
+      rejections = let f : s.rejections ≡ count_by is_rejection (outcomes c t s.accesses) = ap (λ x. x.rejections) e in omega (arith, small is_rejection c t s.accesses few);
+    }
+
+-- ---- residents are the misses less the evictions
+
+gone-both : (k v : ℕ) → (is_miss (gone k v) ≡ true) × (is_eviction (gone k v) ≡ true)
+gone-both k v = elim (cases_Bool (eqb k v)) as (λ _. (is_miss (gone k v) ≡ true) × (is_eviction (gone k v) ≡ true)) [ inl e ↦ rw e (refl, refl) | inr e ↦ rw e (refl, refl) ]
+
+served-count : (c : ℕ) (t : List ℕ) (i k : ℕ) (r : List ℕ) → IsAscending r → length (served c t i k r) + one (is_eviction (answer c t i k r)) ≡ length r + one (is_miss (answer c t i k r))
+served-count c t i k r s =
+    elim (cases_Bool (has k r)) as (λ _. length (served c t i k r) + one (is_eviction (answer c t i k r)) ≡ length r + one (is_miss (answer c t i k r))) [
+      | inl e ↦ rw e refl
+      | inr e ↦ elim (cases_Bool (nat_lt (length r) c)) as (λ _. length (served c t i k r) + one (is_eviction (answer c t i k r)) ≡ length r + one (is_miss (answer c t i k r))) [
+        | inl f ↦ rw (e, f) (let n : length (put k r) ≡ suc (length r) = length-put k r in omega arith)
+        | inr f ↦
+            let v : ℕ = farthest t i k r in
+            let in_it : has v (put k r) ≡ true = has-put v k r ∙ soon v k r (farthest-among t i k r) in
+            let fewer : suc (length (without v (put k r))) ≡ length (put k r) = length-without v (put k r) (ascending-put k r s e) in_it in
+            let n : length (put k r) ≡ suc (length r) = length-put k r in
+            let both = gone-both k v in
+            rw (e, f, both.0, both.1) (omega arith)
+      ]
+    ]
+
+pub held-count : (c : ℕ) (t : List ℕ) (i : ℕ) → length (residents c t i) + count_by is_eviction (outcomes c t i) ≡ count_by is_miss (outcomes c t i)
+held-count c t zero = refl
+held-count c t (suc i) =
+    let past : length (residents c t i) + count_by is_eviction (outcomes c t i) ≡ count_by is_miss (outcomes c t i) = held-count c t i in
+    let now : length (residents c t (suc i)) + one (is_eviction (outcome c t i)) ≡ length (residents c t i) + one (is_miss (outcome c t i)) = served-count c t i (get_or t i 0) (residents c t i) (residents-ascending c t i) in
+    rw (count-snoc is_eviction (outcomes c t i) (outcome c t i), count-snoc is_miss (outcomes c t i) (outcome c t i)) (omega (arith, past, now))
+
+pub reached-held : (c : ℕ) (t : List ℕ) (s : Stats) → IsReached (shown c t s) → length (residents c t s.accesses) + s.evictions ≡ s.misses
+reached-held c t s r =
+    let e : s ≡ stats_of (outcomes c t s.accesses) = ap (λ d. d.stats) r.gives in
+    ap (λ x. length (residents c t s.accesses) + x.evictions) e ∙ held-count c t s.accesses ∙ sym (ap (λ x. x.misses) e)
+
+-- ---- steps
+
+now-holds : (c : ℕ) (t : List ℕ) (s : Stats) (k : ℕ) → s.accesses < length t → length t ≤ 16777216 → k ≡ get_or t s.accesses 0 → is_now (shown c t s) k ≡ true
+now-holds c t s k lt few e =
+    let a : nat_lt s.accesses 4294967296 ≡ true = lt-ltb s.accesses 4294967296 (omega arith) in
+    let b : nat_lt s.accesses (length t) ≡ true = lt-ltb s.accesses (length t) lt in
+    let d : eqb k (get_or t s.accesses 0) ≡ true = eq-eqb k (get_or t s.accesses 0) e in
+    rw (a, b, d) refl
+
+pub act-next : (c : ℕ) (t : List ℕ) (s : Stats) (k : ℕ) (o : Outcome) → s.accesses < length t → length t ≤ 16777216 → k ≡ get_or t s.accesses 0 → o ≡ outcome c t s.accesses → use_act (shown c t s) k ≡ Some (o, shown c t (counted o s))
+act-next c t s k o lt few e f =
+    let yes : is_now (shown c t s) k ≡ true = now-holds c t s k lt few e in
+    ap (λ b. cond b (Some (answer c t s.accesses k (residents c t s.accesses), moved_on (shown c t s) k)) None) yes
+    ∙ ap (λ x. Some (answer c t s.accesses x (residents c t s.accesses), moved_on (shown c t s) x)) e
+    ∙ ap (λ n. Some (outcome c t s.accesses, record { trace = t; capacity = c; residents = residents c t n; stats = counted (outcome c t s.accesses) s })) (sym (add-one s.accesses))
+    ∙ ap (λ x. Some (x, shown c t (counted x s))) (sym f)
+
+past : (a b d : Bool) → b ≡ false → (a && (b && d)) ≡ false
+past true b d e = rw e refl
+past false b d e = refl
+
+other : (a b d : Bool) → d ≡ false → (a && (b && d)) ≡ false
+other true true d e = e
+other true false d e = refl
+other false b d e = refl
+
+pub act-past : (c : ℕ) (t : List ℕ) (s : Stats) (k : ℕ) → length t ≤ s.accesses → use_act (shown c t s) k ≡ None
+act-past c t s k le = rw (past (nat_lt s.accesses 4294967296) (nat_lt s.accesses (length t)) (eqb k (get_or t s.accesses 0)) (le-ltb s.accesses (length t) le)) refl
+
+pub act-other : (c : ℕ) (t : List ℕ) (s : Stats) (k : ℕ) → (get_or t s.accesses 0 ≡ k → ⊥) → use_act (shown c t s) k ≡ None
+act-other c t s k ne = rw (other (nat_lt s.accesses 4294967296) (nat_lt s.accesses (length t)) (eqb k (get_or t s.accesses 0)) (ne_eqb k (get_or t s.accesses 0) (λ h. ne (sym h)))) refl
+
+uncount : (o : Outcome) (s : Stats) → uncounted o (counted o s) ≡ s
+uncount o s =
+    let a : s.accesses + 1 - 1 ≡ s.accesses = omega arith in
+    let b : s.hits + one (is_hit o) - one (is_hit o) ≡ s.hits = omega arith in
+    let d : s.misses + one (is_miss o) - one (is_miss o) ≡ s.misses = omega arith in
+    let e : s.evictions + one (is_eviction o) - one (is_eviction o) ≡ s.evictions = omega arith in
+    let f : s.rejections + one (is_rejection o) - one (is_rejection o) ≡ s.rejections = omega arith in
+    rw (a, b, d, e, f) refl
+
+pub uncount-by : (p o : Outcome) (s : Stats) → p ≡ o → uncounted p (counted o s) ≡ s
+uncount-by p o s e = ap (λ x. uncounted x (counted o s)) e ∙ uncount o s
+
+pub is-counted : (p o : Outcome) (s : Stats) → p ≡ o → IsCounted p (counted o s)
+is-counted p o s e =
+    let r : IsCounted o (counted o s) = record { accesses = omega arith; hits = omega arith; misses = omega arith; evictions = omega arith; rejections = omega arith } in
+    let P : Outcome → Type 0 = λ x. IsCounted x (counted o s) in subst P (sym e) r

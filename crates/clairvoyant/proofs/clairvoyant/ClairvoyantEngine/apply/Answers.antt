@@ -1,0 +1,35 @@
+use Rattle.std.proofs.Common.{◌∙◌, sym, arith}
+use Rattle.clairvoyant.proofs.Reached.{reached-held}
+use Rattle.clairvoyant.proofs.Applying.{next-keeping, next-accepted, next-stands, next-undone, next-fits}
+use Rattle.clairvoyant.proofs.clairvoyant.ClairvoyantEngine.apply.Goals as goal
+
+pub overflow_sub-held : goal.overflow_sub-held
+overflow_sub-held c = let s = c.self.inside in omega (arith, reached-held s.capacity s.uses s.stats c.self.invariant.reached)
+
+pub serve-record-requires-clause-held : goal.serve-record-requires-clause-held
+serve-record-requires-clause-held c = let s = c.self.inside in omega (arith, reached-held s.capacity s.uses s.stats c.self.invariant.reached)
+
+pub invariant_of-self : goal.invariant_of-self
+invariant_of-self c =
+    let s = c.self.inside in
+    next-keeping s.capacity s.uses s.stats c.count.new.self c.outcome-outcome.result (omega (arith, c.if-place-len.false, c.len.ensures.len)) c.self.invariant.reached (c.outcome-outcome.ensures ∙ c.serve-record.ensures.outcome) c.count.ensures c.serve-record.new.ranks c.serve-record.ensures.tied
+
+pub returns-clause-accepted : goal.returns-clause-accepted
+returns-clause-accepted c =
+    let s = c.self.inside in
+    next-accepted s.capacity s.uses s.stats c.count.new.self c.outcome-outcome.result (omega (arith, c.if-place-len.false, c.len.ensures.len)) c.self.invariant.reached (c.outcome-outcome.ensures ∙ c.serve-record.ensures.outcome) c.count.ensures c.args.step.now c.args.self.now c.self.view_is (sym c.if-key-step.false ∙ c.key.ensures)
+
+pub returns-clause-fits : goal.returns-clause-fits
+returns-clause-fits c =
+    let s = c.self.inside in
+    next-fits s.capacity s.uses s.stats c.count.new.self c.outcome-outcome.result (omega (arith, c.if-place-len.false, c.len.ensures.len)) c.self.invariant.reached (c.outcome-outcome.ensures ∙ c.serve-record.ensures.outcome) c.count.ensures c.serve-record.result c.outcome-outcome.ensures c.serve-record.ensures.undone c.serve-record.ensures.key c.serve-record.ensures.former c.serve-record.ensures.ranked
+
+pub returns-clause-undone : goal.returns-clause-undone
+returns-clause-undone c =
+    let s = c.self.inside in
+    next-undone s.capacity s.uses s.stats c.count.new.self c.outcome-outcome.result (omega (arith, c.if-place-len.false, c.len.ensures.len)) c.self.invariant.reached (c.outcome-outcome.ensures ∙ c.serve-record.ensures.outcome) c.count.ensures c.serve-record.result c.outcome-outcome.ensures c.serve-record.ensures.undone ∙ c.self.view_is
+
+pub returns-clause-stands : goal.returns-clause-stands
+returns-clause-stands c =
+    let s = c.self.inside in
+    next-stands s.capacity s.uses s.stats c.count.new.self c.outcome-outcome.result (omega (arith, c.if-place-len.false, c.len.ensures.len)) c.self.invariant.reached (c.outcome-outcome.ensures ∙ c.serve-record.ensures.outcome) c.count.ensures c.args.self.now c.self.view_is

@@ -1,0 +1,10 @@
+use Rattle.std.proofs.Common.{◌≡◌, ℕ, ◌*◌, length}
+use Rattle.step_record.specs.Stats.{one}
+use Rattle.clairvoyant.specs.Belady.{residents}
+use Rattle.clairvoyant.proofs.Listing.{times, is_listed}
+use Rattle.clairvoyant.proofs.clairvoyant.keys_held.Given as goal
+
+abbrev pub invariant-loop-rank : goal.invariant-loop-rank
+invariant-loop-rank l = record {
+  all : (k : ℕ) → times k l.keys.items ≡ one (is_listed l.uses l._place (residents l._capacity l.uses l._place) l.rank k);
+}

@@ -1,0 +1,118 @@
+//! A trace with the next use of each access, found beforehand.
+ghost use Rattle.std.specs.Prelude.{◌≡◌, ℕ, suc, ◌+◌, ◌-◌, ◌*◌, ◌<◌, ◌≤◌, IfOk, IfSome, length, slice_index};
+ghost use Rattle.clairvoyant.specs.Uses.{next, rank, rank_by, key_at};
+
+use std::alloc::{AllocError, Global};
+use std::collections::HashMap;
+use std::marker::Model;
+use step_record::Key;
+use trace_read::Trace;
+
+/// The accesses of a trace, with the next use of each one's key.
+///
+/// It is kept as a rank, one number a key: of a trace of `n` accesses, a key that is used next at
+/// place `p` has rank `2 * n - 1 - p`, and a key that is never used again has the place of its
+/// last access for its rank. So the key whose next use is farthest ranks least, and of keys that
+/// are never used again the one whose last access is earliest.
+#[derive(Drop)]
+pub struct NextUse {
+    keys: Vec<Key>,
+    ranks: Vec<u32>,
+}
+
+impl Model for NextUse {
+    ghost use Rattle.std.specs.Prelude.{ℕ, List};
+    ghost use Rattle.clairvoyant.specs.Uses.{IsFound};
+
+    ghost Value = { List ℕ };
+
+    ghost view = { λ u. u.keys.items };
+
+    ghost invariant = { λ u. IsFound u.keys.items u.ranks.items };
+}
+
+/// The rank of a key that is used next at one place and was used last at another.
+fn rank_by(len: usize, next: Option<u32>, last: usize) -> u32
+    requires few { len ≤ 16777216 }
+    requires next { IfSome next (λ n. n < len) }
+    requires last { last < len }
+    ensures rank { result ≡ rank_by len next last }
+    ensures within { result < 2 * len }
+{
+    match next {
+        Some(next) => (2 * len - 1) as u32 - next,
+        None => last as u32,
+    }
+}
+
+impl NextUse {
+    /// The trace with each next use, found in one pass from its end. The only error is want of
+    /// memory.
+    pub fn build(alloc: Global, trace: &Trace) -> Result<NextUse, AllocError>
+        ensures { IfOk result (λ u. u ≡ trace.now) }
+    {
+        let keys = Vec::from_slice(alloc, trace.keys())?;
+        let len = keys.len();
+        let mut ranks: Vec<u32> = vec![in alloc; 0; len]?;
+        let mut following: HashMap<Key, u32> = HashMap::new(alloc);
+        for back in 0..len {
+            let place = len - 1 - back;
+            let next = following.insert(keys[place], place as u32)?;
+            ranks[place] = rank_by(len, next, place);
+        }
+        Ok(NextUse { keys, ranks })
+    }
+
+    /// How many accesses there are.
+    pub fn len(&self) -> usize
+        ensures len { result ≡ length self.now }
+        ensures few { result ≤ 16777216 }
+    {
+        self.keys.len()
+    }
+
+    /// The key of the access at a place.
+    pub fn key(&self, place: usize) -> Key
+        requires { place < length self.now }
+        ensures { result ≡ slice_index self.now place }
+    {
+        self.keys[place]
+    }
+
+    /// The next use of the key that is accessed at a place: the least later place that holds the
+    /// same key, or none.
+    pub fn next(&self, place: usize) -> Option<u32>
+        requires { place < length self.now }
+        ensures { result ≡ next self.now place (slice_index self.now place) }
+    {
+        let len = self.len();
+        let rank = self.rank(place) as usize;
+        if rank < len {
+            None
+        } else {
+            Some((2 * len - 1 - rank) as u32)
+        }
+    }
+
+    /// The rank of the key that is accessed at a place, after that access.
+    pub fn rank(&self, place: usize) -> u32
+        requires { place < length self.now }
+        ensures rank { result ≡ rank self.now (suc place) (slice_index self.now place) }
+        ensures within { result < 2 * length self.now }
+    {
+        self.ranks[place]
+    }
+
+    /// The key that a rank is of.
+    pub fn key_at(&self, rank: usize) -> Key
+        requires { rank < 2 * length self.now }
+        ensures { result ≡ key_at self.now rank }
+    {
+        let len = self.keys.len();
+        if rank < len {
+            self.keys[rank]
+        } else {
+            self.keys[2 * len - 1 - rank]
+        }
+    }
+}

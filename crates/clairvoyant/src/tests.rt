@@ -1,0 +1,184 @@
+use super::*;
+use std::alloc::{AllocError, Global};
+use std::test::Fail;
+use step_record::{Engine, Key, Outcome, Stats, StepFault};
+use trace_read::Trace;
+
+fn opened(alloc: Global, keys: &[Key]) -> Result<Clairvoyant, Fail> {
+    let keys = Vec::from_slice(alloc, keys)?;
+    if keys.len() > 16_777_216 {
+        return Err("a trace that is too long".into());
+    }
+    let trace = Trace::new(keys);
+    let uses = NextUse::build(alloc, &trace)?;
+    let cache = Clairvoyant::open(alloc, uses, 2)?;
+    Ok(cache)
+}
+
+#[test]
+fn the_key_whose_next_use_is_farthest_leaves(rt: HostRuntime) -> Result<(), Fail> {
+    let mut cache = opened(rt.alloc(), &[1, 2, 3, 1, 2])?;
+    for (key, outcome) in [
+        (1, Outcome::Kept),
+        (2, Outcome::Kept),
+        (3, Outcome::Rejected(3)),
+        (1, Outcome::Hit),
+        (2, Outcome::Hit),
+    ] {
+        let step = cache.apply(&key);
+        assert_eq!(rt; step.ok().map(|step| step.0), Some(outcome));
+    }
+    assert_eq!(rt; cache.apply(&1).err(), Some(StepFault::NotNow));
+    assert_eq!(rt;
+        cache.stats(),
+        Stats {
+            accesses: 5,
+            hits: 2,
+            misses: 3,
+            evictions: 1,
+            rejections: 1
+        }
+    );
+    Ok(())
+}
+
+#[test]
+fn of_keys_never_used_again_the_one_accessed_first_leaves(rt: HostRuntime) -> Result<(), Fail> {
+    let mut cache = opened(rt.alloc(), &[1, 2, 3, 4])?;
+    assert_eq!(rt; cache.apply(&2).err(), Some(StepFault::NotNow));
+    assert_eq!(rt; cache.standing(), 0);
+    for (key, outcome) in [
+        (1, Outcome::Kept),
+        (2, Outcome::Kept),
+        (3, Outcome::Evicted(1)),
+        (4, Outcome::Evicted(2)),
+    ] {
+        let step = cache.apply(&key);
+        assert_eq!(rt; step.ok().map(|step| step.0), Some(outcome));
+    }
+    Ok(())
+}
+
+#[test]
+fn each_next_use_is_told(rt: HostRuntime) -> Result<(), Fail> {
+    let keys = Vec::from_slice(rt.alloc(), &[1, 2, 3, 1, 2])?;
+    assert!(rt; keys.len() == 5);
+    let trace = Trace::new(keys);
+    let uses = NextUse::build(rt.alloc(), &trace)?;
+    assert!(rt; uses.len() == 5);
+    for (place, next) in [(0, Some(3)), (1, Some(4)), (2, None), (3, None), (4, None)] {
+        assert!(rt; place < uses.len());
+        assert_eq!(rt; uses.next(place), next);
+    }
+    Ok(())
+}
+
+#[test]
+fn an_undone_access_is_made_again(rt: HostRuntime) -> Result<(), Fail> {
+    let mut cache = opened(rt.alloc(), &[1, 2, 3, 4])?;
+    for key in [1, 2] {
+        assert!(rt; cache.apply(&key).is_ok());
+    }
+    let before = cache.stats();
+    let third = cache.apply(&3);
+    assert!(rt; third.is_ok());
+    if let Ok((outcome, record)) = third {
+        assert_eq!(rt; outcome, Outcome::Evicted(1));
+        assert_eq!(rt; record.outcome(), outcome);
+        assert!(rt; cache.undo(record).is_ok());
+    }
+    assert_eq!(rt; cache.stats(), before);
+    let again = cache.apply(&3);
+    assert_eq!(rt; again.ok().map(|step| step.0), Some(Outcome::Evicted(1)));
+    Ok(())
+}
+
+/// The first place past `place` that holds the key, or the largest number.
+fn next_place(keys: &[Key], place: usize, key: Key) -> usize {
+    for (at, other) in keys.iter().enumerate() {
+        if at > place && *other == key {
+            return at;
+        }
+    }
+    usize::MAX
+}
+
+/// The last place up to `place` that holds the key.
+fn last_place(keys: &[Key], place: usize, key: Key) -> usize {
+    let mut last = 0;
+    for (at, other) in keys.iter().enumerate() {
+        if at <= place && *other == key {
+            last = at;
+        }
+    }
+    last
+}
+
+/// Whether key `a` leaves rather than key `b`.
+fn is_farther(keys: &[Key], place: usize, a: Key, b: Key) -> bool {
+    let next_a = next_place(keys, place, a);
+    let next_b = next_place(keys, place, b);
+    next_a > next_b || next_a == next_b && last_place(keys, place, a) < last_place(keys, place, b)
+}
+
+/// Serves an access by scans of the trace and of the residents.
+fn scanned(
+    residents: &mut Vec<Key>,
+    keys: &[Key],
+    place: usize,
+    key: Key,
+) -> Result<Outcome, AllocError> {
+    if residents.iter().any(|resident| *resident == key) {
+        return Ok(Outcome::Hit);
+    }
+    if residents.len() < 2 {
+        residents.push(key)?;
+        return Ok(Outcome::Kept);
+    }
+    let mut leaving = key;
+    for resident in residents.iter() {
+        if is_farther(keys, place, *resident, leaving) {
+            leaving = *resident;
+        }
+    }
+    if leaving == key {
+        return Ok(Outcome::Rejected(key));
+    }
+    for resident in residents.iter_mut() {
+        if *resident == leaving {
+            *resident = key;
+        }
+    }
+    Ok(Outcome::Evicted(leaving))
+}
+
+#[test]
+fn small_traces_against_a_plain_scan(rt: HostRuntime) -> Result<(), Fail> {
+    for code in 0..1024_u64 {
+        let mut keys = [0; 5];
+        let mut rest = code;
+        for key in keys.iter_mut() {
+            *key = rest % 4;
+            rest /= 4;
+        }
+        let mut cache = opened(rt.alloc(), &keys)?;
+        let mut residents = Vec::new(rt.alloc());
+        for (place, key) in keys.iter().enumerate() {
+            let expected = scanned(&mut residents, &keys, place, *key)?;
+            let step = cache.apply(key);
+            assert_eq!(rt;
+                step.ok().map(|step| step.0),
+                Some(expected),
+                "trace {code}, place {place}"
+            );
+            let held = cache.residents(rt.alloc())?;
+            residents.sort_unstable();
+            assert_eq!(rt;
+                held.as_slice(),
+                residents.as_slice(),
+                "trace {code}, place {place}"
+            );
+        }
+    }
+    Ok(())
+}

@@ -1,0 +1,67 @@
+//! A set as bits in words, over a smaller set.
+ghost use Rattle.std.specs.Prelude.{◌≡◌, ℕ, ◌*◌, ◌≤◌, length};
+ghost use Rattle.rank_tree.specs.Bits.{held_in, IsAbove};
+
+use crate::places::Places;
+use std::alloc::{AllocError, Global};
+
+/// Words of bits, under a set of the places of those that are not 0.
+#[derive(Drop)]
+pub(crate) struct Layer<U: Places> {
+    words: Vec<u64>,
+    upper: U,
+    ghost above: { IsAbove words.items (U.size upper) (U.held upper) },
+    ghost few: { length words.items ≤ 16777216 },
+}
+
+impl<U: Places> Places for Layer<U> {
+    ghost most = { 64 * U.most };
+
+    ghost size = { λ l. 64 * length l.words.items };
+
+    ghost held = { λ l. held_in l.words.items };
+
+    fn new(alloc: Global, len: usize) -> Result<Layer<U>, AllocError> {
+        let count = len.div_ceil(64);
+        let words = vec![in alloc; 0; count]?;
+        let upper = U::new(alloc, count)?;
+        Ok(Layer { words, upper })
+    }
+
+    fn put(&mut self, place: usize) {
+        let word = place / 64;
+        let old = self.words[word];
+        self.words[word] = old | 1 << (place % 64);
+        if old == 0 {
+            self.upper.put(word);
+        }
+    }
+
+    fn take(&mut self, place: usize) {
+        let word = place / 64;
+        let left = self.words[word] & !(1 << (place % 64));
+        self.words[word] = left;
+        if left == 0 {
+            self.upper.take(word);
+        }
+    }
+
+    fn least(&self) -> Option<usize> {
+        match self.upper.least() {
+            None => None,
+            Some(word) => Some(64 * word + self.words[word].trailing_zeros() as usize),
+        }
+    }
+}
+
+impl<U: Places> Layer<U> {
+    ghost use Rattle.std.specs.Prelude.{◌<◌};
+
+    /// Whether a number is in the set.
+    pub(crate) fn has(&self, place: usize) -> bool
+        requires { place < 64 * length self.now.words.items }
+        ensures { result ≡ held_in self.now.words.items place }
+    {
+        self.words[place / 64] >> (place % 64) & 1 == 1
+    }
+}

@@ -1,0 +1,78 @@
+//! A set of numbers below a size that is fixed when it is made.
+ghost use Rattle.std.specs.Prelude.{◌≡◌, ℕ, ◌<◌, ◌≤◌, ◌^◌, true, false, cond, eqb, MatchOption, IfOk, length};
+ghost use Rattle.rank_tree.specs.Bits.{holds};
+
+use crate::layer::Layer;
+use crate::places::Places;
+use crate::single::Single;
+use std::alloc::{AllocError, Global};
+use std::marker::Model;
+
+/// A set of the numbers below a size of at most 2^30, shown as one test for each number: five
+/// layers of words, each with a bit for each word of the layer below.
+#[derive(Drop)]
+pub struct Ranks {
+    size: usize,
+    tree: Layer<Layer<Layer<Layer<Layer<Single>>>>>,
+}
+
+impl Model for Ranks {
+    ghost use Rattle.std.specs.Prelude.{List, Bool, ◌*◌, ◌≤◌, length};
+    ghost use Rattle.rank_tree.specs.Bits.{held_in, listed};
+
+    ghost Value = { List Bool };
+
+    ghost view = { λ r. listed r.size (held_in r.tree.words.items) };
+
+    ghost invariant = { λ r. r.size ≤ 64 * length r.tree.words.items };
+}
+
+impl Ranks {
+    /// A set without a number. The only error is want of memory.
+    pub fn new(alloc: Global, size: usize) -> Result<Ranks, AllocError>
+        requires { size ≤ 2 ^ 30 }
+        ensures size { IfOk result (λ r. length r ≡ size) }
+        ensures none { IfOk result (λ r. (q : ℕ) → holds r q ≡ false) }
+    {
+        let tree = Layer::new(alloc, size)?;
+        Ok(Ranks { size, tree })
+    }
+
+    /// Whether a number is in the set.
+    pub fn has(&self, rank: usize) -> bool
+        requires { rank < length self.now }
+        ensures { result ≡ holds self.now rank }
+    {
+        self.tree.has(rank)
+    }
+
+    /// Puts a number into the set.
+    pub fn put(&mut self, rank: usize)
+        requires { rank < length self.old }
+        ensures size { length self.new ≡ length self.old }
+        ensures puts { (q : ℕ) → holds self.new q ≡ cond (eqb q rank) true (holds self.old q) }
+    {
+        self.tree.put(rank);
+    }
+
+    /// Takes a number out of the set.
+    pub fn take(&mut self, rank: usize)
+        requires { rank < length self.old }
+        ensures size { length self.new ≡ length self.old }
+        ensures takes { (q : ℕ) → holds self.new q ≡ cond (eqb q rank) false (holds self.old q) }
+    {
+        self.tree.take(rank);
+    }
+
+    /// The least number of the set, if it is below the bound.
+    pub fn least_below(&self, bound: usize) -> Option<usize>
+        requires { bound ≤ length self.now }
+        ensures { MatchOption result ((q : ℕ) → q < bound → holds self.now q ≡ false)
+            (λ m. (m < bound) × (holds self.now m ≡ true) × ((q : ℕ) → q < m → holds self.now q ≡ false)) }
+    {
+        match self.tree.least() {
+            None => None,
+            Some(least) => { if least < bound { Some(least) } else { None } }
+        }
+    }
+}

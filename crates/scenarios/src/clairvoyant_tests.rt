@@ -1,0 +1,73 @@
+ghost use Rattle.std.specs.Prelude.{◌≡◌, IfOk};
+
+use clairvoyant::{Clairvoyant, NextUse};
+use journal::{Session, SessionFault};
+use policies::Lru;
+use std::alloc::Global;
+use std::test::Fail;
+use step_record::{Config, Engine, Key, Outcome, Spread};
+use trace_read::Trace;
+
+const CONFIG: Config = Config {
+    capacity: 2,
+    main_percent: 99,
+    spread: Spread::Plain,
+    stripes: 1,
+    journal_limit: 5,
+};
+
+fn opened(alloc: Global, keys: &[Key]) -> Result<Clairvoyant, Fail>
+    ensures { IfOk result (λ c. c.stats.accesses ≡ 0) }
+{
+    let keys = Vec::from_slice(alloc, keys)?;
+    if keys.len() > 16_777_216 {
+        return Err("a trace that is too long".into());
+    }
+    let trace = Trace::new(keys);
+    let uses = NextUse::build(alloc, &trace)?;
+    let cache = Clairvoyant::open(alloc, uses, 2)?;
+    Ok(cache)
+}
+
+#[test]
+fn a_session_takes_the_accesses_of_the_trace_alone(rt: HostRuntime) -> Result<(), Fail> {
+    let cache = opened(rt.alloc(), &[1, 2, 3, 1, 2])?;
+    let mut session = Session::open(rt.alloc(), cache, 5);
+    assert_eq!(rt; session.step(2), Err(SessionFault::NotNow));
+    assert_eq!(rt; session.len(), 0);
+    for (key, outcome) in [
+        (1, Outcome::Kept),
+        (2, Outcome::Kept),
+        (3, Outcome::Rejected(3)),
+        (1, Outcome::Hit),
+        (2, Outcome::Hit),
+    ] {
+        assert_eq!(rt; session.step(key), Ok(outcome));
+    }
+    assert_eq!(rt; session.back(3), Ok(()));
+    assert_eq!(rt; session.engine().stats().hits, 0);
+    assert_eq!(rt; session.forward(3), Ok(()));
+    assert_eq!(rt; session.engine().stats().hits, 2);
+    Ok(())
+}
+
+#[test]
+fn lru_never_hits_more_often(rt: HostRuntime) -> Result<(), Fail> {
+    assert!(rt; CONFIG.check() == Ok(()));
+    for code in 0..1024_u64 {
+        let mut keys = [0; 5];
+        let mut rest = code;
+        for key in keys.iter_mut() {
+            *key = rest % 4;
+            rest /= 4;
+        }
+        let mut cache = opened(rt.alloc(), &keys)?;
+        let mut lru = Lru::open(rt.alloc(), &CONFIG)?;
+        for key in &keys {
+            assert!(rt; cache.apply(key).is_ok());
+            assert!(rt; lru.apply(key).is_ok());
+        }
+        assert!(rt; lru.stats().hits <= cache.stats().hits, "trace {code}");
+    }
+    Ok(())
+}
