@@ -1,10 +1,8 @@
 -- Runs of accesses, and when they fit.
-use Rattle.std.proofs.Common.{◌≡◌, ◌∙◌, ◌<◌, ◌≤◌, ◌+◌, ◌^◌, ℕ, zero, suc, Bool, true, false, List, [], ◌∷◌, ◌++◌, length, refl, ap, sym, arith, cond, Option, Some, None, Result, Ok, Err}
+use Rattle.std.proofs.Common.{◌≡◌, ◌∙◌, ◌<◌, ◌≤◌, ◌+◌, ◌^◌, ℕ, zero, suc, [], ◌∷◌, ◌++◌, length, refl, ap, arith, Some, None, Ok}
 use Rattle.std.proofs.lemmas.Bool.{cond-false, le-ltb, lt-ltb}
 use Rattle.trace_read.specs.Lines.{run_from, run_of}
 use Rattle.trace_read.specs.Reading.{fault_after, keys_or_none}
-use Rattle.trace_read.specs.LineFault.{LineFault}
-use Rattle.trace_read.specs.declared.fault.TraceFault.{TraceFault}
 use Rattle.trace_read.specs.declared.fault.TraceFault.TheVariants.{TooLong}
 
 pub run_none : (s : ℕ) → run_from s 0 ≡ []

@@ -1,14 +1,13 @@
 -- How the reading of a trace goes on by one line.
-use Rattle.std.proofs.Common.{◌≡◌, ◌∙◌, ◌<◌, ◌+◌, ◌==◌, ℕ, Bool, true, false, not, List, [], ◌∷◌, ◌++◌, length, take, refl, ap, sym, arith, cond, Option, Some, None, Result, Ok, Err, inl, inr, append_assoc}
+use Rattle.std.proofs.Common.{◌≡◌, ◌∙◌, ◌<◌, ◌+◌, ◌==◌, ℕ, Bool, true, false, not, List, [], ◌∷◌, ◌++◌, length, take, refl, ap, sym, arith, cond, Option, Some, None, Result, Ok, Err, append_assoc}
 use Rattle.std.proofs.lemmas.List.{append-nil, take_all}
 use Rattle.std.proofs.lemmas.List.Splits.{slice_split_first}
 use Rattle.std.proofs.Common.{drop}
 use Rattle.std.proofs.Common.{suc, length-append}
-use Rattle.std.proofs.lemmas.Bool.{false≢true}
 use Rattle.std.specs.Prelude.{nat_lt}
-use Rattle.std.specs.List.{slice_split, position_or_len, prefix_len, onto_first}
+use Rattle.std.specs.List.{position_or_len, onto_first}
 use Rattle.trace_read.specs.Lines.{line_of}
-use Rattle.trace_read.specs.Reading.{all_keys, at_line, fault_after, first_fault, line_fault, line_keys, lines_of, or_later, most_accesses, IsOfLine, IsRead}
+use Rattle.trace_read.specs.Reading.{all_keys, fault_after, first_fault, line_fault, line_keys, lines_of, or_later, most_accesses, IsOfLine, IsRead}
 use Rattle.trace_read.specs.declared.format.Format.{Format}
 use Rattle.trace_read.specs.LineFault.{LineFault}
 use Rattle.trace_read.specs.LineFault as line

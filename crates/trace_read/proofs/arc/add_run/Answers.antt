@@ -1,5 +1,4 @@
-use Rattle.std.proofs.Common.{arith, sym, ap, ◌∙◌, ◌++◌, ◌≡◌, length, inr, rules}
-use Rattle.std.proofs.lemmas.Grind.{common_steps}
+use Rattle.std.proofs.Common.{arith, sym, ap, ◌∙◌, ◌++◌, length, inr}
 use Rattle.trace_read.proofs.Runs.{length_run, run_fits, run_passes}
 use Rattle.trace_read.specs.Lines.{run_from}
 use Rattle.std.proofs.Common.{length-append}

@@ -1,4 +1,4 @@
-use Rattle.std.proofs.Common.{arith, rules, sym, ◌∙◌, ap, refl, ◌≡◌, List, ℕ}
+use Rattle.std.proofs.Common.{sym, ◌∙◌, ap, ◌≡◌}
 use Rattle.trace_read.proofs.Trims.{front_none, front_stop}
 use Rattle.trace_read.specs.Lines.{trimmed_text, without_back, without_front}
 use Rattle.trace_read.proofs.blanks.trimmed.Goals as goal

@@ -1,5 +1,4 @@
-use Rattle.std.proofs.Common.{arith, rules, sym, ◌∙◌, ap, take, refl}
-use Rattle.trace_read.specs.Lines.{without_back}
+use Rattle.std.proofs.Common.{arith, sym, ◌∙◌}
 use Rattle.trace_read.proofs.Trims.{back_none, back_step, back_stop}
 use Rattle.trace_read.proofs.blanks.trimmed_back.Goals as goal
 use Rattle.trace_read.proofs.blanks.trimmed_back.Goals.{else-back-test, then-back-test+then-not-is_blank_byte}

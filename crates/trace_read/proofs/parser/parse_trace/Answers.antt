@@ -1,8 +1,7 @@
-use Rattle.std.proofs.Common.{[], ◌≡◌, ◌∙◌, ◌<◌, arith, rules, sym, ap, subst, refl, take, drop, length, inl, inr, ◌+◌, ◌-◌, Result, Ok, Err, length-drop}
+use Rattle.std.proofs.Common.{[], ◌≡◌, ◌∙◌, ◌<◌, arith, sym, subst, take, drop, length, inl, inr, ◌+◌, ◌-◌, Result, Ok, Err, length-drop}
 use Rattle.std.specs.Prelude.{IfErr, IsErrAnd}
 use Rattle.std.proofs.lemmas.Grind.{common_steps}
 use Rattle.trace_read.proofs.Steps.{some_line, one_line, next_line, refused_here, goes_on, ends, of_line}
-use Rattle.trace_read.specs.Reading.{fault_in, IsOfLine}
 use Rattle.trace_read.proofs.parser.parse_trace.Goals as goal
 
 pub returns-then-end-rest-clause-ok : goal.returns-then-end-rest-clause-ok
