@@ -1,6 +1,6 @@
 use super::command::command;
 use super::files::{FileFault, Files};
-use std::alloc::Global;
+use std::alloc::{AllocError, Global};
 use std::io::{Error, ErrorKind, Read, Write};
 use std::sync::Wait;
 use std::test::Fail;
@@ -44,19 +44,42 @@ struct Run {
     fault: Vec<u8>,
 }
 
-fn called<T: Threads + Wait>(rt: &T, alloc: Global, words: &[&str], input: &str) -> Run {
-    let mut out = Vec::new(alloc);
-    let mut fault = Vec::new(alloc);
-    let status = command(
-        rt,
-        alloc,
-        words,
-        &mut input.as_bytes(),
-        &mut out,
-        &mut fault,
-        &Nowhere,
-    );
-    Run { status, out, fault }
+// Room for all that a call writes, so that no output asks for memory.
+const ROOM: usize = 4096;
+
+impl Run {
+    /// The run, unless memory was refused: the program says so then, or has no memory to say what
+    /// else was wrong, and wrote no report.
+    fn told(self) -> Result<Run, AllocError> {
+        let refused = self.fault.is_empty()
+            || self.fault.as_slice() == b"fault: OutOfMemory\n".as_slice();
+        if self.status == 1 && self.out.is_empty() && refused {
+            return Err(AllocError);
+        }
+        Ok(self)
+    }
+}
+
+// The program over an input and memory.
+fn called_on<T: Threads + Wait, R: Read>(
+    rt: &T,
+    alloc: Global,
+    words: &[&str],
+    input: &mut R,
+) -> Result<Run, AllocError> {
+    let mut out = Vec::with_capacity(alloc, ROOM)?;
+    let mut fault = Vec::with_capacity(alloc, ROOM)?;
+    let status = command(rt, alloc, words, input, &mut out, &mut fault, &Nowhere);
+    Run { status, out, fault }.told()
+}
+
+fn called<T: Threads + Wait>(
+    rt: &T,
+    alloc: Global,
+    words: &[&str],
+    input: &str,
+) -> Result<Run, AllocError> {
+    called_on(rt, alloc, words, &mut input.as_bytes())
 }
 
 #[test]
@@ -94,7 +117,7 @@ fn a_trace_becomes_a_report_for_each_policy(rt: HostRuntime) -> Result<(), Fail>
         ),
     ];
     for (words, input, rows) in table {
-        let run = called(&rt, rt.alloc(), words, input);
+        let run = called(&rt, rt.alloc(), words, input)?;
         let text = format!(in rt.alloc(); "{HEADER}{rows}")?;
         assert_eq!(rt; run.out.as_slice(), text.as_bytes(), "of {input:?}");
         assert_eq!(rt; run.status, 0);
@@ -104,7 +127,7 @@ fn a_trace_becomes_a_report_for_each_policy(rt: HostRuntime) -> Result<(), Fail>
 }
 
 #[test]
-fn a_faulty_trace_is_told_in_one_line(rt: HostRuntime) {
+fn a_faulty_trace_is_told_in_one_line(rt: HostRuntime) -> Result<(), Fail> {
     let lirs: &[&str] = &["run", "--capacity", "3", "lru"];
     let arc: &[&str] = &["run", "--capacity", "3", "--format", "arc", "lru"];
     let table = [
@@ -116,11 +139,12 @@ fn a_faulty_trace_is_told_in_one_line(rt: HostRuntime) {
         (arc, "0 16777217", "fault: TooLong line 1\n"),
     ];
     for (words, input, line) in table {
-        let run = called(&rt, rt.alloc(), words, input);
+        let run = called(&rt, rt.alloc(), words, input)?;
         assert_eq!(rt; run.fault.as_slice(), line.as_bytes(), "of {input:?}");
         assert_eq!(rt; run.status, 1);
         assert!(rt; run.out.is_empty());
     }
+    Ok(())
 }
 
 #[test]
@@ -129,12 +153,13 @@ fn over_sixty_four_policies_are_too_many(rt: HostRuntime) -> Result<(), Fail> {
     for _ in 0..64 {
         words.push("lru")?;
     }
-    assert_eq!(rt; called(&rt, rt.alloc(), words.as_slice(), "1\n").status, 0);
+    let run = called(&rt, rt.alloc(), words.as_slice(), "1\n")?;
+    assert_eq!(rt; run.status, 0);
     words.push("lru")?;
-    let run = called(&rt, rt.alloc(), words.as_slice(), "1\n");
+    let run = called(&rt, rt.alloc(), words.as_slice(), "1\n")?;
     assert_eq!(rt; run.fault.as_slice(), b"fault: Actors\n".as_slice());
     assert_eq!(rt; run.status, 1);
-    let faulty = called(&rt, rt.alloc(), words.as_slice(), "x\n");
+    let faulty = called(&rt, rt.alloc(), words.as_slice(), "x\n")?;
     assert_eq!(rt;
         faulty.fault.as_slice(),
         b"fault: BadNumber line 1\n".as_slice()
@@ -143,7 +168,7 @@ fn over_sixty_four_policies_are_too_many(rt: HostRuntime) -> Result<(), Fail> {
 }
 
 #[test]
-fn refused_words_and_help(rt: HostRuntime) {
+fn refused_words_and_help(rt: HostRuntime) -> Result<(), Fail> {
     let table: [&[&str]; 9] = [
         &[],
         &["walk"],
@@ -156,59 +181,63 @@ fn refused_words_and_help(rt: HostRuntime) {
         &["run", "--capacity", "3", "--batch", "5", "lru"],
     ];
     for words in table {
-        let run = called(&rt, rt.alloc(), words, "1\n");
+        let run = called(&rt, rt.alloc(), words, "1\n")?;
         assert_eq!(rt; run.status, 2);
         assert!(rt; run.out.is_empty());
         assert!(rt; !run.fault.is_empty());
     }
-    let help = called(&rt, rt.alloc(), &["--help"], "");
+    let help = called(&rt, rt.alloc(), &["--help"], "")?;
     assert_eq!(rt; help.status, 0);
     assert!(rt; help.fault.is_empty());
     assert!(rt; !help.out.is_empty());
+    Ok(())
+}
+
+const WORDS: [&str; 4] = ["run", "--capacity", "3", "lru"];
+
+#[test]
+fn a_broken_input_is_told(rt: HostRuntime) -> Result<(), Fail> {
+    let run = called_on(&rt, rt.alloc(), &WORDS, &mut Broken)?;
+    assert_eq!(rt; run.status, 1);
+    assert!(rt; run.out.is_empty());
+    assert_eq!(rt; run.fault.as_slice(), b"fault: Read\n".as_slice());
+    Ok(())
 }
 
 #[test]
-fn a_broken_end_is_told(rt: HostRuntime) {
-    let alloc = rt.alloc();
-    let words = ["run", "--capacity", "3", "lru"];
-    let mut out = Vec::new(alloc);
-    let mut fault = Vec::new(alloc);
-    let status = command(
-        &rt,
-        alloc,
-        &words,
-        &mut Broken,
-        &mut out,
-        &mut fault,
-        &Nowhere,
-    );
-    assert_eq!(rt; status, 1);
-    assert!(rt; out.is_empty());
-    assert_eq!(rt; fault.as_slice(), b"fault: Read\n".as_slice());
-
-    let mut unwritten = Vec::new(alloc);
+fn a_broken_output_is_told(rt: HostRuntime) -> Result<(), Fail> {
+    let mut fault = Vec::with_capacity(rt.alloc(), ROOM)?;
     let mut input = b"1\n".as_slice();
     let status = command(
         &rt,
-        alloc,
-        &words,
+        rt.alloc(),
+        &WORDS,
         &mut input,
         &mut Broken,
-        &mut unwritten,
+        &mut fault,
         &Nowhere,
     );
-    assert_eq!(rt; status, 1);
-    assert_eq!(rt; unwritten.as_slice(), b"fault: Write\n".as_slice());
+    let out = Vec::new(rt.alloc());
+    let run = Run { status, out, fault }.told()?;
+    assert_eq!(rt; run.status, 1);
+    assert_eq!(rt; run.fault.as_slice(), b"fault: Write\n".as_slice());
+    Ok(())
+}
 
+#[test]
+fn a_broken_fault_output_leaves_the_status(rt: HostRuntime) -> Result<(), Fail> {
+    let mut out = Vec::with_capacity(rt.alloc(), ROOM)?;
     let mut faulty = b"x\n".as_slice();
     let status = command(
         &rt,
-        alloc,
-        &words,
+        rt.alloc(),
+        &WORDS,
         &mut faulty,
         &mut out,
         &mut Broken,
         &Nowhere,
     );
     assert_eq!(rt; status, 1);
+    assert!(rt; out.is_empty());
+    Ok(())
 }

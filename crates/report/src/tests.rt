@@ -65,7 +65,7 @@ impl Write for Pipe {
 
 #[test]
 fn the_text_of_reports(rt: HostRuntime) -> std::result::Result<(), Fail> {
-    let mut out = Vec::new(rt.alloc());
+    let mut out = Vec::with_capacity(rt.alloc(), TEXT.len())?;
     write_reports(rt.alloc(), &[COUNTED, EMPTY, LARGE], &mut out)?;
     assert_eq!(rt; out.as_slice(), TEXT.as_bytes());
     assert_eq!(rt; COUNTED.rate(), 1666);
@@ -76,7 +76,7 @@ fn the_text_of_reports(rt: HostRuntime) -> std::result::Result<(), Fail> {
 #[test]
 fn a_writer_of_single_bytes_gets_the_same_text(rt: HostRuntime) -> std::result::Result<(), Fail> {
     let mut pipe = Pipe {
-        taken: Vec::new(rt.alloc()),
+        taken: Vec::with_capacity(rt.alloc(), TEXT.len())?,
         most: TEXT.len(),
     };
     write_reports(rt.alloc(), &[COUNTED, EMPTY, LARGE], &mut pipe)?;
@@ -85,15 +85,16 @@ fn a_writer_of_single_bytes_gets_the_same_text(rt: HostRuntime) -> std::result::
 }
 
 #[test]
-fn a_writer_that_gives_up_in_a_row_is_told(rt: HostRuntime) {
+fn a_writer_that_gives_up_in_a_row_is_told(rt: HostRuntime) -> std::result::Result<(), Fail> {
     for most in [0, 63, 70] {
         let mut pipe = Pipe {
-            taken: Vec::new(rt.alloc()),
+            taken: Vec::with_capacity(rt.alloc(), most)?,
             most,
         };
         let told = write_reports(rt.alloc(), &[COUNTED], &mut pipe);
         assert_eq!(rt; told, Err(WriteFault::Write), "after {most} bytes");
     }
+    Ok(())
 }
 
 #[test]

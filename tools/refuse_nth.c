@@ -1,0 +1,34 @@
+// Refuses one allocation of a built program or test that this is preloaded into: the one whose
+// number REFUSE_NTH says, counted over malloc and realloc from 1. It tells so on standard error.
+#include <stddef.h>
+#include <stdlib.h>
+#include <unistd.h>
+
+extern void *__libc_malloc(size_t size);
+extern void *__libc_realloc(void *old, size_t size);
+
+static const char TOLD[] = "an allocation was refused\n";
+
+// How many allocations are left up to the refused one; 0 once it is past.
+static long left = -1;
+
+static int is_refused(void)
+{
+    if (left < 0) {
+        const char *nth = getenv("REFUSE_NTH");
+        left = nth ? atol(nth) : 0;
+    }
+    if (left == 0 || --left > 0)
+        return 0;
+    return write(2, TOLD, sizeof TOLD - 1) >= 0;
+}
+
+void *malloc(size_t size)
+{
+    return is_refused() ? NULL : __libc_malloc(size);
+}
+
+void *realloc(void *old, size_t size)
+{
+    return is_refused() ? NULL : __libc_realloc(old, size);
+}
