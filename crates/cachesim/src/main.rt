@@ -14,7 +14,7 @@ mod run;
 use command::command;
 use files::{FileFault, Files};
 use std::alloc::{AllocError, Global};
-use std::io::Write;
+use std::io::{ErrorKind, Write};
 use std::process::ExitCode;
 use std::{env, io};
 
@@ -27,7 +27,8 @@ impl Files for NoFiles {
     }
 }
 
-// The words after the program's name; an error where one of them is no text.
+// The words after the program's name. `InvalidData` where one of them is no text; the other error
+// is want of memory.
 fn words_of(rt: &HostRuntime) -> io::Result<Vec<String>> {
     let words = env::args(rt)?.skip(1).collect(rt.alloc())?;
     Ok(words)
@@ -41,26 +42,36 @@ fn texts(alloc: Global, words: &[String]) -> Result<Vec<&str>, AllocError> {
     Ok(texts)
 }
 
-fn main(rt: HostRuntime) -> io::Result<ExitCode> {
+// Tells why the words are not at hand, and answers the status.
+fn refused<X: Write>(kind: ErrorKind, fault_out: &mut X) -> ExitCode {
+    if kind == ErrorKind::InvalidData {
+        let _ = streams::write_all(fault_out, b"error: a word of the call is no UTF-8 text\n");
+        return ExitCode::from(2);
+    }
+    let _ = streams::write_all(fault_out, b"fault: OutOfMemory\n");
+    ExitCode::from(1)
+}
+
+fn main(rt: HostRuntime) -> ExitCode {
     let alloc = rt.alloc();
-    let mut input = rt.stdin();
-    let mut out = rt.stdout();
     let mut fault_out = rt.stderr();
-    let Ok(words) = words_of(&rt) else {
-        fault_out.write_all(b"error: a word of the call is no UTF-8 text\n")?;
-        return Ok(ExitCode::from(2));
+    let words = match words_of(&rt) {
+        Ok(words) => words,
+        Err(error) => return refused(error.kind(), &mut fault_out),
     };
-    let texts = texts(alloc, words.as_slice())?;
+    let Ok(texts) = texts(alloc, words.as_slice()) else {
+        return refused(ErrorKind::OutOfMemory, &mut fault_out);
+    };
     let status = command(
         &rt,
         alloc,
         texts.as_slice(),
-        &mut input,
-        &mut out,
+        &mut rt.stdin(),
+        &mut rt.stdout(),
         &mut fault_out,
         &NoFiles,
     );
-    Ok(ExitCode::from(status))
+    ExitCode::from(status)
 }
 
 #[cfg(test)]
