@@ -1,6 +1,5 @@
 -- A record that fits is of the last access.
-use Rattle.std.proofs.Common.{◌≡◌, ℕ, suc, ◌-◌, ◌≤◌, List, get_or, ap, ◌∙◌, sym, refl, subst, arith}
-use Rattle.step_record.specs.declared.outcome.Outcome.{Outcome}
+use Rattle.std.proofs.Common.{◌≡◌, ℕ, suc, ◌-◌, ◌≤◌, List, get_or, ap, ◌∙◌, sym, subst, arith}
 use Rattle.step_record.specs.declared.stats.Stats.{Stats}
 use Rattle.clairvoyant.specs.declared.use_record.UseRecord.{UseRecord}
 use Rattle.clairvoyant.specs.Belady.{residents, outcome, outcomes}

@@ -1,7 +1,6 @@
 -- What the first accesses of a trace give, one access further.
-use Rattle.std.proofs.Common.{◌≡◌, ℕ, suc, zero, ◌+◌, ◌-◌, ◌<◌, ◌≤◌, Bool, true, false, cond, ◌&&◌, eqb, nat_lt, inl, inr, Some, None, List, [], ◌∷◌, ◌++◌, length, count_by, get_or, ap, ◌∙◌, sym, refl, subst, arith, add-one, length-append}
+use Rattle.std.proofs.Common.{◌≡◌, ℕ, suc, zero, ◌+◌, ◌-◌, ◌<◌, ◌≤◌, Bool, true, false, cond, ◌&&◌, eqb, nat_lt, inl, inr, Some, None, List, [], ◌∷◌, length, count_by, get_or, ap, ◌∙◌, sym, refl, subst, arith, add-one, length-append}
 use Rattle.std.proofs.lemmas.Bool.{cases_Bool, eq-eqb, ne_eqb, lt-ltb, le-ltb}
-use Rattle.std.proofs.lemmas.List.Sums.{sum_by-append, count_by-le-length}
 use Rattle.step_record.specs.declared.outcome.Outcome.{Outcome}
 use Rattle.step_record.specs.declared.stats.Stats.{Stats}
 use Rattle.step_record.specs.Keys.{has, without}
@@ -10,16 +9,13 @@ use Rattle.clairvoyant.specs.Belady.{farthest, served, answer, gone, residents, 
 use Rattle.step_record.specs.Stats.{is_hit, is_miss, is_eviction, is_rejection, one, counted, uncounted, IsCounted, IsSmall, stats_of}
 use Rattle.clairvoyant.specs.Seen.{IsReached, use_act, is_now, moved_on}
 use Rattle.clairvoyant.specs.Keeping.{shown}
-use Rattle.step_record.proofs.Counting.{stats-snoc}
+use Rattle.step_record.proofs.Counting.{stats-snoc, stats-small}
 use Rattle.clairvoyant.proofs.Keys.{has-put, length-put, length-without, ascending-put}
 use Rattle.clairvoyant.proofs.Belady.{residents-ascending, farthest-among, soon}
 
 outcomes-length : (c : ℕ) (t : List ℕ) (i : ℕ) → length (outcomes c t i) ≡ i
 outcomes-length c t zero = refl
 outcomes-length c t (suc i) = length-append (outcomes c t i) (outcome c t i ∷ []) ∙ (let n : length (outcomes c t i) ≡ i = outcomes-length c t i in omega arith)
-
-count-snoc : (p : Outcome → Bool) (os : List Outcome) (o : Outcome) → count_by p (os ++ o ∷ []) ≡ count_by p os + one (p o)
-count-snoc p os o = sum_by-append (λ x. cond (p x) 1 0) os (o ∷ []) ∙ omega arith
 
 -- the counts after one access more
 pub stats-next : (c : ℕ) (t : List ℕ) (s : Stats) → s ≡ stats_of (outcomes c t s.accesses) → counted (outcome c t s.accesses) s ≡ stats_of (outcomes c t (s.accesses + 1))
@@ -34,20 +30,11 @@ reached-next c t s lt r = record {
   room = r.room;
 }
 
-small : (p : Outcome → Bool) (c : ℕ) (t : List ℕ) (i : ℕ) → i ≤ 4294967296 → count_by p (outcomes c t i) ≤ 4294967296
-small p c t i h = omega (arith, count_by-le-length p (outcomes c t i), outcomes-length c t i)
-
 pub reached-small : (c : ℕ) (t : List ℕ) (s : Stats) → IsReached (shown c t s) → IsSmall s
 reached-small c t s r =
-    let few : s.accesses ≤ 4294967296 = let a = r.within in let b = r.short in omega (arith, a, b) in
+    let few : length (outcomes c t s.accesses) ≤ 4294967296 = let a = r.within in let b = r.short in omega (arith, a, b, outcomes-length c t s.accesses) in
     let e : s ≡ stats_of (outcomes c t s.accesses) = ap (λ d. d.stats) r.gives in
-    record {
-      accesses = few;
-      hits = let f : s.hits ≡ count_by is_hit (outcomes c t s.accesses) = ap (λ x. x.hits) e in omega (arith, small is_hit c t s.accesses few);
-      misses = let f : s.misses ≡ count_by is_miss (outcomes c t s.accesses) = ap (λ x. x.misses) e in omega (arith, small is_miss c t s.accesses few);
-      evictions = let f : s.evictions ≡ count_by is_eviction (outcomes c t s.accesses) = ap (λ x. x.evictions) e in omega (arith, small is_eviction c t s.accesses few);
-      rejections = let f : s.rejections ≡ count_by is_rejection (outcomes c t s.accesses) = ap (λ x. x.rejections) e in omega (arith, small is_rejection c t s.accesses few);
-    }
+    let P : Stats → Type 0 = λ x. IsSmall x in subst P (sym e) (stats-small (outcomes c t s.accesses) few)
 
 -- ---- residents are the misses less the evictions
 
@@ -75,7 +62,10 @@ held-count c t zero = refl
 held-count c t (suc i) =
     let past : length (residents c t i) + count_by is_eviction (outcomes c t i) ≡ count_by is_miss (outcomes c t i) = held-count c t i in
     let now : length (residents c t (suc i)) + one (is_eviction (outcome c t i)) ≡ length (residents c t i) + one (is_miss (outcome c t i)) = served-count c t i (get_or t i 0) (residents c t i) (residents-ascending c t i) in
-    rw (count-snoc is_eviction (outcomes c t i) (outcome c t i), count-snoc is_miss (outcomes c t i) (outcome c t i)) (omega (arith, past, now))
+    let counts : stats_of (outcomes c t (suc i)) ≡ counted (outcome c t i) (stats_of (outcomes c t i)) = stats-snoc (outcomes c t i) (outcome c t i) in
+    let evictions : count_by is_eviction (outcomes c t (suc i)) ≡ count_by is_eviction (outcomes c t i) + one (is_eviction (outcome c t i)) = ap (λ x. x.evictions) counts in
+    let misses : count_by is_miss (outcomes c t (suc i)) ≡ count_by is_miss (outcomes c t i) + one (is_miss (outcome c t i)) = ap (λ x. x.misses) counts in
+    omega (arith, past, now, evictions, misses)
 
 pub reached-held : (c : ℕ) (t : List ℕ) (s : Stats) → IsReached (shown c t s) → length (residents c t s.accesses) + s.evictions ≡ s.misses
 reached-held c t s r =

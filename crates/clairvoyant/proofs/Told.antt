@@ -1,19 +1,19 @@
 -- The outcome of the access that a record is of follows from what the record leaves.
-use Rattle.std.proofs.Common.{◌≡◌, ◌≢◌, ℕ, suc, zero, ◌+◌, ◌-◌, ◌<◌, ◌≤◌, Bool, true, false, cond, not, eqb, nat_lt, ◌⊎◌, inl, inr, Option, Some, None, List, [], ◌∷◌, length, get_or, ap, ◌∙◌, sym, refl, subst, arith}
-use Rattle.std.proofs.lemmas.Bool.{cases_Bool, eqb-true, eqb-false, eq-eqb, ne_eqb, ltb-false}
+use Rattle.std.proofs.Common.{◌≡◌, ℕ, ◌+◌, ◌-◌, ◌≤◌, Bool, true, false, cond, eqb, nat_lt, inl, inr, Option, Some, None, List, length, ap, ◌∙◌, sym, refl, subst, arith}
+use Rattle.std.proofs.lemmas.Bool.{cases_Bool, eqb-true, eqb-false, ltb-false}
 use Rattle.step_record.specs.declared.outcome.Outcome.{Outcome}
 use Rattle.step_record.specs.declared.outcome.Outcome.TheVariants.{Hit, Kept, Evicted, Rejected}
 use Rattle.step_record.specs.declared.stats.Stats.{Stats}
 use Rattle.clairvoyant.specs.declared.use_record.Gone.{Gone}
 use Rattle.step_record.specs.Keys.{has, without}
 use Rattle.clairvoyant.specs.Keys.{put}
-use Rattle.clairvoyant.specs.Belady.{farthest, served, answer, gone, residents, outcome}
-use Rattle.step_record.specs.Stats.{is_hit, is_miss, is_eviction, is_rejection, one, counted, uncounted, IsCounted}
+use Rattle.clairvoyant.specs.Belady.{farthest, served, answer, gone}
+use Rattle.step_record.specs.Stats.{is_hit, is_eviction, is_rejection, one, counted, uncounted, IsCounted}
 use Rattle.clairvoyant.specs.Seen.{outcome_from, undone_by}
 use Rattle.clairvoyant.proofs.Keys.{has-put, has-without, without-put, without-swap}
 use Rattle.clairvoyant.proofs.Steps.{same}
 use Rattle.clairvoyant.proofs.Belady.{farthest-among}
-use Rattle.clairvoyant.proofs.Serving.{served-full, answer-hit, answer-kept, answer-full}
+use Rattle.clairvoyant.proofs.Serving.{served-full, answer-hit}
 
 one-one : (a b : Bool) → one a ≡ one b → a ≡ b
 one-one true true h = refl

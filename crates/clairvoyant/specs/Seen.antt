@@ -1,7 +1,7 @@
 -- What a cache that knows the trace shows.
-use Rattle.std.specs.Prelude.{◌≡◌, ℕ, suc, ◌+◌, ◌-◌, ◌*◌, ◌≤◌, nat_lt, Bool, true, false, cond, eqb, ◌&&◌, Option, Some, None, List, length, count_by, slice_index}
+use Rattle.std.specs.Prelude.{◌≡◌, ℕ, suc, ◌-◌, ◌*◌, ◌≤◌, nat_lt, Bool, cond, eqb, ◌&&◌, Option, Some, None, List, length, slice_index}
 use Rattle.step_record.specs.declared.outcome.Outcome.{Outcome}
-use Rattle.step_record.specs.declared.outcome.Outcome.TheVariants.{Hit, Kept, Evicted, Rejected}
+use Rattle.step_record.specs.declared.outcome.Outcome.TheVariants.{Hit, Kept}
 use Rattle.step_record.specs.declared.stats.Stats.{Stats}
 use Rattle.step_record.specs.Stats.{stats_of, counted, uncounted, IsCounted}
 use Rattle.clairvoyant.specs.declared.use_record.UseRecord.{UseRecord}
@@ -9,7 +9,7 @@ use Rattle.clairvoyant.specs.declared.use_record.Gone.{Gone}
 use Rattle.step_record.specs.Keys.{without}
 use Rattle.clairvoyant.specs.Keys.{put}
 use Rattle.clairvoyant.specs.Uses.{rank}
-use Rattle.clairvoyant.specs.Belady.{served, answer, residents, outcome, outcomes, gone}
+use Rattle.clairvoyant.specs.Belady.{served, answer, residents, outcomes, gone}
 
 pub record Seen : Type 0 where
   pub trace : List ℕ

@@ -95,7 +95,7 @@ impl NextUse {
     }
 
     /// The rank of the key that is accessed at a place, after that access.
-    pub fn rank(&self, place: usize) -> u32
+    pub(crate) fn rank(&self, place: usize) -> u32
         requires { place < length self.now }
         ensures rank { result ≡ rank self.now (suc place) (slice_index self.now place) }
         ensures within { result < 2 * length self.now }
@@ -104,7 +104,7 @@ impl NextUse {
     }
 
     /// The key that a rank is of.
-    pub fn key_at(&self, rank: usize) -> Key
+    pub(crate) fn key_at(&self, rank: usize) -> Key
         requires { rank < 2 * length self.now }
         ensures { result ≡ key_at self.now rank }
     {

@@ -1,23 +1,28 @@
+ghost use Rattle.std.specs.Prelude.{◌≤◌};
+
 use super::*;
 use std::alloc::{AllocError, Global};
+use std::process::Abort;
 use std::test::Fail;
 use step_record::{Engine, Key, Outcome, Stats, StepFault};
 use trace_read::Trace;
 
-fn opened(alloc: Global, keys: &[Key]) -> Result<Clairvoyant, Fail> {
+fn opened(alloc: Global, keys: &[Key], capacity: u32) -> Result<Clairvoyant, Fail>
+    requires { (1 ≤ capacity) × (capacity ≤ 1048576) }
+{
     let keys = Vec::from_slice(alloc, keys)?;
     if keys.len() > 16_777_216 {
         return Err("a trace that is too long".into());
     }
     let trace = Trace::new(keys);
     let uses = NextUse::build(alloc, &trace)?;
-    let cache = Clairvoyant::open(alloc, uses, 2)?;
+    let cache = Clairvoyant::open(alloc, uses, capacity)?;
     Ok(cache)
 }
 
 #[test]
 fn the_key_whose_next_use_is_farthest_leaves(rt: HostRuntime) -> Result<(), Fail> {
-    let mut cache = opened(rt.alloc(), &[1, 2, 3, 1, 2])?;
+    let mut cache = opened(rt.alloc(), &[1, 2, 3, 1, 2], 2)?;
     for (key, outcome) in [
         (1, Outcome::Kept),
         (2, Outcome::Kept),
@@ -44,7 +49,7 @@ fn the_key_whose_next_use_is_farthest_leaves(rt: HostRuntime) -> Result<(), Fail
 
 #[test]
 fn of_keys_never_used_again_the_one_accessed_first_leaves(rt: HostRuntime) -> Result<(), Fail> {
-    let mut cache = opened(rt.alloc(), &[1, 2, 3, 4])?;
+    let mut cache = opened(rt.alloc(), &[1, 2, 3, 4], 2)?;
     assert_eq!(rt; cache.apply(&2).err(), Some(StepFault::NotNow));
     assert_eq!(rt; cache.standing(), 0);
     for (key, outcome) in [
@@ -75,7 +80,7 @@ fn each_next_use_is_told(rt: HostRuntime) -> Result<(), Fail> {
 
 #[test]
 fn an_undone_access_is_made_again(rt: HostRuntime) -> Result<(), Fail> {
-    let mut cache = opened(rt.alloc(), &[1, 2, 3, 4])?;
+    let mut cache = opened(rt.alloc(), &[1, 2, 3, 4], 2)?;
     for key in [1, 2] {
         assert!(rt; cache.apply(&key).is_ok());
     }
@@ -127,11 +132,12 @@ fn scanned(
     keys: &[Key],
     place: usize,
     key: Key,
+    capacity: usize,
 ) -> Result<Outcome, AllocError> {
     if residents.iter().any(|resident| *resident == key) {
         return Ok(Outcome::Hit);
     }
-    if residents.len() < 2 {
+    if residents.len() < capacity {
         residents.push(key)?;
         return Ok(Outcome::Kept);
     }
@@ -152,33 +158,96 @@ fn scanned(
     Ok(Outcome::Evicted(leaving))
 }
 
+fn next(seed: u64) -> u64 {
+    seed.wrapping_mul(6364136223846793005)
+        .wrapping_add(1442695040888963407)
+}
+
+/// A trace of 14 accesses to 8 keys.
+fn small_trace(seed: u64) -> [Key; 14] {
+    let mut keys = [0; 14];
+    let mut drawn = seed;
+    for key in keys.iter_mut() {
+        drawn = next(drawn);
+        *key = (drawn >> 33) % 8;
+    }
+    keys
+}
+
+/// Serves a trace by the cache and by scans of plain lists, and compares each outcome and the
+/// residents.
+fn assert_scanned(rt: &impl Abort, alloc: Global, keys: &[Key], capacity: u32) -> Result<(), Fail>
+    requires { (1 ≤ capacity) × (capacity ≤ 1048576) }
+{
+    let mut cache = opened(alloc, keys, capacity)?;
+    let mut residents = Vec::new(alloc);
+    for (place, key) in keys.iter().enumerate() {
+        let expected = scanned(&mut residents, keys, place, *key, capacity as usize)?;
+        let step = cache.apply(key);
+        assert_eq!(rt;
+            step.ok().map(|step| step.0),
+            Some(expected),
+            "{keys:?} at capacity {capacity}, place {place}"
+        );
+        let held = cache.residents(alloc)?;
+        residents.sort_unstable();
+        assert_eq!(rt;
+            held.as_slice(),
+            residents.as_slice(),
+            "{keys:?} at capacity {capacity}, place {place}"
+        );
+    }
+    Ok(())
+}
+
 #[test]
 fn small_traces_against_a_plain_scan(rt: HostRuntime) -> Result<(), Fail> {
-    for code in 0..1024_u64 {
-        let mut keys = [0; 5];
-        let mut rest = code;
-        for key in keys.iter_mut() {
-            *key = rest % 4;
-            rest /= 4;
+    for seed in 0..300_u64 {
+        let keys = small_trace(seed);
+        for capacity in 1..6_u32 {
+            assert_scanned(&rt, rt.alloc(), &keys, capacity)?;
         }
-        let mut cache = opened(rt.alloc(), &keys)?;
-        let mut residents = Vec::new(rt.alloc());
-        for (place, key) in keys.iter().enumerate() {
-            let expected = scanned(&mut residents, &keys, place, *key)?;
-            let step = cache.apply(key);
-            assert_eq!(rt;
-                step.ok().map(|step| step.0),
-                Some(expected),
-                "trace {code}, place {place}"
-            );
-            let held = cache.residents(rt.alloc())?;
-            residents.sort_unstable();
-            assert_eq!(rt;
-                held.as_slice(),
-                residents.as_slice(),
-                "trace {code}, place {place}"
-            );
+    }
+    Ok(())
+}
+
+/// A cache of two keys, built and opened once more where memory is refused.
+fn opened_at_last(rt: &impl Abort, alloc: Global, trace: &Trace) -> Clairvoyant {
+    let uses = match NextUse::build(alloc, trace) {
+        Ok(uses) => uses,
+        Err(_) => NextUse::build(alloc, trace).expect(rt, "memory the second time"),
+    };
+    match Clairvoyant::open(alloc, uses, 2) {
+        Ok(cache) => cache,
+        Err(_) => {
+            let again = NextUse::build(alloc, trace).expect(rt, "memory for the uses again");
+            Clairvoyant::open(alloc, again, 2).expect(rt, "memory the second time")
         }
+    }
+}
+
+#[test]
+fn a_refusal_of_memory_changes_no_answer(rt: HostRuntime) -> Result<(), Fail> {
+    let keys = Vec::from_slice(rt.alloc(), &[1, 2, 3, 1, 2])?;
+    assert!(rt; keys.len() == 5);
+    let trace = Trace::new(keys);
+    let mut cache = opened_at_last(&rt, rt.alloc(), &trace);
+    for (key, outcome, after) in [
+        (1, Outcome::Kept, &[1][..]),
+        (2, Outcome::Kept, &[1, 2][..]),
+        (3, Outcome::Rejected(3), &[1, 2][..]),
+        (1, Outcome::Hit, &[1, 2][..]),
+        (2, Outcome::Hit, &[1, 2][..]),
+    ] {
+        let step = cache.apply(&key);
+        assert_eq!(rt; step.ok().map(|step| step.0), Some(outcome));
+        let residents = match cache.residents(rt.alloc()) {
+            Ok(residents) => residents,
+            Err(_) => cache
+                .residents(rt.alloc())
+                .expect(&rt, "memory the second time"),
+        };
+        assert_eq!(rt; residents.as_slice(), after);
     }
     Ok(())
 }

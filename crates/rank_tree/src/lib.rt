@@ -12,3 +12,6 @@ mod ranks;
 mod single;
 
 pub use ranks::Ranks;
+
+#[cfg(test)]
+mod tests;

@@ -1,4 +1,4 @@
-ghost use Rattle.std.specs.Prelude.{◌≡◌, IfOk};
+ghost use Rattle.std.specs.Prelude.{◌≡◌, ◌≤◌, IfOk};
 
 use clairvoyant::{Clairvoyant, NextUse};
 use journal::{Session, SessionFault};
@@ -16,7 +16,8 @@ const CONFIG: Config = Config {
     journal_limit: 5,
 };
 
-fn opened(alloc: Global, keys: &[Key]) -> Result<Clairvoyant, Fail>
+fn opened(alloc: Global, keys: &[Key], capacity: u32) -> Result<Clairvoyant, Fail>
+    requires { (1 ≤ capacity) × (capacity ≤ 1048576) }
     ensures { IfOk result (λ c. c.stats.accesses ≡ 0) }
 {
     let keys = Vec::from_slice(alloc, keys)?;
@@ -25,13 +26,13 @@ fn opened(alloc: Global, keys: &[Key]) -> Result<Clairvoyant, Fail>
     }
     let trace = Trace::new(keys);
     let uses = NextUse::build(alloc, &trace)?;
-    let cache = Clairvoyant::open(alloc, uses, 2)?;
+    let cache = Clairvoyant::open(alloc, uses, capacity)?;
     Ok(cache)
 }
 
 #[test]
 fn a_session_takes_the_accesses_of_the_trace_alone(rt: HostRuntime) -> Result<(), Fail> {
-    let cache = opened(rt.alloc(), &[1, 2, 3, 1, 2])?;
+    let cache = opened(rt.alloc(), &[1, 2, 3, 1, 2], 2)?;
     let mut session = Session::open(rt.alloc(), cache, 5);
     assert_eq!(rt; session.step(2), Err(SessionFault::NotNow));
     assert_eq!(rt; session.len(), 0);
@@ -51,23 +52,40 @@ fn a_session_takes_the_accesses_of_the_trace_alone(rt: HostRuntime) -> Result<()
     Ok(())
 }
 
+fn next(seed: u64) -> u64 {
+    seed.wrapping_mul(6364136223846793005)
+        .wrapping_add(1442695040888963407)
+}
+
+/// A trace of 14 accesses to 8 keys.
+fn small_trace(seed: u64) -> [Key; 14] {
+    let mut keys = [0; 14];
+    let mut drawn = seed;
+    for key in keys.iter_mut() {
+        drawn = next(drawn);
+        *key = (drawn >> 33) % 8;
+    }
+    keys
+}
+
 #[test]
 fn lru_never_hits_more_often(rt: HostRuntime) -> Result<(), Fail> {
-    assert!(rt; CONFIG.check() == Ok(()));
-    for code in 0..1024_u64 {
-        let mut keys = [0; 5];
-        let mut rest = code;
-        for key in keys.iter_mut() {
-            *key = rest % 4;
-            rest /= 4;
+    for seed in 0..300_u64 {
+        let keys = small_trace(seed);
+        for capacity in 1..6_u32 {
+            let config = Config { capacity, ..CONFIG };
+            assert!(rt; config.check() == Ok(()));
+            let mut cache = opened(rt.alloc(), &keys, capacity)?;
+            let mut lru = Lru::open(rt.alloc(), &config)?;
+            for key in &keys {
+                assert!(rt; cache.apply(key).is_ok());
+                assert!(rt; lru.apply(key).is_ok());
+            }
+            assert!(rt;
+                lru.stats().hits <= cache.stats().hits,
+                "{keys:?} at capacity {capacity}"
+            );
         }
-        let mut cache = opened(rt.alloc(), &keys)?;
-        let mut lru = Lru::open(rt.alloc(), &CONFIG)?;
-        for key in &keys {
-            assert!(rt; cache.apply(key).is_ok());
-            assert!(rt; lru.apply(key).is_ok());
-        }
-        assert!(rt; lru.stats().hits <= cache.stats().hits, "trace {code}");
     }
     Ok(())
 }

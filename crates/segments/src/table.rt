@@ -27,7 +27,7 @@ const MOST_SLOTS: usize = 4294967295;
 const FIRST_BITS: u32 = 3;
 
 /// The slot in use that holds the item.
-pub fn find_slot(slots: &[Slot], index: &Index, item: Item) -> Option<u32>
+pub(crate) fn find_slot(slots: &[Slot], index: &Index, item: Item) -> Option<u32>
     requires { IsSound slots.now index.now.heads.items index.now.bits }
     ensures there { IfSome result (λ at. IsSlotOf at item slots.now index.now.heads.items index.now.bits) }
     ensures missing { IfNone result (place_of item (lists slots.now) ≡ None) }
@@ -42,7 +42,7 @@ pub fn find_slot(slots: &[Slot], index: &Index, item: Item) -> Option<u32>
 }
 
 /// The slot behind a place: that of its newer neighbour, or the one that closes the queue.
-pub fn slot_at_place(slots: &[Slot], index: &Index, place: Place) -> u32
+fn slot_at_place(slots: &[Slot], index: &Index, place: Place) -> u32
     requires { IsHeld slots.now index.now.heads.items index.now.bits (order_of slots.now) }
     ensures last { place.newer ≡ None → result ≡ closing place.queue }
     ensures newer { (n : Item) → place.newer ≡ Some n → place_of n (lists slots.now) ≢ None → IsSlotOf result n slots.now index.now.heads.items index.now.bits }
@@ -54,7 +54,7 @@ pub fn slot_at_place(slots: &[Slot], index: &Index, place: Place) -> u32
 }
 
 /// Puts an item that is not there into a free slot, and the slot before another one of a queue.
-pub fn insert(
+pub(crate) fn insert(
     slots: &mut [Slot],
     index: &mut Index,
     lengths: &mut Lengths,
@@ -82,7 +82,13 @@ pub fn insert(
 }
 
 /// Moves a slot in use to the place before another one of a queue, and says where it stood.
-pub fn shift(slots: &mut [Slot], lengths: &mut Lengths, at: u32, queue: Queue, before: u32) -> Place
+pub(crate) fn shift(
+    slots: &mut [Slot],
+    lengths: &mut Lengths,
+    at: u32,
+    queue: Queue,
+    before: u32,
+) -> Place
     requires queued { IsQueued slots.old (order_of slots.old) }
     requires counted { lengths.old ≡ lengths_of (order_of slots.old) }
     requires used { 1 ≤ count at (used (order_of slots.old)) }
@@ -102,7 +108,7 @@ pub fn shift(slots: &mut [Slot], lengths: &mut Lengths, at: u32, queue: Queue, b
 }
 
 /// Puts an item that is not there into its place.
-pub fn insert_at(
+pub(crate) fn insert_at(
     slots: &mut [Slot],
     index: &mut Index,
     lengths: &mut Lengths,
@@ -124,7 +130,13 @@ pub fn insert_at(
 }
 
 /// Moves a slot in use into a place.
-pub fn shift_to(slots: &mut [Slot], index: &Index, lengths: &mut Lengths, at: u32, place: Place)
+pub(crate) fn shift_to(
+    slots: &mut [Slot],
+    index: &Index,
+    lengths: &mut Lengths,
+    at: u32,
+    place: Place,
+)
     requires held { IsHeld slots.old index.now.heads.items index.now.bits (order_of slots.old) }
     requires counted { lengths.old ≡ lengths_of (order_of slots.old) }
     requires used { 1 ≤ count at (used (order_of slots.old)) }
@@ -139,7 +151,7 @@ pub fn shift_to(slots: &mut [Slot], index: &Index, lengths: &mut Lengths, at: u3
 }
 
 /// Frees a slot in use, and says where it stood.
-pub fn remove(slots: &mut [Slot], index: &mut Index, lengths: &mut Lengths, at: u32) -> Place
+pub(crate) fn remove(slots: &mut [Slot], index: &mut Index, lengths: &mut Lengths, at: u32) -> Place
     requires held { IsHeld slots.old index.old.heads.items index.old.bits (order_of slots.old) }
     requires counted { lengths.old ≡ lengths_of (order_of slots.old) }
     requires used { 1 ≤ count at (used (order_of slots.old)) }
@@ -231,7 +243,11 @@ fn widen(alloc: Global, slots: &mut [Slot], index: &mut Index) -> Result<(), All
 }
 
 /// Adds a free slot where there is none, and chains where there are too few. All room is made first.
-pub fn grow(alloc: Global, slots: &mut Vec<Slot>, index: &mut Index) -> Result<(), AllocError>
+pub(crate) fn grow(
+    alloc: Global,
+    slots: &mut Vec<Slot>,
+    index: &mut Index,
+) -> Result<(), AllocError>
     requires sound { IsSound slots.old.items index.old.heads.items index.old.bits }
     requires none { (order_of slots.old.items).free ≡ [] }
     requires few { length slots.old.items < 2 ^ 32 }

@@ -1,4 +1,4 @@
-use Rattle.std.proofs.Common.{◌≡◌, ℕ, ◌*◌, length}
+use Rattle.std.proofs.Common.{◌≡◌, ℕ}
 use Rattle.step_record.specs.Stats.{one}
 use Rattle.clairvoyant.specs.Belady.{residents}
 use Rattle.clairvoyant.proofs.Listing.{times, is_listed}

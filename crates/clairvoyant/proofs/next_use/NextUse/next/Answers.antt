@@ -1,4 +1,4 @@
-use Rattle.std.proofs.Common.{◌≡◌, ◌-◌, ◌*◌, ◌<◌, ◌≤◌, length, arith}
+use Rattle.std.proofs.Common.{arith}
 use Rattle.clairvoyant.proofs.Uses.{next-none, next-some}
 use Rattle.clairvoyant.proofs.next_use.NextUse.next.Goals as goal
 
