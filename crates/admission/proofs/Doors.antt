@@ -55,6 +55,9 @@ module _ (d : ℕ) (s : Spread) (some : 0 < d) where
   pub door_has : (f : ℕ → Bool) (key : ℕ) → has (door f) key ≡ (f (probe s key 0 d) && f (probe s key 1 d) && f (probe s key 2 d))
   door_has f key = rw (set_at f key 0, set_at f key 1, set_at f key 2) refl
 
+  pub probes_within : (key : ℕ) (ps : List ℕ) → ps ≡ probe s key 0 d ∷ probe s key 1 d ∷ probe s key 2 d ∷ [] → (get_or ps 0 0 < d) × (get_or ps 1 0 < d) × (get_or ps 2 0 < d)
+  probes_within key ps e = (rw e (probe_below s key 0 d some), rw e (probe_below s key 1 d some), rw e (probe_below s key 2 d some))
+
   -- the flags of a put's record
   pub record_is : (f : ℕ → Bool) (key : ℕ) → not (f (probe s key 0 d)) ∷ not (f (probe s key 1 d)) ∷ not (f (probe s key 2 d)) ∷ [] ≡ (door_record_of key (door f)).set
   record_is f key = rw (set_at f key 0, set_at f key 1, set_at f key 2) refl

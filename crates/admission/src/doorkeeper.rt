@@ -1,5 +1,5 @@
 //! Which keys came since the last halving.
-ghost use Rattle.std.specs.Prelude.{◌≡◌, ◌<◌, ◌≤◌, ◌^◌, ◌*◌, ◌==◌, ◌||◌, ◌&&◌, slice_index_or, ◌∷◌, [], not, length, ℕ, false, IfOk, OnOk, OnErr};
+ghost use Rattle.std.specs.Prelude.{◌≡◌, ◌<◌, ◌≤◌, ◌^◌, ◌*◌, ◌==◌, ◌||◌, ◌&&◌, slice_index_or, ◌∷◌, [], not, cond, length, ℕ, false, Some, None, IfSome, IfOk, OnOk, OnErr};
 ghost use Rattle.std.specs.Int.{IsPowerOfTwo};
 ghost use Rattle.sketch.specs.Places.{by_place};
 ghost use Rattle.admission.specs.Bits.{bit_of};
@@ -24,19 +24,23 @@ pub struct Doorkeeper {
     spread: Spread,
     words: Vec<u64>,
     alloc: Global,
+    // The key that was noted last, and its probes, which the question after it asks for again.
+    last: Key,
+    last_probes: [usize; 3],
 }
 
 impl Model for Doorkeeper {
-    ghost use Rattle.std.specs.Prelude.{◌≡◌, ◌≤◌, ◌*◌, length};
+    ghost use Rattle.std.specs.Prelude.{◌≡◌, ◌≤◌, ◌*◌, ◌∷◌, [], length};
     ghost use Rattle.sketch.specs.Places.{by_place};
     ghost use Rattle.admission.specs.Bits.{bit_of};
-    ghost use Rattle.admission.specs.Doorkeeper.{Door};
+    ghost use Rattle.admission.specs.Doorkeeper.{Door, probe};
 
     ghost Value = { Door };
 
     ghost view = { λ d. record { size = d.size; spread = d.spread; bits = by_place d.size (bit_of d.words.items) } };
 
-    ghost invariant = { λ d. (64 ≤ d.size) × (d.size ≤ 8388608) × (d.size ≡ 64 * length d.words.items) };
+    ghost invariant = { λ d. (64 ≤ d.size) × (d.size ≤ 8388608) × (d.size ≡ 64 * length d.words.items)
+        × (d.last_probes ≡ probe d.spread d.last 0 d.size ∷ probe d.spread d.last 1 d.size ∷ probe d.spread d.last 2 d.size ∷ []) };
 }
 
 impl Doorkeeper {
@@ -54,6 +58,8 @@ impl Doorkeeper {
             spread,
             words,
             alloc,
+            last: 0,
+            last_probes: probes(spread, 0, size),
         })
     }
 
@@ -61,9 +67,7 @@ impl Doorkeeper {
     pub fn has(&self, key: Key) -> bool
         ensures { result ≡ has_of self.now key }
     {
-        let a = probe(self.spread, key, 0, self.size);
-        let b = probe(self.spread, key, 1, self.size);
-        let c = probe(self.spread, key, 2, self.size);
+        let [a, b, c] = self.probes_of(key);
         all_bits(&self.words, a, b, c)
     }
 
@@ -74,11 +78,24 @@ impl Doorkeeper {
         ensures fits { FitsPut result self.new }
         ensures undone { taken_out result self.new ≡ self.old }
     {
-        let a = probe(self.spread, key, 0, self.size);
-        let b = probe(self.spread, key, 1, self.size);
-        let c = probe(self.spread, key, 2, self.size);
-        let set = put_bits(&mut self.words, a, b, c);
-        DoorRecord { key, set }
+        let at = probes(self.spread, key, self.size);
+        self.put_at(key, at)
+    }
+
+    /// Sets the three bits of a key unless all are set, and hands out which of them were clear.
+    pub(crate) fn note(&mut self, key: Key) -> Option<DoorRecord>
+        ensures after { self.new ≡ cond (has_of self.old key) self.old (put_in key self.old) }
+        ensures record_is { result ≡ cond (has_of self.old key) None (Some (door_record_of key self.old)) }
+        ensures fits { IfSome result (λ r. FitsPut r self.new) }
+        ensures undone { IfSome result (λ r. taken_out r self.new ≡ self.old) }
+    {
+        let at = probes(self.spread, key, self.size);
+        self.last = key;
+        self.last_probes = at;
+        if all_bits(&self.words, at[0], at[1], at[2]) {
+            return None;
+        }
+        Some(self.put_at(key, at))
     }
 
     /// Undoes a put: clears the bits that it set, and no other. The record has to fit, as that of the last put or
@@ -87,9 +104,7 @@ impl Doorkeeper {
         requires { FitsPut done self.old }
         ensures { self.new ≡ taken_out done self.old }
     {
-        let a = probe(self.spread, done.key, 0, self.size);
-        let b = probe(self.spread, done.key, 1, self.size);
-        let c = probe(self.spread, done.key, 2, self.size);
+        let [a, b, c] = probes(self.spread, done.key, self.size);
         take_bits(&mut self.words, a, b, c, done.set);
     }
 
@@ -115,19 +130,49 @@ impl Doorkeeper {
     {
         self.words = done.words;
     }
+
+    // Sets a key's bits, whose places are known.
+    fn put_at(&mut self, key: Key, at: [usize; 3]) -> DoorRecord
+        requires { at ≡ probe_of self.old.spread key 0 self.old.size ∷ probe_of self.old.spread key 1 self.old.size ∷ probe_of self.old.spread key 2 self.old.size ∷ [] }
+        ensures after { self.new ≡ put_in key self.old }
+        ensures record_is { result ≡ door_record_of key self.old }
+        ensures fits { FitsPut result self.new }
+        ensures undone { taken_out result self.new ≡ self.old }
+    {
+        let set = put_bits(&mut self.words, at[0], at[1], at[2]);
+        DoorRecord { key, set }
+    }
+
+    // The key's probes, which are at hand for the key that was noted last.
+    fn probes_of(&self, key: Key) -> [usize; 3]
+        ensures { result ≡ probe_of self.now.spread key 0 self.now.size ∷ probe_of self.now.spread key 1 self.now.size ∷ probe_of self.now.spread key 2 self.now.size ∷ [] }
+    {
+        if key == self.last {
+            self.last_probes
+        } else {
+            probes(self.spread, key, self.size)
+        }
+    }
 }
 
-// The place of one of a key's three bits.
-fn probe(spread: Spread, key: Key, index: u32, size: u32) -> usize
-    requires index { index < 3 }
+// The places of a key's three bits.
+#[inline(always)]
+fn probes(spread: Spread, key: Key, size: u32) -> [usize; 3]
     requires some { 1 ≤ size }
     requires few { size ≤ 2 ^ 23 }
-    ensures value { result ≡ probe_of spread key index size }
-    ensures below { result < size }
+    ensures { result ≡ probe_of spread key 0 size ∷ probe_of spread key 1 size ∷ probe_of spread key 2 size ∷ [] }
 {
     match spread {
-        Spread::Mixed => column(spread, key, index + 4, size) as usize,
-        Spread::Plain => column(spread, key, index, size) as usize,
+        Spread::Mixed => [
+            column(spread, key, 4, size) as usize,
+            column(spread, key, 5, size) as usize,
+            column(spread, key, 6, size) as usize,
+        ],
+        Spread::Plain => [
+            column(spread, key, 0, size) as usize,
+            column(spread, key, 1, size) as usize,
+            column(spread, key, 2, size) as usize,
+        ],
     }
 }
 
@@ -211,12 +256,11 @@ mod tests {
     fn probes_by_the_rule(rt: HostRuntime) {
         for (spread, size, key, want) in PROBES {
             assert!(rt; 1 <= size && size <= 1 << 23);
-            let found = [
-                probe(spread, key, 0, size),
-                probe(spread, key, 1, size),
-                probe(spread, key, 2, size),
-            ];
-            assert_eq!(rt; found, want, "of key {key} in {size} bits");
+            assert_eq!(rt;
+                probes(spread, key, size),
+                want,
+                "of key {key} in {size} bits"
+            );
         }
     }
 

@@ -164,10 +164,9 @@ impl Frequency {
         ensures fits { FitsMark result self.new }
         ensures undone { unmarked result self.new ≡ self.old }
     {
-        if self.door.has(key) {
-            Mark::Touch(self.sketch.touch(key))
-        } else {
-            Mark::Put(self.door.put(key))
+        match self.door.note(key) {
+            Some(done) => Mark::Put(done),
+            None => Mark::Touch(self.sketch.touch(key)),
         }
     }
 

@@ -1,8 +1,9 @@
 -- A number of one bit is a power of two, and masks a remainder out.
-use Rattle.std.proofs.Common.{◌≡◌, ℕ, zero, suc, ◌-◌, ◌/◌, ◌%◌, ◌≤◌, bit_and, arith, inl, inr}
-use Rattle.std.specs.Int.{IsPowerOfTwo}
+use Rattle.std.proofs.Common.{◌≡◌, ℕ, zero, suc, ◌-◌, ◌/◌, ◌%◌, ◌<◌, ◌≤◌, ◌^◌, bit_and, w32, refl, arith, inl, inr}
+use Rattle.std.specs.Int.{IsPowerOfTwo, trailing_zeros}
 use Rattle.std.specs.Int.RustNames.{count_ones}
-use Rattle.std.proofs.lemmas.Nat.{and_mask, zero_from_ones, ones_le_self}
+use Rattle.std.proofs.lemmas.Nat.{and_mask, pow_pos, zero_from_ones, ones_le_self}
+use Rattle.std.proofs.lemmas.Nat.Bits.{bit_at-trailing_zeros, bit_at-pow_other}
 use Rattle.std.proofs.lemmas.Bool.{cases_eq}
 use Rattle.std.proofs.Math.Nat.{pow-suc}
 use lib.Count.{ones_step}
@@ -19,5 +20,18 @@ one_bit (suc d) n h e =
           (suc p.0, omega (arith, p.1, q))
     ]
 
-pub masked : (n w : ℕ) → count_ones w ≡ 1 → bit_and n (w - 1) ≡ n % w
-masked n w e = let p = one_bit w w (omega arith) e in rw p.1 (and_mask n p.0)
+pub power_of : (w : ℕ) → count_ones w ≡ 1 → IsPowerOfTwo w
+power_of w e = one_bit w w (omega arith) e
+
+pub masked : (n w : ℕ) → IsPowerOfTwo w → bit_and n (w - 1) ≡ n % w
+masked n w p = rw p.1 (and_mask n p.0)
+
+-- the number of the zeros below its one bit is its exponent
+pub shifted : (n w : ℕ) → IsPowerOfTwo w → w < 2 ^ 32 → n / 2 ^ trailing_zeros w32 w ≡ n / w
+shifted n w p f =
+    let few : 2 ^ p.0 < 2 ^ 32 = rw p.1 at f in
+    let t = bit_at-trailing_zeros w32 (2 ^ p.0) (pow_pos p.0) few in
+    rw p.1 (elim (cases_eq (trailing_zeros w32 (2 ^ p.0)) p.0) as (λ _. n / 2 ^ trailing_zeros w32 (2 ^ p.0) ≡ n / 2 ^ p.0) [
+      | inl e ↦ rw e refl
+      | inr d ↦ let z = bit_at-pow_other p.0 (trailing_zeros w32 (2 ^ p.0)) d in absurd (omega (arith, z, t.1))
+    ])

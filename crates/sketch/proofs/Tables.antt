@@ -35,6 +35,24 @@ module _ (w : ℕ) (s : Spread) (some : 0 < w) where
       let b : eqb (column s key row w) (column s key row w) ≡ true = eq-eqb _ _ refl in
       rw (div-mul-add row w (column s key row w) c, mod-mul-add row w (column s key row w) c, b) refl
 
+  -- a key's columns in a list
+  module _ (key : ℕ) (cs : List ℕ) (are : cs ≡ by_place 4 (λ row. column s key row w)) where
+    pub column_is : (row : ℕ) → row < 4 → get_or cs row 0 ≡ column s key row w
+    column_is row h = rw are (get_or-by_place 4 (λ row. column s key row w) row 0 h)
+
+    pub columns_below : (row : ℕ) → row < 4 → get_or cs row 0 < w
+    columns_below row h = rw (column_is row h) (column_below s key row w some)
+
+    pub own_column : (i : ℕ) → (nat_lt (i / w) 4 && eqb (get_or cs (i / w) 0) (i % w)) ≡ (nat_lt (i / w) 4 && is_of s w key i)
+    own_column i = elim (two (nat_lt (i / w) 4)) as (λ _. (nat_lt (i / w) 4 && eqb (get_or cs (i / w) 0) (i % w)) ≡ (nat_lt (i / w) 4 && is_of s w key i)) [
+      | inl e ↦ let lt : i / w < 4 = ltb-true _ _ e in rw (e, column_is (i / w) lt) refl
+      | inr e ↦ rw e refl
+    ]
+
+    pub flags_are : (f : ℕ → ℕ) → by_place 4 (λ row. nat_lt (f (row * w + get_or cs row 0)) 15) ≡ by_place 4 (λ row. nat_lt (f (row * w + column s key row w)) 15)
+    flags_are f = by_place_same 4 (λ row. nat_lt (f (row * w + get_or cs row 0)) 15) (λ row. nat_lt (f (row * w + column s key row w)) 15) false
+        (λ row h. ap (λ n. nat_lt (f (row * w + n)) 15) (column_is row h))
+
   -- a change of a key's counters, and one that takes it back
   module _ (key : ℕ) (g : ℕ → ℕ → ℕ) (f : ℕ → ℕ) where
     pub keyed : (f' : ℕ → ℕ) → ((i : ℕ) → f' i ≡ cond (nat_lt (i / w) 4 && is_of s w key i) (g (i / w) (f i)) (f i)) → table f' ≡ at_key key g (table f)

@@ -1,6 +1,8 @@
 //! Where a key counts.
-ghost use Rattle.std.specs.Prelude.{◌≡◌, ◌<◌, ◌≤◌, ◌%◌, ◌^◌};
-ghost use Rattle.sketch.specs.Columns.{column as column_of, mix as mix_of};
+ghost use Rattle.std.specs.Prelude.{◌≡◌, ◌<◌, ◌≤◌, ◌+◌, ◌*◌, ◌^◌, slice_index, ℕ};
+ghost use Rattle.std.specs.Int.{IsPowerOfTwo};
+ghost use Rattle.sketch.specs.Columns.{column as column_of, mix as mix_of, wrap};
+ghost use Rattle.sketch.specs.Places.{by_place};
 
 use step_record::{Key, Spread};
 
@@ -13,16 +15,44 @@ fn mix(z: u64) -> u64
     b ^ (b >> 31)
 }
 
-// A power of two, as every table's width is, is masked by and not divided by.
-fn remainder(n: u64, width: u64) -> u64
-    requires { 1 ≤ width }
-    ensures { result ≡ n % width }
+// A key and its row, mixed.
+fn mixed(key: Key, row: u32) -> u64
+    requires { row < 7 }
+    ensures { result ≡ mix_of (wrap (key + wrap ((row + 1) * 0x9E3779B97F4A7C15))) }
 {
-    if width.is_power_of_two() {
-        n & (width - 1)
-    } else {
-        n % width
-    }
+    let step = (row as u64 + 1).wrapping_mul(0x9E3779B97F4A7C15);
+    mix(key.wrapping_add(step))
+}
+
+// The column where the width is a power of two, as every table's is: by masks and a shift.
+fn masked(spread: Spread, key: Key, row: u32, width: u32) -> u32
+    requires row { row < 7 }
+    requires power { IsPowerOfTwo width }
+    requires few { width ≤ 2 ^ 23 }
+    ensures { result ≡ column_of spread key row width }
+{
+    let mask = (width - 1) as u64;
+    let at = match spread {
+        Spread::Mixed => mixed(key, row),
+        Spread::Plain => (key & mask) + row as u64 * ((key >> width.trailing_zeros()) & mask),
+    };
+    (at & mask) as u32
+}
+
+// The column by division, of any width.
+#[cold]
+fn divided(spread: Spread, key: Key, row: u32, width: u32) -> u32
+    requires row { row < 7 }
+    requires some { 1 ≤ width }
+    requires few { width ≤ 2 ^ 23 }
+    ensures { result ≡ column_of spread key row width }
+{
+    let width = width as u64;
+    let at = match spread {
+        Spread::Mixed => mixed(key, row) % width,
+        Spread::Plain => (key % width + row as u64 * (key / width % width)) % width,
+    };
+    at as u32
 }
 
 /// The column of a key in a row, of 1 to 2^23 columns. A sketch has the rows 0 to 3; the rows 4 to 6 are there for
@@ -37,15 +67,26 @@ pub fn column(spread: Spread, key: Key, row: u32, width: u32) -> u32
     ensures value { result ≡ column_of spread key row width }
     ensures below { result < width }
 {
-    let width = width as u64;
-    let at = match spread {
-        Spread::Mixed => {
-            let step = (row as u64 + 1).wrapping_mul(0x9E3779B97F4A7C15);
-            remainder(mix(key.wrapping_add(step)), width)
-        }
-        Spread::Plain => (key % width + row as u64 * (key / width % width)) % width,
-    };
-    at as u32
+    if width.is_power_of_two() {
+        masked(spread, key, row, width)
+    } else {
+        divided(spread, key, row, width)
+    }
+}
+
+/// A key's columns in the rows 0 to 3, where the width is a power of two.
+pub fn columns(spread: Spread, key: Key, width: u32) -> [u32; 4]
+    requires power { IsPowerOfTwo width }
+    requires few { width ≤ 2 ^ 23 }
+    ensures value { result ≡ by_place 4 (λ row. column_of spread key row width) }
+    ensures below { (row : ℕ) → row < 4 → slice_index result row < width }
+{
+    [
+        masked(spread, key, 0, width),
+        masked(spread, key, 1, width),
+        masked(spread, key, 2, width),
+        masked(spread, key, 3, width),
+    ]
 }
 
 #[cfg(test)]

@@ -19,11 +19,10 @@ pub fn raise(words: &mut [u64], at: usize) -> bool
     ensures here { counter_at words.new at ≡ min 15 (counter_at words.old at + 1) }
     ensures same { (i : ℕ) → i ≢ at → counter_at words.new i ≡ counter_at words.old i }
 {
-    let below = get(words, at) < 15;
-    if below {
-        let word = words[at / 16];
-        words[at / 16] = word + (1 << (4 * (at % 16)));
-    }
+    let word = words[at / 16];
+    let shift = 4 * (at % 16);
+    let below = (word >> shift) & 15 < 15;
+    words[at / 16] = if below { word + (1 << shift) } else { word };
     below
 }
 

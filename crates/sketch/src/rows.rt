@@ -1,5 +1,5 @@
 //! A key's counter in each row of a table, over the words that hold the rows one after another.
-ghost use Rattle.std.specs.Prelude.{◌≡◌, ◌<◌, ◌≤◌, ◌+◌, ◌-◌, ◌^◌, ◌*◌, ◌/◌, ◌&&◌, cond, nat_lt, min, true, length, ℕ};
+ghost use Rattle.std.specs.Prelude.{◌≡◌, ◌<◌, ◌≤◌, ◌+◌, ◌-◌, ◌^◌, ◌*◌, ◌/◌, ◌%◌, ◌==◌, ◌&&◌, cond, nat_lt, min, true, length, slice_index, ℕ};
 ghost use Rattle.sketch.specs.Counters.{counter_at};
 ghost use Rattle.sketch.specs.Columns.{column as column_of};
 ghost use Rattle.sketch.specs.Places.{by_place};
@@ -11,18 +11,19 @@ use crate::counters::{lower, raise};
 use crate::touch_record::TouchRecord;
 use step_record::{Key, Spread};
 
-/// Raises the key's counter in each row, and says which rose.
-pub fn raise_rows(words: &mut [u64], width: u32, spread: Spread, key: Key) -> [bool; 4]
+/// Raises the counter at a column of each row, and says which rose.
+pub fn raise_rows(words: &mut [u64], width: u32, columns: [u32; 4]) -> [bool; 4]
     requires low { 1 ≤ width }
     requires high { width ≤ 2 ^ 20 }
     requires whole { width ≡ 4 * length words.old }
+    requires below { (row : ℕ) → row < 4 → slice_index columns row < width }
     ensures counters { (i : ℕ) → counter_at words.new i
-        ≡ cond (nat_lt (i / width) 4 && is_of spread width key i) (min 15 (counter_at words.old i + 1)) (counter_at words.old i) }
-    ensures rose { result ≡ by_place 4 (λ row. nat_lt (counter_at words.old (row * width + column_of spread key row width)) 15) }
+        ≡ cond (nat_lt (i / width) 4 && slice_index columns (i / width) == i % width) (min 15 (counter_at words.old i + 1)) (counter_at words.old i) }
+    ensures rose { result ≡ by_place 4 (λ row. nat_lt (counter_at words.old (row * width + slice_index columns row)) 15) }
 {
     let mut rose = [false; 4];
     for row in 0..4u32 {
-        let at = row * width + column(spread, key, row, width);
+        let at = row * width + columns[row as usize];
         rose[row as usize] = raise(words, at as usize);
     }
     rose

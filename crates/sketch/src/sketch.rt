@@ -1,12 +1,13 @@
 //! Four rows of counters up to 15.
-ghost use Rattle.std.specs.Prelude.{◌≡◌, ◌<◌, ◌≤◌, ◌*◌, ◌^◌, IfOk, OnOk, OnErr};
+ghost use Rattle.std.specs.Prelude.{◌≡◌, ◌<◌, ◌≤◌, ◌*◌, ◌^◌, slice_index, ℕ, IfOk, OnOk, OnErr};
 ghost use Rattle.std.specs.Int.{IsPowerOfTwo};
+ghost use Rattle.sketch.specs.Columns.{column as column_at};
 ghost use Rattle.sketch.specs.Places.{by_place};
 ghost use Rattle.sketch.specs.Sketch.{counter as counter_of, touched, halved, least as least_of};
 ghost use Rattle.sketch.specs.TouchRecord.{touch_record_of, untouched, FitsTouch};
 ghost use Rattle.sketch.specs.HalveRecord.{halve_record_of, unhalved, FitsHalve};
 
-use crate::columns::column;
+use crate::columns::columns;
 use crate::counters::get;
 use crate::halve_record::HalveRecord;
 use crate::laws::{halve_words, unhalve_words};
@@ -24,6 +25,9 @@ pub struct Sketch {
     spread: Spread,
     words: Vec<u64>,
     alloc: Global,
+    // The key that was touched last, and its columns, which the question after it asks for again.
+    last: Key,
+    last_columns: [u32; 4],
 }
 
 impl Model for Sketch {
@@ -31,12 +35,15 @@ impl Model for Sketch {
     ghost use Rattle.sketch.specs.Sketch.{Table};
     ghost use Rattle.sketch.specs.Places.{by_place};
     ghost use Rattle.sketch.specs.Counters.{counter_at};
+    ghost use Rattle.sketch.specs.Columns.{column};
+    ghost use Rattle.std.specs.Int.{IsPowerOfTwo};
 
     ghost Value = { Table };
 
     ghost view = { λ s. record { width = s.width; spread = s.spread; counters = by_place (4 * s.width) (counter_at s.words.items) } };
 
-    ghost invariant = { λ s. (16 ≤ s.width) × (s.width ≤ 1048576) × (s.width ≡ 4 * length s.words.items) × (s.width ≡ 16 * (s.width / 16)) };
+    ghost invariant = { λ s. (16 ≤ s.width) × (s.width ≤ 1048576) × (s.width ≡ 4 * length s.words.items) × (s.width ≡ 16 * (s.width / 16)) × IsPowerOfTwo s.width
+        × (s.last_columns ≡ by_place 4 (λ row. column s.spread s.last row s.width)) };
 }
 
 impl Sketch {
@@ -54,6 +61,8 @@ impl Sketch {
             spread,
             words,
             alloc,
+            last: 0,
+            last_columns: columns(spread, 0, width),
         })
     }
 
@@ -74,7 +83,9 @@ impl Sketch {
         ensures fits { FitsTouch result self.new }
         ensures undone { untouched result self.new ≡ self.old }
     {
-        let rose = raise_rows(&mut self.words, self.width, self.spread, key);
+        self.last_columns = columns(self.spread, key, self.width);
+        self.last = key;
+        let rose = raise_rows(&mut self.words, self.width, self.last_columns);
         TouchRecord { key, rose }
     }
 
@@ -115,17 +126,31 @@ impl Sketch {
         ensures value { result ≡ least_of key self.now }
         ensures small { result ≤ 15 }
     {
-        let a = self.counter(0, column(self.spread, key, 0, self.width));
-        let b = self.counter(1, column(self.spread, key, 1, self.width));
-        let c = self.counter(2, column(self.spread, key, 2, self.width));
-        let d = self.counter(3, column(self.spread, key, 3, self.width));
+        let columns = self.columns_of(key);
+        let a = self.counter(0, columns[0]);
+        let b = self.counter(1, columns[1]);
+        let c = self.counter(2, columns[2]);
+        let d = self.counter(3, columns[3]);
         a.min(b).min(c.min(d))
+    }
+
+    // The key's columns, which are at hand for the key that was touched last.
+    fn columns_of(&self, key: Key) -> [u32; 4]
+        ensures value { result ≡ by_place 4 (λ row. column_at self.now.spread key row self.now.width) }
+        ensures below { (row : ℕ) → row < 4 → slice_index result row < self.now.width }
+    {
+        if key == self.last {
+            self.last_columns
+        } else {
+            columns(self.spread, key, self.width)
+        }
     }
 }
 
 #[cfg(test)]
 mod tests {
     use super::*;
+    use crate::columns::column;
     use std::test::Fail;
 
     #[test]

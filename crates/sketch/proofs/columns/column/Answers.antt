@@ -1,12 +1,14 @@
-use Rattle.std.proofs.Common.{◌%◌, ◌∙◌, ap}
-use Rattle.sketch.specs.Columns.{column as column_of}
+use Rattle.std.proofs.Common.{sym}
+use Rattle.std.proofs.lemmas.Bool.{eqb-true}
+use Rattle.sketch.specs.Columns.{column_below}
+use Rattle.sketch.proofs.Masks.{power_of}
 use Rattle.sketch.proofs.columns.column.Goals as goal
-use Rattle.sketch.proofs.columns.column.Goals.{in-Mixed, in-Plain}
 
-pub returns-clause-value : goal.returns-clause-value
-unfolding column_of
-returns-clause-value c =
-    elim c.match-spread.branch [
-      | in-Mixed w ↦ rw w.in-Mixed.is (w.at-is ∙ w.remainder-at.ensures ∙ ap (λ m. m % c.args.width) w.mix.ensures)
-      | in-Plain w ↦ rw w.in-Plain.is w.at-is
-    ]
+pub masked-requires-clause-power : goal.masked-requires-clause-power
+masked-requires-clause-power c = power_of c.args.width (eqb-true _ _ (sym c.if-is_power_of_two.ensures))
+
+pub returns-then-is_power_of_two-clause-below : goal.returns-then-is_power_of_two-clause-below
+returns-then-is_power_of_two-clause-below c = rw c.masked.ensures (column_below c.args.spread c.args.key c.args.row c.args.width c.requires.some)
+
+pub returns-else-is_power_of_two-clause-below : goal.returns-else-is_power_of_two-clause-below
+returns-else-is_power_of_two-clause-below c = rw c.divided.ensures (column_below c.args.spread c.args.key c.args.row c.args.width c.requires.some)

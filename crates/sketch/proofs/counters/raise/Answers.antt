@@ -1,21 +1,44 @@
-use Rattle.std.proofs.Common.{◌%◌, ◌/◌, ◌^◌, ◌<◌, ◌+◌, min, get_or, arith, ◌∙◌, ◌≡◌}
+use Rattle.std.proofs.Common.{◌%◌, ◌/◌, ◌*◌, ◌^◌, ◌<◌, ◌≤◌, ◌+◌, ◌≡◌, ℕ, min, nat_lt, bit_and, get_or, refl, arith, ap, ◌∙◌}
+use Rattle.std.proofs.lemmas.Nat.{and_mask}
 use Rattle.sketch.specs.Counters.{nibble}
-use Rattle.sketch.proofs.Digits.{fits_more, unit, raised_here, raised_other, nibble_lt}
+use Rattle.sketch.proofs.Digits.{nibble_is, nibble_lt, fits_more, unit, raised_here, raised_other, set_here, set_other}
 use Rattle.sketch.proofs.counters.raise.Goals as goal
+use Rattle.sketch.proofs.counters.raise.Goals.{then-below, else-below}
+
+seen : (n x : ℕ) → bit_and (x / 2 ^ (4 * n)) 15 ≡ nibble x n
+seen n x = and_mask (x / 2 ^ (4 * n)) 4 ∙ nibble_is n x
 
 pub overflow_add-words : goal.overflow_add-words
 overflow_add-words c =
-    let room : nibble (get_or c.args.words.now (c.args.at / 16) 0) (c.args.at % 16) < 15 = omega (arith, c.get-below.ensures.value, c.if-below.true) in
+    let e = seen (c.args.at % 16) (get_or c.args.words.now (c.args.at / 16) 0) in
+    let room : nibble (get_or c.args.words.now (c.args.at / 16) 0) (c.args.at % 16) < 15 = omega (arith, e, c.if-below.true) in
     let lt : get_or c.args.words.now (c.args.at / 16) 0 < 2 ^ 64 = omega arith in
     record { fits = rw (unit c.args.at) (fits_more 16 (c.args.at % 16) (get_or c.args.words.now (c.args.at / 16) 0) (omega arith) lt room) }
 
-pub returns-then-below-clause-here : goal.returns-then-below-clause-here
-returns-then-below-clause-here c =
-    let room : nibble (get_or c.args.words.now (c.args.at / 16) 0) (c.args.at % 16) < 15 = omega (arith, c.get-below.ensures.value, c.if-below.true) in
-    raised_here c.args.words.now c.args.at c.requires room ∙ (let e : nibble (get_or c.args.words.now (c.args.at / 16) 0) (c.args.at % 16) + 1 ≡ min 15 (nibble (get_or c.args.words.now (c.args.at / 16) 0) (c.args.at % 16) + 1) = omega arith in e)
+pub returns-clause-rose : goal.returns-clause-rose
+returns-clause-rose c = ap (λ x. nat_lt x 15) (seen (c.args.at % 16) (get_or c.args.words.now (c.args.at / 16) 0))
 
-pub returns-then-below-clause-same : goal.returns-then-below-clause-same
-returns-then-below-clause-same c = let room : nibble (get_or c.args.words.now (c.args.at / 16) 0) (c.args.at % 16) < 15 = omega (arith, c.get-below.ensures.value, c.if-below.true) in raised_other c.args.words.now c.args.at c.requires room
+pub returns-clause-here : goal.returns-clause-here
+returns-clause-here c =
+    let e = seen (c.args.at % 16) (get_or c.args.words.now (c.args.at / 16) 0) in
+    let x = nibble (get_or c.args.words.now (c.args.at / 16) 0) (c.args.at % 16) in
+    elim c.if-below.branch [
+      | then-below w ↦
+          let room : x < 15 = omega (arith, e, w.if-below.true) in
+          let m : x + 1 ≡ min 15 (x + 1) = omega arith in
+          rw w.words-is (raised_here c.args.words.now c.args.at c.requires room ∙ m)
+      | else-below w ↦
+          let full : 15 ≤ x = omega (arith, e, w.if-below.false) in
+          let m : x ≡ min 15 (x + 1) = omega (arith, nibble_lt (c.args.at % 16) (get_or c.args.words.now (c.args.at / 16) 0)) in
+          rw w.words-is (set_here c.args.words.now c.args.at c.requires (get_or c.args.words.now (c.args.at / 16) 0) ∙ m)
+    ]
 
-pub returns-else-below-clause-here : goal.returns-else-below-clause-here
-returns-else-below-clause-here c = omega (arith, c.get-below.ensures.value, c.if-below.false, nibble_lt (c.args.at % 16) (get_or c.args.words.now (c.args.at / 16) 0))
+pub returns-clause-same : goal.returns-clause-same
+returns-clause-same c =
+    let e = seen (c.args.at % 16) (get_or c.args.words.now (c.args.at / 16) 0) in
+    elim c.if-below.branch [
+      | then-below w ↦
+          let room : nibble (get_or c.args.words.now (c.args.at / 16) 0) (c.args.at % 16) < 15 = omega (arith, e, w.if-below.true) in
+          rw w.words-is (raised_other c.args.words.now c.args.at c.requires room)
+      | else-below w ↦ rw w.words-is (set_other c.args.words.now c.args.at c.requires (get_or c.args.words.now (c.args.at / 16) 0) (λ m d. refl))
+    ]

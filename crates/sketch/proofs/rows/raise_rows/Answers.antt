@@ -1,18 +1,17 @@
-use Rattle.std.proofs.Common.{ℕ, ◌+◌, ◌*◌, ◌<◌, min, nat_lt, false, length, arith, ap, ◌∙◌, below_more, get_or-set_same, get_or-set_other, ◌≢◌, length-set}
+use Rattle.std.proofs.Common.{ℕ, ◌+◌, ◌*◌, ◌<◌, min, get_or, nat_lt, false, length, arith, ap, ◌∙◌, below_more, get_or-set_same, get_or-set_other, ◌≢◌, length-set}
 use Rattle.std.proofs.lemmas.List.FromFn.{fill_by_all}
 use Rattle.sketch.specs.Counters.{counter_at}
-use Rattle.sketch.specs.Columns.{column, column_below}
 use Rattle.sketch.proofs.Places.{row_more, row_same}
 use Rattle.sketch.proofs.rows.raise_rows.Goals as goal
 
 pub loop-row-preserved : goal.loop-row-preserved
 loop-row-preserved c =
-    let cols : ℕ → ℕ = λ row. column c.args.spread c.args.key row c.args.width in
+    let cols : ℕ → ℕ = λ row. get_or c.args.columns row 0 in
     let up : ℕ → ℕ → ℕ = λ row x. min 15 (x + 1) in
-    let below : cols c.loop-row.row < c.args.width = column_below c.args.spread c.args.key c.loop-row.row c.args.width c.requires.low in
-    let same = rw c.column.ensures.value at c.raise.ensures.same in
-    let here = rw c.column.ensures.value at c.raise.ensures.here in
-    let flag = rw c.column.ensures.value at c.raise.ensures.rose in
+    let below : cols c.loop-row.row < c.args.width = c.requires.below c.loop-row.row c.loop-row-test.true in
+    let same = c.raise.ensures.same in
+    let here = c.raise.ensures.here in
+    let flag = c.raise.ensures.rose in
     let old = row_same c.args.width cols up (counter_at c.args.words.now) (counter_at c.loop-row.words) (counter_at c.raise.new.words) c.loop-row.row below c.loop-row.invariant.0 in (
       row_more c.args.width cols up (counter_at c.args.words.now) (counter_at c.loop-row.words) (counter_at c.raise.new.words) c.loop-row.row below c.loop-row.invariant.0 same here,
       below_more _ _
@@ -23,5 +22,5 @@ loop-row-preserved c =
 
 pub returns-clause-rose : goal.returns-clause-rose
 returns-clause-rose c =
-    fill_by_all (λ row. nat_lt (counter_at c.args.words.now (row * c.args.width + column c.args.spread c.args.key row c.args.width)) 15) c.loop-row.rose 4 false c.loop-row.invariant.2
+    fill_by_all (λ row. nat_lt (counter_at c.args.words.now (row * c.args.width + get_or c.args.columns row 0)) 15) c.loop-row.rose 4 false c.loop-row.invariant.2
     (λ row h. c.loop-row.invariant.1 row (omega (arith, c.loop-row-test.false)))

@@ -9,7 +9,7 @@ pub invariant_of-self : goal.invariant_of-self
 invariant_of-self c =
     let count = length-by_place (64 * length c.done.inside.words.items) (bit_of c.done.inside.words.items) in
     let whole = rw (← c.self.view_is, ← c.done.view_is) at c.requires.whole in
-    (c.self.invariant.0, c.self.invariant.1, omega (arith, count, whole))
+    (c.self.invariant.0, c.self.invariant.1, omega (arith, count, whole), c.self.invariant.3)
 
 pub returns : goal.returns
 returns c =
