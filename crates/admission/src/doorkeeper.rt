@@ -24,23 +24,22 @@ pub struct Doorkeeper {
     spread: Spread,
     words: Vec<u64>,
     alloc: Global,
-    // The key that was noted last, and its probes, which the question after it asks for again.
-    last: Key,
-    last_probes: [usize; 3],
+    // A key whose bits are all set, where one is at hand: the one that came last, which the question after it is about.
+    known: Option<Key>,
 }
 
 impl Model for Doorkeeper {
-    ghost use Rattle.std.specs.Prelude.{◌≡◌, ◌≤◌, ◌*◌, ◌∷◌, [], length};
+    ghost use Rattle.std.specs.Prelude.{◌≡◌, ◌≤◌, ◌*◌, true, length, IfSome};
     ghost use Rattle.sketch.specs.Places.{by_place};
     ghost use Rattle.admission.specs.Bits.{bit_of};
-    ghost use Rattle.admission.specs.Doorkeeper.{Door, probe};
+    ghost use Rattle.admission.specs.Doorkeeper.{Door, has};
 
     ghost Value = { Door };
 
     ghost view = { λ d. record { size = d.size; spread = d.spread; bits = by_place d.size (bit_of d.words.items) } };
 
     ghost invariant = { λ d. (64 ≤ d.size) × (d.size ≤ 8388608) × (d.size ≡ 64 * length d.words.items)
-        × (d.last_probes ≡ probe d.spread d.last 0 d.size ∷ probe d.spread d.last 1 d.size ∷ probe d.spread d.last 2 d.size ∷ []) };
+        × IfSome d.known (λ key. has record { size = d.size; spread = d.spread; bits = by_place d.size (bit_of d.words.items) } key ≡ true) };
 }
 
 impl Doorkeeper {
@@ -58,8 +57,7 @@ impl Doorkeeper {
             spread,
             words,
             alloc,
-            last: 0,
-            last_probes: probes(spread, 0, size),
+            known: None,
         })
     }
 
@@ -67,7 +65,10 @@ impl Doorkeeper {
     pub fn has(&self, key: Key) -> bool
         ensures { result ≡ has_of self.now key }
     {
-        let [a, b, c] = self.probes_of(key);
+        if self.known == Some(key) {
+            return true;
+        }
+        let [a, b, c] = probes(self.spread, key, self.size);
         all_bits(&self.words, a, b, c)
     }
 
@@ -90,9 +91,8 @@ impl Doorkeeper {
         ensures undone { IfSome result (λ r. taken_out r self.new ≡ self.old) }
     {
         let at = probes(self.spread, key, self.size);
-        self.last = key;
-        self.last_probes = at;
         if all_bits(&self.words, at[0], at[1], at[2]) {
+            self.known = Some(key);
             return None;
         }
         Some(self.put_at(key, at))
@@ -104,6 +104,7 @@ impl Doorkeeper {
         requires { FitsPut done self.old }
         ensures { self.new ≡ taken_out done self.old }
     {
+        self.known = None;
         let [a, b, c] = probes(self.spread, done.key, self.size);
         take_bits(&mut self.words, a, b, c, done.set);
     }
@@ -118,6 +119,7 @@ impl Doorkeeper {
         ensures err { OnErr result (self.new ≡ self.old) }
     {
         let fresh = vec![in self.alloc; 0; self.words.len()]?;
+        self.known = None;
         let words = mem::replace(&mut self.words, fresh);
         Ok(DoorWords { words })
     }
@@ -128,6 +130,7 @@ impl Doorkeeper {
         requires { FitsClear done self.old }
         ensures { self.new ≡ restored done self.old }
     {
+        self.known = None;
         self.words = done.words;
     }
 
@@ -140,18 +143,8 @@ impl Doorkeeper {
         ensures undone { taken_out result self.new ≡ self.old }
     {
         let set = put_bits(&mut self.words, at[0], at[1], at[2]);
+        self.known = Some(key);
         DoorRecord { key, set }
-    }
-
-    // The key's probes, which are at hand for the key that was noted last.
-    fn probes_of(&self, key: Key) -> [usize; 3]
-        ensures { result ≡ probe_of self.now.spread key 0 self.now.size ∷ probe_of self.now.spread key 1 self.now.size ∷ probe_of self.now.spread key 2 self.now.size ∷ [] }
-    {
-        if key == self.last {
-            self.last_probes
-        } else {
-            probes(self.spread, key, self.size)
-        }
     }
 }
 
