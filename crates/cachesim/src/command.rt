@@ -14,14 +14,14 @@ use std::io::{Read, Write};
 use std::sync::Wait;
 use std::thread::Threads;
 
-// The program did what it was asked to.
-const DONE: u8 = 0;
+/// The program did what it was asked to.
+pub const DONE: u8 = 0;
 
-// A fault other than of the words.
-const FAULT: u8 = 1;
+/// A fault other than of the words.
+pub const FAULT: u8 = 1;
 
-// The words were refused.
-const REFUSED: u8 = 2;
+/// The words were refused.
+pub const REFUSED: u8 = 2;
 
 // Tells a line on the fault output; where that fails too, the status alone tells.
 fn tell<X: Write>(line: Result<String, AllocError>, fault_out: &mut X) {

@@ -11,7 +11,7 @@ mod files;
 mod jobs;
 mod run;
 
-use command::command;
+use command::{FAULT, REFUSED, command};
 use files::{FileFault, Files};
 use std::alloc::{AllocError, Global};
 use std::io::{ErrorKind, Write};
@@ -46,10 +46,10 @@ fn texts(alloc: Global, words: &[String]) -> Result<Vec<&str>, AllocError> {
 fn refused<X: Write>(kind: ErrorKind, fault_out: &mut X) -> ExitCode {
     if kind == ErrorKind::InvalidData {
         let _ = streams::write_all(fault_out, b"error: a word of the call is no UTF-8 text\n");
-        return ExitCode::from(2);
+        return ExitCode::from(REFUSED);
     }
     let _ = streams::write_all(fault_out, b"fault: OutOfMemory\n");
-    ExitCode::from(1)
+    ExitCode::from(FAULT)
 }
 
 fn main(rt: HostRuntime) -> ExitCode {
