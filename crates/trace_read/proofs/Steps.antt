@@ -32,19 +32,19 @@ first_cut cut xs more h lt =
     let feed = get_or xs (place xs) 0 in
     let rest = drop (place xs + 1) xs in
     let whole : cut ++ (xs ++ more) ≡ (cut ++ take (place xs) xs) ++ (feed ∷ (rest ++ more)) =
-        ap (λ l. cut ++ (l ++ more)) (split_at_first (λ b. b == 10) xs 0 lt)
-            ∙ ap (λ l. cut ++ l) (append_assoc (take (place xs) xs) (feed ∷ rest) more)
-            ∙ sym (append_assoc cut (take (place xs) xs) (feed ∷ (rest ++ more))) in
+    ap (λ l. cut ++ (l ++ more)) (split_at_first (λ b. b == 10) xs 0 lt)
+    ∙ ap (λ l. cut ++ l) (append_assoc (take (place xs) xs) (feed ∷ rest) more)
+    ∙ sym (append_assoc cut (take (place xs) xs) (feed ∷ (rest ++ more))) in
     ap lines_of whole
-        ∙ slice_split_at (λ b. b == 10) (cut ++ take (place xs) xs) feed (rest ++ more)
-            (All-append (λ b. (b == 10) ≡ false) cut (take (place xs) xs) h (no_feed_before xs)) (passes_at_first (λ b. b == 10) xs 0 lt)
+    ∙ slice_split_at (λ b. b == 10) (cut ++ take (place xs) xs) feed (rest ++ more)
+    (All-append (λ b. (b == 10) ≡ false) cut (take (place xs) xs) h (no_feed_before xs)) (passes_at_first (λ b. b == 10) xs 0 lt)
 
 -- The line that was cut ends in the piece.
 pub cut_line : (cut xs more : List ℕ) (end : ℕ) → HasNoFeed cut → end ≡ position_or_len (λ b. b == 10) xs → end < length xs
     → lines_of (cut ++ (xs ++ more)) ≡ (cut ++ take end xs) ∷ lines_of (drop (end + 1) xs ++ more)
 cut_line cut xs more end h at lt =
     subst (λ k. lines_of (cut ++ (xs ++ more)) ≡ (cut ++ take k xs) ∷ lines_of (drop (k + 1) xs ++ more)) (sym at)
-        (first_cut cut xs more h (subst (λ k. k < length xs) at lt))
+    (first_cut cut xs more h (subst (λ k. k < length xs) at lt))
 
 -- It does not.
 pub no_feed_more : (cut xs : List ℕ) → HasNoFeed cut → position_or_len (λ b. b == 10) xs ≡ length xs → HasNoFeed (cut ++ xs)

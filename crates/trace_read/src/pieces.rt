@@ -28,11 +28,7 @@ impl Pieces {
     }
 
     /// The next bytes of the reader, put at the front of the chunk: how many they are, 0 at the end.
-    pub fn next<R: Read>(
-        &mut self,
-        reader: &mut R,
-        chunk: &mut [u8],
-    ) -> Result<usize, TraceFault>
+    pub fn next<R: Read>(&mut self, reader: &mut R, chunk: &mut [u8]) -> Result<usize, TraceFault>
         ensures within { IfOk result (λ n. n ≤ length chunk.new) }
         ensures room { IfOk result (λ n. self.new.room + n ≡ self.old.room) }
         ensures bytes { IfOk result (λ n.
@@ -52,11 +48,7 @@ impl Pieces {
     }
 
     /// Reads on to the end of the reader, and keeps nothing.
-    pub fn pass_rest<R: Read>(
-        &mut self,
-        reader: &mut R,
-        chunk: &mut [u8],
-    ) -> Result<(), TraceFault>
+    pub fn pass_rest<R: Read>(&mut self, reader: &mut R, chunk: &mut [u8]) -> Result<(), TraceFault>
         requires { 0 < length chunk.old }
         ensures few { OnOk result (IfSome (R.remaining reader.old) (λ xs. length xs ≤ self.old.room)) }
         ensures large { result ≡ Err TraceFault.TooLarge

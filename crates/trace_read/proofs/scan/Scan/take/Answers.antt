@@ -20,8 +20,8 @@ returns-in_err-end_line-clause-err c =
       | inl none ↦ inl none
       | inr fault ↦
           let refused : (more : List ℕ) → fault_ahead c.args.self.now (c.args.piece.now ++ more) ≡ Some _ = λ more.
-              let is = cut_line scan.cut.items rest more end c.lines.invariant.scan.cut c.line_end-end.ensures.place lt in
-              sym (c.lines.invariant.fault more) ∙ refused_here scan.format scan.line scan.keys.items _ [] (scan.cut.items ++ (rest ++ more)) _ _ is fault in
+          let is = cut_line scan.cut.items rest more end c.lines.invariant.scan.cut c.line_end-end.ensures.place lt in
+          sym (c.lines.invariant.fault more) ∙ refused_here scan.format scan.line scan.keys.items _ [] (scan.cut.items ++ (rest ++ more)) _ _ is fault in
           inr (of_line c.args.self.now.format _ c.args.self.now.line _ _ (refused []), refused)
     ])
 
@@ -34,7 +34,7 @@ lines-preserved c =
     let tail : take (length rest - (end + 1)) (drop (end + 1) rest) ≡ drop (end + 1) rest = grind (arith, common_steps) in
     let ended = c.in_ok-end_line.ensures.ended in
     let next = λ (more : List ℕ). ended_ahead scan _ _ (rest ++ more) (drop (end + 1) rest ++ more) ended
-        (cut_line scan.cut.items rest more end c.lines.invariant.scan.cut c.line_end-end.ensures.place lt) in
+    (cut_line scan.cut.items rest more end c.lines.invariant.scan.cut c.line_end-end.ensures.place lt) in
     record {
       scan = c.in_ok-end_line.ensures.scan;
       lines = rw tail (omega (arith, length-drop (end + 1) rest, ended.line, c.lines.invariant.lines));
