@@ -1,3 +1,4 @@
 pub mod LineFault
 pub mod Lines
 pub mod Reading
+pub mod Scanned

@@ -1,10 +1,10 @@
 //! Why a trace was not read.
 ghost use Rattle.std.specs.Prelude.{◌≡◌};
 ghost use Rattle.trace_read.specs.Reading.{read_fault_of};
-ghost use Rattle.trace_read.specs.declared.fault.TraceFault.TheVariants.{OutOfMemory};
+ghost use Rattle.trace_read.specs.declared.fault.TraceFault.TheVariants.{OutOfMemory, Read};
 
 use std::alloc::{AllocError, AllocFailed};
-use streams::ReadAllFault;
+use streams::{ReadAllFault, ReadFault};
 use thiserror::Error;
 
 /// Why a trace was not read. Lines count from 1, and a fault of a line is that of the first
@@ -59,6 +59,14 @@ impl From<ReadAllFault> for TraceFault {
             ReadAllFault::TooLarge => TraceFault::TooLarge,
             ReadAllFault::Read => TraceFault::Read,
         }
+    }
+}
+
+impl From<ReadFault> for TraceFault {
+    ghost from_gives = { λ _ e. e ≡ Read };
+
+    fn from(_fault: ReadFault) -> TraceFault {
+        TraceFault::Read
     }
 }
 

@@ -12,8 +12,9 @@ mod fault;
 mod format;
 mod lirs;
 mod number;
-mod parser;
+mod pieces;
 mod reader;
+mod scan;
 mod trace;
 
 pub use fault::TraceFault;

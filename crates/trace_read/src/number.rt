@@ -1,6 +1,18 @@
 //! The numbers of a trace file.
-ghost use Rattle.std.specs.Prelude.{◌≡◌};
+ghost use Rattle.std.specs.Prelude.{◌≡◌, ◌≤◌, ◌<◌, ◌+◌, ◌*◌, ◌^◌, MatchOption};
 ghost use Rattle.trace_read.specs.Lines.{number_of};
+
+// The value with one more digit after it. Most values are far below the limit, and for those no
+// test of the product stands between one digit and the next.
+fn with_digit(value: u64, digit: u8) -> Option<u64>
+    ensures { MatchOption result (2 ^ 64 ≤ value * 10 + digit)
+        (λ v. (v ≡ value * 10 + digit) × (v < 2 ^ 64)) }
+{
+    if value < 1 << 60 {
+        return Some(value * 10 + u64::from(digit));
+    }
+    value.checked_mul(10)?.checked_add(u64::from(digit))
+}
 
 /// The number that the text is, if it is one of a value below 2^64: digits alone, so that a plus, which `str::parse`
 /// reads, makes no number.
@@ -17,7 +29,7 @@ pub fn number(text: &[u8]) -> Option<u64>
         if !byte.is_ascii_digit() {
             return None;
         }
-        value = value.checked_mul(10)?.checked_add(u64::from(*byte - b'0'))?;
+        value = with_digit(value, *byte - b'0')?;
     }
     Some(value)
 }

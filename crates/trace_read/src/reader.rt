@@ -4,17 +4,19 @@ ghost use Rattle.std.specs.Io.KnownBytes.{IsAtEnd};
 ghost use Rattle.trace_read.specs.Reading.{fault_in, keys_in, IsOfLine};
 
 use super::format::Format;
-use super::parser::parse_trace;
+use super::pieces::Pieces;
+use super::scan::Scan;
 use super::{Trace, TraceFault};
 use std::alloc::Global;
 use std::io::Read;
 
-// The most bytes that a trace file has.
-const MOST_BYTES: usize = 1 << 30;
+// How many bytes are asked for at a time.
+const CHUNK: usize = 65_536;
 
-/// Reads the whole reader as a trace file. All bytes are read before any line is looked at, so
-/// `Read` and `TooLarge` come before the fault of a line. After `Read`, `TooLarge` and
-/// `OutOfMemory` it is not said how much was read.
+/// Reads the whole reader as a trace file, piece by piece, and keeps no bytes but those of a line
+/// that a piece cut in two. `Read` and `TooLarge` come before the fault of a line: after a faulty
+/// line the rest is still read, and only counted. After `Read`, `TooLarge` and `OutOfMemory` it is
+/// not said how much was read.
 pub fn read_trace<R: Read>(
     alloc: Global,
     reader: &mut R,
@@ -30,6 +32,19 @@ pub fn read_trace<R: Read>(
     ensures large { result ≡ Err TraceFault.TooLarge
         → IfSome (R.remaining reader.old) (λ bytes. 2 ^ 30 < length bytes) }
 {
-    let bytes = streams::read_all(alloc, reader, MOST_BYTES)?;
-    parse_trace(alloc, bytes.as_slice(), format)
+    let mut scan = Scan::new(alloc, format);
+    let mut chunk = [0u8; CHUNK];
+    let mut pieces = Pieces::new();
+    'pieces: loop {
+        let count = pieces.next(reader, &mut chunk)?;
+        if count == 0 {
+            return scan.end();
+        }
+        if let Err(fault) = scan.take(&chunk[..count]) {
+            if fault != TraceFault::OutOfMemory {
+                pieces.pass_rest(reader, &mut chunk)?;
+            }
+            return Err(fault);
+        }
+    }
 }

@@ -1,6 +1,8 @@
 use super::{Format, Trace, TraceFault, read_trace};
 use std::alloc::Global;
+use std::io::{self, Error, ErrorKind, Read};
 use std::test::Fail;
+use streams::INTERRUPTIONS;
 
 fn traced(alloc: Global, format: Format, text: &str) -> Result<Trace, TraceFault> {
     read_trace(alloc, &mut text.as_bytes(), format)
@@ -80,5 +82,115 @@ fn faults_of_arc_files(rt: HostRuntime) {
     for (text, told) in table {
         let fault = traced(rt.alloc(), Format::Arc, text).err();
         assert_eq!(rt; fault, Some(told), "of {text:?}");
+    }
+}
+
+/// Hands out its text in pieces of a size, each after some interruptions, and then ends or fails.
+#[derive(Drop)]
+struct Pieces<'a> {
+    text: &'a [u8],
+    size: usize,
+    interruptions: u32,
+    interrupted: u32,
+    fails: bool,
+}
+
+impl Pieces<'_> {
+    fn of(text: &str, size: usize) -> Pieces<'_> {
+        Pieces {
+            text: text.as_bytes(),
+            size,
+            interruptions: 0,
+            interrupted: 0,
+            fails: false,
+        }
+    }
+}
+
+impl Read for Pieces<'_> {
+    fn read(&mut self, buf: &mut [u8]) -> io::Result<usize> {
+        if self.interrupted < self.interruptions {
+            self.interrupted += 1;
+            return Err(Error::from(ErrorKind::Interrupted));
+        }
+        self.interrupted = 0;
+        if self.text.is_empty() && self.fails {
+            return Err(Error::from(ErrorKind::BrokenPipe));
+        }
+        let count = self.size.min(self.text.len()).min(buf.len());
+        buf[..count].copy_from_slice(&self.text[..count]);
+        self.text = &self.text[count..];
+        Ok(count)
+    }
+}
+
+#[test]
+fn pieces_change_no_access(rt: HostRuntime) -> Result<(), Fail> {
+    for size in [1, 2, 3, 64] {
+        let mut lirs = Pieces::of("10\r\n\n*\n 20 \n30\n4", size);
+        let trace = read_trace(rt.alloc(), &mut lirs, Format::Lirs)?;
+        assert_eq!(rt;
+            trace.keys(),
+            [10, 20, 30, 4].as_slice(),
+            "in pieces of {size}"
+        );
+        let mut arc = Pieces::of("10 3 0 0\n11 1\n\n20 2\n", size);
+        let trace = read_trace(rt.alloc(), &mut arc, Format::Arc)?;
+        assert_eq!(rt;
+            trace.keys(),
+            [10, 11, 12, 11, 20, 21].as_slice(),
+            "in pieces of {size}"
+        );
+    }
+    Ok(())
+}
+
+#[test]
+fn pieces_change_no_fault(rt: HostRuntime) {
+    for size in [1, 2, 3, 64] {
+        for (text, line) in [("1\n12a\n3", 2), ("1\n\nx\ny", 3), ("1\n22\n3x", 3)] {
+            let fault = read_trace(rt.alloc(), &mut Pieces::of(text, size), Format::Lirs).err();
+            assert_eq!(rt;
+                fault,
+                Some(TraceFault::BadNumber { line }),
+                "of {text:?} by {size}"
+            );
+        }
+    }
+}
+
+#[test]
+fn a_failing_read_comes_before_a_faulty_line(rt: HostRuntime) {
+    for (text, size) in [
+        ("1\nx\n2\n", 1),
+        ("1\nx\n2\n", 64),
+        ("1\nx", 64),
+        ("1\n2\n", 2),
+    ] {
+        let mut pieces = Pieces {
+            fails: true,
+            ..Pieces::of(text, size)
+        };
+        let fault = read_trace(rt.alloc(), &mut pieces, Format::Lirs).err();
+        assert_eq!(rt; fault, Some(TraceFault::Read), "of {text:?} by {size}");
+    }
+}
+
+#[test]
+fn interruptions_of_all_pieces_count_together(rt: HostRuntime) {
+    // Two pieces and the end, each after as many interruptions; or a faulty line and the end.
+    let few = INTERRUPTIONS / 3;
+    for (text, interruptions, told) in [
+        ("12", few, None),
+        ("12", few + 1, Some(TraceFault::Read)),
+        ("x\n", few, Some(TraceFault::BadNumber { line: 1 })),
+        ("x\n", few + 1, Some(TraceFault::Read)),
+    ] {
+        let mut pieces = Pieces {
+            interruptions,
+            ..Pieces::of(text, 1)
+        };
+        let fault = read_trace(rt.alloc(), &mut pieces, Format::Lirs).err();
+        assert_eq!(rt; fault, told, "of {text:?} with {interruptions}");
     }
 }

@@ -1,4 +1,4 @@
-use Rattle.std.proofs.Common.{arith, sym, ap, ◌∙◌, ◌≡◌, get_or, true, Some}
+use Rattle.std.proofs.Common.{arith, sym, ap, ◌∙◌, ◌≡◌, ◌-◌, get_or, true, Some}
 use Rattle.std.proofs.lemmas.Bool.Decides.{nat_tests}
 use Rattle.std.proofs.lemmas.Int.Digits.{digits_value_more}
 use Rattle.std.proofs.lemmas.List.{take_all}
@@ -14,21 +14,17 @@ returns-then-is_empty c = empty_is_none _ (grind (arith, nat_tests))
 pub returns-then-not-is_ascii_digit : goal.returns-then-not-is_ascii_digit
 returns-then-not-is_ascii_digit c = other_is_none _ _ c.loop-byte-test.true (sym c.if-not-is_ascii_digit.ensures.value)
 
-pub returns-in_err-checked_mul : goal.returns-in_err-checked_mul
-returns-in_err-checked_mul c =
-    c.from_residual.ensures ∙ large_is_none _ _ c.loop-byte-test.true (omega (arith, c.in_err-checked_mul.ensures, c.loop-byte.invariant.0))
-
 pub returns-in_err-value : goal.returns-in_err-value
 returns-in_err-value c =
-    let digit : digit_value (get_or c.args.text.now c.loop-byte.byte-index 0) ≡ c.from.result = grind (arith, nat_tests) in
-    c.from_residual-in_err-value.ensures ∙ large_is_none _ _ c.loop-byte-test.true (omega (arith, c.in_err-value.ensures, c.in_ok-checked_mul.ensures.1, c.loop-byte.invariant.0))
+    let digit : digit_value (get_or c.args.text.now c.loop-byte.byte-index 0) ≡ get_or c.args.text.now c.loop-byte.byte-index 0 - 48 = grind (arith, nat_tests) in
+    c.from_residual.ensures ∙ large_is_none _ _ c.loop-byte-test.true (omega (arith, c.in_err-value.ensures, c.loop-byte.invariant.0))
 
 pub loop-byte-preserved : goal.loop-byte-preserved
 loop-byte-preserved c =
-    let digit : digit_value (get_or c.args.text.now c.loop-byte.byte-index 0) ≡ c.from.result = grind (arith, nat_tests) in (
-      omega (arith, digits_value_more 10 c.args.text.now _ c.loop-byte-test.true, c.in_ok-value.ensures.1, c.in_ok-checked_mul.ensures.1, c.loop-byte.invariant.0),
+    let digit : digit_value (get_or c.args.text.now c.loop-byte.byte-index 0) ≡ get_or c.args.text.now c.loop-byte.byte-index 0 - 48 = grind (arith, nat_tests) in (
+      omega (arith, digits_value_more 10 c.args.text.now _ c.loop-byte-test.true, c.in_ok-value.ensures, c.loop-byte.invariant.0),
       digits_more _ _ c.loop-byte-test.true c.loop-byte.invariant.1 (sym c.if-not-is_ascii_digit.ensures.value),
-      omega (arith, c.in_ok-value.ensures.0, c.in_ok-value.ensures.1),
+      omega (arith, c.in_ok-value.ensures),
     )
 
 pub returns : goal.returns

@@ -1,0 +1,34 @@
+-- What a scan of the lines comes to, whatever bytes still follow.
+use Rattle.std.specs.Prelude.{◌≡◌, ℕ, ◌+◌, ◌≤◌, ◌^◌, ◌==◌, false, List, [], ◌++◌, Option, length}
+use Rattle.std.specs.List.{All}
+use Rattle.trace_read.specs.Reading.{all_keys, first_fault, lines_of, IsRead}
+use Rattle.trace_read.specs.declared.fault.TraceFault.{TraceFault}
+use Rattle.trace_read.specs.declared.scan.Scan.{Scan}
+
+-- no byte is a line feed
+abbrev pub HasNoFeed : List ℕ → Type 0
+HasNoFeed = All (λ b. (b == 10) ≡ false)
+
+-- the fault of the whole file, and its accesses, where these bytes still follow
+abbrev pub fault_ahead : Scan → List ℕ → Option TraceFault
+fault_ahead s rest = first_fault s.format s.line (length s.keys.items) (lines_of (s.cut.items ++ rest))
+
+abbrev pub keys_ahead : Scan → List ℕ → List ℕ
+keys_ahead s rest = s.keys.items ++ all_keys s.format (lines_of (s.cut.items ++ rest))
+
+-- what every scan keeps to
+pub record IsScan (s : Scan) : Type 0 where
+  pub few : length s.keys.items ≤ 2 ^ 24
+  pub cut : HasNoFeed s.cut.items
+
+-- the scan that took a piece comes to what the piece and the rest came to before
+pub record IsTaken (old : Scan) (piece : List ℕ) (new : Scan) : Type 0 where
+  pub fault : (rest : List ℕ) → fault_ahead new rest ≡ fault_ahead old (piece ++ rest)
+  pub keys : (rest : List ℕ) → keys_ahead new rest ≡ keys_ahead old (piece ++ rest)
+
+-- a line came to its end with this text
+pub record IsEnded (old : Scan) (text : List ℕ) (new : Scan) : Type 0 where
+  pub read : IsRead old.format old.line old.keys.items (old.cut.items ++ text) new.keys.items
+  pub cut : new.cut.items ≡ []
+  pub line : new.line ≡ old.line + 1
+  pub format : new.format ≡ old.format

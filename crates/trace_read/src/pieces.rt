@@ -1,0 +1,64 @@
+//! The pieces that a trace file comes in.
+ghost use Rattle.std.specs.Prelude.{◌≡◌, ◌≤◌, ◌<◌, ◌+◌, ◌^◌, ◌⊎◌, Err, IfOk, IfErr, OnOk, IfSome, length, take};
+ghost use Rattle.std.specs.Io.KnownBytes.{Consumes, IsAtEnd};
+
+use super::TraceFault;
+use std::io::Read;
+use streams::{Patience, read_some};
+
+/// The most bytes that a trace file has.
+pub const MOST_BYTES: usize = 1 << 30;
+
+/// What a reading may still take: interruptions, and bytes.
+#[derive(Debug, Drop)]
+pub struct Pieces {
+    patience: Patience,
+    room: usize,
+}
+
+impl Pieces {
+    /// Those of a reading that has not begun.
+    pub fn new() -> Pieces
+        ensures { result.room ≡ 2 ^ 30 }
+    {
+        Pieces {
+            patience: Patience::new(),
+            room: MOST_BYTES,
+        }
+    }
+
+    /// The next bytes of the reader, put at the front of the chunk: how many they are, 0 at the end.
+    pub fn next<R: Read>(&mut self, reader: &mut R, chunk: &mut [u8]) -> Result<usize, TraceFault>
+        ensures within { IfOk result (λ n. n ≤ length chunk.new) }
+        ensures room { IfOk result (λ n. self.new.room + n ≡ self.old.room) }
+        ensures bytes { IfOk result (λ n.
+            Consumes (R.remaining reader.old) (R.remaining reader.new) (take n chunk.new)) }
+        ensures end { IfOk result (λ n.
+            n ≡ 0 → 0 < length chunk.new → IsAtEnd (R.remaining reader.new)) }
+        ensures large { result ≡ Err TraceFault.TooLarge
+            → IfSome (R.remaining reader.old) (λ xs. self.old.room < length xs) }
+        ensures err { IfErr result (λ e. (e ≡ TraceFault.TooLarge) ⊎ (e ≡ TraceFault.Read)) }
+    {
+        let count = read_some(reader, chunk, &mut self.patience)?;
+        if count > self.room {
+            return Err(TraceFault::TooLarge);
+        }
+        self.room -= count;
+        Ok(count)
+    }
+
+    /// Reads on to the end of the reader, and keeps nothing.
+    pub fn pass_rest<R: Read>(&mut self, reader: &mut R, chunk: &mut [u8]) -> Result<(), TraceFault>
+        requires { 0 < length chunk.old }
+        ensures few { OnOk result (IfSome (R.remaining reader.old) (λ xs. length xs ≤ self.old.room)) }
+        ensures large { result ≡ Err TraceFault.TooLarge
+            → IfSome (R.remaining reader.old) (λ xs. self.old.room < length xs) }
+        ensures err { IfErr result (λ e. (e ≡ TraceFault.TooLarge) ⊎ (e ≡ TraceFault.Read)) }
+    {
+        'pieces: loop {
+            if self.next(reader, chunk)? == 0 {
+                return Ok(());
+            }
+        }
+    }
+}

@@ -1,0 +1,127 @@
+//! The lines of a trace file, one after another.
+ghost use Rattle.std.specs.Prelude.{◌≡◌, ◌≤◌, ◌<◌, ◌+◌, ◌-◌, ◌^◌, ◌==◌, ◌++◌, ◌⊎◌, ℕ, List, [], Some, None, OnOk, IfOk, IfErr, length, vec_len};
+ghost use Rattle.std.specs.List.{position_or_len};
+ghost use Rattle.trace_read.specs.Reading.{fault_in, keys_in, IsOfLine, IsRead, IsRefused};
+ghost use Rattle.trace_read.specs.Scanned.{fault_ahead, keys_ahead, IsEnded, IsScan, IsTaken};
+
+use super::arc::add_arc;
+use super::format::Format;
+use super::lirs::add_lirs;
+use super::{Trace, TraceFault};
+use std::alloc::Global;
+use step_record::Key;
+
+// Adds the accesses of a line to those of the lines before it.
+fn add_line(format: Format, text: &[u8], line: u64, keys: &mut Vec<Key>) -> Result<(), TraceFault>
+    requires { vec_len keys.old ≤ 2 ^ 24 }
+    ensures ok { OnOk result (IsRead format line keys.old.items text.now keys.new.items) }
+    ensures within { OnOk result (vec_len keys.new ≤ 2 ^ 24) }
+    ensures err { IfErr result (IsRefused format line keys.old.items text.now) }
+{
+    match format {
+        Format::Lirs => add_lirs(text, line, keys),
+        Format::Arc => add_arc(text, line, keys),
+    }
+}
+
+// Where the first line feed is, or the length.
+fn line_end(bytes: &[u8]) -> usize
+    ensures place { result ≡ position_or_len (λ b. b == 10) bytes.now }
+    ensures within { result ≤ length bytes.now }
+{
+    let mut end = 0;
+    'ends: while end < bytes.len() {
+        if bytes[end] == b'\n' {
+            break;
+        }
+        end += 1;
+    }
+    end
+}
+
+/// A scan of the lines of a trace file, whose bytes come in pieces. It keeps no byte but those of
+/// the line that the last piece cut in two.
+#[derive(Debug, Drop)]
+pub struct Scan {
+    format: Format,
+    keys: Vec<Key>,
+    // The number of the line that comes to its end next.
+    line: u64,
+    // What is there of that line.
+    cut: Vec<u8>,
+}
+
+impl Scan {
+    /// The scan before the first byte.
+    pub fn new(alloc: Global, format: Format) -> Scan
+        ensures scan { IsScan result }
+        ensures fault { (rest : List ℕ) → fault_ahead result rest ≡ fault_in format rest }
+        ensures keys { (rest : List ℕ) → keys_ahead result rest ≡ keys_in format rest }
+        ensures line { result.line ≡ 1 }
+    {
+        Scan {
+            format,
+            keys: Vec::new(alloc),
+            line: 1,
+            cut: Vec::new(alloc),
+        }
+    }
+
+    /// Takes the next bytes: adds the accesses of each line that ends in them.
+    pub fn take(&mut self, piece: &[u8]) -> Result<(), TraceFault>
+        requires scan { IsScan self.old }
+        requires lines { self.old.line + length piece.now < 2 ^ 64 }
+        ensures scan { OnOk result (IsScan self.new) }
+        ensures taken { OnOk result (IsTaken self.old piece.now self.new) }
+        ensures lines { OnOk result (self.new.line ≤ self.old.line + length piece.now) }
+        ensures err { IfErr result (λ e. (e ≡ TraceFault.OutOfMemory)
+            ⊎ (IsOfLine e × ((rest : List ℕ) → fault_ahead self.old (piece.now ++ rest) ≡ Some e))) }
+    {
+        let mut rest = piece;
+        'lines: loop {
+            let end = line_end(rest);
+            if end == rest.len() {
+                self.cut.extend_from_slice(rest)?;
+                return Ok(());
+            }
+            self.end_line(&rest[..end])?;
+            rest = &rest[end + 1..];
+        }
+    }
+
+    /// The accesses that the bytes name, where no more of them come.
+    pub fn end(self) -> Result<Trace, TraceFault>
+        requires { IsScan self }
+        ensures ok { IfOk result (λ t. (fault_ahead self [] ≡ None) × (t ≡ keys_ahead self [])) }
+        ensures err { IfErr result (λ e. (e ≡ TraceFault.OutOfMemory)
+            ⊎ (IsOfLine e × (fault_ahead self [] ≡ Some e))) }
+    {
+        let Scan {
+            format,
+            mut keys,
+            line,
+            cut,
+        } = self;
+        add_line(format, cut.as_slice(), line, &mut keys)?;
+        Ok(Trace::new(keys))
+    }
+
+    // Adds the accesses of the line that ends with the text.
+    fn end_line(&mut self, text: &[u8]) -> Result<(), TraceFault>
+        requires scan { IsScan self.old }
+        requires line { self.old.line < 2 ^ 64 - 1 }
+        ensures scan { OnOk result (IsScan self.new) }
+        ensures ended { OnOk result (IsEnded self.old text.now self.new) }
+        ensures err { IfErr result (IsRefused self.old.format self.old.line self.old.keys.items (self.old.cut.items ++ text.now)) }
+    {
+        if self.cut.is_empty() {
+            add_line(self.format, text, self.line, &mut self.keys)?;
+        } else {
+            self.cut.extend_from_slice(text)?;
+            add_line(self.format, self.cut.as_slice(), self.line, &mut self.keys)?;
+            self.cut.clear();
+        }
+        self.line += 1;
+        Ok(())
+    }
+}
