@@ -14,8 +14,8 @@ fn with_digit(value: u64, digit: u8) -> Option<u64>
     value.checked_mul(10)?.checked_add(u64::from(digit))
 }
 
-/// The number that the text is, if it is one of a value below 2^64: digits alone, so that a plus, which `str::parse`
-/// reads, makes no number.
+/// The number that the text is, if it is one of a value below 2^64: digits alone, so that a plus,
+/// which `str::parse` reads, makes no number.
 // Kept out of the loop over the lines, which leaves it no register for the value.
 #[inline(never)]
 pub fn number(text: &[u8]) -> Option<u64>

@@ -1,4 +1,4 @@
-//! The pieces that a trace file comes in.
+//! The pieces that a trace file comes in, up to its most bytes.
 ghost use Rattle.std.specs.Prelude.{◌≡◌, ◌≤◌, ◌<◌, ◌+◌, ◌^◌, ◌⊎◌, Err, IfOk, IfErr, OnOk, IfSome, length, take};
 ghost use Rattle.std.specs.Io.KnownBytes.{Consumes, IsAtEnd};
 
@@ -6,8 +6,8 @@ use super::TraceFault;
 use std::io::Read;
 use streams::{Patience, read_some};
 
-/// The most bytes that a trace file has.
-pub const MOST_BYTES: usize = 1 << 30;
+// The most bytes that a trace file has.
+const MOST_BYTES: usize = 1 << 30;
 
 /// What a reading may still take: interruptions, and bytes.
 #[derive(Debug, Drop)]
@@ -17,7 +17,7 @@ pub struct Pieces {
 }
 
 impl Pieces {
-    /// Those of a reading that has not begun.
+    /// The room for a whole file.
     pub fn new() -> Pieces
         ensures { result.room ≡ 2 ^ 30 }
     {
@@ -27,7 +27,9 @@ impl Pieces {
         }
     }
 
-    /// The next bytes of the reader, put at the front of the chunk: how many they are, 0 at the end.
+    /// The next bytes of the reader, put at the front of the chunk: how many they are, and 0 at
+    /// the end. `Read` comes where the reader fails or was interrupted a million times in all,
+    /// `TooLarge` where there was more than the room that was left.
     pub fn next<R: Read>(&mut self, reader: &mut R, chunk: &mut [u8]) -> Result<usize, TraceFault>
         ensures within { IfOk result (λ n. n ≤ length chunk.new) }
         ensures room { IfOk result (λ n. self.new.room + n ≡ self.old.room) }
@@ -47,10 +49,11 @@ impl Pieces {
         Ok(count)
     }
 
-    /// Reads on to the end of the reader, and keeps nothing.
+    /// Reads on to the end of the reader, and only counts. The faults are those of `next`.
     pub fn pass_rest<R: Read>(&mut self, reader: &mut R, chunk: &mut [u8]) -> Result<(), TraceFault>
         requires { 0 < length chunk.old }
-        ensures few { OnOk result (IfSome (R.remaining reader.old) (λ xs. length xs ≤ self.old.room)) }
+        ensures few { OnOk result
+            (IfSome (R.remaining reader.old) (λ xs. length xs ≤ self.old.room)) }
         ensures large { result ≡ Err TraceFault.TooLarge
             → IfSome (R.remaining reader.old) (λ xs. self.old.room < length xs) }
         ensures err { IfErr result (λ e. (e ≡ TraceFault.TooLarge) ⊎ (e ≡ TraceFault.Read)) }

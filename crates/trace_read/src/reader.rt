@@ -15,8 +15,8 @@ const CHUNK: usize = 65_536;
 
 /// Reads the whole reader as a trace file, piece by piece, and keeps no bytes but those of a line
 /// that a piece cut in two. `Read` and `TooLarge` come before the fault of a line: after a faulty
-/// line the rest is still read, and only counted. After `Read`, `TooLarge` and `OutOfMemory` it is
-/// not said how much was read.
+/// line the rest is still read, and only counted. `OutOfMemory` comes at once. After it, `Read`
+/// and `TooLarge` it is not said how much was read.
 pub fn read_trace<R: Read>(
     alloc: Global,
     reader: &mut R,

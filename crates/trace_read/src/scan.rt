@@ -1,4 +1,4 @@
-//! The lines of a trace file, one after another.
+//! The lines of a trace file, one after another, as its bytes come in.
 ghost use Rattle.std.specs.Prelude.{◌≡◌, ◌≤◌, ◌<◌, ◌+◌, ◌-◌, ◌^◌, ◌==◌, ◌++◌, ◌⊎◌, ℕ, List, [], Some, None, OnOk, IfOk, IfErr, length, vec_len};
 ghost use Rattle.std.specs.List.{position_or_len};
 ghost use Rattle.trace_read.specs.Reading.{fault_in, keys_in, IsOfLine, IsRead, IsRefused};
@@ -41,6 +41,9 @@ fn line_end(bytes: &[u8]) -> usize
 
 /// A scan of the lines of a trace file, whose bytes come in pieces. It keeps no byte but those of
 /// the line that the last piece cut in two.
+///
+/// What it says is what the whole file comes to, for each list of bytes that may still follow: so
+/// no contract names the bytes that it took.
 #[derive(Debug, Drop)]
 pub struct Scan {
     format: Format,
@@ -67,7 +70,9 @@ impl Scan {
         }
     }
 
-    /// Takes the next bytes: adds the accesses of each line that ends in them.
+    /// Takes the next bytes: adds the accesses of each line that ends in them. `OutOfMemory` comes
+    /// where there is none for the accesses or the line that is cut, and the fault of a line at
+    /// the first faulty line, whatever follows it. After either the scan is of no more use.
     pub fn take(&mut self, piece: &[u8]) -> Result<(), TraceFault>
         requires scan { IsScan self.old }
         requires lines { self.old.line + length piece.now < 2 ^ 64 }
@@ -75,7 +80,8 @@ impl Scan {
         ensures taken { OnOk result (IsTaken self.old piece.now self.new) }
         ensures lines { OnOk result (self.new.line ≤ self.old.line + length piece.now) }
         ensures err { IfErr result (λ e. (e ≡ TraceFault.OutOfMemory)
-            ⊎ (IsOfLine e × ((rest : List ℕ) → fault_ahead self.old (piece.now ++ rest) ≡ Some e))) }
+            ⊎ (IsOfLine e
+            × ((rest : List ℕ) → fault_ahead self.old (piece.now ++ rest) ≡ Some e))) }
     {
         let mut rest = piece;
         'lines: loop {
@@ -89,10 +95,12 @@ impl Scan {
         }
     }
 
-    /// The accesses that the bytes name, where no more of them come.
+    /// The accesses that the bytes name, where no more of them come. The faults are those of
+    /// `take`, of the last line.
     pub fn end(self) -> Result<Trace, TraceFault>
         requires { IsScan self }
-        ensures ok { IfOk result (λ t. (fault_ahead self [] ≡ None) × (t ≡ keys_ahead self [])) }
+        ensures ok { IfOk result (λ t.
+            (fault_ahead self [] ≡ None) × (t ≡ keys_ahead self [])) }
         ensures err { IfErr result (λ e. (e ≡ TraceFault.OutOfMemory)
             ⊎ (IsOfLine e × (fault_ahead self [] ≡ Some e))) }
     {
@@ -112,7 +120,8 @@ impl Scan {
         requires line { self.old.line < 2 ^ 64 - 1 }
         ensures scan { OnOk result (IsScan self.new) }
         ensures ended { OnOk result (IsEnded self.old text.now self.new) }
-        ensures err { IfErr result (IsRefused self.old.format self.old.line self.old.keys.items (self.old.cut.items ++ text.now)) }
+        ensures err { IfErr result (IsRefused self.old.format self.old.line self.old.keys.items
+            (self.old.cut.items ++ text.now)) }
     {
         if self.cut.is_empty() {
             add_line(self.format, text, self.line, &mut self.keys)?;

@@ -1,4 +1,4 @@
-use Rattle.std.proofs.Common.{◌≡◌, ◌≤◌, ◌+◌, length}
+use Rattle.std.proofs.Common.{◌≤◌, ◌+◌}
 use Rattle.trace_read.proofs.Since.{Since}
 use Rattle.trace_read.proofs.Steps.{IsAhead}
 use Rattle.trace_read.specs.Scanned.{IsScan}

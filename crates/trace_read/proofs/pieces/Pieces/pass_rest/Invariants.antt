@@ -1,4 +1,4 @@
-use Rattle.std.proofs.Common.{◌≡◌, ◌≤◌, ◌+◌, length}
+use Rattle.std.proofs.Common.{◌≡◌, ◌+◌, length}
 use Rattle.trace_read.proofs.Since.{Since}
 use Rattle.trace_read.proofs.pieces.Pieces.pass_rest.Given as goal
 
