@@ -16,6 +16,7 @@ mod format;
 mod lirs;
 mod number;
 mod pieces;
+mod plain;
 mod reader;
 mod scan;
 mod trace;

@@ -1,6 +1,7 @@
 //! A line of the LIRS format.
-ghost use Rattle.std.specs.Prelude.{◌≡◌, ◌≤◌, ◌^◌, [], ◌∷◌, OnOk, IfErr, vec_len};
+ghost use Rattle.std.specs.Prelude.{◌≡◌, ◌≤◌, ◌^◌, ℕ, List, [], ◌∷◌, Ok, OnOk, IfErr, vec_len};
 ghost use Rattle.std.specs.Str.{bytes_eq};
+ghost use Rattle.trace_read.specs.Lines.{line_of};
 ghost use Rattle.trace_read.specs.Reading.{IsRead, IsRefused};
 
 use super::TraceFault;
@@ -30,6 +31,18 @@ pub fn add_lirs(text: &[u8], line: u64, keys: &mut Vec<Key>) -> Result<(), Trace
     let Some(key) = number(text) else {
         return Err(TraceFault::BadNumber { line });
     };
+    add_key(key, line, keys)
+}
+
+/// Adds the access of a line that names one key to those of the lines before it.
+pub fn add_key(key: Key, line: u64, keys: &mut Vec<Key>) -> Result<(), TraceFault>
+    requires { vec_len keys.old ≤ 2 ^ 24 }
+    ensures ok { (text : List ℕ) → line_of Format.Lirs text ≡ Ok (key ∷ []) →
+        OnOk result (IsRead Format.Lirs line keys.old.items text keys.new.items) }
+    ensures within { OnOk result (vec_len keys.new ≤ 2 ^ 24) }
+    ensures err { (text : List ℕ) → line_of Format.Lirs text ≡ Ok (key ∷ []) →
+        IfErr result (IsRefused Format.Lirs line keys.old.items text) }
+{
     if keys.len() == MOST_ACCESSES {
         return Err(TraceFault::TooLong { line });
     }

@@ -1,12 +1,13 @@
 //! The lines of a trace file, one after another, as its bytes come in.
-ghost use Rattle.std.specs.Prelude.{◌≡◌, ◌≤◌, ◌<◌, ◌+◌, ◌-◌, ◌^◌, ◌==◌, ◌++◌, ◌⊎◌, ℕ, List, [], Some, None, OnOk, IfOk, IfErr, length, vec_len};
-ghost use Rattle.std.specs.List.{position_or_len};
+ghost use Rattle.std.specs.Prelude.{◌≡◌, ◌≤◌, ◌<◌, ◌+◌, ◌-◌, ◌^◌, ◌∷◌, ◌++◌, ◌⊎◌, ℕ, List, [], Some, None, Ok, OnOk, IfOk, IfErr, IfSome, MatchOption, length, take, vec_len};
+ghost use Rattle.trace_read.specs.Lines.{line_of};
 ghost use Rattle.trace_read.specs.Reading.{fault_in, keys_in, IsOfLine, IsRead, IsRefused};
-ghost use Rattle.trace_read.specs.Scanned.{fault_ahead, keys_ahead, IsEnded, IsScan, IsTaken};
+ghost use Rattle.trace_read.specs.Scanned.{fault_ahead, feed_in, keys_ahead, IsEnded, IsScan, IsTaken};
 
 use super::arc::add_arc;
 use super::format::Format;
-use super::lirs::add_lirs;
+use super::lirs::{add_key, add_lirs};
+use super::plain::{PlainLine, plain_line};
 use super::{Trace, TraceFault};
 use std::alloc::Global;
 use step_record::Key;
@@ -26,7 +27,7 @@ fn add_line(format: Format, text: &[u8], line: u64, keys: &mut Vec<Key>) -> Resu
 
 // Where the first line feed is, or the length.
 fn line_end(bytes: &[u8]) -> usize
-    ensures place { result ≡ position_or_len (λ b. b == 10) bytes.now }
+    ensures place { result ≡ feed_in bytes.now }
     ensures within { result ≤ length bytes.now }
 {
     let mut end = 0;
@@ -85,12 +86,10 @@ impl Scan {
     {
         let mut rest = piece;
         'lines: loop {
-            let end = line_end(rest);
-            if end == rest.len() {
+            let Some(end) = self.end_next(rest)? else {
                 self.cut.extend_from_slice(rest)?;
                 return Ok(());
-            }
-            self.end_line(&rest[..end])?;
+            };
             rest = &rest[end + 1..];
         }
     }
@@ -112,6 +111,44 @@ impl Scan {
         } = self;
         add_line(format, cut.as_slice(), line, &mut keys)?;
         Ok(Trace::new(keys))
+    }
+
+    // Adds the accesses of the line that ends in these bytes, and tells where it ends; or none does.
+    fn end_next(&mut self, bytes: &[u8]) -> Result<Option<usize>, TraceFault>
+        requires scan { IsScan self.old }
+        requires lines { self.old.line + length bytes.now < 2 ^ 64 }
+        ensures scan { OnOk result (IsScan self.new) }
+        ensures ended { IfOk result (λ end. MatchOption end
+            ((feed_in bytes.now ≡ length bytes.now) × (self.new ≡ self.old))
+            (λ k. (k ≡ feed_in bytes.now) × (k < length bytes.now) × IsEnded self.old (take k bytes.now) self.new)) }
+        ensures err { IfErr result (λ e. (feed_in bytes.now < length bytes.now)
+            × IsRefused self.old.format self.old.line self.old.keys.items (self.old.cut.items ++ take (feed_in bytes.now) bytes.now) e) }
+    {
+        if let Some(plain) = self.plain_line(bytes) {
+            add_key(plain.key, self.line, &mut self.keys)?;
+            self.line += 1;
+            return Ok(Some(plain.end));
+        }
+        let end = line_end(bytes);
+        if end == bytes.len() {
+            return Ok(None);
+        }
+        self.end_line(&bytes[..end])?;
+        Ok(Some(end))
+    }
+
+    // The line that begins and ends in these bytes and is a number alone, where they begin with one.
+    fn plain_line(&self, bytes: &[u8]) -> Option<PlainLine>
+        ensures format { IfSome result (λ p. self.now.format ≡ Format.Lirs) }
+        ensures cut { IfSome result (λ p. self.now.cut.items ≡ []) }
+        ensures end { IfSome result (λ p. p.end ≡ feed_in bytes.now) }
+        ensures within { IfSome result (λ p. p.end < length bytes.now) }
+        ensures line { IfSome result (λ p. line_of Format.Lirs (take p.end bytes.now) ≡ Ok (p.key ∷ [])) }
+    {
+        match self.format {
+            Format::Lirs if self.cut.is_empty() => plain_line(bytes),
+            _ => None,
+        }
     }
 
     // Adds the accesses of the line that ends with the text.

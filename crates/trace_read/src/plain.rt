@@ -1,0 +1,40 @@
+//! Lines that are a number and nothing else, as nearly all of a LIRS trace are.
+ghost use Rattle.std.specs.Prelude.{◌≡◌, ◌<◌, ◌∷◌, [], Ok, IfSome, length, take};
+ghost use Rattle.trace_read.specs.Lines.{line_of};
+ghost use Rattle.trace_read.specs.Scanned.{feed_in};
+
+use super::format::Format;
+use step_record::Key;
+
+// A value below this has room for one more digit. Numbers that come near the limit are for `number`.
+const ROOMY: u64 = 1 << 60;
+
+/// A line that is a number and nothing else.
+#[derive(Clone, Copy, Debug)]
+pub struct PlainLine {
+    pub key: Key,
+    /// Where the line ends.
+    pub end: usize,
+}
+
+/// The first line of the LIRS format, where it ends in these bytes and is a number and nothing else: by one look at
+/// each byte. Where there is none the line is read as any other.
+pub fn plain_line(bytes: &[u8]) -> Option<PlainLine>
+    ensures end { IfSome result (λ p. p.end ≡ feed_in bytes.now) }
+    ensures within { IfSome result (λ p. p.end < length bytes.now) }
+    ensures line { IfSome result (λ p. line_of Format.Lirs (take p.end bytes.now) ≡ Ok (p.key ∷ [])) }
+{
+    let mut key: u64 = 0;
+    let mut end = 0;
+    'digits: while end < bytes.len() && key < ROOMY {
+        if !bytes[end].is_ascii_digit() {
+            break;
+        }
+        key = key * 10 + u64::from(bytes[end] - b'0');
+        end += 1;
+    }
+    if end == 0 || end == bytes.len() || bytes[end] != b'\n' {
+        return None;
+    }
+    Some(PlainLine { key, end })
+}
