@@ -21,10 +21,10 @@ pub fn raise(words: &mut [u64], at: usize) -> u8
 {
     let word = words[at / 16];
     let shift = 4 * (at % 16);
-    let was = (word >> shift) & 15;
+    let was = ((word >> shift) & 15) as u8;
     let below = was < 15;
     words[at / 16] = if below { word + (1 << shift) } else { word };
-    was as u8
+    was
 }
 
 /// Lowers the counter at a place, where it rose.

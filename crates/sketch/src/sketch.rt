@@ -24,16 +24,10 @@ pub struct Sketch {
     spread: Spread,
     words: Vec<u64>,
     alloc: Global,
-    // The key that was touched last, whose least the question after it asks for. None where no touch came, or where
-    // anything was undone or halved since.
-    last: Option<Least>,
-}
-
-// A key and the least of its four counters.
-#[derive(Clone, Copy)]
-struct Least {
-    key: Key,
-    least: u8,
+    // The key that was touched last and its least, which the question after it asks for. The least is None where no
+    // touch came, or where anything was undone or halved since.
+    last: Key,
+    last_least: Option<u8>,
 }
 
 impl Model for Sketch {
@@ -48,7 +42,7 @@ impl Model for Sketch {
     ghost view = { λ s. record { width = s.width; spread = s.spread; counters = by_place (4 * s.width) (counter_at s.words.items) } };
 
     ghost invariant = { λ s. (16 ≤ s.width) × (s.width ≤ 1048576) × (s.width ≡ 4 * length s.words.items) × (s.width ≡ 16 * (s.width / 16)) × IsPowerOfTwo s.width
-        × IfSome s.last (λ l. l.least ≡ least_of l.key record { width = s.width; spread = s.spread; counters = by_place (4 * s.width) (counter_at s.words.items) }) };
+        × IfSome s.last_least (λ n. n ≡ least_of s.last record { width = s.width; spread = s.spread; counters = by_place (4 * s.width) (counter_at s.words.items) }) };
 }
 
 impl Sketch {
@@ -66,7 +60,8 @@ impl Sketch {
             spread,
             words,
             alloc,
-            last: None,
+            last: 0,
+            last_least: None,
         })
     }
 
@@ -91,7 +86,8 @@ impl Sketch {
         let were = raise_rows(&mut self.words, self.width, columns);
         // Each of the four rose, but for those that were 15.
         let least = least_of_four(were[0], were[1], were[2], were[3]).min(14) + 1;
-        self.last = Some(Least { key, least });
+        self.last = key;
+        self.last_least = Some(least);
         let rose = [were[0] < 15, were[1] < 15, were[2] < 15, were[3] < 15];
         TouchRecord { key, rose }
     }
@@ -102,7 +98,7 @@ impl Sketch {
         requires { FitsTouch done self.old }
         ensures { self.new ≡ untouched done self.old }
     {
-        self.last = None;
+        self.last_least = None;
         lower_rows(&mut self.words, self.width, self.spread, &done);
     }
 
@@ -116,7 +112,7 @@ impl Sketch {
         ensures err { OnErr result (self.new ≡ self.old) }
     {
         let mut lost = vec![in self.alloc; 0; self.words.len() / 4]?;
-        self.last = None;
+        self.last_least = None;
         halve_words(&mut self.words, &mut lost);
         Ok(HalveRecord { words: lost })
     }
@@ -127,7 +123,7 @@ impl Sketch {
         requires { FitsHalve done self.old }
         ensures { self.new ≡ unhalved done self.old }
     {
-        self.last = None;
+        self.last_least = None;
         unhalve_words(&mut self.words, &done.words);
     }
 
@@ -136,8 +132,8 @@ impl Sketch {
         ensures value { result ≡ least_of key self.now }
         ensures small { result ≤ 15 }
     {
-        match self.last {
-            Some(last) if last.key == key => last.least,
+        match self.last_least {
+            Some(least) if key == self.last => least,
             _ => self.counted_least(key),
         }
     }
