@@ -1,5 +1,5 @@
 -- A table whose counters are given place by place.
-use Rattle.std.proofs.Common.{◌⊎◌, ◌≡◌, ℕ, suc, zero, ◌+◌, ◌-◌, ◌*◌, ◌/◌, ◌%◌, ◌^◌, ◌<◌, ◌≤◌, min, Bool, true, false, cond, eqb, nat_lt, ◌&&◌, List, get_or, refl, ap, ◌∙◌, sym, arith, inl, inr}
+use Rattle.std.proofs.Common.{◌⊎◌, ◌≡◌, ℕ, suc, zero, ◌+◌, ◌-◌, ◌*◌, ◌/◌, ◌%◌, ◌^◌, ◌<◌, ◌≤◌, min, Bool, true, false, cond, eqb, nat_lt, ◌&&◌, List, ◌∷◌, [], get_or, refl, ap, ◌∙◌, sym, arith, inl, inr}
 use Rattle.std.proofs.lemmas.Nat.{pow-add, div-mul-add, mod-mul-add, div-add-mod', div_below}
 use Rattle.std.proofs.lemmas.Bool.{eqb-true, eq-eqb, ltb-true, ltb-false}
 use Rattle.std.proofs.lemmas.Bool.Decides.{nat_tests}
@@ -7,13 +7,17 @@ use Rattle.step_record.specs.declared.config.Spread.{Spread}
 use Rattle.sketch.specs.declared.touch_record.TouchRecord.{TouchRecord}
 use Rattle.sketch.specs.Columns.{column, column_below}
 use Rattle.sketch.specs.Places.{by_place}
-use Rattle.sketch.specs.Sketch.{Table, counter_of, is_of, at_key, touched}
+use Rattle.sketch.specs.Sketch.{Table, counter_of, is_of, at_key, touched, least}
 use Rattle.sketch.specs.TouchRecord.{touch_record_of, rose, untouched, FitsTouch}
 use Rattle.sketch.proofs.Places.{get_or-by_place, by_place_same}
 
 pub two : (b : Bool) → (b ≡ true) ⊎ (b ≡ false)
 two true = inl refl
 two false = inr refl
+
+-- the least of two counters that rise is the least of the two, risen
+up_min : (a b : ℕ) → min (min 15 (a + 1)) (min 15 (b + 1)) ≡ min 15 (min a b + 1)
+up_min a b = omega arith
 
 module _ (w : ℕ) (s : Spread) (some : 0 < w) where
   abbrev pub table : (ℕ → ℕ) → Table
@@ -49,10 +53,6 @@ module _ (w : ℕ) (s : Spread) (some : 0 < w) where
       | inr e ↦ rw e refl
     ]
 
-    pub flags_are : (f : ℕ → ℕ) → by_place 4 (λ row. nat_lt (f (row * w + get_or cs row 0)) 15) ≡ by_place 4 (λ row. nat_lt (f (row * w + column s key row w)) 15)
-    flags_are f = by_place_same 4 (λ row. nat_lt (f (row * w + get_or cs row 0)) 15) (λ row. nat_lt (f (row * w + column s key row w)) 15) false
-        (λ row h. ap (λ n. nat_lt (f (row * w + n)) 15) (column_is row h))
-
   -- a change of a key's counters, and one that takes it back
   module _ (key : ℕ) (g : ℕ → ℕ → ℕ) (f : ℕ → ℕ) where
     pub keyed : (f' : ℕ → ℕ) → ((i : ℕ) → f' i ≡ cond (nat_lt (i / w) 4 && is_of s w key i) (g (i / w) (f i)) (f i)) → table f' ≡ at_key key g (table f)
@@ -80,9 +80,31 @@ module _ (w : ℕ) (s : Spread) (some : 0 < w) where
     own_before : (row : ℕ) → row < 4 → counter_of key (table f) row ≡ f (row * w + column s key row w)
     own_before row h = get_or-by_place (4 * w) f (row * w + column s key row w) 0 (place_within key row h)
 
-    pub record_is : by_place 4 (λ row. nat_lt (f (row * w + column s key row w)) 15) ≡ (touch_record_of key (table f)).rose
-    record_is = by_place_same 4 (λ row. nat_lt (f (row * w + column s key row w)) 15) (λ row. nat_lt (counter_of key (table f) row) 15) false
-        (λ row h. ap (λ x. nat_lt x 15) (sym (own_before row h)))
+    -- the least of a key rises with its counters
+    pub touched_least : least key (touched key (table f)) ≡ min 15 (least key (table f) + 1)
+    touched_least =
+        let up : ℕ → ℕ → ℕ = λ row x. min 15 (x + 1) in
+        let rises : (row : ℕ) → row < 4 → counter_of key (touched key (table f)) row ≡ min 15 (counter_of key (table f) row + 1) = λ row h.
+        own_counter key up f row h ∙ ap (up row) (sym (own_before row h)) in
+        let at = counter_of key (table f) in
+        rw (rises 0 (omega arith), rises 1 (omega arith), rises 2 (omega arith), rises 3 (omega arith))
+        (rw (up_min (at 0) (at 1), up_min (at 2) (at 3)) (up_min (min (at 0) (at 1)) (min (at 2) (at 3))))
+
+    -- the counters that a touch met at the key's columns, and what is kept of them
+    module _ (cs : List ℕ) (columns_are : cs ≡ by_place 4 (λ row. column s key row w)) (were : List ℕ) (were_are : were ≡ by_place 4 (λ row. f (row * w + get_or cs row 0))) where
+      met : were ≡ by_place 4 (counter_of key (table f))
+      met = were_are ∙ by_place_same 4 (λ row. f (row * w + get_or cs row 0)) (counter_of key (table f)) 0
+          (λ row h. ap (λ n. f (row * w + n)) (column_is key cs columns_are row h) ∙ sym (own_before row h))
+
+      pub flags_are : nat_lt (get_or were 0 0) 15 ∷ nat_lt (get_or were 1 0) 15 ∷ nat_lt (get_or were 2 0) 15 ∷ nat_lt (get_or were 3 0) 15 ∷ [] ≡ (touch_record_of key (table f)).rose
+      flags_are = rw met refl
+
+      least_before : min (min (get_or were 0 0) (get_or were 1 0)) (min (get_or were 2 0) (get_or were 3 0)) ≡ least key (table f)
+      least_before = rw met refl
+
+      pub kept_is : (t : Table) (n : ℕ) → t ≡ touched key (table f)
+          → n ≡ min (min (min (get_or were 0 0) (get_or were 1 0)) (min (get_or were 2 0) (get_or were 3 0))) 14 + 1 → n ≡ least key t
+      kept_is t n e m = rw (e, touched_least, m, least_before) (omega arith)
 
     flag : (row : ℕ) → row < 4 → rose (touch_record_of key (table f)) row ≡ nat_lt (f (row * w + column s key row w)) 15
     flag row h = get_or-by_place 4 (λ row. nat_lt (counter_of key (table f) row) 15) row false h ∙ ap (λ x. nat_lt x 15) (own_before row h)

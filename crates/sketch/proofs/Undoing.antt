@@ -1,7 +1,8 @@
 -- What undoes a touch and a halving, over any table.
 use Rattle.std.proofs.Common.{◌≡◌, ℕ, ◌+◌, ◌*◌, ◌/◌, ◌%◌, ◌≤◌, min, Bool, true, false, cond, List, get_or, ap, ◌∙◌, subst, arith}
 use Rattle.sketch.specs.declared.touch_record.TouchRecord.{TouchRecord}
-use Rattle.sketch.specs.Sketch.{Table, is_of, touched, halved, IsTable}
+use Rattle.sketch.specs.Sketch.{Table, counter_of, is_of, touched, halved, least, IsTable}
+use Rattle.sketch.specs.Columns.{column}
 use Rattle.sketch.specs.TouchRecord.{touch_record_of, untouched, FitsTouch}
 use Rattle.sketch.specs.HalveRecord.{halve_record_of, unhalved, FitsHalve}
 use Rattle.sketch.proofs.Places.{length-by_place, get_or-by_place, by_place_same, by_place_whole, small_by_place}
@@ -46,6 +47,9 @@ module _ (t : Table) (is : IsTable t) where
 
   pub unhalved_is : (bits : List ℕ) (u : Table) → bits ≡ halve_record_of t → u ≡ halved t → unhalved bits u ≡ t
   unhalved_is bits u e f = rw (e, f) halve_undone
+
+  pub least_small : (key : ℕ) → least key t ≤ 15
+  least_small key = let first : counter_of key t 0 ≤ 15 = is.small (0 * t.width + column t.spread key 0 t.width) in omega (arith, first)
 
   -- what a touch or a halving leaves is a table again
   pub touched_is : (key : ℕ) → IsTable (touched key t)

@@ -1,5 +1,5 @@
 //! Sixteen counters in a word.
-ghost use Rattle.std.specs.Prelude.{◌≡◌, ◌≢◌, ◌<◌, ◌≤◌, ◌+◌, ◌-◌, ◌^◌, ◌*◌, ◌/◌, length, ℕ, nat_lt, min, cond, true};
+ghost use Rattle.std.specs.Prelude.{◌≡◌, ◌≢◌, ◌<◌, ◌≤◌, ◌+◌, ◌-◌, ◌^◌, ◌*◌, ◌/◌, length, ℕ, min, cond, true};
 ghost use Rattle.sketch.specs.Counters.{counter_at};
 
 /// The counter at a place.
@@ -12,18 +12,19 @@ pub fn get(words: &[u64], at: usize) -> u8
     ((word >> (4 * (at % 16))) & 15) as u8
 }
 
-/// Raises the counter at a place, unless it is 15, and says whether it rose.
-pub fn raise(words: &mut [u64], at: usize) -> bool
+/// Raises the counter at a place, unless it is 15, and hands out what it was.
+pub fn raise(words: &mut [u64], at: usize) -> u8
     requires { at < 16 * length words.old }
-    ensures rose { result ≡ nat_lt (counter_at words.old at) 15 }
+    ensures was { result ≡ counter_at words.old at }
     ensures here { counter_at words.new at ≡ min 15 (counter_at words.old at + 1) }
     ensures same { (i : ℕ) → i ≢ at → counter_at words.new i ≡ counter_at words.old i }
 {
     let word = words[at / 16];
     let shift = 4 * (at % 16);
-    let below = (word >> shift) & 15 < 15;
+    let was = ((word >> shift) & 15) as u8;
+    let below = was < 15;
     words[at / 16] = if below { word + (1 << shift) } else { word };
-    below
+    was
 }
 
 /// Lowers the counter at a place, where it rose.

@@ -11,22 +11,22 @@ use crate::counters::{lower, raise};
 use crate::touch_record::TouchRecord;
 use step_record::{Key, Spread};
 
-/// Raises the counter at a column of each row, and says which rose.
-pub fn raise_rows(words: &mut [u64], width: u32, columns: [u32; 4]) -> [bool; 4]
+/// Raises the counter at a column of each row, and hands out what the four were.
+pub fn raise_rows(words: &mut [u64], width: u32, columns: [u32; 4]) -> [u8; 4]
     requires low { 1 ≤ width }
     requires high { width ≤ 2 ^ 20 }
     requires whole { width ≡ 4 * length words.old }
     requires below { (row : ℕ) → row < 4 → slice_index columns row < width }
     ensures counters { (i : ℕ) → counter_at words.new i
         ≡ cond (nat_lt (i / width) 4 && slice_index columns (i / width) == i % width) (min 15 (counter_at words.old i + 1)) (counter_at words.old i) }
-    ensures rose { result ≡ by_place 4 (λ row. nat_lt (counter_at words.old (row * width + slice_index columns row)) 15) }
+    ensures were { result ≡ by_place 4 (λ row. counter_at words.old (row * width + slice_index columns row)) }
 {
-    let mut rose = [false; 4];
+    let mut were = [0; 4];
     for row in 0..4u32 {
         let at = row * width + columns[row as usize];
-        rose[row as usize] = raise(words, at as usize);
+        were[row as usize] = raise(words, at as usize);
     }
-    rose
+    were
 }
 
 /// Lowers the key's counter in each row where the touch raised it.

@@ -1,7 +1,6 @@
 //! Four rows of counters up to 15.
-ghost use Rattle.std.specs.Prelude.{◌≡◌, ◌<◌, ◌≤◌, ◌*◌, ◌^◌, slice_index, ℕ, IfOk, OnOk, OnErr};
+ghost use Rattle.std.specs.Prelude.{◌≡◌, ◌<◌, ◌≤◌, ◌*◌, ◌^◌, min, IfOk, OnOk, OnErr};
 ghost use Rattle.std.specs.Int.{IsPowerOfTwo};
-ghost use Rattle.sketch.specs.Columns.{column as column_at};
 ghost use Rattle.sketch.specs.Places.{by_place};
 ghost use Rattle.sketch.specs.Sketch.{counter as counter_of, touched, halved, least as least_of};
 ghost use Rattle.sketch.specs.TouchRecord.{touch_record_of, untouched, FitsTouch};
@@ -25,17 +24,17 @@ pub struct Sketch {
     spread: Spread,
     words: Vec<u64>,
     alloc: Global,
-    // The key that was touched last, and its columns, which the question after it asks for again.
+    // The key that was touched last and its least, which the question after it asks for. The least is None where no
+    // touch came, or where anything was undone or halved since.
     last: Key,
-    last_columns: [u32; 4],
+    last_least: Option<u8>,
 }
 
 impl Model for Sketch {
-    ghost use Rattle.std.specs.Prelude.{◌≡◌, ◌≤◌, ◌*◌, ◌/◌, length};
-    ghost use Rattle.sketch.specs.Sketch.{Table};
+    ghost use Rattle.std.specs.Prelude.{◌≡◌, ◌≤◌, ◌*◌, ◌/◌, length, IfSome};
+    ghost use Rattle.sketch.specs.Sketch.{Table, least as least_of};
     ghost use Rattle.sketch.specs.Places.{by_place};
     ghost use Rattle.sketch.specs.Counters.{counter_at};
-    ghost use Rattle.sketch.specs.Columns.{column};
     ghost use Rattle.std.specs.Int.{IsPowerOfTwo};
 
     ghost Value = { Table };
@@ -43,7 +42,7 @@ impl Model for Sketch {
     ghost view = { λ s. record { width = s.width; spread = s.spread; counters = by_place (4 * s.width) (counter_at s.words.items) } };
 
     ghost invariant = { λ s. (16 ≤ s.width) × (s.width ≤ 1048576) × (s.width ≡ 4 * length s.words.items) × (s.width ≡ 16 * (s.width / 16)) × IsPowerOfTwo s.width
-        × (s.last_columns ≡ by_place 4 (λ row. column s.spread s.last row s.width)) };
+        × IfSome s.last_least (λ n. n ≡ least_of s.last record { width = s.width; spread = s.spread; counters = by_place (4 * s.width) (counter_at s.words.items) }) };
 }
 
 impl Sketch {
@@ -62,7 +61,7 @@ impl Sketch {
             words,
             alloc,
             last: 0,
-            last_columns: columns(spread, 0, width),
+            last_least: None,
         })
     }
 
@@ -83,9 +82,13 @@ impl Sketch {
         ensures fits { FitsTouch result self.new }
         ensures undone { untouched result self.new ≡ self.old }
     {
-        self.last_columns = columns(self.spread, key, self.width);
+        let columns = columns(self.spread, key, self.width);
+        let were = raise_rows(&mut self.words, self.width, columns);
+        // Each of the four rose, but for those that were 15.
+        let least = least_of_four(were[0], were[1], were[2], were[3]).min(14) + 1;
         self.last = key;
-        let rose = raise_rows(&mut self.words, self.width, self.last_columns);
+        self.last_least = Some(least);
+        let rose = [were[0] < 15, were[1] < 15, were[2] < 15, were[3] < 15];
         TouchRecord { key, rose }
     }
 
@@ -95,6 +98,7 @@ impl Sketch {
         requires { FitsTouch done self.old }
         ensures { self.new ≡ untouched done self.old }
     {
+        self.last_least = None;
         lower_rows(&mut self.words, self.width, self.spread, &done);
     }
 
@@ -108,6 +112,7 @@ impl Sketch {
         ensures err { OnErr result (self.new ≡ self.old) }
     {
         let mut lost = vec![in self.alloc; 0; self.words.len() / 4]?;
+        self.last_least = None;
         halve_words(&mut self.words, &mut lost);
         Ok(HalveRecord { words: lost })
     }
@@ -118,6 +123,7 @@ impl Sketch {
         requires { FitsHalve done self.old }
         ensures { self.new ≡ unhalved done self.old }
     {
+        self.last_least = None;
         unhalve_words(&mut self.words, &done.words);
     }
 
@@ -126,25 +132,30 @@ impl Sketch {
         ensures value { result ≡ least_of key self.now }
         ensures small { result ≤ 15 }
     {
-        let columns = self.columns_of(key);
+        match self.last_least {
+            Some(least) if key == self.last => least,
+            _ => self.counted_least(key),
+        }
+    }
+
+    // The least of the key's four counters, read at its columns.
+    fn counted_least(&self, key: Key) -> u8
+        ensures value { result ≡ least_of key self.now }
+        ensures small { result ≤ 15 }
+    {
+        let columns = columns(self.spread, key, self.width);
         let a = self.counter(0, columns[0]);
         let b = self.counter(1, columns[1]);
         let c = self.counter(2, columns[2]);
         let d = self.counter(3, columns[3]);
-        a.min(b).min(c.min(d))
+        least_of_four(a, b, c, d)
     }
+}
 
-    // The key's columns, which are at hand for the key that was touched last.
-    fn columns_of(&self, key: Key) -> [u32; 4]
-        ensures value { result ≡ by_place 4 (λ row. column_at self.now.spread key row self.now.width) }
-        ensures below { (row : ℕ) → row < 4 → slice_index result row < self.now.width }
-    {
-        if key == self.last {
-            self.last_columns
-        } else {
-            columns(self.spread, key, self.width)
-        }
-    }
+fn least_of_four(a: u8, b: u8, c: u8, d: u8) -> u8
+    ensures { result ≡ min (min a b) (min c d) }
+{
+    a.min(b).min(c.min(d))
 }
 
 #[cfg(test)]
@@ -183,6 +194,48 @@ mod tests {
             assert_eq!(rt; (sketch.least(5), halving.words()), (1, 1));
             sketch.unhalve(halving);
             assert_eq!(rt; sketch.least(5), 3);
+        }
+        Ok(())
+    }
+
+    // The least of a key as the sketch says it, and as the key's counters do.
+    fn leasts(sketch: &Sketch, key: Key) -> (u8, u8) {
+        let mut read = 15;
+        for row in 0..4u32 {
+            let at = column(sketch.spread, key, row, sketch.width);
+            read = read.min(sketch.counter(row, at));
+        }
+        (sketch.least(key), read)
+    }
+
+    // Whatever came last, the sketch says the least of the counters as they are. Spread plainly, the keys 5 and 21
+    // share a counter in row 0.
+    #[test]
+    fn says_the_least_of_its_counters(rt: HostRuntime) -> Result<(), Fail> {
+        for spread in [Spread::Plain, Spread::Mixed] {
+            let mut sketch = Sketch::new(rt.alloc(), 16, spread)?;
+            for times in 1..=17u8 {
+                let _ = sketch.touch(5);
+                assert_eq!(rt; leasts(&sketch, 5), (times.min(15), times.min(15)));
+            }
+            let _ = sketch.touch(21);
+            let second = sketch.touch(21);
+            assert_eq!(rt;
+                (leasts(&sketch, 21), leasts(&sketch, 5)),
+                ((2, 2), (15, 15))
+            );
+            let halving = sketch.halve()?;
+            assert_eq!(rt; (leasts(&sketch, 21), leasts(&sketch, 5)), ((1, 1), (7, 7)));
+            sketch.unhalve(halving);
+            assert_eq!(rt;
+                (leasts(&sketch, 21), leasts(&sketch, 5)),
+                ((2, 2), (15, 15))
+            );
+            sketch.untouch(second);
+            assert_eq!(rt;
+                (leasts(&sketch, 21), leasts(&sketch, 5)),
+                ((1, 1), (15, 15))
+            );
         }
         Ok(())
     }

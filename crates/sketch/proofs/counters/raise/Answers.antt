@@ -1,4 +1,4 @@
-use Rattle.std.proofs.Common.{◌%◌, ◌/◌, ◌*◌, ◌^◌, ◌<◌, ◌≤◌, ◌+◌, ◌≡◌, ℕ, min, nat_lt, bit_and, get_or, refl, arith, ap, ◌∙◌}
+use Rattle.std.proofs.Common.{◌%◌, ◌/◌, ◌*◌, ◌^◌, ◌<◌, ◌≤◌, ◌+◌, ◌≡◌, ℕ, min, bit_and, get_or, refl, arith, ◌∙◌}
 use Rattle.std.proofs.lemmas.Nat.{and_mask}
 use Rattle.sketch.specs.Counters.{nibble}
 use Rattle.sketch.proofs.Digits.{nibble_is, nibble_lt, fits_more, unit, raised_here, raised_other, set_here, set_other}
@@ -15,8 +15,8 @@ overflow_add-words c =
     let lt : get_or c.args.words.now (c.args.at / 16) 0 < 2 ^ 64 = omega arith in
     record { fits = rw (unit c.args.at) (fits_more 16 (c.args.at % 16) (get_or c.args.words.now (c.args.at / 16) 0) (omega arith) lt room) }
 
-pub returns-clause-rose : goal.returns-clause-rose
-returns-clause-rose c = ap (λ x. nat_lt x 15) (seen (c.args.at % 16) (get_or c.args.words.now (c.args.at / 16) 0))
+pub returns-clause-was : goal.returns-clause-was
+returns-clause-was c = seen (c.args.at % 16) (get_or c.args.words.now (c.args.at / 16) 0)
 
 pub returns-clause-here : goal.returns-clause-here
 returns-clause-here c =

@@ -1,31 +1,46 @@
-use Rattle.std.proofs.Common.{◌≡◌, List, Bool, arith, ◌∙◌, ap, cond, ◌+◌, ◌<◌, min, length}
+use Rattle.std.proofs.Common.{◌≡◌, List, Bool, arith, ◌∙◌, ap, sym, cond, ◌+◌, ◌<◌, min, length}
 use Rattle.std.specs.Vec.{with_items}
 use Rattle.std.proofs.lemmas.List.{with_items_is}
 use Rattle.sketch.specs.declared.touch_record.TouchRecord.{TouchRecord}
 use Rattle.sketch.specs.Counters.{counter_at}
-use Rattle.sketch.specs.Sketch.{IsTable}
+use Rattle.sketch.specs.Sketch.{touched, IsTable}
 use Rattle.sketch.proofs.Halves.{table_is}
-use Rattle.sketch.proofs.Tables.{keyed, own_column, flags_are, record_is}
+use Rattle.sketch.proofs.Tables.{keyed, own_column, flags_are, kept_is}
 use Rattle.sketch.proofs.Undoing.{untouched_is, touch_fits}
 use Rattle.sketch.proofs.sketch.Sketch.touch.Goals as goal
 
 pub returns-clause-after : goal.returns-clause-after
 returns-clause-after c =
     let some : 0 < c.self.inside.width = omega (arith, c.self.invariant.0) in
-    let n : length c.raise_rows-rose.new.words ≡ c.self.inside.words.len = omega (arith, c.raise_rows-rose.auto.words, c.deref_mut.ensures.len) in
-    let items : (with_items c.self.inside.words c.raise_rows-rose.new.words).items ≡ c.raise_rows-rose.new.words = with_items_is c.self.inside.words c.raise_rows-rose.new.words n in
-    let counters = rw c.deref_mut.ensures.value at c.raise_rows-rose.ensures.counters in
-    let own = own_column c.self.inside.width c.self.inside.spread some c.args.key c.columns-self-inside.result c.columns-self-inside.ensures.value in
-    rw (← c.self.view_is, items) (keyed c.self.inside.width c.self.inside.spread some c.args.key (λ row x. min 15 (x + 1)) (counter_at c.self.inside.words.items) (counter_at c.raise_rows-rose.new.words)
+    let n : length c.raise_rows-were.new.words ≡ c.self.inside.words.len = omega (arith, c.raise_rows-were.auto.words, c.deref_mut.ensures.len) in
+    let items : (with_items c.self.inside.words c.raise_rows-were.new.words).items ≡ c.raise_rows-were.new.words = with_items_is c.self.inside.words c.raise_rows-were.new.words n in
+    let counters = rw c.deref_mut.ensures.value at c.raise_rows-were.ensures.counters in
+    let own = own_column c.self.inside.width c.self.inside.spread some c.args.key c.columns-columns.result c.columns-columns.ensures.value in
+    rw (← c.self.view_is, items) (keyed c.self.inside.width c.self.inside.spread some c.args.key (λ row x. min 15 (x + 1)) (counter_at c.self.inside.words.items) (counter_at c.raise_rows-were.new.words)
     (λ i. counters i ∙ ap (λ b. cond b (min 15 (counter_at c.self.inside.words.items i + 1)) (counter_at c.self.inside.words.items i)) (own i)))
 
 pub returns-clause-record_is : goal.returns-clause-record_is
 returns-clause-record_is c =
     let some : 0 < c.self.inside.width = omega (arith, c.self.invariant.0) in
-    let flags = rw c.deref_mut.ensures.value at c.raise_rows-rose.ensures.rose in
+    let were = rw c.deref_mut.ensures.value at c.raise_rows-were.ensures.were in
     rw (← c.self.view_is) (ap (λ (bs : List Bool). let r : TouchRecord = record { key = c.args.key; rose = bs } in r)
-    (flags ∙ flags_are c.self.inside.width c.self.inside.spread some c.args.key c.columns-self-inside.result c.columns-self-inside.ensures.value (counter_at c.self.inside.words.items)
-    ∙ record_is c.self.inside.width c.self.inside.spread some c.args.key (counter_at c.self.inside.words.items)))
+    (flags_are c.self.inside.width c.self.inside.spread some c.args.key (counter_at c.self.inside.words.items) c.columns-columns.result c.columns-columns.ensures.value c.raise_rows-were.result were))
+
+pub invariant_of-self : goal.invariant_of-self
+invariant_of-self c =
+    let some : 0 < c.self.inside.width = omega (arith, c.self.invariant.0) in
+    let were = rw c.deref_mut.ensures.value at c.raise_rows-were.ensures.were in
+    let after = returns-clause-after c ∙ ap (touched c.args.key) (sym c.self.view_is) in
+    let n : length c.raise_rows-were.new.words ≡ c.self.inside.words.len = omega (arith, c.raise_rows-were.auto.words, c.deref_mut.ensures.len) in
+    let items : length (with_items c.self.inside.words c.raise_rows-were.new.words).items ≡ length c.raise_rows-were.new.words = ap length (with_items_is c.self.inside.words c.raise_rows-were.new.words n) in (
+      c.self.invariant.0,
+      c.self.invariant.1,
+      omega (arith, items, n, c.self.inside.words.ok.0, c.self.invariant.2),
+      c.self.invariant.3,
+      c.self.invariant.4,
+      kept_is c.self.inside.width c.self.inside.spread some c.args.key (counter_at c.self.inside.words.items) c.columns-columns.result c.columns-columns.ensures.value c.raise_rows-were.result were _ _ after
+          (rw (← c.least_of_four.ensures) (ap (λ n. n + 1) c.min-least.ensures)),
+    )
 
 pub returns-clause-fits : goal.returns-clause-fits
 returns-clause-fits c =
