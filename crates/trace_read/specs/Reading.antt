@@ -8,8 +8,6 @@ use Rattle.trace_read.specs.LineFault.{LineFault}
 use Rattle.trace_read.specs.LineFault as line
 use Rattle.trace_read.specs.declared.fault.TraceFault.{TraceFault}
 use Rattle.trace_read.specs.declared.fault.TraceFault.TheVariants.{OutOfMemory, BadNumber, MissingField, Range, TooLong, TooLarge, Read}
-use Rattle.streams.specs.declared.ReadAllFault.{ReadAllFault}
-use Rattle.streams.specs.declared.ReadAllFault.TheVariants as stream
 
 -- the pieces between line feeds
 abbrev pub lines_of : List ℕ → List (List ℕ)
@@ -70,11 +68,6 @@ IsOfLine (TooLong n) = Unit {0}
 IsOfLine OutOfMemory = ⊥
 IsOfLine TooLarge = ⊥
 IsOfLine Read = ⊥
-
-abbrev pub read_fault_of : ReadAllFault → TraceFault
-read_fault_of stream.OutOfMemory = OutOfMemory
-read_fault_of stream.TooLarge = TooLarge
-read_fault_of stream.Read = Read
 
 -- line n has no fault after the old accesses, and adds its own
 pub record IsRead (format : Format) (n : ℕ) (old line new : List ℕ) : Type 0 where
