@@ -17,8 +17,8 @@ pub struct PlainLine {
     pub end: usize,
 }
 
-/// The first line of the LIRS format, where it ends in these bytes and is a number and nothing else: by one look at
-/// each byte. Where there is none the line is read as any other.
+/// The first line of these bytes, where it ends in them and the LIRS format takes it for a number and nothing else:
+/// by one look at each byte. `None` says nothing of the line.
 pub fn plain_line(bytes: &[u8]) -> Option<PlainLine>
     ensures end { IfSome result (λ p. p.end ≡ feed_in bytes.now) }
     ensures within { IfSome result (λ p. p.end < length bytes.now) }

@@ -113,7 +113,7 @@ impl Scan {
         Ok(Trace::new(keys))
     }
 
-    // Adds the accesses of the line that ends in these bytes, and tells where it ends; or none does.
+    // Adds the accesses of the next line, where it ends in these bytes, and tells the place of its end.
     fn end_next(&mut self, bytes: &[u8]) -> Result<Option<usize>, TraceFault>
         requires scan { IsScan self.old }
         requires lines { self.old.line + length bytes.now < 2 ^ 64 }
@@ -137,7 +137,7 @@ impl Scan {
         Ok(Some(end))
     }
 
-    // The line that begins and ends in these bytes and is a number alone, where they begin with one.
+    // The next line, where these bytes hold the whole of it and it is a number alone.
     fn plain_line(&self, bytes: &[u8]) -> Option<PlainLine>
         ensures format { IfSome result (λ p. self.now.format ≡ Format.Lirs) }
         ensures cut { IfSome result (λ p. self.now.cut.items ≡ []) }

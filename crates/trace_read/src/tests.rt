@@ -10,8 +10,12 @@ fn traced(alloc: Global, format: Format, text: &str) -> Result<Trace, TraceFault
 
 #[test]
 fn accesses_of_lirs_files(rt: HostRuntime) -> Result<(), Fail> {
-    let table: [(&str, &[u64]); 7] = [
+    let table: [(&str, &[u64]); 8] = [
         ("", &[]),
+        (
+            "18446744073709551615\n1152921504606846976\n",
+            &[18_446_744_073_709_551_615, 1_152_921_504_606_846_976],
+        ),
         ("1\r\n\r\n*\r\n007\n5", &[1, 7, 5]),
         ("1", &[1]),
         ("10", &[10]),
@@ -48,6 +52,7 @@ fn accesses_of_arc_files(rt: HostRuntime) -> Result<(), Fail> {
 #[test]
 fn faults_of_lirs_files(rt: HostRuntime) {
     let table = [
+        ("18446744073709551615\n18446744073709551616\n", 2),
         ("1\n12a\n", 2),
         ("1 2", 1),
         ("18446744073709551616", 1),
