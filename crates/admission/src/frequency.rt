@@ -70,7 +70,7 @@ impl Frequency {
         ensures appends { (s : Shape) (keys : List ℕ) → IsShape s → self.old ≡ frequency_of s keys
             → OnOk result (self.new ≡ frequency_of s (keys ++ key ∷ [])) }
     {
-        // Inlined, so that what a caller does not read of the record is never written; the halving stands apart.
+        // Inlined, so that what a caller does not read of the record is not written; the halving stands apart.
         let mark = self.mark(key);
         let halving = if self.age + 1 == 10 * self.capacity {
             Some(self.end_sample(mark)?)
