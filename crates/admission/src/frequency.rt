@@ -1,5 +1,5 @@
 //! How often keys came.
-ghost use Rattle.std.specs.Prelude.{◌≡◌, ◌<◌, ◌≤◌, ◌+◌, ◌-◌, ◌^◌, ◌*◌, ◌++◌, ◌∷◌, List, [], ℕ, nat_lt, cond, IfOk, OnOk, OnErr};
+ghost use Rattle.std.specs.Prelude.{◌≡◌, ◌<◌, ◌≤◌, ◌+◌, ◌-◌, ◌^◌, ◌*◌, ◌++◌, ◌∷◌, List, [], ℕ, nat_lt, cond, Some, IfOk, OnOk, OnErr};
 ghost use Rattle.admission.specs.Shape.{Shape, IsShape};
 ghost use Rattle.admission.specs.Frequency.{StandsFor, frequency_of, marked, faded, recorded, halves, halving_words, estimate as estimate_of};
 ghost use Rattle.admission.specs.FreqRecord.{record_of, mark_of, lost_of, undone, FitsRecord, unmarked, FitsMark, unfaded, FitsFade, size_of};
@@ -56,6 +56,7 @@ impl Frequency {
     /// set gets them set, another one has its four counters touched; the age rises by 1, and at ten times the capacity
     /// all counters are halved, the doorkeeper is emptied and the age is halved. The one error is that memory for a
     /// halving was refused; nothing is changed then.
+    #[inline(always)]
     pub fn record(&mut self, key: Key) -> Result<FreqRecord, AllocError>
         requires { self.old.halvings < 2 ^ 64 - 1 }
         ensures after { OnOk result (self.new ≡ recorded key self.old) }
@@ -69,28 +70,15 @@ impl Frequency {
         ensures appends { (s : Shape) (keys : List ℕ) → IsShape s → self.old ≡ frequency_of s keys
             → OnOk result (self.new ≡ frequency_of s (keys ++ key ∷ [])) }
     {
+        // Inlined, so that what a caller does not read of the record is not written; the halving stands apart.
         let mark = self.mark(key);
-        if self.age + 1 < 10 * self.capacity {
+        let halving = if self.age + 1 == 10 * self.capacity {
+            Some(self.end_sample(mark)?)
+        } else {
             self.age += 1;
-            return Ok(FreqRecord {
-                mark,
-                halving: None,
-            });
-        }
-        match self.fade() {
-            Ok(lost) => {
-                self.age = 5 * self.capacity;
-                self.halvings += 1;
-                Ok(FreqRecord {
-                    mark,
-                    halving: Some(lost),
-                })
-            }
-            Err(AllocError) => {
-                self.unmark(mark);
-                Err(AllocError)
-            }
-        }
+            None
+        };
+        Ok(FreqRecord { mark, halving })
     }
 
     /// Undoes the recording of a key. The record has to fit, as that of the last recording that is not undone does.
@@ -158,6 +146,7 @@ impl Frequency {
     }
 
     // Sets a key's bits, or touches its counters where its bits are set.
+    #[inline(always)]
     fn mark(&mut self, key: Key) -> Mark
         ensures after { self.new ≡ marked key self.old }
         ensures record_is { result ≡ mark_of key self.old }
@@ -167,6 +156,33 @@ impl Frequency {
         match self.door.note(key) {
             Some(done) => Mark::Put(done),
             None => Mark::Touch(self.sketch.touch(key)),
+        }
+    }
+
+    // The key that left the mark fills the sample: the counters are halved and the doorkeeper is emptied, or the mark is
+    // taken back where memory is refused.
+    #[cold]
+    #[inline(never)]
+    fn end_sample(&mut self, mark: Mark) -> Result<Halving, AllocError>
+        requires full { self.old.age + 1 ≡ 10 * self.old.capacity }
+        requires few { self.old.halvings < 2 ^ 64 - 1 }
+        requires mark { FitsMark mark self.old }
+        ensures after { OnOk result (self.new ≡ record (faded self.old) { age = 5 * self.old.capacity; halvings = self.old.halvings + 1 }) }
+        ensures record_is { IfOk result (λ lost. lost ≡ lost_of self.old) }
+        ensures fits { IfOk result (λ lost. FitsRecord record { mark = mark; halving = Some lost } self.new) }
+        ensures undone { IfOk result (λ lost. undone record { mark = mark; halving = Some lost } self.new ≡ unmarked mark self.old) }
+        ensures err { OnErr result (self.new ≡ unmarked mark self.old) }
+    {
+        match self.fade() {
+            Ok(lost) => {
+                self.age = 5 * self.capacity;
+                self.halvings += 1;
+                Ok(lost)
+            }
+            Err(AllocError) => {
+                self.unmark(mark);
+                Err(AllocError)
+            }
         }
     }
 

@@ -3,17 +3,17 @@ ghost use Rattle.std.specs.Prelude.{◌≡◌, ◌≢◌, ◌<◌, ◌≤◌, �
 ghost use Rattle.sketch.specs.Counters.{counter_at};
 
 /// The counter at a place.
-pub fn get(words: &[u64], at: usize) -> u8
+pub fn get(words: &[u64], at: usize) -> u32
     requires { at < 16 * length words.now }
     ensures value { result ≡ counter_at words.now at }
     ensures small { result ≤ 15 }
 {
     let word = words[at / 16];
-    ((word >> (4 * (at % 16))) & 15) as u8
+    ((word >> (4 * (at % 16))) & 15) as u32
 }
 
 /// Raises the counter at a place, unless it is 15, and hands out what it was.
-pub fn raise(words: &mut [u64], at: usize) -> u8
+pub fn raise(words: &mut [u64], at: usize) -> u32
     requires { at < 16 * length words.old }
     ensures was { result ≡ counter_at words.old at }
     ensures here { counter_at words.new at ≡ min 15 (counter_at words.old at + 1) }
@@ -21,7 +21,7 @@ pub fn raise(words: &mut [u64], at: usize) -> u8
 {
     let word = words[at / 16];
     let shift = 4 * (at % 16);
-    let was = ((word >> shift) & 15) as u8;
+    let was = ((word >> shift) & 15) as u32;
     let below = was < 15;
     words[at / 16] = if below { word + (1 << shift) } else { word };
     was

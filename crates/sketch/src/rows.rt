@@ -12,7 +12,7 @@ use crate::touch_record::TouchRecord;
 use step_record::{Key, Spread};
 
 /// Raises the counter at a column of each row, and hands out what the four were.
-pub fn raise_rows(words: &mut [u64], width: u32, columns: [u32; 4]) -> [u8; 4]
+pub fn raise_rows(words: &mut [u64], width: u32, columns: [u32; 4]) -> [u32; 4]
     requires low { 1 ≤ width }
     requires high { width ≤ 2 ^ 20 }
     requires whole { width ≡ 4 * length words.old }

@@ -1,5 +1,5 @@
 //! Four rows of counters up to 15.
-ghost use Rattle.std.specs.Prelude.{◌≡◌, ◌<◌, ◌≤◌, ◌*◌, ◌^◌, min, IfOk, OnOk, OnErr};
+ghost use Rattle.std.specs.Prelude.{◌≡◌, ◌<◌, ◌≤◌, ◌*◌, ◌^◌, min, slice_index, IfOk, OnOk, OnErr};
 ghost use Rattle.std.specs.Int.{IsPowerOfTwo};
 ghost use Rattle.sketch.specs.Places.{by_place};
 ghost use Rattle.sketch.specs.Sketch.{counter as counter_of, touched, halved, least as least_of};
@@ -72,10 +72,21 @@ impl Sketch {
         ensures value { result ≡ counter_of self.now row col }
         ensures small { result ≤ 15 }
     {
+        self.count(row, col) as u8
+    }
+
+    // The counter as a number of the width that the processor compares.
+    fn count(&self, row: u32, col: u32) -> u32
+        requires row { row < 4 }
+        requires col { col < self.now.width }
+        ensures value { result ≡ counter_of self.now row col }
+        ensures small { result ≤ 15 }
+    {
         get(&self.words, (row * self.width + col) as usize)
     }
 
     /// Raises the key's four counters, each unless it is 15, and hands out which of them rose.
+    #[inline(always)]
     pub fn touch(&mut self, key: Key) -> TouchRecord
         ensures after { self.new ≡ touched key self.old }
         ensures record_is { result ≡ touch_record_of key self.old }
@@ -85,9 +96,9 @@ impl Sketch {
         let columns = columns(self.spread, key, self.width);
         let were = raise_rows(&mut self.words, self.width, columns);
         // Each of the four rose, but for those that were 15.
-        let least = least_of_four(were[0], were[1], were[2], were[3]).min(14) + 1;
+        let least = least_of_four(were).min(14) + 1;
         self.last = key;
-        self.last_least = Some(least);
+        self.last_least = Some(least as u8);
         let rose = [were[0] < 15, were[1] < 15, were[2] < 15, were[3] < 15];
         TouchRecord { key, rose }
     }
@@ -144,17 +155,18 @@ impl Sketch {
         ensures small { result ≤ 15 }
     {
         let columns = columns(self.spread, key, self.width);
-        let a = self.counter(0, columns[0]);
-        let b = self.counter(1, columns[1]);
-        let c = self.counter(2, columns[2]);
-        let d = self.counter(3, columns[3]);
-        least_of_four(a, b, c, d)
+        let a = self.count(0, columns[0]);
+        let b = self.count(1, columns[1]);
+        let c = self.count(2, columns[2]);
+        let d = self.count(3, columns[3]);
+        least_of_four([a, b, c, d]) as u8
     }
 }
 
-fn least_of_four(a: u8, b: u8, c: u8, d: u8) -> u8
-    ensures { result ≡ min (min a b) (min c d) }
+fn least_of_four(counters: [u32; 4]) -> u32
+    ensures { result ≡ min (min (slice_index counters 0) (slice_index counters 1)) (min (slice_index counters 2) (slice_index counters 3)) }
 {
+    let [a, b, c, d] = counters;
     a.min(b).min(c.min(d))
 }
 

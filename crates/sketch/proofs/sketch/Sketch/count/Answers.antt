@@ -2,7 +2,7 @@ use Rattle.std.proofs.Common.{sym, ◌+◌, ◌*◌, ◌<◌}
 use Rattle.sketch.specs.Counters.{counter_at}
 use Rattle.sketch.proofs.Places.{get_or-by_place}
 use Rattle.sketch.proofs.Tables.{cell_within}
-use Rattle.sketch.proofs.sketch.Sketch.counter.Goals as goal
+use Rattle.sketch.proofs.sketch.Sketch.count.Goals as goal
 
 pub returns-clause-value : goal.returns-clause-value
 returns-clause-value c =
