@@ -1,11 +1,15 @@
 // Refuses one allocation of a built program or test that this is preloaded into: the one whose
-// number REFUSE_NTH says, counted over malloc and realloc from 1. It tells so on standard error.
+// number REFUSE_NTH says, counted from 1 over malloc, calloc, realloc and the aligned allocations.
+// It says so on standard error.
+#include <errno.h>
 #include <stddef.h>
 #include <stdlib.h>
 #include <unistd.h>
 
 extern void *__libc_malloc(size_t size);
+extern void *__libc_calloc(size_t count, size_t size);
 extern void *__libc_realloc(void *old, size_t size);
+extern void *__libc_memalign(size_t align, size_t size);
 
 static const char TOLD[] = "an allocation was refused\n";
 
@@ -28,7 +32,31 @@ void *malloc(size_t size)
     return is_refused() ? NULL : __libc_malloc(size);
 }
 
+void *calloc(size_t count, size_t size)
+{
+    return is_refused() ? NULL : __libc_calloc(count, size);
+}
+
 void *realloc(void *old, size_t size)
 {
     return is_refused() ? NULL : __libc_realloc(old, size);
+}
+
+void *memalign(size_t align, size_t size)
+{
+    return is_refused() ? NULL : __libc_memalign(align, size);
+}
+
+void *aligned_alloc(size_t align, size_t size)
+{
+    return memalign(align, size);
+}
+
+int posix_memalign(void **result, size_t align, size_t size)
+{
+    void *memory = memalign(align, size);
+    if (memory == NULL)
+        return ENOMEM;
+    *result = memory;
+    return 0;
 }

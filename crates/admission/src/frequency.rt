@@ -1,5 +1,6 @@
-//! How often keys came.
+//! Approximate access frequencies.
 ghost use Rattle.std.specs.Prelude.{◌≡◌, ◌<◌, ◌≤◌, ◌+◌, ◌-◌, ◌^◌, ◌*◌, ◌++◌, ◌∷◌, List, [], ℕ, nat_lt, cond, Some, IfOk, OnOk, OnErr};
+ghost use Rattle.step_record.specs.declared.limits.TheConstants.{MAX_CAPACITY};
 ghost use Rattle.admission.specs.Shape.{Shape, IsShape};
 ghost use Rattle.admission.specs.Frequency.{StandsFor, frequency_of, marked, faded, recorded, halves, halving_words, estimate as estimate_of};
 ghost use Rattle.admission.specs.FreqRecord.{record_of, mark_of, lost_of, undone, FitsRecord, unmarked, FitsMark, unfaded, FitsFade, size_of};
@@ -12,7 +13,7 @@ use std::alloc::{AllocError, Global};
 use std::marker::Model;
 use step_record::{Key, Spread};
 
-/// How often keys came: a sketch behind a doorkeeper, both aged by halvings. Contracts see the capacity, the table of
+/// Approximate access frequencies: a sketch behind a doorkeeper, both aged by halving. Contracts see the capacity, the table of
 /// the sketch, the doorkeeper, the age and the halvings.
 #[derive(Drop)]
 pub struct Frequency {
@@ -24,6 +25,7 @@ pub struct Frequency {
 }
 
 impl Model for Frequency {
+    ghost use Rattle.step_record.specs.declared.limits.TheConstants.{MAX_CAPACITY};
     ghost use Rattle.std.specs.Prelude.{◌≤◌, ◌<◌, ◌*◌};
     ghost use Rattle.admission.specs.Frequency.{FrequencyData};
 
@@ -31,14 +33,14 @@ impl Model for Frequency {
 
     ghost view = { λ f. record { capacity = f.capacity; table = f.sketch; door = f.door; age = f.age; halvings = f.halvings } };
 
-    ghost invariant = { λ f. (1 ≤ f.capacity) × (f.capacity ≤ 1048576) × (f.age < 10 * f.capacity) };
+    ghost invariant = { λ f. (1 ≤ f.capacity) × (f.capacity ≤ MAX_CAPACITY) × (f.age < 10 * f.capacity) };
 }
 
 impl Frequency {
-    /// The frequency of no key, for a cache of 1 to 2^20 keys. The one error is that memory was refused.
+    /// The frequency of no key, for a cache of 1 to `MAX_CAPACITY` entries. The one error is out of memory.
     pub fn new(alloc: Global, capacity: u32, spread: Spread) -> Result<Frequency, AllocError>
         requires some { 1 ≤ capacity }
-        requires few { capacity ≤ 2 ^ 20 }
+        requires few { capacity ≤ MAX_CAPACITY }
         ensures { IfOk result (λ f. StandsFor capacity spread [] f) }
     {
         let width = width_for(capacity);
@@ -52,10 +54,10 @@ impl Frequency {
         })
     }
 
-    /// Records a key, and hands out what it takes to undo that. A key whose three bits in the doorkeeper are not all
+    /// Records a key, and returns what it takes to undo that. A key whose three bits in the doorkeeper are not all
     /// set gets them set, another one has its four counters touched; the age rises by 1, and at ten times the capacity
-    /// all counters are halved, the doorkeeper is emptied and the age is halved. The one error is that memory for a
-    /// halving was refused; nothing is changed then.
+    /// all counters are halved, the doorkeeper is emptied and the age is halved. The one error is out of memory for a
+    /// halving; nothing is changed then.
     #[inline(always)]
     pub fn record(&mut self, key: Key) -> Result<FreqRecord, AllocError>
         requires { self.old.halvings < 2 ^ 64 - 1 }
@@ -70,7 +72,7 @@ impl Frequency {
         ensures appends { (s : Shape) (keys : List ℕ) → IsShape s → self.old ≡ frequency_of s keys
             → OnOk result (self.new ≡ frequency_of s (keys ++ key ∷ [])) }
     {
-        // Inlined, so that what a caller does not read of the record is not written; the halving stands apart.
+        // Inlined, so that what a caller does not read of the record is not written; the halving is apart, as it is rare.
         let mark = self.mark(key);
         let halving = if self.age + 1 == 10 * self.capacity {
             Some(self.end_sample(mark)?)
@@ -101,7 +103,7 @@ impl Frequency {
         }
     }
 
-    /// How often a key came, about: the least of its four counters, and 1 more where the doorkeeper has it.
+    /// A key's approximate frequency: the least of its four counters, and 1 more if the doorkeeper has it.
     pub fn estimate(&self, key: Key) -> u8
         ensures value { result ≡ estimate_of key self.now }
     {
@@ -110,11 +112,17 @@ impl Frequency {
         least + known as u8
     }
 
-    /// Whether the candidate came more often than the victim, about. A tie admits nobody.
+    /// Whether the candidate is estimated above the victim. A tie admits nobody.
     pub fn admits(&self, candidate: Key, victim: Key) -> bool
         ensures { result ≡ nat_lt (estimate_of victim self.now) (estimate_of candidate self.now) }
     {
-        self.estimate(candidate) > self.estimate(victim)
+        let most = self.estimate(candidate);
+        // For most candidates that came once, the victim's bits alone decide.
+        let known = self.door.has(victim) as u8;
+        if most <= known {
+            return false;
+        }
+        self.sketch.least(victim) + known < most
     }
 
     /// How many keys were recorded, less half the sample for each halving.
@@ -160,7 +168,7 @@ impl Frequency {
     }
 
     // The key that left the mark fills the sample: the counters are halved and the doorkeeper is emptied, or the mark is
-    // taken back where memory is refused.
+    // taken back if that is out of memory.
     #[cold]
     #[inline(never)]
     fn end_sample(&mut self, mark: Mark) -> Result<Halving, AllocError>
@@ -230,9 +238,16 @@ mod tests {
     use std::process::Abort;
     use std::test::Fail;
 
-    // Records a key; where memory is refused, sees that nothing changed, and asks again.
+    // Counts a refused allocation, of which there is one in a test at most.
+    fn count(rt: &impl Abort, refused: &mut u32) {
+        assert_eq!(rt; *refused, 0, "refused once before");
+        *refused = 1;
+    }
+
+    // Records a key; where the allocation failed, sees that nothing changed, and asks again.
     fn record(
         rt: &impl Abort,
+        refused: &mut u32,
         frequency: &mut Frequency,
         key: Key,
     ) -> Result<FreqRecord, AllocError>
@@ -256,18 +271,28 @@ mod tests {
                     ),
                     before
                 );
+                count(rt, refused);
                 frequency.record(key)
             }
         }
     }
 
-    fn open(alloc: Global, capacity: u32, spread: Spread) -> Result<Frequency, AllocError>
+    fn open(
+        rt: &impl Abort,
+        refused: &mut u32,
+        alloc: Global,
+        capacity: u32,
+        spread: Spread,
+    ) -> Result<Frequency, AllocError>
         requires some { 1 ≤ capacity }
-        requires few { capacity ≤ 2 ^ 20 }
+        requires few { capacity ≤ MAX_CAPACITY }
     {
         match Frequency::new(alloc, capacity, spread) {
             Ok(frequency) => Ok(frequency),
-            Err(AllocError) => Frequency::new(alloc, capacity, spread),
+            Err(AllocError) => {
+                count(rt, refused);
+                Frequency::new(alloc, capacity, spread)
+            }
         }
     }
 
@@ -275,6 +300,7 @@ mod tests {
     // and the estimate are those states on the way there and on the way back.
     fn go_and_come_back(
         rt: &impl Abort,
+        refused: &mut u32,
         frequency: &mut Frequency,
         wanted: &[(u8, u32, u8)],
     ) -> Result<(), AllocError>
@@ -283,7 +309,7 @@ mod tests {
         let [want, rest @ ..] = wanted else {
             return Ok(());
         };
-        let done = record(rt, frequency, 5)?;
+        let done = record(rt, refused, frequency, 5)?;
         assert_eq!(rt;
             (
                 frequency.sketch().least(5),
@@ -292,7 +318,7 @@ mod tests {
             ),
             *want
         );
-        go_and_come_back(rt, frequency, rest)?;
+        go_and_come_back(rt, refused, frequency, rest)?;
         assert_eq!(rt;
             (
                 frequency.sketch().least(5),
@@ -308,10 +334,11 @@ mod tests {
     // A key that comes twenty times: its counters stand at 15 when they are halved.
     #[test]
     fn undoes_a_touch_and_a_halving_in_one(rt: HostRuntime) -> Result<(), Fail> {
+        let mut refused = 0;
         for spread in [Spread::Plain, Spread::Mixed] {
-            let mut frequency = open(rt.alloc(), 2, spread)?;
+            let mut frequency = open(&rt, &mut refused, rt.alloc(), 2, spread)?;
             for _ in 0..14 {
-                let _ = record(&rt, &mut frequency, 5)?;
+                let _ = record(&rt, &mut refused, &mut frequency, 5)?;
             }
             let wanted = [
                 (14, 15, 15),
@@ -321,7 +348,7 @@ mod tests {
                 (15, 19, 16),
                 (7, 10, 7),
             ];
-            go_and_come_back(&rt, &mut frequency, &wanted)?;
+            go_and_come_back(&rt, &mut refused, &mut frequency, &wanted)?;
             assert_eq!(rt;
                 (
                     frequency.sketch().least(5),
@@ -336,16 +363,17 @@ mod tests {
 
     #[test]
     fn gives_odd_counters_back(rt: HostRuntime) -> Result<(), Fail> {
+        let mut refused = 0;
         for spread in [Spread::Plain, Spread::Mixed] {
-            let mut frequency = open(rt.alloc(), 2, spread)?;
+            let mut frequency = open(&rt, &mut refused, rt.alloc(), 2, spread)?;
             for i in 0..19u64 {
-                let _ = record(&rt, &mut frequency, if i < 4 { 3 } else { 5 })?;
+                let _ = record(&rt, &mut refused, &mut frequency, if i < 4 { 3 } else { 5 })?;
             }
             assert_eq!(rt;
                 (frequency.sketch().least(3), frequency.sketch().least(5)),
                 (3, 14)
             );
-            let last = record(&rt, &mut frequency, 5)?;
+            let last = record(&rt, &mut refused, &mut frequency, 5)?;
             assert_eq!(rt;
                 (frequency.sketch().least(3), frequency.sketch().least(5)),
                 (1, 7)
@@ -363,6 +391,7 @@ mod tests {
     // The squares modulo 7, of which the definition was worked out by a calculator of its own, over lists of keys.
     #[test]
     fn estimates_by_the_definition(rt: HostRuntime) -> Result<(), Fail> {
+        let mut refused = 0;
         for spread in [Spread::Plain, Spread::Mixed] {
             for (count, age, halvings, estimates) in [
                 (19, 19, 0, [3, 5, 6, 0, 5, 0, 0]),
@@ -371,9 +400,14 @@ mod tests {
                 (45, 15, 3, [1, 3, 2, 0, 3, 0, 0]),
                 (49, 19, 3, [1, 4, 4, 0, 4, 0, 0]),
             ] {
-                let mut frequency = open(rt.alloc(), 2, spread)?;
+                let mut frequency = open(&rt, &mut refused, rt.alloc(), 2, spread)?;
                 for i in 0..count {
-                    let _ = record(&rt, &mut frequency, u64::wrapping_mul(i, i) % 7)?;
+                    let _ = record(
+                        &rt,
+                        &mut refused,
+                        &mut frequency,
+                        u64::wrapping_mul(i, i) % 7,
+                    )?;
                 }
                 assert_eq!(rt;
                     (frequency.age(), frequency.halvings()),
@@ -394,10 +428,11 @@ mod tests {
 
     #[test]
     fn admits_no_tie(rt: HostRuntime) -> Result<(), Fail> {
+        let mut refused = 0;
         for spread in [Spread::Plain, Spread::Mixed] {
-            let mut frequency = open(rt.alloc(), 1, spread)?;
-            let _ = record(&rt, &mut frequency, 1)?;
-            let _ = record(&rt, &mut frequency, 2)?;
+            let mut frequency = open(&rt, &mut refused, rt.alloc(), 1, spread)?;
+            let _ = record(&rt, &mut refused, &mut frequency, 1)?;
+            let _ = record(&rt, &mut refused, &mut frequency, 2)?;
             assert_eq!(rt;
                 (
                     frequency.estimate(1),
@@ -406,7 +441,7 @@ mod tests {
                 ),
                 (1, 1, false)
             );
-            let _ = record(&rt, &mut frequency, 2)?;
+            let _ = record(&rt, &mut refused, &mut frequency, 2)?;
             assert_eq!(rt;
                 (
                     frequency.estimate(1),
@@ -422,13 +457,39 @@ mod tests {
     // A capacity of 1000: 64 words of lost bits and 128 of the doorkeeper.
     #[test]
     fn counts_the_words_of_a_halving(rt: HostRuntime) -> Result<(), Fail> {
-        let mut frequency = open(rt.alloc(), 1000, Spread::Mixed)?;
+        let mut refused = 0;
+        let mut frequency = open(&rt, &mut refused, rt.alloc(), 1000, Spread::Mixed)?;
         for key in 0..9999u64 {
-            let _ = record(&rt, &mut frequency, key % 1500)?;
+            let _ = record(&rt, &mut refused, &mut frequency, key % 1500)?;
         }
         assert_eq!(rt; frequency.halvings(), 0);
-        assert_eq!(rt; record(&rt, &mut frequency, 7)?.words(), 192);
+        assert_eq!(rt; record(&rt, &mut refused, &mut frequency, 7)?.words(), 192);
         assert_eq!(rt; (frequency.halvings(), frequency.age()), (1, 5000));
+        Ok(())
+    }
+
+    // 100 keys at a capacity of 1: a halving at the tenth, and after each five more.
+    #[test]
+    fn halves_again_and_again(rt: HostRuntime) -> Result<(), Fail> {
+        let mut refused = 0;
+        let mut frequency = open(&rt, &mut refused, rt.alloc(), 1, Spread::Mixed)?;
+        for key in 0..100u64 {
+            let _ = record(&rt, &mut refused, &mut frequency, key % 3)?;
+        }
+        assert_eq!(rt; (frequency.halvings(), frequency.age()), (19, 5));
+        Ok(())
+    }
+
+    #[test]
+    fn opens_at_the_largest_capacity(rt: HostRuntime) -> Result<(), Fail> {
+        for spread in [Spread::Plain, Spread::Mixed] {
+            let mut refused = 0;
+            let mut frequency = open(&rt, &mut refused, rt.alloc(), 1 << 20, spread)?;
+            for _ in 0..3 {
+                let _ = record(&rt, &mut refused, &mut frequency, u64::MAX)?;
+            }
+            assert_eq!(rt; (frequency.estimate(u64::MAX), frequency.age()), (3, 3));
+        }
         Ok(())
     }
 }

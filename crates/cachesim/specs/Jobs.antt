@@ -1,22 +1,20 @@
--- The jobs that the words of `run` name, and their reports.
+-- The jobs that the arguments name, and their reports.
 use Rattle.std.specs.Prelude.{ℕ, List, [], map}
 use Rattle.step_record.specs.declared.config.Config.{Config}
-use Rattle.step_record.specs.declared.config.Spread.TheVariants.{Mixed}
 use Rattle.step_record.specs.declared.job.Job.{Job}
-use Rattle.step_record.specs.declared.job.Policy.TheVariants.{Lru}
-use Rattle.step_record.specs.Stats.{stats_of}
-use Rattle.policies.specs.Seen.{outcomes}
-use Rattle.report.specs.Text.{report_of}
+use Rattle.step_record.specs.declared.job.Policy.{Policy}
 use Rattle.report.specs.declared.summary.Report.{Report}
+use Rattle.policy_actors.specs.Faults.{at_capacity}
+use Rattle.policy_actors.specs.Reports.{report_on}
 
--- the configuration of a capacity; all else is what the program takes where no word names it
-abbrev pub config_of : ℕ → Config
-config_of capacity = record { capacity = capacity; main_percent = 99; spread = Mixed; stripes = 1; journal_limit = 1048576 }
+-- one job for each policy, all on one configuration
+abbrev pub jobs_of : Config → List Policy → List Job
+jobs_of config policies = map (λ policy. record { policy = policy; config = config }) policies
 
--- the report of an Lru cache over the accesses: it counts the outcomes of the definition
-abbrev pub report_on : Config → List ℕ → Report
-report_on config keys = report_of (record { policy = Lru; config = config }) (stats_of (outcomes config.capacity [] keys))
+-- the job at each of the capacities
+abbrev pub jobs_at : Job → List ℕ → List Job
+jobs_at job capacities = map (at_capacity job) capacities
 
--- a report for each policy that is named; `lru` is the only one so far
-abbrev pub reports_for : Config → List (List ℕ) → List ℕ → List Report
-reports_for config words keys = map (λ word. report_on config keys) words
+-- the report of each job over the accesses: it counts the outcomes of its policy's definition
+abbrev pub reports_on : List Job → List ℕ → List Report
+reports_on jobs keys = map (λ job. report_on job keys) jobs

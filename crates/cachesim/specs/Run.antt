@@ -1,52 +1,70 @@
--- What the program writes where its words ask for `run`.
-use Rattle.std.specs.Prelude.{◌≡◌, ◌≢◌, ◌≤◌, ◌⊎◌, ℕ, false, List, [], ◌∷◌, Option, Some, None, Ok, map, codes, length}
-use Rattle.std.specs.Prelude.{IfSome, IsSome, unwrap_or, if◌then◌else◌}
-use Rattle.std.specs.Option.{option_map_or}
-use Rattle.std.specs.Str.{bytes_eq}
+-- What the program writes, and when it refuses its words.
+use Rattle.std.specs.Prelude.{◌≡◌, ◌≢◌, ◌⊎◌, ℕ, List, [], Option, Some, None, codes, IfSome}
 use Rattle.std.specs.Io.KnownBytes.{Appends}
-use Rattle.clap.specs.Words.{Row, Text, all_of, fault_of, subcommand_of}
-use Rattle.step_record.specs.Config.{config_fault}
-use Rattle.words.specs.Program.{AreLists, Lists, NamesCapacity, called, capacity_in, format_in, policies_in, program_app}
+use Rattle.clap.specs.Words.{IsAmong, Kinds, Row, Text, fault_of, subcommand_of}
+use Rattle.clap.specs.declared.error.ErrorKind.{ErrorKind}
+use Rattle.clap.specs.declared.error.ErrorKind.TheVariants.{DisplayHelp, DisplayVersion}
+use Rattle.step_record.specs.declared.config.Config.{Config}
+use Rattle.step_record.specs.declared.job.Job.{Job}
+use Rattle.step_record.specs.declared.job.Policy.{Policy}
 use Rattle.trace_read.specs.Reading.{fault_in, keys_in}
-use Rattle.trace_read.specs.declared.format.Format.TheVariants.{Lirs, Arc}
 use Rattle.trace_read.specs.declared.format.Format.{Format}
 use Rattle.report.specs.Text.{text_of}
-use Rattle.report.specs.declared.summary.Report.{Report}
-use Rattle.cachesim.specs.Jobs.{config_of, reports_for}
+use Rattle.command_line.specs.Parsed.{IsIncomplete}
+use Rattle.command_line.specs.Program.{AreLists, Lists, called, program_app}
+use Rattle.command_line.specs.Program.{capacities_in, config_at, config_in, format_in, policies_in, policy_in}
+use Rattle.cachesim.specs.Jobs.{jobs_at, jobs_of, reports_on}
 
--- the format that a word names, or where there is none
-abbrev pub format_named : Option Text → Format
-format_named word = if option_map_or (λ w. bytes_eq w (codes "arc")) word false then Arc else Lirs
+-- the bytes read have no fault, and those written are the text of the jobs' reports
+abbrev pub Reports : Format → List Job → Option (List ℕ) → Option (List ℕ) → Option (List ℕ) → Type 0
+Reports format jobs input before after = IfSome input (λ bytes. (fault_in format bytes ≡ None)
+    × Appends before after (text_of (reports_on jobs (keys_in format bytes))))
 
--- the capacity that the matches of `run` name
-abbrev pub capacity_named : List Row → ℕ
-capacity_named rows = unwrap_or (capacity_in rows) 0
+-- `run` was called, and has written the reports of what its matches name
+pub record Ran (subcommand : Option (Text × List Row)) (input before after : Option (List ℕ)) : Type 0 where
+  pub rows : List Row
+  pub is_run : subcommand ≡ Some (codes "run", rows)
+  pub config : Config
+  pub config_is : config_in rows ≡ Some config
+  pub policies : List Policy
+  pub policies_are : policies_in rows ≡ Some policies
+  pub reports : Reports (format_in rows) (jobs_of config policies) input before after
 
--- the reports that the matches of `run` ask for
-abbrev pub reports_of : List Row → List ℕ → List Report
-reports_of rows keys = reports_for (config_of (capacity_named rows)) (policies_in rows) keys
+-- `sweep` was called, and has written the reports of what its matches name
+pub record Swept (subcommand : Option (Text × List Row)) (input before after : Option (List ℕ)) : Type 0 where
+  pub rows : List Row
+  pub is_sweep : subcommand ≡ Some (codes "sweep", rows)
+  pub job : Job
+  pub config_is : config_at (Some 1) rows ≡ Some job.config
+  pub policy_is : policy_in rows ≡ Some job.policy
+  pub capacities : List ℕ
+  pub capacities_are : capacities_in rows ≡ Some capacities
+  pub reports : Reports (format_in rows) (jobs_at job capacities) input before after
 
--- with these matches: the bytes read have no fault, and those written are the reports' text
-abbrev pub Reports : List Row → Option (List ℕ) → Option (List ℕ) → Option (List ℕ) → Type 0
-Reports rows input before after = let format = format_named (format_in rows) in
-    IfSome input (λ bytes. (fault_in format bytes ≡ None)
-    × Appends before after (text_of (reports_of rows (keys_in format bytes))))
+abbrev pub is_help : ErrorKind → Type 0
+is_help kind = (kind ≡ DisplayHelp) ⊎ (kind ≡ DisplayVersion)
 
--- the same, of the matches that clap has for the words, where it takes them as `run`
-pub record RunsBy (words : List Text) (input before after : Option (List ℕ)) : Type 0 where
+-- the words ask for help or the version
+abbrev pub AsksHelp : Kinds → Type 0
+AsksHelp kinds = (kind : ErrorKind) × is_help kind × IsAmong kind kinds
+
+-- the words are refused, and not because they ask for help or the version
+abbrev pub IsRefused : Kinds → Type 0
+IsRefused kinds = (kind : ErrorKind) × (¬ is_help kind) × IsAmong kind kinds
+
+-- done: clap takes the words and the reports are written, or the words ask for help
+pub record DoneBy (words : List Text) (input before after : Option (List ℕ)) : Type 0 where
   pub lists : Lists
   pub are : AreLists lists
-  pub runs : (rows : List Row) → fault_of (program_app lists) (called words) ≡ []
-      → subcommand_of (program_app lists) (called words) ≡ Some (codes "run", rows)
-      → Reports rows input before after
+  pub done : ((fault_of (program_app lists) (called words) ≡ [])
+      × (Ran (subcommand_of (program_app lists) (called words)) input before after
+      ⊎ Swept (subcommand_of (program_app lists) (called words)) input before after))
+      ⊎ AsksHelp (fault_of (program_app lists) (called words))
 
--- the matches name a capacity in its range, and policies
-abbrev pub NamesJobs : List Row → Type 0
-NamesJobs rows = NamesCapacity rows × (config_fault (config_of (capacity_named rows)) ≡ Ok tt) × IsSome (all_of (codes "policy") rows)
-
--- status 2 comes only where clap refuses the words, or they do not name the jobs of a `run`
+-- a usage error: clap refuses the words, or they lack a number in its range or a known policy
 pub record RefusedBy (words : List Text) : Type 0 where
   pub lists : Lists
   pub are : AreLists lists
-  pub refuses : (fault_of (program_app lists) (called words) ≢ [])
-      ⊎ ¬ ((rows : List Row) × (subcommand_of (program_app lists) (called words) ≡ Some (codes "run", rows)) × NamesJobs rows)
+  pub refuses : IsRefused (fault_of (program_app lists) (called words))
+      ⊎ ((fault_of (program_app lists) (called words) ≡ [])
+      × IsIncomplete (subcommand_of (program_app lists) (called words)))

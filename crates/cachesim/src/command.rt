@@ -1,15 +1,16 @@
 //! The whole program, over readers and writers.
-ghost use Rattle.std.specs.Prelude.{◌≡◌, ◌≢◌, IfOk, map};
+ghost use Rattle.std.specs.Prelude.{◌≡◌, ◌≢◌, ◌≤◌, ◌⊎◌, map};
 ghost use Rattle.clap.specs.Words.{kind_of};
-ghost use Rattle.words.specs.Program.{called as called_words};
-ghost use Rattle.cachesim.specs.Run.{RefusedBy, RunsBy};
+ghost use Rattle.cachesim.specs.Run.{DoneBy, is_help, RefusedBy};
 
 use crate::fault::Fault;
 use crate::files::Files;
 use crate::run::run;
+use crate::sweep::sweep;
 use clap::Error;
 use clap::error::ErrorKind;
-use std::alloc::{AllocError, Global};
+use command_line::{Arguments, ParseFault};
+use std::alloc::Global;
 use std::io::{Read, Write};
 use std::sync::Wait;
 use std::thread::Threads;
@@ -17,81 +18,63 @@ use std::thread::Threads;
 /// The program did what it was asked to.
 pub const DONE: u8 = 0;
 
-/// A fault other than of the words.
+/// A fault other than a usage error.
 pub const FAULT: u8 = 1;
 
-/// The words were refused.
+/// A usage error: the command-line arguments are invalid.
 pub const REFUSED: u8 = 2;
 
-// Tells a line on the fault output; where that fails too, the status alone tells.
-fn tell<X: Write>(line: Result<String, AllocError>, fault_out: &mut X) {
-    if let Ok(line) = line {
-        let _ = streams::write_all(fault_out, line.as_bytes());
-    }
+// The line of the fault for which no memory may be left.
+const OUT_OF_MEMORY: &[u8] = b"fault: OutOfMemory\n";
+
+// Writes a line to the fault output; where that fails too, the status alone reports.
+fn report_line<X: Write>(line: &[u8], fault_out: &mut X) {
+    let _ = streams::write_all(fault_out, line);
 }
 
-// Tells a fault, and answers its status.
-fn status_of<X: Write>(alloc: Global, fault: Fault, fault_out: &mut X) -> u8
-    ensures refused { result ≡ 2 → fault ≡ Fault.Words }
-    ensures words { fault ≡ Fault.Words → result ≡ 2 }
-    ensures done { result ≢ 0 }
+// Reports a fault. That of a failed allocation takes no memory, and stands for a line for which
+// there was none.
+pub fn report_fault<X: Write>(alloc: Global, fault: Fault, fault_out: &mut X) -> u8
+    ensures { result ≡ 1 }
 {
-    if fault == Fault::Words {
-        tell(
-            format!(in alloc; "error: the words name no capacity or no policy\n"),
-            fault_out,
-        );
-        return REFUSED;
+    if fault != Fault::OutOfMemory
+        && let Ok(line) = format!(in alloc; "fault: {fault}\n")
+    {
+        report_line(line.as_bytes(), fault_out);
+        return FAULT;
     }
-    tell(format!(in alloc; "fault: {fault}\n"), fault_out);
+    report_line(OUT_OF_MEMORY, fault_out);
     FAULT
 }
 
-// Help goes to the output, and what else clap answers to the fault output.
+// Writes help or the version to the output, and what else clap answers to the fault output.
 fn answer<W: Write, X: Write>(alloc: Global, error: &Error, out: &mut W, fault_out: &mut X) -> u8
-    ensures memory { kind_of error.now ≡ ErrorKind.OutOfMemory → result ≡ 1 }
+    ensures status { result ≤ 2 }
+    ensures done { result ≡ 0 → is_help (kind_of error.now) }
+    ensures refused { result ≡ 2 → (¬ is_help (kind_of error.now))
+        × (kind_of error.now ≢ ErrorKind.OutOfMemory) × (out.new ≡ out.old) }
 {
     if error.kind() == ErrorKind::OutOfMemory {
-        tell(
-            format!(in alloc; "fault: {}\n", Fault::OutOfMemory),
-            fault_out,
-        );
-        return FAULT;
+        return report_fault(alloc, Fault::OutOfMemory, fault_out);
     }
     let Ok(text) = error.to_string(alloc) else {
-        tell(
-            format!(in alloc; "fault: {}\n", Fault::OutOfMemory),
-            fault_out,
-        );
-        return FAULT;
+        return report_fault(alloc, Fault::OutOfMemory, fault_out);
     };
     if error.use_stderr() {
-        let _ = streams::write_all(fault_out, text.as_bytes());
+        report_line(text.as_bytes(), fault_out);
         return REFUSED;
     }
     match streams::write_all(out, text.as_bytes()) {
         Ok(()) => DONE,
-        Err(_) => {
-            tell(format!(in alloc; "fault: {}\n", Fault::Write), fault_out);
-            FAULT
-        }
+        Err(_) => report_fault(alloc, Fault::Write, fault_out),
     }
 }
 
-// The words of a call, with the program's name before them.
-fn called<'a>(alloc: Global, words: &[&'a str]) -> Result<Vec<&'a str>, AllocError>
-    ensures { IfOk result (λ v. map (λ s. s.now) v.items ≡ called_words (map (λ s. s.now) words.now)) }
-{
-    let mut called = vec![in alloc; "cachesim"]?;
-    called.extend_from_slice(words)?;
-    Ok(called)
-}
-
-/// The program, of the words after its name, over an input and two outputs: it answers the
-/// status. 0 is done, 1 a fault with one line on the fault output, 2 refused words. No subcommand
-/// starts a thread or reads a file yet.
-pub fn command<T: Threads + Wait, R: Read, W: Write, X: Write, F: Files>(
-    _rt: &T,
+/// The program, of the words after its name, over an input and two outputs: it returns the
+/// status. 0 is done, 1 a fault with one line on the fault output, 2 a usage error. No subcommand
+/// reads a file yet.
+pub fn command<T: Threads + Wait + Sync, R: Read, W: Write, X: Write, F: Files>(
+    rt: &T,
     alloc: Global,
     words: &[&str],
     input: &mut R,
@@ -99,24 +82,33 @@ pub fn command<T: Threads + Wait, R: Read, W: Write, X: Write, F: Files>(
     fault_out: &mut X,
     _files: &F,
 ) -> u8
-    // With status 0 and words that are taken as `run`, the bytes read have no fault, and those
-    // written are the text of the report of each policy that the words name.
-    ensures run { result ≡ 0 → RunsBy (map (λ s. s.now) words.now) (R.remaining input.old)
+    ensures status { result ≤ 2 }
+    // With status 0 the words are taken as `run` or `sweep`, the bytes read have no fault, and those
+    // written are the text of the report of each policy, or of the policy at each capacity, that
+    // the words name; or the words ask for help.
+    ensures done { result ≡ 0 → DoneBy (map (λ s. s.now) words.now) (R.remaining input.old)
         (W.contents out.old) (W.contents out.new) }
-    ensures refused { result ≡ 2 → RefusedBy (map (λ s. s.now) words.now) }
+    // A usage error comes only where it is due, before anything is read or written.
+    ensures refused { result ≡ 2 → RefusedBy (map (λ s. s.now) words.now)
+        × (input.new ≡ input.old) × (out.new ≡ out.old) }
 {
-    let Ok(called) = called(alloc, words) else {
-        return status_of(alloc, Fault::OutOfMemory, fault_out);
+    let arguments = match command_line::parse(alloc, words) {
+        Ok(arguments) => arguments,
+        Err(ParseFault::OutOfMemory) => {
+            return report_fault(alloc, Fault::OutOfMemory, fault_out);
+        }
+        Err(ParseFault::Refused(error)) => return answer(alloc, &error, out, fault_out),
+        Err(ParseFault::Incomplete) => {
+            report_line(b"error: a policy or a number is missing\n", fault_out);
+            return REFUSED;
+        }
     };
-    let matches = match words::parse(alloc, called.as_slice()) {
-        Ok(matches) => matches,
-        Err(error) => return answer(alloc, &error, out, fault_out),
+    let done = match arguments {
+        Arguments::Run(arguments) => run(rt, alloc, &arguments, input, out),
+        Arguments::Sweep(arguments) => sweep(rt, alloc, &arguments, input, out),
     };
-    let Some(asked) = matches.subcommand_matches("run") else {
-        return status_of(alloc, Fault::Words, fault_out);
-    };
-    match run(alloc, asked, input, out) {
+    match done {
         Ok(()) => DONE,
-        Err(fault) => status_of(alloc, fault, fault_out),
+        Err(fault) => report_fault(alloc, fault, fault_out),
     }
 }

@@ -1,29 +1,33 @@
 //! Why a subcommand printed no result.
 ghost use Rattle.std.specs.Prelude.{◌≡◌};
-ghost use Rattle.cachesim.specs.Fault.{of_write};
+ghost use Rattle.cachesim.specs.Fault.{of_actor, of_write};
 ghost use Rattle.cachesim.specs.declared.fault.Fault.TheVariants.{OutOfMemory, Trace};
 
+use policy_actors::ActorFault;
 use report::WriteFault;
 use std::alloc::AllocError;
 use thiserror::Error;
 use trace_read::TraceFault;
 
-/// Why a subcommand printed no result. It is shown as the program tells it, after `fault: `.
+/// Why a subcommand printed no result. It is displayed as the program prints it after `fault: `.
 #[derive(Clone, Copy, Debug, PartialEq, Eq, Error)]
 pub enum Fault {
-    /// The words do not name what the subcommand needs.
-    #[error("Words")]
-    Words,
-    /// No memory was to be had.
+    /// The allocation failed.
     #[error("OutOfMemory")]
     OutOfMemory,
+    /// The size of a batch is out of its range.
+    #[error("Batch")]
+    Batch,
+    /// A configuration is not accepted.
+    #[error("Config")]
+    Config,
     /// Over 64 policies were named.
     #[error("Actors")]
     Actors,
-    /// The trace was not read.
+    /// The trace was not read, or has a faulty line.
     #[error("{0}")]
     Trace(TraceFault),
-    /// The output failed.
+    /// The output failed; it may be partial.
     #[error("Write")]
     Write,
 }
@@ -51,6 +55,19 @@ impl From<WriteFault> for Fault {
         match fault {
             WriteFault::OutOfMemory => Fault::OutOfMemory,
             WriteFault::Write => Fault::Write,
+        }
+    }
+}
+
+impl From<ActorFault> for Fault {
+    ghost from_gives = { λ fault e. e ≡ of_actor fault };
+
+    fn from(fault: ActorFault) -> Fault {
+        match fault {
+            ActorFault::OutOfMemory => Fault::OutOfMemory,
+            ActorFault::Batch => Fault::Batch,
+            ActorFault::Config { index: _ } => Fault::Config,
+            ActorFault::Actors => Fault::Actors,
         }
     }
 }

@@ -1,9 +1,11 @@
-//! The files that the words of a call name.
+//! The files that the arguments of a call name.
+
+use std::alloc::Global;
 
 /// Why a file gave no bytes.
 #[derive(Clone, Copy, Debug, PartialEq, Eq)]
 pub enum FileFault {
-    /// No memory was to be had for the bytes.
+    /// The allocation for the bytes failed.
     OutOfMemory,
     /// There is no such file, it cannot be read, or it has over 2^30 bytes.
     NoFile,
@@ -12,5 +14,5 @@ pub enum FileFault {
 /// Where the files are.
 pub trait Files {
     /// All bytes of the file at the path.
-    fn bytes(&self, path: &str) -> Result<Vec<u8>, FileFault>;
+    fn bytes(&self, alloc: Global, path: &str) -> Result<Vec<u8>, FileFault>;
 }

@@ -8,10 +8,11 @@
 mod command;
 mod fault;
 mod files;
-mod jobs;
 mod run;
+mod sweep;
 
-use command::{FAULT, REFUSED, command};
+use command::{REFUSED, command, report_fault};
+use fault::Fault;
 use files::{FileFault, Files};
 use std::alloc::{AllocError, Global};
 use std::io::{ErrorKind, Write};
@@ -22,13 +23,13 @@ use std::{env, io};
 struct NoFiles;
 
 impl Files for NoFiles {
-    fn bytes(&self, _path: &str) -> Result<Vec<u8>, FileFault> {
+    fn bytes(&self, _alloc: Global, _path: &str) -> Result<Vec<u8>, FileFault> {
         Err(FileFault::NoFile)
     }
 }
 
-// The words after the program's name. `InvalidData` where one of them is no text; the other error
-// is want of memory.
+// The words after the program's name. `InvalidData` where one of them is no UTF-8 text; the other
+// error is out of memory.
 fn words_of(rt: &HostRuntime) -> io::Result<Vec<String>> {
     let words = env::args(rt)?.skip(1).collect(rt.alloc())?;
     Ok(words)
@@ -42,14 +43,13 @@ fn texts(alloc: Global, words: &[String]) -> Result<Vec<&str>, AllocError> {
     Ok(texts)
 }
 
-// Tells why the words are not at hand, and answers the status.
-fn refused<X: Write>(kind: ErrorKind, fault_out: &mut X) -> ExitCode {
+// Reports why the words are not at hand, and gives the status.
+fn refused<X: Write>(alloc: Global, kind: ErrorKind, fault_out: &mut X) -> u8 {
     if kind == ErrorKind::InvalidData {
-        let _ = streams::write_all(fault_out, b"error: a word of the call is no UTF-8 text\n");
-        return ExitCode::from(REFUSED);
+        let _ = streams::write_all(fault_out, b"error: a word of the call is not UTF-8 text\n");
+        return REFUSED;
     }
-    let _ = streams::write_all(fault_out, b"fault: OutOfMemory\n");
-    ExitCode::from(FAULT)
+    report_fault(alloc, Fault::OutOfMemory, fault_out)
 }
 
 fn main(rt: HostRuntime) -> ExitCode {
@@ -57,10 +57,10 @@ fn main(rt: HostRuntime) -> ExitCode {
     let mut fault_out = rt.stderr();
     let words = match words_of(&rt) {
         Ok(words) => words,
-        Err(error) => return refused(error.kind(), &mut fault_out),
+        Err(error) => return ExitCode::from(refused(alloc, error.kind(), &mut fault_out)),
     };
     let Ok(texts) = texts(alloc, words.as_slice()) else {
-        return refused(ErrorKind::OutOfMemory, &mut fault_out);
+        return ExitCode::from(refused(alloc, ErrorKind::OutOfMemory, &mut fault_out));
     };
     let status = command(
         &rt,

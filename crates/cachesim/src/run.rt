@@ -1,59 +1,65 @@
 //! The subcommand `run`: a trace to the reports of policies.
-ghost use Rattle.std.specs.Prelude.{◌≡◌, ◌<◌, Err, OnOk, length, option_map};
-ghost use Rattle.clap.specs.Words.{found_of, rows_of};
-ghost use Rattle.words.specs.Program.{policies_in};
-ghost use Rattle.cachesim.specs.Run.{format_named as format_of, NamesJobs, Reports};
+ghost use Rattle.std.specs.Prelude.{◌≡◌, ◌≢◌, IfErr, IfOk, OnOk};
+ghost use Rattle.cachesim.specs.Jobs.{jobs_of, reports_on};
+ghost use Rattle.cachesim.specs.Run.{Reports};
 
 use crate::fault::Fault;
-use crate::jobs::{config, run_jobs};
-use clap::ArgMatches;
-use report::write_reports;
-use std::alloc::Global;
+use command_line::RunArguments;
+use policy_actors::{ActorFault, run_actors};
+use report::{Report, write_reports};
+use std::alloc::{AllocError, Global};
 use std::io::{Read, Write};
-use trace_read::{Format, read_trace};
+use std::sync::Wait;
+use std::thread::Threads;
+use step_record::{Config, Job, OpenGate, Policy, Trace};
+use trace_read::read_trace;
 
-// The most policies of one call.
-const MOST_JOBS: usize = 64;
-
-// The format that a word names, or where there is none.
-fn format_named(word: Option<&str>) -> Format
-    ensures { result ≡ format_of (option_map (λ s. s.now) word.entry) }
+// A job for each policy, in order, all on one configuration.
+fn jobs(alloc: Global, config: Config, policies: &[Policy]) -> Result<Vec<Job>, AllocError>
+    ensures { IfOk result (λ jobs. jobs.items ≡ jobs_of config policies.now) }
 {
-    match word {
-        Some("arc") => Format::Arc,
-        _ => Format::Lirs,
+    let mut jobs = Vec::new(alloc);
+    for policy in policies {
+        jobs.push(Job {
+            policy: *policy,
+            config,
+        })?;
     }
+    Ok(jobs)
 }
 
-/// Reads the trace and writes the report of each policy that the matches name. With a fault no
-/// report is written, but after `Write`, where it is not said what went out.
-pub fn run<R: Read, W: Write>(
+// The reports of the policies that the arguments name, each run on a thread of its own.
+fn reports<T: Threads + Wait + Sync>(
+    rt: &T,
     alloc: Global,
-    matches: &ArgMatches<'_>,
+    trace: &Trace,
+    arguments: &RunArguments,
+) -> Result<Vec<Report>, ActorFault>
+    ensures { IfOk result (λ reports. reports.items
+        ≡ reports_on (jobs_of arguments.now.config arguments.now.policies.items) trace.now) }
+{
+    let jobs = jobs(alloc, arguments.config, arguments.policies.as_slice())?;
+    let batch = arguments.batch;
+    run_actors(rt, alloc, trace, jobs.as_slice(), batch, &OpenGate)
+}
+
+/// Reads the trace and writes the report of each policy that the arguments name; each policy runs
+/// on a thread of its own. A fault has written nothing, but for `Write`, after which the output may
+/// be partial.
+pub fn run<T: Threads + Wait + Sync, R: Read, W: Write>(
+    rt: &T,
+    alloc: Global,
+    arguments: &RunArguments,
     input: &mut R,
     out: &mut W,
 ) -> Result<(), Fault>
-    ensures ok { OnOk result (Reports (rows_of (found_of matches.now)) (R.remaining input.old)
+    ensures ok { OnOk result (Reports arguments.now.format
+        (jobs_of arguments.now.config arguments.now.policies.items) (R.remaining input.old)
         (W.contents out.old) (W.contents out.new)) }
-    // The policies are too many only where over 64 are named.
-    ensures actors { result ≡ Err Fault.Actors → 64 < length (policies_in (rows_of (found_of matches.now))) }
-    ensures words { result ≡ Err Fault.Words → ¬ NamesJobs (rows_of (found_of matches.now)) }
+    ensures kept { IfErr result (λ fault. fault ≢ Fault.Write → out.new ≡ out.old) }
 {
-    let Some(capacity) = words::capacity(matches) else {
-        return Err(Fault::Words);
-    };
-    let Some(policies) = words::policies(matches) else {
-        return Err(Fault::Words);
-    };
-    let config = config(capacity);
-    if config.check().is_err() {
-        return Err(Fault::Words);
-    }
-    let trace = read_trace(alloc, input, format_named(words::format(matches)))?;
-    if policies.len() > MOST_JOBS {
-        return Err(Fault::Actors);
-    }
-    let reports = run_jobs(alloc, config, policies, trace.keys())?;
+    let trace = read_trace(alloc, input, arguments.format)?;
+    let reports = reports(rt, alloc, &trace, arguments)?;
     write_reports(alloc, reports.as_slice(), out)?;
     Ok(())
 }

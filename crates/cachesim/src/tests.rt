@@ -11,7 +11,7 @@ const HEADER: &str = "policy,capacity,accesses,hits,misses,evictions,rejections,
 struct Nowhere;
 
 impl Files for Nowhere {
-    fn bytes(&self, _path: &str) -> Result<Vec<u8>, FileFault> {
+    fn bytes(&self, _alloc: Global, _path: &str) -> Result<Vec<u8>, FileFault> {
         Err(FileFault::NoFile)
     }
 }
@@ -61,7 +61,7 @@ impl Run {
 }
 
 // The program over an input and memory.
-fn called_on<T: Threads + Wait, R: Read>(
+fn called_on<T: Threads + Wait + Sync, R: Read>(
     rt: &T,
     alloc: Global,
     words: &[&str],
@@ -73,7 +73,7 @@ fn called_on<T: Threads + Wait, R: Read>(
     Run { status, out, fault }.told()
 }
 
-fn called<T: Threads + Wait>(
+fn called<T: Threads + Wait + Sync>(
     rt: &T,
     alloc: Global,
     words: &[&str],
@@ -126,6 +126,38 @@ fn a_trace_becomes_a_report_for_each_policy(rt: HostRuntime) -> Result<(), Fail>
     Ok(())
 }
 
+// Six accesses, run in batches that end before, at and past their end.
+#[test]
+fn any_batch_gives_the_same_reports(rt: HostRuntime) -> Result<(), Fail> {
+    let text = format!(in rt.alloc(); "{HEADER}lru,3,6,1,5,2,0,16.66\nlru,3,6,1,5,2,0,16.66\n")?;
+    for batch in ["1", "3", "6", "65536"] {
+        let words = ["run", "--capacity", "3", "--batch", batch, "lru", "lru"];
+        let run = called(&rt, rt.alloc(), &words, "1\n2\n3\n1\n4\n2\n")?;
+        assert_eq!(rt; run.out.as_slice(), text.as_bytes(), "of {batch}");
+        assert_eq!(rt; run.status, 0);
+    }
+    Ok(())
+}
+
+#[test]
+fn a_sweep_reports_each_capacity(rt: HostRuntime) -> Result<(), Fail> {
+    let words = ["sweep", "--policy", "lru", "3", "1", "4"];
+    let run = called(&rt, rt.alloc(), &words, "1\n2\n3\n1\n4\n2\n")?;
+    let rows = "lru,3,6,1,5,2,0,16.66\nlru,1,6,0,6,5,0,0.00\nlru,4,6,2,4,0,0,33.33\n";
+    let text = format!(in rt.alloc(); "{HEADER}{rows}")?;
+    assert_eq!(rt; run.out.as_slice(), text.as_bytes());
+    assert_eq!(rt; run.status, 0);
+    assert!(rt; run.fault.is_empty());
+    let faulty = called(&rt, rt.alloc(), &words, "1\nx\n")?;
+    assert_eq!(rt;
+        faulty.fault.as_slice(),
+        b"fault: BadNumber line 2\n".as_slice()
+    );
+    assert_eq!(rt; faulty.status, 1);
+    assert!(rt; faulty.out.is_empty());
+    Ok(())
+}
+
 #[test]
 fn a_faulty_trace_is_told_in_one_line(rt: HostRuntime) -> Result<(), Fail> {
     let lirs: &[&str] = &["run", "--capacity", "3", "lru"];
@@ -159,6 +191,7 @@ fn over_sixty_four_policies_are_too_many(rt: HostRuntime) -> Result<(), Fail> {
     let run = called(&rt, rt.alloc(), words.as_slice(), "1\n")?;
     assert_eq!(rt; run.fault.as_slice(), b"fault: Actors\n".as_slice());
     assert_eq!(rt; run.status, 1);
+    assert!(rt; run.out.is_empty());
     let faulty = called(&rt, rt.alloc(), words.as_slice(), "x\n")?;
     assert_eq!(rt;
         faulty.fault.as_slice(),
@@ -168,17 +201,23 @@ fn over_sixty_four_policies_are_too_many(rt: HostRuntime) -> Result<(), Fail> {
 }
 
 #[test]
-fn refused_words_and_help(rt: HostRuntime) -> Result<(), Fail> {
-    let table: [&[&str]; 9] = [
+fn a_usage_error_has_written_nothing(rt: HostRuntime) -> Result<(), Fail> {
+    let table: [&[&str]; 15] = [
         &[],
         &["walk"],
         &["run", "lru"],
         &["run", "--capacity", "3"],
         &["run", "--capacity", "0", "lru"],
         &["run", "--capacity", "1048577", "lru"],
+        &["run", "--capacity", "3", "--main", "100", "lru"],
         &["run", "--capacity", "3", "mru"],
-        &["run", "--capacity", "3", "--format", "csv", "lru"],
-        &["run", "--capacity", "3", "--batch", "5", "lru"],
+        &["run", "--capacity", "3", "--spread", "even", "lru"],
+        &["run", "--capacity", "3", "--batch", "0", "lru"],
+        &["run", "--capacity", "3", "--batch", "65537", "lru"],
+        &["sweep", "--policy", "lru"],
+        &["sweep", "3"],
+        &["sweep", "--policy", "lru", "3", "0"],
+        &["sweep", "--policy", "lru", "--capacity", "3", "4"],
     ];
     for words in table {
         let run = called(&rt, rt.alloc(), words, "1\n")?;
@@ -186,10 +225,116 @@ fn refused_words_and_help(rt: HostRuntime) -> Result<(), Fail> {
         assert!(rt; run.out.is_empty());
         assert!(rt; !run.fault.is_empty());
     }
-    let help = called(&rt, rt.alloc(), &["--help"], "")?;
-    assert_eq!(rt; help.status, 0);
-    assert!(rt; help.fault.is_empty());
-    assert!(rt; !help.out.is_empty());
+    Ok(())
+}
+
+const CSV: [&str; 6] = ["run", "--capacity", "3", "--format", "csv", "lru"];
+
+const CSV_TEXT: &str = "error: invalid value 'csv' for '--format <FORMAT>'
+  [possible values: lirs, arc]
+
+For more information, try '--help'.
+";
+
+const HELP_TEXT: &str = "Simulates cache policies over recorded block traces
+
+Usage: cachesim <COMMAND>
+
+Commands:
+  run    Runs policies over the trace on standard input and prints a report of each
+  sweep  Runs a policy over the trace on standard input and prints a report for each capacity
+  help   Print this message or the help of the given subcommand(s)
+
+Options:
+  -h, --help     Print help
+  -V, --version  Print version
+";
+
+#[test]
+fn texts_of_usage_errors_and_help(rt: HostRuntime) -> Result<(), Fail> {
+    let refused = called(&rt, rt.alloc(), &CSV, "1\n")?;
+    assert_eq!(rt; refused.fault.as_slice(), CSV_TEXT.as_bytes());
+    assert_eq!(rt; refused.status, 2);
+    for (word, text) in [("--help", HELP_TEXT), ("--version", "cachesim 0.1.0\n")] {
+        let shown = called(&rt, rt.alloc(), &[word], "")?;
+        assert_eq!(rt; shown.out.as_slice(), text.as_bytes());
+        assert_eq!(rt; shown.status, 0);
+        assert!(rt; shown.fault.is_empty());
+    }
+    Ok(())
+}
+
+#[test]
+fn help_to_an_output_that_fails(rt: HostRuntime) -> Result<(), Fail> {
+    let mut fault = Vec::with_capacity(rt.alloc(), ROOM)?;
+    let mut input = b"".as_slice();
+    let status = command(
+        &rt,
+        rt.alloc(),
+        &["--help"],
+        &mut input,
+        &mut Broken,
+        &mut fault,
+        &Nowhere,
+    );
+    let out = Vec::new(rt.alloc());
+    let run = Run { status, out, fault }.told()?;
+    assert_eq!(rt; run.status, 1);
+    assert_eq!(rt; run.fault.as_slice(), b"fault: Write\n".as_slice());
+    Ok(())
+}
+
+// Reports of all six policies, worked out by hand from the rules.
+#[test]
+fn small_traces_of_each_policy(rt: HostRuntime) -> Result<(), Fail> {
+    let table: [(&[&str], &str, &str); 5] = [
+        (
+            &["run", "--capacity", "1", "--spread", "plain", "wtinylfu"],
+            "1\n2\n1\n",
+            "wtinylfu,1,3,0,3,2,2,0.00\n",
+        ),
+        (
+            &["run", "--capacity", "1", "--spread", "plain", "tinylfu-lru"],
+            "1\n2\n2\n",
+            "tinylfu-lru,1,3,0,3,2,1,0.00\n",
+        ),
+        (
+            &[
+                "run",
+                "--capacity",
+                "2",
+                "--spread",
+                "plain",
+                "tinylfu-slru",
+            ],
+            "1\n1\n2\n3\n",
+            "tinylfu-slru,2,4,1,3,1,1,25.00\n",
+        ),
+        (
+            &["run", "--capacity", "2", "clairvoyant", "lru"],
+            "1\n2\n3\n1\n2\n",
+            "clairvoyant,2,5,2,3,1,1,40.00\nlru,2,5,0,5,3,0,0.00\n",
+        ),
+        (
+            &[
+                "run",
+                "--capacity",
+                "2",
+                "--spread",
+                "plain",
+                "slru",
+                "wtinylfu",
+            ],
+            "1\n1\n2\n3\n1\n",
+            "slru,2,5,2,3,1,0,40.00\nwtinylfu,2,5,2,3,1,1,40.00\n",
+        ),
+    ];
+    for (words, input, rows) in table {
+        let run = called(&rt, rt.alloc(), words, input)?;
+        let text = format!(in rt.alloc(); "{HEADER}{rows}")?;
+        assert_eq!(rt; run.out.as_slice(), text.as_bytes(), "of {input:?}");
+        assert_eq!(rt; run.status, 0);
+    }
     Ok(())
 }
 

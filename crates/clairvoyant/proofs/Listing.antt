@@ -10,7 +10,7 @@ use Rattle.step_record.specs.Keys.{has}
 use Rattle.rank_tree.specs.Bits.{holds}
 use Rattle.clairvoyant.specs.Keys.{IsAscending}
 use Rattle.clairvoyant.specs.Uses.{rank, key_at}
-use Rattle.clairvoyant.specs.Held.{IsTied, is_ranked}
+use Rattle.clairvoyant.specs.RankSet.{IsTied, is_ranked}
 use Rattle.clairvoyant.specs.Belady.{residents}
 use Rattle.clairvoyant.proofs.Keys.{below-none, below-has}
 use Rattle.clairvoyant.proofs.Uses.{IsSeen, named}

@@ -7,13 +7,13 @@ use Rattle.step_record.specs.Keys.{has, without}
 use Rattle.clairvoyant.specs.Keys.{put, IsAscending}
 use Rattle.clairvoyant.specs.Belady.{farthest, served, answer, gone, residents, outcome, outcomes}
 use Rattle.step_record.specs.Stats.{is_hit, is_miss, is_eviction, is_rejection, one, counted, uncounted, IsCounted, IsSmall, stats_of}
-use Rattle.clairvoyant.specs.Seen.{IsReached, use_act, is_now, moved_on}
-use Rattle.clairvoyant.specs.Keeping.{shown}
+use Rattle.clairvoyant.specs.Clairvoyant.{IsReached, clairvoyant_act, is_next, state_after}
+use Rattle.clairvoyant.specs.Representation.{shown}
 use Rattle.step_record.proofs.Counting.{stats-snoc, stats-small}
 use Rattle.clairvoyant.proofs.Keys.{has-put, length-put, length-without, ascending-put}
 use Rattle.clairvoyant.proofs.Belady.{residents-ascending, farthest-among, soon}
 
-outcomes-length : (c : ℕ) (t : List ℕ) (i : ℕ) → length (outcomes c t i) ≡ i
+pub outcomes-length : (c : ℕ) (t : List ℕ) (i : ℕ) → length (outcomes c t i) ≡ i
 outcomes-length c t zero = refl
 outcomes-length c t (suc i) = length-append (outcomes c t i) (outcome c t i ∷ []) ∙ (let n : length (outcomes c t i) ≡ i = outcomes-length c t i in omega arith)
 
@@ -74,18 +74,18 @@ reached-held c t s r =
 
 -- ---- steps
 
-now-holds : (c : ℕ) (t : List ℕ) (s : Stats) (k : ℕ) → s.accesses < length t → length t ≤ 16777216 → k ≡ get_or t s.accesses 0 → is_now (shown c t s) k ≡ true
+now-holds : (c : ℕ) (t : List ℕ) (s : Stats) (k : ℕ) → s.accesses < length t → length t ≤ 16777216 → k ≡ get_or t s.accesses 0 → is_next (shown c t s) k ≡ true
 now-holds c t s k lt few e =
     let a : nat_lt s.accesses 4294967296 ≡ true = lt-ltb s.accesses 4294967296 (omega arith) in
     let b : nat_lt s.accesses (length t) ≡ true = lt-ltb s.accesses (length t) lt in
     let d : eqb k (get_or t s.accesses 0) ≡ true = eq-eqb k (get_or t s.accesses 0) e in
     rw (a, b, d) refl
 
-pub act-next : (c : ℕ) (t : List ℕ) (s : Stats) (k : ℕ) (o : Outcome) → s.accesses < length t → length t ≤ 16777216 → k ≡ get_or t s.accesses 0 → o ≡ outcome c t s.accesses → use_act (shown c t s) k ≡ Some (o, shown c t (counted o s))
+pub act-next : (c : ℕ) (t : List ℕ) (s : Stats) (k : ℕ) (o : Outcome) → s.accesses < length t → length t ≤ 16777216 → k ≡ get_or t s.accesses 0 → o ≡ outcome c t s.accesses → clairvoyant_act (shown c t s) k ≡ Some (o, shown c t (counted o s))
 act-next c t s k o lt few e f =
-    let yes : is_now (shown c t s) k ≡ true = now-holds c t s k lt few e in
-    ap (λ b. cond b (Some (answer c t s.accesses k (residents c t s.accesses), moved_on (shown c t s) k)) None) yes
-    ∙ ap (λ x. Some (answer c t s.accesses x (residents c t s.accesses), moved_on (shown c t s) x)) e
+    let yes : is_next (shown c t s) k ≡ true = now-holds c t s k lt few e in
+    ap (λ b. cond b (Some (answer c t s.accesses k (residents c t s.accesses), state_after (shown c t s) k)) None) yes
+    ∙ ap (λ x. Some (answer c t s.accesses x (residents c t s.accesses), state_after (shown c t s) x)) e
     ∙ ap (λ n. Some (outcome c t s.accesses, record { trace = t; capacity = c; residents = residents c t n; stats = counted (outcome c t s.accesses) s })) (sym (add-one s.accesses))
     ∙ ap (λ x. Some (x, shown c t (counted x s))) (sym f)
 
@@ -98,10 +98,10 @@ other true true d e = e
 other true false d e = refl
 other false b d e = refl
 
-pub act-past : (c : ℕ) (t : List ℕ) (s : Stats) (k : ℕ) → length t ≤ s.accesses → use_act (shown c t s) k ≡ None
+pub act-past : (c : ℕ) (t : List ℕ) (s : Stats) (k : ℕ) → length t ≤ s.accesses → clairvoyant_act (shown c t s) k ≡ None
 act-past c t s k le = rw (past (nat_lt s.accesses 4294967296) (nat_lt s.accesses (length t)) (eqb k (get_or t s.accesses 0)) (le-ltb s.accesses (length t) le)) refl
 
-pub act-other : (c : ℕ) (t : List ℕ) (s : Stats) (k : ℕ) → (get_or t s.accesses 0 ≡ k → ⊥) → use_act (shown c t s) k ≡ None
+pub act-other : (c : ℕ) (t : List ℕ) (s : Stats) (k : ℕ) → (get_or t s.accesses 0 ≡ k → ⊥) → clairvoyant_act (shown c t s) k ≡ None
 act-other c t s k ne = rw (other (nat_lt s.accesses 4294967296) (nat_lt s.accesses (length t)) (eqb k (get_or t s.accesses 0)) (ne_eqb k (get_or t s.accesses 0) (λ h. ne (sym h)))) refl
 
 uncount : (o : Outcome) (s : Stats) → uncounted o (counted o s) ≡ s

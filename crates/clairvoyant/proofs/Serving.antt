@@ -7,7 +7,7 @@ use Rattle.clairvoyant.specs.Keys.{put, IsAscending}
 use Rattle.clairvoyant.specs.Uses.{rank, key_at}
 use Rattle.clairvoyant.specs.Belady.{farthest, served, answer, gone}
 use Rattle.rank_tree.specs.Bits.{holds}
-use Rattle.clairvoyant.specs.Held.{IsTied}
+use Rattle.clairvoyant.specs.RankSet.{IsTied}
 use Rattle.clairvoyant.proofs.Keys.{without-put, without-swap, put-without}
 use Rattle.clairvoyant.proofs.Uses.{IsSeen, seen-own, seen-more, IsNamed, named, rank-other}
 use Rattle.clairvoyant.proofs.Belady.{farthest-is}

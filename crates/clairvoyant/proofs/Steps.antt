@@ -5,7 +5,7 @@ use Rattle.std.proofs.lemmas.Bool.Decides.{nat_tests}
 use Rattle.step_record.specs.Keys.{has, without}
 use Rattle.clairvoyant.specs.Keys.{put}
 use Rattle.clairvoyant.specs.Uses.{rank, key_at}
-use Rattle.clairvoyant.specs.Held.{is_ranked}
+use Rattle.clairvoyant.specs.RankSet.{is_ranked}
 use Rattle.clairvoyant.proofs.Keys.{has-put, has-without}
 use Rattle.clairvoyant.proofs.Uses.{seen-own, named, rank-own, rank-other}
 

@@ -2,94 +2,23 @@
 use Rattle.std.proofs.Common.{◌≡◌, ℕ, suc, ◌-◌, ◌*◌, ◌<◌, ◌≤◌, Bool, true, false, cond, not, eqb, nat_lt, inl, inr, List, length, get_or, ap, ◌∙◌, sym, refl, arith}
 use Rattle.std.proofs.lemmas.Bool.{cases_Bool, eqb-true, eqb-false, ltb-true, ltb-false}
 use Rattle.std.proofs.lemmas.Bool.Decides.{nat_tests}
-use Rattle.step_record.specs.declared.outcome.Outcome.{Outcome}
-use Rattle.step_record.specs.declared.outcome.Outcome.TheVariants.{Hit, Kept, Evicted, Rejected}
 use Rattle.step_record.specs.Keys.{has, without}
 use Rattle.clairvoyant.specs.Keys.{put}
 use Rattle.clairvoyant.specs.Uses.{rank, key_at}
 use Rattle.clairvoyant.specs.Belady.{farthest, answer, gone, residents}
 use Rattle.rank_tree.specs.Bits.{holds}
-use Rattle.clairvoyant.specs.Held.{is_ranked, IsTied}
-use Rattle.step_record.specs.Stats.{is_hit, is_eviction}
+use Rattle.clairvoyant.specs.RankSet.{is_ranked, IsTied}
 use Rattle.clairvoyant.proofs.Keys.{without-put}
 use Rattle.clairvoyant.proofs.Uses.{IsNamed, named, seen-more, rank-other}
 use Rattle.clairvoyant.proofs.Belady.{residents-seen, farthest-among}
 use Rattle.clairvoyant.proofs.Steps.{in-own, is-at, and-of, key-own, key-new, step-hit, step-kept, step-rejected, step-evicted, not-in, restore, restore-one}
+use Rattle.clairvoyant.proofs.Records.{was-in}
 use Rattle.clairvoyant.proofs.Serving.{served-hit, served-kept, served-full, edited}
-
--- ---- what an outcome tells
-
-left_of : Outcome → ℕ
-left_of Hit = 0
-left_of Kept = 0
-left_of (Evicted v) = v
-left_of (Rejected v) = v
-
-gone-misses : (k v : ℕ) → is_hit (gone k v) ≡ false
-gone-misses k v = elim (cases_Bool (eqb k v)) as (λ _. is_hit (gone k v) ≡ false) [ inl e ↦ rw e refl | inr e ↦ rw e refl ]
-
-gone-evicts : (k v : ℕ) → is_eviction (gone k v) ≡ true
-gone-evicts k v = elim (cases_Bool (eqb k v)) as (λ _. is_eviction (gone k v) ≡ true) [ inl e ↦ rw e refl | inr e ↦ rw e refl ]
-
-gone-left : (k v : ℕ) → left_of (gone k v) ≡ v
-unfolding left_of
-gone-left k v = elim (cases_Bool (eqb k v)) as (λ _. left_of (gone k v) ≡ v) [ inl e ↦ rw e (eqb-true k v e) | inr e ↦ rw e refl ]
-
-module _ (c : ℕ) (t : List ℕ) (i k : ℕ) (r : List ℕ) where
-  answer-hits : is_hit (answer c t i k r) ≡ has k r
-  answer-hits =
-      elim (cases_Bool (has k r)) as (λ _. is_hit (answer c t i k r) ≡ has k r) [
-        | inl e ↦ rw e refl
-        | inr e ↦ elim (cases_Bool (nat_lt (length r) c)) as (λ _. is_hit (answer c t i k r) ≡ has k r) [
-          | inl f ↦ rw (e, f) refl
-          | inr f ↦ rw (e, f) (gone-misses k (farthest t i k r))
-        ]
-      ]
-
-  answer-evicts : has k r ≡ false → is_eviction (answer c t i k r) ≡ not (nat_lt (length r) c)
-  answer-evicts e =
-      elim (cases_Bool (nat_lt (length r) c)) as (λ _. is_eviction (answer c t i k r) ≡ not (nat_lt (length r) c)) [
-        | inl f ↦ rw (e, f) refl
-        | inr f ↦ rw (e, f) (gone-evicts k (farthest t i k r))
-      ]
-
-  pub told-hit : Hit ≡ answer c t i k r → has k r ≡ true
-  told-hit h = sym answer-hits ∙ sym (ap is_hit h)
-
-  pub told-kept : Kept ≡ answer c t i k r → (has k r ≡ false) × (length r < c)
-  told-kept h =
-      let miss : has k r ≡ false = sym answer-hits ∙ sym (ap is_hit h) in
-      let room : not (nat_lt (length r) c) ≡ false = sym (answer-evicts miss) ∙ sym (ap is_eviction h) in (
-        miss,
-        elim (cases_Bool (nat_lt (length r) c)) [
-          | inl f ↦ ltb-true (length r) c f
-          | inr f ↦ absurd (let no : true ≡ false = sym (ap not f) ∙ room in cc (no))
-        ],
-      )
-
-  pub told-gone : (v : ℕ) → gone k v ≡ answer c t i k r → (has k r ≡ false) × (c ≤ length r) × (farthest t i k r ≡ v)
-  told-gone v h =
-      let miss : has k r ≡ false = sym answer-hits ∙ sym (ap is_hit h) ∙ gone-misses k v in
-      let full : not (nat_lt (length r) c) ≡ true = sym (answer-evicts miss) ∙ sym (ap is_eviction h) ∙ gone-evicts k v in
-      elim (cases_Bool (nat_lt (length r) c)) [
-        | inl f ↦ absurd (let no : false ≡ true = sym (ap not f) ∙ full in cc (no))
-        | inr f ↦
-            let is : answer c t i k r ≡ gone k (farthest t i k r) = rw (miss, f) refl in
-            (miss, ltb-false (length r) c f, sym (gone-left k (farthest t i k r)) ∙ sym (ap left_of is) ∙ sym (ap left_of h) ∙ gone-left k v)
-      ]
 
 -- ---- the ranks one access back
 
 eqb-flip : (a b : ℕ) → eqb a b ≡ eqb b a
 eqb-flip a b = grind (arith, nat_tests)
-
--- the one that left was a resident
-was-in : (t : List ℕ) (i k v : ℕ) (r : List ℕ) → farthest t i k r ≡ v → eqb v k ≡ false → has v r ≡ true
-was-in t i k v r e d =
-    elim (farthest-among t i k r) [
-      | inl f ↦ absurd (eqb-false v k d (sym e ∙ f))
-      | inr f ↦ sym (ap (λ x. has x r) e) ∙ f
-    ]
 
 module _ (c : ℕ) (t : List ℕ) (i : ℕ) (lt : i < length t) (h : List Bool) (tied : IsTied t (suc i) (residents c t (suc i)) h) where
   from : (s : List ℕ) → residents c t (suc i) ≡ s → (q : ℕ) → q < 2 * length t → holds h q ≡ is_ranked t (suc i) s q
@@ -124,12 +53,12 @@ module _ (c : ℕ) (t : List ℕ) (i : ℕ) (lt : i < length t) (h : List Bool) 
         ranks = λ q w. from (residents c t i) (served-full c t i (get_or t i 0) (residents c t i) (get_or t i 0) miss full (goes ∙ e) ∙ without-put (get_or t i 0) (residents c t i) miss) q w ∙ step-rejected t i lt (residents c t i) miss q;
       }
 
-      module _ (differs : eqb v (get_or t i 0) ≡ false) where
+      module _ (differs : eqb (get_or t i 0) v ≡ false) where
         there : has v (residents c t i) ≡ true
-        there = was-in t i (get_or t i 0) v (residents c t i) goes differs
+        there = was-in c t i v goes differs
 
         same-rank : rank t (suc i) v ≡ rank t i v
-        same-rank = rank-other t i v lt differs
+        same-rank = rank-other t i v lt (eqb-flip v (get_or t i 0) ∙ differs)
 
         pub left-named : IsNamed t (suc i) v
         left-named = named t (suc i) v (omega arith) (seen-more t i v (residents-seen c t i v there))

@@ -1,8 +1,8 @@
 //! The cache that knows the trace.
-ghost use Rattle.std.specs.Prelude.{◌≡◌, ℕ, suc, ◌+◌, ◌-◌, ◌*◌, ◌≤◌, ◌<◌, ◌↔◌, List, length, slice_index, IfOk, IfErr, OnOk, OnErr, Some, None};
-ghost use Rattle.clairvoyant.specs.Held.{IsTied};
+ghost use Rattle.std.specs.Prelude.{◌≡◌, ℕ, suc, ◌+◌, ◌-◌, ◌*◌, ◌≤◌, ◌<◌, ◌↔◌, List, length, slice_index, IfOk, IfErr, OnOk, OnErr, Ok, Some, None};
+ghost use Rattle.clairvoyant.specs.RankSet.{IsTied};
 ghost use Rattle.clairvoyant.specs.Belady.{residents, outcome};
-ghost use Rattle.clairvoyant.specs.Seen.{outcome_of, undone_keys, IsFormer, IsRanked};
+ghost use Rattle.clairvoyant.specs.UseRecord.{record_at};
 
 use crate::next_use::NextUse;
 use crate::use_record::{Gone, UseRecord};
@@ -24,94 +24,68 @@ pub struct Clairvoyant {
 }
 
 impl Model for Clairvoyant {
-    ghost use Rattle.clairvoyant.specs.Seen.{Seen};
-    ghost use Rattle.clairvoyant.specs.Keeping.{shown, IsKeeping};
+    ghost use Rattle.clairvoyant.specs.Clairvoyant.{ClairvoyantState};
+    ghost use Rattle.clairvoyant.specs.Representation.{shown, IsRepresented};
 
-    ghost Value = { Seen };
+    ghost Value = { ClairvoyantState };
 
     ghost view = { λ l. shown l.capacity l.uses l.stats };
 
-    ghost invariant = { λ l. IsKeeping l.capacity l.uses l.stats l.ranks };
+    ghost invariant = { λ l. IsRepresented l.capacity l.uses l.stats l.ranks };
 }
 
-/// Serves the access at a place: changes the ranks that are held, `held` of them before, and
-/// tells what it changed.
+// Makes the access at a place: changes the ranks that are held, `held` of them before, and returns
+// its undo record.
 fn serve(uses: &NextUse, ranks: &mut Ranks, capacity: usize, held: usize, place: usize) -> UseRecord
     requires place { place < length uses.now }
     requires tied { IsTied uses.now place (residents capacity uses.now place) ranks.old }
     requires held { held ≡ length (residents capacity uses.now place) }
     ensures tied { IsTied uses.now (suc place) (residents capacity uses.now (suc place)) ranks.new }
-    ensures outcome { outcome_of result ≡ outcome capacity uses.now place }
-    ensures key { result.key ≡ slice_index uses.now place }
-    ensures former { IsFormer uses.now place result.former }
-    ensures ranked { IsRanked uses.now place result.left }
-    ensures undone { undone_keys result (residents capacity uses.now (suc place)) ≡ residents capacity uses.now place }
+    ensures record { result ≡ record_at capacity uses.now place }
 {
-    let key = uses.key(place);
-    let former = (2 * uses.len() - 1 - place) as u32;
+    let former = 2 * uses.len() - 1 - place;
     let rank = uses.rank(place);
-    if ranks.has(former as usize) {
-        ranks.take(former as usize);
+    if ranks.has(former) {
+        ranks.take(former);
         ranks.put(rank as usize);
-        return UseRecord {
-            key,
-            former: Some(former),
-            left: None,
-        };
+        return UseRecord::Hit;
     }
     if held < capacity {
         ranks.put(rank as usize);
-        return UseRecord {
-            key,
-            former: None,
-            left: None,
-        };
+        return UseRecord::Kept;
     }
     match ranks.least_below(rank as usize) {
         Some(least) => {
             ranks.take(least);
             ranks.put(rank as usize);
-            UseRecord {
-                key,
-                former: None,
-                left: Some(Gone {
-                    key: uses.key_at(least),
-                    rank: least as u32,
-                }),
-            }
+            UseRecord::Evicted(Gone {
+                key: uses.key_at(least),
+                rank: least as u32,
+            })
         }
-        None => UseRecord {
-            key,
-            former: None,
-            left: Some(Gone { key, rank }),
-        },
+        None => UseRecord::Rejected(uses.key(place)),
     }
 }
 
-/// Takes back what the access at a place did to the ranks that are held.
+// Takes back what the access at a place did to the ranks that are held.
 fn unserve(uses: &NextUse, ranks: &mut Ranks, _capacity: usize, place: usize, done: UseRecord)
     requires place { place < length uses.now }
     requires tied { IsTied uses.now (suc place) (residents _capacity uses.now (suc place)) ranks.old }
-    requires outcome { outcome_of done ≡ outcome _capacity uses.now place }
-    requires key { done.key ≡ slice_index uses.now place }
-    requires former { IsFormer uses.now place done.former }
-    requires ranked { IsRanked uses.now place done.left }
+    requires record { done ≡ record_at _capacity uses.now place }
     ensures { IsTied uses.now place (residents _capacity uses.now place) ranks.new }
 {
-    let rank = uses.rank(place);
-    if let Some(former) = done.former {
-        ranks.take(rank as usize);
-        ranks.put(former as usize);
-        return;
-    }
-    match done.left {
-        None => ranks.take(rank as usize),
-        Some(gone) => {
-            if gone.key != done.key {
-                ranks.take(rank as usize);
-                ranks.put(gone.rank as usize);
-            }
+    let rank = uses.rank(place) as usize;
+    match done {
+        UseRecord::Hit => {
+            ranks.take(rank);
+            ranks.put(2 * uses.len() - 1 - place);
         }
+        UseRecord::Kept => ranks.take(rank),
+        UseRecord::Evicted(gone) => {
+            ranks.take(rank);
+            ranks.put(gone.rank as usize);
+        }
+        UseRecord::Rejected(_) => {}
     }
 }
 
@@ -139,13 +113,13 @@ fn keys_held(
 }
 
 impl Clairvoyant {
-    ghost use Rattle.clairvoyant.specs.Seen.{seen_at};
+    ghost use Rattle.clairvoyant.specs.Clairvoyant.{clairvoyant_at};
 
     /// An empty cache at the start of a trace, for 1 to 2^20 keys. The only error is want of
     /// memory; a cache that is open asks for no more.
     pub fn open(alloc: Global, uses: NextUse, capacity: u32) -> Result<Clairvoyant, AllocError>
         requires { (1 ≤ capacity) × (capacity ≤ 1048576) }
-        ensures { IfOk result (λ l. l ≡ seen_at capacity uses 0) }
+        ensures { IfOk result (λ l. l ≡ clairvoyant_at capacity uses 0) }
     {
         let ranks = Ranks::new(alloc, 2 * uses.len())?;
         Ok(Clairvoyant {
@@ -178,9 +152,10 @@ impl Clairvoyant {
 }
 
 impl Engine for Clairvoyant {
-    ghost use Rattle.clairvoyant.specs.Seen.{seen_at, use_act, use_undone, UseFits};
-    ghost use Rattle.clairvoyant.specs.Laws.{act_counts, act_ends};
-    ghost use Rattle.step_record.specs.Pace.{still, still-paced, weight};
+    ghost use Rattle.clairvoyant.specs.Clairvoyant.{clairvoyant_at, clairvoyant_act};
+    ghost use Rattle.clairvoyant.specs.UseRecord.{clairvoyant_undone, ClairvoyantFits};
+    ghost use Rattle.clairvoyant.specs.StepCount.{act_counts, act_ends};
+    ghost use Rattle.step_record.specs.Pace.{still, still-paced, words_of_halvings};
 
     type Step = Key;
 
@@ -192,29 +167,29 @@ impl Engine for Clairvoyant {
 
     ghost seen = { λ l. l };
 
-    ghost act = { use_act };
+    ghost act = { clairvoyant_act };
 
-    ghost fits = { UseFits };
+    ghost fits = { ClairvoyantFits };
 
-    ghost undone = { use_undone };
+    ghost undone = { clairvoyant_undone };
 
     ghost count = { λ d. d.stats.accesses };
 
-    ghost size = { λ r. 0 };
+    ghost words_of = { λ r. 0 };
 
     ghost pace = { λ d. still };
 
     fn apply(&mut self, step: &Key) -> Result<(Outcome, UseRecord), StepFault>
-        ensures accepted { IfOk result (λ r. use_act self.old step.now ≡ Some (r.0, self.new)) }
-        ensures fits { IfOk result (λ r. UseFits r.1 self.new) }
-        ensures undone { IfOk result (λ r. use_undone r.1 self.new ≡ self.old) }
-        ensures weighed { IfOk result (λ r. weight still ≡ weight still + 0) }
-        ensures not_now { result ≡ Err StepFault.NotNow ↔ use_act self.old step.now ≡ None }
+        ensures accepted { IfOk result (λ r. clairvoyant_act self.old step.now ≡ Some (r.0, self.new)) }
+        ensures fits { IfOk result (λ r. ClairvoyantFits r.1 self.new) }
+        ensures undone { IfOk result (λ r. clairvoyant_undone r.1 self.new ≡ self.old) }
+        ensures words { IfOk result (λ r. words_of_halvings still ≡ words_of_halvings still + 0) }
+        ensures not_now { result ≡ Err StepFault.NotNow ↔ clairvoyant_act self.old step.now ≡ None }
         ensures err { OnErr result (self.new ≡ self.old) }
         // The outcome is the definition's at this place of the trace, and the cache goes on to the next.
-        ensures stands { IfOk result (λ r. (self.old ≡ seen_at self.old.capacity self.old.trace self.old.stats.accesses)
+        ensures stands { IfOk result (λ r. (self.old ≡ clairvoyant_at self.old.capacity self.old.trace self.old.stats.accesses)
             × (r.0 ≡ outcome self.old.capacity self.old.trace self.old.stats.accesses)
-            × (self.new ≡ seen_at self.old.capacity self.old.trace (suc self.old.stats.accesses))) }
+            × (self.new ≡ clairvoyant_at self.old.capacity self.old.trace (suc self.old.stats.accesses))) }
         // No access asks for memory.
         ensures no_want { result ≡ Err StepFault.OutOfMemory → ⊥ }
     {
@@ -232,7 +207,14 @@ impl Engine for Clairvoyant {
         Ok((outcome, record))
     }
 
-    fn undo(&mut self, done: UseRecord) -> Result<(), UseRecord> {
+    fn undo(&mut self, done: UseRecord) -> Result<(), UseRecord>
+        requires { ClairvoyantFits done self.old }
+        ensures ok { OnOk result (self.new ≡ clairvoyant_undone done self.old) }
+        ensures err { OnErr result (self.new ≡ self.old) }
+        ensures returned { IfErr result (λ r. r ≡ done) }
+        // Undoing asks for no memory.
+        ensures never_refused { result ≡ Ok tt }
+    {
         let place = (self.stats.accesses - 1) as usize;
         unserve(&self.uses, &mut self.ranks, self.capacity, place, done);
         self.stats.uncount(done.outcome());

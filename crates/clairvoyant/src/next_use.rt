@@ -5,8 +5,7 @@ ghost use Rattle.clairvoyant.specs.Uses.{next, rank, rank_by, key_at};
 use std::alloc::{AllocError, Global};
 use std::collections::HashMap;
 use std::marker::Model;
-use step_record::Key;
-use trace_read::Trace;
+use step_record::{Key, Trace};
 
 /// The accesses of a trace, with the next use of each one's key.
 ///

@@ -4,8 +4,7 @@ use super::*;
 use std::alloc::{AllocError, Global};
 use std::process::Abort;
 use std::test::Fail;
-use step_record::{Engine, Key, Outcome, Stats, StepFault};
-use trace_read::Trace;
+use step_record::{Engine, Key, Outcome, Stats, StepFault, Trace};
 
 fn opened(alloc: Global, keys: &[Key], capacity: u32) -> Result<Clairvoyant, Fail>
     requires { (1 ≤ capacity) × (capacity ≤ 1048576) }

@@ -1,91 +1,233 @@
 -- What some list of accesses gives, one access further.
-use Rattle.std.proofs.Common.{◌≡◌, ℕ, suc, zero, ◌+◌, ◌-◌, ◌≤◌, Bool, cond, eqb, Option, Some, None, List, [], ◌∷◌, ◌++◌, length, count_by, drop, ap, ◌∙◌, sym, refl, arith, inl, inr, ◌≢◌, length-append, append-nil}
+use Rattle.std.proofs.Common.{◌≡◌, ◌≢◌, ℕ, ◌+◌, ◌*◌, ◌≤◌, Bool, true, false, ◌==◌, inl, inr, Option, Some, None, Ok, Err, List, [], ◌∷◌, ◌++◌, length, ap, ◌∙◌, sym, refl, arith, subst, length-append, append-nil, add-zero, lit≤}
 use Rattle.std.proofs.lemmas.List.{append_assoc}
-use Rattle.std.proofs.lemmas.Bool.{eqb-true}
+use Rattle.std.proofs.lemmas.Bool.{cases_Bool, eqb-true}
+use Rattle.std.proofs.lemmas.Bool.Decides.{nat_tests}
+use Rattle.step_record.specs.declared.config.ConfigFault.TheVariants.{Capacity}
+use Rattle.step_record.specs.declared.config.Config.{Config}
+use Rattle.step_record.specs.declared.job.Job.{Job}
 use Rattle.step_record.specs.declared.outcome.Outcome.{Outcome}
 use Rattle.step_record.specs.declared.outcome.Outcome.TheVariants.{Hit}
-use Rattle.policies.specs.Recency.{IsDistinct, residents, distinct, outcome, moved, answer}
-use Rattle.step_record.proofs.Counting.{stats-snoc, stats-small}
-use Rattle.step_record.specs.Stats.{stats_of, counted, IsSmall}
-use Rattle.policies.specs.Seen.{Seen, outcomes, seen_after, IsReached, lru_act}
-use Rattle.policies.proofs.Recency.{two, distinct-distinct, residents-snoc, outcome-residents, residents-few}
+use Rattle.step_record.specs.declared.stats.Stats.{Stats}
+use Rattle.step_record.specs.Config.{config_fault, is_from_one}
+use Rattle.step_record.specs.Pace.{words_of_halvings}
+use Rattle.step_record.specs.Stats.{stats_of, counted, one, is_hit, is_miss, is_eviction, is_rejection, IsSmall}
+use Rattle.segments.specs.Queues.{Queues, empty, total, IsDistinct}
+use Rattle.admission.specs.declared.freq_record.FreqRecord.{FreqRecord}
+use Rattle.admission.specs.Eras.{halvings}
+use Rattle.admission.specs.Frequency.{FrequencyData, frequency_of}
+use Rattle.admission.proofs.Recording.{recorded_freq}
+use Rattle.admission.proofs.Weighing.{halvings_bounded, weight_falls}
+use Rattle.replacement.specs.declared.rules.Rules.{Rules}
+use Rattle.replacement.specs.declared.record.Effect.{Effect}
+use Rattle.replacement.specs.Admission.{admits_in}
+use Rattle.replacement.specs.Shape.{shape_of}
+use Rattle.replacement.specs.Table.{Response, access}
+use Rattle.replacement.proofs.Planned.{access-distinct, access-few}
+use Rattle.replacement.proofs.Shape.{shape-is}
+use Rattle.policies.specs.QueueCache.{QueueState, is_counting, rules_of, item_of, response_to, accessed, frequency_by, frequency_after, state_from, opened, state_after, outcome_after, StandsFor}
+use Rattle.policies.specs.QueueStep.{IsReached, recorded_in, queue_act, FitsCounting, unrecorded, counting_words, pace_by}
+use Rattle.policies.specs.QueueFields.{FewHalvings}
 
-outcomes-snoc : (c k : ℕ) (past keys : List ℕ) → outcomes c past (keys ++ k ∷ []) ≡ outcomes c past keys ++ outcome c (past ++ keys) k ∷ []
-outcomes-snoc c k past [] = rw append-nil refl
-outcomes-snoc c k past (a ∷ keys) =
-    ap (λ l. outcome c past a ∷ l) (outcomes-snoc c k (past ++ a ∷ []) keys ∙ rw (append_assoc past (a ∷ []) keys) refl)
+from-snoc : (j : Job) (past : List ℕ) (d : QueueState) (keys : List ℕ) (k : ℕ) → state_from j past d (keys ++ k ∷ []) ≡ accessed (frequency_after j ((past ++ keys) ++ k ∷ [])) k (state_from j past d keys)
+from-snoc j past d [] k = rw (append-nil past) refl
+from-snoc j past d (a ∷ keys) k =
+    from-snoc j (past ++ a ∷ []) (accessed (frequency_after j (past ++ a ∷ [])) a d) keys k
+    ∙ rw (append_assoc past (a ∷ []) keys) refl
 
-pub outcomes-length : (c : ℕ) (past keys : List ℕ) → length (outcomes c past keys) ≡ length keys
-outcomes-length c past [] = refl
-outcomes-length c past (a ∷ keys) = ap suc (outcomes-length c (past ++ a ∷ []) keys)
+-- one access more
+pub after-snoc : (j : Job) (keys : List ℕ) (k : ℕ) → state_after j (keys ++ k ∷ []) ≡ accessed (frequency_after j (keys ++ k ∷ [])) k (state_after j keys)
+unfolding state_after
+after-snoc j keys k = from-snoc j [] (opened j) keys k
 
--- an access more
-pub seen-snoc : (c k : ℕ) (keys : List ℕ) → 1 ≤ c → seen_after c (keys ++ k ∷ []) ≡ record { capacity = c; residents = moved c (residents c keys) k; stats = counted (answer c (residents c keys) k) (stats_of (outcomes c [] keys)) }
-seen-snoc zero k keys h = absurd (omega arith)
-seen-snoc (suc c) k keys h =
-    rw (residents-snoc c k keys, outcomes-snoc (suc c) k [] keys, stats-snoc, outcome-residents (suc c) k keys) refl
+from-frequency : (j : Job) (past : List ℕ) (d : QueueState) (keys : List ℕ) → d.frequency ≡ frequency_after j past → (state_from j past d keys).frequency ≡ frequency_after j (past ++ keys)
+from-frequency j past d [] h = rw (append-nil past) h
+from-frequency j past d (a ∷ keys) h =
+    from-frequency j (past ++ a ∷ []) (accessed (frequency_after j (past ++ a ∷ [])) a d) keys refl
+    ∙ rw (append_assoc past (a ∷ []) keys) refl
 
-distinct-drop : (n : ℕ) (l : List ℕ) → IsDistinct l → IsDistinct (drop n l)
-distinct-drop zero l d = d
-distinct-drop (suc n) [] d = tt
-distinct-drop (suc n) (a ∷ l) d = distinct-drop n l d.1
+pub after-frequency : (j : Job) (keys : List ℕ) → (state_after j keys).frequency ≡ frequency_after j keys
+unfolding state_after
+after-frequency j keys = from-frequency j [] (opened j) keys refl
 
-pub reached-distinct : (d : Seen) → IsReached d → IsDistinct d.residents
-reached-distinct d r = rw (ap (λ s. s.residents) r.gives) (distinct-drop (length (distinct r.keys) - d.capacity) (distinct r.keys) (distinct-distinct r.keys))
+from-job : (j : Job) (past : List ℕ) (d : QueueState) (keys : List ℕ) → (state_from j past d keys).job ≡ d.job
+from-job j past d [] = refl
+from-job j past d (a ∷ keys) = from-job j (past ++ a ∷ []) (accessed (frequency_after j (past ++ a ∷ [])) a d) keys
 
-pub reached-few : (d : Seen) → IsReached d → length d.residents ≤ d.capacity
-reached-few d r = rw (ap (λ s. s.residents) r.gives) (residents-few d.capacity r.keys)
+pub after-job : (j : Job) (keys : List ℕ) → (state_after j keys).job ≡ j
+unfolding state_after
+after-job j keys = from-job j [] (opened j) keys
 
-pub reached-small : (d : Seen) → IsReached d → IsSmall d.stats
+-- each count is within that of the accesses, and each access adds two items at most
+record IsSteady (d : QueueState) (n : ℕ) : Type 0 where
+  accesses : d.stats.accesses ≡ n
+  hits : d.stats.hits ≤ n
+  misses : d.stats.misses ≤ n
+  evictions : d.stats.evictions ≤ n
+  rejections : d.stats.rejections ≤ n
+  items : total d.queues ≤ 2 * n
+  distinct : IsDistinct d.queues
+
+one-few : (b : Bool) → one b ≤ 1
+one-few true = omega arith
+one-few false = omega arith
+
+steady-step : (f : Option FrequencyData) (k : ℕ) (d : QueueState) (n : ℕ) → IsSteady d n → IsSteady (accessed f k d) (n + 1)
+steady-step f k d n h =
+    let o : Outcome = (response_to f k d).outcome in
+    record {
+      accesses = (let e = h.accesses in omega arith);
+      hits = (let a = h.hits in let b = one-few (is_hit o) in omega arith);
+      misses = (let a = h.misses in let b = one-few (is_miss o) in omega arith);
+      evictions = (let a = h.evictions in let b = one-few (is_eviction o) in omega arith);
+      rejections = (let a = h.rejections in let b = one-few (is_rejection o) in omega arith);
+      items = (let a = h.items in let b = access-few (rules_of d.job) (admits_in f) (item_of k) d.queues h.distinct in omega arith);
+      distinct = access-distinct (rules_of d.job) (admits_in f) (item_of k) d.queues h.distinct;
+    }
+
+from-steady : (j : Job) (past : List ℕ) (d : QueueState) (keys : List ℕ) (n : ℕ) → IsSteady d n → IsSteady (state_from j past d keys) (n + length keys)
+from-steady j past d [] n h = subst (IsSteady d) (omega arith) h
+from-steady j past d (a ∷ keys) n h =
+    subst (IsSteady (state_from j (past ++ a ∷ []) (accessed (frequency_after j (past ++ a ∷ [])) a d) keys)) (omega arith)
+    (from-steady j (past ++ a ∷ []) (accessed (frequency_after j (past ++ a ∷ [])) a d) keys (n + 1) (steady-step (frequency_after j (past ++ a ∷ [])) a d n h))
+
+after-steady : (j : Job) (keys : List ℕ) → IsSteady (state_after j keys) (length keys)
+unfolding state_after
+after-steady j keys =
+    subst (IsSteady (state_from j [] (opened j) keys)) (omega arith)
+    (from-steady j [] (opened j) keys 0
+    record { accesses = refl; hits = omega arith; misses = omega arith; evictions = omega arith; rejections = omega arith; items = omega arith; distinct = λ i. lit≤ tt })
+
+reached-steady : (d : QueueState) (r : IsReached d) → IsSteady d (length r.keys)
+reached-steady d r = subst (λ (e : QueueState). IsSteady e (length r.keys)) (sym r.stands.gives) (after-steady d.job r.keys)
+
+pub reached-small : (d : QueueState) → IsReached d → IsSmall d.stats
 reached-small d r =
-    rw (ap (λ s. s.stats) r.gives) (stats-small (outcomes d.capacity [] r.keys) (rw (outcomes-length d.capacity [] r.keys) r.few))
+    let h = reached-steady d r in
+    let n = r.few in
+    record {
+      accesses = (let a = h.accesses in omega arith);
+      hits = (let a = h.hits in omega arith);
+      misses = (let a = h.misses in omega arith);
+      evictions = (let a = h.evictions in omega arith);
+      rejections = (let a = h.rejections in omega arith);
+    }
 
--- an access to what stands for some keys leaves what stands for one more
-pub stands-step : (d : Seen) (keys : List ℕ) (k : ℕ) → 1 ≤ d.capacity → d ≡ seen_after d.capacity keys → record { capacity = d.capacity; residents = moved d.capacity d.residents k; stats = counted (answer d.capacity d.residents k) d.stats } ≡ seen_after d.capacity (keys ++ k ∷ [])
-stands-step d keys k h e =
-    let r : d.residents ≡ residents d.capacity keys = ap (λ s. s.residents) e in
-    let t : d.stats ≡ stats_of (outcomes d.capacity [] keys) = ap (λ s. s.stats) e in
-    rw (r, t) (sym (seen-snoc d.capacity k keys h))
+pub reached-items : (d : QueueState) → IsReached d → total d.queues ≤ 8589934592
+reached-items d r = let h = (reached-steady d r).items in let n = r.few in omega arith
 
-pub stands-outcome : (d : Seen) (keys : List ℕ) (k : ℕ) → d ≡ seen_after d.capacity keys → answer d.capacity d.residents k ≡ outcome d.capacity keys k
-stands-outcome d keys k e =
-    let r : d.residents ≡ residents d.capacity keys = ap (λ s. s.residents) e in
-    rw r (sym (outcome-residents d.capacity k keys))
+by-few : (b : Bool) (c : Config) (keys : List ℕ) → 1 ≤ c.capacity → length keys ≤ 4294967296 → FewHalvings (frequency_by b (shape_of c) keys)
+unfolding frequency_of
+by-few false c keys some few = tt
+by-few true c keys some few = let h = halvings_bounded c.capacity (length keys) some in omega arith
 
-pub reached-step : (d : Seen) (k : ℕ) → IsReached d → (d.stats.accesses ≡ 4294967296 → ⊥) → IsReached record { capacity = d.capacity; residents = moved d.capacity d.residents k; stats = counted (answer d.capacity d.residents k) d.stats }
+pub has-room : (c : Config) → config_fault c ≡ Ok tt → 1 ≤ c.capacity
+has-room c h =
+    elim (cases_Bool (is_from_one 1048576 c.capacity)) [
+      | inl e ↦ grind (arith, nat_tests)
+      | inr e ↦ absurd (let no : Err Capacity ≡ Ok tt = rw e at h in cc (no))
+    ]
+
+pub reached-halvings : (d : QueueState) → IsReached d → FewHalvings d.frequency
+reached-halvings d r =
+    subst FewHalvings (sym (ap (λ (e : QueueState). e.frequency) r.stands.gives ∙ after-frequency d.job r.keys))
+    (by-few (is_counting d.job.policy) d.job.config r.keys (has-room d.job.config r.stands.checked) r.few)
+
+-- recording the key in the frequency of the accesses gives that of one more
+recorded-by : (b : Bool) (c : Config) (keys : List ℕ) (k : ℕ) → 1 ≤ c.capacity → recorded_in k (frequency_by b (shape_of c) keys) ≡ frequency_by b (shape_of c) (keys ++ k ∷ [])
+recorded-by false c keys k some = refl
+recorded-by true c keys k some =
+    let is = shape-is c some in
+    ap Some (recorded_freq (shape_of c) is.some (omega (arith, is.width.1)) (omega (arith, is.size.1)) keys k)
+
+-- for a cache that stands for some accesses: the frequency with the key
+stands-frequency : (j : Job) (keys : List ℕ) (k : ℕ) (d : QueueState) → StandsFor j keys d → recorded_in k d.frequency ≡ frequency_after j (keys ++ k ∷ [])
+stands-frequency j keys k d s =
+    ap (recorded_in k) (ap (λ (x : QueueState). x.frequency) s.gives ∙ after-frequency j keys)
+    ∙ recorded-by (is_counting j.policy) j.config keys k (has-room j.config s.checked)
+
+-- it stands for one access more after a step
+stands-step : (j : Job) (keys : List ℕ) (k : ℕ) (d : QueueState) → StandsFor j keys d → accessed (recorded_in k d.frequency) k d ≡ state_after j (keys ++ k ∷ [])
+stands-step j keys k d s =
+    ap (λ f. accessed f k d) (stands-frequency j keys k d s)
+    ∙ (ap (accessed (frequency_after j (keys ++ k ∷ [])) k) s.gives ∙ sym (after-snoc j keys k))
+
+stands-outcome : (j : Job) (keys : List ℕ) (k : ℕ) (d : QueueState) → StandsFor j keys d → (response_to (recorded_in k d.frequency) k d).outcome ≡ outcome_after j keys k
+stands-outcome j keys k d s =
+    ap (λ f. (response_to f k d).outcome) (stands-frequency j keys k d s)
+    ∙ ap (λ x. (response_to (frequency_after j (keys ++ k ∷ [])) k x).outcome) s.gives
+
+reached-step : (d : QueueState) (k : ℕ) → IsReached d → d.stats.accesses ≢ 4294967296 → IsReached (accessed (recorded_in k d.frequency) k d)
 reached-step d k r below =
-    let n : d.stats.accesses ≡ length r.keys = ap (λ s. s.stats.accesses) r.gives ∙ outcomes-length d.capacity [] r.keys in
+    let n = (reached-steady d r).accesses in
     let less : length r.keys ≢ 4294967296 = λ h. below (n ∙ h) in
     record {
       keys = r.keys ++ k ∷ [];
-      gives = stands-step d r.keys k r.room r.gives;
+      stands = record { checked = r.stands.checked; gives = stands-step d.job r.keys k d r.stands };
       few = omega (arith, r.few, less, length-append r.keys (k ∷ []));
-      room = r.room;
     }
 
-answer_in : Option (Outcome × Seen) → Outcome
+-- a cache that made no access
+pub first-stands : (j : Job) (f : Option FrequencyData) (q : Queues) → config_fault j.config ≡ Ok tt → f ≡ frequency_after j [] → q ≡ empty
+    → StandsFor j [] record { job = j; queues = q; frequency = f; stats = stats_of [] }
+unfolding state_after
+first-stands j f q h g e = record { checked = h; gives = rw (e, g) refl }
+
+-- an access as the fields show it
+pub access-reached : (j : Job) (r : Rules) (q p t : Queues) (f g : Option FrequencyData) (s z : Stats) (k : ℕ) (w : Effect)
+    → r ≡ rules_of j → IsReached record { job = j; queues = q; frequency = f; stats = s } → s.accesses ≢ 4294967296
+    → p ≡ q → g ≡ recorded_in k f → w.outcome ≡ (access r (admits_in g) (item_of k) p).outcome → t ≡ (access r (admits_in g) (item_of k) p).queues
+    → z ≡ counted w.outcome s → IsReached record { job = j; queues = t; frequency = g; stats = z }
+access-reached j r q p t f g s z k w er reached below ep eg ho hl ez =
+    let d : QueueState = record { job = j; queues = q; frequency = f; stats = s } in
+    let new : QueueState = record { job = j; queues = t; frequency = g; stats = z } in
+    let same : access r (admits_in g) (item_of k) p ≡ access (rules_of j) (admits_in (recorded_in k f)) (item_of k) q =
+    ap (λ (x : Queues). access r (admits_in g) (item_of k) x) ep
+    ∙ (ap (λ (x : Option FrequencyData). access r (admits_in x) (item_of k) q) eg ∙ ap (λ (x : Rules). access x (admits_in (recorded_in k f)) (item_of k) q) er) in
+    let lists : t ≡ (access (rules_of j) (admits_in (recorded_in k f)) (item_of k) q).queues = hl ∙ ap (λ (x : Response). x.queues) same in
+    let outcome : w.outcome ≡ (access (rules_of j) (admits_in (recorded_in k f)) (item_of k) q).outcome = ho ∙ ap (λ (x : Response). x.outcome) same in
+    let stats : z ≡ counted (access (rules_of j) (admits_in (recorded_in k f)) (item_of k) q).outcome s = ez ∙ ap (λ o. counted o s) outcome in
+    let all : new ≡ accessed (recorded_in k f) k d = rw (lists, eg, stats) refl in
+    subst IsReached (sym all) (reached-step d k reached below)
+
+-- the words of a record of the frequency
+pub counting-weighs : (c : Option FreqRecord) (g : Option FrequencyData) → FitsCounting c g → words_of_halvings (pace_by g) ≡ words_of_halvings (pace_by (unrecorded c g)) + counting_words c
+counting-weighs None g h = rw add-zero refl
+counting-weighs (Some r) None h = absurd h
+counting-weighs (Some r) (Some f) h = weight_falls f r h
+
+answer_in : Option (Outcome × QueueState) → Outcome
 answer_in None = Hit
 answer_in (Some p) = p.0
 
-seen_in : Seen → Option (Outcome × Seen) → Seen
-seen_in d None = d
-seen_in d (Some p) = p.1
+state_in : QueueState → Option (Outcome × QueueState) → QueueState
+state_in d None = d
+state_in d (Some p) = p.1
 
 -- what an accepted step does is what the list of accesses says
-pub act_stands : (d : Seen) (keys : List ℕ) (k : ℕ) (o : Outcome) (e : Seen) → 1 ≤ d.capacity → d ≡ seen_after d.capacity keys → lru_act d k ≡ Some (o, e) → (o ≡ outcome d.capacity keys k) × (e ≡ seen_after d.capacity (keys ++ k ∷ []))
-unfolding answer_in seen_in
-act_stands d keys k o e h s a =
-    elim (two (eqb d.stats.accesses 4294967296)) [
+pub act_stands : (j : Job) (keys : List ℕ) (d : QueueState) (k : ℕ) (o : Outcome) (e : QueueState) → StandsFor j keys d
+    → queue_act d k ≡ Some (o, e) → (o ≡ outcome_after j keys k) × StandsFor j (keys ++ k ∷ []) e
+unfolding answer_in state_in
+act_stands j keys d k o e s a =
+    elim (cases_Bool (d.stats.accesses == 4294967296)) [
       | inl f ↦ absurd (let no : None ≡ Some (o, e) = rw f at a in cc (no))
       | inr f ↦
-          let b : Some (answer d.capacity d.residents k, record { capacity = d.capacity; residents = moved d.capacity d.residents k; stats = counted (answer d.capacity d.residents k) d.stats }) ≡ Some (o, e) = rw f at a in
-          (sym (ap answer_in b) ∙ stands-outcome d keys k s, sym (ap (seen_in d) b) ∙ stands-step d keys k h s)
+          let b : Some ((response_to (recorded_in k d.frequency) k d).outcome, accessed (recorded_in k d.frequency) k d) ≡ Some (o, e) = rw f at a in (
+            sym (ap answer_in b) ∙ stands-outcome j keys k d s,
+            record {
+              checked = s.checked;
+              gives = sym (ap (state_in d) b) ∙ stands-step j keys k d s;
+            },
+          )
     ]
 
 -- a step is refused only where no more can be counted
-pub act_accepts : (d : Seen) (k : ℕ) → lru_act d k ≡ None → d.stats.accesses ≡ 4294967296
+pub act_accepts : (d : QueueState) (k : ℕ) → queue_act d k ≡ None → d.stats.accesses ≡ 4294967296
 act_accepts d k h =
-    elim (two (eqb d.stats.accesses 4294967296)) [
+    elim (cases_Bool (d.stats.accesses == 4294967296)) [
       | inl f ↦ eqb-true d.stats.accesses 4294967296 f
-      | inr f ↦ absurd (let no : Some (answer d.capacity d.residents k, record { capacity = d.capacity; residents = moved d.capacity d.residents k; stats = counted (answer d.capacity d.residents k) d.stats }) ≡ None = rw f at h in cc (no))
+      | inr f ↦ absurd (let no : Some ((response_to (recorded_in k d.frequency) k d).outcome, accessed (recorded_in k d.frequency) k d) ≡ None = rw f at h in cc (no))
     ]
+
+pub stands-accesses : (j : Job) (keys : List ℕ) (d : QueueState) → StandsFor j keys d → d.stats.accesses ≡ length keys
+stands-accesses j keys d s = ap (λ (x : QueueState). x.stats.accesses) s.gives ∙ (after-steady j keys).accesses

@@ -1,15 +1,33 @@
-//! The cache policies, each an engine whose steps are accesses.
+//! The cache policies, each an engine whose steps are accesses: Lru, SegmentedLru, both TinyLfu, WindowTinyLfu, and
+//! Belady's optimal policy beside them in `AnyPolicy`.
 //!
-//! Each policy promises that for every list of accesses it stands for, an access answers the
-//! outcome that the policy's definition gives after the whole list, and leaves the policy
-//! standing for that list with the key at its end; and that each access can be undone from its
-//! record and what the cache shows. So far there is `Lru`.
+//! Each policy promises that for every list of accesses that it made, an access answers the outcome that the policy's
+//! definition gives after the whole list, and leaves the cache with that access at the list's end; and that each access can
+//! be undone from its record and what the cache shows. The definition of the policies of queues is the table of moves of
+//! the crate `replacement`, folded over the accesses (`specs/QueueCache.antt`); that of Lru is also the last distinct
+//! keys (`specs/Lru.antt`). The promises stand as the theorems below, over the steps alone, so that they reach callers
+//! that see a cache through a session or `AnyPolicy`.
 #![tactic(auto)]
 
-mod laws;
+mod any_policy;
 mod lru;
-mod queue;
+mod queue_cache;
+mod record;
+mod segmented_lru;
+#[cfg(test)]
+mod tests;
+mod theorems;
+mod tiny_lfu;
+mod window_tiny_lfu;
 
-pub use laws::{lru_accepts, lru_stands};
+pub use any_policy::{AnyPolicy, AnyRecord};
 pub use lru::Lru;
-pub use queue::LruRecord;
+pub use queue_cache::QueueCache;
+pub use record::AccessRecord;
+pub use segmented_lru::SegmentedLru;
+pub use theorems::{
+    any_accepts, any_answers, any_covers_trace, any_is_one, any_reports, any_stands, lru_stands,
+    queues_accept, queues_count, queues_stand,
+};
+pub use tiny_lfu::TinyLfu;
+pub use window_tiny_lfu::WindowTinyLfu;

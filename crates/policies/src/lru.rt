@@ -1,134 +1,115 @@
 //! The policy that evicts the key whose last access is oldest.
-ghost use Rattle.std.specs.Prelude.{◌≡◌, ◌+◌, ◌≤◌, ◌<◌, ◌↔◌, ℕ, List, [], ◌∷◌, ◌++◌, IfOk, IfErr, OnOk, OnErr, Some, None};
+ghost use Rattle.std.specs.Prelude.{◌≡◌, IfOk, Ok, [], option_map};
 
-use crate::queue::{LruRecord, touch, untouch};
+use crate::queue_cache::QueueCache;
+use crate::record::AccessRecord;
+use admission::Frequency;
 use std::alloc::{AllocError, Global};
 use std::marker::Model;
-use step_record::{Config, Engine, Key, Outcome, Stats, StepFault};
+use step_record::{Config, Engine, Job, Key, Outcome, Policy, Stats, StepFault};
 
-// The most steps that an engine counts.
-const MOST_STEPS: u64 = 1 << 32;
-
-/// A cache that holds the keys that were accessed last, as many distinct ones as its capacity. A
-/// miss in a full cache evicts the key whose last access is oldest.
+/// A cache that holds the keys that were accessed last, as many distinct ones as its capacity. A miss in a full cache
+/// evicts the key whose last access is oldest.
 #[derive(Drop)]
 pub struct Lru {
-    capacity: usize,
-    queue: Vec<Key>,
-    stats: Stats,
+    cache: QueueCache,
 }
 
 impl Model for Lru {
-    ghost use Rattle.policies.specs.Seen.{Seen, IsReached};
+    ghost use Rattle.policies.specs.QueueCache.{QueueState};
 
-    ghost Value = { Seen };
+    ghost Value = { QueueState };
 
-    ghost view = { λ l. record { capacity = l.capacity; residents = l.queue.items; stats = l.stats } };
-
-    ghost invariant = { λ l. IsReached record { capacity = l.capacity; residents = l.queue.items; stats = l.stats } };
+    ghost view = { λ l. l.cache };
 }
 
 impl Lru {
     ghost use Rattle.step_record.specs.Config.{config_fault};
-    ghost use Rattle.policies.specs.Seen.{seen_after};
+    ghost use Rattle.policies.specs.QueueCache.{StandsFor, residents_in};
 
-    /// An empty cache. It asks a configuration that `Config::check` accepts.
+    /// An empty cache. It requires a configuration that `Config::check` accepts. The one error is that an allocation failed.
     pub fn open(alloc: Global, config: &Config) -> Result<Lru, AllocError>
         requires { config_fault config.now ≡ Ok tt }
-        ensures { IfOk result (λ lru. lru ≡ seen_after config.now.capacity []) }
+        ensures stands { IfOk result (λ l. StandsFor record { policy = Policy.Lru; config = config.now } [] l) }
+        ensures fresh { IfOk result (λ l. l.stats.accesses ≡ 0) }
     {
-        Ok(Lru {
-            capacity: config.capacity as usize,
-            queue: Vec::new(alloc),
-            stats: Stats::NONE,
-        })
+        let job = Job {
+            policy: Policy::Lru,
+            config: *config,
+        };
+        let cache = QueueCache::open(alloc, &job)?;
+        Ok(Lru { cache })
     }
 
-    /// What was counted of the accesses that stand.
+    /// What was counted of the applied accesses.
     pub fn stats(&self) -> Stats
         ensures { result ≡ self.now.stats }
     {
-        self.stats
+        self.cache.stats()
     }
 
-    /// The keys that it holds, the one whose last access is oldest first. The only error is want
-    /// of memory for the list.
-    pub fn residents(&self, alloc: Global) -> Result<Vec<Key>, AllocError>
-        ensures { IfOk result (λ keys. keys.items ≡ self.now.residents) }
+    /// `None`: the policy counts no keys.
+    pub fn frequency(&self) -> Option<&Frequency>
+        ensures { option_map (λ f. f.now) result ≡ self.now.frequency }
     {
-        Vec::from_slice(alloc, &self.queue)
+        self.cache.frequency()
+    }
+
+    /// The keys that it holds, the one whose last access is oldest first. The one error is that
+    /// an allocation failed.
+    pub fn residents(&self, alloc: Global) -> Result<Vec<Key>, AllocError>
+        ensures { IfOk result (λ keys. keys.items ≡ residents_in self.now.queues) }
+    {
+        self.cache.residents(alloc)
     }
 }
 
 impl Engine for Lru {
-    ghost use Rattle.policies.specs.Recency.{outcome};
-    ghost use Rattle.policies.specs.Seen.{seen_after, lru_act, LruFits, lru_undone};
-    ghost use Rattle.policies.specs.Laws.{act_counts, act_ends};
-    ghost use Rattle.step_record.specs.Pace.{still, still-paced, weight};
+    ghost use Rattle.policies.specs.QueueStep.{queue_act, queue_undone, QueueFits, queue_words, queue_pace};
+    ghost use Rattle.policies.specs.QueueCounts.{act_counts, act_ends, act_paced};
 
     type Step = Key;
 
     type Reply = Outcome;
 
-    type Record = LruRecord;
+    type Record = AccessRecord;
 
     type Data = Lru;
 
     ghost seen = { λ l. l };
 
-    ghost act = { lru_act };
+    ghost act = { queue_act };
 
-    ghost fits = { LruFits };
+    ghost fits = { QueueFits };
 
-    ghost undone = { lru_undone };
+    ghost undone = { queue_undone };
 
     ghost count = { λ d. d.stats.accesses };
 
-    ghost size = { λ r. 0 };
+    ghost words_of = { queue_words };
 
-    ghost pace = { λ d. still };
+    ghost pace = { queue_pace };
 
-    fn apply(&mut self, step: &Key) -> Result<(Outcome, LruRecord), StepFault>
-        ensures accepted { IfOk result (λ r. lru_act self.old step.now ≡ Some (r.0, self.new)) }
-        ensures fits { IfOk result (λ r. LruFits r.1 self.new) }
-        ensures undone { IfOk result (λ r. lru_undone r.1 self.new ≡ self.old) }
-        ensures weighed { IfOk result (λ r. weight still ≡ weight still + 0) }
-        ensures not_now { result ≡ Err StepFault.NotNow ↔ lru_act self.old step.now ≡ None }
-        ensures err { OnErr result (self.new ≡ self.old) }
-        // For every list of accesses that the cache stands for, the outcome is the definition's.
-        ensures stands { (keys : List ℕ) → self.old ≡ seen_after self.old.capacity keys →
-            IfOk result (λ r. (r.0 ≡ outcome self.old.capacity keys step.now) × (self.new ≡ seen_after self.old.capacity (keys ++ step.now ∷ []))) }
-    {
-        if self.stats.accesses == MOST_STEPS {
-            return Err(StepFault::NotNow);
-        }
-        match touch(&mut self.queue, self.capacity, *step) {
-            Ok(record) => {
-                let outcome = record.outcome();
-                self.stats.count(outcome);
-                Ok((outcome, record))
-            }
-            Err(AllocError) => Err(StepFault::OutOfMemory),
-        }
+    #[inline(always)]
+    fn apply(&mut self, step: &Key) -> Result<(Outcome, AccessRecord), StepFault> {
+        self.cache.apply(step)
     }
 
-    fn undo(&mut self, done: LruRecord) -> Result<(), LruRecord> {
-        untouch(&mut self.queue, done);
-        self.stats.uncount(done.outcome());
-        Ok(())
+    fn undo(&mut self, done: AccessRecord) -> Result<(), AccessRecord> {
+        self.cache.undo(done)
     }
 
     fn standing(&self) -> u64 {
-        self.stats.accesses
+        self.cache.standing()
     }
 
-    fn words(_done: &LruRecord) -> u64 {
-        0
+    fn words(done: &AccessRecord) -> u64 {
+        QueueCache::words(done)
     }
 
     ghost counted = { act_counts };
 
     ghost counted_out = { act_ends };
 
-    ghost paced = { λ d s r e h. still-paced };
+    ghost paced = { act_paced };
 }

@@ -1,58 +1,21 @@
--- One bit of a list of words.
+-- One bit of a layer of words, and the layer above.
 use Rattle.std.proofs.Common.{◌≡◌, ◌≢◌, ℕ, ◌+◌, ◌*◌, ◌/◌, ◌%◌, ◌^◌, ◌<◌, Bool, true, false, cond, not, eqb, inl, inr, List, length, get_or, set, ap, ◌∙◌, sym, refl, arith, bit_and, bit_or, w64, get_or-set_other, get_or-set_same}
 use Rattle.std.specs.Int.{bit_at, bit_not}
 use Rattle.std.proofs.Math.ListN.{length-set}
 use Rattle.std.proofs.lemmas.Bool.{cases_eq, cases_lt, eq-eqb, ne_eqb}
-use Rattle.std.proofs.lemmas.Nat.Bits.{bit_at_set_same, bit_at_set_other, bit_at_clear_same, bit_at_clear_other, bit_at-zero}
+use Rattle.std.proofs.lemmas.Nat.Bits.{bit_at_set_same, bit_at-zero}
 use Rattle.std.proofs.lemmas.List.{get_or_past}
-use Rattle.rank_tree.specs.Bits.{held_in, IsAbove}
+use Rattle.bits_and_lists.specs.Bits.{bit_of}
+use Rattle.bits_and_lists.proofs.OneBit.{bit_put, bit_taken}
+use Rattle.rank_tree.specs.Bits.{IsAbove}
 
-joined : (p q : ℕ) → p / 64 ≡ q / 64 → p % 64 ≡ q % 64 → p ≡ q
-joined p q e f = omega arith
+eqb-sym : (a b : ℕ) → eqb a b ≡ eqb b a
+eqb-sym a b = elim (cases_eq a b) [ inl e ↦ eq-eqb a b e ∙ sym (eq-eqb b a (sym e)) | inr n ↦ ne_eqb a b n ∙ sym (ne_eqb b a (λ h. n (sym h))) ]
 
-module _ (ws : List ℕ) (q : ℕ) (within : q < 64 * length ws) where
-  word-in : q / 64 < length ws
-  word-in = omega arith
-
-  bit-in : q % 64 < 64
-  bit-in = omega arith
-
-  -- a new word in the place of the one that has the bit
-  written : (x : ℕ) (b : Bool) → eqb (bit_at x (q % 64)) 1 ≡ b → ((i : ℕ) → i < 64 → i ≢ q % 64 → bit_at x i ≡ bit_at (get_or ws (q / 64) 0) i) → (p : ℕ) → held_in (set ws (q / 64) x) p ≡ cond (eqb p q) b (held_in ws p)
-  written x b here others p =
-      elim (cases_eq (p / 64) (q / 64)) [
-        | inl e ↦
-            let w : q / 64 < length ws = word-in in
-            let at : get_or (set ws (q / 64) x) (p / 64) 0 ≡ x = ap (λ n. get_or (set ws (q / 64) x) n 0) e ∙ (rw get_or-set_same refl) in
-            elim (cases_eq (p % 64) (q % 64)) [
-              | inl f ↦
-                  let same : eqb p q ≡ true = eq-eqb p q (joined p q e f) in
-                  ap (λ y. eqb (bit_at y (p % 64)) 1) at ∙ ap (λ n. eqb (bit_at x n) 1) f ∙ here ∙ sym (ap (λ z. cond z b (held_in ws p)) same)
-              | inr g ↦
-                  let apart : eqb p q ≡ false = ne_eqb p q (λ h. g (ap (λ n. n % 64) h)) in
-                  ap (λ y. eqb (bit_at y (p % 64)) 1) at ∙ ap (λ y. eqb y 1) (others (p % 64) (omega arith) g) ∙ ap (λ n. eqb (bit_at (get_or ws n 0) (p % 64)) 1) (sym e) ∙ sym (ap (λ z. cond z b (held_in ws p)) apart)
-            ]
-        | inr g ↦
-            let n : p / 64 ≢ q / 64 = g in
-            let apart : eqb p q ≡ false = ne_eqb p q (λ h. g (ap (λ m. m / 64) h)) in
-            let other : get_or (set ws (q / 64) x) (p / 64) 0 ≡ get_or ws (p / 64) 0 = rw get_or-set_other refl in
-            ap (λ y. eqb (bit_at y (p % 64)) 1) other ∙ sym (ap (λ z. cond z b (held_in ws p)) apart)
-      ]
-
-  pub put-bit : (p : ℕ) → held_in (set ws (q / 64) (bit_or (get_or ws (q / 64) 0) (1 * 2 ^ (q % 64) % 2 ^ 64))) p ≡ cond (eqb p q) true (held_in ws p)
-  put-bit = written (bit_or (get_or ws (q / 64) 0) (1 * 2 ^ (q % 64) % 2 ^ 64)) true
-      (eq-eqb (bit_at (bit_or (get_or ws (q / 64) 0) (1 * 2 ^ (q % 64) % 2 ^ 64)) (q % 64)) 1 (bit_at_set_same w64 (get_or ws (q / 64) 0) (q % 64) bit-in))
-      (λ i l n. bit_at_set_other w64 (get_or ws (q / 64) 0) (q % 64) bit-in i n)
-
-  pub take-bit : (p : ℕ) → held_in (set ws (q / 64) (bit_and (get_or ws (q / 64) 0) (bit_not w64 (1 * 2 ^ (q % 64) % 2 ^ 64)))) p ≡ cond (eqb p q) false (held_in ws p)
-  take-bit = written (bit_and (get_or ws (q / 64) 0) (bit_not w64 (1 * 2 ^ (q % 64) % 2 ^ 64))) false
-      (ap (λ y. eqb y 1) (bit_at_clear_same w64 (get_or ws (q / 64) 0) (q % 64) bit-in))
-      (λ i l n. bit_at_clear_other w64 (get_or ws (q / 64) 0) (q % 64) bit-in i l n)
-
-  -- a word with a bit is not 0
-  pub set-some : eqb (bit_or (get_or ws (q / 64) 0) (1 * 2 ^ (q % 64) % 2 ^ 64)) 0 ≡ false
-  set-some = ne_eqb (bit_or (get_or ws (q / 64) 0) (1 * 2 ^ (q % 64) % 2 ^ 64)) 0
-      (λ h. let no : 1 ≡ 0 = sym (bit_at_set_same w64 (get_or ws (q / 64) 0) (q % 64) bit-in) ∙ ap (λ y. bit_at y (q % 64)) h ∙ bit_at-zero (q % 64) in omega arith)
+-- a word with a bit is not 0
+set-some : (ws : List ℕ) (q : ℕ) → eqb (bit_or (get_or ws (q / 64) 0) (1 * 2 ^ (q % 64) % 2 ^ 64)) 0 ≡ false
+set-some ws q = ne_eqb (bit_or (get_or ws (q / 64) 0) (1 * 2 ^ (q % 64) % 2 ^ 64)) 0
+    (λ h. let no : 1 ≡ 0 = sym (bit_at_set_same w64 (get_or ws (q / 64) 0) (q % 64) (omega arith)) ∙ ap (λ y. bit_at y (q % 64)) h ∙ bit_at-zero (q % 64) in omega arith)
 
 -- the layer above, where one word was written
 pub above-put : (ws : List ℕ) (n : ℕ) (old new : ℕ → Bool) (j x : ℕ) → IsAbove ws n old → j < length ws → eqb x 0 ≡ false → ((w : ℕ) → new w ≡ cond (eqb w j) true (old w)) → (w : ℕ) → new w ≡ not (eqb (get_or (set ws j x) w 0) 0)
@@ -69,14 +32,15 @@ above-put ws n old new j x up within some puts w =
           puts w ∙ ap (λ z. cond z true (old w)) apart ∙ up.some w ∙ sym (ap (λ y. not (eqb y 0)) other)
     ]
 
-pub put-bit-of : (ws : List ℕ) (q y : ℕ) → q < 64 * length ws → y ≡ get_or ws (q / 64) 0 → (p : ℕ) → held_in (set ws (q / 64) (bit_or y (1 * 2 ^ (q % 64) % 2 ^ 64))) p ≡ cond (eqb p q) true (held_in ws p)
-put-bit-of ws q y within e p = ap (λ z. held_in (set ws (q / 64) (bit_or z (1 * 2 ^ (q % 64) % 2 ^ 64))) p) e ∙ put-bit ws q within p
+-- the same of a word that was read
+pub put-bit-of : (ws : List ℕ) (q y : ℕ) → q < 64 * length ws → y ≡ get_or ws (q / 64) 0 → (p : ℕ) → bit_of (set ws (q / 64) (bit_or y (1 * 2 ^ (q % 64) % 2 ^ 64))) p ≡ cond (eqb p q) true (bit_of ws p)
+put-bit-of ws q y within e p = ap (λ z. bit_of (set ws (q / 64) (bit_or z (1 * 2 ^ (q % 64) % 2 ^ 64))) p) e ∙ bit_put ws q within p ∙ ap (λ b. cond b true (bit_of ws p)) (eqb-sym q p)
 
-pub take-bit-of : (ws : List ℕ) (q y : ℕ) → q < 64 * length ws → y ≡ get_or ws (q / 64) 0 → (p : ℕ) → held_in (set ws (q / 64) (bit_and y (bit_not w64 (1 * 2 ^ (q % 64) % 2 ^ 64)))) p ≡ cond (eqb p q) false (held_in ws p)
-take-bit-of ws q y within e p = ap (λ z. held_in (set ws (q / 64) (bit_and z (bit_not w64 (1 * 2 ^ (q % 64) % 2 ^ 64)))) p) e ∙ take-bit ws q within p
+pub take-bit-of : (ws : List ℕ) (q y : ℕ) → q < 64 * length ws → y ≡ get_or ws (q / 64) 0 → (p : ℕ) → bit_of (set ws (q / 64) (bit_and y (bit_not w64 (1 * 2 ^ (q % 64) % 2 ^ 64)))) p ≡ cond (eqb p q) false (bit_of ws p)
+take-bit-of ws q y within e p = ap (λ z. bit_of (set ws (q / 64) (bit_and z (bit_not w64 (1 * 2 ^ (q % 64) % 2 ^ 64)))) p) e ∙ bit_taken ws q within p ∙ ap (λ b. cond b false (bit_of ws p)) (eqb-sym q p)
 
 pub set-some-of : (ws : List ℕ) (q y : ℕ) → q < 64 * length ws → y ≡ get_or ws (q / 64) 0 → eqb (bit_or y (1 * 2 ^ (q % 64) % 2 ^ 64)) 0 ≡ false
-set-some-of ws q y within e = ap (λ z. eqb (bit_or z (1 * 2 ^ (q % 64) % 2 ^ 64)) 0) e ∙ set-some ws q within
+set-some-of ws q y within e = ap (λ z. eqb (bit_or z (1 * 2 ^ (q % 64) % 2 ^ 64)) 0) e ∙ set-some ws q
 
 -- where a layer above holds a word, that is not 0; where it holds none, it is
 pub above-some : (b : Bool) (x : ℕ) → b ≡ true → b ≡ not (eqb x 0) → 0 < x
@@ -100,11 +64,11 @@ module _ (ws : List ℕ) (w x tz : ℕ) (in_it : w < length ws) (read : x ≡ ge
   place-bit : (64 * w + tz) % 64 ≡ tz
   place-bit = omega arith
 
-  pub least-held : bit_at x tz ≡ 1 → held_in ws (64 * w + tz) ≡ true
+  pub least-held : bit_at x tz ≡ 1 → bit_of ws (64 * w + tz) ≡ true
   least-held one =
       ap (λ n. eqb (bit_at (get_or ws n 0) ((64 * w + tz) % 64)) 1) place-word ∙ ap (λ n. eqb (bit_at (get_or ws w 0) n) 1) place-bit ∙ ap (λ y. eqb (bit_at y tz) 1) (sym read) ∙ eq-eqb (bit_at x tz) 1 one
 
-  pub none-held : ((i : ℕ) → i < tz → bit_at x i ≡ 0) → ((v : ℕ) → v < w → get_or ws v 0 ≡ 0) → (q : ℕ) → q < 64 * w + tz → held_in ws q ≡ false
+  pub none-held : ((i : ℕ) → i < tz → bit_at x i ≡ 0) → ((v : ℕ) → v < w → get_or ws v 0 ≡ 0) → (q : ℕ) → q < 64 * w + tz → bit_of ws q ≡ false
   none-held low past q lt =
       elim (cases_eq (q / 64) w) [
         | inl e ↦ ap (λ n. eqb (bit_at (get_or ws n 0) (q % 64)) 1) e ∙ ap (λ y. eqb (bit_at y (q % 64)) 1) (sym read) ∙ ap (λ y. eqb y 1) (low (q % 64) (omega arith))

@@ -1,8 +1,10 @@
 //! A set as bits in words, over a smaller set.
 ghost use Rattle.std.specs.Prelude.{◌≡◌, ℕ, ◌*◌, ◌≤◌, length};
-ghost use Rattle.rank_tree.specs.Bits.{held_in, IsAbove};
+ghost use Rattle.bits_and_lists.specs.Bits.{bit_of};
+ghost use Rattle.rank_tree.specs.Bits.{IsAbove};
 
 use crate::places::Places;
+use bits_and_lists::bits;
 use std::alloc::{AllocError, Global};
 
 /// Words of bits, under a set of the places of those that are not 0.
@@ -19,7 +21,7 @@ impl<U: Places> Places for Layer<U> {
 
     ghost size = { λ l. 64 * length l.words.items };
 
-    ghost held = { λ l. held_in l.words.items };
+    ghost held = { λ l. bit_of l.words.items };
 
     fn new(alloc: Global, len: usize) -> Result<Layer<U>, AllocError> {
         let count = len.div_ceil(64);
@@ -60,8 +62,8 @@ impl<U: Places> Layer<U> {
     /// Whether a number is in the set.
     pub(crate) fn has(&self, place: usize) -> bool
         requires { place < 64 * length self.now.words.items }
-        ensures { result ≡ held_in self.now.words.items place }
+        ensures { result ≡ bit_of self.now.words.items place }
     {
-        self.words[place / 64] >> (place % 64) & 1 == 1
+        bits::get(&self.words, place)
     }
 }

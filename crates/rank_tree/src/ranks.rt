@@ -18,11 +18,12 @@ pub struct Ranks {
 
 impl Model for Ranks {
     ghost use Rattle.std.specs.Prelude.{List, Bool, ◌*◌, ◌≤◌, length};
-    ghost use Rattle.rank_tree.specs.Bits.{held_in, listed};
+    ghost use Rattle.bits_and_lists.specs.Bits.{bit_of};
+    ghost use Rattle.bits_and_lists.specs.Places.{by_place};
 
     ghost Value = { List Bool };
 
-    ghost view = { λ r. listed r.size (held_in r.tree.words.items) };
+    ghost view = { λ r. by_place r.size (bit_of r.tree.words.items) };
 
     ghost invariant = { λ r. r.size ≤ 64 * length r.tree.words.items };
 }

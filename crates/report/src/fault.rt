@@ -6,13 +6,14 @@ use std::alloc::AllocError;
 use streams::WriteAllFault;
 use thiserror::Error;
 
-/// Why reports were not written. After `Write` it is not said what went out.
+/// Why reports were not written.
 #[derive(Clone, Copy, Debug, PartialEq, Eq, Error)]
 pub enum WriteFault {
-    /// No memory was to be had for the text; nothing was written.
+    /// The allocation for the text failed; nothing was written.
     #[error("OutOfMemory")]
     OutOfMemory,
-    /// The writer failed, took no byte, or was interrupted a million times.
+    /// The writer failed, took no byte, or was interrupted a million times; the output may be
+    /// partial.
     #[error("Write")]
     Write,
 }

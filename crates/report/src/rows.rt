@@ -1,5 +1,5 @@
 //! The rows of reports.
-ghost use Rattle.std.specs.Prelude.{◌≡◌, IfOk, OnOk, map, string_bytes};
+ghost use Rattle.std.specs.Prelude.{◌≡◌, Err, IfOk, OnOk, map, string_bytes};
 ghost use Rattle.std.specs.Fmt.{decimal};
 ghost use Rattle.std.specs.Io.KnownBytes.{Appends};
 ghost use Rattle.csv.specs.Writing.{default_writer, row_text, text_written};
@@ -27,7 +27,7 @@ fn number_text(alloc: Global, n: u64) -> Result<String, AllocError>
     n.to_string(alloc)
 }
 
-// Writes a record; into memory that fails only for want of it.
+// Writes a record. Into memory that fails only where the allocation failed.
 fn write_row<W: Write + Drop>(writer: &mut Writer<W>, fields: &[&[u8]]) -> Result<(), WriteFault>
     ensures ready { IsReady writer.old → OnOk result (IsReady writer.new) }
     ensures text { IsReady writer.old → OnOk result (Appends (text_written W.contents writer.old)
@@ -103,14 +103,16 @@ fn reports_text(alloc: Global, reports: &[Report]) -> Result<Vec<u8>, WriteFault
     }
 }
 
-/// Writes the header and a line for each report, in order, and flushes. The writes and flushes
-/// of one call share its interruptions, of which the millionth is `Write`.
+/// Writes the header and a line for each report, in order, and flushes. The writes and flushes of
+/// one call share its interruptions, of which the millionth is `Write`. `OutOfMemory` has written
+/// nothing; after `Write` the output may be partial.
 pub fn write_reports<W: Write>(
     alloc: Global,
     reports: &[Report],
     writer: &mut W,
 ) -> Result<(), WriteFault>
-    ensures { OnOk result (Appends (W.contents writer.old) (W.contents writer.new) (text_of reports.now)) }
+    ensures text { OnOk result (Appends (W.contents writer.old) (W.contents writer.new) (text_of reports.now)) }
+    ensures none { result ≡ Err WriteFault.OutOfMemory → writer.new ≡ writer.old }
 {
     let text = reports_text(alloc, reports)?;
     streams::write_all(writer, text.as_slice())?;

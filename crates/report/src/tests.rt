@@ -39,15 +39,45 @@ wtinylfu,1,0,0,0,0,0,0.00
 clairvoyant,1048576,18446744073709551615,18446744073709551615,0,7,4,100.00
 ";
 
-/// Takes one byte at a time, and fails once it took so many.
+// The bytes of the header with its line feed.
+const HEADER_LENGTH: usize = 63;
+
+/// Takes one byte at a time, and fails once it took so many. It is interrupted as often before the
+/// first byte as before the first byte of the second line.
 #[derive(Drop)]
 struct Pipe {
     taken: Vec<u8>,
     most: usize,
+    interruptions: u32,
+    interrupted: u32,
+}
+
+impl Pipe {
+    fn of(taken: Vec<u8>, most: usize) -> Pipe {
+        Pipe {
+            taken,
+            most,
+            interruptions: 0,
+            interrupted: 0,
+        }
+    }
+
+    fn is_interrupted(&mut self) -> bool {
+        let at_line = self.taken.is_empty() || self.taken.len() == HEADER_LENGTH;
+        if at_line && self.interrupted < self.interruptions {
+            self.interrupted += 1;
+            return true;
+        }
+        self.interrupted = 0;
+        false
+    }
 }
 
 impl Write for Pipe {
     fn write(&mut self, buf: &[u8]) -> Result<usize> {
+        if self.is_interrupted() {
+            return Err(Error::from(ErrorKind::Interrupted));
+        }
         if self.taken.len() == self.most {
             return Err(Error::from(ErrorKind::BrokenPipe));
         }
@@ -75,24 +105,31 @@ fn the_text_of_reports(rt: HostRuntime) -> std::result::Result<(), Fail> {
 
 #[test]
 fn a_writer_of_single_bytes_gets_the_same_text(rt: HostRuntime) -> std::result::Result<(), Fail> {
-    let mut pipe = Pipe {
-        taken: Vec::with_capacity(rt.alloc(), TEXT.len())?,
-        most: TEXT.len(),
-    };
+    let mut pipe = Pipe::of(Vec::with_capacity(rt.alloc(), TEXT.len())?, TEXT.len());
     write_reports(rt.alloc(), &[COUNTED, EMPTY, LARGE], &mut pipe)?;
     assert_eq!(rt; pipe.taken.as_slice(), TEXT.as_bytes());
     Ok(())
 }
 
 #[test]
-fn a_writer_that_gives_up_in_a_row_is_told(rt: HostRuntime) -> std::result::Result<(), Fail> {
+fn a_writer_that_gives_up_in_a_row_is_reported(rt: HostRuntime) -> std::result::Result<(), Fail> {
     for most in [0, 63, 70] {
+        let mut pipe = Pipe::of(Vec::with_capacity(rt.alloc(), most)?, most);
+        let result = write_reports(rt.alloc(), &[COUNTED], &mut pipe);
+        assert_eq!(rt; result, Err(WriteFault::Write), "after {most} bytes");
+    }
+    Ok(())
+}
+
+#[test]
+fn all_lines_share_their_interruptions(rt: HostRuntime) -> std::result::Result<(), Fail> {
+    for (interruptions, expected) in [(499_999, Ok(())), (500_000, Err(WriteFault::Write))] {
         let mut pipe = Pipe {
-            taken: Vec::with_capacity(rt.alloc(), most)?,
-            most,
+            interruptions,
+            ..Pipe::of(Vec::with_capacity(rt.alloc(), TEXT.len())?, TEXT.len())
         };
-        let told = write_reports(rt.alloc(), &[COUNTED], &mut pipe);
-        assert_eq!(rt; told, Err(WriteFault::Write), "after {most} bytes");
+        let result = write_reports(rt.alloc(), &[COUNTED], &mut pipe);
+        assert_eq!(rt; result, expected, "after {interruptions} twice");
     }
     Ok(())
 }

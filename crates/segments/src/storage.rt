@@ -1,7 +1,7 @@
 //! The queues, in linked slots.
-ghost use Rattle.std.specs.Prelude.{◌≡◌, ◌↔◌, ◌+◌, ◌≤◌, ◌∷◌, ℕ, List, [], length, Option, Some, None, MatchOption, IfOk, OnOk, IfSome, IfNone, OnSome};
+ghost use Rattle.std.specs.Prelude.{◌≡◌, ◌↔◌, ◌+◌, ◌≤◌, ◌∷◌, ℕ, Ok, List, [], length, Option, Some, None, MatchOption, IfOk, OnOk, IfSome, IfNone, OnSome};
 ghost use Rattle.segments.specs.Items.{first};
-ghost use Rattle.segments.specs.Queues.{empty, queue_of, place_of, IsDistinct, pushed, taken, moved, popped};
+ghost use Rattle.segments.specs.Queues.{empty, queue_of, place_of, IsDistinct, pushed, taken, moved, popped, refreshed_to};
 ghost use Rattle.segments.specs.Moves.{move_record, undone, Fits, needed};
 
 use crate::index::Index;
@@ -9,10 +9,12 @@ use crate::lengths::Lengths;
 use crate::links::{items_in, oldest_slot, slot_behind};
 use crate::records::{MoveRecord, Queue};
 use crate::slot::Slot;
-use crate::table::{find_slot, grow, insert, insert_at, remove, shift, shift_to};
+use crate::table::{
+    find_held, find_slot, grow, insert, insert_at, oldest_held, remove, shift, shift_to,
+};
 use std::alloc::{AllocError, Global};
 use std::marker::Model;
-use step_record::Item;
+use step_record::{Item, Key, Node};
 
 /// Three queues of items, each of which stands once, oldest first.
 #[derive(Drop)]
@@ -21,6 +23,8 @@ pub struct Segments {
     slots: Vec<Slot>,
     index: Index,
     lengths: Lengths,
+    /// A sum over what `warm` read, kept so that the compiler cannot drop the reads.
+    warmth: u32,
 }
 
 impl Model for Segments {
@@ -34,17 +38,43 @@ impl Model for Segments {
     ghost invariant = { λ s. IsKept s.slots.items s.index.heads.items s.index.bits s.lengths };
 }
 
+// How many bits number two chains for each of so many items.
+fn bits_for(items: u32) -> u32 {
+    u32::wrapping_sub(33, items.wrapping_sub(1).leading_zeros())
+}
+
+// The queue to which an item goes on a hit where it stands.
+#[inline(always)]
+fn refreshed(queue: Queue) -> Queue
+    ensures { result ≡ refreshed_to queue }
+{
+    match queue {
+        Queue::Window => Queue::Window,
+        Queue::Probation | Queue::Protected => Queue::Protected,
+    }
+}
+
 impl Segments {
-    /// Three empty queues, with no room yet; takes no memory.
+    /// Three empty queues, with no room yet. Allocates nothing.
     pub fn new(alloc: Global) -> Segments
         ensures lists { result.lists ≡ empty }
+        ensures distinct { IsDistinct result.lists }
+    {
+        Segments::for_items(alloc, 0)
+    }
+
+    /// Three empty queues, with no room yet. Allocates nothing. The first `reserve` makes a hash index that is large
+    /// enough for so many items, so that it is not rebuilt while the queues fill.
+    pub fn for_items(alloc: Global, items: u32) -> Segments
+        ensures lists { result.lists ≡ empty }
+        ensures distinct { IsDistinct result.lists }
     {
         Segments {
             alloc,
             slots: Vec::new(alloc),
             index: Index {
                 heads: Vec::new(alloc),
-                bits: 0,
+                bits: bits_for(items),
             },
             lengths: Lengths {
                 window: 0,
@@ -52,13 +82,31 @@ impl Segments {
                 protected: 0,
                 free: 0,
             },
+            warmth: 0,
         }
     }
 
-    /// Makes room for at least one more item. Where memory is refused, the queues and their room are as before.
+    /// Prefetches what a search for each of these keys with this node reads first. Unlike the reads of a search, these
+    /// do not depend on one another, so the processor overlaps them. Changes nothing that a caller can see.
+    #[inline(never)]
+    pub fn warm(&mut self, keys: &[Key], node: Node)
+        ensures { self.new ≡ self.old }
+    {
+        let mut read = 0;
+        for key in keys {
+            let item = Item { key: *key, node };
+            read ^= self.index.touch(&self.slots, item);
+        }
+        self.warmth ^= read;
+    }
+
+    /// Makes room for at least one more item; where there is room, it allocates nothing and returns Ok. The one error
+    /// is out of memory; queues and room are then as before.
+    #[inline(always)]
     pub fn reserve(&mut self) -> Result<(), AllocError>
         ensures lists { self.new.lists ≡ self.old.lists }
         ensures room { OnOk result (1 ≤ self.new.spare) }
+        ensures enough { 1 ≤ self.old.spare → result ≡ Ok tt }
         ensures spare { self.old.spare ≤ self.new.spare }
     {
         if self.lengths.free > 0 {
@@ -76,7 +124,8 @@ impl Segments {
         self.lengths.spare()
     }
 
-    /// Puts an item that stands in no queue at the recent end of one. It asks for room, and takes no more than that.
+    /// Puts an item that stands in no queue at the recent end of one. It requires room, and takes room for one.
+    #[inline(always)]
     pub fn push_recent(&mut self, queue: Queue, item: Item) -> MoveRecord
         requires room { 1 ≤ self.old.spare }
         requires absent { place_of item self.old.lists ≡ None }
@@ -124,7 +173,38 @@ impl Segments {
         })
     }
 
+    /// Moves the item to the recent end of the queue that it goes to on a hit: of the window if it stands there, else of
+    /// protected. Returns where it stood, and the record of the move. `None`, and nothing moved, if it stands in no
+    /// queue. Looks the item up once.
+    #[inline(always)]
+    pub fn refresh(&mut self, item: Item) -> Option<(Queue, MoveRecord)>
+        ensures absent { result ≡ None ↔ place_of item self.old.lists ≡ None }
+        ensures place { IfSome result (λ r. place_of item self.old.lists ≡ Some r.0) }
+        ensures lists { IfSome result (λ r. self.new.lists ≡ moved item (refreshed_to r.0) self.old.lists) }
+        ensures none { IfNone result (self.new.lists ≡ self.old.lists) }
+        ensures record { IfSome result (λ r. r.1 ≡ move_record item (Some (refreshed_to r.0)) self.old.lists) }
+        ensures fits { IfSome result (λ r. Fits r.1 self.new.lists) }
+        ensures undone { IfSome result (λ r. undone r.1 self.new.lists ≡ self.old.lists) }
+        ensures spare { self.old.spare ≤ self.new.spare }
+        // Of every `Segments`: no item stands twice.
+        ensures distinct { IsDistinct self.old.lists }
+    {
+        let Some((at, from)) = find_held(&self.slots, &self.index, item) else {
+            return None;
+        };
+        let to = refreshed(from);
+        let before = slot_behind(to);
+        let place = shift(&mut self.slots, &mut self.lengths, at, to, before);
+        let record = MoveRecord {
+            item,
+            from: Some(place),
+            to: Some(to),
+        };
+        Some((from, record))
+    }
+
     /// Takes the oldest item of the queue out. `None`, and nothing moved, where the queue is empty.
+    #[inline(always)]
     pub fn pop_oldest(&mut self, queue: Queue) -> Option<(Item, MoveRecord)>
         ensures item { MatchOption result (queue_of queue self.old.lists ≡ []) (λ r. first (queue_of queue self.old.lists) ≡ Some r.0) }
         ensures lists { self.new.lists ≡ popped queue self.old.lists }
@@ -149,6 +229,39 @@ impl Segments {
         Some((item, record))
     }
 
+    /// The oldest item of the queue, `None` if it is empty.
+    #[inline(always)]
+    pub fn oldest(&self, queue: Queue) -> Option<Item>
+        ensures { result ≡ first (queue_of queue self.now.lists) }
+    {
+        let (_, item) = oldest_held(&self.slots, &self.index, &self.lengths, queue)?;
+        Some(item)
+    }
+
+    /// Moves the oldest item of a queue to the recent end of a queue. `None`, and nothing moved, if the first queue is
+    /// empty. Does not search the hash index.
+    #[inline(always)]
+    pub fn send_oldest(&mut self, from: Queue, to: Queue) -> Option<MoveRecord>
+        ensures item { MatchOption result (queue_of from self.old.lists ≡ []) (λ r. first (queue_of from self.old.lists) ≡ Some r.item) }
+        ensures lists { IfSome result (λ r. self.new.lists ≡ moved r.item to self.old.lists) }
+        ensures none { IfNone result (self.new.lists ≡ self.old.lists) }
+        ensures record { IfSome result (λ r. r ≡ move_record r.item (Some to) self.old.lists) }
+        ensures fits { IfSome result (λ r. Fits r self.new.lists) }
+        ensures undone { IfSome result (λ r. undone r self.new.lists ≡ self.old.lists) }
+        ensures spare { self.old.spare ≤ self.new.spare }
+    {
+        let Some((at, item)) = oldest_held(&self.slots, &self.index, &self.lengths, from) else {
+            return None;
+        };
+        let before = slot_behind(to);
+        let place = shift(&mut self.slots, &mut self.lengths, at, to, before);
+        Some(MoveRecord {
+            item,
+            from: Some(place),
+            to: Some(to),
+        })
+    }
+
     /// Takes the item out. `None`, and nothing moved, where it stands in no queue.
     pub fn take_out(&mut self, item: Item) -> Option<MoveRecord>
         ensures absent { result ≡ None ↔ place_of item self.old.lists ≡ None }
@@ -169,7 +282,7 @@ impl Segments {
         })
     }
 
-    /// Undoes a move from its record, which must fit the queues as they stand. Where the item went out, it asks for
+    /// Undoes a move from its record, which must fit the queues as they stand. If the item went out, it requires
     /// room for it.
     pub fn put_back(&mut self, done: MoveRecord)
         requires fits { Fits done self.old.lists }
@@ -201,6 +314,7 @@ impl Segments {
     }
 
     /// How many items stand in the queue.
+    #[inline(always)]
     pub fn len(&self, queue: Queue) -> usize
         ensures { result ≡ length (queue_of queue self.now.lists) }
     {
@@ -210,7 +324,7 @@ impl Segments {
     /// The queue in which the item stands.
     pub fn find(&self, item: Item) -> Option<Queue>
         ensures queue { result ≡ place_of item self.now.lists }
-        // what holds of every Segments: no item stands twice
+        // Of every `Segments`: no item stands twice.
         ensures distinct { IsDistinct self.now.lists }
     {
         let at = find_slot(&self.slots, &self.index, item)?;

@@ -1,32 +1,36 @@
 //! Slots, index and lengths together.
-ghost use Rattle.std.specs.Prelude.{◌≡◌, ◌≢◌, ◌<◌, ◌≤◌, ◌+◌, ◌^◌, ◌++◌, ◌∷◌, [], ℕ, List, Option, Some, None, OnOk, OnErr, IfOk, IfSome, IfNone, length, slice_set, vec_len};
+ghost use Rattle.std.specs.Prelude.{◌≡◌, ◌≢◌, ◌<◌, ◌≤◌, ◌+◌, ◌*◌, ◌^◌, ◌++◌, ◌∷◌, [], ℕ, List, Option, Some, None, OnOk, OnErr, IfOk, IfSome, IfNone, length, slice_set, vec_len};
 ghost use Rattle.step_record.specs.declared.item.Item.{Item};
-ghost use Rattle.segments.specs.Items.{put_behind, IsGap};
+ghost use Rattle.segments.specs.Items.{first, put_behind, IsGap};
 ghost use Rattle.segments.specs.Queues.{queue_of, with_queue, place_of, pushed, taken, moved};
 ghost use Rattle.segments.specs.Moves.{place_in};
 ghost use Rattle.segments.specs.Chains.{item_at};
 ghost use Rattle.segments.specs.Fields.{items, chains, olders, newers, tags};
 ghost use Rattle.segments.specs.Rings.{count, IsRing};
 ghost use Rattle.segments.specs.Held.{ring, used, section, closing, order_of, order_without, no_slots, more_free, lists, IsNewer, IsPlace, IsQueued, IsHeld, IsSlotOf};
-ghost use Rattle.segments.specs.Counts.{lengths_of, one_more};
+ghost use Rattle.segments.specs.Counts.{lengths_of, one_more, IsLoaded};
 ghost use Rattle.segments.specs.Growth.{IsSound, IsSame};
 ghost use Rattle.segments.specs.declared.records.Queue.TheVariants.{Window};
 
 use crate::index::Index;
 use crate::lengths::Lengths;
-use crate::links::{link, newest_free, place_of_slot, release, send, slot_behind};
+use crate::links::{link, newest_free, oldest_slot, place_of_slot, release, send, slot_behind};
 use crate::records::{Place, Queue};
 use crate::slot::{Slot, set_item};
 use std::alloc::{AllocError, Global};
 use step_record::Item;
 
-/// No more slots than numbers for them.
-const MOST_SLOTS: usize = 4294967295;
+/// Slots are numbered by 32 bits.
+const MAX_SLOTS: usize = 4294967295;
 
-/// The first index has 2^3 chains.
-const FIRST_BITS: u32 = 3;
+/// The first index has at least 2^3 chains.
+const MIN_FIRST_BITS: u32 = 3;
+
+/// The first index has at most 2^24 chains.
+const MAX_FIRST_BITS: u32 = 24;
 
 /// The slot in use that holds the item.
+#[inline(always)]
 pub(crate) fn find_slot(slots: &[Slot], index: &Index, item: Item) -> Option<u32>
     requires { IsSound slots.now index.now.heads.items index.now.bits }
     ensures there { IfSome result (λ at. IsSlotOf at item slots.now index.now.heads.items index.now.bits) }
@@ -39,6 +43,39 @@ pub(crate) fn find_slot(slots: &[Slot], index: &Index, item: Item) -> Option<u32
         0 => None,
         at => Some(at),
     }
+}
+
+/// The slot in use that holds the item, with the queue in which it stands.
+#[inline(always)]
+pub(crate) fn find_held(slots: &[Slot], index: &Index, item: Item) -> Option<(u32, Queue)>
+    requires { IsSound slots.now index.now.heads.items index.now.bits }
+    ensures there { IfSome result (λ r. IsSlotOf r.0 item slots.now index.now.heads.items index.now.bits) }
+    ensures place { IfSome result (λ r. place_of item (lists slots.now) ≡ Some r.1) }
+    ensures missing { IfNone result (place_of item (lists slots.now) ≡ None) }
+{
+    let at = find_slot(slots, index, item)?;
+    Some((at, slots[at as usize].queue))
+}
+
+/// The slot of a queue's oldest item, with the item.
+#[inline(always)]
+pub(crate) fn oldest_held(
+    slots: &[Slot],
+    _index: &Index,
+    lengths: &Lengths,
+    queue: Queue,
+) -> Option<(u32, Item)>
+    requires sound { IsSound slots.now _index.now.heads.items _index.now.bits }
+    requires counted { lengths.now ≡ lengths_of (order_of slots.now) }
+    ensures there { IfSome result (λ r. IsSlotOf r.0 r.1 slots.now _index.now.heads.items _index.now.bits) }
+    ensures first { IfSome result (λ r. first (queue_of queue (lists slots.now)) ≡ Some r.1) }
+    ensures missing { IfNone result (queue_of queue (lists slots.now) ≡ []) }
+{
+    if lengths.of(queue) == 0 {
+        return None;
+    }
+    let at = oldest_slot(slots, queue);
+    Some((at, slots[at as usize].item))
 }
 
 /// The slot behind a place: that of its newer neighbour, or the one that closes the queue.
@@ -54,6 +91,7 @@ fn slot_at_place(slots: &[Slot], index: &Index, place: Place) -> u32
 }
 
 /// Puts an item that is not there into a free slot, and the slot before another one of a queue.
+#[inline(always)]
 pub(crate) fn insert(
     slots: &mut [Slot],
     index: &mut Index,
@@ -68,6 +106,7 @@ pub(crate) fn insert(
     requires absent { place_of item (lists slots.old) ≡ None }
     requires place { IsPlace before queue (order_of slots.old) }
     ensures held { IsHeld slots.new index.new.heads.items index.new.bits (order_of slots.new) }
+    ensures bits { index.new.bits ≡ index.old.bits }
     ensures counted { lengths.new ≡ lengths_of (order_of slots.new) }
     ensures free { lengths.new.free + 1 ≡ lengths.old.free }
     ensures recent { before ≡ closing queue → lists slots.new ≡ pushed queue item (lists slots.old) }
@@ -82,6 +121,7 @@ pub(crate) fn insert(
 }
 
 /// Moves a slot in use to the place before another one of a queue, and says where it stood.
+#[inline(always)]
 pub(crate) fn shift(
     slots: &mut [Slot],
     lengths: &mut Lengths,
@@ -121,6 +161,7 @@ pub(crate) fn insert_at(
     requires absent { place_of item (lists slots.old) ≡ None }
     requires gap { IsGap place.older place.newer (queue_of place.queue (lists slots.old)) }
     ensures held { IsHeld slots.new index.new.heads.items index.new.bits (order_of slots.new) }
+    ensures bits { index.new.bits ≡ index.old.bits }
     ensures counted { lengths.new ≡ lengths_of (order_of slots.new) }
     ensures free { lengths.new.free + 1 ≡ lengths.old.free }
     ensures lists { lists slots.new ≡ with_queue place.queue (put_behind place.older item (queue_of place.queue (lists slots.old))) (lists slots.old) }
@@ -151,11 +192,13 @@ pub(crate) fn shift_to(
 }
 
 /// Frees a slot in use, and says where it stood.
+#[inline(always)]
 pub(crate) fn remove(slots: &mut [Slot], index: &mut Index, lengths: &mut Lengths, at: u32) -> Place
     requires held { IsHeld slots.old index.old.heads.items index.old.bits (order_of slots.old) }
     requires counted { lengths.old ≡ lengths_of (order_of slots.old) }
     requires used { 1 ≤ count at (used (order_of slots.old)) }
     ensures held { IsHeld slots.new index.new.heads.items index.new.bits (order_of slots.new) }
+    ensures bits { index.new.bits ≡ index.old.bits }
     ensures counted { lengths.new ≡ lengths_of (order_of slots.new) }
     ensures free { lengths.new.free ≡ lengths.old.free + 1 }
     ensures place { Some result ≡ place_in (item_at (items slots.old) at) (place_of (item_at (items slots.old) at) (lists slots.old)) (lists slots.old) }
@@ -191,12 +234,24 @@ fn first_slots(alloc: Global) -> Result<Vec<Slot>, AllocError>
     Ok(slots)
 }
 
+/// By how many bits the chains of the first index are numbered, if so many are wished for.
+fn first_bits(wished: u32) -> u32
+    ensures { (3 ≤ result) × (result < 32) }
+{
+    if wished < MIN_FIRST_BITS || wished > MAX_FIRST_BITS {
+        return MIN_FIRST_BITS;
+    }
+    wished
+}
+
 /// Makes the first slots and chains where there are none.
 fn begin(alloc: Global, slots: &mut Vec<Slot>, index: &mut Index) -> Result<(), AllocError>
     requires sound { IsSound slots.old.items index.old.heads.items index.old.bits }
     requires few { length slots.old.items < 2 ^ 32 }
+    requires load { IsLoaded (length slots.old.items) index.old.bits }
     ensures held { OnOk result (IsHeld slots.new.items index.new.heads.items index.new.bits (order_of slots.new.items)) }
     ensures same { IsSame slots.old.items slots.new.items }
+    ensures load { IsLoaded (length slots.new.items) index.new.bits }
     ensures few { length slots.new.items < 2 ^ 32 }
     ensures err { OnErr result (IsSound slots.new.items index.new.heads.items index.new.bits) }
 {
@@ -204,7 +259,8 @@ fn begin(alloc: Global, slots: &mut Vec<Slot>, index: &mut Index) -> Result<(), 
         return Ok(());
     }
     let first = first_slots(alloc)?;
-    *index = Index::new(alloc, FIRST_BITS)?;
+    let bits = first_bits(index.bits);
+    *index = Index::new(alloc, bits)?;
     *slots = first;
     Ok(())
 }
@@ -225,15 +281,18 @@ fn add_slot(slots: &mut Vec<Slot>) -> Result<(), AllocError>
     Ok(())
 }
 
-/// Spreads the items over twice as many chains where there are more slots than chains; all slots are in use.
+/// Spreads the items over twice as many chains where there are fewer than two chains a slot; all slots are in use.
 fn widen(alloc: Global, slots: &mut [Slot], index: &mut Index) -> Result<(), AllocError>
     requires held { IsHeld slots.old index.old.heads.items index.old.bits (order_of slots.old) }
     requires free { (order_of slots.old).free ≡ [] }
     requires few { length slots.old ≤ 2 ^ 32 }
+    requires load { IsLoaded (length slots.old) index.old.bits }
     ensures held { IsHeld slots.new index.new.heads.items index.new.bits (order_of slots.old) }
     ensures items { items slots.new ≡ items slots.old }
+    ensures load { IsLoaded (length slots.new) index.new.bits }
+    ensures roomy { OnOk result (index.new.bits < 31 → 2 * length slots.new ≤ 2 ^ index.new.bits) }
 {
-    if slots.len() <= index.heads.len() || index.bits >= 31 {
+    if slots.len() <= index.heads.len() / 2 || index.bits >= 31 {
         return Ok(());
     }
     let mut wider = Index::new(alloc, index.bits + 1)?;
@@ -243,6 +302,8 @@ fn widen(alloc: Global, slots: &mut [Slot], index: &mut Index) -> Result<(), All
 }
 
 /// Adds a free slot where there is none, and chains where there are too few. All room is made first.
+#[cold]
+#[inline(never)]
 pub(crate) fn grow(
     alloc: Global,
     slots: &mut Vec<Slot>,
@@ -251,14 +312,16 @@ pub(crate) fn grow(
     requires sound { IsSound slots.old.items index.old.heads.items index.old.bits }
     requires none { (order_of slots.old.items).free ≡ [] }
     requires few { length slots.old.items < 2 ^ 32 }
+    requires load { IsLoaded (length slots.old.items) index.old.bits }
     ensures sound { IsSound slots.new.items index.new.heads.items index.new.bits }
     ensures lists { lists slots.new.items ≡ lists slots.old.items }
     ensures few { length slots.new.items < 2 ^ 32 }
     ensures ok { OnOk result (lengths_of (order_of slots.new.items) ≡ one_more (lengths_of (order_of slots.old.items))) }
     ensures err { OnErr result (lengths_of (order_of slots.new.items) ≡ lengths_of (order_of slots.old.items)) }
+    ensures load { IsLoaded (length slots.new.items) index.new.bits }
 {
     begin(alloc, slots, index)?;
-    if slots.len() >= MOST_SLOTS {
+    if slots.len() >= MAX_SLOTS {
         return Err(AllocError);
     }
     slots.reserve(1)?;

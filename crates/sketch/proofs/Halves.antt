@@ -1,18 +1,22 @@
 -- A halving of a whole table, and its undoing.
-use Rattle.std.proofs.Common.{◌≡◌, ℕ, ◌+◌, ◌*◌, ◌/◌, ◌%◌, ◌<◌, ◌≤◌, ◌^◌, List, length, get_or, map, refl, ap, ◌∙◌, sym, arith, inl, inr}
+use Rattle.std.proofs.Common.{◌≡◌, ℕ, suc, zero, ◌+◌, ◌*◌, ◌/◌, ◌%◌, ◌<◌, ◌≤◌, ◌^◌, Bool, false, cond, eqb, List, length, get_or, map, refl, ap, ◌∙◌, sym, arith, inl, inr}
 use Rattle.std.proofs.lemmas.List.{get_or-map, get_or_past, length-map}
 use Rattle.std.proofs.lemmas.Bool.{cases_lt}
+use Rattle.std.specs.Int.{bit_at}
+use Rattle.bits_and_lists.specs.Bits.{bit_of, bits_of}
+use Rattle.sketch.specs.declared.halve_record.HalveRecord.{HalveRecord}
 use Rattle.step_record.specs.declared.config.Spread.{Spread}
 use Rattle.sketch.specs.Counters.{nibble, counter_at}
 use Rattle.sketch.specs.Laws.{halved_word, odd_bits, lost_word, lost_of_word, unhalved_words}
 use Rattle.sketch.specs.Laws.{lost_bit}
-use Rattle.sketch.specs.Places.{by_place}
-use Rattle.sketch.specs.HalveRecord.{halve_record_of, unhalved}
+use Rattle.bits_and_lists.specs.Places.{by_place}
+use Rattle.sketch.specs.HalveRecord.{counter_kept, kept_at, halve_record_of, unhalved}
 use Rattle.sketch.specs.Sketch.{Table, halved, IsTable}
-use Rattle.std.proofs.lemmas.Nat.{and_le_r}
-use Rattle.sketch.proofs.Digits.{same_digits, nibble_lt, zero_nibble}
+use Rattle.std.proofs.lemmas.Nat.{and_le_r, shr-shr}
+use Rattle.sketch.proofs.Digits.{same_digits, nibble_is, nibble_lt, zero_nibble}
 use Rattle.sketch.proofs.Halving.{nibble_halved, nibble_odd, lost_digit, nibble_doubled}
-use Rattle.sketch.proofs.Places.{length-by_place, get_or-by_place, by_place_same, by_place_whole, small_by_place}
+use Rattle.bits_and_lists.proofs.Places.{length-by_place, get_or-by_place, by_place_same, by_place_whole}
+use Rattle.sketch.proofs.RowLists.{small_by_place}
 use Rattle.sketch.proofs.Tables.{table}
 
 module _ (ws : List ℕ) where
@@ -21,13 +25,43 @@ module _ (ws : List ℕ) where
       let w : i / 16 < length ws = omega arith in
       ap (λ x. nibble x (i % 16)) (get_or-map halved_word ws (i / 16) 0 0 w) ∙ nibble_halved (i % 16) (get_or ws (i / 16) 0) (omega arith)
 
-  pub lost_at : (n i : ℕ) → 4 * n ≡ length ws → i < 16 * length ws → lost_bit (by_place n (lost_word ws)) i ≡ counter_at ws i % 2
-  lost_at n i e h =
-      let w : i / 16 / 4 < n = omega (arith, e) in
-      let q : 4 * (i / 16 / 4) + i / 16 % 4 ≡ i / 16 = omega arith in
-      ap (λ x. nibble (odd_bits (x / 2 ^ (i / 16 % 4))) (i % 16)) (get_or-by_place n (lost_word ws) (i / 16 / 4) 0 w)
-      ∙ lost_digit ws (i / 16 / 4) (i / 16 % 4) (i % 16) (omega arith) (omega arith)
-      ∙ ap (λ j. nibble (get_or ws j 0) (i % 16) % 2) q
+-- bit t of digit n of a word
+bit_digit : (n t x : ℕ) → bit_at x (4 * n + t) ≡ nibble (x / 2 ^ t) n % 2
+bit_digit n t x =
+    let e : 4 * n + t ≡ t + 4 * n = omega arith in
+    let s : x / 2 ^ t / 2 ^ (4 * n) ≡ x / 2 ^ (t + 4 * n) = shr-shr x t (4 * n) in
+    let d : x / 2 ^ t / 2 ^ (4 * n) % 16 ≡ nibble (x / 2 ^ t) n = nibble_is n (x / 2 ^ t) in
+    rw (e, ← s) (omega (arith, d))
+
+one_or_none : (v : ℕ) → v < 2 → v ≡ cond (eqb v 1) 1 0
+one_or_none zero h = refl
+one_or_none (suc zero) h = refl
+one_or_none (suc (suc v)) h = absurd (omega arith)
+
+-- the lost bit of a counter is a bit of the lost words
+bit_kept : (lost : List ℕ) (i : ℕ) → lost_bit lost i ≡ cond (bit_of lost (kept_at i)) 1 0
+bit_kept lost i =
+    let a : kept_at i / 64 ≡ i / 16 / 4 = omega arith in
+    let b : kept_at i % 64 ≡ 4 * (i % 16) + i / 16 % 4 = omega arith in
+    let x = get_or lost (i / 16 / 4) 0 in
+    let d : bit_at x (4 * (i % 16) + i / 16 % 4) ≡ nibble (x / 2 ^ (i / 16 % 4)) (i % 16) % 2 = bit_digit (i % 16) (i / 16 % 4) x in
+    let o : lost_bit lost i ≡ nibble (x / 2 ^ (i / 16 % 4)) (i % 16) % 2 = nibble_odd (i % 16) (x / 2 ^ (i / 16 % 4)) (omega arith) in
+    o ∙ one_or_none _ (omega arith) ∙ ap (λ v. cond (eqb v 1) 1 0) (sym d) ∙ sym (ap (λ k. cond (eqb (bit_at (get_or lost k 0) (kept_at i % 64)) 1) 1 0) a ∙ ap (λ k. cond (eqb (bit_at x k) 1) 1 0) b)
+
+-- and a bit of the lost words is the lost bit of a counter
+bit_lost : (ws : List ℕ) (n p : ℕ) → 4 * n ≡ length ws → p < 16 * length ws → bit_at (get_or (by_place n (lost_word ws)) (p / 64) 0) (p % 64) ≡ counter_at ws (counter_kept p) % 2
+bit_lost ws n p e h =
+    let w : p / 64 < n = omega (arith, e) in
+    let b : p % 64 ≡ 4 * (p % 64 / 4) + p % 4 = omega arith in
+    let x = lost_word ws (p / 64) in
+    let c : counter_kept p / 16 ≡ 4 * (p / 64) + p % 4 = omega arith in
+    let d : counter_kept p % 16 ≡ p % 64 / 4 = omega arith in
+    ap (λ y. bit_at y (p % 64)) (get_or-by_place n (lost_word ws) (p / 64) 0 w)
+    ∙ ap (bit_at x) b
+    ∙ bit_digit (p % 64 / 4) (p % 4) x
+    ∙ sym (nibble_odd (p % 64 / 4) (x / 2 ^ (p % 4)) (omega arith))
+    ∙ lost_digit ws (p / 64) (p % 4) (p % 64 / 4) (omega arith) (omega arith)
+    ∙ sym (ap (λ k. nibble (get_or ws k 0) (counter_kept p % 16) % 2) c ∙ ap (λ k. nibble (get_or ws (4 * (p / 64) + p % 4) 0) k % 2) d)
 
 pub low_past : (ws : List ℕ) (i : ℕ) → length ws ≤ i / 16 → counter_at ws i ≡ 0
 low_past ws i h = ap (λ x. nibble x (i % 16)) (get_or_past ws (i / 16) 0 h) ∙ zero_nibble (i % 16)
@@ -51,31 +85,35 @@ module _ (w : ℕ) (s : Spread) (some : 0 < w) (ws : List ℕ) (whole : w ≡ 4 
   halve_after = ap (λ (cs : List ℕ). let t : Table = record { width = w; spread = s; counters = cs } in t)
       (by_place_same (4 * w) (counter_at (map halved_word ws)) _ 0 (λ i h. halved_at ws i (omega (arith, whole)) ∙ ap (λ x. x / 2) (sym (get_or-by_place (4 * w) (counter_at ws) i 0 h))))
 
-  -- the lost words are the halving's record
-  pub lost_is : (n : ℕ) → 4 * n ≡ length ws → by_place (64 * n) (lost_bit (by_place n (lost_word ws))) ≡ halve_record_of (table w s some (counter_at ws))
+  -- the bits of the lost words are the halving's record
+  pub lost_is : (n : ℕ) → 4 * n ≡ length ws → ◌≡◌ {A = HalveRecord} record { lost = bits_of (by_place n (lost_word ws)) } (halve_record_of (table w s some (counter_at ws)))
   lost_is n few =
-      let e : 64 * n ≡ 4 * w = omega (arith, whole, few) in
-      ap (λ (k : ℕ). by_place k (lost_bit (by_place n (lost_word ws)))) e
-      ∙ by_place_same (4 * w) (lost_bit (by_place n (lost_word ws))) (λ i. get_or (by_place (4 * w) (counter_at ws)) i 0 % 2) 0 (λ i h.
-      lost_at ws n i few (omega (arith, whole)) ∙ ap (λ x. x % 2) (sym (get_or-by_place (4 * w) (counter_at ws) i 0 h)))
+      let ls = by_place n (lost_word ws) in
+      let e : 64 * length ls ≡ 4 * w = let k = length-by_place n (lost_word ws) in omega (arith, whole, few, k) in
+      ap (λ (bs : List Bool). let r : HalveRecord = record { lost = bs } in r)
+      (ap (λ (k : ℕ). by_place k (bit_of ls)) e
+      ∙ by_place_same (4 * w) (bit_of ls) (λ p. eqb (get_or (by_place (4 * w) (counter_at ws)) (counter_kept p) 0 % 2) 1) false (λ p h.
+      ap (λ x. eqb x 1) (bit_lost ws n p few (omega (arith, whole)) ∙ ap (λ x. x % 2) (sym (get_or-by_place (4 * w) (counter_at ws) (counter_kept p) 0 (omega (arith, whole, few)))))))
 
   pub unhalve_after : (lost : List ℕ) → ((i : ℕ) → counter_at ws i ≤ 7) → length ws ≡ 4 * length lost
-      → table w s some (counter_at (by_place (length ws) (λ i. 2 * get_or ws i 0 + lost_of_word lost i))) ≡ unhalved (by_place (64 * length lost) (lost_bit lost)) (table w s some (counter_at ws))
+      → table w s some (counter_at (by_place (length ws) (λ i. 2 * get_or ws i 0 + lost_of_word lost i))) ≡ unhalved record { lost = bits_of lost } (table w s some (counter_at ws))
   unhalve_after lost low few = ap (λ (cs : List ℕ). let t : Table = record { width = w; spread = s; counters = cs } in t)
       (by_place_same (4 * w) _ _ 0 (λ i h.
       let v : i / 16 < length ws = omega (arith, whole) in
       rw (
         get_or-by_place (length ws) (λ i. 2 * get_or ws i 0 + lost_of_word lost i) (i / 16) 0 v,
         get_or-by_place (4 * w) (counter_at ws) i 0 h,
-        get_or-by_place (64 * length lost) (lost_bit lost) i 0 (omega (arith, whole, few)),
+        get_or-by_place (64 * length lost) (bit_of lost) (kept_at i) false (omega (arith, whole, few)),
       )
       (nibble_doubled 16 (i % 16) (get_or ws (i / 16) 0) (lost_of_word lost (i / 16)) (omega arith) (λ m b. low_digit ws (i / 16) m b low)
-      (λ m b. let o = nibble_odd m (get_or lost (i / 16 / 4) 0 / 2 ^ (i / 16 % 4)) b in omega (arith, o)))))
+      (λ m b. let o = nibble_odd m (get_or lost (i / 16 / 4) 0 / 2 ^ (i / 16 % 4)) b in omega (arith, o))
+      ∙ ap (λ b. 2 * counter_at ws i + b) (bit_kept lost i))))
 
 -- the counters of any words make a table
-pub table_is : (w : ℕ) (s : Spread) (ws : List ℕ) → 16 ≤ w → IsTable record { width = w; spread = s; counters = by_place (4 * w) (counter_at ws) }
-table_is w s ws wide = record {
+pub table_is : (w : ℕ) (s : Spread) (ws : List ℕ) → 16 ≤ w → w ≡ 16 * (w / 16) → IsTable record { width = w; spread = s; counters = by_place (4 * w) (counter_at ws) }
+table_is w s ws wide even = record {
   some = omega arith;
+  words = even;
   whole = length-by_place (4 * w) (counter_at ws);
   small = λ i. small_by_place (4 * w) (counter_at ws) (λ i h. let l : counter_at ws i < 16 = nibble_lt (i % 16) (get_or ws (i / 16) 0) in omega (arith, l)) i;
 }

@@ -1,5 +1,5 @@
 pub mod Digits
-pub mod Places
+pub mod RowLists
 pub mod Tables
 pub mod Halving
 pub mod Halves

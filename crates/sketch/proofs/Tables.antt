@@ -1,19 +1,15 @@
 -- A table whose counters are given place by place.
 use Rattle.std.proofs.Common.{◌⊎◌, ◌≡◌, ℕ, suc, zero, ◌+◌, ◌-◌, ◌*◌, ◌/◌, ◌%◌, ◌^◌, ◌<◌, ◌≤◌, min, Bool, true, false, cond, eqb, nat_lt, ◌&&◌, List, ◌∷◌, [], get_or, refl, ap, ◌∙◌, sym, arith, inl, inr}
 use Rattle.std.proofs.lemmas.Nat.{pow-add, div-mul-add, mod-mul-add, div-add-mod', div_below}
-use Rattle.std.proofs.lemmas.Bool.{eqb-true, eq-eqb, ltb-true, ltb-false}
+use Rattle.std.proofs.lemmas.Bool.{cases_Bool, eqb-true, eq-eqb, ltb-true, ltb-false}
 use Rattle.std.proofs.lemmas.Bool.Decides.{nat_tests}
 use Rattle.step_record.specs.declared.config.Spread.{Spread}
 use Rattle.sketch.specs.declared.touch_record.TouchRecord.{TouchRecord}
 use Rattle.sketch.specs.Columns.{column, column_below}
-use Rattle.sketch.specs.Places.{by_place}
+use Rattle.bits_and_lists.specs.Places.{by_place}
 use Rattle.sketch.specs.Sketch.{Table, counter_of, is_of, at_key, touched, least}
 use Rattle.sketch.specs.TouchRecord.{touch_record_of, rose, untouched, FitsTouch}
-use Rattle.sketch.proofs.Places.{get_or-by_place, by_place_same}
-
-pub two : (b : Bool) → (b ≡ true) ⊎ (b ≡ false)
-two true = inl refl
-two false = inr refl
+use Rattle.bits_and_lists.proofs.Places.{get_or-by_place, by_place_same}
 
 -- the least of two counters that rise is the least of the two, risen
 up_min : (a b : ℕ) → min (min 15 (a + 1)) (min 15 (b + 1)) ≡ min 15 (min a b + 1)
@@ -48,7 +44,7 @@ module _ (w : ℕ) (s : Spread) (some : 0 < w) where
     columns_below row h = rw (column_is row h) (column_below s key row w some)
 
     pub own_column : (i : ℕ) → (nat_lt (i / w) 4 && eqb (get_or cs (i / w) 0) (i % w)) ≡ (nat_lt (i / w) 4 && is_of s w key i)
-    own_column i = elim (two (nat_lt (i / w) 4)) as (λ _. (nat_lt (i / w) 4 && eqb (get_or cs (i / w) 0) (i % w)) ≡ (nat_lt (i / w) 4 && is_of s w key i)) [
+    own_column i = elim (cases_Bool (nat_lt (i / w) 4)) as (λ _. (nat_lt (i / w) 4 && eqb (get_or cs (i / w) 0) (i % w)) ≡ (nat_lt (i / w) 4 && is_of s w key i)) [
       | inl e ↦ let lt : i / w < 4 = ltb-true _ _ e in rw (e, column_is (i / w) lt) refl
       | inr e ↦ rw e refl
     ]
@@ -65,7 +61,7 @@ module _ (w : ℕ) (s : Spread) (some : 0 < w) where
     pub unkeyed : (h : ℕ → ℕ → ℕ) → ((i : ℕ) → i < 4 * w → is_of s w key i ≡ true → h (i / w) (g (i / w) (f i)) ≡ f i) → at_key key h (at_key key g (table f)) ≡ table f
     unkeyed h back = ap (λ (cs : List ℕ). let t : Table = record { width = w; spread = s; counters = cs } in t)
         (by_place_same (4 * w) _ f 0 (λ i lt. rw (changed_at i lt)
-        (elim (two (is_of s w key i)) as (λ _. cond (is_of s w key i) (h (i / w) (cond (is_of s w key i) (g (i / w) (f i)) (f i))) (cond (is_of s w key i) (g (i / w) (f i)) (f i)) ≡ f i) [
+        (elim (cases_Bool (is_of s w key i)) as (λ _. cond (is_of s w key i) (h (i / w) (cond (is_of s w key i) (g (i / w) (f i)) (f i))) (cond (is_of s w key i) (g (i / w) (f i)) (f i)) ≡ f i) [
           | inl e ↦ rw e (back i lt e)
           | inr e ↦ rw e refl
         ])))
@@ -113,7 +109,7 @@ module _ (w : ℕ) (s : Spread) (some : 0 < w) where
     touch_undone small = unkeyed key (λ row x. min 15 (x + 1)) f (λ row x. cond (rose (touch_record_of key (table f)) row) (x - 1) x) (λ i lt e.
         let d : i / w < 4 = div_below i w 4 some lt in
         let p : f (i / w * w + column s key (i / w) w) ≡ f i = ap f (sym (own_place key i e)) in
-        rw (flag (i / w) d, p) (elim (two (nat_lt (f i) 15)) as (λ _. cond (nat_lt (f i) 15) (min 15 (f i + 1) - 1) (min 15 (f i + 1)) ≡ f i) [
+        rw (flag (i / w) d, p) (elim (cases_Bool (nat_lt (f i) 15)) as (λ _. cond (nat_lt (f i) 15) (min 15 (f i + 1) - 1) (min 15 (f i + 1)) ≡ f i) [
           | inl q ↦ rw q (let lt15 : f i < 15 = ltb-true _ _ q in omega arith)
           | inr q ↦ rw q (let ge15 : 15 ≤ f i = ltb-false _ _ q in omega (arith, small i))
         ]))

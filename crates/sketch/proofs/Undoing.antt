@@ -1,16 +1,32 @@
 -- What undoes a touch and a halving, over any table.
-use Rattle.std.proofs.Common.{◌≡◌, ℕ, ◌+◌, ◌*◌, ◌/◌, ◌%◌, ◌≤◌, min, Bool, true, false, cond, List, get_or, ap, ◌∙◌, subst, arith}
+use Rattle.std.proofs.Common.{◌≡◌, ◌≢◌, ℕ, suc, zero, ◌+◌, ◌*◌, ◌/◌, ◌%◌, ◌<◌, ◌≤◌, min, Bool, true, false, cond, eqb, List, get_or, ap, ◌∙◌, refl, subst, arith, inl, inr}
+use Rattle.std.proofs.lemmas.Bool.{cases_eq, eq-eqb, ne_eqb}
+use Rattle.sketch.specs.declared.halve_record.HalveRecord.{HalveRecord}
 use Rattle.sketch.specs.declared.touch_record.TouchRecord.{TouchRecord}
 use Rattle.sketch.specs.Sketch.{Table, counter_of, is_of, touched, halved, least, IsTable}
 use Rattle.sketch.specs.Columns.{column}
 use Rattle.sketch.specs.TouchRecord.{touch_record_of, untouched, FitsTouch}
-use Rattle.sketch.specs.HalveRecord.{halve_record_of, unhalved, FitsHalve}
-use Rattle.sketch.proofs.Places.{length-by_place, get_or-by_place, by_place_same, by_place_whole, small_by_place}
+use Rattle.sketch.specs.HalveRecord.{counter_kept, kept_at, halve_record_of, unhalved, FitsHalve}
+use Rattle.bits_and_lists.proofs.Places.{length-by_place, get_or-by_place, by_place_same, by_place_whole}
+use Rattle.sketch.proofs.RowLists.{small_by_place}
 use Rattle.sketch.proofs.Tables as tables
 
 one_of : (b : Bool) (x : ℕ) → x ≤ 15 → cond b (min 15 (x + 1)) x ≤ 15
 one_of true x h = omega arith
 one_of false x h = h
+
+-- a number from its half and its lowest bit
+twice_and : (x : ℕ) → 2 * (x / 2) + cond (eqb (x % 2) 1) 1 0 ≡ x
+twice_and x =
+    elim (cases_eq (x % 2) 1) as (λ _. 2 * (x / 2) + cond (eqb (x % 2) 1) 1 0 ≡ x) [
+      | inl e ↦ let o : eqb (x % 2) 1 ≡ true = eq-eqb _ _ e in rw o (omega (arith, e))
+      | inr n ↦ let o : eqb (x % 2) 1 ≡ false = ne_eqb _ _ n in let z : x % 2 ≡ 0 = two_of (x % 2) (omega arith) n in rw o (omega (arith, z))
+    ]
+  where
+    two_of : (v : ℕ) → v < 2 → v ≢ 1 → v ≡ 0
+    two_of zero h n = refl
+    two_of (suc zero) h n = absurd (n refl)
+    two_of (suc (suc v)) h n = absurd (omega arith)
 
 module _ (t : Table) (is : IsTable t) where
   rebuilt : tables.table t.width t.spread is.some (λ i. get_or t.counters i 0) ≡ t
@@ -30,12 +46,15 @@ module _ (t : Table) (is : IsTable t) where
   halve_undone =
       ap (λ (cs : List ℕ). let u : Table = record { width = t.width; spread = t.spread; counters = cs } in u)
       (by_place_same (4 * t.width) _ (λ i. get_or t.counters i 0) 0 (λ i h.
-      rw (get_or-by_place (4 * t.width) (λ i. get_or t.counters i 0 / 2) i 0 h, get_or-by_place (4 * t.width) (λ i. get_or t.counters i 0 % 2) i 0 h) (omega arith)))
+      let even = is.words in
+      let back : counter_kept (kept_at i) ≡ i = omega arith in
+      let bit = get_or-by_place (4 * t.width) (λ p. eqb (get_or t.counters (counter_kept p) 0 % 2) 1) (kept_at i) false (omega (arith, even)) in
+      rw (get_or-by_place (4 * t.width) (λ i. get_or t.counters i 0 / 2) i 0 h, bit, back) (twice_and (get_or t.counters i 0))))
       ∙ rebuilt
 
   pub halve_fits : FitsHalve (halve_record_of t) (halved t)
   halve_fits = record {
-    whole = length-by_place (4 * t.width) (λ i. get_or t.counters i 0 % 2);
+    whole = length-by_place (4 * t.width) (λ p. eqb (get_or t.counters (counter_kept p) 0 % 2) 1);
     low = λ i h.
         let e = get_or-by_place (4 * t.width) (λ i. get_or t.counters i 0 / 2) i 0 h in
         omega (arith, e, is.small i);
@@ -45,8 +64,8 @@ module _ (t : Table) (is : IsTable t) where
   pub untouched_is : (key : ℕ) (r : TouchRecord) (u : Table) → r ≡ touch_record_of key t → u ≡ touched key t → untouched r u ≡ t
   untouched_is key r u e f = rw (e, f) (touch_undone key)
 
-  pub unhalved_is : (bits : List ℕ) (u : Table) → bits ≡ halve_record_of t → u ≡ halved t → unhalved bits u ≡ t
-  unhalved_is bits u e f = rw (e, f) halve_undone
+  pub unhalved_is : (r : HalveRecord) (u : Table) → r ≡ halve_record_of t → u ≡ halved t → unhalved r u ≡ t
+  unhalved_is r u e f = rw (e, f) halve_undone
 
   pub least_small : (key : ℕ) → least key t ≤ 15
   least_small key = let first : counter_of key t 0 ≤ 15 = is.small (0 * t.width + column t.spread key 0 t.width) in omega (arith, first)
@@ -55,6 +74,7 @@ module _ (t : Table) (is : IsTable t) where
   pub touched_is : (key : ℕ) → IsTable (touched key t)
   touched_is key = record {
     some = is.some;
+    words = is.words;
     whole = length-by_place (4 * t.width) (λ i. cond (is_of t.spread t.width key i) (min 15 (get_or t.counters i 0 + 1)) (get_or t.counters i 0));
     small = small_by_place (4 * t.width) (λ i. cond (is_of t.spread t.width key i) (min 15 (get_or t.counters i 0 + 1)) (get_or t.counters i 0)) (λ i h. one_of (is_of t.spread t.width key i) (get_or t.counters i 0) (is.small i));
   }
@@ -62,6 +82,7 @@ module _ (t : Table) (is : IsTable t) where
   pub halved_is : IsTable (halved t)
   halved_is = record {
     some = is.some;
+    words = is.words;
     whole = length-by_place (4 * t.width) (λ i. get_or t.counters i 0 / 2);
     small = small_by_place (4 * t.width) (λ i. get_or t.counters i 0 / 2) (λ i h. let s = is.small i in omega arith);
   }

@@ -1,17 +1,31 @@
--- A halving's record, seen as a list of lost bits: what it is, when it fits a table, and what undoing it leaves.
-use Rattle.std.specs.Prelude.{◌≡◌, ℕ, ◌+◌, ◌*◌, ◌%◌, ◌<◌, ◌≤◌, List, length, slice_index}
-use Rattle.sketch.specs.Places.{by_place}
+-- A halving's record: what it is, when it fits a table, and what undoing it leaves. It keeps a bit for each counter; the
+-- bits of 64 counters fill a word, where those of each sixteen stand four places apart (this project's profile).
+use Rattle.std.specs.Prelude.{◌≡◌, ℕ, ◌+◌, ◌*◌, ◌/◌, ◌%◌, ◌<◌, ◌≤◌, false, cond, ◌==◌, length, slice_index, slice_index_or}
+use Rattle.bits_and_lists.specs.Places.{by_place}
+use Rattle.sketch.specs.declared.halve_record.HalveRecord.{HalveRecord}
 use Rattle.sketch.specs.Sketch.{Table, changed}
 
--- the record of a halving, from the table before it: 1 for each odd counter, 0 for each even one
-abbrev pub halve_record_of : Table → List ℕ
-halve_record_of t = by_place (4 * t.width) (λ i. slice_index t.counters i % 2)
+-- the counter whose lost bit is bit p
+abbrev pub counter_kept : ℕ → ℕ
+counter_kept p = 64 * (p / 64) + 16 * (p % 4) + p % 64 / 4
 
--- each counter is doubled, and its lost bit added
-abbrev pub unhalved : List ℕ → Table → Table
-unhalved bits t = changed t (λ i x. 2 * x + slice_index bits i)
+-- the bit that counter i lost
+abbrev pub kept_at : ℕ → ℕ
+kept_at i = 64 * (i / 64) + 4 * (i % 16) + i / 16 % 4
+
+-- the record of a halving, from the table before it: a bit is set for each odd counter
+abbrev pub halve_record_of : Table → HalveRecord
+halve_record_of t = record { lost = by_place (4 * t.width) (λ p. slice_index t.counters (counter_kept p) % 2 == 1) }
+
+-- what counter i lost
+abbrev pub lost_by : HalveRecord → ℕ → ℕ
+lost_by r i = cond (slice_index_or r.lost (kept_at i) false) 1 0
+
+-- each counter is doubled, and what it lost is added
+abbrev pub unhalved : HalveRecord → Table → Table
+unhalved r t = changed t (λ i x. 2 * x + lost_by r i)
 
 -- there is a bit for each counter, and no counter is over 7
-pub record FitsHalve (bits : List ℕ) (t : Table) : Type 0 where
-  pub whole : length bits ≡ 4 * t.width
+pub record FitsHalve (r : HalveRecord) (t : Table) : Type 0 where
+  pub whole : length r.lost ≡ 4 * t.width
   pub low : (i : ℕ) → i < 4 * t.width → slice_index t.counters i ≤ 7

@@ -2,6 +2,5 @@ pub mod Columns
 pub mod Counters
 pub mod HalveRecord
 pub mod Laws
-pub mod Places
 pub mod Sketch
 pub mod TouchRecord

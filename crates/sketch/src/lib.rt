@@ -1,7 +1,7 @@
-//! A sketch of how often keys came, as TinyLFU (2017) keeps it: four rows of four-bit counters, sixteen to a word.
+//! A Count-Min sketch of access frequencies, as TinyLFU (2017) keeps it: four rows of four-bit counters, sixteen to a word.
 //!
 //! Each key has one counter in each row. A touch raises those four, up to 15, and a halving floors every counter to
-//! half. Both hand out a record that undoes them exactly: a touch's record is the key and four flags, and a halving's
+//! half. Both return a record that undoes them exactly: a touch's record is the key and four flags, and a halving's
 //! is the bits that were lost, a quarter of the table. What a call leaves, what its record is and what undoing it
 //! leaves are each a function of the counters before the call.
 #![tactic(auto)]

@@ -2,7 +2,7 @@
 ghost use Rattle.std.specs.Prelude.{◌≡◌, ◌<◌, ◌≤◌, ◌+◌, ◌-◌, ◌^◌, ◌*◌, ◌/◌, ◌%◌, ◌==◌, ◌&&◌, cond, nat_lt, min, true, length, slice_index, ℕ};
 ghost use Rattle.sketch.specs.Counters.{counter_at};
 ghost use Rattle.sketch.specs.Columns.{column as column_of};
-ghost use Rattle.sketch.specs.Places.{by_place};
+ghost use Rattle.bits_and_lists.specs.Places.{by_place};
 ghost use Rattle.sketch.specs.Sketch.{is_of};
 ghost use Rattle.sketch.specs.TouchRecord.{rose as rose_of};
 
@@ -11,7 +11,7 @@ use crate::counters::{lower, raise};
 use crate::touch_record::TouchRecord;
 use step_record::{Key, Spread};
 
-/// Raises the counter at a column of each row, and hands out what the four were.
+/// Raises the counter at a column of each row, and returns what the four were.
 pub fn raise_rows(words: &mut [u64], width: u32, columns: [u32; 4]) -> [u32; 4]
     requires low { 1 ≤ width }
     requires high { width ≤ 2 ^ 20 }

@@ -1,7 +1,7 @@
 //! Four rows of counters up to 15.
 ghost use Rattle.std.specs.Prelude.{◌≡◌, ◌<◌, ◌≤◌, ◌*◌, ◌^◌, min, slice_index, IfOk, OnOk, OnErr};
 ghost use Rattle.std.specs.Int.{IsPowerOfTwo};
-ghost use Rattle.sketch.specs.Places.{by_place};
+ghost use Rattle.bits_and_lists.specs.Places.{by_place};
 ghost use Rattle.sketch.specs.Sketch.{counter as counter_of, touched, halved, least as least_of};
 ghost use Rattle.sketch.specs.TouchRecord.{touch_record_of, untouched, FitsTouch};
 ghost use Rattle.sketch.specs.HalveRecord.{halve_record_of, unhalved, FitsHalve};
@@ -12,6 +12,7 @@ use crate::halve_record::HalveRecord;
 use crate::laws::{halve_words, unhalve_words};
 use crate::rows::{lower_rows, raise_rows};
 use crate::touch_record::TouchRecord;
+use bits_and_lists::BitList;
 use std::alloc::{AllocError, Global};
 use std::marker::Model;
 use step_record::{Key, Spread};
@@ -33,7 +34,7 @@ pub struct Sketch {
 impl Model for Sketch {
     ghost use Rattle.std.specs.Prelude.{◌≡◌, ◌≤◌, ◌*◌, ◌/◌, length, IfSome};
     ghost use Rattle.sketch.specs.Sketch.{Table, least as least_of};
-    ghost use Rattle.sketch.specs.Places.{by_place};
+    ghost use Rattle.bits_and_lists.specs.Places.{by_place};
     ghost use Rattle.sketch.specs.Counters.{counter_at};
     ghost use Rattle.std.specs.Int.{IsPowerOfTwo};
 
@@ -47,7 +48,7 @@ impl Model for Sketch {
 
 impl Sketch {
     /// A sketch of four rows of `width` columns, a power of two from 16 to 2^20, with all counters 0. The one error is
-    /// that memory was refused. The allocator is kept for the records of halvings.
+    /// out of memory. The allocator is kept for the records of halvings.
     pub fn new(alloc: Global, width: u32, spread: Spread) -> Result<Sketch, AllocError>
         requires power { IsPowerOfTwo width }
         requires low { 16 ≤ width }
@@ -85,7 +86,7 @@ impl Sketch {
         get(&self.words, (row * self.width + col) as usize)
     }
 
-    /// Raises the key's four counters, each unless it is 15, and hands out which of them rose.
+    /// Raises the key's four counters, each unless it is 15, and returns the undo record: which of them rose.
     #[inline(always)]
     pub fn touch(&mut self, key: Key) -> TouchRecord
         ensures after { self.new ≡ touched key self.old }
@@ -113,8 +114,8 @@ impl Sketch {
         lower_rows(&mut self.words, self.width, self.spread, &done);
     }
 
-    /// Floors each counter to its half, and hands out the bits that are lost. The one error is that memory for them
-    /// was refused; nothing is changed then.
+    /// Floors each counter to its half, and returns the undo record: the bits that are lost. The one error is out of
+    /// memory for them; nothing is changed then.
     pub fn halve(&mut self) -> Result<HalveRecord, AllocError>
         ensures after { OnOk result (self.new ≡ halved self.old) }
         ensures record_is { IfOk result (λ r. r ≡ halve_record_of self.old) }
@@ -125,7 +126,9 @@ impl Sketch {
         let mut lost = vec![in self.alloc; 0; self.words.len() / 4]?;
         self.last_least = None;
         halve_words(&mut self.words, &mut lost);
-        Ok(HalveRecord { words: lost })
+        Ok(HalveRecord {
+            lost: BitList::of_words(lost),
+        })
     }
 
     /// Undoes a halving: doubles each counter and adds the bit that it lost. The record has to fit, as that of the
@@ -135,7 +138,7 @@ impl Sketch {
         ensures { self.new ≡ unhalved done self.old }
     {
         self.last_least = None;
-        unhalve_words(&mut self.words, &done.words);
+        unhalve_words(&mut self.words, done.lost.as_words());
     }
 
     /// The least of the key's four counters.
@@ -260,18 +263,50 @@ mod tests {
         Ok(())
     }
 
-    // Where memory for a halving is refused, the counters stay as they were.
+    #[test]
+    fn halves_again_and_again(rt: HostRuntime) -> Result<(), Fail> {
+        let mut sketch = Sketch::new(rt.alloc(), 16, Spread::Mixed)?;
+        for _ in 0..12 {
+            for _ in 0..15 {
+                let _ = sketch.touch(5);
+            }
+            assert_eq!(rt; (sketch.least(5), sketch.halve()?.words()), (15, 1));
+            assert_eq!(rt; sketch.least(5), 7);
+        }
+        Ok(())
+    }
+
+    #[test]
+    fn opens_at_the_largest_size(rt: HostRuntime) -> Result<(), Fail> {
+        for spread in [Spread::Plain, Spread::Mixed] {
+            let mut sketch = Sketch::new(rt.alloc(), 1 << 20, spread)?;
+            let _ = sketch.touch(u64::MAX);
+            let _ = sketch.touch(u64::MAX);
+            assert_eq!(rt; sketch.least(u64::MAX), 2);
+            assert_eq!(rt;
+                (sketch.halve()?.words(), sketch.least(u64::MAX)),
+                (65536, 1)
+            );
+        }
+        Ok(())
+    }
+
+    // Out of memory for a halving, the counters stay as they were. One allocation fails at most.
     #[test]
     fn keeps_its_counters_without_memory(rt: HostRuntime) -> Result<(), Fail> {
+        let mut refused = 0;
         let mut sketch = match Sketch::new(rt.alloc(), 16, Spread::Plain) {
             Ok(sketch) => sketch,
-            Err(AllocError) => Sketch::new(rt.alloc(), 16, Spread::Plain)?,
+            Err(AllocError) => {
+                refused = 1;
+                Sketch::new(rt.alloc(), 16, Spread::Plain)?
+            }
         };
         for _ in 0..20 {
             let _ = sketch.touch(3);
         }
         if let Err(AllocError) = sketch.halve() {
-            assert_eq!(rt; sketch.least(3), 15);
+            assert_eq!(rt; (refused, sketch.least(3)), (0, 15));
             let _ = sketch.halve()?;
         }
         assert_eq!(rt; sketch.least(3), 7);

@@ -1,4 +1,4 @@
-//! What a touch hands out.
+//! The undo record of a touch.
 use step_record::Key;
 
 /// Which of a key's four counters a touch raised: all that it takes to undo it. It holds no list.

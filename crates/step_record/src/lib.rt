@@ -1,5 +1,6 @@
 //! The words that all crates of the simulator share: keys and items, configurations and jobs,
-//! outcomes and their counts, and what an engine is whose every step can be undone.
+//! outcomes and their counts, the steps of the concurrent cache and their replies, and what an
+//! engine is whose every step can be undone.
 //!
 //! The crate promises that a configuration is accepted exactly where each of its numbers is in
 //! its range, and states the law that every engine keeps: a step's reply and new data depend on
@@ -7,21 +8,34 @@
 #![tactic(auto)]
 
 mod config;
+mod drain;
 mod engine;
 mod entry;
 mod gate;
 mod item;
 mod job;
 mod kept;
+mod limits;
 mod outcome;
 mod stats;
+mod step;
+mod trace;
+mod worker;
 
 pub use config::{Config, ConfigFault, Spread};
+pub use drain::{Drain, Phase};
 pub use engine::{Engine, StepFault};
 pub use entry::Entry;
 pub use gate::{Gate, OpenGate};
 pub use item::{Item, Key, Node};
 pub use job::{Job, Policy};
 pub use kept::{ByWorker, Kept};
+pub use limits::{
+    MAX_ACCESSES, MAX_CAPACITY, MAX_JOURNAL_LIMIT, MAX_MAIN_PERCENT, MAX_STEPS, MAX_STRIPES,
+    MAX_TRACE_BYTES,
+};
 pub use outcome::Outcome;
 pub use stats::Stats;
+pub use step::{Act, Answer, Call, Reply, Step};
+pub use trace::Trace;
+pub use worker::{MAX_WORKERS, Worker};

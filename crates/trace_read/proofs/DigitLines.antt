@@ -1,5 +1,5 @@
 -- A line that is digits alone.
-use Rattle.std.proofs.Common.{◌≡◌, ◌∙◌, ◌<◌, ◌≤◌, ◌^◌, ◌&&◌, ◌==◌, ℕ, true, false, List, [], ◌∷◌, length, refl, ap, sym, arith, Ok}
+use Rattle.std.proofs.Common.{◌≡◌, ◌∙◌, ◌<◌, ◌^◌, ◌==◌, ℕ, true, false, List, [], ◌∷◌, length, refl, ap, sym, arith, Ok}
 use Rattle.std.proofs.lemmas.Bool.{cond-false, and_parts, and_left, or_from, ne_eqb}
 use Rattle.std.proofs.lemmas.Bool.Decides.{nat_tests}
 use Rattle.std.specs.Char.{is_ascii_digit}

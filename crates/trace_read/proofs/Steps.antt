@@ -7,8 +7,9 @@ use Rattle.std.proofs.lemmas.List.Splits.{slice_split_at, slice_split_none}
 use Rattle.std.proofs.lemmas.List.Sums.{fails_before_first, passes_at_first, split_at_first}
 use Rattle.std.specs.Prelude.{nat_lt, IfErr, IsErrAnd}
 use Rattle.std.specs.List.{position_or_len}
+use Rattle.step_record.specs.declared.limits.TheConstants.{MAX_ACCESSES, MAX_TRACE_BYTES}
 use Rattle.trace_read.specs.Lines.{line_of}
-use Rattle.trace_read.specs.Reading.{all_keys, fault_after, fault_in, first_fault, keys_in, line_fault, line_keys, lines_of, or_later, most_accesses, IsOfLine, IsRead}
+use Rattle.trace_read.specs.Reading.{all_keys, fault_after, fault_in, first_fault, keys_in, line_fault, line_keys, lines_of, or_later, IsOfLine, IsRead}
 use Rattle.trace_read.specs.Scanned.{fault_ahead, keys_ahead, HasNoFeed, IsEnded}
 use Rattle.trace_read.specs.declared.format.Format.{Format}
 use Rattle.trace_read.specs.LineFault.{LineFault}
@@ -64,6 +65,12 @@ module _ (format : Format) (n : ℕ) (old text new : List ℕ) where
   unfolding first_fault
   refused_here rest more e is h = ap (first_fault format n (length old)) is ∙ ap (λ o. or_later o (first_fault format (n + 1) (length old + length (line_keys format text)) more)) h
 
+  pub sound_here : (rest : List ℕ) → lines_of rest ≡ text ∷ [] → line_fault format n (length old) text ≡ None
+      → first_fault format n (length old) (lines_of rest) ≡ None
+  unfolding first_fault
+  sound_here rest is h = ap (first_fault format n (length old)) is
+      ∙ ap (λ o. or_later o (first_fault format (n + 1) (length old + length (line_keys format text)) [])) h
+
   pub goes_on : (rest : List ℕ) (more : List (List ℕ)) → lines_of rest ≡ text ∷ more → IsRead format n old text new
       → (first_fault format n (length old) (lines_of rest) ≡ first_fault format (n + 1) (length new) more)
       × (old ++ all_keys format (lines_of rest) ≡ new ++ all_keys format more)
@@ -101,7 +108,7 @@ ended_ahead old text new xs ys e is =
 
 -- what a scan comes to with the rest of the bytes, of which there is room for so many more
 pub record IsAhead (format : Format) (scan : Scan) (room : ℕ) (bytes rest : List ℕ) : Type 0 where
-  pub count : length bytes + room ≡ 1073741824 + length rest
+  pub count : length bytes + room ≡ MAX_TRACE_BYTES + length rest
   pub fault : fault_ahead scan rest ≡ fault_in format bytes
   pub keys : keys_ahead scan rest ≡ keys_in format bytes
 
@@ -119,7 +126,7 @@ of_after : (n before : ℕ) (r : Result (List ℕ) LineFault) (e : TraceFault) �
 of_after n before (Err line.BadNumber) e h = rw (← some_is h) tt
 of_after n before (Err line.MissingField) e h = rw (← some_is h) tt
 of_after n before (Err line.Range) e h = rw (← some_is h) tt
-of_after n before (Ok keys) e h = go (nat_lt most_accesses (before + length keys)) h
+of_after n before (Ok keys) e h = go (nat_lt MAX_ACCESSES (before + length keys)) h
   where
     go : (b : Bool) → cond b (Some (TooLong n)) None ≡ Some e → IsOfLine e
     go true h = rw (← some_is h) tt

@@ -1,7 +1,8 @@
 -- What the bytes of a trace file say: the accesses of their lines, or the first fault.
-use Rattle.std.specs.Prelude.{◌≡◌, ◌⊎◌, ℕ, ◌+◌, ◌^◌, ◌==◌, List, [], ◌∷◌, ◌++◌, Option, Some, None}
+use Rattle.std.specs.Prelude.{◌≡◌, ◌⊎◌, ℕ, ◌+◌, ◌==◌, List, [], ◌∷◌, ◌++◌, Option, Some, None}
 use Rattle.std.specs.Prelude.{Result, Ok, Err, length, nat_lt, if◌then◌else◌}
 use Rattle.std.specs.List.{slice_split}
+use Rattle.step_record.specs.declared.limits.TheConstants.{MAX_ACCESSES}
 use Rattle.trace_read.specs.Lines.{line_of}
 use Rattle.trace_read.specs.declared.format.Format.{Format}
 use Rattle.trace_read.specs.LineFault.{LineFault}
@@ -13,9 +14,6 @@ use Rattle.trace_read.specs.declared.fault.TraceFault.TheVariants.{OutOfMemory, 
 abbrev pub lines_of : List ℕ → List (List ℕ)
 lines_of = slice_split (λ b. b == 10)
 
-abbrev pub most_accesses : ℕ
-most_accesses = 2 ^ 24
-
 abbrev pub at_line : ℕ → LineFault → TraceFault
 at_line n line.BadNumber = BadNumber n
 at_line n line.MissingField = MissingField n
@@ -25,7 +23,7 @@ at_line n line.Range = Range n
 abbrev pub fault_after : ℕ → ℕ → Result (List ℕ) LineFault → Option TraceFault
 fault_after n before (Err e) = Some (at_line n e)
 fault_after n before (Ok keys) =
-    if nat_lt most_accesses (before + length keys) then Some (TooLong n) else None
+    if nat_lt MAX_ACCESSES (before + length keys) then Some (TooLong n) else None
 
 abbrev pub keys_or_none : Result (List ℕ) LineFault → List ℕ
 keys_or_none (Err e) = []
@@ -74,6 +72,11 @@ pub record IsRead (format : Format) (n : ℕ) (old line new : List ℕ) : Type 0
   pub sound : line_fault format n (length old) line ≡ None
   pub added : new ≡ old ++ line_keys format line
 
--- e is the fault of line n after the old accesses, or want of memory
+-- e is the fault of line n after the old accesses, or out of memory where the line has none
 abbrev pub IsRefused : Format → ℕ → List ℕ → List ℕ → TraceFault → Type 0
-IsRefused format n old line e = (e ≡ OutOfMemory) ⊎ (line_fault format n (length old) line ≡ Some e)
+IsRefused format n old line e = ((e ≡ OutOfMemory) × (line_fault format n (length old) line ≡ None))
+    ⊎ (line_fault format n (length old) line ≡ Some e)
+
+-- the same, or out of memory before the line was read
+abbrev pub IsStopped : Format → ℕ → List ℕ → List ℕ → TraceFault → Type 0
+IsStopped format n old line e = (e ≡ OutOfMemory) ⊎ (line_fault format n (length old) line ≡ Some e)

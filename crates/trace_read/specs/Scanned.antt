@@ -1,6 +1,7 @@
 -- What a scan of the lines comes to, whatever bytes still follow.
-use Rattle.std.specs.Prelude.{◌≡◌, ℕ, ◌+◌, ◌≤◌, ◌^◌, ◌==◌, false, List, [], ◌++◌, Option, length}
+use Rattle.std.specs.Prelude.{◌≡◌, ℕ, ◌+◌, ◌≤◌, ◌==◌, false, List, [], ◌++◌, Option, length}
 use Rattle.std.specs.List.{All, position_or_len}
+use Rattle.step_record.specs.declared.limits.TheConstants.{MAX_ACCESSES}
 use Rattle.trace_read.specs.Reading.{all_keys, first_fault, lines_of, IsRead}
 use Rattle.trace_read.specs.declared.fault.TraceFault.{TraceFault}
 use Rattle.trace_read.specs.declared.scan.Scan.{Scan}
@@ -22,7 +23,7 @@ keys_ahead s rest = s.keys.items ++ all_keys s.format (lines_of (s.cut.items ++ 
 
 -- what every scan keeps to
 pub record IsScan (s : Scan) : Type 0 where
-  pub few : length s.keys.items ≤ 2 ^ 24
+  pub few : length s.keys.items ≤ MAX_ACCESSES
   pub cut : HasNoFeed s.cut.items
 
 -- the scan that took a piece comes to what the piece and the rest came to before

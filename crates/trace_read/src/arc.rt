@@ -2,15 +2,15 @@
 ghost use Rattle.std.specs.Prelude.{◌≡◌, ◌≤◌, ◌+◌, ◌^◌, ◌⊎◌, ◌++◌, Some, None, OnOk, IfErr, length, vec_len};
 ghost use Rattle.std.specs.List.{position_or_len};
 ghost use Rattle.trace_read.specs.Lines.{is_gap, run_from, run_of, without_gap};
+ghost use Rattle.step_record.specs.declared.limits.TheConstants.{MAX_ACCESSES};
 ghost use Rattle.trace_read.specs.Reading.{fault_after, keys_or_none, IsRead, IsRefused};
 
 use super::TraceFault;
 use super::blanks::trimmed;
 use super::format::Format;
 use super::number::number;
-use super::trace::MOST_ACCESSES;
 use std::alloc::AllocError;
-use step_record::Key;
+use step_record::{Key, MAX_ACCESSES};
 
 fn is_gap_byte(byte: u8) -> bool
     ensures { result ≡ is_gap byte }
@@ -60,17 +60,18 @@ fn push_run(start: u64, count: u64, keys: &mut Vec<Key>) -> Result<(), AllocErro
 
 // Adds the accesses that a start and a count stand for.
 fn add_run(start: u64, count: u64, line: u64, keys: &mut Vec<Key>) -> Result<(), TraceFault>
-    requires { vec_len keys.old ≤ 2 ^ 24 }
+    requires { vec_len keys.old ≤ MAX_ACCESSES }
     ensures ok { OnOk result ((fault_after line (length keys.old.items) (run_of (Some start) (Some count)) ≡ None)
         × (keys.new.items ≡ keys.old.items ++ keys_or_none (run_of (Some start) (Some count)))) }
-    ensures within { OnOk result (vec_len keys.new ≤ 2 ^ 24) }
-    ensures err { IfErr result (λ e. (e ≡ TraceFault.OutOfMemory)
+    ensures within { OnOk result (vec_len keys.new ≤ MAX_ACCESSES) }
+    ensures err { IfErr result (λ e. ((e ≡ TraceFault.OutOfMemory)
+        × (fault_after line (length keys.old.items) (run_of (Some start) (Some count)) ≡ None))
         ⊎ (fault_after line (length keys.old.items) (run_of (Some start) (Some count)) ≡ Some e)) }
 {
     if u128::from(start) + u128::from(count) > 1 << 64 {
         return Err(TraceFault::Range { line });
     }
-    let room = MOST_ACCESSES - keys.len();
+    let room = MAX_ACCESSES - keys.len();
     if count > room as u64 {
         return Err(TraceFault::TooLong { line });
     }
@@ -80,9 +81,9 @@ fn add_run(start: u64, count: u64, line: u64, keys: &mut Vec<Key>) -> Result<(),
 
 /// Adds the accesses of a line to those of the lines before it.
 pub fn add_arc(text: &[u8], line: u64, keys: &mut Vec<Key>) -> Result<(), TraceFault>
-    requires { vec_len keys.old ≤ 2 ^ 24 }
+    requires { vec_len keys.old ≤ MAX_ACCESSES }
     ensures ok { OnOk result (IsRead Format.Arc line keys.old.items text.now keys.new.items) }
-    ensures within { OnOk result (vec_len keys.new ≤ 2 ^ 24) }
+    ensures within { OnOk result (vec_len keys.new ≤ MAX_ACCESSES) }
     ensures err { IfErr result (IsRefused Format.Arc line keys.old.items text.now) }
 {
     let text = trimmed(text);

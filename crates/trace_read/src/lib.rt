@@ -19,12 +19,11 @@ mod pieces;
 mod plain;
 mod reader;
 mod scan;
-mod trace;
 
 pub use fault::TraceFault;
 pub use format::Format;
 pub use reader::read_trace;
-pub use trace::Trace;
+pub use step_record::Trace;
 
 #[cfg(test)]
 mod tests;

@@ -1,15 +1,15 @@
 //! A line of the LIRS format.
-ghost use Rattle.std.specs.Prelude.{◌≡◌, ◌≤◌, ◌^◌, ℕ, List, [], ◌∷◌, Ok, OnOk, IfErr, vec_len};
+ghost use Rattle.std.specs.Prelude.{◌≡◌, ◌≤◌, ℕ, List, [], ◌∷◌, Ok, OnOk, IfErr, vec_len};
 ghost use Rattle.std.specs.Str.{bytes_eq};
 ghost use Rattle.trace_read.specs.Lines.{line_of};
+ghost use Rattle.step_record.specs.declared.limits.TheConstants.{MAX_ACCESSES};
 ghost use Rattle.trace_read.specs.Reading.{IsRead, IsRefused};
 
 use super::TraceFault;
 use super::blanks::trimmed;
 use super::format::Format;
 use super::number::number;
-use super::trace::MOST_ACCESSES;
-use step_record::Key;
+use step_record::{Key, MAX_ACCESSES};
 
 fn is_lone_star(text: &[u8]) -> bool
     ensures { result ≡ bytes_eq text.now (42 ∷ []) }
@@ -19,9 +19,9 @@ fn is_lone_star(text: &[u8]) -> bool
 
 /// Adds the access of a line to those of the lines before it.
 pub fn add_lirs(text: &[u8], line: u64, keys: &mut Vec<Key>) -> Result<(), TraceFault>
-    requires { vec_len keys.old ≤ 2 ^ 24 }
+    requires { vec_len keys.old ≤ MAX_ACCESSES }
     ensures ok { OnOk result (IsRead Format.Lirs line keys.old.items text.now keys.new.items) }
-    ensures within { OnOk result (vec_len keys.new ≤ 2 ^ 24) }
+    ensures within { OnOk result (vec_len keys.new ≤ MAX_ACCESSES) }
     ensures err { IfErr result (IsRefused Format.Lirs line keys.old.items text.now) }
 {
     let text = trimmed(text);
@@ -36,14 +36,14 @@ pub fn add_lirs(text: &[u8], line: u64, keys: &mut Vec<Key>) -> Result<(), Trace
 
 /// Adds the access of a line that names one key to those of the lines before it.
 pub fn add_key(key: Key, line: u64, keys: &mut Vec<Key>) -> Result<(), TraceFault>
-    requires { vec_len keys.old ≤ 2 ^ 24 }
+    requires { vec_len keys.old ≤ MAX_ACCESSES }
     ensures ok { (text : List ℕ) → line_of Format.Lirs text ≡ Ok (key ∷ []) →
         OnOk result (IsRead Format.Lirs line keys.old.items text keys.new.items) }
-    ensures within { OnOk result (vec_len keys.new ≤ 2 ^ 24) }
+    ensures within { OnOk result (vec_len keys.new ≤ MAX_ACCESSES) }
     ensures err { (text : List ℕ) → line_of Format.Lirs text ≡ Ok (key ∷ []) →
         IfErr result (IsRefused Format.Lirs line keys.old.items text) }
 {
-    if keys.len() == MOST_ACCESSES {
+    if keys.len() == MAX_ACCESSES {
         return Err(TraceFault::TooLong { line });
     }
     keys.push(key)?;

@@ -1,13 +1,13 @@
-//! The pieces that a trace file comes in, up to its most bytes.
-ghost use Rattle.std.specs.Prelude.{◌≡◌, ◌≤◌, ◌<◌, ◌+◌, ◌^◌, ◌⊎◌, Err, IfOk, IfErr, OnOk, IfSome, length, take};
-ghost use Rattle.std.specs.Io.KnownBytes.{Consumes, IsAtEnd};
+//! The pieces that a trace file comes in, up to its largest size.
+ghost use Rattle.std.specs.Prelude.{◌≡◌, ◌≢◌, ◌≤◌, ◌<◌, ◌+◌, ◌^◌, ◌⊎◌, Err, IfOk, IfErr, OnOk, IfSome, length, take};
+ghost use Rattle.std.specs.Io.KnownBytes.{Consumes, IsAtEnd, Keeps};
+ghost use Rattle.step_record.specs.declared.limits.TheConstants.{MAX_TRACE_BYTES};
+ghost use Rattle.trace_read.specs.Since.{ReadAtMost};
 
 use super::TraceFault;
 use std::io::Read;
+use step_record::MAX_TRACE_BYTES;
 use streams::{Patience, read_some};
-
-// The most bytes that a trace file has.
-const MOST_BYTES: usize = 1 << 30;
 
 /// What a reading may still take: interruptions, and bytes.
 #[derive(Debug, Drop)]
@@ -19,11 +19,11 @@ pub struct Pieces {
 impl Pieces {
     /// The room for a whole file.
     pub fn new() -> Pieces
-        ensures { result.room ≡ 2 ^ 30 }
+        ensures { result.room ≡ MAX_TRACE_BYTES }
     {
         Pieces {
             patience: Patience::new(),
-            room: MOST_BYTES,
+            room: MAX_TRACE_BYTES,
         }
     }
 
@@ -39,6 +39,8 @@ impl Pieces {
             n ≡ 0 → 0 < length chunk.new → IsAtEnd (R.remaining reader.new)) }
         ensures large { result ≡ Err TraceFault.TooLarge
             → IfSome (R.remaining reader.old) (λ xs. self.old.room < length xs) }
+        ensures failed { result ≡ Err TraceFault.Read
+            → Keeps (R.remaining reader.old) (R.remaining reader.new) }
         ensures err { IfErr result (λ e. (e ≡ TraceFault.TooLarge) ⊎ (e ≡ TraceFault.Read)) }
     {
         let count = read_some(reader, chunk, &mut self.patience)?;
@@ -56,6 +58,9 @@ impl Pieces {
             (IfSome (R.remaining reader.old) (λ xs. length xs ≤ self.old.room)) }
         ensures large { result ≡ Err TraceFault.TooLarge
             → IfSome (R.remaining reader.old) (λ xs. self.old.room < length xs) }
+        ensures end { OnOk result (IsAtEnd (R.remaining reader.new)) }
+        ensures passed { result ≢ Err TraceFault.TooLarge
+            → ReadAtMost self.old.room (R.remaining reader.old) (R.remaining reader.new) }
         ensures err { IfErr result (λ e. (e ≡ TraceFault.TooLarge) ⊎ (e ≡ TraceFault.Read)) }
     {
         'pieces: loop {

@@ -1,7 +1,8 @@
 //! The lines of a trace file, one after another, as its bytes come in.
 ghost use Rattle.std.specs.Prelude.{◌≡◌, ◌≤◌, ◌<◌, ◌+◌, ◌-◌, ◌^◌, ◌∷◌, ◌++◌, ◌⊎◌, ℕ, List, [], Some, None, Ok, OnOk, IfOk, IfErr, IfSome, MatchOption, length, take, vec_len};
 ghost use Rattle.trace_read.specs.Lines.{line_of};
-ghost use Rattle.trace_read.specs.Reading.{fault_in, keys_in, IsOfLine, IsRead, IsRefused};
+ghost use Rattle.step_record.specs.declared.limits.TheConstants.{MAX_ACCESSES};
+ghost use Rattle.trace_read.specs.Reading.{fault_in, keys_in, IsOfLine, IsRead, IsRefused, IsStopped};
 ghost use Rattle.trace_read.specs.Scanned.{fault_ahead, feed_in, keys_ahead, IsEnded, IsScan, IsTaken};
 
 use super::arc::add_arc;
@@ -14,9 +15,9 @@ use step_record::Key;
 
 // Adds the accesses of a line to those of the lines before it.
 fn add_line(format: Format, text: &[u8], line: u64, keys: &mut Vec<Key>) -> Result<(), TraceFault>
-    requires { vec_len keys.old ≤ 2 ^ 24 }
+    requires { vec_len keys.old ≤ MAX_ACCESSES }
     ensures ok { OnOk result (IsRead format line keys.old.items text.now keys.new.items) }
-    ensures within { OnOk result (vec_len keys.new ≤ 2 ^ 24) }
+    ensures within { OnOk result (vec_len keys.new ≤ MAX_ACCESSES) }
     ensures err { IfErr result (IsRefused format line keys.old.items text.now) }
 {
     match format {
@@ -100,7 +101,7 @@ impl Scan {
         requires { IsScan self }
         ensures ok { IfOk result (λ t.
             (fault_ahead self [] ≡ None) × (t ≡ keys_ahead self [])) }
-        ensures err { IfErr result (λ e. (e ≡ TraceFault.OutOfMemory)
+        ensures err { IfErr result (λ e. ((e ≡ TraceFault.OutOfMemory) × (fault_ahead self [] ≡ None))
             ⊎ (IsOfLine e × (fault_ahead self [] ≡ Some e))) }
     {
         let Scan {
@@ -122,7 +123,8 @@ impl Scan {
             ((feed_in bytes.now ≡ length bytes.now) × (self.new ≡ self.old))
             (λ k. (k ≡ feed_in bytes.now) × (k < length bytes.now) × IsEnded self.old (take k bytes.now) self.new)) }
         ensures err { IfErr result (λ e. (feed_in bytes.now < length bytes.now)
-            × IsRefused self.old.format self.old.line self.old.keys.items (self.old.cut.items ++ take (feed_in bytes.now) bytes.now) e) }
+            × IsStopped self.old.format self.old.line self.old.keys.items
+            (self.old.cut.items ++ take (feed_in bytes.now) bytes.now) e) }
     {
         if let Some(plain) = self.plain_line(bytes) {
             add_key(plain.key, self.line, &mut self.keys)?;
@@ -157,8 +159,11 @@ impl Scan {
         requires line { self.old.line < 2 ^ 64 - 1 }
         ensures scan { OnOk result (IsScan self.new) }
         ensures ended { OnOk result (IsEnded self.old text.now self.new) }
-        ensures err { IfErr result (IsRefused self.old.format self.old.line self.old.keys.items
+        ensures err { IfErr result (IsStopped self.old.format self.old.line self.old.keys.items
             (self.old.cut.items ++ text.now)) }
+        // A line that no piece cut takes no memory but for its accesses.
+        ensures whole { self.old.cut.items ≡ [] → IfErr result (IsRefused self.old.format
+            self.old.line self.old.keys.items text.now) }
     {
         if self.cut.is_empty() {
             add_line(self.format, text, self.line, &mut self.keys)?;

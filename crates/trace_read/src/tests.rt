@@ -2,7 +2,6 @@ use super::{Format, Trace, TraceFault, read_trace};
 use std::alloc::Global;
 use std::io::{self, Error, ErrorKind, Read};
 use std::test::Fail;
-use streams::INTERRUPTIONS;
 
 fn traced(alloc: Global, format: Format, text: &str) -> Result<Trace, TraceFault> {
     read_trace(alloc, &mut text.as_bytes(), format)
@@ -184,12 +183,11 @@ fn a_failing_read_comes_before_a_faulty_line(rt: HostRuntime) {
 #[test]
 fn interruptions_of_all_pieces_count_together(rt: HostRuntime) {
     // Two pieces and the end, each after as many interruptions; or a faulty line and the end.
-    let few = INTERRUPTIONS / 3;
     for (text, interruptions, told) in [
-        ("12", few, None),
-        ("12", few + 1, Some(TraceFault::Read)),
-        ("x\n", few, Some(TraceFault::BadNumber { line: 1 })),
-        ("x\n", few + 1, Some(TraceFault::Read)),
+        ("12", 333_333, None),
+        ("12", 333_334, Some(TraceFault::Read)),
+        ("x\n", 333_333, Some(TraceFault::BadNumber { line: 1 })),
+        ("x\n", 333_334, Some(TraceFault::Read)),
     ] {
         let mut pieces = Pieces {
             interruptions,
@@ -197,5 +195,38 @@ fn interruptions_of_all_pieces_count_together(rt: HostRuntime) {
         };
         let fault = read_trace(rt.alloc(), &mut pieces, Format::Lirs).err();
         assert_eq!(rt; fault, told, "of {text:?} with {interruptions}");
+    }
+}
+
+/// Gives a faulty line, and then as many bytes as are asked for, of which it copies none.
+#[derive(Drop)]
+struct Unread {
+    begun: bool,
+    left: usize,
+}
+
+impl Read for Unread {
+    fn read(&mut self, buf: &mut [u8]) -> io::Result<usize> {
+        if !self.begun && buf.len() >= 2 && self.left >= 2 {
+            self.begun = true;
+            buf[..2].copy_from_slice(b"x\n");
+            self.left -= 2;
+            return Ok(2);
+        }
+        let count = self.left.min(buf.len());
+        self.left -= count;
+        Ok(count)
+    }
+}
+
+#[test]
+fn a_file_that_is_too_large_is_that_before_its_faulty_line(rt: HostRuntime) {
+    for (left, told) in [
+        (1_073_741_824, TraceFault::BadNumber { line: 1 }),
+        (1_073_741_825, TraceFault::TooLarge),
+    ] {
+        let mut file = Unread { begun: false, left };
+        let fault = read_trace(rt.alloc(), &mut file, Format::Lirs).err();
+        assert_eq!(rt; fault, Some(told), "of {left} bytes");
     }
 }

@@ -1,5 +1,7 @@
-use Rattle.std.proofs.Common.{◌≡◌, ℕ, ◌-◌, ◌*◌, true, false, length, arith, ap}
-use Rattle.clairvoyant.proofs.Arms.{tested, hit-tied, kept-tied, kept-outcome, kept-undone, rejected-tied, rejected-outcome, rejected-back, evicted-tied, evicted-outcome, evicted-ranked, evicted-undone}
+use Rattle.std.proofs.Common.{◌≡◌, ℕ, ◌-◌, ◌*◌, true, false, length, arith, ap, sym, ◌∙◌}
+use Rattle.clairvoyant.specs.declared.use_record.UseRecord.TheVariants.{Evicted, Rejected}
+use Rattle.clairvoyant.proofs.Records.{record-hit, record-kept}
+use Rattle.clairvoyant.proofs.Arms.{tested, hit-tied, kept-tied, rejected-tied, rejected-record, evicted-tied, evicted-record}
 use Rattle.clairvoyant.proofs.clairvoyant.serve.Goals as goal
 
 own : (n m i : ℕ) → n ≡ m → 2 * n - 1 - i ≡ 2 * m - 1 - i
@@ -11,23 +13,23 @@ returns-then-has-clause-tied c =
     let hit = tested c.args.capacity c.args.uses.now c.args.place c.requires.place c.args.ranks.now c.requires.tied true _ o c.if-has.ensures in
     hit-tied c.args.capacity c.args.uses.now c.args.place c.requires.place c.args.ranks.now c.requires.tied hit c.take.new.self c.put.new.self _ _ o c.rank-rank.ensures.rank c.take.ensures.size c.take.ensures.takes c.put.ensures.size c.put.ensures.puts
 
+pub returns-then-has-clause-record : goal.returns-then-has-clause-record
+returns-then-has-clause-record c =
+    let o = own c.len.result (length c.args.uses.now) c.args.place c.len.ensures.len in
+    let hit = tested c.args.capacity c.args.uses.now c.args.place c.requires.place c.args.ranks.now c.requires.tied true _ o c.if-has.ensures in
+    sym (record-hit c.args.capacity c.args.uses.now c.args.place hit)
+
 pub returns-then-held-capacity-clause-tied : goal.returns-then-held-capacity-clause-tied
 returns-then-held-capacity-clause-tied c =
     let o = own c.len.result (length c.args.uses.now) c.args.place c.len.ensures.len in
     let miss = tested c.args.capacity c.args.uses.now c.args.place c.requires.place c.args.ranks.now c.requires.tied false _ o c.if-has.ensures in
     kept-tied c.args.capacity c.args.uses.now c.args.place c.requires.place c.args.ranks.now c.requires.tied miss (omega (arith, c.requires.held)) c.put-then-held-capacity.new.self _ c.rank-rank.ensures.rank c.put-then-held-capacity.ensures.size c.put-then-held-capacity.ensures.puts
 
-pub returns-then-held-capacity-clause-outcome : goal.returns-then-held-capacity-clause-outcome
-returns-then-held-capacity-clause-outcome c =
+pub returns-then-held-capacity-clause-record : goal.returns-then-held-capacity-clause-record
+returns-then-held-capacity-clause-record c =
     let o = own c.len.result (length c.args.uses.now) c.args.place c.len.ensures.len in
     let miss = tested c.args.capacity c.args.uses.now c.args.place c.requires.place c.args.ranks.now c.requires.tied false _ o c.if-has.ensures in
-    kept-outcome c.args.capacity c.args.uses.now c.args.place c.requires.place c.args.ranks.now c.requires.tied miss (omega (arith, c.requires.held))
-
-pub returns-then-held-capacity-clause-undone : goal.returns-then-held-capacity-clause-undone
-returns-then-held-capacity-clause-undone c =
-    let o = own c.len.result (length c.args.uses.now) c.args.place c.len.ensures.len in
-    let miss = tested c.args.capacity c.args.uses.now c.args.place c.requires.place c.args.ranks.now c.requires.tied false _ o c.if-has.ensures in
-    kept-undone c.args.capacity c.args.uses.now c.args.place c.requires.place c.args.ranks.now c.requires.tied miss (omega (arith, c.requires.held)) c.key-key.result c.key-key.ensures
+    sym (record-kept c.args.capacity c.args.uses.now c.args.place miss (omega (arith, c.requires.held)))
 
 pub returns-in-Some-clause-tied : goal.returns-in-Some-clause-tied
 returns-in-Some-clause-tied c =
@@ -36,26 +38,13 @@ returns-in-Some-clause-tied c =
     let e = c.in-Some.ensures in
     evicted-tied c.args.capacity c.args.uses.now c.args.place c.requires.place c.args.ranks.now c.requires.tied miss (omega (arith, c.requires.held)) c.rank-rank.result c.rank-rank.ensures.rank c.in-Some.least (omega (arith, e.0, c.rank-rank.ensures.within)) e.0 e.1 e.2 c.take-in-Some.new.self c.put-in-Some.new.self c.take-in-Some.ensures.size c.take-in-Some.ensures.takes c.put-in-Some.ensures.size c.put-in-Some.ensures.puts
 
-pub returns-in-Some-clause-outcome : goal.returns-in-Some-clause-outcome
-returns-in-Some-clause-outcome c =
+pub returns-in-Some-clause-record : goal.returns-in-Some-clause-record
+returns-in-Some-clause-record c =
     let o = own c.len.result (length c.args.uses.now) c.args.place c.len.ensures.len in
     let miss = tested c.args.capacity c.args.uses.now c.args.place c.requires.place c.args.ranks.now c.requires.tied false _ o c.if-has.ensures in
     let e = c.in-Some.ensures in
-    evicted-outcome c.args.capacity c.args.uses.now c.args.place c.requires.place c.args.ranks.now c.requires.tied miss (omega (arith, c.requires.held)) c.rank-rank.result c.rank-rank.ensures.rank c.in-Some.least (omega (arith, e.0, c.rank-rank.ensures.within)) e.0 e.1 e.2 c.key-key.result c.key_at.result c.key-key.ensures c.key_at.ensures
-
-pub returns-in-Some-clause-ranked : goal.returns-in-Some-clause-ranked
-returns-in-Some-clause-ranked c =
-    let o = own c.len.result (length c.args.uses.now) c.args.place c.len.ensures.len in
-    let miss = tested c.args.capacity c.args.uses.now c.args.place c.requires.place c.args.ranks.now c.requires.tied false _ o c.if-has.ensures in
-    let e = c.in-Some.ensures in
-    evicted-ranked c.args.capacity c.args.uses.now c.args.place c.requires.place c.args.ranks.now c.requires.tied miss (omega (arith, c.requires.held)) c.rank-rank.result c.rank-rank.ensures.rank c.in-Some.least (omega (arith, e.0, c.rank-rank.ensures.within)) e.0 e.1 e.2 c.key_at.result c.key_at.ensures
-
-pub returns-in-Some-clause-undone : goal.returns-in-Some-clause-undone
-returns-in-Some-clause-undone c =
-    let o = own c.len.result (length c.args.uses.now) c.args.place c.len.ensures.len in
-    let miss = tested c.args.capacity c.args.uses.now c.args.place c.requires.place c.args.ranks.now c.requires.tied false _ o c.if-has.ensures in
-    let e = c.in-Some.ensures in
-    evicted-undone c.args.capacity c.args.uses.now c.args.place c.requires.place c.args.ranks.now c.requires.tied miss (omega (arith, c.requires.held)) c.rank-rank.result c.rank-rank.ensures.rank c.in-Some.least (omega (arith, e.0, c.rank-rank.ensures.within)) e.0 e.1 e.2 c.key-key.result c.key_at.result c.key-key.ensures c.key_at.ensures
+    ap (λ k. Evicted record { key = k; rank = c.in-Some.least }) c.key_at.ensures
+    ∙ sym (evicted-record c.args.capacity c.args.uses.now c.args.place c.requires.place c.args.ranks.now c.requires.tied miss (omega (arith, c.requires.held)) c.rank-rank.result c.rank-rank.ensures.rank c.in-Some.least (omega (arith, e.0, c.rank-rank.ensures.within)) e.0 e.1 e.2)
 
 pub returns-in-None-clause-tied : goal.returns-in-None-clause-tied
 returns-in-None-clause-tied c =
@@ -63,14 +52,8 @@ returns-in-None-clause-tied c =
     let miss = tested c.args.capacity c.args.uses.now c.args.place c.requires.place c.args.ranks.now c.requires.tied false _ o c.if-has.ensures in
     rejected-tied c.args.capacity c.args.uses.now c.args.place c.requires.place c.args.ranks.now c.requires.tied miss (omega (arith, c.requires.held)) c.rank-rank.result c.rank-rank.ensures.rank c.in-None.ensures
 
-pub returns-in-None-clause-outcome : goal.returns-in-None-clause-outcome
-returns-in-None-clause-outcome c =
+pub returns-in-None-clause-record : goal.returns-in-None-clause-record
+returns-in-None-clause-record c =
     let o = own c.len.result (length c.args.uses.now) c.args.place c.len.ensures.len in
     let miss = tested c.args.capacity c.args.uses.now c.args.place c.requires.place c.args.ranks.now c.requires.tied false _ o c.if-has.ensures in
-    rejected-outcome c.args.capacity c.args.uses.now c.args.place c.requires.place c.args.ranks.now c.requires.tied miss (omega (arith, c.requires.held)) c.rank-rank.result c.rank-rank.ensures.rank c.in-None.ensures c.key-key.result c.key-key.ensures
-
-pub returns-in-None-clause-undone : goal.returns-in-None-clause-undone
-returns-in-None-clause-undone c =
-    let o = own c.len.result (length c.args.uses.now) c.args.place c.len.ensures.len in
-    let miss = tested c.args.capacity c.args.uses.now c.args.place c.requires.place c.args.ranks.now c.requires.tied false _ o c.if-has.ensures in
-    rejected-back c.args.capacity c.args.uses.now c.args.place c.requires.place c.args.ranks.now c.requires.tied miss (omega (arith, c.requires.held)) c.rank-rank.result c.rank-rank.ensures.rank c.in-None.ensures c.key-key.result _
+    ap Rejected c.key.ensures ∙ sym (rejected-record c.args.capacity c.args.uses.now c.args.place c.requires.place c.args.ranks.now c.requires.tied miss (omega (arith, c.requires.held)) c.rank-rank.result c.rank-rank.ensures.rank c.in-None.ensures)

@@ -2,7 +2,7 @@ use Rattle.std.proofs.Common.{ℕ, ◌-◌, ◌<◌, cond}
 use Rattle.sketch.specs.Counters.{counter_at}
 use Rattle.sketch.specs.TouchRecord.{rose}
 use Rattle.sketch.specs.Columns.{column, column_below}
-use Rattle.sketch.proofs.Places.{row_more, row_same}
+use Rattle.sketch.proofs.RowLists.{row_more, row_same}
 use Rattle.sketch.proofs.rows.lower_rows.Goals as goal
 
 pub lower-requires-clause-some : goal.lower-requires-clause-some

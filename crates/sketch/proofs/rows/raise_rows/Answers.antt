@@ -1,7 +1,7 @@
 use Rattle.std.proofs.Common.{ℕ, ◌+◌, ◌*◌, ◌<◌, min, get_or, length, arith, ◌∙◌, below_more, get_or-set_same, get_or-set_other, ◌≢◌, length-set}
 use Rattle.std.proofs.lemmas.List.FromFn.{fill_by_all}
 use Rattle.sketch.specs.Counters.{counter_at}
-use Rattle.sketch.proofs.Places.{row_more, row_same}
+use Rattle.sketch.proofs.RowLists.{row_more, row_same}
 use Rattle.sketch.proofs.rows.raise_rows.Goals as goal
 
 pub loop-row-preserved : goal.loop-row-preserved

@@ -1,4 +1,6 @@
-use Rattle.std.proofs.Common.{◌∙◌, sym, arith}
+use Rattle.std.proofs.Common.{◌∙◌, sym, ap, arith}
+use Rattle.clairvoyant.specs.UseRecord.{outcome_of}
+use Rattle.clairvoyant.proofs.Records.{outcome-is}
 use Rattle.clairvoyant.proofs.Reached.{reached-held}
 use Rattle.clairvoyant.proofs.Applying.{next-keeping, next-accepted, next-stands, next-undone, next-fits}
 use Rattle.clairvoyant.proofs.clairvoyant.ClairvoyantEngine.apply.Goals as goal
@@ -12,24 +14,24 @@ serve-record-requires-clause-held c = let s = c.self.inside in omega (arith, rea
 pub invariant_of-self : goal.invariant_of-self
 invariant_of-self c =
     let s = c.self.inside in
-    next-keeping s.capacity s.uses s.stats c.count.new.self c.outcome-outcome.result (omega (arith, c.if-place-len.false, c.len.ensures.len)) c.self.invariant.reached (c.outcome-outcome.ensures ∙ c.serve-record.ensures.outcome) c.count.ensures c.serve-record.new.ranks c.serve-record.ensures.tied
+    next-keeping s.capacity s.uses s.stats c.count.new.self c.outcome-outcome.result (omega (arith, c.if-place-len.false, c.len.ensures.len)) c.self.invariant.reached (c.outcome-outcome.ensures ∙ ap outcome_of c.serve-record.ensures.record ∙ outcome-is s.capacity s.uses s.stats.accesses) c.count.ensures c.serve-record.new.ranks c.serve-record.ensures.tied
 
 pub returns-clause-accepted : goal.returns-clause-accepted
 returns-clause-accepted c =
     let s = c.self.inside in
-    next-accepted s.capacity s.uses s.stats c.count.new.self c.outcome-outcome.result (omega (arith, c.if-place-len.false, c.len.ensures.len)) c.self.invariant.reached (c.outcome-outcome.ensures ∙ c.serve-record.ensures.outcome) c.count.ensures c.args.step.now c.args.self.now c.self.view_is (sym c.if-key-step.false ∙ c.key.ensures)
+    next-accepted s.capacity s.uses s.stats c.count.new.self c.outcome-outcome.result (omega (arith, c.if-place-len.false, c.len.ensures.len)) c.self.invariant.reached (c.outcome-outcome.ensures ∙ ap outcome_of c.serve-record.ensures.record ∙ outcome-is s.capacity s.uses s.stats.accesses) c.count.ensures c.args.step.now c.args.self.now c.self.view_is (sym c.if-key-step.false ∙ c.key.ensures)
 
 pub returns-clause-fits : goal.returns-clause-fits
 returns-clause-fits c =
     let s = c.self.inside in
-    next-fits s.capacity s.uses s.stats c.count.new.self c.outcome-outcome.result (omega (arith, c.if-place-len.false, c.len.ensures.len)) c.self.invariant.reached (c.outcome-outcome.ensures ∙ c.serve-record.ensures.outcome) c.count.ensures c.serve-record.result c.outcome-outcome.ensures c.serve-record.ensures.undone c.serve-record.ensures.key c.serve-record.ensures.former c.serve-record.ensures.ranked
+    next-fits s.capacity s.uses s.stats c.count.new.self c.outcome-outcome.result (omega (arith, c.if-place-len.false, c.len.ensures.len)) c.self.invariant.reached (c.outcome-outcome.ensures ∙ ap outcome_of c.serve-record.ensures.record ∙ outcome-is s.capacity s.uses s.stats.accesses) c.count.ensures c.serve-record.result c.serve-record.ensures.record
 
 pub returns-clause-undone : goal.returns-clause-undone
 returns-clause-undone c =
     let s = c.self.inside in
-    next-undone s.capacity s.uses s.stats c.count.new.self c.outcome-outcome.result (omega (arith, c.if-place-len.false, c.len.ensures.len)) c.self.invariant.reached (c.outcome-outcome.ensures ∙ c.serve-record.ensures.outcome) c.count.ensures c.serve-record.result c.outcome-outcome.ensures c.serve-record.ensures.undone ∙ c.self.view_is
+    next-undone s.capacity s.uses s.stats c.count.new.self c.outcome-outcome.result (omega (arith, c.if-place-len.false, c.len.ensures.len)) c.self.invariant.reached (c.outcome-outcome.ensures ∙ ap outcome_of c.serve-record.ensures.record ∙ outcome-is s.capacity s.uses s.stats.accesses) c.count.ensures c.serve-record.result c.serve-record.ensures.record ∙ c.self.view_is
 
 pub returns-clause-stands : goal.returns-clause-stands
 returns-clause-stands c =
     let s = c.self.inside in
-    next-stands s.capacity s.uses s.stats c.count.new.self c.outcome-outcome.result (omega (arith, c.if-place-len.false, c.len.ensures.len)) c.self.invariant.reached (c.outcome-outcome.ensures ∙ c.serve-record.ensures.outcome) c.count.ensures c.args.self.now c.self.view_is
+    next-stands s.capacity s.uses s.stats c.count.new.self c.outcome-outcome.result (omega (arith, c.if-place-len.false, c.len.ensures.len)) c.self.invariant.reached (c.outcome-outcome.ensures ∙ ap outcome_of c.serve-record.ensures.record ∙ outcome-is s.capacity s.uses s.stats.accesses) c.count.ensures c.args.self.now c.self.view_is

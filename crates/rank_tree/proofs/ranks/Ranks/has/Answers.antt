@@ -1,14 +1,14 @@
 use Rattle.std.proofs.Common.{arith, ◌∙◌}
-use Rattle.rank_tree.specs.Bits.{held_in}
+use Rattle.bits_and_lists.specs.Bits.{bit_of}
 use Rattle.rank_tree.proofs.Shown.{view-long, view-holds}
 use Rattle.rank_tree.proofs.ranks.Ranks.has.Goals as goal
 
 pub has-requires : goal.has-requires
 has-requires c =
     let s = c.self.inside in
-    omega (arith, view-long s.size (held_in s.tree.words.items) c.args.self.now c.self.view_is, c.requires, c.self.invariant)
+    omega (arith, view-long s.size (bit_of s.tree.words.items) c.args.self.now c.self.view_is, c.requires, c.self.invariant)
 
 pub returns : goal.returns
 returns c =
     let s = c.self.inside in
-    c.has.ensures ∙ view-holds s.size (held_in s.tree.words.items) c.args.self.now c.self.view_is c.args.rank c.requires
+    c.has.ensures ∙ view-holds s.size (bit_of s.tree.words.items) c.args.self.now c.self.view_is c.args.rank c.requires

@@ -1,12 +1,15 @@
-use Rattle.std.proofs.Common.{◌≡◌, arith, ◌∙◌, ◌*◌, ◌<◌, length}
+use Rattle.std.proofs.Common.{◌≡◌, arith, ◌∙◌, ◌*◌, ◌<◌, Bool, List, ap, length}
 use Rattle.std.specs.Vec.{with_items}
 use Rattle.std.proofs.lemmas.List.{with_items_is}
 use Rattle.sketch.specs.Laws.{lost_word}
-use Rattle.sketch.specs.Places.{by_place}
+use Rattle.bits_and_lists.specs.Places.{by_place}
 use Rattle.sketch.specs.Sketch.{IsTable}
-use Rattle.sketch.proofs.Places.{length-by_place}
+use Rattle.bits_and_lists.proofs.Places.{length-by_place}
 use Rattle.sketch.proofs.Halves.{halve_after, lost_is, table_is}
 use Rattle.sketch.proofs.Undoing.{unhalved_is, halve_fits}
+use Rattle.bits_and_lists.specs.Bits.{bits_of}
+use Rattle.sketch.specs.declared.halve_record.HalveRecord.{HalveRecord}
+use Rattle.sketch.specs.HalveRecord.{halve_record_of}
 use Rattle.sketch.proofs.sketch.Sketch.halve.Goals as goal
 
 pub returns-clause-after : goal.returns-clause-after
@@ -24,15 +27,16 @@ returns-clause-record_is c =
     let few : 4 * length c.deref_mut-2.result.now ≡ length c.self.inside.words.items = omega (arith, c.deref_mut-2.ensures.len, c.in_ok-lost.ensures.len, c.len.ensures, c.self.inside.words.ok.0, c.self.invariant.2, c.self.invariant.3) in
     let lost : (with_items c.in_ok-lost.lost c.halve_words.new.lost).items ≡ by_place (length c.deref_mut-2.result.now) (lost_word c.self.inside.words.items) =
     with_items_is c.in_ok-lost.lost c.halve_words.new.lost m ∙ rw c.deref_mut.ensures.value at c.halve_words.ensures.lost in
-    let count = length-by_place (length c.deref_mut-2.result.now) (lost_word c.self.inside.words.items) in
-    rw (← c.self.view_is, lost, count) (lost_is c.self.inside.width c.self.inside.spread some c.self.inside.words.items c.self.invariant.2 (length c.deref_mut-2.result.now) few)
+    let is : ◌≡◌ {A = HalveRecord} record { lost = bits_of (by_place (length c.deref_mut-2.result.now) (lost_word c.self.inside.words.items)) } (halve_record_of c.args.self.now) =
+    rw (← c.self.view_is) (lost_is c.self.inside.width c.self.inside.spread some c.self.inside.words.items c.self.invariant.2 (length c.deref_mut-2.result.now) few) in
+    ap (λ (bs : List Bool). let r : HalveRecord = record { lost = bs } in r) (c.of_words.ensures ∙ ap bits_of lost) ∙ is
 
 pub returns-clause-fits : goal.returns-clause-fits
 returns-clause-fits c =
-    let is : IsTable c.args.self.now = rw (← c.self.view_is) (table_is c.self.inside.width c.self.inside.spread c.self.inside.words.items c.self.invariant.0) in
+    let is : IsTable c.args.self.now = rw (← c.self.view_is) (table_is c.self.inside.width c.self.inside.spread c.self.inside.words.items c.self.invariant.0 c.self.invariant.3) in
     rw (returns-clause-record_is c, returns-clause-after c) (halve_fits c.args.self.now is)
 
 pub returns-clause-undone : goal.returns-clause-undone
 returns-clause-undone c =
-    let is : IsTable c.args.self.now = rw (← c.self.view_is) (table_is c.self.inside.width c.self.inside.spread c.self.inside.words.items c.self.invariant.0) in
+    let is : IsTable c.args.self.now = rw (← c.self.view_is) (table_is c.self.inside.width c.self.inside.spread c.self.inside.words.items c.self.invariant.0 c.self.invariant.3) in
     unhalved_is c.args.self.now is _ _ (returns-clause-record_is c) (returns-clause-after c)

@@ -5,4 +5,4 @@ use Rattle.sketch.proofs.sketch.Sketch.least.Goals as goal
 pub returns-in-Some-clause-small : goal.returns-in-Some-clause-small
 returns-in-Some-clause-small c =
     let kept = rw c.in-Some.is at c.self.invariant.5 in
-    rw kept (least_small _ (table_is c.self.inside.width c.self.inside.spread c.self.inside.words.items c.self.invariant.0) c.self.inside.last)
+    rw kept (least_small _ (table_is c.self.inside.width c.self.inside.spread c.self.inside.words.items c.self.invariant.0 c.self.invariant.3) c.self.inside.last)

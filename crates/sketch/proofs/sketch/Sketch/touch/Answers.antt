@@ -44,10 +44,10 @@ invariant_of-self c =
 
 pub returns-clause-fits : goal.returns-clause-fits
 returns-clause-fits c =
-    let is : IsTable c.args.self.now = rw (← c.self.view_is) (table_is c.self.inside.width c.self.inside.spread c.self.inside.words.items c.self.invariant.0) in
+    let is : IsTable c.args.self.now = rw (← c.self.view_is) (table_is c.self.inside.width c.self.inside.spread c.self.inside.words.items c.self.invariant.0 c.self.invariant.3) in
     rw (returns-clause-record_is c, returns-clause-after c) (touch_fits c.args.self.now is c.args.key)
 
 pub returns-clause-undone : goal.returns-clause-undone
 returns-clause-undone c =
-    let is : IsTable c.args.self.now = rw (← c.self.view_is) (table_is c.self.inside.width c.self.inside.spread c.self.inside.words.items c.self.invariant.0) in
+    let is : IsTable c.args.self.now = rw (← c.self.view_is) (table_is c.self.inside.width c.self.inside.spread c.self.inside.words.items c.self.invariant.0 c.self.invariant.3) in
     untouched_is c.args.self.now is c.args.key _ _ (returns-clause-record_is c) (returns-clause-after c)

@@ -1,17 +1,22 @@
-use Rattle.std.proofs.Common.{◌≡◌, arith, ◌*◌, ◌<◌, length}
+use Rattle.std.proofs.Common.{◌≡◌, ◌∙◌, Bool, List, ap, sym, arith, ◌*◌, ◌<◌, length}
 use Rattle.std.specs.Vec.{with_items}
 use Rattle.std.proofs.lemmas.List.{with_items_is}
+use Rattle.bits_and_lists.specs.Places.{by_place}
+use Rattle.bits_and_lists.specs.Bits.{bit_of, bits_of}
+use Rattle.bits_and_lists.proofs.Places.{length-by_place, get_or-by_place}
+use Rattle.sketch.specs.declared.halve_record.HalveRecord.{HalveRecord}
 use Rattle.sketch.specs.Counters.{counter_at}
-use Rattle.sketch.specs.Laws.{lost_bit}
-use Rattle.sketch.proofs.Places.{length-by_place, get_or-by_place}
+use Rattle.sketch.specs.HalveRecord.{unhalved}
+use Rattle.sketch.specs.Sketch.{Table}
 use Rattle.sketch.proofs.Halves.{unhalve_after, low_everywhere}
 use Rattle.sketch.proofs.sketch.Sketch.unhalve.Goals as goal
 
 pub unhalve_words-requires-clause-whole : goal.unhalve_words-requires-clause-whole
 unhalve_words-requires-clause-whole c =
-    let fit = rw (← c.self.view_is, ← c.done.view_is) at c.requires.whole in
-    let n = length-by_place (64 * length c.done.inside.words.items) (lost_bit c.done.inside.words.items) in
-    rw (c.deref.ensures.value, c.deref_mut.ensures.value) (omega (arith, fit, n, c.self.invariant.2))
+    let fit = rw (← c.self.view_is) at c.requires.whole in
+    let e = ap length c.as_words.ensures in
+    let n = length-by_place (64 * length c.as_words.result.now) (bit_of c.as_words.result.now) in
+    rw c.deref_mut.ensures.value (omega (arith, fit, e, n, c.self.invariant.2))
 
 pub unhalve_words-requires-clause-low : goal.unhalve_words-requires-clause-low
 unhalve_words-requires-clause-low c =
@@ -24,11 +29,13 @@ returns c =
     let some : 0 < c.self.inside.width = omega (arith, c.self.invariant.0) in
     let n : length c.unhalve_words.new.words ≡ c.self.inside.words.len = omega (arith, c.unhalve_words.auto.words, c.deref_mut.ensures.len) in
     let items : (with_items c.self.inside.words c.unhalve_words.new.words).items ≡ c.unhalve_words.new.words = with_items_is c.self.inside.words c.unhalve_words.new.words n in
-    let words = rw (c.deref.ensures.value, c.deref_mut.ensures.value) at c.unhalve_words.ensures in
-    let whole = rw (← c.self.view_is, ← c.done.view_is) at c.requires.whole in
-    let count = length-by_place (64 * length c.done.inside.words.items) (lost_bit c.done.inside.words.items) in
+    let words = rw c.deref_mut.ensures.value at c.unhalve_words.ensures in
+    let whole = rw (← c.self.view_is) at c.requires.whole in
+    let e = ap length c.as_words.ensures in
+    let count = length-by_place (64 * length c.as_words.result.now) (bit_of c.as_words.result.now) in
     let fit = rw (← c.self.view_is) at c.requires.low in
     let low = low_everywhere c.self.inside.words.items c.self.inside.width c.self.invariant.2
     (λ i h. let e = get_or-by_place (4 * c.self.inside.width) (counter_at c.self.inside.words.items) i 0 h in let f = fit i h in omega (arith, e, f)) in
-    rw (← c.self.view_is, ← c.done.view_is, items, words)
-    (unhalve_after c.self.inside.width c.self.inside.spread some c.self.inside.words.items c.self.invariant.2 c.done.inside.words.items low (omega (arith, whole, count, c.self.invariant.2)))
+    rw (← c.self.view_is, items, words)
+    (unhalve_after c.self.inside.width c.self.inside.spread some c.self.inside.words.items c.self.invariant.2 c.as_words.result.now low (omega (arith, whole, e, count, c.self.invariant.2))
+    ∙ ap (λ (bs : List Bool). unhalved record { lost = bs } record { width = c.self.inside.width; spread = c.self.inside.spread; counters = by_place (4 * c.self.inside.width) (counter_at c.self.inside.words.items) }) c.as_words.ensures)

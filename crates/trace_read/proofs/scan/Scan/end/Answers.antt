@@ -1,5 +1,5 @@
 use Rattle.std.proofs.Common.{[], ◌∷◌, ◌++◌, ◌∙◌, ap, sym, inl, inr}
-use Rattle.trace_read.proofs.Steps.{ends, errs, last_line, of_line, refused_here}
+use Rattle.trace_read.proofs.Steps.{ends, errs, last_line, of_line, refused_here, sound_here}
 use Rattle.trace_read.proofs.scan.Scan.end.Goals as goal
 
 pub returns-in_err-add_line-clause-err : goal.returns-in_err-add_line-clause-err
@@ -7,7 +7,7 @@ returns-in_err-add_line-clause-err c =
     let scan = c.args.self in
     let is = last_line scan.cut.items c.requires.cut ∙ ap (λ t. t ∷ []) (sym c.as_slice.ensures.value) in
     errs c.from_residual.result _ _ c.from_residual.ensures.1 (elim c.in_err-add_line.ensures.err [
-      | inl none ↦ inl none
+      | inl none ↦ inl (none.0, sound_here scan.format scan.line scan.keys.items _ [] (scan.cut.items ++ []) is none.1)
       | inr fault ↦
           let refused = refused_here scan.format scan.line scan.keys.items _ [] (scan.cut.items ++ []) _ _ is fault in
           inr (of_line scan.format _ scan.line _ _ refused, refused)

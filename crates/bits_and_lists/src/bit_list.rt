@@ -1,0 +1,81 @@
+//! A packed list of bits.
+ghost use Rattle.std.specs.Prelude.{◌≡◌, ◌≤◌, ◌/◌, length};
+ghost use Rattle.bits_and_lists.specs.Bits.{bits_of};
+
+use std::marker::Model;
+
+/// The most words that a [`BitList`] holds: 2^23 bits.
+pub const MAX_WORDS: usize = 131072;
+
+/// A list of bits, 64 to a word, that does not change. Contracts see the list of the bits.
+#[derive(Drop)]
+pub struct BitList {
+    words: Vec<u64>,
+}
+
+impl Model for BitList {
+    ghost use Rattle.std.specs.Prelude.{List, Bool, length, ◌≤◌};
+    ghost use Rattle.bits_and_lists.specs.Bits.{bits_of};
+
+    ghost Value = { List Bool };
+
+    ghost view = { λ l. bits_of l.words.items };
+
+    ghost invariant = { λ l. length l.words.items ≤ 131072 };
+}
+
+impl BitList {
+    /// The bits of the words. Takes the words over and allocates nothing.
+    pub fn of_words(words: Vec<u64>) -> BitList
+        requires { length words.items ≤ 131072 }
+        ensures { result ≡ bits_of words.items }
+    {
+        BitList { words }
+    }
+
+    /// The words that hold the bits.
+    pub fn as_words(&self) -> &[u64]
+        ensures { bits_of result.now ≡ self.now }
+    {
+        &self.words
+    }
+
+    /// The words that hold the bits, handed over; the list is gone.
+    pub fn into_words(self) -> Vec<u64>
+        ensures { bits_of result.items ≡ self }
+    {
+        self.words
+    }
+
+    /// How many words it holds.
+    pub fn words(&self) -> u64
+        ensures words { result ≡ length self.now / 64 }
+        ensures few { result ≤ 131072 }
+    {
+        self.words.len() as u64
+    }
+}
+
+#[cfg(test)]
+mod tests {
+    use super::*;
+    use crate::bits;
+    use std::test::Fail;
+
+    #[test]
+    fn bits_go_into_words_and_come_back(rt: HostRuntime) -> Result<(), Fail> {
+        let mut words = vec![in rt.alloc(); 0u64; 2]?;
+        bits::set(&mut words, 0);
+        bits::set(&mut words, 63);
+        bits::set(&mut words, 64);
+        assert_eq!(rt; words.as_slice(), [1 << 63 | 1, 1].as_slice());
+        bits::clear(&mut words, 63, true);
+        bits::clear(&mut words, 0, false);
+        assert!(rt; bits::get(&words, 0) && !bits::get(&words, 63) && bits::get(&words, 64));
+        let list = BitList::of_words(words);
+        assert_eq!(rt; list.words(), 2);
+        assert_eq!(rt; list.as_words(), [1, 1].as_slice());
+        assert_eq!(rt; list.into_words().as_slice(), [1, 1].as_slice());
+        Ok(())
+    }
+}

@@ -1,0 +1,66 @@
+-- From what a parse gives to what the program promises of its end.
+use Rattle.std.proofs.Common.{◌≡◌, ◌≢◌, subst, inl, inr, List, ℕ, Option, Result, Ok, Err}
+use Rattle.clap.specs.Words.{HasKind, IsAmong, Kinds, Text, kind_of}
+use Rattle.clap.specs.declared.Error.{Error}
+use Rattle.clap.specs.declared.error.ErrorKind.TheVariants.{OutOfMemory}
+use Rattle.command_line.specs.Parsed.{ParsedBy}
+use Rattle.command_line.specs.declared.arguments.Arguments.TheVariants.{Run, Sweep}
+use Rattle.command_line.specs.declared.arguments.RunArguments.{RunArguments}
+use Rattle.command_line.specs.declared.sweep.SweepArguments.{SweepArguments}
+use Rattle.command_line.specs.declared.fault.ParseFault.TheVariants.{Refused}
+use Rattle.cachesim.specs.Jobs.{jobs_at, jobs_of}
+use Rattle.cachesim.specs.Run.{DoneBy, RefusedBy, Reports, is_help}
+
+among : (kinds : Kinds) (e : Error) → HasKind kinds e → kind_of e ≢ OutOfMemory → IsAmong (kind_of e) kinds
+among kinds e (inl h) n = absurd (n h)
+among kinds e (inr h) n = h
+
+pub refused_by : (words : List Text) (e : Error) → ParsedBy words (Err (Refused e)) → ¬ is_help (kind_of e) → kind_of e ≢ OutOfMemory → RefusedBy words
+refused_by words e p h n = record {
+  lists = p.lists;
+  are = p.are;
+  refuses = inl (kind_of e, h, among _ e p.gives n);
+}
+
+pub run_done : (words : List Text) (run : RunArguments) → ParsedBy words (Ok (Run run)) → (input before after : Option (List ℕ))
+    → Reports run.format (jobs_of run.config run.policies.items) input before after → DoneBy words input before after
+run_done words run p input before after h =
+    let is = p.gives.1.2 in
+    record {
+      lists = p.lists;
+      are = p.are;
+      done = inl (
+        p.gives.0,
+        inl (record {
+          rows = p.gives.1.0;
+          is_run = p.gives.1.1;
+          config = run.config;
+          config_is = is.config;
+          policies = run.policies.items;
+          policies_are = is.policies;
+          reports = subst (λ f. Reports f (jobs_of run.config run.policies.items) input before after) is.format h;
+        }),
+      );
+    }
+
+pub sweep_done : (words : List Text) (sweep : SweepArguments) → ParsedBy words (Ok (Sweep sweep)) → (input before after : Option (List ℕ))
+    → Reports sweep.format (jobs_at sweep.job sweep.capacities.items) input before after → DoneBy words input before after
+sweep_done words sweep p input before after h =
+    let is = p.gives.1.2 in
+    record {
+      lists = p.lists;
+      are = p.are;
+      done = inl (
+        p.gives.0,
+        inr (record {
+          rows = p.gives.1.0;
+          is_sweep = p.gives.1.1;
+          job = sweep.job;
+          config_is = is.config;
+          policy_is = is.policy;
+          capacities = sweep.capacities.items;
+          capacities_are = is.capacities;
+          reports = subst (λ f. Reports f (jobs_at sweep.job sweep.capacities.items) input before after) is.format h;
+        }),
+      );
+    }

@@ -1,0 +1,40 @@
+use Rattle.std.proofs.Common.{◌≡◌, ◌∙◌, ap, subst, sym, refl, List, ℕ, map, Result, Ok, Err}
+use Rattle.std.specs.Borrow.{Bor}
+use Rattle.command_line.specs.Parsed.{ParsedBy}
+use Rattle.command_line.specs.declared.arguments.Arguments.{Arguments}
+use Rattle.command_line.specs.declared.fault.ParseFault.{ParseFault}
+use Rattle.std.specs.Prelude.{OnOk}
+use Rattle.cachesim.specs.Jobs.{jobs_at, jobs_of}
+use Rattle.cachesim.specs.Run.{Reports}
+use Rattle.cachesim.specs.declared.fault.Fault.{Fault}
+use Rattle.cachesim.proofs.Ending.{refused_by, run_done, sweep_done}
+use Rattle.cachesim.proofs.command.command.Goals as goal
+use Rattle.cachesim.proofs.command.command.Goals.{in-Run, in-Sweep}
+
+pub returns-in-Err-Refused-clause-refused : goal.returns-in-Err-Refused-clause-refused
+returns-in-Err-Refused-clause-refused g c two =
+    let words = map (λ (s : Bor (List ℕ)). s.now) c.args.words.now in
+    let p = subst (λ (r : Result Arguments ParseFault). ParsedBy words r) (c.in-Err-Refused.is ∙ ap Err c.in-Err-Refused.field-0-is) c.parse.ensures in
+    let a = c.answer.ensures.refused two in
+    (refused_by words c.in-Err-Refused.error p a.0 a.1, refl, a.2)
+
+pub returns-in-Ok-done-clause-done : goal.returns-in-Ok-done-clause-done
+returns-in-Ok-done-clause-done g c zero =
+    let words = map (λ (s : Bor (List ℕ)). s.now) c.args.words.now in
+    let p = subst (λ (r : Result Arguments ParseFault). ParsedBy words r) c.in-Ok.is c.parse.ensures in
+    elim c.match-arguments.branch [
+      | in-Run w ↦
+          let run = w.in-Run.arguments in
+          let q = subst (λ (a : Arguments). ParsedBy words (Ok a)) w.in-Run.is p in
+          let ok = w.run-done.ensures.ok in
+          let Wrote = Reports run.format (jobs_of run.config run.policies.items) (g.R.Read.remaining c.args.input.now) (g.W.Write.contents c.args.out.now) (g.W.Write.contents w.run-done.new.out) in
+          let h : Wrote = subst (λ (r : Result (Unit {0}) Fault). OnOk r Wrote) (sym w.done-is ∙ c.in-Ok-done.is) ok in
+          rw w.out-is (run_done words run q _ _ _ h)
+      | in-Sweep w ↦
+          let sweep = w.in-Sweep.arguments in
+          let q = subst (λ (a : Arguments). ParsedBy words (Ok a)) w.in-Sweep.is p in
+          let ok = w.sweep-done.ensures.ok in
+          let Wrote = Reports sweep.format (jobs_at sweep.job sweep.capacities.items) (g.R.Read.remaining c.args.input.now) (g.W.Write.contents c.args.out.now) (g.W.Write.contents w.sweep-done.new.out) in
+          let h : Wrote = subst (λ (r : Result (Unit {0}) Fault). OnOk r Wrote) (sym w.done-is ∙ c.in-Ok-done.is) ok in
+          rw w.out-is (sweep_done words sweep q _ _ _ h)
+    ]

@@ -1,0 +1,50 @@
+-- The undo record of an access, as a function of the trace's place and the residents before it.
+use Rattle.std.specs.Prelude.{◌≡◌, ℕ, suc, ◌-◌, ◌≤◌, nat_lt, cond, eqb, List, length, slice_index}
+use Rattle.step_record.specs.declared.outcome.Outcome.{Outcome}
+use Rattle.step_record.specs.declared.outcome.Outcome.TheVariants as outcome
+use Rattle.step_record.specs.Stats.{uncounted}
+use Rattle.step_record.specs.Keys.{has, without}
+use Rattle.clairvoyant.specs.declared.use_record.UseRecord.{UseRecord}
+use Rattle.clairvoyant.specs.declared.use_record.UseRecord.TheVariants.{Hit, Kept, Evicted, Rejected}
+use Rattle.clairvoyant.specs.Keys.{put}
+use Rattle.clairvoyant.specs.Uses.{rank}
+use Rattle.clairvoyant.specs.Belady.{farthest, residents}
+use Rattle.clairvoyant.specs.Clairvoyant.{ClairvoyantState}
+
+-- the record where k came to a full cache at place i, and v is the one to leave
+abbrev pub record_full : List ℕ → ℕ → ℕ → ℕ → UseRecord
+record_full t i k v = cond (eqb k v) (Rejected k) (Evicted record { key = v; rank = rank t (suc i) v })
+
+-- the record of an access to k at place i, from the residents before it
+abbrev pub record_of : ℕ → List ℕ → ℕ → ℕ → List ℕ → UseRecord
+record_of c t i k r = cond (has k r) Hit (cond (nat_lt (length r) c) Kept (record_full t i k (farthest t i k r)))
+
+-- the record of the access at place i of the trace, in a cache of capacity c
+abbrev pub record_at : ℕ → List ℕ → ℕ → UseRecord
+record_at c t i = record_of c t i (slice_index t i) (residents c t i)
+
+abbrev pub outcome_of : UseRecord → Outcome
+outcome_of Hit = outcome.Hit
+outcome_of Kept = outcome.Kept
+outcome_of (Evicted g) = outcome.Evicted g.key
+outcome_of (Rejected k) = outcome.Rejected k
+
+-- the residents before an access to k, from those after it
+abbrev pub undone_keys : UseRecord → ℕ → List ℕ → List ℕ
+undone_keys Hit k l = l
+undone_keys Kept k l = without k l
+undone_keys (Evicted g) k l = put g.key (without k l)
+undone_keys (Rejected j) k l = l
+
+abbrev pub clairvoyant_undone : UseRecord → ClairvoyantState → ClairvoyantState
+clairvoyant_undone r d = record {
+  trace = d.trace;
+  capacity = d.capacity;
+  residents = undone_keys r (slice_index d.trace (d.stats.accesses - 1)) d.residents;
+  stats = uncounted (outcome_of r) d.stats;
+}
+
+-- the record is that of the last access
+pub record ClairvoyantFits (r : UseRecord) (d : ClairvoyantState) : Type 0 where
+  pub applied : 1 ≤ d.stats.accesses
+  pub last : r ≡ record_at d.capacity d.trace (d.stats.accesses - 1)

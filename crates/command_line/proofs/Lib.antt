@@ -1,0 +1,5 @@
+pub mod Simple
+pub mod Examples
+pub mod Numbers
+pub mod Naming
+pub mod Outcomes

@@ -1,0 +1,36 @@
+-- What the first words name.
+use Rattle.std.proofs.Common.{◌≡◌, ◌<◌, ◌+◌, ℕ, zero, suc, refl, arith, List, [], ◌∷◌, ◌++◌, length, take, map, slice_index_or, Option, Some, None, ap}
+use Rattle.std.specs.Prelude.{option_map}
+use Rattle.std.specs.Borrow.{Bor}
+use Rattle.clap.specs.Words.{Text}
+use Rattle.command_line.specs.Choices.{all_named, and_more}
+
+module _ {A : Type 0} (named : Text → Option A) where
+  one-more : (o : Option A) (m next : Option (List A)) (q : A)
+      → ((qs : List A) → m ≡ Some qs → next ≡ Some (qs ++ q ∷ []))
+      → (ps : List A) → and_more o m ≡ Some ps → and_more o next ≡ Some (ps ++ q ∷ [])
+  one-more None m next q h ps e = absurd (cc e)
+  one-more (Some p) None next q h ps e = absurd (cc e)
+  one-more (Some p) (Some qs) next q h ps e = rw (h qs refl) (ap (option_map (λ xs. xs ++ q ∷ [])) e)
+
+  -- one word more names one thing more
+  pub named-next : (words : List (Bor Text)) (d : Bor Text) (i : ℕ) (ps : List A) (q : A) → i < length words
+      → all_named named (map (λ s. s.now) (take i words)) ≡ Some ps → named (slice_index_or words i d).now ≡ Some q
+      → all_named named (map (λ s. s.now) (take (i + 1) words)) ≡ Some (ps ++ q ∷ [])
+  named-next [] d i ps q h e n = absurd (omega arith)
+  named-next (w ∷ words) d zero ps q h e n = rw n (ap (option_map (λ xs. xs ++ q ∷ [])) e)
+  named-next (w ∷ words) d (suc i) ps q h e n =
+      let s : suc i + 1 ≡ suc (i + 1) = omega arith in
+      rw s (one-more (named w.now) (all_named named (map (λ s. s.now) (take i words))) (all_named named (map (λ s. s.now) (take (i + 1) words))) q
+      (λ qs g. named-next words d i qs q (omega arith) g n) ps e)
+
+  none-more : (o : Option A) → and_more o None ≡ None
+  none-more None = refl
+  none-more (Some p) = refl
+
+  -- one word that names nothing is enough
+  pub named-none : (words : List (Bor Text)) (d : Bor Text) (i : ℕ) → i < length words → named (slice_index_or words i d).now ≡ None
+      → all_named named (map (λ s. s.now) words) ≡ None
+  named-none [] d i h n = absurd (omega arith)
+  named-none (w ∷ words) d zero h n = rw n refl
+  named-none (w ∷ words) d (suc i) h n = rw (named-none words d i (omega arith) n) (none-more (named w.now))

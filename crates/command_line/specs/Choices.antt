@@ -1,0 +1,58 @@
+-- The words by which policies, formats and spreads are named on the command line.
+use Rattle.std.specs.Prelude.{◌≡◌, false, List, [], ◌∷◌, Option, Some, None, map, find}
+use Rattle.std.specs.Prelude.{codes, if◌then◌else◌}
+use Rattle.std.specs.Borrow.{Bor}
+use Rattle.std.specs.Option.{option_map_or}
+use Rattle.std.specs.Str.{bytes_eq}
+use Rattle.clap.specs.Words.{Text}
+use Rattle.step_record.specs.Job.{word_of}
+use Rattle.step_record.specs.declared.job.Policy.{Policy}
+use Rattle.step_record.specs.declared.job.Policy.TheVariants.{Lru, SegmentedLru, TinyLfuLru, TinyLfuSegmented, WindowTinyLfu, Clairvoyant}
+use Rattle.step_record.specs.declared.config.Spread.{Spread}
+use Rattle.step_record.specs.declared.config.Spread.TheVariants.{Mixed, Plain}
+use Rattle.trace_read.specs.Format.{word_of as format_word}
+use Rattle.trace_read.specs.declared.format.Format.{Format}
+use Rattle.trace_read.specs.declared.format.Format.TheVariants.{Lirs, Arc}
+
+-- the policies that can be named
+abbrev pub policies : List Policy
+policies = Lru ∷ SegmentedLru ∷ TinyLfuLru ∷ TinyLfuSegmented ∷ WindowTinyLfu ∷ Clairvoyant ∷ []
+
+abbrev pub policy_words : List Text
+policy_words = map word_of policies
+
+abbrev pub format_words : List Text
+format_words = format_word Lirs ∷ format_word Arc ∷ []
+
+abbrev pub spread_words : List Text
+spread_words = codes "mixed" ∷ codes "plain" ∷ []
+
+-- these words, somewhere in memory
+abbrev pub AreWords : List Text → List (Bor Text) → Type 0
+AreWords words names = map (λ s. s.now) names ≡ words
+
+-- the policy that a word names
+abbrev pub policy_named : Text → Option Policy
+policy_named word = find (λ policy. bytes_eq (word_of policy) word) policies
+
+abbrev pub and_more : {A : Type 0} → Option A → Option (List A) → Option (List A)
+and_more None more = None
+and_more (Some first) None = None
+and_more (Some first) (Some more) = Some (first ∷ more)
+
+-- what the words name, in order; none where one of the words names nothing
+abbrev pub all_named : {A : Type 0} → (Text → Option A) → List Text → Option (List A)
+all_named named [] = Some []
+all_named named (word ∷ words) = and_more (named word) (all_named named words)
+
+abbrev pub policies_named : List Text → Option (List Policy)
+policies_named words = all_named policy_named words
+
+-- the format that a word names, or where there is none
+abbrev pub format_named : Option Text → Format
+format_named word =
+    if option_map_or (λ w. bytes_eq w (format_word Arc)) word false then Arc else Lirs
+
+-- the spread that a word names, or where there is none
+abbrev pub spread_named : Option Text → Spread
+spread_named word = if option_map_or (λ w. bytes_eq w (codes "plain")) word false then Plain else Mixed

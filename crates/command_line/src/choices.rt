@@ -1,0 +1,93 @@
+//! The words by which policies, formats and spreads are named.
+ghost use Rattle.std.specs.Prelude.{◌≡◌, find, option_map};
+ghost use Rattle.std.specs.Str.{bytes_eq};
+ghost use Rattle.step_record.specs.Job.{word_of};
+ghost use Rattle.command_line.specs.Choices.{AreWords, format_named as format_by, format_words, policy_named as policy_by, policy_words, spread_named as spread_by, spread_words};
+
+use step_record::{Policy, Spread};
+use trace_read::Format;
+
+/// How many policies can be named.
+pub(crate) const POLICY_COUNT: usize = 6;
+
+/// The word of `Spread::Mixed`.
+pub(crate) const MIXED: &str = "mixed";
+
+// The word of `Spread::Plain`.
+const PLAIN: &str = "plain";
+
+// The policies that can be named, in the order in which help lists them.
+const POLICIES: [Policy; POLICY_COUNT] = [
+    Policy::Lru,
+    Policy::SegmentedLru,
+    Policy::TinyLfuLru,
+    Policy::TinyLfuSegmented,
+    Policy::WindowTinyLfu,
+    Policy::Clairvoyant,
+];
+
+/// The words that name the policies.
+pub(crate) fn policy_words() -> [&'static str; POLICY_COUNT]
+    ensures { AreWords policy_words result }
+{
+    [
+        Policy::Lru.word(),
+        Policy::SegmentedLru.word(),
+        Policy::TinyLfuLru.word(),
+        Policy::TinyLfuSegmented.word(),
+        Policy::WindowTinyLfu.word(),
+        Policy::Clairvoyant.word(),
+    ]
+}
+
+/// The words that name the formats.
+pub(crate) fn format_words() -> [&'static str; 2]
+    ensures { AreWords format_words result }
+{
+    [Format::Lirs.word(), Format::Arc.word()]
+}
+
+/// The words that name the spreads of keys.
+pub(crate) fn spread_words() -> [&'static str; 2]
+    ensures { AreWords spread_words result }
+{
+    [MIXED, PLAIN]
+}
+
+// The first of the policies that the word names.
+fn first_named(policies: &[Policy], word: &str) -> Option<Policy>
+    ensures { result ≡ find (λ policy. bytes_eq (word_of policy) word.now) policies.now }
+{
+    let (first, rest) = policies.split_first()?;
+    if first.word() == word {
+        return Some(*first);
+    }
+    first_named(rest, word)
+}
+
+/// The policy that the word names, if it names one.
+pub(crate) fn policy_named(word: &str) -> Option<Policy>
+    ensures { result ≡ policy_by word.now }
+{
+    first_named(POLICIES.as_slice(), word)
+}
+
+/// The format that the word names; `lirs` where there is none.
+pub(crate) fn format_named(word: Option<&str>) -> Format
+    ensures { result ≡ format_by (option_map (λ s. s.now) word.entry) }
+{
+    match word {
+        Some(word) if word == Format::Arc.word() => Format::Arc,
+        _ => Format::Lirs,
+    }
+}
+
+/// The spread that the word names; `mixed` where there is none.
+pub(crate) fn spread_named(word: Option<&str>) -> Spread
+    ensures { result ≡ spread_by (option_map (λ s. s.now) word.entry) }
+{
+    match word {
+        Some(word) if word == PLAIN => Spread::Plain,
+        _ => Spread::Mixed,
+    }
+}

@@ -1,0 +1,235 @@
+//! The program's commands, as `clap` builds them.
+ghost use Rattle.std.specs.Prelude.{◌≡◌, false, IfOk};
+ghost use Rattle.clap.specs.Words.{app_of, rule_of};
+ghost use Rattle.clap.specs.declared.builder.command.Command.TheViews.{out-Command};
+ghost use Rattle.command_line.specs.Program.{batch_rule, capacities_rule, capacity_rule, configured_app, divided_app, format_rule};
+ghost use Rattle.command_line.specs.Program.{main_rule, one_policy_rule, policy_rule, program_app, run_app, spread_rule, sweep_app};
+
+use crate::choices::MIXED;
+use clap::{Arg, ArgAction, Command};
+use std::alloc::{AllocError, Global};
+use step_record::{MAX_CAPACITY, MAX_MAIN_PERCENT};
+use trace_read::Format;
+
+/// The most accesses of a batch.
+pub const MAX_BATCH: u32 = 65_536;
+
+/// `--capacity N`
+fn capacity_arg<'a>(alloc: Global) -> Arg<'a>
+    ensures rule { rule_of result ≡ capacity_rule }
+    ensures local { result.global ≡ false }
+{
+    let number = clap::value_parser!(u32).range(1..=i64::from(MAX_CAPACITY));
+    Arg::new(alloc, "capacity")
+        .long("capacity")
+        .value_name("N")
+        .help("How many entries the cache holds")
+        .required(true)
+        .value_parser(number)
+}
+
+/// `--batch N`
+fn batch_arg<'a>(alloc: Global) -> Arg<'a>
+    ensures rule { rule_of result ≡ batch_rule }
+    ensures local { result.global ≡ false }
+{
+    let number = clap::value_parser!(u32).range(1..=i64::from(MAX_BATCH));
+    Arg::new(alloc, "batch")
+        .long("batch")
+        .value_name("N")
+        .help("How many accesses a policy is given at once")
+        .default_value("1024")
+        .value_parser(number)
+}
+
+/// `CAPACITY...`
+fn capacities_arg<'a>(alloc: Global) -> Arg<'a>
+    ensures rule { rule_of result ≡ capacities_rule }
+    ensures local { result.global ≡ false }
+{
+    let number = clap::value_parser!(u32).range(1..=i64::from(MAX_CAPACITY));
+    Arg::new(alloc, "capacities")
+        .value_name("CAPACITY")
+        .help("How many entries the caches hold, in the order of their reports")
+        .required(true)
+        .num_args(1..)
+        .action(ArgAction::Append)
+        .value_parser(number)
+}
+
+/// `--main N`
+fn main_arg<'a>(alloc: Global) -> Arg<'a>
+    ensures rule { rule_of result ≡ main_rule }
+    ensures local { result.global ≡ false }
+{
+    let number = clap::value_parser!(u8).range(0..=i64::from(MAX_MAIN_PERCENT));
+    Arg::new(alloc, "main")
+        .long("main")
+        .value_name("N")
+        .help(
+            "How much of the capacity of wtinylfu is the main part, in percent; the rest is the window",
+        )
+        .default_value("99")
+        .value_parser(number)
+}
+
+/// `--spread mixed|plain`
+fn spread_arg<'a>(alloc: Global, words: &'a [&'a str]) -> Arg<'a>
+    ensures rule { rule_of result ≡ spread_rule words.entry }
+    ensures local { result.global ≡ false }
+{
+    Arg::new(alloc, "spread")
+        .long("spread")
+        .value_name("SPREAD")
+        .help("How keys are spread over the columns of a sketch")
+        .default_value(MIXED)
+        .value_parser(words)
+}
+
+/// `POLICY...`
+fn policy_arg<'a>(alloc: Global, words: &'a [&'a str]) -> Arg<'a>
+    ensures rule { rule_of result ≡ policy_rule words.entry }
+    ensures local { result.global ≡ false }
+{
+    Arg::new(alloc, "policy")
+        .value_name("POLICY")
+        .help("The policies to run, in the order of their reports")
+        .required(true)
+        .num_args(1..)
+        .action(ArgAction::Append)
+        .value_parser(words)
+}
+
+/// `--policy P`
+fn one_policy_arg<'a>(alloc: Global, words: &'a [&'a str]) -> Arg<'a>
+    ensures rule { rule_of result ≡ one_policy_rule words.entry }
+    ensures local { result.global ≡ false }
+{
+    Arg::new(alloc, "policy")
+        .long("policy")
+        .value_name("POLICY")
+        .help("The policy to run")
+        .required(true)
+        .value_parser(words)
+}
+
+/// `--format lirs|arc`
+fn format_arg<'a>(alloc: Global, words: &'a [&'a str]) -> Arg<'a>
+    ensures rule { rule_of result ≡ format_rule words.entry }
+    ensures local { result.global ≡ false }
+{
+    Arg::new(alloc, "format")
+        .long("format")
+        .value_name("FORMAT")
+        .help("The format of the trace")
+        .default_value(Format::Lirs.word())
+        .value_parser(words)
+}
+
+/// A command with the options that say how a cache is set up, but for its capacity.
+fn divided<'a>(
+    alloc: Global,
+    command: Command<'a>,
+    spreads: &'a [&'a str],
+) -> Result<Command<'a>, AllocError>
+    requires local { (out-Command command).has_globals ≡ false }
+    ensures shape { IfOk result (λ c. app_of c ≡ divided_app spreads.entry (app_of command.entry)) }
+    ensures local { IfOk result (λ c. (out-Command c).has_globals ≡ false) }
+{
+    let main_percent = main_arg(alloc);
+    let spread = spread_arg(alloc, spreads);
+    let divided = command.arg(main_percent)?;
+    divided.arg(spread)
+}
+
+/// A command with the options that say how a cache is set up.
+fn configured<'a>(
+    alloc: Global,
+    command: Command<'a>,
+    spreads: &'a [&'a str],
+) -> Result<Command<'a>, AllocError>
+    requires local { (out-Command command).has_globals ≡ false }
+    ensures shape { IfOk result (λ c. app_of c ≡ configured_app spreads.entry (app_of command.entry)) }
+    ensures local { IfOk result (λ c. (out-Command c).has_globals ≡ false) }
+{
+    let capacity = capacity_arg(alloc);
+    let sized = command.arg(capacity)?;
+    divided(alloc, sized, spreads)
+}
+
+/// `run`, which prints a report for each policy that is named.
+fn run_command<'a>(
+    alloc: Global,
+    policies: &'a [&'a str],
+    formats: &'a [&'a str],
+    spreads: &'a [&'a str],
+) -> Result<Command<'a>, AllocError>
+    ensures shape { IfOk result (λ c. app_of c ≡ run_app (record {
+      policies = policies.entry;
+      formats = formats.entry;
+      spreads = spreads.entry;
+    })) }
+    ensures local { IfOk result (λ c. (out-Command c).has_globals ≡ false) }
+{
+    let format = format_arg(alloc, formats);
+    let batch = batch_arg(alloc);
+    let policy = policy_arg(alloc, policies);
+    let named = Command::new(alloc, "run");
+    let run = named.about(
+        "Runs policies over the trace on standard input and prints a report of each",
+    );
+    let configured = configured(alloc, run, spreads)?;
+    let formed = configured.arg(format)?;
+    let batched = formed.arg(batch)?;
+    batched.arg(policy)
+}
+
+/// `sweep`, which prints a report of one policy for each capacity that is named.
+fn sweep_command<'a>(
+    alloc: Global,
+    policies: &'a [&'a str],
+    formats: &'a [&'a str],
+    spreads: &'a [&'a str],
+) -> Result<Command<'a>, AllocError>
+    ensures shape { IfOk result (λ c. app_of c ≡ sweep_app (record {
+      policies = policies.entry;
+      formats = formats.entry;
+      spreads = spreads.entry;
+    })) }
+    ensures local { IfOk result (λ c. (out-Command c).has_globals ≡ false) }
+{
+    let format = format_arg(alloc, formats);
+    let policy = one_policy_arg(alloc, policies);
+    let capacities = capacities_arg(alloc);
+    let named = Command::new(alloc, "sweep");
+    let sweep = named.about(
+        "Runs a policy over the trace on standard input and prints a report for each capacity",
+    );
+    let divided = divided(alloc, sweep, spreads)?;
+    let formed = divided.arg(format)?;
+    let chosen = formed.arg(policy)?;
+    chosen.arg(capacities)
+}
+
+/// The program's commands, over the words that name policies, formats and spreads.
+pub(crate) fn program<'a>(
+    alloc: Global,
+    policies: &'a [&'a str],
+    formats: &'a [&'a str],
+    spreads: &'a [&'a str],
+) -> Result<Command<'a>, AllocError>
+    ensures { IfOk result (λ c. app_of c ≡ program_app (record {
+      policies = policies.entry;
+      formats = formats.entry;
+      spreads = spreads.entry;
+    })) }
+{
+    let run = run_command(alloc, policies, formats, spreads)?;
+    let sweep = sweep_command(alloc, policies, formats, spreads)?;
+    let named = Command::new(alloc, "cachesim");
+    let top = named.about("Simulates cache policies over recorded block traces");
+    let versioned = top.version("0.1.0");
+    let empty = versioned.subcommand_required(true);
+    let running = empty.subcommand(run)?;
+    running.subcommand(sweep)
+}

@@ -1,0 +1,34 @@
+//! Why the words of a call gave no arguments.
+ghost use Rattle.std.specs.Prelude.{◌≡◌};
+ghost use Rattle.command_line.specs.declared.fault.ParseFault.TheVariants.{OutOfMemory, Refused};
+
+use clap::Error;
+use std::alloc::AllocError;
+
+/// Why the words of a call gave no arguments.
+#[derive(Debug, Drop)]
+pub enum ParseFault {
+    /// The allocation failed.
+    OutOfMemory,
+    /// `clap` refused the words, they ask for help or the version, or `clap` ran out of memory; its
+    /// kind says which.
+    Refused(Error),
+    /// The words lack a number in its range or a known policy, and `clap` let them pass.
+    Incomplete,
+}
+
+impl From<AllocError> for ParseFault {
+    ghost from_gives = { λ _ fault. fault ≡ OutOfMemory };
+
+    fn from(_error: AllocError) -> ParseFault {
+        ParseFault::OutOfMemory
+    }
+}
+
+impl From<Error> for ParseFault {
+    ghost from_gives = { λ error fault. fault ≡ Refused error };
+
+    fn from(error: Error) -> ParseFault {
+        ParseFault::Refused(error)
+    }
+}

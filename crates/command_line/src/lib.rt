@@ -1,0 +1,22 @@
+//! The program's command line, read by `clap`.
+//!
+//! The commands are written here once, as `clap` builds them, and `parse` gives the arguments as
+//! typed values: configurations, policies, capacities, a format. Its promise is that what it gives is a
+//! function of the words: the same words always give the same arguments, and are refused exactly
+//! where one of the commands' rules is broken.
+//!
+//! The words of policies and formats are those of `Policy::word` and `Format::word`.
+#![tactic(auto)]
+
+mod arguments;
+mod choices;
+mod commands;
+mod fault;
+mod parsing;
+mod sweep;
+
+pub use arguments::{Arguments, RunArguments};
+pub use commands::MAX_BATCH;
+pub use fault::ParseFault;
+pub use parsing::parse;
+pub use sweep::SweepArguments;

@@ -1,0 +1,65 @@
+//! The words of a call, to its arguments.
+ghost use Rattle.std.specs.Prelude.{◌≡◌, IfOk, MatchOption, map};
+ghost use Rattle.clap.specs.Words.{subcommand_rows_of};
+ghost use Rattle.command_line.specs.Parsed.{IsAsked, IsIncomplete, ParsedBy};
+ghost use Rattle.command_line.specs.Program.{called as called_by};
+
+use crate::arguments::{Arguments, run_arguments};
+use crate::choices::{format_words, policy_words, spread_words};
+use crate::commands::program;
+use crate::fault::ParseFault;
+use crate::sweep::sweep_arguments;
+use clap::ArgMatches;
+use std::alloc::{AllocError, Global};
+
+// The words of a call, with the program's name before them.
+fn called<'a>(alloc: Global, words: &[&'a str]) -> Result<Vec<&'a str>, AllocError>
+    ensures { IfOk result (λ v. map (λ s. s.now) v.items ≡ called_by (map (λ s. s.now) words.now)) }
+{
+    let mut called = vec![in alloc; "cachesim"]?;
+    called.extend_from_slice(words)?;
+    Ok(called)
+}
+
+// What the matches ask for; none where they lack a number in its range or a known policy.
+fn arguments(alloc: Global, matches: &ArgMatches<'_>) -> Result<Option<Arguments>, AllocError>
+    ensures { IfOk result (λ asked. MatchOption asked (IsIncomplete (subcommand_rows_of matches.now))
+        (IsAsked (subcommand_rows_of matches.now))) }
+{
+    if let Some(asked) = matches.subcommand_matches("run") {
+        return match run_arguments(alloc, asked)? {
+            Some(run) => Ok(Some(Arguments::Run(run))),
+            None => Ok(None),
+        };
+    }
+    if let Some(asked) = matches.subcommand_matches("sweep") {
+        return match sweep_arguments(alloc, asked)? {
+            Some(sweep) => Ok(Some(Arguments::Sweep(sweep))),
+            None => Ok(None),
+        };
+    }
+    Ok(None)
+}
+
+/// What the words after the program's name ask for. `Refused` comes exactly where `clap` refuses
+/// them by the commands' rules, also where they ask for help or the version, or where it ran out
+/// of memory; `Incomplete` where they lack a number in its range or a known policy.
+pub fn parse(alloc: Global, words: &[&str]) -> Result<Arguments, ParseFault>
+    ensures { ParsedBy (map (λ s. s.now) words.now) result }
+{
+    let policies = policy_words();
+    let formats = format_words();
+    let spreads = spread_words();
+    let called = called(alloc, words)?;
+    let program = program(
+        alloc,
+        policies.as_slice(),
+        formats.as_slice(),
+        spreads.as_slice(),
+    )?;
+    let matches = program.try_get_matches_from(called.as_slice())?;
+    match arguments(alloc, &matches)? {
+        Some(asked) => Ok(asked),
+        None => Err(ParseFault::Incomplete),
+    }
+}

@@ -1,0 +1,88 @@
+//! Small traces whose outcomes were worked out by hand.
+use super::*;
+use policy_actors::ActorFault;
+use std::alloc::Global;
+use std::test::Fail;
+use step_record::{Config, Job, Key, Policy, Spread, Trace};
+
+fn job(policy: Policy, capacity: u32) -> Job {
+    Job {
+        policy,
+        config: Config {
+            capacity,
+            main_percent: 99,
+            spread: Spread::Plain,
+            stripes: 1,
+            journal_limit: 1,
+        },
+    }
+}
+
+fn trace_of(alloc: Global, keys: &[Key]) -> Result<Trace, Fail> {
+    match keys.len() <= 16 {
+        true => Ok(Trace::new(keys.to_vec(alloc)?)),
+        false => Err(Fail::from("a longer trace than these tests have")),
+    }
+}
+
+fn part_of(alloc: Global, keys: &[Key], first: &Job, second: &Job) -> Result<Option<u64>, Fail> {
+    let trace = trace_of(alloc, keys)?;
+    match part(alloc, &trace, first, second) {
+        Ok(found) => Ok(found),
+        Err(_) => Err(Fail::from("no answer")),
+    }
+}
+
+#[test]
+fn the_first_access_at_which_just_one_hits(rt: HostRuntime) -> Result<(), Fail> {
+    let alloc = rt.alloc();
+    let lru = job(Policy::Lru, 2);
+    let segmented = job(Policy::SegmentedLru, 2);
+    let optimal = job(Policy::Clairvoyant, 2);
+    // At the fifth access Lru holds 2 and 3; SegmentedLru protected 1 at the second, and holds 3 and 1.
+    assert_eq!(rt;
+        part_of(alloc, &[1, 1, 2, 3, 1], &lru, &segmented)?,
+        Some(5)
+    );
+    assert_eq!(rt;
+        part_of(alloc, &[1, 1, 2, 3, 1], &segmented, &lru)?,
+        Some(5)
+    );
+    // The optimal policy rejects 3 and hits 1 and 2, of which Lru evicts 1 for 3 and 2 for 1.
+    assert_eq!(rt; part_of(alloc, &[1, 2, 3, 1, 2], &lru, &optimal)?, Some(4));
+    // Two capacities of one policy: 2 evicts 1 where there is room for one key.
+    assert_eq!(rt;
+        part_of(alloc, &[1, 2, 1], &job(Policy::Lru, 1), &lru)?,
+        Some(3)
+    );
+    Ok(())
+}
+
+#[test]
+fn policies_that_never_part(rt: HostRuntime) -> Result<(), Fail> {
+    let alloc = rt.alloc();
+    let lru = job(Policy::Lru, 2);
+    let optimal = job(Policy::Clairvoyant, 2);
+    // No key comes twice, so that neither hits; the two evict other keys.
+    assert_eq!(rt; part_of(alloc, &[1, 2, 3, 4], &lru, &optimal)?, None);
+    // Both hit at the second access and miss at all others.
+    assert_eq!(rt; part_of(alloc, &[1, 1, 2, 3], &lru, &optimal)?, None);
+    assert_eq!(rt; part_of(alloc, &[], &lru, &optimal)?, None);
+    assert_eq!(rt; part_of(alloc, &[1, 1, 2, 3, 1], &lru, &lru)?, None);
+    Ok(())
+}
+
+#[test]
+fn a_refused_configuration_is_reported_by_its_index(rt: HostRuntime) -> Result<(), Fail> {
+    let alloc = rt.alloc();
+    let trace = trace_of(alloc, &[1, 2])?;
+    let good = job(Policy::Lru, 2);
+    let bad = job(Policy::Lru, 0);
+    for (first, second, index) in [(bad, bad, 0), (bad, good, 0), (good, bad, 1)] {
+        match part(alloc, &trace, &first, &second) {
+            Err(fault) => assert_eq!(rt; fault, ActorFault::Config { index }),
+            Ok(_) => return Err(Fail::from("no fault")),
+        }
+    }
+    Ok(())
+}

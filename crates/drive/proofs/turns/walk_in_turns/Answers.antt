@@ -1,0 +1,43 @@
+use Rattle.std.proofs.Common.{refl, ◌∙◌}
+use Rattle.drive.proofs.Walking.{nothing, stopped, stepped, over, known, asks_same, asked_of, Completes, listed}
+use Rattle.drive.proofs.Turning.{at_ok, at_err}
+use Rattle.drive.proofs.turns.walk_in_turns.Goals as goal
+
+pub loop-init : goal.loop-init
+loop-init g c = record {
+  can = tt;
+  finite = tt;
+  same = refl;
+  worker = c.requires.worker;
+  opening = refl;
+  made = nothing (Completes c.args.worker c.args.stripes c.args.call c.next_step-next.result) _ _ (λ rest left. (c.start.ensures.ahead rest).1 ((c.next_step-next.ensures.left rest).1 left));
+  asks = asks_same c.args.worker c.args.stripes c.args.call _ _ c.next_step-next.result c.start.ensures.same.0 c.start.ensures.same.1 c.next_step-next.ensures.asks;
+}
+
+pub returns-in_default-clause-ok : goal.returns-in_default-clause-ok
+returns-in_default-clause-ok g c =
+    known _ _ _ _ _ _ (over c.args.worker c.args.stripes c.args.call c.loop.next c.in_default.is) c.loop.invariant.made
+
+pub returns-then-is_err-clause-err : goal.returns-then-is_err-clause-err
+returns-then-is_err-clause-err g c =
+    stopped c.args.worker c.args.stripes c.args.call _ _ _ c.in-Do.is c.in-Do.local.placed _ _ _ _ _ _ refl c.reserve.ensures.items c.loop.invariant.made
+
+pub loop-preserved : goal.loop-preserved
+loop-preserved g c =
+    let asked = asked_of c.args.worker c.args.stripes c.args.call c.loop.next c.in-Do.act c.in-Do.local c.in-Do.is c.loop.invariant.asks in
+    record {
+      can = tt;
+      finite = tt;
+      same = c.turn-given.ensures.same ∙ c.loop.invariant.same;
+      worker = c.turn-given.ensures.worker ∙ c.loop.invariant.worker;
+      opening = c.turn-given.ensures.opening ∙ c.loop.invariant.opening;
+      made = stepped c.args.worker c.args.stripes c.args.call c.loop.next c.next_step-next-in-Ok.result c.in-Do.act c.in-Do.local c.in-Ok.reply c.in-Do.is c.loop.invariant.asks
+          (λ rest left. (c.next_step-next-in-Ok.ensures.left rest).1 left) _ _ _ _ _ _ (at_ok _ _ _ _ c.in-Ok.is c.turn-given.ensures.own)
+          (listed _ _ _ _ _ c.push_reserved.ensures.items c.entry_of.ensures c.reserve.ensures.items)
+          c.loop.invariant.made;
+      asks = asks_same c.args.worker c.args.stripes c.args.call _ _ c.next_step-next-in-Ok.result asked.1 asked.2 c.next_step-next-in-Ok.ensures.asks;
+    }
+
+pub returns-in-Err-clause-err : goal.returns-in-Err-clause-err
+returns-in-Err-clause-err g c =
+    stopped c.args.worker c.args.stripes c.args.call _ _ _ c.in-Do.is c.in-Do.local.placed _ _ _ _ _ _ (at_err _ _ _ _ c.in-Err.is c.turn-given.ensures.own) c.reserve.ensures.items c.loop.invariant.made

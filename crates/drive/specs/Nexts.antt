@@ -1,0 +1,16 @@
+-- What a worker is told.
+use Rattle.std.specs.Prelude.{◌≡◌, ℕ, []}
+use Rattle.drive.specs.declared.next.Next.{Next}
+use Rattle.drive.specs.declared.next.Next.TheVariants as next
+use Rattle.drive.specs.Walks.{Entries}
+use Rattle.drive.specs.Places.{act_at, Ahead}
+
+-- the entries that complete the walk
+abbrev pub Left : Next → Entries → Type 0
+Left next.Done es = es ≡ []
+Left (next.Do a l) es = Ahead l.worker l.stripes l.place es
+
+-- the act is the one at which the worker then stands, and it is still that worker
+abbrev pub Asks : ℕ → ℕ → Next → Type 0
+Asks w n next.Done = Unit {0}
+Asks w n (next.Do a l) = (act_at l.worker l.stripes l.place ≡ a) × (l.worker ≡ w) × (l.stripes ≡ n)

@@ -1,0 +1,61 @@
+-- What is left of a walk, by the place where its worker stands.
+use Rattle.std.specs.Prelude.{◌≡◌, ℕ, ◌%◌, nat_lt, Bool, true, ◌&&◌, Option, Some, None, [], ◌∷◌}
+use Rattle.step_record.specs.declared.step.Act.{Act}
+use Rattle.step_record.specs.declared.step.Act.TheVariants as act
+use Rattle.step_record.specs.declared.step.Reply.{Reply}
+use Rattle.step_record.specs.Answers.{is_answer}
+use Rattle.drive.specs.declared.place.Place.{Place}
+use Rattle.drive.specs.declared.place.Place.TheVariants as at
+use Rattle.drive.specs.Walks.{Entries, step_of, Opens, IsOffer, IsReport, IsPut, FollowsLook, FollowsRemove, IsRound, IsReading, IsWriting, IsEvicting, IsEnding}
+
+-- the act that a worker who stands there was told to make
+abbrev pub act_at : ℕ → ℕ → Place → Act
+act_at w n (at.Look k) = act.Look k
+act_at w n (at.Offer i) = act.Offer (w % n) i
+act_at w n (at.AfterRead a) = act.AfterRead a
+act_at w n (at.Put k) = act.Put k
+act_at w n (at.Remove k) = act.Remove k
+act_at w n at.AfterWrite = act.AfterWrite
+act_at w n at.Begin = act.Begin
+act_at w n (at.DrainRead s j) = act.DrainRead s
+act_at w n at.DrainWrite = act.DrainWrite
+act_at w n at.Evict = act.Evict
+act_at w n at.End = act.End
+
+-- the entries that complete the walk, from that act on
+abbrev pub Ahead : ℕ → ℕ → Place → Entries → Type 0
+Ahead w n (at.Look k) es = Opens w n (act.Look k) (FollowsLook w n k) es
+Ahead w n (at.Offer i) es = IsOffer w n i es
+Ahead w n (at.AfterRead a) es = IsReport w n (act.AfterRead a) es
+Ahead w n (at.Put k) es = IsPut w n k es
+Ahead w n (at.Remove k) es = Opens w n (act.Remove k) (FollowsRemove w n) es
+Ahead w n at.AfterWrite es = IsReport w n act.AfterWrite es
+Ahead w n at.Begin es = IsRound w n es
+Ahead w n (at.DrainRead s j) es = IsReading w n s j es
+Ahead w n at.DrainWrite es = IsWriting w n es
+Ahead w n at.Evict es = IsEvicting w n es
+Ahead w n at.End es = IsEnding w n es
+
+-- nothing where the walk is over
+abbrev pub AheadIf : ℕ → ℕ → Option Place → Entries → Type 0
+AheadIf w n None es = es ≡ []
+AheadIf w n (Some p) es = Ahead w n p es
+
+-- what may still come, after the reply where there is one
+abbrev pub AheadAfter : ℕ → ℕ → Place → Option Reply → Entries → Type 0
+AheadAfter w n p None es = Ahead w n p es
+AheadAfter w n p (Some r) es = Ahead w n p (record { step = step_of w (act_at w n p); reply = r } ∷ es)
+
+-- a reply, where there is one, belongs to the act
+abbrev pub IsReplyTo : Act → Option Reply → Type 0
+IsReplyTo a None = Unit {0}
+IsReplyTo a (Some r) = is_answer a r ≡ true
+
+-- the stripe is one of n, and fewer than sixteen of its items were drained
+abbrev pub is_place : ℕ → Place → Bool
+is_place n (at.DrainRead s j) = nat_lt s n && nat_lt j 16
+is_place n _ = true
+
+abbrev pub is_place_if : ℕ → Option Place → Bool
+is_place_if n None = true
+is_place_if n (Some p) = is_place n p

@@ -1,0 +1,43 @@
+//! A worker in the walk of one call.
+ghost use Rattle.std.specs.Prelude.{◌≡◌, ◌≤◌, true};
+ghost use Rattle.step_record.specs.declared.limits.TheConstants.{MAX_STRIPES};
+ghost use Rattle.drive.specs.Places.{is_place};
+
+use super::place::Place;
+use step_record::{Call, Worker};
+
+/// A worker in the walk of one call: the act that it was asked to make last, or is to make first.
+#[derive(Clone, Copy)]
+pub struct Local {
+    pub worker: Worker,
+    pub stripes: u8,
+    pub place: Place,
+    pub ghost some: { 1 ≤ stripes },
+    pub ghost few: { stripes ≤ MAX_STRIPES },
+    pub ghost placed: { is_place stripes place ≡ true },
+}
+
+impl Local {
+    ghost use Rattle.std.specs.Prelude.{◌↔◌};
+    ghost use Rattle.drive.specs.Walks.{Entries, IsWalk};
+    ghost use Rattle.drive.specs.Places.{Ahead};
+
+    /// At the beginning of the walk of a call, of a cache with so many read buffers: 1 to [`MAX_STRIPES`].
+    ///
+    /// [`MAX_STRIPES`]: step_record::MAX_STRIPES
+    pub fn start(worker: Worker, stripes: u8, call: Call) -> Local
+        requires { (1 ≤ stripes) × (stripes ≤ MAX_STRIPES) }
+        ensures ahead { (es : Entries) → IsWalk worker stripes call es ↔ Ahead result.worker result.stripes result.place es }
+        ensures same { (result.worker ≡ worker) × (result.stripes ≡ stripes) }
+    {
+        let place = match call {
+            Call::Read(key) => Place::Look { key },
+            Call::Remove(key) => Place::Remove { key },
+        };
+        Local {
+            worker,
+            stripes,
+            place,
+        }
+    }
+}

@@ -1,0 +1,120 @@
+//! What one worker does over a session that workers take in turns.
+ghost use Rattle.std.specs.Prelude.{◌≡◌, ◌≤◌, ℕ, ◌∷◌, ◌++◌, [], true, length, OnOk, OnErr, IfOk, MatchResult, Some, Err};
+ghost use Rattle.step_record.specs.declared.limits.TheConstants.{MAX_STRIPES};
+ghost use Rattle.step_record.specs.Answers.{AnswersItsActs, is_answer};
+ghost use Rattle.turn_book.specs.Turns.{number_of, own_of, shown_in};
+ghost use Rattle.journal.specs.Session.{SessionState};
+ghost use Rattle.drive.specs.Walks.{IsWalk, AreWalks};
+ghost use Rattle.drive.specs.Made.{Made, BeginsWalk, BeginWalks};
+
+use super::local::Local;
+use super::next::{Next, entry_of, next_step};
+use journal::{Session, SessionFault};
+use std::sync::Wait;
+use step_record::{Call, Engine, Entry, Gate, Reply, Step, Worker};
+use turn_book::{Pass, TurnBook};
+
+/// Makes one step in a turn. It is refused where the session refuses it, or where the pass is spent.
+pub fn turn<E: Engine<Step = Step, Reply = Reply> + Drop, R: Wait>(
+    rt: &R,
+    book: &TurnBook<Session<E>>,
+    pass: Pass<Session<E>>,
+    step: Step,
+) -> (Pass<Session<E>>, Result<Reply, SessionFault>)
+    requires own { pass.seat.table_id ≡ book.now.table.shared.table_id }
+    requires worker { number_of pass.seat.me.0 ≡ step.worker }
+    requires answers { AnswersItsActs E.act }
+    ensures same { result.0.seat.table_id ≡ pass.seat.table_id }
+    ensures worker { number_of result.0.seat.me.0 ≡ number_of pass.seat.me.0 }
+    ensures opening { result.0.seat.me.0.opening ≡ pass.seat.me.0.opening }
+    ensures own { MatchResult result.1 (λ r. own_of result.0.seat.me.0 ≡ own_of pass.seat.me.0 ++ record { step = step; reply = r } ∷ []) (λ _. own_of result.0.seat.me.0 ≡ own_of pass.seat.me.0) }
+    ensures answer { IfOk result.1 (λ r. is_answer step.act r ≡ true) }
+    // A full journal: what the pass last saw is as long as the limit.
+    ensures full { result.1 ≡ Err SessionFault.JournalFull → (o : SessionState E E.Data Step Reply) → pass.seat.me.0.opening ≡ Some o → length (shown_in result.0.seat.me.0.parts) ≡ o.limit }
+{
+    match book.take(rt, pass) {
+        Ok(mut turn) => match turn.value().step(step) {
+            Ok(reply) => (book.give(turn), Ok(reply)),
+            Err(fault) => (book.give(turn), Err(fault)),
+        },
+        Err(pass) => (pass, Err(SessionFault::OutOfMemory)),
+    }
+}
+
+/// Makes the walk of one call, a turn for each step.
+pub fn walk_in_turns<E: Engine<Step = Step, Reply = Reply> + Drop, R: Wait>(
+    rt: &R,
+    book: &TurnBook<Session<E>>,
+    mut pass: Pass<Session<E>>,
+    list: &mut Vec<Entry<Step, Reply>>,
+    worker: Worker,
+    stripes: u8,
+    call: Call,
+) -> (Pass<Session<E>>, Result<(), SessionFault>)
+    requires own { pass.seat.table_id ≡ book.now.table.shared.table_id }
+    requires worker { number_of pass.seat.me.0 ≡ worker }
+    requires answers { AnswersItsActs E.act }
+    requires stripes { (1 ≤ stripes) × (stripes ≤ MAX_STRIPES) }
+    ensures same { result.0.seat.table_id ≡ pass.seat.table_id }
+    ensures worker { number_of result.0.seat.me.0 ≡ worker }
+    ensures opening { result.0.seat.me.0.opening ≡ pass.seat.me.0.opening }
+    ensures ok { OnOk result.1 (Made (IsWalk worker stripes call) (own_of pass.seat.me.0) (own_of result.0.seat.me.0) list.old.items list.new.items) }
+    ensures err { OnErr result.1 (Made (BeginsWalk worker stripes call) (own_of pass.seat.me.0) (own_of result.0.seat.me.0) list.old.items list.new.items) }
+    ensures full { result.1 ≡ Err SessionFault.JournalFull → (o : SessionState E E.Data Step Reply) → pass.seat.me.0.opening ≡ Some o → length (shown_in result.0.seat.me.0.parts) ≡ o.limit }
+{
+    let mut next = next_step(Local::start(worker, stripes, call), None);
+    for _ in rt.forever() {
+        let Next::Do(act, local) = next else {
+            return (pass, Ok(()));
+        };
+        if list.reserve(1).is_err() {
+            return (pass, Err(SessionFault::OutOfMemory));
+        }
+        let step = Step { worker, act };
+        let (given, answer) = turn(rt, book, pass, step);
+        pass = given;
+        match answer {
+            Ok(reply) => {
+                list.push_reserved(entry_of(worker, act, reply));
+                next = next_step(local, Some(reply));
+            }
+            Err(fault) => return (pass, Err(fault)),
+        }
+    }
+    unreachable!()
+}
+
+/// Makes one walk for each call, in order, a turn for each step. The gate is called around each
+/// call, without a turn.
+pub fn work_in_turns<E: Engine<Step = Step, Reply = Reply> + Drop, G: Gate, R: Wait>(
+    rt: &R,
+    gate: &G,
+    book: &TurnBook<Session<E>>,
+    mut pass: Pass<Session<E>>,
+    list: &mut Vec<Entry<Step, Reply>>,
+    worker: Worker,
+    stripes: u8,
+    calls: &[Call],
+) -> (Pass<Session<E>>, Result<(), SessionFault>)
+    requires own { pass.seat.table_id ≡ book.now.table.shared.table_id }
+    requires worker { number_of pass.seat.me.0 ≡ worker }
+    requires answers { AnswersItsActs E.act }
+    requires stripes { (1 ≤ stripes) × (stripes ≤ MAX_STRIPES) }
+    ensures same { result.0.seat.table_id ≡ pass.seat.table_id }
+    ensures worker { number_of result.0.seat.me.0 ≡ worker }
+    ensures opening { result.0.seat.me.0.opening ≡ pass.seat.me.0.opening }
+    ensures ok { OnOk result.1 (Made (AreWalks worker stripes calls.now) (own_of pass.seat.me.0) (own_of result.0.seat.me.0) list.old.items list.new.items) }
+    ensures err { OnErr result.1 (Made (BeginWalks worker stripes calls.now) (own_of pass.seat.me.0) (own_of result.0.seat.me.0) list.old.items list.new.items) }
+    ensures full { result.1 ≡ Err SessionFault.JournalFull → (o : SessionState E E.Data Step Reply) → pass.seat.me.0.opening ≡ Some o → length (shown_in result.0.seat.me.0.parts) ≡ o.limit }
+{
+    for (n, call) in calls.iter().enumerate() {
+        gate.before(worker.number(), n as u64);
+        let (given, answer) = walk_in_turns(rt, book, pass, list, worker, stripes, *call);
+        pass = given;
+        if let Err(fault) = answer {
+            return (pass, Err(fault));
+        }
+        gate.after(worker.number(), n as u64);
+    }
+    (pass, Ok(()))
+}

@@ -1,0 +1,170 @@
+-- The bytes of a journal, line by line.
+use Rattle.std.proofs.Common.{◌≡◌, ◌≢◌, ◌∙◌, ◌<◌, ◌≤◌, ◌+◌, ◌-◌, ◌==◌, ◌⊎◌, inl, inr, ℕ, Bool, true, false, List, [], ◌∷◌, ◌++◌, length, take, drop, ap, sym, refl, subst, arith, Option, Some, None, Result, Ok, Err, append_assoc, length-append}
+use Rattle.std.proofs.lemmas.List.Elements.{All-from_recursion, All-nil, All-push}
+use Rattle.std.proofs.lemmas.List.{append-nil, flat_map_more}
+use Rattle.std.proofs.lemmas.List.Splits.{length-slice_split, slice_split_at, slice_split_none}
+use Rattle.std.specs.List.{slice_split}
+use Rattle.std.specs.Prelude.{IfErr, IsErrAnd, OnOk}
+use Rattle.journal_text.proofs.Cuts.{cut_at}
+use Rattle.journal_text.specs.Cut.{feed_in}
+use Rattle.journal_text.specs.Faults.{IsFault, IsUnread, IsWrong, Lacks10, Took}
+use Rattle.journal_text.specs.Journal.{begun, closing, ended, entry_line, header, journal_of, AreLines, Entries, IsTextOf}
+use Rattle.journal_text.specs.Table.{text_of, IsLine}
+use Rattle.journal_text.specs.declared.fault.JournalFault.{JournalFault}
+use Rattle.journal_text.specs.declared.fault.JournalFault.TheVariants as fault
+use Rattle.journal_text.specs.declared.line.Line.TheVariants.{Made, Steps}
+use Rattle.journal_text.specs.declared.version.Version.{Version}
+use Rattle.journal_text.specs.declared.version.Version.TheVariants.{One, Two}
+use Rattle.step_record.specs.declared.entry.Entry.{Entry}
+use Rattle.step_record.specs.declared.step.Reply.{Reply}
+use Rattle.step_record.specs.declared.step.Step.{Step}
+
+pub begun_none : (v : Version) → begun v [] ≡ ended (header v)
+unfolding begun
+begun_none v = append-nil (ended (header v))
+
+pub begun_more : (v : Version) (es : Entries) (e : Entry Step Reply) → begun v (es ++ e ∷ []) ≡ begun v es ++ entry_line e
+unfolding begun
+begun_more v es e = sym (flat_map_more entry_line (ended (header v)) es e)
+
+first_part : (a more : List ℕ) → Lacks10 a → slice_split (λ b. b == 10) (ended a ++ more) ≡ a ∷ slice_split (λ b. b == 10) more
+first_part a more h = ap (slice_split (λ b. b == 10)) (append_assoc a (10 ∷ []) more) ∙ slice_split_at (λ b. b == 10) a 10 more h refl
+
+-- the first line is one line
+pub same_line : (a b x y : List ℕ) → Lacks10 a → Lacks10 b → ended a ++ x ≡ ended b ++ y → (a ≡ b) × (slice_split (λ b. b == 10) x ≡ slice_split (λ b. b == 10) y)
+same_line a b x y h k e =
+    let both : a ∷ slice_split (λ b. b == 10) x ≡ b ∷ slice_split (λ b. b == 10) y = sym (first_part a x h) ∙ ap (slice_split (λ b. b == 10)) e ∙ first_part b y k in
+    (cc, cc)
+
+not_none : (y : List ℕ) → [] ≢ slice_split (λ b. b == 10) y
+not_none y h =
+    let count = length-slice_split (λ b. b == 10) y in
+    let none : 0 ≡ length (slice_split (λ b. b == 10) y) = ap length h in
+    omega arith
+
+-- a text without a line feed has no line that ended
+pub no_line : (a b y : List ℕ) → Lacks10 a → Lacks10 b → a ≢ ended b ++ y
+no_line a b y h k e =
+    let both : a ∷ [] ≡ b ∷ slice_split (λ b. b == 10) y = sym (slice_split_none (λ b. b == 10) a h) ∙ ap (slice_split (λ b. b == 10)) e ∙ first_part b y k in
+    let none : [] ≡ slice_split (λ b. b == 10) y = cc in
+    not_none y none
+
+pub header_lacks : (v : Version) → Lacks10 (header v)
+header_lacks One = All-from_recursion (λ b. (b == 10) ≡ false) (header One) (refl, (refl, (refl, (refl, (refl, (refl, (refl, (refl, (refl, (refl, (refl, (refl, (refl, (refl, (refl, (refl, (refl, (refl, tt))))))))))))))))))
+header_lacks Two = All-from_recursion (λ b. (b == 10) ≡ false) (header Two) (refl, (refl, (refl, (refl, (refl, (refl, (refl, (refl, (refl, (refl, (refl, (refl, (refl, (refl, (refl, (refl, (refl, (refl, tt))))))))))))))))))
+
+-- ---- the lines behind the header
+
+-- a line, and what is behind its line feed
+pub split : (rest : List ℕ) (k : ℕ) → k ≡ feed_in rest → k < length rest → rest ≡ ended (take k rest) ++ drop (k + 1) rest
+split rest k at lt =
+    let here : rest ≡ take (feed_in rest) rest ++ (10 ∷ drop (feed_in rest + 1) rest) = cut_at 10 rest (omega arith) in
+    here ∙ sym (append_assoc (take (feed_in rest) rest) (10 ∷ []) (drop (feed_in rest + 1) rest)) ∙ ap (λ n. ended (take n rest) ++ drop (n + 1) rest) (sym at)
+
+-- an entry more was taken, and its line is gone
+pub line_gone : (v : Version) (old new : Entries) (text rest behind whole : List ℕ) (closed : Bool) → closed ≡ false → Took closed v text old new
+    → begun v old ++ rest ≡ whole → rest ≡ ended text ++ behind → begun v new ++ behind ≡ whole
+line_gone v old new text rest behind whole closed more took before line =
+    let t = subst (λ b. Took b v text old new) more took in
+    ap (λ k. begun v k ++ behind) t.3 ∙ ap (λ t. t ++ behind) (begun_more v old t.0) ∙ append_assoc (begun v old) (entry_line t.0) behind
+    ∙ ap (λ x. begun v old ++ (ended x ++ behind)) t.2 ∙ ap (λ r. begun v old ++ r) (sym line) ∙ before
+
+-- and it is a line of the table too
+pub line_more : (v : Version) (old new : Entries) (text : List ℕ) (closed : Bool) → closed ≡ false → Took closed v text old new → AreLines v old → AreLines v new
+line_more v old new text closed more took lines =
+    let t = subst (λ b. Took b v text old new) more took in
+    subst (AreLines v) (sym t.3) (All-push (λ e. IsLine v (Made e)) old t.0 lines t.1)
+
+-- the count was taken: what came are the entries of version 2 and their count
+pub closed_text : (v : Version) (old new : Entries) (text rest behind whole : List ℕ) (closed : Bool) → closed ≡ true → Took closed v text old new
+    → begun v old ++ rest ≡ whole → rest ≡ ended text ++ behind → whole ≡ journal_of Two new ++ behind
+closed_text v old new text rest behind whole closed done took before line =
+    let t = subst (λ b. Took b v text old new) done took in
+    let front : begun v old ≡ begun Two new = ap (λ u. begun u old) t.0 ∙ ap (begun Two) (sym t.2) in
+    let count : text ≡ text_of (Steps (length new)) = sym t.1 ∙ ap (λ k. text_of (Steps (length k))) (sym t.2) in
+    sym before ∙ ap (λ f. f ++ rest) front ∙ ap (λ r. begun Two new ++ r) (line ∙ ap (λ x. ended x ++ behind) count)
+    ∙ sym (append_assoc (begun Two new) (ended (text_of (Steps (length new)))) behind)
+
+pub closed_lines : (v : Version) (old new : Entries) (text : List ℕ) (closed : Bool) → closed ≡ true → Took closed v text old new → AreLines v old → AreLines Two new
+closed_lines v old new text closed done took lines =
+    let t = subst (λ b. Took b v text old new) done took in
+    subst (AreLines Two) (sym t.2) (subst (λ w. AreLines w old) t.0 lines)
+
+-- ---- faults
+
+-- what holds of the fault that came holds of the one that is returned
+pub errs : {T E : Type 0} (r : Result T E) (e : E) (P : E → Type 0) → IsErrAnd r (λ y. y ≡ e) → P e → IfErr r P
+errs (Ok v) e P h p = tt
+errs (Err y) e P h p = subst P (sym h) p
+
+module _ {D : Type 0} (act : D → Step → Option (Reply × D)) (x : D) (limit : ℕ) where
+  -- a line that is wrong is the fault of the text
+  pub wrong_line : (f : JournalFault) (v : Version) (es : Entries) (text rest behind whole : List ℕ) (kept : Entries) → AreLines v es
+      → begun v es ++ rest ≡ whole → rest ≡ ended text ++ behind → Lacks10 text → IsWrong act x limit f v es text kept → IsFault act x limit f whole kept
+  wrong_line fault.OutOfMemory v es text rest behind whole kept lines before line lacks wrong =
+      inr (v, rest, sym before ∙ ap (λ k. begun v k ++ rest) (sym wrong))
+  wrong_line (fault.Line n) v es text rest behind whole kept lines before line lacks wrong =
+      inl (v, es, text, behind, lines, sym before ∙ ap (λ r. begun v es ++ r) line, lacks, wrong)
+  wrong_line (fault.FalseReply n) v es text rest behind whole kept lines before line lacks wrong =
+      (v, es, text, behind, lines, sym before ∙ ap (λ r. begun v es ++ r) line, lacks, wrong)
+  wrong_line (fault.NotNow n) v es text rest behind whole kept lines before line lacks wrong =
+      (v, es, text, behind, lines, sym before ∙ ap (λ r. begun v es ++ r) line, lacks, wrong)
+  wrong_line (fault.JournalFull n) v es text rest behind whole kept lines before line lacks wrong =
+      (v, es, text, behind, lines, sym before ∙ ap (λ r. begun v es ++ r) line, lacks, wrong)
+  wrong_line fault.Count v es text rest behind whole kept lines before line lacks wrong =
+      (v, es, text, behind, lines, sym before ∙ ap (λ r. begun v es ++ r) line, lacks, wrong)
+  wrong_line fault.Header v es text rest behind whole kept lines before line lacks wrong = absurd wrong
+  wrong_line fault.Unended v es text rest behind whole kept lines before line lacks wrong = absurd wrong
+  wrong_line fault.Read v es text rest behind whole kept lines before line lacks wrong = absurd wrong
+  wrong_line fault.TooLarge v es text rest behind whole kept lines before line lacks wrong = absurd wrong
+
+  -- and it is found at a line
+  pub late : (f : JournalFault) (v : Version) (es : Entries) (text : List ℕ) (kept : Entries) → IsWrong act x limit f v es text kept → IsUnread f → ⊥
+  late fault.OutOfMemory v es text kept wrong u = u
+  late (fault.Line n) v es text kept wrong u = u
+  late (fault.FalseReply n) v es text kept wrong u = u
+  late (fault.NotNow n) v es text kept wrong u = u
+  late (fault.JournalFull n) v es text kept wrong u = u
+  late fault.Count v es text kept wrong u = u
+  late fault.Header v es text kept wrong u = wrong
+  late fault.Unended v es text kept wrong u = u
+  late fault.Read v es text kept wrong u = wrong
+  late fault.TooLarge v es text kept wrong u = wrong
+
+  some_left : (xs : List ℕ) → xs ≢ [] → 0 < length xs
+  some_left [] other = absurd (other refl)
+  some_left (y ∷ ys) other = omega arith
+
+  -- behind the count
+  pub closed_ok : {T : Type 0} (r : Result T JournalFault) (whole behind : List ℕ) (kept : Entries) → AreLines Two kept → whole ≡ journal_of Two kept ++ behind
+      → OnOk r (behind ≡ []) → OnOk r (IsTextOf whole kept)
+  closed_ok (Ok u) whole behind kept lines text none =
+      record { version = Two; lines = lines; text = text ∙ ap (λ b. journal_of Two kept ++ b) none ∙ append-nil (journal_of Two kept) }
+  closed_ok (Err f) whole behind kept lines text none = tt
+
+  pub closed_err : {T : Type 0} (r : Result T JournalFault) (whole behind : List ℕ) (kept : Entries) → AreLines Two kept → whole ≡ journal_of Two kept ++ behind
+      → IfErr r (λ f. (f ≡ fault.Line (length kept + 1)) × (behind ≢ [])) → IfErr r (λ f. IsFault act x limit f whole kept)
+  closed_err (Ok u) whole behind kept lines text h = tt
+  closed_err (Err f) whole behind kept lines text h =
+      subst (λ g. IsFault act x limit g whole kept) (sym h.0) (inr (refl, (behind, lines, some_left behind h.1, text)))
+
+  pub closed_late : {T : Type 0} (r : Result T JournalFault) (n : ℕ) (behind : List ℕ) → IfErr r (λ f. (f ≡ fault.Line n) × (behind ≢ [])) → IfErr r (λ f. IsUnread f → ⊥)
+  closed_late (Ok u) n behind h = tt
+  closed_late (Err f) n behind h = subst (λ g. IsUnread g → ⊥) (sym h.0) (λ u. u)
+
+  -- where no line more has its line feed
+  pub stopped_ok : {T : Type 0} (r : Result T JournalFault) (v : Version) (whole rest : List ℕ) (kept : Entries) → AreLines v kept → begun v kept ++ rest ≡ whole
+      → OnOk r ((v ≡ One) × (rest ≡ [])) → OnOk r (IsTextOf whole kept)
+  stopped_ok (Ok u) v whole rest kept lines text h =
+      record { version = One; lines = subst (λ w. AreLines w kept) h.0 lines; text = sym text ∙ ap (λ b. begun v kept ++ b) h.1 ∙ ap (λ w. begun w kept ++ []) h.0 }
+  stopped_ok (Err f) v whole rest kept lines text h = tt
+
+  pub stopped_err : {T : Type 0} (r : Result T JournalFault) (v : Version) (whole rest : List ℕ) (kept : Entries) → AreLines v kept → begun v kept ++ rest ≡ whole → Lacks10 rest
+      → IfErr r (λ f. (f ≡ fault.Unended) × (v ≡ One → 0 < length rest)) → IfErr r (λ f. IsFault act x limit f whole kept)
+  stopped_err (Ok u) v whole rest kept lines text lacks h = tt
+  stopped_err (Err f) v whole rest kept lines text lacks h =
+      subst (λ g. IsFault act x limit g whole kept) (sym h.0) (v, rest, lines, sym text, lacks, h.1)
+
+  pub stopped_late : {T : Type 0} (r : Result T JournalFault) (P : Type 0) → IfErr r (λ f. (f ≡ fault.Unended) × P) → IfErr r (λ f. IsUnread f → ⊥)
+  stopped_late (Ok u) P h = tt
+  stopped_late (Err f) P h = subst (λ g. IsUnread g → ⊥) (sym h.0) (λ u. u)

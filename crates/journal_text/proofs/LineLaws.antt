@@ -1,0 +1,256 @@
+-- A line that is read is one of the table, and each line of the table is read.
+use Rattle.std.proofs.Common.{◌≡◌, ◌∙◌, ◌<◌, ◌≤◌, ◌^◌, ◌&&◌, ◌||◌, ◌==◌, ℕ, zero, suc, Bool, true, false, List, [], ◌∷◌, ◌++◌, length, get_or, map, ap, sym, subst, refl, arith, Option, Some, None, cond}
+use Rattle.std.proofs.lemmas.Bool.{cond-true, cond-false, ne_eqb}
+use Rattle.std.proofs.lemmas.Fmt.{decimal_is_IsNumeral}
+use Rattle.std.proofs.lemmas.List.{append-nil, map-append}
+use Rattle.std.proofs.lemmas.List.Elements.{All-cons, All-nil, All-append}
+use Rattle.std.proofs.lemmas.List.Splits.{slice_split_at, slice_split_none, join_with_byte-slice_split}
+use Rattle.std.proofs.lemmas.Str.Parse.{digit_from_value}
+use Rattle.std.proofs.lemmas.Bool.Decides.{nat_tests}
+use Rattle.std.specs.Prelude.{nat_lt}
+use Rattle.std.specs.Fmt.{decimal}
+use Rattle.std.specs.List.{All, AllByRecursion, join_with_byte, list_any, slice_split}
+use Rattle.std.specs.Str.Parse.{AllDigits}
+use Rattle.journal_text.specs.Names.{spelling}
+use Rattle.journal_text.specs.Reading.{◌>>=◌, digits_of, number_of, name_at, wide_at, small_at, act_at, reply_at, at_end, only_equals, only_steps, entry_in, count_in, made_in, or_made, line_in, words_of}
+use Rattle.journal_text.specs.declared.word.Word.{Word}
+use Rattle.journal_text.specs.declared.word.Word.TheVariants.{Named, Worker, Stripe, Wide}
+use Rattle.journal_text.specs.Table.{word_text, spelled, FitsWord, Fit, act_words, reply_words, entry_words, count_words, line_words, text_of, is_answer_in, IsLine}
+use Rattle.journal_text.specs.declared.line.Line.{Line}
+use Rattle.journal_text.specs.declared.line.Line.TheVariants.{Made, Steps}
+use Rattle.journal_text.specs.declared.name.Name.{Name}
+use Rattle.journal_text.specs.declared.name.Name.TheVariants as name
+use Rattle.journal_text.specs.declared.version.Version.{Version}
+use Rattle.journal_text.specs.declared.version.Version.TheVariants.{One, Two}
+use Rattle.journal_text.proofs.Spellings.{number_again}
+use Rattle.journal_text.proofs.Parsed.{name_back, wide_back, small_back, act_back, reply_back, some_same, bound, name_taken, wide_taken, small_taken, act_taken, reply_taken}
+use Rattle.step_record.specs.declared.entry.Entry.{Entry}
+use Rattle.step_record.specs.declared.step.Act.{Act}
+use Rattle.step_record.specs.declared.step.Reply.{Reply}
+use Rattle.step_record.specs.declared.step.Step.{Step}
+
+-- ---- words and entries
+
+fit_parts : (xs ys : List Word) → Fit (xs ++ ys) → Fit xs × Fit ys
+fit_parts [] ys f = (tt, f)
+fit_parts (x ∷ xs) ys f = let p = fit_parts xs ys f.1 in ((f.0, p.0), p.1)
+
+fit_joined : (xs ys : List Word) → Fit xs → Fit ys → Fit (xs ++ ys)
+fit_joined [] ys f g = g
+fit_joined (x ∷ xs) ys f g = (f.0, fit_joined xs ys f.1 g)
+
+pub entry_back : (e : Entry Step Reply) → Fit (entry_words e) → entry_in (map word_text (entry_words e)) ≡ Some e
+unfolding entry_in
+entry_back e f =
+    let a = e.step.act in
+    let r = e.reply in
+    let behind = Named name.Equals ∷ reply_words r in
+    let parts = fit_parts (act_words a) behind f.1 in
+    let worker : small_at 64 (map word_text (entry_words e)) ≡ Some (e.step.worker, map word_text (act_words a ++ behind)) = small_back _ 64 e.step.worker (omega arith) f.0 in
+    let act : act_at (map word_text (act_words a ++ behind)) ≡ Some (a, map word_text behind) = ap act_at (map-append word_text (act_words a) behind) ∙ act_back (map word_text behind) a parts.0 in
+    let equals : name_at (map word_text behind) ≡ Some (name.Equals, map word_text (reply_words r)) = name_back (map word_text (reply_words r)) name.Equals in
+    let reply : reply_at (map word_text (reply_words r)) ≡ Some (r, []) = ap reply_at (sym (append-nil (map word_text (reply_words r)))) ∙ reply_back [] r parts.1.1 in
+    rw worker (rw act (rw equals (rw reply refl)))
+
+equals_is : (n : Name) (u : Unit {0}) → only_equals n ≡ Some u → n ≡ name.Equals
+equals_is name.Equals u h = refl
+equals_is _ u h = absurd (cc)
+
+steps_is : (n : Name) (u : Unit {0}) → only_steps n ≡ Some u → n ≡ name.Steps
+steps_is name.Steps u h = refl
+steps_is _ u h = absurd (cc)
+
+end_taken : {A : Type 0} (x y : A) (ws : List (List ℕ)) → at_end (x, ws) ≡ Some y → (x ≡ y) × (ws ≡ [])
+end_taken x y [] h = (some_same h, refl)
+end_taken x y (w ∷ ws) h = absurd (cc)
+
+pub entry_taken : (ws : List (List ℕ)) (e : Entry Step Reply) → entry_in ws ≡ Some e → (ws ≡ map word_text (entry_words e)) × Fit (entry_words e)
+unfolding entry_in
+entry_taken ws e h =
+    let worker = bound (small_at 64 ws) _ e h in
+    let act = bound (act_at worker.0.1) _ e worker.2 in
+    let equals = bound (name_at act.0.1) _ e act.2 in
+    let only = bound (only_equals equals.0.0) _ e equals.2 in
+    let reply = bound (reply_at equals.0.1) _ e only.2 in
+    let done = end_taken _ e reply.0.1 reply.2 in
+    let w = small_taken 64 ws worker.0 worker.1 in
+    let a = act_taken worker.0.1 act.0 act.1 in
+    let n = name_taken act.0.1 equals.0 equals.1 in
+    let r = reply_taken equals.0.1 reply.0 reply.1 in
+    let last : equals.0.1 ≡ map word_text (reply_words reply.0.0) = r.0 ∙ ap (λ t. map word_text (reply_words reply.0.0) ++ t) done.1 ∙ append-nil (map word_text (reply_words reply.0.0)) in
+    let behind : act.0.1 ≡ map word_text (Named name.Equals ∷ reply_words reply.0.0) = n ∙ ap (λ m. spelling m ∷ equals.0.1) (equals_is equals.0.0 only.0 only.1) ∙ ap (λ t. spelling name.Equals ∷ t) last in
+    let after : worker.0.1 ≡ map word_text (act_words act.0.0 ++ (Named name.Equals ∷ reply_words reply.0.0)) = a.0 ∙ ap (λ t. map word_text (act_words act.0.0) ++ t) behind ∙ sym (map-append word_text (act_words act.0.0) (Named name.Equals ∷ reply_words reply.0.0)) in
+    let P : Entry Step Reply → Type 0 = λ x. (ws ≡ map word_text (entry_words x)) × Fit (entry_words x) in
+    subst P done.0 (w.0 ∙ ap (λ t. decimal worker.0.0 ∷ t) after, (w.1, fit_joined (act_words act.0.0) (Named name.Equals ∷ reply_words reply.0.0) a.1 (tt, r.1)))
+
+pub count_back : (n : ℕ) → n < 2 ^ 64 → count_in (map word_text (count_words n)) ≡ Some n
+unfolding count_in
+count_back n h =
+    let steps : name_at (map word_text (count_words n)) ≡ Some (name.Steps, decimal n ∷ []) = name_back (decimal n ∷ []) name.Steps in
+    let wide : wide_at (decimal n ∷ []) ≡ Some (n, []) = wide_back [] n h in
+    rw steps (rw wide refl)
+
+pub count_taken : (ws : List (List ℕ)) (n : ℕ) → count_in ws ≡ Some n → (ws ≡ map word_text (count_words n)) × (n < 2 ^ 64)
+unfolding count_in
+count_taken ws n h =
+    let steps = bound (name_at ws) _ n h in
+    let only = bound (only_steps steps.0.0) _ n steps.2 in
+    let wide = bound (wide_at steps.0.1) at_end n only.2 in
+    let done = end_taken wide.0.0 n wide.0.1 wide.2 in
+    let w = wide_taken steps.0.1 wide.0 wide.1 in
+    let number : steps.0.1 ≡ decimal n ∷ [] = w.0 ∙ ap (λ k. decimal k ∷ wide.0.1) done.0 ∙ ap (λ t. decimal n ∷ t) done.1 in (
+      name_taken ws steps.0 steps.1 ∙ ap (λ m. spelling m ∷ steps.0.1) (steps_is steps.0.0 only.0 only.1) ∙ ap (λ t. spelling name.Steps ∷ t) number,
+      subst (λ k. k < 2 ^ 64) done.0 w.1,
+    )
+
+-- ---- the bytes of words
+
+or_false : (p q : Bool) → (p || q) ≡ false → (p ≡ false) × (q ≡ false)
+or_false true q e = absurd (cc)
+or_false false q e = (refl, e)
+
+module _ (c : ℕ) where
+  abbrev Lacks : List ℕ → Type 0
+  Lacks xs = All (λ b. (b == c) ≡ false) xs
+
+  digits_lack : c < 48 → (ds : List ℕ) → AllDigits 10 ds → Lacks ds
+  digits_lack h [] d = All-nil (λ b. (b == c) ≡ false)
+  digits_lack h (b ∷ ds) d =
+      let r = digit_from_value b d.0 in
+      All-cons (λ b. (b == c) ≡ false) b ds (ne_eqb b c (λ e. omega arith)) (digits_lack h ds d.1)
+
+  decimal_lacks : c < 48 → (n : ℕ) → n < 2 ^ 64 → Lacks (decimal n)
+  decimal_lacks h n l = digits_lack h (decimal n) (decimal_is_IsNumeral n l).0.1
+
+  printed_lacks : c < 33 → (xs : List ℕ) → list_any (λ b. nat_lt b 33) xs ≡ false → Lacks xs
+  printed_lacks h [] e = All-nil (λ b. (b == c) ≡ false)
+  printed_lacks h (b ∷ xs) e =
+      let parts = or_false (nat_lt b 33) (list_any (λ b. nat_lt b 33) xs) e in
+      let large : nat_lt b 33 ≡ false = parts.0 in
+      let above : 33 ≤ b = grind (arith, nat_tests) in
+      All-cons (λ b. (b == c) ≡ false) b xs (ne_eqb b c (λ e. omega arith)) (printed_lacks h xs parts.1)
+
+printed : (n : Name) → list_any (λ b. nat_lt b 33) (spelling n) ≡ false
+printed name.Look = refl
+printed name.Offer = refl
+printed name.Lose = refl
+printed name.Put = refl
+printed name.Remove = refl
+printed name.AfterRead = refl
+printed name.AfterWrite = refl
+printed name.Begin = refl
+printed name.DrainRead = refl
+printed name.DrainWrite = refl
+printed name.Evict = refl
+printed name.End = refl
+printed name.Equals = refl
+printed name.Hit = refl
+printed name.Miss = refl
+printed name.Kept = refl
+printed name.Full = refl
+printed name.Lost = refl
+printed name.Added = refl
+printed name.Present = refl
+printed name.WritesFull = refl
+printed name.Removed = refl
+printed name.Absent = refl
+printed name.Go = refl
+printed name.Drain = refl
+printed name.Began = refl
+printed name.Busy = refl
+printed name.Drained = refl
+printed name.Empty = refl
+printed name.Applied = refl
+printed name.Cleared = refl
+printed name.Enough = refl
+printed name.Shifted = refl
+printed name.Evicted = refl
+printed name.Rejected = refl
+printed name.Fits = refl
+printed name.Idle = refl
+printed name.Again = refl
+printed name.NotYet = refl
+printed name.Steps = refl
+
+word_lacks : (c : ℕ) → c < 33 → (w : Word) → FitsWord w → Lacks c (word_text w)
+word_lacks c h (Named n) f = printed_lacks c h (spelling n) (printed n)
+word_lacks c h (Worker n) f = decimal_lacks c (omega arith) n (omega arith)
+word_lacks c h (Stripe n) f = decimal_lacks c (omega arith) n (omega arith)
+word_lacks c h (Wide n) f = decimal_lacks c (omega arith) n f
+
+pub spelled_words : (w : Word) (ws : List Word) → Fit (w ∷ ws) → words_of (spelled (w ∷ ws)) ≡ map word_text (w ∷ ws)
+spelled_words w [] f = slice_split_none (λ b. b == 32) (word_text w) (word_lacks 32 (omega arith) w f.0)
+spelled_words w (v ∷ vs) f =
+    slice_split_at (λ b. b == 32) (word_text w) 32 (spelled (v ∷ vs)) (word_lacks 32 (omega arith) w f.0) refl
+    ∙ ap (λ t. word_text w ∷ t) (spelled_words v vs f.1)
+
+-- a line has no line feed in it
+pub spelled_lacks : (w : Word) (ws : List Word) → Fit (w ∷ ws) → Lacks 10 (spelled (w ∷ ws))
+spelled_lacks w [] f = word_lacks 10 (omega arith) w f.0
+spelled_lacks w (v ∷ vs) f =
+    All-append (λ b. (b == 10) ≡ false) (word_text w) (32 ∷ spelled (v ∷ vs)) (word_lacks 10 (omega arith) w f.0)
+    (All-cons (λ b. (b == 10) ≡ false) 32 (spelled (v ∷ vs)) refl (spelled_lacks v vs f.1))
+
+-- ---- lines
+
+no_count : (w : ℕ) (rest : List (List ℕ)) (o : Option ℕ) → w < 64 → count_in (decimal w ∷ rest) ≡ o → o ≡ None
+unfolding number_of digits_of
+no_count w rest None h e = refl
+no_count w rest (Some n) h e =
+    let words : decimal w ∷ rest ≡ map word_text (count_words n) = (count_taken (decimal w ∷ rest) n e).0 in
+    let first : decimal w ≡ spelling name.Steps = cc in
+    let read : Some w ≡ number_of (spelling name.Steps) = sym (number_again w (omega arith)) ∙ ap number_of first in
+    let none : number_of (spelling name.Steps) ≡ None = refl in
+    absurd (cc)
+
+made_back : (v : Version) (e : Entry Step Reply) → Fit (entry_words e) → is_answer_in v e.step.act e.reply ≡ true
+    → made_in v (spelled (entry_words e)) ≡ Some (Made e)
+unfolding made_in
+made_back v e f a =
+    let words : words_of (spelled (entry_words e)) ≡ map word_text (entry_words e) = spelled_words (Worker e.step.worker) _ f in
+    let read : entry_in (words_of (spelled (entry_words e))) ≡ Some e = ap entry_in words ∙ entry_back e f in
+    rw read (cond-true (is_answer_in v e.step.act e.reply) (Some (Made e)) None a)
+
+-- Each line of the table is read.
+pub line_again : (v : Version) (l : Line) → IsLine v l → line_in v (text_of l) ≡ Some l
+unfolding line_in IsLine text_of
+line_again One (Made e) h = made_back One e h.0 h.1
+line_again Two (Made e) h =
+    let words : words_of (spelled (entry_words e)) ≡ map word_text (entry_words e) = spelled_words (Worker e.step.worker) _ h.0 in
+    let none : count_in (words_of (spelled (entry_words e))) ≡ None = ap count_in words ∙ no_count e.step.worker _ _ h.0.0 refl in
+    ap (λ o. or_made o (made_in Two (spelled (entry_words e)))) none ∙ made_back Two e h.0 h.1
+line_again One (Steps n) h = absurd h
+line_again Two (Steps n) h =
+    let words : words_of (spelled (count_words n)) ≡ map word_text (count_words n) = spelled_words (Named name.Steps) (Wide n ∷ []) (tt, (h, tt)) in
+    let some : count_in (words_of (spelled (count_words n))) ≡ Some n = ap count_in words ∙ count_back n h in
+    ap (λ o. or_made o (made_in Two (spelled (count_words n)))) some
+
+answered : (v : Version) (e : Entry Step Reply) (l : Line) (b : Bool) → is_answer_in v e.step.act e.reply ≡ b → cond b (Some (Made e)) None ≡ Some l
+    → (is_answer_in v e.step.act e.reply ≡ true) × (Made e ≡ l)
+answered v e l true a h = (a, some_same h)
+answered v e l false a h = absurd (cc)
+
+made_taken : (v : Version) (text : List ℕ) (l : Line) → made_in v text ≡ Some l → IsLine v l × (text_of l ≡ text)
+unfolding made_in IsLine text_of
+made_taken v text l h =
+    let b = bound (entry_in (words_of text)) _ l h in
+    let e = b.0 in
+    let t = entry_taken (words_of text) e b.1 in
+    let a = answered v e l _ refl b.2 in
+    let P : Line → Type 0 = λ m. IsLine v m × (text_of m ≡ text) in
+    subst P a.1 ((t.1, a.0), sym (ap (join_with_byte 32) t.0) ∙ join_with_byte-slice_split 32 text)
+
+count_or : (text : List ℕ) (l : Line) (o : Option ℕ) → count_in (words_of text) ≡ o → or_made o (made_in Two text) ≡ Some l → IsLine Two l × (text_of l ≡ text)
+unfolding IsLine text_of
+count_or text l None e h = made_taken Two text l h
+count_or text l (Some n) e h =
+    let t = count_taken (words_of text) n e in
+    let P : Line → Type 0 = λ m. IsLine Two m × (text_of m ≡ text) in
+    let same : Steps n ≡ l = some_same h in
+    subst P same (t.1, sym (ap (join_with_byte 32) t.0) ∙ join_with_byte-slice_split 32 text)
+
+-- What is read is a line of the table.
+pub line_taken : (v : Version) (text : List ℕ) (l : Line) → line_in v text ≡ Some l → IsLine v l × (text_of l ≡ text)
+unfolding line_in
+line_taken One text l h = made_taken One text l h
+line_taken Two text l h = count_or text l _ refl h

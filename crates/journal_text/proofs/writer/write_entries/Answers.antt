@@ -1,0 +1,46 @@
+use Rattle.std.proofs.Common.{◌≡◌, ◌∙◌, ◌≤◌, ◌+◌, ◌-◌, ◌++◌, ◌∷◌, [], List, ℕ, zero, suc, Some, ap, sym, subst, refl, arith, take}
+use Rattle.std.proofs.lemmas.List.Elements.{All-nil, All-push}
+use Rattle.std.specs.Prelude.{slice_get}
+use Rattle.journal_text.specs.Journal.{begun, entry_line}
+use Rattle.journal_text.specs.Table.{entry_words, Fit}
+use Rattle.journal_text.specs.Writing.{AreFit}
+use Rattle.journal_text.specs.declared.version.Version.TheVariants.{Two}
+use Rattle.journal_text.proofs.Fronts.{begun_more}
+use Rattle.journal_text.proofs.Written.{gathered, passed, started}
+use Rattle.journal_text.proofs.writer.write_entries.Goals as goal
+
+taken : {A : Type 0} (xs : List A) (n : ℕ) (x : A) → slice_get xs n ≡ Some x → take (suc n) xs ≡ take n xs ++ x ∷ []
+taken [] n x h = absurd (cc)
+taken (y ∷ xs) zero x h = let same : y ≡ x = cc in ap (λ z. z ∷ []) same
+taken (y ∷ xs) (suc n) x h = ap (λ t. y ∷ t) (taken xs n x h)
+
+taken_at : {A : Type 0} (xs : List A) (n : ℕ) (x : A) → slice_get xs (n + 1 - 1) ≡ Some x → take (n + 1) xs ≡ take n xs ++ x ∷ []
+taken_at xs n x h =
+    let same : n + 1 - 1 ≡ n = omega arith in
+    let next : n + 1 ≡ suc n = omega arith in
+    ap (λ k. take k xs) next ∙ taken xs n x (subst (λ k. slice_get xs k ≡ Some x) same h)
+
+pub loop-n-init : goal.loop-n-init
+loop-n-init g c = record {
+  written = started (g.W.Write.contents c.args.writer.now) c.push_header.new.text.items (begun Two []) c.push_header.ensures.items;
+  room = omega (arith, c.push_header.ensures.capacity, c.requires.room);
+  fit = All-nil (λ e. Fit (entry_words e));
+}
+
+pub loop-n-preserved : goal.loop-n-preserved
+loop-n-preserved g c =
+    let kept = c.args.session.now.kept in
+    let n = c.loop-n.n in
+    let e = c.in-Some.entry.now in
+    let front = take n kept in
+    let next = taken_at kept n e c.in-Some.ensures in
+    let old = g.W.Write.contents c.args.writer.now in
+    let mid = g.W.Write.contents c.loop-n.writer in
+    let new = g.W.Write.contents c.make_room.new.writer in
+    let passed_on = passed old mid new c.loop-n.text.items c.make_room.new.text.items (begun Two front) c.loop-n.invariant.written c.in_ok-make_room.ensures.written in
+    record {
+      written = gathered old new c.make_room.new.text.items c.push_entry_line.new.text.items (entry_line e) (begun Two front) (begun Two (take (n + 1) kept))
+          c.push_entry_line.ensures.items (ap (begun Two) next ∙ begun_more Two front e) passed_on;
+      room = omega (arith, c.push_entry_line.ensures.capacity, c.in_ok-make_room.ensures.capacity);
+      fit = subst AreFit (sym next) (All-push (λ e. Fit (entry_words e)) front e c.loop-n.invariant.fit c.push_entry_line.ensures.fit);
+    }

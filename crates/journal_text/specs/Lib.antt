@@ -1,0 +1,9 @@
+pub mod Names
+pub mod Table
+pub mod Reading
+pub mod Journal
+pub mod Faults
+pub mod Cut
+pub mod Unread
+pub mod Told
+pub mod Writing

@@ -1,0 +1,33 @@
+//! The text of a session's journal: written from its applied steps, and read back into a session.
+//!
+//! `write_journal` promises that with `Ok` it has written exactly the text of the applied steps.
+//! `read_journal` accepts exactly the texts whose entries are legal from the session's state and
+//! within its limit, holds these entries then, and otherwise says what is wrong in the first line
+//! that is. The grammar is this project's own, with one spelling for each entry.
+#![tactic(auto)]
+
+mod fault;
+mod line;
+mod lines;
+mod name;
+mod numeral;
+mod reader;
+mod reading;
+mod steps;
+mod table;
+mod text;
+mod theorems;
+mod version;
+mod word;
+mod words;
+mod writer;
+
+pub use fault::{JournalFault, WriteFault};
+pub use line::Line;
+pub use reader::{MAX_JOURNAL_BYTES, read_journal};
+pub use theorems::{one_journal, one_line, read_back};
+pub use version::Version;
+pub use writer::write_journal;
+
+#[cfg(test)]
+mod tests;

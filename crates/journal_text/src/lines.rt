@@ -1,0 +1,146 @@
+//! The lines of a journal, whose steps are made one after another.
+ghost use Rattle.std.specs.Prelude.{◌≡◌, ◌≢◌, ◌≤◌, ◌<◌, ◌+◌, ◌++◌, ℕ, List, [], IfErr, OnOk, MatchOption, length};
+ghost use Rattle.journal_text.specs.Faults.{IsFault, IsUnread, Lacks10};
+ghost use Rattle.journal_text.specs.Journal.{begun, ended, header, journal_of, AreLines, IsTextOf};
+ghost use Rattle.journal_text.specs.Cut.{feed_in};
+ghost use Rattle.journal_text.specs.declared.version.Version.{Version};
+ghost use Rattle.journal_text.specs.declared.version.Version.TheVariants.{One};
+ghost use Rattle.journal.specs.Session.{IsSameSession};
+ghost use Rattle.step_record.specs.History.{IsLegal};
+
+use super::steps::take;
+use super::{JournalFault, Version};
+use journal::Session;
+use step_record::{Engine, Reply, Step};
+
+/// Reads the bytes as a journal, into a session that has made no step: makes the step of each line
+/// and looks whether it gets the reply of the line.
+pub fn read_text<E: Engine<Step = Step, Reply = Reply>>(
+    bytes: &[u8],
+    session: &mut Session<E>,
+) -> Result<(), JournalFault>
+    requires { session.old.kept ≡ [] }
+    ensures ok { OnOk result (IsTextOf bytes.now session.new.kept) }
+    ensures err { IfErr result (λ f.
+        IsFault E.act session.old.opening session.old.limit f bytes.now session.new.kept) }
+    ensures unread { IfErr result (λ f. IsUnread f → IsSameSession E.seen session.old session.new) }
+    ensures opening { session.new.opening ≡ session.old.opening }
+    ensures limit { session.new.limit ≡ session.old.limit }
+    ensures tail { session.old.tail ≡ [] → session.new.tail ≡ [] }
+    ensures legal { IsLegal E.act session.old.opening session.new.kept }
+    ensures room { length session.new.kept ≤ session.old.limit }
+{
+    match header_of(bytes) {
+        Some((version, lines)) => read_lines(version, lines, session),
+        None => Err(JournalFault::Header),
+    }
+}
+
+// Reads the lines behind the header.
+fn read_lines<E: Engine<Step = Step, Reply = Reply>>(
+    version: Version,
+    lines: &[u8],
+    session: &mut Session<E>,
+) -> Result<(), JournalFault>
+    requires { session.old.kept ≡ [] }
+    ensures ok { OnOk result (IsTextOf (ended (header version) ++ lines.now) session.new.kept) }
+    ensures err { IfErr result (λ f. IsFault E.act session.old.opening session.old.limit f
+        (ended (header version) ++ lines.now) session.new.kept) }
+    ensures late { IfErr result (λ f. IsUnread f → ⊥) }
+    ensures opening { session.new.opening ≡ session.old.opening }
+    ensures limit { session.new.limit ≡ session.old.limit }
+    ensures tail { session.old.tail ≡ [] → session.new.tail ≡ [] }
+    ensures legal { IsLegal E.act session.old.opening session.new.kept }
+    ensures room { length session.new.kept ≤ session.old.limit }
+{
+    let mut rest = lines;
+    'lines: while let Some((text, behind)) = first_line(rest) {
+        if take(version, text, session)? {
+            return end(behind, session);
+        }
+        rest = behind;
+    }
+    stop(version, rest)
+}
+
+// The end of the bytes, where no line of the rest has its line feed and no count was read.
+fn stop(version: Version, rest: &[u8]) -> Result<(), JournalFault>
+    ensures ok { OnOk result ((version ≡ One) × (rest.now ≡ [])) }
+    ensures err { IfErr result (λ f. (f ≡ JournalFault.Unended) × (version ≡ One → 0 < length rest.now)) }
+{
+    match version {
+        Version::One => {
+            if rest.is_empty() {
+                return Ok(());
+            }
+            Err(JournalFault::Unended)
+        }
+        Version::Two => Err(JournalFault::Unended),
+    }
+}
+
+// The end of version 2, behind the count of the steps: there are no more bytes.
+fn end<E: Engine<Step = Step, Reply = Reply>>(
+    behind: &[u8],
+    session: &Session<E>,
+) -> Result<(), JournalFault>
+    ensures ok { OnOk result (behind.now ≡ []) }
+    ensures err { IfErr result (λ f. (f ≡ JournalFault.Line (length session.now.kept + 1)) × (behind.now ≢ [])) }
+{
+    if behind.is_empty() {
+        return Ok(());
+    }
+    Err(JournalFault::Line {
+        step: session.len() + 1,
+    })
+}
+
+// The version that the header names, and the bytes behind the header.
+fn header_of(bytes: &[u8]) -> Option<(Version, &[u8])>
+    ensures { MatchOption result
+        ((v : Version) (more : List ℕ) → bytes.now ≢ ended (header v) ++ more)
+        (λ h. bytes.now ≡ ended (header h.0) ++ h.1.now) }
+{
+    let (text, behind) = first_line(bytes)?;
+    Some((version_of(text)?, behind))
+}
+
+// The version that a header names.
+fn version_of(text: &[u8]) -> Option<Version>
+    ensures { MatchOption result ((v : Version) → text.now ≢ header v) (λ v. text.now ≡ header v) }
+{
+    if text == b"cachesim journal 1".as_slice() {
+        return Some(Version::One);
+    }
+    if text == b"cachesim journal 2".as_slice() {
+        return Some(Version::Two);
+    }
+    None
+}
+
+// The first line without its line feed, and the bytes behind that.
+fn first_line(bytes: &[u8]) -> Option<(&[u8], &[u8])>
+    ensures { MatchOption result (Lacks10 bytes.now)
+        (λ l. Lacks10 l.0.now × (bytes.now ≡ ended l.0.now ++ l.1.now)) }
+{
+    let end = line_end(bytes);
+    if end == bytes.len() {
+        return None;
+    }
+    Some((&bytes[..end], &bytes[end + 1..]))
+}
+
+// Where the first line feed is, or the length.
+fn line_end(bytes: &[u8]) -> usize
+    ensures place { result ≡ feed_in bytes.now }
+    ensures within { result ≤ length bytes.now }
+{
+    let mut end = 0;
+    'ends: while end < bytes.len() {
+        if bytes[end] == b'\n' {
+            break;
+        }
+        end += 1;
+    }
+    end
+}

@@ -1,0 +1,116 @@
+//! The step of a line, made in a session.
+ghost use Rattle.std.specs.Prelude.{◌≡◌, ◌≢◌, true, false, ◌∷◌, [], ◌++◌, ◌+◌, ◌≤◌, length, IfErr, IfOk, OnOk};
+ghost use Rattle.journal_text.specs.Faults.{IsWrong, Took};
+ghost use Rattle.step_record.specs.History.{IsLegal};
+ghost use Rattle.journal_text.specs.Told.{told};
+ghost use Rattle.journal_text.specs.Table.{text_of, IsLine};
+ghost use Rattle.journal_text.specs.declared.line.Line.TheVariants.{Made};
+
+use super::name::Name;
+use super::reading::line;
+use super::table::reply_name;
+use super::{JournalFault, Line, Version};
+use journal::{Session, SessionFault};
+use step_record::{Engine, Entry, Item, Reply, Step};
+
+/// Takes a line, without its line feed: makes its step, and returns `false`; or it is the count of
+/// the steps that are applied, and `true` says so.
+pub fn take<E: Engine<Step = Step, Reply = Reply>>(
+    version: Version,
+    text: &[u8],
+    session: &mut Session<E>,
+) -> Result<bool, JournalFault>
+    ensures ok { IfOk result (λ closed. Took closed version text.now session.old.kept session.new.kept) }
+    ensures err { IfErr result (λ f.
+        IsWrong E.act session.old.opening session.old.limit f version session.old.kept text.now session.new.kept) }
+    ensures opening { session.new.opening ≡ session.old.opening }
+    ensures limit { session.new.limit ≡ session.old.limit }
+    ensures tail { session.old.tail ≡ [] → session.new.tail ≡ [] }
+    ensures legal { IsLegal E.act session.old.opening session.new.kept }
+    ensures room { length session.new.kept ≤ session.old.limit }
+{
+    match line(version, text) {
+        Some(Line::Made(entry)) => {
+            make(version, entry, session)?;
+            Ok(false)
+        }
+        Some(Line::Steps(count)) => {
+            if count != session.len() as u64 {
+                return Err(JournalFault::Count);
+            }
+            Ok(true)
+        }
+        None => Err(JournalFault::Line {
+            step: session.len() + 1,
+        }),
+    }
+}
+
+// Makes the step of an entry, which must be answered by the reply of the entry.
+fn make<E: Engine<Step = Step, Reply = Reply>>(
+    version: Version,
+    entry: Entry<Step, Reply>,
+    session: &mut Session<E>,
+) -> Result<(), JournalFault>
+    requires { IsLine version (Made entry) }
+    ensures ok { OnOk result (session.new.kept ≡ session.old.kept ++ entry ∷ []) }
+    ensures err { IfErr result (λ f. IsWrong E.act session.old.opening session.old.limit f version
+        session.old.kept (text_of (Made entry)) session.new.kept) }
+    ensures opening { session.new.opening ≡ session.old.opening }
+    ensures limit { session.new.limit ≡ session.old.limit }
+    ensures tail { session.old.tail ≡ [] → session.new.tail ≡ [] }
+    ensures legal { IsLegal E.act session.old.opening session.new.kept }
+    ensures room { length session.new.kept ≤ session.old.limit }
+{
+    let step = session.len() + 1;
+    match session.step(entry.step) {
+        Ok(reply) => {
+            if is_same(reply, entry.reply) {
+                return Ok(());
+            }
+            Err(JournalFault::FalseReply { step })
+        }
+        Err(SessionFault::OutOfMemory) => Err(JournalFault::OutOfMemory),
+        Err(SessionFault::NotNow) => Err(JournalFault::NotNow { step }),
+        Err(SessionFault::JournalFull) => Err(JournalFault::JournalFull { step }),
+    }
+}
+
+// Whether the replies are one: they have the same name and the same numbers.
+fn is_same(reply: Reply, other: Reply) -> bool
+    ensures same { result ≡ true → reply ≡ other }
+    ensures differs { result ≡ false → reply ≢ other }
+{
+    let item = told(reply);
+    let told = told(other);
+    is_same_name(reply_name(&reply), reply_name(&other))
+        && item.key == told.key
+        && item.node == told.node
+}
+
+// Whether the names are one.
+fn is_same_name(name: Name, other: Name) -> bool
+    ensures same { result ≡ true → name ≡ other }
+    ensures differs { result ≡ false → name ≢ other }
+{
+    name == other
+}
+
+// The key and the node of a reply, 0 where it has none.
+fn told(reply: Reply) -> Item
+    ensures { result ≡ told reply }
+{
+    match reply {
+        Reply::Hit { node }
+        | Reply::Added { node }
+        | Reply::Present { node }
+        | Reply::Removed { node } => Item { key: 0, node },
+        Reply::Drained { item }
+        | Reply::Applied { item }
+        | Reply::Cleared { item }
+        | Reply::Shifted { item }
+        | Reply::Evicted { item }
+        | Reply::Rejected { item } => item,
+        _ => Item { key: 0, node: 0 },
+    }
+}

@@ -1,0 +1,103 @@
+//! A session's journal to a writer.
+ghost use Rattle.std.specs.Prelude.{◌≡◌, ◌≤◌, ◌+◌, Err, OnOk, [], vec_len, vec_capacity};
+ghost use Rattle.std.specs.Io.KnownBytes.{append_known, Appends, Keeps};
+ghost use Rattle.step_record.specs.Answers.{AnswersItsActs};
+ghost use Rattle.journal_text.specs.Journal.{begun, journal_of, AreLines};
+ghost use Rattle.journal_text.specs.Writing.{AreFit, IsWritten};
+ghost use Rattle.journal_text.specs.declared.text.TheConstants.{MAX_LINE};
+ghost use Rattle.journal_text.specs.declared.writer.TheConstants.{BUFFER};
+ghost use Rattle.journal_text.specs.declared.version.Version.TheVariants.{Two};
+
+use super::WriteFault;
+use super::text::{MAX_LINE, push_count_line, push_entry_line, push_header};
+use journal::Session;
+use std::alloc::Global;
+use std::io::Write;
+use step_record::{Engine, Reply, Step};
+use streams::{Patience, WriteAllFault, flush, write_some};
+
+// How many bytes are gathered before they are written.
+const BUFFER: usize = 65_536;
+
+/// Writes the journal of the applied steps, in version 2, and flushes. The undone steps are not in
+/// it. The text goes through a buffer, whose memory is taken before the first write.
+pub fn write_journal<E: Engine<Step = Step, Reply = Reply>, W: Write>(
+    alloc: Global,
+    session: &Session<E>,
+    writer: &mut W,
+) -> Result<(), WriteFault>
+    ensures text { OnOk result
+        (Appends (W.contents writer.old) (W.contents writer.new) (journal_of Two session.now.kept)) }
+    // It is read again: each entry is a line of the table, where the engine answers its acts.
+    ensures lines { OnOk result (AnswersItsActs E.act → AreLines Two session.now.kept) }
+    // Out of memory, nothing was written.
+    ensures out_of_memory { result ≡ Err WriteFault.OutOfMemory → W.contents writer.new ≡ W.contents writer.old }
+{
+    let mut text = Vec::with_capacity(alloc, BUFFER)?;
+    write_text(session, writer, &mut text)?;
+    Ok(())
+}
+
+// Writes the text by way of the buffer.
+fn write_text<E: Engine<Step = Step, Reply = Reply>, W: Write>(
+    session: &Session<E>,
+    writer: &mut W,
+    text: &mut Vec<u8>,
+) -> Result<(), WriteAllFault>
+    requires empty { text.old.items ≡ [] }
+    requires room { BUFFER ≤ vec_capacity text.old }
+    ensures text { OnOk result
+        (Appends (W.contents writer.old) (W.contents writer.new) (journal_of Two session.now.kept)) }
+    ensures lines { OnOk result (AnswersItsActs E.act → AreLines Two session.now.kept) }
+{
+    let mut patience = Patience::new();
+    write_entries(session, writer, text, &mut patience)?;
+    make_room(writer, text, &mut patience)?;
+    push_count_line(text, session.len() as u64);
+    write_some(writer, text.as_slice(), &mut patience)?;
+    flush(writer, &mut patience)
+}
+
+// Writes the header and the lines of the entries; the last of them may wait in the buffer.
+fn write_entries<E: Engine<Step = Step, Reply = Reply>, W: Write>(
+    session: &Session<E>,
+    writer: &mut W,
+    text: &mut Vec<u8>,
+    patience: &mut Patience,
+) -> Result<(), WriteAllFault>
+    requires empty { text.old.items ≡ [] }
+    requires room { BUFFER ≤ vec_capacity text.old }
+    ensures written { OnOk result (IsWritten (W.contents writer.old) (W.contents writer.new) text.new.items
+        (begun Two session.now.kept)) }
+    ensures room { OnOk result (BUFFER ≤ vec_capacity text.new) }
+    ensures fit { OnOk result (AreFit session.now.kept) }
+{
+    push_header(text);
+    for n in 0..session.len() {
+        make_room(writer, text, patience)?;
+        match session.entry(n + 1) {
+            Some(entry) => push_entry_line(text, entry),
+            None => unreachable!(),
+        }
+    }
+    Ok(())
+}
+
+// Writes the buffer, where it has no room for a line more.
+fn make_room<W: Write>(
+    writer: &mut W,
+    text: &mut Vec<u8>,
+    patience: &mut Patience,
+) -> Result<(), WriteAllFault>
+    requires { BUFFER ≤ vec_capacity text.old }
+    ensures room { OnOk result (vec_len text.new + MAX_LINE ≤ vec_capacity text.new) }
+    ensures capacity { OnOk result (BUFFER ≤ vec_capacity text.new) }
+    ensures written { OnOk result (Keeps (append_known (W.contents writer.old) text.old.items)
+        (append_known (W.contents writer.new) text.new.items)) }
+{
+    if text.len() > BUFFER - MAX_LINE {
+        write_some(writer, text.as_slice(), patience)?;
+        text.clear();
+    }
+    Ok(())
+}

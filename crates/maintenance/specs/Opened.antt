@@ -1,0 +1,18 @@
+-- A shell just opened, and what its readers show.
+use Rattle.std.specs.Prelude.{◌≡◌, ℕ}
+use Rattle.step_record.specs.declared.config.Config.{Config}
+use Rattle.step_record.specs.declared.drain.Phase.{Phase}
+use Rattle.admission.specs.Shape.{Shape}
+use Rattle.shell_model.specs.declared.holder.Holder.{Holder}
+use Rattle.shell_model.specs.Shell.{Shell}
+use Rattle.shell_model.specs.Laws.{opened, IsShapeOf}
+
+-- the empty state of the configuration
+pub record IsOpened (c : Config) (x : Shell) : Type 0 where
+  pub shape : Shape
+  pub shape_is : IsShapeOf c shape
+  pub is : x ≡ opened c shape
+
+-- a holder's worker, phase and tasks left
+abbrev pub triple : Holder → ℕ × Phase × ℕ
+triple h = (h.worker, h.phase, h.left)

@@ -1,0 +1,32 @@
+//! The frequency, in the words of the shell's definition.
+ghost use Rattle.std.specs.Prelude.{◌≡◌, ◌≤◌, IfOk, OnOk, OnErr};
+ghost use Rattle.shell_model.specs.Frequency.{recorded, record_of, admits as is_admitted, unrecorded, FitsFrequency};
+
+use admission::{FreqRecord, Frequency};
+use std::alloc::AllocError;
+use step_record::Key;
+
+// Records a key. The only error is that the allocation of a halving failed; nothing is changed then.
+pub(crate) fn record_key(frequency: &mut Frequency, key: Key) -> Result<FreqRecord, AllocError>
+    requires { frequency.old.halvings ≤ 4294967296 }
+    ensures state { OnOk result (frequency.new ≡ recorded frequency.old key) }
+    ensures made { IfOk result (λ r. r ≡ record_of frequency.old key) }
+    ensures err { OnErr result (frequency.new ≡ frequency.old) }
+{
+    frequency.record(key)
+}
+
+// Undoes the recording of a key.
+pub(crate) fn unrecord_key(frequency: &mut Frequency, made: FreqRecord)
+    requires { FitsFrequency made frequency.old }
+    ensures { frequency.new ≡ unrecorded made frequency.old }
+{
+    frequency.unrecord(made);
+}
+
+// Whether the candidate came more often than the victim.
+pub(crate) fn admits(frequency: &Frequency, candidate: Key, victim: Key) -> bool
+    ensures { result ≡ is_admitted frequency.now candidate victim }
+{
+    frequency.admits(candidate, victim)
+}

@@ -1,0 +1,96 @@
+//! One step.
+ghost use Rattle.std.specs.Prelude.{◌≡◌, ◌<◌, ◌≤◌, ◌↔◌, Some, None, IfOk, OnOk, OnErr, Err, IsSome, IfSome, IfNone};
+ghost use Rattle.shell_model.specs.Shell.{perform, act as acted};
+ghost use Rattle.shell_model.specs.Records.{change_of};
+ghost use Rattle.shell_model.specs.ShellStats.{AreAtMost};
+ghost use Rattle.shell_model.specs.Consistent.{IsConsistent};
+
+use crate::counts::counted;
+use crate::parts::Core;
+use shell_model::{Change, ShellRecord};
+use std::alloc::AllocError;
+use step_record::{Act, Phase, Reply, Step, StepFault, Worker};
+
+impl Core {
+    // One act, or `None` where it may not come now.
+    fn perform(&mut self, worker: Worker, act: Act) -> Result<Option<(Reply, Change)>, AllocError>
+        requires sound { IsConsistent self.old }
+        requires room { self.old.next < 4294967296 }
+        requires few { self.old.frequency.halvings ≤ 4294967296 }
+        ensures some { IfOk result (λ o. IfSome o (λ r. perform worker act self.old ≡ Some (r.0, self.new))) }
+        ensures change { IfOk result (λ o. IfSome o (λ r. r.1 ≡ change_of worker act self.old)) }
+        ensures none { IfOk result (λ o. IfNone o ((perform worker act self.old ≡ None) × (self.new ≡ self.old))) }
+        ensures accepted { OnErr result (IsSome (perform worker act self.old)) }
+        ensures err { OnErr result (self.new ≡ self.old) }
+    {
+        match act {
+            Act::Look { key } => Ok(Some((self.look(key), Change::Nothing))),
+            Act::Offer { stripe, item } => {
+                if (stripe as usize) < self.stripes.count() && item.node < self.next {
+                    Ok(Some(self.offer(worker, stripe, item)))
+                } else {
+                    Ok(None)
+                }
+            }
+            Act::Lose { stripe, item } => {
+                if (stripe as usize) < self.stripes.count() && item.node < self.next {
+                    Ok(Some((Reply::Lost, Change::Nothing)))
+                } else {
+                    Ok(None)
+                }
+            }
+            Act::Put { key } => Ok(Some(self.put(worker, key)?)),
+            Act::Remove { key } => Ok(Some(self.remove(worker, key))),
+            Act::AfterRead { answer } => Ok(Some((self.after_read(answer), Change::Nothing))),
+            Act::AfterWrite => Ok(Some(self.after_write(worker))),
+            Act::Begin => Ok(Some(self.begin(worker))),
+            Act::DrainRead { stripe } => match self.held_by(worker) {
+                Some(holder)
+                    if (stripe as usize) < self.stripes.count() && holder.phase == Phase::Reads => {
+                    Ok(Some(self.drain_read(stripe)?))
+                }
+                _ => Ok(None),
+            },
+            Act::DrainWrite => match self.held_by(worker) {
+                Some(holder) if holder.phase != Phase::Evictions => {
+                    Ok(Some(self.drain_write(holder)?))
+                }
+                _ => Ok(None),
+            },
+            Act::Evict => match self.held_by(worker) {
+                None => Ok(None),
+                Some(holder) => Ok(Some(self.evict(holder))),
+            },
+            Act::End => match self.held_by(worker) {
+                None => Ok(None),
+                Some(holder) => Ok(Some(self.end(holder))),
+            },
+        }
+    }
+
+    /// One step, with its record.
+    pub(crate) fn apply(&mut self, step: Step) -> Result<(Reply, ShellRecord), StepFault>
+        requires sound { IsConsistent self.old }
+        requires next { self.old.next ≤ self.old.applied }
+        requires counts { AreAtMost 4294967296 self.old.stats }
+        requires few { self.old.frequency.halvings ≤ 4294967296 }
+        ensures some { IfOk result (λ r. acted self.old step ≡ Some (r.0, self.new)) }
+        ensures reply { IfOk result (λ r. r.1.reply ≡ r.0) }
+        ensures change { IfOk result (λ r. r.1.change ≡ change_of step.worker step.act self.old) }
+        ensures not_now { result ≡ Err StepFault.NotNow ↔ acted self.old step ≡ None }
+        ensures err { OnErr result (self.new ≡ self.old) }
+    {
+        if self.applied >= 4294967296 {
+            return Err(StepFault::NotNow);
+        }
+        match self.perform(step.worker, step.act) {
+            Err(AllocError) => Err(StepFault::OutOfMemory),
+            Ok(None) => Err(StepFault::NotNow),
+            Ok(Some((reply, change))) => {
+                self.stats = counted(reply, self.stats);
+                self.applied += 1;
+                Ok((reply, ShellRecord { reply, change }))
+            }
+        }
+    }
+}

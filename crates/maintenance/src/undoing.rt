@@ -1,0 +1,237 @@
+//! Undoing one step.
+ghost use Rattle.std.specs.Prelude.{◌≡◌, ◌<◌, ◌≤◌, length, Some, None, IfErr, OnOk, OnErr};
+ghost use Rattle.shell_model.specs.Records.{back, FitsMove, untouched, FitsTouched, rephased, refilled, HasLeft, out_of, entered, IsOut, ungone, FitsGone, unchanged, FitsChange, undone_step, FitsStep};
+ghost use Rattle.shell_model.specs.Consistent.{IsLeft};
+ghost use Rattle.shell_model.specs.declared.record.Change.TheVariants.{Nothing, Offered, Updated, Added, Removed, Read, Applied, Cleared, Evicted, Ended};
+
+use crate::counting::unrecord_key;
+use crate::counts::uncounted;
+use crate::moves::put_back;
+use crate::parts::Core;
+use segments::MoveRecord;
+use shell_buffers::Task;
+use shell_model::{Change, EvictionRecord, Holder, LeaverRecord, ShellRecord, UseRecord};
+use std::alloc::AllocError;
+use step_record::{Item, Phase};
+
+impl Core {
+    fn untouch(&mut self, used: UseRecord)
+        requires { FitsTouched used self.old }
+        ensures { self.new ≡ untouched used self.old }
+    {
+        let UseRecord {
+            frequency,
+            first,
+            second,
+        } = used;
+        put_back(&mut self.queues, second);
+        put_back(&mut self.queues, first);
+        unrecord_key(&mut self.frequency, frequency);
+    }
+
+    // The phase as before.
+    fn rephase(&mut self, before: Phase)
+        ensures { self.new ≡ record self.old { holder = rephased before self.old.holder } }
+    {
+        match self.holder {
+            None => {}
+            Some(holder) => self.holder = Some(Holder {
+                worker: holder.worker,
+                phase: before,
+                left: holder.left,
+            }),
+        }
+    }
+
+    // The phase as before, and a task more left.
+    fn refill(&mut self, before: Phase)
+        requires { HasLeft self.old.holder }
+        ensures { self.new ≡ record self.old { holder = refilled before self.old.holder } }
+    {
+        match self.holder {
+            None => {}
+            Some(holder) => self.holder = Some(Holder {
+                worker: holder.worker,
+                phase: before,
+                left: holder.left + 1,
+            }),
+        }
+    }
+
+    // An item that went out comes back.
+    fn unclear(&mut self, out: Option<MoveRecord>) -> Result<(), AllocError>
+        requires { FitsMove out self.old.queues }
+        ensures ok { OnOk result (self.new ≡ record self.old { queues = back out self.old.queues }) }
+        ensures err { OnErr result (self.new ≡ self.old) }
+    {
+        let Some(out) = out else {
+            return Ok(());
+        };
+        self.queues.reserve()?;
+        self.queues.put_back(out);
+        Ok(())
+    }
+
+    // What left comes back, to the table too where it was listed.
+    fn unleave(&mut self, left: Option<LeaverRecord>) -> Result<(), AllocError>
+        requires queues { FitsMove (out_of left) self.old.queues }
+        requires table { IsOut left self.old.table }
+        ensures ok { OnOk result (self.new ≡ record self.old { queues = back (out_of left) self.old.queues; table = entered left self.old.table }) }
+        ensures err { OnErr result (self.new ≡ self.old) }
+    {
+        let Some(left) = left else {
+            return Ok(());
+        };
+        self.queues.reserve()?;
+        if left.listed {
+            self.table.place(left.out.item)?;
+        }
+        self.queues.put_back(left.out);
+        Ok(())
+    }
+
+    fn undo_offered(&mut self, stripe: u8, item: Item)
+        requires { FitsChange (Offered stripe item) self.old }
+        ensures { self.new ≡ unchanged (Offered stripe item) self.old }
+    {
+        self.stripes.unoffer(stripe);
+    }
+
+    fn undo_updated(&mut self, item: Item)
+        requires { FitsChange (Updated item) self.old }
+        ensures { self.new ≡ unchanged (Updated item) self.old }
+    {
+        self.writes.unpush();
+    }
+
+    fn undo_added(&mut self, item: Item)
+        requires { FitsChange (Added item) self.old }
+        ensures { self.new ≡ unchanged (Added item) self.old }
+    {
+        self.writes.unpush();
+        self.table.remove(item);
+        self.next -= 1;
+    }
+
+    fn undo_removed(&mut self, item: Item) -> Result<(), AllocError>
+        requires { FitsChange (Removed item) self.old }
+        ensures ok { OnOk result (self.new ≡ unchanged (Removed item) self.old) }
+        ensures err { OnErr result (self.new ≡ self.old) }
+    {
+        self.table.place(item)?;
+        self.writes.unpush();
+        Ok(())
+    }
+
+    fn undo_read(&mut self, stripe: u8, item: Item, used: UseRecord)
+        requires { FitsChange (Read stripe item used) self.old }
+        ensures { self.new ≡ unchanged (Read stripe item used) self.old }
+    {
+        self.untouch(used);
+        self.stripes.untake(stripe, item);
+    }
+
+    fn undo_applied(&mut self, before: Phase, task: Task, used: UseRecord)
+        requires { FitsChange (Applied before task used) self.old }
+        ensures { self.new ≡ unchanged (Applied before task used) self.old }
+    {
+        self.untouch(used);
+        self.writes.untake(task);
+        self.refill(before);
+    }
+
+    fn undo_cleared(
+        &mut self,
+        before: Phase,
+        item: Item,
+        out: Option<MoveRecord>,
+    ) -> Result<(), AllocError>
+        requires { FitsChange (Cleared before item out) self.old }
+        ensures ok { OnOk result (self.new ≡ unchanged (Cleared before item out) self.old) }
+        ensures err { OnErr result (self.new ≡ self.old) }
+    {
+        self.unclear(out)?;
+        self.writes.untake(Task::Remove(item));
+        self.refill(before);
+        Ok(())
+    }
+
+    fn undo_evicted(&mut self, before: Phase, eviction: EvictionRecord) -> Result<(), AllocError>
+        requires { FitsChange (Evicted before eviction) self.old }
+        ensures ok { OnOk result (self.new ≡ unchanged (Evicted before eviction) self.old) }
+        ensures err { OnErr result (self.new ≡ self.old) }
+    {
+        self.unleave(eviction.left)?;
+        self.queues.put_back(eviction.shift);
+        self.rephase(before);
+        Ok(())
+    }
+
+    // What a step changed goes back. Only changes that undoing takes no memory for hold a list; so a change that is
+    // refused can be handed back whole.
+    fn undo_change(&mut self, change: Change) -> Result<(), Change>
+        requires fits { FitsChange change self.old }
+        requires left { IsLeft (unchanged change self.old).holder }
+        ensures ok { OnOk result (self.new ≡ unchanged change self.old) }
+        ensures err { OnErr result (self.new ≡ self.old) }
+        ensures returned { IfErr result (λ c. c ≡ change) }
+    {
+        match change {
+            Change::Nothing => {}
+            Change::Offered { stripe, item } => self.undo_offered(stripe, item),
+            Change::Updated { item } => self.undo_updated(item),
+            Change::Added { item } => self.undo_added(item),
+            Change::Removed { item } => {
+                if self.undo_removed(item).is_err() {
+                    return Err(Change::Removed { item });
+                }
+            }
+            Change::Requested { before, now: _ } => self.drain = before,
+            Change::Began { worker: _, before } => {
+                self.drain = before;
+                self.holder = None;
+            }
+            Change::Read { stripe, item, used } => self.undo_read(stripe, item, used),
+            Change::Passed { before, now: _ } => self.rephase(before),
+            Change::Applied { before, task, used } => self.undo_applied(before, task, used),
+            Change::Cleared { before, item, out } => {
+                if self.undo_cleared(before, item, out).is_err() {
+                    return Err(Change::Cleared { before, item, out });
+                }
+            }
+            Change::Evicted { before, eviction } => {
+                if self.undo_evicted(before, eviction).is_err() {
+                    return Err(Change::Evicted { before, eviction });
+                }
+            }
+            Change::Ended {
+                holder,
+                before,
+                now: _,
+            } => {
+                self.drain = before;
+                self.holder = Some(holder);
+            }
+        }
+        Ok(())
+    }
+
+    /// Undoes the step that the record is of. Where it finds no memory, it hands the record back.
+    pub(crate) fn undo(&mut self, made: ShellRecord) -> Result<(), ShellRecord>
+        requires fits { FitsStep made self.old }
+        requires left { IsLeft (unchanged made.change self.old).holder }
+        ensures ok { OnOk result (self.new ≡ undone_step made self.old) }
+        ensures err { OnErr result (self.new ≡ self.old) }
+        ensures returned { IfErr result (λ r. r ≡ made) }
+    {
+        let ShellRecord { reply, change } = made;
+        match self.undo_change(change) {
+            Err(change) => Err(ShellRecord { reply, change }),
+            Ok(()) => {
+                self.stats = uncounted(reply, self.stats);
+                self.applied -= 1;
+                Ok(())
+            }
+        }
+    }
+}

@@ -1,0 +1,5 @@
+use Rattle.policies.proofs.AnyStanding.{any_covers_trace}
+use Rattle.policies.proofs.theorems.any_covers_trace.Goals as goal
+
+pub returns : goal.returns
+returns c = any_covers_trace

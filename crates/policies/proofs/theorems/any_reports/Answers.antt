@@ -1,0 +1,5 @@
+use Rattle.policies.proofs.AnyStanding.{any_reports}
+use Rattle.policies.proofs.theorems.any_reports.Goals as goal
+
+pub returns : goal.returns
+returns c = any_reports

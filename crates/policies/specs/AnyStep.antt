@@ -1,0 +1,46 @@
+-- How one access changes what a cache of any policy shows, and how its undo record undoes it: by the policy's own
+-- engine.
+use Rattle.std.specs.Prelude.{◌≡◌, ℕ, Option, Some, None}
+use Rattle.step_record.specs.declared.outcome.Outcome.{Outcome}
+use Rattle.step_record.specs.Pace.{Pace, still}
+use Rattle.clairvoyant.specs.Clairvoyant.{ClairvoyantState, clairvoyant_act}
+use Rattle.clairvoyant.specs.UseRecord.{clairvoyant_undone, ClairvoyantFits}
+use Rattle.policies.specs.declared.any_policy.AnyPolicy.{AnyPolicy}
+use Rattle.policies.specs.declared.any_policy.AnyPolicy.TheVariants.{Queues, Optimal}
+use Rattle.policies.specs.declared.any_policy.AnyRecord.{AnyRecord}
+use Rattle.policies.specs.declared.any_policy.AnyRecord.TheVariants as done
+use Rattle.policies.specs.QueueCache.{QueueState}
+use Rattle.policies.specs.QueueStep.{queue_act, queue_undone, QueueFits, queue_words, queue_pace}
+
+abbrev pub as_queues : Option (Outcome × QueueState) → Option (Outcome × AnyPolicy)
+as_queues None = None
+as_queues (Some p) = Some (p.0, Queues p.1)
+
+abbrev pub as_optimal : Option (Outcome × ClairvoyantState) → Option (Outcome × AnyPolicy)
+as_optimal None = None
+as_optimal (Some p) = Some (p.0, Optimal p.1)
+
+abbrev pub any_act : AnyPolicy → ℕ → Option (Outcome × AnyPolicy)
+any_act (Queues d) k = as_queues (queue_act d k)
+any_act (Optimal d) k = as_optimal (clairvoyant_act d k)
+
+-- a record of the other kind fits nowhere
+abbrev pub any_undone : AnyRecord → AnyPolicy → AnyPolicy
+any_undone (done.Queues r) (Queues d) = Queues (queue_undone r d)
+any_undone (done.Optimal r) (Optimal d) = Optimal (clairvoyant_undone r d)
+any_undone (done.Queues r) (Optimal d) = Optimal d
+any_undone (done.Optimal r) (Queues d) = Queues d
+
+abbrev pub AnyFits : AnyRecord → AnyPolicy → Type 0
+AnyFits (done.Queues r) (Queues d) = QueueFits r d
+AnyFits (done.Optimal r) (Optimal d) = ClairvoyantFits r d
+AnyFits (done.Queues r) (Optimal d) = ⊥
+AnyFits (done.Optimal r) (Queues d) = ⊥
+
+abbrev pub any_words : AnyRecord → ℕ
+any_words (done.Queues r) = queue_words r
+any_words (done.Optimal r) = 0
+
+abbrev pub any_pace : AnyPolicy → Pace
+any_pace (Queues d) = queue_pace d
+any_pace (Optimal d) = still

@@ -1,0 +1,8 @@
+-- The queues of a policy of one queue.
+use Rattle.std.specs.Prelude.{ℕ, List, [], map}
+use Rattle.segments.specs.Queues.{Queues}
+use Rattle.policies.specs.QueueCache.{item_of}
+
+-- the keys stand in the one queue, in this order
+abbrev pub in_window : List ℕ → Queues
+in_window l = record { window = map item_of l; probation = []; protected = [] }

@@ -1,0 +1,33 @@
+-- The least recently used policy, over a whole list of accesses: a cache holds the last distinct keys in order of last
+-- access. (The textbook definition of Lru.)
+use Rattle.std.specs.Prelude.{ℕ, ◌-◌, nat_lt, Bool, ◌&&◌, if◌then◌else◌, List, [], ◌∷◌, length, drop}
+use Rattle.step_record.specs.Keys.{has}
+use Rattle.step_record.specs.declared.outcome.Outcome.{Outcome}
+use Rattle.step_record.specs.declared.outcome.Outcome.TheVariants.{Hit, Kept, Evicted}
+
+-- the distinct keys, in order of last access
+abbrev pub distinct : List ℕ → List ℕ
+distinct [] = []
+distinct (a ∷ xs) = if has a xs then distinct xs else a ∷ distinct xs
+
+-- what came after the last access to k, which is among the accesses
+abbrev pub since : ℕ → List ℕ → List ℕ
+since k [] = []
+since k (a ∷ xs) = if has k xs then since k xs else xs
+
+-- the last c of the distinct keys
+abbrev pub residents : ℕ → List ℕ → List ℕ
+residents c xs = drop (length (distinct xs) - c) (distinct xs)
+
+-- k came before, and fewer than c distinct other keys came since
+abbrev pub hits : ℕ → List ℕ → ℕ → Bool
+hits c xs k = has k xs && nat_lt (length (distinct (since k xs))) c
+
+abbrev pub first_or : ℕ → List ℕ → ℕ
+first_or d [] = d
+first_or d (a ∷ xs) = a
+
+-- the outcome of an access to k after the accesses xs, at capacity c
+abbrev pub outcome : ℕ → List ℕ → ℕ → Outcome
+outcome c xs k =
+    if hits c xs k then Hit else if nat_lt (length (distinct xs)) c then Kept else Evicted (first_or 0 (residents c xs))

@@ -1,0 +1,115 @@
+-- What a cache of queues shows after a list of accesses: the table of moves, folded from empty queues, with the
+-- frequency of the accesses so far in each admission.
+use Rattle.std.specs.Prelude.{◌≡◌, ℕ, Bool, true, false, Option, Some, None, Ok, List, [], ◌∷◌, ◌++◌, map}
+use Rattle.step_record.specs.declared.config.Config.{Config}
+use Rattle.step_record.specs.declared.item.Item.{Item}
+use Rattle.step_record.specs.declared.job.Job.{Job}
+use Rattle.step_record.specs.declared.job.Policy.{Policy}
+use Rattle.step_record.specs.declared.job.Policy.TheVariants.{Lru, SegmentedLru, TinyLfuLru, TinyLfuSegmented}
+use Rattle.step_record.specs.declared.job.Policy.TheVariants.{WindowTinyLfu, Clairvoyant}
+use Rattle.step_record.specs.declared.outcome.Outcome.{Outcome}
+use Rattle.step_record.specs.declared.stats.Stats.{Stats}
+use Rattle.step_record.specs.Config.{config_fault}
+use Rattle.step_record.specs.Stats.{stats_of, counted}
+use Rattle.segments.specs.Queues.{Queues, empty}
+use Rattle.admission.specs.Shape.{Shape}
+use Rattle.admission.specs.Frequency.{FrequencyData, frequency_of}
+use Rattle.replacement.specs.declared.rules.Rules.{Rules}
+use Rattle.replacement.specs.Admission.{admits_in}
+use Rattle.replacement.specs.Rules.{one_queue, two_queues, three_queues}
+use Rattle.replacement.specs.Shape.{shape_of}
+use Rattle.replacement.specs.Table.{Response, access}
+
+-- ---- the policies
+
+-- the rules of a policy; Belady's optimal policy keeps no queues, and its rules are never used
+abbrev pub rules_by : Policy → Config → Rules
+rules_by Lru c = one_queue c
+rules_by SegmentedLru c = two_queues c
+rules_by TinyLfuLru c = one_queue c
+rules_by TinyLfuSegmented c = two_queues c
+rules_by WindowTinyLfu c = three_queues c
+rules_by Clairvoyant c = one_queue c
+
+abbrev pub rules_of : Job → Rules
+rules_of j = rules_by j.policy j.config
+
+-- whether the policy counts keys for its admissions (TinyLFU, 2017)
+abbrev pub is_counting : Policy → Bool
+is_counting Lru = false
+is_counting SegmentedLru = false
+is_counting TinyLfuLru = true
+is_counting TinyLfuSegmented = true
+is_counting WindowTinyLfu = true
+is_counting Clairvoyant = false
+
+-- a key is cached once at a time, so one node serves all
+abbrev pub item_of : ℕ → Item
+item_of k = record { key = k; node = 0 }
+
+-- ---- the state
+
+pub record QueueState : Type 0 where
+  pub job : Job
+  pub queues : Queues
+  pub frequency : Option FrequencyData
+  pub stats : Stats
+
+-- the keys that are cached, queue by queue, oldest first
+abbrev pub residents_in : Queues → List ℕ
+residents_in q = map (λ i. i.key) q.window ++ map (λ i. i.key) q.probation ++ map (λ i. i.key) q.protected
+
+-- ---- one access, where the frequency f has the key already
+
+abbrev pub response_to : Option FrequencyData → ℕ → QueueState → Response
+response_to f k d = access (rules_of d.job) (admits_in f) (item_of k) d.queues
+
+abbrev pub accessed : Option FrequencyData → ℕ → QueueState → QueueState
+accessed f k d = record {
+  job = d.job;
+  queues = (response_to f k d).queues;
+  frequency = f;
+  stats = counted (response_to f k d).outcome d.stats;
+}
+
+-- ---- a list of accesses
+
+abbrev pub frequency_by : Bool → Shape → List ℕ → Option FrequencyData
+frequency_by false s keys = None
+frequency_by true s keys = Some (frequency_of s keys)
+
+-- the frequency of the accesses, where the policy counts keys
+abbrev pub frequency_after : Job → List ℕ → Option FrequencyData
+frequency_after j keys = frequency_by (is_counting j.policy) (shape_of j.config) keys
+
+-- the accesses in order, after those that are past
+abbrev pub state_from : Job → List ℕ → QueueState → List ℕ → QueueState
+state_from j past d [] = d
+state_from j past d (k ∷ ks) = state_from j (past ++ k ∷ []) (accessed (frequency_after j (past ++ k ∷ [])) k d) ks
+
+-- an empty cache
+abbrev pub opened : Job → QueueState
+opened j = record { job = j; queues = empty; frequency = frequency_after j []; stats = stats_of [] }
+
+-- what a cache shows after the accesses
+unfoldable pub state_after : Job → List ℕ → QueueState
+state_after j keys = state_from j [] (opened j) keys
+
+abbrev pub outcomes_from : Job → List ℕ → QueueState → List ℕ → List Outcome
+outcomes_from j past d [] = []
+outcomes_from j past d (k ∷ ks) =
+    (response_to (frequency_after j (past ++ k ∷ [])) k d).outcome
+    ∷ outcomes_from j (past ++ k ∷ []) (accessed (frequency_after j (past ++ k ∷ [])) k d) ks
+
+-- the outcomes of the accesses, in order
+unfoldable pub outcomes_after : Job → List ℕ → List Outcome
+outcomes_after j keys = outcomes_from j [] (opened j) keys
+
+-- the outcome of an access to k after the accesses
+abbrev pub outcome_after : Job → List ℕ → ℕ → Outcome
+outcome_after j keys k = (response_to (frequency_after j (keys ++ k ∷ [])) k (state_after j keys)).outcome
+
+-- the cache runs the job, whose configuration is accepted, and the accesses are those that it made
+pub record StandsFor (j : Job) (keys : List ℕ) (d : QueueState) : Type 0 where
+  pub checked : config_fault j.config ≡ Ok tt
+  pub gives : d ≡ state_after j keys

@@ -1,0 +1,80 @@
+-- How one access changes what a cache of queues shows, its undo record, and how the record undoes it.
+use Rattle.std.specs.Prelude.{◌≡◌, ℕ, ◌≤◌, ◌==◌, if◌then◌else◌, Option, Some, None, List, length}
+use Rattle.step_record.specs.declared.outcome.Outcome.{Outcome}
+use Rattle.step_record.specs.Stats.{uncounted, IsCounted}
+use Rattle.step_record.specs.Pace.{Pace, still}
+use Rattle.admission.specs.declared.freq_record.FreqRecord.{FreqRecord}
+use Rattle.admission.specs.Frequency.{FrequencyData, recorded, pace_of as frequency_pace}
+use Rattle.admission.specs.FreqRecord.{record_of as freq_record_of, undone as freq_undone, FitsRecord}
+use Rattle.admission.specs.FreqRecord.{size_of as freq_words}
+use Rattle.replacement.specs.Moving.{undone_moves, FitsMoves}
+use Rattle.policies.specs.declared.record.AccessRecord.{AccessRecord}
+use Rattle.policies.specs.QueueCache.{QueueState, response_to, accessed, StandsFor}
+
+-- ---- an access
+
+-- the frequency with the key, where keys are counted
+abbrev pub recorded_in : ℕ → Option FrequencyData → Option FrequencyData
+recorded_in k None = None
+recorded_in k (Some f) = Some (recorded k f)
+
+-- An access records its key, then moves. None is accepted after 2^32.
+abbrev pub queue_act : QueueState → ℕ → Option (Outcome × QueueState)
+queue_act d k =
+    if d.stats.accesses == 4294967296
+    then None
+    else Some ((response_to (recorded_in k d.frequency) k d).outcome, accessed (recorded_in k d.frequency) k d)
+
+-- ---- its record
+
+abbrev pub counting_record : ℕ → Option FrequencyData → Option FreqRecord
+counting_record k None = None
+counting_record k (Some f) = Some (freq_record_of k f)
+
+abbrev pub unrecorded : Option FreqRecord → Option FrequencyData → Option FrequencyData
+unrecorded None f = f
+unrecorded (Some r) None = None
+unrecorded (Some r) (Some f) = Some (freq_undone r f)
+
+abbrev pub FitsCounting : Option FreqRecord → Option FrequencyData → Type 0
+FitsCounting None f = Unit {0}
+FitsCounting (Some r) None = ⊥
+FitsCounting (Some r) (Some f) = FitsRecord r f
+
+-- the count is undone first, then the moves, and the recording of the key last
+abbrev pub queue_undone : AccessRecord → QueueState → QueueState
+queue_undone r d = record {
+  job = d.job;
+  queues = undone_moves r.moves d.queues;
+  frequency = unrecorded r.counting d.frequency;
+  stats = uncounted r.outcome d.stats;
+}
+
+-- some list of accesses gives the state
+pub record IsReached (d : QueueState) : Type 0 where
+  pub keys : List ℕ
+  pub stands : StandsFor d.job keys d
+  pub few : length keys ≤ 4294967296
+
+-- each part of the record fits in its turn, and some list of accesses gives what undoing it leaves
+pub record QueueFits (r : AccessRecord) (d : QueueState) : Type 0 where
+  pub counts : IsCounted r.outcome d.stats
+  pub moves : FitsMoves r.moves d.queues
+  pub counting : FitsCounting r.counting d.frequency
+  pub reached : IsReached (queue_undone r d)
+
+-- ---- its words, and how the frequency ages
+
+abbrev pub counting_words : Option FreqRecord → ℕ
+counting_words None = 0
+counting_words (Some r) = freq_words r
+
+abbrev pub queue_words : AccessRecord → ℕ
+queue_words r = counting_words r.counting
+
+abbrev pub pace_by : Option FrequencyData → Pace
+pace_by None = still
+pace_by (Some f) = frequency_pace f
+
+abbrev pub queue_pace : QueueState → Pace
+queue_pace d = pace_by d.frequency

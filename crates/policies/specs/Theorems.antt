@@ -1,0 +1,64 @@
+-- What the definitions of the policies promise to callers that see a cache by its steps alone.
+use Rattle.std.specs.Prelude.{◌≡◌, ℕ, ◌≤◌, ◌^◌, Option, Some, None, Ok, List, [], ◌∷◌, ◌++◌, length, slice_index_or}
+use Rattle.step_record.specs.declared.job.Job.{Job}
+use Rattle.step_record.specs.declared.job.Policy.TheVariants.{Lru}
+use Rattle.step_record.specs.declared.outcome.Outcome.{Outcome}
+use Rattle.step_record.specs.Config.{config_fault}
+use Rattle.step_record.specs.Stats.{stats_of}
+use Rattle.policies.specs.declared.any_policy.AnyPolicy.{AnyPolicy}
+use Rattle.policies.specs.Lru.{residents, outcome}
+use Rattle.policies.specs.InWindow.{in_window}
+use Rattle.policies.specs.QueueCache.{QueueState, state_after, outcome_after, outcomes_after, StandsFor}
+use Rattle.policies.specs.QueueStep.{queue_act}
+use Rattle.policies.specs.AnyPolicy.{Stands, stats_in, stats_on, outcomes_on}
+use Rattle.policies.specs.AnyStep.{any_act}
+
+-- For a cache of queues that made some accesses, an accepted step answers the outcome that the definition gives after
+-- all of them, and leaves a cache that made one access more.
+abbrev pub QueuesStand : Type 0
+QueuesStand = (j : Job) (keys : List ℕ) (d : QueueState) (k : ℕ) (o : Outcome) (e : QueueState) → StandsFor j keys d
+    → queue_act d k ≡ Some (o, e) → (o ≡ outcome_after j keys k) × StandsFor j (keys ++ k ∷ []) e
+
+-- It refuses a key only after 2^32 accesses.
+abbrev pub QueuesAccept : Type 0
+QueuesAccept = (d : QueueState) (k : ℕ) → queue_act d k ≡ None → d.stats.accesses ≡ 2 ^ 32
+
+-- Its statistics are the counts of the outcomes.
+abbrev pub QueuesCount : Type 0
+QueuesCount = (j : Job) (keys : List ℕ) → (state_after j keys).stats ≡ stats_of (outcomes_after j keys)
+
+-- For every list of accesses, a cache of Lru holds the last distinct keys, and the outcome of an access is the one that
+-- the whole list gives.
+abbrev pub LruStands : Type 0
+LruStands = (j : Job) (keys : List ℕ) (k : ℕ) → j.policy ≡ Lru → 1 ≤ j.config.capacity
+    → ((state_after j keys).queues ≡ in_window (residents j.config.capacity keys))
+    × (outcome_after j keys k ≡ outcome j.config.capacity keys k)
+
+-- A cache of any policy that made some accesses made one more after an accepted step.
+abbrev pub AnyStands : Type 0
+AnyStands = (j : Job) (trace keys : List ℕ) (d : AnyPolicy) (k : ℕ) (o : Outcome) (e : AnyPolicy)
+    → Stands j trace keys d → any_act d k ≡ Some (o, e) → Stands j trace (keys ++ k ∷ []) e
+
+-- One that made the first accesses of a trace, fewer than all, accepts the next of them.
+abbrev pub AnyAccepts : Type 0
+AnyAccepts = (j : Job) (trace keys rest : List ℕ) (k : ℕ) (d : AnyPolicy)
+    → trace ≡ keys ++ k ∷ rest → length trace ≤ 2 ^ 24 → Stands j trace keys d → any_act d k ≡ None → ⊥
+
+-- What a cache shows after some accesses is determined by the job, the trace and the accesses.
+abbrev pub AnyIsOne : Type 0
+AnyIsOne = (j : Job) (trace keys : List ℕ) (d e : AnyPolicy) → Stands j trace keys d → Stands j trace keys e → d ≡ e
+
+-- After all accesses of the trace, its statistics are those of the job over the trace.
+abbrev pub AnyReports : Type 0
+AnyReports = (j : Job) (trace : List ℕ) (d : AnyPolicy) → Stands j trace trace d → stats_in d ≡ stats_on j trace
+
+-- One that made the first accesses of a trace answers the next of them with the outcome that the job over the whole
+-- trace has at that place.
+abbrev pub AnyAnswers : Type 0
+AnyAnswers = (j : Job) (trace keys rest : List ℕ) (k : ℕ) (d : AnyPolicy) (o : Outcome) (e : AnyPolicy) (x : Outcome)
+    → trace ≡ keys ++ k ∷ rest → Stands j trace keys d → any_act d k ≡ Some (o, e)
+    → o ≡ slice_index_or (outcomes_on j trace) (length keys) x
+
+-- A job over a trace has one outcome for each access.
+abbrev pub AnyCoversTrace : Type 0
+AnyCoversTrace = (j : Job) (trace : List ℕ) → length (outcomes_on j trace) ≡ length trace

@@ -1,0 +1,175 @@
+//! All six policies as one engine.
+ghost use Rattle.std.specs.Prelude.{◌≡◌, IfOk, Ok, [], option_map};
+
+use crate::queue_cache::QueueCache;
+use crate::record::AccessRecord;
+use admission::Frequency;
+use clairvoyant::{Clairvoyant, NextUse, UseRecord};
+use std::alloc::{AllocError, Global};
+use step_record::{Engine, Job, Key, Outcome, Policy, Stats, StepFault, Trace};
+
+/// A cache of any policy.
+#[derive(Drop)]
+pub enum AnyPolicy {
+    /// One of the five policies of queues.
+    Queues(QueueCache),
+    /// Belady's optimal policy.
+    Optimal(Clairvoyant),
+}
+
+/// The undo record of an access to a cache of any policy.
+#[derive(Drop)]
+pub enum AnyRecord {
+    /// Of one of the five policies of queues.
+    Queues(AccessRecord),
+    /// Of Belady's optimal policy.
+    Optimal(UseRecord),
+}
+
+impl AnyPolicy {
+    ghost use Rattle.step_record.specs.Config.{config_fault};
+    ghost use Rattle.policies.specs.AnyPolicy.{Stands, stats_in, keys_in, frequency_in};
+
+    /// An empty cache for a job over a trace. It requires a configuration that `Config::check` accepts. The one error is
+    /// that an allocation failed.
+    pub fn open(alloc: Global, job: &Job, trace: &Trace) -> Result<AnyPolicy, AllocError>
+        requires { config_fault job.now.config ≡ Ok tt }
+        ensures stands { IfOk result (λ p. Stands job.now trace.now [] p) }
+        ensures fresh { IfOk result (λ p. (stats_in p).accesses ≡ 0) }
+    {
+        match job.policy {
+            Policy::Clairvoyant => {
+                let uses = NextUse::build(alloc, trace)?;
+                let cache = Clairvoyant::open(alloc, uses, job.config.capacity)?;
+                Ok(AnyPolicy::Optimal(cache))
+            }
+            _ => {
+                let cache = QueueCache::open(alloc, job)?;
+                Ok(AnyPolicy::Queues(cache))
+            }
+        }
+    }
+
+    /// Reads ahead what accesses to these keys read first. It changes nothing.
+    #[inline(always)]
+    pub fn warm(&mut self, keys: &[Key])
+        ensures { self.new ≡ self.old }
+    {
+        match self {
+            AnyPolicy::Queues(cache) => cache.warm(keys),
+            AnyPolicy::Optimal(_) => {}
+        }
+    }
+
+    /// What was counted of the applied accesses.
+    pub fn stats(&self) -> Stats
+        ensures { result ≡ stats_in self.now }
+    {
+        match self {
+            AnyPolicy::Queues(cache) => cache.stats(),
+            AnyPolicy::Optimal(cache) => cache.stats(),
+        }
+    }
+
+    /// How often keys came, where the policy counts them.
+    pub fn frequency(&self) -> Option<&Frequency>
+        ensures { option_map (λ f. f.now) result ≡ frequency_in self.now }
+    {
+        match self {
+            AnyPolicy::Queues(cache) => cache.frequency(),
+            AnyPolicy::Optimal(_) => None,
+        }
+    }
+
+    /// The keys that it holds: of a policy of queues those of the window, of probation and of protected in that order,
+    /// oldest first; of the optimal policy in ascending order. The one error is that an allocation failed.
+    pub fn residents(&self, alloc: Global) -> Result<Vec<Key>, AllocError>
+        ensures { IfOk result (λ keys. keys.items ≡ keys_in self.now) }
+    {
+        match self {
+            AnyPolicy::Queues(cache) => cache.residents(alloc),
+            AnyPolicy::Optimal(cache) => cache.residents(alloc),
+        }
+    }
+}
+
+impl Engine for AnyPolicy {
+    ghost use Rattle.policies.specs.AnyPolicy.{stats_in};
+    ghost use Rattle.policies.specs.AnyStep.{any_act, any_undone, AnyFits, any_words, any_pace};
+    ghost use Rattle.policies.specs.AnyCounts.{any_counts, any_ends, any_paced};
+
+    type Step = Key;
+
+    type Reply = Outcome;
+
+    type Record = AnyRecord;
+
+    type Data = AnyPolicy;
+
+    ghost seen = { λ p. p };
+
+    ghost act = { any_act };
+
+    ghost fits = { AnyFits };
+
+    ghost undone = { any_undone };
+
+    ghost count = { λ d. (stats_in d).accesses };
+
+    ghost words_of = { any_words };
+
+    ghost pace = { any_pace };
+
+    #[inline(always)]
+    fn apply(&mut self, step: &Key) -> Result<(Outcome, AnyRecord), StepFault> {
+        match self {
+            AnyPolicy::Queues(cache) => match cache.apply(step) {
+                Ok((outcome, done)) => Ok((outcome, AnyRecord::Queues(done))),
+                Err(fault) => Err(fault),
+            },
+            AnyPolicy::Optimal(cache) => match cache.apply(step) {
+                Ok((outcome, done)) => Ok((outcome, AnyRecord::Optimal(done))),
+                Err(fault) => Err(fault),
+            },
+        }
+    }
+
+    fn undo(&mut self, done: AnyRecord) -> Result<(), AnyRecord> {
+        match self {
+            AnyPolicy::Queues(cache) => match done {
+                AnyRecord::Queues(done) => match cache.undo(done) {
+                    Ok(()) => Ok(()),
+                    Err(done) => Err(AnyRecord::Queues(done)),
+                },
+                AnyRecord::Optimal(_) => unreachable!(),
+            },
+            AnyPolicy::Optimal(cache) => match done {
+                AnyRecord::Optimal(done) => match cache.undo(done) {
+                    Ok(()) => Ok(()),
+                    Err(done) => Err(AnyRecord::Optimal(done)),
+                },
+                AnyRecord::Queues(_) => unreachable!(),
+            },
+        }
+    }
+
+    fn standing(&self) -> u64 {
+        match self {
+            AnyPolicy::Queues(cache) => cache.standing(),
+            AnyPolicy::Optimal(cache) => cache.standing(),
+        }
+    }
+
+    fn words(done: &AnyRecord) -> u64 {
+        match done {
+            AnyRecord::Queues(done) => QueueCache::words(done),
+            AnyRecord::Optimal(_) => 0,
+        }
+    }
+
+    ghost counted = { any_counts };
+
+    ghost counted_out = { any_ends };
+
+    ghost paced = { any_paced };
+}

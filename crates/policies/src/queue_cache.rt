@@ -1,0 +1,286 @@
+//! The five policies of queues, as one engine.
+ghost use Rattle.std.specs.Prelude.{◌≡◌, ◌≢◌, ◌+◌, ◌≤◌, ◌<◌, ◌^◌, ◌↔◌, ℕ, List, [], ◌∷◌, ◌++◌, IfOk, IfErr, OnOk, OnErr, IsTrue, Ok, Option, Some, None, option_map, map};
+ghost use Rattle.step_record.specs.Config.{config_fault};
+ghost use Rattle.segments.specs.Queues.{total};
+ghost use Rattle.replacement.specs.Admission.{admits_in};
+ghost use Rattle.replacement.specs.Table.{access};
+ghost use Rattle.replacement.specs.Moving.{undone_moves, FitsMoves};
+ghost use Rattle.policies.specs.QueueCache.{rules_of, is_counting, item_of, frequency_after};
+ghost use Rattle.policies.specs.QueueStep.{recorded_in, counting_record, unrecorded, FitsCounting};
+ghost use Rattle.policies.specs.QueueFields.{FewHalvings};
+
+use crate::record::AccessRecord;
+use admission::{FreqRecord, Frequency};
+use replacement::{Effect, Rules, access, open_frequency, undo};
+use segments::{Queue, Segments};
+use std::alloc::{AllocError, Global};
+use std::marker::Model;
+use step_record::{Engine, Item, Job, Key, MAX_STEPS, Outcome, Policy, Stats, StepFault};
+
+// Queues of so many keys are read ahead.
+const WARM_FROM: usize = 4096;
+
+/// A cache of one of the five policies of queues.
+#[derive(Drop)]
+pub struct QueueCache {
+    job: Job,
+    rules: Rules,
+    segments: Segments,
+    frequency: Option<Frequency>,
+    stats: Stats,
+}
+
+impl Model for QueueCache {
+    ghost use Rattle.policies.specs.QueueCache.{QueueState};
+    ghost use Rattle.policies.specs.QueueFields.{IsHolding};
+
+    ghost Value = { QueueState };
+
+    ghost view = { λ q. record { job = q.job; queues = q.segments.lists; frequency = q.frequency; stats = q.stats } };
+
+    ghost invariant = { λ q. IsHolding q.job q.rules q.segments.lists q.frequency q.stats };
+}
+
+// Whether the policy counts keys for its admissions.
+fn counts_keys(policy: Policy) -> bool
+    ensures { result ≡ is_counting policy }
+{
+    match policy {
+        Policy::TinyLfuLru | Policy::TinyLfuSegmented | Policy::WindowTinyLfu => true,
+        Policy::Lru | Policy::SegmentedLru | Policy::Clairvoyant => false,
+    }
+}
+
+// The rules of a job's policy.
+fn rules_for(job: &Job) -> Rules
+    requires checked { config_fault job.now.config ≡ Ok tt }
+    requires queues { job.now.policy ≢ Policy.Clairvoyant }
+    ensures { result ≡ rules_of job.now }
+{
+    match job.policy {
+        Policy::Lru | Policy::TinyLfuLru => Rules::one_queue(&job.config),
+        Policy::SegmentedLru | Policy::TinyLfuSegmented => Rules::two_queues(&job.config),
+        Policy::WindowTinyLfu => Rules::three_queues(&job.config),
+        Policy::Clairvoyant => unreachable!(),
+    }
+}
+
+// The frequency of no key, where the policy counts keys.
+fn first_frequency(alloc: Global, job: &Job) -> Result<Option<Frequency>, AllocError>
+    requires { config_fault job.now.config ≡ Ok tt }
+    ensures { IfOk result (λ f. f ≡ frequency_after job.now []) }
+{
+    if counts_keys(job.policy) {
+        let frequency = open_frequency(alloc, &job.config)?;
+        Ok(Some(frequency))
+    } else {
+        Ok(None)
+    }
+}
+
+// Adds the keys of the items.
+fn add_keys(keys: &mut Vec<Key>, items: &[Item]) -> Result<(), AllocError>
+    ensures { OnOk result (keys.new.items ≡ keys.old.items ++ map (λ i. i.key) items.now) }
+{
+    for item in items {
+        keys.push(item.key)?;
+    }
+    Ok(())
+}
+
+// Records a key where keys are counted.
+#[inline(always)]
+fn record_in(frequency: &mut Option<Frequency>, key: Key) -> Result<Option<FreqRecord>, AllocError>
+    requires { FewHalvings frequency.old }
+    ensures after { OnOk result (frequency.new ≡ recorded_in key frequency.old) }
+    ensures record { IfOk result (λ r. r ≡ counting_record key frequency.old) }
+    ensures fits { IfOk result (λ r. FitsCounting r frequency.new) }
+    ensures undone { IfOk result (λ r. unrecorded r frequency.new ≡ frequency.old) }
+    ensures err { OnErr result (frequency.new ≡ frequency.old) }
+{
+    match frequency {
+        Some(frequency) => Ok(Some(frequency.record(key)?)),
+        None => Ok(None),
+    }
+}
+
+// Undoes the recording of a key, if there was one.
+fn unrecord_in(frequency: &mut Option<Frequency>, done: Option<FreqRecord>)
+    requires { FitsCounting done frequency.old }
+    ensures { frequency.new ≡ unrecorded done frequency.old }
+{
+    if let Some(done) = done {
+        if let Some(frequency) = frequency {
+            frequency.unrecord(done);
+        }
+    }
+}
+
+// Accesses a key in the queues.
+#[inline(always)]
+fn access_key(
+    segments: &mut Segments,
+    frequency: &Option<Frequency>,
+    rules: &Rules,
+    key: Key,
+) -> Effect
+    requires room { 1 ≤ segments.old.spare }
+    requires few { total segments.old.lists ≤ 2 ^ 33 }
+    ensures outcome { result.outcome
+        ≡ (access rules.now (admits_in frequency.now) (item_of key) segments.old.lists).outcome }
+    ensures lists { segments.new.lists
+        ≡ (access rules.now (admits_in frequency.now) (item_of key) segments.old.lists).queues }
+    ensures fits { FitsMoves result.moves segments.new.lists }
+    ensures undone { undone_moves result.moves segments.new.lists ≡ segments.old.lists }
+{
+    access(segments, frequency.as_ref(), rules, Item { key, node: 0 })
+}
+
+impl QueueCache {
+    ghost use Rattle.policies.specs.QueueCache.{StandsFor, residents_in};
+
+    /// An empty cache for a job. It requires a configuration that `Config::check` accepts, and one of the five policies
+    /// of queues. The one error is that an allocation failed.
+    pub fn open(alloc: Global, job: &Job) -> Result<QueueCache, AllocError>
+        requires checked { config_fault job.now.config ≡ Ok tt }
+        requires queues { job.now.policy ≢ Policy.Clairvoyant }
+        ensures stands { IfOk result (λ q. StandsFor job.now [] q) }
+        ensures fresh { IfOk result (λ q. q.stats.accesses ≡ 0) }
+    {
+        let rules = rules_for(job);
+        let frequency = first_frequency(alloc, job)?;
+        Ok(QueueCache {
+            job: *job,
+            rules,
+            segments: Segments::for_items(alloc, job.config.capacity),
+            frequency,
+            stats: Stats::NONE,
+        })
+    }
+
+    /// Reads ahead what accesses to these keys read first. It changes nothing, and pays where the queues are larger
+    /// than the processor's caches.
+    #[inline(always)]
+    pub fn warm(&mut self, keys: &[Key])
+        ensures { self.new ≡ self.old }
+    {
+        if self.rules.capacity >= WARM_FROM {
+            self.segments.warm(keys, 0);
+        }
+    }
+
+    /// The job that it runs.
+    pub fn job(&self) -> Job
+        ensures { result ≡ self.now.job }
+    {
+        self.job
+    }
+
+    /// What was counted of the applied accesses.
+    pub fn stats(&self) -> Stats
+        ensures { result ≡ self.now.stats }
+    {
+        self.stats
+    }
+
+    /// How often keys came, where the policy counts them.
+    pub fn frequency(&self) -> Option<&Frequency>
+        ensures { option_map (λ f. f.now) result ≡ self.now.frequency }
+    {
+        self.frequency.as_ref()
+    }
+
+    /// The keys that it holds: those of the window, of probation and of protected in that order, oldest first. The one
+    /// error is that an allocation failed.
+    pub fn residents(&self, alloc: Global) -> Result<Vec<Key>, AllocError>
+        ensures { IfOk result (λ keys. keys.items ≡ residents_in self.now.queues) }
+    {
+        let mut keys = Vec::new(alloc);
+        add_keys(&mut keys, &self.segments.list(alloc, Queue::Window)?)?;
+        add_keys(&mut keys, &self.segments.list(alloc, Queue::Probation)?)?;
+        add_keys(&mut keys, &self.segments.list(alloc, Queue::Protected)?)?;
+        Ok(keys)
+    }
+}
+
+impl Engine for QueueCache {
+    ghost use Rattle.policies.specs.QueueStep.{queue_act, queue_undone, QueueFits, queue_words, queue_pace};
+    ghost use Rattle.policies.specs.QueueCounts.{act_counts, act_ends, act_paced};
+
+    type Step = Key;
+
+    type Reply = Outcome;
+
+    type Record = AccessRecord;
+
+    type Data = QueueCache;
+
+    ghost seen = { λ q. q };
+
+    ghost act = { queue_act };
+
+    ghost fits = { QueueFits };
+
+    ghost undone = { queue_undone };
+
+    ghost count = { λ d. d.stats.accesses };
+
+    ghost words_of = { queue_words };
+
+    ghost pace = { queue_pace };
+
+    // Inlined, so that what a caller does not read of the record is not written.
+    #[inline(always)]
+    fn apply(&mut self, step: &Key) -> Result<(Outcome, AccessRecord), StepFault> {
+        if self.stats.accesses == MAX_STEPS {
+            return Err(StepFault::NotNow);
+        }
+        // All room is made first: what follows the recording takes none.
+        if self.segments.reserve().is_err() {
+            return Err(StepFault::OutOfMemory);
+        }
+        let Ok(counting) = record_in(&mut self.frequency, *step) else {
+            return Err(StepFault::OutOfMemory);
+        };
+        let effect = access_key(&mut self.segments, &self.frequency, &self.rules, *step);
+        self.stats.count(effect.outcome);
+        let record = AccessRecord {
+            counting,
+            moves: effect.moves,
+            outcome: effect.outcome,
+        };
+        Ok((effect.outcome, record))
+    }
+
+    fn undo(&mut self, done: AccessRecord) -> Result<(), AccessRecord> {
+        if self.segments.reserve().is_err() {
+            return Err(done);
+        }
+        let AccessRecord {
+            counting,
+            moves,
+            outcome,
+        } = done;
+        self.stats.uncount(outcome);
+        undo(&mut self.segments, moves);
+        unrecord_in(&mut self.frequency, counting);
+        Ok(())
+    }
+
+    fn standing(&self) -> u64 {
+        self.stats.accesses
+    }
+
+    fn words(done: &AccessRecord) -> u64 {
+        match &done.counting {
+            Some(counting) => counting.words(),
+            None => 0,
+        }
+    }
+
+    ghost counted = { act_counts };
+
+    ghost counted_out = { act_ends };
+
+    ghost paced = { act_paced };
+}

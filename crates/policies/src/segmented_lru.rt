@@ -1,0 +1,116 @@
+//! Segmented Lru: a key has to be hit once to be protected.
+ghost use Rattle.std.specs.Prelude.{◌≡◌, IfOk, Ok, [], option_map};
+
+use crate::queue_cache::QueueCache;
+use crate::record::AccessRecord;
+use admission::Frequency;
+use std::alloc::{AllocError, Global};
+use std::marker::Model;
+use step_record::{Config, Engine, Job, Key, Outcome, Policy, Stats, StepFault};
+
+/// A cache of two queues. A new key joins probation, and goes to protected when it is hit; where protected is over four
+/// fifths of the capacity, its oldest key goes back to probation's recent end. A miss in a full cache evicts probation's
+/// oldest key.
+#[derive(Drop)]
+pub struct SegmentedLru {
+    cache: QueueCache,
+}
+
+impl Model for SegmentedLru {
+    ghost use Rattle.policies.specs.QueueCache.{QueueState};
+
+    ghost Value = { QueueState };
+
+    ghost view = { λ l. l.cache };
+}
+
+impl SegmentedLru {
+    ghost use Rattle.step_record.specs.Config.{config_fault};
+    ghost use Rattle.policies.specs.QueueCache.{StandsFor, residents_in};
+
+    /// An empty cache. It requires a configuration that `Config::check` accepts. The one error is that an allocation failed.
+    pub fn open(alloc: Global, config: &Config) -> Result<SegmentedLru, AllocError>
+        requires { config_fault config.now ≡ Ok tt }
+        ensures stands { IfOk result (λ l. StandsFor record { policy = Policy.SegmentedLru; config = config.now } [] l) }
+        ensures fresh { IfOk result (λ l. l.stats.accesses ≡ 0) }
+    {
+        let job = Job {
+            policy: Policy::SegmentedLru,
+            config: *config,
+        };
+        let cache = QueueCache::open(alloc, &job)?;
+        Ok(SegmentedLru { cache })
+    }
+
+    /// What was counted of the applied accesses.
+    pub fn stats(&self) -> Stats
+        ensures { result ≡ self.now.stats }
+    {
+        self.cache.stats()
+    }
+
+    /// `None`: the policy counts no keys.
+    pub fn frequency(&self) -> Option<&Frequency>
+        ensures { option_map (λ f. f.now) result ≡ self.now.frequency }
+    {
+        self.cache.frequency()
+    }
+
+    /// The keys that it holds, those of probation and then those of protected, oldest first. The one error is that
+    /// an allocation failed.
+    pub fn residents(&self, alloc: Global) -> Result<Vec<Key>, AllocError>
+        ensures { IfOk result (λ keys. keys.items ≡ residents_in self.now.queues) }
+    {
+        self.cache.residents(alloc)
+    }
+}
+
+impl Engine for SegmentedLru {
+    ghost use Rattle.policies.specs.QueueStep.{queue_act, queue_undone, QueueFits, queue_words, queue_pace};
+    ghost use Rattle.policies.specs.QueueCounts.{act_counts, act_ends, act_paced};
+
+    type Step = Key;
+
+    type Reply = Outcome;
+
+    type Record = AccessRecord;
+
+    type Data = SegmentedLru;
+
+    ghost seen = { λ l. l };
+
+    ghost act = { queue_act };
+
+    ghost fits = { QueueFits };
+
+    ghost undone = { queue_undone };
+
+    ghost count = { λ d. d.stats.accesses };
+
+    ghost words_of = { queue_words };
+
+    ghost pace = { queue_pace };
+
+    #[inline(always)]
+    fn apply(&mut self, step: &Key) -> Result<(Outcome, AccessRecord), StepFault> {
+        self.cache.apply(step)
+    }
+
+    fn undo(&mut self, done: AccessRecord) -> Result<(), AccessRecord> {
+        self.cache.undo(done)
+    }
+
+    fn standing(&self) -> u64 {
+        self.cache.standing()
+    }
+
+    fn words(done: &AccessRecord) -> u64 {
+        QueueCache::words(done)
+    }
+
+    ghost counted = { act_counts };
+
+    ghost counted_out = { act_ends };
+
+    ghost paced = { act_paced };
+}

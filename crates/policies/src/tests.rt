@@ -1,0 +1,239 @@
+//! Worked examples: the outcomes, what is counted and the keys that stay, by hand from the table of moves.
+ghost use Rattle.std.specs.Prelude.{◌≡◌, OnOk};
+
+use super::*;
+use Outcome::{Evicted, Hit, Kept, Rejected};
+use Policy::{
+    Clairvoyant, Lru as LeastRecent, SegmentedLru as Segmented, TinyLfuLru, TinyLfuSegmented,
+    WindowTinyLfu as Windowed,
+};
+use std::alloc::Global;
+use std::process::Abort;
+use std::test::Fail;
+use step_record::{Config, Engine, Job, Key, Outcome, Policy, Spread, Stats, Trace};
+
+// Accesses the keys, and compares each outcome.
+fn access_all(
+    rt: &impl Abort,
+    cache: &mut AnyPolicy,
+    accesses: &[(Key, Outcome)],
+) -> Result<(), Fail> {
+    for (key, wanted) in accesses {
+        let (outcome, _) = cache.apply(key)?;
+        assert_eq!(rt; outcome, *wanted, "{key}");
+    }
+    Ok(())
+}
+
+// Runs a job over the accesses; what is counted is accesses, hits, misses, evictions and rejections.
+fn run(
+    rt: &impl Abort,
+    alloc: Global,
+    (policy, capacity): (Policy, u32),
+    accesses: &[(Key, Outcome)],
+    counted: (u64, u64, u64, u64, u64),
+    residents: &[Key],
+) -> Result<(), Fail> {
+    let job = Job {
+        policy,
+        config: Config {
+            capacity,
+            main_percent: 99,
+            spread: Spread::Plain,
+            stripes: 1,
+            journal_limit: 1,
+        },
+    };
+    assert!(rt; job.config.check().is_ok());
+    let mut keys = Vec::new(alloc);
+    for (key, _) in accesses {
+        keys.push(*key)?;
+    }
+    assert!(rt; keys.len() <= 16);
+    let trace = Trace::new(keys);
+    let mut cache = AnyPolicy::open(alloc, &job, &trace)?;
+    access_all(rt, &mut cache, accesses)?;
+    let Stats {
+        accesses,
+        hits,
+        misses,
+        evictions,
+        rejections,
+    } = cache.stats();
+    assert_eq!(rt; (accesses, hits, misses, evictions, rejections), counted);
+    let held = cache.residents(alloc)?;
+    assert_eq!(rt; held.as_slice(), residents);
+    Ok(())
+}
+
+#[test]
+fn an_empty_trace_counts_nothing(rt: HostRuntime) -> Result<(), Fail> {
+    for policy in [
+        LeastRecent,
+        Segmented,
+        TinyLfuLru,
+        TinyLfuSegmented,
+        Windowed,
+        Clairvoyant,
+    ] {
+        run(&rt, rt.alloc(), (policy, 3), &[], (0, 0, 0, 0, 0), &[])?;
+    }
+    Ok(())
+}
+
+#[test]
+fn lru_evicts_the_key_whose_last_access_is_oldest(rt: HostRuntime) -> Result<(), Fail> {
+    let accesses = [
+        (1, Kept),
+        (2, Kept),
+        (3, Kept),
+        (1, Hit),
+        (4, Evicted(2)),
+        (2, Evicted(3)),
+    ];
+    let counted = (6, 1, 5, 2, 0);
+    run(
+        &rt,
+        rt.alloc(),
+        (LeastRecent, 3),
+        &accesses,
+        counted,
+        &[1, 4, 2],
+    )?;
+    let accesses = [(1, Kept), (1, Hit), (2, Kept), (3, Evicted(1))];
+    let counted = (4, 1, 3, 1, 0);
+    run(
+        &rt,
+        rt.alloc(),
+        (LeastRecent, 2),
+        &accesses,
+        counted,
+        &[2, 3],
+    )
+}
+
+#[test]
+fn segmented_lru_protects_a_key_that_was_hit(rt: HostRuntime) -> Result<(), Fail> {
+    let accesses = [(1, Kept), (1, Hit), (2, Kept), (3, Evicted(2)), (1, Hit)];
+    let counted = (5, 2, 3, 1, 0);
+    run(&rt, rt.alloc(), (Segmented, 2), &accesses, counted, &[3, 1])
+}
+
+#[test]
+fn segmented_lru_demotes_the_oldest_protected_key(rt: HostRuntime) -> Result<(), Fail> {
+    // Of two keys protected holds one: when 2 is hit, 1 goes to probation's recent end, and leaves for 3.
+    let accesses = [(1, Kept), (2, Kept), (1, Hit), (2, Hit), (3, Evicted(1))];
+    let counted = (5, 2, 3, 1, 0);
+    run(&rt, rt.alloc(), (Segmented, 2), &accesses, counted, &[3, 2])
+}
+
+#[test]
+fn an_admission_filter_rejects_a_tie(rt: HostRuntime) -> Result<(), Fail> {
+    let accesses = [(1, Kept), (2, Rejected(2)), (2, Evicted(1))];
+    let counted = (3, 0, 3, 2, 1);
+    run(&rt, rt.alloc(), (TinyLfuLru, 1), &accesses, counted, &[2])?;
+    let accesses = [(1, Kept), (1, Hit), (2, Kept), (3, Rejected(3))];
+    let counted = (4, 1, 3, 1, 1);
+    run(
+        &rt,
+        rt.alloc(),
+        (TinyLfuSegmented, 2),
+        &accesses,
+        counted,
+        &[2, 1],
+    )
+}
+
+#[test]
+fn a_window_comes_before_the_main_part(rt: HostRuntime) -> Result<(), Fail> {
+    let accesses = [(1, Kept), (2, Rejected(1)), (1, Rejected(2))];
+    run(
+        &rt,
+        rt.alloc(),
+        (Windowed, 1),
+        &accesses,
+        (3, 0, 3, 2, 2),
+        &[1],
+    )?;
+    let accesses = [(1, Kept), (2, Kept), (1, Hit), (3, Rejected(2)), (1, Hit)];
+    run(
+        &rt,
+        rt.alloc(),
+        (Windowed, 2),
+        &accesses,
+        (5, 2, 3, 1, 1),
+        &[3, 1],
+    )?;
+    let accesses = [(1, Kept), (1, Hit), (2, Kept), (3, Rejected(2)), (1, Hit)];
+    run(
+        &rt,
+        rt.alloc(),
+        (Windowed, 2),
+        &accesses,
+        (5, 2, 3, 1, 1),
+        &[3, 1],
+    )
+}
+
+#[test]
+fn the_optimal_policy_keeps_what_is_used_next(rt: HostRuntime) -> Result<(), Fail> {
+    let accesses = [(1, Kept), (2, Kept), (3, Rejected(3)), (1, Hit), (2, Hit)];
+    let counted = (5, 2, 3, 1, 1);
+    run(
+        &rt,
+        rt.alloc(),
+        (Clairvoyant, 2),
+        &accesses,
+        counted,
+        &[1, 2],
+    )?;
+    let accesses = [(1, Kept), (2, Kept), (3, Evicted(1)), (4, Evicted(2))];
+    let counted = (4, 0, 4, 2, 0);
+    run(
+        &rt,
+        rt.alloc(),
+        (Clairvoyant, 2),
+        &accesses,
+        counted,
+        &[3, 4],
+    )
+}
+
+// Each policy's own type, accessed and undone once.
+fn once<E: Engine<Step = Key, Reply = Outcome>>(
+    rt: &impl Abort,
+    cache: &mut E,
+) -> Result<(), Fail> {
+    let (outcome, done) = cache.apply(&7)?;
+    assert_eq!(rt; outcome, Kept);
+    assert_eq!(rt; (cache.standing(), E::words(&done)), (1, 0));
+    assert!(rt; cache.undo(done).is_ok());
+    assert_eq!(rt; cache.standing(), 0);
+    Ok(())
+}
+
+#[test]
+fn each_policy_makes_an_access_and_takes_it_back(rt: HostRuntime) -> Result<(), Fail> {
+    let config = Config {
+        capacity: 2,
+        main_percent: 99,
+        spread: Spread::Plain,
+        stripes: 1,
+        journal_limit: 1,
+    };
+    assert!(rt; config.check().is_ok());
+    let mut lru = Lru::open(rt.alloc(), &config)?;
+    once(&rt, &mut lru)?;
+    assert!(rt; lru.frequency().is_none());
+    assert!(rt; lru.residents(rt.alloc())?.is_empty());
+    let mut segmented = SegmentedLru::open(rt.alloc(), &config)?;
+    once(&rt, &mut segmented)?;
+    assert!(rt; segmented.residents(rt.alloc())?.is_empty());
+    let mut filtered = TinyLfu::open(rt.alloc(), &config, true)?;
+    once(&rt, &mut filtered)?;
+    assert_eq!(rt; filtered.stats(), Stats::NONE);
+    let mut windowed = WindowTinyLfu::open(rt.alloc(), &config)?;
+    once(&rt, &mut windowed)?;
+    assert!(rt; windowed.frequency().is_some());
+    Ok(())
+}

@@ -1,0 +1,62 @@
+//! Theorems on the policies' definitions, for callers that see a cache by its steps alone. Each of these functions does
+//! nothing: its contract is the theorem.
+ghost use Rattle.policies.specs.Theorems.{QueuesStand, QueuesAccept, QueuesCount, LruStands, AnyStands, AnyAccepts, AnyIsOne, AnyReports, AnyAnswers, AnyCoversTrace};
+
+use clairvoyant::{clairvoyant_accepts, clairvoyant_stands};
+
+/// An accepted step of a cache of queues answers what the definition gives over the whole list of accesses, and leaves
+/// that list with the key at its end.
+pub fn queues_stand()
+    ensures { QueuesStand }
+{}
+
+/// A cache of queues refuses a key only after 2^32 accesses.
+pub fn queues_accept()
+    ensures { QueuesAccept }
+{}
+
+/// The statistics of a cache of queues are the counts of its outcomes.
+pub fn queues_count()
+    ensures { QueuesCount }
+{}
+
+/// What the table of moves gives for Lru is what the last distinct keys give, over the whole list of accesses.
+pub fn lru_stands()
+    ensures { LruStands }
+{}
+
+/// A cache of any policy that made some accesses made one more after an accepted step.
+pub fn any_stands()
+    ensures { AnyStands }
+{
+    clairvoyant_stands();
+}
+
+/// A cache of any policy that made the first accesses of a trace accepts the next of them.
+pub fn any_accepts()
+    ensures { AnyAccepts }
+{
+    clairvoyant_accepts();
+}
+
+/// What a cache of any policy shows after some accesses is determined by the job, the trace and the accesses.
+pub fn any_is_one()
+    ensures { AnyIsOne }
+{}
+
+/// After the whole trace, the statistics of a cache of any policy are those of the job over the trace.
+pub fn any_reports()
+    ensures { AnyReports }
+{}
+
+/// An accepted access of a cache of any policy answers the outcome that the job over the whole trace has at its place.
+pub fn any_answers()
+    ensures { AnyAnswers }
+{
+    clairvoyant_stands();
+}
+
+/// A job over a trace has one outcome for each access.
+pub fn any_covers_trace()
+    ensures { AnyCoversTrace }
+{}

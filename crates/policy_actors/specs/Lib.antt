@@ -1,0 +1,5 @@
+pub mod Reports
+pub mod Faults
+pub mod Accesses
+pub mod Rule
+pub mod Actors

@@ -1,0 +1,72 @@
+//! The accesses of a trace, batch by batch, and the report at its end.
+ghost use Rattle.std.specs.Prelude.{◌≡◌, [], ◌++◌, ℕ, List, Ok, IfOk, IfSome};
+ghost use Rattle.step_record.specs.Config.{config_fault};
+ghost use Rattle.step_record.specs.declared.job.Job.{Job};
+ghost use Rattle.policies.specs.AnyPolicy.{Stands};
+ghost use Rattle.policy_actors.specs.Accesses.{IsNext};
+ghost use Rattle.policy_actors.specs.Reports.{report_on};
+
+use policies::{AnyPolicy, any_accepts, any_reports, any_stands};
+use report::Report;
+use std::alloc::{AllocError, Global};
+use step_record::{Engine, Job, Key, StepFault, Trace};
+
+/// Makes the accesses in turn, which are the next ones of a trace. The one error is out of memory; the cache is dropped then.
+pub fn access_all(mut cache: AnyPolicy, keys: &[Key]) -> Result<AnyPolicy, AllocError>
+    requires { IsNext keys.now cache }
+    ensures { (j : Job) (trace done : List ℕ) → Stands j trace done cache → IfOk result (λ next. Stands j trace (done ++ keys.now) next) }
+{
+    any_stands();
+    any_accepts();
+    for key in keys {
+        match cache.apply(key) {
+            Ok(_) => {}
+            Err(StepFault::OutOfMemory) => return Err(AllocError),
+            Err(StepFault::NotNow) => unreachable!(),
+        }
+    }
+    Ok(cache)
+}
+
+/// A new cache for a job over the trace; `None` if out of memory.
+pub fn open(alloc: Global, job: &Job, trace: &Trace) -> Option<AnyPolicy>
+    requires { config_fault job.now.config ≡ Ok tt }
+    ensures { IfSome result (Stands job.now trace.now []) }
+{
+    match AnyPolicy::open(alloc, job, trace) {
+        Ok(cache) => Some(cache),
+        Err(_) => None,
+    }
+}
+
+/// Makes the accesses of a batch. A cache that ran out of memory is dropped, and stays so.
+pub fn advance(cache: Option<AnyPolicy>, keys: &[Key]) -> Option<AnyPolicy>
+    requires { IfSome cache (IsNext keys.now) }
+    ensures { (j : Job) (trace done : List ℕ) → IfSome cache (Stands j trace done) → IfSome result (Stands j trace (done ++ keys.now)) }
+{
+    match cache {
+        Some(cache) => match access_all(cache, keys) {
+            Ok(cache) => Some(cache),
+            Err(_) => None,
+        },
+        None => None,
+    }
+}
+
+/// The report of a cache that ran its job over the whole trace.
+pub fn report_by(cache: &AnyPolicy, job: &Job) -> Report
+    ensures { (trace : List ℕ) → Stands job.now trace trace cache.now → result ≡ report_on job.now trace }
+{
+    any_reports();
+    Report::of(job, cache.stats())
+}
+
+/// The same, unless the cache ran out of memory.
+pub fn finish(cache: Option<AnyPolicy>, job: &Job) -> Option<Report>
+    ensures { (trace : List ℕ) → IfSome cache (Stands job.now trace trace) → IfSome result (λ r. r ≡ report_on job.now trace) }
+{
+    match cache {
+        Some(cache) => Some(report_by(&cache, job)),
+        None => None,
+    }
+}

@@ -1,0 +1,24 @@
+//! Reports of jobs over a whole trace: `run_one` on this thread, `run_actors` with each job on a thread of its own that
+//! is fed the trace in batches, and `sweep` with one job at several capacities.
+//!
+//! All three promise the same: with `Ok`, each report is `report_on` of its job and the trace, in the order asked for.
+//! So a policy's report does not depend on how many actors there are, or on the size of a batch.
+#![tactic(auto)]
+
+mod accesses;
+mod actor;
+mod checks;
+mod fault;
+mod mail;
+mod rule;
+mod run;
+mod several;
+mod single;
+
+pub use fault::ActorFault;
+pub use run::{MAX_ACTORS, MAX_BATCH, run_actors};
+pub use several::sweep;
+pub use single::run_one;
+
+#[cfg(test)]
+mod tests;

@@ -1,0 +1,96 @@
+//! The rule of an actor's channel.
+ghost use Rattle.std.specs.Prelude.{ℕ, List, ⊤};
+
+use crossbeam_channel::protocol::{Lesson, Outcome, Protocol, Split};
+use crossbeam_channel::{Pass, RuledReceiver, RuledSender};
+use std::marker::{Brand, PhantomData};
+use step_record::Key;
+
+/// What is fed: the keys, so many to a batch. It stands for values that are known at run time only.
+pub trait Source {
+    ghost keys: { List ℕ };
+
+    ghost size: { ℕ };
+}
+
+impl Source for Brand {
+    ghost use Rattle.std.specs.Prelude.{[]};
+
+    ghost keys = { [] };
+
+    ghost size = { 0 };
+}
+
+/// A piece of the trace.
+#[derive(Drop)]
+pub struct Batch<'a> {
+    pub number: u64,
+    pub last: bool,
+    pub keys: &'a [Key],
+}
+
+// What a pass may do, and how many batches it has given and taken. No value of it is made.
+pub struct Log {
+    pub gives: bool,
+    pub takes: bool,
+    pub given: u64,
+    pub taken: u64,
+}
+
+pub struct BatchesInOrder<S> {
+    marker: PhantomData<S>,
+}
+
+impl<'a, S: Source> Protocol<Batch<'a>, Log> for BatchesInOrder<S> {
+    ghost use Rattle.std.specs.Prelude.{true};
+    ghost use Rattle.policy_actors.specs.Rule.{log, Kept};
+
+    ghost holds = { Kept S.keys S.size };
+
+    ghost first = { log true true 0 0 };
+}
+
+pub struct Roles;
+
+impl Split<Log> for Roles {
+    ghost use Rattle.std.specs.Prelude.{true, false};
+    ghost use Rattle.policy_actors.specs.Rule.{log};
+
+    ghost left = { λ v. log true false v.given 0 };
+
+    ghost right = { λ v. log false true 0 v.taken };
+}
+
+pub struct Gave;
+
+impl<'a> Outcome<Batch<'a>, Log> for Gave {
+    ghost use Rattle.std.specs.Prelude.{◌≡◌, ◌+◌};
+    ghost use Rattle.policy_actors.specs.Rule.{log};
+
+    ghost then = { λ v x w. w ≡ log v.gives v.takes (v.given + 1) v.taken };
+}
+
+impl<'a> Lesson<Batch<'a>, Log> for Gave {
+    ghost fact = { λ v items. ⊤ };
+}
+
+pub struct Took<S> {
+    marker: PhantomData<S>,
+}
+
+impl<'a, S: Source> Outcome<Batch<'a>, Log> for Took<S> {
+    ghost use Rattle.std.specs.Prelude.{◌≡◌, ◌+◌};
+    ghost use Rattle.policy_actors.specs.Rule.{log, IsBatch};
+
+    ghost then = { λ v x w. (w ≡ log v.gives v.takes v.given (v.taken + 1)) × IsBatch S.keys S.size v.taken x };
+}
+
+impl<'a, S: Source> Lesson<Batch<'a>, Log> for Took<S> {
+    ghost fact = { λ v items. ⊤ };
+}
+
+pub type Sender<'a, S> = RuledSender<Batch<'a>, Log, BatchesInOrder<S>>;
+
+pub type Receiver<'a, S> = RuledReceiver<Batch<'a>, Log, BatchesInOrder<S>>;
+
+pub type Token<'a> = Pass<Batch<'a>, Log>;

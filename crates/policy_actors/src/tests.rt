@@ -1,0 +1,239 @@
+//! Small traces whose reports were worked out by hand, and threads that wait for one another.
+use super::*;
+use report::Report;
+use std::alloc::Global;
+use std::process::Abort;
+use std::sync::Wait;
+use std::sync::atomic::AtomicU64;
+use std::sync::atomic::Ordering::SeqCst;
+use std::test::Fail;
+use std::thread;
+use std::thread::Threads;
+use step_record::{Config, Gate, Job, OpenGate, Policy, Spread, Trace};
+
+// Holds each actor's batch n until batch n of every actor has begun.
+#[derive(Drop)]
+struct Hold {
+    actors: u64,
+    begun: AtomicU64,
+    over: AtomicU64,
+    late: AtomicU64,
+}
+
+fn gate_for(actors: u64) -> Hold {
+    Hold {
+        actors,
+        begun: AtomicU64::new(0),
+        over: AtomicU64::new(0),
+        late: AtomicU64::new(0),
+    }
+}
+
+impl Gate for Hold {
+    fn before(&self, _who: u8, n: u64) {
+        self.begun.fetch_add(1, SeqCst);
+        let wanted = n.wrapping_add(1).wrapping_mul(self.actors);
+        for _ in 0..1_000_000 {
+            if self.begun.load(SeqCst) >= wanted {
+                return;
+            }
+            thread::yield_now();
+        }
+        self.late.fetch_add(1, SeqCst);
+    }
+
+    fn after(&self, _who: u8, _n: u64) {
+        self.over.fetch_add(1, SeqCst);
+    }
+}
+
+fn job(policy: Policy, capacity: u32) -> Job {
+    Job {
+        policy,
+        config: Config {
+            capacity,
+            main_percent: 99,
+            spread: Spread::Plain,
+            stripes: 1,
+            journal_limit: 1,
+        },
+    }
+}
+
+fn jobs() -> [Job; 4] {
+    [
+        job(Policy::Lru, 2),
+        job(Policy::SegmentedLru, 2),
+        job(Policy::WindowTinyLfu, 2),
+        job(Policy::Clairvoyant, 2),
+    ]
+}
+
+fn trace(alloc: Global) -> Result<Trace, Fail> {
+    let keys = vec![in alloc; 1, 1, 2, 3, 1]?;
+    Ok(Trace::new(keys))
+}
+
+fn wanted(policy: Policy, hits: u64, evictions: u64, rejections: u64) -> Report {
+    Report {
+        policy,
+        capacity: 2,
+        accesses: 5,
+        hits,
+        misses: 5u64.wrapping_sub(hits),
+        evictions,
+        rejections,
+    }
+}
+
+fn all_wanted() -> [Report; 4] {
+    [
+        wanted(Policy::Lru, 1, 2, 0),
+        wanted(Policy::SegmentedLru, 2, 1, 0),
+        wanted(Policy::WindowTinyLfu, 2, 1, 1),
+        wanted(Policy::Clairvoyant, 2, 1, 0),
+    ]
+}
+
+// Runs the first jobs on actors, and sees that they ran side by side.
+fn run<R: Threads + Wait + Sync + Abort>(
+    rt: &R,
+    alloc: Global,
+    actors: usize,
+    batch: u32,
+    batches: u64,
+) -> Result<(), Fail> {
+    let trace = trace(alloc)?;
+    let gate = gate_for(actors as u64);
+    let all = jobs();
+    let Some(some) = all.get(..actors) else {
+        return Err(Fail::from("no jobs"));
+    };
+    let reports = match run_actors(rt, alloc, &trace, some, batch, &gate) {
+        Ok(reports) => reports,
+        Err(_) => return Err(Fail::from("no reports")),
+    };
+    let want = all_wanted();
+    assert_eq!(rt; Some(reports.as_slice()), want.get(..actors));
+    assert_eq!(rt; gate.late.load(SeqCst), 0);
+    assert_eq!(rt; gate.over.load(SeqCst), batches.wrapping_mul(actors as u64));
+    Ok(())
+}
+
+#[test]
+fn actors_run_side_by_side(rt: HostRuntime) -> Result<(), Fail> {
+    for actors in [1, 2, 4] {
+        for (batch, batches) in [(1, 5), (3, 2), (5, 1)] {
+            run(&rt, rt.alloc(), actors, batch, batches)?;
+        }
+    }
+    Ok(())
+}
+
+#[test]
+fn sixty_four_actors_of_an_empty_trace(rt: HostRuntime) -> Result<(), Fail> {
+    let alloc = rt.alloc();
+    let gate = gate_for(64);
+    let empty = Trace::new(Vec::new(alloc));
+    match run_actors(
+        &rt,
+        alloc,
+        &empty,
+        &[job(Policy::TinyLfuLru, 2); 64],
+        3,
+        &gate,
+    ) {
+        Ok(reports) => assert_eq!(rt; reports.len(), 64),
+        Err(_) => return Err(Fail::from("no reports")),
+    }
+    assert_eq!(rt; gate.late.load(SeqCst), 0);
+    assert_eq!(rt; gate.over.load(SeqCst), 64);
+    Ok(())
+}
+
+#[test]
+fn faults_come_in_their_order(rt: HostRuntime) -> Result<(), Fail> {
+    let alloc = rt.alloc();
+    let trace = trace(alloc)?;
+    let good = job(Policy::Lru, 2);
+    let bad = job(Policy::Lru, 0);
+    let many = [bad; 65];
+    assert!(rt;
+        matches!(
+            run_actors(&rt, alloc, &trace, &many, 0, &OpenGate),
+            Err(ActorFault::Batch)
+        )
+    );
+    assert!(rt;
+        matches!(
+            run_actors(&rt, alloc, &trace, &[], 65_537, &OpenGate),
+            Err(ActorFault::Batch)
+        )
+    );
+    assert!(rt;
+        matches!(
+            run_actors(&rt, alloc, &trace, &many, 1, &OpenGate),
+            Err(ActorFault::Actors)
+        )
+    );
+    assert!(rt;
+        matches!(
+            run_actors(&rt, alloc, &trace, &[good, bad, bad], 1, &OpenGate),
+            Err(ActorFault::Config { index: 1 })
+        )
+    );
+    assert!(rt;
+        matches!(
+            run_one(alloc, &trace, &bad),
+            Err(ActorFault::Config { index: 0 })
+        )
+    );
+    assert!(rt;
+        matches!(
+            sweep(&rt, alloc, &trace, &good, &[1, 0]),
+            Err(ActorFault::Config { index: 1 })
+        )
+    );
+    match run_actors(&rt, alloc, &trace, &[], 65_536, &OpenGate) {
+        Ok(reports) => assert!(rt; reports.is_empty()),
+        Err(_) => return Err(Fail::from("no reports")),
+    }
+    Ok(())
+}
+
+#[test]
+fn sweeps_and_single_runs(rt: HostRuntime) -> Result<(), Fail> {
+    let alloc = rt.alloc();
+    let trace = trace(alloc)?;
+    let all = jobs();
+    let want = all_wanted();
+    for (one, report) in all.iter().zip(want.iter()) {
+        match run_one(alloc, &trace, one) {
+            Ok(got) => assert_eq!(rt; got, *report),
+            Err(_) => return Err(Fail::from("no report")),
+        }
+    }
+    match sweep(&rt, alloc, &trace, &job(Policy::Lru, 7), &[2, 3]) {
+        Ok(reports) => {
+            assert_eq!(rt; reports.len(), 2);
+            assert_eq!(rt; reports.get(0), want.get(0));
+            assert_eq!(rt; reports.get(1).map(|r: &Report| -> u64 { r.hits }), Some(2));
+        }
+        Err(_) => return Err(Fail::from("no reports")),
+    }
+    Ok(())
+}
+
+#[test]
+fn a_fault_is_shown_by_its_name(rt: HostRuntime) -> Result<(), Fail> {
+    for (fault, text) in [
+        (ActorFault::OutOfMemory, "OutOfMemory"),
+        (ActorFault::Batch, "Batch"),
+        (ActorFault::Config { index: 3 }, "Config"),
+        (ActorFault::Actors, "Actors"),
+    ] {
+        let shown = format!(in rt.alloc(); "{fault}")?;
+        assert_eq!(rt; shown.as_str(), text);
+    }
+    Ok(())
+}

@@ -1,0 +1,122 @@
+-- Carrying a plan out is undone by its record.
+use Rattle.std.proofs.Common.{◌≡◌, ℕ, ◌+◌, ◌≤◌, Option, Some, None, List, length, ap, sym, refl, arith, subst}
+use Rattle.step_record.specs.declared.item.Item.{Item}
+use Rattle.segments.specs.declared.records.Queue.{Queue}
+use Rattle.segments.specs.declared.records.Queue.TheVariants.{Window, Probation, Protected}
+use Rattle.segments.specs.declared.records.MoveRecord.{MoveRecord}
+use Rattle.segments.specs.Items.{first, without}
+use Rattle.segments.specs.Queues.{Queues, queue_of, place_of, pushed, taken, moved, popped, total, IsDistinct}
+use Rattle.segments.specs.Moves.{move_record}
+use Rattle.segments.proofs.ItemLists.{length-without, times-without}
+use Rattle.std.proofs.Common.{length-append}
+use Rattle.segments.proofs.MoveLaws.{Leads, move_leads, out_leads}
+use Rattle.segments.proofs.QueueLists.{absent, is_absent, absent-taken, taken-absent, distinct-taken, distinct-put, put-last, taken-first}
+use Rattle.replacement.specs.declared.record.Moves.{Moves}
+use Rattle.replacement.specs.declared.record.Effect.{Effect}
+use Rattle.replacement.specs.Plan.{Transfer, Plan}
+use Rattle.replacement.specs.Effects.{IsEffect}
+use Rattle.replacement.specs.Moving.{transferred, removed, queues_after, transfer_record, removal_record, moves_of, undone_by, undone_moves, FitsBy, needed_by, FitsMoves}
+
+pub moved-distinct : (i : Item) (q : Queue) (s : Queues) → IsDistinct s → IsDistinct (moved i q s)
+moved-distinct i q s d =
+    let t = distinct-taken i s d in
+    subst IsDistinct (put-last q i (taken i s) t) (distinct-put q _ i (taken i s) t (absent-taken i s))
+
+-- an item that stands nowhere joins a queue
+pub pushed-moved : (i : Item) (q : Queue) (s : Queues) → place_of i s ≡ None → pushed q i s ≡ moved i q s
+pushed-moved i q s h = ap (pushed q i) (sym (taken-absent i s (absent i s h)))
+
+-- the oldest item leaves a queue
+pub popped-taken : (q : Queue) (i : Item) (s : Queues) → IsDistinct s → first (queue_of q s) ≡ Some i → popped q s ≡ taken i s
+popped-taken q i s d h = sym (taken-first q i s d h)
+
+pub taken-place : (i : Item) (s : Queues) → place_of i (taken i s) ≡ None
+taken-place i s = is_absent i (taken i s) (absent-taken i s)
+
+-- a part of a plan
+record Part (r : Option MoveRecord) (s t : Queues) : Type 0 where
+  fits : FitsBy r t
+  back : undone_by r t ≡ s
+  distinct : IsDistinct t
+
+transfer-part : (t : Option Transfer) (s : Queues) → IsDistinct s → Part (transfer_record t s) s (transferred t s)
+transfer-part None s d = record { fits = tt; back = refl; distinct = d }
+transfer-part (Some t) s d =
+    let l : Leads (move_record t.item (Some t.to) s) s (moved t.item t.to s) = move_leads t.item t.to s d in
+    record { fits = l.fits; back = l.back; distinct = moved-distinct t.item t.to s d }
+
+removal-part : (i : Option Item) (s : Queues) → IsDistinct s → Part (removal_record i s) s (removed i s)
+removal-part None s d = record { fits = tt; back = refl; distinct = d }
+removal-part (Some i) s d =
+    let l : Leads (move_record i None s) s (taken i s) = out_leads i s d in
+    record { fits = l.fits; back = l.back; distinct = distinct-taken i s d }
+
+transfer-stays : (t : Option Transfer) (s : Queues) → needed_by (transfer_record t s) ≡ 0
+transfer-stays None s = refl
+transfer-stays (Some t) s = refl
+
+-- the record of a plan fits what the plan leaves, and undoing it gives what was before
+pub record IsCarried (p : Plan) (s : Queues) : Type 0 where
+  pub fits : FitsMoves (moves_of p s) (queues_after p s)
+  pub back : undone_moves (moves_of p s) (queues_after p s) ≡ s
+  pub distinct : IsDistinct (queues_after p s)
+
+parts : (m : Moves) (s a b e : Queues) → Part m.first s a → Part m.out a b → Part m.last b e → needed_by m.last ≡ 0 → needed_by m.first ≡ 0
+    → FitsMoves m e × (undone_moves m e ≡ s)
+parts m s a b e f o l sl sf = (
+  record { last = l.fits; out = rw l.back o.fits; first = rw (l.back, o.back) f.fits; stays = (sl, sf) },
+  rw (l.back, o.back) f.back,
+)
+
+pub carries : (p : Plan) (s : Queues) → IsDistinct s → IsCarried p s
+carries p s d =
+    let f = transfer-part p.first s d in
+    let o = removal-part p.leaves (transferred p.first s) f.distinct in
+    let l = transfer-part p.last (removed p.leaves (transferred p.first s)) o.distinct in
+    let all = parts (moves_of p s) s (transferred p.first s) (removed p.leaves (transferred p.first s)) (queues_after p s) f o l (transfer-stays p.last (removed p.leaves (transferred p.first s))) (transfer-stays p.first s) in
+    record { fits = all.0; back = all.1; distinct = l.distinct }
+
+-- each move adds one item at most
+without-few : (i : Item) (l : List Item) → length (without i l) ≤ length l
+without-few i l = omega (arith, length-without i l)
+
+taken-few : (i : Item) (s : Queues) → total (taken i s) ≤ total s
+taken-few i s = omega (arith, without-few i s.window, without-few i s.probation, without-few i s.protected)
+
+pub moved-few : (i : Item) (q : Queue) (s : Queues) → total (moved i q s) ≤ total s + 1
+moved-few i Window s = simp length-append (omega (arith, taken-few i s))
+moved-few i Probation s = simp length-append (omega (arith, taken-few i s))
+moved-few i Protected s = simp length-append (omega (arith, taken-few i s))
+
+transferred-few : (t : Option Transfer) (s : Queues) → total (transferred t s) ≤ total s + 1
+transferred-few None s = omega arith
+transferred-few (Some t) s = moved-few t.item t.to s
+
+removed-few : (i : Option Item) (s : Queues) → total (removed i s) ≤ total s
+removed-few None s = omega arith
+removed-few (Some i) s = taken-few i s
+
+pub plan-few : (p : Plan) (s : Queues) → total (queues_after p s) ≤ total s + 2
+plan-few p s =
+    omega (arith, transferred-few p.first s, removed-few p.leaves (transferred p.first s), transferred-few p.last (removed p.leaves (transferred p.first s)))
+
+-- an item that stands nowhere still stands nowhere once another is out
+pub still-absent : (i v : Item) (s : Queues) → place_of i s ≡ None → place_of i (taken v s) ≡ None
+still-absent i v s h =
+    let a = absent i s h in
+    let w = a.window in
+    let p = a.probation in
+    let r = a.protected in
+    is_absent i (taken v s) record {
+      window = (let l = times-without v i s.window in omega arith);
+      probation = (let l = times-without v i s.probation in omega arith);
+      protected = (let l = times-without v i s.protected in omega arith);
+    }
+
+-- an effect of a plan fits what the plan left, and is undone
+pub record IsUndone (s t : Queues) (m : Moves) : Type 0 where
+  pub fits : FitsMoves m t
+  pub back : undone_moves m t ≡ s
+
+pub undoes : (p : Plan) (s t : Queues) (m : Moves) → IsDistinct s → t ≡ queues_after p s → m ≡ moves_of p s → IsUndone s t m
+undoes p s t m d l h = let c = carries p s d in record { fits = rw (h, l) c.fits; back = rw (h, l) c.back }

@@ -1,0 +1,4 @@
+pub mod Shape
+pub mod Carrying
+pub mod Planned
+pub mod Served

@@ -1,0 +1,203 @@
+-- The plans carry out the table of moves.
+use Rattle.std.proofs.Common.{◌≡◌, ℕ, ◌+◌, ◌≤◌, Bool, true, false, cond, nat_lt, Option, Some, None, List, [], ◌∷◌, ◌++◌, length, ap, ◌∙◌, sym, refl, arith, inl, inr, subst, length-append}
+use Rattle.std.specs.Prelude.{if◌then◌else◌}
+use Rattle.std.proofs.lemmas.Bool.{cases_Bool}
+use Rattle.step_record.specs.declared.item.Item.{Item}
+use Rattle.step_record.specs.declared.outcome.Outcome.TheVariants.{Kept, Evicted, Rejected}
+use Rattle.segments.specs.declared.records.Queue.{Queue}
+use Rattle.segments.specs.declared.records.Queue.TheVariants.{Window, Probation, Protected}
+use Rattle.segments.specs.Items.{same, times, without, first}
+use Rattle.segments.specs.Queues.{Queues, queue_of, place_of, pushed, taken, moved, total, IsDistinct}
+use Rattle.segments.proofs.ItemLists.{same-refl, same-sym, times-append, length-without, without-none, without-append}
+use Rattle.segments.proofs.MoveLaws.{taken-moved}
+use Rattle.segments.proofs.QueueLists.{first-stands}
+use Rattle.replacement.specs.declared.rules.Rules.{Rules}
+use Rattle.replacement.specs.Table.{Response, kept_in, with_recent, demoted, hit_in, rejection, contest, trial, trial_of, eviction, replacing, direct, miss, access_in, access}
+use Rattle.replacement.specs.Plan.{Plan, Transfer, transfer, demotion, hit_plan, stay_plan, rejection_plan, contest_plan, direct_plan, candidate_of, eviction_of, eviction_plan, joining_first, miss_plan, plan_in, plan}
+use Rattle.replacement.specs.Moving.{transferred, removed, queues_after, response}
+use Rattle.replacement.specs.Theorems.{HitsPlanned, EvictionsPlanned, AccessesPlanned}
+use Rattle.replacement.proofs.Carrying.{moved-distinct, pushed-moved, still-absent, carries, plan-few}
+
+-- ---- hits
+
+demoted-planned : (size : ℕ) (s : Queues) → demoted size s ≡ transferred (demotion size s) s
+demoted-planned size s =
+    elim (cases_Bool (nat_lt size (length s.protected))) as (λ _. demoted size s ≡ transferred (demotion size s) s) [
+      | inl e ↦ rw e (by_oldest (first s.protected))
+      | inr e ↦ rw e refl
+    ]
+  where
+    by_oldest : (o : Option Item) → with_recent o Probation s ≡ transferred (transfer Probation o) s
+    by_oldest None = refl
+    by_oldest (Some i) = refl
+
+pub hits-planned : HitsPlanned
+hits-planned size i Window s = refl
+hits-planned size i Probation s = demoted-planned size (moved i Protected s)
+hits-planned size i Protected s = refl
+
+-- ---- evictions
+
+-- two items taken out, in either order
+swapped : (v c : Item) (l : List Item) → without v (without c l) ≡ without c (without v l)
+swapped v c [] = refl
+swapped v c (x ∷ l) =
+    let h : without v (without c l) ≡ without c (without v l) = swapped v c l in
+    elim (cases_Bool (same c x)) as (λ _. without v (cond (same c x) (without c l) (x ∷ without c l)) ≡ without c (cond (same v x) (without v l) (x ∷ without v l))) [
+      | inl e ↦ rw e (elim (cases_Bool (same v x)) as (λ _. without v (without c l) ≡ without c (cond (same v x) (without v l) (x ∷ without v l))) [
+        | inl f ↦ rw f h
+        | inr f ↦ rw (f, e) h
+      ])
+      | inr e ↦ rw e (elim (cases_Bool (same v x)) as (λ _. cond (same v x) (without v (without c l)) (x ∷ without v (without c l)) ≡ without c (cond (same v x) (without v l) (x ∷ without v l))) [
+        | inl f ↦ rw f h
+        | inr f ↦ rw (f, e) (ap (λ t. x ∷ t) h)
+      ])
+    ]
+
+-- another item is taken out before or after the candidate goes to probation
+taken-past : (v c : Item) (q : Queues) → same v c ≡ false → taken v (moved c Probation q) ≡ moved c Probation (taken v q)
+taken-past v c q h =
+    rw (without-append v (without c q.probation) (c ∷ []), h, swapped v c q.window, swapped v c q.probation, swapped v c q.protected) refl
+
+first_or : Item → Option Item → Option Item
+first_or c None = Some c
+first_or c (Some v) = Some v
+
+-- the victim, once the candidate stands behind it
+first-shifted : (c : Item) (l : List Item) → times c l ≡ 0 → first (without c l ++ c ∷ []) ≡ first_or c (first l)
+unfolding first_or
+first-shifted c l h = rw (without-none c l h) (by l)
+  where
+    by : (l : List Item) → first (l ++ c ∷ []) ≡ first_or c (first l)
+    by [] = refl
+    by (x ∷ l) = refl
+
+apart : (c v : Item) (l : List Item) → times c l ≡ 0 → first l ≡ Some v → same c v ≡ false
+apart c v l h f =
+    elim (cases_Bool (same c v)) [
+      | inl e ↦ absurd (by l h f e)
+      | inr e ↦ e
+    ]
+  where
+    item_in : Item → Option Item → Item
+    item_in d None = d
+    item_in d (Some j) = j
+
+    by : (l : List Item) → times c l ≡ 0 → first l ≡ Some v → same c v ≡ true → ⊥
+    by [] h f e = cc (f)
+    by (x ∷ l) h f e =
+        let s : x ≡ v = ap (item_in x) f in
+        let t : same c x ≡ true = rw s e in
+        let no : 1 + times c l ≡ 0 = rw t at h in
+        omega arith
+
+contest-planned : (a : ℕ → ℕ → Bool) (c : Item) (o : Option Item) (s : Queues) → first s.probation ≡ o → times c s.probation ≡ 0
+    → contest a c (first_or c o) (moved c Probation s) ≡ response (contest_plan Probation a c (Some c) o) s
+unfolding first_or
+contest-planned a c None s f h = let e = same-refl c in rw (e, taken-moved c Probation s) refl
+contest-planned a c (Some v) s f h =
+    let e : same c v ≡ false = apart c v s.probation h f in
+    rw e (elim (cases_Bool (a c.key v.key)) as (λ _. cond {A = Response} (a c.key v.key) record { outcome = Evicted v.key; left = Some v; queues = taken v (moved c Probation s) } (rejection c (moved c Probation s)) ≡ response (contest_plan Probation a c (Some c) (Some v)) s) [
+      | inl g ↦ rw (g, taken-past v c s (same-sym c v e)) refl
+      | inr g ↦ rw (g, taken-moved c Probation s) refl
+    ])
+
+-- the candidate's way to probation adds no item
+total-shifted : (c : Item) (q : Queues) → IsDistinct q → 1 ≤ times c q.window → total (moved c Probation q) ≡ total q
+total-shifted c q d h = omega (arith, d c, h, length-without c q.window, length-without c q.probation, length-without c q.protected, length-append (without c q.probation) (c ∷ []))
+
+trial-planned : (r : Rules) (a : ℕ → ℕ → Bool) (o : Option Item) (s : Queues) → first s.window ≡ o → IsDistinct s
+    → trial_of r a o s ≡ response (eviction_of r a o s) s
+trial-planned r a None s f d = refl
+trial-planned r a (Some c) s f d =
+    let n : 1 ≤ times c s.window = first-stands c s.window f in
+    let z : times c s.probation ≡ 0 = omega (arith, d c, n) in
+    rw (total-shifted c s d n) (elim (cases_Bool (nat_lt r.capacity (total s))) as (λ _. cond {A = Response} (nat_lt r.capacity (total s)) (contest a c (first (moved c Probation s).probation) (moved c Probation s)) (kept_in (moved c Probation s))
+    ≡ response (cond (nat_lt r.capacity (total s)) (contest_plan Probation a c (Some c) (first s.probation)) (stay_plan Probation c)) s) [
+      | inl e ↦ rw e (ap (λ (o : Option Item). contest a c o (moved c Probation s)) (first-shifted c s.probation z) ∙ contest-planned a c (first s.probation) s refl z)
+      | inr e ↦ rw e refl
+    ])
+
+pub evictions-planned : EvictionsPlanned
+evictions-planned r a s d =
+    elim (cases_Bool (nat_lt r.window (length s.window))) as (λ _. eviction r a s ≡ response (eviction_plan r a s) s) [
+      | inl e ↦ rw e (trial-planned r a (first s.window) s refl d)
+      | inr e ↦ rw e refl
+    ]
+
+-- ---- accesses
+
+-- a plan of an eviction moves nothing first, so that an item can join before it
+first-none : (r : Rules) (a : ℕ → ℕ → Bool) (o : Option Item) (s : Queues) → (eviction_of r a o s).first ≡ None
+first-none r a None s = refl
+first-none r a (Some c) s =
+    elim (cases_Bool (nat_lt r.capacity (total s))) as (λ _. (eviction_of r a (Some c) s).first ≡ None) [
+      | inl e ↦ rw e (by (first s.probation))
+      | inr e ↦ rw e refl
+    ]
+  where
+    by : (o : Option Item) → (contest_plan Probation a c (Some c) o).first ≡ None
+    by None = refl
+    by (Some v) = elim (cases_Bool (a c.key v.key)) as (λ _. (contest_plan Probation a c (Some c) (Some v)).first ≡ None) [ inl e ↦ rw e refl | inr e ↦ rw e refl ]
+
+response_with : Option Transfer → Plan → Queues → Response
+response_with o p s = record { outcome = p.outcome; left = p.leaves; queues = transferred p.last (removed p.leaves (transferred o s)) }
+
+pub joined-response : (i : Item) (p : Plan) (s : Queues) → p.first ≡ None → response (joining_first i p) s ≡ response p (moved i Window s)
+unfolding response_with
+joined-response i p s h = ap (λ (o : Option Transfer). response_with o p (moved i Window s)) (sym h)
+
+pub evicts-first : (r : Rules) (a : ℕ → ℕ → Bool) (s : Queues) → (eviction_plan r a s).first ≡ None
+evicts-first r a s = first-none r a (candidate_of r s) s
+
+replacing-planned : (a : ℕ → ℕ → Bool) (q : Queue) (i : Item) (o : Option Item) (s : Queues) → place_of i s ≡ None
+    → replacing a q i o s ≡ response (contest_plan q a i None o) s
+replacing-planned a q i None s h = refl
+replacing-planned a q i (Some v) s h =
+    elim (cases_Bool (a i.key v.key)) as (λ _. replacing a q i (Some v) s ≡ response (contest_plan q a i None (Some v)) s) [
+      | inl e ↦ rw (e, pushed-moved i q (taken v s) (still-absent i v s h)) refl
+      | inr e ↦ rw e refl
+    ]
+
+direct-planned : (r : Rules) (a : ℕ → ℕ → Bool) (i : Item) (s : Queues) → place_of i s ≡ None → direct r a i s ≡ response (direct_plan r a i s) s
+direct-planned r a i s h =
+    elim (cases_Bool (nat_lt (total s) r.capacity)) as (λ _. direct r a i s ≡ response (direct_plan r a i s) s) [
+      | inl e ↦ rw (e, pushed-moved i r.home s h) refl
+      | inr e ↦ rw e (replacing-planned a r.home i (first (queue_of r.home s)) s h)
+    ]
+
+miss-planned : (r : Rules) (a : ℕ → ℕ → Bool) (i : Item) (s : Queues) → IsDistinct s → place_of i s ≡ None → miss r a i s ≡ response (miss_plan r a i s) s
+miss-planned r a i s d h = by r.windowed
+  where
+    by : (b : Bool) → (if b then eviction r a (pushed Window i s) else direct r a i s) ≡ response (if b then joining_first i (eviction_plan r a (moved i Window s)) else direct_plan r a i s) s
+    by true =
+        ap (eviction r a) (pushed-moved i Window s h)
+        ∙ (evictions-planned r a (moved i Window s) (moved-distinct i Window s d)
+        ∙ sym (joined-response i (eviction_plan r a (moved i Window s)) s (evicts-first r a (moved i Window s))))
+    by false = direct-planned r a i s h
+
+pub access-planned-in : (r : Rules) (a : ℕ → ℕ → Bool) (i : Item) (p : Option Queue) (s : Queues) → IsDistinct s → place_of i s ≡ p
+    → access_in r a i p s ≡ response (plan_in r a i p s) s
+access-planned-in r a i None s d h = miss-planned r a i s d h
+access-planned-in r a i (Some q) s d h = let e = hits-planned r.protected i q s in rw e refl
+
+-- the plan of an access and the table, by where its item stands
+pub plan-at : (r : Rules) (a : ℕ → ℕ → Bool) (i : Item) (s : Queues) (p : Option Queue) → place_of i s ≡ p → plan r a i s ≡ plan_in r a i p s
+unfolding plan
+plan-at r a i s p h = ap (λ (x : Option Queue). plan_in r a i x s) h
+
+pub access-at : (r : Rules) (a : ℕ → ℕ → Bool) (i : Item) (s : Queues) (p : Option Queue) → place_of i s ≡ p → access r a i s ≡ access_in r a i p s
+unfolding access
+access-at r a i s p h = ap (λ (x : Option Queue). access_in r a i x s) h
+
+pub accesses-planned : AccessesPlanned
+accesses-planned r a i s d =
+    access-at r a i s (place_of i s) refl ∙ (access-planned-in r a i (place_of i s) s d refl
+    ∙ ap (λ (p : Plan). response p s) (sym (plan-at r a i s (place_of i s) refl)))
+
+-- an access leaves distinct items, and two more at most
+pub access-distinct : (r : Rules) (a : ℕ → ℕ → Bool) (i : Item) (s : Queues) → IsDistinct s → IsDistinct (access r a i s).queues
+access-distinct r a i s d = subst (λ (x : Response). IsDistinct x.queues) (sym (accesses-planned r a i s d)) (carries (plan r a i s) s d).distinct
+
+pub access-few : (r : Rules) (a : ℕ → ℕ → Bool) (i : Item) (s : Queues) → IsDistinct s → total (access r a i s).queues ≤ total s + 2
+access-few r a i s d = subst (λ (x : Response). total x.queues ≤ total s + 2) (sym (accesses-planned r a i s d)) (plan-few (plan r a i s) s)

@@ -1,0 +1,53 @@
+-- A configuration's frequency has one shape.
+use Rattle.std.proofs.Common.{◌≡◌, ℕ, zero, suc, ◌+◌, ◌*◌, ◌/◌, ◌^◌, ◌≤◌, ◌<◌, inl, inr, max, List, ap, sym, ◌∙◌, refl, arith, subst}
+use Rattle.std.proofs.lemmas.Nat.{pow-add}
+use Rattle.std.proofs.lemmas.Bool.Decides.{leb_tells}
+use Rattle.std.specs.Int.{IsPowerOfTwo, IsNextPowerOfTwo}
+use Rattle.step_record.specs.declared.config.Config.{Config}
+use Rattle.step_record.specs.declared.config.Spread.{Spread}
+use Rattle.admission.specs.Shape.{Shape, IsShape}
+use Rattle.admission.specs.Frequency.{FrequencyData, frequency_of, StandsFor}
+use Rattle.admission.proofs.Recording.{next_within}
+use Rattle.replacement.specs.Shape.{doubled, least_power, shape_of}
+
+power-next : (k : ℕ) → 2 ^ suc k ≡ 2 * 2 ^ k
+power-next k = let q : suc k ≡ 1 + k = omega arith in rw q (pow-add 2 1 k)
+
+doubled-is : (times p n : ℕ) → IsPowerOfTwo p → 1 ≤ p → p / 2 < max 1 n → n ≤ p + times → IsNextPowerOfTwo n (doubled times p n)
+doubled-is zero p n pow some half near = (pow, omega arith, half)
+doubled-is (suc times) p n pow some half near =
+    elim (leb_tells n p) as (λ _. IsNextPowerOfTwo n (doubled (suc times) p n)) [
+      | inl a ↦ rw a.0 (pow, a.1, half)
+      | inr b ↦ rw b.0 (doubled-is times (2 * p) n (suc pow.0, ap (λ x. 2 * x) pow.1 ∙ sym (power-next pow.0)) (omega arith) (let lt = b.1 in omega arith) (omega arith))
+    ]
+
+least : (n : ℕ) → IsNextPowerOfTwo n (least_power n)
+unfolding least_power
+least n = doubled-is n 1 n (0, refl) (omega arith) (omega arith) (omega arith)
+
+next-one : (n p q : ℕ) → 1 ≤ n → IsNextPowerOfTwo n p → IsNextPowerOfTwo n q → p ≡ q
+next-one n p q h a b =
+    let ka = a.0 in
+    let kb = b.0 in
+    let up : p ≤ 2 ^ kb.0 = next_within n p kb.0 a (subst (λ x. n ≤ x) kb.1 b.1) h in
+    let down : q ≤ 2 ^ ka.0 = next_within n q ka.0 b (subst (λ x. n ≤ x) ka.1 a.1) h in
+    let e = ka.1 in
+    let f = kb.1 in
+    omega arith
+
+pub shape-is : (c : Config) → 1 ≤ c.capacity → IsShape (shape_of c)
+shape-is c some = record { some = some; width = least (max 16 c.capacity); size = least (max 64 (8 * c.capacity)) }
+
+shape_by : ℕ → Spread → ℕ → ℕ → Shape
+shape_by c p w d = record { capacity = c; spread = p; width = w; size = d }
+
+shape-one : (c : Config) (s : Shape) → IsShape s → s.capacity ≡ c.capacity → s.spread ≡ c.spread → s ≡ shape_of c
+unfolding shape_by
+shape-one c s is cap spread =
+    let w : s.width ≡ least_power (max 16 c.capacity) = next-one (max 16 c.capacity) s.width (least_power (max 16 c.capacity)) (omega arith) (subst (λ n. IsNextPowerOfTwo (max 16 n) s.width) cap is.width) (least (max 16 c.capacity)) in
+    let d : s.size ≡ least_power (max 64 (8 * c.capacity)) = next-one (max 64 (8 * c.capacity)) s.size (least_power (max 64 (8 * c.capacity))) (omega arith) (subst (λ n. IsNextPowerOfTwo (max 64 (8 * n)) s.size) cap is.size) (least (max 64 (8 * c.capacity))) in
+    ap (λ x. shape_by x s.spread s.width s.size) cap
+    ∙ (ap (λ x. shape_by c.capacity x s.width s.size) spread ∙ (ap (λ x. shape_by c.capacity c.spread x s.size) w ∙ ap (λ x. shape_by c.capacity c.spread (least_power (max 16 c.capacity)) x) d))
+
+pub own-shape : (c : Config) (keys : List ℕ) (f : FrequencyData) → StandsFor c.capacity c.spread keys f → f ≡ frequency_of (shape_of c) keys
+own-shape c keys f h = h.stands ∙ ap (λ s. frequency_of s keys) (shape-one c h.shape h.is h.capacity_is h.spread_is)

@@ -1,0 +1,22 @@
+-- That a plan was carried out.
+use Rattle.std.specs.Prelude.{◌≡◌, ℕ, Option, Some}
+use Rattle.step_record.specs.declared.item.Item.{Item}
+use Rattle.segments.specs.declared.records.Queue.{Queue}
+use Rattle.segments.specs.Queues.{Queues, place_of}
+use Rattle.replacement.specs.declared.record.Moves.{Moves}
+use Rattle.replacement.specs.declared.record.Effect.{Effect}
+use Rattle.replacement.specs.Plan.{Plan, hit_plan}
+use Rattle.replacement.specs.Moving.{queues_after, moves_of}
+
+-- the plan led from the one to the other queues, and the effect is its record and outcome
+pub record IsEffect (p : Plan) (before after : Queues) (e : Effect) : Type 0 where
+  pub lists : after ≡ queues_after p before
+  pub moves : e.moves ≡ moves_of p before
+  pub outcome : e.outcome ≡ p.outcome
+
+-- the item was there, and was hit
+pub record IsHit (size : ℕ) (i : Item) (before after : Queues) (m : Moves) : Type 0 where
+  pub queue : Queue
+  pub place : place_of i before ≡ Some queue
+  pub lists : after ≡ queues_after (hit_plan size i queue before) before
+  pub moves : m ≡ moves_of (hit_plan size i queue before) before

@@ -1,0 +1,104 @@
+-- How the code carries out the table of moves: an access is planned from the queues before it. A candidate goes
+-- straight from the window to its place in probation, or out.
+use Rattle.std.specs.Prelude.{ℕ, nat_lt, Bool, if◌then◌else◌, Option, Some, None, length}
+use Rattle.step_record.specs.declared.item.Item.{Item}
+use Rattle.step_record.specs.declared.outcome.Outcome.{Outcome}
+use Rattle.step_record.specs.declared.outcome.Outcome.TheVariants.{Hit, Kept, Evicted, Rejected}
+use Rattle.segments.specs.declared.records.Queue.{Queue}
+use Rattle.segments.specs.declared.records.Queue.TheVariants.{Window, Probation, Protected}
+use Rattle.segments.specs.Items.{first}
+use Rattle.segments.specs.Queues.{Queues, queue_of, place_of, moved, refreshed_to, total}
+use Rattle.replacement.specs.declared.rules.Rules.{Rules}
+
+-- an item goes to the recent end of a queue
+pub record Transfer : Type 0 where
+  pub item : Item
+  pub to : Queue
+
+-- what is done in turn: an item goes to a recent end, an item leaves, an item goes to a recent end
+pub record Plan : Type 0 where
+  pub first : Option Transfer
+  pub leaves : Option Item
+  pub last : Option Transfer
+  pub outcome : Outcome
+
+abbrev pub transfer : Queue → Option Item → Option Transfer
+transfer q None = None
+transfer q (Some i) = Some record { item = i; to = q }
+
+-- ---- a hit
+
+abbrev pub demotion : ℕ → Queues → Option Transfer
+demotion size s = if nat_lt size (length s.protected) then transfer Probation (first s.protected) else None
+
+-- what follows the move of an item that stood in the queue
+abbrev pub settling : ℕ → Queue → Queues → Option Transfer
+settling size Window s = None
+settling size Probation s = demotion size s
+settling size Protected s = None
+
+abbrev pub hit_plan : ℕ → Item → Queue → Queues → Plan
+hit_plan size i q s = record {
+  first = transfer (refreshed_to q) (Some i);
+  leaves = None;
+  last = settling size q (moved i (refreshed_to q) s);
+  outcome = Hit;
+}
+
+-- ---- a miss
+
+-- the candidate stays
+abbrev pub stay_plan : Queue → Item → Plan
+stay_plan q c = record { first = None; leaves = None; last = transfer q (Some c); outcome = Kept }
+
+-- the candidate is rejected, and the loser leaves
+abbrev pub rejection_plan : Item → Option Item → Plan
+rejection_plan c loser = record { first = None; leaves = loser; last = None; outcome = Rejected c.key }
+
+-- the candidate takes the victim's place where it is admitted against that
+abbrev pub contest_plan : Queue → (ℕ → ℕ → Bool) → Item → Option Item → Option Item → Plan
+contest_plan q admits c loser None = rejection_plan c loser
+contest_plan q admits c loser (Some v) =
+    if admits c.key v.key
+    then record { first = None; leaves = Some v; last = transfer q (Some c); outcome = Evicted v.key }
+    else rejection_plan c loser
+
+-- a new item joins its queue, against the oldest there where the cache is full
+abbrev pub direct_plan : Rules → (ℕ → ℕ → Bool) → Item → Queues → Plan
+direct_plan r admits i s =
+    if nat_lt (total s) r.capacity
+    then stay_plan r.home i
+    else contest_plan r.home admits i None (first (queue_of r.home s))
+
+-- the item that has to leave the window
+abbrev pub candidate_of : Rules → Queues → Option Item
+candidate_of r s = if nat_lt r.window (length s.window) then first s.window else None
+
+abbrev pub eviction_of : Rules → (ℕ → ℕ → Bool) → Option Item → Queues → Plan
+eviction_of r admits None s = record { first = None; leaves = None; last = None; outcome = Kept }
+eviction_of r admits (Some c) s =
+    if nat_lt r.capacity (total s)
+    then contest_plan Probation admits c (Some c) (first s.probation)
+    else stay_plan Probation c
+
+-- one eviction
+abbrev pub eviction_plan : Rules → (ℕ → ℕ → Bool) → Queues → Plan
+eviction_plan r admits s = eviction_of r admits (candidate_of r s) s
+
+-- an item first joins the window
+abbrev pub joining_first : Item → Plan → Plan
+joining_first i p = record { first = transfer Window (Some i); leaves = p.leaves; last = p.last; outcome = p.outcome }
+
+abbrev pub miss_plan : Rules → (ℕ → ℕ → Bool) → Item → Queues → Plan
+miss_plan r admits i s =
+    if r.windowed then joining_first i (eviction_plan r admits (moved i Window s)) else direct_plan r admits i s
+
+-- ---- an access
+
+abbrev pub plan_in : Rules → (ℕ → ℕ → Bool) → Item → Option Queue → Queues → Plan
+plan_in r admits i None s = miss_plan r admits i s
+plan_in r admits i (Some q) s = hit_plan r.protected i q s
+
+-- the plan of an access, by where the item stands
+unfoldable pub plan : Rules → (ℕ → ℕ → Bool) → Item → Queues → Plan
+plan r admits i s = plan_in r admits i (place_of i s) s

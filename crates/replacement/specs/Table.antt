@@ -1,0 +1,102 @@
+-- The table of moves: what a hit, a miss and an eviction make of the queues. (Segmented LRU with an admission filter:
+-- TinyLFU, 2017; a window before it, and the order of an eviction: Caffeine's Design page.)
+use Rattle.std.specs.Prelude.{ℕ, nat_lt, Bool, if◌then◌else◌, Option, Some, None, length}
+use Rattle.step_record.specs.declared.item.Item.{Item}
+use Rattle.step_record.specs.declared.outcome.Outcome.{Outcome}
+use Rattle.step_record.specs.declared.outcome.Outcome.TheVariants.{Hit, Kept, Evicted, Rejected}
+use Rattle.segments.specs.declared.records.Queue.{Queue}
+use Rattle.segments.specs.declared.records.Queue.TheVariants.{Window, Probation, Protected}
+use Rattle.segments.specs.Items.{same, first}
+use Rattle.segments.specs.Queues.{Queues, queue_of, place_of, pushed, taken, moved, total}
+use Rattle.replacement.specs.declared.rules.Rules.{Rules}
+
+-- what an access or an eviction comes to: its outcome, the item that left the queues, and the queues that it leaves
+pub record Response : Type 0 where
+  pub outcome : Outcome
+  pub left : Option Item
+  pub queues : Queues
+
+abbrev pub kept_in : Queues → Response
+kept_in s = record { outcome = Kept; left = None; queues = s }
+
+-- ---- a hit
+
+abbrev pub with_recent : Option Item → Queue → Queues → Queues
+with_recent None q s = s
+with_recent (Some i) q s = moved i q s
+
+-- where protected is over its size, its oldest item goes to probation's recent end
+abbrev pub demoted : ℕ → Queues → Queues
+demoted size s = if nat_lt size (length s.protected) then with_recent (first s.protected) Probation s else s
+
+-- An item of the window goes to the window's recent end, any other to protected's. One that comes from probation may
+-- take protected over its size.
+abbrev pub hit_in : ℕ → Item → Option Queue → Queues → Queues
+hit_in size i None s = s
+hit_in size i (Some Window) s = moved i Window s
+hit_in size i (Some Probation) s = demoted size (moved i Protected s)
+hit_in size i (Some Protected) s = moved i Protected s
+
+-- the queues after a hit on an item; nothing moves where it is in none of them
+abbrev pub after_hit : ℕ → Item → Queues → Queues
+after_hit size i s = hit_in size i (place_of i s) s
+
+-- ---- an eviction, where there is a window
+
+abbrev pub rejection : Item → Queues → Response
+rejection c s = record { outcome = Rejected c.key; left = Some c; queues = taken c s }
+
+-- The candidate against the victim. Where they are one item it leaves; else the victim leaves if the candidate is
+-- admitted against it, and the candidate if not.
+abbrev pub contest : (ℕ → ℕ → Bool) → Item → Option Item → Queues → Response
+contest admits c None s = rejection c s
+contest admits c (Some v) s =
+    if same c v
+    then rejection c s
+    else if admits c.key v.key
+    then record { outcome = Evicted v.key; left = Some v; queues = taken v s }
+    else rejection c s
+
+-- the candidate stands at probation's recent end: where the queues hold too much, probation's oldest is the victim
+abbrev pub trial : Rules → (ℕ → ℕ → Bool) → Item → Queues → Response
+trial r admits c s = if nat_lt r.capacity (total s) then contest admits c (first s.probation) s else kept_in s
+
+abbrev pub trial_of : Rules → (ℕ → ℕ → Bool) → Option Item → Queues → Response
+trial_of r admits None s = kept_in s
+trial_of r admits (Some c) s = trial r admits c (moved c Probation s)
+
+-- One eviction: where the window is over its size, its oldest item goes to probation's recent end as the candidate.
+abbrev pub eviction : Rules → (ℕ → ℕ → Bool) → Queues → Response
+eviction r admits s = if nat_lt r.window (length s.window) then trial_of r admits (first s.window) s else kept_in s
+
+-- ---- a miss
+
+abbrev pub replacing : (ℕ → ℕ → Bool) → Queue → Item → Option Item → Queues → Response
+replacing admits q i None s = record { outcome = Rejected i.key; left = None; queues = s }
+replacing admits q i (Some v) s =
+    if admits i.key v.key
+    then record { outcome = Evicted v.key; left = Some v; queues = pushed q i (taken v s) }
+    else record { outcome = Rejected i.key; left = None; queues = s }
+
+-- A miss without a window: a new item joins its queue. Where the cache is full, that queue's oldest item leaves for it
+-- if it is admitted against that; if not, it is not kept. (A full cache has an item there: protected is below the
+-- capacity.)
+abbrev pub direct : Rules → (ℕ → ℕ → Bool) → Item → Queues → Response
+direct r admits i s =
+    if nat_lt (total s) r.capacity
+    then kept_in (pushed r.home i s)
+    else replacing admits r.home i (first (queue_of r.home s)) s
+
+-- A miss: with a window the new item joins it, and one eviction follows.
+abbrev pub miss : Rules → (ℕ → ℕ → Bool) → Item → Queues → Response
+miss r admits i s = if r.windowed then eviction r admits (pushed Window i s) else direct r admits i s
+
+-- ---- an access
+
+abbrev pub access_in : Rules → (ℕ → ℕ → Bool) → Item → Option Queue → Queues → Response
+access_in r admits i None s = miss r admits i s
+access_in r admits i (Some q) s = record { outcome = Hit; left = None; queues = hit_in r.protected i (Some q) s }
+
+-- what an access to an item comes to, by where the item stands
+unfoldable pub access : Rules → (ℕ → ℕ → Bool) → Item → Queues → Response
+access r admits i s = access_in r admits i (place_of i s) s

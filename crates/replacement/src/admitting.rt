@@ -1,0 +1,31 @@
+//! Admission by how often keys came.
+ghost use Rattle.std.specs.Prelude.{◌≡◌, [], Ok, IfOk, option_map};
+ghost use Rattle.step_record.specs.Config.{config_fault};
+ghost use Rattle.admission.specs.Frequency.{frequency_of};
+ghost use Rattle.replacement.specs.Admission.{admits_in};
+ghost use Rattle.replacement.specs.Shape.{shape_of};
+
+use admission::Frequency;
+use std::alloc::{AllocError, Global};
+use step_record::{Config, Key};
+
+/// The frequency of no key, as large as a configuration asks for. It requires one that `Config::check` accepts; the one
+/// error is that an allocation failed.
+pub fn open_frequency(alloc: Global, config: &Config) -> Result<Frequency, AllocError>
+    requires { config_fault config.now ≡ Ok tt }
+    ensures { IfOk result (λ f. f ≡ frequency_of (shape_of config.now) []) }
+{
+    let frequency = Frequency::new(alloc, config.capacity, config.spread)?;
+    Ok(frequency)
+}
+
+/// Whether a candidate takes a victim's place: where keys are counted, only if it came more often; else always.
+#[inline(always)]
+pub(crate) fn admits(frequency: Option<&Frequency>, candidate: Key, victim: Key) -> bool
+    ensures { result ≡ admits_in (option_map (λ f. f.now) frequency.entry) candidate victim }
+{
+    match frequency {
+        Some(frequency) => frequency.admits(candidate, victim),
+        None => true,
+    }
+}

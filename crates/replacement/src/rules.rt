@@ -1,0 +1,81 @@
+//! What a policy of queues goes by.
+ghost use Rattle.std.specs.Prelude.{◌≡◌, ◌≤◌, Ok};
+ghost use Rattle.step_record.specs.Config.{config_fault};
+ghost use Rattle.replacement.specs.Rules.{main_size, protected_size, one_queue, two_queues, three_queues};
+
+use segments::Queue;
+use step_record::Config;
+
+/// The sizes that a policy of queues goes by, and where new items go.
+#[derive(Clone, Copy, Debug, PartialEq, Eq)]
+pub struct Rules {
+    /// How many items the cache holds.
+    pub capacity: usize,
+    /// How many of them the window holds.
+    pub window: usize,
+    /// How many of them the protected queue holds.
+    pub protected: usize,
+    /// The queue that a new item joins, where there is no window.
+    pub home: Queue,
+    /// Whether a new item joins a window first.
+    pub windowed: bool,
+}
+
+// How many items the main part holds.
+fn main_part(config: &Config) -> usize
+    requires { config_fault config.now ≡ Ok tt }
+    ensures value { result ≡ main_size config.now }
+    ensures within { result ≤ config.now.capacity }
+{
+    let capacity = config.capacity as usize;
+    let percent = config.main_percent as usize;
+    capacity * percent / 100
+}
+
+impl Rules {
+    /// One queue, as Lru has it. It requires a configuration that `Config::check` accepts, as the others do.
+    pub fn one_queue(config: &Config) -> Rules
+        requires { config_fault config.now ≡ Ok tt }
+        ensures { result ≡ one_queue config.now }
+    {
+        Rules {
+            capacity: config.capacity as usize,
+            window: 0,
+            protected: 0,
+            home: Queue::Window,
+            windowed: false,
+        }
+    }
+
+    /// Probation and protected, as SegmentedLru has them: protected holds four fifths.
+    pub fn two_queues(config: &Config) -> Rules
+        requires { config_fault config.now ≡ Ok tt }
+        ensures { result ≡ two_queues config.now }
+    {
+        let capacity = config.capacity as usize;
+        Rules {
+            capacity,
+            window: 0,
+            protected: capacity * 80 / 100,
+            home: Queue::Probation,
+            windowed: false,
+        }
+    }
+
+    /// A window before probation and protected, as WindowTinyLfu has them: the main part holds `main_percent` of the
+    /// capacity, and protected four fifths of that.
+    pub fn three_queues(config: &Config) -> Rules
+        requires { config_fault config.now ≡ Ok tt }
+        ensures { result ≡ three_queues config.now }
+    {
+        let capacity = config.capacity as usize;
+        let main = main_part(config);
+        Rules {
+            capacity,
+            window: capacity - main,
+            protected: main * 80 / 100,
+            home: Queue::Window,
+            windowed: true,
+        }
+    }
+}

@@ -1,0 +1,70 @@
+//! An access.
+ghost use Rattle.std.specs.Prelude.{◌≡◌, ◌≤◌, ◌<◌, ◌+◌, ◌^◌, Option, Some, None, option_map};
+ghost use Rattle.segments.specs.Queues.{total, IsDistinct};
+ghost use Rattle.replacement.specs.Admission.{admits_in};
+ghost use Rattle.replacement.specs.Table.{access};
+ghost use Rattle.replacement.specs.Plan.{plan};
+ghost use Rattle.replacement.specs.Moving.{moves_of, undone_moves, FitsMoves};
+ghost use Rattle.replacement.specs.Effects.{IsEffect};
+
+use crate::hits::hit_planned;
+use crate::misses::{direct, windowed};
+use crate::record::Effect;
+use crate::rules::Rules;
+use admission::Frequency;
+use segments::Segments;
+use step_record::{Item, Outcome};
+
+// An access, by its plan.
+#[inline(always)]
+fn access_planned(
+    segments: &mut Segments,
+    frequency: Option<&Frequency>,
+    rules: &Rules,
+    item: Item,
+) -> Effect
+    requires room { 1 ≤ segments.old.spare }
+    requires few { total segments.old.lists + 1 < 2 ^ 40 }
+    ensures effect { IsEffect (plan rules.now (admits_in (option_map (λ f. f.now) frequency.entry)) item segments.old.lists)
+        segments.old.lists segments.new.lists result }
+    ensures distinct { IsDistinct segments.old.lists }
+{
+    match hit_planned(segments, rules.protected, item) {
+        Some(moves) => Effect {
+            outcome: Outcome::Hit,
+            moves,
+        },
+        None => {
+            if rules.windowed {
+                windowed(segments, frequency, rules, item)
+            } else {
+                direct(segments, frequency, rules, item)
+            }
+        }
+    }
+}
+
+/// Accesses an item: a hit where it stands in a queue, else a miss, by the rules. Where keys are counted, `frequency` is
+/// the one that already has the item's key. It requires room for one item.
+#[inline(always)]
+pub fn access(
+    segments: &mut Segments,
+    frequency: Option<&Frequency>,
+    rules: &Rules,
+    item: Item,
+) -> Effect
+    requires room { 1 ≤ segments.old.spare }
+    requires few { total segments.old.lists + 1 < 2 ^ 40 }
+    ensures outcome { result.outcome
+        ≡ (access rules.now (admits_in (option_map (λ f. f.now) frequency.entry)) item segments.old.lists).outcome }
+    ensures lists { segments.new.lists
+        ≡ (access rules.now (admits_in (option_map (λ f. f.now) frequency.entry)) item segments.old.lists).queues }
+    ensures record { result.moves
+        ≡ moves_of (plan rules.now (admits_in (option_map (λ f. f.now) frequency.entry)) item segments.old.lists) segments.old.lists }
+    ensures fits { FitsMoves result.moves segments.new.lists }
+    ensures undone { undone_moves result.moves segments.new.lists ≡ segments.old.lists }
+    // what holds of every Segments: no item stands twice
+    ensures distinct { IsDistinct segments.old.lists }
+{
+    access_planned(segments, frequency, rules, item)
+}

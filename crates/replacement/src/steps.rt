@@ -1,0 +1,69 @@
+//! Single moves in the queues, each of which knows beforehand where its item stands.
+ghost use Rattle.std.specs.Prelude.{◌≡◌, ◌≤◌, ◌<◌, ◌+◌, ◌^◌, Option, Some, None};
+ghost use Rattle.segments.specs.Items.{first};
+ghost use Rattle.segments.specs.Queues.{queue_of, place_of, taken, moved, popped, total, IsDistinct};
+ghost use Rattle.segments.specs.Moves.{move_record};
+
+use segments::{MoveRecord, Queue, Segments};
+use step_record::Item;
+
+/// How many items stand in the queues.
+#[inline(always)]
+pub(crate) fn count(segments: &Segments) -> usize
+    requires { total segments.now.lists < 2 ^ 40 }
+    ensures { result ≡ total segments.now.lists }
+{
+    segments.len(Queue::Window) + segments.len(Queue::Probation) + segments.len(Queue::Protected)
+}
+
+/// Puts an item that stands in no queue at the recent end of one.
+#[inline(always)]
+pub(crate) fn join(segments: &mut Segments, queue: Queue, item: Item) -> MoveRecord
+    requires room { 1 ≤ segments.old.spare }
+    requires absent { place_of item segments.old.lists ≡ None }
+    requires distinct { IsDistinct segments.old.lists }
+    ensures lists { segments.new.lists ≡ moved item queue segments.old.lists }
+    ensures record { result ≡ move_record item (Some queue) segments.old.lists }
+    ensures distinct { IsDistinct segments.new.lists }
+    ensures spare { segments.old.spare ≤ segments.new.spare + 1 }
+{
+    segments.push_recent(queue, item)
+}
+
+/// Takes out the oldest item of a queue, which is known.
+#[inline(always)]
+pub(crate) fn drop_oldest(segments: &mut Segments, queue: Queue, _item: Item) -> MoveRecord
+    requires oldest { first (queue_of queue segments.old.lists) ≡ Some _item }
+    requires distinct { IsDistinct segments.old.lists }
+    ensures lists { segments.new.lists ≡ taken _item segments.old.lists }
+    ensures rest { segments.new.lists ≡ popped queue segments.old.lists }
+    ensures record { result ≡ move_record _item None segments.old.lists }
+    ensures distinct { IsDistinct segments.new.lists }
+    ensures spare { segments.old.spare + 1 ≤ segments.new.spare }
+{
+    match segments.pop_oldest(queue) {
+        Some((_, done)) => done,
+        None => unreachable!(),
+    }
+}
+
+/// Takes the oldest item of a queue, which is known, to the recent end of another.
+#[inline(always)]
+pub(crate) fn send_oldest(
+    segments: &mut Segments,
+    from: Queue,
+    _item: Item,
+    to: Queue,
+) -> MoveRecord
+    requires oldest { first (queue_of from segments.old.lists) ≡ Some _item }
+    requires distinct { IsDistinct segments.old.lists }
+    ensures lists { segments.new.lists ≡ moved _item to segments.old.lists }
+    ensures record { result ≡ move_record _item (Some to) segments.old.lists }
+    ensures distinct { IsDistinct segments.new.lists }
+    ensures spare { segments.old.spare ≤ segments.new.spare }
+{
+    match segments.send_oldest(from, to) {
+        Some(done) => done,
+        None => unreachable!(),
+    }
+}

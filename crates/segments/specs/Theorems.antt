@@ -1,0 +1,30 @@
+-- What the definitions of the moves give.
+use Rattle.std.specs.Prelude.{◌≡◌, Option, Some, None}
+use Rattle.step_record.specs.declared.item.Item.{Item}
+use Rattle.segments.specs.declared.records.Queue.{Queue}
+use Rattle.segments.specs.declared.records.MoveRecord.{MoveRecord}
+use Rattle.segments.specs.Items.{first}
+use Rattle.segments.specs.Queues.{Queues, queue_of, place_of, pushed, taken, moved, popped, IsDistinct}
+use Rattle.segments.specs.Moves.{move_record, undone, Fits}
+
+-- an item that stands in no queue is pushed as it would be moved
+abbrev pub PushMoves : Type 0
+PushMoves = (i : Item) (q : Queue) (s : Queues) → place_of i s ≡ None → pushed q i s ≡ moved i q s
+
+-- to pop a queue is to take its oldest item out
+abbrev pub PopTakes : Type 0
+PopTakes = (q : Queue) (i : Item) (s : Queues) → IsDistinct s → first (queue_of q s) ≡ Some i → popped q s ≡ taken i s
+
+-- the record fits the queues after the move, and undoes it there; each item still stands at most once
+pub record IsUndoable (r : MoveRecord) (before after : Queues) : Type 0 where
+  pub fits : Fits r after
+  pub back : undone r after ≡ before
+  pub distinct : IsDistinct after
+
+-- a move to a recent end is undone from its record
+abbrev pub MovesUndo : Type 0
+MovesUndo = (i : Item) (q : Queue) (s : Queues) → IsDistinct s → IsUndoable (move_record i (Some q) s) s (moved i q s)
+
+-- and so is a removal
+abbrev pub RemovalsUndo : Type 0
+RemovalsUndo = (i : Item) (s : Queues) → IsDistinct s → IsUndoable (move_record i None s) s (taken i s)

@@ -1,0 +1,13 @@
+//! What a writer leaves to the maintenance.
+use step_record::Item;
+
+/// What became of an entry of the table, which the queues are still to follow.
+#[derive(Clone, Copy, Debug, PartialEq, Eq)]
+pub enum Task {
+    /// The item was added to the table.
+    Add(Item),
+    /// The item, which the table had already, was written again.
+    Update(Item),
+    /// The item was removed from the table.
+    Remove(Item),
+}

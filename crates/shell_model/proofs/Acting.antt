@@ -1,0 +1,124 @@
+-- The record of a step fits what it left, and undoes it.
+use Rattle.std.proofs.Common.{◌≡◌, ℕ, ◌+◌, ◌-◌, ◌≤◌, cond, nat_lt, Option, Some, None, ◌∙◌, refl, arith, inl, inr}
+use Rattle.std.proofs.lemmas.Bool.{cases_Bool}
+use Rattle.step_record.specs.declared.step.Reply.{Reply}
+use Rattle.step_record.specs.declared.step.Step.{Step}
+use Rattle.shell_model.specs.declared.stats.ShellStats.{ShellStats}
+use Rattle.shell_model.specs.declared.record.ShellRecord.{ShellRecord}
+use Rattle.shell_model.specs.declared.record.Change.{Change}
+use Rattle.shell_model.specs.declared.record.Change.TheVariants.{Nothing, Offered, Updated, Added, Removed, Requested, Began, Read, Passed, Applied, Cleared, Evicted, Ended}
+use Rattle.shell_model.specs.Shell.{Shell, perform, tallied, act}
+use Rattle.shell_model.specs.ShellStats.{one, counted, uncounted, IsCounted, is_hit, is_miss, is_kept, is_full, is_lost, is_added, is_updated, is_refused, is_eviction, is_rejection, is_begun, is_busy, is_removed}
+use Rattle.shell_model.specs.Records.{unchanged, FitsChange, undone_step, FitsStep, change_of}
+use Rattle.shell_model.specs.Consistent.{IsConsistent}
+use Rattle.shell_model.proofs.Undoing.{GoesTo, perform-goes}
+
+plus-less : (a b : ℕ) → a + b - b ≡ a
+plus-less a b = omega arith
+
+pub uncounted-counted : (r : Reply) (s : ShellStats) → uncounted r (counted r s) ≡ s
+uncounted-counted r s =
+    rw (
+      plus-less s.hits (one (is_hit r)),
+      plus-less s.misses (one (is_miss r)),
+      plus-less s.kept (one (is_kept r)),
+      plus-less s.full (one (is_full r)),
+      plus-less s.lost (one (is_lost r)),
+      plus-less s.added (one (is_added r)),
+      plus-less s.updated (one (is_updated r)),
+      plus-less s.refused (one (is_refused r)),
+      plus-less s.evictions (one (is_eviction r)),
+      plus-less s.rejections (one (is_rejection r)),
+      plus-less s.begun (one (is_begun r)),
+      plus-less s.busy (one (is_busy r)),
+      plus-less s.removed (one (is_removed r)),
+    ) refl
+
+more : (a b : ℕ) → b ≤ a + b
+more a b = omega arith
+
+pub counted-fits : (r : Reply) (s : ShellStats) → IsCounted r (counted r s)
+counted-fits r s = record {
+  hits = more _ _;
+  misses = more _ _;
+  kept = more _ _;
+  full = more _ _;
+  lost = more _ _;
+  added = more _ _;
+  updated = more _ _;
+  refused = more _ _;
+  evictions = more _ _;
+  rejections = more _ _;
+  begun = more _ _;
+  busy = more _ _;
+  removed = more _ _;
+}
+
+tallied-fits : (c : Change) (y : Shell) (s : ShellStats) (n : ℕ) → FitsChange c y → FitsChange c record y { stats = s; applied = n }
+tallied-fits Nothing y s n h = tt
+tallied-fits (Offered k i) y s n h = h
+tallied-fits (Updated i) y s n h = h
+tallied-fits (Added i) y s n h = h
+tallied-fits (Removed i) y s n h = h
+tallied-fits (Requested b c) y s n h = h
+tallied-fits (Began w b) y s n h = h
+tallied-fits (Read k i t) y s n h = (record { second = h.0.second; first = h.0.first; frequency = h.0.frequency; stays = h.0.stays }, h.1, h.2)
+tallied-fits (Passed b c) y s n h = h
+tallied-fits (Applied b k t) y s n h = (record { second = h.0.second; first = h.0.first; frequency = h.0.frequency; stays = h.0.stays }, h.1, h.2, h.3)
+tallied-fits (Cleared b i r) y s n h = h
+tallied-fits (Evicted b g) y s n h = (record { left = h.0.left; shift = h.0.shift; table = h.0.table; stays = h.0.stays }, h.1)
+tallied-fits (Ended k b c) y s n h = h
+
+tallied-back : (c : Change) (y : Shell) (s : ShellStats) (n : ℕ) → unchanged c record y { stats = s; applied = n } ≡ record (unchanged c y) { stats = s; applied = n }
+tallied-back Nothing y s n = refl
+tallied-back (Offered k i) y s n = refl
+tallied-back (Updated i) y s n = refl
+tallied-back (Added i) y s n = refl
+tallied-back (Removed i) y s n = refl
+tallied-back (Requested b c) y s n = refl
+tallied-back (Began w b) y s n = refl
+tallied-back (Read k i t) y s n = refl
+tallied-back (Passed b c) y s n = refl
+tallied-back (Applied b k t) y s n = refl
+tallied-back (Cleared b i r) y s n = refl
+tallied-back (Evicted b g) y s n = refl
+tallied-back (Ended k b c) y s n = refl
+
+same-tally : (c : Change) (y : Shell) → record (unchanged c y) { stats = y.stats; applied = y.applied } ≡ unchanged c y
+same-tally Nothing y = refl
+same-tally (Offered k i) y = refl
+same-tally (Updated i) y = refl
+same-tally (Added i) y = refl
+same-tally (Removed i) y = refl
+same-tally (Requested b c) y = refl
+same-tally (Began w b) y = refl
+same-tally (Read k i t) y = refl
+same-tally (Passed b c) y = refl
+same-tally (Applied b k t) y = refl
+same-tally (Cleared b i r) y = refl
+same-tally (Evicted b g) y = refl
+same-tally (Ended k b c) y = refl
+
+abbrev pub IsUndone : Change → Shell → Option (Reply × Shell) → Type 0
+IsUndone c x None = Unit {0}
+IsUndone c x (Some p) = let r : ShellRecord = record { reply = p.0; change = c } in FitsStep r p.1 × (undone_step r p.1 ≡ x)
+
+tallied-undone : (c : Change) (x : Shell) (p : Option (Reply × Shell)) → GoesTo c x p → IsUndone c x (tallied p)
+tallied-undone c x None g = tt
+tallied-undone c x (Some p) g =
+    let y : Shell = p.1 in (
+      record {
+        stats = counted-fits p.0 y.stats;
+        applied = omega arith;
+        change = tallied-fits c p.1 (counted p.0 y.stats) (y.applied + 1) g.fits;
+      },
+      rw (tallied-back c p.1 (counted p.0 y.stats) (y.applied + 1), uncounted-counted p.0 y.stats, plus-less y.applied 1) (same-tally c p.1 ∙ g.back),
+    )
+
+-- the record of a step of the shell leads back from what the step left
+pub act-undone : (x : Shell) (s : Step) → IsConsistent x → IsUndone (change_of s.worker s.act x) x (act x s)
+act-undone x s w =
+    elim (cases_Bool (nat_lt x.applied 4294967296)) as (λ _. IsUndone (change_of s.worker s.act x) x (cond (nat_lt x.applied 4294967296) (tallied (perform s.worker s.act x)) None)) [
+      | inl e ↦ rw e (tallied-undone (change_of s.worker s.act x) x (perform s.worker s.act x) (perform-goes s.worker s.act x w))
+      | inr e ↦ rw e tt
+    ]

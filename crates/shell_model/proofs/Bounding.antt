@@ -1,0 +1,141 @@
+-- No count passes the number of applied steps.
+use Rattle.std.proofs.Common.{◌≡◌, ℕ, ◌+◌, ◌*◌, eqb, ◌<◌, ◌≤◌, Bool, true, false, nat_lt, Some, None, List, [], ◌∷◌, ap, ◌∙◌, refl, arith, inl, inr}
+use Rattle.std.proofs.lemmas.Bool.{cases_Bool}
+use Rattle.std.proofs.lemmas.Bool.Decides.{nat_tests}
+use Rattle.step_record.specs.declared.config.Config.{Config}
+use Rattle.step_record.specs.declared.step.Act.{Act}
+use Rattle.step_record.specs.declared.step.Step.{Step}
+use Rattle.step_record.specs.declared.step.Reply.{Reply}
+use Rattle.step_record.specs.History.{went, after, IsLegal}
+use Rattle.admission.specs.Shape.{Shape, IsShape}
+use Rattle.admission.specs.Frequency.{FrequencyData, frequency_of, recorded as recorded_key}
+use Rattle.shell_model.specs.Frequency.{recorded}
+use Rattle.shell_model.specs.declared.stats.ShellStats.{ShellStats}
+use Rattle.shell_model.specs.ShellStats.{one, counted, AreAtMost, is_hit, is_miss, is_kept, is_full, is_lost, is_added, is_updated, is_refused, is_eviction, is_rejection, is_begun, is_busy, is_removed}
+use Rattle.shell_model.specs.Shell.{Shell, act}
+use Rattle.shell_model.specs.Laws.{Made, IsShapeOf, opened}
+use Rattle.shell_model.specs.Reached.{IsBounded, BoundLaw}
+use Rattle.shell_model.proofs.Making as k
+use Rattle.shell_model.proofs.Making.{Makes}
+use Rattle.shell_model.proofs.Histories.{Steps, stepped, stats-step}
+
+pub applied-step : (x : Shell) (w : ℕ) (b : Act) (r : Reply) (y : Shell) → Makes w x b r y → y.applied ≡ x.applied
+applied-step x w b r y k.busy = refl
+applied-step x w b r y made = refl
+
+next-step : (x : Shell) (w : ℕ) (b : Act) (r : Reply) (y : Shell) → Makes w x b r y → y.next ≤ x.next + 1
+next-step x w b r y k.busy = omega arith
+next-step x w b r y made = omega arith
+
+-- a key more brings one halving at most
+halvings-recorded : (f : FrequencyData) (k : ℕ) → (recorded f k).halvings ≤ f.halvings + 1
+unfolding recorded
+halvings-recorded f k =
+    elim (cases_Bool (eqb (f.age + 1) (10 * f.capacity))) as (λ _. (recorded_key k f).halvings ≤ f.halvings + 1) [
+      | inl e ↦ rw e (omega arith)
+      | inr e ↦ rw e (omega arith)
+    ]
+
+halvings-step : (x : Shell) (w : ℕ) (b : Act) (r : Reply) (y : Shell) → Makes w x b r y → y.frequency.halvings ≤ x.frequency.halvings + 1
+halvings-step x w b r y (k.drained s i rest h e) = halvings-recorded x.frequency i.key
+halvings-step x w b r y (k.applied_add h f g i rest e n) = halvings-recorded x.frequency i.key
+halvings-step x w b r y (k.applied_update h f g i rest e n) = halvings-recorded x.frequency i.key
+halvings-step x w b r y made = omega arith
+
+none : (s : Shape) → IsShape s → (frequency_of s []).halvings ≤ 0
+unfolding frequency_of
+none s h = let e : nat_lt 0 (10 * s.capacity) ≡ true = grind (arith, nat_tests, h.some) in rw e (omega arith)
+
+up : (b : Bool) (m n : ℕ) → m ≤ n → m + one b ≤ n + 1
+up true m n h = omega (arith, h)
+up false m n h = omega (arith, h)
+
+counted-most : (r : Reply) (s : ShellStats) (n : ℕ) → AreAtMost n s → AreAtMost (n + 1) (counted r s)
+counted-most r s n h = record {
+  hits = up (is_hit r) s.hits n h.hits;
+  misses = up (is_miss r) s.misses n h.misses;
+  kept = up (is_kept r) s.kept n h.kept;
+  full = up (is_full r) s.full n h.full;
+  lost = up (is_lost r) s.lost n h.lost;
+  added = up (is_added r) s.added n h.added;
+  updated = up (is_updated r) s.updated n h.updated;
+  refused = up (is_refused r) s.refused n h.refused;
+  evictions = up (is_eviction r) s.evictions n h.evictions;
+  rejections = up (is_rejection r) s.rejections n h.rejections;
+  begun = up (is_begun r) s.begun n h.begun;
+  busy = up (is_busy r) s.busy n h.busy;
+  removed = up (is_removed r) s.removed n h.removed;
+}
+
+pub most-more : (m n : ℕ) (s : ShellStats) → m ≤ n → AreAtMost m s → AreAtMost n s
+most-more m n s u h = record {
+  hits = omega (arith, u, h.hits);
+  misses = omega (arith, u, h.misses);
+  kept = omega (arith, u, h.kept);
+  full = omega (arith, u, h.full);
+  lost = omega (arith, u, h.lost);
+  added = omega (arith, u, h.added);
+  updated = omega (arith, u, h.updated);
+  refused = omega (arith, u, h.refused);
+  evictions = omega (arith, u, h.evictions);
+  rejections = omega (arith, u, h.rejections);
+  begun = omega (arith, u, h.begun);
+  busy = omega (arith, u, h.busy);
+  removed = omega (arith, u, h.removed);
+}
+
+accepted : (x : Shell) (s : Step) (p : Reply × Shell) → act x s ≡ Some p → x.applied < 4294967296
+accepted x s p h =
+    elim (cases_Bool (nat_lt x.applied 4294967296)) [
+      | inl t ↦ grind (arith, nat_tests)
+      | inr t ↦ absurd (let no : None ≡ Some p = rw t at h in cc (no))
+    ]
+
+bound-next : (x : Shell) (e : Made) (z : Shell) → IsBounded x → act x e.step ≡ Some (e.reply, z) → IsBounded z
+bound-next x e z v h =
+    let s : Steps x e z = stepped x e z h in
+    let n : z.next ≡ s.left.next = ap (λ (y : Shell). y.next) s.is in
+    let m : s.left.next ≤ x.next + 1 = next-step x e.step.worker e.step.act e.reply s.left s.made in
+    let t : z.applied ≡ s.left.applied + 1 = ap (λ (y : Shell). y.applied) s.is in
+    let u : s.left.applied ≡ x.applied = applied-step x e.step.worker e.step.act e.reply s.left s.made in
+    let w : z.applied ≡ x.applied + 1 = t ∙ ap (λ i. i + 1) u in
+    let c : z.stats ≡ counted e.reply s.left.stats = ap (λ (y : Shell). y.stats) s.is in
+    let d : z.stats ≡ counted e.reply x.stats = c ∙ ap (counted e.reply) (stats-step x e.step.worker e.step.act e.reply s.left s.made) in
+    let few : x.applied < 4294967296 = accepted x e.step (e.reply, z) h in
+    let g : z.frequency.halvings ≡ s.left.frequency.halvings = ap (λ (y : Shell). y.frequency.halvings) s.is in
+    let j : s.left.frequency.halvings ≤ x.frequency.halvings + 1 = halvings-step x e.step.worker e.step.act e.reply s.left s.made in
+    record {
+      next = omega (arith, n, m, w, v.next);
+      halvings = omega (arith, g, j, w, v.halvings);
+      counts = rw (w, d) (counted-most e.reply x.stats x.applied v.counts);
+      applied = omega (arith, w, few);
+    }
+
+pub after-bound : (x : Shell) (es : List Made) → IsBounded x → IsLegal act x es → IsBounded (after act x es)
+after-bound x [] v l = v
+after-bound x (e ∷ es) v l = after-bound (went (act x e.step) x) es (bound-next x e (went (act x e.step) x) v l.0) l.1
+
+pub opened-bound : (c : Config) (s : Shape) → IsShapeOf c s → IsBounded (opened c s)
+opened-bound c sh k = record {
+  halvings = none sh k.is;
+  next = omega arith;
+  applied = omega arith;
+  counts = record {
+    hits = omega arith;
+    misses = omega arith;
+    kept = omega arith;
+    full = omega arith;
+    lost = omega arith;
+    added = omega arith;
+    updated = omega arith;
+    refused = omega arith;
+    evictions = omega arith;
+    rejections = omega arith;
+    begun = omega arith;
+    busy = omega arith;
+    removed = omega arith;
+  };
+}
+
+pub bound-law : BoundLaw
+bound-law x r = rw r.gives (after-bound (opened x.config r.shape) r.entries (opened-bound x.config r.shape r.shape_is) r.legal)

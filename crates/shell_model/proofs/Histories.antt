@@ -1,0 +1,287 @@
+-- What the replies so far say of the state.
+use Rattle.std.proofs.Common.{◌≡◌, ℕ, suc, zero, ◌+◌, ◌<◌, ◌≤◌, ◌↔◌, Bool, true, false, eqb, nat_lt, Option, Some, None, List, [], ◌∷◌, ◌++◌, length, set, drop, ap, ◌∙◌, sym, refl, arith, inl, inr, append-nil, append_assoc}
+use Rattle.std.proofs.lemmas.Bool.{cases_Bool, eqb-true, eq-eqb}
+use Rattle.std.proofs.lemmas.List.{drop-append-le, drop-drop, get_or-set_same, get_or-set_other}
+use Rattle.step_record.specs.declared.item.Item.{Item}
+use Rattle.step_record.specs.declared.step.Act.{Act}
+use Rattle.step_record.specs.declared.step.Act.TheVariants as a
+use Rattle.step_record.specs.declared.step.Reply.{Reply}
+use Rattle.step_record.specs.declared.step.Reply.TheVariants as reply
+use Rattle.step_record.specs.History.{went, after, IsLegal}
+use Rattle.segments.specs.Items.{same, times, without}
+use Rattle.segments.proofs.ItemLists.{same-true, times-append}
+use Rattle.admission.specs.Shape.{Shape, IsShape}
+use Rattle.admission.specs.Frequency.{FrequencyData, frequency_of}
+use Rattle.admission.proofs.Recording.{recorded_freq}
+use Rattle.shell_model.specs.declared.stats.ShellStats.{ShellStats}
+use Rattle.shell_model.specs.Frequency.{recorded}
+use Rattle.shell_model.specs.ShellStats.{one, counted}
+use Rattle.shell_buffers.specs.Buffers.{stripe_at}
+use Rattle.shell_model.specs.Shell.{Shell, touching, perform, tallied, act}
+use Rattle.shell_model.specs.Consistent.{IsConsistent, queued}
+use Rattle.shell_model.specs.Laws.{Made, collect, tally, offered, drained, asked, done, added, gone, removed, keyed}
+use Rattle.shell_model.proofs.Counting.{once, unless-same, times-placed, listed-times, node-listed, unlisted-is}
+use Rattle.shell_model.proofs.Undoing.{first-queued, shifted-queued}
+use Rattle.shell_model.proofs.Preserving.{SoundTo, act-sound, queued-below}
+use Rattle.shell_model.proofs.Making as k
+use Rattle.shell_model.proofs.Making.{Makes, MakesTo, perform-makes}
+
+abbrev pub counted_up : Reply → Shell → Shell
+counted_up r y = record y { stats = counted r y.stats; applied = y.applied + 1 }
+
+-- one accepted step
+pub record Steps (x : Shell) (e : Made) (z : Shell) : Type 0 where
+  pub left : Shell
+  pub made : Makes e.step.worker x e.step.act e.reply left
+  pub is : z ≡ counted_up e.reply left
+
+reply_in : Reply → Option (Reply × Shell) → Reply
+reply_in r None = r
+reply_in r (Some p) = p.0
+
+shell_in : Shell → Option (Reply × Shell) → Shell
+shell_in x None = x
+shell_in x (Some p) = p.1
+
+acted : (x : Shell) (e : Made) (z : Shell) (p : Option (Reply × Shell)) → MakesTo e.step.worker x e.step.act p → tallied p ≡ Some (e.reply, z) → Steps x e z
+unfolding reply_in shell_in
+acted x e z None h i = absurd (cc (i))
+acted x e z (Some p) h i =
+    let r : p.0 ≡ e.reply = ap (reply_in p.0) i in
+    let y : counted_up p.0 p.1 ≡ z = ap (shell_in x) i in
+    record { left = p.1; made = rw r at h; is = sym (rw r at y) }
+
+pub stepped : (x : Shell) (e : Made) (z : Shell) → act x e.step ≡ Some (e.reply, z) → Steps x e z
+stepped x e z h =
+    elim (cases_Bool (nat_lt x.applied 4294967296)) [
+      | inl t ↦ acted x e z (perform e.step.worker e.step.act x) (perform-makes e.step.worker x e.step.act) (rw t at h)
+      | inr t ↦ absurd (let no : None ≡ Some (e.reply, z) = rw t at h in cc (no))
+    ]
+
+sound-next : (x : Shell) (e : Made) (z : Shell) → IsConsistent x → act x e.step ≡ Some (e.reply, z) → IsConsistent z
+sound-next x e z v h = let s : SoundTo (act x e.step) = act-sound x e.step v in let t : SoundTo (Some (e.reply, z)) = rw h at s in t
+
+pub after-sound : (x : Shell) (es : List Made) → IsConsistent x → IsLegal act x es → IsConsistent (after act x es)
+after-sound x [] v l = v
+after-sound x (e ∷ es) v l = after-sound (went (act x e.step) x) es (sound-next x e (went (act x e.step) x) v l.0) l.1
+
+-- first in, first out
+
+pub record IsFifo {A : Type 0} (view : Shell → List A) (ins : Act → Reply → List A) (outs : Act → Reply → ℕ) (x : Shell) (b : Act) (r : Reply) (y : Shell) : Type 0 where
+  pub within : outs b r ≤ length (view x ++ ins b r)
+  pub gives : view y ≡ drop (outs b r) (view x ++ ins b r)
+
+drop-more : {A : Type 0} → (n p : ℕ) (l k : List A) → p ≤ length l → drop n (drop p l ++ k) ≡ drop (p + n) (l ++ k)
+drop-more n p l k h = rw (← drop-append-le p l k h) (drop-drop n p (l ++ k))
+
+fifo : {A : Type 0} (view : Shell → List A) (ins : Act → Reply → List A) (outs : Act → Reply → ℕ)
+    → ((x : Shell) (e : Made) (z : Shell) → Steps x e z → IsFifo view ins outs x e.step.act e.reply z)
+    → (x : Shell) (es : List Made) → IsLegal act x es → view (after act x es) ≡ drop (tally outs es) (view x ++ collect ins es)
+fifo view ins outs step x [] l = rw append-nil refl
+fifo view ins outs step x (e ∷ es) l =
+    let z : Shell = went (act x e.step) x in
+    let f : IsFifo view ins outs x e.step.act e.reply (went (act x e.step) x) = step x e (went (act x e.step) x) (stepped x e (went (act x e.step) x) l.0) in
+    let i : view (after act (went (act x e.step) x) es) ≡ drop (tally outs es) (view (went (act x e.step) x) ++ collect ins es) = fifo view ins outs step (went (act x e.step) x) es l.1 in
+    i ∙ ap (λ v. drop (tally outs es) (v ++ collect ins es)) f.gives ∙ drop-more (tally outs es) (outs e.step.act e.reply) (view x ++ ins e.step.act e.reply) (collect ins es) f.within ∙ ap (drop (outs e.step.act e.reply + tally outs es)) (append_assoc (view x) (ins e.step.act e.reply) (collect ins es))
+
+same-fifo : {A : Type 0} (view : Shell → List A) (ins : Act → Reply → List A) (outs : Act → Reply → ℕ) (x : Shell) (b : Act) (r : Reply) (y : Shell) → ins b r ≡ [] → outs b r ≡ 0 → view y ≡ view x → IsFifo view ins outs x b r y
+same-fifo view ins outs x b r y i o v = record { within = rw o (omega arith); gives = rw (i, o, v, append-nil) refl }
+
+-- the write queue
+writes-step : (x : Shell) (w : ℕ) (b : Act) (r : Reply) (y : Shell) → Makes w x b r y → IsFifo (λ z. z.writes) asked done x b r y
+writes-step x w b r y (k.present j n) = record { within = omega arith; gives = refl }
+writes-step x w b r y (k.added j) = record { within = omega arith; gives = refl }
+writes-step x w b r y (k.removed j n e) = record { within = omega arith; gives = refl }
+writes-step x w b r y (k.applied_add h f g i rest e n) = rw e record { within = omega arith; gives = sym (append-nil rest) }
+writes-step x w b r y (k.applied_update h f g i rest e n) = rw e record { within = omega arith; gives = sym (append-nil rest) }
+writes-step x w b r y (k.applied_remove h f g i rest e n) = rw e record { within = omega arith; gives = sym (append-nil rest) }
+writes-step x w b r y made = same-fifo (λ z. z.writes) asked done x b r y refl refl refl
+
+writes-next : (x : Shell) (e : Made) (z : Shell) → Steps x e z → IsFifo (λ z. z.writes) asked done x e.step.act e.reply z
+writes-next x e z s = let f = writes-step x e.step.worker e.step.act e.reply s.left s.made in record { within = f.within; gives = rw s.is f.gives }
+
+pub writes-law : (x : Shell) (es : List Made) → IsLegal act x es → (after act x es).writes ≡ drop (tally done es) (x.writes ++ collect asked es)
+writes-law x es l = fifo (λ z. z.writes) asked done writes-next x es l
+
+-- stripes
+
+apart : (a b : ℕ) → eqb a b ≡ false → (a ≡ b → ⊥)
+apart a b e g = let no : true ≡ false = rw (eq-eqb a b g) at e in cc (no)
+
+stripes-step : (j : ℕ) (x : Shell) (w : ℕ) (b : Act) (r : Reply) (y : Shell) → Makes w x b r y → IsFifo (λ z. stripe_at j z.stripes) (offered j) (drained j) x b r y
+stripes-step j x w b r y (k.kept s i h) =
+    elim (cases_Bool (eqb j s)) as (λ _. IsFifo (λ z. stripe_at j z.stripes) (offered j) (drained j) x (a.Offer s i) reply.Kept record x { stripes = set x.stripes s (stripe_at s x.stripes ++ i ∷ []) }) [
+      | inl e ↦ let t : j ≡ s = eqb-true j s e in record { within = omega arith; gives = rw (e, t) (get_or-set_same x.stripes s (stripe_at s x.stripes ++ i ∷ []) [] h) }
+      | inr e ↦ record { within = omega arith; gives = rw (e, append-nil) (get_or-set_other x.stripes s j (stripe_at s x.stripes ++ i ∷ []) [] (apart j s e)) }
+    ]
+stripes-step j x w b r y (k.drained s i rest h e) =
+    elim (cases_Bool (eqb j s)) as (λ _. IsFifo (λ z. stripe_at j z.stripes) (offered j) (drained j) x (a.DrainRead s) (reply.Drained i) (touching i record x { stripes = set x.stripes s rest })) [
+      | inl f ↦
+          let t : j ≡ s = eqb-true j s f in
+          let l : stripe_at j x.stripes ≡ i ∷ rest = rw t e in
+          record {
+            within = rw (f, l) (omega arith);
+            gives = rw (f, l) (rw t (get_or-set_same x.stripes s rest [] h) ∙ sym (append-nil rest));
+          }
+      | inr f ↦ record { within = rw f (omega arith); gives = rw (f, append-nil) (get_or-set_other x.stripes s j rest [] (apart j s f)) }
+    ]
+stripes-step j x w b r y made = same-fifo (λ z. stripe_at j z.stripes) (offered j) (drained j) x b r y refl refl refl
+
+stripes-next : (j : ℕ) (x : Shell) (e : Made) (z : Shell) → Steps x e z → IsFifo (λ z. stripe_at j z.stripes) (offered j) (drained j) x e.step.act e.reply z
+stripes-next j x e z s = let f = stripes-step j x e.step.worker e.step.act e.reply s.left s.made in record { within = f.within; gives = rw s.is f.gives }
+
+pub stripes-law : (j : ℕ) (x : Shell) (es : List Made) → IsLegal act x es → stripe_at j (after act x es).stripes ≡ drop (tally (drained j) es) (stripe_at j x.stripes ++ collect (offered j) es)
+stripes-law j x es l = fifo (λ z. stripe_at j z.stripes) (offered j) (drained j) (stripes-next j) x es l
+
+-- statistics: f is one of them, which p counts
+
+pub stats-step : (x : Shell) (w : ℕ) (b : Act) (r : Reply) (y : Shell) → Makes w x b r y → y.stats ≡ x.stats
+stats-step x w b r y k.busy = refl
+stats-step x w b r y made = refl
+
+pub stats-law : (f : ShellStats → ℕ) (p : Reply → Bool) → ((r : Reply) (s : ShellStats) → f (counted r s) ≡ f s + one (p r)) → (x : Shell) (es : List Made) → IsLegal act x es → f (after act x es).stats ≡ f x.stats + tally (λ b r. one (p r)) es
+stats-law f p q x [] l = omega arith
+stats-law f p q x (e ∷ es) l =
+    let z : Shell = went (act x e.step) x in
+    let s : Steps x e (went (act x e.step) x) = stepped x e (went (act x e.step) x) l.0 in
+    let i : f (after act (went (act x e.step) x) es).stats ≡ f (went (act x e.step) x).stats + tally (λ b r. one (p r)) es = stats-law f p q (went (act x e.step) x) es l.1 in
+    let g : (went (act x e.step) x).stats ≡ counted e.reply s.left.stats = ap (λ (y : Shell). y.stats) s.is in
+    let h : s.left.stats ≡ x.stats = stats-step x e.step.worker e.step.act e.reply s.left s.made in
+    let n : f (went (act x e.step) x).stats ≡ f x.stats + one (p e.reply) = ap f (g ∙ ap (counted e.reply) h) ∙ q e.reply x.stats in
+    omega (arith, i, n)
+
+-- the recorded keys
+
+-- what an act's keys make of the frequency of a list of keys
+recorded_all : FrequencyData → List ℕ → FrequencyData
+recorded_all f [] = f
+recorded_all f (k ∷ ks) = recorded_all (recorded f k) ks
+
+frequency-step : (x : Shell) (w : ℕ) (b : Act) (r : Reply) (y : Shell) → Makes w x b r y → y.frequency ≡ recorded_all x.frequency (keyed b r)
+unfolding recorded_all
+frequency-step x w b r y k.busy = refl
+frequency-step x w b r y made = refl
+
+recorded-keys : (s : Shape) → IsShape s → (past keys : List ℕ) → recorded_all (frequency_of s past) keys ≡ frequency_of s (past ++ keys)
+unfolding recorded_all recorded
+recorded-keys s h past [] = rw append-nil refl
+recorded-keys s h past (k ∷ ks) =
+    ap (λ f. recorded_all f ks) (recorded_freq s h.some (omega (arith, h.width.1)) (omega (arith, h.size.1)) past k) ∙ recorded-keys s h (past ++ k ∷ []) ks ∙ ap (frequency_of s) (append_assoc past (k ∷ []) ks)
+
+pub frequency-law : (s : Shape) → IsShape s → (past : List ℕ) (x : Shell) (es : List Made) → x.frequency ≡ frequency_of s past → IsLegal act x es → (after act x es).frequency ≡ frequency_of s (past ++ collect keyed es)
+frequency-law sh k past x [] f l = rw append-nil f
+frequency-law sh k past x (e ∷ es) f l =
+    let s : Steps x e (went (act x e.step) x) = stepped x e (went (act x e.step) x) l.0 in
+    let g : (went (act x e.step) x).frequency ≡ s.left.frequency = ap (λ (y : Shell). y.frequency) s.is in
+    let h : s.left.frequency ≡ recorded_all x.frequency (keyed e.step.act e.reply) = frequency-step x e.step.worker e.step.act e.reply s.left s.made in
+    let n : (went (act x e.step) x).frequency ≡ frequency_of sh (past ++ keyed e.step.act e.reply) = g ∙ h ∙ ap (λ v. recorded_all v (keyed e.step.act e.reply)) f ∙ recorded-keys sh k past (keyed e.step.act e.reply) in
+    frequency-law sh k (past ++ keyed e.step.act e.reply) (went (act x e.step) x) es n l.1 ∙ ap (frequency_of sh) (append_assoc past (keyed e.step.act e.reply) (collect keyed es))
+
+-- nodes are given once
+
+given-step : (i : Item) (x : Shell) (w : ℕ) (b : Act) (r : Reply) (y : Shell) → Makes w x b r y → (x.next ≤ y.next) × (1 ≤ times i (added b r) → x.next ≤ i.node)
+given-step i x w b r y (k.added j) = (omega arith, λ h. node j x.next (times-one-of i record { key = j; node = x.next } h))
+  where
+    times-one-of : (i u : Item) → 1 ≤ times i (u ∷ []) → i ≡ u
+    times-one-of i u h =
+        elim (cases_Bool (same i u)) [
+          | inl e ↦ same-true i u e
+          | inr e ↦ absurd (let no : 1 ≤ 0 + 0 = rw e at h in omega arith)
+        ]
+
+    node : (j n : ℕ) → i ≡ record { key = j; node = n } → n ≤ i.node
+    node j n e = let f : i.node ≡ n = ap (λ (z : Item). z.node) e in omega arith
+given-step i x w b r y made = (omega arith, λ h. absurd (omega arith))
+
+-- an addition to come has a node that is not below the next one
+pub given-law : (i : Item) (x : Shell) (es : List Made) → IsLegal act x es → 1 ≤ times i (collect added es) → x.next ≤ i.node
+given-law i x [] l h = absurd (omega arith)
+given-law i x (e ∷ es) l h =
+    let s : Steps x e (went (act x e.step) x) = stepped x e (went (act x e.step) x) l.0 in
+    let g : (went (act x e.step) x).next ≡ s.left.next = ap (λ (y : Shell). y.next) s.is in
+    let n : 1 ≤ times i (collect added es) → (went (act x e.step) x).next ≤ i.node = given-law i (went (act x e.step) x) es l.1 in
+    let o = given-step i x e.step.worker e.step.act e.reply s.left s.made in
+    let t = times-append i (added e.step.act e.reply) (collect added es) in
+    either (times i (added e.step.act e.reply)) o.1 (λ m. (let p = n (omega (arith, h, t, m)) in let up : x.next ≤ s.left.next = o.0 in omega (arith, p, up, g)))
+  where
+    either : (p : ℕ) {A : Type 0} → (1 ≤ p → A) → (p ≡ 0 → A) → A
+    either zero f g = g refl
+    either (suc p) f g = f (omega arith)
+
+-- the table
+
+-- an item's count before and now, where lost says that it was named as leaving
+pub record Comes (i : Item) (before now lost come next : ℕ) : Type 0 where
+  pub kept : lost ≡ 0 → now ≡ before + come
+  pub left : 1 ≤ lost → (now ≡ 0) × (i.node < next)
+
+comes-out : (i u : Item) (t : List Item) (lost come next : ℕ) → u.node < next → lost ≡ once i u → come ≡ 0 → Comes i (times i t) (times i (without u t)) lost come next
+comes-out i u t lost come next below l c =
+    elim (cases_Bool (same i u)) [
+      | inl e ↦
+          let s : i ≡ u = same-true i u e in
+          let one : lost ≡ 1 = rw e at l in
+          record {
+            kept = λ h. absurd (omega (arith, h, one));
+            left = λ h. (unless-same i u t ∙ rw e refl, (let n : i.node ≡ u.node = ap (λ (z : Item). z.node) s in omega arith));
+          }
+      | inr e ↦
+          let none : lost ≡ 0 = rw e at l in
+          let k : times i (without u t) ≡ times i t = unless-same i u t ∙ rw e refl in
+          record { kept = λ h. omega (arith, k, c); left = λ h. absurd (omega (arith, h, none)) }
+    ]
+
+table-step : (i : Item) (x : Shell) → IsConsistent x → (w : ℕ) (b : Act) (r : Reply) (y : Shell) → Makes w x b r y → Comes i (times i x.table) (times i y.table) (times i (gone b r) + times i (removed b r)) (times i (added b r)) y.next
+table-step i x v w b r y (k.added j) = record {
+  kept = λ h. rw (times-placed i record { key = j; node = x.next } x.table) (omega arith);
+  left = λ h. absurd (omega arith);
+}
+table-step i x v w b r y (k.removed j n e) =
+    let u : Item = record { key = j; node = n } in
+    let h : 1 ≤ times record { key = j; node = n } x.table = listed-times record { key = j; node = n } x.table (node-listed record { key = j; node = n } x.table e) in
+    comes-out i record { key = j; node = n } x.table _ _ x.next (v.placed.below record { key = j; node = n } (omega (arith, h))) (omega arith) refl
+table-step i x v w b r y (k.evicted h f c u g n) =
+    let q : 1 ≤ queued c x.queues = (let o = first-queued c x.queues.window g in omega (arith, o)) in
+    rw (unlisted-is u x.table v.placed.ascending) (comes-out i u x.table _ _ x.next (queued-below u x v (shifted-queued c u x q n)) (omega arith) refl)
+table-step i x v w b r y (k.rejected h f c g) =
+    let q : 1 ≤ queued c x.queues = (let o = first-queued c x.queues.window g in omega (arith, o)) in
+    rw (unlisted-is c x.table v.placed.ascending) (comes-out i c x.table _ _ x.next (queued-below c x v q) (omega arith) refl)
+table-step i x v w b r y made = record { kept = λ h. omega arith; left = λ h. absurd (omega arith) }
+
+-- what stands at the end, from what stood at first (before) and after one step (now): g and r name it as leaving in that step, gs and rs later
+joined : (node next before now last n ns g gs r rs : ℕ) → (g + r ≡ 0 → now ≡ before + n) → (1 ≤ g + r → (now ≡ 0) × (node < next)) → (1 ≤ ns → next ≤ node)
+    → ((1 ≤ last) ↔ ((1 ≤ now + ns) × (gs ≡ 0) × (rs ≡ 0))) → (1 ≤ last) ↔ ((1 ≤ before + (n + ns)) × (g + gs ≡ 0) × (r + rs ≡ 0))
+joined node next before now last n ns g gs r rs kept left given h = either (g + r) same gone
+  where
+    either : (m : ℕ) {A : Type 0} → (m ≡ 0 → A) → (1 ≤ m → A) → A
+    either zero f g = f refl
+    either (suc m) f g = g (omega arith)
+
+    same : g + r ≡ 0 → (1 ≤ last) ↔ ((1 ≤ before + (n + ns)) × (g + gs ≡ 0) × (r + rs ≡ 0))
+    same e =
+        let k : now ≡ before + n = kept e in (
+          (λ u. (let p = h.0 u in let p1 : 1 ≤ now + ns = p.0 in let p2 : gs ≡ 0 = p.1 in let p3 : rs ≡ 0 = p.2 in (omega arith, omega arith, omega arith))),
+          (λ p. (let p1 : 1 ≤ before + (n + ns) = p.0 in let p2 : g + gs ≡ 0 = p.1 in let p3 : r + rs ≡ 0 = p.2 in h.1 (omega arith, omega arith, omega arith))),
+        )
+
+    gone : 1 ≤ g + r → (1 ≤ last) ↔ ((1 ≤ before + (n + ns)) × (g + gs ≡ 0) × (r + rs ≡ 0))
+    gone e =
+        let k = left e in
+        let none : now ≡ 0 = k.0 in
+        let below : node < next = k.1 in (
+          (λ u. absurd (let p = h.0 u in let p1 : 1 ≤ now + ns = p.0 in let p2 : next ≤ node = given (omega arith) in omega arith)),
+          (λ p. absurd (let p2 : g + gs ≡ 0 = p.1 in let p3 : r + rs ≡ 0 = p.2 in omega arith)),
+        )
+
+pub table-law : (i : Item) (x : Shell) (es : List Made) → IsConsistent x → IsLegal act x es
+    → (1 ≤ times i (after act x es).table) ↔ ((1 ≤ times i x.table + times i (collect added es)) × (times i (collect gone es) ≡ 0) × (times i (collect removed es) ≡ 0))
+table-law i x [] v l = ((λ u. (omega (arith, u), refl, refl)), (λ p. (let q : 1 ≤ times i x.table + 0 = p.0 in omega arith)))
+table-law i x (e ∷ es) v l =
+    let s : Steps x e (went (act x e.step) x) = stepped x e (went (act x e.step) x) l.0 in
+    let h = table-law i (went (act x e.step) x) es (sound-next x e (went (act x e.step) x) v l.0) l.1 in
+    let c = table-step i x v e.step.worker e.step.act e.reply s.left s.made in
+    let t : times i (went (act x e.step) x).table ≡ times i s.left.table = ap (λ (y : Shell). times i y.table) s.is in
+    let g : (went (act x e.step) x).next ≡ s.left.next = ap (λ (y : Shell). y.next) s.is in
+    let j = joined i.node s.left.next (times i x.table) (times i s.left.table) (times i (after act (went (act x e.step) x) es).table) (times i (added e.step.act e.reply)) (times i (collect added es)) (times i (gone e.step.act e.reply)) (times i (collect gone es)) (times i (removed e.step.act e.reply)) (times i (collect removed es))
+    c.kept c.left (rw g at (given-law i (went (act x e.step) x) es l.1)) (rw t at h) in
+    rw (times-append i (added e.step.act e.reply) (collect added es), times-append i (gone e.step.act e.reply) (collect gone es), times-append i (removed e.step.act e.reply) (collect removed es)) j

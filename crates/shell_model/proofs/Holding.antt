@@ -1,0 +1,184 @@
+-- Who holds the maintenance, and in which phase.
+use Rattle.std.proofs.Common.{◌≡◌, ℕ, suc, zero, ◌+◌, ◌*◌, ◌/◌, ◌^◌, ◌≤◌, Bool, true, false, cond, Option, Some, None, List, [], ◌∷◌, replicate, ap, ◌∙◌, refl, arith}
+use Rattle.step_record.specs.declared.config.Config.{Config}
+use Rattle.step_record.specs.declared.step.Act.{Act}
+use Rattle.step_record.specs.declared.step.Act.TheVariants as a
+use Rattle.step_record.specs.declared.drain.Phase.TheVariants.{Reads, Writes, Evictions}
+use Rattle.step_record.specs.declared.drain.Phase.{Phase}
+use Rattle.step_record.specs.declared.step.Reply.{Reply}
+use Rattle.step_record.specs.declared.step.Reply.TheVariants as reply
+use Rattle.step_record.specs.History.{went, after, IsLegal}
+use Rattle.segments.specs.Items.{times}
+use Rattle.admission.specs.Shape.{Shape, IsShape}
+use Rattle.admission.proofs.Doors.{part_16}
+use Rattle.admission.proofs.Weighing.{frequency_is}
+use Rattle.shell_model.specs.declared.holder.Holder.{Holder}
+use Rattle.shell_model.specs.ShellStats.{is_hit, is_miss, is_kept, is_full, is_lost, is_added, is_updated, is_refused, is_eviction, is_rejection, is_begun, is_busy, is_removed}
+use Rattle.shell_buffers.specs.Buffers.{stripe_at}
+use Rattle.shell_model.specs.Shell.{Shell, may_write, act, main_size}
+use Rattle.shell_model.specs.Consistent.{IsConsistent, main_length}
+use Rattle.shell_model.specs.Laws.{Made, collect, IsShapeOf, opened, added, is_ending, is_drain_write, is_evict, some_end, some_act, phase_after, open_from, open_began, seat_of, seat_from, AreReplies, HistoryLaws}
+use Rattle.shell_model.proofs.Making as k
+use Rattle.shell_model.proofs.Making.{Makes}
+use Rattle.shell_model.proofs.Histories.{Steps, stepped, after-sound, writes-law, stripes-law, stats-law, frequency-law, table-law}
+use Rattle.shell_model.proofs.Preserving.{ordered-behind}
+
+-- a phase that stood does not go back
+abbrev at_least : Phase → Bool → Phase
+at_least Reads b = cond b Writes Reads
+at_least Writes b = Writes
+at_least Evictions b = Evictions
+
+abbrev phase_from : Phase → List Made → Phase
+phase_from p es = cond (some_act is_evict es) Evictions (at_least p (some_act is_drain_write es))
+
+-- who holds after the entries, where o held before
+abbrev later : Option (ℕ × List Made) → Bool → Option (ℕ × Phase) → List Made → Option (ℕ × Phase)
+later (Some p) b o es = Some (p.0, phase_after Reads p.1)
+later None true o es = None
+later None false None es = None
+later None false (Some s) es = Some (s.0, phase_from s.1 es)
+
+from-writes : (p : Phase) (c b : Bool) → may_write p ≡ true → cond c Evictions (at_least Writes b) ≡ cond c Evictions (at_least p true)
+from-writes Reads c b h = refl
+from-writes Writes c b h = refl
+from-writes Evictions c b h = absurd (cc (h))
+
+from-evictions : (p q : Phase) (c : Bool) → cond c Evictions Evictions ≡ Evictions
+from-evictions p q true = refl
+from-evictions p q false = refl
+
+abbrev made_of : ℕ → Act → Reply → Made
+made_of w b r = record { step = record { worker = w; act = b }; reply = r }
+
+same-seat : (o : Option (ℕ × Phase)) (w : ℕ) (b : Act) (r : Reply) (es : List Made) → is_evict b ≡ false → is_drain_write b ≡ false → later None false o es ≡ later None false o (made_of w b r ∷ es)
+same-seat None w b r es e f = refl
+same-seat (Some s) w b r es e f = rw (e, f) refl
+
+write-seat : (w : ℕ) (r : Reply) (h : Holder) (o : Option Holder) (es : List Made) → o ≡ Some h → may_write h.phase ≡ true → later None false (Some (h.worker, Writes)) es ≡ later None false (seat_of o) (made_of w a.DrainWrite r ∷ es)
+write-seat w r h o es f g = rw f (ap (λ (p : Phase). Some (h.worker, p)) (from-writes h.phase (some_act is_evict es) (some_act is_drain_write es) g))
+
+evict-seat : (w : ℕ) (r : Reply) (h : Holder) (o : Option Holder) (es : List Made) → o ≡ Some h → later None false (Some (h.worker, Evictions)) es ≡ later None false (seat_of o) (made_of w a.Evict r ∷ es)
+evict-seat w r h o es f = rw f (ap (λ (p : Phase). Some (h.worker, p)) (from-evictions Reads Reads (some_act is_evict es)))
+
+holder-step : (x : Shell) (w : ℕ) (b : Act) (r : Reply) (y : Shell) → Makes w x b r y → (es : List Made)
+    → later None false (seat_of y.holder) es ≡ later (cond (is_begun r) (Some (w, es)) None) (is_ending r) (seat_of x.holder) (made_of w b r ∷ es)
+holder-step x w b r y (k.began e) es = ap (λ (p : Phase). Some (w, p)) refl
+holder-step x w b r y (k.write_empty h f g) es = write-seat w reply.Empty h x.holder es f g
+holder-step x w b r y (k.enough h f g) es = write-seat w reply.Enough h x.holder es f g
+holder-step x w b r y (k.applied_add h f g i rest e n) es = write-seat w (reply.Applied i) h x.holder es f g
+holder-step x w b r y (k.applied_update h f g i rest e n) es = write-seat w (reply.Applied i) h x.holder es f g
+holder-step x w b r y (k.applied_remove h f g i rest e n) es = write-seat w (reply.Cleared i) h x.holder es f g
+holder-step x w b r y (k.fits h f) es = evict-seat w reply.Fits h x.holder es f
+holder-step x w b r y (k.shifted h f c i) es = evict-seat w (reply.Shifted c) h x.holder es f
+holder-step x w b r y (k.evicted h f c v i j) es = evict-seat w (reply.Evicted v) h x.holder es f
+holder-step x w b r y (k.rejected h f c i) es = evict-seat w (reply.Rejected c) h x.holder es f
+holder-step x w b r y (k.idle h f d e) es = refl
+holder-step x w b r y (k.again h f d e) es = refl
+holder-step x w b r y made es = same-seat (seat_of x.holder) w b r es refl refl
+
+-- what came before the entries is told by what they say of a holder
+join : (e : Made) (es : List Made) (q : Option (ℕ × List Made)) (t : Bool) (o u : Option (ℕ × Phase)) → t ≡ some_end es
+    → (later None false u es ≡ later (cond (is_begun e.reply) (Some (e.step.worker, es)) None) (is_ending e.reply) o (e ∷ es))
+    → later q t u es ≡ later (open_from e es q) (cond (is_ending e.reply) true t) o (e ∷ es)
+join e es (Some p) t o u h i = refl
+join e es None true o u h i = rw (← h) (over (is_begun e.reply) (is_ending e.reply))
+  where
+    over : (c d : Bool) → None ≡ later (cond c (cond true None (Some (e.step.worker, es))) None) (cond d true true) o (e ∷ es)
+    over true true = refl
+    over true false = refl
+    over false true = refl
+    over false false = refl
+join e es None false o u h i = i ∙ rw (← h) (over (is_begun e.reply) (is_ending e.reply))
+  where
+    over : (c d : Bool) → later (cond c (Some (e.step.worker, es)) None) d o (e ∷ es) ≡ later (cond c (cond false None (Some (e.step.worker, es))) None) (cond d true false) o (e ∷ es)
+    over true true = refl
+    over true false = refl
+    over false true = refl
+    over false false = refl
+
+pub holder-law : (x : Shell) (es : List Made) → IsLegal act x es → seat_of (after act x es).holder ≡ later (open_began es) (some_end es) (seat_of x.holder) es
+holder-law x [] l = begin x.holder
+  where
+    begin : (o : Option Holder) → seat_of o ≡ later None false (seat_of o) []
+    begin None = refl
+    begin (Some h) = ap (λ (p : Phase). Some (h.worker, p)) (phase h.phase)
+      where
+        phase : (p : Phase) → p ≡ at_least p false
+        phase Reads = refl
+        phase Writes = refl
+        phase Evictions = refl
+holder-law x (e ∷ es) l =
+    let s : Steps x e (went (act x e.step) x) = stepped x e (went (act x e.step) x) l.0 in
+    let i = holder-law (went (act x e.step) x) es l.1 in
+    let g : seat_of (went (act x e.step) x).holder ≡ seat_of s.left.holder = ap (λ (y : Shell). seat_of y.holder) s.is in
+    let h = holder-step x e.step.worker e.step.act e.reply s.left s.made es in
+    i ∙ ap (λ u. later (open_began es) (some_end es) u es) g ∙ join e es (open_began es) (some_end es) (seat_of x.holder) (seat_of s.left.holder) refl h
+
+pub from-none : (q : Option (ℕ × List Made)) (t : Bool) (es : List Made) → later q t None es ≡ seat_from q
+from-none (Some p) t es = refl
+from-none None true es = refl
+from-none None false es = refl
+
+-- the empty state
+
+no-stripes : (n k : ℕ) → stripe_at k (replicate n []) ≡ []
+no-stripes zero k = refl
+no-stripes (suc n) zero = refl
+no-stripes (suc n) (suc k) = no-stripes n k
+
+sixteenths : (s : Shape) → IsShape s → s.width ≡ 16 * (s.width / 16)
+sixteenths s h =
+    let p = h.width.0 in
+    let low : 16 ≤ s.width = omega (arith, h.width.1) in
+    rw p.1 (part_16 p.0 (rw p.1 at low))
+
+pub opened-sound : (c : Config) (s : Shape) → IsShapeOf c s → IsConsistent (opened c s)
+opened-sound c sh k = record {
+  placed = record { stands = λ i. omega arith; known = λ i. omega arith; once = λ i. omega arith; below = λ i h. absurd (omega arith); ascending = tt; ordered = tt };
+  stripes = λ s. rw (no-stripes c.stripes s) (omega arith);
+  writes = omega arith;
+  left = tt;
+  main = omega arith;
+  frequency = frequency_is sh [] (omega (arith, k.is.width.1)) (sixteenths sh k.is) (omega (arith, k.is.size.1));
+}
+
+pub replies-law : (c : Config) (sh : Shape) (es : List Made) → IsLegal act (opened c sh) es → AreReplies (after act (opened c sh) es).stats es
+replies-law c sh es l = record {
+  hits = stats-law (λ s. s.hits) is_hit (λ r s. refl) (opened c sh) es l ∙ zero-plus _;
+  misses = stats-law (λ s. s.misses) is_miss (λ r s. refl) (opened c sh) es l ∙ zero-plus _;
+  kept = stats-law (λ s. s.kept) is_kept (λ r s. refl) (opened c sh) es l ∙ zero-plus _;
+  full = stats-law (λ s. s.full) is_full (λ r s. refl) (opened c sh) es l ∙ zero-plus _;
+  lost = stats-law (λ s. s.lost) is_lost (λ r s. refl) (opened c sh) es l ∙ zero-plus _;
+  added = stats-law (λ s. s.added) is_added (λ r s. refl) (opened c sh) es l ∙ zero-plus _;
+  updated = stats-law (λ s. s.updated) is_updated (λ r s. refl) (opened c sh) es l ∙ zero-plus _;
+  refused = stats-law (λ s. s.refused) is_refused (λ r s. refl) (opened c sh) es l ∙ zero-plus _;
+  evictions = stats-law (λ s. s.evictions) is_eviction (λ r s. refl) (opened c sh) es l ∙ zero-plus _;
+  rejections = stats-law (λ s. s.rejections) is_rejection (λ r s. refl) (opened c sh) es l ∙ zero-plus _;
+  begun = stats-law (λ s. s.begun) is_begun (λ r s. refl) (opened c sh) es l ∙ zero-plus _;
+  busy = stats-law (λ s. s.busy) is_busy (λ r s. refl) (opened c sh) es l ∙ zero-plus _;
+  removed = stats-law (λ s. s.removed) is_removed (λ r s. refl) (opened c sh) es l ∙ zero-plus _;
+}
+  where
+    zero-plus : (n : ℕ) → 0 + n ≡ n
+    zero-plus n = omega arith
+
+pub history-laws : HistoryLaws
+history-laws c sh es k l =
+    let v : IsConsistent (after act (opened c sh) es) = after-sound (opened c sh) es (opened-sound c sh k) l in
+    record {
+      stripes = λ j. stripes-law j (opened c sh) es l ∙ rw (no-stripes c.stripes j) refl;
+      writes = writes-law (opened c sh) es l;
+      stats = replies-law c sh es l;
+      table = λ i. (let t = table-law i (opened c sh) es (opened-sound c sh k) l in (
+        (λ h. (let p = t.0 h in let q : 1 ≤ 0 + times i (collect added es) = p.0 in (omega arith, p.1, p.2))),
+        (λ p. (let q : 1 ≤ times i (collect added es) = p.0 in t.1 (omega arith, p.1, p.2))),
+      ));
+      stands = λ i h. (let a = v.placed.stands i in let b = v.placed.known i in let d = v.placed.once i in (omega (arith, a, b, d, h), omega (arith, d, h)));
+      others = λ i h m. (let b = v.placed.known i in let d = v.placed.once i in omega (arith, b, d, h, m));
+      behind = λ i before rest e. ordered-behind i before rest (rw e at v.placed.ordered);
+      main = v.main;
+      frequency = frequency-law sh k.is [] (opened c sh) es refl l;
+      below = λ i h. v.placed.below i (omega (arith, h));
+      holder = holder-law (opened c sh) es l ∙ from-none (open_began es) (some_end es) es;
+    }

@@ -1,0 +1,12 @@
+pub mod Counting
+pub mod Frequency
+pub mod Undoing
+pub mod Acting
+pub mod Preserving
+pub mod Making
+pub mod Histories
+pub mod Holding
+pub mod Reached
+pub mod Seating
+pub mod Bounding
+pub mod Engines

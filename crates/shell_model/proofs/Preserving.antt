@@ -1,0 +1,534 @@
+-- What holds of the shell before a step holds after it.
+use Rattle.std.proofs.Common.{◌≡◌, ℕ, suc, zero, ◌+◌, ◌<◌, ◌≤◌, Bool, true, false, cond, ◌&&◌, eqb, nat_lt, Option, Some, None, List, [], ◌∷◌, ◌++◌, length, set, ap, ◌∙◌, refl, arith, inl, inr, length-append}
+use Rattle.std.proofs.lemmas.Bool.{eqb-true, eq-eqb, and_parts, cases_Bool}
+use Rattle.std.proofs.lemmas.Bool.Decides.{nat_tests}
+use Rattle.std.proofs.lemmas.List.{get_or-set_same, get_or-set_other}
+use Rattle.step_record.specs.declared.item.Item.{Item}
+use Rattle.step_record.specs.declared.step.Act.{Act}
+use Rattle.step_record.specs.declared.step.Act.TheVariants as a
+use Rattle.step_record.specs.declared.step.Step.{Step}
+use Rattle.step_record.specs.declared.drain.Phase.TheVariants.{Writes, Evictions}
+use Rattle.step_record.specs.declared.drain.Phase.{Phase}
+use Rattle.step_record.specs.declared.step.Reply.{Reply}
+use Rattle.step_record.specs.declared.step.Reply.TheVariants as reply
+use Rattle.segments.specs.declared.records.Queue.{Queue}
+use Rattle.segments.specs.declared.records.Queue.TheVariants.{Window, Probation, Protected}
+use Rattle.segments.specs.Items.{same, times, without, first}
+use Rattle.segments.specs.Queues.{Queues, place_of, pushed, moved, taken, total, IsDistinct}
+use Rattle.segments.proofs.ItemLists.{same-refl, same-true, times-append, times-one, length-without, times-without}
+use Rattle.segments.proofs.MoveLaws.{Stands, in_window, in_probation, in_protected, nowhere, stands}
+use Rattle.shell_buffers.specs.declared.task.Task.{Task}
+use Rattle.shell_buffers.specs.declared.task.Task.TheVariants.{Add, Update, Remove}
+use Rattle.shell_model.specs.declared.holder.Holder.{Holder}
+use Rattle.shell_model.specs.Frequency.{admits}
+use Rattle.shell_buffers.specs.Buffers.{stripe_at}
+use Rattle.shell_model.specs.Shell.{Shell, node_of, placed, cleared, main_size, window_size, protected_size, offer, put, put_at, removing, remove_at, begin, is_over, held_by, shift, in_phase, hit, hit_from, demote, drain_read, drain_write, apply_task, contest, leave, evict_from, evict_oldest, evict, end, when, may_read, may_write, is_stripe, hold_read, hold_write, hold_evict, hold_end, perform, tallied, act}
+use Rattle.shell_model.specs.Consistent.{IsConsistent, IsPlaced, main_length, queued, waiting, leaving, IsOrdered, AreAbove, IsAscending, IsLeft}
+use Rattle.admission.specs.Frequency.{IsFrequency}
+use Rattle.shell_model.proofs.Frequency.{recorded-whole}
+use Rattle.shell_model.proofs.Counting.{once, unless-same, queued-kept, queued-taken, queued-pushed, distinct-moved, times-placed, listed-times, node-listed, unlisted-is, cleared-is}
+use Rattle.shell_model.proofs.Undoing.{sound-distinct, first-queued, worn}
+
+abbrev pub SoundTo : Option (Reply × Shell) → Type 0
+SoundTo None = Unit {0}
+SoundTo (Some p) = IsConsistent p.1
+
+when-sound : (b : Bool) (p : Reply × Shell) → (b ≡ true → IsConsistent p.1) → SoundTo (when b p)
+when-sound true p h = h refl
+when-sound false p h = tt
+
+-- stripes
+
+pub set-short : (ls : List (List Item)) (s : ℕ) (l : List Item) → s < length ls → length l ≤ 16 → ((k : ℕ) → length (stripe_at k ls) ≤ 16) → (k : ℕ) → length (stripe_at k (set ls s l)) ≤ 16
+set-short ls s l h n few k =
+    elim (cases_Bool (eqb k s)) [
+      | inl e ↦ let t : k ≡ s = eqb-true k s e in rw (t, get_or-set_same ls s l [] h) n
+      | inr e ↦ let f : (k ≡ s → ⊥) = (λ (g : k ≡ s). let no : true ≡ false = rw (eq-eqb k s g) at e in cc (no)) in rw (get_or-set_other ls s k l [] f) (few k)
+    ]
+
+-- the main queues do not grow
+
+moved-window : (i : Item) (q : Queues) → main_length (moved i Window q) ≤ main_length q
+moved-window i q = omega (arith, length-without i q.probation, length-without i q.protected)
+
+moved-protected : (i : Item) (q : Queues) → 1 ≤ times i q.probation + times i q.protected → main_length (moved i Protected q) ≤ main_length q
+moved-protected i q h = omega (arith, length-without i q.probation, length-without i q.protected, length-append (without i q.protected) (i ∷ []))
+
+moved-probation : (i : Item) (q : Queues) → 1 ≤ times i q.probation + times i q.protected → main_length (moved i Probation q) ≤ main_length q
+moved-probation i q h = omega (arith, length-without i q.probation, length-without i q.protected, length-append (without i q.probation) (i ∷ []))
+
+-- what a hit keeps
+pub record IsKept (q r : Queues) : Type 0 where
+  pub queued : (j : Item) → queued j r ≡ queued j q
+  pub main : main_length r ≤ main_length q
+
+kept-demote : (o : Option Item) (q : Queues) → IsDistinct q → ((d : Item) → o ≡ Some d → 1 ≤ times d q.protected) → IsKept q (demote o q)
+kept-demote None q u k = record { queued = λ j. refl; main = omega arith }
+kept-demote (Some d) q u k =
+    let n : 1 ≤ times d q.protected = k d refl in
+    let few = u d in
+    let one : queued d q ≡ 1 = omega (arith, n, few) in
+    record { queued = λ j. queued-kept j d Probation q one; main = moved-probation d q (omega (arith, n)) }
+
+hit-kept : (size : ℕ) (i : Item) (q : Queues) (p : Option Queue) → IsDistinct q → Stands i q p → IsKept q (hit_from size i p q)
+hit-kept size i q p u (nowhere e f g) = record { queued = λ j. refl; main = omega arith }
+hit-kept size i q p u (in_window e f g) = record { queued = λ j. queued-kept j i Window q (omega (arith, e, f, g)); main = moved-window i q }
+hit-kept size i q p u (in_protected e f g) = record { queued = λ j. queued-kept j i Protected q (omega (arith, e, f, g)); main = moved-protected i q (omega (arith, e, f, g)) }
+hit-kept size i q p u (in_probation e f g) =
+    let r : Queues = moved i Protected q in
+    let m : main_length (moved i Protected q) ≤ main_length q = moved-protected i q (omega (arith, e, f, g)) in
+    let k : (j : Item) → queued j (moved i Protected q) ≡ queued j q = λ j. queued-kept j i Protected q (omega (arith, e, f, g)) in
+    elim (cases_Bool (nat_lt size (length (moved i Protected q).protected))) as (λ _. IsKept q (cond (nat_lt size (length (moved i Protected q).protected)) (demote (first (moved i Protected q).protected) (moved i Protected q)) (moved i Protected q))) [
+      | inl t ↦ rw t (let d : IsKept (moved i Protected q) (demote (first (moved i Protected q).protected) (moved i Protected q)) = kept-demote (first (moved i Protected q).protected) (moved i Protected q) (distinct-moved i Protected q u) (λ d h. first-queued d (moved i Protected q).protected h) in
+          record { queued = λ j. d.queued j ∙ k j; main = omega (arith, d.main, m) })
+      | inr t ↦ rw t record { queued = k; main = m }
+    ]
+
+pub hit-is-kept : (size : ℕ) (i : Item) (q : Queues) → IsDistinct q → IsKept q (hit size i q)
+hit-is-kept size i q u = hit-kept size i q (place_of i q) u (stands i q u)
+
+-- the table
+
+above-placed : (k : ℕ) (i : Item) (t : List Item) → k < i.key → AreAbove k t → AreAbove k (placed i t)
+above-placed k i [] h b = (h, tt)
+above-placed k i (x ∷ t) h b =
+    elim (cases_Bool (nat_lt i.key x.key)) as (λ _. AreAbove k (cond (nat_lt i.key x.key) (i ∷ x ∷ t) (x ∷ placed i t))) [
+      | inl e ↦ rw e (h, b)
+      | inr e ↦ rw e (b.0, above-placed k i t h b.1)
+    ]
+
+above-more : (k m : ℕ) (t : List Item) → k < m → AreAbove m t → AreAbove k t
+above-more k m [] h b = tt
+above-more k m (x ∷ t) h b = (omega (arith, b.0, h), above-more k m t h b.1)
+
+pub ascending-placed : (i : Item) (t : List Item) → node_of i.key t ≡ None → IsAscending t → IsAscending (placed i t)
+ascending-placed i [] n h = (tt, tt)
+ascending-placed i (x ∷ t) n h =
+    elim (cases_Bool (eqb i.key x.key)) [
+      | inl e ↦ absurd (let no : Some x.node ≡ None = rw e at n in cc (no))
+      | inr e ↦
+          let rest : node_of i.key t ≡ None = rw e at n in
+          let apart : (i.key ≡ x.key → ⊥) = (λ (g : i.key ≡ x.key). let no : true ≡ false = rw (eq-eqb i.key x.key g) at e in cc (no)) in
+          elim (cases_Bool (nat_lt i.key x.key)) as (λ _. IsAscending (cond (nat_lt i.key x.key) (i ∷ x ∷ t) (x ∷ placed i t))) [
+            | inl f ↦ let lt : i.key < x.key = grind (arith, nat_tests) in rw f ((lt, above-more i.key x.key t lt h.0), (h.0, h.1))
+            | inr f ↦ let lt : x.key < i.key = grind (arith, nat_tests, apart) in rw f (above-placed x.key i t lt h.0, ascending-placed i t rest h.1)
+          ]
+    ]
+
+above-without : (k : ℕ) (v : Item) (t : List Item) → AreAbove k t → AreAbove k (without v t)
+above-without k v [] b = tt
+above-without k v (x ∷ t) b =
+    elim (cases_Bool (same v x)) as (λ _. AreAbove k (cond (same v x) (without v t) (x ∷ without v t))) [
+      | inl e ↦ rw e (above-without k v t b.1)
+      | inr e ↦ rw e (b.0, above-without k v t b.1)
+    ]
+
+pub ascending-without : (v : Item) (t : List Item) → IsAscending t → IsAscending (without v t)
+ascending-without v [] h = tt
+ascending-without v (x ∷ t) h =
+    elim (cases_Bool (same v x)) as (λ _. IsAscending (cond (same v x) (without v t) (x ∷ without v t))) [
+      | inl e ↦ rw e (ascending-without v t h.1)
+      | inr e ↦ rw e (above-without x.key v t h.0, ascending-without v t h.1)
+    ]
+
+-- the write queue
+
+pub waiting-append : (j : Item) (l m : List Task) → waiting j (l ++ m) ≡ waiting j l + waiting j m
+waiting-append j [] m = omega arith
+waiting-append j (Add i ∷ l) m = let h : waiting j (l ++ m) ≡ waiting j l + waiting j m = waiting-append j l m in omega (arith, h)
+waiting-append j (Update i ∷ l) m = waiting-append j l m
+waiting-append j (Remove i ∷ l) m = waiting-append j l m
+
+pub leaving-append : (j : Item) (l m : List Task) → leaving j (l ++ m) ≡ leaving j l + leaving j m
+leaving-append j [] m = omega arith
+leaving-append j (Add i ∷ l) m = leaving-append j l m
+leaving-append j (Update i ∷ l) m = leaving-append j l m
+leaving-append j (Remove i ∷ l) m = let h : leaving j (l ++ m) ≡ leaving j l + leaving j m = leaving-append j l m in omega (arith, h)
+
+-- a task comes in behind: no Add whose item's Remove waits
+pub ordered-push : (l : List Task) (t : Task) → IsOrdered (t ∷ []) → ((j : Item) → 1 ≤ leaving j l → waiting j (t ∷ []) ≡ 0) → IsOrdered l → IsOrdered (l ++ t ∷ [])
+ordered-push [] t s f o = s
+ordered-push (Add k ∷ l) t s f o = ordered-push l t s f o
+ordered-push (Update k ∷ l) t s f o = ordered-push l t s f o
+ordered-push (Remove k ∷ l) t s f o =
+    let one : 1 ≤ cond (same k k) 1 0 + leaving k l = (let e = same-refl k in rw e (omega arith)) in
+    let none : waiting k (t ∷ []) ≡ 0 = f k one in
+    (rw (waiting-append k l (t ∷ [])) (omega (arith, o.0, none)), ordered-push l t s (λ j h. f j (omega (arith, h))) o.1)
+
+-- where an Add stands, no Remove of its item stands before it
+pub ordered-behind : (i : Item) (l m : List Task) → IsOrdered (l ++ Add i ∷ m) → leaving i l ≡ 0
+ordered-behind i [] m o = refl
+ordered-behind i (Add j ∷ l) m o = ordered-behind i l m o
+ordered-behind i (Update j ∷ l) m o = ordered-behind i l m o
+ordered-behind i (Remove j ∷ l) m o =
+    let rest : leaving i l ≡ 0 = ordered-behind i l m o.1 in
+    elim (cases_Bool (same i j)) as (λ _. cond (same i j) 1 0 + leaving i l ≡ 0) [
+      | inl e ↦
+          let s : i ≡ j = same-true i j e in
+          let none : waiting i (l ++ Add i ∷ m) ≡ 0 = ap (λ (y : Item). waiting y (l ++ Add i ∷ m)) s ∙ o.0 in
+          let sum : waiting i (l ++ Add i ∷ m) ≡ waiting i l + (cond (same i i) 1 0 + waiting i m) = waiting-append i l (Add i ∷ m) in
+          let sum2 : waiting i (l ++ Add i ∷ m) ≡ waiting i l + (1 + waiting i m) = rw (same-refl i) at sum in
+          absurd (omega (arith, none, sum2))
+      | inr e ↦ rw e (omega (arith, rest))
+    ]
+
+-- the parts that place items
+
+-- nothing comes or goes
+placed-same : (t : List Item) (n : ℕ) (q r : Queues) (l m : List Task) → ((j : Item) → queued j r + waiting j m ≡ queued j q + waiting j l) → ((j : Item) → leaving j m ≡ leaving j l) → IsOrdered m → IsPlaced t n q l → IsPlaced t n r m
+placed-same t n q r l m f g o p = record {
+  stands = λ j. omega (arith, p.stands j, f j);
+  known = λ j. omega (arith, p.known j, f j, g j);
+  once = λ j. omega (arith, p.once j, g j);
+  below = λ j h. p.below j (omega (arith, h, g j));
+  ascending = p.ascending;
+  ordered = o;
+}
+
+placed-update : (t : List Item) (n : ℕ) (q : Queues) (l : List Task) (i : Item) → IsPlaced t n q l → IsPlaced t n q (l ++ Update i ∷ [])
+placed-update t n q l i p =
+    placed-same t n q q l (l ++ Update i ∷ [])
+    (λ j. rw (waiting-append j l (Update i ∷ [])) (omega arith))
+    (λ j. rw (leaving-append j l (Update i ∷ [])) (omega arith))
+    (ordered-push l (Update i) tt (λ j h. refl) p.ordered) p
+
+placed-add : (t : List Item) (n k : ℕ) (q : Queues) (l : List Task) → node_of k t ≡ None → IsPlaced t n q l → (i : Item) → i ≡ record { key = k; node = n } → IsPlaced (placed i t) (n + 1) q (l ++ Add i ∷ [])
+placed-add t n k q l none p i e =
+    let key : i.key ≡ k = ap (λ (x : Item). x.key) e in
+    let node : i.node ≡ n = ap (λ (x : Item). x.node) e in
+    record {
+      stands = λ j. rw (waiting-append j l (Add i ∷ []), times-placed j i t) (omega (arith, p.stands j));
+      known = λ j. rw (waiting-append j l (Add i ∷ []), leaving-append j l (Add i ∷ []), times-placed j i t) (omega (arith, p.known j));
+      once = λ j. rw (leaving-append j l (Add i ∷ []), times-placed j i t) (elim (cases_Bool (same j i)) as (λ _. cond (same j i) 1 0 + times j t + (leaving j l + 0) ≤ 1) [
+        | inl f ↦ rw f (let s : j ≡ i = same-true j i f in let m : j.node ≡ n = ap (λ (x : Item). x.node) s ∙ node in let z = zero_or (times j t + leaving j l) (p.below j) m in omega (arith, z))
+        | inr f ↦ rw f (omega (arith, p.once j))
+      ]);
+      below = λ j h. elim (cases_Bool (same j i)) as (λ _. j.node < n + 1) [
+        | inl f ↦ let s : j ≡ i = same-true j i f in let m : j.node ≡ n = ap (λ (x : Item). x.node) s ∙ node in omega arith
+        | inr f ↦
+            let g : 1 ≤ once j i + times j t + (leaving j l + 0) = rw (leaving-append j l (Add i ∷ []), times-placed j i t) at h in
+            let g2 : 1 ≤ 0 + times j t + (leaving j l + 0) = rw f at g in
+            let b : j.node < n = p.below j (omega arith) in
+            omega arith
+      ];
+      ascending = ascending-placed i t (rw key none) p.ascending;
+      ordered = ordered-push l (Add i) tt (λ j h. elim (cases_Bool (same j i)) as (λ _. cond (same j i) 1 0 + 0 ≡ 0) [
+        | inl f ↦ absurd (let s : j ≡ i = same-true j i f in let m : j.node ≡ n = ap (λ (x : Item). x.node) s ∙ node in let b : j.node < n = p.below j (omega (arith, h)) in omega arith)
+        | inr f ↦ rw f refl
+      ]) p.ordered;
+    }
+  where
+    zero_or : (m : ℕ) {k n : ℕ} → (1 ≤ m → k < n) → k ≡ n → m ≡ 0
+    zero_or zero f e = refl
+    zero_or (suc m) f e = absurd (let no = f (omega arith) in omega (arith, no))
+
+placed-remove : (t : List Item) (n : ℕ) (q : Queues) (l : List Task) (i : Item) → 1 ≤ times i t → IsPlaced t n q l → IsPlaced (without i t) n q (l ++ Remove i ∷ [])
+placed-remove t n q l i h p = record {
+  stands = λ j. rw (waiting-append j l (Remove i ∷ [])) (omega (arith, times-without i j t, p.stands j));
+  known = λ j. rw (waiting-append j l (Remove i ∷ []), leaving-append j l (Remove i ∷ []), unless-same j i t) (elim (cases_Bool (same j i)) as (λ _. queued j q + (waiting j l + 0) ≤ cond (same j i) 0 (times j t) + (leaving j l + (cond (same j i) 1 0 + 0))) [
+    | inl e ↦ rw e (omega (arith, p.known j, p.once j))
+    | inr e ↦ rw e (omega (arith, p.known j))
+  ]);
+  once = λ j. rw (leaving-append j l (Remove i ∷ []), unless-same j i t) (elim (cases_Bool (same j i)) as (λ _. cond (same j i) 0 (times j t) + (leaving j l + (cond (same j i) 1 0 + 0)) ≤ 1) [
+    | inl e ↦ let s : j ≡ i = same-true j i e in let a : 1 ≤ times j t = rw s h in rw e (omega (arith, a, p.once j))
+    | inr e ↦ rw e (omega (arith, p.once j))
+  ]);
+  below = λ j g. p.below j (elim (cases_Bool (same j i)) as (λ _. 1 ≤ times j t + leaving j l) [
+    | inl e ↦ let s : j ≡ i = same-true j i e in let a : 1 ≤ times j t = rw s h in omega (arith, a)
+    | inr e ↦
+        let b : 1 ≤ times j (without i t) + (leaving j l + (cond (same j i) 1 0 + 0)) = rw (leaving-append j l (Remove i ∷ [])) at g in
+        let c : 1 ≤ times j (without i t) + (leaving j l + (0 + 0)) = rw e at b in
+        omega (arith, c, times-without i j t)
+  ]);
+  ascending = ascending-without i t p.ascending;
+  ordered = ordered-push l (Remove i) (refl, tt) (λ j h. refl) p.ordered;
+}
+
+placed-hit : (t : List Item) (n : ℕ) (q r : Queues) (l : List Task) → IsKept q r → IsPlaced t n q l → IsPlaced t n r l
+placed-hit t n q r l k p = placed-same t n q r l l (λ j. rw (k.queued j) refl) (λ j. refl) p.ordered p
+
+placed-update-done : (t : List Item) (n : ℕ) (q : Queues) (l : List Task) (i : Item) → IsPlaced t n q (Update i ∷ l) → IsPlaced t n q l
+placed-update-done t n q l i p = placed-same t n q q (Update i ∷ l) l (λ j. refl) (λ j. refl) p.ordered p
+
+placed-add-done : (t : List Item) (n : ℕ) (q : Queues) (l : List Task) (i : Item) → IsPlaced t n q (Add i ∷ l) → IsPlaced t n (pushed Window i q) l
+placed-add-done t n q l i p = placed-same t n q (pushed Window i q) (Add i ∷ l) l (λ j. rw (queued-pushed j i Window q) (omega arith)) (λ j. refl) p.ordered p
+
+placed-clear : (t : List Item) (n : ℕ) (q : Queues) (l : List Task) (i : Item) → IsPlaced t n q (Remove i ∷ l) → IsPlaced t n (taken i q) l
+placed-clear t n q l i p = record {
+  stands = λ j. rw (queued-taken j i q) (elim (cases_Bool (same j i)) as (λ _. times j t ≤ cond (same j i) 0 (queued j q) + waiting j l) [
+    | inl e ↦
+        let a : times j t + (cond (same j i) 1 0 + leaving j l) ≤ 1 = p.once j in
+        let b : times j t + (1 + leaving j l) ≤ 1 = rw e at a in
+        omega (arith, b)
+    | inr e ↦ rw e (p.stands j)
+  ]);
+  known = λ j. rw (queued-taken j i q) (elim (cases_Bool (same j i)) as (λ _. cond (same j i) 0 (queued j q) + waiting j l ≤ times j t + leaving j l) [
+    | inl e ↦ let s : j ≡ i = same-true j i e in let none : waiting j l ≡ 0 = rw s p.ordered.0 in rw e (omega (arith, none))
+    | inr e ↦
+        let a : queued j q + waiting j l ≤ times j t + (cond (same j i) 1 0 + leaving j l) = p.known j in
+        let b : queued j q + waiting j l ≤ times j t + (0 + leaving j l) = rw e at a in
+        rw e (omega (arith, b))
+  ]);
+  once = λ j. omega (arith, p.once j);
+  below = λ j g. p.below j (omega (arith, g));
+  ascending = p.ascending;
+  ordered = p.ordered.1;
+}
+
+placed-leave : (t : List Item) (n : ℕ) (q : Queues) (l : List Task) (v : Item) → 1 ≤ queued v q → IsPlaced t n q l → IsPlaced (without v t) n (taken v q) l
+placed-leave t n q l v h p = record {
+  stands = λ j. rw (queued-taken j v q, unless-same j v t) (elim (cases_Bool (same j v)) as (λ _. cond (same j v) 0 (times j t) ≤ cond (same j v) 0 (queued j q) + waiting j l) [
+    | inl e ↦ rw e (omega arith)
+    | inr e ↦ rw e (p.stands j)
+  ]);
+  known = λ j. rw (queued-taken j v q, unless-same j v t) (elim (cases_Bool (same j v)) as (λ _. cond (same j v) 0 (queued j q) + waiting j l ≤ cond (same j v) 0 (times j t) + leaving j l) [
+    | inl e ↦ let s : j ≡ v = same-true j v e in let a : 1 ≤ queued j q = rw s h in rw e (omega (arith, a, p.known j, p.once j))
+    | inr e ↦ rw e (p.known j)
+  ]);
+  once = λ j. omega (arith, times-without v j t, p.once j);
+  below = λ j g. p.below j (omega (arith, times-without v j t, g));
+  ascending = ascending-without v t p.ascending;
+  ordered = p.ordered;
+}
+
+-- the acts
+
+offer-sound : (s : ℕ) (i : Item) (x : Shell) → s < length x.stripes → IsConsistent x → IsConsistent (offer s i x).1
+offer-sound s i x h v =
+    elim (cases_Bool (nat_lt (length (stripe_at s x.stripes)) 16)) as (λ _. IsConsistent (offer s i x).1) [
+      | inl e ↦
+          let lt : length (stripe_at s x.stripes) < 16 = grind (arith, nat_tests) in
+          rw e record {
+            placed = v.placed;
+            writes = v.writes;
+            left = v.left;
+            main = v.main;
+            frequency = v.frequency;
+            stripes = set-short x.stripes s (stripe_at s x.stripes ++ i ∷ []) h (omega (arith, lt, length-append (stripe_at s x.stripes) (i ∷ []))) v.stripes;
+          }
+      | inr e ↦ rw e v
+    ]
+
+put_at-sound : (k : ℕ) (o : Option ℕ) (x : Shell) → node_of k x.table ≡ o → length x.writes < 128 → IsConsistent x → IsConsistent (put_at k o x).1
+put_at-sound k (Some n) x e h v = record {
+  placed = placed-update x.table x.next x.queues x.writes record { key = k; node = n } v.placed;
+  writes = omega (arith, h, length-append x.writes (Update record { key = k; node = n } ∷ []));
+  stripes = v.stripes;
+  left = v.left;
+  main = v.main;
+  frequency = v.frequency;
+}
+put_at-sound k None x e h v = record {
+  placed = placed-add x.table x.next k x.queues x.writes e v.placed record { key = k; node = x.next } refl;
+  writes = omega (arith, h, length-append x.writes (Add record { key = k; node = x.next } ∷ []));
+  stripes = v.stripes;
+  left = v.left;
+  main = v.main;
+  frequency = v.frequency;
+}
+
+put-sound : (k : ℕ) (x : Shell) → IsConsistent x → IsConsistent (put k x).1
+put-sound k x v =
+    elim (cases_Bool (nat_lt (length x.writes) 128)) as (λ _. IsConsistent (put k x).1) [
+      | inl e ↦ let lt : length x.writes < 128 = grind (arith, nat_tests) in rw e (put_at-sound k (node_of k x.table) x refl lt v)
+      | inr e ↦ rw e v
+    ]
+
+remove_at-sound : (k : ℕ) (o : Option ℕ) (x : Shell) → node_of k x.table ≡ o → IsConsistent x → IsConsistent (remove_at k o x).1
+remove_at-sound k None x e v = v
+remove_at-sound k (Some n) x e v =
+    let h : 1 ≤ times record { key = k; node = n } x.table = listed-times record { key = k; node = n } x.table (node-listed record { key = k; node = n } x.table e) in
+    elim (cases_Bool (nat_lt (length x.writes) 128)) as (λ _. IsConsistent (cond {A = Reply × Shell} (nat_lt (length x.writes) 128) (reply.Removed n, removing record { key = k; node = n } x) (reply.WritesFull, x)).1) [
+      | inl t ↦
+          let lt : length x.writes < 128 = grind (arith, nat_tests) in
+          rw t record {
+            placed = placed-remove x.table x.next x.queues x.writes record { key = k; node = n } h v.placed;
+            writes = omega (arith, lt, length-append x.writes (Remove record { key = k; node = n } ∷ []));
+            stripes = v.stripes;
+            left = v.left;
+            main = v.main;
+            frequency = v.frequency;
+          }
+      | inr t ↦ rw t v
+    ]
+
+begin-sound : (w : ℕ) (o : Option Holder) (x : Shell) → IsConsistent x → IsConsistent (begin w o x).1
+begin-sound w (Some h) x v = v
+begin-sound w None x v = record { placed = v.placed; stripes = v.stripes; writes = v.writes; main = v.main; frequency = v.frequency; left = omega arith }
+
+read-sound : (s : ℕ) (l : List Item) (x : Shell) → stripe_at s x.stripes ≡ l → s < length x.stripes → IsConsistent x → IsConsistent (drain_read s l x).1
+read-sound s [] x e h v = v
+read-sound s (i ∷ rest) x e h v =
+    let k = hit-is-kept (protected_size x.config) i x.queues (sound-distinct x v) in
+    let few : suc (length rest) ≤ 16 = rw e at (v.stripes s) in
+    record {
+      placed = placed-hit x.table x.next x.queues (hit (protected_size x.config) i x.queues) x.writes k v.placed;
+      stripes = set-short x.stripes s rest h (omega (arith, few)) v.stripes;
+      writes = v.writes;
+      left = v.left;
+      main = omega (arith, k.main, v.main);
+      frequency = recorded-whole x.frequency i.key v.frequency;
+    }
+
+hold_read-sound : (s : ℕ) (w : ℕ) (o : Option Holder) (x : Shell) → IsConsistent x → SoundTo (hold_read s (held_by w o) x)
+hold_read-sound s w None x v = tt
+hold_read-sound s w (Some h) x v =
+    elim (cases_Bool (eqb w h.worker)) as (λ _. SoundTo (hold_read s (cond (eqb w h.worker) (Some h) None) x)) [
+      | inl e ↦ rw e (when-sound (is_stripe s x && may_read h.phase) (drain_read s (stripe_at s x.stripes) x) (λ t. read-sound s (stripe_at s x.stripes) x refl (grind (arith, nat_tests, (and_parts (is_stripe s x) (may_read h.phase) t).0)) v))
+      | inr e ↦ rw e tt
+    ]
+
+-- whoever is w: the holder that stands, or none
+held-sound : (w : ℕ) (o : Option Holder) (u : Option Holder → Option (Reply × Shell)) → SoundTo (u None) → ((h : Holder) → o ≡ Some h → SoundTo (u (Some h))) → SoundTo (u (held_by w o))
+held-sound w None u n k = n
+held-sound w (Some h) u n k =
+    elim (cases_Bool (eqb w h.worker)) as (λ _. SoundTo (u (cond (eqb w h.worker) (Some h) None))) [
+      | inl e ↦ rw e (k h refl)
+      | inr e ↦ rw e n
+    ]
+
+phase-sound : (p : Phase) (h : Holder) (x : Shell) → x.holder ≡ Some h → IsConsistent x → IsConsistent (in_phase p h x)
+phase-sound p h x f v = record { placed = v.placed; stripes = v.stripes; writes = v.writes; main = v.main; frequency = v.frequency; left = rw f at v.left }
+
+applied-sound : (t : Task) (rest : List Task) (h : Holder) (x : Shell) → x.writes ≡ t ∷ rest → h.left ≤ 128 → IsConsistent x → IsConsistent (apply_task t record x { writes = rest; holder = Some h }).1
+applied-sound (Add i) rest h x e n v =
+    let few : suc (length rest) ≤ 128 = rw e at v.writes in
+    let p : IsPlaced x.table x.next x.queues (Add i ∷ rest) = rw e at v.placed in
+    record {
+      placed = placed-add-done x.table x.next x.queues rest i p;
+      writes = omega (arith, few);
+      stripes = v.stripes;
+      left = n;
+      main = v.main;
+      frequency = recorded-whole x.frequency i.key v.frequency;
+    }
+applied-sound (Update i) rest h x e n v =
+    let few : suc (length rest) ≤ 128 = rw e at v.writes in
+    let p : IsPlaced x.table x.next x.queues (Update i ∷ rest) = rw e at v.placed in
+    let k = hit-is-kept (protected_size x.config) i x.queues (sound-distinct x v) in
+    record {
+      placed = placed-hit x.table x.next x.queues (hit (protected_size x.config) i x.queues) rest k (placed-update-done x.table x.next x.queues rest i p);
+      writes = omega (arith, few);
+      stripes = v.stripes;
+      left = n;
+      main = omega (arith, k.main, v.main);
+      frequency = recorded-whole x.frequency i.key v.frequency;
+    }
+applied-sound (Remove i) rest h x e n v =
+    let few : suc (length rest) ≤ 128 = rw e at v.writes in
+    let p : IsPlaced x.table x.next x.queues (Remove i ∷ rest) = rw e at v.placed in
+    let c : cleared i x.queues ≡ taken i x.queues = cleared-is i x.queues (sound-distinct x v) in
+    record {
+      placed = rw c (placed-clear x.table x.next x.queues rest i p);
+      writes = omega (arith, few);
+      stripes = v.stripes;
+      left = n;
+      main = rw c (omega (arith, v.main, length-without i x.queues.probation, length-without i x.queues.protected));
+      frequency = v.frequency;
+    }
+
+write-sound : (h : Holder) (l : List Task) (x : Shell) → x.writes ≡ l → x.holder ≡ Some h → IsConsistent x → IsConsistent (drain_write h l x).1
+write-sound h [] x e f v = phase-sound Writes h x f v
+write-sound h (t ∷ rest) x e f v =
+    let n : h.left ≤ 128 = rw f at v.left in
+    elim (cases_Bool (eqb h.left 0)) as (λ _. IsConsistent (cond {A = Reply × Shell} (eqb h.left 0) (reply.Enough, in_phase Writes h x) (apply_task t (record x { writes = rest; holder = Some (worn h) }))).1) [
+      | inl g ↦ rw g (phase-sound Writes h x f v)
+      | inr g ↦ rw g (applied-sound t rest (worn h) x e (omega arith) v)
+    ]
+
+-- evictions: all but the sizes
+pub record IsLoose (x : Shell) : Type 0 where
+  pub placed : IsPlaced x.table x.next x.queues x.writes
+  pub stripes : (s : ℕ) → length (stripe_at s x.stripes) ≤ 16
+  pub writes : length x.writes ≤ 128
+  pub left : IsLeft x.holder
+  pub frequency : IsFrequency x.frequency
+
+leave-sound : (v : Item) (x : Shell) → IsLoose x → 1 ≤ times v x.queues.probation → main_length x.queues ≤ main_size x.config + 1 → IsConsistent (leave v x)
+leave-sound v x s h m = record {
+  placed = rw (unlisted-is v x.table s.placed.ascending) (placed-leave x.table x.next x.queues x.writes v (omega (arith, h)) s.placed);
+  stripes = s.stripes;
+  writes = s.writes;
+  left = s.left;
+  main = omega (arith, h, m, length-without v x.queues.probation, length-without v x.queues.protected);
+  frequency = s.frequency;
+}
+
+contest-sound : (c : Item) (o : Option Item) (x : Shell) → IsLoose x → first x.queues.probation ≡ o → 1 ≤ times c x.queues.probation → main_length x.queues ≤ main_size x.config + 1 → IsConsistent (contest c o x).1
+contest-sound c None x s e h m = absurd (none x.queues.probation e h)
+  where
+    none : (l : List Item) → first l ≡ None → 1 ≤ times c l → ⊥
+    none [] e h = omega arith
+    none (y ∷ l) e h = cc (e)
+contest-sound c (Some v) x s e h m =
+    elim (cases_Bool (same c v)) as (λ _. IsConsistent (contest c (Some v) x).1) [
+      | inl f ↦ rw f (leave-sound c x s h m)
+      | inr f ↦ rw f (elim (cases_Bool (admits x.frequency c.key v.key)) as (λ _. IsConsistent (cond {A = Reply × Shell} (admits x.frequency c.key v.key) (reply.Evicted v, leave v x) (reply.Rejected c, leave c x)).1) [
+        | inl g ↦ rw g (leave-sound v x s (first-queued v x.queues.probation e) m)
+        | inr g ↦ rw g (leave-sound c x s h m)
+      ])
+    ]
+
+from-sound : (c : Item) (x : Shell) → IsLoose x → 1 ≤ times c x.queues.probation → main_length x.queues ≤ main_size x.config + 1 → window_size x.config ≤ length x.queues.window → IsConsistent (evict_from c x).1
+from-sound c x s h m n =
+    elim (cases_Bool (nat_lt x.config.capacity (total x.queues))) as (λ _. IsConsistent (evict_from c x).1) [
+      | inl e ↦ rw e (contest-sound c (first x.queues.probation) x s refl h m)
+      | inr e ↦
+          let few : total x.queues ≤ x.config.capacity = grind (arith, nat_tests) in
+          rw e record { placed = s.placed; stripes = s.stripes; writes = s.writes; left = s.left; main = omega (arith, few, n); frequency = s.frequency }
+    ]
+
+oldest-sound : (o : Option Item) (x : Shell) → first x.queues.window ≡ o → window_size x.config < length x.queues.window → IsConsistent x → IsConsistent (evict_oldest o x).1
+oldest-sound None x e h v = v
+oldest-sound (Some c) x e h v =
+    let n : 1 ≤ times c x.queues.window = first-queued c x.queues.window e in
+    let d = sound-distinct x v c in
+    let one : queued c x.queues ≡ 1 = omega (arith, n, d) in
+    let k : IsPlaced x.table x.next (moved c Probation x.queues) x.writes = placed-same x.table x.next x.queues (moved c Probation x.queues) x.writes x.writes (λ j. rw (queued-kept j c Probation x.queues one) refl) (λ j. refl) v.placed.ordered v.placed in
+    from-sound c (shift c x) record { placed = k; stripes = v.stripes; writes = v.writes; left = v.left; frequency = v.frequency }
+    (omega (arith, times-append c (without c x.queues.probation) (c ∷ []), times-one c))
+    (omega (arith, v.main, length-without c x.queues.probation, length-without c x.queues.protected, length-append (without c x.queues.probation) (c ∷ [])))
+    (omega (arith, h, n, d, length-without c x.queues.window))
+
+evict-sound : (x : Shell) → IsConsistent x → IsConsistent (evict x).1
+evict-sound x v =
+    elim (cases_Bool (is_over x)) as (λ _. IsConsistent (evict x).1) [
+      | inl e ↦ let lt : window_size x.config < length x.queues.window = grind (arith, nat_tests) in rw e (oldest-sound (first x.queues.window) x refl lt v)
+      | inr e ↦ rw e v
+    ]
+
+end-sound : (x : Shell) → IsConsistent x → IsConsistent (end x).1
+end-sound x v =
+    elim (cases_Bool (is_over x)) as (λ _. IsConsistent (end x).1) [
+      | inl e ↦ rw e v
+      | inr e ↦ rw e record { placed = v.placed; stripes = v.stripes; writes = v.writes; main = v.main; frequency = v.frequency; left = tt }
+    ]
+
+pub perform-sound : (w : ℕ) (b : Act) (x : Shell) → IsConsistent x → SoundTo (perform w b x)
+perform-sound w (a.Look k) x v = v
+perform-sound w (a.Offer s i) x v = when-sound (is_stripe s x && nat_lt i.node x.next) (offer s i x) (λ t. offer-sound s i x (grind (arith, nat_tests, (and_parts (is_stripe s x) (nat_lt i.node x.next) t).0)) v)
+perform-sound w (a.Lose s i) x v = when-sound (is_stripe s x && nat_lt i.node x.next) (reply.Lost, x) (λ t. v)
+perform-sound w (a.Put k) x v = put-sound k x v
+perform-sound w (a.Remove k) x v = remove_at-sound k (node_of k x.table) x refl v
+perform-sound w (a.AfterRead b) x v = v
+perform-sound w a.AfterWrite x v = record { placed = v.placed; stripes = v.stripes; writes = v.writes; main = v.main; frequency = v.frequency; left = v.left }
+perform-sound w a.Begin x v = begin-sound w x.holder x v
+perform-sound w (a.DrainRead s) x v = hold_read-sound s w x.holder x v
+perform-sound w a.DrainWrite x v = held-sound w x.holder (λ o. hold_write o x) tt (λ h f. when-sound (may_write h.phase) (drain_write h x.writes x) (λ t. write-sound h x.writes x refl f v))
+perform-sound w a.Evict x v = held-sound w x.holder (λ o. hold_evict o x) tt (λ h f. evict-sound (in_phase Evictions h x) (phase-sound Evictions h x f v))
+perform-sound w a.End x v = held-sound w x.holder (λ o. hold_end o x) tt (λ h f. end-sound x v)
+
+tallied-sound : (p : Option (Reply × Shell)) → SoundTo p → SoundTo (tallied p)
+tallied-sound None v = tt
+tallied-sound (Some p) v = record { placed = v.placed; stripes = v.stripes; writes = v.writes; main = v.main; frequency = v.frequency; left = v.left }
+
+pub act-sound : (x : Shell) (s : Step) → IsConsistent x → SoundTo (act x s)
+act-sound x s v =
+    elim (cases_Bool (nat_lt x.applied 4294967296)) as (λ _. SoundTo (cond (nat_lt x.applied 4294967296) (tallied (perform s.worker s.act x)) None)) [
+      | inl e ↦ rw e (tallied-sound (perform s.worker s.act x) (perform-sound s.worker s.act x v))
+      | inr e ↦ rw e tt
+    ]
+
+-- what is queued was given a node
+pub queued-below : (i : Item) (x : Shell) → IsConsistent x → 1 ≤ queued i x.queues → i.node < x.next
+queued-below i x v h = v.placed.below i (omega (arith, v.placed.known i, h))

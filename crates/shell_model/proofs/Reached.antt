@@ -1,0 +1,71 @@
+-- Reached states, and the laws of records over them.
+use Rattle.std.proofs.Common.{◌≡◌, ℕ, Some, List, [], ◌∷◌, ◌++◌, ap, subst, ◌∙◌, sym, refl, arith}
+use Rattle.step_record.specs.History.{went, after, IsLegal}
+use Rattle.step_record.specs.declared.config.Config.{Config}
+use Rattle.step_record.specs.declared.step.Act.{Act}
+use Rattle.step_record.specs.declared.step.Step.{Step}
+use Rattle.step_record.specs.declared.step.Reply.{Reply}
+use Rattle.shell_model.specs.declared.record.ShellRecord.{ShellRecord}
+use Rattle.shell_model.specs.Shell.{Shell, act}
+use Rattle.shell_model.specs.Consistent.{IsConsistent}
+use Rattle.shell_model.specs.Records.{change_of}
+use Rattle.shell_model.specs.Laws.{Made, IsShapeOf, opened, some_end, open_began}
+use Rattle.shell_model.specs.Reached.{IsReachable, RecordLaw, LaterLaws}
+use Rattle.shell_model.proofs.Acting.{IsUndone, act-undone}
+use Rattle.shell_model.proofs.Making as k
+use Rattle.shell_model.proofs.Making.{Makes}
+use Rattle.shell_model.proofs.Histories.{Steps, stepped, after-sound}
+use Rattle.shell_model.proofs.Holding.{opened-sound, holder-law, from-none}
+
+pub reached-sound : (x : Shell) → IsReachable x → IsConsistent x
+reached-sound x r = rw r.gives (after-sound (opened x.config r.shape) r.entries (opened-sound x.config r.shape r.shape_is) r.legal)
+
+pub record-law : RecordLaw
+record-law x y s r h e =
+    let u : IsUndone (change_of s.worker s.act x) x (act x s) = act-undone x s (reached-sound x h) in
+    let v : IsUndone (change_of s.worker s.act x) x (Some (r, y)) = rw e at u in
+    let c : ShellRecord = record { reply = r; change = change_of s.worker s.act x } in
+    (record { step = v.0; reached = rw v.1 h }, v.1)
+
+pub later-laws : LaterLaws
+later-laws x es h n l = record {
+  below = λ i m. (after-sound x es (reached-sound x h) l).placed.below i (omega (arith, m));
+  holder = holder-law x es l ∙ rw n (from-none (open_began es) (some_end es) es);
+}
+
+-- a step leads from a reached state to a reached one
+
+after-append : (x : Shell) (es fs : List Made) → after act x (es ++ fs) ≡ after act (after act x es) fs
+after-append x [] fs = refl
+after-append x (e ∷ es) fs = after-append (went (act x e.step) x) es fs
+
+legal-append : (x : Shell) (es fs : List Made) → IsLegal act x es → IsLegal act (after act x es) fs → IsLegal act x (es ++ fs)
+legal-append x [] fs l m = m
+legal-append x (e ∷ es) fs l m = (l.0, legal-append (went (act x e.step) x) es fs l.1 m)
+
+config-step : (x : Shell) (w : ℕ) (b : Act) (r : Reply) (y : Shell) → Makes w x b r y → y.config ≡ x.config
+config-step x w b r y k.busy = refl
+config-step x w b r y made = refl
+
+abbrev made_of : Step → Reply → Made
+made_of s r = record { step = s; reply = r }
+
+config-kept : (x y : Shell) (s : Step) (r : Reply) → act x s ≡ Some (r, y) → y.config ≡ x.config
+config-kept x y s r e =
+    let t : Steps x (made_of s r) y = stepped x (made_of s r) y e in
+    ap (λ (z : Shell). z.config) t.is ∙ config-step x s.worker s.act r t.left t.made
+
+pub reached-on : (x y : Shell) (s : Step) (r : Reply) → IsReachable x → act x s ≡ Some (r, y) → IsReachable y
+reached-on x y s r h e =
+    let c : x.config ≡ y.config = sym (config-kept x y s r e) in
+    let one : IsLegal act x (made_of s r ∷ []) = (rw e refl, tt) in
+    let last : y ≡ after act x (made_of s r ∷ []) = rw e refl in
+    let legal : IsLegal act (opened x.config h.shape) (h.entries ++ made_of s r ∷ []) = legal-append (opened x.config h.shape) h.entries (made_of s r ∷ []) h.legal (subst (λ (z : Shell). IsLegal act z (made_of s r ∷ [])) h.gives one) in
+    let gives : y ≡ after act (opened x.config h.shape) (h.entries ++ made_of s r ∷ []) = last ∙ ap (λ (z : Shell). after act z (made_of s r ∷ [])) h.gives ∙ sym (after-append (opened x.config h.shape) h.entries (made_of s r ∷ [])) in
+    record {
+      shape = h.shape;
+      shape_is = subst (λ (d : Config). IsShapeOf d h.shape) c h.shape_is;
+      entries = h.entries ++ made_of s r ∷ [];
+      legal = subst (λ (d : Config). IsLegal act (opened d h.shape) (h.entries ++ made_of s r ∷ [])) c legal;
+      gives = gives ∙ ap (λ (d : Config). after act (opened d h.shape) (h.entries ++ made_of s r ∷ [])) c;
+    }

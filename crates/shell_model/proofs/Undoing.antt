@@ -1,0 +1,392 @@
+-- Each step's change fits what the step left, and undoes it.
+use Rattle.std.proofs.Common.{◌≡◌, ℕ, suc, zero, ◌+◌, ◌-◌, ◌<◌, ◌≤◌, Bool, true, false, cond, ◌&&◌, eqb, nat_lt, Option, Some, None, List, [], ◌∷◌, ◌++◌, length, set, ap, subst, ◌∙◌, refl, arith, inl, inr, length-append}
+use Rattle.std.proofs.lemmas.Bool.{and_parts, cases_Bool}
+use Rattle.std.proofs.lemmas.Bool.Decides.{nat_tests}
+use Rattle.std.proofs.lemmas.List.{take_at, get_or-set_same, set-set, set-get_or, length-set}
+use Rattle.step_record.specs.declared.item.Item.{Item}
+use Rattle.step_record.specs.declared.step.Act.{Act}
+use Rattle.step_record.specs.declared.step.Act.TheVariants as a
+use Rattle.step_record.specs.declared.drain.Phase.TheVariants.{Writes, Evictions}
+use Rattle.step_record.specs.declared.step.Reply.{Reply}
+use Rattle.step_record.specs.declared.step.Reply.TheVariants as reply
+use Rattle.segments.specs.declared.records.Queue.{Queue}
+use Rattle.segments.specs.declared.records.Queue.TheVariants.{Window, Probation, Protected}
+use Rattle.segments.specs.declared.records.MoveRecord.{MoveRecord}
+use Rattle.segments.specs.Items.{same, times, first}
+use Rattle.segments.specs.Queues.{Queues, place_of, pushed, moved, taken, total, IsDistinct}
+use Rattle.segments.specs.Moves.{move_record}
+use Rattle.segments.proofs.ItemLists.{same-refl, same-true}
+use Rattle.segments.proofs.MoveLaws.{Leads, move_leads, out_leads, taken-none}
+use Rattle.shell_buffers.specs.declared.task.Task.{Task}
+use Rattle.shell_buffers.specs.declared.task.Task.TheVariants.{Add, Update, Remove}
+use Rattle.shell_model.specs.declared.holder.Holder.{Holder}
+use Rattle.shell_model.specs.declared.record.UseRecord.{UseRecord}
+use Rattle.shell_model.specs.declared.record.LeaverRecord.{LeaverRecord}
+use Rattle.shell_model.specs.declared.record.Change.{Change}
+use Rattle.shell_model.specs.declared.record.Change.TheVariants.{Nothing, Offered, Removed, Passed, Evicted, Ended}
+use Rattle.shell_model.specs.Frequency.{unrecorded, admits}
+use Rattle.shell_buffers.specs.Buffers.{stripe_at, but_newest}
+use Rattle.shell_model.specs.Shell.{Shell, node_of, is_listed, protected_size, cleared_from, offer, put, put_at, removing, remove_at, begin, is_over, held_by, shift, in_phase, ended, hit_from, demote, touching, drain_read, drain_write, apply_task, contest, leave, evict_from, evict_oldest, evict, end, when, may_read, may_write, is_stripe, hold_read, hold_write, hold_evict, hold_end, perform}
+use Rattle.shell_model.specs.Records.{IsNewest, back, FitsMove, IsStay, FitsTouched, out_of, entered, IsOut, unchanged, FitsChange, second_of, hit_first, hit_second, touched_of, added_of, cleared_of, task_change, put_change, remove_change, begin_change, read_change, write_change, left_of, contest_gone, gone_of, oldest_change, evict_change, if_held, change_of}
+use Rattle.shell_model.specs.Consistent.{IsConsistent, queued, waiting, leaving, IsAscending}
+use Rattle.shell_model.proofs.Counting.{queued-moved, distinct-moved, without-placed, node_of-placed, placed-without, node_of-without, listed-times, node-listed}
+use Rattle.shell_model.proofs.Frequency.{fits_recorded, unrecorded-recorded}
+
+-- the change leads from x to y
+pub record Goes (c : Change) (x y : Shell) : Type 0 where
+  pub fits : FitsChange c y
+  pub back : unchanged c y ≡ x
+
+abbrev pub GoesTo : Change → Shell → Option (Reply × Shell) → Type 0
+GoesTo c x None = Unit {0}
+GoesTo c x (Some p) = Goes c x p.1
+
+when-goes : (c : Change) (x : Shell) (b : Bool) (p : Reply × Shell) → (b ≡ true → Goes c x p.1) → GoesTo c x (when b p)
+when-goes c x true p h = h refl
+when-goes c x false p h = tt
+
+pub but_newest-push : {A : Type 0} → (l : List A) (e : A) → but_newest (l ++ e ∷ []) ≡ l
+but_newest-push l e =
+    let n : length (l ++ e ∷ []) - 1 ≡ length l = omega (arith, length-append l (e ∷ [])) in
+    rw n (take_at l (e ∷ []) (length l) refl)
+
+pub newest-push : {A : Type 0} → (l : List A) (e : A) → IsNewest e (l ++ e ∷ [])
+newest-push l e = rw (but_newest-push l e) refl
+
+-- offers
+
+offer-goes : (s : ℕ) (i : Item) (x : Shell) → s < length x.stripes → Goes (cond (nat_lt (length (stripe_at s x.stripes)) 16) (Offered s i) Nothing) x (offer s i x).1
+offer-goes s i x h =
+    elim (cases_Bool (nat_lt (length (stripe_at s x.stripes)) 16)) as (λ _. Goes (cond (nat_lt (length (stripe_at s x.stripes)) 16) (Offered s i) Nothing) x (offer s i x).1) [
+      | inl e ↦
+          let same : stripe_at s (set x.stripes s (stripe_at s x.stripes ++ i ∷ [])) ≡ stripe_at s x.stripes ++ i ∷ [] = get_or-set_same x.stripes s (stripe_at s x.stripes ++ i ∷ []) [] h in
+          rw e record {
+            fits = (omega (arith, h, length-set x.stripes s (stripe_at s x.stripes ++ i ∷ [])), rw same (newest-push (stripe_at s x.stripes) i));
+            back = rw (same, but_newest-push (stripe_at s x.stripes) i, set-set x.stripes s (stripe_at s x.stripes ++ i ∷ []) (stripe_at s x.stripes), set-get_or x.stripes s []) refl;
+          }
+      | inr e ↦ rw e record { fits = tt; back = refl }
+    ]
+
+-- puts
+
+pub fresh-none : (x : Shell) (k : ℕ) → IsConsistent x → times record { key = k; node = x.next } x.table ≡ 0
+fresh-none x k w = let n : times record { key = k; node = x.next } x.table + leaving record { key = k; node = x.next } x.writes ≡ 0 = none (times record { key = k; node = x.next } x.table + leaving record { key = k; node = x.next } x.writes) (w.placed.below record { key = k; node = x.next }) in omega (arith, n)
+  where
+    none : (n : ℕ) → (1 ≤ n → x.next < x.next) → n ≡ 0
+    none zero f = refl
+    none (suc n) f = absurd (let no : x.next < x.next = f (omega arith) in omega arith)
+
+put_at-goes : (k : ℕ) (o : Option ℕ) (x : Shell) → node_of k x.table ≡ o → IsConsistent x → Goes (put_change k o x) x (put_at k o x).1
+put_at-goes k (Some n) x e w =
+    let i : Item = record { key = k; node = n } in
+    record { fits = newest-push x.writes (Update i); back = rw (but_newest-push x.writes (Update i)) refl }
+put_at-goes k None x e w =
+    record {
+      fits = (newest-push x.writes (Add record { key = k; node = x.next }), node_of-placed record { key = k; node = x.next } x.table e, refl);
+      back =
+          let n : x.next + 1 - 1 ≡ x.next = omega arith in
+          rw (but_newest-push x.writes (Add record { key = k; node = x.next }), without-placed record { key = k; node = x.next } x.table (fresh-none x k w), n) refl;
+    }
+
+put-goes : (k : ℕ) (x : Shell) → IsConsistent x → Goes (cond (nat_lt (length x.writes) 128) (put_change k (node_of k x.table) x) Nothing) x (put k x).1
+put-goes k x w =
+    elim (cases_Bool (nat_lt (length x.writes) 128)) as (λ _. Goes (cond (nat_lt (length x.writes) 128) (put_change k (node_of k x.table) x) Nothing) x (put k x).1) [
+      | inl e ↦ rw e (put_at-goes k (node_of k x.table) x refl w)
+      | inr e ↦ rw e record { fits = tt; back = refl }
+    ]
+
+remove_at-goes : (k : ℕ) (o : Option ℕ) (x : Shell) → node_of k x.table ≡ o → IsConsistent x → Goes (remove_change k o x) x (remove_at k o x).1
+remove_at-goes k None x e w = record { fits = tt; back = refl }
+remove_at-goes k (Some n) x e w =
+    let i : Item = record { key = k; node = n } in
+    let h : 1 ≤ times record { key = k; node = n } x.table = listed-times record { key = k; node = n } x.table (node-listed record { key = k; node = n } x.table e) in
+    elim (cases_Bool (nat_lt (length x.writes) 128)) as (λ _. Goes (cond (nat_lt (length x.writes) 128) (Removed record { key = k; node = n }) Nothing) x (cond {A = Reply × Shell} (nat_lt (length x.writes) 128) (reply.Removed n, removing record { key = k; node = n } x) (reply.WritesFull, x)).1) [
+      | inl t ↦ rw t record {
+        fits = (newest-push x.writes (Remove record { key = k; node = n }), node_of-without record { key = k; node = n } x.table w.placed.ascending h);
+        back = rw (but_newest-push x.writes (Remove record { key = k; node = n }), placed-without record { key = k; node = n } x.table w.placed.ascending h) refl;
+      }
+      | inr t ↦ rw t record { fits = tt; back = refl }
+    ]
+
+begin-goes : (w : ℕ) (o : Option Holder) (x : Shell) → x.holder ≡ o → Goes (begin_change w o x) x (begin w o x).1
+begin-goes w (Some h) x e = record { fits = tt; back = refl }
+begin-goes w None x e = record { fits = (refl, refl); back = rw (← e) refl }
+
+-- hits
+
+pub record QueuesBack (f g : Option MoveRecord) (q r : Queues) : Type 0 where
+  pub second : FitsMove g r
+  pub first : FitsMove f (back g r)
+  pub back : back f (back g r) ≡ q
+  pub stays : IsStay f × IsStay g
+
+one-back : (i : Item) (to : Queue) (q : Queues) → IsDistinct q → QueuesBack (Some (move_record i (Some to) q)) None q (moved i to q)
+one-back i to q d = let l = move_leads i to q d in record { second = tt; first = l.fits; back = l.back; stays = (refl, tt) }
+
+demote-back : (i d : Item) (q : Queues) → IsDistinct q → (o : Option Item) → QueuesBack (Some (move_record i (Some Protected) q)) (second_of 0 o (moved i Protected q)) q (demote o (moved i Protected q))
+demote-back i d q u None = one-back i Protected q u
+demote-back i d q u (Some j) =
+    let l = move_leads j Probation (moved i Protected q) (distinct-moved i Protected q u) in
+    let m = move_leads i Protected q u in
+    record { second = l.fits; first = rw l.back m.fits; back = rw l.back m.back; stays = (refl, refl) }
+
+pub hit-back : (size : ℕ) (i : Item) (q : Queues) (p : Option Queue) → IsDistinct q → QueuesBack (hit_first i p q) (hit_second size i p q) q (hit_from size i p q)
+hit-back size i q None d = record { second = tt; first = tt; back = refl; stays = (tt, tt) }
+hit-back size i q (Some Window) d = one-back i Window q d
+hit-back size i q (Some Probation) d =
+    let r : Queues = moved i Protected q in
+    elim (cases_Bool (nat_lt size (length (moved i Protected q).protected))) as (λ _. QueuesBack (Some (move_record i (Some Protected) q)) (cond (nat_lt size (length (moved i Protected q).protected)) (second_of size (first (moved i Protected q).protected) (moved i Protected q)) None) q (cond (nat_lt size (length (moved i Protected q).protected)) (demote (first (moved i Protected q).protected) (moved i Protected q)) (moved i Protected q))) [
+      | inl e ↦ rw e (demote-back i i q d (first (moved i Protected q).protected))
+      | inr e ↦ rw e (one-back i Protected q d)
+    ]
+hit-back size i q (Some Protected) d = one-back i Protected q d
+
+pub sound-distinct : (x : Shell) → IsConsistent x → IsDistinct x.queues
+sound-distinct x w j = omega (arith, w.placed.known j, w.placed.once j)
+
+-- what touching an item does besides, where y is x but for stripes, writes and holder
+pub record TouchBack (t : UseRecord) (x y : Shell) : Type 0 where
+  pub fits : FitsTouched t y
+  pub queues : back t.first (back t.second y.queues) ≡ x.queues
+  pub frequency : unrecorded t.frequency y.frequency ≡ x.frequency
+
+touch-back : (i : Item) (x : Shell) → IsConsistent x → TouchBack (touched_of i x) x (touching i x)
+touch-back i x w =
+    let b = hit-back (protected_size x.config) i x.queues (place_of i x.queues) (sound-distinct x w) in
+    record {
+      fits = record { second = b.second; first = b.first; frequency = fits_recorded x.frequency i.key w.frequency; stays = b.stays };
+      queues = b.back;
+      frequency = unrecorded-recorded x.frequency i.key w.frequency;
+    }
+
+-- reads
+
+read-goes : (s : ℕ) (l : List Item) (x : Shell) → stripe_at s x.stripes ≡ l → s < length x.stripes → IsConsistent x → Goes (read_change s l x) x (drain_read s l x).1
+read-goes s [] x e h w = record { fits = tt; back = refl }
+read-goes s (i ∷ rest) x e h w =
+    let b = touch-back i x w in
+    let same : stripe_at s (set x.stripes s rest) ≡ rest = get_or-set_same x.stripes s rest [] h in
+    let few : length (stripe_at s x.stripes) ≤ 16 = w.stripes s in
+    let few2 : suc (length rest) ≤ 16 = rw e at few in
+    let whole : set x.stripes s (i ∷ rest) ≡ x.stripes = rw (← e) (set-get_or x.stripes s []) in
+    record {
+      fits = (record { second = b.fits.second; first = b.fits.first; frequency = b.fits.frequency; stays = b.fits.stays }, omega (arith, h, length-set x.stripes s rest), rw same (omega (arith, few2)));
+      back = rw (b.queues, b.frequency, same, set-set x.stripes s rest (i ∷ rest), whole) refl;
+    }
+
+hold_read-goes : (s : ℕ) (w : ℕ) (o : Option Holder) (x : Shell) → IsConsistent x → GoesTo (read_change s (stripe_at s x.stripes) x) x (hold_read s (held_by w o) x)
+hold_read-goes s w None x v = tt
+hold_read-goes s w (Some h) x v =
+    elim (cases_Bool (eqb w h.worker)) as (λ _. GoesTo (read_change s (stripe_at s x.stripes) x) x (hold_read s (cond (eqb w h.worker) (Some h) None) x)) [
+      | inl e ↦ rw e (when-goes (read_change s (stripe_at s x.stripes) x) x (is_stripe s x && may_read h.phase) (drain_read s (stripe_at s x.stripes) x) (λ t. read-goes s (stripe_at s x.stripes) x refl (grind (arith, nat_tests, (and_parts (is_stripe s x) (may_read h.phase) t).0)) v))
+      | inr e ↦ rw e tt
+    ]
+
+-- writes
+
+pub queued-waits : (i : Item) (rest : List Task) (x : Shell) → x.writes ≡ Add i ∷ rest → IsConsistent x → queued i x.queues ≡ 0
+queued-waits i rest x e w =
+    let a : queued i x.queues + waiting i x.writes ≤ 1 = omega (arith, w.placed.known i, w.placed.once i) in
+    let b : queued i x.queues + (cond (same i i) 1 0 + waiting i rest) ≤ 1 = rw e at a in
+    let c : queued i x.queues + (1 + waiting i rest) ≤ 1 = rw (same-refl i) at b in
+    omega (arith, c)
+
+added-back : (i : Item) (rest : List Task) (x : Shell) → x.writes ≡ Add i ∷ rest → IsConsistent x → TouchBack (added_of i x) x (apply_task (Add i) x).1
+added-back i rest x e w =
+    let n : taken i x.queues ≡ x.queues = taken-none i x.queues (queued-waits i rest x e w) in
+    let m : moved i Window x.queues ≡ pushed Window i x.queues = ap (λ r. pushed Window i r) n in
+    let b = subst (λ r. QueuesBack (Some (move_record i (Some Window) x.queues)) None x.queues r) m (one-back i Window x.queues (sound-distinct x w)) in
+    record {
+      fits = record { second = tt; first = b.first; frequency = fits_recorded x.frequency i.key w.frequency; stays = b.stays };
+      queues = b.back;
+      frequency = unrecorded-recorded x.frequency i.key w.frequency;
+    }
+
+-- an item is taken out, where it is queued
+pub record ClearedBack (r : Option MoveRecord) (q s : Queues) : Type 0 where
+  pub fits : FitsMove r s
+  pub back : back r s ≡ q
+
+pub cleared-back : (i : Item) (q : Queues) (p : Option Queue) → IsDistinct q → ClearedBack (cleared_of i p q) q (cleared_from i p q)
+cleared-back i q None d = record { fits = tt; back = refl }
+cleared-back i q (Some p) d = let l = out_leads i q d in record { fits = l.fits; back = l.back }
+
+-- the holder with a task less left
+abbrev pub worn : Holder → Holder
+worn h = record { worker = h.worker; phase = Writes; left = h.left - 1 }
+
+task-goes : (t : Task) (rest : List Task) (h : Holder) (x : Shell) → x.writes ≡ t ∷ rest → x.holder ≡ Some h → 1 ≤ h.left → IsConsistent x → Goes (task_change h.phase t x) x (apply_task t record x { writes = rest; holder = Some (worn h) }).1
+task-goes (Add i) rest h x e f more w =
+    let b = added-back i rest x e w in
+    let few : suc (length rest) ≤ 128 = rw e at w.writes in
+    let left : h.left ≤ 128 = rw f at w.left in
+    let again : h.left - 1 + 1 ≡ h.left = omega arith in
+    record {
+      fits = (record { second = b.fits.second; first = b.fits.first; frequency = b.fits.frequency; stays = b.fits.stays }, omega (arith, few), refl, omega (arith, left, more));
+      back = rw (b.queues, b.frequency, again, ← e, ← f) refl;
+    }
+task-goes (Update i) rest h x e f more w =
+    let b = touch-back i x w in
+    let few : suc (length rest) ≤ 128 = rw e at w.writes in
+    let left : h.left ≤ 128 = rw f at w.left in
+    let again : h.left - 1 + 1 ≡ h.left = omega arith in
+    record {
+      fits = (record { second = b.fits.second; first = b.fits.first; frequency = b.fits.frequency; stays = b.fits.stays }, omega (arith, few), refl, omega (arith, left, more));
+      back = rw (b.queues, b.frequency, again, ← e, ← f) refl;
+    }
+task-goes (Remove i) rest h x e f more w =
+    let b = cleared-back i x.queues (place_of i x.queues) (sound-distinct x w) in
+    let few : suc (length rest) ≤ 128 = rw e at w.writes in
+    let left : h.left ≤ 128 = rw f at w.left in
+    let again : h.left - 1 + 1 ≡ h.left = omega arith in
+    record {
+      fits = (b.fits, omega (arith, few), refl, omega (arith, left, more));
+      back = rw (b.back, again, ← e, ← f) refl;
+    }
+
+write-goes : (h : Holder) (l : List Task) (x : Shell) → x.writes ≡ l → x.holder ≡ Some h → IsConsistent x → Goes (write_change h l x) x (drain_write h l x).1
+write-goes h [] x e f w = record { fits = refl; back = rw (← f) refl }
+write-goes h (t ∷ rest) x e f w =
+    elim (cases_Bool (eqb h.left 0)) as (λ _. Goes (cond (eqb h.left 0) (Passed h.phase Writes) (task_change h.phase t x)) x (cond (eqb h.left 0) (reply.Enough, in_phase Writes h x) (apply_task t (record x { writes = rest; holder = Some (worn h) }))).1) [
+      | inl g ↦ rw g record { fits = refl; back = rw (← f) refl }
+      | inr g ↦ let more : 1 ≤ h.left = grind (arith, nat_tests) in rw g (task-goes t rest h x e f more w)
+    ]
+
+if_held-goes : (f : Holder → Change) (g : Holder → Option (Reply × Shell)) (w : ℕ) (o : Option Holder) (x : Shell) (u : Option Holder → Option (Reply × Shell)) → u None ≡ None → ((h : Holder) → u (Some h) ≡ g h) → ((h : Holder) → o ≡ Some h → GoesTo (f h) x (g h)) → GoesTo (if_held f o) x (u (held_by w o))
+if_held-goes f g w None x u n s k = rw n tt
+if_held-goes f g w (Some h) x u n s k =
+    elim (cases_Bool (eqb w h.worker)) as (λ _. GoesTo (f h) x (u (cond (eqb w h.worker) (Some h) None))) [
+      | inl e ↦ rw (e, s h) (k h refl)
+      | inr e ↦ rw (e, n) tt
+    ]
+
+-- evictions
+
+pub first-queued : (i : Item) (l : List Item) → first l ≡ Some i → 1 ≤ times i l
+first-queued i [] h = absurd (cc (h))
+first-queued i (x ∷ l) h =
+    let e : x ≡ i = unsome x i h in
+    let s : same i x ≡ true = rw e (same-refl i) in
+    rw s (omega arith)
+  where
+    item_in : Item → Option Item → Item
+    item_in d None = d
+    item_in d (Some j) = j
+
+    unsome : (x i : Item) → Some x ≡ Some i → x ≡ i
+    unsome x i h = ap (item_in x) h
+
+-- an item leaves: r is its record
+pub record LeftBack (r : Option LeaverRecord) (x y : Shell) : Type 0 where
+  pub fits : FitsMove (out_of r) y.queues
+  pub queues : back (out_of r) y.queues ≡ x.queues
+  pub table : entered r y.table ≡ x.table
+  pub out : IsOut r y.table
+  pub rest : record y { queues = x.queues; table = x.table } ≡ x
+
+stay-back : (x : Shell) → LeftBack None x x
+stay-back x = record { fits = tt; queues = refl; table = refl; out = tt; rest = refl }
+
+leave-back : (v : Item) (x : Shell) → IsDistinct x.queues → IsAscending x.table → LeftBack (Some (left_of v x.table x.queues)) x (leave v x)
+leave-back v x d a =
+    let l = out_leads v x.queues d in
+    elim (cases_Bool (is_listed v x.table)) as (λ _. LeftBack (Some (left_of v x.table x.queues)) x (leave v x)) [
+      | inl e ↦ let h : 1 ≤ times v x.table = listed-times v x.table e in
+          rw e record { fits = l.fits; queues = l.back; table = placed-without v x.table a h; out = node_of-without v x.table a h; rest = refl }
+      | inr e ↦ rw e record { fits = l.fits; queues = l.back; table = refl; out = tt; rest = refl }
+    ]
+
+contest-back : (c : Item) (o : Option Item) (x : Shell) → IsDistinct x.queues → IsAscending x.table → LeftBack (contest_gone c o x.frequency x.table x.queues) x (contest c o x).1
+contest-back c None x d a = stay-back x
+contest-back c (Some v) x d a =
+    elim (cases_Bool (same c v)) as (λ _. LeftBack (cond (same c v) (Some (left_of c x.table x.queues)) (cond (admits x.frequency c.key v.key) (Some (left_of v x.table x.queues)) (Some (left_of c x.table x.queues)))) x (contest c (Some v) x).1) [
+      | inl e ↦ rw e (leave-back c x d a)
+      | inr e ↦ rw e (elim (cases_Bool (admits x.frequency c.key v.key)) as (λ _. LeftBack (cond (admits x.frequency c.key v.key) (Some (left_of v x.table x.queues)) (Some (left_of c x.table x.queues))) x (cond {A = Reply × Shell} (admits x.frequency c.key v.key) (reply.Evicted v, leave v x) (reply.Rejected c, leave c x)).1) [
+        | inl f ↦ rw f (leave-back v x d a)
+        | inr f ↦ rw f (leave-back c x d a)
+      ])
+    ]
+
+-- the candidate was queued, and goes to probation, whose items were queued all
+pub shifted-queued : (c v : Item) (x : Shell) → 1 ≤ queued c x.queues → first (moved c Probation x.queues).probation ≡ Some v → 1 ≤ queued v x.queues
+shifted-queued c v x h f =
+    let q : queued v (moved c Probation x.queues) ≡ cond (same v c) 1 (queued v x.queues) = queued-moved v c Probation x.queues in
+    let n : 1 ≤ times v (moved c Probation x.queues).probation = first-queued v (moved c Probation x.queues).probation f in
+    let m : 1 ≤ cond (same v c) 1 (queued v x.queues) = omega (arith, q, n) in
+    elim (cases_Bool (same v c)) as (λ _. 1 ≤ queued v x.queues) [
+      | inl e ↦ let s : v ≡ c = same-true v c e in rw s h
+      | inr e ↦ rw e at m
+    ]
+
+from-back : (c : Item) (x : Shell) → IsConsistent x → (y : Shell) → y ≡ shift c x → LeftBack (gone_of y.config.capacity c y.frequency y.table y.queues) y (evict_from c y).1
+from-back c x w y e =
+    let d : IsDistinct y.queues = rw e (distinct-moved c Probation x.queues (sound-distinct x w)) in
+    let t : y.table ≡ x.table = ap (λ (z : Shell). z.table) e in
+    elim (cases_Bool (nat_lt y.config.capacity (total y.queues))) as (λ _. LeftBack (cond (nat_lt y.config.capacity (total y.queues)) (contest_gone c (first y.queues.probation) y.frequency y.table y.queues) None) y (cond {A = Reply × Shell} (nat_lt y.config.capacity (total y.queues)) (contest c (first y.queues.probation) y) (reply.Shifted c, y)).1) [
+      | inl f ↦ rw f (contest-back c (first y.queues.probation) y d (rw t w.placed.ascending))
+      | inr f ↦ rw f (stay-back y)
+    ]
+
+oldest-goes : (h : Holder) (o : Option Item) (x : Shell) → x.holder ≡ Some h → IsConsistent x → Goes (oldest_change h o x) x (evict_oldest o (in_phase Evictions h x)).1
+oldest-goes h None x f w = record { fits = refl; back = rw (← f) refl }
+oldest-goes h (Some c) x f w =
+    let v : IsConsistent (in_phase Evictions h x) = record {
+      placed = w.placed;
+      stripes = w.stripes;
+      writes = w.writes;
+      left = rw f at w.left;
+      main = w.main;
+      frequency = w.frequency;
+    } in
+    let b : LeftBack (gone_of x.config.capacity c x.frequency x.table (moved c Probation x.queues)) (shift c (in_phase Evictions h x)) (evict_from c (shift c (in_phase Evictions h x))).1 = from-back c (in_phase Evictions h x) v (shift c (in_phase Evictions h x)) refl in
+    let l = move_leads c Probation x.queues (sound-distinct x w) in
+    evicted-goes h c x f (gone_of x.config.capacity c x.frequency x.table (moved c Probation x.queues)) (evict_from c (shift c (in_phase Evictions h x))).1 b l
+  where
+    holder-of : (r : Option LeaverRecord) (x y : Shell) → LeftBack r x y → y.holder ≡ x.holder
+    holder-of r x y b = ap (λ (z : Shell). z.holder) b.rest
+
+    evicted-goes : (h : Holder) (c : Item) (x : Shell) → x.holder ≡ Some h → (r : Option LeaverRecord) (z : Shell) → LeftBack r (shift c (in_phase Evictions h x)) z → Leads (move_record c (Some Probation) x.queues) x.queues (moved c Probation x.queues) → Goes (Evicted h.phase record { shift = move_record c (Some Probation) x.queues; left = r }) x z
+    evicted-goes h c x f r z b l =
+        let k : z.holder ≡ Some record { worker = h.worker; phase = Evictions; left = h.left } = holder-of r (shift c (in_phase Evictions h x)) z b in
+        let whole : record z { queues = moved c Probation x.queues; table = x.table } ≡ shift c (in_phase Evictions h x) = b.rest in
+        let all : record z { queues = x.queues; table = x.table; holder = Some h } ≡ record x { holder = Some h } = ap (λ (u : Shell). let y : Shell = record u { queues = x.queues; table = x.table; holder = Some h } in y) whole in
+        record {
+          fits = (record { left = b.fits; shift = rw b.queues l.fits; table = b.out; stays = refl }, rw k refl);
+          back = rw (b.queues, l.back, b.table, k) (all ∙ rw (← f) refl);
+        }
+
+evict-goes : (h : Holder) (x : Shell) → x.holder ≡ Some h → IsConsistent x → Goes (evict_change h x) x (evict (in_phase Evictions h x)).1
+evict-goes h x f w =
+    elim (cases_Bool (is_over x)) as (λ _. Goes (cond (is_over x) (oldest_change h (first x.queues.window) x) (Passed h.phase Evictions)) x (cond {A = Reply × Shell} (is_over x) (evict_oldest (first x.queues.window) (in_phase Evictions h x)) (reply.Fits, in_phase Evictions h x)).1) [
+      | inl e ↦ rw e (oldest-goes h (first x.queues.window) x f w)
+      | inr e ↦ rw e record { fits = refl; back = rw (← f) refl }
+    ]
+
+end-goes : (w : ℕ) (x : Shell) → GoesTo (cond (is_over x) Nothing (if_held (λ h. Ended h x.drain (ended x.drain).1) x.holder)) x (hold_end (held_by w x.holder) x)
+end-goes w x =
+    elim (cases_Bool (is_over x)) as (λ _. GoesTo (cond (is_over x) Nothing (if_held (λ h. Ended h x.drain (ended x.drain).1) x.holder)) x (hold_end (held_by w x.holder) x)) [
+      | inl e ↦ rw e (over (held_by w x.holder) e)
+      | inr e ↦ rw e (if_held-goes (λ h. Ended h x.drain (ended x.drain).1) (λ h. Some (end x)) w x.holder x (λ o. hold_end o x) refl (λ h. refl) (λ h f. rw e record { fits = (refl, refl); back = rw (← f) refl }))
+    ]
+  where
+    over : (o : Option Holder) → is_over x ≡ true → GoesTo Nothing x (hold_end o x)
+    over None e = tt
+    over (Some h) e = rw e record { fits = tt; back = refl }
+
+-- every accepted act's change leads from the state before to the state after
+pub perform-goes : (w : ℕ) (b : Act) (x : Shell) → IsConsistent x → GoesTo (change_of w b x) x (perform w b x)
+perform-goes w (a.Look k) x v = record { fits = tt; back = refl }
+perform-goes w (a.Offer s i) x v = when-goes (change_of w (a.Offer s i) x) x (is_stripe s x && nat_lt i.node x.next) (offer s i x) (λ t. offer-goes s i x (grind (arith, nat_tests, (and_parts (is_stripe s x) (nat_lt i.node x.next) t).0)))
+perform-goes w (a.Lose s i) x v = when-goes Nothing x (is_stripe s x && nat_lt i.node x.next) (reply.Lost, x) (λ t. record { fits = tt; back = refl })
+perform-goes w (a.Put k) x v = put-goes k x v
+perform-goes w (a.Remove k) x v = remove_at-goes k (node_of k x.table) x refl v
+perform-goes w (a.AfterRead b) x v = record { fits = tt; back = refl }
+perform-goes w a.AfterWrite x v = record { fits = refl; back = refl }
+perform-goes w a.Begin x v = begin-goes w x.holder x refl
+perform-goes w (a.DrainRead s) x v = hold_read-goes s w x.holder x v
+perform-goes w a.DrainWrite x v =
+    if_held-goes (λ h. write_change h x.writes x) (λ h. when (may_write h.phase) (drain_write h x.writes x)) w x.holder x (λ o. hold_write o x) refl (λ h. refl)
+    (λ h f. when-goes (write_change h x.writes x) x (may_write h.phase) (drain_write h x.writes x) (λ t. write-goes h x.writes x refl f v))
+perform-goes w a.Evict x v =
+    if_held-goes (λ h. evict_change h x) (λ h. Some (evict (in_phase Evictions h x))) w x.holder x (λ o. hold_evict o x) refl (λ h. refl) (λ h f. evict-goes h x f v)
+perform-goes w a.End x v = end-goes w x

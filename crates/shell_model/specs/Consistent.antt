@@ -1,0 +1,67 @@
+-- What holds of the shell after any steps.
+use Rattle.std.specs.Prelude.{◌≡◌, ℕ, ◌+◌, ◌<◌, ◌≤◌, cond, Option, Some, None, List, [], ◌∷◌, length}
+use Rattle.step_record.specs.declared.item.Item.{Item}
+use Rattle.admission.specs.Frequency.{IsFrequency}
+use Rattle.segments.specs.Items.{same, times}
+use Rattle.segments.specs.Queues.{Queues}
+use Rattle.shell_buffers.specs.declared.task.Task.{Task}
+use Rattle.shell_buffers.specs.declared.task.Task.TheVariants.{Add, Update, Remove}
+use Rattle.shell_buffers.specs.Buffers.{stripe_at}
+use Rattle.shell_model.specs.Shell.{Shell, main_size}
+use Rattle.shell_model.specs.declared.holder.Holder.{Holder}
+
+-- how often an Add of the item waits
+abbrev pub waiting : Item → List Task → ℕ
+waiting i [] = 0
+waiting i (Add j ∷ ts) = cond (same i j) 1 0 + waiting i ts
+waiting i (Update j ∷ ts) = waiting i ts
+waiting i (Remove j ∷ ts) = waiting i ts
+
+-- how often a Remove of the item waits
+abbrev pub leaving : Item → List Task → ℕ
+leaving i [] = 0
+leaving i (Add j ∷ ts) = leaving i ts
+leaving i (Update j ∷ ts) = leaving i ts
+leaving i (Remove j ∷ ts) = cond (same i j) 1 0 + leaving i ts
+
+-- behind a Remove no Add of its item waits
+abbrev pub IsOrdered : List Task → Type 0
+IsOrdered [] = Unit {0}
+IsOrdered (Add j ∷ ts) = IsOrdered ts
+IsOrdered (Update j ∷ ts) = IsOrdered ts
+IsOrdered (Remove j ∷ ts) = (waiting j ts ≡ 0) × IsOrdered ts
+
+abbrev pub queued : Item → Queues → ℕ
+queued i q = times i q.window + times i q.probation + times i q.protected
+
+abbrev pub AreAbove : ℕ → List Item → Type 0
+AreAbove k [] = Unit {0}
+AreAbove k (x ∷ t) = (k < x.key) × AreAbove k t
+
+abbrev pub IsAscending : List Item → Type 0
+IsAscending [] = Unit {0}
+IsAscending (x ∷ t) = AreAbove x.key t × IsAscending t
+
+abbrev pub IsLeft : Option Holder → Type 0
+IsLeft None = Unit {0}
+IsLeft (Some h) = h.left ≤ 128
+
+-- an item of the table is queued or waits for it, and what is queued or waits is in the table or is to be removed: each once
+pub record IsPlaced (table : List Item) (next : ℕ) (queues : Queues) (writes : List Task) : Type 0 where
+  pub stands : (i : Item) → times i table ≤ queued i queues + waiting i writes
+  pub known : (i : Item) → queued i queues + waiting i writes ≤ times i table + leaving i writes
+  pub once : (i : Item) → times i table + leaving i writes ≤ 1
+  pub below : (i : Item) → 1 ≤ times i table + leaving i writes → i.node < next
+  pub ascending : IsAscending table
+  pub ordered : IsOrdered writes
+
+abbrev pub main_length : Queues → ℕ
+main_length q = length q.probation + length q.protected
+
+pub record IsConsistent (x : Shell) : Type 0 where
+  pub placed : IsPlaced x.table x.next x.queues x.writes
+  pub stripes : (s : ℕ) → length (stripe_at s x.stripes) ≤ 16
+  pub writes : length x.writes ≤ 128
+  pub left : IsLeft x.holder
+  pub main : main_length x.queues ≤ main_size x.config
+  pub frequency : IsFrequency x.frequency

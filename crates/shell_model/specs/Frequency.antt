@@ -1,0 +1,22 @@
+-- The shell's frequency, as admission has it: one key more is recorded, and that is undone from its record. The names
+-- stand for admission's, so that what is said of the shell need not look into counters and bits.
+use Rattle.std.specs.Prelude.{ℕ, nat_lt, Bool}
+use Rattle.admission.specs.declared.freq_record.FreqRecord.{FreqRecord}
+use Rattle.admission.specs.Frequency.{FrequencyData, estimate, recorded as recorded_key}
+use Rattle.admission.specs.FreqRecord.{record_of as key_record, undone, FitsRecord}
+
+unfoldable pub recorded : FrequencyData → ℕ → FrequencyData
+recorded f k = recorded_key k f
+
+-- the candidate came more often than the victim; a tie rejects (TinyLFU, 2017)
+unfoldable pub admits : FrequencyData → ℕ → ℕ → Bool
+admits f candidate victim = nat_lt (estimate victim f) (estimate candidate f)
+
+unfoldable pub record_of : FrequencyData → ℕ → FreqRecord
+record_of f k = key_record k f
+
+unfoldable pub unrecorded : FreqRecord → FrequencyData → FrequencyData
+unrecorded r f = undone r f
+
+unfoldable pub FitsFrequency : FreqRecord → FrequencyData → Type 0
+FitsFrequency r f = FitsRecord r f

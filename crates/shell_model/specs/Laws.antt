@@ -1,0 +1,189 @@
+-- What the replies so far say of the shell's state.
+use Rattle.std.specs.Prelude.{◌≡◌, ℕ, ◌+◌, ◌<◌, ◌≤◌, ◌↔◌, Bool, true, false, cond, eqb, Option, Some, None, List, [], ◌∷◌, ◌++◌, drop, replicate}
+use Rattle.step_record.specs.declared.item.Item.{Item}
+use Rattle.step_record.specs.declared.config.Config.{Config}
+use Rattle.step_record.specs.declared.step.Act.{Act}
+use Rattle.step_record.specs.declared.step.Act.TheVariants.{Offer, Put, Remove as RemoveKey, DrainRead, DrainWrite, Evict}
+use Rattle.step_record.specs.declared.step.Step.{Step}
+use Rattle.step_record.specs.declared.entry.Entry.{Entry}
+use Rattle.step_record.specs.declared.drain.Phase.{Phase}
+use Rattle.step_record.specs.declared.drain.Phase.TheVariants.{Reads, Writes, Evictions}
+use Rattle.step_record.specs.declared.drain.Drain.TheVariants as drain
+use Rattle.step_record.specs.declared.step.Reply.{Reply}
+use Rattle.step_record.specs.declared.step.Reply.TheVariants.{Kept, Present, Added, Removed, Drained, Applied, Cleared, Evicted, Rejected, Idle, Again}
+use Rattle.step_record.specs.History.{after, IsLegal}
+use Rattle.segments.specs.Items.{times}
+use Rattle.segments.specs.Queues.{empty}
+use Rattle.admission.specs.Shape.{Shape, IsShape}
+use Rattle.admission.specs.Frequency.{frequency_of}
+use Rattle.shell_model.specs.declared.stats.ShellStats.{ShellStats}
+use Rattle.shell_buffers.specs.declared.task.Task.{Task}
+use Rattle.shell_buffers.specs.declared.task.Task.TheVariants.{Add, Update, Remove}
+use Rattle.shell_model.specs.declared.holder.Holder.{Holder}
+use Rattle.shell_model.specs.ShellStats.{one, is_hit, is_miss, is_kept, is_full, is_lost, is_added, is_updated, is_refused, is_eviction, is_rejection, is_begun, is_busy, is_removed}
+use Rattle.shell_buffers.specs.Buffers.{stripe_at}
+use Rattle.shell_model.specs.Shell.{Shell, main_size, act}
+use Rattle.shell_model.specs.Consistent.{queued, waiting, leaving, main_length}
+
+-- a step with its reply
+abbrev pub Made : Type 0
+Made = Entry Step Reply
+
+-- what each step gives, in order
+abbrev pub collect : {A : Type 0} → (Act → Reply → List A) → List Made → List A
+collect f [] = []
+collect f (e ∷ es) = f e.step.act e.reply ++ collect f es
+
+-- how much the steps give together
+abbrev pub tally : (Act → Reply → ℕ) → List Made → ℕ
+tally f [] = 0
+tally f (e ∷ es) = f e.step.act e.reply + tally f es
+
+-- the tables of the frequency are those of the configuration
+pub record IsShapeOf (c : Config) (s : Shape) : Type 0 where
+  pub is : IsShape s
+  pub capacity : s.capacity ≡ c.capacity
+  pub spread : s.spread ≡ c.spread
+
+-- the empty state: a shell just opened, of which nothing was asked
+abbrev pub opened : Config → Shape → Shell
+opened c s = record {
+  config = c;
+  table = [];
+  next = 0;
+  queues = empty;
+  stripes = replicate c.stripes [];
+  writes = [];
+  frequency = frequency_of s [];
+  drain = drain.Idle;
+  holder = None;
+  applied = 0;
+  stats = record { hits = 0; misses = 0; kept = 0; full = 0; lost = 0; added = 0; updated = 0; refused = 0; evictions = 0; rejections = 0; begun = 0; busy = 0; removed = 0 };
+}
+
+-- the items that steps put into read buffer k, and how many they took out
+
+abbrev pub offered : ℕ → Act → Reply → List Item
+offered k (Offer s i) Kept = cond (eqb k s) (i ∷ []) []
+offered k b r = []
+
+abbrev pub drained : ℕ → Act → Reply → ℕ
+drained k (DrainRead s) (Drained i) = one (eqb k s)
+drained k b r = 0
+
+-- the tasks that steps put into the write queue, and how many they took out
+
+abbrev pub asked : Act → Reply → List Task
+asked (Put k) (Added n) = Add record { key = k; node = n } ∷ []
+asked (Put k) (Present n) = Update record { key = k; node = n } ∷ []
+asked (RemoveKey k) (Removed n) = Remove record { key = k; node = n } ∷ []
+asked b r = []
+
+abbrev pub done : Act → Reply → ℕ
+done b (Applied i) = 1
+done b (Cleared i) = 1
+done b r = 0
+
+-- the items that steps added to the table, evicted or rejected, and removed
+
+abbrev pub added : Act → Reply → List Item
+added (Put k) (Added n) = record { key = k; node = n } ∷ []
+added b r = []
+
+abbrev pub gone : Act → Reply → List Item
+gone b (Evicted i) = i ∷ []
+gone b (Rejected i) = i ∷ []
+gone b r = []
+
+abbrev pub removed : Act → Reply → List Item
+removed (RemoveKey k) (Removed n) = record { key = k; node = n } ∷ []
+removed b r = []
+
+-- the keys that steps counted in the frequency
+
+abbrev pub keyed : Act → Reply → List ℕ
+keyed b (Drained i) = i.key ∷ []
+keyed b (Applied i) = i.key ∷ []
+keyed b r = []
+
+-- the holder
+
+abbrev pub is_ending : Reply → Bool
+is_ending Idle = true
+is_ending Again = true
+is_ending r = false
+
+abbrev pub is_drain_write : Act → Bool
+is_drain_write DrainWrite = true
+is_drain_write b = false
+
+abbrev pub is_evict : Act → Bool
+is_evict Evict = true
+is_evict b = false
+
+abbrev pub some_end : List Made → Bool
+some_end [] = false
+some_end (e ∷ es) = cond (is_ending e.reply) true (some_end es)
+
+abbrev pub some_act : (Act → Bool) → List Made → Bool
+some_act p [] = false
+some_act p (e ∷ es) = cond (p e.step.act) true (some_act p es)
+
+-- the phase, from those that came since
+abbrev pub phase_after : Phase → List Made → Phase
+phase_after p es = cond (some_act is_evict es) Evictions (cond (some_act is_drain_write es) Writes p)
+
+-- the worker whose Began is the last that no Idle or Again follows, and what came since
+abbrev pub open_from : Made → List Made → Option (ℕ × List Made) → Option (ℕ × List Made)
+open_from e es (Some p) = Some p
+open_from e es None = cond (is_begun e.reply) (cond (some_end es) None (Some (e.step.worker, es))) None
+
+abbrev pub open_began : List Made → Option (ℕ × List Made)
+open_began [] = None
+open_began (e ∷ es) = open_from e es (open_began es)
+
+abbrev pub seat : Holder → ℕ × Phase
+seat h = (h.worker, h.phase)
+
+abbrev pub seat_of : Option Holder → Option (ℕ × Phase)
+seat_of None = None
+seat_of (Some h) = Some (seat h)
+
+abbrev pub seat_from : Option (ℕ × List Made) → Option (ℕ × Phase)
+seat_from None = None
+seat_from (Some p) = Some (p.0, phase_after Reads p.1)
+
+-- the laws
+
+-- each statistic is the number of the replies that it counts
+pub record AreReplies (s : ShellStats) (es : List Made) : Type 0 where
+  pub hits : s.hits ≡ tally (λ b r. one (is_hit r)) es
+  pub misses : s.misses ≡ tally (λ b r. one (is_miss r)) es
+  pub kept : s.kept ≡ tally (λ b r. one (is_kept r)) es
+  pub full : s.full ≡ tally (λ b r. one (is_full r)) es
+  pub lost : s.lost ≡ tally (λ b r. one (is_lost r)) es
+  pub added : s.added ≡ tally (λ b r. one (is_added r)) es
+  pub updated : s.updated ≡ tally (λ b r. one (is_updated r)) es
+  pub refused : s.refused ≡ tally (λ b r. one (is_refused r)) es
+  pub evictions : s.evictions ≡ tally (λ b r. one (is_eviction r)) es
+  pub rejections : s.rejections ≡ tally (λ b r. one (is_rejection r)) es
+  pub begun : s.begun ≡ tally (λ b r. one (is_begun r)) es
+  pub busy : s.busy ≡ tally (λ b r. one (is_busy r)) es
+  pub removed : s.removed ≡ tally (λ b r. one (is_removed r)) es
+
+-- after the entries, from the empty state, the state is x
+pub record IsHistory (s : Shape) (es : List Made) (x : Shell) : Type 0 where
+  pub stripes : (k : ℕ) → stripe_at k x.stripes ≡ drop (tally (drained k) es) (collect (offered k) es)
+  pub writes : x.writes ≡ drop (tally done es) (collect asked es)
+  pub stats : AreReplies x.stats es
+  pub table : (i : Item) → (1 ≤ times i x.table) ↔ ((1 ≤ times i (collect added es)) × (times i (collect gone es) ≡ 0) × (times i (collect removed es) ≡ 0))
+  pub stands : (i : Item) → 1 ≤ times i x.table → (queued i x.queues + waiting i x.writes ≡ 1) × (leaving i x.writes ≡ 0)
+  pub others : (i : Item) → times i x.table ≡ 0 → 1 ≤ queued i x.queues + waiting i x.writes → leaving i x.writes ≡ 1
+  pub behind : (i : Item) (before rest : List Task) → x.writes ≡ before ++ Add i ∷ rest → leaving i before ≡ 0
+  pub main : main_length x.queues ≤ main_size x.config
+  pub frequency : x.frequency ≡ frequency_of s (collect keyed es)
+  pub below : (i : Item) → 1 ≤ times i x.table → i.node < x.next
+  pub holder : seat_of x.holder ≡ seat_from (open_began es)
+
+abbrev pub HistoryLaws : Type 0
+HistoryLaws = (c : Config) (s : Shape) (es : List Made) → IsShapeOf c s → IsLegal act (opened c s) es → IsHistory s es (after act (opened c s) es)

@@ -1,0 +1,7 @@
+pub mod Frequency
+pub mod ShellStats
+pub mod Shell
+pub mod Records
+pub mod Consistent
+pub mod Laws
+pub mod Reached

@@ -1,0 +1,61 @@
+-- The states that steps lead to from an opened shell, and where a record of the shell fits.
+use Rattle.std.specs.Prelude.{◌≡◌, ℕ, ◌<◌, ◌≤◌, false, Option, Some, None, List}
+use Rattle.step_record.specs.History.{after, IsLegal}
+use Rattle.step_record.specs.declared.step.Step.{Step}
+use Rattle.step_record.specs.declared.step.Reply.{Reply}
+use Rattle.step_record.specs.declared.step.Reply.TheVariants.{Began}
+use Rattle.shell_model.specs.declared.holder.Holder.{Holder}
+use Rattle.admission.specs.Shape.{Shape}
+use Rattle.shell_model.specs.declared.record.ShellRecord.{ShellRecord}
+use Rattle.shell_model.specs.ShellStats.{AreAtMost}
+use Rattle.shell_model.specs.Shell.{Shell, act}
+use Rattle.shell_model.specs.Records.{undone_step, FitsStep, change_of}
+use Rattle.shell_model.specs.Laws.{Made, IsShapeOf, opened, is_ending, seat_of, seat_from, open_began}
+use Rattle.step_record.specs.declared.item.Item.{Item}
+use Rattle.segments.specs.Items.{times}
+
+pub record IsReachable (x : Shell) : Type 0 where
+  pub shape : Shape
+  pub shape_is : IsShapeOf x.config shape
+  pub entries : List Made
+  pub legal : IsLegal act (opened x.config shape) entries
+  pub gives : x ≡ after act (opened x.config shape) entries
+
+pub record ShellFits (r : ShellRecord) (x : Shell) : Type 0 where
+  pub step : FitsStep r x
+  pub reached : IsReachable (undone_step r x)
+
+-- a step's record fits what the step left, and undoes it
+abbrev pub RecordLaw : Type 0
+RecordLaw = (x y : Shell) (s : Step) (r : Reply) → IsReachable x → act x s ≡ Some (r, y)
+    → let c : ShellRecord = record { reply = r; change = change_of s.worker s.act x } in ShellFits c y × (undone_step c y ≡ x)
+
+-- from any state that a shell stands for and that no one holds
+pub record IsLaterHistory (es : List Made) (y : Shell) : Type 0 where
+  pub below : (i : Item) → 1 ≤ times i y.table → i.node < y.next
+  pub holder : seat_of y.holder ≡ seat_from (open_began es)
+
+abbrev pub LaterLaws : Type 0
+LaterLaws = (x : Shell) (es : List Made) → IsReachable x → x.holder ≡ None → IsLegal act x es → IsLaterHistory es (after act x es)
+
+-- no count passes the number of applied steps, which has a limit
+pub record IsBounded (x : Shell) : Type 0 where
+  pub next : x.next ≤ x.applied
+  pub counts : AreAtMost x.applied x.stats
+  pub halvings : x.frequency.halvings ≤ x.applied
+  pub applied : x.applied ≤ 4294967296
+
+abbrev pub BoundLaw : Type 0
+BoundLaw = (x : Shell) → IsReachable x → IsBounded x
+
+-- the worker that holds the maintenance
+abbrev pub worker_of : Option Holder → Option ℕ
+worker_of None = None
+worker_of (Some h) = Some h.worker
+
+-- a worker holds the maintenance from the step that is answered Began on, until a step of its own is answered Idle or
+-- Again, whatever the others do meanwhile
+pub record HoldLaws : Type 0 where
+  pub begins : (x y : Shell) (s : Step) → act x s ≡ Some (Began, y) → worker_of y.holder ≡ Some s.worker
+  pub holds : (x y : Shell) (s : Step) (r : Reply) (w : ℕ) → worker_of x.holder ≡ Some w → act x s ≡ Some (r, y)
+      → (s.worker ≡ w → is_ending r ≡ false) → worker_of y.holder ≡ Some w

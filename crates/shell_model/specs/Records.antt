@@ -1,0 +1,251 @@
+-- The records of steps, how a record undoes its step, and where it fits.
+use Rattle.std.specs.Prelude.{◌≡◌, ℕ, ◌+◌, ◌-◌, ◌<◌, ◌≤◌, nat_lt, Bool, true, false, cond, eqb, Option, Some, None, List, [], ◌∷◌, ◌++◌, length, take, set}
+use Rattle.step_record.specs.declared.item.Item.{Item}
+use Rattle.step_record.specs.declared.step.Act.{Act}
+use Rattle.step_record.specs.declared.step.Act.TheVariants as a
+use Rattle.step_record.specs.declared.drain.Drain.TheVariants.{ToIdle}
+use Rattle.step_record.specs.declared.drain.Phase.{Phase}
+use Rattle.step_record.specs.declared.drain.Phase.TheVariants.{Reads, Writes, Evictions}
+use Rattle.segments.specs.declared.records.Queue.{Queue}
+use Rattle.segments.specs.declared.records.Queue.TheVariants.{Window, Probation, Protected}
+use Rattle.segments.specs.declared.records.MoveRecord.{MoveRecord}
+use Rattle.segments.specs.Items.{same, without, first}
+use Rattle.segments.specs.Queues.{Queues, place_of, moved, total}
+use Rattle.segments.specs.Moves.{move_record, undone, Fits, needed}
+use Rattle.admission.specs.Frequency.{FrequencyData}
+use Rattle.shell_buffers.specs.declared.task.Task.{Task}
+use Rattle.shell_buffers.specs.declared.task.Task.TheVariants.{Add, Update, Remove}
+use Rattle.admission.specs.FreqRecord.{size_of}
+use Rattle.shell_model.specs.declared.holder.Holder.{Holder}
+use Rattle.shell_model.specs.declared.record.UseRecord.{UseRecord}
+use Rattle.shell_model.specs.declared.record.LeaverRecord.{LeaverRecord}
+use Rattle.shell_model.specs.declared.record.EvictionRecord.{EvictionRecord}
+use Rattle.shell_model.specs.declared.record.ShellRecord.{ShellRecord}
+use Rattle.shell_model.specs.declared.record.Change.{Change}
+use Rattle.shell_model.specs.declared.record.Change.TheVariants.{Nothing, Offered, Updated, Added, Removed, Requested, Began, Read, Passed, Applied, Cleared, Evicted, Ended}
+use Rattle.shell_model.specs.Frequency.{record_of, unrecorded, FitsFrequency, admits}
+use Rattle.shell_model.specs.ShellStats.{uncounted, IsCounted}
+use Rattle.shell_buffers.specs.Buffers.{stripe_at, but_newest}
+use Rattle.shell_model.specs.Shell.{Shell, node_of, placed, is_listed, protected_size, after_write, is_over, ended}
+
+-- newest in l: what stands last
+abbrev pub IsNewest : {A : Type 0} → A → List A → Type 0
+IsNewest a l = l ≡ but_newest l ++ a ∷ []
+
+-- parts
+
+abbrev pub back : Option MoveRecord → Queues → Queues
+back None q = q
+back (Some r) q = undone r q
+
+abbrev pub FitsMove : Option MoveRecord → Queues → Type 0
+FitsMove None q = Unit {0}
+FitsMove (Some r) q = Fits r q
+
+-- the item did not go out, so that putting it back takes no room
+abbrev pub IsStay : Option MoveRecord → Type 0
+IsStay None = Unit {0}
+IsStay (Some r) = needed r.to ≡ 0
+
+abbrev pub untouched : UseRecord → Shell → Shell
+untouched t x = record x { queues = back t.first (back t.second x.queues); frequency = unrecorded t.frequency x.frequency }
+
+pub record FitsTouched (t : UseRecord) (x : Shell) : Type 0 where
+  pub second : FitsMove t.second x.queues
+  pub first : FitsMove t.first (back t.second x.queues)
+  pub frequency : FitsFrequency t.frequency x.frequency
+  pub stays : IsStay t.first × IsStay t.second
+
+abbrev pub rephased : Phase → Option Holder → Option Holder
+rephased p None = None
+rephased p (Some h) = Some record { worker = h.worker; phase = p; left = h.left }
+
+-- the phase as before, and a task more left
+abbrev pub refilled : Phase → Option Holder → Option Holder
+refilled p None = None
+refilled p (Some h) = Some record { worker = h.worker; phase = p; left = h.left + 1 }
+
+abbrev pub IsInPhase : Phase → Option Holder → Type 0
+IsInPhase p None = ⊥
+IsInPhase p (Some h) = h.phase ≡ p
+
+abbrev pub HasLeft : Option Holder → Type 0
+HasLeft None = ⊥
+HasLeft (Some h) = h.left < 128
+
+abbrev pub out_of : Option LeaverRecord → Option MoveRecord
+out_of None = None
+out_of (Some l) = Some l.out
+
+-- back in the table, where it was listed
+abbrev pub listed : Bool → Item → List Item → List Item
+listed true i t = placed i t
+listed false i t = t
+
+abbrev pub entered : Option LeaverRecord → List Item → List Item
+entered None t = t
+entered (Some l) t = listed l.listed l.out.item t
+
+-- the table has room for the item's key, where it was listed
+abbrev pub IsFree : Bool → Item → List Item → Type 0
+IsFree true i t = node_of i.key t ≡ None
+IsFree false i t = Unit {0}
+
+abbrev pub IsOut : Option LeaverRecord → List Item → Type 0
+IsOut None t = Unit {0}
+IsOut (Some l) t = IsFree l.listed l.out.item t
+
+abbrev pub ungone : EvictionRecord → Shell → Shell
+ungone g x = record x { queues = undone g.shift (back (out_of g.left) x.queues); table = entered g.left x.table }
+
+pub record FitsGone (g : EvictionRecord) (x : Shell) : Type 0 where
+  pub left : FitsMove (out_of g.left) x.queues
+  pub shift : Fits g.shift (back (out_of g.left) x.queues)
+  pub table : IsOut g.left x.table
+  pub stays : needed g.shift.to ≡ 0
+
+-- changes
+
+abbrev pub unchanged : Change → Shell → Shell
+unchanged Nothing x = x
+unchanged (Offered s i) x = record x { stripes = set x.stripes s (but_newest (stripe_at s x.stripes)) }
+unchanged (Updated i) x = record x { writes = but_newest x.writes }
+unchanged (Added i) x = record x { writes = but_newest x.writes; table = without i x.table; next = x.next - 1 }
+unchanged (Removed i) x = record x { writes = but_newest x.writes; table = placed i x.table }
+unchanged (Requested before now) x = record x { drain = before }
+unchanged (Began w before) x = record x { drain = before; holder = None }
+unchanged (Read s i t) x = let y = untouched t x in record y { stripes = set x.stripes s (i ∷ stripe_at s x.stripes) }
+unchanged (Passed before now) x = record x { holder = rephased before x.holder }
+unchanged (Applied before task t) x = let y = untouched t x in record y { writes = task ∷ x.writes; holder = refilled before x.holder }
+unchanged (Cleared before i r) x = record x { queues = back r x.queues; writes = Remove i ∷ x.writes; holder = refilled before x.holder }
+unchanged (Evicted before g) x = let y = ungone g x in record y { holder = rephased before x.holder }
+unchanged (Ended h before now) x = record x { drain = before; holder = Some h }
+
+abbrev pub FitsChange : Change → Shell → Type 0
+FitsChange Nothing x = Unit {0}
+FitsChange (Offered s i) x = (s < length x.stripes) × IsNewest i (stripe_at s x.stripes)
+FitsChange (Updated i) x = IsNewest (Update i) x.writes
+FitsChange (Added i) x = IsNewest (Add i) x.writes × (node_of i.key x.table ≡ Some i.node) × (x.next ≡ i.node + 1)
+FitsChange (Removed i) x = IsNewest (Remove i) x.writes × (node_of i.key x.table ≡ None)
+FitsChange (Requested before now) x = x.drain ≡ now
+FitsChange (Began w before) x = (x.drain ≡ ToIdle) × (x.holder ≡ Some record { worker = w; phase = Reads; left = 128 })
+FitsChange (Read s i t) x = FitsTouched t x × (s < length x.stripes) × (length (stripe_at s x.stripes) < 16)
+FitsChange (Passed before now) x = IsInPhase now x.holder
+FitsChange (Applied before task t) x = FitsTouched t x × (length x.writes < 128) × IsInPhase Writes x.holder × HasLeft x.holder
+FitsChange (Cleared before i r) x = FitsMove r x.queues × (length x.writes < 128) × IsInPhase Writes x.holder × HasLeft x.holder
+FitsChange (Evicted before g) x = FitsGone g x × IsInPhase Evictions x.holder
+FitsChange (Ended h before now) x = (x.drain ≡ now) × (x.holder ≡ None)
+
+abbrev pub undone_step : ShellRecord → Shell → Shell
+undone_step r x = let y = unchanged r.change x in record y { stats = uncounted r.reply x.stats; applied = x.applied - 1 }
+
+pub record FitsStep (r : ShellRecord) (x : Shell) : Type 0 where
+  pub stats : IsCounted r.reply x.stats
+  pub applied : 1 ≤ x.applied
+  pub change : FitsChange r.change x
+
+-- the change that a step makes to x
+
+abbrev pub second_of : ℕ → Option Item → Queues → Option MoveRecord
+second_of size None q = None
+second_of size (Some i) q = Some (move_record i (Some Probation) q)
+
+abbrev pub demotion : ℕ → Queues → Option MoveRecord
+demotion size q = cond (nat_lt size (length q.protected)) (second_of size (first q.protected) q) None
+
+abbrev pub hit_first : Item → Option Queue → Queues → Option MoveRecord
+hit_first i None q = None
+hit_first i (Some Window) q = Some (move_record i (Some Window) q)
+hit_first i (Some Probation) q = Some (move_record i (Some Protected) q)
+hit_first i (Some Protected) q = Some (move_record i (Some Protected) q)
+
+abbrev pub hit_second : ℕ → Item → Option Queue → Queues → Option MoveRecord
+hit_second size i None q = None
+hit_second size i (Some Window) q = None
+hit_second size i (Some Probation) q = demotion size (moved i Protected q)
+hit_second size i (Some Protected) q = None
+
+abbrev pub touched_of : Item → Shell → UseRecord
+touched_of i x = record {
+  frequency = record_of x.frequency i.key;
+  first = hit_first i (place_of i x.queues) x.queues;
+  second = hit_second (protected_size x.config) i (place_of i x.queues) x.queues;
+}
+
+abbrev pub added_of : Item → Shell → UseRecord
+added_of i x = record { frequency = record_of x.frequency i.key; first = Some (move_record i (Some Window) x.queues); second = None }
+
+abbrev pub cleared_of : Item → Option Queue → Queues → Option MoveRecord
+cleared_of i None q = None
+cleared_of i (Some p) q = Some (move_record i None q)
+
+abbrev pub task_change : Phase → Task → Shell → Change
+task_change before (Add i) x = Applied before (Add i) (added_of i x)
+task_change before (Update i) x = Applied before (Update i) (touched_of i x)
+task_change before (Remove i) x = Cleared before i (cleared_of i (place_of i x.queues) x.queues)
+
+abbrev pub put_change : ℕ → Option ℕ → Shell → Change
+put_change k (Some n) x = Updated record { key = k; node = n }
+put_change k None x = Added record { key = k; node = x.next }
+
+abbrev pub remove_change : ℕ → Option ℕ → Shell → Change
+remove_change k None x = Nothing
+remove_change k (Some n) x = cond (nat_lt (length x.writes) 128) (Removed record { key = k; node = n }) Nothing
+
+abbrev pub begin_change : ℕ → Option Holder → Shell → Change
+begin_change w (Some h) x = Nothing
+begin_change w None x = Began w x.drain
+
+abbrev pub read_change : ℕ → List Item → Shell → Change
+read_change s [] x = Nothing
+read_change s (i ∷ rest) x = Read s i (touched_of i x)
+
+abbrev pub write_change : Holder → List Task → Shell → Change
+write_change h [] x = Passed h.phase Writes
+write_change h (t ∷ rest) x = cond (eqb h.left 0) (Passed h.phase Writes) (task_change h.phase t x)
+
+abbrev pub left_of : Item → List Item → Queues → LeaverRecord
+left_of v t q = record { out = move_record v None q; listed = is_listed v t }
+
+abbrev pub contest_gone : Item → Option Item → FrequencyData → List Item → Queues → Option LeaverRecord
+contest_gone c None f t q = None
+contest_gone c (Some v) f t q = cond (same c v) (Some (left_of c t q)) (cond (admits f c.key v.key) (Some (left_of v t q)) (Some (left_of c t q)))
+
+-- q is the queues with the candidate in probation
+abbrev pub gone_of : ℕ → Item → FrequencyData → List Item → Queues → Option LeaverRecord
+gone_of capacity c f t q = cond (nat_lt capacity (total q)) (contest_gone c (first q.probation) f t q) None
+
+abbrev pub oldest_change : Holder → Option Item → Shell → Change
+oldest_change h None x = Passed h.phase Evictions
+oldest_change h (Some c) x = Evicted h.phase record { shift = move_record c (Some Probation) x.queues; left = gone_of x.config.capacity c x.frequency x.table (moved c Probation x.queues) }
+
+abbrev pub evict_change : Holder → Shell → Change
+evict_change h x = cond (is_over x) (oldest_change h (first x.queues.window) x) (Passed h.phase Evictions)
+
+abbrev pub if_held : (Holder → Change) → Option Holder → Change
+if_held f None = Nothing
+if_held f (Some h) = f h
+
+abbrev pub change_of : ℕ → Act → Shell → Change
+change_of w (a.Look k) x = Nothing
+change_of w (a.Offer s i) x = cond (nat_lt (length (stripe_at s x.stripes)) 16) (Offered s i) Nothing
+change_of w (a.Lose s i) x = Nothing
+change_of w (a.Put k) x = cond (nat_lt (length x.writes) 128) (put_change k (node_of k x.table) x) Nothing
+change_of w (a.Remove k) x = remove_change k (node_of k x.table) x
+change_of w (a.AfterRead b) x = Nothing
+change_of w a.AfterWrite x = Requested x.drain (after_write x.drain).1
+change_of w a.Begin x = begin_change w x.holder x
+change_of w (a.DrainRead s) x = read_change s (stripe_at s x.stripes) x
+change_of w a.DrainWrite x = if_held (λ h. write_change h x.writes x) x.holder
+change_of w a.Evict x = if_held (λ h. evict_change h x) x.holder
+change_of w a.End x = cond (is_over x) Nothing (if_held (λ h. Ended h x.drain (ended x.drain).1) x.holder)
+
+-- the words that the record holds in lists: those of a halving of the frequency, if any
+
+abbrev pub change_size : Change → ℕ
+change_size (Read s i u) = size_of u.frequency
+change_size (Applied before task u) = size_of u.frequency
+change_size c = 0
+
+abbrev pub record_size : ShellRecord → ℕ
+record_size r = change_size r.change

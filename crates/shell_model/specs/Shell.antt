@@ -1,0 +1,279 @@
+-- The shell's state, and what each step makes of it.
+use Rattle.std.specs.Prelude.{ℕ, ◌+◌, ◌-◌, ◌*◌, ◌/◌, nat_lt, Bool, true, false, cond, ◌&&◌, eqb, Option, Some, None, List, [], ◌∷◌, ◌++◌, length, set, get_or}
+use Rattle.step_record.specs.declared.item.Item.{Item}
+use Rattle.step_record.specs.declared.config.Config.{Config}
+use Rattle.step_record.specs.declared.step.Answer.{Answer}
+use Rattle.step_record.specs.declared.step.Answer.TheVariants as answer
+use Rattle.step_record.specs.declared.step.Act.{Act}
+use Rattle.step_record.specs.declared.step.Act.TheVariants.{Look, Offer, Lose, Put, Remove as RemoveKey, AfterRead, AfterWrite, Begin, DrainRead, DrainWrite, Evict, End}
+use Rattle.step_record.specs.declared.step.Step.{Step}
+use Rattle.step_record.specs.declared.step.Reply.{Reply}
+use Rattle.step_record.specs.declared.step.Reply.TheVariants.{Hit, Miss, Kept, Full, Lost, WritesFull, Present, Added, Removed, Absent, Go, Drain, Began, Busy, Drained, Empty, Applied, Cleared, Enough, Shifted, Evicted, Rejected, Fits, Idle, Again, NotYet}
+use Rattle.step_record.specs.declared.drain.Drain.{Drain as DrainState}
+use Rattle.step_record.specs.declared.drain.Drain.TheVariants as drain
+use Rattle.step_record.specs.declared.drain.Phase.{Phase}
+use Rattle.step_record.specs.declared.drain.Phase.TheVariants.{Reads, Writes, Evictions}
+use Rattle.segments.specs.declared.records.Queue.TheVariants.{Window, Probation, Protected}
+use Rattle.segments.specs.declared.records.Queue.{Queue}
+use Rattle.segments.specs.Items.{same, without, first}
+use Rattle.segments.specs.Queues.{Queues, place_of, pushed, taken, moved, total}
+use Rattle.admission.specs.Frequency.{FrequencyData}
+use Rattle.shell_buffers.specs.declared.task.Task.{Task}
+use Rattle.shell_buffers.specs.declared.task.Task.TheVariants.{Add, Update, Remove}
+use Rattle.shell_model.specs.declared.holder.Holder.{Holder}
+use Rattle.shell_model.specs.declared.stats.ShellStats.{ShellStats}
+use Rattle.shell_model.specs.Frequency.{recorded, admits}
+use Rattle.shell_buffers.specs.Buffers.{stripe_at}
+use Rattle.shell_model.specs.ShellStats.{counted}
+
+pub record Shell : Type 0 where
+  pub config : Config
+  pub table : List Item  -- ascending by key
+  pub next : ℕ  -- the next node number
+  pub queues : Queues
+  pub stripes : List (List Item)  -- oldest first, as the write queue
+  pub writes : List Task
+  pub frequency : FrequencyData
+  pub drain : DrainState
+  pub holder : Option Holder
+  pub stats : ShellStats
+  pub applied : ℕ  -- how many steps stand
+
+-- sizes
+
+abbrev pub main_size : Config → ℕ
+main_size c = c.capacity * c.main_percent / 100
+
+abbrev pub window_size : Config → ℕ
+window_size c = c.capacity - main_size c
+
+abbrev pub protected_size : Config → ℕ
+protected_size c = main_size c * 80 / 100
+
+-- the table
+
+abbrev pub node_of : ℕ → List Item → Option ℕ
+node_of k [] = None
+node_of k (x ∷ t) = cond (eqb k x.key) (Some x.node) (node_of k t)
+
+abbrev pub placed : Item → List Item → List Item
+placed i [] = i ∷ []
+placed i (x ∷ t) = cond (nat_lt i.key x.key) (i ∷ x ∷ t) (x ∷ placed i t)
+
+abbrev pub is_node : ℕ → Option ℕ → Bool
+is_node n None = false
+is_node n (Some m) = eqb n m
+
+-- the table gives the item's key that very node
+abbrev pub is_listed : Item → List Item → Bool
+is_listed i t = is_node i.node (node_of i.key t)
+
+-- the item leaves the table where it is listed there: a newer node of its key stays
+abbrev pub unlisted : Item → List Item → List Item
+unlisted i t = cond (is_listed i t) (without i t) t
+
+-- queues: a hit on an item, where it is queued
+
+abbrev pub demote : Option Item → Queues → Queues
+demote None q = q
+demote (Some i) q = moved i Probation q
+
+-- protected over its size gives its oldest to probation
+abbrev pub demoted : ℕ → Queues → Queues
+demoted size q = cond (nat_lt size (length q.protected)) (demote (first q.protected) q) q
+
+abbrev pub hit_from : ℕ → Item → Option Queue → Queues → Queues
+hit_from size i None q = q
+hit_from size i (Some Window) q = moved i Window q
+hit_from size i (Some Probation) q = demoted size (moved i Protected q)
+hit_from size i (Some Protected) q = moved i Protected q
+
+abbrev pub hit : ℕ → Item → Queues → Queues
+hit size i q = hit_from size i (place_of i q) q
+
+-- queues: an item is taken out, where it is queued
+
+abbrev pub cleared_from : Item → Option Queue → Queues → Queues
+cleared_from i None q = q
+cleared_from i (Some p) q = taken i q
+
+abbrev pub cleared : Item → Queues → Queues
+cleared i q = cleared_from i (place_of i q) q
+
+-- each act's reply and effect, statistics aside
+
+abbrev pub look : Option ℕ → Reply
+look (Some n) = Hit n
+look None = Miss
+
+abbrev pub offer : ℕ → Item → Shell → Reply × Shell
+offer s i x =
+    cond (nat_lt (length (stripe_at s x.stripes)) 16)
+    (Kept, record x { stripes = set x.stripes s (stripe_at s x.stripes ++ i ∷ []) })
+    (Full, x)
+
+abbrev pub put_at : ℕ → Option ℕ → Shell → Reply × Shell
+put_at k (Some n) x = (Present n, record x { writes = x.writes ++ Update record { key = k; node = n } ∷ [] })
+put_at k None x = (
+  Added x.next,
+  record x {
+    table = placed record { key = k; node = x.next } x.table;
+    next = x.next + 1;
+    writes = x.writes ++ Add record { key = k; node = x.next } ∷ [];
+  },
+)
+
+abbrev pub put : ℕ → Shell → Reply × Shell
+put k x = cond (nat_lt (length x.writes) 128) (put_at k (node_of k x.table) x) (WritesFull, x)
+
+abbrev pub removing : Item → Shell → Shell
+removing i x = record x { table = without i x.table; writes = x.writes ++ Remove i ∷ [] }
+
+abbrev pub remove_at : ℕ → Option ℕ → Shell → Reply × Shell
+remove_at k None x = (Absent, x)
+remove_at k (Some n) x = cond (nat_lt (length x.writes) 128) (Removed n, removing record { key = k; node = n } x) (WritesFull, x)
+
+abbrev pub remove : ℕ → Shell → Reply × Shell
+remove k x = remove_at k (node_of k x.table) x
+
+abbrev pub after_read : DrainState → Answer → Reply
+after_read drain.Idle answer.Kept = Go
+after_read drain.Idle answer.Full = Drain
+after_read drain.Idle answer.Lost = Go
+after_read drain.Required a = Drain
+after_read drain.ToIdle a = Go
+after_read drain.ToRequired a = Go
+
+abbrev pub after_write : DrainState → Reply × DrainState
+after_write drain.Idle = (Drain, drain.Required)
+after_write drain.Required = (Drain, drain.Required)
+after_write drain.ToIdle = (Go, drain.ToRequired)
+after_write drain.ToRequired = (Go, drain.ToRequired)
+
+abbrev pub begin : ℕ → Option Holder → Shell → Reply × Shell
+begin w (Some h) x = (Busy, x)
+begin w None x = (Began, record x { drain = drain.ToIdle; holder = Some record { worker = w; phase = Reads; left = 128 } })
+
+abbrev pub recording : ℕ → Shell → Shell
+recording k x = record x { frequency = recorded x.frequency k }
+
+abbrev pub touching : Item → Shell → Shell
+touching i x = record x { frequency = recorded x.frequency i.key; queues = hit (protected_size x.config) i x.queues }
+
+abbrev pub drain_read : ℕ → List Item → Shell → Reply × Shell
+drain_read s [] x = (Empty, x)
+drain_read s (i ∷ rest) x = (Drained i, touching i (record x { stripes = set x.stripes s rest }))
+
+abbrev pub in_phase : Phase → Holder → Shell → Shell
+in_phase p h x = record x { holder = Some record { worker = h.worker; phase = p; left = h.left } }
+
+abbrev pub apply_task : Task → Shell → Reply × Shell
+apply_task (Add i) x = (Applied i, record x { frequency = recorded x.frequency i.key; queues = pushed Window i x.queues })
+apply_task (Update i) x = (Applied i, touching i x)
+apply_task (Remove i) x = (Cleared i, record x { queues = cleared i x.queues })
+
+abbrev pub drain_write : Holder → List Task → Shell → Reply × Shell
+drain_write h [] x = (Empty, in_phase Writes h x)
+drain_write h (t ∷ rest) x =
+    cond (eqb h.left 0)
+    (Enough, in_phase Writes h x)
+    (apply_task t (record x { writes = rest; holder = Some record { worker = h.worker; phase = Writes; left = h.left - 1 } }))
+
+-- the item leaves the queues, and the table where it is listed there
+abbrev pub leave : Item → Shell → Shell
+leave i x = record x { queues = taken i x.queues; table = unlisted i x.table }
+
+-- the candidate stands in probation already, whose oldest is the victim
+abbrev pub contest : Item → Option Item → Shell → Reply × Shell
+contest candidate None x = (Shifted candidate, x)
+contest candidate (Some victim) x =
+    cond (same candidate victim)
+    (Rejected candidate, leave candidate x)
+    (cond (admits x.frequency candidate.key victim.key) (Evicted victim, leave victim x) (Rejected candidate, leave candidate x))
+
+abbrev pub shift : Item → Shell → Shell
+shift i x = record x { queues = moved i Probation x.queues }
+
+abbrev pub evict_from : Item → Shell → Reply × Shell
+evict_from candidate x = cond (nat_lt x.config.capacity (total x.queues)) (contest candidate (first x.queues.probation) x) (Shifted candidate, x)
+
+abbrev pub evict_oldest : Option Item → Shell → Reply × Shell
+evict_oldest None x = (Fits, x)
+evict_oldest (Some candidate) x = evict_from candidate (shift candidate x)
+
+abbrev pub is_over : Shell → Bool
+is_over x = nat_lt (window_size x.config) (length x.queues.window)
+
+abbrev pub evict : Shell → Reply × Shell
+evict x = cond (is_over x) (evict_oldest (first x.queues.window) x) (Fits, x)
+
+-- ToRequired: an AfterWrite came meanwhile
+abbrev pub ended : DrainState → Reply × DrainState
+ended drain.ToRequired = (Again, drain.Required)
+ended drain.Required = (Idle, drain.Idle)
+ended drain.ToIdle = (Idle, drain.Idle)
+ended drain.Idle = (Idle, drain.Idle)
+
+abbrev pub end : Shell → Reply × Shell
+end x = cond (is_over x) (NotYet, x) ((ended x.drain).0, record x { drain = (ended x.drain).1; holder = None })
+
+-- whether a phase may still come: it does not go back
+abbrev pub may_read : Phase → Bool
+may_read Reads = true
+may_read Writes = false
+may_read Evictions = false
+
+abbrev pub may_write : Phase → Bool
+may_write Reads = true
+may_write Writes = true
+may_write Evictions = false
+
+-- the holder, where w is it
+abbrev pub held_by : ℕ → Option Holder → Option Holder
+held_by w None = None
+held_by w (Some h) = cond (eqb w h.worker) (Some h) None
+
+abbrev pub is_stripe : ℕ → Shell → Bool
+is_stripe s x = nat_lt s (length x.stripes)
+
+abbrev pub when : {A : Type 0} → Bool → A → Option A
+when b a = cond b (Some a) None
+
+abbrev pub hold_read : ℕ → Option Holder → Shell → Option (Reply × Shell)
+hold_read s None x = None
+hold_read s (Some h) x = when (is_stripe s x && may_read h.phase) (drain_read s (stripe_at s x.stripes) x)
+
+abbrev pub hold_write : Option Holder → Shell → Option (Reply × Shell)
+hold_write None x = None
+hold_write (Some h) x = when (may_write h.phase) (drain_write h x.writes x)
+
+abbrev pub hold_evict : Option Holder → Shell → Option (Reply × Shell)
+hold_evict None x = None
+hold_evict (Some h) x = Some (evict (in_phase Evictions h x))
+
+abbrev pub hold_end : Option Holder → Shell → Option (Reply × Shell)
+hold_end None x = None
+hold_end (Some h) x = Some (end x)
+
+-- what an act of worker w does, None where it may not come now
+abbrev pub perform : ℕ → Act → Shell → Option (Reply × Shell)
+perform w (Look k) x = Some (look (node_of k x.table), x)
+perform w (Offer s i) x = when (is_stripe s x && nat_lt i.node x.next) (offer s i x)
+perform w (Lose s i) x = when (is_stripe s x && nat_lt i.node x.next) (Lost, x)
+perform w (Put k) x = Some (put k x)
+perform w (RemoveKey k) x = Some (remove k x)
+perform w (AfterRead a) x = Some (after_read x.drain a, x)
+perform w AfterWrite x = Some ((after_write x.drain).0, record x { drain = (after_write x.drain).1 })
+perform w Begin x = Some (begin w x.holder x)
+perform w (DrainRead s) x = hold_read s (held_by w x.holder) x
+perform w DrainWrite x = hold_write (held_by w x.holder) x
+perform w Evict x = hold_evict (held_by w x.holder) x
+perform w End x = hold_end (held_by w x.holder) x
+
+-- each reply is counted, and each step stands
+abbrev pub tallied : Option (Reply × Shell) → Option (Reply × Shell)
+tallied None = None
+tallied (Some p) = let x = p.1 in Some (p.0, record x { stats = counted p.0 x.stats; applied = x.applied + 1 })
+
+abbrev pub act : Shell → Step → Option (Reply × Shell)
+act x s = cond (nat_lt x.applied 4294967296) (tallied (perform s.worker s.act x)) None

@@ -1,0 +1,10 @@
+//! Who does the maintenance.
+use step_record::{Phase, Worker};
+
+/// The worker that does the maintenance: which one, at which phase, and how many more tasks it may apply.
+#[derive(Clone, Copy, Debug, PartialEq, Eq)]
+pub struct Holder {
+    pub worker: Worker,
+    pub phase: Phase,
+    pub left: u8,
+}

@@ -1,0 +1,12 @@
+//! The concurrent shell as a definition: its state, what each step makes of it, the undo record of a step, and what
+//! holds of every list of steps.
+#![tactic(auto)]
+
+mod holder;
+mod record;
+mod stats;
+pub mod theorems;
+
+pub use holder::Holder;
+pub use record::{Change, EvictionRecord, LeaverRecord, ShellRecord, UseRecord};
+pub use stats::ShellStats;

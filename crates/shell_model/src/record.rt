@@ -1,0 +1,105 @@
+//! The undo record of a step.
+use crate::holder::Holder;
+use admission::FreqRecord;
+use segments::MoveRecord;
+use shell_buffers::Task;
+use step_record::{Drain, Item, Phase, Reply, Worker};
+
+/// A key that was recorded, and the moves that came with it: where its item went, and what that pushed out of
+/// protected.
+#[derive(Drop)]
+pub struct UseRecord {
+    pub frequency: FreqRecord,
+    pub first: Option<MoveRecord>,
+    pub second: Option<MoveRecord>,
+}
+
+/// An item that left the queues, and whether it left the table with that.
+#[derive(Clone, Copy, Debug, PartialEq, Eq)]
+pub struct LeaverRecord {
+    pub out: MoveRecord,
+    pub listed: bool,
+}
+
+/// What an eviction moved: the candidate to probation, and the item that left.
+#[derive(Clone, Copy, Debug, PartialEq, Eq)]
+pub struct EvictionRecord {
+    pub shift: MoveRecord,
+    pub left: Option<LeaverRecord>,
+}
+
+/// What a step changed besides the statistics and the count of steps.
+#[derive(Drop)]
+pub enum Change {
+    /// Nothing.
+    Nothing,
+    /// A read buffer took the item.
+    Offered {
+        stripe: u8,
+        item: Item,
+    },
+    /// The update of the item waits.
+    Updated {
+        item: Item,
+    },
+    /// The item came into the table under a new node, and its addition waits.
+    Added {
+        item: Item,
+    },
+    /// The item left the table, and its removal waits.
+    Removed {
+        item: Item,
+    },
+    /// A write asked for maintenance.
+    Requested {
+        before: Drain,
+        now: Drain,
+    },
+    /// The worker holds the maintenance.
+    Began {
+        worker: Worker,
+        before: Drain,
+    },
+    /// An item was taken out of a read buffer and applied.
+    Read {
+        stripe: u8,
+        item: Item,
+        used: UseRecord,
+    },
+    /// The maintenance went on to a phase.
+    Passed {
+        before: Phase,
+        now: Phase,
+    },
+    /// A task of an addition or an update was applied.
+    Applied {
+        before: Phase,
+        task: Task,
+        used: UseRecord,
+    },
+    /// A task of a removal was applied.
+    Cleared {
+        before: Phase,
+        item: Item,
+        out: Option<MoveRecord>,
+    },
+    /// An eviction moved its candidate, and dropped an item where the queues held too much.
+    Evicted {
+        before: Phase,
+        eviction: EvictionRecord,
+    },
+    /// The maintenance ended.
+    Ended {
+        holder: Holder,
+        before: Drain,
+        now: Drain,
+    },
+}
+
+/// The undo record of a step: its reply, which the statistics counted, and what else it changed. It holds no list but
+/// that of a halving of the frequency.
+#[derive(Drop)]
+pub struct ShellRecord {
+    pub reply: Reply,
+    pub change: Change,
+}

@@ -1,0 +1,16 @@
+use Rattle.std.proofs.Common.{◌≤◌, ◌-◌, ◌+◌, length, take}
+use Rattle.std.specs.Io.KnownBytes.{Appends}
+use Rattle.streams.proofs.write_some.Given as goal
+
+pub record Writing (A B C : Type 0) : Type 0 where
+  pub within : A
+  pub sent : B
+  pub borne : C
+
+abbrev pub invariant-writes : goal.invariant-writes
+invariant-writes g l = Writing (l.sent ≤ length l.bytes)
+    (Appends (g.W.Write.contents l.initial.writer) (g.W.Write.contents l.writer) (take l.sent l.bytes))
+    (l.patience ≤ l.initial.patience)
+
+abbrev pub decreases-writes : goal.decreases-writes
+decreases-writes g l = (length l.bytes - l.sent) + l.patience
