@@ -3,12 +3,16 @@ use Rattle.std.proofs.Common.{◌≡◌, ◌≢◌, subst, inl, inr, List, ℕ, 
 use Rattle.clap.specs.Words.{HasKind, IsAmong, Kinds, Text, kind_of}
 use Rattle.clap.specs.declared.Error.{Error}
 use Rattle.clap.specs.declared.error.ErrorKind.TheVariants.{OutOfMemory}
+use Rattle.step_record.specs.declared.config.Config.{Config}
+use Rattle.step_record.specs.declared.job.Job.{Job}
 use Rattle.command_line.specs.Parsed.{ParsedBy}
-use Rattle.command_line.specs.declared.arguments.Arguments.TheVariants.{Run, Sweep}
+use Rattle.command_line.specs.declared.arguments.Arguments.TheVariants.{Part, Run, Sweep}
 use Rattle.command_line.specs.declared.arguments.RunArguments.{RunArguments}
 use Rattle.command_line.specs.declared.sweep.SweepArguments.{SweepArguments}
+use Rattle.command_line.specs.declared.part.PartArguments.{PartArguments}
 use Rattle.command_line.specs.declared.fault.ParseFault.TheVariants.{Refused}
 use Rattle.cachesim.specs.Jobs.{jobs_at, jobs_of}
+use Rattle.cachesim.specs.Part.{Parting}
 use Rattle.cachesim.specs.Run.{DoneBy, RefusedBy, Reports, is_help}
 
 among : (kinds : Kinds) (e : Error) → HasKind kinds e → kind_of e ≢ OutOfMemory → IsAmong (kind_of e) kinds
@@ -52,7 +56,7 @@ sweep_done words sweep p input before after h =
       are = p.are;
       done = inl (
         p.gives.0,
-        inr (record {
+        inr (inl (record {
           rows = p.gives.1.0;
           is_sweep = p.gives.1.1;
           job = sweep.job;
@@ -61,6 +65,32 @@ sweep_done words sweep p input before after h =
           capacities = sweep.capacities.items;
           capacities_are = is.capacities;
           reports = subst (λ f. Reports f (jobs_at sweep.job sweep.capacities.items) input before after) is.format h;
-        }),
+        })),
+      );
+    }
+
+pub part_done : (words : List Text) (part : PartArguments) → ParsedBy words (Ok (Part part)) → (input before after : Option (List ℕ))
+    → Parting part.format part.first part.second input before after → DoneBy words input before after
+part_done words part p input before after h =
+    let is = p.gives.1.2 in
+    let one : Job = record { policy = part.second.policy; config = part.first.config } in
+    let both : Parting part.format part.first one input before after =
+    subst (λ (config : Config). Parting part.format part.first (record { policy = part.second.policy; config = config }) input before after) is.same h in
+    record {
+      lists = p.lists;
+      are = p.are;
+      done = inl (
+        p.gives.0,
+        inr (inr (record {
+          rows = p.gives.1.0;
+          is_part = p.gives.1.1;
+          config = part.first.config;
+          config_is = is.config;
+          first = part.first.policy;
+          first_is = is.first;
+          second = part.second.policy;
+          second_is = is.second;
+          parting = subst (λ f. Parting f part.first one input before after) is.format both;
+        })),
       );
     }

@@ -14,6 +14,7 @@ use Rattle.command_line.specs.Parsed.{IsIncomplete}
 use Rattle.command_line.specs.Program.{AreLists, Lists, called, program_app}
 use Rattle.command_line.specs.Program.{capacities_in, config_at, config_in, format_in, policies_in, policy_in}
 use Rattle.cachesim.specs.Jobs.{jobs_at, jobs_of, reports_on}
+use Rattle.cachesim.specs.Part.{Parting}
 
 -- the bytes read have no fault, and those written are the text of the jobs' reports
 abbrev pub Reports : Format → List Job → Option (List ℕ) → Option (List ℕ) → Option (List ℕ) → Type 0
@@ -36,10 +37,23 @@ pub record Swept (subcommand : Option (Text × List Row)) (input before after : 
   pub is_sweep : subcommand ≡ Some (codes "sweep", rows)
   pub job : Job
   pub config_is : config_at (Some 1) rows ≡ Some job.config
-  pub policy_is : policy_in rows ≡ Some job.policy
+  pub policy_is : policy_in (codes "policy") rows ≡ Some job.policy
   pub capacities : List ℕ
   pub capacities_are : capacities_in rows ≡ Some capacities
   pub reports : Reports (format_in rows) (jobs_at job capacities) input before after
+
+-- `part` was called, and has written where the two policies that its matches name part
+pub record Parted (subcommand : Option (Text × List Row)) (input before after : Option (List ℕ)) : Type 0 where
+  pub rows : List Row
+  pub is_part : subcommand ≡ Some (codes "part", rows)
+  pub config : Config
+  pub config_is : config_in rows ≡ Some config
+  pub first : Policy
+  pub first_is : policy_in (codes "first") rows ≡ Some first
+  pub second : Policy
+  pub second_is : policy_in (codes "second") rows ≡ Some second
+  pub parting : Parting (format_in rows) (record { policy = first; config = config })
+      (record { policy = second; config = config }) input before after
 
 abbrev pub is_help : ErrorKind → Type 0
 is_help kind = (kind ≡ DisplayHelp) ⊎ (kind ≡ DisplayVersion)
@@ -58,7 +72,8 @@ pub record DoneBy (words : List Text) (input before after : Option (List ℕ)) :
   pub are : AreLists lists
   pub done : ((fault_of (program_app lists) (called words) ≡ [])
       × (Ran (subcommand_of (program_app lists) (called words)) input before after
-      ⊎ Swept (subcommand_of (program_app lists) (called words)) input before after))
+      ⊎ Swept (subcommand_of (program_app lists) (called words)) input before after
+      ⊎ Parted (subcommand_of (program_app lists) (called words)) input before after))
       ⊎ AsksHelp (fault_of (program_app lists) (called words))
 
 -- a usage error: clap refuses the words, or they lack a number in its range or a known policy

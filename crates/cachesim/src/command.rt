@@ -5,6 +5,7 @@ ghost use Rattle.cachesim.specs.Run.{DoneBy, is_help, RefusedBy};
 
 use crate::fault::Fault;
 use crate::files::Files;
+use crate::part::part;
 use crate::run::run;
 use crate::sweep::sweep;
 use clap::Error;
@@ -83,9 +84,10 @@ pub fn command<T: Threads + Wait + Sync, R: Read, W: Write, X: Write, F: Files>(
     _files: &F,
 ) -> u8
     ensures status { result ≤ 2 }
-    // With status 0 the words are taken as `run` or `sweep`, the bytes read have no fault, and those
-    // written are the text of the report of each policy, or of the policy at each capacity, that
-    // the words name; or the words ask for help.
+    // With status 0 the words are taken as `run`, `sweep` or `part`, the bytes read have no fault, and
+    // those written are the text of the report of each policy, or of the policy at each capacity,
+    // that the words name, or the line of the access at which two policies part; or the words ask
+    // for help.
     ensures done { result ≡ 0 → DoneBy (map (λ s. s.now) words.now) (R.remaining input.old)
         (W.contents out.old) (W.contents out.new) }
     // A usage error comes only where it is due, before anything is read or written.
@@ -106,6 +108,7 @@ pub fn command<T: Threads + Wait + Sync, R: Read, W: Write, X: Write, F: Files>(
     let done = match arguments {
         Arguments::Run(arguments) => run(rt, alloc, &arguments, input, out),
         Arguments::Sweep(arguments) => sweep(rt, alloc, &arguments, input, out),
+        Arguments::Part(arguments) => part(alloc, &arguments, input, out),
     };
     match done {
         Ok(()) => DONE,

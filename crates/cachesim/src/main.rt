@@ -8,6 +8,7 @@
 mod command;
 mod fault;
 mod files;
+mod part;
 mod run;
 mod sweep;
 

@@ -158,6 +158,48 @@ fn a_sweep_reports_each_capacity(rt: HostRuntime) -> Result<(), Fail> {
     Ok(())
 }
 
+// At the fifth access Lru holds 2 and 3; SegmentedLru protected 1 at the second, and holds 3 and 1.
+#[test]
+fn two_policies_part(rt: HostRuntime) -> Result<(), Fail> {
+    let table: [(&[&str], &str, &str); 2] = [
+        (
+            &[
+                "part",
+                "--capacity",
+                "2",
+                "--first",
+                "lru",
+                "--second",
+                "slru",
+            ],
+            "1\n1\n2\n3\n1\n",
+            "part 5\n",
+        ),
+        (
+            &[
+                "part",
+                "--first",
+                "lru",
+                "--second",
+                "lru",
+                "--capacity",
+                "2",
+            ],
+            "1\n2\n1\n",
+            "part none\n",
+        ),
+    ];
+    for (words, input, line) in table {
+        let run = called(&rt, rt.alloc(), words, input)?;
+        assert_eq!(rt; run.out.as_slice(), line.as_bytes());
+        assert_eq!(rt; run.status, 0);
+    }
+    let missing: &[&str] = &["part", "--capacity", "2", "--first", "lru"];
+    let run = called(&rt, rt.alloc(), missing, "1\n")?;
+    assert_eq!(rt; run.status, 2);
+    Ok(())
+}
+
 #[test]
 fn a_faulty_trace_is_told_in_one_line(rt: HostRuntime) -> Result<(), Fail> {
     let lirs: &[&str] = &["run", "--capacity", "3", "lru"];
@@ -243,6 +285,7 @@ Usage: cachesim <COMMAND>
 Commands:
   run    Runs policies over the trace on standard input and prints a report of each
   sweep  Runs a policy over the trace on standard input and prints a report for each capacity
+  part   Prints the first access of the trace on standard input at which just one of two policies hits
   help   Print this message or the help of the given subcommand(s)
 
 Options:

@@ -3,3 +3,4 @@ pub mod Examples
 pub mod Numbers
 pub mod Naming
 pub mod Outcomes
+pub mod Subcommands

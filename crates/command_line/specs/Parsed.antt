@@ -5,8 +5,9 @@ use Rattle.step_record.specs.Config.{config_fault}
 use Rattle.command_line.specs.Program.{AreLists, Lists, called, program_app}
 use Rattle.command_line.specs.Program.{batch_in, capacities_in, config_at, config_in, format_in, policies_in, policy_in}
 use Rattle.command_line.specs.declared.arguments.Arguments.{Arguments}
-use Rattle.command_line.specs.declared.arguments.Arguments.TheVariants.{Run, Sweep}
+use Rattle.command_line.specs.declared.arguments.Arguments.TheVariants.{Part, Run, Sweep}
 use Rattle.command_line.specs.declared.arguments.RunArguments.{RunArguments}
+use Rattle.command_line.specs.declared.part.PartArguments.{PartArguments}
 use Rattle.command_line.specs.declared.sweep.SweepArguments.{SweepArguments}
 use Rattle.command_line.specs.declared.fault.ParseFault.{ParseFault}
 use Rattle.command_line.specs.declared.fault.ParseFault.TheVariants as fault
@@ -22,15 +23,29 @@ pub record IsRun (rows : List Row) (run : RunArguments) : Type 0 where
 -- the arguments of `sweep` are those that its matches name; each capacity replaces the job's
 pub record IsSweep (rows : List Row) (sweep : SweepArguments) : Type 0 where
   pub config : config_at (Some 1) rows ≡ Some sweep.job.config
-  pub policy : policy_in rows ≡ Some sweep.job.policy
+  pub policy : policy_in (codes "policy") rows ≡ Some sweep.job.policy
   pub capacities : capacities_in rows ≡ Some sweep.capacities.items
   pub format : sweep.format ≡ format_in rows
+
+-- the arguments of `part` are those that its matches name: two jobs on one configuration
+pub record IsPartCall (rows : List Row) (part : PartArguments) : Type 0 where
+  pub config : config_in rows ≡ Some part.first.config
+  pub same : part.second.config ≡ part.first.config
+  pub first : policy_in (codes "first") rows ≡ Some part.first.policy
+  pub second : policy_in (codes "second") rows ≡ Some part.second.policy
+  pub format : part.format ≡ format_in rows
+
+-- another subcommand than that of the name was called, or none
+abbrev pub IsNotCalled : Text → Option (Text × List Row) → Type 0
+IsNotCalled name subcommand = (rows : List Row) → subcommand ≡ Some (name, rows) → ⊥
 
 -- the arguments are those of the subcommand that was called
 abbrev pub IsAsked : Option (Text × List Row) → Arguments → Type 0
 IsAsked subcommand (Run run) = (rows : List Row) × (subcommand ≡ Some (codes "run", rows)) × IsRun rows run
 IsAsked subcommand (Sweep sweep) =
     (rows : List Row) × (subcommand ≡ Some (codes "sweep", rows)) × IsSweep rows sweep
+IsAsked subcommand (Part part) =
+    (rows : List Row) × (subcommand ≡ Some (codes "part", rows)) × IsPartCall rows part
 
 -- the matches of `run` lack an accepted configuration, a batch in its range, or a known policy
 abbrev pub LacksRun : List Row → Type 0
@@ -38,12 +53,19 @@ LacksRun rows = (config_in rows ≡ None) ⊎ (batch_in rows ≡ None) ⊎ (poli
 
 -- the matches of `sweep` lack an accepted configuration, a known policy, or capacities in their range
 abbrev pub LacksSweep : List Row → Type 0
-LacksSweep rows = (config_at (Some 1) rows ≡ None) ⊎ (policy_in rows ≡ None) ⊎ (capacities_in rows ≡ None)
+LacksSweep rows =
+    (config_at (Some 1) rows ≡ None) ⊎ (policy_in (codes "policy") rows ≡ None) ⊎ (capacities_in rows ≡ None)
+
+-- the matches of `part` lack an accepted configuration or a known policy
+abbrev pub LacksPart : List Row → Type 0
+LacksPart rows =
+    (config_in rows ≡ None) ⊎ (policy_in (codes "first") rows ≡ None) ⊎ (policy_in (codes "second") rows ≡ None)
 
 -- the matches of the subcommand lack one of its arguments
-abbrev pub IsIncomplete : Option (Text × List Row) → Type 0
-IsIncomplete subcommand = ((rows : List Row) → subcommand ≡ Some (codes "run", rows) → LacksRun rows)
-    × ((rows : List Row) → subcommand ≡ Some (codes "sweep", rows) → LacksSweep rows)
+pub record IsIncomplete (subcommand : Option (Text × List Row)) : Type 0 where
+  pub run : (rows : List Row) → subcommand ≡ Some (codes "run", rows) → LacksRun rows
+  pub sweep : (rows : List Row) → subcommand ≡ Some (codes "sweep", rows) → LacksSweep rows
+  pub part : (rows : List Row) → subcommand ≡ Some (codes "part", rows) → LacksPart rows
 
 abbrev pub IsFaultOf : Lists → List Text → ParseFault → Type 0
 IsFaultOf lists words fault.OutOfMemory = ⊤

@@ -91,10 +91,10 @@ policy_rule names = record (new_rule (codes "policy")) {
   parser = Some (parser.Names names);
 }
 
--- `--policy P`, of the words given
-abbrev pub one_policy_rule : Bor (List (Bor Text)) → Rule
-one_policy_rule names = record (new_rule (codes "policy")) {
-  long = Some (codes "policy");
+-- `--policy P`, or another option that names one policy, of the words given
+abbrev pub one_policy_rule : Text → Bor (List (Bor Text)) → Rule
+one_policy_rule option names = record (new_rule option) {
+  long = Some option;
   value_names = 1;
   required = true;
   parser = Some (parser.Names names);
@@ -128,8 +128,15 @@ abbrev pub sweep_app : Lists → App
 sweep_app lists = with_rule
     (with_rule
     (with_rule (divided_app lists.spreads (new_app (codes "sweep"))) (format_rule lists.formats))
-    (one_policy_rule lists.policies))
+    (one_policy_rule (codes "policy") lists.policies))
     capacities_rule
+
+abbrev pub part_app : Lists → App
+part_app lists = with_rule
+    (with_rule
+    (with_rule (configured_app lists.spreads (new_app (codes "part"))) (format_rule lists.formats))
+    (one_policy_rule (codes "first") lists.policies))
+    (one_policy_rule (codes "second") lists.policies)
 
 -- `cachesim`, which has a version and wants a subcommand
 abbrev pub empty_app : App
@@ -141,7 +148,9 @@ empty_app = record (new_app (codes "cachesim")) {
 }
 
 abbrev pub program_app : Lists → App
-program_app lists = with_subcommand (with_subcommand empty_app (run_app lists).top) (sweep_app lists).top
+program_app lists = with_subcommand
+    (with_subcommand (with_subcommand empty_app (run_app lists).top) (sweep_app lists).top)
+    (part_app lists).top
 
 -- the words of a call: the program's name, and those after it
 abbrev pub called : List Text → List Text
@@ -188,7 +197,7 @@ configured (Some capacity) (Some main_percent) spread = checked (config_of capac
 abbrev pub config_at : Option ℕ → List Row → Option Config
 config_at capacity rows = configured capacity (number_in 255 (codes "main") rows) (spread_in rows)
 
--- the configuration that the matches of `run` name
+-- the configuration that the matches name, its capacity with it
 abbrev pub config_in : List Row → Option Config
 config_in rows = config_at (number_in 4294967295 (codes "capacity") rows) rows
 
@@ -208,9 +217,9 @@ capacity_named word = option_and_then (up_to MAX_CAPACITY) (number_of 4294967295
 abbrev pub capacities_in : List Row → Option (List ℕ)
 capacities_in rows = option_and_then (all_named capacity_named) (all_of (codes "capacities") rows)
 
--- the policy of a sweep
-abbrev pub policy_in : List Row → Option Policy
-policy_in rows = option_and_then policy_named (first_of (codes "policy") rows)
+-- the policy that an option names
+abbrev pub policy_in : Text → List Row → Option Policy
+policy_in option rows = option_and_then policy_named (first_of option rows)
 
 abbrev pub policies_in : List Row → Option (List Policy)
 policies_in rows = option_and_then policies_named (all_of (codes "policy") rows)

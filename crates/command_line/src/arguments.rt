@@ -5,10 +5,11 @@ ghost use Rattle.step_record.specs.Config.{config_fault};
 ghost use Rattle.command_line.specs.Choices.{policies_named as policies_by};
 ghost use Rattle.command_line.specs.Parsed.{IsRun, LacksRun};
 ghost use Rattle.command_line.specs.Program.{batch_in, checked, config_at, config_in, config_of, format_in, number_in};
-ghost use Rattle.command_line.specs.Program.{policies_in, spread_in, up_to as within};
+ghost use Rattle.command_line.specs.Program.{policies_in, policy_in, spread_in, up_to as within};
 
 use crate::choices::{format_named, policy_named, spread_named};
 use crate::commands::MAX_BATCH;
+use crate::part::PartArguments;
 use crate::sweep::SweepArguments;
 use clap::ArgMatches;
 use std::alloc::{AllocError, Global};
@@ -22,6 +23,8 @@ pub enum Arguments {
     Run(RunArguments),
     /// `sweep`
     Sweep(SweepArguments),
+    /// `part`
+    Part(PartArguments),
 }
 
 /// The arguments of `run`.
@@ -87,8 +90,8 @@ pub(crate) fn config_with(matches: &ArgMatches<'_>, capacity: u32) -> Option<Con
     config(capacity, main_percent, spread(matches))
 }
 
-// The configuration that the matches of `run` name, where it is accepted.
-fn config_named(matches: &ArgMatches<'_>) -> Option<Config>
+// The configuration that the matches name, its capacity with it, where it is accepted.
+pub(crate) fn config_named(matches: &ArgMatches<'_>) -> Option<Config>
     ensures named { result ≡ config_in (rows_of (found_of matches.now)) }
     ensures checked { IfSome result (λ config. config_fault config ≡ Ok tt) }
 {
@@ -138,6 +141,16 @@ pub(crate) fn format(matches: &ArgMatches<'_>) -> Format
     ensures { result ≡ format_in (rows_of (found_of matches.now)) }
 {
     format_named(matches.get_str("format"))
+}
+
+// The policy that an option names.
+pub(crate) fn policy(matches: &ArgMatches<'_>, option: &str) -> Option<Policy>
+    ensures { result ≡ policy_in option.now (rows_of (found_of matches.now)) }
+{
+    let Some(word) = matches.get_str(option) else {
+        return None;
+    };
+    policy_named(word)
 }
 
 // The policies that the matches name.

@@ -3,7 +3,7 @@ ghost use Rattle.std.specs.Prelude.{◌≡◌, false, IfOk};
 ghost use Rattle.clap.specs.Words.{app_of, rule_of};
 ghost use Rattle.clap.specs.declared.builder.command.Command.TheViews.{out-Command};
 ghost use Rattle.command_line.specs.Program.{batch_rule, capacities_rule, capacity_rule, configured_app, divided_app, format_rule};
-ghost use Rattle.command_line.specs.Program.{main_rule, one_policy_rule, policy_rule, program_app, run_app, spread_rule, sweep_app};
+ghost use Rattle.command_line.specs.Program.{main_rule, one_policy_rule, part_app, policy_rule, program_app, run_app, spread_rule, sweep_app};
 
 use crate::choices::MIXED;
 use clap::{Arg, ArgAction, Command};
@@ -100,15 +100,20 @@ fn policy_arg<'a>(alloc: Global, words: &'a [&'a str]) -> Arg<'a>
         .value_parser(words)
 }
 
-/// `--policy P`
-fn one_policy_arg<'a>(alloc: Global, words: &'a [&'a str]) -> Arg<'a>
-    ensures rule { rule_of result ≡ one_policy_rule words.entry }
+/// `--policy P`, or another option that names one policy
+fn one_policy_arg<'a>(
+    alloc: Global,
+    option: &'a str,
+    help: &'a str,
+    words: &'a [&'a str],
+) -> Arg<'a>
+    ensures rule { rule_of result ≡ one_policy_rule option.now words.entry }
     ensures local { result.global ≡ false }
 {
-    Arg::new(alloc, "policy")
-        .long("policy")
+    Arg::new(alloc, option)
+        .long(option)
         .value_name("POLICY")
-        .help("The policy to run")
+        .help(help)
         .required(true)
         .value_parser(words)
 }
@@ -199,7 +204,7 @@ fn sweep_command<'a>(
     ensures local { IfOk result (λ c. (out-Command c).has_globals ≡ false) }
 {
     let format = format_arg(alloc, formats);
-    let policy = one_policy_arg(alloc, policies);
+    let policy = one_policy_arg(alloc, "policy", "The policy to run", policies);
     let capacities = capacities_arg(alloc);
     let named = Command::new(alloc, "sweep");
     let sweep = named.about(
@@ -209,6 +214,33 @@ fn sweep_command<'a>(
     let formed = divided.arg(format)?;
     let chosen = formed.arg(policy)?;
     chosen.arg(capacities)
+}
+
+/// `part`, which prints the first access at which just one of two policies hits.
+fn part_command<'a>(
+    alloc: Global,
+    policies: &'a [&'a str],
+    formats: &'a [&'a str],
+    spreads: &'a [&'a str],
+) -> Result<Command<'a>, AllocError>
+    ensures shape { IfOk result (λ c. app_of c ≡ part_app (record {
+      policies = policies.entry;
+      formats = formats.entry;
+      spreads = spreads.entry;
+    })) }
+    ensures local { IfOk result (λ c. (out-Command c).has_globals ≡ false) }
+{
+    let format = format_arg(alloc, formats);
+    let first = one_policy_arg(alloc, "first", "The one policy", policies);
+    let second = one_policy_arg(alloc, "second", "The other policy", policies);
+    let named = Command::new(alloc, "part");
+    let part = named.about(
+        "Prints the first access of the trace on standard input at which just one of two policies hits",
+    );
+    let configured = configured(alloc, part, spreads)?;
+    let formed = configured.arg(format)?;
+    let one = formed.arg(first)?;
+    one.arg(second)
 }
 
 /// The program's commands, over the words that name policies, formats and spreads.
@@ -226,10 +258,12 @@ pub(crate) fn program<'a>(
 {
     let run = run_command(alloc, policies, formats, spreads)?;
     let sweep = sweep_command(alloc, policies, formats, spreads)?;
+    let part = part_command(alloc, policies, formats, spreads)?;
     let named = Command::new(alloc, "cachesim");
     let top = named.about("Simulates cache policies over recorded block traces");
     let versioned = top.version("0.1.0");
     let empty = versioned.subcommand_required(true);
     let running = empty.subcommand(run)?;
-    running.subcommand(sweep)
+    let sweeping = running.subcommand(sweep)?;
+    sweeping.subcommand(part)
 }

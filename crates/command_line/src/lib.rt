@@ -13,10 +13,12 @@ mod choices;
 mod commands;
 mod fault;
 mod parsing;
+mod part;
 mod sweep;
 
 pub use arguments::{Arguments, RunArguments};
 pub use commands::MAX_BATCH;
 pub use fault::ParseFault;
 pub use parsing::parse;
+pub use part::PartArguments;
 pub use sweep::SweepArguments;

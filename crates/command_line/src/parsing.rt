@@ -1,13 +1,14 @@
 //! The words of a call, to its arguments.
-ghost use Rattle.std.specs.Prelude.{◌≡◌, IfOk, MatchOption, map};
-ghost use Rattle.clap.specs.Words.{subcommand_rows_of};
-ghost use Rattle.command_line.specs.Parsed.{IsAsked, IsIncomplete, ParsedBy};
+ghost use Rattle.std.specs.Prelude.{◌≡◌, Some, IfOk, MatchOption, map};
+ghost use Rattle.clap.specs.Words.{found_of, rows_of, subcommand_rows_of};
+ghost use Rattle.command_line.specs.Parsed.{IsAsked, IsIncomplete, IsNotCalled, ParsedBy};
 ghost use Rattle.command_line.specs.Program.{called as called_by};
 
 use crate::arguments::{Arguments, run_arguments};
 use crate::choices::{format_words, policy_words, spread_words};
 use crate::commands::program;
 use crate::fault::ParseFault;
+use crate::part::part_arguments;
 use crate::sweep::sweep_arguments;
 use clap::ArgMatches;
 use std::alloc::{AllocError, Global};
@@ -21,20 +22,34 @@ fn called<'a>(alloc: Global, words: &[&'a str]) -> Result<Vec<&'a str>, AllocErr
     Ok(called)
 }
 
+// The matches of the subcommand of this name, where it is the one that was called.
+fn matches_of<'m, 'a>(matches: &'m ArgMatches<'a>, name: &str) -> Option<&'m ArgMatches<'a>>
+    ensures { MatchOption result (IsNotCalled name.now (subcommand_rows_of matches.now))
+        (λ m. subcommand_rows_of matches.now ≡ Some (name.now, rows_of (found_of m.now))) }
+{
+    matches.subcommand_matches(name)
+}
+
 // What the matches ask for; none where they lack a number in its range or a known policy.
 fn arguments(alloc: Global, matches: &ArgMatches<'_>) -> Result<Option<Arguments>, AllocError>
     ensures { IfOk result (λ asked. MatchOption asked (IsIncomplete (subcommand_rows_of matches.now))
         (IsAsked (subcommand_rows_of matches.now))) }
 {
-    if let Some(asked) = matches.subcommand_matches("run") {
+    if let Some(asked) = matches_of(matches, "run") {
         return match run_arguments(alloc, asked)? {
             Some(run) => Ok(Some(Arguments::Run(run))),
             None => Ok(None),
         };
     }
-    if let Some(asked) = matches.subcommand_matches("sweep") {
+    if let Some(asked) = matches_of(matches, "sweep") {
         return match sweep_arguments(alloc, asked)? {
             Some(sweep) => Ok(Some(Arguments::Sweep(sweep))),
+            None => Ok(None),
+        };
+    }
+    if let Some(asked) = matches_of(matches, "part") {
+        return match part_arguments(asked) {
+            Some(part) => Ok(Some(Arguments::Part(part))),
             None => Ok(None),
         };
     }

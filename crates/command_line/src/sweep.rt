@@ -3,13 +3,12 @@ ghost use Rattle.std.specs.Prelude.{◌≡◌, Ok, Some, IfOk, MatchOption, map,
 ghost use Rattle.clap.specs.Words.{found_of, rows_of};
 ghost use Rattle.command_line.specs.Choices.{all_named};
 ghost use Rattle.command_line.specs.Parsed.{IsSweep, LacksSweep};
-ghost use Rattle.command_line.specs.Program.{capacities_in, capacity_named as capacity_by, number_of, policy_in};
+ghost use Rattle.command_line.specs.Program.{capacities_in, capacity_named as capacity_by, number_of};
 
-use crate::arguments::{config_with, format, up_to};
-use crate::choices::policy_named;
+use crate::arguments::{config_with, format, policy, up_to};
 use clap::ArgMatches;
 use std::alloc::{AllocError, Global};
-use step_record::{Job, MAX_CAPACITY, Policy};
+use step_record::{Job, MAX_CAPACITY};
 use trace_read::Format;
 
 /// The arguments of `sweep`.
@@ -69,16 +68,6 @@ fn capacities(alloc: Global, matches: &ArgMatches<'_>) -> Result<Option<Vec<u32>
     capacities_named(alloc, words)
 }
 
-// The policy that the matches name.
-fn policy(matches: &ArgMatches<'_>) -> Option<Policy>
-    ensures { result ≡ policy_in (rows_of (found_of matches.now)) }
-{
-    let Some(word) = matches.get_str("policy") else {
-        return None;
-    };
-    policy_named(word)
-}
-
 /// The arguments of `sweep` that the matches name; none where they lack a known policy, a
 /// configuration that is accepted, or capacities that are all in their range.
 pub(crate) fn sweep_arguments(
@@ -92,7 +81,7 @@ pub(crate) fn sweep_arguments(
     let Some(config) = config_with(matches, 1) else {
         return Ok(None);
     };
-    let Some(policy) = policy(matches) else {
+    let Some(policy) = policy(matches, "policy") else {
         return Ok(None);
     };
     let Some(capacities) = capacities(alloc, matches)? else {

@@ -5,11 +5,12 @@ use Rattle.command_line.specs.declared.arguments.Arguments.{Arguments}
 use Rattle.command_line.specs.declared.fault.ParseFault.{ParseFault}
 use Rattle.std.specs.Prelude.{OnOk}
 use Rattle.cachesim.specs.Jobs.{jobs_at, jobs_of}
+use Rattle.cachesim.specs.Part.{Parting}
 use Rattle.cachesim.specs.Run.{Reports}
 use Rattle.cachesim.specs.declared.fault.Fault.{Fault}
-use Rattle.cachesim.proofs.Ending.{refused_by, run_done, sweep_done}
+use Rattle.cachesim.proofs.Ending.{part_done, refused_by, run_done, sweep_done}
 use Rattle.cachesim.proofs.command.command.Goals as goal
-use Rattle.cachesim.proofs.command.command.Goals.{in-Run, in-Sweep}
+use Rattle.cachesim.proofs.command.command.Goals.{in-Part, in-Run, in-Sweep}
 
 pub returns-in-Err-Refused-clause-refused : goal.returns-in-Err-Refused-clause-refused
 returns-in-Err-Refused-clause-refused g c two =
@@ -37,4 +38,11 @@ returns-in-Ok-done-clause-done g c zero =
           let Wrote = Reports sweep.format (jobs_at sweep.job sweep.capacities.items) (g.R.Read.remaining c.args.input.now) (g.W.Write.contents c.args.out.now) (g.W.Write.contents w.sweep-done.new.out) in
           let h : Wrote = subst (λ (r : Result (Unit {0}) Fault). OnOk r Wrote) (sym w.done-is ∙ c.in-Ok-done.is) ok in
           rw w.out-is (sweep_done words sweep q _ _ _ h)
+      | in-Part w ↦
+          let part = w.in-Part.arguments in
+          let q = subst (λ (a : Arguments). ParsedBy words (Ok a)) w.in-Part.is p in
+          let ok = w.part-done.ensures.ok in
+          let Wrote = Parting part.format part.first part.second (g.R.Read.remaining c.args.input.now) (g.W.Write.contents c.args.out.now) (g.W.Write.contents w.part-done.new.out) in
+          let h : Wrote = subst (λ (r : Result (Unit {0}) Fault). OnOk r Wrote) (sym w.done-is ∙ c.in-Ok-done.is) ok in
+          rw w.out-is (part_done words part q _ _ _ h)
     ]

@@ -20,4 +20,6 @@ returns c =
     let with_version = ap app_of_fields c.version-versioned.ensures ∙ ap versioned named in
     let empty_is : app_of c.subcommand_required-empty.result ≡ empty_app = ap app_of_fields c.subcommand_required-empty.ensures ∙ ap wanting with_version in
     let running = c.in_ok-running.ensures.shape run.local ∙ ap₂ with_subcommand empty_is (ap (λ (a : App). a.top) run.shape) in
-    IfOk-weaker c.subcommand-2.result _ _ (λ r h. h.shape sweep.local ∙ ap₂ with_subcommand running (ap (λ (a : App). a.top) sweep.shape)) c.subcommand-2.ensures
+    let part = c.in_ok-part.ensures in
+    let sweeping = c.in_ok-sweeping.ensures.shape sweep.local ∙ ap₂ with_subcommand running (ap (λ (a : App). a.top) sweep.shape) in
+    IfOk-weaker c.subcommand-3.result _ _ (λ r h. h.shape part.local ∙ ap₂ with_subcommand sweeping (ap (λ (a : App). a.top) part.shape)) c.subcommand-3.ensures

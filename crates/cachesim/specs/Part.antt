@@ -1,0 +1,21 @@
+-- What `part` writes.
+use Rattle.std.specs.Prelude.{◌≡◌, ℕ, List, [], ◌∷◌, ◌++◌, Option, Some, None, codes, IfSome}
+use Rattle.std.specs.Fmt.{decimal}
+use Rattle.std.specs.Io.KnownBytes.{Appends}
+use Rattle.step_record.specs.declared.job.Job.{Job}
+use Rattle.trace_read.specs.Reading.{fault_in, keys_in}
+use Rattle.trace_read.specs.declared.format.Format.{Format}
+use Rattle.policies.specs.AnyPolicy.{outcomes_on}
+use Rattle.debug_shell.specs.Part.{IsPart}
+
+-- the line of an access, or of none
+abbrev pub part_line : Option ℕ → List ℕ
+part_line (Some access) = codes "part " ++ decimal access ++ codes "\n"
+part_line None = codes "part none\n"
+
+-- the bytes read have no fault, and those written are the line of the access at which the two jobs part
+abbrev pub Parting : Format → Job → Job → Option (List ℕ) → Option (List ℕ) → Option (List ℕ) → Type 0
+Parting format first second input before after = IfSome input (λ bytes. (fault_in format bytes ≡ None)
+    × (found : Option ℕ)
+    × IsPart (outcomes_on first (keys_in format bytes)) (outcomes_on second (keys_in format bytes)) found
+    × Appends before after (part_line found))

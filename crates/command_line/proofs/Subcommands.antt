@@ -1,0 +1,73 @@
+-- Which subcommand was called, and what it then lacks.
+use Rattle.std.proofs.Common.{◌≡◌, ◌∙◌, ap, ap₂, subst, sym, refl, List, ℕ, Option, Some, None, codes}
+use Rattle.std.specs.Prelude.{Box, option_map, IsSome, IfSome, MatchOption, ◌↔◌}
+use Rattle.std.specs.Box.{box_value}
+use Rattle.std.specs.Option.{option_map_or}
+use Rattle.std.specs.Borrow.{Bor}
+use Rattle.clap.specs.Words.{Row, Text, found_of, rows_of, subcommand_name_of, subcommand_rows_of}
+use Rattle.clap.specs.Simple.{subcommand_rows}
+use Rattle.clap.specs.declared.parser.matches.ArgMatches.{ArgMatches}
+use Rattle.clap.specs.declared.parser.matches.ArgMatches.TheViews.{out-SubCommand}
+use Rattle.clap.specs.declared.parser.matches.SubCommand.{SubCommand}
+use Rattle.command_line.specs.Parsed.{IsIncomplete, IsNotCalled, LacksPart, LacksRun, LacksSweep}
+
+both : (s : Option (Text × List Row)) (name : Text) (rows : List Row) → option_map (λ p. p.0) s ≡ Some name → option_map (λ p. p.1) s ≡ Some rows → s ≡ Some (name, rows)
+both None name rows n r = absurd (cc n)
+both (Some p) name rows n r =
+    let x : p.0 ≡ name = cc n in
+    let y : p.1 ≡ rows = cc r in
+    ap₂ (λ a b. Some (a, b)) x y
+
+not : (s : Option (Text × List Row)) (name : Text) → ¬ (option_map (λ p. p.0) s ≡ Some name) → IsNotCalled name s
+not s name n rows e = n (ap (option_map (λ p. p.0)) e)
+
+pub name_is : {Z : Type 0} (o : Option (Box SubCommand Z)) → option_map (λ b. (out-SubCommand (box_value b)).name.now) o ≡ option_map (λ p. p.0) (subcommand_rows o)
+name_is None = refl
+name_is (Some b) = refl
+
+-- clap's clauses, as one
+pub called : (s : Option (Text × List Row)) (n : Option Text) (name : Text) (r : Option (Bor ArgMatches)) → n ≡ option_map (λ p. p.0) s
+    → (IsSome r ↔ (n ≡ Some name))
+    → IfSome r (λ m. option_map (λ p. p.1) s ≡ Some (rows_of (found_of m.now)))
+    → MatchOption r (IsNotCalled name s) (λ m. s ≡ Some (name, rows_of (found_of m.now)))
+called s n name (Some m) is found rows = both s name (rows_of (found_of m.now)) (sym is ∙ found.0 refl) rows
+called s n name None is found rows = not s name (λ e. absurd (cc (found.1 (is ∙ e))))
+
+-- another subcommand was called
+other : (P : List Row → Type 0) (s : Option (Text × List Row)) (name : Text) (rows : List Row) → s ≡ Some (name, rows) → (another : Text) → ¬ (name ≡ another)
+    → (rs : List Row) → s ≡ Some (another, rs) → P rs
+other P s name rows e another n rs f = absurd (n (ap (λ o. option_map_or (λ p. p.0) o name) (sym e ∙ f)))
+
+this : (P : List Row → Type 0) (s : Option (Text × List Row)) (name : Text) (rows : List Row) → s ≡ Some (name, rows) → P rows
+    → (rs : List Row) → s ≡ Some (name, rs) → P rs
+this P s name rows e p rs f = subst P (ap (λ o. option_map_or (λ p. p.1) o rows) (sym e ∙ f)) p
+
+module _ (s : Option (Text × List Row)) (rows : List Row) where
+  pub lacks_run : s ≡ Some (codes "run", rows) → LacksRun rows → IsIncomplete s
+  lacks_run e h = record {
+    run = this LacksRun s (codes "run") rows e h;
+    sweep = other LacksSweep s (codes "run") rows e (codes "sweep") (λ n. cc n);
+    part = other LacksPart s (codes "run") rows e (codes "part") (λ n. cc n);
+  }
+
+  pub lacks_sweep : s ≡ Some (codes "sweep", rows) → LacksSweep rows → IsIncomplete s
+  lacks_sweep e h = record {
+    run = other LacksRun s (codes "sweep") rows e (codes "run") (λ n. cc n);
+    sweep = this LacksSweep s (codes "sweep") rows e h;
+    part = other LacksPart s (codes "sweep") rows e (codes "part") (λ n. cc n);
+  }
+
+  pub lacks_part : s ≡ Some (codes "part", rows) → LacksPart rows → IsIncomplete s
+  lacks_part e h = record {
+    run = other LacksRun s (codes "part") rows e (codes "run") (λ n. cc n);
+    sweep = other LacksSweep s (codes "part") rows e (codes "sweep") (λ n. cc n);
+    part = this LacksPart s (codes "part") rows e h;
+  }
+
+-- none of the subcommands was called
+pub lacks_all : (s : Option (Text × List Row)) → IsNotCalled (codes "run") s → IsNotCalled (codes "sweep") s → IsNotCalled (codes "part") s → IsIncomplete s
+lacks_all s run sweep part = record {
+  run = λ rows e. absurd (run rows e);
+  sweep = λ rows e. absurd (sweep rows e);
+  part = λ rows e. absurd (part rows e);
+}
