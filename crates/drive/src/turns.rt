@@ -2,8 +2,7 @@
 ghost use Rattle.std.specs.Prelude.{◌≡◌, ◌≤◌, ℕ, ◌∷◌, ◌++◌, [], true, length, OnOk, OnErr, IfOk, MatchResult, Some, Err};
 ghost use Rattle.step_record.specs.declared.limits.TheConstants.{MAX_STRIPES};
 ghost use Rattle.step_record.specs.Answers.{AnswersItsActs, is_answer};
-ghost use Rattle.turn_book.specs.Turns.{number_of, own_of, shown_in};
-ghost use Rattle.journal.specs.Session.{SessionState};
+ghost use Rattle.turn_book.specs.Passes.{id_of};
 ghost use Rattle.drive.specs.Walks.{IsWalk, AreWalks};
 ghost use Rattle.drive.specs.Made.{Made, BeginsWalk, BeginWalks};
 
@@ -21,16 +20,15 @@ pub fn turn<E: Engine<Step = Step, Reply = Reply> + Drop, R: Wait>(
     pass: Pass<Session<E>>,
     step: Step,
 ) -> (Pass<Session<E>>, Result<Reply, SessionFault>)
-    requires own { pass.seat.table_id ≡ book.now.table.shared.table_id }
-    requires worker { number_of pass.seat.me.0 ≡ step.worker }
+    requires own { pass.book ≡ id_of book.now }
+    requires worker { pass.worker ≡ step.worker }
     requires answers { AnswersItsActs E.act }
-    ensures same { result.0.seat.table_id ≡ pass.seat.table_id }
-    ensures worker { number_of result.0.seat.me.0 ≡ number_of pass.seat.me.0 }
-    ensures opening { result.0.seat.me.0.opening ≡ pass.seat.me.0.opening }
-    ensures own { MatchResult result.1 (λ r. own_of result.0.seat.me.0 ≡ own_of pass.seat.me.0 ++ record { step = step; reply = r } ∷ []) (λ _. own_of result.0.seat.me.0 ≡ own_of pass.seat.me.0) }
+    ensures same { result.0.book ≡ pass.book }
+    ensures worker { result.0.worker ≡ pass.worker }
+    ensures own { MatchResult result.1 (λ r. result.0.own ≡ pass.own ++ record { step = step; reply = r } ∷ []) (λ _. result.0.own ≡ pass.own) }
     ensures answer { IfOk result.1 (λ r. is_answer step.act r ≡ true) }
     // A full journal: what the pass last saw is as long as the limit.
-    ensures full { result.1 ≡ Err SessionFault.JournalFull → (o : SessionState E E.Data Step Reply) → pass.seat.me.0.opening ≡ Some o → length (shown_in result.0.seat.me.0.parts) ≡ o.limit }
+    ensures full { result.1 ≡ Err SessionFault.JournalFull → length result.0.last ≡ book.now.opening.limit }
 {
     match book.take(rt, pass) {
         Ok(mut turn) => match turn.value().step(step) {
@@ -51,16 +49,15 @@ pub fn walk_in_turns<E: Engine<Step = Step, Reply = Reply> + Drop, R: Wait>(
     stripes: u8,
     call: Call,
 ) -> (Pass<Session<E>>, Result<(), SessionFault>)
-    requires own { pass.seat.table_id ≡ book.now.table.shared.table_id }
-    requires worker { number_of pass.seat.me.0 ≡ worker }
+    requires own { pass.book ≡ id_of book.now }
+    requires worker { pass.worker ≡ worker }
     requires answers { AnswersItsActs E.act }
     requires stripes { (1 ≤ stripes) × (stripes ≤ MAX_STRIPES) }
-    ensures same { result.0.seat.table_id ≡ pass.seat.table_id }
-    ensures worker { number_of result.0.seat.me.0 ≡ worker }
-    ensures opening { result.0.seat.me.0.opening ≡ pass.seat.me.0.opening }
-    ensures ok { OnOk result.1 (Made (IsWalk worker stripes call) (own_of pass.seat.me.0) (own_of result.0.seat.me.0) list.old.items list.new.items) }
-    ensures err { OnErr result.1 (Made (BeginsWalk worker stripes call) (own_of pass.seat.me.0) (own_of result.0.seat.me.0) list.old.items list.new.items) }
-    ensures full { result.1 ≡ Err SessionFault.JournalFull → (o : SessionState E E.Data Step Reply) → pass.seat.me.0.opening ≡ Some o → length (shown_in result.0.seat.me.0.parts) ≡ o.limit }
+    ensures same { result.0.book ≡ pass.book }
+    ensures worker { result.0.worker ≡ worker }
+    ensures ok { OnOk result.1 (Made (IsWalk worker stripes call) pass.own result.0.own list.old.items list.new.items) }
+    ensures err { OnErr result.1 (Made (BeginsWalk worker stripes call) pass.own result.0.own list.old.items list.new.items) }
+    ensures full { result.1 ≡ Err SessionFault.JournalFull → length result.0.last ≡ book.now.opening.limit }
 {
     let mut next = next_step(Local::start(worker, stripes, call), None);
     for _ in rt.forever() {
@@ -96,16 +93,15 @@ pub fn work_in_turns<E: Engine<Step = Step, Reply = Reply> + Drop, G: Gate, R: W
     stripes: u8,
     calls: &[Call],
 ) -> (Pass<Session<E>>, Result<(), SessionFault>)
-    requires own { pass.seat.table_id ≡ book.now.table.shared.table_id }
-    requires worker { number_of pass.seat.me.0 ≡ worker }
+    requires own { pass.book ≡ id_of book.now }
+    requires worker { pass.worker ≡ worker }
     requires answers { AnswersItsActs E.act }
     requires stripes { (1 ≤ stripes) × (stripes ≤ MAX_STRIPES) }
-    ensures same { result.0.seat.table_id ≡ pass.seat.table_id }
-    ensures worker { number_of result.0.seat.me.0 ≡ worker }
-    ensures opening { result.0.seat.me.0.opening ≡ pass.seat.me.0.opening }
-    ensures ok { OnOk result.1 (Made (AreWalks worker stripes calls.now) (own_of pass.seat.me.0) (own_of result.0.seat.me.0) list.old.items list.new.items) }
-    ensures err { OnErr result.1 (Made (BeginWalks worker stripes calls.now) (own_of pass.seat.me.0) (own_of result.0.seat.me.0) list.old.items list.new.items) }
-    ensures full { result.1 ≡ Err SessionFault.JournalFull → (o : SessionState E E.Data Step Reply) → pass.seat.me.0.opening ≡ Some o → length (shown_in result.0.seat.me.0.parts) ≡ o.limit }
+    ensures same { result.0.book ≡ pass.book }
+    ensures worker { result.0.worker ≡ worker }
+    ensures ok { OnOk result.1 (Made (AreWalks worker stripes calls.now) pass.own result.0.own list.old.items list.new.items) }
+    ensures err { OnErr result.1 (Made (BeginWalks worker stripes calls.now) pass.own result.0.own list.old.items list.new.items) }
+    ensures full { result.1 ≡ Err SessionFault.JournalFull → length result.0.last ≡ book.now.opening.limit }
 {
     for (n, call) in calls.iter().enumerate() {
         gate.before(worker.number(), n as u64);

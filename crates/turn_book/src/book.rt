@@ -1,10 +1,13 @@
 //! The book: a table of two words and one slot. Word 0 is the next ticket, word 1 the ticket whose turn it is, and
 //! the slot has the value between two turns.
-ghost use Rattle.std.specs.Prelude.{◌≡◌, ◌≤◌, ◌<◌, ◌+◌, ◌∷◌, ◌++◌, List, map, length, vec_len, vec_capacity, true, [], IfOk, IfErr, OnOk, Some};
-ghost use Rattle.turn_book.specs.Faults.{value_in, IsCause};
+ghost use Rattle.std.specs.Prelude.{◌≡◌, ◌≤◌, ◌<◌, ◌+◌, ◌∷◌, ◌++◌, List, map, length, vec_len, vec_capacity, [], IfOk, IfErr, OnOk};
+ghost use Rattle.atomic_table.specs.Table.{Me};
 ghost use Rattle.step_record.specs.declared.worker.TheConstants.{MAX_WORKERS};
 ghost use Rattle.turn_book.specs.declared.book.TheConstants.{MAX_TURNS};
-ghost use Rattle.turn_book.specs.Turns.{Adds, Draws, Waits, Comes, Took, Gave, Ends, Rests, Cuts, Every, left_of, right_of, InOrder, number_of, own_of, is_pass, parts_all, parts_from, beginner};
+ghost use Rattle.turn_book.specs.Faults.{value_in, IsCause};
+ghost use Rattle.turn_book.specs.Passes.{book_id, id_of, InOrder, Takes, Gives, Ends};
+ghost use Rattle.turn_book.specs.Seats.{IsBoard, part_of, pass_view, pass_in, IsPassAt};
+ghost use Rattle.turn_book.specs.Turns.{Adds, Every, IsPass, Draws, Waits, Comes, Rests, Cuts, left_of, right_of, parts_from, beginner};
 
 use crate::fault::OpenFault;
 use crate::pass::{Pass, Turn};
@@ -12,6 +15,7 @@ use crate::rule::{ByWorker, Draw, Look, PassOn, Turns};
 use crate::view::{Terms, View};
 use atomic_table::{Seat, Table};
 use std::alloc::Global;
+use std::marker::Model;
 use std::snapshot::Snapshot;
 use std::sync::Wait;
 use step_record::{Kept, MAX_WORKERS};
@@ -27,9 +31,124 @@ pub(crate) type Place<T> = Seat<Option<T>, View<T, <T as Kept>::Entry>>;
 /// gained since it was opened are those that the passes made in their turns, each pass's in its order.
 #[derive(Drop)]
 pub struct TurnBook<T: Kept> {
-    pub(crate) table: Board<T>,
-    pub(crate) turns: u64,
-    pub ghost sized: { (table.shared.table_id.words ≡ 2) × (table.shared.table_id.slots ≡ 1) × (table.shared.key.workers ≤ 64) × (turns ≤ 4294967296) },
+    table: Board<T>,
+    turns: u64,
+}
+
+impl<T: Kept> Model for TurnBook<T> {
+    ghost use Rattle.std.specs.Prelude.{◌≤◌};
+    ghost use Rattle.turn_book.specs.Passes.{BookState};
+    ghost use Rattle.turn_book.specs.Seats.{IsBoard};
+
+    ghost Value = { BookState T };
+
+    ghost view = { λ b. record { table = b.table.shared.table_id; opening = b.table.shared.key.opening.value; workers = b.table.shared.key.workers; turns = b.turns } };
+
+    ghost invariant = { λ b. IsBoard b.table.shared.table_id b.table.shared.key.workers × (b.turns ≤ 4294967296) };
+}
+
+impl<T: Kept> TurnBook<T> {
+    /// A book over the value, with a pass for each worker, the pass at place `w` for worker `w`. Each pass may draw
+    /// so many turns.
+    ///
+    /// Each fault gives the value back: first `Workers` where there are none or more than [`MAX_WORKERS`], then
+    /// `Turns` where there are none or more than [`MAX_TURNS`], and `OutOfMemory` where an allocation failed.
+    pub fn open(
+        alloc: Global,
+        value: T,
+        workers: u8,
+        turns: u64,
+    ) -> Result<(TurnBook<T>, Vec<Pass<T>>), OpenFault<T>>
+        ensures opens { IfOk result (λ r. (r.0.opening ≡ value) × (r.0.workers ≡ workers) × (r.0.turns ≡ turns)) }
+        ensures own { IfOk result (λ r. Every (λ p. p.book ≡ id_of r.0) r.1.items) }
+        ensures all { IfOk result (λ r. InOrder 0 r.1.items × (length r.1.items ≡ workers) × (vec_len r.1 ≡ workers)) }
+        ensures fresh { IfOk result (λ r. Every (λ p. (p.own ≡ []) × (p.last ≡ T.entries value) × (p.draws ≡ 0)) r.1.items) }
+        ensures accepted { OnOk result ((1 ≤ workers) × (workers ≤ MAX_WORKERS) × (1 ≤ turns) × (turns ≤ MAX_TURNS)) }
+        ensures cause { IfErr result (λ f. IsCause f workers turns) }
+        ensures returned { IfErr result (λ f. value_in f ≡ value) }
+    {
+        if workers == 0 || workers > MAX_WORKERS {
+            return Err(OpenFault::Workers(value));
+        }
+        if turns == 0 || turns > MAX_TURNS {
+            return Err(OpenFault::Turns(value));
+        }
+        let Ok(passes) = Vec::with_capacity(alloc, usize::from(workers)) else {
+            return Err(OpenFault::OutOfMemory(value));
+        };
+        match lay(alloc, value, workers) {
+            Ok((table, seat)) => {
+                let passes = deal(&table, seat, passes, workers);
+                Ok((TurnBook { table, turns }, passes))
+            }
+            Err(value) => Err(OpenFault::OutOfMemory(value)),
+        }
+    }
+
+    /// Waits for a turn of the pass, which then has the value. Where the pass has drawn all of its turns it comes
+    /// back as it was, and nothing else is an error.
+    ///
+    /// The value has the origin that it was opened with. Its entries begin with those that this pass gave last, and
+    /// past the opening ones those of this worker are the pass's own.
+    pub fn take<R: Wait>(&self, rt: &R, pass: Pass<T>) -> Result<Turn<T>, Pass<T>>
+        requires own { pass.book ≡ id_of self.now }
+        ensures took { IfOk result (λ t. Takes T.origin T.entries T.worker_of self.now.opening pass t) }
+        ensures left { OnOk result (pass.draws < self.now.turns) }
+        ensures spent { IfErr result (λ p. (p ≡ pass) × (self.now.turns ≤ p.draws)) }
+    {
+        if pass.drawn >= self.turns {
+            return Err(pass);
+        }
+        let Pass { mut seat, drawn } = pass;
+        let ticket = draw(&self.table, &mut seat, drawn);
+        wait(&self.table, rt, &mut seat, ticket);
+        let Some(value) = self.table.shared.exchange(&mut seat, 0, None) else {
+            unreachable!()
+        };
+        Ok(Turn {
+            seat,
+            drawn: drawn + 1,
+            taken: Snapshot::of(&value),
+            value,
+        })
+    }
+
+    /// Gives the turn back, and passes it on to the next ticket. The value has the origin that it had when it was
+    /// taken, and the same entries or one more, of this worker, at their end; the pass's own list gains just that.
+    pub fn give(&self, turn: Turn<T>) -> Pass<T>
+        requires own { turn.pass.book ≡ id_of self.now }
+        requires leaves { (made : List T.Entry) × Adds T.origin T.entries T.worker_of turn.pass.worker turn.taken turn.value made }
+        ensures gave { Gives T.origin T.entries T.worker_of turn result }
+    {
+        let Turn {
+            mut seat,
+            drawn,
+            taken: _,
+            value,
+        } = turn;
+        let None = self.table.shared.exchange(&mut seat, 0, Some(value)) else {
+            unreachable!()
+        };
+        self.table.shared.fetch_add::<PassOn>(&mut seat, 1, 1);
+        Pass { seat, drawn }
+    }
+
+    /// The value at the end, from all of the book's passes in their order. It has the opening origin; past the
+    /// opening entries those of worker `w` are the own list of the pass at place `w`, and no other worker has any;
+    /// and its entries begin with those that each pass gave last.
+    pub fn close(self, passes: Vec<Pass<T>>) -> T
+        requires own { Every (λ p. p.book ≡ id_of self) passes.items }
+        requires all { InOrder 0 passes.items × (length passes.items ≡ self.workers) }
+        requires some { 0 < vec_len passes }
+        ensures { Ends T.origin T.entries T.worker_of self.opening passes.items result }
+    {
+        let TurnBook { table, turns: _ } = self;
+        let seat = gather(&table, passes);
+        let mut closed = table.close_with(seat);
+        let slot = closed.take(0);
+        closed.free();
+        slot.unwrap()
+    }
 }
 
 // Makes the table. Where the allocation fails, the value comes back.
@@ -56,200 +175,78 @@ fn lay<T: Kept>(alloc: Global, value: T, workers: u8) -> Result<(Board<T>, Place
     }
 }
 
-impl<T: Kept> TurnBook<T> {
-    /// A book over the value, with a pass for each worker, the pass at place `w` for worker `w`. Each pass may draw
-    /// so many turns.
-    ///
-    /// Each fault gives the value back: first `Workers` where there are none or more than [`MAX_WORKERS`], then
-    /// `Turns` where there are none or more than [`MAX_TURNS`], and `OutOfMemory` where an allocation failed.
-    pub fn open(
-        alloc: Global,
-        value: T,
-        workers: u8,
-        turns: u64,
-    ) -> Result<(TurnBook<T>, Vec<Pass<T>>), OpenFault<T>>
-        ensures opens { IfOk result (λ r. (r.0.table.shared.key.opening.value ≡ value) × (r.0.table.shared.key.workers ≡ workers) × (r.0.turns ≡ turns)) }
-        ensures own { IfOk result (λ r. Every (λ p. p.seat.table_id ≡ r.0.table.shared.table_id) r.1.items) }
-        ensures all { IfOk result (λ r. InOrder 0 (map (λ p. p.seat.me.0) r.1.items) × (length r.1.items ≡ workers) × (vec_len r.1 ≡ workers)) }
-        ensures empty { IfOk result (λ r. Every (λ p. own_of p.seat.me.0 ≡ []) r.1.items) }
-        ensures last { IfOk result (λ r. Every (λ p. p.seat.me.0.last ≡ T.entries value) r.1.items) }
-        ensures fresh { IfOk result (λ r. Every (λ p. p.drawn ≡ 0) r.1.items) }
-        ensures accepted { OnOk result ((1 ≤ workers) × (workers ≤ MAX_WORKERS) × (1 ≤ turns) × (turns ≤ MAX_TURNS)) }
-        ensures cause { IfErr result (λ f. IsCause f workers turns) }
-        ensures returned { IfErr result (λ f. value_in f ≡ value) }
-    {
-        if workers == 0 || workers > MAX_WORKERS {
-            return Err(OpenFault::Workers(value));
-        }
-        if turns == 0 || turns > MAX_TURNS {
-            return Err(OpenFault::Turns(value));
-        }
-        let Ok(passes) = Vec::with_capacity(alloc, usize::from(workers)) else {
-            return Err(OpenFault::OutOfMemory(value));
-        };
-        match lay(alloc, value, workers) {
-            Ok((table, seat)) => {
-                let book = TurnBook { table, turns };
-                let passes = book.deal(seat, passes, workers);
-                Ok((book, passes))
-            }
-            Err(value) => Err(OpenFault::OutOfMemory(value)),
-        }
-    }
+// Draws the next ticket.
+fn draw<T: Kept>(board: &Board<T>, seat: &mut Place<T>, drawn: u64) -> u64
+    requires board { IsBoard board.now.shared.table_id board.now.shared.key.workers }
+    requires own { seat.old.table_id ≡ board.now.shared.table_id }
+    requires pass { IsPass seat.old.me drawn }
+    requires left { drawn < 4294967296 }
+    ensures same { seat.new.table_id ≡ seat.old.table_id }
+    ensures drew { Draws seat.old.me result seat.new.me }
+{
+    board.shared.fetch_add::<Draw>(seat, 0, 1)
+}
 
-    // Draws the next ticket.
-    fn draw(&self, seat: &mut Place<T>, drawn: u64) -> u64
-        requires own { seat.old.table_id ≡ self.now.table.shared.table_id }
-        requires pass { is_pass seat.old.me drawn ≡ true }
-        requires left { drawn < self.now.turns }
-        ensures same { seat.new.table_id ≡ seat.old.table_id }
-        ensures drew { Draws seat.old.me result seat.new.me }
-    {
-        self.table.shared.fetch_add::<Draw>(seat, 0, 1)
-    }
-
-    // Waits until the ticket's turn has come, and yields the processor in between.
-    fn wait<R: Wait>(&self, rt: &R, seat: &mut Place<T>, ticket: u64)
-        requires own { seat.old.table_id ≡ self.now.table.shared.table_id }
-        requires waits { Waits seat.old.me ticket }
-        ensures same { seat.new.table_id ≡ seat.old.table_id }
-        ensures came { Comes T.origin T.entries T.worker_of seat.old.me ticket seat.new.me }
-    {
-        for _ in rt.forever() {
-            let serving = self.table.shared.load::<Look>(seat, 1);
-            if serving == ticket {
-                return;
-            }
-            std::thread::yield_now();
+// Waits until the ticket's turn has come, and yields the processor in between.
+fn wait<T: Kept, R: Wait>(board: &Board<T>, rt: &R, seat: &mut Place<T>, ticket: u64)
+    requires board { IsBoard board.now.shared.table_id board.now.shared.key.workers }
+    requires own { seat.old.table_id ≡ board.now.shared.table_id }
+    requires waits { Waits seat.old.me ticket }
+    ensures same { seat.new.table_id ≡ seat.old.table_id }
+    ensures came { Comes T.origin T.entries T.worker_of seat.old.me ticket seat.new.me }
+{
+    for _ in rt.forever() {
+        let serving = board.shared.load::<Look>(seat, 1);
+        if serving == ticket {
+            return;
         }
-        unreachable!()
+        std::thread::yield_now();
     }
+    unreachable!()
+}
 
-    /// Waits for a turn of the pass, which then has the value. Where the pass has drawn all of its turns it comes
-    /// back as it was, and nothing else is an error.
-    ///
-    /// The value has the origin that it was opened with. Its entries begin with those that this pass gave last, and
-    /// past the opening ones those of this worker are the pass's own.
-    pub fn take<R: Wait>(&self, rt: &R, pass: Pass<T>) -> Result<Turn<T>, Pass<T>>
-        requires own { pass.seat.table_id ≡ self.now.table.shared.table_id }
-        ensures same { IfOk result (λ t. t.seat.table_id ≡ pass.seat.table_id) }
-        ensures took { IfOk result (λ t. Took T.origin T.entries T.worker_of pass.seat.me t.seat.me t.value) }
-        ensures drawn { IfOk result (λ t. (t.drawn ≡ pass.drawn + 1) × (pass.drawn < self.now.turns)) }
-        ensures spent { IfErr result (λ p. (p ≡ pass) × (self.now.turns ≤ p.drawn)) }
-    {
-        if pass.drawn >= self.turns {
-            return Err(pass);
-        }
-        let Pass { mut seat, drawn } = pass;
-        let ticket = self.draw(&mut seat, drawn);
-        self.wait(rt, &mut seat, ticket);
-        let Some(value) = self.table.shared.exchange(&mut seat, 0, None) else {
-            unreachable!()
-        };
-        Ok(Turn {
-            seat,
-            drawn: drawn + 1,
-            value,
-        })
+// Deals a pass to each worker, in order.
+fn deal<T: Kept>(
+    board: &Board<T>,
+    mut seat: Place<T>,
+    mut passes: Vec<Pass<T>>,
+    workers: u8,
+) -> Vec<Pass<T>>
+    requires board { IsBoard board.now.shared.table_id board.now.shared.key.workers }
+    requires own { seat.table_id ≡ board.now.shared.table_id }
+    requires some { 0 < workers }
+    requires room { (passes.items ≡ []) × (vec_len passes ≡ 0) × (workers ≤ vec_capacity passes) }
+    requires rests { Rests seat.me (parts_from seat.me.0.last 0 workers) seat.me.0.last }
+    ensures own { Every (λ p. p.book ≡ record { table = seat.table_id; opening = seat.me.0.opening }) result.items }
+    ensures parts { map part_of result.items ≡ parts_from seat.me.0.last 0 workers }
+    ensures len { vec_len result ≡ workers }
+{
+    for w in 1..workers {
+        let pass = cut(board, &mut seat);
+        add(&mut passes, pass);
     }
+    add(&mut passes, fresh(seat));
+    passes
+}
 
-    /// Gives the turn back, and passes it on to the next ticket. The value has the origin that it had when it was
-    /// taken, and the same entries or one more, of this worker, at their end; the pass's own list gains just that.
-    pub fn give(&self, turn: Turn<T>) -> Pass<T>
-        requires own { turn.seat.table_id ≡ self.now.table.shared.table_id }
-        requires leaves { (t : T) → turn.seat.me.0.held ≡ Some t → (es : List T.Entry) × Adds T.origin T.entries T.worker_of (number_of turn.seat.me.0) t turn.value es }
-        ensures same { result.seat.table_id ≡ turn.seat.table_id }
-        ensures gave { Gave T.origin T.entries T.worker_of turn.seat.me result.seat.me turn.value }
-        ensures drawn { result.drawn ≡ turn.drawn }
-    {
-        let Turn {
-            mut seat,
-            drawn,
-            value,
-        } = turn;
-        let None = self.table.shared.exchange(&mut seat, 0, Some(value)) else {
-            unreachable!()
-        };
-        self.table.shared.fetch_add::<PassOn>(&mut seat, 1, 1);
-        Pass { seat, drawn }
-    }
-
-    // Cuts off the first worker's part.
-    fn cut(&self, seat: &mut Place<T>) -> Pass<T>
-        requires own { seat.old.table_id ≡ self.now.table.shared.table_id }
-        requires cuts { Cuts seat.old.me }
-        ensures same { (seat.new.table_id ≡ seat.old.table_id) × (result.seat.table_id ≡ seat.old.table_id) }
-        ensures parts { (seat.new.me ≡ (left_of seat.old.me.0, seat.old.me.1)) × (result.seat.me ≡ (right_of seat.old.me.0, [])) }
-        ensures fresh { result.drawn ≡ 0 }
-    {
-        let other = self.table.shared.split_seat::<ByWorker>(seat);
-        Pass {
-            seat: other,
-            drawn: 0,
-        }
-    }
-
-    // Deals a pass to each worker, in order.
-    fn deal(&self, mut seat: Place<T>, mut passes: Vec<Pass<T>>, workers: u8) -> Vec<Pass<T>>
-        requires own { seat.table_id ≡ self.now.table.shared.table_id }
-        requires some { 0 < workers }
-        requires room { (passes.items ≡ []) × (vec_len passes ≡ 0) × (workers ≤ vec_capacity passes) }
-        requires rests { Rests seat.me (parts_from 0 workers) seat.me.0.last }
-        ensures own { Every (λ p. p.seat.table_id ≡ self.now.table.shared.table_id) result.items }
-        ensures parts { parts_all (map (λ p. p.seat.me.0) result.items) ≡ parts_from 0 workers }
-        ensures last { Every (λ p. p.seat.me.0.last ≡ seat.me.0.last) result.items }
-        ensures fresh { Every (λ p. p.drawn ≡ 0) result.items }
-        ensures len { vec_len result ≡ workers }
-    {
-        for w in 1..workers {
-            let pass = self.cut(&mut seat);
-            add(&mut passes, pass);
-        }
-        add(&mut passes, fresh(seat));
-        passes
-    }
-
-    // Joins the seats of all passes.
-    fn gather(&self, mut passes: Vec<Pass<T>>) -> Place<T>
-        requires some { 0 < vec_len passes }
-        requires own { Every (λ p. p.seat.table_id ≡ self.now.table.shared.table_id) passes.items }
-        ensures same { result.table_id ≡ self.now.table.shared.table_id }
-        ensures parts { Rests result.me (parts_all (map (λ p. p.seat.me.0) passes.items)) result.me.0.last }
-    {
-        let Pass { mut seat, drawn: _ } = passes.pop().unwrap();
-        while let Some(pass) = passes.pop() {
-            let Pass {
-                seat: other,
-                drawn: _,
-            } = pass;
-            self.table.shared.join_seat::<ByWorker>(&mut seat, other);
-        }
-        seat
-    }
-
-    /// The value at the end, from all of the book's passes in their order. It has the opening origin; past the
-    /// opening entries those of worker `w` are the own list of the pass at place `w`, and no other worker has any;
-    /// and its entries begin with those that each pass gave last.
-    pub fn close(self, passes: Vec<Pass<T>>) -> T
-        requires own { Every (λ p. p.seat.table_id ≡ self.table.shared.table_id) passes.items }
-        requires all { InOrder 0 (map (λ p. p.seat.me.0) passes.items) × (length passes.items ≡ self.table.shared.key.workers) }
-        requires some { 0 < vec_len passes }
-        ensures { Ends T.origin T.entries T.worker_of self.table.shared.key.opening.value (map (λ p. p.seat.me.0) passes.items) result }
-    {
-        let seat = self.gather(passes);
-        let TurnBook { table, turns: _ } = self;
-        let mut closed = table.close_with(seat);
-        let slot = closed.take(0);
-        closed.free();
-        slot.unwrap()
-    }
+// Cuts off the first worker's part.
+fn cut<T: Kept>(board: &Board<T>, seat: &mut Place<T>) -> Pass<T>
+    requires board { IsBoard board.now.shared.table_id board.now.shared.key.workers }
+    requires own { seat.old.table_id ≡ board.now.shared.table_id }
+    requires cuts { Cuts seat.old.me }
+    ensures same { seat.new.table_id ≡ seat.old.table_id }
+    ensures left { seat.new.me ≡ (left_of seat.old.me.0, seat.old.me.1) }
+    ensures pass { pass_view result ≡ right_of seat.old.me.0 }
+    ensures book { result.book ≡ record { table = seat.old.table_id; opening = seat.old.me.0.opening } }
+{
+    let other = board.shared.split_seat::<ByWorker>(seat);
+    fresh(other)
 }
 
 // The pass of a seat that has drawn nothing.
 fn fresh<T: Kept>(seat: Place<T>) -> Pass<T>
-    requires { is_pass seat.me 0 ≡ true }
-    ensures seat { result.seat ≡ seat }
-    ensures fresh { result.drawn ≡ 0 }
+    requires { IsPassAt seat.table_id seat.me 0 }
+    ensures { result ≡ pass_in seat.table_id seat.me.0 0 }
 {
     Pass { seat, drawn: 0 }
 }
@@ -262,4 +259,29 @@ fn add<T: Kept>(passes: &mut Vec<Pass<T>>, pass: Pass<T>)
     ensures capacity { vec_capacity passes.old ≤ vec_capacity passes.new }
 {
     passes.push(pass).unwrap();
+}
+
+// Joins the seats of all passes.
+fn gather<T: Kept>(board: &Board<T>, mut passes: Vec<Pass<T>>) -> Place<T>
+    requires board { IsBoard board.now.shared.table_id board.now.shared.key.workers }
+    requires some { 0 < vec_len passes }
+    requires own { Every (λ p. p.book ≡ book_id board.now.shared.table_id board.now.shared.key.opening.value) passes.items }
+    ensures same { result.table_id ≡ board.now.shared.table_id }
+    ensures parts { Rests result.me (map part_of passes.items) result.me.0.last }
+{
+    let mut seat = seat_of(passes.pop().unwrap());
+    while let Some(pass) = passes.pop() {
+        let other = seat_of(pass);
+        board.shared.join_seat::<ByWorker>(&mut seat, other);
+    }
+    seat
+}
+
+// The seat of a pass.
+fn seat_of<T: Kept>(pass: Pass<T>) -> Place<T>
+    ensures same { result.table_id ≡ pass.book.table }
+    ensures seat { result.me ≡ (pass_view pass, []) }
+{
+    let Pass { seat, drawn: _ } = pass;
+    seat
 }

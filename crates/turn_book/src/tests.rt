@@ -1,5 +1,5 @@
 ghost use Rattle.std.specs.Prelude.{◌≡◌, ◌+◌, ◌∷◌, ◌++◌, IfSome, [], vec_len};
-ghost use Rattle.turn_book.specs.Turns.{number_of};
+ghost use Rattle.turn_book.specs.Passes.{id_of};
 
 use super::*;
 use std::alloc::Global;
@@ -148,10 +148,10 @@ fn turn<R: Wait>(
     pass: Pass<Log>,
     entered: Entered,
 ) -> (Pass<Log>, bool)
-    requires own { pass.seat.table_id ≡ book.now.table.shared.table_id }
-    requires worker { number_of pass.seat.me.0 ≡ entered.worker }
-    ensures own { result.0.seat.table_id ≡ book.now.table.shared.table_id }
-    ensures worker { number_of result.0.seat.me.0 ≡ entered.worker }
+    requires own { pass.book ≡ id_of book.now }
+    requires worker { pass.worker ≡ entered.worker }
+    ensures own { result.0.book ≡ id_of book.now }
+    ensures worker { result.0.worker ≡ entered.worker }
 {
     match book.take(rt, pass) {
         Err(pass) => (pass, true),
@@ -170,10 +170,10 @@ fn work<R: Wait>(
     mut pass: Pass<Log>,
     worker: u8,
 ) -> Pass<Log>
-    requires own { pass.seat.table_id ≡ book.now.table.shared.table_id }
-    requires worker { number_of pass.seat.me.0 ≡ worker }
-    ensures own { result.seat.table_id ≡ book.now.table.shared.table_id }
-    ensures worker { number_of result.seat.me.0 ≡ worker }
+    requires own { pass.book ≡ id_of book.now }
+    requires worker { pass.worker ≡ worker }
+    ensures own { result.book ≡ id_of book.now }
+    ensures worker { result.worker ≡ worker }
 {
     begun.fetch_add(1, Ordering::SeqCst);
     wait_for_both(rt, begun);
@@ -196,12 +196,12 @@ fn both<R: Threads + Wait + Sync>(rt: &R, alloc: Global) -> Option<Log> {
     let (one, other) = thread::join(
         rt,
         move || -> Pass<Log>
-            requires { (one.seat.table_id ≡ lent.now.table.shared.table_id) × (number_of one.seat.me.0 ≡ 0) }
-            ensures { (result.seat.table_id ≡ lent.entry.now.table.shared.table_id) × (number_of result.seat.me.0 ≡ 0) }
+            requires { (one.book ≡ id_of lent.now) × (one.worker ≡ 0) }
+            ensures { (result.book ≡ id_of lent.entry.now) × (result.worker ≡ 0) }
         { work(rt, gate, lent, one, 0) },
         move || -> Pass<Log>
-            requires { (other.seat.table_id ≡ lent.now.table.shared.table_id) × (number_of other.seat.me.0 ≡ 1) }
-            ensures { (result.seat.table_id ≡ lent.entry.now.table.shared.table_id) × (number_of result.seat.me.0 ≡ 1) }
+            requires { (other.book ≡ id_of lent.now) × (other.worker ≡ 1) }
+            ensures { (result.book ≡ id_of lent.entry.now) × (result.worker ≡ 1) }
         { work(rt, gate, lent, other, 1) },
     );
     let first = pushed(passes, one)?;
