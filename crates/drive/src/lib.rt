@@ -7,6 +7,7 @@
 //! step was refused.
 #![tactic(auto)]
 
+mod desk;
 mod local;
 mod next;
 mod place;
@@ -15,6 +16,7 @@ mod tests;
 mod turns;
 mod work;
 
+pub use desk::Desk;
 pub use local::Local;
 pub use next::{Next, next_step};
 pub use place::Place;
