@@ -50,3 +50,11 @@ pub counts_at : (xs : List Desk) (lo k : ℕ) (d : Desk) → Counts lo xs → k 
 counts_at [] lo k d h lt = absurd (omega arith)
 counts_at (x ∷ xs) lo zero d h lt = let e = h.0 in omega arith
 counts_at (x ∷ xs) lo (suc k) d h lt = let e = counts_at xs (suc lo) k d h.1 (omega arith) in omega arith
+
+-- each worker's number is below their count
+pub every_below : (xs : List Desk) (n : ℕ) → Counts 0 xs → length xs ≡ n → Every (λ d. d.worker < n) xs
+every_below xs n c e = go xs 0 c (omega arith)
+  where
+    go : (xs : List Desk) (lo : ℕ) → Counts lo xs → lo + length xs ≡ n → Every (λ d. d.worker < n) xs
+    go [] lo c e = tt
+    go (x ∷ xs) lo c e = let w = c.0 in (omega arith, go xs (suc lo) c.1 (omega arith))

@@ -79,7 +79,7 @@ fn work_all<G: Gate, R: Threads + Wait + Sync>(
 }
 
 // A place for each worker, with its pass, in memory that is there.
-fn seat_all(
+pub(crate) fn seat_all(
     alloc: Global,
     book: &TurnBook<Session<Shell>>,
     passes: Vec<Pass<Session<Shell>>>,
@@ -106,8 +106,27 @@ fn seat_all(
     desks
 }
 
+// Has all workers work, at their places.
+pub(crate) fn work_seated<G: Gate, R: Threads + Wait + Sync>(
+    rt: &R,
+    gate: &G,
+    book: &TurnBook<Session<Shell>>,
+    pieces: &[Vec<Call>],
+    stripes: u8,
+    mut desks: Vec<Desk>,
+) -> Vec<Desk>
+    requires stripes { (1 ≤ stripes) × (stripes ≤ MAX_STRIPES) }
+    requires sit { Every (λ d. Sits book.now.table.shared.table_id d × (d.list.items ≡ [])) desks.items }
+    requires counts { Counts 0 desks.items × (length desks.items ≡ length pieces.now) }
+    ensures sit { Every (λ d. Sits book.now.table.shared.table_id d × HasWorked stripes (calls_of pieces.now) d) result.items }
+    ensures counts { Counts 0 result.items × (length result.items ≡ length pieces.now) }
+{
+    work_all(rt, gate, book, pieces, stripes, desks.as_mut_slice());
+    desks
+}
+
 // Why the first of the workers that stopped did so; nothing where none stopped.
-fn first_fault(desks: &[Desk]) -> Option<SessionFault>
+pub(crate) fn first_fault(desks: &[Desk]) -> Option<SessionFault>
     ensures none { result ≡ None → Every (λ d. d.fault ≡ None) desks.now }
 {
     for desk in desks {
@@ -119,7 +138,7 @@ fn first_fault(desks: &[Desk]) -> Option<SessionFault>
 }
 
 // The passes and the lists of all workers, in memory that is there.
-fn rise_all(
+pub(crate) fn rise_all(
     desks: Vec<Desk>,
     mut passes: Vec<Pass<Session<Shell>>>,
     mut lists: Vec<Vec<Entry<Step, Reply>>>,

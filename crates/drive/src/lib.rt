@@ -8,6 +8,7 @@
 #![tactic(auto)]
 
 mod desk;
+mod driving;
 mod local;
 mod next;
 mod place;
