@@ -18,7 +18,7 @@ use turn_book::{Pass, TurnBook};
 /// What one worker has: its pass, which is with it but while it works, the entries that it made, and why it
 /// stopped before its last call was done.
 #[derive(Drop)]
-pub struct Desk {
+pub(crate) struct Desk {
     pub(crate) pass: Option<Pass<Session<Shell>>>,
     pub(crate) worker: Worker,
     pub(crate) list: Vec<Entry<Step, Reply>>,

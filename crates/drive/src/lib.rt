@@ -17,7 +17,7 @@ mod tests;
 mod turns;
 mod work;
 
-pub use desk::Desk;
+pub use driving::{DriveFault, Driven, drive};
 pub use local::Local;
 pub use next::{Next, next_step};
 pub use place::Place;
