@@ -1,11 +1,13 @@
 -- What a run hands back.
 use Rattle.std.proofs.Common.{◌≡◌, ℕ, ◌≤◌, ◌<◌, List, Option, Some, None, map, length, sym, ap, ◌∙◌, subst, Result, Ok, Err, OnOk, arith}
-use Rattle.std.specs.Prelude.{IfOk, IfErr, option_map}
+use Rattle.std.specs.Prelude.{IfOk, IfErr, option_map, unwrap_or}
 use Rattle.std.proofs.lemmas.List.{length-map}
 use Rattle.step_record.specs.declared.step.Call.{Call}
 use Rattle.step_record.specs.declared.step.Reply.{Reply}
 use Rattle.step_record.specs.declared.step.Step.{Step}
 use Rattle.journal.specs.Session.{SessionState}
+use Rattle.journal.specs.declared.fault.SessionFault.{SessionFault}
+use Rattle.journal.specs.declared.fault.SessionFault.TheVariants as fault
 use Rattle.shell_model.specs.declared.holder.Holder.{Holder}
 use Rattle.shell_model.specs.Shell.{Shell}
 use Rattle.drive.specs.declared.driving.DriveFault.{DriveFault}
@@ -33,3 +35,7 @@ if_err (Err y) P Q f h = f y h
 pub on_ok : {X F : Type 0} (r : Result X F) (P : Type 0) → P → OnOk r P
 on_ok (Ok x) P h = h
 on_ok (Err y) P h = tt
+
+pub full_cause : (o : Option SessionFault) → unwrap_or o fault.OutOfMemory ≡ fault.JournalFull → o ≡ Some fault.JournalFull
+full_cause None e = absurd (cc (e))
+full_cause (Some f) e = ap (λ x. Some x) e

@@ -1,11 +1,15 @@
 -- Workers at their places, and what they made there.
-use Rattle.std.specs.Prelude.{◌≡◌, ℕ, suc, List, [], ◌∷◌, map, get_or, IfSome, MatchOption}
+use Rattle.std.specs.Prelude.{◌≡◌, ℕ, suc, List, [], ◌∷◌, map, length, get_or, Some, IfSome, MatchOption}
 use Rattle.std.specs.Option.{IsSome}
 use Rattle.std.specs.Global.{Vec}
 use Rattle.std.specs.Vec.{vec_items}
-use Rattle.atomic_table.specs.Seated.{TableId}
 use Rattle.step_record.specs.declared.step.Call.{Call}
-use Rattle.turn_book.specs.Turns.{number_of, own_of}
+use Rattle.step_record.specs.declared.step.Reply.{Reply}
+use Rattle.step_record.specs.declared.step.Step.{Step}
+use Rattle.shell_model.specs.Shell.{Shell}
+use Rattle.journal.specs.Session.{SessionState}
+use Rattle.journal.specs.declared.fault.SessionFault.TheVariants.{JournalFull}
+use Rattle.turn_book.specs.Passes.{BookId}
 use Rattle.drive.specs.declared.desk.Desk.{Desk}
 use Rattle.drive.specs.Walks.{Entries, AreWalks}
 use Rattle.drive.specs.Made.{BeginWalks}
@@ -14,14 +18,19 @@ use Rattle.drive.specs.Made.{BeginWalks}
 abbrev pub calls_of : List (Vec Call) → ℕ → List Call
 calls_of pieces w = get_or (map (λ p. vec_items p) pieces) w []
 
--- the worker has its pass of this table, and in its list what the pass made
-pub record Sits (z : TableId) (d : Desk) : Type 0 where
-  pub has : IsSome d.pass
-  pub own : IfSome d.pass (λ p. (p.seat.table_id ≡ z) × (number_of p.seat.me.0 ≡ d.worker) × (own_of p.seat.me.0 ≡ d.list.items))
+abbrev pub ShellSession : Type 0
+ShellSession = SessionState Shell Shell Step Reply
 
--- its list is one walk for each of its calls, or the beginning of such walks where it was stopped
-abbrev pub HasWorked : ℕ → (ℕ → List Call) → Desk → Type 0
-HasWorked n calls d = MatchOption d.fault (AreWalks d.worker n (calls d.worker) d.list.items) (λ f. BeginWalks d.worker n (calls d.worker) d.list.items)
+-- the worker has its pass of this book, and in its list what the pass made
+pub record Sits (b : BookId ShellSession) (d : Desk) : Type 0 where
+  pub has : IsSome d.pass
+  pub own : IfSome d.pass (λ p. (p.book ≡ b) × (p.worker ≡ d.worker) × (p.own ≡ d.list.items))
+
+-- Its list is one walk for each of its calls, or the beginning of such walks where it was stopped; and where a full
+-- journal did that, it last saw as many entries as the limit.
+pub record HasWorked (n limit : ℕ) (calls : ℕ → List Call) (d : Desk) : Type 0 where
+  pub walks : MatchOption d.fault (AreWalks d.worker n (calls d.worker) d.list.items) (λ f. BeginWalks d.worker n (calls d.worker) d.list.items)
+  pub full : d.fault ≡ Some JournalFull → IfSome d.pass (λ p. length p.last ≡ limit)
 
 -- the workers from lo on, in order
 abbrev pub Counts : ℕ → List Desk → Type 0

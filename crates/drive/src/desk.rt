@@ -1,8 +1,10 @@
 //! What each worker has at its own place, and how all of them work side by side.
-ghost use Rattle.std.specs.Prelude.{◌≡◌, ℕ, ◌<◌, ◌≤◌, None, Some, [], ◌∷◌, ◌++◌, All, Option, MatchOption, IsSome, length, map, slice_index_or, vec_len, vec_capacity};
+ghost use Rattle.std.specs.Prelude.{◌≡◌, ℕ, ◌<◌, ◌≤◌, None, Some, [], ◌∷◌, ◌++◌, All, Option, IfSome, IsSome, length, map, slice_index_or, vec_len, vec_capacity};
 ghost use Rattle.step_record.specs.declared.limits.TheConstants.{MAX_STRIPES};
 ghost use Rattle.step_record.specs.declared.worker.TheConstants.{MAX_WORKERS};
-ghost use Rattle.turn_book.specs.Turns.{Every, InOrder, own_of, number_of};
+ghost use Rattle.journal.specs.declared.fault.SessionFault.TheVariants.{JournalFull};
+ghost use Rattle.turn_book.specs.Turns.{Every};
+ghost use Rattle.turn_book.specs.Passes.{InOrder, id_of};
 ghost use Rattle.drive.specs.Desks.{Sits, HasWorked, Counts, calls_of};
 
 use super::turns::work_in_turns;
@@ -35,11 +37,11 @@ fn work_at<G: Gate, R: Wait>(
     desk: &mut Desk,
 )
     requires stripes { (1 ≤ stripes) × (stripes ≤ MAX_STRIPES) }
-    requires sits { Sits book.now.table.shared.table_id desk.old }
+    requires sits { Sits (id_of book.now) desk.old }
     requires fresh { desk.old.list.items ≡ [] }
     requires below { desk.old.worker < length pieces.now }
-    ensures sits { Sits book.now.table.shared.table_id desk.new }
-    ensures worked { HasWorked stripes (calls_of pieces.now) desk.new }
+    ensures sits { Sits (id_of book.now) desk.new }
+    ensures worked { HasWorked stripes book.now.opening.limit (calls_of pieces.now) desk.new }
     ensures worker { desk.new.worker ≡ desk.old.worker }
 {
     let Some(pass) = desk.pass.take() else {
@@ -47,8 +49,16 @@ fn work_at<G: Gate, R: Wait>(
     };
     let worker = desk.worker;
     let calls = pieces[usize::from(worker.number())].as_slice();
-    let (pass, answer) =
-        work_in_turns(rt, gate, book, pass, &mut desk.list, worker, stripes, calls);
+    let (pass, answer) = work_in_turns(
+        rt,
+        gate,
+        book,
+        pass,
+        &mut desk.list,
+        worker,
+        stripes,
+        calls,
+    );
     desk.pass = Some(pass);
     desk.fault = answer.err();
 }
@@ -63,8 +73,8 @@ fn work_all<G: Gate, R: Threads + Wait + Sync>(
     desks: &mut [Desk],
 )
     requires stripes { (1 ≤ stripes) × (stripes ≤ MAX_STRIPES) }
-    requires sit { All (λ d. Sits book.now.table.shared.table_id d × (d.list.items ≡ []) × (d.worker < length pieces.now)) desks.old }
-    ensures sit { All (λ d. Sits book.now.table.shared.table_id d × HasWorked stripes (calls_of pieces.now) d) desks.new }
+    requires sit { All (λ d. Sits (id_of book.now) d × (d.list.items ≡ []) × (d.worker < length pieces.now)) desks.old }
+    ensures sit { All (λ d. Sits (id_of book.now) d × HasWorked stripes book.now.opening.limit (calls_of pieces.now) d) desks.new }
     ensures workers { (i : ℕ) (d : Desk) → i < length desks.old → (slice_index_or desks.new i d).worker ≡ (slice_index_or desks.old i d).worker }
 {
     if desks.is_empty() {
@@ -72,8 +82,8 @@ fn work_all<G: Gate, R: Threads + Wait + Sync>(
     }
     let threads = desks.len();
     let each = |_i: usize, desk: &mut Desk|
-        requires { (1 ≤ stripes) × (stripes ≤ MAX_STRIPES) × Sits book.now.table.shared.table_id desk.now × (desk.now.list.items ≡ []) × (desk.now.worker < length pieces.now) }
-        ensures { Sits book.entry.now.table.shared.table_id desk.exit.now × HasWorked stripes (calls_of pieces.entry.now) desk.exit.now × (desk.exit.now.worker ≡ desk.entry.now.worker) }
+        requires { (1 ≤ stripes) × (stripes ≤ MAX_STRIPES) × Sits (id_of book.now) desk.now × (desk.now.list.items ≡ []) × (desk.now.worker < length pieces.now) }
+        ensures { Sits (id_of book.entry.now) desk.exit.now × HasWorked stripes book.entry.now.opening.limit (calls_of pieces.entry.now) desk.exit.now × (desk.exit.now.worker ≡ desk.entry.now.worker) }
     { work_at(rt, gate, book, pieces, stripes, desk) };
     thread::for_each_mut(rt, desks, threads, &each);
 }
@@ -85,11 +95,11 @@ pub(crate) fn seat_all(
     passes: Vec<Pass<Session<Shell>>>,
     mut desks: Vec<Desk>,
 ) -> Vec<Desk>
-    requires order { InOrder 0 (map (λ p. p.seat.me.0) passes.items) × (length passes.items ≤ MAX_WORKERS) }
-    requires own { Every (λ p. p.seat.table_id ≡ book.now.table.shared.table_id) passes.items }
-    requires empty { Every (λ p. own_of p.seat.me.0 ≡ []) passes.items }
+    requires order { InOrder 0 passes.items × (length passes.items ≤ MAX_WORKERS) }
+    requires own { Every (λ p. p.book ≡ id_of book.now) passes.items }
+    requires empty { Every (λ p. p.own ≡ []) passes.items }
     requires room { (desks.items ≡ []) × (length passes.items ≤ vec_capacity desks) }
-    ensures sit { Every (λ d. Sits book.now.table.shared.table_id d × (d.list.items ≡ [])) result.items }
+    ensures sit { Every (λ d. Sits (id_of book.now) d × (d.list.items ≡ [])) result.items }
     ensures counts { Counts 0 result.items × (length result.items ≡ length passes.items) }
 {
     for pass in passes {
@@ -116,9 +126,9 @@ pub(crate) fn work_seated<G: Gate, R: Threads + Wait + Sync>(
     mut desks: Vec<Desk>,
 ) -> Vec<Desk>
     requires stripes { (1 ≤ stripes) × (stripes ≤ MAX_STRIPES) }
-    requires sit { Every (λ d. Sits book.now.table.shared.table_id d × (d.list.items ≡ [])) desks.items }
+    requires sit { Every (λ d. Sits (id_of book.now) d × (d.list.items ≡ [])) desks.items }
     requires counts { Counts 0 desks.items × (length desks.items ≡ length pieces.now) }
-    ensures sit { Every (λ d. Sits book.now.table.shared.table_id d × HasWorked stripes (calls_of pieces.now) d) result.items }
+    ensures sit { Every (λ d. Sits (id_of book.now) d × HasWorked stripes book.now.opening.limit (calls_of pieces.now) d) result.items }
     ensures counts { Counts 0 result.items × (length result.items ≡ length pieces.now) }
 {
     work_all(rt, gate, book, pieces, stripes, desks.as_mut_slice());
@@ -128,6 +138,7 @@ pub(crate) fn work_seated<G: Gate, R: Threads + Wait + Sync>(
 // Why the first of the workers that stopped did so; nothing where none stopped.
 pub(crate) fn first_fault(desks: &[Desk]) -> Option<SessionFault>
     ensures none { result ≡ None → Every (λ d. d.fault ≡ None) desks.now }
+    ensures some { IfSome result (λ f. (i : ℕ) × (i < length desks.now) × ((d : Desk) → (slice_index_or desks.now i d).fault ≡ Some f)) }
 {
     for desk in desks {
         if let Some(fault) = desk.fault {

@@ -2,7 +2,8 @@
 ghost use Rattle.std.specs.Prelude.{◌≡◌, ℕ, ◌<◌, ◌≤◌, None, Some, [], ◌∷◌, ◌++◌, Option, IfOk, IfErr, OnOk, MatchOption, unwrap_or, length, map, vec_len, vec_capacity};
 ghost use Rattle.step_record.specs.declared.limits.TheConstants.{MAX_STRIPES};
 ghost use Rattle.step_record.specs.declared.worker.TheConstants.{MAX_WORKERS};
-ghost use Rattle.turn_book.specs.Turns.{Every, InOrder, own_of};
+ghost use Rattle.turn_book.specs.Turns.{Every};
+ghost use Rattle.turn_book.specs.Passes.{InOrder, id_of};
 ghost use Rattle.drive.specs.Walks.{AreWalks};
 ghost use Rattle.drive.specs.Made.{BeginWalks};
 ghost use Rattle.drive.specs.Desks.{Sits, HasWorked, Counts, calls_of};
@@ -31,14 +32,18 @@ pub struct Driven {
 #[derive(Drop)]
 pub enum DriveFault {
     /// There are no pieces, or more than [`MAX_WORKERS`]. The session is as it was.
-    Workers { session: Session<Shell> },
+    Workers {
+        session: Session<Shell>,
+    },
     /// This worker holds the maintenance, which is to be settled first. The session is as it was.
     Held {
         worker: Worker,
         session: Session<Shell>,
     },
     /// An allocation failed before any step. The session is as it was.
-    OutOfMemory { session: Session<Shell> },
+    OutOfMemory {
+        session: Session<Shell>,
+    },
     /// A worker was refused a step, and ended there, while the others went on. The lists are those of a run, each of
     /// which may end early; the cause is that of the refused worker with the lowest number.
     Stopped {
@@ -80,8 +85,16 @@ pub fn drive<G: Gate, R: Threads + Wait + Sync>(
     };
     match TurnBook::open(alloc, session, workers as u8, MAX_TURNS) {
         Ok((book, passes)) => {
-            let (session, lists, fault) =
-                run_book(rt, alloc, gate, book, passes, pieces.as_slice(), stripes, room);
+            let (session, lists, fault) = run_book(
+                rt,
+                alloc,
+                gate,
+                book,
+                passes,
+                pieces.as_slice(),
+                stripes,
+                room,
+            );
             handed(session, lists, fault)
         }
         Err(OpenFault::OutOfMemory(session)) => Err(DriveFault::OutOfMemory { session }),
@@ -98,6 +111,7 @@ fn handed(
     ensures ok { IfOk result (λ d. (d.session ≡ session) × (d.lists.items ≡ lists.items) × (fault ≡ None)) }
     ensures err { IfErr result (λ f. f ≡ DriveFault.Stopped session lists (unwrap_or fault SessionFault.OutOfMemory)) }
     ensures legal { IsLegal act session.opening session.kept }
+    ensures room { length session.kept ≤ session.limit }
 {
     session.len();
     match fault {
@@ -142,16 +156,21 @@ fn run_book<G: Gate, R: Threads + Wait + Sync>(
     pieces: &[Vec<Call>],
     stripes: u8,
     room: Room,
-) -> (Session<Shell>, Vec<Vec<Entry<Step, Reply>>>, Option<SessionFault>)
+) -> (
+    Session<Shell>,
+    Vec<Vec<Entry<Step, Reply>>>,
+    Option<SessionFault>,
+)
     requires stripes { (1 ≤ stripes) × (stripes ≤ MAX_STRIPES) }
-    requires workers { (length pieces.now ≡ book.table.shared.key.workers) × (1 ≤ length pieces.now) × (length pieces.now ≤ MAX_WORKERS) }
-    requires order { InOrder 0 (map (λ p. p.seat.me.0) passes.items) × (length passes.items ≡ length pieces.now) }
-    requires own { Every (λ p. p.seat.table_id ≡ book.table.shared.table_id) passes.items }
-    requires empty { Every (λ p. own_of p.seat.me.0 ≡ []) passes.items }
+    requires workers { (length pieces.now ≡ book.workers) × (1 ≤ length pieces.now) × (length pieces.now ≤ MAX_WORKERS) }
+    requires order { InOrder 0 passes.items × (length passes.items ≡ length pieces.now) }
+    requires own { Every (λ p. p.book ≡ id_of book) passes.items }
+    requires empty { Every (λ p. p.own ≡ []) passes.items }
     requires fresh { (room.desks.items ≡ []) × (room.passes.items ≡ []) × (room.lists.items ≡ []) }
     requires room { (length pieces.now ≤ vec_capacity room.desks) × (length pieces.now ≤ vec_capacity room.passes) × (length pieces.now ≤ vec_capacity room.lists) }
-    ensures none { result.2 ≡ None → IsRun (λ w. AreWalks w stripes) (map (λ p. p.items) pieces.now) book.table.shared.key.opening.value result.0 (map (λ l. l.items) result.1.items) }
-    ensures some { IsRun (λ w. BeginWalks w stripes) (map (λ p. p.items) pieces.now) book.table.shared.key.opening.value result.0 (map (λ l. l.items) result.1.items) }
+    ensures none { result.2 ≡ None → IsRun (λ w. AreWalks w stripes) (map (λ p. p.items) pieces.now) book.opening result.0 (map (λ l. l.items) result.1.items) }
+    ensures full { result.2 ≡ Some SessionFault.JournalFull → book.opening.limit ≤ length result.0.kept }
+    ensures some { IsRun (λ w. BeginWalks w stripes) (map (λ p. p.items) pieces.now) book.opening result.0 (map (λ l. l.items) result.1.items) }
 {
     let Room {
         desks,
