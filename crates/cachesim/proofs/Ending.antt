@@ -6,11 +6,13 @@ use Rattle.clap.specs.declared.error.ErrorKind.TheVariants.{OutOfMemory}
 use Rattle.step_record.specs.declared.config.Config.{Config}
 use Rattle.step_record.specs.declared.job.Job.{Job}
 use Rattle.command_line.specs.Parsed.{ParsedBy}
-use Rattle.command_line.specs.declared.arguments.Arguments.TheVariants.{Part, Run, Sweep}
+use Rattle.command_line.specs.declared.arguments.Arguments.TheVariants.{Drive, Part, Run, Sweep}
 use Rattle.command_line.specs.declared.arguments.RunArguments.{RunArguments}
 use Rattle.command_line.specs.declared.sweep.SweepArguments.{SweepArguments}
 use Rattle.command_line.specs.declared.part.PartArguments.{PartArguments}
 use Rattle.command_line.specs.declared.fault.ParseFault.TheVariants.{Refused}
+use Rattle.command_line.specs.declared.drive.DriveArguments.{DriveArguments}
+use Rattle.cachesim.specs.Drove.{IsDriven}
 use Rattle.cachesim.specs.Jobs.{jobs_at, jobs_of}
 use Rattle.cachesim.specs.Part.{Parting}
 use Rattle.cachesim.specs.Run.{DoneBy, RefusedBy, Reports, is_help}
@@ -81,7 +83,7 @@ part_done words part p input before after h =
       are = p.are;
       done = inl (
         p.gives.0,
-        inr (inr (record {
+        inr (inr (inl (record {
           rows = p.gives.1.0;
           is_part = p.gives.1.1;
           config = part.first.config;
@@ -91,6 +93,26 @@ part_done words part p input before after h =
           second = part.second.policy;
           second_is = is.second;
           parting = subst (λ f. Parting f part.first one input before after) is.format both;
-        })),
+        }))),
+      );
+    }
+
+pub drive_done : (words : List Text) (drive : DriveArguments) → ParsedBy words (Ok (Drive drive)) → (input before after : Option (List ℕ))
+    → IsDriven drive.config drive.format input before after → DoneBy words input before after
+drive_done words drive p input before after h =
+    let is = p.gives.1.2 in
+    record {
+      lists = p.lists;
+      are = p.are;
+      done = inl (
+        p.gives.0,
+        inr (inr (inr (record {
+          rows = p.gives.1.0;
+          is_drive = p.gives.1.1;
+          config = drive.config;
+          config_is = is.config;
+          stripes_are = is.stripes;
+          driven = subst (λ f. IsDriven drive.config f input before after) is.format h;
+        }))),
       );
     }

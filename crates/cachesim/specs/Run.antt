@@ -10,9 +10,11 @@ use Rattle.step_record.specs.declared.job.Policy.{Policy}
 use Rattle.trace_read.specs.Reading.{fault_in, keys_in}
 use Rattle.trace_read.specs.declared.format.Format.{Format}
 use Rattle.report.specs.Text.{text_of}
-use Rattle.command_line.specs.Parsed.{IsIncomplete}
+use Rattle.command_line.specs.Parsed.{HasOddStripes, IsIncomplete}
 use Rattle.command_line.specs.Program.{AreLists, Lists, called, program_app}
-use Rattle.command_line.specs.Program.{capacities_in, config_at, config_in, format_in, policies_in, policy_in}
+use Rattle.command_line.specs.Program.{capacities_in, concurrent_in, config_at, config_in, format_in}
+use Rattle.command_line.specs.Program.{policies_in, policy_in, stripes_in}
+use Rattle.cachesim.specs.Drove.{IsDriven}
 use Rattle.cachesim.specs.Jobs.{jobs_at, jobs_of, reports_on}
 use Rattle.cachesim.specs.Part.{Parting}
 
@@ -55,6 +57,15 @@ pub record Parted (subcommand : Option (Text × List Row)) (input before after :
   pub parting : Parting (format_in rows) (record { policy = first; config = config })
       (record { policy = second; config = config }) input before after
 
+-- `drive` was called, and has written the journal of a run of workers
+pub record Drove (subcommand : Option (Text × List Row)) (input before after : Option (List ℕ)) : Type 0 where
+  pub rows : List Row
+  pub is_drive : subcommand ≡ Some (codes "drive", rows)
+  pub config : Config
+  pub config_is : concurrent_in config.stripes rows ≡ Some config
+  pub stripes_are : stripes_in rows ≡ Some config.stripes
+  pub driven : IsDriven config (format_in rows) input before after
+
 abbrev pub is_help : ErrorKind → Type 0
 is_help kind = (kind ≡ DisplayHelp) ⊎ (kind ≡ DisplayVersion)
 
@@ -73,13 +84,16 @@ pub record DoneBy (words : List Text) (input before after : Option (List ℕ)) :
   pub done : ((fault_of (program_app lists) (called words) ≡ [])
       × (Ran (subcommand_of (program_app lists) (called words)) input before after
       ⊎ Swept (subcommand_of (program_app lists) (called words)) input before after
-      ⊎ Parted (subcommand_of (program_app lists) (called words)) input before after))
+      ⊎ Parted (subcommand_of (program_app lists) (called words)) input before after
+      ⊎ Drove (subcommand_of (program_app lists) (called words)) input before after))
       ⊎ AsksHelp (fault_of (program_app lists) (called words))
 
--- a usage error: clap refuses the words, or they lack a number in its range or a known policy
+-- a usage error: clap refuses the words, or they lack a number in its range or a known policy, or their number of read
+-- buffers is none of a cache
 pub record RefusedBy (words : List Text) : Type 0 where
   pub lists : Lists
   pub are : AreLists lists
   pub refuses : IsRefused (fault_of (program_app lists) (called words))
       ⊎ ((fault_of (program_app lists) (called words) ≡ [])
-      × IsIncomplete (subcommand_of (program_app lists) (called words)))
+      × (IsIncomplete (subcommand_of (program_app lists) (called words))
+      ⊎ HasOddStripes (subcommand_of (program_app lists) (called words))))

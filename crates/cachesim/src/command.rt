@@ -3,6 +3,7 @@ ghost use Rattle.std.specs.Prelude.{◌≡◌, ◌≢◌, ◌≤◌, ◌⊎◌, 
 ghost use Rattle.clap.specs.Words.{kind_of};
 ghost use Rattle.cachesim.specs.Run.{DoneBy, is_help, RefusedBy};
 
+use crate::driving::drive;
 use crate::fault::Fault;
 use crate::files::Files;
 use crate::part::part;
@@ -27,6 +28,9 @@ pub const REFUSED: u8 = 2;
 
 // The line of the fault for which no memory may be left.
 const OUT_OF_MEMORY: &[u8] = b"fault: OutOfMemory\n";
+
+// The line of a number of read buffers that no cache has, which is a usage error.
+const STRIPES: &[u8] = b"fault: Stripes\n";
 
 // Writes a line to the fault output; where that fails too, the status alone reports.
 fn report_line<X: Write>(line: &[u8], fault_out: &mut X) {
@@ -84,10 +88,10 @@ pub fn command<T: Threads + Wait + Sync, R: Read, W: Write, X: Write, F: Files>(
     _files: &F,
 ) -> u8
     ensures status { result ≤ 2 }
-    // With status 0 the words are taken as `run`, `sweep` or `part`, the bytes read have no fault, and
-    // those written are the text of the report of each policy, or of the policy at each capacity,
-    // that the words name, or the line of the access at which two policies part; or the words ask
-    // for help.
+    // With status 0 the words are taken as `run`, `sweep`, `part` or `drive`, the bytes read have no
+    // fault, and those written are the text of the report of each policy, or of the policy at each
+    // capacity, that the words name, or the line of the access at which two policies part, or the
+    // journal of a run of workers; or the words ask for help.
     ensures done { result ≡ 0 → DoneBy (map (λ s. s.now) words.now) (R.remaining input.old)
         (W.contents out.old) (W.contents out.new) }
     // A usage error comes only where it is due, before anything is read or written.
@@ -100,6 +104,10 @@ pub fn command<T: Threads + Wait + Sync, R: Read, W: Write, X: Write, F: Files>(
             return report_fault(alloc, Fault::OutOfMemory, fault_out);
         }
         Err(ParseFault::Refused(error)) => return answer(alloc, &error, out, fault_out),
+        Err(ParseFault::Stripes) => {
+            report_line(STRIPES, fault_out);
+            return REFUSED;
+        }
         Err(ParseFault::Incomplete) => {
             report_line(b"error: a policy or a number is missing\n", fault_out);
             return REFUSED;
@@ -109,6 +117,7 @@ pub fn command<T: Threads + Wait + Sync, R: Read, W: Write, X: Write, F: Files>(
         Arguments::Run(arguments) => run(rt, alloc, &arguments, input, out),
         Arguments::Sweep(arguments) => sweep(rt, alloc, &arguments, input, out),
         Arguments::Part(arguments) => part(alloc, &arguments, input, out),
+        Arguments::Drive(arguments) => drive(rt, alloc, &arguments, input, out),
     };
     match done {
         Ok(()) => DONE,

@@ -1,8 +1,9 @@
 //! Why a subcommand printed no result.
 ghost use Rattle.std.specs.Prelude.{◌≡◌};
-ghost use Rattle.cachesim.specs.Fault.{of_actor, of_write};
+ghost use Rattle.cachesim.specs.Fault.{of_actor, of_journal, of_write};
 ghost use Rattle.cachesim.specs.declared.fault.Fault.TheVariants.{OutOfMemory, Trace};
 
+use journal::SessionFault;
 use policy_actors::ActorFault;
 use report::WriteFault;
 use std::alloc::AllocError;
@@ -27,6 +28,9 @@ pub enum Fault {
     /// The trace was not read, or has a faulty line.
     #[error("{0}")]
     Trace(TraceFault),
+    /// A worker was refused a step.
+    #[error("{0}")]
+    Stopped(SessionFault),
     /// The output failed; it may be partial.
     #[error("Write")]
     Write,
@@ -55,6 +59,17 @@ impl From<WriteFault> for Fault {
         match fault {
             WriteFault::OutOfMemory => Fault::OutOfMemory,
             WriteFault::Write => Fault::Write,
+        }
+    }
+}
+
+impl From<journal_text::WriteFault> for Fault {
+    ghost from_gives = { λ fault e. e ≡ of_journal fault };
+
+    fn from(fault: journal_text::WriteFault) -> Fault {
+        match fault {
+            journal_text::WriteFault::OutOfMemory => Fault::OutOfMemory,
+            journal_text::WriteFault::Write => Fault::Write,
         }
     }
 }

@@ -6,6 +6,7 @@
 #![tactic(auto)]
 
 mod command;
+mod driving;
 mod fault;
 mod files;
 mod part;

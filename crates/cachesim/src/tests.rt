@@ -200,6 +200,59 @@ fn two_policies_part(rt: HostRuntime) -> Result<(), Fail> {
     Ok(())
 }
 
+// One access of one worker: a miss, whose write brings a whole round of maintenance.
+const ROUND: &str = "cachesim journal 2
+0 look 1 = miss
+0 put 1 = added 0
+0 afterwrite = drain
+0 begin = began
+0 drainread 0 = empty
+0 drainwrite = applied 1 0
+0 drainwrite = empty
+0 evict = fits
+0 end = idle
+steps 9
+";
+
+// The same with room for four steps.
+const CUT_ROUND: &str = "cachesim journal 2
+0 look 1 = miss
+0 put 1 = added 0
+0 afterwrite = drain
+0 begin = began
+steps 4
+";
+
+fn driven(limit: &str) -> [&str; 9] {
+    [
+        "drive",
+        "--capacity",
+        "8",
+        "--workers",
+        "1",
+        "--stripes",
+        "1",
+        "--limit",
+        limit,
+    ]
+}
+
+#[test]
+fn a_worker_leaves_a_journal(rt: HostRuntime) -> Result<(), Fail> {
+    let whole = called(&rt, rt.alloc(), &driven("9"), "1\n")?;
+    assert_eq!(rt; whole.out.as_slice(), ROUND.as_bytes());
+    assert_eq!(rt; whole.status, 0);
+    let cut = called(&rt, rt.alloc(), &driven("4"), "1\n")?;
+    assert_eq!(rt; cut.out.as_slice(), CUT_ROUND.as_bytes());
+    assert_eq!(rt; cut.fault.as_slice(), b"fault: JournalFull\n".as_slice());
+    assert_eq!(rt; cut.status, 1);
+    let odd: &[&str] = &["drive", "--capacity", "8", "--stripes", "3"];
+    let refused = called(&rt, rt.alloc(), odd, "1\n")?;
+    assert_eq!(rt; refused.fault.as_slice(), b"fault: Stripes\n".as_slice());
+    assert_eq!(rt; refused.status, 2);
+    Ok(())
+}
+
 #[test]
 fn a_faulty_trace_is_told_in_one_line(rt: HostRuntime) -> Result<(), Fail> {
     let lirs: &[&str] = &["run", "--capacity", "3", "lru"];
@@ -286,6 +339,7 @@ Commands:
   run    Runs policies over the trace on standard input and prints a report of each
   sweep  Runs a policy over the trace on standard input and prints a report for each capacity
   part   Prints the first access of the trace on standard input at which just one of two policies hits
+  drive  Runs the concurrent cache on threads over the trace on standard input and prints its journal
   help   Print this message or the help of the given subcommand(s)
 
 Options:

@@ -5,12 +5,13 @@ use Rattle.command_line.specs.declared.arguments.Arguments.{Arguments}
 use Rattle.command_line.specs.declared.fault.ParseFault.{ParseFault}
 use Rattle.std.specs.Prelude.{OnOk}
 use Rattle.cachesim.specs.Jobs.{jobs_at, jobs_of}
+use Rattle.cachesim.specs.Drove.{IsDriven}
 use Rattle.cachesim.specs.Part.{Parting}
 use Rattle.cachesim.specs.Run.{Reports}
 use Rattle.cachesim.specs.declared.fault.Fault.{Fault}
-use Rattle.cachesim.proofs.Ending.{part_done, refused_by, run_done, sweep_done}
+use Rattle.cachesim.proofs.Ending.{drive_done, part_done, refused_by, run_done, sweep_done}
 use Rattle.cachesim.proofs.command.command.Goals as goal
-use Rattle.cachesim.proofs.command.command.Goals.{in-Part, in-Run, in-Sweep}
+use Rattle.cachesim.proofs.command.command.Goals.{in-Drive, in-Part, in-Run, in-Sweep}
 
 pub returns-in-Err-Refused-clause-refused : goal.returns-in-Err-Refused-clause-refused
 returns-in-Err-Refused-clause-refused g c two =
@@ -45,4 +46,11 @@ returns-in-Ok-done-clause-done g c zero =
           let Wrote = Parting part.format part.first part.second (g.R.Read.remaining c.args.input.now) (g.W.Write.contents c.args.out.now) (g.W.Write.contents w.part-done.new.out) in
           let h : Wrote = subst (λ (r : Result (Unit {0}) Fault). OnOk r Wrote) (sym w.done-is ∙ c.in-Ok-done.is) ok in
           rw w.out-is (part_done words part q _ _ _ h)
+      | in-Drive w ↦
+          let drive = w.in-Drive.arguments in
+          let q = subst (λ (a : Arguments). ParsedBy words (Ok a)) w.in-Drive.is p in
+          let ok = w.drive-done.ensures in
+          let Wrote = IsDriven drive.config drive.format (g.R.Read.remaining c.args.input.now) (g.W.Write.contents c.args.out.now) (g.W.Write.contents w.drive-done.new.out) in
+          let h : Wrote = subst (λ (r : Result (Unit {0}) Fault). OnOk r Wrote) (sym w.done-is ∙ c.in-Ok-done.is) ok in
+          rw w.out-is (drive_done words drive q _ _ _ h)
     ]

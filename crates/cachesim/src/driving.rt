@@ -1,0 +1,96 @@
+//! The subcommand `drive`: a trace to the journal of workers on threads.
+ghost use Rattle.std.specs.Prelude.{◌≡◌, ◌≢◌, ◌≤◌, ℕ, Ok, IfErr, IfOk, OnOk, length};
+ghost use Rattle.step_record.specs.Config.{config_fault};
+ghost use Rattle.step_record.specs.declared.worker.TheConstants.{MAX_WORKERS};
+ghost use Rattle.maintenance.specs.Opened.{IsOpened};
+ghost use Rattle.cachesim.specs.Drove.{IsDriven, IsFirst};
+
+use crate::fault::Fault;
+use command_line::DriveArguments;
+use drive::DriveFault;
+use journal::Session;
+use journal_text::write_journal;
+use maintenance::Shell;
+use std::alloc::{AllocError, Global};
+use std::io::{Read, Write};
+use std::sync::Wait;
+use std::thread::Threads;
+use step_record::{Call, Config, Key, OpenGate};
+use trace_read::read_trace;
+
+// A list of no call for each worker.
+fn empty_pieces(alloc: Global, workers: u8) -> Result<Vec<Vec<Call>>, AllocError>
+    ensures { IfOk result (λ pieces. length pieces.items ≡ workers) }
+{
+    let mut pieces = Vec::new(alloc);
+    for _ in 0..workers {
+        pieces.push(Vec::new(alloc))?;
+    }
+    Ok(pieces)
+}
+
+// The calls of each worker: access i, counted from 0, is a read by the worker i modulo their number.
+fn deal(alloc: Global, keys: &[Key], workers: u8) -> Result<Vec<Vec<Call>>, AllocError>
+    requires { 1 ≤ workers }
+    ensures { IfOk result (λ pieces. length pieces.items ≡ workers) }
+{
+    let mut pieces = empty_pieces(alloc, workers)?;
+    for (i, key) in keys.iter().enumerate() {
+        pieces[i % usize::from(workers)].push(Call::Read(*key))?;
+    }
+    Ok(pieces)
+}
+
+// A session of no step over an empty cache.
+fn open(alloc: Global, config: &Config) -> Result<Session<Shell>, AllocError>
+    requires { config_fault config.now ≡ Ok tt }
+    ensures { IfOk result (IsFirst config.now) }
+{
+    let shell = Shell::new(alloc, config)?;
+    Ok(Session::open(alloc, shell, config.journal_limit as usize))
+}
+
+/// Reads the trace, lets the workers read its keys in a concurrent cache, each on a thread of its
+/// own, and writes the journal of their steps. Where a worker was refused a step, the journal is
+/// written too, and the fault is the cause. Any other fault but `Write` has written nothing.
+pub fn drive<T: Threads + Wait + Sync, R: Read, W: Write>(
+    rt: &T,
+    alloc: Global,
+    arguments: &DriveArguments,
+    input: &mut R,
+    out: &mut W,
+) -> Result<(), Fault>
+    requires checked { config_fault arguments.now.config ≡ Ok tt }
+    requires some { 1 ≤ arguments.now.workers }
+    requires few { arguments.now.workers ≤ MAX_WORKERS }
+    ensures { OnOk result (IsDriven arguments.now.config arguments.now.format (R.remaining input.old)
+        (W.contents out.old) (W.contents out.new)) }
+{
+    let trace = read_trace(alloc, input, arguments.format)?;
+    let pieces = deal(alloc, trace.keys(), arguments.workers)?;
+    let session = open(alloc, &arguments.config)?;
+    match drive::drive(rt, alloc, session, pieces, &OpenGate) {
+        Ok(driven) => {
+            write_journal(alloc, &driven.session, out)?;
+            Ok(())
+        }
+        Err(
+            DriveFault::Stopped {
+                session,
+                lists: _,
+                cause,
+            },
+        ) => {
+            write_journal(alloc, &session, out)?;
+            Err(Fault::Stopped(cause))
+        }
+        Err(DriveFault::OutOfMemory { session: _ }) => Err(Fault::OutOfMemory),
+        Err(DriveFault::Workers { session: _ }) => unreachable!(),
+        Err(
+            DriveFault::Held {
+                worker: _,
+                session: _,
+            },
+        ) => unreachable!(),
+    }
+}
