@@ -23,6 +23,7 @@ struct Entered {
 struct Log {
     name: u64,
     entries: Vec<Entered>,
+    refused: bool,
 }
 
 impl Kept for Log {
@@ -43,6 +44,7 @@ fn empty(alloc: Global) -> Log {
     Log {
         name: 7,
         entries: Vec::new(alloc),
+        refused: false,
     }
 }
 
@@ -112,7 +114,8 @@ fn joined(
     }
 }
 
-// One turn, which enters one entry where there is memory for it, and whether the pass was spent.
+// One turn, which enters one entry where there is memory for it, and says so where there is none; and whether the
+// pass was spent.
 fn turn<R: Wait>(
     rt: &R,
     book: &TurnBook<Log>,
@@ -128,9 +131,20 @@ fn turn<R: Wait>(
         Err(pass) => (pass, true),
         Ok(mut turn) => match turn.value().entries.push(entered) {
             Ok(()) => (book.give(turn), false),
-            Err(_) => (book.give(turn), false),
+            Err(_) => {
+                turn.value().refused = true;
+                (book.give(turn), false)
+            }
         },
     }
+}
+
+// The log, where there was memory for each entry.
+fn complete(log: Log) -> Result<Log, AllocError> {
+    if log.refused {
+        return Err(AllocError);
+    }
+    Ok(log)
 }
 
 // One worker takes its only turn, asks for another, and closes the book.
@@ -145,7 +159,7 @@ fn alone<R: Wait>(rt: &R, alloc: Global) -> Result<(bool, bool, Log), AllocError
     let (pass, first) = turn(rt, &book, pass, entered);
     let (pass, second) = turn(rt, &book, pass, entered);
     let passes = joined(&book, passes, pass)?;
-    Ok((first, second, book.close(passes)))
+    Ok((first, second, complete(book.close(passes))?))
 }
 
 #[test]
@@ -248,7 +262,7 @@ fn log_of<R: Threads + Wait + Sync>(
         turns,
     };
     let passes = side_by_side(rt, &crowd, &book, passes)?;
-    Ok(book.close(passes))
+    complete(book.close(passes))
 }
 
 #[test]
