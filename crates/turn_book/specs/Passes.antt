@@ -72,7 +72,8 @@ module _ {T E O : Type 0} (origin : T → O) (entries : T → List E) (by : E �
     pub taken : t.taken ≡ t.value
     pub shows : Shows o p t.value
 
-  -- the turn t was given back, with at most one entry more than it was taken with, and the pass p has it in its own list
+  -- the turn t was given back, with at most one entry more than it was taken with, and the pass p has it in its own
+  -- list
   pub record Gives (t : TurnState T E) (p : PassState T E) : Type 0 where
     pub made : List E
     pub adds : Adds origin entries by t.pass.worker t.taken t.value made

@@ -21,7 +21,13 @@ module _ {T E : Type 0} where
 
   -- the view of a turn's seat, whose ticket n is served
   abbrev pub turn_view : PassState T E → ℕ → T → View T E
-  turn_view p n t = record { opening = p.book.opening; parts = part_of p ∷ []; last = p.last; ticket = Some n; held = Some t }
+  turn_view p n t = record {
+    opening = p.book.opening;
+    parts = part_of p ∷ [];
+    last = p.last;
+    ticket = Some n;
+    held = Some t;
+  }
 
   -- the pass of a seat that has drawn so many turns
   abbrev pub pass_in : TableId → View T E → ℕ → PassState T E

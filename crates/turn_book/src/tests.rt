@@ -1,8 +1,10 @@
-ghost use Rattle.std.specs.Prelude.{◌≡◌, ◌+◌, ◌∷◌, ◌++◌, IfSome, [], vec_len};
-ghost use Rattle.turn_book.specs.Passes.{id_of};
+ghost use Rattle.std.specs.Prelude.{◌≡◌, ◌≤◌, ◌+◌, ◌∷◌, ◌++◌, IfOk, IfSome, IfNone, [], length, vec_len};
+ghost use denote.Param.Send.{IsSync};
+ghost use Rattle.turn_book.specs.Turns.{Every};
+ghost use Rattle.turn_book.specs.Passes.{id_of, InOrder};
 
 use super::*;
-use std::alloc::Global;
+use std::alloc::{AllocError, Global};
 use std::sync::Wait;
 use std::sync::atomic::{AtomicU64, Ordering};
 use std::test::Fail;
@@ -21,6 +23,7 @@ struct Entered {
 struct Log {
     name: u64,
     entries: Vec<Entered>,
+    refused: bool,
 }
 
 impl Kept for Log {
@@ -41,6 +44,7 @@ fn empty(alloc: Global) -> Log {
     Log {
         name: 7,
         entries: Vec::new(alloc),
+        refused: false,
     }
 }
 
@@ -53,6 +57,9 @@ fn fault_of(alloc: Global, workers: u8, turns: u64) -> (&'static str, u64) {
     }
 }
 
+// What an allocation that failed leaves: the value as it was.
+const OUT_OF_MEMORY: (&str, u64) = ("OutOfMemory", 7);
+
 #[test]
 fn each_fault_comes_in_its_order_and_gives_the_value_back(rt: HostRuntime) {
     for (workers, turns, fault) in [
@@ -63,85 +70,52 @@ fn each_fault_comes_in_its_order_and_gives_the_value_back(rt: HostRuntime) {
         (64, MAX_TURNS + 1, ("Turns", 7)),
         (64, MAX_TURNS, ("none", 0)),
     ] {
-        assert_eq!(rt; fault_of(rt.alloc(), workers, turns), fault);
+        let found = fault_of(rt.alloc(), workers, turns);
+        if found != OUT_OF_MEMORY {
+            assert_eq!(rt; found, fault);
+        }
     }
 }
 
-// The only pass of a book, and the list that it stood in.
-fn only(mut passes: Vec<Pass<Log>>) -> Option<(Pass<Log>, Vec<Pass<Log>>)>
-    ensures { IfSome result (λ r. (passes.items ≡ r.0 ∷ []) × (r.1.items ≡ [])) }
+// The last of the passes with its worker, and the others.
+fn parted(
+    book: &TurnBook<Log>,
+    mut passes: Vec<Pass<Log>>,
+) -> (Vec<Pass<Log>>, Option<(Pass<Log>, u8)>)
+    requires own { Every (λ p. p.book ≡ id_of book.now) passes.items }
+    requires all { InOrder 0 passes.items × (vec_len passes ≤ 64) }
+    ensures own { Every (λ p. p.book ≡ id_of book.now) result.0.items }
+    ensures all { InOrder 0 result.0.items × (vec_len result.0 ≤ 64) }
+    ensures none { IfNone result.1 (vec_len result.0 ≡ vec_len passes) }
+    ensures less { IfSome result.1 (λ _. vec_len passes ≡ vec_len result.0 + 1) }
+    ensures pass { IfSome result.1 (λ r. (r.0.book ≡ id_of book.now) × (r.0.worker ≡ r.1) × (r.1 ≡ vec_len result.0)) }
 {
-    let pass = passes.pop()?;
-    if passes.is_empty() {
-        return Some((pass, passes));
-    }
-    None
+    let Some(pass) = passes.pop() else {
+        return (passes, None);
+    };
+    let worker = passes.len() as u8;
+    (passes, Some((pass, worker)))
 }
 
-// The two passes of a book, and the list that they stood in.
-fn parted(mut passes: Vec<Pass<Log>>) -> Option<(Pass<Log>, Pass<Log>, Vec<Pass<Log>>)>
-    ensures { IfSome result (λ r. (passes.items ≡ r.0 ∷ r.1 ∷ []) × (r.2.items ≡ [])) }
-{
-    let other = passes.pop()?;
-    let one = passes.pop()?;
-    if passes.is_empty() {
-        return Some((one, other, passes));
-    }
-    None
-}
-
-// The list with one more pass.
-fn pushed(mut passes: Vec<Pass<Log>>, pass: Pass<Log>) -> Option<Vec<Pass<Log>>>
-    ensures { IfSome result (λ r. (r.items ≡ passes.items ++ pass ∷ []) × (vec_len r ≡ vec_len passes + 1)) }
+// The passes with one more, which is the next worker's.
+fn joined(
+    book: &TurnBook<Log>,
+    mut passes: Vec<Pass<Log>>,
+    pass: Pass<Log>,
+) -> Result<Vec<Pass<Log>>, AllocError>
+    requires own { Every (λ p. p.book ≡ id_of book.now) passes.items × (pass.book ≡ id_of book.now) }
+    requires all { InOrder 0 passes.items × (pass.worker ≡ vec_len passes) }
+    ensures own { IfOk result (λ r. Every (λ p. p.book ≡ id_of book.now) r.items) }
+    ensures all { IfOk result (λ r. InOrder 0 r.items × (vec_len r ≡ vec_len passes + 1)) }
 {
     match passes.push(pass) {
-        Ok(()) => Some(passes),
-        Err(_) => None,
+        Ok(()) => Ok(passes),
+        Err(_) => Err(AllocError),
     }
 }
 
-// One worker takes its only turn, asks for another, and closes the book.
-fn alone<R: Wait>(rt: &R, alloc: Global) -> Option<(bool, bool, Log)> {
-    let Ok((book, passes)) = TurnBook::open(alloc, empty(alloc), 1, 1) else {
-        return None;
-    };
-    let (pass, passes) = only(passes)?;
-    let entered = Entered {
-        worker: 0,
-        number: 0,
-    };
-    let (pass, first) = turn(rt, &book, pass, entered);
-    let (pass, second) = turn(rt, &book, pass, entered);
-    Some((first, second, book.close(pushed(passes, pass)?)))
-}
-
-#[test]
-fn a_pass_is_spent_after_its_only_turn(rt: HostRuntime) -> Result<(), Fail> {
-    let (first, second, log) = alone(&rt, rt.alloc()).expect(&rt, "memory for one pass");
-    assert!(rt; !first);
-    assert!(rt; second);
-    assert_eq!(rt; log.name, 7);
-    let entered = [Entered {
-        worker: 0,
-        number: 0,
-    }];
-    assert_eq!(rt; log.entries.as_slice(), &entered[..]);
-    Ok(())
-}
-
-const TURNS: u64 = 3000;
-
-// Waits until both workers have begun.
-fn wait_for_both<R: Wait>(rt: &R, begun: &AtomicU64) {
-    for _ in rt.forever() {
-        if begun.load(Ordering::SeqCst) == 2 {
-            return;
-        }
-        thread::yield_now();
-    }
-}
-
-// One turn, which enters one entry where there is memory for it, and whether the pass was spent.
+// One turn, which enters one entry where there is memory for it, and says so where there is none; and whether the
+// pass was spent.
 fn turn<R: Wait>(
     rt: &R,
     book: &TurnBook<Log>,
@@ -157,15 +131,73 @@ fn turn<R: Wait>(
         Err(pass) => (pass, true),
         Ok(mut turn) => match turn.value().entries.push(entered) {
             Ok(()) => (book.give(turn), false),
-            Err(_) => (book.give(turn), false),
+            Err(_) => {
+                turn.value().refused = true;
+                (book.give(turn), false)
+            }
         },
     }
 }
 
-// Enters all turns of one worker, once both have begun.
+// The log, where there was memory for each entry.
+fn complete(log: Log) -> Result<Log, AllocError> {
+    if log.refused {
+        return Err(AllocError);
+    }
+    Ok(log)
+}
+
+// One worker takes its only turn, asks for another, and closes the book.
+fn alone<R: Wait>(rt: &R, alloc: Global) -> Result<(bool, bool, Log), AllocError> {
+    let Ok((book, passes)) = TurnBook::open(alloc, empty(alloc), 1, 1) else {
+        return Err(AllocError);
+    };
+    let (passes, Some((pass, worker))) = parted(&book, passes) else {
+        return Err(AllocError);
+    };
+    let entered = Entered { worker, number: 0 };
+    let (pass, first) = turn(rt, &book, pass, entered);
+    let (pass, second) = turn(rt, &book, pass, entered);
+    let passes = joined(&book, passes, pass)?;
+    Ok((first, second, complete(book.close(passes))?))
+}
+
+#[test]
+fn a_pass_is_spent_after_its_only_turn(rt: HostRuntime) -> Result<(), Fail> {
+    let (first, second, log) = alone(&rt, rt.alloc())?;
+    assert!(rt; !first);
+    assert!(rt; second);
+    assert_eq!(rt; log.name, 7);
+    let entered = [Entered {
+        worker: 0,
+        number: 0,
+    }];
+    assert_eq!(rt; log.entries.as_slice(), &entered[..]);
+    Ok(())
+}
+
+// Waits until all workers have begun.
+fn wait_for_all<R: Wait>(rt: &R, begun: &AtomicU64, workers: u64) {
+    for _ in rt.forever() {
+        if begun.load(Ordering::SeqCst) == workers {
+            return;
+        }
+        thread::yield_now();
+    }
+}
+
+// The workers that run side by side, and how many turns each takes.
+#[derive(Drop)]
+struct Crowd {
+    begun: AtomicU64,
+    workers: u64,
+    turns: u64,
+}
+
+// Enters all turns of one worker, once all have begun.
 fn work<R: Wait>(
     rt: &R,
-    begun: &AtomicU64,
+    crowd: &Crowd,
     book: &TurnBook<Log>,
     mut pass: Pass<Log>,
     worker: u8,
@@ -175,52 +207,77 @@ fn work<R: Wait>(
     ensures own { result.book ≡ id_of book.now }
     ensures worker { result.worker ≡ worker }
 {
-    begun.fetch_add(1, Ordering::SeqCst);
-    wait_for_both(rt, begun);
-    for number in 0..TURNS {
+    crowd.begun.fetch_add(1, Ordering::SeqCst);
+    wait_for_all(rt, &crowd.begun, crowd.workers);
+    for number in 0..crowd.turns {
         let (given, _) = turn(rt, book, pass, Entered { worker, number });
         pass = given;
     }
     pass
 }
 
-// Two workers side by side, and what the book has at its end.
-fn both<R: Threads + Wait + Sync>(rt: &R, alloc: Global) -> Option<Log> {
-    let Ok((book, passes)) = TurnBook::open(alloc, empty(alloc), 2, TURNS) else {
-        return None;
+// The workers of the passes side by side, each in a thread of its own.
+fn side_by_side<R: Threads + Wait + Sync>(
+    rt: &R,
+    crowd: &Crowd,
+    book: &TurnBook<Log>,
+    passes: Vec<Pass<Log>>,
+) -> Result<Vec<Pass<Log>>, AllocError>
+    requires own { Every (λ p. p.book ≡ id_of book.now) passes.items }
+    requires all { InOrder 0 passes.items × (vec_len passes ≤ 64) }
+    ensures own { IfOk result (λ r. Every (λ p. p.book ≡ id_of book.now) r.items) }
+    ensures all { IfOk result (λ r. InOrder 0 r.items × (vec_len r ≡ vec_len passes)) }
+{
+    let (passes, last) = parted(book, passes);
+    let Some((pass, worker)) = last else {
+        return Ok(passes);
     };
-    let (one, other, passes) = parted(passes)?;
-    let begun = AtomicU64::new(0);
-    let gate = &begun;
-    let lent = &book;
-    let (one, other) = thread::join(
+    let (others, pass) = thread::join(
         rt,
+        move || -> Result<Vec<Pass<Log>>, AllocError>
+            requires { IsSync R.row × Every (λ p. p.book ≡ id_of book.now) passes.items × InOrder 0 passes.items × (vec_len passes ≤ 64) }
+            ensures { IfOk result (λ r. Every (λ p. p.book ≡ id_of book.entry.now) r.items × InOrder 0 r.items × (vec_len r ≡ vec_len passes)) }
+        { side_by_side(rt, crowd, book, passes) },
         move || -> Pass<Log>
-            requires { (one.book ≡ id_of lent.now) × (one.worker ≡ 0) }
-            ensures { (result.book ≡ id_of lent.entry.now) × (result.worker ≡ 0) }
-        { work(rt, gate, lent, one, 0) },
-        move || -> Pass<Log>
-            requires { (other.book ≡ id_of lent.now) × (other.worker ≡ 1) }
-            ensures { (result.book ≡ id_of lent.entry.now) × (result.worker ≡ 1) }
-        { work(rt, gate, lent, other, 1) },
+            requires { IsSync R.row × (pass.book ≡ id_of book.now) × (pass.worker ≡ worker) }
+            ensures { (result.book ≡ id_of book.entry.now) × (result.worker ≡ worker) }
+        { work(rt, crowd, book, pass, worker) },
     );
-    let first = pushed(passes, one)?;
-    let all = pushed(first, other)?;
-    Some(book.close(all))
+    joined(book, others?, pass)
+}
+
+// What the book has at its end, of so many workers side by side.
+fn log_of<R: Threads + Wait + Sync>(
+    rt: &R,
+    alloc: Global,
+    workers: u8,
+    turns: u64,
+) -> Result<Log, AllocError> {
+    let Ok((book, passes)) = TurnBook::open(alloc, empty(alloc), workers, turns) else {
+        return Err(AllocError);
+    };
+    let crowd = Crowd {
+        begun: AtomicU64::new(0),
+        workers: u64::from(workers),
+        turns,
+    };
+    let passes = side_by_side(rt, &crowd, &book, passes)?;
+    complete(book.close(passes))
 }
 
 #[test]
-fn two_threads_make_one_list(rt: HostRuntime) -> Result<(), Fail> {
-    let log = both(&rt, rt.alloc()).expect(&rt, "memory for two passes");
-    assert_eq!(rt; log.entries.len(), 6000);
-    let mut next: [u64; 2] = [0, 0];
-    for entered in log.entries.iter() {
-        let worker = usize::from(entered.worker);
-        assert!(rt; worker < 2);
-        assert_eq!(rt; entered.number, next[worker]);
-        assert!(rt; entered.number < TURNS);
-        next[worker] = entered.number + 1;
+fn threads_make_one_list(rt: HostRuntime) -> Result<(), Fail> {
+    for (workers, turns) in [(2, 3000), (64, 1000)] {
+        let log = log_of(&rt, rt.alloc(), workers, turns)?;
+        assert_eq!(rt; log.entries.len() as u64, u64::from(workers) * turns);
+        let mut next: [u64; 64] = [0; 64];
+        for entered in log.entries.iter() {
+            let worker = usize::from(entered.worker);
+            assert!(rt; worker < 64);
+            assert_eq!(rt; entered.number, next[worker]);
+            assert!(rt; entered.number < turns);
+            next[worker] = entered.number + 1;
+        }
     }
-    assert_eq!(rt; next, [3000, 3000]);
     Ok(())
 }
