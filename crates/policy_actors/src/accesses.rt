@@ -9,7 +9,7 @@ ghost use Rattle.policy_actors.specs.Reports.{report_on};
 use policies::{AnyPolicy, any_accepts, any_reports, any_stands};
 use report::Report;
 use std::alloc::{AllocError, Global};
-use step_record::{Engine, Job, Key, StepFault, Trace};
+use step_record::{Job, Key, StepFault, Trace};
 
 /// Makes the accesses in turn, which are the next ones of a trace. The one error is out of memory; the cache is dropped then.
 pub fn access_all(mut cache: AnyPolicy, keys: &[Key]) -> Result<AnyPolicy, AllocError>
@@ -19,7 +19,7 @@ pub fn access_all(mut cache: AnyPolicy, keys: &[Key]) -> Result<AnyPolicy, Alloc
     any_stands();
     any_accepts();
     for key in keys {
-        match cache.apply(key) {
+        match cache.access(*key) {
             Ok(_) => {}
             Err(StepFault::OutOfMemory) => return Err(AllocError),
             Err(StepFault::NotNow) => unreachable!(),
