@@ -65,13 +65,17 @@ impl AnyPolicy {
     /// Makes an access that is not to be undone: that of `apply`, without its undo record.
     ///
     /// Errors: `NotNow` exactly where `apply` refuses the access so, and `OutOfMemory`; each leaves the cache as it was.
-    pub fn access(&mut self, key: Key) -> Result<Outcome, StepFault>
+    ///
+    /// `C` is a type of the caller's choice, of which nothing is asked: each has code of its own, so that code which is called
+    /// at one place is part of the loop there.
+    #[inline(always)]
+    pub fn access<C>(&mut self, key: Key) -> Result<Outcome, StepFault>
         ensures accepted { IfOk result (λ o. any_act self.old key ≡ Some (o, self.new)) }
         ensures not_now { result ≡ Err StepFault.NotNow ↔ any_act self.old key ≡ None }
         ensures err { OnErr result (self.new ≡ self.old) }
     {
         match self {
-            AnyPolicy::Queues(cache) => cache.access(key),
+            AnyPolicy::Queues(cache) => cache.access::<C>(key),
             AnyPolicy::Optimal(cache) => match cache.apply(&key) {
                 Ok((outcome, _)) => Ok(outcome),
                 Err(fault) => Err(fault),

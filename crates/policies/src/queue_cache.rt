@@ -18,11 +18,9 @@ use std::alloc::{AllocError, Global};
 use std::marker::Model;
 use step_record::{Engine, Item, Job, Key, MAX_STEPS, Outcome, Policy, Stats, StepFault};
 
-// Whether the caller of an access keeps its undo record. The code of an access stands in the program once for each, so that
-// the code for callers that drop the record neither makes nor copies it.
-struct Recorded;
-
-struct Forgotten;
+// The caller of an access that keeps its undo record. The code of an access stands in the program once for each type of
+// caller, so that the code for callers that drop the record neither makes nor copies it.
+struct Recorder;
 
 // Queues of so many keys are read ahead.
 const WARM_FROM: usize = 4096;
@@ -180,18 +178,22 @@ impl QueueCache {
     /// Makes an access that is not to be undone: that of `apply`, without its undo record.
     ///
     /// Errors: `NotNow` exactly where `MAX_STEPS` accesses are applied, and `OutOfMemory`; each leaves the cache as it was.
-    pub fn access(&mut self, key: Key) -> Result<Outcome, StepFault>
+    ///
+    /// `C` is a type of the caller's choice, of which nothing is asked: each has code of its own, so that code which is called
+    /// at one place is part of the loop there.
+    #[inline(always)]
+    pub fn access<C>(&mut self, key: Key) -> Result<Outcome, StepFault>
         ensures accepted { IfOk result (λ o. queue_act self.old key ≡ Some (o, self.new)) }
         ensures not_now { result ≡ Err StepFault.NotNow ↔ queue_act self.old key ≡ None }
         ensures err { OnErr result (self.new ≡ self.old) }
     {
-        match self.step::<Forgotten>(key) {
+        match self.step::<C>(key) {
             Ok((outcome, _)) => Ok(outcome),
             Err(fault) => Err(fault),
         }
     }
 
-    // Makes an access. `C` says which of the two callers' code this is.
+    // Makes an access. `C` says whose code this is.
     #[inline(always)]
     fn step<C>(&mut self, key: Key) -> Result<(Outcome, AccessRecord), StepFault>
         ensures accepted { IfOk result (λ r. queue_act self.old key ≡ Some (r.0, self.new)) }
@@ -284,7 +286,7 @@ impl Engine for QueueCache {
 
     #[inline(always)]
     fn apply(&mut self, step: &Key) -> Result<(Outcome, AccessRecord), StepFault> {
-        self.step::<Recorded>(*step)
+        self.step::<Recorder>(*step)
     }
 
     fn undo(&mut self, done: AccessRecord) -> Result<(), AccessRecord> {
