@@ -59,13 +59,15 @@ fn walk(alloc: Global, trace: &Trace, first: &Job, second: &Job) -> Result<Optio
     Ok(None)
 }
 
+// Both caches share one code of an access, which is too long to stand in the loop twice.
+struct Walker;
+
 // Makes an access that the cache accepts. The one error is out of memory.
-#[inline(always)]
 fn access(cache: &mut AnyPolicy, key: Key) -> Result<Outcome, AllocError>
     requires { any_act cache.old key ≢ None }
     ensures { IfOk result (λ o. any_act cache.old key ≡ Some (o, cache.new)) }
 {
-    match cache.access(key) {
+    match cache.access::<Walker>(key) {
         Ok(outcome) => Ok(outcome),
         Err(StepFault::OutOfMemory) => Err(AllocError),
         Err(StepFault::NotNow) => unreachable!(),
