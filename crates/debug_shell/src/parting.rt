@@ -10,7 +10,7 @@ ghost use Rattle.debug_shell.specs.Part.{IsPart};
 use policies::{AnyPolicy, any_accepts, any_answers, any_covers_trace, any_stands};
 use policy_actors::ActorFault;
 use std::alloc::{AllocError, Global};
-use step_record::{Engine, Job, Key, Outcome, StepFault, Trace};
+use step_record::{Job, Key, Outcome, StepFault, Trace};
 
 /// The first access of the trace, counted from 1, at which the policy of one job hits and that of the other does not;
 /// `None` where there is no such access.
@@ -59,14 +59,16 @@ fn walk(alloc: Global, trace: &Trace, first: &Job, second: &Job) -> Result<Optio
     Ok(None)
 }
 
+// Both caches share one code of an access, which is too long to stand in the loop twice.
+struct Walker;
+
 // Makes an access that the cache accepts. The one error is out of memory.
-#[inline(always)]
 fn access(cache: &mut AnyPolicy, key: Key) -> Result<Outcome, AllocError>
     requires { any_act cache.old key ≢ None }
     ensures { IfOk result (λ o. any_act cache.old key ≡ Some (o, cache.new)) }
 {
-    match cache.apply(&key) {
-        Ok((outcome, _)) => Ok(outcome),
+    match cache.access::<Walker>(key) {
+        Ok(outcome) => Ok(outcome),
         Err(StepFault::OutOfMemory) => Err(AllocError),
         Err(StepFault::NotNow) => unreachable!(),
     }

@@ -1,5 +1,5 @@
 //! All six policies as one engine.
-ghost use Rattle.std.specs.Prelude.{◌≡◌, IfOk, Ok, [], option_map};
+ghost use Rattle.std.specs.Prelude.{◌≡◌, ◌↔◌, IfOk, OnErr, Ok, Err, Some, None, [], option_map};
 
 use crate::queue_cache::QueueCache;
 use crate::record::AccessRecord;
@@ -29,6 +29,7 @@ pub enum AnyRecord {
 impl AnyPolicy {
     ghost use Rattle.step_record.specs.Config.{config_fault};
     ghost use Rattle.policies.specs.AnyPolicy.{Stands, stats_in, keys_in, frequency_in};
+    ghost use Rattle.policies.specs.AnyStep.{any_act};
 
     /// An empty cache for a job over a trace. It requires a configuration that `Config::check` accepts. The one error is
     /// that an allocation failed.
@@ -58,6 +59,27 @@ impl AnyPolicy {
         match self {
             AnyPolicy::Queues(cache) => cache.warm(keys),
             AnyPolicy::Optimal(_) => {}
+        }
+    }
+
+    /// Makes an access that is not to be undone: that of `apply`, without its undo record.
+    ///
+    /// Errors: `NotNow` exactly where `apply` refuses the access so, and `OutOfMemory`; each leaves the cache as it was.
+    ///
+    /// `C` is a type of the caller's choice, of which nothing is asked: each has code of its own, so that code which is called
+    /// at one place is part of the loop there.
+    #[inline(always)]
+    pub fn access<C>(&mut self, key: Key) -> Result<Outcome, StepFault>
+        ensures accepted { IfOk result (λ o. any_act self.old key ≡ Some (o, self.new)) }
+        ensures not_now { result ≡ Err StepFault.NotNow ↔ any_act self.old key ≡ None }
+        ensures err { OnErr result (self.new ≡ self.old) }
+    {
+        match self {
+            AnyPolicy::Queues(cache) => cache.access::<C>(key),
+            AnyPolicy::Optimal(cache) => match cache.apply(&key) {
+                Ok((outcome, _)) => Ok(outcome),
+                Err(fault) => Err(fault),
+            },
         }
     }
 

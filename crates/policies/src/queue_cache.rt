@@ -1,6 +1,7 @@
 //! The five policies of queues, as one engine.
 ghost use Rattle.std.specs.Prelude.{◌≡◌, ◌≢◌, ◌+◌, ◌≤◌, ◌<◌, ◌^◌, ◌↔◌, ℕ, List, [], ◌∷◌, ◌++◌, IfOk, IfErr, OnOk, OnErr, IsTrue, Ok, Option, Some, None, option_map, map};
 ghost use Rattle.step_record.specs.Config.{config_fault};
+ghost use Rattle.step_record.specs.Pace.{words_of_halvings};
 ghost use Rattle.segments.specs.Queues.{total};
 ghost use Rattle.replacement.specs.Admission.{admits_in};
 ghost use Rattle.replacement.specs.Table.{access};
@@ -16,6 +17,10 @@ use segments::{Queue, Segments};
 use std::alloc::{AllocError, Global};
 use std::marker::Model;
 use step_record::{Engine, Item, Job, Key, MAX_STEPS, Outcome, Policy, Stats, StepFault};
+
+// The caller of an access that keeps its undo record. The code of an access stands in the program once for each type of
+// caller, so that the code for callers that drop the record neither makes nor copies it.
+struct Recorder;
 
 // Queues of so many keys are read ahead.
 const WARM_FROM: usize = 4096;
@@ -118,7 +123,7 @@ fn unrecord_in(frequency: &mut Option<Frequency>, done: Option<FreqRecord>)
 
 // Accesses a key in the queues.
 #[inline(always)]
-fn access_key(
+fn access_key<C>(
     segments: &mut Segments,
     frequency: &Option<Frequency>,
     rules: &Rules,
@@ -133,11 +138,12 @@ fn access_key(
     ensures fits { FitsMoves result.moves segments.new.lists }
     ensures undone { undone_moves result.moves segments.new.lists ≡ segments.old.lists }
 {
-    access(segments, frequency.as_ref(), rules, Item { key, node: 0 })
+    access::<C>(segments, frequency.as_ref(), rules, Item { key, node: 0 })
 }
 
 impl QueueCache {
     ghost use Rattle.policies.specs.QueueCache.{StandsFor, residents_in};
+    ghost use Rattle.policies.specs.QueueStep.{queue_act, queue_undone, QueueFits, queue_words, queue_pace};
 
     /// An empty cache for a job. It requires a configuration that `Config::check` accepts, and one of the five policies
     /// of queues. The one error is that an allocation failed.
@@ -167,6 +173,55 @@ impl QueueCache {
         if self.rules.capacity >= WARM_FROM {
             self.segments.warm(keys, 0);
         }
+    }
+
+    /// Makes an access that is not to be undone: that of `apply`, without its undo record.
+    ///
+    /// Errors: `NotNow` exactly where `MAX_STEPS` accesses are applied, and `OutOfMemory`; each leaves the cache as it was.
+    ///
+    /// `C` is a type of the caller's choice, of which nothing is asked: each has code of its own, so that code which is called
+    /// at one place is part of the loop there.
+    #[inline(always)]
+    pub fn access<C>(&mut self, key: Key) -> Result<Outcome, StepFault>
+        ensures accepted { IfOk result (λ o. queue_act self.old key ≡ Some (o, self.new)) }
+        ensures not_now { result ≡ Err StepFault.NotNow ↔ queue_act self.old key ≡ None }
+        ensures err { OnErr result (self.new ≡ self.old) }
+    {
+        match self.step::<C>(key) {
+            Ok((outcome, _)) => Ok(outcome),
+            Err(fault) => Err(fault),
+        }
+    }
+
+    // Makes an access. `C` says whose code this is.
+    #[inline(always)]
+    fn step<C>(&mut self, key: Key) -> Result<(Outcome, AccessRecord), StepFault>
+        ensures accepted { IfOk result (λ r. queue_act self.old key ≡ Some (r.0, self.new)) }
+        ensures fits { IfOk result (λ r. QueueFits r.1 self.new) }
+        ensures undone { IfOk result (λ r. queue_undone r.1 self.new ≡ self.old) }
+        ensures words { IfOk result (λ r. words_of_halvings (queue_pace self.new)
+            ≡ words_of_halvings (queue_pace (queue_undone r.1 self.new)) + queue_words r.1) }
+        ensures not_now { result ≡ Err StepFault.NotNow ↔ queue_act self.old key ≡ None }
+        ensures err { OnErr result (self.new ≡ self.old) }
+    {
+        if self.stats.accesses == MAX_STEPS {
+            return Err(StepFault::NotNow);
+        }
+        // All room is made first: what follows the recording takes none.
+        if self.segments.reserve().is_err() {
+            return Err(StepFault::OutOfMemory);
+        }
+        let Ok(counting) = record_in(&mut self.frequency, key) else {
+            return Err(StepFault::OutOfMemory);
+        };
+        let effect = access_key::<C>(&mut self.segments, &self.frequency, &self.rules, key);
+        self.stats.count(effect.outcome);
+        let record = AccessRecord {
+            counting,
+            moves: effect.moves,
+            outcome: effect.outcome,
+        };
+        Ok((effect.outcome, record))
     }
 
     /// The job that it runs.
@@ -229,27 +284,9 @@ impl Engine for QueueCache {
 
     ghost pace = { queue_pace };
 
-    // Inlined, so that what a caller does not read of the record is not written.
     #[inline(always)]
     fn apply(&mut self, step: &Key) -> Result<(Outcome, AccessRecord), StepFault> {
-        if self.stats.accesses == MAX_STEPS {
-            return Err(StepFault::NotNow);
-        }
-        // All room is made first: what follows the recording takes none.
-        if self.segments.reserve().is_err() {
-            return Err(StepFault::OutOfMemory);
-        }
-        let Ok(counting) = record_in(&mut self.frequency, *step) else {
-            return Err(StepFault::OutOfMemory);
-        };
-        let effect = access_key(&mut self.segments, &self.frequency, &self.rules, *step);
-        self.stats.count(effect.outcome);
-        let record = AccessRecord {
-            counting,
-            moves: effect.moves,
-            outcome: effect.outcome,
-        };
-        Ok((effect.outcome, record))
+        self.step::<Recorder>(*step)
     }
 
     fn undo(&mut self, done: AccessRecord) -> Result<(), AccessRecord> {

@@ -1,5 +1,5 @@
 //! The accesses of a trace, batch by batch, and the report at its end.
-ghost use Rattle.std.specs.Prelude.{◌≡◌, [], ◌++◌, ℕ, List, Ok, IfOk, IfSome};
+ghost use Rattle.std.specs.Prelude.{◌≡◌, ◌≤◌, [], ◌++◌, ℕ, List, length, Ok, IfOk, IfSome};
 ghost use Rattle.step_record.specs.Config.{config_fault};
 ghost use Rattle.step_record.specs.declared.job.Job.{Job};
 ghost use Rattle.policies.specs.AnyPolicy.{Stands};
@@ -9,7 +9,10 @@ ghost use Rattle.policy_actors.specs.Reports.{report_on};
 use policies::{AnyPolicy, any_accepts, any_reports, any_stands};
 use report::Report;
 use std::alloc::{AllocError, Global};
-use step_record::{Engine, Job, Key, StepFault, Trace};
+use step_record::{Job, Key, StepFault, Trace};
+
+// For so many accesses at once what they read first is read ahead.
+const AHEAD: usize = 16;
 
 /// Makes the accesses in turn, which are the next ones of a trace. The one error is out of memory; the cache is dropped then.
 pub fn access_all(mut cache: AnyPolicy, keys: &[Key]) -> Result<AnyPolicy, AllocError>
@@ -18,14 +21,27 @@ pub fn access_all(mut cache: AnyPolicy, keys: &[Key]) -> Result<AnyPolicy, Alloc
 {
     any_stands();
     any_accepts();
-    for key in keys {
-        match cache.apply(key) {
+    for i in 0..keys.len() {
+        warm_at(&mut cache, keys, i);
+        match cache.access::<Report>(keys[i]) {
             Ok(_) => {}
             Err(StepFault::OutOfMemory) => return Err(AllocError),
             Err(StepFault::NotNow) => unreachable!(),
         }
     }
     Ok(cache)
+}
+
+// Reads ahead what the next accesses read first, once for each few of them.
+#[inline(always)]
+fn warm_at(cache: &mut AnyPolicy, keys: &[Key], i: usize)
+    requires { i ≤ length keys.now }
+    ensures { cache.new ≡ cache.old }
+{
+    if i % AHEAD == 0 {
+        let end = keys.len().min(i + AHEAD);
+        cache.warm(&keys[i..end]);
+    }
 }
 
 /// A new cache for a job over the trace; `None` if out of memory.

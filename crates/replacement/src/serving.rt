@@ -17,7 +17,7 @@ use step_record::{Item, Outcome};
 
 // An access, by its plan.
 #[inline(always)]
-fn access_planned(
+fn access_planned<C>(
     segments: &mut Segments,
     frequency: Option<&Frequency>,
     rules: &Rules,
@@ -46,8 +46,11 @@ fn access_planned(
 
 /// Accesses an item: a hit where it stands in a queue, else a miss, by the rules. Where keys are counted, `frequency` is
 /// the one that already has the item's key. It requires room for one item.
+///
+/// `C` is a type of the caller's choice, of which nothing is asked: each has code of its own, so that where callers that
+/// keep the undo record choose one type and those that drop it another, the latter's code writes no record.
 #[inline(always)]
-pub fn access(
+pub fn access<C>(
     segments: &mut Segments,
     frequency: Option<&Frequency>,
     rules: &Rules,
@@ -66,5 +69,5 @@ pub fn access(
     // what holds of every Segments: no item stands twice
     ensures distinct { IsDistinct segments.old.lists }
 {
-    access_planned(segments, frequency, rules, item)
+    access_planned::<C>(segments, frequency, rules, item)
 }

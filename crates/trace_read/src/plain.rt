@@ -6,8 +6,8 @@ ghost use Rattle.trace_read.specs.Scanned.{feed_in};
 use super::format::Format;
 use step_record::Key;
 
-// A value below this has room for one more digit. Numbers that come near the limit are for `number`.
-const ROOMY: u64 = 1 << 60;
+// A number of so many digits is below 2^64. Longer ones are for `number`.
+const ROOMY: usize = 19;
 
 /// A line that is a number and nothing else.
 #[derive(Clone, Copy, Debug)]
@@ -26,7 +26,8 @@ pub fn plain_line(bytes: &[u8]) -> Option<PlainLine>
 {
     let mut key: u64 = 0;
     let mut end = 0;
-    'digits: while end < bytes.len() && key < ROOMY {
+    let most = bytes.len().min(ROOMY);
+    'digits: while end < most {
         if !bytes[end].is_ascii_digit() {
             break;
         }

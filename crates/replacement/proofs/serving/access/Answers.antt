@@ -7,21 +7,21 @@ use Rattle.replacement.proofs.Planned.{accesses-planned}
 use Rattle.replacement.proofs.serving.access.Goals as goal
 
 pub returns-clause-outcome : goal.returns-clause-outcome
-returns-clause-outcome c =
+returns-clause-outcome g c =
     c.access_planned.ensures.effect.outcome
     ∙ ap (λ (x : Response). x.outcome) (sym (accesses-planned c.args.rules.now (admits_in (option_map (λ f. f.now) c.args.frequency)) c.args.item c.args.segments.now.lists c.access_planned.ensures.distinct))
 
 pub returns-clause-lists : goal.returns-clause-lists
-returns-clause-lists c =
+returns-clause-lists g c =
     c.access_planned.ensures.effect.lists
     ∙ ap (λ (x : Response). x.queues) (sym (accesses-planned c.args.rules.now (admits_in (option_map (λ f. f.now) c.args.frequency)) c.args.item c.args.segments.now.lists c.access_planned.ensures.distinct))
 
 pub returns-clause-fits : goal.returns-clause-fits
-returns-clause-fits c =
+returns-clause-fits g c =
     (undoes (plan c.args.rules.now (admits_in (option_map (λ f. f.now) c.args.frequency)) c.args.item c.args.segments.now.lists) c.args.segments.now.lists c.access_planned.new.segments.lists c.access_planned.result.moves c.access_planned.ensures.distinct
     c.access_planned.ensures.effect.lists c.access_planned.ensures.effect.moves).fits
 
 pub returns-clause-undone : goal.returns-clause-undone
-returns-clause-undone c =
+returns-clause-undone g c =
     (undoes (plan c.args.rules.now (admits_in (option_map (λ f. f.now) c.args.frequency)) c.args.item c.args.segments.now.lists) c.args.segments.now.lists c.access_planned.new.segments.lists c.access_planned.result.moves c.access_planned.ensures.distinct
     c.access_planned.ensures.effect.lists c.access_planned.ensures.effect.moves).back

@@ -12,9 +12,9 @@ pub record Digits (A B C D E : Type 0) : Type 0 where
   pub few : E
 
 abbrev pub invariant-digits : goal.invariant-digits
-invariant-digits l = Digits (l.end ≤ length l.bytes)
+invariant-digits l = Digits ((l.end ≤ l.most) × (l.most ≤ length l.bytes) × (l.most ≤ 19))
     (position_or_len (λ b. b == 10) l.bytes ≡ l.end + position_or_len (λ b. b == 10) (drop l.end l.bytes))
-    (all_ascii_digits (take l.end l.bytes) ≡ true) (l.key ≡ digits_value 10 (take l.end l.bytes)) (l.key < 2 ^ 64)
+    (all_ascii_digits (take l.end l.bytes) ≡ true) (l.key ≡ digits_value 10 (take l.end l.bytes)) (l.key < 10 ^ l.end)
 
 abbrev pub decreases-digits : goal.decreases-digits
 decreases-digits l = length l.bytes - l.end

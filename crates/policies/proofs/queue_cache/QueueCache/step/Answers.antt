@@ -1,26 +1,26 @@
 use Rattle.std.proofs.Common.{◌≤◌, sym, subst}
 use Rattle.segments.specs.Queues.{Queues, total}
 use Rattle.policies.proofs.Reached.{reached-halvings, reached-items, reached-small, access-reached, counting-weighs}
-use Rattle.policies.proofs.queue_cache.QueueCacheEngine.apply.Goals as goal
+use Rattle.policies.proofs.queue_cache.QueueCache.step.Goals as goal
 
 pub record_in-requires : goal.record_in-requires
-record_in-requires c = reached-halvings _ c.self.invariant.reached
+record_in-requires g c = reached-halvings _ c.self.invariant.reached
 
 pub access_key-effect-requires-clause-few : goal.access_key-effect-requires-clause-few
-access_key-effect-requires-clause-few c =
+access_key-effect-requires-clause-few g c =
     subst (λ (q : Queues). total q ≤ 8589934592) (sym c.reserve.ensures.lists) (reached-items _ c.self.invariant.reached)
 
 pub count-requires : goal.count-requires
-count-requires c = reached-small _ c.self.invariant.reached
+count-requires g c = reached-small _ c.self.invariant.reached
 
 pub invariant_of-self-2 : goal.invariant_of-self-2
-invariant_of-self-2 c = record {
+invariant_of-self-2 g c = record {
   rules = c.self.invariant.rules;
   reached = access-reached c.self.inside.job c.self.inside.rules c.self.inside.segments.lists c.reserve.new.self.lists c.access_key-effect.new.segments.lists
-      c.self.inside.frequency c.record_in.new.frequency c.self.inside.stats c.count.new.self c.args.step.now c.access_key-effect.result
+      c.self.inside.frequency c.record_in.new.frequency c.self.inside.stats c.count.new.self c.args.key c.access_key-effect.result
       c.self.invariant.rules c.self.invariant.reached c.if-self-eq-MAX_STEPS.false c.reserve.ensures.lists c.in-Ok.ensures.after
       c.access_key-effect.ensures.outcome c.access_key-effect.ensures.lists c.count.ensures;
 }
 
 pub returns-clause-words : goal.returns-clause-words
-returns-clause-words c = counting-weighs c.in-Ok.counting c.record_in.new.frequency c.in-Ok.ensures.fits
+returns-clause-words g c = counting-weighs c.in-Ok.counting c.record_in.new.frequency c.in-Ok.ensures.fits
