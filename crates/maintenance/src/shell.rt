@@ -6,6 +6,7 @@ ghost use Rattle.segments.specs.Queues.{queue_of};
 ghost use Rattle.shell_buffers.specs.Buffers.{stripe_at};
 ghost use Rattle.shell_model.specs.Shell.{node_of};
 ghost use Rattle.shell_model.specs.Laws.{opened, IsShapeOf};
+ghost use Rattle.shell_model.specs.Reached.{IsReachable};
 ghost use Rattle.maintenance.specs.Opened.{IsOpened, triple};
 
 use crate::parts::Core;
@@ -118,6 +119,7 @@ impl Shell {
         ensures stripes { result ≡ self.now.config.stripes }
         ensures count { length self.now.stripes ≡ result }
         ensures range { (1 ≤ result) × (result ≤ MAX_STRIPES) }
+        ensures reached { IsReachable self.now }
     {
         self.core.config.stripes
     }
