@@ -143,7 +143,7 @@ module _ {D : Type 0} (act : D → Step → Option (Reply × D)) (x : D) (limit 
   closed_ok (Err f) whole behind kept lines text none = tt
 
   pub closed_err : {T : Type 0} (r : Result T JournalFault) (whole behind : List ℕ) (kept : Entries) → AreLines Two kept → whole ≡ journal_of Two kept ++ behind
-      → IfErr r (λ f. (f ≡ fault.Line (length kept + 1)) × (behind ≢ [])) → IfErr r (λ f. IsFault act x limit f whole kept)
+      → IfErr r (λ f. (f ≡ fault.Line (length kept + 2)) × (behind ≢ [])) → IfErr r (λ f. IsFault act x limit f whole kept)
   closed_err (Ok u) whole behind kept lines text h = tt
   closed_err (Err f) whole behind kept lines text h =
       subst (λ g. IsFault act x limit g whole kept) (sym h.0) (inr (refl, (behind, lines, some_left behind h.1, text)))

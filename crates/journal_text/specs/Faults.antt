@@ -66,9 +66,9 @@ module _ {D : Type 0} (act : D → Step → Option (Reply × D)) (x : D) (limit 
   IsFault fault.OutOfMemory bytes kept = StandsIn bytes kept
   -- the first line is no header, or has no line feed
   IsFault fault.Header bytes kept = (kept ≡ []) × ((v : Version) (more : List ℕ) → bytes ≢ ended (header v) ++ more)
-  -- a line is wrong, or there are bytes behind the count
+  -- a line is wrong, or there is a line more behind the count, which is itself the line behind those of the entries
   IsFault (fault.Line n) bytes kept = IsAtLine (fault.Line n) bytes kept
-      ⊎ ((n ≡ length kept + 1) × ((more : List ℕ) × AreLines Two kept × (0 < length more) × (bytes ≡ journal_of Two kept ++ more)))
+      ⊎ ((n ≡ length kept + 2) × ((more : List ℕ) × AreLines Two kept × (0 < length more) × (bytes ≡ journal_of Two kept ++ more)))
   IsFault (fault.FalseReply n) bytes kept = IsAtLine (fault.FalseReply n) bytes kept
   IsFault (fault.NotNow n) bytes kept = IsAtLine (fault.NotNow n) bytes kept
   IsFault (fault.JournalFull n) bytes kept = IsAtLine (fault.JournalFull n) bytes kept

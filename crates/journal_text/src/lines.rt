@@ -79,19 +79,20 @@ fn stop(version: Version, rest: &[u8]) -> Result<(), JournalFault>
     }
 }
 
-// The end of version 2, behind the count of the steps: there are no more bytes.
+// The end of version 2, behind the count of the steps, which is the line behind those of the steps: there are no more
+// bytes, or they are a line too many.
 fn end<E: Engine<Step = Step, Reply = Reply>>(
     behind: &[u8],
     session: &Session<E>,
 ) -> Result<(), JournalFault>
     ensures ok { OnOk result (behind.now ≡ []) }
-    ensures err { IfErr result (λ f. (f ≡ JournalFault.Line (length session.now.kept + 1)) × (behind.now ≢ [])) }
+    ensures err { IfErr result (λ f. (f ≡ JournalFault.Line (length session.now.kept + 2)) × (behind.now ≢ [])) }
 {
     if behind.is_empty() {
         return Ok(());
     }
     Err(JournalFault::Line {
-        step: session.len() + 1,
+        step: session.len() + 2,
     })
 }
 
