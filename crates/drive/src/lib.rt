@@ -9,6 +9,8 @@
 
 mod desk;
 mod driving;
+#[cfg(test)]
+mod driving_tests;
 mod local;
 mod next;
 mod place;
