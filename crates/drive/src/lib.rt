@@ -19,7 +19,7 @@ mod tests;
 mod turns;
 mod work;
 
-pub use driving::{DriveFault, Driven, drive};
+pub use driving::{Cause, DriveFault, Driven, drive};
 pub use local::Local;
 pub use next::{Next, next_step};
 pub use place::Place;
