@@ -1,6 +1,6 @@
 -- What a run hands back.
-use Rattle.std.proofs.Common.{◌≡◌, ℕ, ◌≤◌, ◌<◌, List, Option, Some, None, map, length, sym, ap, ◌∙◌, subst, Result, Ok, Err, OnOk, arith}
-use Rattle.std.specs.Prelude.{IfOk, IfErr, option_map, unwrap_or}
+use Rattle.std.proofs.Common.{◌≡◌, ℕ, ◌≤◌, ◌<◌, List, Option, Some, None, map, length, refl, sym, ap, ◌∙◌, subst, Result, Ok, Err, OnOk, arith}
+use Rattle.std.specs.Prelude.{IfOk, IfErr, option_map}
 use Rattle.std.proofs.lemmas.List.{length-map}
 use Rattle.step_record.specs.declared.step.Call.{Call}
 use Rattle.step_record.specs.declared.step.Reply.{Reply}
@@ -11,7 +11,8 @@ use Rattle.journal.specs.declared.fault.SessionFault.TheVariants as fault
 use Rattle.shell_model.specs.declared.holder.Holder.{Holder}
 use Rattle.shell_model.specs.Shell.{Shell}
 use Rattle.drive.specs.declared.driving.DriveFault.{DriveFault}
-use Rattle.drive.specs.DriveFaults.{CanRun, LeavesFault}
+use Rattle.drive.specs.DriveFaults.{the_cause}
+use Rattle.drive.specs.declared.driving.Cause.TheVariants as cause
 use Rattle.drive.specs.Walks.{Entries}
 use Rattle.drive.specs.Driven.{IsRun}
 
@@ -36,6 +37,7 @@ pub on_ok : {X F : Type 0} (r : Result X F) (P : Type 0) → P → OnOk r P
 on_ok (Ok x) P h = h
 on_ok (Err y) P h = tt
 
-pub full_cause : (o : Option SessionFault) → unwrap_or o fault.OutOfMemory ≡ fault.JournalFull → o ≡ Some fault.JournalFull
+pub full_cause : (o : Option SessionFault) → the_cause o ≡ cause.JournalFull → o ≡ Some fault.JournalFull
 full_cause None e = absurd (cc (e))
-full_cause (Some f) e = ap (λ x. Some x) e
+full_cause (Some fault.JournalFull) e = refl
+full_cause (Some f) e = absurd (cc (e))

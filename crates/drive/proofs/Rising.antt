@@ -8,7 +8,7 @@ use Rattle.step_record.specs.declared.step.Reply.{Reply}
 use Rattle.step_record.specs.declared.step.Step.{Step}
 use Rattle.shell_model.specs.Shell.{Shell}
 use Rattle.journal.specs.declared.fault.SessionFault.{SessionFault}
-use Rattle.journal.specs.declared.fault.SessionFault.TheVariants.{JournalFull}
+use Rattle.journal.specs.declared.fault.SessionFault.TheVariants.{JournalFull, NotNow}
 use Rattle.turn_book.specs.Turns.{Every, Begins}
 use Rattle.turn_book.specs.Passes.{BookId, PassState, InOrder, OwnAll, Ends}
 use Rattle.drive.specs.declared.desk.Desk.{Desk}
@@ -63,6 +63,12 @@ full_at n limit calls kept (d ∷ ds) (p ∷ ps) e h s zero lt f =
 full_at n limit calls kept (d ∷ ds) (p ∷ ps) e h s (suc i) lt f =
     let rest : map (λ p. Some p) ps ≡ map (λ d. d.pass) ds = cc in
     full_at n limit calls kept ds ps rest h.1 s.1 i (omega arith) f
+
+-- no worker was stopped for a step that may not come now
+pub taken_at : (n limit : ℕ) (calls : ℕ → List Call) (ds : List Desk) → Every (HasWorked n limit calls) ds → (i : ℕ) → i < length ds → ((d : Desk) → (get_or ds i d).fault ≡ Some NotNow) → ⊥
+taken_at n limit calls [] h i lt f = absurd (omega arith)
+taken_at n limit calls (d ∷ ds) h zero lt f = h.0.now (f d)
+taken_at n limit calls (d ∷ ds) h (suc i) lt f = taken_at n limit calls ds h.1 i (omega arith) f
 
 pub every_map : {X : Type 0} (P Q : X → Type 0) (xs : List X) → ((x : X) → P x → Q x) → Every P xs → Every Q xs
 every_map P Q [] f h = tt

@@ -39,7 +39,7 @@ module _ (w : ℕ) (n : ℕ) (c : Call) where
   abbrev pub Completes : Next → Entries → Type 0
   Completes next es = (rest : Entries) → Left next rest → IsWalk w n c (es ++ rest)
 
-  same_step : (a : Act) (l : Local) → act_at l.worker l.stripes l.place ≡ a → l.worker ≡ w → step_of l.worker (act_at l.worker l.stripes l.place) ≡ step_of w a
+  pub same_step : (a : Act) (l : Local) → act_at l.worker l.stripes l.place ≡ a → l.worker ≡ w → step_of l.worker (act_at l.worker l.stripes l.place) ≡ step_of w a
   same_step a l h e = ap (λ x. step_of x (act_at l.worker l.stripes l.place)) e ∙ ap (λ x. step_of w x) h
 
   -- what is asked of the one whose next act is a

@@ -1,5 +1,5 @@
 -- When a run of workers ends in a fault, and what each fault leaves.
-use Rattle.std.specs.Prelude.{◌≡◌, ℕ, ◌<◌, ◌≤◌, List, Some, None, length, map}
+use Rattle.std.specs.Prelude.{◌≡◌, ℕ, ◌<◌, ◌≤◌, List, Option, Some, None, length, map}
 use Rattle.std.specs.Vec.{vec_items}
 use Rattle.step_record.specs.declared.step.Call.{Call}
 use Rattle.step_record.specs.declared.step.Reply.{Reply}
@@ -9,7 +9,10 @@ use Rattle.step_record.specs.History.{IsLegal}
 use Rattle.shell_model.specs.Shell.{Shell, act}
 use Rattle.shell_model.specs.Reached.{worker_of}
 use Rattle.journal.specs.Session.{SessionState}
-use Rattle.journal.specs.declared.fault.SessionFault.TheVariants.{JournalFull}
+use Rattle.journal.specs.declared.fault.SessionFault.{SessionFault}
+use Rattle.journal.specs.declared.fault.SessionFault.TheVariants as refused
+use Rattle.drive.specs.declared.driving.Cause.{Cause}
+use Rattle.drive.specs.declared.driving.Cause.TheVariants.{Memory, JournalFull}
 use Rattle.drive.specs.Made.{BeginWalks}
 use Rattle.drive.specs.Driven.{IsRun}
 use Rattle.drive.specs.declared.driving.DriveFault.{DriveFault}
@@ -20,6 +23,11 @@ pub record CanRun (pieces : List (List Call)) (x : Shell) : Type 0 where
   pub some : 1 ≤ length pieces
   pub few : length pieces ≤ MAX_WORKERS
   pub free : x.holder ≡ None
+
+-- what stopped a worker, by why its step was refused
+abbrev pub the_cause : Option SessionFault → Cause
+the_cause (Some refused.JournalFull) = JournalFull
+the_cause o = Memory
 
 -- Each fault holds the session: as it was, or with what the workers made of it, one of whom was refused a step. A full
 -- journal is a cause only where the session is full.

@@ -5,7 +5,7 @@ ghost use Rattle.step_record.specs.declared.worker.TheConstants.{MAX_WORKERS};
 ghost use Rattle.journal.specs.declared.fault.SessionFault.TheVariants.{JournalFull};
 ghost use Rattle.turn_book.specs.Turns.{Every};
 ghost use Rattle.turn_book.specs.Passes.{InOrder, id_of};
-ghost use Rattle.drive.specs.Desks.{Sits, HasWorked, Counts, calls_of};
+ghost use Rattle.drive.specs.Desks.{Sits, HasWorked, Counts, AdmitsAll, calls_of};
 
 use super::turns::work_in_turns;
 use journal::{Session, SessionFault};
@@ -37,6 +37,7 @@ fn work_at<G: Gate, R: Wait>(
     desk: &mut Desk,
 )
     requires stripes { (1 ≤ stripes) × (stripes ≤ MAX_STRIPES) }
+    requires admits { AdmitsAll stripes book.now.opening }
     requires sits { Sits (id_of book.now) desk.old }
     requires fresh { desk.old.list.items ≡ [] }
     requires below { desk.old.worker < length pieces.now }
@@ -73,6 +74,7 @@ fn work_all<G: Gate, R: Threads + Wait + Sync>(
     desks: &mut [Desk],
 )
     requires stripes { (1 ≤ stripes) × (stripes ≤ MAX_STRIPES) }
+    requires admits { AdmitsAll stripes book.now.opening }
     requires sit { All (λ d. Sits (id_of book.now) d × (d.list.items ≡ []) × (d.worker < length pieces.now)) desks.old }
     ensures sit { All (λ d. Sits (id_of book.now) d × HasWorked stripes book.now.opening.limit (calls_of pieces.now) d) desks.new }
     ensures workers { (i : ℕ) (d : Desk) → i < length desks.old → (slice_index_or desks.new i d).worker ≡ (slice_index_or desks.old i d).worker }
@@ -82,7 +84,7 @@ fn work_all<G: Gate, R: Threads + Wait + Sync>(
     }
     let threads = desks.len();
     let each = |_i: usize, desk: &mut Desk|
-        requires { (1 ≤ stripes) × (stripes ≤ MAX_STRIPES) × Sits (id_of book.now) desk.now × (desk.now.list.items ≡ []) × (desk.now.worker < length pieces.now) }
+        requires { (1 ≤ stripes) × (stripes ≤ MAX_STRIPES) × AdmitsAll stripes book.now.opening × Sits (id_of book.now) desk.now × (desk.now.list.items ≡ []) × (desk.now.worker < length pieces.now) }
         ensures { Sits (id_of book.entry.now) desk.exit.now × HasWorked stripes book.entry.now.opening.limit (calls_of pieces.entry.now) desk.exit.now × (desk.exit.now.worker ≡ desk.entry.now.worker) }
     { work_at(rt, gate, book, pieces, stripes, desk) };
     thread::for_each_mut(rt, desks, threads, &each);
@@ -126,6 +128,7 @@ pub(crate) fn work_seated<G: Gate, R: Threads + Wait + Sync>(
     mut desks: Vec<Desk>,
 ) -> Vec<Desk>
     requires stripes { (1 ≤ stripes) × (stripes ≤ MAX_STRIPES) }
+    requires admits { AdmitsAll stripes book.now.opening }
     requires sit { Every (λ d. Sits (id_of book.now) d × (d.list.items ≡ [])) desks.items }
     requires counts { Counts 0 desks.items × (length desks.items ≡ length pieces.now) }
     ensures sit { Every (λ d. Sits (id_of book.now) d × HasWorked stripes book.now.opening.limit (calls_of pieces.now) d) result.items }

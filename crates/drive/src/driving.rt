@@ -1,16 +1,16 @@
 //! Workers on threads, over one session of the concurrent cache.
-ghost use Rattle.std.specs.Prelude.{◌≡◌, ℕ, ◌<◌, ◌≤◌, None, Some, [], ◌∷◌, ◌++◌, Option, IfOk, IfErr, OnOk, MatchOption, unwrap_or, length, map, vec_len, vec_capacity};
+ghost use Rattle.std.specs.Prelude.{◌≡◌, ◌≢◌, ℕ, ◌<◌, ◌≤◌, None, Some, [], ◌∷◌, ◌++◌, Option, IfOk, IfErr, OnOk, length, map, vec_len, vec_capacity};
 ghost use Rattle.step_record.specs.declared.limits.TheConstants.{MAX_STRIPES};
 ghost use Rattle.step_record.specs.declared.worker.TheConstants.{MAX_WORKERS};
 ghost use Rattle.turn_book.specs.Turns.{Every};
 ghost use Rattle.turn_book.specs.Passes.{InOrder, id_of};
 ghost use Rattle.drive.specs.Walks.{AreWalks};
 ghost use Rattle.drive.specs.Made.{BeginWalks};
-ghost use Rattle.drive.specs.Desks.{Sits, HasWorked, Counts, calls_of};
+ghost use Rattle.drive.specs.Desks.{AdmitsAll};
 ghost use Rattle.drive.specs.Driven.{IsRun};
 ghost use Rattle.step_record.specs.History.{IsLegal};
 ghost use Rattle.shell_model.specs.Shell.{act};
-ghost use Rattle.drive.specs.DriveFaults.{CanRun, LeavesFault};
+ghost use Rattle.drive.specs.DriveFaults.{CanRun, LeavesFault, the_cause};
 
 use super::desk::{Desk, first_fault, rise_all, seat_all, work_seated};
 use journal::{Session, SessionFault};
@@ -26,6 +26,15 @@ use turn_book::{MAX_TURNS, OpenFault, Pass, TurnBook};
 pub struct Driven {
     pub session: Session<Shell>,
     pub lists: Vec<Vec<Entry<Step, Reply>>>,
+}
+
+/// Why a worker was refused a step.
+#[derive(Clone, Copy, Debug, PartialEq, Eq)]
+pub enum Cause {
+    /// Out of memory.
+    Memory,
+    /// The journal is full.
+    JournalFull,
 }
 
 /// Why a run did not make all walks. Each fault holds the session.
@@ -49,7 +58,7 @@ pub enum DriveFault {
     Stopped {
         session: Session<Shell>,
         lists: Vec<Vec<Entry<Step, Reply>>>,
-        cause: SessionFault,
+        cause: Cause,
     },
 }
 
@@ -108,19 +117,32 @@ fn handed(
     lists: Vec<Vec<Entry<Step, Reply>>>,
     fault: Option<SessionFault>,
 ) -> Result<Driven, DriveFault>
+    requires { fault ≢ Some SessionFault.NotNow }
     ensures ok { IfOk result (λ d. (d.session ≡ session) × (d.lists.items ≡ lists.items) × (fault ≡ None)) }
-    ensures err { IfErr result (λ f. f ≡ DriveFault.Stopped session lists (unwrap_or fault SessionFault.OutOfMemory)) }
+    ensures err { IfErr result (λ f. f ≡ DriveFault.Stopped session lists (the_cause fault)) }
     ensures legal { IsLegal act session.opening session.kept }
     ensures room { length session.kept ≤ session.limit }
 {
     session.len();
     match fault {
         None => Ok(Driven { session, lists }),
-        Some(cause) => Err(DriveFault::Stopped {
+        Some(fault) => Err(DriveFault::Stopped {
             session,
             lists,
-            cause,
+            cause: cause_of(fault),
         }),
+    }
+}
+
+// What stopped a worker, whose steps may always come.
+fn cause_of(fault: SessionFault) -> Cause
+    requires { fault ≢ SessionFault.NotNow }
+    ensures { result ≡ the_cause (Some fault) }
+{
+    match fault {
+        SessionFault::OutOfMemory => Cause::Memory,
+        SessionFault::JournalFull => Cause::JournalFull,
+        SessionFault::NotNow => unreachable!(),
     }
 }
 
@@ -162,6 +184,7 @@ fn run_book<G: Gate, R: Threads + Wait + Sync>(
     Option<SessionFault>,
 )
     requires stripes { (1 ≤ stripes) × (stripes ≤ MAX_STRIPES) }
+    requires admits { AdmitsAll stripes book.opening }
     requires workers { (length pieces.now ≡ book.workers) × (1 ≤ length pieces.now) × (length pieces.now ≤ MAX_WORKERS) }
     requires order { InOrder 0 passes.items × (length passes.items ≡ length pieces.now) }
     requires own { Every (λ p. p.book ≡ id_of book) passes.items }
@@ -170,6 +193,7 @@ fn run_book<G: Gate, R: Threads + Wait + Sync>(
     requires room { (length pieces.now ≤ vec_capacity room.desks) × (length pieces.now ≤ vec_capacity room.passes) × (length pieces.now ≤ vec_capacity room.lists) }
     ensures none { result.2 ≡ None → IsRun (λ w. AreWalks w stripes) (map (λ p. p.items) pieces.now) book.opening result.0 (map (λ l. l.items) result.1.items) }
     ensures full { result.2 ≡ Some SessionFault.JournalFull → book.opening.limit ≤ length result.0.kept }
+    ensures now { result.2 ≢ Some SessionFault.NotNow }
     ensures some { IsRun (λ w. BeginWalks w stripes) (map (λ p. p.items) pieces.now) book.opening result.0 (map (λ l. l.items) result.1.items) }
 {
     let Room {

@@ -9,6 +9,8 @@
 
 mod desk;
 mod driving;
+#[cfg(test)]
+mod driving_tests;
 mod local;
 mod next;
 mod place;
@@ -17,7 +19,7 @@ mod tests;
 mod turns;
 mod work;
 
-pub use driving::{DriveFault, Driven, drive};
+pub use driving::{Cause, DriveFault, Driven, drive};
 pub use local::Local;
 pub use next::{Next, next_step};
 pub use place::Place;

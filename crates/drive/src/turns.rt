@@ -1,9 +1,12 @@
 //! What one worker does over a session that workers take in turns.
-ghost use Rattle.std.specs.Prelude.{◌≡◌, ◌≤◌, ℕ, ◌∷◌, ◌++◌, [], true, length, OnOk, OnErr, IfOk, MatchResult, Some, Err};
+ghost use Rattle.std.specs.Prelude.{◌≡◌, ◌≢◌, ◌≤◌, ℕ, List, ◌∷◌, ◌++◌, [], true, length, OnOk, OnErr, IfOk, MatchResult, Some, Err};
 ghost use Rattle.step_record.specs.declared.limits.TheConstants.{MAX_STRIPES};
 ghost use Rattle.step_record.specs.Answers.{AnswersItsActs, is_answer};
 ghost use Rattle.turn_book.specs.Passes.{id_of};
+ghost use Rattle.step_record.specs.History.{after};
+ghost use Rattle.step_record.specs.declared.step.Call.{Call};
 ghost use Rattle.drive.specs.Walks.{IsWalk, AreWalks};
+ghost use Rattle.drive.specs.Admits.{AdmitsWalks, IsTaken};
 ghost use Rattle.drive.specs.Made.{Made, BeginsWalk, BeginWalks};
 
 use super::local::Local;
@@ -23,12 +26,14 @@ pub fn turn<E: Engine<Step = Step, Reply = Reply> + Drop, R: Wait>(
     requires own { pass.book ≡ id_of book.now }
     requires worker { pass.worker ≡ step.worker }
     requires answers { AnswersItsActs E.act }
+    requires takes { IsTaken E.act E.count (after E.act book.now.opening.opening book.now.opening.kept) pass.own step }
     ensures same { result.0.book ≡ pass.book }
     ensures worker { result.0.worker ≡ pass.worker }
     ensures own { MatchResult result.1 (λ r. result.0.own ≡ pass.own ++ record { step = step; reply = r } ∷ []) (λ _. result.0.own ≡ pass.own) }
     ensures answer { IfOk result.1 (λ r. is_answer step.act r ≡ true) }
     // A full journal: what the pass last saw is as long as the limit.
     ensures full { result.1 ≡ Err SessionFault.JournalFull → length result.0.last ≡ book.now.opening.limit }
+    ensures now { result.1 ≢ Err SessionFault.NotNow }
 {
     match book.take(rt, pass) {
         Ok(mut turn) => match turn.value().step(step) {
@@ -52,12 +57,15 @@ pub fn walk_in_turns<E: Engine<Step = Step, Reply = Reply> + Drop, R: Wait>(
     requires own { pass.book ≡ id_of book.now }
     requires worker { pass.worker ≡ worker }
     requires answers { AnswersItsActs E.act }
+    requires admits { AdmitsWalks E.act E.count worker stripes (after E.act book.now.opening.opening book.now.opening.kept) }
+    requires walks { (before : List Call) × AreWalks worker stripes before pass.own }
     requires stripes { (1 ≤ stripes) × (stripes ≤ MAX_STRIPES) }
     ensures same { result.0.book ≡ pass.book }
     ensures worker { result.0.worker ≡ worker }
     ensures ok { OnOk result.1 (Made (IsWalk worker stripes call) pass.own result.0.own list.old.items list.new.items) }
     ensures err { OnErr result.1 (Made (BeginsWalk worker stripes call) pass.own result.0.own list.old.items list.new.items) }
     ensures full { result.1 ≡ Err SessionFault.JournalFull → length result.0.last ≡ book.now.opening.limit }
+    ensures now { result.1 ≢ Err SessionFault.NotNow }
 {
     let mut next = next_step(Local::start(worker, stripes, call), None);
     for _ in rt.forever() {
@@ -96,12 +104,15 @@ pub fn work_in_turns<E: Engine<Step = Step, Reply = Reply> + Drop, G: Gate, R: W
     requires own { pass.book ≡ id_of book.now }
     requires worker { pass.worker ≡ worker }
     requires answers { AnswersItsActs E.act }
+    requires admits { AdmitsWalks E.act E.count worker stripes (after E.act book.now.opening.opening book.now.opening.kept) }
+    requires walks { (before : List Call) × AreWalks worker stripes before pass.own }
     requires stripes { (1 ≤ stripes) × (stripes ≤ MAX_STRIPES) }
     ensures same { result.0.book ≡ pass.book }
     ensures worker { result.0.worker ≡ worker }
     ensures ok { OnOk result.1 (Made (AreWalks worker stripes calls.now) pass.own result.0.own list.old.items list.new.items) }
     ensures err { OnErr result.1 (Made (BeginWalks worker stripes calls.now) pass.own result.0.own list.old.items list.new.items) }
     ensures full { result.1 ≡ Err SessionFault.JournalFull → length result.0.last ≡ book.now.opening.limit }
+    ensures now { result.1 ≢ Err SessionFault.NotNow }
 {
     for (n, call) in calls.iter().enumerate() {
         gate.before(worker.number(), n as u64);

@@ -5,6 +5,11 @@ use Rattle.drive.specs.Walks.{AreWalks}
 use Rattle.drive.specs.Made.{BeginWalks}
 use Rattle.drive.specs.Driven.{IsRun}
 use Rattle.drive.specs.DriveFaults.{CanRun, LeavesFault}
+use Rattle.step_record.specs.History.{after}
+use Rattle.shell_model.specs.Shell.{act}
+use Rattle.drive.specs.Admits.{AdmitsWalks}
+use Rattle.drive.proofs.Admitting.{shell_admits}
+use Rattle.drive.proofs.Rising.{every_map}
 use Rattle.drive.proofs.Handing.{moved_run, free_of, if_ok, if_err, on_ok, full_cause}
 use Rattle.drive.proofs.driving.drive.Goals as goal
 
@@ -52,3 +57,13 @@ returns-in-Ok-open-clause-fault g c =
     let limit = c.run_book-session.ensures.some.limit in
     let room = c.handed.ensures.room in
     if_err c.handed.result _ _ (λ f h. subst (λ x. LeavesFault x (map (λ p. vec_items p) c.args.pieces.items) c.args.session) (sym h) (can, c.handed.ensures.legal, (λ e. (let full = c.run_book-session.ensures.full (full_cause c.run_book-session.result.2 e) in omega arith)), run)) c.handed.ensures.err
+
+pub run_book-session-requires-clause-empty : goal.run_book-session-requires-clause-empty
+run_book-session-requires-clause-empty g c κs within = every_map _ _ _ (λ p h. h.0) c.in-Ok-open.ensures.fresh
+
+pub run_book-session-requires-clause-admits : goal.run_book-session-requires-clause-admits
+run_book-session-requires-clause-admits g c κs within = λ w.
+    let free = free_of _ _ (sym c.holder.ensures ∙ c.in_default.is) in
+    let stood = c.engine-shell.ensures.engine ∙ c.engine-shell.ensures.sound.stands ∙ ap (λ s. after act s.opening s.kept) (sym c.in-Ok-open.ensures.opens.0) in
+    subst (λ y. AdmitsWalks act (λ z. z.applied) w c.stripes-stripes.result y) stood
+    (shell_admits c.engine-shell.result.now w c.stripes-stripes.result c.stripes-stripes.ensures.range.0 c.stripes-stripes.ensures.reached free c.stripes-stripes.ensures.count)

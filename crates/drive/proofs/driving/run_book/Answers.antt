@@ -1,14 +1,14 @@
 use Rattle.std.proofs.Common.{◌≡◌, ◌<◌, ◌≤◌, ℕ, [], Some, None, sym, ap, subst, ◌∙◌, map, length, get_or, vec_items, arith}
 use Rattle.std.specs.Prelude.{IfSome}
 use Rattle.std.proofs.lemmas.List.{length-map}
-use Rattle.journal.specs.declared.fault.SessionFault.TheVariants.{JournalFull}
+use Rattle.journal.specs.declared.fault.SessionFault.TheVariants.{JournalFull, NotNow}
 use Rattle.turn_book.specs.Turns.{Every}
 use Rattle.turn_book.specs.Passes.{id_of}
 use Rattle.drive.specs.Walks.{AreWalks}
 use Rattle.drive.specs.Made.{BeginWalks}
 use Rattle.drive.specs.declared.desk.Desk.{Desk}
 use Rattle.drive.specs.Desks.{calls_of}
-use Rattle.drive.proofs.Rising.{risen, full_at, every_map, every_both, done, begun, run_of, map_both}
+use Rattle.drive.proofs.Rising.{risen, full_at, taken_at, every_map, every_both, done, begun, run_of, map_both}
 use Rattle.drive.proofs.driving.run_book.Goals as goal
 
 pub close-requires-clause-own : goal.close-requires-clause-own
@@ -61,3 +61,9 @@ returns-clause-full g c = λ e.
     let here = subst (λ ds. (i : ℕ) × (i < length ds) × ((d : Desk) → (get_or ds i d).fault ≡ Some JournalFull)) c.as_slice.ensures.value at in
     full_at c.args.stripes _ (calls_of c.args.pieces.now) _ c.work_seated-desks.result.items c.rise_all-passes.result.0.items c.rise_all-passes.ensures.passes
     (every_map _ _ _ (λ d h. h.1) c.work_seated-desks.ensures.sit) c.close.ensures.last_is here.0 here.1 here.2
+
+pub returns-clause-now : goal.returns-clause-now
+returns-clause-now g c = λ e.
+    let at = subst (λ o. IfSome o (λ f. (i : ℕ) × (i < length c.as_slice.result.now) × ((d : Desk) → (get_or c.as_slice.result.now i d).fault ≡ Some f))) e c.first_fault-fault.ensures.some in
+    let here = subst (λ ds. (i : ℕ) × (i < length ds) × ((d : Desk) → (get_or ds i d).fault ≡ Some NotNow)) c.as_slice.ensures.value at in
+    taken_at c.args.stripes _ (calls_of c.args.pieces.now) c.work_seated-desks.result.items (every_map _ _ _ (λ d h. h.1) c.work_seated-desks.ensures.sit) here.0 here.1 here.2

@@ -1,6 +1,8 @@
-use Rattle.std.proofs.Common.{refl, ◌∙◌}
+use Rattle.std.proofs.Common.{refl, sym, ap, subst, ◌∙◌, Err}
+use Rattle.drive.specs.Admits.{MayMake}
+use Rattle.drive.proofs.Coming.{may_make}
 use Rattle.drive.proofs.Walking.{nothing, stopped, stepped, over, known, asks_same, asked_of, Completes, listed}
-use Rattle.drive.proofs.Turning.{at_ok, at_err}
+use Rattle.drive.proofs.Turning.{at_ok, at_err, err_same}
 use Rattle.drive.proofs.turns.walk_in_turns.Goals as goal
 
 pub loop-init : goal.loop-init
@@ -39,3 +41,11 @@ loop-preserved g c =
 pub returns-in-Err-clause-err : goal.returns-in-Err-clause-err
 returns-in-Err-clause-err g c =
     stopped c.args.worker c.args.stripes c.args.call _ _ _ c.in-Do.is c.in-Do.local.placed _ _ _ _ _ _ (at_err _ _ _ _ c.in-Err.is c.turn-given.ensures.own) c.reserve.ensures.items c.loop.invariant.made
+
+pub turn-given-requires-clause-takes : goal.turn-given-requires-clause-takes
+turn-given-requires-clause-takes g c = λ es legal own below.
+    c.requires.admits es legal c.in-Do.act (subst (λ l. MayMake c.args.worker c.args.stripes l c.in-Do.act) (sym own)
+    (may_make c.args.worker c.args.stripes c.args.call c.requires.walks.0 _ _ _ _ c.loop.next c.in-Do.act c.in-Do.local c.requires.walks.1 c.loop.invariant.made c.in-Do.is c.loop.invariant.asks c.in-Do.local.placed)) below
+
+pub returns-in-Err-clause-now : goal.returns-in-Err-clause-now
+returns-in-Err-clause-now g c = λ e. c.turn-given.ensures.now (c.in-Err.is ∙ ap (λ f. Err f) (err_same _ _ e))

@@ -1,0 +1,281 @@
+-- How far a worker is in the maintenance that it holds, told by its own steps alone.
+use Rattle.std.proofs.Common.{◌≡◌, ℕ, ◌+◌, ◌<◌, ◌≤◌, ◌==◌, Bool, true, false, cond, ◌&&◌, eqb, nat_lt, Option, Some, None, List, [], ◌∷◌, length, refl, sym, ap, ◌∙◌, subst, arith, inl, inr, length-set}
+use Rattle.std.proofs.lemmas.Bool.{cases_Bool, eqb-true, eq-eqb, and_parts, ltb-true}
+use Rattle.std.proofs.lemmas.Bool.Decides.{nat_tests}
+use Rattle.step_record.specs.declared.entry.Entry.{Entry}
+use Rattle.step_record.specs.declared.item.Item.{Item}
+use Rattle.step_record.specs.declared.step.Act.{Act}
+use Rattle.step_record.specs.declared.step.Act.TheVariants as a
+use Rattle.step_record.specs.declared.step.Reply.{Reply}
+use Rattle.step_record.specs.declared.step.Reply.TheVariants as reply
+use Rattle.step_record.specs.declared.step.Step.{Step}
+use Rattle.step_record.specs.declared.drain.Phase.{Phase}
+use Rattle.step_record.specs.declared.drain.Phase.TheVariants.{Reads, Writes, Evictions}
+use Rattle.step_record.specs.History.{went, after, IsLegal}
+use Rattle.shell_model.specs.declared.holder.Holder.{Holder}
+use Rattle.shell_model.specs.Shell.{Shell, act, perform, held_by, hold_read, hold_write, hold_evict, hold_end, may_read, may_write, is_stripe, node_of, look, when, tallied}
+use Rattle.shell_model.specs.Consistent.{IsConsistent}
+use Rattle.shell_model.proofs.Counting.{listed-times, node-listed}
+use Rattle.shell_model.proofs.Histories.{Steps, stepped, after-sound}
+use Rattle.shell_model.proofs.Making as k
+use Rattle.shell_model.proofs.Making.{Makes}
+use Rattle.drive.specs.Walks.{Entries, step_of}
+use Rattle.drive.specs.Driven.{entries_of}
+
+-- the phase of the maintenance that the worker holds, and the node that it last found
+pub record Standing : Type 0 where
+  pub at : Option Phase
+  pub node : Option ℕ
+
+abbrev pub next_of : Standing → Act → Reply → Standing
+next_of s a.Begin reply.Began = record { at = Some Reads; node = s.node }
+next_of s a.DrainWrite r = record { at = Some Writes; node = s.node }
+next_of s a.Evict r = record { at = Some Evictions; node = s.node }
+next_of s a.End reply.Idle = record { at = None; node = s.node }
+next_of s a.End reply.Again = record { at = None; node = s.node }
+next_of s (a.Look key) (reply.Hit n) = record { at = s.at; node = Some n }
+next_of s b r = s
+
+abbrev pub standing : Standing → Entries → Standing
+standing s [] = s
+standing s (e ∷ es) = standing (next_of s e.step.act e.reply) es
+
+abbrev pub phase_of : Option Holder → Option Phase
+phase_of None = None
+phase_of (Some h) = Some h.phase
+
+-- the shell is so that the worker stands there
+pub record Stands (w n : ℕ) (s : Standing) (x : Shell) : Type 0 where
+  pub holds : phase_of (held_by w x.holder) ≡ s.at
+  pub node : (m : ℕ) → s.node ≡ Some m → m < x.next
+  pub stripes : length x.stripes ≡ n
+
+-- the act is one of the holder's
+abbrev is_holding : Act → Bool
+is_holding (a.DrainRead s) = true
+is_holding a.DrainWrite = true
+is_holding a.Evict = true
+is_holding a.End = true
+is_holding b = false
+
+record Own (v : ℕ) (x : Shell) : Type 0 where
+  by : Holder
+  is : x.holder ≡ Some by
+  mine : v ≡ by.worker
+
+own_by : {B : Type 0} (v : ℕ) (x : Shell) (o : Option Holder) (u : Option Holder → Option B) → x.holder ≡ o → u None ≡ None → (u (held_by v o) ≡ None → ⊥) → Own v x
+own_by v x None u e n k = absurd (k n)
+own_by v x (Some h) u e n k =
+    elim (cases_Bool (eqb v h.worker)) [
+      | inl t ↦ record { by = h; is = e; mine = eqb-true v h.worker t }
+      | inr t ↦ absurd (k (rw t n))
+    ]
+
+own_of_act : (v : ℕ) (x : Shell) (b : Act) → is_holding b ≡ true → (perform v b x ≡ None → ⊥) → Own v x
+own_of_act v x (a.DrainRead s) h p = own_by v x x.holder (λ o. hold_read s o x) refl refl p
+own_of_act v x a.DrainWrite h p = own_by v x x.holder (λ o. hold_write o x) refl refl p
+own_of_act v x a.Evict h p = own_by v x x.holder (λ o. hold_evict o x) refl refl p
+own_of_act v x a.End h p = own_by v x x.holder (λ o. hold_end o x) refl refl p
+own_of_act v x b h p = absurd (cc (h))
+
+performed : (x : Shell) (s : Step) (p : Reply × Shell) → act x s ≡ Some p → perform s.worker s.act x ≡ None → ⊥
+performed x s p h e =
+    elim (cases_Bool (nat_lt x.applied 4294967296)) [
+      | inl t ↦ (let no : None ≡ Some p = rw (t, e) at h in cc (no))
+      | inr t ↦ (let no : None ≡ Some p = rw t at h in cc (no))
+    ]
+
+some_same : {X : Type 0} (x y : X) → Some x ≡ Some y → x ≡ y
+some_same x y e = cc
+
+abbrev put_at : ℕ → Phase → ℕ → Option Holder
+put_at v p l = Some record { worker = v; phase = p; left = l }
+
+-- what the holder's worker is
+same_worker : (v : ℕ) (x : Shell) (h : Holder) → x.holder ≡ Some h → Own v x → v ≡ h.worker
+same_worker v x h e o = o.mine ∙ ap (λ (i : Holder). i.worker) (some_same o.by h (sym o.is ∙ e))
+
+not_of : (w u : ℕ) → (u ≡ w → ⊥) → eqb w u ≡ false
+not_of w u ne =
+    elim (cases_Bool (eqb w u)) [
+      | inl t ↦ absurd (ne (sym (eqb-true w u t)))
+      | inr t ↦ t
+    ]
+
+-- another worker's step
+
+other_phase : (w v : ℕ) (x : Shell) (h : Holder) (p : Phase) (l : ℕ) → (v ≡ w → ⊥) → x.holder ≡ Some h → Own v x → phase_of (held_by w (put_at h.worker p l)) ≡ phase_of (held_by w x.holder)
+other_phase w v x h p l ne e o =
+    let t : eqb w h.worker ≡ false = not_of w h.worker (λ i. ne (same_worker v x h e o ∙ i)) in
+    rw (e, t) refl
+
+other_gone : (w v : ℕ) (x : Shell) (h : Holder) → (v ≡ w → ⊥) → x.holder ≡ Some h → Own v x → None ≡ phase_of (held_by w x.holder)
+other_gone w v x h ne e o =
+    let t : eqb w h.worker ≡ false = not_of w h.worker (λ i. ne (same_worker v x h e o ∙ i)) in
+    rw (e, t) refl
+
+other_holds : (w v : ℕ) (x : Shell) (b : Act) (r : Reply) (y : Shell) → Makes v x b r y → (v ≡ w → ⊥) → (is_holding b ≡ true → Own v x) → phase_of (held_by w y.holder) ≡ phase_of (held_by w x.holder)
+other_holds w v x b r y (k.began e) ne o = (let t : eqb w v ≡ false = not_of w v ne in rw (e, t) refl)
+other_holds w v x b r y (k.write_empty h f g) ne o = other_phase w v x h Writes h.left ne f (o refl)
+other_holds w v x b r y (k.enough h f g) ne o = other_phase w v x h Writes h.left ne f (o refl)
+other_holds w v x b r y (k.applied_add h f g i rest e m) ne o = other_phase w v x h Writes m ne f (o refl)
+other_holds w v x b r y (k.applied_update h f g i rest e m) ne o = other_phase w v x h Writes m ne f (o refl)
+other_holds w v x b r y (k.applied_remove h f g i rest e m) ne o = other_phase w v x h Writes m ne f (o refl)
+other_holds w v x b r y (k.fits h f) ne o = other_phase w v x h Evictions h.left ne f (o refl)
+other_holds w v x b r y (k.shifted h f c i) ne o = other_phase w v x h Evictions h.left ne f (o refl)
+other_holds w v x b r y (k.evicted h f c u i j) ne o = other_phase w v x h Evictions h.left ne f (o refl)
+other_holds w v x b r y (k.rejected h f c i) ne o = other_phase w v x h Evictions h.left ne f (o refl)
+other_holds w v x b r y (k.idle h f d e) ne o = other_gone w v x h ne f (o refl)
+other_holds w v x b r y (k.again h f d e) ne o = other_gone w v x h ne f (o refl)
+other_holds w v x b r y made ne o = refl
+
+-- its own step
+
+own_phase : (w : ℕ) (x : Shell) (h : Holder) (p : Phase) (l : ℕ) → x.holder ≡ Some h → Own w x → phase_of (held_by w (put_at h.worker p l)) ≡ Some p
+own_phase w x h p l e o = (let t : eqb w h.worker ≡ true = eq-eqb w h.worker (same_worker w x h e o) in rw t refl)
+
+own_holds : (w : ℕ) (s : Standing) (x : Shell) (b : Act) (r : Reply) (y : Shell) → Makes w x b r y → (is_holding b ≡ true → Own w x) → phase_of (held_by w x.holder) ≡ s.at → phase_of (held_by w y.holder) ≡ (next_of s b r).at
+own_holds w s x b r y (k.began e) o h = (let t : eqb w w ≡ true = eq-eqb w w refl in rw t refl)
+own_holds w s x b r y (k.write_empty g f m) o h = own_phase w x g Writes g.left f (o refl)
+own_holds w s x b r y (k.enough g f m) o h = own_phase w x g Writes g.left f (o refl)
+own_holds w s x b r y (k.applied_add g f m i rest e l) o h = own_phase w x g Writes l f (o refl)
+own_holds w s x b r y (k.applied_update g f m i rest e l) o h = own_phase w x g Writes l f (o refl)
+own_holds w s x b r y (k.applied_remove g f m i rest e l) o h = own_phase w x g Writes l f (o refl)
+own_holds w s x b r y (k.fits g f) o h = own_phase w x g Evictions g.left f (o refl)
+own_holds w s x b r y (k.shifted g f c i) o h = own_phase w x g Evictions g.left f (o refl)
+own_holds w s x b r y (k.evicted g f c u i j) o h = own_phase w x g Evictions g.left f (o refl)
+own_holds w s x b r y (k.rejected g f c i) o h = own_phase w x g Evictions g.left f (o refl)
+own_holds w s x b r y (k.idle g f d e) o h = refl
+own_holds w s x b r y (k.again g f d e) o h = refl
+own_holds w s x b r y made o h = h
+
+-- nodes and stripes, whoever steps
+
+next_grows : (v : ℕ) (x : Shell) (b : Act) (r : Reply) (y : Shell) → Makes v x b r y → x.next ≤ y.next
+next_grows v x b r y (k.added key) = omega arith
+next_grows v x b r y made = omega arith
+
+stripes_stay : (v : ℕ) (x : Shell) (b : Act) (r : Reply) (y : Shell) → Makes v x b r y → length y.stripes ≡ length x.stripes
+stripes_stay v x b r y (k.kept s i h) = length-set x.stripes s _
+stripes_stay v x b r y (k.drained s i rest h e) = length-set x.stripes s rest
+stripes_stay v x b r y made = refl
+
+look_of : (o : Option ℕ) (n : ℕ) → look o ≡ reply.Hit n → o ≡ Some n
+look_of None n e = absurd (cc (e))
+look_of (Some m) n e = cc
+
+tallied_reply : (o : Option (Reply × Shell)) (r : Reply) (z : Shell) → tallied o ≡ Some (r, z) → (p : Reply × Shell) × (o ≡ Some p) × (p.0 ≡ r)
+tallied_reply None r z e = absurd (cc (e))
+tallied_reply (Some p) r z e = (p, refl, ap (λ (q : Reply × Shell). q.0) (some_same _ (r, z) e))
+
+hit_below : (v : ℕ) (x z : Shell) (key n : ℕ) → IsConsistent x → act x (step_of v (a.Look key)) ≡ Some (reply.Hit n, z) → n < x.next
+hit_below v x z key n c h =
+    elim (cases_Bool (nat_lt x.applied 4294967296)) [
+      | inr t ↦ absurd (let no : None ≡ Some (reply.Hit n, z) = rw t at h in cc (no))
+      | inl t ↦
+          let g : tallied (Some (look (node_of key x.table), x)) ≡ Some (reply.Hit n, z) = rw t at h in
+          let p = tallied_reply (Some (look (node_of key x.table), x)) (reply.Hit n) z g in
+          let found : node_of key x.table ≡ Some n = look_of (node_of key x.table) n (ap (λ (q : Reply × Shell). q.0) (some_same _ p.0 p.1) ∙ p.2) in
+          let i : Item = record { key = key; node = n } in
+          let there = listed-times i x.table (node-listed i x.table found) in
+          c.placed.below i (omega (arith, there))
+    ]
+
+own_node : (w : ℕ) (s : Standing) (x : Shell) (b : Act) (r : Reply) (y : Shell) → Makes w x b r y → ((key m : ℕ) → b ≡ a.Look key → r ≡ reply.Hit m → m < x.next) → ((m : ℕ) → s.node ≡ Some m → m < x.next)
+    → (m : ℕ) → (next_of s b r).node ≡ Some m → m < y.next
+own_node w s x b r y (k.hit key m) seen h j e = subst (λ i. i < x.next) (some_same m j e) (seen key m refl refl)
+own_node w s x b r y made seen h j e = (let old = h j e in let g = next_grows w x b r y made in omega arith)
+
+look_step : (v : ℕ) (b : Act) (key : ℕ) → b ≡ a.Look key → step_of v b ≡ step_of v (a.Look key)
+look_step v b key e = ap (λ c. step_of v c) e
+
+own_step : (n : ℕ) (s : Standing) (x : Shell) (e : Entry Step Reply) (z : Shell) → IsConsistent x → act x e.step ≡ Some (e.reply, z) → Stands e.step.worker n s x → Stands e.step.worker n (next_of s e.step.act e.reply) z
+own_step n s x e z c h st =
+    let t : Steps x e z = stepped x e z h in
+    let seen : (key m : ℕ) → e.step.act ≡ a.Look key → e.reply ≡ reply.Hit m → m < x.next =
+        λ key m f g. hit_below e.step.worker x z key m c (ap (λ u. act x u) (sym (look_step e.step.worker e.step.act key f)) ∙ h ∙ ap (λ (u : Reply). Some (u, z)) g) in
+    let holds = own_holds e.step.worker s x e.step.act e.reply t.left t.made (λ i. own_of_act e.step.worker x e.step.act i (performed x e.step (e.reply, z) h)) st.holds in
+    let node = own_node e.step.worker s x e.step.act e.reply t.left t.made seen st.node in
+    record {
+      holds = ap (λ (y : Shell). phase_of (held_by e.step.worker y.holder)) t.is ∙ holds;
+      node = λ m f. subst (λ (y : Shell). m < y.next) (sym t.is) (node m f);
+      stripes = ap (λ (y : Shell). length y.stripes) t.is ∙ stripes_stay e.step.worker x e.step.act e.reply t.left t.made ∙ st.stripes;
+    }
+
+other_step : (w n : ℕ) (s : Standing) (x : Shell) (e : Entry Step Reply) (z : Shell) → (e.step.worker ≡ w → ⊥) → act x e.step ≡ Some (e.reply, z) → Stands w n s x → Stands w n s z
+other_step w n s x e z ne h st =
+    let t : Steps x e z = stepped x e z h in
+    let holds = other_holds w e.step.worker x e.step.act e.reply t.left t.made ne (λ i. own_of_act e.step.worker x e.step.act i (performed x e.step (e.reply, z) h)) in
+    let grows = next_grows e.step.worker x e.step.act e.reply t.left t.made in
+    record {
+      holds = ap (λ (y : Shell). phase_of (held_by w y.holder)) t.is ∙ holds ∙ st.holds;
+      node = λ m f. subst (λ (y : Shell). m < y.next) (sym t.is) (let old = st.node m f in omega arith);
+      stripes = ap (λ (y : Shell). length y.stripes) t.is ∙ stripes_stay e.step.worker x e.step.act e.reply t.left t.made ∙ st.stripes;
+    }
+
+-- whatever the others do, a worker stands where its own steps led it
+pub stands_after : (w n : ℕ) (s : Standing) (x : Shell) (es : Entries) → IsConsistent x → Stands w n s x → IsLegal act x es → Stands w n (standing s (entries_of w es)) (after act x es)
+stands_after w n s x [] c st l = st
+stands_after w n s x (e ∷ es) c st l =
+    let z : Shell = went (act x e.step) x in
+    let sound : IsConsistent z = after-sound x (e ∷ []) c (l.0, tt) in
+    elim (cases_Bool (eqb e.step.worker w)) [
+      | inl t ↦
+          let q : e.step.worker ≡ w = eqb-true e.step.worker w t in
+          let moved : Stands w n (next_of s e.step.act e.reply) z = subst (λ v. Stands v n (next_of s e.step.act e.reply) z) q (own_step n s x e z c l.0 (subst (λ v. Stands v n s x) (sym q) st)) in
+          rw t (stands_after w n (next_of s e.step.act e.reply) z es sound moved l.1)
+      | inr t ↦
+          let ne : e.step.worker ≡ w → ⊥ = λ q. (let no : true ≡ false = rw (eq-eqb e.step.worker w q) at t in cc (no)) in
+          rw t (stands_after w n s z es sound (other_step w n s x e z ne l.0 st) l.1)
+    ]
+
+-- which act may come where a worker stands
+abbrev pub ActFits : ℕ → Act → Standing → Type 0
+ActFits n (a.DrainRead st) s = (s.at ≡ Some Reads) × (st < n)
+ActFits n a.DrainWrite s = (p : Phase) × (s.at ≡ Some p) × (may_write p ≡ true)
+ActFits n a.Evict s = (p : Phase) × (s.at ≡ Some p)
+ActFits n a.End s = (p : Phase) × (s.at ≡ Some p)
+ActFits n (a.Offer st i) s = (st < n) × (s.node ≡ Some i.node)
+ActFits n (a.Lose st i) s = ⊥
+ActFits n b s = Unit {0}
+
+held_of : (o : Option Holder) (p : Phase) → phase_of o ≡ Some p → (h : Holder) × (o ≡ Some h) × (h.phase ≡ p)
+held_of None p e = absurd (cc (e))
+held_of (Some h) p e = (h, refl, some_same h.phase p e)
+
+accepts : (w n : ℕ) (s : Standing) (x : Shell) (b : Act) → Stands w n s x → ActFits n b s → perform w b x ≡ None → ⊥
+accepts w n s x (a.Offer st i) h f e =
+    let count = h.stripes in
+    let below = f.0 in
+    let listed = h.node i.node f.1 in
+    let p : nat_lt st (length x.stripes) ≡ true = grind (arith, nat_tests, count, below) in
+    let q : nat_lt i.node x.next ≡ true = grind (arith, nat_tests, listed) in
+    absurd (let no : Some _ ≡ None = rw (p, q) at e in cc (no))
+accepts w n s x (a.Lose st i) h f e = f
+accepts w n s x (a.DrainRead st) h f e =
+    let g = held_of (held_by w x.holder) Reads (h.holds ∙ f.0) in
+    let count = h.stripes in
+    let below = f.1 in
+    let p : nat_lt st (length x.stripes) ≡ true = grind (arith, nat_tests, count, below) in
+    let m : may_read g.0.phase ≡ true = ap may_read g.2 in
+    absurd (let no : Some _ ≡ None = rw (g.1, p, m) at e in cc (no))
+accepts w n s x a.DrainWrite h f e =
+    let g = held_of (held_by w x.holder) f.0 (h.holds ∙ f.1) in
+    let m : may_write g.0.phase ≡ true = ap may_write g.2 ∙ f.2 in
+    absurd (let no : Some _ ≡ None = rw (g.1, m) at e in cc (no))
+accepts w n s x a.Evict h f e =
+    let g = held_of (held_by w x.holder) f.0 (h.holds ∙ f.1) in
+    absurd (let no : Some _ ≡ None = rw g.1 at e in cc (no))
+accepts w n s x a.End h f e =
+    let g = held_of (held_by w x.holder) f.0 (h.holds ∙ f.1) in
+    absurd (let no : Some _ ≡ None = rw g.1 at e in cc (no))
+accepts w n s x b h f e = absurd (cc (e))
+
+tallied_none : (o : Option (Reply × Shell)) → tallied o ≡ None → o ≡ None
+tallied_none None e = refl
+tallied_none (Some p) e = absurd (cc (e))
+
+pub taken : (w n : ℕ) (s : Standing) (x : Shell) (b : Act) → Stands w n s x → ActFits n b s → x.applied < 4294967296 → act x (step_of w b) ≡ None → ⊥
+taken w n s x b h f below e =
+    let t : nat_lt x.applied 4294967296 ≡ true = grind (arith, nat_tests, below) in
+    accepts w n s x b h f (tallied_none (perform w b x) (rw t at e))
