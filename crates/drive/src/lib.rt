@@ -10,6 +10,7 @@
 mod local;
 mod next;
 mod place;
+mod settling;
 #[cfg(test)]
 mod tests;
 mod turns;
@@ -18,5 +19,6 @@ mod work;
 pub use local::Local;
 pub use next::{Next, next_step};
 pub use place::Place;
+pub use settling::{SettleFault, settle};
 pub use turns::{turn, walk_in_turns, work_in_turns};
 pub use work::{make_walks, walk};
