@@ -12,6 +12,8 @@ mod next;
 mod place;
 mod settling;
 #[cfg(test)]
+mod settling_tests;
+#[cfg(test)]
 mod tests;
 mod turns;
 mod work;
