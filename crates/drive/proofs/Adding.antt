@@ -66,3 +66,28 @@ pub held_rest : (l : Local) (n : ℕ) (o : Option Holder) (w : ℕ) (p : Phase) 
 held_rest l n o w p left e a b c es h =
     held-rest n o w p left es e
     (subst (λ (q : Place). Ahead w n q es) c (subst (λ (m : ℕ). Ahead w m l.place es) b (subst (λ (v : ℕ). Ahead v l.stripes l.place es) a h)))
+
+-- entries after entries
+tail-joined : (a b : Entries) (t : Entries) → tail_after b (tail_after a t) ≡ tail_after (a ++ b) t
+tail-joined [] b t = refl
+tail-joined (e ∷ a) [] t = refl
+tail-joined (e ∷ a) (f ∷ b) t = refl
+
+pub adds_joined : (P Q R : Entries → Type 0) (old now new : ShellSession) → Adds P old now → Adds Q now new → ((a b : Entries) → P a → Q b → R (a ++ b)) → Adds R old new
+adds_joined P Q R old now new m n f = record {
+  made = m.made ++ n.made;
+  entered = n.entered ∙ ap (λ l. l ++ n.made) m.entered ∙ append_assoc old.kept m.made n.made;
+  tail = n.tail ∙ ap (tail_after n.made) m.tail ∙ tail-joined m.made n.made old.tail;
+  holds = f m.made n.made m.holds n.holds;
+}
+
+pub adds_known : (P Q : Entries → Type 0) (old new : ShellSession) → Adds P old new → ((es : Entries) → P es → Q es) → Adds Q old new
+adds_known P Q old new m f = record { made = m.made; entered = m.entered; tail = m.tail; holds = f m.made m.holds }
+
+-- one entry
+pub adds_one : (old new : ShellSession) (e : Entry Step Reply) → new.kept ≡ old.kept ++ e ∷ [] → new.tail ≡ [] → Adds (λ es. es ≡ e ∷ []) old new
+adds_one old new e k t = record { made = e ∷ []; entered = k; tail = t; holds = refl }
+
+pub told_joined : (o : Outcome) (a b : Entries) → outcome_from o (a ++ b) ≡ outcome_from (outcome_from o a) b
+told_joined o [] b = refl
+told_joined o (e ∷ a) b = told_joined (told o e.reply) a b

@@ -31,10 +31,10 @@ use Rattle.drive.specs.Settle.{Suits, IsReady, IsReadyFor}
 use Rattle.drive.proofs.Finishing.{finish}
 
 -- what the shell does in an accepted step, the count of steps aside
-record Performs (x : Shell) (w : ℕ) (b : Act) (r : Reply) (y : Shell) : Type 0 where
-  left : Shell
-  is : perform w b x ≡ Some (r, left)
-  counts : y ≡ counted_up r left
+pub record Performs (x : Shell) (w : ℕ) (b : Act) (r : Reply) (y : Shell) : Type 0 where
+  pub left : Shell
+  pub is : perform w b x ≡ Some (r, left)
+  pub counts : y ≡ counted_up r left
 
 reply_in : Reply → Option (Reply × Shell) → Reply
 reply_in r None = r
@@ -52,7 +52,7 @@ performed x w b r y (Some p) e i =
     let z : counted_up p.0 p.1 ≡ y = ap (shell_in x) i in
     record { left = p.1; is = e ∙ ap (λ (s : Reply). Some (s, p.1)) q; counts = sym (rw q at z) }
 
-performs : (x : Shell) (w : ℕ) (b : Act) (r : Reply) (y : Shell) → acted x (step_of w b) ≡ Some (r, y) → Performs x w b r y
+pub performs : (x : Shell) (w : ℕ) (b : Act) (r : Reply) (y : Shell) → acted x (step_of w b) ≡ Some (r, y) → Performs x w b r y
 performs x w b r y h =
     elim (cases_Bool (nat_lt x.applied 4294967296)) [
       | inl t ↦ performed x w b r y (perform w b x) refl (rw t at h)
@@ -273,7 +273,7 @@ suits-evicts other r h y i f = absurd i
 some-same : (h g : Holder) → Some h ≡ Some g → h ≡ g
 some-same h g e = cc (e)
 
-made-by : (w : ℕ) (x : Shell) (b : Act) (r : Reply) (z : Shell) → perform w b x ≡ Some (r, z) → Makes w x b r z
+pub made-by : (w : ℕ) (x : Shell) (b : Act) (r : Reply) (z : Shell) → perform w b x ≡ Some (r, z) → Makes w x b r z
 made-by w x b r z e = let m : MakesTo w x b (Some (r, z)) = rw e at (perform-makes w x b) in m
 
 pub stripes_stay : (w : ℕ) (b : Act) (x y : Shell) (r : Reply) → acted x (step_of w b) ≡ Some (r, y) → length y.stripes ≡ length x.stripes

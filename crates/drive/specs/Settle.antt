@@ -13,6 +13,8 @@ use Rattle.drive.specs.declared.next.Next.{Next}
 use Rattle.drive.specs.declared.next.Next.TheVariants as next
 use Rattle.drive.specs.declared.place.Place.{Place}
 use Rattle.drive.specs.declared.place.Place.TheVariants as at
+use Rattle.drive.specs.declared.settling.Refusal.{Refusal}
+use Rattle.drive.specs.declared.settling.Refusal.TheVariants as refusal
 use Rattle.drive.specs.declared.settling.SettleFault.{SettleFault}
 use Rattle.drive.specs.declared.settling.SettleFault.TheVariants as fault
 use Rattle.drive.specs.Walks.{Entries, IsReading, IsWriting, IsEvicting}
@@ -52,8 +54,13 @@ abbrev pub steps_before : SettleFault → ℕ
 steps_before (fault.OutOfMemory n) = n
 steps_before (fault.JournalFull n) = n
 
+-- a full journal is what is named where the journal is full, and only there
+abbrev pub IsCause : Refusal → ShellSession → Type 0
+IsCause refusal.OutOfMemory s = length s.kept < s.limit
+IsCause refusal.JournalFull s = length s.kept ≡ s.limit
+
 abbrev pub IsFullAt : SettleFault → ShellSession → Type 0
-IsFullAt (fault.OutOfMemory n) s = Unit {0}
+IsFullAt (fault.OutOfMemory n) s = length s.kept < s.limit
 IsFullAt (fault.JournalFull n) s = length s.kept ≡ s.limit
 
 -- the place at which a holder stands in its phase

@@ -10,6 +10,7 @@
 mod local;
 mod next;
 mod place;
+mod quiet;
 mod settling;
 #[cfg(test)]
 mod settling_tests;
@@ -21,6 +22,7 @@ mod work;
 pub use local::Local;
 pub use next::{Next, next_step};
 pub use place::Place;
+pub use quiet::QuietFault;
 pub use settling::{SettleFault, settle};
 pub use turns::{turn, walk_in_turns, work_in_turns};
 pub use work::{make_walks, walk};

@@ -6,7 +6,7 @@ ghost use Rattle.shell_model.specs.Shell.{perform, act as acted};
 ghost use Rattle.drive.specs.Walks.{Entries, step_of};
 ghost use Rattle.drive.specs.Places.{Ahead, act_at};
 ghost use Rattle.drive.specs.Outcomes.{told, outcome_from};
-ghost use Rattle.drive.specs.Settle.{Adds, IsRest, BeginsRest, IsReady, IsFullAt, place_in, steps_before};
+ghost use Rattle.drive.specs.Settle.{Adds, IsRest, BeginsRest, IsReady, IsCause, IsFullAt, place_in, steps_before};
 
 use super::local::Local;
 use super::next::{Next, next_step};
@@ -38,7 +38,7 @@ pub fn settle(session: &mut Session<Shell>) -> Result<u64, SettleFault>
     ensures none { OnOk result (session.new.engine.holder ≡ None) }
     // The first of these steps.
     ensures err { IfErr result (λ f. Adds (λ es. BeginsRest session.old.engine.config.stripes session.old.engine.holder es × (steps_before f ≡ length es)) session.old session.new) }
-    ensures full { IfErr result (λ f. IsFullAt f session.new) }
+    ensures cause { IfErr result (λ f. IsFullAt f session.new) }
 {
     let Some(holder) = session.engine().holder() else {
         return Ok(0);
@@ -104,7 +104,7 @@ pub(crate) fn finish_round(
     ensures none { OnOk result (session.new.engine.holder ≡ None) }
     ensures stripes { length session.new.engine.stripes ≡ local.stripes }
     ensures err { OnErr result (Adds (λ es. (rest : Entries) × Ahead local.worker local.stripes local.place (es ++ rest)) session.old session.new) }
-    ensures full { result ≡ Err Refusal.JournalFull → length session.new.kept ≡ session.new.limit }
+    ensures cause { IfErr result (λ f. IsCause f session.new) }
 {
     let worker = local.worker;
     let mut outcome = start;
@@ -126,7 +126,8 @@ pub(crate) fn make(session: &mut Session<Shell>, worker: Worker, act: Act) -> Re
     ensures tail { OnOk result (session.new.tail ≡ []) }
     ensures accepted { IfOk result (λ r. acted session.old.engine (step_of worker act) ≡ Some (r, session.new.engine)) }
     ensures err { OnErr result (IsSameSession (λ x. x) session.old session.new) }
-    ensures full { result ≡ Err Refusal.JournalFull → length session.new.kept ≡ session.new.limit }
+    ensures same { OnErr result (session.new.engine ≡ session.old.engine) }
+    ensures cause { IfErr result (λ f. IsCause f session.new) }
     ensures room { length session.new.kept ≤ session.new.limit }
 {
     match session.step(Step { worker, act }) {

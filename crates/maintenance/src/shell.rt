@@ -6,6 +6,7 @@ ghost use Rattle.segments.specs.Queues.{queue_of};
 ghost use Rattle.shell_buffers.specs.Buffers.{stripe_at};
 ghost use Rattle.shell_model.specs.Shell.{node_of};
 ghost use Rattle.shell_model.specs.Laws.{opened, IsShapeOf};
+ghost use Rattle.shell_model.specs.Reached.{IsReachable};
 ghost use Rattle.maintenance.specs.Opened.{IsOpened, triple};
 
 use crate::parts::Core;
@@ -78,6 +79,14 @@ impl Shell {
                 applied: 0,
             },
         })
+    }
+
+    /// Every shell stands where some accepted steps lead to from a shell just opened. This does
+    /// nothing: its contract is the fact.
+    pub fn reachable(&self)
+        ensures { IsReachable self.now }
+    {
+        let _core = &self.core;
     }
 
     /// Whether maintenance is due or under way.
