@@ -232,16 +232,16 @@ pub hit_made : (n w key node : ℕ) (r : Reply) (old now new : ShellSession) →
 hit_made n w key node r old now new z h m k =
     adds_joined (λ es. es ≡ record { step = step_of w (act.Look key); reply = r } ∷ []) (Offers n (record { key = key; node = node })) (Announces n key outcome.Hit) old now new m k
     (λ a b f g. subst (λ (x : Entries). Announces n key outcome.Hit (x ++ b)) (sym f)
-      (subst (λ (s : Reply). Announces n key outcome.Hit (record { step = step_of w (act.Look key); reply = s } ∷ b)) (sym h)
-        ((λ rest i. (as-zero w (act.Look key) z, g.0 rest i)), sym (g.1 outcome.Hit))))
+    (subst (λ (s : Reply). Announces n key outcome.Hit (record { step = step_of w (act.Look key); reply = s } ∷ b)) (sym h)
+    ((λ rest i. (as-zero w (act.Look key) z, g.0 rest i)), sym (g.1 outcome.Hit))))
 
 pub miss_made : (n w key : ℕ) (r : Reply) (old now new : ShellSession) → w ≡ 0 → r ≡ reply.Miss → Adds (λ es. es ≡ record { step = step_of w (act.Look key); reply = r } ∷ []) old now
     → Adds (Puts n key) now new → Adds (Announces n key outcome.Kept) old new
 miss_made n w key r old now new z h m k =
     adds_joined (λ es. es ≡ record { step = step_of w (act.Look key); reply = r } ∷ []) (Puts n key) (Announces n key outcome.Kept) old now new m k
     (λ a b f g. subst (λ (x : Entries). Announces n key outcome.Kept (x ++ b)) (sym f)
-      (subst (λ (s : Reply). Announces n key outcome.Kept (record { step = step_of w (act.Look key); reply = s } ∷ b)) (sym h)
-        ((λ rest i. (as-zero w (act.Look key) z, g.0 rest i)), sym (g.1 outcome.Kept))))
+    (subst (λ (s : Reply). Announces n key outcome.Kept (record { step = step_of w (act.Look key); reply = s } ∷ b)) (sym h)
+    ((λ rest i. (as-zero w (act.Look key) z, g.0 rest i)), sym (g.1 outcome.Kept))))
 
 pub look_cut : (n key : ℕ) (old new : ShellSession) → Adds (λ es. es ≡ []) old new → Adds (λ es. (rest : Entries) × IsQuietWalk n key (es ++ rest)) old new
 look_cut n key old new m = cut_first (IsQuietWalk n key) old new m (said (act.Look key) reply.Miss ∷ said (act.Put key) reply.WritesFull ∷ the_round) (refl, (refl, is-round n))
@@ -279,8 +279,8 @@ pub round_cut : (n w key : ℕ) (o : Outcome) (r : Reply) (old now mid new : She
     → Adds (λ es. es ≡ record { step = step_of w act.Begin; reply = r } ∷ []) now mid → Adds (λ es. (rest : Entries) × IsReading 0 n 0 0 (es ++ rest)) mid new → Adds (λ es. (rest : Entries) × IsQuietWalk n key (es ++ rest)) old new
 round_cut n w key o r old now mid new z h m k j =
     let both : Adds (λ es. (rest : Entries) × IsRound 0 n (es ++ rest)) now new =
-        adds_joined (λ es. es ≡ record { step = step_of w act.Begin; reply = r } ∷ []) (λ es. (rest : Entries) × IsReading 0 n 0 0 (es ++ rest)) (λ es. (rest : Entries) × IsRound 0 n (es ++ rest)) now mid new k j
-        (λ a b f g. (g.0, subst (λ (x : Entries). IsRound 0 n ((x ++ b) ++ g.0)) (sym f) (subst (λ (s : Reply). IsRound 0 n (record { step = step_of w act.Begin; reply = s } ∷ b ++ g.0)) (sym h) (is-begun n w (b ++ g.0) z g.1)))) in
+    adds_joined (λ es. es ≡ record { step = step_of w act.Begin; reply = r } ∷ []) (λ es. (rest : Entries) × IsReading 0 n 0 0 (es ++ rest)) (λ es. (rest : Entries) × IsRound 0 n (es ++ rest)) now mid new k j
+    (λ a b f g. (g.0, subst (λ (x : Entries). IsRound 0 n ((x ++ b) ++ g.0)) (sym f) (subst (λ (s : Reply). IsRound 0 n (record { step = step_of w act.Begin; reply = s } ∷ b ++ g.0)) (sym h) (is-begun n w (b ++ g.0) z g.1)))) in
     adds_joined (Announces n key o) (λ es. (rest : Entries) × IsRound 0 n (es ++ rest)) (λ es. (rest : Entries) × IsQuietWalk n key (es ++ rest)) old now new m both
     (λ a b f g. (g.0, subst (λ (x : Entries). IsQuietWalk n key x) (sym (append_assoc a b g.0)) (f.0 (b ++ g.0) g.1)))
 
@@ -288,9 +288,9 @@ pub round_made : (n w key : ℕ) (o p : Outcome) (r : Reply) (old now mid new : 
     → Adds (λ es. es ≡ record { step = step_of w act.Begin; reply = r } ∷ []) now mid → Adds (λ es. IsReading 0 n 0 0 es × (p ≡ outcome_from o es)) mid new → Adds (λ es. IsQuietWalk n key es × (p ≡ outcome_from outcome.Kept es)) old new
 round_made n w key o p r old now mid new z h m k j =
     let both : Adds (λ es. IsRound 0 n es × (p ≡ outcome_from o es)) now new =
-        adds_joined (λ es. es ≡ record { step = step_of w act.Begin; reply = r } ∷ []) (λ es. IsReading 0 n 0 0 es × (p ≡ outcome_from o es)) (λ es. IsRound 0 n es × (p ≡ outcome_from o es)) now mid new k j
-        (λ a b f g. subst (λ (x : Entries). IsRound 0 n (x ++ b) × (p ≡ outcome_from o (x ++ b))) (sym f)
-          (subst (λ (s : Reply). IsRound 0 n (record { step = step_of w act.Begin; reply = s } ∷ b) × (p ≡ outcome_from o (record { step = step_of w act.Begin; reply = s } ∷ b))) (sym h) (is-begun n w b z g.0, g.1))) in
+    adds_joined (λ es. es ≡ record { step = step_of w act.Begin; reply = r } ∷ []) (λ es. IsReading 0 n 0 0 es × (p ≡ outcome_from o es)) (λ es. IsRound 0 n es × (p ≡ outcome_from o es)) now mid new k j
+    (λ a b f g. subst (λ (x : Entries). IsRound 0 n (x ++ b) × (p ≡ outcome_from o (x ++ b))) (sym f)
+    (subst (λ (s : Reply). IsRound 0 n (record { step = step_of w act.Begin; reply = s } ∷ b) × (p ≡ outcome_from o (record { step = step_of w act.Begin; reply = s } ∷ b))) (sym h) (is-begun n w b z g.0, g.1))) in
     adds_joined (Announces n key o) (λ es. IsRound 0 n es × (p ≡ outcome_from o es)) (λ es. IsQuietWalk n key es × (p ≡ outcome_from outcome.Kept es)) old now new m both
     (λ a b f g. (f.0 b g.0, g.1 ∙ ap (λ (q : Outcome). outcome_from q b) f.1 ∙ sym (told_joined outcome.Kept a b)))
 
@@ -310,7 +310,7 @@ map_err (Err e) P Q f h = f h
 pub reads_ahead : (l : Local) (w n : ℕ) → l.worker ≡ w → l.stripes ≡ n → l.place ≡ at.DrainRead 0 0 → w ≡ 0 → (es : Entries) → Ahead l.worker l.stripes l.place es → IsReading 0 n 0 0 es
 reads_ahead l w n a b c z es h =
     subst (λ (v : ℕ). IsReading v n 0 0 es) z
-      (subst (λ (m : ℕ). IsReading w m 0 0 es) b (subst (λ (v : ℕ). IsReading v l.stripes 0 0 es) a (subst (λ (p : Place). Ahead l.worker l.stripes p es) c h)))
+    (subst (λ (m : ℕ). IsReading w m 0 0 es) b (subst (λ (v : ℕ). IsReading v l.stripes 0 0 es) a (subst (λ (p : Place). Ahead l.worker l.stripes p es) c h)))
 
 pub ready_reads : (l : Local) (w : ℕ) (y : Shell) → l.worker ≡ w → l.place ≡ at.DrainRead 0 0 → IsReady w (act.DrainRead 0) y → IsReady l.worker (act_at l.worker l.stripes l.place) y
 ready_reads l w y a c h = subst (λ (p : Place). IsReady l.worker (act_at l.worker l.stripes p) y) (sym c) (subst (λ (v : ℕ). IsReady v (act.DrainRead 0) y) (sym a) h)

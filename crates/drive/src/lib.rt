@@ -22,7 +22,7 @@ mod work;
 pub use local::Local;
 pub use next::{Next, next_step};
 pub use place::Place;
-pub use quiet::QuietFault;
+pub use quiet::{QuietFault, run_quiet};
 pub use settling::{SettleFault, settle};
 pub use turns::{turn, walk_in_turns, work_in_turns};
 pub use work::{make_walks, walk};

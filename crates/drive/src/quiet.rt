@@ -8,7 +8,7 @@ ghost use Rattle.shell_model.specs.Shell.{perform, act as acted};
 ghost use Rattle.drive.specs.Walks.{Entries, IsRound, step_of};
 ghost use Rattle.drive.specs.Outcomes.{outcome_from};
 ghost use Rattle.drive.specs.Settle.{Adds, IsCause};
-ghost use Rattle.drive.specs.QuietWalks.{AreQuietWalks, FollowsQuietOffer, FollowsQuietPut, IsCallers, IsQuietOffer, IsQuietPut, IsQuietReport, IsQuietWalk, Stopped};
+ghost use Rattle.drive.specs.QuietWalks.{AreQuietWalks, BeginQuietWalks, FollowsQuietOffer, FollowsQuietPut, IsCallers, IsQuietOffer, IsQuietPut, IsQuietReport, IsQuietWalk, Stopped};
 
 use super::local::Local;
 use super::settling::{Refusal, finish_round, make};
@@ -32,6 +32,74 @@ pub enum QuietFault {
     Held,
 }
 
+/// Accesses the keys one after another as worker 0, each with a whole round of maintenance after
+/// it, and returns their outcomes: a hit, or for a miss the last key that left in its round, if
+/// one did. A maintenance that is under way is to be settled first. After out of memory or a full
+/// journal the steps that were made stay, and worker 0 may hold the maintenance.
+pub fn run_quiet(
+    alloc: Global,
+    session: &mut Session<Shell>,
+    keys: &[Key],
+) -> Result<Vec<Outcome>, QuietFault>
+    ensures opening { session.new.opening ≡ session.old.opening }
+    ensures limit { session.new.limit ≡ session.old.limit }
+    // One walk for each key, in order, whose replies come to the outcomes; and no holder is left.
+    ensures ok { IfOk result (λ os. Adds (AreQuietWalks session.old.engine.config.stripes keys.now os.items) session.old session.new) }
+    ensures none { OnOk result (session.new.engine.holder ≡ None) }
+    // The first steps of these walks.
+    ensures err { IfErr result (Stopped session.old.engine.config.stripes keys.now session.old session.new) }
+    ensures held { result ≡ Err QuietFault.Held ↔ IsSome session.old.engine.holder }
+{
+    let Some(worker) = Worker::new(0) else {
+        unreachable!();
+    };
+    if session.engine().holder().is_some() {
+        return Err(QuietFault::Held);
+    }
+    let stripes = session.engine().stripes();
+    let before = session.len();
+    let mut outcomes = Vec::new(alloc);
+    match access_all(session, worker, stripes, keys, &mut outcomes) {
+        Ok(()) => Ok(outcomes),
+        Err(Refusal::OutOfMemory) => Err(QuietFault::OutOfMemory {
+            done: (session.len() - before) as u64,
+        }),
+        Err(Refusal::JournalFull) => Err(QuietFault::JournalFull {
+            done: (session.len() - before) as u64,
+        }),
+    }
+}
+
+// Accesses the keys in order, each with a round after it, and lists their outcomes.
+fn access_all(
+    session: &mut Session<Shell>,
+    worker: Worker,
+    stripes: u8,
+    keys: &[Key],
+    outcomes: &mut Vec<Outcome>,
+) -> Result<(), Refusal>
+    requires worker { worker ≡ 0 }
+    requires stripes { length session.old.engine.stripes ≡ stripes }
+    requires range { (1 ≤ stripes) × (stripes ≤ MAX_STRIPES) }
+    requires none { session.old.engine.holder ≡ None }
+    requires empty { outcomes.old.items ≡ [] }
+    ensures opening { session.new.opening ≡ session.old.opening }
+    ensures limit { session.new.limit ≡ session.old.limit }
+    ensures ok { OnOk result (Adds (AreQuietWalks stripes keys.now outcomes.new.items) session.old session.new) }
+    ensures none { OnOk result (session.new.engine.holder ≡ None) }
+    ensures err { OnErr result (Adds (BeginQuietWalks stripes keys.now) session.old session.new) }
+    ensures full { result ≡ Err Refusal.JournalFull → length session.new.kept ≡ session.new.limit }
+{
+    for key in keys {
+        if outcomes.reserve(1).is_err() {
+            return Err(Refusal::OutOfMemory);
+        }
+        let outcome = quiet_key(session, worker, stripes, *key)?;
+        outcomes.push_reserved(outcome);
+    }
+    Ok(())
+}
+
 // Accesses a key, with a round of maintenance after it.
 fn quiet_key(
     session: &mut Session<Shell>,
@@ -53,7 +121,11 @@ fn quiet_key(
 {
     let outcome = announce(session, worker, stripes, key)?;
     make(session, worker, Act::Begin)?;
-    finish_round(session, Local::resume(worker, stripes, Phase::Reads), outcome)
+    finish_round(
+        session,
+        Local::resume(worker, stripes, Phase::Reads),
+        outcome,
+    )
 }
 
 // Looks a key up, and offers or adds it.
@@ -124,12 +196,7 @@ fn answer_in(item: Item, reply: Reply) -> Answer
 }
 
 // Adds a key that was missed, and reports that unless the write queue was full.
-fn put(
-    session: &mut Session<Shell>,
-    worker: Worker,
-    stripes: u8,
-    key: Key,
-) -> Result<(), Refusal>
+fn put(session: &mut Session<Shell>, worker: Worker, stripes: u8, key: Key) -> Result<(), Refusal>
     requires worker { worker ≡ 0 }
     ensures opening { session.new.opening ≡ session.old.opening }
     ensures limit { session.new.limit ≡ session.old.limit }

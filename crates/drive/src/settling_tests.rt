@@ -91,7 +91,10 @@ fn assert_settles(
 #[test]
 fn settling_without_a_holder_makes_no_step(rt: HostRuntime) {
     let mut session = begun(&rt, rt.alloc(), 4);
-    assert_eq!(rt; session.step(step(&rt, Act::End)), Err(SessionFault::JournalFull));
+    assert_eq!(rt;
+        session.step(step(&rt, Act::End)),
+        Err(SessionFault::JournalFull)
+    );
     assert_eq!(rt; session.back(1), Ok(()));
     assert_eq!(rt; session.engine().drain(), Drain::Required);
     assert_eq!(rt; settle(&mut session), Ok(0));

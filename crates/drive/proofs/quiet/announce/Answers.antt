@@ -8,7 +8,7 @@ returns-in_err-node-clause-err c = on_err _ _ (look_cut c.args.stripes c.args.ke
 pub offer-requires-clause-accepted : goal.offer-requires-clause-accepted
 offer-requires-clause-accepted c =
     offers_at c.args.worker c.args.session.now.engine c.make_own.new.session.engine c.engine.result.now c.args.key c.in-Hit.node c.args.stripes c.in_ok-node.field-0 c.engine.ensures.engine c.reachable.ensures c.in-Hit.is
-      c.in_ok-node.ensures.accepted c.in_ok-node.ensures.stripes c.requires.stripes c.requires.some
+    c.in_ok-node.ensures.accepted c.in_ok-node.ensures.stripes c.requires.stripes c.requires.some
 
 pub returns-in_err-offer-in-Hit-clause-err : goal.returns-in_err-offer-in-Hit-clause-err
 returns-in_err-offer-in-Hit-clause-err c =

@@ -12,4 +12,4 @@ returns-in_err-make_own-clause-err c =
 pub returns-clause-ok : goal.returns-clause-ok
 returns-clause-ok c =
     both (Offers c.args.stripes c.args.item) _ c.make_own.new.session _ _ _ c.in_ok-reply.ensures.ok c.in_ok-make_own.ensures.ok
-      (offer_made c.args.stripes c.args.worker c.args.item c.answer_in-answer.result c.in_ok-reply.reply _ c.requires.worker c.answer_in-answer.ensures c.in_ok-reply.ensures.answer c.in_ok-make_own.ensures.answer)
+    (offer_made c.args.stripes c.args.worker c.args.item c.answer_in-answer.result c.in_ok-reply.reply _ c.requires.worker c.answer_in-answer.ensures c.in_ok-reply.ensures.answer c.in_ok-make_own.ensures.answer)

@@ -21,13 +21,13 @@ returns-clause-ok c =
     let some = subst (λ (n : ℕ). 1 ≤ n) (sym c.in_ok-outcome.ensures.stripes) c.requires.range.0 in
     let b = begins c.args.worker c.announce.new.session.engine c.make.new.session.engine c.in_ok-make.field-0 (c.in_ok-outcome.ensures.holder ∙ c.requires.none) c.in_ok-make.ensures.accepted some in
     map_ok c.finish_round.result _ _ (λ p m. round_made c.args.stripes c.args.worker c.args.key c.in_ok-outcome.outcome p c.in_ok-make.field-0 _ c.announce.new.session c.make.new.session _ c.requires.worker b.0 c.in_ok-outcome.ensures.ok
-      (adds_one _ _ _ c.in_ok-make.ensures.ok c.in_ok-make.ensures.tail)
-      (adds_known _ (λ es. IsReading 0 c.args.stripes 0 0 es × (p ≡ outcome_from c.in_ok-outcome.outcome es)) _ _ m (λ es h. (reads_ahead c.resume.result c.args.worker c.args.stripes c.resume.ensures.same.0 c.resume.ensures.same.1 c.resume.ensures.place c.requires.worker es h.0, h.1)))) c.finish_round.ensures.ok
+    (adds_one _ _ _ c.in_ok-make.ensures.ok c.in_ok-make.ensures.tail)
+    (adds_known _ (λ es. IsReading 0 c.args.stripes 0 0 es × (p ≡ outcome_from c.in_ok-outcome.outcome es)) _ _ m (λ es h. (reads_ahead c.resume.result c.args.worker c.args.stripes c.resume.ensures.same.0 c.resume.ensures.same.1 c.resume.ensures.place c.requires.worker es h.0, h.1)))) c.finish_round.ensures.ok
 
 pub returns-clause-err : goal.returns-clause-err
 returns-clause-err c =
     let some = subst (λ (n : ℕ). 1 ≤ n) (sym c.in_ok-outcome.ensures.stripes) c.requires.range.0 in
     let b = begins c.args.worker c.announce.new.session.engine c.make.new.session.engine c.in_ok-make.field-0 (c.in_ok-outcome.ensures.holder ∙ c.requires.none) c.in_ok-make.ensures.accepted some in
     map_err c.finish_round.result _ _ (λ m. round_cut c.args.stripes c.args.worker c.args.key c.in_ok-outcome.outcome c.in_ok-make.field-0 _ c.announce.new.session c.make.new.session _ c.requires.worker b.0 c.in_ok-outcome.ensures.ok
-      (adds_one _ _ _ c.in_ok-make.ensures.ok c.in_ok-make.ensures.tail)
-      (adds_known _ (λ es. (rest : Entries) × IsReading 0 c.args.stripes 0 0 (es ++ rest)) _ _ m (λ es h. (h.0, reads_ahead c.resume.result c.args.worker c.args.stripes c.resume.ensures.same.0 c.resume.ensures.same.1 c.resume.ensures.place c.requires.worker (es ++ h.0) h.1)))) c.finish_round.ensures.err
+    (adds_one _ _ _ c.in_ok-make.ensures.ok c.in_ok-make.ensures.tail)
+    (adds_known _ (λ es. (rest : Entries) × IsReading 0 c.args.stripes 0 0 (es ++ rest)) _ _ m (λ es h. (h.0, reads_ahead c.resume.result c.args.worker c.args.stripes c.resume.ensures.same.0 c.resume.ensures.same.1 c.resume.ensures.place c.requires.worker (es ++ h.0) h.1)))) c.finish_round.ensures.err
