@@ -3,7 +3,7 @@ use journal::{Session, SessionFault};
 use maintenance::Shell;
 use std::alloc::Global;
 use std::process::Abort;
-use step_record::{Act, Config, Drain, Entry, Item, Reply, Spread, Step, Worker};
+use step_record::{Act, Config, Drain, Entry, Item, Outcome, Reply, Spread, Step, Worker};
 
 const CONFIG: Config = Config {
     capacity: 8,
@@ -15,10 +15,7 @@ const CONFIG: Config = Config {
 
 // A session in which worker 3 put key 1 and began the maintenance: four steps.
 fn begun(rt: &impl Abort, alloc: Global, limit: usize) -> Session<Shell> {
-    assert!(rt; CONFIG.check().is_ok());
-    assert!(rt; 4 <= limit && limit <= 1024);
-    let shell = Shell::new(alloc, &CONFIG).expect(rt, "memory for a shell");
-    let mut session = Session::open(alloc, shell, limit);
+    let mut session = fresh(rt, alloc, &CONFIG, limit);
     for act in [
         Act::Look { key: 1 },
         Act::Put { key: 1 },
@@ -29,6 +26,13 @@ fn begun(rt: &impl Abort, alloc: Global, limit: usize) -> Session<Shell> {
         assert!(rt; made.is_ok());
     }
     session
+}
+
+fn fresh(rt: &impl Abort, alloc: Global, config: &Config, limit: usize) -> Session<Shell> {
+    assert!(rt; config.check().is_ok());
+    assert!(rt; 1 <= limit && limit <= 1024);
+    let shell = Shell::new(alloc, config).expect(rt, "memory for a shell");
+    Session::open(alloc, shell, limit)
 }
 
 fn step(rt: &impl Abort, act: Act) -> Step {
@@ -99,4 +103,51 @@ fn settling_without_a_holder_makes_no_step(rt: HostRuntime) {
     assert_eq!(rt; session.engine().drain(), Drain::Required);
     assert_eq!(rt; settle(&mut session), Ok(0));
     assert_eq!(rt; (session.len(), session.ahead()), (3, 1));
+}
+
+#[test]
+fn a_quiet_run_names_the_steps_that_had_room(rt: HostRuntime) {
+    let config = Config {
+        capacity: 2,
+        ..CONFIG
+    };
+    let keys = [1, 2, 1, 3, 1];
+    let outcomes = [
+        Outcome::Kept,
+        Outcome::Kept,
+        Outcome::Hit,
+        Outcome::Rejected(2),
+        Outcome::Hit,
+    ];
+    // Misses take nine steps, and one more where the window is over its size; hits take nine.
+    for (limit, is_held) in [
+        (1, false),
+        (3, false),
+        (4, true),
+        (27, true),
+        (28, false),
+        (46, true),
+    ] {
+        let mut session = fresh(&rt, rt.alloc(), &config, limit);
+        let full = Err(QuietFault::JournalFull { done: limit as u64 });
+        assert_eq!(rt;
+            run_quiet(rt.alloc(), &mut session, &keys).map(|_| ()),
+            full
+        );
+        assert_eq!(rt; session.len(), limit);
+        let again = if is_held {
+            QuietFault::Held
+        } else {
+            QuietFault::JournalFull { done: 0 }
+        };
+        assert_eq!(rt;
+            run_quiet(rt.alloc(), &mut session, &keys).map(|_| ()),
+            Err(again)
+        );
+        assert_eq!(rt; session.len(), limit);
+    }
+    let mut session = fresh(&rt, rt.alloc(), &config, 47);
+    let answer = run_quiet(rt.alloc(), &mut session, &keys).expect(&rt, "a run with enough room");
+    assert_eq!(rt; answer.as_slice(), outcomes.as_slice());
+    assert_eq!(rt; session.len(), 47);
 }
