@@ -14,6 +14,10 @@ mod driving_tests;
 mod local;
 mod next;
 mod place;
+mod quiet;
+mod settling;
+#[cfg(test)]
+mod settling_tests;
 #[cfg(test)]
 mod tests;
 mod turns;
@@ -23,5 +27,7 @@ pub use driving::{Cause, DriveFault, Driven, drive};
 pub use local::Local;
 pub use next::{Next, next_step};
 pub use place::Place;
+pub use quiet::{QuietFault, run_quiet};
+pub use settling::{SettleFault, settle};
 pub use turns::{turn, walk_in_turns, work_in_turns};
 pub use work::{make_walks, walk};

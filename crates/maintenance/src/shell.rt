@@ -81,6 +81,14 @@ impl Shell {
         })
     }
 
+    /// Every shell stands where some accepted steps lead to from a shell just opened. This does
+    /// nothing: its contract is the fact.
+    pub fn reachable(&self)
+        ensures { IsReachable self.now }
+    {
+        let _core = &self.core;
+    }
+
     /// Whether maintenance is due or under way.
     pub fn drain(&self) -> Drain
         ensures { result ≡ self.now.drain }

@@ -1,0 +1,152 @@
+//! Finishing the maintenance that a worker holds.
+ghost use Rattle.std.specs.Prelude.{◌≡◌, ◌≤◌, ℕ, None, Some, Err, IsSome, IfOk, IfErr, OnOk, OnErr, length, ◌∷◌, ◌++◌, []};
+ghost use Rattle.step_record.specs.declared.limits.TheConstants.{MAX_STRIPES};
+ghost use Rattle.journal.specs.Session.{IsSameSession};
+ghost use Rattle.shell_model.specs.Shell.{perform, act as acted};
+ghost use Rattle.drive.specs.Walks.{Entries, step_of};
+ghost use Rattle.drive.specs.Places.{Ahead, act_at};
+ghost use Rattle.drive.specs.Outcomes.{told, outcome_from};
+ghost use Rattle.drive.specs.Settle.{Adds, IsRest, BeginsRest, IsReady, IsCause, IsFullAt, place_in, steps_before};
+
+use super::local::Local;
+use super::next::{Next, next_step};
+use super::place::Place;
+use journal::{Session, SessionFault};
+use maintenance::Shell;
+use step_record::{Act, Outcome, Phase, Reply, Step, Worker};
+use thiserror::Error;
+
+/// Why a maintenance was not finished. The steps that were made stay applied.
+#[derive(Clone, Copy, Debug, PartialEq, Eq, Error)]
+pub enum SettleFault {
+    /// Out of memory after this many steps.
+    #[error("OutOfMemory")]
+    OutOfMemory { done: u64 },
+    /// The journal is full after this many steps.
+    #[error("JournalFull")]
+    JournalFull { done: u64 },
+}
+
+/// Finishes the maintenance under way, as its holder and by ordinary steps, from the phase that it
+/// is at, and returns how many steps that took: 0 where no one holds it. After a fault the steps
+/// that were made stay, and the holder still holds.
+pub fn settle(session: &mut Session<Shell>) -> Result<u64, SettleFault>
+    ensures opening { session.new.opening ≡ session.old.opening }
+    ensures limit { session.new.limit ≡ session.old.limit }
+    // The holder's steps of a round from its phase on, or none, and no holder is left.
+    ensures ok { IfOk result (λ n. Adds (λ es. IsRest session.old.engine.config.stripes session.old.engine.holder es × (n ≡ length es)) session.old session.new) }
+    ensures none { OnOk result (session.new.engine.holder ≡ None) }
+    // The first of these steps.
+    ensures err { IfErr result (λ f. Adds (λ es. BeginsRest session.old.engine.config.stripes session.old.engine.holder es × (steps_before f ≡ length es)) session.old session.new) }
+    ensures cause { IfErr result (λ f. IsFullAt f session.new) }
+{
+    let Some(holder) = session.engine().holder() else {
+        return Ok(0);
+    };
+    let before = session.len();
+    let stripes = session.engine().stripes();
+    let local = Local::resume(holder.0, stripes, holder.1);
+    match finish_round(session, local, Outcome::Kept) {
+        Ok(_) => Ok((session.len() - before) as u64),
+        Err(Refusal::OutOfMemory) => Err(SettleFault::OutOfMemory {
+            done: (session.len() - before) as u64,
+        }),
+        Err(Refusal::JournalFull) => Err(SettleFault::JournalFull {
+            done: (session.len() - before) as u64,
+        }),
+    }
+}
+
+// Why a session refused a step that its shell takes.
+#[derive(Clone, Copy)]
+pub(crate) enum Refusal {
+    OutOfMemory,
+    JournalFull,
+}
+
+impl Local {
+    /// At the first act of a worker that holds the maintenance and is at this phase of it, in a
+    /// cache with so many read buffers: 1 to [`MAX_STRIPES`].
+    ///
+    /// [`MAX_STRIPES`]: step_record::MAX_STRIPES
+    pub fn resume(worker: Worker, stripes: u8, phase: Phase) -> Local
+        requires { (1 ≤ stripes) × (stripes ≤ MAX_STRIPES) }
+        ensures place { result.place ≡ place_in phase }
+        ensures same { (result.worker ≡ worker) × (result.stripes ≡ stripes) }
+    {
+        let place = match phase {
+            Phase::Reads => Place::DrainRead {
+                stripe: 0,
+                drained: 0,
+            },
+            Phase::Writes => Place::DrainWrite,
+            Phase::Evictions => Place::Evict,
+        };
+        Local {
+            worker,
+            stripes,
+            place,
+        }
+    }
+}
+
+// Makes a round from where its holder stands, to its End, and tells the outcome with what left.
+pub(crate) fn finish_round(
+    session: &mut Session<Shell>,
+    local: Local,
+    start: Outcome,
+) -> Result<Outcome, Refusal>
+    requires stripes { length session.old.engine.stripes ≡ local.stripes }
+    requires ready { IsReady local.worker (act_at local.worker local.stripes local.place) session.old.engine }
+    ensures opening { session.new.opening ≡ session.old.opening }
+    ensures limit { session.new.limit ≡ session.old.limit }
+    ensures ok { IfOk result (λ o. Adds (λ es. Ahead local.worker local.stripes local.place es × (o ≡ outcome_from start es)) session.old session.new) }
+    ensures none { OnOk result (session.new.engine.holder ≡ None) }
+    ensures stripes { length session.new.engine.stripes ≡ local.stripes }
+    ensures err { OnErr result (Adds (λ es. (rest : Entries) × Ahead local.worker local.stripes local.place (es ++ rest)) session.old session.new) }
+    ensures cause { IfErr result (λ f. IsCause f session.new) }
+{
+    let worker = local.worker;
+    let mut outcome = start;
+    let mut next = next_step(local, None);
+    while let Next::Do(act, at) = next {
+        let reply = make(session, worker, act)?;
+        outcome = tell(outcome, reply);
+        next = next_step(at, Some(reply));
+    }
+    Ok(outcome)
+}
+
+// Makes a step that the shell takes.
+pub(crate) fn make(session: &mut Session<Shell>, worker: Worker, act: Act) -> Result<Reply, Refusal>
+    requires { IsSome (perform worker act session.old.engine) }
+    ensures opening { session.new.opening ≡ session.old.opening }
+    ensures limit { session.new.limit ≡ session.old.limit }
+    ensures ok { IfOk result (λ r. session.new.kept ≡ session.old.kept ++ record { step = step_of worker act; reply = r } ∷ []) }
+    ensures tail { OnOk result (session.new.tail ≡ []) }
+    ensures accepted { IfOk result (λ r. acted session.old.engine (step_of worker act) ≡ Some (r, session.new.engine)) }
+    ensures err { OnErr result (IsSameSession (λ x. x) session.old session.new) }
+    ensures same { OnErr result (session.new.engine ≡ session.old.engine) }
+    ensures cause { IfErr result (λ f. IsCause f session.new) }
+    ensures room { length session.new.kept ≤ session.new.limit }
+{
+    match session.step(Step { worker, act }) {
+        Ok(reply) => Ok(reply),
+        Err(SessionFault::OutOfMemory) => Err(Refusal::OutOfMemory),
+        Err(SessionFault::JournalFull) => Err(Refusal::JournalFull),
+        Err(SessionFault::NotNow) => unreachable!(),
+    }
+}
+
+// The outcome of a key after one more reply: a hit stays, else the key that left last counts.
+pub(crate) fn tell(outcome: Outcome, reply: Reply) -> Outcome
+    ensures { result ≡ told outcome reply }
+{
+    match (outcome, reply) {
+        (_, Reply::Hit { .. }) => Outcome::Hit,
+        (Outcome::Hit, _) => Outcome::Hit,
+        (_, Reply::Evicted { item }) => Outcome::Evicted(item.key),
+        (_, Reply::Rejected { item }) => Outcome::Rejected(item.key),
+        (outcome, _) => outcome,
+    }
+}

@@ -1,0 +1,153 @@
+use super::*;
+use journal::{Session, SessionFault};
+use maintenance::Shell;
+use std::alloc::Global;
+use std::process::Abort;
+use step_record::{Act, Config, Drain, Entry, Item, Outcome, Reply, Spread, Step, Worker};
+
+const CONFIG: Config = Config {
+    capacity: 8,
+    main_percent: 99,
+    spread: Spread::Mixed,
+    stripes: 1,
+    journal_limit: 1024,
+};
+
+// A session in which worker 3 put key 1 and began the maintenance: four steps.
+fn begun(rt: &impl Abort, alloc: Global, limit: usize) -> Session<Shell> {
+    let mut session = fresh(rt, alloc, &CONFIG, limit);
+    for act in [
+        Act::Look { key: 1 },
+        Act::Put { key: 1 },
+        Act::AfterWrite,
+        Act::Begin,
+    ] {
+        let made = session.step(step(rt, act));
+        assert!(rt; made.is_ok());
+    }
+    session
+}
+
+fn fresh(rt: &impl Abort, alloc: Global, config: &Config, limit: usize) -> Session<Shell> {
+    assert!(rt; config.check().is_ok());
+    assert!(rt; 1 <= limit && limit <= 1024);
+    let shell = Shell::new(alloc, config).expect(rt, "memory for a shell");
+    Session::open(alloc, shell, limit)
+}
+
+fn step(rt: &impl Abort, act: Act) -> Step {
+    let worker = Worker::new(3).expect(rt, "a worker below the limit");
+    Step { worker, act }
+}
+
+#[test]
+fn settling_ends_the_round_or_names_its_steps(rt: HostRuntime) {
+    let item = Item { key: 1, node: 0 };
+    let round = [
+        (Act::DrainRead { stripe: 0 }, Reply::Empty),
+        (Act::DrainWrite, Reply::Applied { item }),
+        (Act::DrainWrite, Reply::Empty),
+        (Act::Evict, Reply::Fits),
+        (Act::End, Reply::Idle),
+    ];
+    // After so many steps of the round by hand, its phase begins again at this one.
+    for (by_hand, again) in [(0, 0), (1, 0), (2, 2), (3, 2), (4, 3)] {
+        assert_settles(&rt, rt.alloc(), &round, by_hand, again);
+    }
+}
+
+// Settles a session with some steps of a round made by hand, at each limit that leaves the steps
+// that are left too little room, and at one that is enough.
+fn assert_settles(
+    rt: &impl Abort,
+    alloc: Global,
+    round: &[(Act, Reply); 5],
+    by_hand: usize,
+    again: usize,
+) {
+    assert!(rt; by_hand < 5 && again <= by_hand);
+    let left = 5 - again;
+    for room in 0..left + 1 {
+        let start = 4 + by_hand;
+        let mut session = begun(rt, alloc, start + room);
+        for (act, reply) in &round[..by_hand] {
+            assert_eq!(rt; session.step(step(rt, *act)), Ok(*reply));
+        }
+        let answer = settle(&mut session);
+        if room < left {
+            assert_eq!(rt; answer, Err(SettleFault::JournalFull { done: room as u64 }));
+        } else {
+            assert_eq!(rt; answer, Ok(left as u64));
+        }
+        assert_eq!(rt; session.len(), start + room);
+        assert_eq!(rt; session.engine().holder().is_some(), room < left);
+        for n in 0..room {
+            let (act, reply) = round[again + n];
+            let entry = Entry {
+                step: step(rt, act),
+                reply,
+            };
+            assert_eq!(rt; session.entry(start + n + 1).copied(), Some(entry));
+        }
+    }
+}
+
+#[test]
+fn settling_without_a_holder_makes_no_step(rt: HostRuntime) {
+    let mut session = begun(&rt, rt.alloc(), 4);
+    assert_eq!(rt;
+        session.step(step(&rt, Act::End)),
+        Err(SessionFault::JournalFull)
+    );
+    assert_eq!(rt; session.back(1), Ok(()));
+    assert_eq!(rt; session.engine().drain(), Drain::Required);
+    assert_eq!(rt; settle(&mut session), Ok(0));
+    assert_eq!(rt; (session.len(), session.ahead()), (3, 1));
+}
+
+#[test]
+fn a_quiet_run_names_the_steps_that_had_room(rt: HostRuntime) {
+    let config = Config {
+        capacity: 2,
+        ..CONFIG
+    };
+    let keys = [1, 2, 1, 3, 1];
+    let outcomes = [
+        Outcome::Kept,
+        Outcome::Kept,
+        Outcome::Hit,
+        Outcome::Rejected(2),
+        Outcome::Hit,
+    ];
+    // Misses take nine steps, and one more where the window is over its size; hits take nine.
+    for (limit, is_held) in [
+        (1, false),
+        (3, false),
+        (4, true),
+        (27, true),
+        (28, false),
+        (46, true),
+    ] {
+        let mut session = fresh(&rt, rt.alloc(), &config, limit);
+        let full = Err(QuietFault::JournalFull { done: limit as u64 });
+        assert_eq!(rt;
+            run_quiet(rt.alloc(), &mut session, &keys).map(|_| ()),
+            full
+        );
+        assert_eq!(rt; session.len(), limit);
+        let again = if is_held {
+            QuietFault::Held
+        } else {
+            QuietFault::JournalFull { done: 0 }
+        };
+        assert_eq!(rt;
+            run_quiet(rt.alloc(), &mut session, &keys).map(|_| ()),
+            Err(again)
+        );
+        assert_eq!(rt; session.len(), limit);
+    }
+    let mut session = fresh(&rt, rt.alloc(), &config, 47);
+    let answer = run_quiet(rt.alloc(), &mut session, &keys).expect(&rt, "a run with enough room");
+    assert_eq!(rt; answer.as_slice(), outcomes.as_slice());
+    assert_eq!(rt; session.len(), 47);
+}

@@ -1,0 +1,5 @@
+use Rattle.shell_model.specs.Reached.{IsReachable}
+use Rattle.maintenance.proofs.shell.Shell.reachable.Goals as goal
+
+pub returns : goal.returns
+returns c = rw (← c.self.view_is) c.self.invariant
