@@ -1,0 +1,5 @@
+pub mod Trims
+pub mod Numbers
+pub mod Cuts
+pub mod Stops
+pub mod OneByte
