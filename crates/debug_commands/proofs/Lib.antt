@@ -3,3 +3,4 @@ pub mod Numbers
 pub mod Cuts
 pub mod Stops
 pub mod OneByte
+pub mod Ahead

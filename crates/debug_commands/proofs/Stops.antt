@@ -1,5 +1,5 @@
 -- Where a run stops, step by step.
-use Rattle.std.proofs.Common.{◌≡◌, ◌∙◌, ◌<◌, ◌+◌, ◌-◌, ℕ, zero, suc, List, Option, Some, None, refl, ap, sym, arith}
+use Rattle.std.proofs.Common.{◌≡◌, ◌∙◌, ◌<◌, ◌+◌, ◌-◌, ℕ, zero, suc, List, Some, None, refl, ap, sym, arith}
 use Rattle.debug_commands.specs.Answers.{stop_after, stop_here}
 use Rattle.debug_commands.specs.Breakpoints.{first_holding}
 use Rattle.debug_commands.specs.declared.breakpoint.Breakpoint.{Breakpoint}

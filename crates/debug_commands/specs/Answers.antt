@@ -1,6 +1,6 @@
 -- What the debugger answers to a command: from the position and the breakpoints before it, the text and those after it.
 -- (Commands of this project.)
-use Rattle.std.specs.Prelude.{◌≡◌, ℕ, zero, suc, ◌+◌, ◌-◌, ◌==◌, nat_lt, if◌then◌else◌, Option, Some, None, List, [], ◌∷◌, ◌++◌, length, codes}
+use Rattle.std.specs.Prelude.{ℕ, zero, suc, ◌+◌, ◌-◌, ◌==◌, nat_lt, if◌then◌else◌, Option, Some, None, List, [], ◌∷◌, ◌++◌, length, codes}
 use Rattle.std.specs.Fmt.{decimal}
 use Rattle.debug_commands.specs.Breakpoints.{first_holding, word_of}
 use Rattle.debug_commands.specs.Timeline.{TimelineData}

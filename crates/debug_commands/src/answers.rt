@@ -69,7 +69,12 @@ fn respond<T: Timeline>(
 
 // Goes so many steps onward.
 #[tactic(auto, unfolding(crate::specs::Answers::response_to))]
-fn step<T: Timeline>(alloc: Global, timeline: &mut T, n: u64, text: &mut Vec<u8>) -> Result<(), AllocError>
+fn step<T: Timeline>(
+    alloc: Global,
+    timeline: &mut T,
+    n: u64,
+    text: &mut Vec<u8>,
+) -> Result<(), AllocError>
     requires { T.IsWhole timeline.old }
     ensures whole { OnOk result (T.IsWhole timeline.new) }
     ensures same { OnOk result (T.timeline timeline.new ≡ T.timeline timeline.old) }
@@ -86,7 +91,12 @@ fn step<T: Timeline>(alloc: Global, timeline: &mut T, n: u64, text: &mut Vec<u8>
 
 // Goes so many steps back.
 #[tactic(auto, unfolding(crate::specs::Answers::response_to))]
-fn back<T: Timeline>(alloc: Global, timeline: &mut T, n: u64, text: &mut Vec<u8>) -> Result<(), AllocError>
+fn back<T: Timeline>(
+    alloc: Global,
+    timeline: &mut T,
+    n: u64,
+    text: &mut Vec<u8>,
+) -> Result<(), AllocError>
     requires { T.IsWhole timeline.old }
     ensures whole { OnOk result (T.IsWhole timeline.new) }
     ensures same { OnOk result (T.timeline timeline.new ≡ T.timeline timeline.old) }
@@ -103,7 +113,12 @@ fn back<T: Timeline>(alloc: Global, timeline: &mut T, n: u64, text: &mut Vec<u8>
 
 // Goes to where so many steps are made.
 #[tactic(auto, unfolding(crate::specs::Answers::response_to))]
-fn goto<T: Timeline>(alloc: Global, timeline: &mut T, n: u64, text: &mut Vec<u8>) -> Result<(), AllocError>
+fn goto<T: Timeline>(
+    alloc: Global,
+    timeline: &mut T,
+    n: u64,
+    text: &mut Vec<u8>,
+) -> Result<(), AllocError>
     requires { T.IsWhole timeline.old }
     ensures whole { OnOk result (T.IsWhole timeline.new) }
     ensures same { OnOk result (T.timeline timeline.new ≡ T.timeline timeline.old) }
@@ -118,7 +133,12 @@ fn goto<T: Timeline>(alloc: Global, timeline: &mut T, n: u64, text: &mut Vec<u8>
 }
 
 // Goes to a position that there is.
-fn go<T: Timeline>(alloc: Global, timeline: &mut T, n: usize, text: &mut Vec<u8>) -> Result<(), AllocError>
+fn go<T: Timeline>(
+    alloc: Global,
+    timeline: &mut T,
+    n: usize,
+    text: &mut Vec<u8>,
+) -> Result<(), AllocError>
     requires whole { T.IsWhole timeline.old }
     requires within { n ≤ (T.timeline timeline.old).end }
     ensures whole { OnOk result (T.IsWhole timeline.new) }
@@ -189,7 +209,11 @@ fn next_stop<T: Timeline>(
 
 // Sets a breakpoint, where there are not too many.
 #[tactic(auto, unfolding(crate::specs::Answers::response_to))]
-fn set(breaks: &mut Vec<Breakpoint>, point: Breakpoint, text: &mut Vec<u8>) -> Result<(), AllocError>
+fn set(
+    breaks: &mut Vec<Breakpoint>,
+    point: Breakpoint,
+    text: &mut Vec<u8>,
+) -> Result<(), AllocError>
     ensures { OnOk result ((t : TimelineData) (at : ℕ) → IsAnswer
         (response_to t (record { at = at; breaks = breaks.old.items }) (command.Break point))
         text.old.items text.new.items at breaks.new.items) }

@@ -1,7 +1,7 @@
 //! The reading and answering of commands.
 ghost use Rattle.std.specs.Prelude.{◌≡◌, ℕ, Err, IfSome, OnOk, true, false};
 ghost use Rattle.std.specs.Io.KnownBytes.{Appends};
-ghost use Rattle.debug_commands.specs.Dialogue.{dialogue_of, IsHeld};
+ghost use Rattle.debug_commands.specs.Dialogue.{dialogue_of, is_quit, IsHeld};
 
 use crate::answers::answer;
 use crate::breakpoint::Breakpoint;
@@ -29,11 +29,11 @@ pub fn answer_commands<T: Timeline, R: Read, W: Write>(
     // With its end it has written what the definition gives for the bytes of the input.
     ensures done { OnOk result (IfSome (R.remaining input.old) (λ bytes.
         IsHeld (dialogue_of (T.timeline timeline.old) (T.position timeline.old) bytes) true
-            (W.contents out.old) (W.contents out.new) (T.position timeline.new))) }
+        (W.contents out.old) (W.contents out.new) (T.position timeline.new))) }
     // So it has where a line was too large, for the lines before that.
     ensures large { result ≡ Err DebugFault.TooLarge → IfSome (R.remaining input.old) (λ bytes.
         IsHeld (dialogue_of (T.timeline timeline.old) (T.position timeline.old) bytes) false
-            (W.contents out.old) (W.contents out.new) (T.position timeline.new)) }
+        (W.contents out.old) (W.contents out.new) (T.position timeline.new)) }
     ensures whole { OnOk result (T.IsWhole timeline.new) }
     ensures same { OnOk result (T.timeline timeline.new ≡ T.timeline timeline.old) }
     ensures config { (i : ℕ) → result ≡ Err (DebugFault.Config i) → ⊥ }
@@ -51,10 +51,20 @@ pub fn answer_commands<T: Timeline, R: Read, W: Write>(
         let said = grammar::line(timeline.dialect(), line.as_slice());
         answer(alloc, timeline, &mut breaks, said, &mut text)?;
         send(out, text.as_slice(), &mut writes)?;
-        if !fed || said == Line::Known(Command::Quit) {
+        if !fed {
+            return Ok(());
+        }
+        if is_quit(said) {
             return Ok(());
         }
     }
+}
+
+// Whether the line ends the run.
+fn is_quit(line: Line) -> bool
+    ensures { result ≡ is_quit line }
+{
+    matches!(line, Line::Known(Command::Quit))
 }
 
 // Writes an answer and flushes.

@@ -5,9 +5,15 @@ use super::*;
 fn a_line_is_one_command_or_none(rt: HostRuntime) {
     for (text, said) in [
         ("step 007", Line::Known(Command::Step(7))),
-        (" \t back  18446744073709551615 \r", Line::Known(Command::Back(18446744073709551615))),
+        (
+            " \t back  18446744073709551615 \r",
+            Line::Known(Command::Back(18446744073709551615)),
+        ),
         ("goto 0", Line::Known(Command::Goto(0))),
-        ("break hit 3", Line::Known(Command::Break(Breakpoint::Hit(3)))),
+        (
+            "break hit 3",
+            Line::Known(Command::Break(Breakpoint::Hit(3))),
+        ),
         ("break part", Line::Known(Command::Break(Breakpoint::Part))),
         ("part", Line::Known(Command::Own)),
         ("", Line::Empty),

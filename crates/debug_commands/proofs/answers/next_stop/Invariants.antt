@@ -1,4 +1,4 @@
-use Rattle.std.proofs.Common.{◌≡◌, ◌-◌, ◌≤◌}
+use Rattle.std.proofs.Common.{◌≡◌, ◌-◌}
 use Rattle.debug_commands.specs.Answers.{stop_after}
 use Rattle.debug_commands.proofs.answers.next_stop.Given as goal
 
@@ -9,7 +9,7 @@ invariant-steps g l = record {
   stop : stop_after (g.T.Timeline.timeline l.initial.timeline).facts l.breaks (g.T.Timeline.position l.timeline)
       ((g.T.Timeline.timeline l.initial.timeline).end - g.T.Timeline.position l.timeline)
       ≡ stop_after (g.T.Timeline.timeline l.initial.timeline).facts l.breaks (g.T.Timeline.position l.initial.timeline)
-          ((g.T.Timeline.timeline l.initial.timeline).end - g.T.Timeline.position l.initial.timeline);
+      ((g.T.Timeline.timeline l.initial.timeline).end - g.T.Timeline.position l.initial.timeline);
 }
 
 abbrev pub decreases-steps : goal.decreases-steps

@@ -1,9 +1,8 @@
-use Rattle.std.proofs.Common.{◌≡◌, sym, subst, ℕ, List, Result, Ok, Err}
+use Rattle.std.proofs.Common.{sym, subst, ℕ, Result, Ok, Err}
 use Rattle.std.specs.Prelude.{OnOk}
 use Rattle.debug_commands.specs.Answers.{response_to}
 use Rattle.debug_commands.specs.Answering.{IsAnswer}
 use Rattle.debug_commands.specs.Timeline.{TimelineData}
-use Rattle.debug_commands.specs.declared.breakpoint.Breakpoint.{Breakpoint}
 use Rattle.debug_commands.specs.declared.command.Command.{Command}
 use Rattle.debug_commands.specs.declared.command.Command.TheVariants as command
 use Rattle.debug_commands.proofs.answers.respond.Goals as goal

@@ -1,5 +1,4 @@
-use Rattle.std.proofs.Common.{◌≡◌, ◌∙◌, ◌+◌, ◌-◌, ◌++◌, ◌∷◌, [], ℕ, List, length, get_or, ap, sym, arith, length-append}
-use Rattle.debug_commands.specs.Reading.{IsTooLarge}
+use Rattle.std.proofs.Common.{◌≡◌, ◌∙◌, ◌+◌, ℕ, List, length, get_or, ap, arith, length-append}
 use Rattle.debug_commands.proofs.OneByte.{feeds_more, line_more, one_more}
 use Rattle.debug_commands.proofs.lines.read_line.Goals as goal
 

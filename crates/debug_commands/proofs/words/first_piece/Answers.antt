@@ -1,4 +1,4 @@
-use Rattle.std.proofs.Common.{◌≡◌, ◌∙◌, ◌∷◌, ◌+◌, ap, sym, subst, arith, length, ◌<◌, ℕ, take, drop}
+use Rattle.std.proofs.Common.{◌∙◌, ◌+◌, sym, arith, length, ◌<◌}
 use Rattle.debug_commands.proofs.Cuts.{behind, first_part, last_part, place}
 use Rattle.debug_commands.proofs.words.first_piece.Goals as goal
 
