@@ -1,6 +1,6 @@
 -- What two policies show together.
-use Rattle.std.proofs.Common.{◌≡◌, ◌≢◌, ◌∙◌, ◌<◌, ◌≤◌, ◌+◌, ◌-◌, ℕ, zero, suc, Bool, true, false, Option, Some, None, Result, Ok, Err, List, [], ◌∷◌, length, get_or, refl, ap, sym, subst, arith}
-use Rattle.std.specs.Prelude.{nat_lt, slice_index, OnOk, IfSome, IfErr}
+use Rattle.std.proofs.Common.{◌≡◌, ◌≢◌, ◌∙◌, ◌<◌, ◌+◌, ℕ, zero, suc, Bool, true, false, Option, Some, None, Result, Ok, Err, List, [], ◌∷◌, length, get_or, refl, ap, sym, subst, arith}
+use Rattle.std.specs.Prelude.{is_err, OnOk, IfSome, IfErr}
 use Rattle.step_record.specs.declared.config.ConfigFault.{ConfigFault}
 use Rattle.step_record.specs.declared.job.Job.{Job}
 use Rattle.step_record.specs.declared.outcome.Outcome.{Outcome}
@@ -12,9 +12,9 @@ use Rattle.debug_commands.specs.declared.fault.DebugFault.{DebugFault}
 use Rattle.debug_commands.specs.declared.fault.DebugFault.TheVariants as debug
 use Rattle.policy_actors.specs.Faults.{config_or}
 use Rattle.debug_shell.specs.Debugging.{ReturnsConfig, UntouchedAtConfig}
-use Rattle.debug_shell.specs.OnePolicy.{age_at, outcome_at, OnePolicyState}
-use Rattle.debug_shell.specs.Part.{is_hit_at, AgreeBelow, IsPart}
-use Rattle.debug_shell.specs.TwoPolicies.{facts_at, facts_of, first_part, halves_at, just_one}
+use Rattle.debug_shell.specs.OnePolicy.{OnePolicyState}
+use Rattle.debug_shell.specs.Part.{IsPart}
+use Rattle.debug_shell.specs.TwoPolicies.{first_part, just_one}
 
 -- ---- the facts of an access
 
@@ -23,23 +23,6 @@ pub at_place : {A : Type 0} (f : Job → List ℕ → ℕ → A) (w : OnePolicyS
     → f w.job w.trace w.at ≡ f j trace n
 at_place f w j trace n job same at =
     ap (λ x. f x w.trace w.at) job ∙ ap (λ x. f j x w.at) same ∙ ap (f j trace) at
-
-pub fell : (j : Job) (trace : List ℕ) (n : ℕ) (before after : ℕ) (b : Bool) → b ≡ nat_lt after before → before ≡ age_at j trace n → after ≡ age_at j trace (n + 1)
-    → b ≡ halves_at j trace (n + 1)
-fell j trace n before after b is e h =
-    let one : n ≡ n + 1 - 1 = omega arith in
-    is ∙ ap (nat_lt after) (e ∙ ap (age_at j trace) one) ∙ ap (λ x. nat_lt x (age_at j trace (n + 1 - 1))) h
-
-pub facts_are : (trace keys : List ℕ) (first second : Job) (n place : ℕ) (a b : Outcome) (f g : Bool) → keys ≡ trace → place ≡ n
-    → a ≡ outcome_at first trace (n + 1) → b ≡ outcome_at second trace (n + 1) → f ≡ halves_at first trace (n + 1) → g ≡ halves_at second trace (n + 1)
-    → facts_of (slice_index keys place) a b f g ≡ facts_at trace first second (n + 1)
-facts_are trace keys first second n place a b f g same at ea eb ef eg =
-    let one : place ≡ n + 1 - 1 = omega (arith, at) in
-    ap (λ x. facts_of x a b f g) (ap (λ l. slice_index l place) same ∙ ap (slice_index trace) one)
-    ∙ ap (λ x. facts_of (slice_index trace (n + 1 - 1)) x b f g) ea
-    ∙ ap (λ x. facts_of (slice_index trace (n + 1 - 1)) (outcome_at first trace (n + 1)) x f g) eb
-    ∙ ap (λ x. facts_of (slice_index trace (n + 1 - 1)) (outcome_at first trace (n + 1)) (outcome_at second trace (n + 1)) x g) ef
-    ∙ ap (λ x. facts_of (slice_index trace (n + 1 - 1)) (outcome_at first trace (n + 1)) (outcome_at second trace (n + 1)) (halves_at first trace (n + 1)) x) eg
 
 -- ---- where they part
 
@@ -102,6 +85,11 @@ pub done_held : (r : Result (Unit {0}) DebugFault) (known : Option (List ℕ)) (
     → OnOk r (IfSome known (λ bytes. (x : ℕ) × IsHeld (dialogue_of u 0 bytes) fits had has x))
 done_held (Ok x) known t u n fits had has at same start h = some_held known t u n fits had has at same start h
 done_held (Err e) known t u n fits had has at same start h = tt
+
+-- a configuration that is not refused
+pub no_fault : (r : Result (Unit {0}) ConfigFault) → is_err r ≡ false → r ≡ Ok tt
+no_fault (Ok u) h = refl
+no_fault (Err e) h = absurd (cc h)
 
 pub accepted : (a b : Result (Unit {0}) ConfigFault) (r : Result (Unit {0}) DebugFault) → a ≡ Ok tt → b ≡ Ok tt
     → ((i : ℕ) → r ≡ Err (debug.Config i) → ⊥) → ReturnsConfig (config_or a 0 (config_or b 1 None)) r

@@ -1,8 +1,8 @@
 -- A session over a policy, whose applied steps are the first accesses of a trace.
-use Rattle.std.proofs.Common.{◌≡◌, ◌∙◌, ◌≤◌, ◌<◌, ◌+◌, ◌-◌, ℕ, zero, suc, Option, Some, None, List, [], ◌∷◌, ◌++◌, Result, Ok, Err, length, map, take, drop, get_or, refl, ap, sym, subst, arith, length-append, append-nil, append_assoc}
+use Rattle.std.proofs.Common.{◌≡◌, ◌∙◌, ◌≤◌, ◌<◌, ◌+◌, ℕ, zero, suc, Some, List, [], ◌∷◌, ◌++◌, Result, Ok, Err, length, take, drop, get_or, refl, ap, sym, subst, arith, length-append, append-nil, append_assoc}
 use Rattle.std.specs.Prelude.{slice_index, IfOk, OnErr}
 use Rattle.std.specs.declared.alloc.AllocError.{AllocError}
-use Rattle.std.proofs.lemmas.List.{take_more, take_all, length-take-le}
+use Rattle.std.proofs.lemmas.List.{take_more, length-take-le}
 use Rattle.step_record.specs.declared.entry.Entry.{Entry}
 use Rattle.step_record.specs.declared.job.Job.{Job}
 use Rattle.step_record.specs.declared.outcome.Outcome.{Outcome}
@@ -51,8 +51,8 @@ one_more law j trace keys old new key o is same lt key_is made kept opening limi
     let below : n < length trace = subst (λ (l : List ℕ). n < length l) same lt in
     let at : key ≡ get_or trace n 0 = key_is ∙ ap (λ l. slice_index l n) same in
     let next : steps_of new.kept ≡ take (n + 1) trace =
-        ap steps_of kept ∙ steps_append old.kept (record { step = key; reply = o } ∷ []) ∙ ap (λ l. l ++ key ∷ []) is.steps
-        ∙ ap (λ k. take n trace ++ k ∷ []) at ∙ sym (take_more trace n 0 below) in
+    ap steps_of kept ∙ steps_append old.kept (record { step = key; reply = o } ∷ []) ∙ ap (λ l. l ++ key ∷ []) is.steps
+    ∙ ap (λ k. take n trace ++ k ∷ []) at ∙ sym (take_more trace n 0 below) in
     let step : any_act old.engine (slice_index keys n) ≡ Some (o, new.engine) = subst (λ k. any_act old.engine k ≡ Some (o, new.engine)) key_is made in
     record {
       opening = subst (Stands j trace []) (sym opening) is.opening;
@@ -114,9 +114,9 @@ moved law j trace n old new is to le legal shows =
     let kept : new.kept ≡ take n old.kept = to.kept ∙ take_front n old.kept old.tail le in
     let opening : Stands j trace [] new.opening = subst (Stands j trace []) (sym to.opening) is.opening in
     let steps : steps_of new.kept ≡ take n trace =
-        ap steps_of kept ∙ steps_take n old.kept ∙ ap (take n) is.steps ∙ take_take n (length old.kept) trace le in
+    ap steps_of kept ∙ steps_take n old.kept ∙ ap (take n) is.steps ∙ take_take n (length old.kept) trace le in
     let after_them : Stands j trace (steps_of new.kept) (after any_act new.opening new.kept) =
-        stands_after law j trace [] new.opening new.kept opening legal in
+    stands_after law j trace [] new.opening new.kept opening legal in
     record {
       opening = opening;
       limit = to.limit ∙ is.limit;

@@ -1,25 +1,22 @@
 -- What a cache shows is what the definition of its policy gives.
-use Rattle.std.proofs.Common.{◌≡◌, ◌≢◌, ◌∙◌, ◌≤◌, ◌+◌, ℕ, zero, suc, Bool, true, false, Option, Some, None, List, [], ◌∷◌, ◌++◌, inl, inr, length, take, refl, ap, sym, arith}
+use Rattle.std.proofs.Common.{◌≡◌, ◌≢◌, ◌∙◌, ◌≤◌, ℕ, zero, suc, false, List, [], ◌∷◌, ◌++◌, inl, inr, length, take, refl, ap, sym, arith}
 use Rattle.std.proofs.lemmas.Bool.{cases_lt, cond-false, cond-true}
 use Rattle.std.proofs.lemmas.List.{take_all, length-take-le}
 use Rattle.step_record.specs.declared.job.Job.{Job}
 use Rattle.step_record.specs.declared.job.Policy.{Policy}
 use Rattle.step_record.specs.declared.job.Policy.TheVariants.{Lru, SegmentedLru, TinyLfuLru, TinyLfuSegmented, WindowTinyLfu, Clairvoyant}
-use Rattle.step_record.specs.declared.outcome.Outcome.{Outcome}
-use Rattle.step_record.specs.declared.stats.Stats.{Stats}
 use Rattle.step_record.specs.Stats.{stats_of}
-use Rattle.admission.specs.Frequency.{FrequencyData}
 use Rattle.clairvoyant.specs.Belady.{outcomes, outcome, residents}
 use Rattle.clairvoyant.specs.Clairvoyant.{ClairvoyantState}
 use Rattle.policies.specs.declared.any_policy.AnyPolicy.{AnyPolicy}
 use Rattle.policies.specs.declared.any_policy.AnyPolicy.TheVariants.{Queues, Optimal}
-use Rattle.policies.specs.AnyPolicy.{frequency_in, keys_in, knows_trace, outcomes_on, stats_in, Stands}
-use Rattle.policies.specs.QueueCache.{QueueState, accessed, frequency_after, frequency_by, is_counting, opened, outcomes_after, outcomes_from, residents_in, response_to, state_after}
+use Rattle.policies.specs.AnyPolicy.{frequency_in, keys_in, knows_trace, stats_in, Stands}
+use Rattle.policies.specs.QueueCache.{QueueState, accessed, frequency_after, frequency_by, is_counting, opened, outcomes_after, outcomes_from, residents_in, response_to}
 use Rattle.policies.proofs.Answered.{outcomes-length}
 use Rattle.policies.proofs.Counting.{after-counts}
 use Rattle.policies.proofs.Reached.{after-frequency}
 use Rattle.replacement.specs.Shape.{shape_of}
-use Rattle.debug_shell.specs.OnePolicy.{age_at, age_in, residents_at, stats_at}
+use Rattle.debug_shell.specs.OnePolicy.{age_in, residents_at, stats_at}
 use Rattle.debug_shell.proofs.Sessions.{take_front}
 
 knows_not : (p : Policy) → p ≢ Clairvoyant → knows_trace p ≡ false

@@ -28,11 +28,11 @@ pub fn run_debug<R: Read, W: Write>(
     // With its end it has written what the definition gives for the bytes of the commands.
     ensures done { OnOk result (IfSome (R.remaining commands.old) (λ bytes. (position : ℕ) ×
         IsHeld (dialogue_of (policies_timeline trace.now first.now second.now) 0 bytes) true
-            (W.contents out.old) (W.contents out.new) position)) }
+        (W.contents out.old) (W.contents out.new) position)) }
     // So it has where a line was too large, for the lines before that.
     ensures large { result ≡ Err DebugFault.TooLarge → IfSome (R.remaining commands.old) (λ bytes. (position : ℕ) ×
         IsHeld (dialogue_of (policies_timeline trace.now first.now second.now) 0 bytes) false
-            (W.contents out.old) (W.contents out.new) position) }
+        (W.contents out.old) (W.contents out.new) position) }
     // A refused configuration is reported, and no other; nothing is read or written then.
     ensures config { ReturnsConfig (faulty_in (first.now ∷ second.now ∷ [])) result }
     ensures untouched { IfErr result (UntouchedAtConfig (commands.new ≡ commands.old) (out.new ≡ out.old)) }

@@ -1,4 +1,4 @@
-use Rattle.std.proofs.Common.{◌≡◌, ◌∙◌, ap, List, ℕ, take, length}
+use Rattle.std.proofs.Common.{◌∙◌, ap, List, ℕ, take, length}
 use Rattle.step_record.specs.declared.job.Job.{Job}
 use Rattle.policies.specs.AnyPolicy.{frequency_in}
 use Rattle.debug_shell.specs.OnePolicy.{age_at, age_in, OnePolicyState}

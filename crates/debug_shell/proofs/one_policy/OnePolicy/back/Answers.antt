@@ -1,4 +1,4 @@
-use Rattle.std.proofs.Common.{◌≡◌, ◌-◌, List, ℕ, length, arith, subst}
+use Rattle.std.proofs.Common.{◌-◌, List, ℕ, length, arith, subst}
 use Rattle.journal.specs.Faults.{StandsBack}
 use Rattle.policies.specs.declared.any_policy.AnyPolicy.{AnyPolicy}
 use Rattle.debug_shell.proofs.Sessions.{moved}

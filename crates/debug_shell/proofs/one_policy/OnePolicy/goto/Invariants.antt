@@ -1,4 +1,4 @@
-use Rattle.std.proofs.Common.{◌≡◌, ◌-◌, ◌≤◌, length}
+use Rattle.std.proofs.Common.{◌≡◌, ◌-◌, ◌≤◌}
 use Rattle.debug_shell.proofs.one_policy.OnePolicy.goto.Given as goal
 
 abbrev pub invariant-accesses : goal.invariant-accesses

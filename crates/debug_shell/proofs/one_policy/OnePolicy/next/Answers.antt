@@ -1,6 +1,5 @@
-use Rattle.std.proofs.Common.{◌≡◌, ◌∙◌, ◌<◌, ◌+◌, ap, sym, subst, List, ℕ, length}
+use Rattle.std.proofs.Common.{◌≡◌, ◌<◌, ◌+◌, ap, sym, subst, List, ℕ, length}
 use Rattle.std.specs.Prelude.{slice_index, IfOk}
-use Rattle.step_record.specs.declared.job.Job.{Job}
 use Rattle.debug_shell.specs.OnePolicy.{outcome_at, OnePolicyState}
 use Rattle.debug_shell.proofs.Sessions.{after_step, answered}
 use Rattle.debug_shell.proofs.one_policy.OnePolicy.next.Goals as goal

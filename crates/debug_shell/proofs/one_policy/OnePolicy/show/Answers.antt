@@ -1,7 +1,6 @@
-use Rattle.std.proofs.Common.{◌≡◌, ◌∙◌, ◌++◌, ap, sym, subst, List, ℕ, length}
+use Rattle.std.proofs.Common.{◌≡◌, ◌∙◌, ◌++◌, ap, subst, List, ℕ, length}
 use Rattle.std.specs.Prelude.{OnOk}
 use Rattle.step_record.specs.declared.job.Job.{Job}
-use Rattle.step_record.specs.declared.stats.Stats.{Stats}
 use Rattle.policies.specs.AnyPolicy.{keys_in, stats_in}
 use Rattle.debug_shell.specs.OnePolicy.{counts_line, holds_line, policy_lines, residents_at, stats_at, OnePolicyState}
 use Rattle.debug_shell.proofs.Shown.{shown_keys, shown_stats}
@@ -20,13 +19,13 @@ returns c =
     let last : List ℕ = c.push_holds.new.text.items in
     let keys : List ℕ = c.as_slice.result.now in
     let stats : c.stats.result ≡ stats_at j trace n =
-        c.stats.ensures ∙ ap stats_in c.engine-cache.ensures.engine ∙ shown_stats j trace n s.engine c.self.invariant.within c.self.invariant.stands in
+    c.stats.ensures ∙ ap stats_in c.engine-cache.ensures.engine ∙ shown_stats j trace n s.engine c.self.invariant.within c.self.invariant.stands in
     let held : keys ≡ residents_at j trace n =
-        c.as_slice.ensures.value ∙ c.in_ok-keys.ensures ∙ ap keys_in c.engine-cache.ensures.engine
-        ∙ shown_keys j trace n s.engine c.self.invariant.within c.self.invariant.stands in
+    c.as_slice.ensures.value ∙ c.in_ok-keys.ensures ∙ ap keys_in c.engine-cache.ensures.engine
+    ∙ shown_keys j trace n s.engine c.self.invariant.within c.self.invariant.stands in
     let first : t1 ≡ text ++ counts_line label j (stats_at j trace n) = c.in_ok-push_counts.ensures ∙ ap (λ x. text ++ counts_line label j x) stats in
     let all : OnOk c.push_holds.result (last ≡ text ++ policy_lines label j trace n) =
-        at_last c.push_holds.result (last ≡ t1 ++ holds_line label keys) (last ≡ text ++ policy_lines label j trace n)
-        (λ k. piece text t1 last (counts_line label j (stats_at j trace n)) (holds_line label (residents_at j trace n)) first
-        (k ∙ ap (λ x. t1 ++ holds_line label x) held)) c.push_holds.ensures in
+    at_last c.push_holds.result (last ≡ t1 ++ holds_line label keys) (last ≡ text ++ policy_lines label j trace n)
+    (λ k. piece text t1 last (counts_line label j (stats_at j trace n)) (holds_line label (residents_at j trace n)) first
+    (k ∙ ap (λ x. t1 ++ holds_line label x) held)) c.push_holds.ensures in
     subst (λ (w : OnePolicyState). OnOk c.push_holds.result (last ≡ text ++ policy_lines label w.job w.trace w.at)) c.self.view_is all
