@@ -1,14 +1,14 @@
 -- From clap's clauses to those of a parse.
 use Rattle.std.proofs.Common.{◌≡◌, subst, List, [], Result, Ok, Err, Some}
-use Rattle.std.specs.Prelude.{IsErrAnd}
+use Rattle.std.specs.Prelude.{IsErrAnd, MatchResult}
 use Rattle.clap.specs.Words.{App, HasKind, Text, fault_of, subcommand_of, subcommand_rows_of}
 use Rattle.clap.specs.declared.Error.{Error}
 use Rattle.clap.specs.declared.ArgMatches.{ArgMatches}
-use Rattle.command_line.specs.Parsed.{IsAsked, IsFaultOf, IsIncomplete, ParsedBy}
+use Rattle.command_line.specs.Parsed.{HasOddStripes, IsAsked, IsFaultOf, IsIncomplete, IsLacking, ParsedBy}
 use Rattle.command_line.specs.Program.{AreLists, Lists, called, program_app}
 use Rattle.command_line.specs.declared.arguments.Arguments.{Arguments}
 use Rattle.command_line.specs.declared.fault.ParseFault.{ParseFault}
-use Rattle.command_line.specs.declared.fault.ParseFault.TheVariants.{OutOfMemory, Refused, Incomplete}
+use Rattle.command_line.specs.declared.fault.ParseFault.TheVariants.{OutOfMemory, Refused, Incomplete, Stripes}
 
 module _ (lists : Lists) (are : AreLists lists) (words : List Text) where
   pub out_of_memory : (r : Result Arguments ParseFault) → IsErrAnd r (λ f. f ≡ OutOfMemory) → ParsedBy words r
@@ -31,16 +31,21 @@ module _ (lists : Lists) (are : AreLists lists) (words : List Text) where
       rows_are : subcommand_rows_of m ≡ subcommand_of (program_app lists) (called words)
       rows_are = subst (λ (p : App). subcommand_rows_of m ≡ subcommand_of p (called words)) is (subst (λ (t : List Text). subcommand_rows_of m ≡ subcommand_of a t) texts rows)
 
-      pub asked : (x : Arguments) → IsAsked (subcommand_rows_of m) x → ParsedBy words (Ok x)
-      asked x h = record {
+      pub ended : (r : Result Arguments ParseFault) → MatchResult r (IsAsked (subcommand_rows_of m)) (IsLacking (subcommand_rows_of m)) → ParsedBy words r
+      ended (Ok x) h = record {
         lists = lists;
         are = are;
         gives = (free taken, subst (λ sub. IsAsked sub x) rows_are h);
       }
-
-      pub incomplete : IsIncomplete (subcommand_rows_of m) → ParsedBy words (Err Incomplete)
-      incomplete h = record {
+      ended (Err OutOfMemory) h = record { lists = lists; are = are; gives = tt }
+      ended (Err (Refused e)) h = absurd h
+      ended (Err Incomplete) h = record {
         lists = lists;
         are = are;
         gives = (free taken, subst IsIncomplete rows_are h);
+      }
+      ended (Err Stripes) h = record {
+        lists = lists;
+        are = are;
+        gives = (free taken, subst HasOddStripes rows_are h);
       }

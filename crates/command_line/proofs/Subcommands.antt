@@ -1,5 +1,5 @@
 -- Which subcommand was called, and what it then lacks.
-use Rattle.std.proofs.Common.{◌≡◌, ◌∙◌, ap, ap₂, subst, sym, refl, List, ℕ, Option, Some, None, codes}
+use Rattle.std.proofs.Common.{◌≡◌, ◌∙◌, ap, ap₂, subst, sym, refl, arith, List, [], ◌∷◌, ℕ, Option, Some, None, codes}
 use Rattle.std.specs.Prelude.{Box, option_map, IsSome, IfSome, MatchOption, ◌↔◌}
 use Rattle.std.specs.Box.{box_value}
 use Rattle.std.specs.Option.{option_map_or}
@@ -9,7 +9,10 @@ use Rattle.clap.specs.Simple.{subcommand_rows}
 use Rattle.clap.specs.declared.parser.matches.ArgMatches.{ArgMatches}
 use Rattle.clap.specs.declared.parser.matches.ArgMatches.TheViews.{out-SubCommand}
 use Rattle.clap.specs.declared.parser.matches.SubCommand.{SubCommand}
-use Rattle.command_line.specs.Parsed.{IsIncomplete, IsNotCalled, LacksPart, LacksRun, LacksSweep}
+use Rattle.command_line.specs.Parsed.{HasOddStripes, IsIncomplete, IsLacking, IsNotCalled, LacksDrive, LacksDriven, LacksPart, LacksRun, LacksSweep}
+use Rattle.command_line.specs.Program.{stripes_in}
+use Rattle.command_line.specs.declared.fault.ParseFault.{ParseFault}
+use Rattle.command_line.specs.declared.fault.ParseFault.TheVariants.{Incomplete, OutOfMemory, Refused, Stripes}
 
 both : (s : Option (Text × List Row)) (name : Text) (rows : List Row) → option_map (λ p. p.0) s ≡ Some name → option_map (λ p. p.1) s ≡ Some rows → s ≡ Some (name, rows)
 both None name rows n r = absurd (cc n)
@@ -33,6 +36,10 @@ pub called : (s : Option (Text × List Row)) (n : Option Text) (name : Text) (r 
 called s n name (Some m) is found rows = both s name (rows_of (found_of m.now)) (sym is ∙ found.0 refl) rows
 called s n name None is found rows = not s name (λ e. absurd (cc (found.1 (is ∙ e))))
 
+abbrev head : Text → ℕ
+head [] = 0
+head (x ∷ xs) = x
+
 -- another subcommand was called
 other : (P : List Row → Type 0) (s : Option (Text × List Row)) (name : Text) (rows : List Row) → s ≡ Some (name, rows) → (another : Text) → ¬ (name ≡ another)
     → (rs : List Row) → s ≡ Some (another, rs) → P rs
@@ -42,32 +49,50 @@ this : (P : List Row → Type 0) (s : Option (Text × List Row)) (name : Text) (
     → (rs : List Row) → s ≡ Some (name, rs) → P rs
 this P s name rows e p rs f = subst P (ap (λ o. option_map_or (λ p. p.1) o rows) (sym e ∙ f)) p
 
+abbrev LacksDriving : List Row → Type 0
+LacksDriving rows = LacksDriven (stripes_in rows) rows
+
 module _ (s : Option (Text × List Row)) (rows : List Row) where
   pub lacks_run : s ≡ Some (codes "run", rows) → LacksRun rows → IsIncomplete s
   lacks_run e h = record {
     run = this LacksRun s (codes "run") rows e h;
-    sweep = other LacksSweep s (codes "run") rows e (codes "sweep") (λ n. cc n);
-    part = other LacksPart s (codes "run") rows e (codes "part") (λ n. cc n);
+    sweep = other LacksSweep s (codes "run") rows e (codes "sweep") (λ n. let h : 114 ≡ 115 = ap head n in absurd (omega arith));
+    part = other LacksPart s (codes "run") rows e (codes "part") (λ n. let h : 114 ≡ 112 = ap head n in absurd (omega arith));
+    drive = other LacksDriving s (codes "run") rows e (codes "drive") (λ n. let h : 114 ≡ 100 = ap head n in absurd (omega arith));
   }
 
   pub lacks_sweep : s ≡ Some (codes "sweep", rows) → LacksSweep rows → IsIncomplete s
   lacks_sweep e h = record {
-    run = other LacksRun s (codes "sweep") rows e (codes "run") (λ n. cc n);
+    run = other LacksRun s (codes "sweep") rows e (codes "run") (λ n. let h : 115 ≡ 114 = ap head n in absurd (omega arith));
     sweep = this LacksSweep s (codes "sweep") rows e h;
-    part = other LacksPart s (codes "sweep") rows e (codes "part") (λ n. cc n);
+    part = other LacksPart s (codes "sweep") rows e (codes "part") (λ n. let h : 115 ≡ 112 = ap head n in absurd (omega arith));
+    drive = other LacksDriving s (codes "sweep") rows e (codes "drive") (λ n. let h : 115 ≡ 100 = ap head n in absurd (omega arith));
   }
 
   pub lacks_part : s ≡ Some (codes "part", rows) → LacksPart rows → IsIncomplete s
   lacks_part e h = record {
-    run = other LacksRun s (codes "part") rows e (codes "run") (λ n. cc n);
-    sweep = other LacksSweep s (codes "part") rows e (codes "sweep") (λ n. cc n);
+    run = other LacksRun s (codes "part") rows e (codes "run") (λ n. let h : 112 ≡ 114 = ap head n in absurd (omega arith));
+    sweep = other LacksSweep s (codes "part") rows e (codes "sweep") (λ n. let h : 112 ≡ 115 = ap head n in absurd (omega arith));
     part = this LacksPart s (codes "part") rows e h;
+    drive = other LacksDriving s (codes "part") rows e (codes "drive") (λ n. let h : 112 ≡ 100 = ap head n in absurd (omega arith));
+  }
+
+  pub lacks_drive : (fault : ParseFault) → s ≡ Some (codes "drive", rows) → LacksDrive rows fault → IsLacking s fault
+  lacks_drive OutOfMemory e h = absurd h
+  lacks_drive (Refused error) e h = absurd h
+  lacks_drive Stripes e h = record { rows = rows; called = e; odd = h }
+  lacks_drive Incomplete e h = record {
+    run = other LacksRun s (codes "drive") rows e (codes "run") (λ n. let h : 100 ≡ 114 = ap head n in absurd (omega arith));
+    sweep = other LacksSweep s (codes "drive") rows e (codes "sweep") (λ n. let h : 100 ≡ 115 = ap head n in absurd (omega arith));
+    part = other LacksPart s (codes "drive") rows e (codes "part") (λ n. let h : 100 ≡ 112 = ap head n in absurd (omega arith));
+    drive = this LacksDriving s (codes "drive") rows e h;
   }
 
 -- none of the subcommands was called
-pub lacks_all : (s : Option (Text × List Row)) → IsNotCalled (codes "run") s → IsNotCalled (codes "sweep") s → IsNotCalled (codes "part") s → IsIncomplete s
-lacks_all s run sweep part = record {
+pub lacks_all : (s : Option (Text × List Row)) → IsNotCalled (codes "run") s → IsNotCalled (codes "sweep") s → IsNotCalled (codes "part") s → IsNotCalled (codes "drive") s → IsIncomplete s
+lacks_all s run sweep part drive = record {
   run = λ rows e. absurd (run rows e);
   sweep = λ rows e. absurd (sweep rows e);
   part = λ rows e. absurd (part rows e);
+  drive = λ rows e. absurd (drive rows e);
 }

@@ -1,13 +1,15 @@
 -- What a parse of the words after the program's name gives.
-use Rattle.std.specs.Prelude.{◌≡◌, ◌⊎◌, ⊤, List, [], Option, Some, None, Result, Ok, MatchResult, codes}
+use Rattle.std.specs.Prelude.{◌≡◌, ◌⊎◌, ⊤, ℕ, List, [], Option, Some, None, Result, Ok, MatchResult, codes}
 use Rattle.clap.specs.Words.{HasKind, Row, Text, fault_of, subcommand_of}
 use Rattle.step_record.specs.Config.{config_fault}
 use Rattle.command_line.specs.Program.{AreLists, Lists, called, program_app}
-use Rattle.command_line.specs.Program.{batch_in, capacities_in, config_at, config_in, format_in, policies_in, policy_in}
+use Rattle.command_line.specs.Program.{batch_in, capacities_in, concurrent_in, config_at, config_in, format_in}
+use Rattle.command_line.specs.Program.{policies_in, policy_in, stripes_in, workers_in}
 use Rattle.command_line.specs.declared.arguments.Arguments.{Arguments}
-use Rattle.command_line.specs.declared.arguments.Arguments.TheVariants.{Part, Run, Sweep}
+use Rattle.command_line.specs.declared.arguments.Arguments.TheVariants.{Drive, Part, Run, Sweep}
 use Rattle.command_line.specs.declared.arguments.RunArguments.{RunArguments}
 use Rattle.command_line.specs.declared.part.PartArguments.{PartArguments}
+use Rattle.command_line.specs.declared.drive.DriveArguments.{DriveArguments}
 use Rattle.command_line.specs.declared.sweep.SweepArguments.{SweepArguments}
 use Rattle.command_line.specs.declared.fault.ParseFault.{ParseFault}
 use Rattle.command_line.specs.declared.fault.ParseFault.TheVariants as fault
@@ -35,6 +37,14 @@ pub record IsPartCall (rows : List Row) (part : PartArguments) : Type 0 where
   pub second : policy_in (codes "second") rows ≡ Some part.second.policy
   pub format : part.format ≡ format_in rows
 
+-- the arguments of `drive` are those that its matches name, and are accepted
+pub record IsDrive (rows : List Row) (drive : DriveArguments) : Type 0 where
+  pub stripes : stripes_in rows ≡ Some drive.config.stripes
+  pub config : concurrent_in drive.config.stripes rows ≡ Some drive.config
+  pub workers : workers_in rows ≡ Some drive.workers
+  pub format : drive.format ≡ format_in rows
+  pub checked : config_fault drive.config ≡ Ok tt
+
 -- another subcommand than that of the name was called, or none
 abbrev pub IsNotCalled : Text → Option (Text × List Row) → Type 0
 IsNotCalled name subcommand = (rows : List Row) → subcommand ≡ Some (name, rows) → ⊥
@@ -46,6 +56,8 @@ IsAsked subcommand (Sweep sweep) =
     (rows : List Row) × (subcommand ≡ Some (codes "sweep", rows)) × IsSweep rows sweep
 IsAsked subcommand (Part part) =
     (rows : List Row) × (subcommand ≡ Some (codes "part", rows)) × IsPartCall rows part
+IsAsked subcommand (Drive drive) =
+    (rows : List Row) × (subcommand ≡ Some (codes "drive", rows)) × IsDrive rows drive
 
 -- the matches of `run` lack an accepted configuration, a batch in its range, or a known policy
 abbrev pub LacksRun : List Row → Type 0
@@ -61,11 +73,38 @@ abbrev pub LacksPart : List Row → Type 0
 LacksPart rows =
     (config_in rows ≡ None) ⊎ (policy_in (codes "first") rows ≡ None) ⊎ (policy_in (codes "second") rows ≡ None)
 
+-- with these read buffers the matches lack an accepted configuration or a number of workers in its range
+abbrev pub LacksDriven : Option ℕ → List Row → Type 0
+LacksDriven None rows = ⊥
+LacksDriven (Some stripes) rows = (concurrent_in stripes rows ≡ None) ⊎ (workers_in rows ≡ None)
+
+-- The matches of `drive` name a number of read buffers that no cache has; else they lack an accepted configuration or a
+-- number of workers in its range.
+abbrev pub LacksDrive : List Row → ParseFault → Type 0
+LacksDrive rows fault.OutOfMemory = ⊥
+LacksDrive rows (fault.Refused error) = ⊥
+LacksDrive rows fault.Stripes = stripes_in rows ≡ None
+LacksDrive rows fault.Incomplete = LacksDriven (stripes_in rows) rows
+
 -- the matches of the subcommand lack one of its arguments
 pub record IsIncomplete (subcommand : Option (Text × List Row)) : Type 0 where
   pub run : (rows : List Row) → subcommand ≡ Some (codes "run", rows) → LacksRun rows
   pub sweep : (rows : List Row) → subcommand ≡ Some (codes "sweep", rows) → LacksSweep rows
   pub part : (rows : List Row) → subcommand ≡ Some (codes "part", rows) → LacksPart rows
+  pub drive : (rows : List Row) → subcommand ≡ Some (codes "drive", rows) → LacksDriven (stripes_in rows) rows
+
+-- the subcommand has a number of read buffers that no cache has
+pub record HasOddStripes (subcommand : Option (Text × List Row)) : Type 0 where
+  pub rows : List Row
+  pub called : subcommand ≡ Some (codes "drive", rows)
+  pub odd : stripes_in rows ≡ None
+
+-- why the matches of the subcommand give no arguments
+abbrev pub IsLacking : Option (Text × List Row) → ParseFault → Type 0
+IsLacking subcommand fault.OutOfMemory = ⊤
+IsLacking subcommand (fault.Refused error) = ⊥
+IsLacking subcommand fault.Stripes = HasOddStripes subcommand
+IsLacking subcommand fault.Incomplete = IsIncomplete subcommand
 
 abbrev pub IsFaultOf : Lists → List Text → ParseFault → Type 0
 IsFaultOf lists words fault.OutOfMemory = ⊤
@@ -73,6 +112,8 @@ IsFaultOf lists words (fault.Refused error) =
     HasKind (fault_of (program_app lists) (called words)) error
 IsFaultOf lists words fault.Incomplete = (fault_of (program_app lists) (called words) ≡ [])
     × IsIncomplete (subcommand_of (program_app lists) (called words))
+IsFaultOf lists words fault.Stripes = (fault_of (program_app lists) (called words) ≡ [])
+    × HasOddStripes (subcommand_of (program_app lists) (called words))
 
 -- the arguments are what clap's rules make of the words, and a fault comes only where it is due
 pub record ParsedBy (words : List Text) (r : Result Arguments ParseFault) : Type 0 where

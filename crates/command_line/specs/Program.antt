@@ -1,6 +1,7 @@
 -- The program's commands, as clap reads them, and what their matches name.
 use Rattle.std.specs.Prelude.{◌≡◌, ℕ, pos, true, List, [], ◌∷◌, Option, Some, None, codes}
-use Rattle.std.specs.Prelude.{Result, Ok, Err, option_and_then, if◌then◌else◌}
+use Rattle.std.specs.Prelude.{Result, Ok, Err, option_and_then, if◌then◌else◌, ◌&&◌, nat_le}
+use Rattle.std.specs.Int.{is_power_of_two}
 use Rattle.std.specs.Borrow.{Bor}
 use Rattle.std.specs.Str.Parse.{digits_value, without_leading_plus}
 use Rattle.clap.specs.Lexer.{usize_max}
@@ -10,7 +11,9 @@ use Rattle.clap.specs.Words.{with_rule, with_subcommand}
 use Rattle.clap.specs.declared.builder.ArgAction.TheVariants.{Append}
 use Rattle.clap.specs.declared.builder.ValueParser.TheVariants as parser
 use Rattle.step_record.specs.Config.{config_fault, is_from_one}
-use Rattle.step_record.specs.declared.limits.TheConstants.{MAX_CAPACITY, MAX_MAIN_PERCENT}
+use Rattle.step_record.specs.declared.limits.TheConstants.{MAX_CAPACITY, MAX_JOURNAL_LIMIT, MAX_MAIN_PERCENT}
+use Rattle.step_record.specs.declared.limits.TheConstants.{MAX_STRIPES}
+use Rattle.step_record.specs.declared.worker.TheConstants.{MAX_WORKERS}
 use Rattle.step_record.specs.declared.config.Config.{Config}
 use Rattle.step_record.specs.declared.config.ConfigFault.{ConfigFault}
 use Rattle.step_record.specs.declared.config.Spread.{Spread}
@@ -34,6 +37,10 @@ pub record AreLists (lists : Lists) : Type 0 where
   pub policies : AreWords policy_words lists.policies.now
   pub formats : AreWords format_words lists.formats.now
   pub spreads : AreWords spread_words lists.spreads.now
+
+-- the largest number of 64 bits
+abbrev pub max_number : ℕ
+max_number = 18446744073709551615
 
 -- `--capacity N`
 abbrev pub capacity_rule : Rule
@@ -70,6 +77,33 @@ main_rule = record (new_rule (codes "main")) {
   value_names = 1;
   defaults = codes "99" ∷ [];
   parser = Some (parser.Signed (pos 0) (pos MAX_MAIN_PERCENT));
+}
+
+-- `--workers N`
+abbrev pub workers_rule : Rule
+workers_rule = record (new_rule (codes "workers")) {
+  long = Some (codes "workers");
+  value_names = 1;
+  defaults = codes "2" ∷ [];
+  parser = Some (parser.Signed (pos 1) (pos MAX_WORKERS));
+}
+
+-- `--stripes N`: any number of 64 bits, of which the program takes those of a cache
+abbrev pub stripes_rule : Rule
+stripes_rule = record (new_rule (codes "stripes")) {
+  long = Some (codes "stripes");
+  value_names = 1;
+  defaults = codes "4" ∷ [];
+  parser = Some (parser.Unsigned 0 max_number);
+}
+
+-- `--limit N`
+abbrev pub limit_rule : Rule
+limit_rule = record (new_rule (codes "limit")) {
+  long = Some (codes "limit");
+  value_names = 1;
+  defaults = codes "1048576" ∷ [];
+  parser = Some (parser.Signed (pos 1) (pos MAX_JOURNAL_LIMIT));
 }
 
 -- `--spread mixed|plain`
@@ -117,6 +151,10 @@ divided_app spreads app = with_rule (with_rule app main_rule) (spread_rule sprea
 abbrev pub configured_app : Bor (List (Bor Text)) → App → App
 configured_app spreads app = divided_app spreads (with_rule app capacity_rule)
 
+-- the options of a concurrent cache and its journal
+abbrev pub concurrent_app : App → App
+concurrent_app app = with_rule (with_rule app stripes_rule) limit_rule
+
 abbrev pub run_app : Lists → App
 run_app lists = with_rule
     (with_rule
@@ -138,6 +176,12 @@ part_app lists = with_rule
     (one_policy_rule (codes "first") lists.policies))
     (one_policy_rule (codes "second") lists.policies)
 
+abbrev pub drive_app : Bor (List (Bor Text)) → Bor (List (Bor Text)) → App
+drive_app formats spreads = concurrent_app
+    (with_rule
+    (with_rule (configured_app spreads (new_app (codes "drive"))) (format_rule formats))
+    workers_rule)
+
 -- `cachesim`, which has a version and wants a subcommand
 abbrev pub empty_app : App
 empty_app = record (new_app (codes "cachesim")) {
@@ -149,8 +193,10 @@ empty_app = record (new_app (codes "cachesim")) {
 
 abbrev pub program_app : Lists → App
 program_app lists = with_subcommand
+    (with_subcommand
     (with_subcommand (with_subcommand empty_app (run_app lists).top) (sweep_app lists).top)
-    (part_app lists).top
+    (part_app lists).top)
+    (drive_app lists.formats lists.spreads).top
 
 -- the words of a call: the program's name, and those after it
 abbrev pub called : List Text → List Text
@@ -201,9 +247,31 @@ config_at capacity rows = configured capacity (number_in 255 (codes "main") rows
 abbrev pub config_in : List Row → Option Config
 config_in rows = config_at (number_in 4294967295 (codes "capacity") rows) rows
 
+-- the number of read buffers, where it is one of a cache
+abbrev pub stripes_from : ℕ → Option ℕ
+stripes_from n = if is_power_of_two n && nat_le n MAX_STRIPES then Some n else None
+
+-- how many read buffers the cache has
+abbrev pub stripes_in : List Row → Option ℕ
+stripes_in rows = option_and_then stripes_from (number_in max_number (codes "stripes") rows)
+
+-- the configuration with so many read buffers and steps of a journal
+abbrev pub concurrent : Config → ℕ → Option ℕ → Option Config
+concurrent config stripes None = None
+concurrent config stripes (Some limit) = checked (record config { stripes = stripes; journal_limit = limit })
+
+-- the configuration of a concurrent cache with so many read buffers
+abbrev pub concurrent_in : ℕ → List Row → Option Config
+concurrent_in stripes rows = option_and_then
+    (λ config. concurrent config stripes (number_in 4294967295 (codes "limit") rows)) (config_in rows)
+
 -- the number, where it is from 1 to `most`
 abbrev pub up_to : ℕ → ℕ → Option ℕ
 up_to most n = if is_from_one most n then Some n else None
+
+-- how many workers there are
+abbrev pub workers_in : List Row → Option ℕ
+workers_in rows = option_and_then (up_to MAX_WORKERS) (number_in 255 (codes "workers") rows)
 
 -- how many accesses a batch has
 abbrev pub batch_in : List Row → Option ℕ

@@ -9,6 +9,7 @@ ghost use Rattle.command_line.specs.Program.{policies_in, policy_in, spread_in, 
 
 use crate::choices::{format_named, policy_named, spread_named};
 use crate::commands::MAX_BATCH;
+use crate::drive::DriveArguments;
 use crate::part::PartArguments;
 use crate::sweep::SweepArguments;
 use clap::ArgMatches;
@@ -25,6 +26,8 @@ pub enum Arguments {
     Sweep(SweepArguments),
     /// `part`
     Part(PartArguments),
+    /// `drive`
+    Drive(DriveArguments),
 }
 
 /// The arguments of `run`.
@@ -59,14 +62,14 @@ fn config(capacity: u32, main_percent: u8, spread: Spread) -> Option<Config>
 }
 
 // The number of 32 bits that an option names.
-fn number(matches: &ArgMatches<'_>, id: &str) -> Option<u32>
+pub(crate) fn number(matches: &ArgMatches<'_>, id: &str) -> Option<u32>
     ensures { result ≡ number_in 4294967295 id.now (rows_of (found_of matches.now)) }
 {
     matches.get_one::<u32>(id)
 }
 
 // The number of 8 bits that an option names.
-fn percentage(matches: &ArgMatches<'_>, id: &str) -> Option<u8>
+pub(crate) fn small_number(matches: &ArgMatches<'_>, id: &str) -> Option<u8>
     ensures { result ≡ number_in 255 id.now (rows_of (found_of matches.now)) }
 {
     matches.get_one::<u8>(id)
@@ -84,7 +87,7 @@ pub(crate) fn config_with(matches: &ArgMatches<'_>, capacity: u32) -> Option<Con
     ensures named { result ≡ config_at (Some capacity) (rows_of (found_of matches.now)) }
     ensures checked { IfSome result (λ config. config_fault config ≡ Ok tt) }
 {
-    let Some(main_percent) = percentage(matches, "main") else {
+    let Some(main_percent) = small_number(matches, "main") else {
         return None;
     };
     config(capacity, main_percent, spread(matches))

@@ -2,13 +2,14 @@
 ghost use Rattle.std.specs.Prelude.{◌≡◌, false, IfOk};
 ghost use Rattle.clap.specs.Words.{app_of, rule_of};
 ghost use Rattle.clap.specs.declared.builder.command.Command.TheViews.{out-Command};
-ghost use Rattle.command_line.specs.Program.{batch_rule, capacities_rule, capacity_rule, configured_app, divided_app, format_rule};
+ghost use Rattle.command_line.specs.Program.{batch_rule, capacities_rule, capacity_rule, concurrent_app, configured_app, divided_app};
+ghost use Rattle.command_line.specs.Program.{drive_app, format_rule, limit_rule, stripes_rule, workers_rule};
 ghost use Rattle.command_line.specs.Program.{main_rule, one_policy_rule, part_app, policy_rule, program_app, run_app, spread_rule, sweep_app};
 
 use crate::choices::MIXED;
 use clap::{Arg, ArgAction, Command};
 use std::alloc::{AllocError, Global};
-use step_record::{MAX_CAPACITY, MAX_MAIN_PERCENT};
+use step_record::{MAX_CAPACITY, MAX_JOURNAL_LIMIT, MAX_MAIN_PERCENT, MAX_WORKERS};
 use trace_read::Format;
 
 /// The most accesses of a batch.
@@ -70,6 +71,47 @@ fn main_arg<'a>(alloc: Global) -> Arg<'a>
             "How much of the capacity of wtinylfu is the main part, in percent; the rest is the window",
         )
         .default_value("99")
+        .value_parser(number)
+}
+
+/// `--workers N`
+fn workers_arg<'a>(alloc: Global) -> Arg<'a>
+    ensures rule { rule_of result ≡ workers_rule }
+    ensures local { result.global ≡ false }
+{
+    let number = clap::value_parser!(u8).range(1..=i64::from(MAX_WORKERS));
+    Arg::new(alloc, "workers")
+        .long("workers")
+        .value_name("N")
+        .help("How many threads read the keys of the trace, one access each in turn")
+        .default_value("2")
+        .value_parser(number)
+}
+
+/// `--stripes N`
+fn stripes_arg<'a>(alloc: Global) -> Arg<'a>
+    ensures rule { rule_of result ≡ stripes_rule }
+    ensures local { result.global ≡ false }
+{
+    Arg::new(alloc, "stripes")
+        .long("stripes")
+        .value_name("N")
+        .help("How many read buffers the cache has, a power of two up to 64")
+        .default_value("4")
+        .value_parser(clap::value_parser!(u64))
+}
+
+/// `--limit N`
+fn limit_arg<'a>(alloc: Global) -> Arg<'a>
+    ensures rule { rule_of result ≡ limit_rule }
+    ensures local { result.global ≡ false }
+{
+    let number = clap::value_parser!(u32).range(1..=i64::from(MAX_JOURNAL_LIMIT));
+    Arg::new(alloc, "limit")
+        .long("limit")
+        .value_name("N")
+        .help("How many steps the journal holds")
+        .default_value("1048576")
         .value_parser(number)
 }
 
@@ -162,6 +204,18 @@ fn configured<'a>(
     divided(alloc, sized, spreads)
 }
 
+/// A command with the options of a concurrent cache and its journal.
+fn concurrent<'a>(alloc: Global, command: Command<'a>) -> Result<Command<'a>, AllocError>
+    requires local { (out-Command command).has_globals ≡ false }
+    ensures shape { IfOk result (λ c. app_of c ≡ concurrent_app (app_of command.entry)) }
+    ensures local { IfOk result (λ c. (out-Command c).has_globals ≡ false) }
+{
+    let stripes = stripes_arg(alloc);
+    let limit = limit_arg(alloc);
+    let striped = command.arg(stripes)?;
+    striped.arg(limit)
+}
+
 /// `run`, which prints a report for each policy that is named.
 fn run_command<'a>(
     alloc: Global,
@@ -243,6 +297,27 @@ fn part_command<'a>(
     one.arg(second)
 }
 
+/// `drive`, which prints the journal of workers on threads.
+fn drive_command<'a>(
+    alloc: Global,
+    formats: &'a [&'a str],
+    spreads: &'a [&'a str],
+) -> Result<Command<'a>, AllocError>
+    ensures shape { IfOk result (λ c. app_of c ≡ drive_app formats.entry spreads.entry) }
+    ensures local { IfOk result (λ c. (out-Command c).has_globals ≡ false) }
+{
+    let format = format_arg(alloc, formats);
+    let workers = workers_arg(alloc);
+    let named = Command::new(alloc, "drive");
+    let drive = named.about(
+        "Runs the concurrent cache on threads over the trace on standard input and prints its journal",
+    );
+    let configured = configured(alloc, drive, spreads)?;
+    let formed = configured.arg(format)?;
+    let manned = formed.arg(workers)?;
+    concurrent(alloc, manned)
+}
+
 /// The program's commands, over the words that name policies, formats and spreads.
 pub(crate) fn program<'a>(
     alloc: Global,
@@ -259,11 +334,13 @@ pub(crate) fn program<'a>(
     let run = run_command(alloc, policies, formats, spreads)?;
     let sweep = sweep_command(alloc, policies, formats, spreads)?;
     let part = part_command(alloc, policies, formats, spreads)?;
+    let drive = drive_command(alloc, formats, spreads)?;
     let named = Command::new(alloc, "cachesim");
     let top = named.about("Simulates cache policies over recorded block traces");
     let versioned = top.version("0.1.0");
     let empty = versioned.subcommand_required(true);
     let running = empty.subcommand(run)?;
     let sweeping = running.subcommand(sweep)?;
-    sweeping.subcommand(part)
+    let parting = sweeping.subcommand(part)?;
+    parting.subcommand(drive)
 }

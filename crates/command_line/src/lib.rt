@@ -11,6 +11,7 @@
 mod arguments;
 mod choices;
 mod commands;
+mod drive;
 mod fault;
 mod parsing;
 mod part;
@@ -18,6 +19,7 @@ mod sweep;
 
 pub use arguments::{Arguments, RunArguments};
 pub use commands::MAX_BATCH;
+pub use drive::DriveArguments;
 pub use fault::ParseFault;
 pub use parsing::parse;
 pub use part::PartArguments;

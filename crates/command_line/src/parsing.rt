@@ -1,12 +1,13 @@
 //! The words of a call, to its arguments.
-ghost use Rattle.std.specs.Prelude.{◌≡◌, Some, IfOk, MatchOption, map};
+ghost use Rattle.std.specs.Prelude.{◌≡◌, Some, IfOk, MatchOption, MatchResult, map};
 ghost use Rattle.clap.specs.Words.{found_of, rows_of, subcommand_rows_of};
-ghost use Rattle.command_line.specs.Parsed.{IsAsked, IsIncomplete, IsNotCalled, ParsedBy};
+ghost use Rattle.command_line.specs.Parsed.{IsAsked, IsLacking, IsNotCalled, ParsedBy};
 ghost use Rattle.command_line.specs.Program.{called as called_by};
 
 use crate::arguments::{Arguments, run_arguments};
 use crate::choices::{format_words, policy_words, spread_words};
 use crate::commands::program;
+use crate::drive::drive_arguments;
 use crate::fault::ParseFault;
 use crate::part::part_arguments;
 use crate::sweep::sweep_arguments;
@@ -30,35 +31,42 @@ fn matches_of<'m, 'a>(matches: &'m ArgMatches<'a>, name: &str) -> Option<&'m Arg
     matches.subcommand_matches(name)
 }
 
-// What the matches ask for; none where they lack a number in its range or a known policy.
-fn arguments(alloc: Global, matches: &ArgMatches<'_>) -> Result<Option<Arguments>, AllocError>
-    ensures { IfOk result (λ asked. MatchOption asked (IsIncomplete (subcommand_rows_of matches.now))
-        (IsAsked (subcommand_rows_of matches.now))) }
+// What the matches ask for. `Incomplete` where they lack a number in its range or a known policy.
+fn arguments(alloc: Global, matches: &ArgMatches<'_>) -> Result<Arguments, ParseFault>
+    ensures { MatchResult result (IsAsked (subcommand_rows_of matches.now))
+        (IsLacking (subcommand_rows_of matches.now)) }
 {
     if let Some(asked) = matches_of(matches, "run") {
         return match run_arguments(alloc, asked)? {
-            Some(run) => Ok(Some(Arguments::Run(run))),
-            None => Ok(None),
+            Some(run) => Ok(Arguments::Run(run)),
+            None => Err(ParseFault::Incomplete),
         };
     }
     if let Some(asked) = matches_of(matches, "sweep") {
         return match sweep_arguments(alloc, asked)? {
-            Some(sweep) => Ok(Some(Arguments::Sweep(sweep))),
-            None => Ok(None),
+            Some(sweep) => Ok(Arguments::Sweep(sweep)),
+            None => Err(ParseFault::Incomplete),
         };
     }
     if let Some(asked) = matches_of(matches, "part") {
         return match part_arguments(asked) {
-            Some(part) => Ok(Some(Arguments::Part(part))),
-            None => Ok(None),
+            Some(part) => Ok(Arguments::Part(part)),
+            None => Err(ParseFault::Incomplete),
         };
     }
-    Ok(None)
+    if let Some(asked) = matches_of(matches, "drive") {
+        return match drive_arguments(asked) {
+            Ok(drive) => Ok(Arguments::Drive(drive)),
+            Err(fault) => Err(fault),
+        };
+    }
+    Err(ParseFault::Incomplete)
 }
 
 /// What the words after the program's name ask for. `Refused` comes exactly where `clap` refuses
 /// them by the commands' rules, also where they ask for help or the version, or where it ran out
-/// of memory; `Incomplete` where they lack a number in its range or a known policy.
+/// of memory; `Stripes` where the number of read buffers is none of a cache; `Incomplete` where they
+/// lack another number in its range or a known policy.
 pub fn parse(alloc: Global, words: &[&str]) -> Result<Arguments, ParseFault>
     ensures { ParsedBy (map (λ s. s.now) words.now) result }
 {
@@ -73,8 +81,5 @@ pub fn parse(alloc: Global, words: &[&str]) -> Result<Arguments, ParseFault>
         spreads.as_slice(),
     )?;
     let matches = program.try_get_matches_from(called.as_slice())?;
-    match arguments(alloc, &matches)? {
-        Some(asked) => Ok(asked),
-        None => Err(ParseFault::Incomplete),
-    }
+    arguments(alloc, &matches)
 }

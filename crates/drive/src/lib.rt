@@ -7,6 +7,8 @@
 //! step was refused.
 #![tactic(auto)]
 
+mod desk;
+mod driving;
 mod local;
 mod next;
 mod place;
@@ -15,6 +17,7 @@ mod tests;
 mod turns;
 mod work;
 
+pub use driving::{DriveFault, Driven, drive};
 pub use local::Local;
 pub use next::{Next, next_step};
 pub use place::Place;

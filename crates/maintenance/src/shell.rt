@@ -1,10 +1,12 @@
 //! The shell as an engine.
 ghost use Rattle.std.specs.Prelude.{◌≡◌, ◌<◌, ◌≤◌, ◌^◌, ◌↔◌, Ok, Some, None, IfOk, OnOk, OnErr, List, [], map, length, option_map};
+ghost use Rattle.step_record.specs.declared.limits.TheConstants.{MAX_STRIPES};
 ghost use Rattle.step_record.specs.Config.{config_fault};
 ghost use Rattle.segments.specs.Queues.{queue_of};
 ghost use Rattle.shell_buffers.specs.Buffers.{stripe_at};
 ghost use Rattle.shell_model.specs.Shell.{node_of};
 ghost use Rattle.shell_model.specs.Laws.{opened, IsShapeOf};
+ghost use Rattle.shell_model.specs.Reached.{IsReachable};
 ghost use Rattle.maintenance.specs.Opened.{IsOpened, triple};
 
 use crate::parts::Core;
@@ -110,9 +112,14 @@ impl Shell {
         self.core.next
     }
 
-    /// How many read buffers there are.
+    /// How many read buffers there are: 1 to [`MAX_STRIPES`].
+    ///
+    /// [`MAX_STRIPES`]: step_record::MAX_STRIPES
     pub fn stripes(&self) -> u8
-        ensures { result ≡ self.now.config.stripes }
+        ensures stripes { result ≡ self.now.config.stripes }
+        ensures count { length self.now.stripes ≡ result }
+        ensures range { (1 ≤ result) × (result ≤ MAX_STRIPES) }
+        ensures reached { IsReachable self.now }
     {
         self.core.config.stripes
     }

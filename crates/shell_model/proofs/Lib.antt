@@ -10,3 +10,4 @@ pub mod Reached
 pub mod Seating
 pub mod Bounding
 pub mod Engines
+pub mod Striped

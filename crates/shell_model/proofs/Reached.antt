@@ -1,5 +1,6 @@
 -- Reached states, and the laws of records over them.
-use Rattle.std.proofs.Common.{◌≡◌, ℕ, Some, List, [], ◌∷◌, ◌++◌, ap, subst, ◌∙◌, sym, refl, arith}
+use Rattle.std.proofs.Common.{◌≡◌, ℕ, Some, Ok, List, [], ◌∷◌, ◌++◌, ap, subst, ◌∙◌, sym, refl, arith}
+use Rattle.step_record.specs.Config.{config_fault}
 use Rattle.step_record.specs.History.{went, after, IsLegal}
 use Rattle.step_record.specs.declared.config.Config.{Config}
 use Rattle.step_record.specs.declared.step.Act.{Act}
@@ -63,6 +64,7 @@ reached-on x y s r h e =
     let legal : IsLegal act (opened x.config h.shape) (h.entries ++ made_of s r ∷ []) = legal-append (opened x.config h.shape) h.entries (made_of s r ∷ []) h.legal (subst (λ (z : Shell). IsLegal act z (made_of s r ∷ [])) h.gives one) in
     let gives : y ≡ after act (opened x.config h.shape) (h.entries ++ made_of s r ∷ []) = last ∙ ap (λ (z : Shell). after act z (made_of s r ∷ [])) h.gives ∙ sym (after-append (opened x.config h.shape) h.entries (made_of s r ∷ [])) in
     record {
+      checked = subst (λ (d : Config). config_fault d ≡ Ok tt) c h.checked;
       shape = h.shape;
       shape_is = subst (λ (d : Config). IsShapeOf d h.shape) c h.shape_is;
       entries = h.entries ++ made_of s r ∷ [];

@@ -1,5 +1,6 @@
 -- The states that steps lead to from an opened shell, and where a record of the shell fits.
-use Rattle.std.specs.Prelude.{◌≡◌, ℕ, ◌<◌, ◌≤◌, false, Option, Some, None, List}
+use Rattle.std.specs.Prelude.{◌≡◌, ℕ, ◌<◌, ◌≤◌, false, Option, Some, None, List, Ok}
+use Rattle.step_record.specs.Config.{config_fault}
 use Rattle.step_record.specs.History.{after, IsLegal}
 use Rattle.step_record.specs.declared.step.Step.{Step}
 use Rattle.step_record.specs.declared.step.Reply.{Reply}
@@ -15,6 +16,7 @@ use Rattle.step_record.specs.declared.item.Item.{Item}
 use Rattle.segments.specs.Items.{times}
 
 pub record IsReachable (x : Shell) : Type 0 where
+  pub checked : config_fault x.config ≡ Ok tt
   pub shape : Shape
   pub shape_is : IsShapeOf x.config shape
   pub entries : List Made

@@ -22,4 +22,6 @@ returns c =
     let running = c.in_ok-running.ensures.shape run.local ∙ ap₂ with_subcommand empty_is (ap (λ (a : App). a.top) run.shape) in
     let part = c.in_ok-part.ensures in
     let sweeping = c.in_ok-sweeping.ensures.shape sweep.local ∙ ap₂ with_subcommand running (ap (λ (a : App). a.top) sweep.shape) in
-    IfOk-weaker c.subcommand-3.result _ _ (λ r h. h.shape part.local ∙ ap₂ with_subcommand sweeping (ap (λ (a : App). a.top) part.shape)) c.subcommand-3.ensures
+    let drive = c.in_ok-drive.ensures in
+    let parting = c.in_ok-parting.ensures.shape part.local ∙ ap₂ with_subcommand sweeping (ap (λ (a : App). a.top) part.shape) in
+    IfOk-weaker c.subcommand-4.result _ _ (λ r h. h.shape drive.local ∙ ap₂ with_subcommand parting (ap (λ (a : App). a.top) drive.shape)) c.subcommand-4.ensures

@@ -6,7 +6,7 @@ use Rattle.command_line.specs.Choices.{format_words, policy_words, spread_words}
 use Rattle.command_line.specs.Program.{AreLists, Lists, called, program_app}
 use Rattle.command_line.specs.Parsed.{IsAsked, IsIncomplete}
 use Rattle.command_line.specs.declared.arguments.Arguments.{Arguments}
-use Rattle.command_line.proofs.Outcomes.{asked, incomplete, out_of_memory, refused}
+use Rattle.command_line.proofs.Outcomes.{ended, out_of_memory, refused}
 use Rattle.command_line.proofs.Simple.{program-free, program-simple}
 use Rattle.command_line.proofs.parsing.parse.Goals as goal
 
@@ -40,20 +40,6 @@ returns-in_err-matches c =
     let kinds = c.in_err-matches.ensures.kinds (ap is_simple_and_free is ∙ program-free lists) in
     refused lists are _ _ _ is texts c.in_err-matches.field-0.0 kinds _ c.from_residual-in_err-matches.ensures.1
 
-pub returns-in_err-asked : goal.returns-in_err-asked
-returns-in_err-asked c = out_of_memory nowhere are_nowhere _ _ c.from_residual-in_err-asked.ensures.1
-
-pub returns-in-Some : goal.returns-in-Some
-returns-in-Some c =
-    let lists : Lists = record { policies = c.as_slice.result; formats = c.as_slice-2.result; spreads = c.as_slice-3.result } in
-    let are : AreLists lists = search rules in
-    let is : app_of c.in_ok-program.program ≡ program_app lists = c.in_ok-program.ensures in
-    let texts = ap (map (λ (s : Bor (List ℕ)). s.now)) c.as_slice-4.ensures.value ∙ c.in_ok-called.ensures in
-    let taken = c.in_ok-matches.ensures.kinds (ap is_simple_and_free is ∙ program-free lists) in
-    let rows = (c.in_ok-matches.ensures.matches (ap is_simple is ∙ program-simple lists)).1 in
-    let found = subst (λ (o : Option Arguments). MatchOption o (IsIncomplete (subcommand_rows_of c.in_ok-matches.matches)) (IsAsked (subcommand_rows_of c.in_ok-matches.matches))) c.in-Some.is c.in_ok-asked.ensures in
-    asked lists are _ _ _ is texts c.in_ok-matches.matches taken rows c.in-Some.asked found
-
 pub returns : goal.returns
 returns c =
     let lists : Lists = record { policies = c.as_slice.result; formats = c.as_slice-2.result; spreads = c.as_slice-3.result } in
@@ -62,5 +48,4 @@ returns c =
     let texts = ap (map (λ (s : Bor (List ℕ)). s.now)) c.as_slice-4.ensures.value ∙ c.in_ok-called.ensures in
     let taken = c.in_ok-matches.ensures.kinds (ap is_simple_and_free is ∙ program-free lists) in
     let rows = (c.in_ok-matches.ensures.matches (ap is_simple is ∙ program-simple lists)).1 in
-    let none = subst (λ (o : Option Arguments). MatchOption o (IsIncomplete (subcommand_rows_of c.in_ok-matches.matches)) (IsAsked (subcommand_rows_of c.in_ok-matches.matches))) c.in-None.is c.in_ok-asked.ensures in
-    incomplete lists are _ _ _ is texts c.in_ok-matches.matches taken rows none
+    ended lists are _ _ _ is texts c.in_ok-matches.matches taken rows c.arguments.result c.arguments.ensures

@@ -1,0 +1,11 @@
+use Rattle.std.proofs.Common.{refl, arith}
+use Rattle.std.specs.Str.Parse.{ParsesUnsigned, ExplainsUnsignedError, HasUnsignedDigitsIfOk}
+use Rattle.clap.specs.Words.{found_of, one_text}
+use Rattle.clap.proofs.WalkLemmas.{one_text-rows}
+use Rattle.command_line.proofs.Numbers.{reads}
+use Rattle.command_line.proofs.arguments.small_number.Goals as goal
+
+pub returns : goal.returns
+returns c =
+    let f = found_of c.args.matches.now in
+    rw (← one_text-rows f c.args.id.now) (reads (λ bs r. ParsesUnsigned 8 10 bs r × ExplainsUnsignedError 10 bs r × HasUnsignedDigitsIfOk bs r) 8 255 refl (omega arith) (λ u x g. g.0) (one_text f c.args.id.now) c.get_one.result c.get_one.ensures.none c.get_one.ensures.value)

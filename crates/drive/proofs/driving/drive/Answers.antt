@@ -1,0 +1,54 @@
+use Rattle.std.proofs.Common.{rules, arith, ◌≡◌, ◌≤◌, ◌<◌, ℕ, map, length, vec_items, sym, ap, subst, ◌∙◌, refl}
+use Rattle.std.proofs.lemmas.List.{length-map}
+use Rattle.step_record.specs.declared.worker.TheConstants.{MAX_WORKERS}
+use Rattle.drive.specs.Walks.{AreWalks}
+use Rattle.drive.specs.Made.{BeginWalks}
+use Rattle.drive.specs.Driven.{IsRun}
+use Rattle.drive.specs.DriveFaults.{CanRun, LeavesFault}
+use Rattle.drive.proofs.Handing.{moved_run, free_of, if_ok, if_err, on_ok, full_cause}
+use Rattle.drive.proofs.driving.drive.Goals as goal
+
+pub returns-in-Ok-open-clause-run : goal.returns-in-Ok-open-clause-run
+returns-in-Ok-open-clause-run g c =
+    let stripes = c.stripes-stripes.ensures.stripes ∙ ap (λ x. x.config.stripes) c.engine-shell.ensures.engine in
+    let pieces = ap (map (λ p. vec_items p)) c.as_slice.ensures.value in
+    if_ok c.handed.result _ _ (λ d h. (
+    let run = moved_run (λ w n. AreWalks w n) _ _ _ _ _ _ c.run_book-session.result.0 _ stripes pieces c.in-Ok-open.ensures.opens.0 (c.run_book-session.ensures.none h.2) in
+    subst (λ l. IsRun (λ w. AreWalks w c.args.session.engine.config.stripes) (map (λ p. vec_items p) c.args.pieces.items) c.args.session d.session l) (ap (map (λ x. vec_items x)) (sym h.1))
+    (subst (λ s. IsRun (λ w. AreWalks w c.args.session.engine.config.stripes) (map (λ p. vec_items p) c.args.pieces.items) c.args.session s (map (λ x. vec_items x) c.run_book-session.result.1.items)) (sym h.0) run)
+    )) c.handed.ensures.ok
+
+pub returns-in-Ok-open-clause-accepted : goal.returns-in-Ok-open-clause-accepted
+returns-in-Ok-open-clause-accepted g c =
+    let many = length-map c.args.pieces.items (λ p. vec_items p) in
+    let ok = c.args.pieces.ok.0 in
+    let len = c.len-workers.ensures in
+    let free = free_of _ _ (sym c.holder.ensures ∙ c.in_default.is) in
+    let some : 1 ≤ c.len-workers.result = search rules in
+    let few : c.len-workers.result ≤ MAX_WORKERS = search rules in
+    let can : CanRun (map (λ p. vec_items p) c.args.pieces.items) c.args.session.engine = record {
+      some = omega arith;
+      few = omega arith;
+      free = ap (λ x. x.holder) (sym c.engine-shell.ensures.engine) ∙ free;
+    } in
+    on_ok _ _ can
+
+pub returns-in-Ok-open-clause-fault : goal.returns-in-Ok-open-clause-fault
+returns-in-Ok-open-clause-fault g c =
+    let stripes = c.stripes-stripes.ensures.stripes ∙ ap (λ x. x.config.stripes) c.engine-shell.ensures.engine in
+    let pieces = ap (map (λ p. vec_items p)) c.as_slice.ensures.value in
+    let many = length-map c.args.pieces.items (λ p. vec_items p) in
+    let ok = c.args.pieces.ok.0 in
+    let len = c.len-workers.ensures in
+    let free = free_of _ _ (sym c.holder.ensures ∙ c.in_default.is) in
+    let some : 1 ≤ c.len-workers.result = search rules in
+    let few : c.len-workers.result ≤ MAX_WORKERS = search rules in
+    let can : CanRun (map (λ p. vec_items p) c.args.pieces.items) c.args.session.engine = record {
+      some = omega arith;
+      few = omega arith;
+      free = ap (λ x. x.holder) (sym c.engine-shell.ensures.engine) ∙ free;
+    } in
+    let run = moved_run (λ w n. BeginWalks w n) _ _ _ _ _ _ c.run_book-session.result.0 _ stripes pieces c.in-Ok-open.ensures.opens.0 c.run_book-session.ensures.some in
+    let limit = c.run_book-session.ensures.some.limit in
+    let room = c.handed.ensures.room in
+    if_err c.handed.result _ _ (λ f h. subst (λ x. LeavesFault x (map (λ p. vec_items p) c.args.pieces.items) c.args.session) (sym h) (can, c.handed.ensures.legal, (λ e. (let full = c.run_book-session.ensures.full (full_cause c.run_book-session.result.2 e) in omega arith)), run)) c.handed.ensures.err

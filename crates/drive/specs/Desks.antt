@@ -1,0 +1,38 @@
+-- Workers at their places, and what they made there.
+use Rattle.std.specs.Prelude.{◌≡◌, ℕ, suc, List, [], ◌∷◌, map, length, get_or, Some, IfSome, MatchOption}
+use Rattle.std.specs.Option.{IsSome}
+use Rattle.std.specs.Global.{Vec}
+use Rattle.std.specs.Vec.{vec_items}
+use Rattle.step_record.specs.declared.step.Call.{Call}
+use Rattle.step_record.specs.declared.step.Reply.{Reply}
+use Rattle.step_record.specs.declared.step.Step.{Step}
+use Rattle.shell_model.specs.Shell.{Shell}
+use Rattle.journal.specs.Session.{SessionState}
+use Rattle.journal.specs.declared.fault.SessionFault.TheVariants.{JournalFull}
+use Rattle.turn_book.specs.Passes.{BookId}
+use Rattle.drive.specs.declared.desk.Desk.{Desk}
+use Rattle.drive.specs.Walks.{Entries, AreWalks}
+use Rattle.drive.specs.Made.{BeginWalks}
+
+-- the calls of each worker, by its number
+abbrev pub calls_of : List (Vec Call) → ℕ → List Call
+calls_of pieces w = get_or (map (λ p. vec_items p) pieces) w []
+
+abbrev pub ShellSession : Type 0
+ShellSession = SessionState Shell Shell Step Reply
+
+-- the worker has its pass of this book, and in its list what the pass made
+pub record Sits (b : BookId ShellSession) (d : Desk) : Type 0 where
+  pub has : IsSome d.pass
+  pub own : IfSome d.pass (λ p. (p.book ≡ b) × (p.worker ≡ d.worker) × (p.own ≡ d.list.items))
+
+-- Its list is one walk for each of its calls, or the beginning of such walks where it was stopped; and where a full
+-- journal did that, it last saw as many entries as the limit.
+pub record HasWorked (n limit : ℕ) (calls : ℕ → List Call) (d : Desk) : Type 0 where
+  pub walks : MatchOption d.fault (AreWalks d.worker n (calls d.worker) d.list.items) (λ f. BeginWalks d.worker n (calls d.worker) d.list.items)
+  pub full : d.fault ≡ Some JournalFull → IfSome d.pass (λ p. length p.last ≡ limit)
+
+-- the workers from lo on, in order
+abbrev pub Counts : ℕ → List Desk → Type 0
+Counts lo [] = Unit {0}
+Counts lo (d ∷ ds) = (d.worker ≡ lo) × Counts (suc lo) ds

@@ -1,0 +1,185 @@
+//! Workers on threads, over one session of the concurrent cache.
+ghost use Rattle.std.specs.Prelude.{◌≡◌, ℕ, ◌<◌, ◌≤◌, None, Some, [], ◌∷◌, ◌++◌, Option, IfOk, IfErr, OnOk, MatchOption, unwrap_or, length, map, vec_len, vec_capacity};
+ghost use Rattle.step_record.specs.declared.limits.TheConstants.{MAX_STRIPES};
+ghost use Rattle.step_record.specs.declared.worker.TheConstants.{MAX_WORKERS};
+ghost use Rattle.turn_book.specs.Turns.{Every};
+ghost use Rattle.turn_book.specs.Passes.{InOrder, id_of};
+ghost use Rattle.drive.specs.Walks.{AreWalks};
+ghost use Rattle.drive.specs.Made.{BeginWalks};
+ghost use Rattle.drive.specs.Desks.{Sits, HasWorked, Counts, calls_of};
+ghost use Rattle.drive.specs.Driven.{IsRun};
+ghost use Rattle.step_record.specs.History.{IsLegal};
+ghost use Rattle.shell_model.specs.Shell.{act};
+ghost use Rattle.drive.specs.DriveFaults.{CanRun, LeavesFault};
+
+use super::desk::{Desk, first_fault, rise_all, seat_all, work_seated};
+use journal::{Session, SessionFault};
+use maintenance::Shell;
+use std::alloc::{AllocError, Global};
+use std::sync::Wait;
+use std::thread::Threads;
+use step_record::{Call, Entry, Gate, MAX_WORKERS, Reply, Step, Worker};
+use turn_book::{MAX_TURNS, OpenFault, Pass, TurnBook};
+
+/// What a run of workers made: the session, and the entries of each worker, in its order, at its number.
+#[derive(Drop)]
+pub struct Driven {
+    pub session: Session<Shell>,
+    pub lists: Vec<Vec<Entry<Step, Reply>>>,
+}
+
+/// Why a run did not make all walks. Each fault holds the session.
+#[derive(Drop)]
+pub enum DriveFault {
+    /// There are no pieces, or more than [`MAX_WORKERS`]. The session is as it was.
+    Workers {
+        session: Session<Shell>,
+    },
+    /// This worker holds the maintenance, which is to be settled first. The session is as it was.
+    Held {
+        worker: Worker,
+        session: Session<Shell>,
+    },
+    /// An allocation failed before any step. The session is as it was.
+    OutOfMemory {
+        session: Session<Shell>,
+    },
+    /// A worker was refused a step, and ended there, while the others went on. The lists are those of a run, each of
+    /// which may end early; the cause is that of the refused worker with the lowest number.
+    Stopped {
+        session: Session<Shell>,
+        lists: Vec<Vec<Entry<Step, Reply>>>,
+        cause: SessionFault,
+    },
+}
+
+/// Workers, each on a thread of its own where one can be made, make the walks of their calls: worker `w` those of piece
+/// `w`, in order. Each step is made in a turn of its own, so the session has one list of steps; the gate is called
+/// around each call of a worker, without a turn.
+///
+/// The faults are looked for in the order in which [`DriveFault`] has them.
+pub fn drive<G: Gate, R: Threads + Wait + Sync>(
+    rt: &R,
+    alloc: Global,
+    session: Session<Shell>,
+    pieces: Vec<Vec<Call>>,
+    gate: &G,
+) -> Result<Driven, DriveFault>
+    // Past the old entries, those of each worker are its list: one walk for each of its calls, in order.
+    ensures run { IfOk result (λ d. IsRun (λ w. AreWalks w session.engine.config.stripes) (map (λ p. p.items) pieces.items) session d.session (map (λ l. l.items) d.lists.items)) }
+    ensures legal { IfOk result (λ d. IsLegal act d.session.opening d.session.kept) }
+    ensures accepted { OnOk result (CanRun (map (λ p. p.items) pieces.items) session.engine) }
+    ensures fault { IfErr result (λ f. LeavesFault f (map (λ p. p.items) pieces.items) session) }
+{
+    let workers = pieces.len();
+    if workers == 0 || workers > usize::from(MAX_WORKERS) {
+        return Err(DriveFault::Workers { session });
+    }
+    let shell = session.engine();
+    let stripes = shell.stripes();
+    if let Some((worker, _, _)) = shell.holder() {
+        return Err(DriveFault::Held { worker, session });
+    }
+    let Ok(room) = Room::new(alloc, workers) else {
+        return Err(DriveFault::OutOfMemory { session });
+    };
+    match TurnBook::open(alloc, session, workers as u8, MAX_TURNS) {
+        Ok((book, passes)) => {
+            let (session, lists, fault) = run_book(
+                rt,
+                alloc,
+                gate,
+                book,
+                passes,
+                pieces.as_slice(),
+                stripes,
+                room,
+            );
+            handed(session, lists, fault)
+        }
+        Err(OpenFault::OutOfMemory(session)) => Err(DriveFault::OutOfMemory { session }),
+        Err(_) => unreachable!(),
+    }
+}
+
+// What a run hands back, by whether a worker stopped.
+fn handed(
+    session: Session<Shell>,
+    lists: Vec<Vec<Entry<Step, Reply>>>,
+    fault: Option<SessionFault>,
+) -> Result<Driven, DriveFault>
+    ensures ok { IfOk result (λ d. (d.session ≡ session) × (d.lists.items ≡ lists.items) × (fault ≡ None)) }
+    ensures err { IfErr result (λ f. f ≡ DriveFault.Stopped session lists (unwrap_or fault SessionFault.OutOfMemory)) }
+    ensures legal { IsLegal act session.opening session.kept }
+    ensures room { length session.kept ≤ session.limit }
+{
+    session.len();
+    match fault {
+        None => Ok(Driven { session, lists }),
+        Some(cause) => Err(DriveFault::Stopped {
+            session,
+            lists,
+            cause,
+        }),
+    }
+}
+
+// Memory for all that a run holds beside the session and the lists.
+#[derive(Drop)]
+pub(crate) struct Room {
+    pub(crate) desks: Vec<Desk>,
+    pub(crate) passes: Vec<Pass<Session<Shell>>>,
+    pub(crate) lists: Vec<Vec<Entry<Step, Reply>>>,
+}
+
+impl Room {
+    // Room for so many workers.
+    fn new(alloc: Global, workers: usize) -> Result<Room, AllocError>
+        ensures empty { IfOk result (λ r. (r.desks.items ≡ []) × (r.passes.items ≡ []) × (r.lists.items ≡ [])) }
+        ensures room { IfOk result (λ r. (workers ≤ vec_capacity r.desks) × (workers ≤ vec_capacity r.passes) × (workers ≤ vec_capacity r.lists)) }
+    {
+        Ok(Room {
+            desks: Vec::with_capacity(alloc, workers)?,
+            passes: Vec::with_capacity(alloc, workers)?,
+            lists: Vec::with_capacity(alloc, workers)?,
+        })
+    }
+}
+
+// Has the workers work, and closes the book: the session, each worker's list, and why the first that stopped did so.
+fn run_book<G: Gate, R: Threads + Wait + Sync>(
+    rt: &R,
+    alloc: Global,
+    gate: &G,
+    book: TurnBook<Session<Shell>>,
+    passes: Vec<Pass<Session<Shell>>>,
+    pieces: &[Vec<Call>],
+    stripes: u8,
+    room: Room,
+) -> (
+    Session<Shell>,
+    Vec<Vec<Entry<Step, Reply>>>,
+    Option<SessionFault>,
+)
+    requires stripes { (1 ≤ stripes) × (stripes ≤ MAX_STRIPES) }
+    requires workers { (length pieces.now ≡ book.workers) × (1 ≤ length pieces.now) × (length pieces.now ≤ MAX_WORKERS) }
+    requires order { InOrder 0 passes.items × (length passes.items ≡ length pieces.now) }
+    requires own { Every (λ p. p.book ≡ id_of book) passes.items }
+    requires empty { Every (λ p. p.own ≡ []) passes.items }
+    requires fresh { (room.desks.items ≡ []) × (room.passes.items ≡ []) × (room.lists.items ≡ []) }
+    requires room { (length pieces.now ≤ vec_capacity room.desks) × (length pieces.now ≤ vec_capacity room.passes) × (length pieces.now ≤ vec_capacity room.lists) }
+    ensures none { result.2 ≡ None → IsRun (λ w. AreWalks w stripes) (map (λ p. p.items) pieces.now) book.opening result.0 (map (λ l. l.items) result.1.items) }
+    ensures full { result.2 ≡ Some SessionFault.JournalFull → book.opening.limit ≤ length result.0.kept }
+    ensures some { IsRun (λ w. BeginWalks w stripes) (map (λ p. p.items) pieces.now) book.opening result.0 (map (λ l. l.items) result.1.items) }
+{
+    let Room {
+        desks,
+        passes: seats,
+        lists,
+    } = room;
+    let desks = seat_all(alloc, &book, passes, desks);
+    let desks = work_seated(rt, gate, &book, pieces, stripes, desks);
+    let fault = first_fault(desks.as_slice());
+    let (passes, lists) = rise_all(desks, seats, lists);
+    (book.close(passes), lists, fault)
+}
