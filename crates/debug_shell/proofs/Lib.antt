@@ -1,1 +1,5 @@
 pub mod Walked
+pub mod Sessions
+pub mod Shown
+pub mod Texts
+pub mod Facts

@@ -19,7 +19,7 @@ use Rattle.debug_shell.specs.Part.{is_hit_at, AgreeBelow}
 -- ---- one access of one cache
 
 -- behind the first i accesses of the trace stands the next one
-next-of : (trace : List ℕ) (i : ℕ) → i < length trace
+pub next-of : (trace : List ℕ) (i : ℕ) → i < length trace
     → trace ≡ take i trace ++ slice_index trace i ∷ (drop (suc i) trace ++ [])
 next-of trace i lt = next-ahead trace [] trace [] i lt (sym (append-nil trace))
 

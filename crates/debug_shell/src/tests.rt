@@ -86,3 +86,44 @@ fn a_refused_configuration_is_reported_by_its_index(rt: HostRuntime) -> Result<(
     }
     Ok(())
 }
+
+// What the debugger writes of the trace 1 1 2 3 1 at capacity 2, with lru as `a` and slru as `b`.
+fn said(alloc: Global, commands: &[u8]) -> Result<Vec<u8>, Fail> {
+    let trace = trace_of(alloc, &[1, 1, 2, 3, 1])?;
+    let mut out = Vec::new(alloc);
+    let mut rest = commands;
+    match run_debug(
+        alloc,
+        &trace,
+        &job(Policy::Lru, 2),
+        &job(Policy::SegmentedLru, 2),
+        &mut rest,
+        &mut out,
+    ) {
+        Ok(()) => Ok(out),
+        Err(_) => Err(Fail::from("a fault")),
+    }
+}
+
+#[test]
+fn a_debug_session(rt: HostRuntime) -> Result<(), Fail> {
+    let commands = b"part\ngoto 5\nback 1\nshow\nback 5\ngoto 0\nbreak part\nrun\nrun\njump\n";
+    let text = "part 5
+at 5
+at 4
+a lru hits 1 misses 3 evictions 1 rejections 0
+a holds 2 3
+b slru hits 1 misses 3 evictions 1 rejections 0
+b holds 3 1
+fault: PastStart
+at 0
+ok
+stop part
+at 5
+fault: PastEnd
+fault: Command
+";
+    let out = said(rt.alloc(), commands.as_slice())?;
+    assert_eq!(rt; out.as_slice(), text.as_bytes());
+    Ok(())
+}

@@ -1,0 +1,15 @@
+use Rattle.std.proofs.Common.{◌≡◌}
+use Rattle.debug_commands.proofs.Ahead.{IsAhead}
+use Rattle.debug_commands.proofs.dialogue.answer_commands.Given as goal
+
+abbrev pub invariant-lines : goal.invariant-lines
+invariant-lines g l = record {
+  whole : g.T.Timeline.IsWhole l.timeline;
+  same : g.T.Timeline.timeline l.timeline ≡ g.T.Timeline.timeline l.initial.timeline;
+  ahead : IsAhead (g.T.Timeline.timeline l.initial.timeline) (g.T.Timeline.position l.initial.timeline)
+      (record { at = g.T.Timeline.position l.timeline; breaks = l.breaks.items }) l.room
+      (g.R.Read.remaining l.initial.input) (g.R.Read.remaining l.input) (g.W.Write.contents l.initial.out) (g.W.Write.contents l.out);
+}
+
+abbrev pub decreases-lines : goal.decreases-lines
+decreases-lines g l = l.room

@@ -1,0 +1,14 @@
+use Rattle.std.proofs.Common.{◌≡◌, ◌+◌, length}
+use Rattle.std.specs.Io.KnownBytes.{Consumes}
+use Rattle.debug_commands.specs.Reading.{HasNoFeed}
+use Rattle.debug_commands.proofs.lines.read_line.Given as goal
+
+abbrev pub invariant-bytes : goal.invariant-bytes
+invariant-bytes g l = record {
+  read : Consumes (g.R.Read.remaining l.initial.input) (g.R.Read.remaining l.input) l.text.items;
+  feeds : HasNoFeed l.text.items;
+  room : l.room + length l.text.items ≡ l.initial.room;
+}
+
+abbrev pub decreases-bytes : goal.decreases-bytes
+decreases-bytes g l = l.room

@@ -1,0 +1,79 @@
+-- What the debugger answers to a command: from the position and the breakpoints before it, the text and those after it.
+-- (Commands of this project.)
+use Rattle.std.specs.Prelude.{ℕ, zero, suc, ◌+◌, ◌-◌, ◌==◌, nat_lt, if◌then◌else◌, Option, Some, None, List, [], ◌∷◌, ◌++◌, length, codes}
+use Rattle.std.specs.Fmt.{decimal}
+use Rattle.debug_commands.specs.Breakpoints.{first_holding, word_of}
+use Rattle.debug_commands.specs.Timeline.{TimelineData}
+use Rattle.debug_commands.specs.declared.answers.TheConstants.{MAX_BREAKPOINTS}
+use Rattle.debug_commands.specs.declared.breakpoint.Breakpoint.{Breakpoint}
+use Rattle.debug_commands.specs.declared.breakpoint.StepFacts.{StepFacts}
+use Rattle.debug_commands.specs.declared.command.Command.{Command}
+use Rattle.debug_commands.specs.declared.command.Command.TheVariants as command
+use Rattle.debug_commands.specs.declared.command.Line.{Line}
+use Rattle.debug_commands.specs.declared.command.Line.TheVariants.{Empty, Unknown, Known}
+
+-- between two commands: how many steps are made, and the breakpoints in the order in which they were set
+pub record Place : Type 0 where
+  pub at : ℕ
+  pub breaks : List Breakpoint
+
+-- ---- the lines
+
+abbrev pub at_line : ℕ → List ℕ
+at_line n = codes "at " ++ (decimal n ++ codes "\n")
+
+abbrev pub stop_line : Option Breakpoint → List ℕ
+stop_line None = codes "end\n"
+stop_line (Some b) = codes "stop " ++ (word_of b ++ codes "\n")
+
+-- ---- the answer to a command
+
+pub record Response : Type 0 where
+  pub text : List ℕ
+  pub place : Place
+
+-- the position and the breakpoints stay
+abbrev pub stays : Place → List ℕ → Response
+stays p text = record { text = text; place = p }
+
+-- the position is n
+abbrev pub goes : Place → ℕ → Response
+goes p n = record { text = at_line n; place = record { at = n; breaks = p.breaks } }
+
+-- the breakpoints are these
+abbrev pub sets : Place → List Breakpoint → Response
+sets p breaks = record { text = codes "ok\n"; place = record { at = p.at; breaks = breaks } }
+
+-- the stop behind step n, or the later one
+abbrev pub stop_here : Option Breakpoint → ℕ → ℕ × Option Breakpoint → ℕ × Option Breakpoint
+stop_here None n later = later
+stop_here (Some b) n later = (n, Some b)
+
+-- onward step by step, of which so many are left, until a breakpoint holds: the position then, and the breakpoint
+unfoldable pub stop_after : (ℕ → StepFacts) → List Breakpoint → ℕ → ℕ → ℕ × Option Breakpoint
+stop_after facts breaks at zero = (at, None)
+stop_after facts breaks at (suc left) =
+    stop_here (first_holding (facts (at + 1)) breaks) (at + 1) (stop_after facts breaks (at + 1) left)
+
+abbrev pub runs : Place → ℕ × Option Breakpoint → Response
+runs p stop = record { text = stop_line stop.1 ++ at_line stop.0; place = record { at = stop.0; breaks = p.breaks } }
+
+unfoldable pub response_to : TimelineData → Place → Command → Response
+response_to t p (command.Step n) = if nat_lt t.end (p.at + n) then stays p (codes "fault: PastEnd\n") else goes p (p.at + n)
+response_to t p (command.Back n) = if nat_lt p.at n then stays p (codes "fault: PastStart\n") else goes p (p.at - n)
+response_to t p (command.Goto n) = if nat_lt t.end n then stays p (codes "fault: PastEnd\n") else goes p n
+response_to t p command.Run =
+    if p.at == t.end then stays p (codes "fault: PastEnd\n") else runs p (stop_after t.facts p.breaks p.at (t.end - p.at))
+response_to t p (command.Break b) =
+    if length p.breaks == MAX_BREAKPOINTS then stays p (codes "fault: Breaks\n") else sets p (p.breaks ++ b ∷ [])
+response_to t p command.Clear = sets p []
+response_to t p command.Show = stays p (t.shown p.at)
+response_to t p command.Own = stays p (t.own p.at)
+response_to t p command.Quit = stays p []
+
+-- ---- the answer to a line
+
+abbrev pub answer_to : TimelineData → Place → Line → Response
+answer_to t p Empty = stays p []
+answer_to t p Unknown = stays p (codes "fault: Command\n")
+answer_to t p (Known c) = response_to t p c

@@ -1,0 +1,84 @@
+-- What a line of commands says. (Grammar of this project: the words of a command, and nothing behind them.)
+use Rattle.std.specs.Prelude.{ℕ, Option, Some, None, List, [], ◌∷◌}
+use Rattle.debug_commands.specs.Names.{name_of}
+use Rattle.debug_commands.specs.Words.{number_of, trimmed_text, words_in}
+use Rattle.debug_commands.specs.declared.breakpoint.Breakpoint.{Breakpoint}
+use Rattle.debug_commands.specs.declared.breakpoint.Breakpoint.TheVariants as point
+use Rattle.debug_commands.specs.declared.command.Command.{Command}
+use Rattle.debug_commands.specs.declared.command.Command.TheVariants as command
+use Rattle.debug_commands.specs.declared.command.Dialect.{Dialect}
+use Rattle.debug_commands.specs.declared.command.Dialect.TheVariants.{Policies, Journal}
+use Rattle.debug_commands.specs.declared.command.Line.{Line}
+use Rattle.debug_commands.specs.declared.command.Line.TheVariants.{Empty, Unknown, Known}
+use Rattle.debug_commands.specs.declared.name.Name.{Name}
+use Rattle.debug_commands.specs.declared.name.Name.TheVariants as name
+
+infixl 10 ◌>>=◌
+abbrev pub ◌>>=◌ : {A B : Type 0} → Option A → (A → Option B) → Option B
+None >>= f = None
+(Some x) >>= f = f x
+
+-- what is read of some words, and the words behind it
+abbrev pub Reads : Type 0 → Type 0
+Reads A = List (List ℕ) → Option (A × List (List ℕ))
+
+abbrev pub with_rest : {A : Type 0} → List (List ℕ) → Option A → Option (A × List (List ℕ))
+with_rest ws None = None
+with_rest ws (Some x) = Some (x, ws)
+
+unfoldable pub name_at : Reads Name
+name_at [] = None
+name_at (w ∷ ws) = with_rest ws (name_of w)
+
+unfoldable pub number_at : Reads ℕ
+number_at [] = None
+number_at (w ∷ ws) = with_rest ws (number_of w)
+
+-- a breakpoint; `part` is of the policies' debugger, `drop` of the journal's
+abbrev pub point_named : Dialect → Name → Reads Breakpoint
+point_named d name.Hit ws = number_at ws >>= λ k. Some (point.Hit k.0, k.1)
+point_named d name.Evict ws = number_at ws >>= λ k. Some (point.Evict k.0, k.1)
+point_named d name.Halve ws = Some (point.Halve, ws)
+point_named Policies name.Part ws = Some (point.Part, ws)
+point_named Journal name.Drop ws = Some (point.Drop, ws)
+point_named d _ ws = None
+
+unfoldable pub point_at : Dialect → Reads Breakpoint
+point_at d ws = name_at ws >>= λ n. point_named d n.0 n.1
+
+-- a command; `part` is of the policies' debugger, `save` of the journal's
+abbrev pub command_named : Dialect → Name → Reads Command
+command_named d name.Step ws = number_at ws >>= λ n. Some (command.Step n.0, n.1)
+command_named d name.Back ws = number_at ws >>= λ n. Some (command.Back n.0, n.1)
+command_named d name.Goto ws = number_at ws >>= λ n. Some (command.Goto n.0, n.1)
+command_named d name.Run ws = Some (command.Run, ws)
+command_named d name.Break ws = point_at d ws >>= λ b. Some (command.Break b.0, b.1)
+command_named d name.Clear ws = Some (command.Clear, ws)
+command_named d name.Show ws = Some (command.Show, ws)
+command_named Policies name.Part ws = Some (command.Own, ws)
+command_named Journal name.Save ws = Some (command.Own, ws)
+command_named d name.Quit ws = Some (command.Quit, ws)
+command_named d _ ws = None
+
+unfoldable pub command_at : Dialect → Reads Command
+command_at d ws = name_at ws >>= λ n. command_named d n.0 n.1
+
+-- where no word is left
+abbrev pub at_end : {A : Type 0} → A × List (List ℕ) → Option A
+at_end (x, []) = Some x
+at_end (x, (w ∷ ws)) = None
+
+unfoldable pub command_in : Dialect → List (List ℕ) → Option Command
+command_in d ws = command_at d ws >>= at_end
+
+abbrev pub known_or : Option Command → Line
+known_or None = Unknown
+known_or (Some c) = Known c
+
+unfoldable pub line_in : Dialect → List (List ℕ) → Line
+line_in d [] = Empty
+line_in d (w ∷ ws) = known_or (command_in d (w ∷ ws))
+
+-- what a line says, without its line feed
+abbrev pub line_of : Dialect → List ℕ → Line
+line_of d text = line_in d (words_in (trimmed_text text))

@@ -1,0 +1,52 @@
+-- What the debugger writes for the bytes of its input, line by line up to `quit`, the end, or a line that is too large.
+use Rattle.std.specs.Prelude.{◌≡◌, ℕ, ◌+◌, ◌-◌, ◌==◌, nat_lt, Bool, true, false, if◌then◌else◌, Option, List, [], ◌∷◌, ◌++◌, length}
+use Rattle.std.specs.Io.KnownBytes.{Appends}
+use Rattle.std.specs.List.{slice_split}
+use Rattle.debug_commands.specs.Answers.{Place, Response, answer_to}
+use Rattle.debug_commands.specs.Commands.{line_of}
+use Rattle.debug_commands.specs.Timeline.{TimelineData}
+use Rattle.debug_commands.specs.declared.command.Command.TheVariants.{Quit}
+use Rattle.debug_commands.specs.declared.command.Line.{Line}
+use Rattle.debug_commands.specs.declared.command.Line.TheVariants.{Known}
+use Rattle.debug_commands.specs.declared.lines.TheConstants.{MAX_COMMAND_BYTES}
+
+-- the pieces between line feeds (10)
+abbrev pub lines_of : List ℕ → List (List ℕ)
+lines_of bytes = slice_split (λ b. b == 10) bytes
+
+abbrev pub is_quit : Line → Bool
+is_quit (Known Quit) = true
+is_quit _ = false
+
+pub record Dialogue : Type 0 where
+  pub text : List ℕ
+  -- the position at the end
+  pub at : ℕ
+  -- no line went past the limit
+  pub fits : Bool
+
+abbrev pub ends : Place → Bool → Dialogue
+ends p fits = record { text = []; at = p.at; fits = fits }
+
+-- the answer, and then what follows from the place that it leaves
+abbrev pub answers : Response → (Place → Dialogue) → Dialogue
+answers r later = record { text = r.text ++ (later r.place).text; at = (later r.place).at; fits = (later r.place).fits }
+
+-- the lines in order, where there is room for so many bytes more; a line feed stands behind each line but the last
+unfoldable pub dialogue_from : TimelineData → ℕ → List (List ℕ) → Place → Dialogue
+dialogue_from t room [] p = ends p true
+dialogue_from t room (l ∷ []) p =
+    if nat_lt room (length l) then ends p false else answers (answer_to t p (line_of t.dialect l)) (λ q. ends q true)
+dialogue_from t room (l ∷ m ∷ ls) p =
+    if nat_lt room (length l + 1) then ends p false else (if is_quit (line_of t.dialect l) then ends p true
+    else answers (answer_to t p (line_of t.dialect l)) (dialogue_from t (room - (length l + 1)) (m ∷ ls)))
+
+-- the whole of it, from a position on, without breakpoints
+abbrev pub dialogue_of : TimelineData → ℕ → List ℕ → Dialogue
+dialogue_of t at bytes = dialogue_from t MAX_COMMAND_BYTES (lines_of bytes) (record { at = at; breaks = [] })
+
+-- the output got the text, the position is its last, and it came to its end, or to a line that was too large
+pub record IsHeld (d : Dialogue) (whole : Bool) (old new : Option (List ℕ)) (position : ℕ) : Type 0 where
+  pub fits : d.fits ≡ whole
+  pub text : Appends old new d.text
+  pub at : position ≡ d.at

@@ -1,0 +1,9 @@
+pub mod Names
+pub mod Words
+pub mod Commands
+pub mod Breakpoints
+pub mod Timeline
+pub mod Answers
+pub mod Answering
+pub mod Reading
+pub mod Dialogue

@@ -1,0 +1,21 @@
+-- One line of the input, as it is read.
+use Rattle.std.specs.Prelude.{◌≡◌, ℕ, ◌==◌, Bool, true, false, Option, List, [], ◌∷◌, ◌++◌, length}
+use Rattle.std.specs.Io.KnownBytes.{Consumes}
+use Rattle.std.specs.List.{All}
+
+-- no line feed (10) is among the bytes
+abbrev pub HasNoFeed : List ℕ → Type 0
+HasNoFeed = All (λ b. (b == 10) ≡ false)
+
+-- the line feed, where the line has one
+abbrev pub feed : Bool → List ℕ
+feed true = 10 ∷ []
+feed false = []
+
+-- the bytes that are left begin with more than so many bytes of one line
+pub record IsTooLarge (room : ℕ) (old new : Option (List ℕ)) : Type 0 where
+  pub front : List ℕ
+  pub byte : ℕ
+  pub feeds : HasNoFeed front
+  pub full : length front ≡ room
+  pub consumed : Consumes old new (front ++ byte ∷ [])

@@ -1,0 +1,87 @@
+//! Breakpoints, and what they ask of a step.
+ghost use Rattle.std.specs.Prelude.{◌≡◌};
+ghost use Rattle.debug_commands.specs.Breakpoints.{first_holding, holds, word_of};
+
+use step_record::Key;
+
+/// Where `run` stops: behind a step at which the breakpoint holds.
+#[derive(Clone, Copy, Debug, PartialEq, Eq)]
+pub enum Breakpoint {
+    /// A cache hit this key.
+    Hit(Key),
+    /// This key left a cache, or was not kept.
+    Evict(Key),
+    /// A sketch was halved.
+    Halve,
+    /// Just one of two policies hit.
+    Part,
+    /// An offer to a read buffer was dropped.
+    Drop,
+}
+
+/// What breakpoints look at in a step.
+#[derive(Clone, Copy, Debug, PartialEq, Eq)]
+pub struct StepFacts {
+    /// The key that a cache hit.
+    pub hit: Option<Key>,
+    /// The key that left the cache, of two that of the first.
+    pub left: Option<Key>,
+    /// The key that left the second cache.
+    pub also_left: Option<Key>,
+    /// The age of a sketch fell.
+    pub halved: bool,
+    /// Just one of two policies hit.
+    pub parted: bool,
+    /// An offer to a read buffer was dropped.
+    pub dropped: bool,
+}
+
+impl Breakpoint {
+    /// The word that names it.
+    pub fn word(self) -> &'static [u8]
+        ensures { result.now ≡ word_of self }
+    {
+        match self {
+            Breakpoint::Hit(_) => b"hit",
+            Breakpoint::Evict(_) => b"evict",
+            Breakpoint::Halve => b"halve",
+            Breakpoint::Part => b"part",
+            Breakpoint::Drop => b"drop",
+        }
+    }
+
+    /// Whether it holds after the step.
+    pub fn holds(self, facts: &StepFacts) -> bool
+        ensures { result ≡ holds facts.now self }
+    {
+        match self {
+            Breakpoint::Hit(key) => is_key(facts.hit, key),
+            Breakpoint::Evict(key) => is_key(facts.left, key) || is_key(facts.also_left, key),
+            Breakpoint::Halve => facts.halved,
+            Breakpoint::Part => facts.parted,
+            Breakpoint::Drop => facts.dropped,
+        }
+    }
+}
+
+// Whether it is this key.
+fn is_key(found: Option<Key>, key: Key) -> bool
+    ensures { result ≡ Rattle.debug_commands.specs.Breakpoints.is_key found key }
+{
+    match found {
+        Some(other) => other == key,
+        None => false,
+    }
+}
+
+/// The first of the breakpoints that holds after the step.
+pub fn first_holding(breaks: &[Breakpoint], facts: &StepFacts) -> Option<Breakpoint>
+    ensures { result ≡ first_holding facts.now breaks.now }
+{
+    for point in breaks {
+        if point.holds(facts) {
+            return Some(*point);
+        }
+    }
+    None
+}

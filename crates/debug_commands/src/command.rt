@@ -1,0 +1,46 @@
+//! The commands.
+
+use crate::breakpoint::Breakpoint;
+
+/// What a line says.
+#[derive(Clone, Copy, Debug, PartialEq, Eq)]
+pub enum Line {
+    /// Nothing: blanks alone.
+    Empty,
+    /// No command.
+    Unknown,
+    /// A command.
+    Known(Command),
+}
+
+/// A command of the debugger.
+#[derive(Clone, Copy, Debug, PartialEq, Eq)]
+pub enum Command {
+    /// So many steps onward.
+    Step(u64),
+    /// So many steps back.
+    Back(u64),
+    /// To where so many steps are made.
+    Goto(u64),
+    /// Onward, at least one step, to the next breakpoint that holds.
+    Run,
+    /// Sets a breakpoint.
+    Break(Breakpoint),
+    /// Removes all breakpoints.
+    Clear,
+    /// What is seen at the position.
+    Show,
+    /// The command that only this dialect has: `part` or `save`.
+    Own,
+    /// Ends the run.
+    Quit,
+}
+
+/// Which of the two debuggers the commands are for. They differ by one command and one breakpoint.
+#[derive(Clone, Copy, Debug, PartialEq, Eq)]
+pub enum Dialect {
+    /// Two policies over a trace: `part` and `break part`.
+    Policies,
+    /// The journal of a concurrent cache: `save` and `break drop`.
+    Journal,
+}

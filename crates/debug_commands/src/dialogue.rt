@@ -1,0 +1,76 @@
+//! The reading and answering of commands.
+ghost use Rattle.std.specs.Prelude.{◌≡◌, ℕ, Err, IfSome, OnOk, true, false};
+ghost use Rattle.std.specs.Io.KnownBytes.{Appends};
+ghost use Rattle.debug_commands.specs.Dialogue.{dialogue_of, is_quit, IsHeld};
+
+use crate::answers::answer;
+use crate::breakpoint::Breakpoint;
+use crate::command::{Command, Line};
+use crate::fault::DebugFault;
+use crate::grammar;
+use crate::lines::{MAX_COMMAND_BYTES, read_line};
+use crate::timeline::Timeline;
+use std::alloc::Global;
+use std::io::{Read, Write};
+use streams::{Patience, WriteAllFault, flush, write_some};
+
+/// Reads commands line by line and writes the answer to each before the next one is read, up to `quit` or the end of the
+/// input. The output is flushed after each answer. Reads share their interruptions, and so do writes and flushes.
+///
+/// Errors: `TooLarge` where a line goes past `MAX_COMMAND_BYTES` bytes of input; the lines before it are answered.
+/// `OutOfMemory`, `Read` and `Write` where an allocation, the input or the output failed; output may be partial then.
+pub fn answer_commands<T: Timeline, R: Read, W: Write>(
+    alloc: Global,
+    timeline: &mut T,
+    input: &mut R,
+    out: &mut W,
+) -> Result<(), DebugFault>
+    requires { T.IsWhole timeline.old }
+    // With its end it has written what the definition gives for the bytes of the input.
+    ensures done { OnOk result (IfSome (R.remaining input.old) (λ bytes.
+        IsHeld (dialogue_of (T.timeline timeline.old) (T.position timeline.old) bytes) true
+        (W.contents out.old) (W.contents out.new) (T.position timeline.new))) }
+    // So it has where a line was too large, for the lines before that.
+    ensures large { result ≡ Err DebugFault.TooLarge → IfSome (R.remaining input.old) (λ bytes.
+        IsHeld (dialogue_of (T.timeline timeline.old) (T.position timeline.old) bytes) false
+        (W.contents out.old) (W.contents out.new) (T.position timeline.new)) }
+    ensures whole { OnOk result (T.IsWhole timeline.new) }
+    ensures same { OnOk result (T.timeline timeline.new ≡ T.timeline timeline.old) }
+    ensures config { (i : ℕ) → result ≡ Err (DebugFault.Config i) → ⊥ }
+{
+    let mut breaks = Vec::new(alloc);
+    let mut line = Vec::new(alloc);
+    let mut text = Vec::new(alloc);
+    let mut room = MAX_COMMAND_BYTES;
+    let mut reads = Patience::new();
+    let mut writes = Patience::new();
+    'lines: loop {
+        line.clear();
+        text.clear();
+        let fed = read_line(input, &mut line, &mut room, &mut reads)?;
+        let said = grammar::line(timeline.dialect(), line.as_slice());
+        answer(alloc, timeline, &mut breaks, said, &mut text)?;
+        send(out, text.as_slice(), &mut writes)?;
+        if !fed {
+            return Ok(());
+        }
+        if is_quit(said) {
+            return Ok(());
+        }
+    }
+}
+
+// Whether the line ends the run.
+fn is_quit(line: Line) -> bool
+    ensures { result ≡ is_quit line }
+{
+    matches!(line, Line::Known(Command::Quit))
+}
+
+// Writes an answer and flushes.
+fn send<W: Write>(out: &mut W, text: &[u8], patience: &mut Patience) -> Result<(), WriteAllFault>
+    ensures { OnOk result (Appends (W.contents out.old) (W.contents out.new) text.now) }
+{
+    write_some(out, text, patience)?;
+    flush(out, patience)
+}

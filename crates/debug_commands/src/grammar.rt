@@ -1,0 +1,92 @@
+//! The grammar of a line.
+ghost use Rattle.std.specs.Prelude.{◌≡◌};
+ghost use Rattle.debug_commands.specs.Commands.{command_at, command_in, line_in, line_of, point_at, with_rest};
+ghost use Rattle.debug_commands.specs.Words.{words_in};
+
+use crate::blanks::trimmed;
+use crate::breakpoint::Breakpoint;
+use crate::command::{Command, Dialect, Line};
+use crate::name::Name;
+use crate::words::Words;
+
+/// What a line says, which is given without its line feed.
+pub fn line(dialect: Dialect, text: &[u8]) -> Line
+    ensures { result ≡ line_of dialect text.now }
+{
+    line_read(dialect, trimmed(text))
+}
+
+// What the words of a text say.
+#[tactic(auto, unfolding(crate::specs::Commands::line_in))]
+fn line_read(dialect: Dialect, text: &[u8]) -> Line
+    ensures { result ≡ line_in dialect (words_in text.now) }
+{
+    let mut ahead = Words::of(text);
+    if ahead.next().is_none() {
+        return Line::Empty;
+    }
+    match command(dialect, text) {
+        Some(command) => Line::Known(command),
+        None => Line::Unknown,
+    }
+}
+
+// The command that the words of a text are.
+#[tactic(auto, unfolding(crate::specs::Commands::command_in))]
+fn command(dialect: Dialect, text: &[u8]) -> Option<Command>
+    ensures { result ≡ command_in dialect (words_in text.now) }
+{
+    let mut words = Words::of(text);
+    let command = next_command(dialect, &mut words)?;
+    match words.next() {
+        None => Some(command),
+        Some(_) => None,
+    }
+}
+
+// The command that stands next.
+#[tactic(auto, unfolding(crate::specs::Commands::command_at))]
+fn next_command(dialect: Dialect, words: &mut Words) -> Option<Command>
+    ensures { with_rest words.new result ≡ command_at dialect words.old }
+{
+    match words.name()? {
+        Name::Step => Some(Command::Step(words.number()?)),
+        Name::Back => Some(Command::Back(words.number()?)),
+        Name::Goto => Some(Command::Goto(words.number()?)),
+        Name::Run => Some(Command::Run),
+        Name::Break => Some(Command::Break(next_breakpoint(dialect, words)?)),
+        Name::Clear => Some(Command::Clear),
+        Name::Show => Some(Command::Show),
+        Name::Part => match dialect {
+            Dialect::Policies => Some(Command::Own),
+            Dialect::Journal => None,
+        },
+        Name::Save => match dialect {
+            Dialect::Policies => None,
+            Dialect::Journal => Some(Command::Own),
+        },
+        Name::Quit => Some(Command::Quit),
+        _ => None,
+    }
+}
+
+// The breakpoint that stands next.
+#[tactic(auto, unfolding(crate::specs::Commands::point_at))]
+fn next_breakpoint(dialect: Dialect, words: &mut Words) -> Option<Breakpoint>
+    ensures { with_rest words.new result ≡ point_at dialect words.old }
+{
+    match words.name()? {
+        Name::Hit => Some(Breakpoint::Hit(words.number()?)),
+        Name::Evict => Some(Breakpoint::Evict(words.number()?)),
+        Name::Halve => Some(Breakpoint::Halve),
+        Name::Part => match dialect {
+            Dialect::Policies => Some(Breakpoint::Part),
+            Dialect::Journal => None,
+        },
+        Name::Drop => match dialect {
+            Dialect::Policies => None,
+            Dialect::Journal => Some(Breakpoint::Drop),
+        },
+        _ => None,
+    }
+}

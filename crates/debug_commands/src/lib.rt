@@ -1,0 +1,32 @@
+//! The commands of the debugger: their grammar, what each is answered, and the reading and answering of them line by line.
+//!
+//! The debugger walks a `Timeline`: steps that can be made and undone one by one. What it answers is a definition over the
+//! timeline's steps alone (`specs/Answers.antt`, `specs/Dialogue.antt`): a position, a list of breakpoints, and the lines
+//! for each command. `answer_commands` promises that with `Ok` it has written just these lines for the commands it read.
+#![tactic(auto)]
+
+mod answers;
+mod blanks;
+mod breakpoint;
+mod command;
+mod dialogue;
+mod fault;
+mod grammar;
+mod lines;
+mod name;
+mod number;
+mod text;
+mod timeline;
+mod words;
+
+pub use breakpoint::{Breakpoint, StepFacts};
+pub use command::{Command, Dialect, Line};
+pub use dialogue::answer_commands;
+pub use fault::DebugFault;
+pub use grammar::line;
+pub use lines::MAX_COMMAND_BYTES;
+pub use text::{push_bytes, push_number};
+pub use timeline::Timeline;
+
+#[cfg(test)]
+mod tests;

@@ -1,0 +1,62 @@
+//! What the debugger walks.
+ghost use Rattle.std.specs.Prelude.{◌≡◌, ◌≤◌, ◌<◌, ◌+◌, ◌++◌, ℕ, IfOk, OnOk};
+ghost use Rattle.debug_commands.specs.Timeline.{TimelineData};
+
+use crate::breakpoint::StepFacts;
+use crate::command::Dialect;
+use std::alloc::{AllocError, Global};
+
+/// Steps that can be made and undone one by one, at a position: how many of them are made. The one error of each call is
+/// that an allocation failed; the timeline is of no more use then.
+pub trait Timeline {
+    /// All that the debugger's answers go by. No call changes it.
+    ghost timeline: { Self → TimelineData };
+
+    /// How many steps are made.
+    ghost position: { Self → ℕ };
+
+    /// No call on it was out of memory.
+    ghost IsWhole: { Self → Type 0 };
+
+    /// Which commands it has.
+    fn dialect(&self) -> Dialect
+        ensures { result ≡ (timeline self.now).dialect };
+
+    /// How many steps there are.
+    fn end(&self) -> usize
+        requires { IsWhole self.now }
+        ensures { result ≡ (timeline self.now).end };
+
+    /// How many steps are made.
+    fn position(&self) -> usize
+        requires { IsWhole self.now }
+        ensures position { result ≡ position self.now }
+        ensures within { result ≤ (timeline self.now).end };
+
+    /// Makes or undoes steps until `n` are made.
+    fn goto(&mut self, alloc: Global, n: usize) -> Result<(), AllocError>
+        requires whole { IsWhole self.old }
+        requires within { n ≤ (timeline self.old).end }
+        ensures whole { OnOk result (IsWhole self.new) }
+        ensures same { OnOk result (timeline self.new ≡ timeline self.old) }
+        ensures position { OnOk result (position self.new ≡ n) };
+
+    /// Makes the next step, and returns what breakpoints look at in it.
+    fn next(&mut self, alloc: Global) -> Result<StepFacts, AllocError>
+        requires whole { IsWhole self.old }
+        requires within { position self.old < (timeline self.old).end }
+        ensures whole { OnOk result (IsWhole self.new) }
+        ensures same { OnOk result (timeline self.new ≡ timeline self.old) }
+        ensures position { OnOk result (position self.new ≡ position self.old + 1) }
+        ensures facts { IfOk result (λ facts. facts ≡ (timeline self.old).facts (position self.old + 1)) };
+
+    /// Adds what `show` prints.
+    fn show(&self, alloc: Global, text: &mut Vec<u8>) -> Result<(), AllocError>
+        requires { IsWhole self.now }
+        ensures { OnOk result (text.new.items ≡ text.old.items ++ (timeline self.now).shown (position self.now)) };
+
+    /// Adds what the dialect's own command prints.
+    fn own(&self, alloc: Global, text: &mut Vec<u8>) -> Result<(), AllocError>
+        requires { IsWhole self.now }
+        ensures { OnOk result (text.new.items ≡ text.old.items ++ (timeline self.now).own (position self.now)) };
+}

@@ -1,0 +1,88 @@
+//! The words of a line.
+ghost use Rattle.std.specs.Prelude.{◌≡◌, ◌≤◌, ◌==◌, ℕ, List, [], ◌∷◌, MatchOption, length};
+ghost use Rattle.std.specs.Option.{option_map_or};
+ghost use Rattle.std.specs.List.{position_or_len, slice_split};
+ghost use Rattle.debug_commands.specs.Words.{words_in};
+ghost use Rattle.debug_commands.specs.Commands.{name_at, number_at, with_rest};
+
+use crate::name::Name;
+use crate::number::number;
+use std::marker::Model;
+
+// Where the first space is, or the length.
+fn word_end(text: &[u8]) -> usize
+    ensures place { result ≡ position_or_len (λ b. b == 32) text.now }
+    ensures within { result ≤ length text.now }
+{
+    let mut end = 0;
+    'ends: while end < text.len() {
+        if text[end] == b' ' {
+            break;
+        }
+        end += 1;
+    }
+    end
+}
+
+// What stands before the first space, and behind it.
+fn first_piece(text: &[u8]) -> (&[u8], Option<&[u8]>)
+    ensures { slice_split (λ b. b == 32) text.now
+        ≡ result.0.now ∷ option_map_or (λ r. slice_split (λ b. b == 32) r.now) result.1 [] }
+{
+    let end = word_end(text);
+    if end == text.len() {
+        return (text, None);
+    }
+    (&text[..end], Some(&text[end + 1..]))
+}
+
+/// The words of a line that are not yet read.
+#[derive(Drop)]
+pub struct Words<'a> {
+    rest: Option<&'a [u8]>,
+}
+
+impl<'a> Model for Words<'a> {
+    ghost Value = { List (List ℕ) };
+
+    ghost view = { λ w. option_map_or (λ r. words_in r.now) w.rest [] };
+}
+
+impl<'a> Words<'a> {
+    /// All words of a line.
+    pub fn of(text: &'a [u8]) -> Words<'a>
+        ensures { result ≡ words_in text.now }
+    {
+        Words { rest: Some(text) }
+    }
+
+    /// The next word.
+    pub fn next(&mut self) -> Option<&'a [u8]>
+        ensures { MatchOption result (self.old ≡ []) (λ w. self.old ≡ w.now ∷ self.new) }
+    {
+        'pieces: while let Some(text) = self.rest {
+            let (piece, rest) = first_piece(text);
+            self.rest = rest;
+            if !piece.is_empty() {
+                return Some(piece);
+            }
+        }
+        None
+    }
+
+    /// The name that stands next.
+    #[tactic(auto, unfolding(crate::specs::Commands::name_at))]
+    pub fn name(&mut self) -> Option<Name>
+        ensures { with_rest self.new result ≡ name_at self.old }
+    {
+        Name::of(self.next()?)
+    }
+
+    /// The number that stands next.
+    #[tactic(auto, unfolding(crate::specs::Commands::number_at))]
+    pub fn number(&mut self) -> Option<u64>
+        ensures { with_rest self.new result ≡ number_at self.old }
+    {
+        number(self.next()?)
+    }
+}

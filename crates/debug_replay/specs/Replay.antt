@@ -1,0 +1,64 @@
+-- The session of a concurrent cache as the debugger walks it: its steps are the applied and the undone ones together.
+use Rattle.std.specs.Prelude.{ℕ, ◌-◌, Bool, true, false, nat_lt, Option, Some, None, List, ◌++◌, length, take, slice_get}
+use Rattle.step_record.specs.declared.entry.Entry.{Entry}
+use Rattle.step_record.specs.declared.step.Act.{Act}
+use Rattle.step_record.specs.declared.step.Act.TheVariants.{Look}
+use Rattle.step_record.specs.declared.step.Reply.{Reply}
+use Rattle.step_record.specs.declared.step.Reply.TheVariants.{Hit, Full, Lost, Evicted, Rejected}
+use Rattle.step_record.specs.declared.step.Step.{Step}
+use Rattle.step_record.specs.History.{after}
+use Rattle.debug_commands.specs.Timeline.{TimelineData}
+use Rattle.debug_commands.specs.declared.breakpoint.StepFacts.{StepFacts}
+use Rattle.debug_commands.specs.declared.command.Dialect.TheVariants.{Journal}
+use Rattle.journal_text.specs.Journal.{journal_of, Entries}
+use Rattle.journal_text.specs.declared.version.Version.TheVariants.{Two}
+use Rattle.shell_model.specs.Shell.{Shell, act}
+use Rattle.debug_replay.specs.Shown.{shown_text}
+
+-- the key of a look that found it
+abbrev pub hit_key : Act → Reply → Option ℕ
+hit_key (Look key) (Hit node) = Some key
+hit_key a r = None
+
+-- the key that an eviction took out
+abbrev pub left_key : Reply → Option ℕ
+left_key (Evicted item) = Some item.key
+left_key (Rejected item) = Some item.key
+left_key r = None
+
+-- whether the reply drops an offer
+abbrev pub is_dropped : Reply → Bool
+is_dropped Full = true
+is_dropped Lost = true
+is_dropped r = false
+
+abbrev pub facts_of : Act → Reply → Bool → StepFacts
+facts_of a r halved = record {
+  hit = hit_key a r;
+  left = left_key r;
+  also_left = None;
+  halved = halved;
+  parted = false;
+  dropped = is_dropped r;
+}
+
+-- the state after the first n steps
+abbrev pub state_at : Shell → Entries → ℕ → Shell
+state_at opening steps n = after act opening (take n steps)
+
+-- the age of the sketch falls at step n
+abbrev pub halves_at : Shell → Entries → ℕ → Bool
+halves_at opening steps n = nat_lt (state_at opening steps n).frequency.age (state_at opening steps (n - 1)).frequency.age
+
+abbrev pub entry_facts : Option (Entry Step Reply) → Bool → StepFacts
+entry_facts None halved = record { hit = None; left = None; also_left = None; halved = halved; parted = false; dropped = false }
+entry_facts (Some e) halved = facts_of e.step.act e.reply halved
+
+abbrev pub replay_timeline : Shell → Entries → TimelineData
+replay_timeline opening steps = record {
+  dialect = Journal;
+  end = length steps;
+  facts = λ n. entry_facts (slice_get steps (n - 1)) (halves_at opening steps n);
+  shown = λ n. shown_text (state_at opening steps n);
+  own = λ n. journal_of Two (take n steps);
+}

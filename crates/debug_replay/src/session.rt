@@ -1,0 +1,123 @@
+//! The session of a concurrent cache, as the debugger walks it.
+ghost use Rattle.std.specs.Prelude.{◌≡◌, nat_lt};
+ghost use Rattle.debug_replay.specs.Replay.{facts_of, hit_key, is_dropped, left_key};
+
+use crate::showing::push_shell;
+use debug_commands::{Dialect, StepFacts, Timeline, push_bytes};
+use journal::Session;
+use journal_text::write_journal;
+use maintenance::Shell;
+use std::alloc::{AllocError, Global};
+use step_record::{Act, Key, Reply};
+
+/// A session that is walked.
+#[derive(Drop)]
+pub struct Replay<'a> {
+    pub session: &'a mut Session<Shell>,
+}
+
+impl<'a> Timeline for Replay<'a> {
+    ghost use Rattle.std.specs.Prelude.{◌++◌, length, ⊤};
+    ghost use Rattle.debug_replay.specs.Replay.{replay_timeline};
+
+    ghost timeline = { λ w. replay_timeline w.session.now.opening (w.session.now.kept ++ w.session.now.tail) };
+
+    ghost position = { λ w. length w.session.now.kept };
+
+    ghost IsWhole = { λ w. ⊤ };
+
+    fn dialect(&self) -> Dialect {
+        Dialect::Journal
+    }
+
+    fn end(&self) -> usize {
+        self.session.len() + self.session.ahead()
+    }
+
+    fn position(&self) -> usize {
+        self.session.len()
+    }
+
+    fn goto(&mut self, _alloc: Global, n: usize) -> Result<(), AllocError> {
+        match self.session.goto(n) {
+            Ok(()) => Ok(()),
+            Err(_) => Err(AllocError),
+        }
+    }
+
+    fn next(&mut self, _alloc: Global) -> Result<StepFacts, AllocError> {
+        let age = self.session.engine().frequency().age();
+        if self.session.forward(1).is_err() {
+            return Err(AllocError);
+        }
+        let halved = is_less(self.session.engine().frequency().age(), age);
+        match self.session.entry(self.session.len()) {
+            Some(entry) => Ok(facts_of(&entry.step.act, &entry.reply, halved)),
+            None => unreachable!(),
+        }
+    }
+
+    fn show(&self, alloc: Global, text: &mut Vec<u8>) -> Result<(), AllocError> {
+        push_shell(alloc, self.session.engine(), text)
+    }
+
+    fn own(&self, alloc: Global, text: &mut Vec<u8>) -> Result<(), AllocError> {
+        let mut journal = Vec::new(alloc);
+        match write_journal(alloc, self.session, &mut journal) {
+            Ok(()) => push_bytes(text, journal.as_slice()),
+            Err(_) => Err(AllocError),
+        }
+    }
+}
+
+// What breakpoints look at in a step.
+fn facts_of(act: &Act, reply: &Reply, halved: bool) -> StepFacts
+    ensures { result ≡ facts_of act.now reply.now halved }
+{
+    StepFacts {
+        hit: hit_key(act, reply),
+        left: left_key(reply),
+        also_left: None,
+        halved,
+        parted: false,
+        dropped: is_dropped(reply),
+    }
+}
+
+// The key of a look that found it.
+fn hit_key(act: &Act, reply: &Reply) -> Option<Key>
+    ensures { result ≡ hit_key act.now reply.now }
+{
+    match act {
+        Act::Look { key } => match reply {
+            Reply::Hit { .. } => Some(*key),
+            _ => None,
+        },
+        _ => None,
+    }
+}
+
+// The key that an eviction took out.
+fn left_key(reply: &Reply) -> Option<Key>
+    ensures { result ≡ left_key reply.now }
+{
+    match reply {
+        Reply::Evicted { item } => Some(item.key),
+        Reply::Rejected { item } => Some(item.key),
+        _ => None,
+    }
+}
+
+// Whether the reply drops an offer.
+fn is_dropped(reply: &Reply) -> bool
+    ensures { result ≡ is_dropped reply.now }
+{
+    matches!(reply, Reply::Full | Reply::Lost)
+}
+
+// Whether the first age is less.
+fn is_less(age: u32, other: u32) -> bool
+    ensures { result ≡ nat_lt age other }
+{
+    age < other
+}

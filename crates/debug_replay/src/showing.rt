@@ -1,0 +1,149 @@
+//! What is shown of a concurrent cache.
+ghost use Rattle.std.specs.Prelude.{◌≡◌, ◌≤◌, ◌++◌, OnOk, option_map, length};
+ghost use Rattle.shell_buffers.specs.Buffers.{stripe_at};
+ghost use Rattle.maintenance.specs.Opened.{triple};
+ghost use Rattle.debug_replay.specs.Shown.{age_line, drain_line, evictions_text, holder_line, lists_text, looks_text, maintenance_text, offers_text, queues_text, shown_text, state_text, stats_line, stripe_line, stripe_lines, writes_text};
+
+use crate::texts::{
+    drain_word, phase_word, push_count, push_count_line, push_items, push_items_line, push_tasks_line,
+};
+use admission::Frequency;
+use debug_commands::push_bytes;
+use maintenance::Shell;
+use segments::Queue;
+use shell_model::ShellStats;
+use std::alloc::{AllocError, Global};
+use step_record::{Drain, Item};
+
+/// Adds the lines that show a concurrent cache. The one error is that an allocation failed.
+pub fn push_shell(alloc: Global, shell: &Shell, text: &mut Vec<u8>) -> Result<(), AllocError>
+    ensures { OnOk result (text.new.items ≡ text.old.items ++ shown_text shell.now) }
+{
+    push_state(shell, text)?;
+    push_lists(alloc, shell, text)?;
+    push_age(shell.frequency(), text)?;
+    push_stats(&shell.stats(), text)
+}
+
+// Adds the drain state, the holder and the next node.
+fn push_state(shell: &Shell, text: &mut Vec<u8>) -> Result<(), AllocError>
+    ensures { OnOk result (text.new.items ≡ text.old.items ++ state_text shell.now) }
+{
+    push_drain(shell.drain(), text)?;
+    push_holder(shell, text)?;
+    push_count_line(text, b"next ", shell.next_node())
+}
+
+fn push_drain(drain: Drain, text: &mut Vec<u8>) -> Result<(), AllocError>
+    ensures { OnOk result (text.new.items ≡ text.old.items ++ drain_line drain) }
+{
+    push_bytes(text, b"drain ")?;
+    push_bytes(text, drain_word(drain))?;
+    push_bytes(text, b"\n")
+}
+
+fn push_holder(shell: &Shell, text: &mut Vec<u8>) -> Result<(), AllocError>
+    ensures { OnOk result (text.new.items ≡ text.old.items ++ holder_line shell.now.holder) }
+{
+    match shell.holder() {
+        None => push_bytes(text, b"holder none\n"),
+        Some((worker, phase, left)) => {
+            push_count(text, b"holder ", u64::from(worker.number()))?;
+            push_count_line(text, phase_word(phase), u64::from(left))
+        }
+    }
+}
+
+// Adds the table, the queues, the read buffers and the write queue.
+fn push_lists(alloc: Global, shell: &Shell, text: &mut Vec<u8>) -> Result<(), AllocError>
+    ensures { OnOk result (text.new.items ≡ text.old.items ++ lists_text shell.now) }
+{
+    let table = shell.table(alloc)?;
+    push_items_line(text, b"table", table.as_slice())?;
+    push_queues(alloc, shell, text)?;
+    push_stripes(shell, text)?;
+    push_tasks_line(text, shell.tasks())
+}
+
+fn push_queues(alloc: Global, shell: &Shell, text: &mut Vec<u8>) -> Result<(), AllocError>
+    ensures { OnOk result (text.new.items ≡ text.old.items ++ queues_text shell.now) }
+{
+    let window = shell.list(alloc, Queue::Window)?;
+    let probation = shell.list(alloc, Queue::Probation)?;
+    let protected = shell.list(alloc, Queue::Protected)?;
+    push_items_line(text, b"window", window.as_slice())?;
+    push_items_line(text, b"probation", probation.as_slice())?;
+    push_items_line(text, b"protected", protected.as_slice())
+}
+
+fn push_stripes(shell: &Shell, text: &mut Vec<u8>) -> Result<(), AllocError>
+    ensures { OnOk result (text.new.items ≡ text.old.items ++ stripe_lines shell.now.stripes shell.now.config.stripes) }
+{
+    for stripe in 0..shell.stripes() {
+        push_stripe(stripe, shell.stripe(stripe), text)?;
+    }
+    Ok(())
+}
+
+fn push_stripe(stripe: u8, items: &[Item], text: &mut Vec<u8>) -> Result<(), AllocError>
+    ensures { OnOk result (text.new.items ≡ text.old.items ++ stripe_line stripe items.now) }
+{
+    push_count(text, b"stripe ", u64::from(stripe))?;
+    push_items(text, items)?;
+    push_bytes(text, b"\n")
+}
+
+fn push_age(frequency: &Frequency, text: &mut Vec<u8>) -> Result<(), AllocError>
+    ensures { OnOk result (text.new.items ≡ text.old.items ++ age_line frequency.now) }
+{
+    push_count(text, b"age ", u64::from(frequency.age()))?;
+    push_count_line(text, b" halvings ", frequency.halvings())
+}
+
+fn push_stats(stats: &ShellStats, text: &mut Vec<u8>) -> Result<(), AllocError>
+    ensures { OnOk result (text.new.items ≡ text.old.items ++ stats_line stats.now) }
+{
+    push_looks(stats, text)?;
+    push_offers(stats, text)?;
+    push_writes(stats, text)?;
+    push_evictions(stats, text)?;
+    push_maintenance(stats, text)
+}
+
+fn push_looks(stats: &ShellStats, text: &mut Vec<u8>) -> Result<(), AllocError>
+    ensures { OnOk result (text.new.items ≡ text.old.items ++ looks_text stats.now) }
+{
+    push_count(text, b"hits ", stats.hits)?;
+    push_count(text, b" misses ", stats.misses)
+}
+
+fn push_offers(stats: &ShellStats, text: &mut Vec<u8>) -> Result<(), AllocError>
+    ensures { OnOk result (text.new.items ≡ text.old.items ++ offers_text stats.now) }
+{
+    push_count(text, b" kept ", stats.kept)?;
+    push_count(text, b" full ", stats.full)?;
+    push_count(text, b" lost ", stats.lost)
+}
+
+fn push_writes(stats: &ShellStats, text: &mut Vec<u8>) -> Result<(), AllocError>
+    ensures { OnOk result (text.new.items ≡ text.old.items ++ writes_text stats.now) }
+{
+    push_count(text, b" added ", stats.added)?;
+    push_count(text, b" updated ", stats.updated)?;
+    push_count(text, b" refused ", stats.refused)
+}
+
+fn push_evictions(stats: &ShellStats, text: &mut Vec<u8>) -> Result<(), AllocError>
+    ensures { OnOk result (text.new.items ≡ text.old.items ++ evictions_text stats.now) }
+{
+    push_count(text, b" evictions ", stats.evictions)?;
+    push_count(text, b" rejections ", stats.rejections)
+}
+
+fn push_maintenance(stats: &ShellStats, text: &mut Vec<u8>) -> Result<(), AllocError>
+    ensures { OnOk result (text.new.items ≡ text.old.items ++ maintenance_text stats.now) }
+{
+    push_count(text, b" begun ", stats.begun)?;
+    push_count(text, b" busy ", stats.busy)?;
+    push_count_line(text, b" removed ", stats.removed)
+}

@@ -1,0 +1,12 @@
+-- Pieces of a text, one behind another.
+use Rattle.std.proofs.Common.{◌≡◌, ◌∙◌, ℕ, List, ◌++◌, ap, append_assoc, Result, Ok, Err}
+use Rattle.std.specs.Prelude.{OnOk}
+
+-- a piece, and what comes behind it
+pub piece : (a b c x rest : List ℕ) → b ≡ a ++ x → c ≡ b ++ rest → c ≡ a ++ (x ++ rest)
+piece a b c x rest h k = k ∙ ap (λ t. t ++ rest) h ∙ append_assoc a x rest
+
+-- what follows from the last call's promise
+pub at_last : {T E : Type 0} (r : Result T E) (P Q : Type 0) → (P → Q) → OnOk r P → OnOk r Q
+at_last (Ok u) P Q f h = f h
+at_last (Err e) P Q f h = tt

@@ -1,0 +1,79 @@
+-- What the debugger sees of a policy over a trace once the first accesses are made: by the policy's definition.
+use Rattle.std.specs.Prelude.{◌≡◌, ℕ, zero, suc, ◌≤◌, ◌^◌, if◌then◌else◌, Option, Some, None, List, ◌++◌, codes, length, map, slice_index_or, take, []}
+use Rattle.std.specs.Fmt.{decimal}
+use Rattle.std.specs.List.{flat_map}
+use Rattle.step_record.specs.declared.entry.Entry.{Entry}
+use Rattle.step_record.specs.declared.job.Job.{Job}
+use Rattle.step_record.specs.declared.outcome.Outcome.{Outcome}
+use Rattle.step_record.specs.declared.outcome.Outcome.TheVariants.{Kept}
+use Rattle.step_record.specs.declared.stats.Stats.{Stats}
+use Rattle.step_record.specs.Job.{word_of}
+use Rattle.step_record.specs.Stats.{stats_of}
+use Rattle.admission.specs.Frequency.{FrequencyData}
+use Rattle.clairvoyant.specs.Belady.{residents}
+use Rattle.journal.specs.Session.{SessionState}
+use Rattle.policies.specs.declared.any_policy.AnyPolicy.{AnyPolicy}
+use Rattle.policies.specs.AnyPolicy.{knows_trace, outcomes_on, Stands}
+use Rattle.policies.specs.QueueCache.{frequency_after, residents_in, state_after}
+
+-- ---- by the definitions
+
+-- the outcome of access n of the trace, counted from 1
+abbrev pub outcome_at : Job → List ℕ → ℕ → Outcome
+outcome_at j trace zero = Kept
+outcome_at j trace (suc i) = slice_index_or (outcomes_on j trace) i Kept
+
+-- what is counted of the first n accesses
+abbrev pub stats_at : Job → List ℕ → ℕ → Stats
+stats_at j trace n = stats_of (take n (outcomes_on j trace))
+
+-- the keys that are cached after them
+abbrev pub residents_at : Job → List ℕ → ℕ → List ℕ
+residents_at j trace n =
+    if knows_trace j.policy then residents j.config.capacity trace n else residents_in (state_after j (take n trace)).queues
+
+abbrev pub age_in : Option FrequencyData → ℕ
+age_in None = 0
+age_in (Some f) = f.age
+
+-- the age of the sketch after them, 0 where there is none
+abbrev pub age_at : Job → List ℕ → ℕ → ℕ
+age_at j trace n = age_in (frequency_after j (take n trace))
+
+-- ---- the text
+
+abbrev pub count_text : List ℕ → ℕ → List ℕ
+count_text name n = name ++ decimal n
+
+abbrev pub counts_line : List ℕ → Job → Stats → List ℕ
+counts_line label j s = label ++ (codes " " ++ (word_of j.policy ++ (count_text (codes " hits ") s.hits ++ (count_text (codes " misses ") s.misses
+    ++ (count_text (codes " evictions ") s.evictions ++ (count_text (codes " rejections ") s.rejections ++ codes "\n"))))))
+
+abbrev pub spaced_key : ℕ → List ℕ
+spaced_key key = codes " " ++ decimal key
+
+abbrev pub holds_line : List ℕ → List ℕ → List ℕ
+holds_line label keys = label ++ (codes " holds" ++ (flat_map spaced_key keys ++ codes "\n"))
+
+abbrev pub policy_lines : List ℕ → Job → List ℕ → ℕ → List ℕ
+policy_lines label j trace n = counts_line label j (stats_at j trace n) ++ holds_line label (residents_at j trace n)
+
+-- ---- a session over the trace
+
+-- what callers see of it: how many accesses are made
+pub record OnePolicyState : Type 0 where
+  pub job : Job
+  pub trace : List ℕ
+  pub at : ℕ
+
+abbrev pub steps_of : List (Entry ℕ Outcome) → List ℕ
+steps_of es = map (λ e. e.step) es
+
+-- the session began with no access made, and its applied steps are the first accesses of the trace
+pub record IsAt (j : Job) (trace : List ℕ) (s : SessionState AnyPolicy AnyPolicy ℕ Outcome) : Type 0 where
+  pub opening : Stands j trace [] s.opening
+  pub limit : s.limit ≡ 16777216
+  pub steps : steps_of s.kept ≡ take (length s.kept) trace
+  pub within : length s.kept ≤ length trace
+  pub few : length trace ≤ 2 ^ 24
+  pub stands : Stands j trace (take (length s.kept) trace) s.engine
