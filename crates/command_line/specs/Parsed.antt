@@ -1,15 +1,17 @@
 -- What a parse of the words after the program's name gives.
-use Rattle.std.specs.Prelude.{◌≡◌, ◌⊎◌, ⊤, ℕ, List, [], Option, Some, None, Result, Ok, MatchResult, codes}
-use Rattle.clap.specs.Words.{HasKind, Row, Text, fault_of, subcommand_of}
+use Rattle.std.specs.Prelude.{◌≡◌, ◌⊎◌, ⊤, ℕ, List, [], Option, Some, None, Result, Ok, MatchResult, codes, string_bytes}
+use Rattle.clap.specs.Words.{HasKind, Row, Text, fault_of, first_of, subcommand_of}
 use Rattle.step_record.specs.Config.{config_fault}
 use Rattle.command_line.specs.Program.{AreLists, Lists, called, program_app}
 use Rattle.command_line.specs.Program.{batch_in, capacities_in, concurrent_in, config_at, config_in, format_in}
 use Rattle.command_line.specs.Program.{policies_in, policy_in, stripes_in, workers_in}
 use Rattle.command_line.specs.declared.arguments.Arguments.{Arguments}
-use Rattle.command_line.specs.declared.arguments.Arguments.TheVariants.{Drive, Part, Run, Sweep}
+use Rattle.command_line.specs.declared.arguments.Arguments.TheVariants.{Debug, Drive, Part, Replay, Run, Sweep}
 use Rattle.command_line.specs.declared.arguments.RunArguments.{RunArguments}
 use Rattle.command_line.specs.declared.part.PartArguments.{PartArguments}
 use Rattle.command_line.specs.declared.drive.DriveArguments.{DriveArguments}
+use Rattle.command_line.specs.declared.debug.DebugArguments.{DebugArguments}
+use Rattle.command_line.specs.declared.replay.ReplayArguments.{ReplayArguments}
 use Rattle.command_line.specs.declared.sweep.SweepArguments.{SweepArguments}
 use Rattle.command_line.specs.declared.fault.ParseFault.{ParseFault}
 use Rattle.command_line.specs.declared.fault.ParseFault.TheVariants as fault
@@ -45,6 +47,18 @@ pub record IsDrive (rows : List Row) (drive : DriveArguments) : Type 0 where
   pub format : drive.format ≡ format_in rows
   pub checked : config_fault drive.config ≡ Ok tt
 
+-- the arguments of `debug` are those that its matches name
+pub record IsDebug (rows : List Row) (debug : DebugArguments) : Type 0 where
+  pub policies : IsPartCall rows debug.policies
+  pub trace : first_of (codes "trace") rows ≡ Some (string_bytes debug.trace)
+
+-- the arguments of `replay` are those that its matches name, and are accepted
+pub record IsReplay (rows : List Row) (replay : ReplayArguments) : Type 0 where
+  pub stripes : stripes_in rows ≡ Some replay.config.stripes
+  pub config : concurrent_in replay.config.stripes rows ≡ Some replay.config
+  pub journal : first_of (codes "journal") rows ≡ Some (string_bytes replay.journal)
+  pub checked : config_fault replay.config ≡ Ok tt
+
 -- another subcommand than that of the name was called, or none
 abbrev pub IsNotCalled : Text → Option (Text × List Row) → Type 0
 IsNotCalled name subcommand = (rows : List Row) → subcommand ≡ Some (name, rows) → ⊥
@@ -58,6 +72,10 @@ IsAsked subcommand (Part part) =
     (rows : List Row) × (subcommand ≡ Some (codes "part", rows)) × IsPartCall rows part
 IsAsked subcommand (Drive drive) =
     (rows : List Row) × (subcommand ≡ Some (codes "drive", rows)) × IsDrive rows drive
+IsAsked subcommand (Debug debug) =
+    (rows : List Row) × (subcommand ≡ Some (codes "debug", rows)) × IsDebug rows debug
+IsAsked subcommand (Replay replay) =
+    (rows : List Row) × (subcommand ≡ Some (codes "replay", rows)) × IsReplay rows replay
 
 -- the matches of `run` lack an accepted configuration, a batch in its range, or a known policy
 abbrev pub LacksRun : List Row → Type 0
@@ -86,17 +104,35 @@ LacksDrive rows (fault.Refused error) = ⊥
 LacksDrive rows fault.Stripes = stripes_in rows ≡ None
 LacksDrive rows fault.Incomplete = LacksDriven (stripes_in rows) rows
 
+-- the matches of `debug` lack what those of `part` can lack, or a file
+abbrev pub LacksDebug : List Row → Type 0
+LacksDebug rows = LacksPart rows ⊎ (first_of (codes "trace") rows ≡ None)
+
+-- with these read buffers the matches lack an accepted configuration or a file
+abbrev pub LacksReplayed : Option ℕ → List Row → Type 0
+LacksReplayed None rows = ⊥
+LacksReplayed (Some stripes) rows = (concurrent_in stripes rows ≡ None) ⊎ (first_of (codes "journal") rows ≡ None)
+
+-- the matches of `replay` name a number of read buffers that no cache has; else they lack another argument
+abbrev pub LacksReplay : List Row → ParseFault → Type 0
+LacksReplay rows fault.OutOfMemory = ⊤
+LacksReplay rows (fault.Refused error) = ⊥
+LacksReplay rows fault.Stripes = stripes_in rows ≡ None
+LacksReplay rows fault.Incomplete = LacksReplayed (stripes_in rows) rows
+
 -- the matches of the subcommand lack one of its arguments
 pub record IsIncomplete (subcommand : Option (Text × List Row)) : Type 0 where
   pub run : (rows : List Row) → subcommand ≡ Some (codes "run", rows) → LacksRun rows
   pub sweep : (rows : List Row) → subcommand ≡ Some (codes "sweep", rows) → LacksSweep rows
   pub part : (rows : List Row) → subcommand ≡ Some (codes "part", rows) → LacksPart rows
   pub drive : (rows : List Row) → subcommand ≡ Some (codes "drive", rows) → LacksDriven (stripes_in rows) rows
+  pub debug : (rows : List Row) → subcommand ≡ Some (codes "debug", rows) → LacksDebug rows
+  pub replay : (rows : List Row) → subcommand ≡ Some (codes "replay", rows) → LacksReplayed (stripes_in rows) rows
 
 -- the subcommand has a number of read buffers that no cache has
 pub record HasOddStripes (subcommand : Option (Text × List Row)) : Type 0 where
   pub rows : List Row
-  pub called : subcommand ≡ Some (codes "drive", rows)
+  pub called : (subcommand ≡ Some (codes "drive", rows)) ⊎ (subcommand ≡ Some (codes "replay", rows))
   pub odd : stripes_in rows ≡ None
 
 -- why the matches of the subcommand give no arguments

@@ -106,6 +106,10 @@ limit_rule = record (new_rule (codes "limit")) {
   parser = Some (parser.Signed (pos 1) (pos MAX_JOURNAL_LIMIT));
 }
 
+-- an option that names a file
+abbrev pub file_rule : Text → Rule
+file_rule option = record (new_rule option) { long = Some option; value_names = 1; required = true }
+
 -- `--spread mixed|plain`
 abbrev pub spread_rule : Bor (List (Bor Text)) → Rule
 spread_rule names = record (new_rule (codes "spread")) {
@@ -169,12 +173,23 @@ sweep_app lists = with_rule
     (one_policy_rule (codes "policy") lists.policies))
     capacities_rule
 
-abbrev pub part_app : Lists → App
-part_app lists = with_rule
+-- the options that name two policies, how both are set up, and the format of a trace
+abbrev pub paired_app : Lists → App → App
+paired_app lists app = with_rule
     (with_rule
-    (with_rule (configured_app lists.spreads (new_app (codes "part"))) (format_rule lists.formats))
+    (with_rule (configured_app lists.spreads app) (format_rule lists.formats))
     (one_policy_rule (codes "first") lists.policies))
     (one_policy_rule (codes "second") lists.policies)
+
+abbrev pub part_app : Lists → App
+part_app lists = paired_app lists (new_app (codes "part"))
+
+abbrev pub debug_app : Lists → App
+debug_app lists = with_rule (paired_app lists (new_app (codes "debug"))) (file_rule (codes "trace"))
+
+abbrev pub replay_app : Bor (List (Bor Text)) → App
+replay_app spreads = concurrent_app
+    (with_rule (configured_app spreads (new_app (codes "replay"))) (file_rule (codes "journal")))
 
 abbrev pub drive_app : Bor (List (Bor Text)) → Bor (List (Bor Text)) → App
 drive_app formats spreads = concurrent_app
@@ -194,9 +209,13 @@ empty_app = record (new_app (codes "cachesim")) {
 abbrev pub program_app : Lists → App
 program_app lists = with_subcommand
     (with_subcommand
+    (with_subcommand
+    (with_subcommand
     (with_subcommand (with_subcommand empty_app (run_app lists).top) (sweep_app lists).top)
     (part_app lists).top)
-    (drive_app lists.formats lists.spreads).top
+    (drive_app lists.formats lists.spreads).top)
+    (debug_app lists).top)
+    (replay_app lists.spreads).top
 
 -- the words of a call: the program's name, and those after it
 abbrev pub called : List Text → List Text

@@ -1,6 +1,6 @@
 //! What the matches of a subcommand name.
-ghost use Rattle.std.specs.Prelude.{◌≡◌, Ok, Some, IfOk, IfSome, MatchOption, map, option_map};
-ghost use Rattle.clap.specs.Words.{found_of, rows_of};
+ghost use Rattle.std.specs.Prelude.{◌≡◌, Ok, Some, IfOk, IfSome, MatchOption, map, option_map, string_bytes};
+ghost use Rattle.clap.specs.Words.{first_of, found_of, rows_of};
 ghost use Rattle.step_record.specs.Config.{config_fault};
 ghost use Rattle.command_line.specs.Choices.{policies_named as policies_by};
 ghost use Rattle.command_line.specs.Parsed.{IsRun, LacksRun};
@@ -9,8 +9,10 @@ ghost use Rattle.command_line.specs.Program.{policies_in, policy_in, spread_in, 
 
 use crate::choices::{format_named, policy_named, spread_named};
 use crate::commands::MAX_BATCH;
+use crate::debug::DebugArguments;
 use crate::drive::DriveArguments;
 use crate::part::PartArguments;
+use crate::replay::ReplayArguments;
 use crate::sweep::SweepArguments;
 use clap::ArgMatches;
 use std::alloc::{AllocError, Global};
@@ -28,6 +30,10 @@ pub enum Arguments {
     Part(PartArguments),
     /// `drive`
     Drive(DriveArguments),
+    /// `debug`
+    Debug(DebugArguments),
+    /// `replay`
+    Replay(ReplayArguments),
 }
 
 /// The arguments of `run`.
@@ -154,6 +160,21 @@ pub(crate) fn policy(matches: &ArgMatches<'_>, option: &str) -> Option<Policy>
         return None;
     };
     policy_named(word)
+}
+
+// The file that an option names.
+pub(crate) fn path(
+    alloc: Global,
+    matches: &ArgMatches<'_>,
+    option: &str,
+) -> Result<Option<String>, AllocError>
+    ensures { IfOk result (λ named. option_map string_bytes named
+        ≡ first_of option.now (rows_of (found_of matches.now))) }
+{
+    let Some(word) = matches.get_str(option) else {
+        return Ok(None);
+    };
+    Ok(Some(word.to_string(alloc)?))
 }
 
 // The policies that the matches name.

@@ -3,8 +3,9 @@ ghost use Rattle.std.specs.Prelude.{◌≡◌, false, IfOk};
 ghost use Rattle.clap.specs.Words.{app_of, rule_of};
 ghost use Rattle.clap.specs.declared.builder.command.Command.TheViews.{out-Command};
 ghost use Rattle.command_line.specs.Program.{batch_rule, capacities_rule, capacity_rule, concurrent_app, configured_app, divided_app};
-ghost use Rattle.command_line.specs.Program.{drive_app, format_rule, limit_rule, stripes_rule, workers_rule};
-ghost use Rattle.command_line.specs.Program.{main_rule, one_policy_rule, part_app, policy_rule, program_app, run_app, spread_rule, sweep_app};
+ghost use Rattle.command_line.specs.Program.{debug_app, drive_app, file_rule, format_rule, limit_rule, paired_app, replay_app};
+ghost use Rattle.command_line.specs.Program.{main_rule, one_policy_rule, part_app, policy_rule, program_app, run_app, spread_rule};
+ghost use Rattle.command_line.specs.Program.{stripes_rule, sweep_app, workers_rule};
 
 use crate::choices::MIXED;
 use clap::{Arg, ArgAction, Command};
@@ -113,6 +114,18 @@ fn limit_arg<'a>(alloc: Global) -> Arg<'a>
         .help("How many steps the journal holds")
         .default_value("1048576")
         .value_parser(number)
+}
+
+/// An option that names a file.
+fn file_arg<'a>(alloc: Global, option: &'a str, help: &'a str) -> Arg<'a>
+    ensures rule { rule_of result ≡ file_rule option.now }
+    ensures local { result.global ≡ false }
+{
+    Arg::new(alloc, option)
+        .long(option)
+        .value_name("FILE")
+        .help(help)
+        .required(true)
 }
 
 /// `--spread mixed|plain`
@@ -270,6 +283,32 @@ fn sweep_command<'a>(
     chosen.arg(capacities)
 }
 
+/// A command with the options that name two policies, how both are set up, and the format of a
+/// trace.
+fn paired<'a>(
+    alloc: Global,
+    command: Command<'a>,
+    policies: &'a [&'a str],
+    formats: &'a [&'a str],
+    spreads: &'a [&'a str],
+) -> Result<Command<'a>, AllocError>
+    requires local { (out-Command command).has_globals ≡ false }
+    ensures shape { IfOk result (λ c. app_of c ≡ paired_app (record {
+      policies = policies.entry;
+      formats = formats.entry;
+      spreads = spreads.entry;
+    }) (app_of command.entry)) }
+    ensures local { IfOk result (λ c. (out-Command c).has_globals ≡ false) }
+{
+    let format = format_arg(alloc, formats);
+    let first = one_policy_arg(alloc, "first", "The one policy", policies);
+    let second = one_policy_arg(alloc, "second", "The other policy", policies);
+    let configured = configured(alloc, command, spreads)?;
+    let formed = configured.arg(format)?;
+    let one = formed.arg(first)?;
+    one.arg(second)
+}
+
 /// `part`, which prints the first access at which just one of two policies hits.
 fn part_command<'a>(
     alloc: Global,
@@ -284,17 +323,49 @@ fn part_command<'a>(
     })) }
     ensures local { IfOk result (λ c. (out-Command c).has_globals ≡ false) }
 {
-    let format = format_arg(alloc, formats);
-    let first = one_policy_arg(alloc, "first", "The one policy", policies);
-    let second = one_policy_arg(alloc, "second", "The other policy", policies);
     let named = Command::new(alloc, "part");
     let part = named.about(
         "Prints the first access of the trace on standard input at which just one of two policies hits",
     );
-    let configured = configured(alloc, part, spreads)?;
-    let formed = configured.arg(format)?;
-    let one = formed.arg(first)?;
-    one.arg(second)
+    paired(alloc, part, policies, formats, spreads)
+}
+
+/// `debug`, which answers commands about two policies over a trace.
+fn debug_command<'a>(
+    alloc: Global,
+    policies: &'a [&'a str],
+    formats: &'a [&'a str],
+    spreads: &'a [&'a str],
+) -> Result<Command<'a>, AllocError>
+    ensures shape { IfOk result (λ c. app_of c ≡ debug_app (record {
+      policies = policies.entry;
+      formats = formats.entry;
+      spreads = spreads.entry;
+    })) }
+    ensures local { IfOk result (λ c. (out-Command c).has_globals ≡ false) }
+{
+    let trace = file_arg(alloc, "trace", "The file of the trace");
+    let named = Command::new(alloc, "debug");
+    let debug = named.about(
+        "Answers commands on standard input about two policies over the trace of a file",
+    );
+    let paired = paired(alloc, debug, policies, formats, spreads)?;
+    paired.arg(trace)
+}
+
+/// `replay`, which answers commands about a journal.
+fn replay_command<'a>(alloc: Global, spreads: &'a [&'a str]) -> Result<Command<'a>, AllocError>
+    ensures shape { IfOk result (λ c. app_of c ≡ replay_app spreads.entry) }
+    ensures local { IfOk result (λ c. (out-Command c).has_globals ≡ false) }
+{
+    let journal = file_arg(alloc, "journal", "The file of the journal");
+    let named = Command::new(alloc, "replay");
+    let replay = named.about(
+        "Answers commands on standard input about the concurrent run whose journal is in a file",
+    );
+    let configured = configured(alloc, replay, spreads)?;
+    let recorded = configured.arg(journal)?;
+    concurrent(alloc, recorded)
 }
 
 /// `drive`, which prints the journal of workers on threads.
@@ -335,6 +406,8 @@ pub(crate) fn program<'a>(
     let sweep = sweep_command(alloc, policies, formats, spreads)?;
     let part = part_command(alloc, policies, formats, spreads)?;
     let drive = drive_command(alloc, formats, spreads)?;
+    let debug = debug_command(alloc, policies, formats, spreads)?;
+    let replay = replay_command(alloc, spreads)?;
     let named = Command::new(alloc, "cachesim");
     let top = named.about("Simulates cache policies over recorded block traces");
     let versioned = top.version("0.1.0");
@@ -342,5 +415,7 @@ pub(crate) fn program<'a>(
     let running = empty.subcommand(run)?;
     let sweeping = running.subcommand(sweep)?;
     let parting = sweeping.subcommand(part)?;
-    parting.subcommand(drive)
+    let driving = parting.subcommand(drive)?;
+    let debugging = driving.subcommand(debug)?;
+    debugging.subcommand(replay)
 }

@@ -11,16 +11,20 @@
 mod arguments;
 mod choices;
 mod commands;
+mod debug;
 mod drive;
 mod fault;
 mod parsing;
 mod part;
+mod replay;
 mod sweep;
 
 pub use arguments::{Arguments, RunArguments};
 pub use commands::MAX_BATCH;
+pub use debug::DebugArguments;
 pub use drive::DriveArguments;
 pub use fault::ParseFault;
 pub use parsing::parse;
 pub use part::PartArguments;
+pub use replay::ReplayArguments;
 pub use sweep::SweepArguments;

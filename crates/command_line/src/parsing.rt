@@ -7,9 +7,11 @@ ghost use Rattle.command_line.specs.Program.{called as called_by};
 use crate::arguments::{Arguments, run_arguments};
 use crate::choices::{format_words, policy_words, spread_words};
 use crate::commands::program;
+use crate::debug::debug_arguments;
 use crate::drive::drive_arguments;
 use crate::fault::ParseFault;
 use crate::part::part_arguments;
+use crate::replay::replay_arguments;
 use crate::sweep::sweep_arguments;
 use clap::ArgMatches;
 use std::alloc::{AllocError, Global};
@@ -57,6 +59,18 @@ fn arguments(alloc: Global, matches: &ArgMatches<'_>) -> Result<Arguments, Parse
     if let Some(asked) = matches_of(matches, "drive") {
         return match drive_arguments(asked) {
             Ok(drive) => Ok(Arguments::Drive(drive)),
+            Err(fault) => Err(fault),
+        };
+    }
+    if let Some(asked) = matches_of(matches, "debug") {
+        return match debug_arguments(alloc, asked)? {
+            Some(debug) => Ok(Arguments::Debug(debug)),
+            None => Err(ParseFault::Incomplete),
+        };
+    }
+    if let Some(asked) = matches_of(matches, "replay") {
+        return match replay_arguments(alloc, asked) {
+            Ok(replay) => Ok(Arguments::Replay(replay)),
             Err(fault) => Err(fault),
         };
     }

@@ -1,18 +1,13 @@
 use Rattle.std.proofs.Common.{ap, ap₂, ◌≡◌, ◌∙◌, codes}
 use Rattle.std.proofs.lemmas.Result.{IfOk-weaker}
-use Rattle.clap.specs.Words.{App, app_of, new_app, with_rule}
+use Rattle.std.specs.Borrow.{Bor}
+use Rattle.clap.specs.Words.{App, Text, app_of, new_app, with_rule}
 use Rattle.clap.specs.Simple.{app_of_fields}
-use Rattle.command_line.specs.Program.{configured_app, format_rule, one_policy_rule}
+use Rattle.command_line.specs.Program.{Lists, paired_app}
 use Rattle.command_line.proofs.commands.part_command.Goals as goal
 
 pub returns-clause-shape : goal.returns-clause-shape
 returns-clause-shape c =
-    let format = c.format_arg-format.ensures in
-    let first = c.one_policy_arg-first.ensures in
-    let second = c.one_policy_arg-second.ensures in
+    let lists : Lists = record { policies = c.args.policies; formats = c.args.formats; spreads = c.args.spreads } in
     let named : app_of c.about-part.result ≡ new_app (codes "part") = ap app_of_fields c.about-part.ensures ∙ c.new-named.ensures.app in
-    let spreads = configured_app c.args.spreads in
-    let set : app_of c.in_ok-configured.configured ≡ spreads (new_app (codes "part")) = c.in_ok-configured.ensures.shape ∙ ap spreads named in
-    let formed : app_of c.in_ok-formed.formed ≡ with_rule (spreads (new_app (codes "part"))) (format_rule c.args.formats) = c.in_ok-formed.ensures.shape format.local ∙ ap₂ with_rule set format.rule in
-    let one : app_of c.in_ok-one.one ≡ with_rule (with_rule (spreads (new_app (codes "part"))) (format_rule c.args.formats)) (one_policy_rule (codes "first") c.args.policies) = c.in_ok-one.ensures.shape first.local ∙ ap₂ with_rule formed first.rule in
-    IfOk-weaker c.arg-3.result _ _ (λ r h. h.shape second.local ∙ ap₂ with_rule one second.rule) c.arg-3.ensures
+    IfOk-weaker c.paired.result _ _ (λ r h. h ∙ ap (paired_app lists) named) c.paired.ensures.shape

@@ -24,4 +24,8 @@ returns c =
     let sweeping = c.in_ok-sweeping.ensures.shape sweep.local ∙ ap₂ with_subcommand running (ap (λ (a : App). a.top) sweep.shape) in
     let drive = c.in_ok-drive.ensures in
     let parting = c.in_ok-parting.ensures.shape part.local ∙ ap₂ with_subcommand sweeping (ap (λ (a : App). a.top) part.shape) in
-    IfOk-weaker c.subcommand-4.result _ _ (λ r h. h.shape drive.local ∙ ap₂ with_subcommand parting (ap (λ (a : App). a.top) drive.shape)) c.subcommand-4.ensures
+    let debug = c.in_ok-debug.ensures in
+    let replay = c.in_ok-replay.ensures in
+    let driving = c.in_ok-driving.ensures.shape drive.local ∙ ap₂ with_subcommand parting (ap (λ (a : App). a.top) drive.shape) in
+    let debugging = c.in_ok-debugging.ensures.shape debug.local ∙ ap₂ with_subcommand driving (ap (λ (a : App). a.top) debug.shape) in
+    IfOk-weaker c.subcommand-6.result _ _ (λ r h. h.shape replay.local ∙ ap₂ with_subcommand debugging (ap (λ (a : App). a.top) replay.shape)) c.subcommand-6.ensures

@@ -1,6 +1,6 @@
 use Rattle.std.proofs.Common.{◌≡◌, rules}
 use Rattle.clap.specs.Words.{subcommand_rows_of}
-use Rattle.command_line.proofs.Subcommands.{lacks_all, lacks_drive, lacks_part, lacks_run, lacks_sweep}
+use Rattle.command_line.proofs.Subcommands.{lacks_all, lacks_debug, lacks_drive, lacks_part, lacks_replay, lacks_run, lacks_sweep}
 use Rattle.command_line.proofs.parsing.arguments.Goals as goal
 
 pub returns-in-None : goal.returns-in-None
@@ -15,5 +15,11 @@ returns-in-None-part_arguments c = lacks_part _ _ c.in-Some-matches_of-2.ensures
 pub returns-in-Err : goal.returns-in-Err
 returns-in-Err c = lacks_drive _ _ _ c.in-Some-matches_of-3.ensures (search rules)
 
+pub returns-in-None-3 : goal.returns-in-None-3
+returns-in-None-3 c = lacks_debug _ _ c.in-Some-matches_of-4.ensures (search rules)
+
+pub returns-in-Err-replay_arguments : goal.returns-in-Err-replay_arguments
+returns-in-Err-replay_arguments c = lacks_replay _ _ _ c.in-Some-matches_of-5.ensures (search rules)
+
 pub returns : goal.returns
-returns c = lacks_all _ c.in_default.ensures c.in_default-matches_of.ensures c.in_default-matches_of-2.ensures c.in_default-matches_of-3.ensures
+returns c = lacks_all _ c.in_default.ensures c.in_default-matches_of.ensures c.in_default-matches_of-2.ensures c.in_default-matches_of-3.ensures c.in_default-matches_of-4.ensures c.in_default-matches_of-5.ensures
