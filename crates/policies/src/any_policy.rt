@@ -64,10 +64,10 @@ impl AnyPolicy {
 
     /// Makes an access that is not to be undone: that of `apply`, without its undo record.
     ///
-    /// Errors: `NotNow` exactly where `apply` refuses the access so, and `OutOfMemory`; each leaves the cache as it was.
+    /// Errors: `NotNow` exactly where `apply` gives it, and `OutOfMemory`; each leaves the cache as it was.
     ///
-    /// `C` is a type of the caller's choice, of which nothing is asked: each has code of its own, so that code which is called
-    /// at one place is part of the loop there.
+    /// `C` is a type of the caller's choice, of which nothing is asked: each has code of its own, so that code which is
+    /// called at one place is part of the loop there.
     #[inline(always)]
     pub fn access<C>(&mut self, key: Key) -> Result<Outcome, StepFault>
         ensures accepted { IfOk result (λ o. any_act self.old key ≡ Some (o, self.new)) }

@@ -47,8 +47,8 @@ fn access_planned<C>(
 /// Accesses an item: a hit where it stands in a queue, else a miss, by the rules. Where keys are counted, `frequency` is
 /// the one that already has the item's key. It requires room for one item.
 ///
-/// `C` is a type of the caller's choice, of which nothing is asked: each has code of its own, so that where callers that
-/// keep the undo record choose one type and those that drop it another, the latter's code writes no record.
+/// `C` is a type of the caller's choice, of which nothing is asked: each has code of its own, so that where callers
+/// that keep the undo record choose one type and those that drop it another, the latter's code writes no record.
 #[inline(always)]
 pub fn access<C>(
     segments: &mut Segments,
