@@ -6,12 +6,14 @@ use Rattle.clap.specs.declared.error.ErrorKind.TheVariants.{OutOfMemory}
 use Rattle.step_record.specs.declared.config.Config.{Config}
 use Rattle.step_record.specs.declared.job.Job.{Job}
 use Rattle.command_line.specs.Parsed.{ParsedBy}
-use Rattle.command_line.specs.declared.arguments.Arguments.TheVariants.{Drive, Part, Run, Sweep}
+use Rattle.command_line.specs.declared.arguments.Arguments.TheVariants.{Debug, Drive, Part, Replay, Run, Sweep}
 use Rattle.command_line.specs.declared.arguments.RunArguments.{RunArguments}
 use Rattle.command_line.specs.declared.sweep.SweepArguments.{SweepArguments}
 use Rattle.command_line.specs.declared.part.PartArguments.{PartArguments}
 use Rattle.command_line.specs.declared.fault.ParseFault.TheVariants.{Refused}
+use Rattle.command_line.specs.declared.debug.DebugArguments.{DebugArguments}
 use Rattle.command_line.specs.declared.drive.DriveArguments.{DriveArguments}
+use Rattle.command_line.specs.declared.replay.ReplayArguments.{ReplayArguments}
 use Rattle.cachesim.specs.Drove.{IsDriven}
 use Rattle.cachesim.specs.Jobs.{jobs_at, jobs_of}
 use Rattle.cachesim.specs.Part.{Parting}
@@ -106,13 +108,27 @@ drive_done words drive p input before after h =
       are = p.are;
       done = inl (
         p.gives.0,
-        inr (inr (inr (record {
+        inr (inr (inr (inl (record {
           rows = p.gives.1.0;
           is_drive = p.gives.1.1;
           config = drive.config;
           config_is = is.config;
           stripes_are = is.stripes;
           driven = subst (λ f. IsDriven drive.config f input before after) is.format h;
-        }))),
+        })))),
       );
     }
+
+pub debug_done : (words : List Text) (debug : DebugArguments) → ParsedBy words (Ok (Debug debug)) → (input before after : Option (List ℕ)) → DoneBy words input before after
+debug_done words debug p input before after = record {
+  lists = p.lists;
+  are = p.are;
+  done = inl (p.gives.0, inr (inr (inr (inr (record { rows = p.gives.1.0; called = inl p.gives.1.1 })))));
+}
+
+pub replay_done : (words : List Text) (replay : ReplayArguments) → ParsedBy words (Ok (Replay replay)) → (input before after : Option (List ℕ)) → DoneBy words input before after
+replay_done words replay p input before after = record {
+  lists = p.lists;
+  are = p.are;
+  done = inl (p.gives.0, inr (inr (inr (inr (record { rows = p.gives.1.0; called = inr p.gives.1.1 })))));
+}

@@ -3,10 +3,18 @@ use Rattle.report.specs.declared.fault.WriteFault.{WriteFault}
 use Rattle.report.specs.declared.fault.WriteFault.TheVariants as write
 use Rattle.journal_text.specs.declared.fault.WriteFault.{WriteFault as JournalWriteFault}
 use Rattle.journal_text.specs.declared.fault.WriteFault.TheVariants as journal
+use Rattle.journal_text.specs.declared.fault.JournalFault.{JournalFault}
+use Rattle.journal_text.specs.declared.fault.JournalFault.TheVariants as reading
+use Rattle.drive.specs.declared.driving.Cause.{Cause}
+use Rattle.drive.specs.declared.driving.Cause.TheVariants as cause
+use Rattle.debug_commands.specs.declared.fault.DebugFault.{DebugFault}
+use Rattle.debug_commands.specs.declared.fault.DebugFault.TheVariants as debug
+use Rattle.cachesim.specs.declared.files.FileFault.{FileFault}
+use Rattle.cachesim.specs.declared.files.FileFault.TheVariants as file
 use Rattle.policy_actors.specs.declared.fault.ActorFault.{ActorFault}
 use Rattle.policy_actors.specs.declared.fault.ActorFault.TheVariants as actor
 use Rattle.cachesim.specs.declared.fault.Fault.{Fault}
-use Rattle.cachesim.specs.declared.fault.Fault.TheVariants.{Actors, Batch, Config, OutOfMemory, Write}
+use Rattle.cachesim.specs.declared.fault.Fault.TheVariants.{Actors, Batch, Config, Debug, Journal, JournalFull, NoFile, OutOfMemory, Write}
 
 abbrev pub of_write : WriteFault → Fault
 of_write write.OutOfMemory = OutOfMemory
@@ -15,6 +23,22 @@ of_write write.Write = Write
 abbrev pub of_journal : JournalWriteFault → Fault
 of_journal journal.OutOfMemory = OutOfMemory
 of_journal journal.Write = Write
+
+abbrev pub of_cause : Cause → Fault
+of_cause cause.Memory = OutOfMemory
+of_cause cause.JournalFull = JournalFull
+
+abbrev pub of_file : FileFault → Fault
+of_file file.OutOfMemory = OutOfMemory
+of_file file.NoFile = NoFile
+
+abbrev pub of_reading : JournalFault → Fault
+of_reading reading.OutOfMemory = OutOfMemory
+of_reading other = Journal other
+
+abbrev pub of_debug : DebugFault → Fault
+of_debug debug.OutOfMemory = OutOfMemory
+of_debug other = Debug other
 
 abbrev pub of_actor : ActorFault → Fault
 of_actor actor.OutOfMemory = OutOfMemory

@@ -66,6 +66,11 @@ pub record Drove (subcommand : Option (Text × List Row)) (input before after : 
   pub stripes_are : stripes_in rows ≡ Some config.stripes
   pub driven : IsDriven config (format_in rows) input before after
 
+-- `debug` or `replay` was called
+pub record IsDebugging (subcommand : Option (Text × List Row)) : Type 0 where
+  pub rows : List Row
+  pub called : (subcommand ≡ Some (codes "debug", rows)) ⊎ (subcommand ≡ Some (codes "replay", rows))
+
 abbrev pub is_help : ErrorKind → Type 0
 is_help kind = (kind ≡ DisplayHelp) ⊎ (kind ≡ DisplayVersion)
 
@@ -85,7 +90,8 @@ pub record DoneBy (words : List Text) (input before after : Option (List ℕ)) :
       × (Ran (subcommand_of (program_app lists) (called words)) input before after
       ⊎ Swept (subcommand_of (program_app lists) (called words)) input before after
       ⊎ Parted (subcommand_of (program_app lists) (called words)) input before after
-      ⊎ Drove (subcommand_of (program_app lists) (called words)) input before after))
+      ⊎ Drove (subcommand_of (program_app lists) (called words)) input before after
+      ⊎ IsDebugging (subcommand_of (program_app lists) (called words))))
       ⊎ AsksHelp (fault_of (program_app lists) (called words))
 
 -- a usage error: clap refuses the words, or they lack a number in its range or a known policy, or their number of read

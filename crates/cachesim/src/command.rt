@@ -3,6 +3,7 @@ ghost use Rattle.std.specs.Prelude.{◌≡◌, ◌≢◌, ◌≤◌, ◌⊎◌, 
 ghost use Rattle.clap.specs.Words.{kind_of};
 ghost use Rattle.cachesim.specs.Run.{DoneBy, is_help, RefusedBy};
 
+use crate::debugging::{debug, replay};
 use crate::driving::drive;
 use crate::fault::Fault;
 use crate::files::Files;
@@ -76,8 +77,8 @@ fn answer<W: Write, X: Write>(alloc: Global, error: &Error, out: &mut W, fault_o
 }
 
 /// The program, of the words after its name, over an input and two outputs: it returns the
-/// status. 0 is done, 1 a fault with one line on the fault output, 2 a usage error. No subcommand
-/// reads a file yet.
+/// status. 0 is done, 1 a fault with one line on the fault output, 2 a usage error. `debug` and
+/// `replay` read a file too.
 pub fn command<T: Threads + Wait + Sync, R: Read, W: Write, X: Write, F: Files>(
     rt: &T,
     alloc: Global,
@@ -85,13 +86,13 @@ pub fn command<T: Threads + Wait + Sync, R: Read, W: Write, X: Write, F: Files>(
     input: &mut R,
     out: &mut W,
     fault_out: &mut X,
-    _files: &F,
+    files: &F,
 ) -> u8
     ensures status { result ≤ 2 }
     // With status 0 the words are taken as `run`, `sweep`, `part` or `drive`, the bytes read have no
     // fault, and those written are the text of the report of each policy, or of the policy at each
     // capacity, that the words name, or the line of the access at which two policies part, or the
-    // journal of a run of workers; or the words ask for help.
+    // journal of a run of workers; or the words ask for help, or are taken as `debug` or `replay`.
     ensures done { result ≡ 0 → DoneBy (map (λ s. s.now) words.now) (R.remaining input.old)
         (W.contents out.old) (W.contents out.new) }
     // A usage error comes only where it is due, before anything is read or written.
@@ -118,6 +119,8 @@ pub fn command<T: Threads + Wait + Sync, R: Read, W: Write, X: Write, F: Files>(
         Arguments::Sweep(arguments) => sweep(rt, alloc, &arguments, input, out),
         Arguments::Part(arguments) => part(alloc, &arguments, input, out),
         Arguments::Drive(arguments) => drive(rt, alloc, &arguments, input, out),
+        Arguments::Debug(arguments) => debug(alloc, &arguments, input, out, files),
+        Arguments::Replay(arguments) => replay(alloc, &arguments, input, out, files),
     };
     match done {
         Ok(()) => DONE,

@@ -1,8 +1,7 @@
 //! The subcommand `drive`: a trace to the journal of workers on threads.
-ghost use Rattle.std.specs.Prelude.{◌≡◌, ◌≢◌, ◌≤◌, ℕ, Ok, IfErr, IfOk, OnOk, length};
+ghost use Rattle.std.specs.Prelude.{◌≡◌, ◌≤◌, Ok, [], IfOk, OnOk, length};
 ghost use Rattle.step_record.specs.Config.{config_fault};
 ghost use Rattle.step_record.specs.declared.worker.TheConstants.{MAX_WORKERS};
-ghost use Rattle.maintenance.specs.Opened.{IsOpened};
 ghost use Rattle.cachesim.specs.Drove.{IsDriven, IsFirst};
 
 use crate::fault::Fault;
@@ -41,10 +40,11 @@ fn deal(alloc: Global, keys: &[Key], workers: u8) -> Result<Vec<Vec<Call>>, Allo
     Ok(pieces)
 }
 
-// A session of no step over an empty cache.
-fn open(alloc: Global, config: &Config) -> Result<Session<Shell>, AllocError>
+/// A session of no step over an empty cache. The one error is out of memory.
+pub fn open(alloc: Global, config: &Config) -> Result<Session<Shell>, AllocError>
     requires { config_fault config.now ≡ Ok tt }
-    ensures { IfOk result (IsFirst config.now) }
+    ensures first { IfOk result (IsFirst config.now) }
+    ensures tail { IfOk result (λ session. session.tail ≡ []) }
 {
     let shell = Shell::new(alloc, config)?;
     Ok(Session::open(alloc, shell, config.journal_limit as usize))
@@ -82,7 +82,7 @@ pub fn drive<T: Threads + Wait + Sync, R: Read, W: Write>(
             },
         ) => {
             write_journal(alloc, &session, out)?;
-            Err(Fault::Stopped(cause))
+            Err(Fault::from(cause))
         }
         Err(DriveFault::OutOfMemory { session: _ }) => Err(Fault::OutOfMemory),
         Err(DriveFault::Workers { session: _ }) => unreachable!(),

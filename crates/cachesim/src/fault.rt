@@ -1,9 +1,12 @@
 //! Why a subcommand printed no result.
 ghost use Rattle.std.specs.Prelude.{◌≡◌};
-ghost use Rattle.cachesim.specs.Fault.{of_actor, of_journal, of_write};
+ghost use Rattle.cachesim.specs.Fault.{of_actor, of_cause, of_debug, of_file, of_journal, of_reading, of_write};
 ghost use Rattle.cachesim.specs.declared.fault.Fault.TheVariants.{OutOfMemory, Trace};
 
-use journal::SessionFault;
+use crate::files::FileFault;
+use debug_commands::DebugFault;
+use drive::Cause;
+use journal_text::JournalFault;
 use policy_actors::ActorFault;
 use report::WriteFault;
 use std::alloc::AllocError;
@@ -28,9 +31,18 @@ pub enum Fault {
     /// The trace was not read, or has a faulty line.
     #[error("{0}")]
     Trace(TraceFault),
-    /// A worker was refused a step.
+    /// A worker was refused a step, since as many were made as the journal holds.
+    #[error("JournalFull")]
+    JournalFull,
+    /// There is no such file, or it cannot be read.
+    #[error("NoFile")]
+    NoFile,
+    /// The file is no journal of a session with the arguments.
     #[error("{0}")]
-    Stopped(SessionFault),
+    Journal(JournalFault),
+    /// The commands were not answered to their end.
+    #[error("{0}")]
+    Debug(DebugFault),
     /// The output failed; it may be partial.
     #[error("Write")]
     Write,
@@ -70,6 +82,50 @@ impl From<journal_text::WriteFault> for Fault {
         match fault {
             journal_text::WriteFault::OutOfMemory => Fault::OutOfMemory,
             journal_text::WriteFault::Write => Fault::Write,
+        }
+    }
+}
+
+impl From<Cause> for Fault {
+    ghost from_gives = { λ cause e. e ≡ of_cause cause };
+
+    fn from(cause: Cause) -> Fault {
+        match cause {
+            Cause::Memory => Fault::OutOfMemory,
+            Cause::JournalFull => Fault::JournalFull,
+        }
+    }
+}
+
+impl From<FileFault> for Fault {
+    ghost from_gives = { λ fault e. e ≡ of_file fault };
+
+    fn from(fault: FileFault) -> Fault {
+        match fault {
+            FileFault::OutOfMemory => Fault::OutOfMemory,
+            FileFault::NoFile => Fault::NoFile,
+        }
+    }
+}
+
+impl From<JournalFault> for Fault {
+    ghost from_gives = { λ fault e. e ≡ of_reading fault };
+
+    fn from(fault: JournalFault) -> Fault {
+        match fault {
+            JournalFault::OutOfMemory => Fault::OutOfMemory,
+            other => Fault::Journal(other),
+        }
+    }
+}
+
+impl From<DebugFault> for Fault {
+    ghost from_gives = { λ fault e. e ≡ of_debug fault };
+
+    fn from(fault: DebugFault) -> Fault {
+        match fault {
+            DebugFault::OutOfMemory => Fault::OutOfMemory,
+            other => Fault::Debug(other),
         }
     }
 }

@@ -2,6 +2,9 @@
 
 use std::alloc::Global;
 
+/// As many bytes as a file has at most: 2^30.
+pub const MAX_FILE_BYTES: usize = 1 << 30;
+
 /// Why a file gave no bytes.
 #[derive(Clone, Copy, Debug, PartialEq, Eq)]
 pub enum FileFault {

@@ -6,6 +6,7 @@
 #![tactic(auto)]
 
 mod command;
+mod debugging;
 mod driving;
 mod fault;
 mod files;
@@ -15,18 +16,28 @@ mod sweep;
 
 use command::{REFUSED, command, report_fault};
 use fault::Fault;
-use files::{FileFault, Files};
+use files::{FileFault, Files, MAX_FILE_BYTES};
 use std::alloc::{AllocError, Global};
 use std::io::{ErrorKind, Write};
 use std::process::ExitCode;
-use std::{env, io};
+use std::{env, fs, io};
+use streams::ReadAllFault;
 
-// The files of this machine; no subcommand reads one yet.
-struct NoFiles;
+// The files of this machine.
+struct HostFiles<'a> {
+    rt: &'a HostRuntime,
+}
 
-impl Files for NoFiles {
-    fn bytes(&self, _alloc: Global, _path: &str) -> Result<Vec<u8>, FileFault> {
-        Err(FileFault::NoFile)
+impl<'a> Files for HostFiles<'a> {
+    fn bytes(&self, alloc: Global, path: &str) -> Result<Vec<u8>, FileFault> {
+        let Ok(mut file) = fs::open(self.rt, path) else {
+            return Err(FileFault::NoFile);
+        };
+        match streams::read_all(alloc, &mut file, MAX_FILE_BYTES) {
+            Ok(bytes) => Ok(bytes),
+            Err(ReadAllFault::OutOfMemory) => Err(FileFault::OutOfMemory),
+            Err(_) => Err(FileFault::NoFile),
+        }
     }
 }
 
@@ -71,7 +82,7 @@ fn main(rt: HostRuntime) -> ExitCode {
         &mut rt.stdin(),
         &mut rt.stdout(),
         &mut fault_out,
-        &NoFiles,
+        &HostFiles { rt: &rt },
     );
     ExitCode::from(status)
 }

@@ -1,7 +1,6 @@
 -- What a run hands back.
-use Rattle.std.proofs.Common.{◌≡◌, ℕ, ◌≤◌, ◌<◌, List, Option, Some, None, map, length, refl, sym, ap, ◌∙◌, subst, Result, Ok, Err, OnOk, arith}
+use Rattle.std.proofs.Common.{◌≡◌, ℕ, List, Option, Some, None, refl, subst, Result, Ok, Err, OnOk}
 use Rattle.std.specs.Prelude.{IfOk, IfErr, option_map}
-use Rattle.std.proofs.lemmas.List.{length-map}
 use Rattle.step_record.specs.declared.step.Call.{Call}
 use Rattle.step_record.specs.declared.step.Reply.{Reply}
 use Rattle.step_record.specs.declared.step.Step.{Step}
@@ -9,8 +8,6 @@ use Rattle.journal.specs.Session.{SessionState}
 use Rattle.journal.specs.declared.fault.SessionFault.{SessionFault}
 use Rattle.journal.specs.declared.fault.SessionFault.TheVariants as fault
 use Rattle.shell_model.specs.declared.holder.Holder.{Holder}
-use Rattle.shell_model.specs.Shell.{Shell}
-use Rattle.drive.specs.declared.driving.DriveFault.{DriveFault}
 use Rattle.drive.specs.DriveFaults.{the_cause}
 use Rattle.drive.specs.declared.driving.Cause.TheVariants as cause
 use Rattle.drive.specs.Walks.{Entries}

@@ -1,6 +1,6 @@
 -- How far a worker is in the maintenance that it holds, told by its own steps alone.
-use Rattle.std.proofs.Common.{◌≡◌, ℕ, ◌+◌, ◌<◌, ◌≤◌, ◌==◌, Bool, true, false, cond, ◌&&◌, eqb, nat_lt, Option, Some, None, List, [], ◌∷◌, length, refl, sym, ap, ◌∙◌, subst, arith, inl, inr, length-set}
-use Rattle.std.proofs.lemmas.Bool.{cases_Bool, eqb-true, eq-eqb, and_parts, ltb-true}
+use Rattle.std.proofs.Common.{◌≡◌, ℕ, ◌<◌, ◌≤◌, Bool, true, false, eqb, nat_lt, Option, Some, None, [], ◌∷◌, length, refl, sym, ap, ◌∙◌, subst, arith, inl, inr, length-set}
+use Rattle.std.proofs.lemmas.Bool.{cases_Bool, eqb-true, eq-eqb}
 use Rattle.std.proofs.lemmas.Bool.Decides.{nat_tests}
 use Rattle.step_record.specs.declared.entry.Entry.{Entry}
 use Rattle.step_record.specs.declared.item.Item.{Item}
@@ -13,7 +13,7 @@ use Rattle.step_record.specs.declared.drain.Phase.{Phase}
 use Rattle.step_record.specs.declared.drain.Phase.TheVariants.{Reads, Writes, Evictions}
 use Rattle.step_record.specs.History.{went, after, IsLegal}
 use Rattle.shell_model.specs.declared.holder.Holder.{Holder}
-use Rattle.shell_model.specs.Shell.{Shell, act, perform, held_by, hold_read, hold_write, hold_evict, hold_end, may_read, may_write, is_stripe, node_of, look, when, tallied}
+use Rattle.shell_model.specs.Shell.{Shell, act, perform, held_by, hold_read, hold_write, hold_evict, hold_end, may_read, may_write, node_of, look, tallied}
 use Rattle.shell_model.specs.Consistent.{IsConsistent}
 use Rattle.shell_model.proofs.Counting.{listed-times, node-listed}
 use Rattle.shell_model.proofs.Histories.{Steps, stepped, after-sound}
@@ -193,7 +193,7 @@ own_step : (n : ℕ) (s : Standing) (x : Shell) (e : Entry Step Reply) (z : Shel
 own_step n s x e z c h st =
     let t : Steps x e z = stepped x e z h in
     let seen : (key m : ℕ) → e.step.act ≡ a.Look key → e.reply ≡ reply.Hit m → m < x.next =
-        λ key m f g. hit_below e.step.worker x z key m c (ap (λ u. act x u) (sym (look_step e.step.worker e.step.act key f)) ∙ h ∙ ap (λ (u : Reply). Some (u, z)) g) in
+    λ key m f g. hit_below e.step.worker x z key m c (ap (λ u. act x u) (sym (look_step e.step.worker e.step.act key f)) ∙ h ∙ ap (λ (u : Reply). Some (u, z)) g) in
     let holds = own_holds e.step.worker s x e.step.act e.reply t.left t.made (λ i. own_of_act e.step.worker x e.step.act i (performed x e.step (e.reply, z) h)) st.holds in
     let node = own_node e.step.worker s x e.step.act e.reply t.left t.made seen st.node in
     record {

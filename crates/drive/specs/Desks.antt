@@ -10,7 +10,7 @@ use Rattle.journal.specs.Session.{SessionState}
 use Rattle.journal.specs.declared.fault.SessionFault.TheVariants.{JournalFull, NotNow}
 use Rattle.turn_book.specs.Passes.{BookId}
 use Rattle.drive.specs.declared.desk.Desk.{Desk}
-use Rattle.drive.specs.Walks.{Entries, AreWalks}
+use Rattle.drive.specs.Walks.{AreWalks}
 use Rattle.step_record.specs.History.{after}
 use Rattle.shell_model.specs.Shell.{Shell, act}
 use Rattle.drive.specs.Made.{BeginWalks}

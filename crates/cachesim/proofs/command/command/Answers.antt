@@ -9,9 +9,9 @@ use Rattle.cachesim.specs.Drove.{IsDriven}
 use Rattle.cachesim.specs.Part.{Parting}
 use Rattle.cachesim.specs.Run.{Reports}
 use Rattle.cachesim.specs.declared.fault.Fault.{Fault}
-use Rattle.cachesim.proofs.Ending.{drive_done, part_done, refused_by, run_done, sweep_done}
+use Rattle.cachesim.proofs.Ending.{debug_done, drive_done, part_done, refused_by, replay_done, run_done, sweep_done}
 use Rattle.cachesim.proofs.command.command.Goals as goal
-use Rattle.cachesim.proofs.command.command.Goals.{in-Drive, in-Part, in-Run, in-Sweep}
+use Rattle.cachesim.proofs.command.command.Goals.{in-Debug, in-Drive, in-Part, in-Replay, in-Run, in-Sweep}
 
 pub returns-in-Err-Refused-clause-refused : goal.returns-in-Err-Refused-clause-refused
 returns-in-Err-Refused-clause-refused g c two =
@@ -53,4 +53,6 @@ returns-in-Ok-done-clause-done g c zero =
           let Wrote = IsDriven drive.config drive.format (g.R.Read.remaining c.args.input.now) (g.W.Write.contents c.args.out.now) (g.W.Write.contents w.drive-done.new.out) in
           let h : Wrote = subst (λ (r : Result (Unit {0}) Fault). OnOk r Wrote) (sym w.done-is ∙ c.in-Ok-done.is) ok in
           rw w.out-is (drive_done words drive q _ _ _ h)
+      | in-Debug w ↦ debug_done words w.in-Debug.arguments (subst (λ (a : Arguments). ParsedBy words (Ok a)) w.in-Debug.is p) _ _ _
+      | in-Replay w ↦ replay_done words w.in-Replay.arguments (subst (λ (a : Arguments). ParsedBy words (Ok a)) w.in-Replay.is p) _ _ _
     ]

@@ -16,7 +16,7 @@ returns-in-Ok g c =
     record {
       faultless = weaker (g.R.Read.remaining c.args.input.now) _ _ (λ bytes h. h.1) c.in_ok-trace.ensures.ok;
       opening = c.in_ok-session.session.opening;
-      opened = c.in_ok-session.ensures.opened;
+      opened = c.in_ok-session.ensures.first.opened;
       steps = c.in-Ok.driven.session.kept;
       legal = subst (λ o. IsLegal act o c.in-Ok.driven.session.kept) c.in-Ok.ensures.run.opening c.in-Ok.ensures.legal;
       written = c.in_ok-write_journal-in-Ok.ensures.text;

@@ -1,4 +1,4 @@
-use Rattle.std.proofs.Common.{◌≡◌, ◌≤◌, ◌+◌, ◌++◌, [], Some, map, length, vec_len, vec_capacity}
+use Rattle.std.proofs.Common.{◌≡◌, ◌≤◌, ◌+◌, ◌++◌, Some, map, length, vec_capacity}
 use Rattle.std.specs.Option.{IsSome}
 use Rattle.std.specs.Vec.Iter.{into_iter_items}
 use Rattle.turn_book.specs.Turns.{Every}

@@ -1,8 +1,7 @@
-use Rattle.std.proofs.Common.{rules, ◌≡◌, ◌≤◌, ◌+◌, ◌<◌, [], ◌∷◌, ◌++◌, Some, refl, sym, ap, subst, ◌∙◌, map, length, arith}
+use Rattle.std.proofs.Common.{rules, ◌≡◌, [], ◌∷◌, refl, sym, ap, subst, ◌∙◌, length, arith}
 use Rattle.std.specs.Vec.Iter.{into_iter_items}
 use Rattle.turn_book.specs.Turns.{Every}
 use Rattle.turn_book.specs.Passes.{InOrder, id_of}
-use Rattle.drive.specs.Desks.{Sits, Counts}
 use Rattle.drive.proofs.Seating.{every_more, counts_more, length_snoc}
 use Rattle.drive.proofs.desk.seat_all.Goals as goal
 

@@ -1,4 +1,4 @@
-use Rattle.std.proofs.Common.{◌≡◌, ◌<◌, ℕ, [], sym, ap, subst, ◌∙◌, length, get_or, arith, rules}
+use Rattle.std.proofs.Common.{◌≡◌, ◌<◌, ℕ, [], sym, ap, subst, ◌∙◌, length, get_or}
 use Rattle.turn_book.specs.Turns.{Every}
 use Rattle.turn_book.specs.Passes.{id_of}
 use Rattle.drive.specs.declared.desk.Desk.{Desk}

@@ -1,4 +1,4 @@
-use Rattle.std.proofs.Common.{rules, arith, ◌≡◌, ◌≤◌, ◌<◌, ℕ, map, length, vec_items, sym, ap, subst, ◌∙◌, refl}
+use Rattle.std.proofs.Common.{rules, arith, ◌≤◌, map, vec_items, sym, ap, subst, ◌∙◌}
 use Rattle.std.proofs.lemmas.List.{length-map}
 use Rattle.step_record.specs.declared.worker.TheConstants.{MAX_WORKERS}
 use Rattle.drive.specs.Walks.{AreWalks}

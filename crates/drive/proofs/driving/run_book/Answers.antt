@@ -1,4 +1,4 @@
-use Rattle.std.proofs.Common.{◌≡◌, ◌<◌, ◌≤◌, ℕ, [], Some, None, sym, ap, subst, ◌∙◌, map, length, get_or, vec_items, arith}
+use Rattle.std.proofs.Common.{◌≡◌, ◌<◌, ℕ, Some, None, sym, ap, subst, ◌∙◌, map, length, get_or, vec_items, arith}
 use Rattle.std.specs.Prelude.{IfSome}
 use Rattle.std.proofs.lemmas.List.{length-map}
 use Rattle.journal.specs.declared.fault.SessionFault.TheVariants.{JournalFull, NotNow}

@@ -1,0 +1,48 @@
+//! The subcommands `debug` and `replay`: commands on the input, about what a file has.
+ghost use Rattle.std.specs.Prelude.{◌≡◌, Ok};
+ghost use Rattle.step_record.specs.Config.{config_fault};
+
+use crate::driving::open;
+use crate::fault::Fault;
+use crate::files::Files;
+use command_line::{DebugArguments, ReplayArguments};
+use debug_replay::run_replay;
+use debug_shell::run_debug;
+use journal_text::read_journal;
+use std::alloc::Global;
+use std::io::{Read, Write};
+use trace_read::read_trace;
+
+/// Reads the trace of the file, and answers the commands of the input about the two policies over
+/// it, each at once.
+pub fn debug<R: Read, W: Write, F: Files>(
+    alloc: Global,
+    arguments: &DebugArguments,
+    input: &mut R,
+    out: &mut W,
+    files: &F,
+) -> Result<(), Fault> {
+    let bytes = files.bytes(alloc, arguments.trace.as_str())?;
+    let policies = &arguments.policies;
+    let trace = read_trace(alloc, &mut bytes.as_slice(), policies.format)?;
+    run_debug(alloc, &trace, &policies.first, &policies.second, input, out)?;
+    Ok(())
+}
+
+/// Reads the journal of the file into a session of an empty cache, and answers the commands of the
+/// input about it, each at once.
+pub fn replay<R: Read, W: Write, F: Files>(
+    alloc: Global,
+    arguments: &ReplayArguments,
+    input: &mut R,
+    out: &mut W,
+    files: &F,
+) -> Result<(), Fault>
+    requires { config_fault arguments.now.config ≡ Ok tt }
+{
+    let bytes = files.bytes(alloc, arguments.journal.as_str())?;
+    let mut session = open(alloc, &arguments.config)?;
+    read_journal(alloc, &mut bytes.as_slice(), &mut session)?;
+    run_replay(alloc, &mut session, input, out)?;
+    Ok(())
+}
