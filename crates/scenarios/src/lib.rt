@@ -41,6 +41,4 @@ mod clairvoyant_tests;
 #[cfg(test)]
 mod policy_tests;
 #[cfg(test)]
-mod quiet_tests;
-#[cfg(test)]
 mod tests;
