@@ -57,7 +57,8 @@ module _ (n : ℕ) where
   abbrev pub AreQuietWalks : List ℕ → List Outcome → Entries → Type 0
   AreQuietWalks [] [] es = es ≡ []
   AreQuietWalks (k ∷ ks) (o ∷ os) es =
-      (walk : Entries) × (rest : Entries) × (es ≡ walk ++ rest) × IsQuietWalk k walk × (o ≡ outcome_from Kept walk) × AreQuietWalks ks os rest
+      (walk : Entries) × (rest : Entries) × (es ≡ walk ++ rest) × IsQuietWalk k walk
+      × (o ≡ outcome_from Kept walk) × AreQuietWalks ks os rest
   AreQuietWalks [] (o ∷ os) es = ⊥
   AreQuietWalks (k ∷ ks) [] es = ⊥
 

@@ -1,5 +1,5 @@
 -- The rest of a round of maintenance, from the phase that its holder is at; and what lets the holder make its acts.
-use Rattle.std.specs.Prelude.{◌≡◌, ℕ, ◌<◌, true, false, Option, Some, None, List, [], ◌∷◌, ◌++◌, length}
+use Rattle.std.specs.Prelude.{◌≡◌, ℕ, ◌<◌, false, true, Option, Some, None, [], ◌∷◌, ◌++◌, length}
 use Rattle.step_record.specs.declared.step.Act.{Act}
 use Rattle.step_record.specs.declared.step.Act.TheVariants as act
 use Rattle.step_record.specs.declared.step.Reply.{Reply}

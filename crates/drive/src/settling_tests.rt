@@ -3,7 +3,7 @@ use journal::{Session, SessionFault};
 use maintenance::Shell;
 use std::alloc::Global;
 use std::process::Abort;
-use step_record::{Act, Config, Drain, Entry, Item, Outcome, Reply, Spread, Step, Worker};
+use step_record::{Act, Config, Drain, Entry, Item, Key, Outcome, Reply, Spread, Step, Worker};
 
 const CONFIG: Config = Config {
     capacity: 8,
@@ -105,13 +105,39 @@ fn settling_without_a_holder_makes_no_step(rt: HostRuntime) {
     assert_eq!(rt; (session.len(), session.ahead()), (3, 1));
 }
 
+// The keys of the quiet runs, at capacity 2. Misses take nine steps, and one more where the window
+// is over its size; hits take nine.
+const KEYS: [Key; 5] = [1, 2, 1, 3, 1];
+
+const SMALL: Config = Config {
+    capacity: 2,
+    ..CONFIG
+};
+
+// Sees that a run is cut off at a limit, and what a second one answers then.
+fn assert_cut_off(rt: &impl Abort, alloc: Global, limit: usize, second: QuietFault) {
+    let mut session = fresh(rt, alloc, &SMALL, limit);
+    let done = limit as u64;
+    let first = run_quiet(alloc, &mut session, &KEYS).err();
+    assert_eq!(rt; first, Some(QuietFault::JournalFull { done }));
+    let again = run_quiet(alloc, &mut session, &KEYS).err();
+    assert_eq!(rt; again, Some(second));
+    assert_eq!(rt; session.len(), limit);
+}
+
 #[test]
 fn a_quiet_run_names_the_steps_that_had_room(rt: HostRuntime) {
-    let config = Config {
-        capacity: 2,
-        ..CONFIG
-    };
-    let keys = [1, 2, 1, 3, 1];
+    let full = QuietFault::JournalFull { done: 0 };
+    for limit in [1, 3, 9, 28] {
+        assert_cut_off(&rt, rt.alloc(), limit, full);
+    }
+    for limit in [4, 27, 46] {
+        assert_cut_off(&rt, rt.alloc(), limit, QuietFault::Held);
+    }
+}
+
+#[test]
+fn a_quiet_run_answers_the_outcomes(rt: HostRuntime) {
     let outcomes = [
         Outcome::Kept,
         Outcome::Kept,
@@ -119,35 +145,8 @@ fn a_quiet_run_names_the_steps_that_had_room(rt: HostRuntime) {
         Outcome::Rejected(2),
         Outcome::Hit,
     ];
-    // Misses take nine steps, and one more where the window is over its size; hits take nine.
-    for (limit, is_held) in [
-        (1, false),
-        (3, false),
-        (4, true),
-        (27, true),
-        (28, false),
-        (46, true),
-    ] {
-        let mut session = fresh(&rt, rt.alloc(), &config, limit);
-        let full = Err(QuietFault::JournalFull { done: limit as u64 });
-        assert_eq!(rt;
-            run_quiet(rt.alloc(), &mut session, &keys).map(|_| ()),
-            full
-        );
-        assert_eq!(rt; session.len(), limit);
-        let again = if is_held {
-            QuietFault::Held
-        } else {
-            QuietFault::JournalFull { done: 0 }
-        };
-        assert_eq!(rt;
-            run_quiet(rt.alloc(), &mut session, &keys).map(|_| ()),
-            Err(again)
-        );
-        assert_eq!(rt; session.len(), limit);
-    }
-    let mut session = fresh(&rt, rt.alloc(), &config, 47);
-    let answer = run_quiet(rt.alloc(), &mut session, &keys).expect(&rt, "a run with enough room");
+    let mut session = fresh(&rt, rt.alloc(), &SMALL, 47);
+    let answer = run_quiet(rt.alloc(), &mut session, &KEYS).expect(&rt, "a run with enough room");
     assert_eq!(rt; answer.as_slice(), outcomes.as_slice());
     assert_eq!(rt; session.len(), 47);
 }

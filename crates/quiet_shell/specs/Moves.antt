@@ -29,7 +29,8 @@ unlisted_by (Some i) t = unlisted i t
 -- an eviction's reply and the shell that it leaves, by its candidate and the table's response
 abbrev pub evicted_by : Option Item → Response → Shell → Reply × Shell
 evicted_by None r x = (reply.Fits, x)
-evicted_by (Some c) r x = (reply_by r.outcome r.left c, record x { queues = r.queues; table = unlisted_by r.left x.table })
+evicted_by (Some c) r x =
+    (reply_by r.outcome r.left c, record x { queues = r.queues; table = unlisted_by r.left x.table })
 
 abbrev pub EvictionsAgree : Type 0
 EvictionsAgree = (x : Shell) → evict x ≡ evicted_by
