@@ -1,6 +1,6 @@
 -- A session at a place of its steps.
-use Rattle.std.proofs.Common.{◌≡◌, ◌∙◌, ◌+◌, ◌-◌, ℕ, zero, suc, Bool, Option, Some, None, List, [], ◌∷◌, ◌++◌, length, take, refl, ap, sym, subst, arith}
-use Rattle.std.specs.Prelude.{nat_lt, slice_get}
+use Rattle.std.proofs.Common.{◌≡◌, ◌∙◌, ◌+◌, ◌-◌, ℕ, zero, suc, Bool, false, Option, Some, None, Result, Ok, Err, List, [], ◌∷◌, ◌++◌, length, take, refl, ap, sym, subst, arith}
+use Rattle.std.specs.Prelude.{is_err, nat_lt, slice_get, OnOk}
 use Rattle.std.proofs.lemmas.List.{take_all}
 use Rattle.step_record.specs.declared.entry.Entry.{Entry}
 use Rattle.step_record.specs.declared.step.Reply.{Reply}
@@ -36,6 +36,11 @@ facts_are opening before now kept steps n place e halved b a h k at got =
     let there : slice_get (take (suc n) steps) n ≡ Some e = ap (λ m. slice_get (take m steps) n) (sym next) ∙ ap (λ es. slice_get es n) (sym k) ∙ ap (slice_get kept) (sym at) ∙ got in
     let found : slice_get steps (n + 1 - 1) ≡ Some e = ap (slice_get steps) (sym one) ∙ get_take n steps e there in
     let fell : halved ≡ halves_at opening steps (n + 1) =
-        h ∙ ap (λ (x : Shell). nat_lt x.frequency.age before.frequency.age) a
-        ∙ ap (λ (x : Shell). nat_lt (state_at opening steps (n + 1)).frequency.age x.frequency.age) (b ∙ ap (state_at opening steps) one) in
+    h ∙ ap (λ (x : Shell). nat_lt x.frequency.age before.frequency.age) a
+    ∙ ap (λ (x : Shell). nat_lt (state_at opening steps (n + 1)).frequency.age x.frequency.age) (b ∙ ap (state_at opening steps) one) in
     ap (facts_of e.step.act e.reply) fell ∙ ap (λ o. entry_facts o (halves_at opening steps (n + 1))) (sym found)
+
+-- what holds of a call that did not fail
+pub ok_on : {E : Type 0} (r : Result (Unit {0}) E) (P : Type 0) → is_err r ≡ false → OnOk r P → P
+ok_on (Ok u) P e h = h
+ok_on (Err x) P e h = absurd (cc e)

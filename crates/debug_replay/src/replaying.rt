@@ -25,13 +25,13 @@ pub fn run_replay<R: Read, W: Write>(
     // With its end it has written what the definition gives for the bytes of the commands.
     ensures done { OnOk result (IfSome (R.remaining commands.old) (λ bytes.
         (position : ℕ) × IsHeld
-            (dialogue_of (replay_timeline session.old.opening (session.old.kept ++ session.old.tail)) (length session.old.kept) bytes)
-            true (W.contents out.old) (W.contents out.new) position)) }
+        (dialogue_of (replay_timeline session.old.opening (session.old.kept ++ session.old.tail)) (length session.old.kept) bytes)
+        true (W.contents out.old) (W.contents out.new) position)) }
     // So it has where a line was too large, for the lines before that.
     ensures large { result ≡ Err DebugFault.TooLarge → IfSome (R.remaining commands.old) (λ bytes.
         (position : ℕ) × IsHeld
-            (dialogue_of (replay_timeline session.old.opening (session.old.kept ++ session.old.tail)) (length session.old.kept) bytes)
-            false (W.contents out.old) (W.contents out.new) position) }
+        (dialogue_of (replay_timeline session.old.opening (session.old.kept ++ session.old.tail)) (length session.old.kept) bytes)
+        false (W.contents out.old) (W.contents out.new) position) }
     ensures config { (i : ℕ) → result ≡ Err (DebugFault.Config i) → ⊥ }
 {
     answer_commands(alloc, &mut Replay { session }, commands, out)

@@ -2,6 +2,7 @@
 use super::*;
 use policy_actors::ActorFault;
 use std::alloc::Global;
+use std::io::{Error, ErrorKind, Read, Write};
 use std::test::Fail;
 use step_record::{Config, Job, Key, Policy, Spread, Trace};
 
@@ -125,5 +126,42 @@ fault: Command
 ";
     let out = said(rt.alloc(), commands.as_slice())?;
     assert_eq!(rt; out.as_slice(), text.as_bytes());
+    Ok(())
+}
+
+// Fails at each read, write and flush.
+#[derive(Drop)]
+struct Broken;
+
+impl Read for Broken {
+    fn read(&mut self, _buf: &mut [u8]) -> std::io::Result<usize> {
+        Err(Error::from(ErrorKind::BrokenPipe))
+    }
+}
+
+impl Write for Broken {
+    fn write(&mut self, _buf: &[u8]) -> std::io::Result<usize> {
+        Err(Error::from(ErrorKind::BrokenPipe))
+    }
+
+    fn flush(&mut self) -> std::io::Result<()> {
+        Err(Error::from(ErrorKind::BrokenPipe))
+    }
+}
+
+#[test]
+fn a_failing_input_or_output_is_reported(rt: HostRuntime) -> Result<(), Fail> {
+    let alloc = rt.alloc();
+    let trace = trace_of(alloc, &[1, 2])?;
+    let lru = job(Policy::Lru, 2);
+    let mut out = Vec::new(alloc);
+    let input = run_debug(alloc, &trace, &lru, &lru, &mut Broken, &mut out);
+    assert_eq!(rt; input, Err(DebugFault::Read));
+    let mut commands = b"show\n".as_slice();
+    let output = run_debug(alloc, &trace, &lru, &lru, &mut commands, &mut Broken);
+    assert_eq!(rt; output, Err(DebugFault::Write));
+    let bad = job(Policy::Lru, 0);
+    let refused = run_debug(alloc, &trace, &lru, &bad, &mut Broken, &mut Broken);
+    assert_eq!(rt; refused, Err(DebugFault::Config { index: 1 }));
     Ok(())
 }
