@@ -1,0 +1,14 @@
+//! Tests that need the concurrent cache and the crates above it at once: sessions over a `Shell`,
+//! made by hand, undone, redone, written as text and read back.
+#![tactic(auto)]
+
+#[cfg(test)]
+mod session_tests;
+#[cfg(test)]
+mod showing;
+#[cfg(test)]
+mod text_tests;
+#[cfg(test)]
+mod walking;
+#[cfg(test)]
+mod wandering;
