@@ -1,6 +1,6 @@
 ghost use Rattle.std.specs.Prelude.{◌≡◌, ◌≤◌, []};
 
-use super::showing::shown;
+use super::showing::{assert_shows, shown};
 use super::walking::{CONFIG, opened, read};
 use journal::Session;
 use journal_text::{JournalFault, read_journal, write_journal};
@@ -91,17 +91,26 @@ fn reading(
     Ok((answer, session.len()))
 }
 
+// Sees that a session is written so, and that reading the text gives what the session shows.
+fn assert_written(
+    rt: &impl Abort,
+    alloc: Global,
+    session: &Session<Shell>,
+    wanted: &str,
+) -> Result<(), Fail> {
+    let text = written(alloc, session)?;
+    assert_eq!(rt; text.as_slice(), wanted.as_bytes());
+    let again = read(rt, alloc, CONFIG, wanted)?;
+    let line = shown(alloc, again.engine())?;
+    assert_shows(rt, alloc, session.engine(), line.as_str())
+}
+
 #[test]
 fn the_applied_steps_are_written_and_read_back(rt: HostRuntime) -> Result<(), Fail> {
     let mut session = read(&rt, rt.alloc(), CONFIG, UNCOUNTED)?;
-    for (steps, wanted) in [(9, WRITTEN), (6, SIX)] {
-        session.goto(steps)?;
-        let text = written(rt.alloc(), &session)?;
-        assert_eq!(rt; text.as_slice(), wanted.as_bytes());
-        let mut fresh = opened(&rt, rt.alloc(), CONFIG, 9)?;
-        assert_read_back(&rt, rt.alloc(), &session, &mut fresh)?;
-    }
-    Ok(())
+    assert_written(&rt, rt.alloc(), &session, WRITTEN)?;
+    session.goto(6)?;
+    assert_written(&rt, rt.alloc(), &session, SIX)
 }
 
 // A key is read, removed and read again, each with a round.
@@ -138,14 +147,9 @@ steps 26
 #[test]
 fn a_key_read_removed_and_read_again_is_read_back(rt: HostRuntime) -> Result<(), Fail> {
     let session = read(&rt, rt.alloc(), CONFIG, THREE_ROUNDS)?;
-    let text = written(rt.alloc(), &session)?;
-    assert_eq!(rt; text.as_slice(), THREE_ROUNDS.as_bytes());
-    let line = shown(rt.alloc(), session.engine())?;
-    assert_eq!(rt;
-        line.as_str(),
-        "Idle next 2 table 1:1 window 1:1 age 2 misses 2 added 2 begun 3 removed 1"
-    );
-    Ok(())
+    assert_written(&rt, rt.alloc(), &session, THREE_ROUNDS)?;
+    let line = "Idle next 2 table 1:1 window 1:1 age 2 misses 2 added 2 begun 3 removed 1";
+    assert_shows(&rt, rt.alloc(), session.engine(), line)
 }
 
 // Texts, the line that is not one, and how many steps are applied then.

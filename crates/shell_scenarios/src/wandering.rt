@@ -3,6 +3,10 @@ use super::showing::assert_shows;
 use super::text_tests::assert_read_back;
 use super::walking::{CONFIG, opened};
 use journal::Session;
+use maintenance::Shell;
+use shell_model::ShellStats;
+use std::alloc::Global;
+use std::process::Abort;
 use std::test::Fail;
 use step_record::{Act, Answer, Config, Engine, Item, Reply, Step, Worker};
 
@@ -90,30 +94,39 @@ fn wander<E: Engine<Step = Step, Reply = Reply>>(
     Ok(())
 }
 
+const SMALL: Config = Config {
+    capacity: 4,
+    main_percent: 50,
+    stripes: 2,
+    ..CONFIG
+};
+
+// Sees that a run met each kind of step.
+fn assert_mixed(rt: &impl Abort, stats: ShellStats) {
+    assert!(rt;
+        stats.rejections > 0 && stats.evictions > stats.rejections,
+        "{stats:?}"
+    );
+    assert!(rt;
+        stats.removed > 0 && stats.updated > 0 && stats.busy > 0,
+        "{stats:?}"
+    );
+}
+
+// A run, whose kept steps a session just opened makes from the text.
+fn run(rt: &impl Abort, alloc: Global, seed: u64) -> Result<Session<Shell>, Fail> {
+    let mut session = opened(rt, alloc, SMALL, 6000)?;
+    wander(&mut session, seed)?;
+    assert_mixed(rt, session.engine().stats());
+    let mut fresh = opened(rt, alloc, SMALL, 6000)?;
+    assert_read_back(rt, alloc, &session, &mut fresh)?;
+    Ok(session)
+}
+
 #[test]
 fn what_is_left_of_a_long_run_is_what_the_kept_steps_make(rt: HostRuntime) -> Result<(), Fail> {
-    let config = Config {
-        capacity: 4,
-        main_percent: 50,
-        stripes: 2,
-        ..CONFIG
-    };
-    for seed in [1, 88172645463325252] {
-        let mut session = opened(&rt, rt.alloc(), config, 6000)?;
-        wander(&mut session, seed)?;
-        let stats = session.engine().stats();
-        assert!(rt;
-            stats.rejections > 0 && stats.evictions > stats.rejections,
-            "{stats:?}"
-        );
-        assert!(rt;
-            stats.removed > 0 && stats.updated > 0 && stats.busy > 0,
-            "{stats:?}"
-        );
-        let mut fresh = opened(&rt, rt.alloc(), config, 6000)?;
-        assert_read_back(&rt, rt.alloc(), &session, &mut fresh)?;
-        session.goto(0)?;
-        assert_shows(&rt, rt.alloc(), session.engine(), "Idle next 0 age 0")?;
-    }
-    Ok(())
+    let _ = run(&rt, rt.alloc(), 1)?;
+    let mut session = run(&rt, rt.alloc(), 88172645463325252)?;
+    session.goto(0)?;
+    assert_shows(&rt, rt.alloc(), session.engine(), "Idle next 0 age 0")
 }
