@@ -10,7 +10,7 @@ use Rattle.command_line.specs.declared.arguments.Arguments.TheVariants.{Debug, D
 use Rattle.command_line.specs.declared.arguments.RunArguments.{RunArguments}
 use Rattle.command_line.specs.declared.sweep.SweepArguments.{SweepArguments}
 use Rattle.command_line.specs.declared.part.PartArguments.{PartArguments}
-use Rattle.command_line.specs.declared.fault.ParseFault.TheVariants.{Refused}
+use Rattle.command_line.specs.declared.fault.ParseFault.TheVariants.{Refused, Stripes}
 use Rattle.command_line.specs.declared.debug.DebugArguments.{DebugArguments}
 use Rattle.command_line.specs.declared.drive.DriveArguments.{DriveArguments}
 use Rattle.command_line.specs.declared.replay.ReplayArguments.{ReplayArguments}
@@ -28,6 +28,13 @@ refused_by words e p h n = record {
   lists = p.lists;
   are = p.are;
   refuses = inl (kind_of e, h, among _ e p.gives n);
+}
+
+pub odd_by : (words : List Text) → ParsedBy words (Err Stripes) → RefusedBy words
+odd_by words p = record {
+  lists = p.lists;
+  are = p.are;
+  refuses = inr (p.gives.0, inr p.gives.1);
 }
 
 pub run_done : (words : List Text) (run : RunArguments) → ParsedBy words (Ok (Run run)) → (input before after : Option (List ℕ))

@@ -24,6 +24,7 @@ use std::{env, fs, io};
 use streams::ReadAllFault;
 
 // The files of this machine.
+#[derive(Drop)]
 struct HostFiles<'a> {
     rt: &'a HostRuntime,
 }

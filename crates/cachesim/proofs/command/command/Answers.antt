@@ -1,15 +1,16 @@
-use Rattle.std.proofs.Common.{◌≡◌, ◌∙◌, ap, subst, sym, refl, List, ℕ, map, Result, Ok, Err}
+use Rattle.std.proofs.Common.{◌≡◌, ◌∙◌, ap, subst, sym, refl, rules, List, ℕ, map, Result, Ok, Err}
 use Rattle.std.specs.Borrow.{Bor}
 use Rattle.command_line.specs.Parsed.{ParsedBy}
 use Rattle.command_line.specs.declared.arguments.Arguments.{Arguments}
 use Rattle.command_line.specs.declared.fault.ParseFault.{ParseFault}
+use Rattle.command_line.specs.declared.fault.ParseFault.TheVariants.{Stripes}
 use Rattle.std.specs.Prelude.{OnOk}
 use Rattle.cachesim.specs.Jobs.{jobs_at, jobs_of}
 use Rattle.cachesim.specs.Drove.{IsDriven}
 use Rattle.cachesim.specs.Part.{Parting}
 use Rattle.cachesim.specs.Run.{Reports}
 use Rattle.cachesim.specs.declared.fault.Fault.{Fault}
-use Rattle.cachesim.proofs.Ending.{debug_done, drive_done, part_done, refused_by, replay_done, run_done, sweep_done}
+use Rattle.cachesim.proofs.Ending.{debug_done, drive_done, odd_by, part_done, refused_by, replay_done, run_done, sweep_done}
 use Rattle.cachesim.proofs.command.command.Goals as goal
 use Rattle.cachesim.proofs.command.command.Goals.{in-Debug, in-Drive, in-Part, in-Replay, in-Run, in-Sweep}
 
@@ -19,6 +20,13 @@ returns-in-Err-Refused-clause-refused g c two =
     let p = subst (λ (r : Result Arguments ParseFault). ParsedBy words r) (c.in-Err-Refused.is ∙ ap Err c.in-Err-Refused.field-0-is) c.parse.ensures in
     let a = c.answer.ensures.refused two in
     (refused_by words c.in-Err-Refused.error p a.0 a.1, refl, a.2)
+
+pub returns-in-Err-Stripes-clause-refused : goal.returns-in-Err-Stripes-clause-refused
+returns-in-Err-Stripes-clause-refused g c two =
+    let words = map (λ (s : Bor (List ℕ)). s.now) c.args.words.now in
+    let e : c.parse.result ≡ Err Stripes = search rules in
+    let p = subst (λ (r : Result Arguments ParseFault). ParsedBy words r) e c.parse.ensures in
+    (odd_by words p, refl, refl)
 
 pub returns-in-Ok-done-clause-done : goal.returns-in-Ok-done-clause-done
 returns-in-Ok-done-clause-done g c zero =
