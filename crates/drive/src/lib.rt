@@ -12,8 +12,6 @@
 
 mod desk;
 mod driving;
-#[cfg(test)]
-mod driving_tests;
 mod local;
 mod next;
 mod place;
