@@ -336,11 +336,13 @@ const HELP_TEXT: &str = "Simulates cache policies over recorded block traces
 Usage: cachesim <COMMAND>
 
 Commands:
-  run    Runs policies over the trace on standard input and prints a report of each
-  sweep  Runs a policy over the trace on standard input and prints a report for each capacity
-  part   Prints the first access of the trace on standard input at which just one of two policies hits
-  drive  Runs the concurrent cache on threads over the trace on standard input and prints its journal
-  help   Print this message or the help of the given subcommand(s)
+  run     Runs policies over the trace on standard input and prints a report of each
+  sweep   Runs a policy over the trace on standard input and prints a report for each capacity
+  part    Prints the first access of the trace on standard input at which just one of two policies hits
+  drive   Runs the concurrent cache on threads over the trace on standard input and prints its journal
+  debug   Answers commands on standard input about two policies over the trace of a file
+  replay  Answers commands on standard input about the concurrent run whose journal is in a file
+  help    Print this message or the help of the given subcommand(s)
 
 Options:
   -h, --help     Print help
