@@ -41,4 +41,6 @@ mod clairvoyant_tests;
 #[cfg(test)]
 mod policy_tests;
 #[cfg(test)]
+mod quiet_tests;
+#[cfg(test)]
 mod tests;
