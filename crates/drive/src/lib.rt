@@ -12,6 +12,8 @@
 
 mod desk;
 mod driving;
+#[cfg(test)]
+mod driving_tests;
 mod local;
 mod next;
 mod place;

@@ -1,0 +1,175 @@
+//! Runs of workers on threads, some held back until all have begun.
+ghost use Rattle.std.specs.Prelude.{◌≤◌, ◌^◌};
+
+use super::*;
+use journal::Session;
+use maintenance::Shell;
+use std::alloc::Global;
+use std::process::Abort;
+use std::sync::Wait;
+use std::sync::atomic::AtomicU64;
+use std::sync::atomic::Ordering::SeqCst;
+use std::test::Fail;
+use std::thread;
+use std::thread::Threads;
+use step_record::{Call, Config, Drain, Entry, Gate, OpenGate, Reply, Spread, Step};
+
+const CONFIG: Config = Config {
+    capacity: 8,
+    main_percent: 99,
+    spread: Spread::Plain,
+    stripes: 1,
+    journal_limit: 1,
+};
+
+// Holds each worker's call n until call n of every worker has begun.
+#[derive(Drop)]
+struct Hold {
+    workers: u64,
+    begun: AtomicU64,
+    late: AtomicU64,
+}
+
+impl Gate for Hold {
+    fn before(&self, _who: u8, n: u64) {
+        self.begun.fetch_add(1, SeqCst);
+        let wanted = n.wrapping_add(1).wrapping_mul(self.workers);
+        for _ in 0..1_000_000 {
+            if self.begun.load(SeqCst) >= wanted {
+                return;
+            }
+            thread::yield_now();
+        }
+        self.late.fetch_add(1, SeqCst);
+    }
+
+    fn after(&self, _who: u8, _n: u64) {}
+}
+
+fn new_session(alloc: Global, limit: usize) -> Result<Session<Shell>, Fail>
+    requires { (1 ≤ limit) × (limit ≤ 2 ^ 24) }
+{
+    let shell = Shell::new(alloc, &CONFIG)?;
+    Ok(Session::open(alloc, shell, limit))
+}
+
+// Each list has the session's entries of its worker, in order.
+fn assert_own_lists(rt: &impl Abort, session: &Session<Shell>, lists: &[Vec<Entry<Step, Reply>>]) {
+    let mut total: usize = 0;
+    for (worker, list) in lists.iter().enumerate() {
+        let mut own: usize = 0;
+        for n in 1..=session.len() {
+            let entry = session.entry(n).expect(rt, "an entry");
+            if usize::from(entry.step.worker.number()) == worker {
+                assert!(rt; list.get(own) == Some(entry));
+                own = own.wrapping_add(1);
+            }
+        }
+        assert_eq!(rt; own, list.len());
+        total = total.wrapping_add(own);
+    }
+    assert_eq!(rt; total, session.len());
+}
+
+// Runs the pieces, each call held until all workers have begun theirs: with so many hits, misses and removals.
+fn assert_held_run<R: Threads + Wait + Sync + Abort>(
+    rt: &R,
+    alloc: Global,
+    pieces: Vec<Vec<Call>>,
+    counts: (u64, u64, u64),
+) -> Result<(), Fail> {
+    let gate = Hold {
+        workers: pieces.len() as u64,
+        begun: AtomicU64::new(0),
+        late: AtomicU64::new(0),
+    };
+    let Ok(driven) = drive(rt, alloc, new_session(alloc, 1000)?, pieces, &gate) else {
+        return Err(Fail::from("not driven"));
+    };
+    assert_eq!(rt; gate.late.load(SeqCst), 0);
+    assert_own_lists(rt, &driven.session, driven.lists.as_slice());
+    let shell = driven.session.engine();
+    let stats = shell.stats();
+    assert_eq!(rt; (stats.hits, stats.misses, stats.removed), counts);
+    assert_eq!(rt; stats.evictions, 0);
+    assert!(rt; shell.holder().is_none());
+    Ok(())
+}
+
+#[test]
+fn workers_run_side_by_side(rt: HostRuntime) -> Result<(), Fail> {
+    let alloc = rt.alloc();
+    let two = vec![in alloc;
+        vec![in alloc; Call::Read(1), Call::Read(1)]?,
+        vec![in alloc; Call::Read(2), Call::Read(2)]?,
+    ]?;
+    assert_held_run(&rt, alloc, two, (2, 2, 0))?;
+    let mut eight = Vec::new(alloc);
+    for key in 1..9 {
+        eight.push(vec![in alloc; Call::Read(key)]?)?;
+    }
+    assert_held_run(&rt, alloc, eight, (0, 8, 0))
+}
+
+#[test]
+fn a_removed_key_is_added_anew(rt: HostRuntime) -> Result<(), Fail> {
+    let alloc = rt.alloc();
+    let pieces = vec![in alloc; vec![in alloc; Call::Read(1), Call::Remove(1), Call::Read(1)]?]?;
+    let Ok(driven) = drive(&rt, alloc, new_session(alloc, 100)?, pieces, &OpenGate) else {
+        return Err(Fail::from("not driven"));
+    };
+    assert_eq!(rt; driven.session.len(), 26);
+    assert_own_lists(&rt, &driven.session, driven.lists.as_slice());
+    let stats = driven.session.engine().stats();
+    assert_eq!(rt; (stats.misses, stats.removed), (2, 1));
+    Ok(())
+}
+
+#[test]
+fn a_full_journal_stops_a_worker_at_its_maintenance(rt: HostRuntime) -> Result<(), Fail> {
+    let alloc = rt.alloc();
+    let pieces = vec![in alloc; vec![in alloc; Call::Read(1)]?]?;
+    let held = match drive(&rt, alloc, new_session(alloc, 4)?, pieces, &OpenGate) {
+        Err(
+            DriveFault::Stopped {
+                session,
+                lists,
+                cause,
+            },
+        ) => {
+            assert_eq!(rt; cause, Cause::JournalFull);
+            assert_eq!(rt; session.len(), 4);
+            assert_own_lists(&rt, &session, lists.as_slice());
+            assert_eq!(rt; session.engine().drain(), Drain::ToIdle);
+            session
+        }
+        _ => return Err(Fail::from("not stopped")),
+    };
+    match drive(
+        &rt,
+        alloc,
+        held,
+        vec![in alloc; Vec::new(alloc)]?,
+        &OpenGate,
+    ) {
+        Err(DriveFault::Held { session, .. }) => assert_eq!(rt; session.len(), 4),
+        _ => return Err(Fail::from("not held")),
+    }
+    Ok(())
+}
+
+#[test]
+fn no_worker_or_too_many_is_a_fault(rt: HostRuntime) -> Result<(), Fail> {
+    let alloc = rt.alloc();
+    for workers in [0, 65] {
+        let mut pieces = Vec::new(alloc);
+        for _ in 0..workers {
+            pieces.push(Vec::new(alloc))?;
+        }
+        match drive(&rt, alloc, new_session(alloc, 9)?, pieces, &OpenGate) {
+            Err(DriveFault::Workers { session }) => assert_eq!(rt; session.len(), 0),
+            _ => return Err(Fail::from("not refused")),
+        }
+    }
+    Ok(())
+}
