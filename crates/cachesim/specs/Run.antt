@@ -57,7 +57,7 @@ pub record Parted (subcommand : Option (Text × List Row)) (input before after :
   pub parting : Parting (format_in rows) (record { policy = first; config = config })
       (record { policy = second; config = config }) input before after
 
--- `drive` was called, and has written the journal of a run of workers
+-- `drive` was called, and has written a journal of steps that its empty cache accepts
 pub record Drove (subcommand : Option (Text × List Row)) (input before after : Option (List ℕ)) : Type 0 where
   pub rows : List Row
   pub is_drive : subcommand ≡ Some (codes "drive", rows)
