@@ -11,8 +11,6 @@ mod fault;
 mod lends;
 mod pass;
 mod rule;
-#[cfg(test)]
-mod tests;
 mod view;
 
 pub use book::{MAX_TURNS, TurnBook};
