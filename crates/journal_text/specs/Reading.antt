@@ -1,5 +1,6 @@
 -- How a line is read, word by word. What callers see is the table; the laws say that this reads just its lines.
-use Rattle.std.specs.Prelude.{ℕ, Bool, ◌^◌, ◌&&◌, ◌==◌, List, [], ◌∷◌, Option, Some, None, length, nat_lt, slice_index, if◌then◌else◌}
+use Rattle.std.specs.Prelude.{
+  ◌^◌, ◌&&◌, ◌==◌, ℕ, Bool, List, [], ◌∷◌, Option, Some, None, length, nat_lt, slice_index, if◌then◌else◌}
 use Rattle.std.specs.List.{slice_split}
 use Rattle.std.specs.Str.{all_ascii_digits}
 use Rattle.std.specs.Str.Parse.{digits_value}
@@ -144,7 +145,8 @@ unfoldable pub count_in : List (List ℕ) → Option ℕ
 count_in ws = name_at ws >>= λ n. (only_steps n.0 >>= λ _. (wide_at n.1 >>= at_end))
 
 unfoldable pub made_in : Version → List ℕ → Option Line
-made_in v text = entry_in (words_of text) >>= λ e. if is_answer_in v e.step.act e.reply then Some (line.Made e) else None
+made_in v text =
+    entry_in (words_of text) >>= λ e. if is_answer_in v e.step.act e.reply then Some (line.Made e) else None
 
 -- the count of the steps, or else an entry
 abbrev pub or_made : Option ℕ → Option Line → Option Line
