@@ -1,7 +1,5 @@
 -- Why a text is not a journal that a session takes, and which entries the session then holds.
-use Rattle.std.specs.Prelude.{
-  ◌≡◌, ◌≢◌, ◌<◌, ◌≤◌, ◌+◌, ◌⊎◌, ◌==◌, ℕ, Bool, true, false, Option, Some, None, Result, Ok, Err, List, [], ◌∷◌, ◌++◌,
-  length}
+use Rattle.std.specs.Prelude.{◌≡◌, ◌≢◌, ◌<◌, ◌+◌, ◌⊎◌, ◌==◌, ℕ, Bool, true, false, Option, Some, None, Result, Ok, Err, List, [], ◌∷◌, ◌++◌, length}
 use Rattle.std.specs.List.{All}
 use Rattle.journal_text.specs.Journal.{begun, ended, header, journal_of, AreLines, Entries}
 use Rattle.journal_text.specs.Table.{text_of, IsLine}
@@ -71,7 +69,7 @@ module _ {D : Type 0} (act : D → Step → Option (Reply × D)) (x : D) (limit 
   -- a line is wrong, or there is a line more behind the count, which is itself the line behind those of the entries
   IsFault (fault.Line n) bytes kept = IsAtLine (fault.Line n) bytes kept
       ⊎ ((n ≡ length kept + 2)
-        × ((more : List ℕ) × AreLines Two kept × (0 < length more) × (bytes ≡ journal_of Two kept ++ more)))
+      × ((more : List ℕ) × AreLines Two kept × (0 < length more) × (bytes ≡ journal_of Two kept ++ more)))
   IsFault (fault.FalseReply n) bytes kept = IsAtLine (fault.FalseReply n) bytes kept
   IsFault (fault.NotNow n) bytes kept = IsAtLine (fault.NotNow n) bytes kept
   IsFault (fault.JournalFull n) bytes kept = IsAtLine (fault.JournalFull n) bytes kept

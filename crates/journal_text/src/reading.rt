@@ -155,9 +155,9 @@ fn line_read(version: Version, text: &[u8]) -> Option<Line>
 {
     match version {
         Version::One => made(version, text),
-        Version::Two => match count(text) {
-            Some(steps) => Some(Line::Steps(steps)),
-            None => made(version, text),
+        Version::Two => match made(version, text) {
+            Some(line) => Some(line),
+            None => Some(Line::Steps(count(text)?)),
         },
     }
 }
