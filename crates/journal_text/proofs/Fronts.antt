@@ -1,6 +1,6 @@
 -- The bytes of a journal, line by line.
-use Rattle.std.proofs.Common.{◌≡◌, ◌≢◌, ◌∙◌, ◌<◌, ◌≤◌, ◌+◌, ◌-◌, ◌==◌, ◌⊎◌, inl, inr, ℕ, Bool, true, false, List, [], ◌∷◌, ◌++◌, length, take, drop, ap, sym, refl, subst, arith, Option, Some, None, Result, Ok, Err, append_assoc, length-append}
-use Rattle.std.proofs.lemmas.List.Elements.{All-from_recursion, All-nil, All-push}
+use Rattle.std.proofs.Common.{◌≡◌, ◌≢◌, ◌∙◌, ◌<◌, ◌+◌, ◌==◌, inl, inr, ℕ, Bool, true, false, List, [], ◌∷◌, ◌++◌, length, take, drop, ap, sym, refl, subst, arith, Option, Result, Ok, Err, append_assoc}
+use Rattle.std.proofs.lemmas.List.Elements.{All-from_recursion, All-push}
 use Rattle.std.proofs.lemmas.List.{append-nil, flat_map_more}
 use Rattle.std.proofs.lemmas.List.Splits.{length-slice_split, slice_split_at, slice_split_none}
 use Rattle.std.specs.List.{slice_split}
@@ -8,7 +8,7 @@ use Rattle.std.specs.Prelude.{IfErr, IsErrAnd, OnOk}
 use Rattle.journal_text.proofs.Cuts.{cut_at}
 use Rattle.journal_text.specs.Cut.{feed_in}
 use Rattle.journal_text.specs.Faults.{IsFault, IsUnread, IsWrong, Lacks10, Took}
-use Rattle.journal_text.specs.Journal.{begun, closing, ended, entry_line, header, journal_of, AreLines, Entries, IsTextOf}
+use Rattle.journal_text.specs.Journal.{begun, ended, entry_line, header, journal_of, AreLines, Entries, IsTextOf}
 use Rattle.journal_text.specs.Table.{text_of, IsLine}
 use Rattle.journal_text.specs.declared.fault.JournalFault.{JournalFault}
 use Rattle.journal_text.specs.declared.fault.JournalFault.TheVariants as fault

@@ -1,6 +1,6 @@
 -- A line that is read is one of the table, and each line of the table is read.
-use Rattle.std.proofs.Common.{◌≡◌, ◌∙◌, ◌<◌, ◌≤◌, ◌^◌, ◌&&◌, ◌||◌, ◌==◌, ℕ, zero, suc, Bool, true, false, List, [], ◌∷◌, ◌++◌, length, get_or, map, ap, sym, subst, refl, arith, Option, Some, None, cond}
-use Rattle.std.proofs.lemmas.Bool.{cond-true, cond-false, ne_eqb}
+use Rattle.std.proofs.Common.{◌≡◌, ◌∙◌, ◌<◌, ◌≤◌, ◌^◌, ◌||◌, ◌==◌, ℕ, Bool, true, false, List, [], ◌∷◌, ◌++◌, map, ap, sym, subst, refl, arith, Option, Some, None, cond}
+use Rattle.std.proofs.lemmas.Bool.{cond-true, ne_eqb}
 use Rattle.std.proofs.lemmas.Fmt.{decimal_is_IsNumeral}
 use Rattle.std.proofs.lemmas.List.{append-nil, map-append}
 use Rattle.std.proofs.lemmas.List.Elements.{All-cons, All-nil, All-append}
@@ -9,13 +9,13 @@ use Rattle.std.proofs.lemmas.Str.Parse.{digit_from_value}
 use Rattle.std.proofs.lemmas.Bool.Decides.{nat_tests}
 use Rattle.std.specs.Prelude.{nat_lt}
 use Rattle.std.specs.Fmt.{decimal}
-use Rattle.std.specs.List.{All, AllByRecursion, join_with_byte, list_any, slice_split}
+use Rattle.std.specs.List.{All, join_with_byte, list_any}
 use Rattle.std.specs.Str.Parse.{AllDigits}
 use Rattle.journal_text.specs.Names.{spelling}
-use Rattle.journal_text.specs.Reading.{◌>>=◌, digits_of, number_of, name_at, wide_at, small_at, act_at, reply_at, at_end, only_equals, only_steps, entry_in, count_in, made_in, or_made, line_in, words_of}
+use Rattle.journal_text.specs.Reading.{digits_of, number_of, name_at, wide_at, small_at, act_at, reply_at, at_end, only_equals, only_steps, entry_in, count_in, made_in, or_count, line_in, words_of}
 use Rattle.journal_text.specs.declared.word.Word.{Word}
 use Rattle.journal_text.specs.declared.word.Word.TheVariants.{Named, Worker, Stripe, Wide}
-use Rattle.journal_text.specs.Table.{word_text, spelled, FitsWord, Fit, act_words, reply_words, entry_words, count_words, line_words, text_of, is_answer_in, IsLine}
+use Rattle.journal_text.specs.Table.{word_text, spelled, FitsWord, Fit, act_words, reply_words, entry_words, count_words, text_of, is_answer_in, IsLine}
 use Rattle.journal_text.specs.declared.line.Line.{Line}
 use Rattle.journal_text.specs.declared.line.Line.TheVariants.{Made, Steps}
 use Rattle.journal_text.specs.declared.name.Name.{Name}
@@ -25,7 +25,6 @@ use Rattle.journal_text.specs.declared.version.Version.TheVariants.{One, Two}
 use Rattle.journal_text.proofs.Spellings.{number_again}
 use Rattle.journal_text.proofs.Parsed.{name_back, wide_back, small_back, act_back, reply_back, some_same, bound, name_taken, wide_taken, small_taken, act_taken, reply_taken}
 use Rattle.step_record.specs.declared.entry.Entry.{Entry}
-use Rattle.step_record.specs.declared.step.Act.{Act}
 use Rattle.step_record.specs.declared.step.Reply.{Reply}
 use Rattle.step_record.specs.declared.step.Step.{Step}
 
@@ -193,13 +192,16 @@ spelled_lacks w (v ∷ vs) f =
 
 -- ---- lines
 
-no_count : (w : ℕ) (rest : List (List ℕ)) (o : Option ℕ) → w < 64 → count_in (decimal w ∷ rest) ≡ o → o ≡ None
+-- the words of a count are no entry's
+no_entry : (n : ℕ) (o : Option (Entry Step Reply)) → entry_in (map word_text (count_words n)) ≡ o → o ≡ None
 unfolding number_of digits_of
-no_count w rest None h e = refl
-no_count w rest (Some n) h e =
-    let words : decimal w ∷ rest ≡ map word_text (count_words n) = (count_taken (decimal w ∷ rest) n e).0 in
-    let first : decimal w ≡ spelling name.Steps = cc in
-    let read : Some w ≡ number_of (spelling name.Steps) = sym (number_again w (omega arith)) ∙ ap number_of first in
+no_entry n None h = refl
+no_entry n (Some e) h =
+    let taken = entry_taken (map word_text (count_words n)) e h in
+    let w = e.step.worker in
+    let words : map word_text (count_words n) ≡ map word_text (entry_words e) = taken.0 in
+    let first : spelling name.Steps ≡ decimal w = cc in
+    let read : number_of (spelling name.Steps) ≡ Some w = ap number_of first ∙ number_again w (omega (arith, taken.1.0)) in
     let none : number_of (spelling name.Steps) ≡ None = refl in
     absurd (cc)
 
@@ -211,19 +213,26 @@ made_back v e f a =
     let read : entry_in (words_of (spelled (entry_words e))) ≡ Some e = ap entry_in words ∙ entry_back e f in
     rw read (cond-true (is_answer_in v e.step.act e.reply) (Some (Made e)) None a)
 
+none_made : (n : ℕ) → n < 2 ^ 64 → made_in Two (spelled (count_words n)) ≡ None
+unfolding made_in
+none_made n h =
+    let words : words_of (spelled (count_words n)) ≡ map word_text (count_words n) =
+    spelled_words (Named name.Steps) (Wide n ∷ []) (tt, (h, tt)) in
+    let none : entry_in (words_of (spelled (count_words n))) ≡ None = ap entry_in words ∙ no_entry n _ refl in
+    rw none refl
+
 -- Each line of the table is read.
 pub line_again : (v : Version) (l : Line) → IsLine v l → line_in v (text_of l) ≡ Some l
 unfolding line_in IsLine text_of
 line_again One (Made e) h = made_back One e h.0 h.1
 line_again Two (Made e) h =
-    let words : words_of (spelled (entry_words e)) ≡ map word_text (entry_words e) = spelled_words (Worker e.step.worker) _ h.0 in
-    let none : count_in (words_of (spelled (entry_words e))) ≡ None = ap count_in words ∙ no_count e.step.worker _ _ h.0.0 refl in
-    ap (λ o. or_made o (made_in Two (spelled (entry_words e)))) none ∙ made_back Two e h.0 h.1
+    ap (λ o. or_count o (count_in (words_of (spelled (entry_words e))))) (made_back Two e h.0 h.1)
 line_again One (Steps n) h = absurd h
 line_again Two (Steps n) h =
-    let words : words_of (spelled (count_words n)) ≡ map word_text (count_words n) = spelled_words (Named name.Steps) (Wide n ∷ []) (tt, (h, tt)) in
+    let words : words_of (spelled (count_words n)) ≡ map word_text (count_words n) =
+    spelled_words (Named name.Steps) (Wide n ∷ []) (tt, (h, tt)) in
     let some : count_in (words_of (spelled (count_words n))) ≡ Some n = ap count_in words ∙ count_back n h in
-    ap (λ o. or_made o (made_in Two (spelled (count_words n)))) some
+    ap (λ o. or_count o (count_in (words_of (spelled (count_words n))))) (none_made n h) ∙ ap (or_count None) some
 
 answered : (v : Version) (e : Entry Step Reply) (l : Line) (b : Bool) → is_answer_in v e.step.act e.reply ≡ b → cond b (Some (Made e)) None ≡ Some l
     → (is_answer_in v e.step.act e.reply ≡ true) × (Made e ≡ l)
@@ -240,17 +249,23 @@ made_taken v text l h =
     let P : Line → Type 0 = λ m. IsLine v m × (text_of m ≡ text) in
     subst P a.1 ((t.1, a.0), sym (ap (join_with_byte 32) t.0) ∙ join_with_byte-slice_split 32 text)
 
-count_or : (text : List ℕ) (l : Line) (o : Option ℕ) → count_in (words_of text) ≡ o → or_made o (made_in Two text) ≡ Some l → IsLine Two l × (text_of l ≡ text)
+count_line : (text : List ℕ) (l : Line) (o : Option ℕ) → count_in (words_of text) ≡ o → or_count None o ≡ Some l
+    → IsLine Two l × (text_of l ≡ text)
 unfolding IsLine text_of
-count_or text l None e h = made_taken Two text l h
-count_or text l (Some n) e h =
+count_line text l None e h = absurd (cc)
+count_line text l (Some n) e h =
     let t = count_taken (words_of text) n e in
     let P : Line → Type 0 = λ m. IsLine Two m × (text_of m ≡ text) in
     let same : Steps n ≡ l = some_same h in
     subst P same (t.1, sym (ap (join_with_byte 32) t.0) ∙ join_with_byte-slice_split 32 text)
 
+line_of_two : (text : List ℕ) (l : Line) (o : Option Line) → made_in Two text ≡ o
+    → or_count o (count_in (words_of text)) ≡ Some l → IsLine Two l × (text_of l ≡ text)
+line_of_two text l None e h = count_line text l _ refl h
+line_of_two text l (Some m) e h = made_taken Two text l (e ∙ h)
+
 -- What is read is a line of the table.
 pub line_taken : (v : Version) (text : List ℕ) (l : Line) → line_in v text ≡ Some l → IsLine v l × (text_of l ≡ text)
 unfolding line_in
 line_taken One text l h = made_taken One text l h
-line_taken Two text l h = count_or text l _ refl h
+line_taken Two text l h = line_of_two text l _ refl h

@@ -1,15 +1,13 @@
 -- What is read of words is what they spell, and what is spelled is read again.
-use Rattle.std.proofs.Common.{◌≡◌, ◌∙◌, ◌<◌, ◌≤◌, ◌^◌, ◌&&◌, ◌==◌, ℕ, zero, suc, Bool, true, false, List, [], ◌∷◌, ◌++◌, length, get_or, map, ap, sym, subst, refl, arith, Option, Some, None, cond}
-use Rattle.std.proofs.lemmas.Bool.{cond-true, cond-false, lt-ltb}
+use Rattle.std.proofs.Common.{◌≡◌, ◌∙◌, ◌<◌, ◌^◌, ℕ, Bool, true, false, List, [], ◌∷◌, ◌++◌, map, ap, sym, subst, refl, arith, Option, Some, None, cond}
+use Rattle.std.proofs.lemmas.Bool.{cond-true, lt-ltb}
 use Rattle.std.proofs.lemmas.Bool.Decides.{nat_tests}
 use Rattle.std.specs.Fmt.{decimal}
 use Rattle.std.specs.Prelude.{nat_lt}
-use Rattle.std.specs.List.{AllByRecursion}
 use Rattle.journal_text.specs.Names.{name_of, spelling}
 use Rattle.journal_text.specs.Reading.{number_of, ◌>>=◌, with_rest, name_at, wide_at, small_at, item_at, answer_at, answer_named, act_at, act_named, reply_at, reply_named}
 use Rattle.journal_text.specs.declared.word.Word.{Word}
-use Rattle.journal_text.specs.declared.word.Word.TheVariants.{Named, Worker, Stripe, Wide}
-use Rattle.journal_text.specs.Table.{word_text, FitsWord, Fit, item_words, answer_name, act_words, reply_words}
+use Rattle.journal_text.specs.Table.{word_text, Fit, answer_name, act_words, reply_words}
 use Rattle.journal_text.specs.declared.name.Name.{Name}
 use Rattle.journal_text.specs.declared.name.Name.TheVariants as name
 use Rattle.journal_text.proofs.Spellings.{name_again, name_takes, number_again, number_takes}

@@ -1,8 +1,7 @@
 -- Words written one after another make the text of their line.
-use Rattle.std.proofs.Common.{◌≡◌, ◌∙◌, ℕ, List, [], ◌∷◌, ◌++◌, map, ap, sym, refl, append_assoc}
+use Rattle.std.proofs.Common.{◌≡◌, ◌∙◌, ℕ, List, [], ◌∷◌, ◌++◌, ap, sym, refl, append_assoc}
 use Rattle.std.proofs.lemmas.List.{append-nil}
 use Rattle.std.specs.Fmt.{decimal}
-use Rattle.std.specs.List.{join_with_byte}
 use Rattle.journal_text.specs.Journal.{ended}
 use Rattle.journal_text.specs.Table.{word_text, spelled, spaced, act_words, reply_name, reply_numbers, entry_words}
 use Rattle.journal_text.specs.declared.name.Name.TheVariants as name

@@ -1,12 +1,12 @@
 -- One text is the journal of one list of entries.
-use Rattle.std.proofs.Common.{◌≡◌, ◌≢◌, ◌∙◌, ◌<◌, ◌+◌, ◌^◌, ℕ, List, [], ◌∷◌, ◌++◌, length, get_or, ap, sym, refl, subst, arith, Some, append_assoc, length-append}
+use Rattle.std.proofs.Common.{◌≡◌, ◌≢◌, ◌∙◌, ◌<◌, ◌^◌, ℕ, List, [], ◌∷◌, ◌++◌, length, get_or, ap, sym, refl, subst, arith, Some, append_assoc, length-append}
 use Rattle.std.proofs.lemmas.List.{append-nil, append_cancel_left}
 use Rattle.std.proofs.lemmas.List.Elements.{All-head, All-tail}
 use Rattle.std.specs.List.{flat_map}
 use Rattle.journal_text.specs.Faults.{Lacks10}
 use Rattle.journal_text.specs.Journal.{begun, closing, ended, entry_line, header, journal_of, AreLines, Entries}
 use Rattle.journal_text.specs.Reading.{line_in}
-use Rattle.journal_text.specs.Table.{text_of, entry_words, count_words, IsLine}
+use Rattle.journal_text.specs.Table.{text_of, IsLine}
 use Rattle.journal_text.specs.declared.line.Line.{Line}
 use Rattle.journal_text.specs.declared.line.Line.TheVariants.{Made, Steps}
 use Rattle.journal_text.specs.declared.version.Version.{Version}

@@ -3,7 +3,6 @@ use Rattle.std.proofs.Common.{◌≡◌, ◌∙◌, ◌++◌, List, [], ◌∷�
 use Rattle.std.proofs.lemmas.List.{append-nil}
 use Rattle.std.proofs.lemmas.List.Elements.{All-cons, All-head, All-nil, All-tail}
 use Rattle.std.specs.Io.KnownBytes.{append_known, Appends, Keeps}
-use Rattle.std.specs.List.{All}
 use Rattle.journal_text.specs.Journal.{AreLines, Entries}
 use Rattle.journal_text.specs.Table.{entry_words, is_answer_in, Fit, IsLine}
 use Rattle.journal_text.specs.Writing.{AreFit, IsWritten}

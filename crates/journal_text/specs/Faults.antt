@@ -1,5 +1,5 @@
 -- Why a text is not a journal that a session takes, and which entries the session then holds.
-use Rattle.std.specs.Prelude.{◌≡◌, ◌≢◌, ◌<◌, ◌≤◌, ◌+◌, ◌⊎◌, ◌==◌, ℕ, Bool, true, false, Option, Some, None, Result, Ok, Err, List, [], ◌∷◌, ◌++◌, length}
+use Rattle.std.specs.Prelude.{◌≡◌, ◌≢◌, ◌<◌, ◌+◌, ◌⊎◌, ◌==◌, ℕ, Bool, true, false, Option, Some, None, Result, Ok, Err, List, [], ◌∷◌, ◌++◌, length}
 use Rattle.std.specs.List.{All}
 use Rattle.journal_text.specs.Journal.{begun, ended, header, journal_of, AreLines, Entries}
 use Rattle.journal_text.specs.Table.{text_of, IsLine}
@@ -68,7 +68,8 @@ module _ {D : Type 0} (act : D → Step → Option (Reply × D)) (x : D) (limit 
   IsFault fault.Header bytes kept = (kept ≡ []) × ((v : Version) (more : List ℕ) → bytes ≢ ended (header v) ++ more)
   -- a line is wrong, or there is a line more behind the count, which is itself the line behind those of the entries
   IsFault (fault.Line n) bytes kept = IsAtLine (fault.Line n) bytes kept
-      ⊎ ((n ≡ length kept + 2) × ((more : List ℕ) × AreLines Two kept × (0 < length more) × (bytes ≡ journal_of Two kept ++ more)))
+      ⊎ ((n ≡ length kept + 2)
+      × ((more : List ℕ) × AreLines Two kept × (0 < length more) × (bytes ≡ journal_of Two kept ++ more)))
   IsFault (fault.FalseReply n) bytes kept = IsAtLine (fault.FalseReply n) bytes kept
   IsFault (fault.NotNow n) bytes kept = IsAtLine (fault.NotNow n) bytes kept
   IsFault (fault.JournalFull n) bytes kept = IsAtLine (fault.JournalFull n) bytes kept
@@ -81,7 +82,8 @@ module _ {D : Type 0} (act : D → Step → Option (Reply × D)) (x : D) (limit 
 
 -- A line was taken: its entry is added, or it is the right count.
 abbrev pub Took : Bool → Version → List ℕ → Entries → Entries → Type 0
-Took false v text old new = (e : Entry Step Reply) × IsLine v (Made e) × (text_of (Made e) ≡ text) × (new ≡ old ++ e ∷ [])
+Took false v text old new =
+    (e : Entry Step Reply) × IsLine v (Made e) × (text_of (Made e) ≡ text) × (new ≡ old ++ e ∷ [])
 Took true v text old new = (v ≡ Two) × (text_of (Steps (length old)) ≡ text) × (new ≡ old)
 
 -- faults that are found before a step is made
@@ -95,3 +97,8 @@ IsUnread _ = ⊥
 abbrev pub Accepts : {T : Type 0} → Result T JournalFault → Entries → Entries → Type 0
 Accepts (Ok u) kept es = kept ≡ es
 Accepts (Err f) kept es = (f ≡ fault.OutOfMemory) ⊎ (f ≡ fault.Read)
+
+-- More bytes were refused than a journal may have, unless memory or the reader failed.
+abbrev pub IsRefusedAsLarge : {T : Type 0} → Result T JournalFault → Type 0
+IsRefusedAsLarge (Ok u) = ⊥
+IsRefusedAsLarge (Err f) = (f ≡ fault.TooLarge) ⊎ ((f ≡ fault.OutOfMemory) ⊎ (f ≡ fault.Read))

@@ -1,5 +1,6 @@
--- The text of a journal. (Format of this project: a header, a line for each entry, and in version 2 the count of the entries.)
-use Rattle.std.specs.Prelude.{◌≡◌, ◌≤◌, ℕ, Option, List, [], ◌∷◌, ◌++◌, length, codes}
+-- The text of a journal, in a format of this project: a header, a line for each entry, and in version 2 the count of
+-- the entries.
+use Rattle.std.specs.Prelude.{◌≡◌, ◌≤◌, ℕ, Option, List, [], ◌++◌, length, codes}
 use Rattle.std.specs.List.{All, flat_map}
 use Rattle.journal_text.specs.Table.{text_of, IsLine}
 use Rattle.journal_text.specs.declared.line.Line.TheVariants.{Made, Steps}

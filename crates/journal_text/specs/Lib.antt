@@ -5,5 +5,5 @@ pub mod Journal
 pub mod Faults
 pub mod Cut
 pub mod Unread
-pub mod Told
+pub mod ReplyItem
 pub mod Writing

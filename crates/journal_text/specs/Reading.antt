@@ -1,5 +1,5 @@
 -- How a line is read, word by word. What callers see is the table; the laws say that this reads just its lines.
-use Rattle.std.specs.Prelude.{ℕ, Bool, ◌^◌, ◌&&◌, ◌==◌, List, [], ◌∷◌, Option, Some, None, length, nat_lt, slice_index, if◌then◌else◌}
+use Rattle.std.specs.Prelude.{◌^◌, ◌&&◌, ◌==◌, ℕ, List, [], ◌∷◌, Option, Some, None, length, nat_lt, slice_index, if◌then◌else◌}
 use Rattle.std.specs.List.{slice_split}
 use Rattle.std.specs.Str.{all_ascii_digits}
 use Rattle.std.specs.Str.Parse.{digits_value}
@@ -144,13 +144,15 @@ unfoldable pub count_in : List (List ℕ) → Option ℕ
 count_in ws = name_at ws >>= λ n. (only_steps n.0 >>= λ _. (wide_at n.1 >>= at_end))
 
 unfoldable pub made_in : Version → List ℕ → Option Line
-made_in v text = entry_in (words_of text) >>= λ e. if is_answer_in v e.step.act e.reply then Some (line.Made e) else None
+made_in v text =
+    entry_in (words_of text) >>= λ e. if is_answer_in v e.step.act e.reply then Some (line.Made e) else None
 
--- the count of the steps, or else an entry
-abbrev pub or_made : Option ℕ → Option Line → Option Line
-or_made None other = other
-or_made (Some n) other = Some (line.Steps n)
+-- an entry, or else the count of the steps
+abbrev pub or_count : Option Line → Option ℕ → Option Line
+or_count (Some l) other = Some l
+or_count None (Some n) = Some (line.Steps n)
+or_count None None = None
 
 unfoldable pub line_in : Version → List ℕ → Option Line
 line_in One text = made_in One text
-line_in Two text = or_made (count_in (words_of text)) (made_in Two text)
+line_in Two text = or_count (made_in Two text) (count_in (words_of text))

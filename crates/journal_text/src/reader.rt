@@ -1,6 +1,6 @@
 //! A session's journal from a reader.
-ghost use Rattle.std.specs.Prelude.{◌≡◌, List, [], OnOk, IfErr, IfSome};
-ghost use Rattle.journal_text.specs.Faults.{Accepts, IsFault, IsUnread};
+ghost use Rattle.std.specs.Prelude.{◌≡◌, ◌<◌, List, [], OnOk, IfErr, IfSome, length};
+ghost use Rattle.journal_text.specs.Faults.{Accepts, IsFault, IsRefusedAsLarge, IsUnread};
 ghost use Rattle.journal_text.specs.Journal.{Entries, IsJournal};
 ghost use Rattle.journal.specs.Session.{IsSameSession};
 
@@ -37,6 +37,9 @@ pub fn read_journal<R: Read, E: Engine<Step = Step, Reply = Reply>>(
     // What a fault says is so.
     ensures err { IfErr result (λ f. IfSome (R.remaining reader.old) (λ bytes.
         IsFault E.act session.old.opening session.old.limit f bytes session.new.kept)) }
+    // More bytes than a journal may have are refused as such, unless memory or the reader failed.
+    ensures large { IfSome (R.remaining reader.old) (λ bytes.
+        MAX_JOURNAL_BYTES < length bytes → IsRefusedAsLarge result) }
     // What is found before the first step leaves the session as it was.
     ensures unread { IfErr result (λ f. IsUnread f → IsSameSession E.seen session.old session.new) }
     ensures opening { session.new.opening ≡ session.old.opening }

@@ -2,7 +2,8 @@
 ghost use Rattle.std.specs.Prelude.{◌≡◌, Some, IfSome};
 ghost use Rattle.journal_text.specs.Table.{text_of, IsLine};
 ghost use Rattle.journal_text.specs.declared.line.Line.{Line};
-ghost use Rattle.journal_text.specs.Reading.{act_at, count_in, entry_in, line_in, made_in, reply_at, with_rest, words_of};
+ghost use Rattle.journal_text.specs.Reading.{act_at, count_in, entry_in, line_in, made_in};
+ghost use Rattle.journal_text.specs.Reading.{reply_at, with_rest, words_of};
 
 use super::name::Name;
 use super::table::is_answer_in;
@@ -154,9 +155,9 @@ fn line_read(version: Version, text: &[u8]) -> Option<Line>
 {
     match version {
         Version::One => made(version, text),
-        Version::Two => match count(text) {
-            Some(steps) => Some(Line::Steps(steps)),
-            None => made(version, text),
+        Version::Two => match made(version, text) {
+            Some(line) => Some(line),
+            None => Some(Line::Steps(count(text)?)),
         },
     }
 }

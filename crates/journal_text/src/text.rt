@@ -1,7 +1,8 @@
 //! A line as text, behind what a buffer holds already. The buffer has the room, so nothing fails.
 ghost use Rattle.std.specs.Prelude.{◌≡◌, ◌≤◌, ◌+◌, ◌*◌, ◌++◌, [], length, vec_len, vec_capacity};
 ghost use Rattle.std.specs.Fmt.{decimal};
-ghost use Rattle.journal_text.specs.Table.{act_words, answer_name, entry_words, item_words, offer_words, reply_numbers, spaced, spelled, text_of, word_text, Fit};
+ghost use Rattle.journal_text.specs.Table.{act_words, answer_name, entry_words, item_words, offer_words};
+ghost use Rattle.journal_text.specs.Table.{reply_numbers, spaced, spelled, text_of, word_text, Fit};
 ghost use Rattle.journal_text.specs.Journal.{begun, ended};
 ghost use Rattle.journal_text.specs.declared.line.Line.TheVariants.{Made, Steps};
 ghost use Rattle.journal_text.specs.declared.version.Version.TheVariants.{Two};

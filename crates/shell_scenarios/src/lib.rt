@@ -3,6 +3,10 @@
 #![tactic(auto)]
 
 #[cfg(test)]
+mod ends;
+#[cfg(test)]
+mod ends_tests;
+#[cfg(test)]
 mod session_tests;
 #[cfg(test)]
 mod showing;

@@ -9,8 +9,8 @@ use std::alloc::Global;
 use std::process::Abort;
 use std::test::Fail;
 
-// A round as it is written.
-const WRITTEN: &str = "cachesim journal 2
+/// A round as it is written.
+pub const WRITTEN: &str = "cachesim journal 2
 0 look 1 = miss
 0 put 1 = added 0
 0 afterwrite = drain

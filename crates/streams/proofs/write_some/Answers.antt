@@ -6,15 +6,18 @@ use Rattle.std.proofs.lemmas.Grind.{common_steps}
 use Rattle.streams.proofs.write_some.Goals as goal
 
 -- the part up to k, and then c bytes of the rest
-more : (old mid new : Option (List ℕ)) (k c : ℕ) (all rest : List ℕ) → rest ≡ drop k all → Appends old mid (take k all)
-    → Appends mid new (take c rest) → Appends old new (take (k + c) all)
-more old mid new k c all rest e a b = rw take-add (Appends-trans old mid new (take k all) (take c (drop k all)) a (rw e at b))
+more : (old mid new : Option (List ℕ)) (k c : ℕ) (all rest : List ℕ) → rest ≡ drop k all
+    → Appends old mid (take k all) → Appends mid new (take c rest) → Appends old new (take (k + c) all)
+more old mid new k c all rest e a b =
+    rw take-add (Appends-trans old mid new (take k all) (take c (drop k all)) a (rw e at b))
 
 pub writes-preserved-in-Ok : goal.writes-preserved-in-Ok
 writes-preserved-in-Ok g c =
-    let rest : take (length c.args.bytes.now - c.writes.sent) (drop c.writes.sent c.args.bytes.now) ≡ drop c.writes.sent c.args.bytes.now = grind (arith, common_steps) in
+    let rest : take (length c.args.bytes.now - c.writes.sent) (drop c.writes.sent c.args.bytes.now)
+    ≡ drop c.writes.sent c.args.bytes.now = grind (arith, common_steps) in
     record {
       within = search arith;
-      sent = more _ _ _ c.writes.sent c.in-Ok.count c.args.bytes.now _ rest c.writes.invariant.sent c.in-Ok.ensures.bytes;
+      sent = more _ _ _ c.writes.sent c.in-Ok.count c.args.bytes.now _ rest c.writes.invariant.sent
+          c.in-Ok.ensures.bytes;
       borne = c.writes.invariant.borne;
     }

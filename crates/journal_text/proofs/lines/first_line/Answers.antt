@@ -1,7 +1,5 @@
-use Rattle.std.proofs.Common.{◌≡◌, ◌∙◌, ◌<◌, ◌+◌, ◌++◌, ap, sym, subst, arith, length, take, drop}
-use Rattle.journal_text.specs.Cut.{feed_in}
+use Rattle.std.proofs.Common.{◌∙◌, ◌<◌, ◌+◌, sym, subst, arith, length, take}
 use Rattle.journal_text.specs.Faults.{Lacks10}
-use Rattle.journal_text.specs.Journal.{ended}
 use Rattle.journal_text.proofs.Cuts.{behind, lacks_all, lacks_before}
 use Rattle.journal_text.proofs.Fronts.{split}
 use Rattle.journal_text.proofs.lines.first_line.Goals as goal

@@ -1,7 +1,5 @@
-use Rattle.std.proofs.Common.{◌≡◌, ◌≢◌, ◌∙◌, ◌++◌, ℕ, List, None, sym, subst}
-use Rattle.std.specs.Prelude.{MatchOption}
-use Rattle.journal_text.specs.Journal.{ended, header}
-use Rattle.journal_text.specs.declared.version.Version.{Version}
+use Rattle.std.proofs.Common.{◌∙◌, sym}
+use Rattle.journal_text.specs.Journal.{header}
 use Rattle.journal_text.proofs.Fronts.{header_lacks, same_line}
 use Rattle.journal_text.proofs.lines.header_of.Goals as goal
 

@@ -1,4 +1,4 @@
-use Rattle.std.proofs.Common.{◌≡◌, ◌∙◌, ◌+◌, ap, sym, refl}
+use Rattle.std.proofs.Common.{◌∙◌, ◌+◌, ap, sym, refl}
 use Rattle.journal_text.proofs.steps.make.Goals as goal
 
 pub returns-else-is_same-clause-err : goal.returns-else-is_same-clause-err

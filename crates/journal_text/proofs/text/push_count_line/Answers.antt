@@ -1,4 +1,4 @@
-use Rattle.std.proofs.Common.{◌≡◌, ◌∷◌, []}
+use Rattle.std.proofs.Common.{◌∷◌, []}
 use Rattle.journal_text.specs.Table.{text_of, count_words, spelled}
 use Rattle.journal_text.specs.declared.name.Name.TheVariants as name
 use Rattle.journal_text.specs.declared.word.Word.TheVariants.{Named, Wide}

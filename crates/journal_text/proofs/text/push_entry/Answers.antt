@@ -1,4 +1,4 @@
-use Rattle.std.proofs.Common.{◌≡◌, ◌∙◌, ◌++◌, ◌∷◌, [], ap}
+use Rattle.std.proofs.Common.{◌∙◌, ◌++◌, ◌∷◌, [], ap}
 use Rattle.std.specs.Fmt.{decimal}
 use Rattle.journal_text.specs.Table.{spaced}
 use Rattle.journal_text.specs.declared.name.Name.TheVariants as name

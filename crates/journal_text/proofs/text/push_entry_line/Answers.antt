@@ -1,4 +1,3 @@
-use Rattle.std.proofs.Common.{◌≡◌}
 use Rattle.journal_text.specs.Table.{text_of, entry_words, spelled}
 use Rattle.journal_text.proofs.Spacing.{line_ended}
 use Rattle.journal_text.proofs.text.push_entry_line.Goals as goal
