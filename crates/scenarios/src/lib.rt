@@ -8,8 +8,11 @@ ghost use Rattle.admission.specs.Frequency.{FrequencyData, halving_words};
 ghost use Rattle.policies.specs.Lru.{outcome};
 ghost use Rattle.policies.specs.QueueCache.{StandsFor};
 
+mod reports;
+
 use journal::{Session, SessionFault};
 use policies::{Lru, WindowTinyLfu, lru_stands, queues_stand};
+pub use reports::{BothWays, capacities_both_ways, jobs_both_ways};
 use step_record::{Key, Outcome, Policy};
 
 /// One access to an Lru cache in a session. For every list of accesses that the cache made, the outcome is the one that the
@@ -42,5 +45,7 @@ mod clairvoyant_tests;
 mod policy_tests;
 #[cfg(test)]
 mod quiet_tests;
+#[cfg(test)]
+mod report_tests;
 #[cfg(test)]
 mod tests;
