@@ -24,6 +24,7 @@ pub fn answer<T: Timeline>(
     text: &mut Vec<u8>,
 ) -> Result<(), AllocError>
     requires { T.IsWhole timeline.old }
+    ensures source { T.source timeline.new ≡ T.source timeline.old }
     ensures whole { OnOk result (T.IsWhole timeline.new) }
     ensures same { OnOk result (T.timeline timeline.new ≡ T.timeline timeline.old) }
     ensures answer { OnOk result (IsAnswer (answer_to (T.timeline timeline.old) (record { at = T.position timeline.old; breaks = breaks.old.items }) line)
@@ -46,6 +47,7 @@ fn respond<T: Timeline>(
     text: &mut Vec<u8>,
 ) -> Result<(), AllocError>
     requires { T.IsWhole timeline.old }
+    ensures source { T.source timeline.new ≡ T.source timeline.old }
     ensures whole { OnOk result (T.IsWhole timeline.new) }
     ensures same { OnOk result (T.timeline timeline.new ≡ T.timeline timeline.old) }
     ensures answer { OnOk result (IsAnswer (response_to (T.timeline timeline.old) (record { at = T.position timeline.old; breaks = breaks.old.items }) command)
@@ -76,6 +78,7 @@ fn step<T: Timeline>(
     text: &mut Vec<u8>,
 ) -> Result<(), AllocError>
     requires { T.IsWhole timeline.old }
+    ensures source { T.source timeline.new ≡ T.source timeline.old }
     ensures whole { OnOk result (T.IsWhole timeline.new) }
     ensures same { OnOk result (T.timeline timeline.new ≡ T.timeline timeline.old) }
     ensures answer { OnOk result ((breaks : List Breakpoint) → IsAnswer
@@ -98,6 +101,7 @@ fn back<T: Timeline>(
     text: &mut Vec<u8>,
 ) -> Result<(), AllocError>
     requires { T.IsWhole timeline.old }
+    ensures source { T.source timeline.new ≡ T.source timeline.old }
     ensures whole { OnOk result (T.IsWhole timeline.new) }
     ensures same { OnOk result (T.timeline timeline.new ≡ T.timeline timeline.old) }
     ensures answer { OnOk result ((breaks : List Breakpoint) → IsAnswer
@@ -120,6 +124,7 @@ fn goto<T: Timeline>(
     text: &mut Vec<u8>,
 ) -> Result<(), AllocError>
     requires { T.IsWhole timeline.old }
+    ensures source { T.source timeline.new ≡ T.source timeline.old }
     ensures whole { OnOk result (T.IsWhole timeline.new) }
     ensures same { OnOk result (T.timeline timeline.new ≡ T.timeline timeline.old) }
     ensures answer { OnOk result ((breaks : List Breakpoint) → IsAnswer
@@ -141,6 +146,7 @@ fn go<T: Timeline>(
 ) -> Result<(), AllocError>
     requires whole { T.IsWhole timeline.old }
     requires within { n ≤ (T.timeline timeline.old).end }
+    ensures source { T.source timeline.new ≡ T.source timeline.old }
     ensures whole { OnOk result (T.IsWhole timeline.new) }
     ensures same { OnOk result (T.timeline timeline.new ≡ T.timeline timeline.old) }
     ensures position { OnOk result (T.position timeline.new ≡ n) }
@@ -159,6 +165,7 @@ fn run<T: Timeline>(
     text: &mut Vec<u8>,
 ) -> Result<(), AllocError>
     requires { T.IsWhole timeline.old }
+    ensures source { T.source timeline.new ≡ T.source timeline.old }
     ensures whole { OnOk result (T.IsWhole timeline.new) }
     ensures same { OnOk result (T.timeline timeline.new ≡ T.timeline timeline.old) }
     ensures answer { OnOk result (IsAnswer (response_to (T.timeline timeline.old) (record { at = T.position timeline.old; breaks = breaks.now }) command.Run)
@@ -193,6 +200,7 @@ fn next_stop<T: Timeline>(
     breaks: &[Breakpoint],
 ) -> Result<Option<Breakpoint>, AllocError>
     requires { T.IsWhole timeline.old }
+    ensures source { T.source timeline.new ≡ T.source timeline.old }
     ensures whole { OnOk result (T.IsWhole timeline.new) }
     ensures same { OnOk result (T.timeline timeline.new ≡ T.timeline timeline.old) }
     ensures stop { IfOk result (λ stop. stop_after (T.timeline timeline.old).facts breaks.now (T.position timeline.old)

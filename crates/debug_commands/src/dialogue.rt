@@ -34,6 +34,8 @@ pub fn answer_commands<T: Timeline, R: Read, W: Write>(
     ensures large { result ≡ Err DebugFault.TooLarge → IfSome (R.remaining input.old) (λ bytes.
         IsHeld (dialogue_of (T.timeline timeline.old) (T.position timeline.old) bytes) false
         (W.contents out.old) (W.contents out.new) (T.position timeline.new)) }
+    // What is walked stays, whatever comes.
+    ensures source { T.source timeline.new ≡ T.source timeline.old }
     ensures whole { OnOk result (T.IsWhole timeline.new) }
     ensures same { OnOk result (T.timeline timeline.new ≡ T.timeline timeline.old) }
     ensures config { (i : ℕ) → result ≡ Err (DebugFault.Config i) → ⊥ }

@@ -47,7 +47,13 @@ pub fn both_at_start<'a>(
 }
 
 impl<'a> Timeline for TwoPolicies<'a> {
+    ghost use Rattle.std.specs.Prelude.{ℕ, List};
+    ghost use Rattle.step_record.specs.declared.job.Job.{Job};
     ghost use Rattle.debug_shell.specs.TwoPolicies.{policies_timeline, IsWalk};
+
+    ghost Source = { List ℕ × Job × Job };
+
+    ghost source = { λ w. (w.trace.now, w.first_job, w.second_job) };
 
     ghost timeline = { λ w. policies_timeline w.trace.now w.first_job w.second_job };
 
