@@ -27,7 +27,8 @@ pub fn answer<T: Timeline>(
     ensures source { T.source timeline.new ≡ T.source timeline.old }
     ensures whole { OnOk result (T.IsWhole timeline.new) }
     ensures same { OnOk result (T.timeline timeline.new ≡ T.timeline timeline.old) }
-    ensures answer { OnOk result (IsAnswer (answer_to (T.timeline timeline.old) (record { at = T.position timeline.old; breaks = breaks.old.items }) line)
+    ensures answer { OnOk result (IsAnswer
+        (answer_to (T.timeline timeline.old) (record { at = T.position timeline.old; breaks = breaks.old.items }) line)
         text.old.items text.new.items (T.position timeline.new) breaks.new.items) }
 {
     match line {
@@ -50,7 +51,9 @@ fn respond<T: Timeline>(
     ensures source { T.source timeline.new ≡ T.source timeline.old }
     ensures whole { OnOk result (T.IsWhole timeline.new) }
     ensures same { OnOk result (T.timeline timeline.new ≡ T.timeline timeline.old) }
-    ensures answer { OnOk result (IsAnswer (response_to (T.timeline timeline.old) (record { at = T.position timeline.old; breaks = breaks.old.items }) command)
+    ensures answer { OnOk result (IsAnswer
+        (response_to (T.timeline timeline.old)
+        (record { at = T.position timeline.old; breaks = breaks.old.items }) command)
         text.old.items text.new.items (T.position timeline.new) breaks.new.items) }
 {
     match command {
@@ -82,7 +85,8 @@ fn step<T: Timeline>(
     ensures whole { OnOk result (T.IsWhole timeline.new) }
     ensures same { OnOk result (T.timeline timeline.new ≡ T.timeline timeline.old) }
     ensures answer { OnOk result ((breaks : List Breakpoint) → IsAnswer
-        (response_to (T.timeline timeline.old) (record { at = T.position timeline.old; breaks = breaks }) (command.Step n))
+        (response_to (T.timeline timeline.old) (record { at = T.position timeline.old; breaks = breaks })
+        (command.Step n))
         text.old.items text.new.items (T.position timeline.new) breaks) }
 {
     let at = timeline.position();
@@ -105,7 +109,8 @@ fn back<T: Timeline>(
     ensures whole { OnOk result (T.IsWhole timeline.new) }
     ensures same { OnOk result (T.timeline timeline.new ≡ T.timeline timeline.old) }
     ensures answer { OnOk result ((breaks : List Breakpoint) → IsAnswer
-        (response_to (T.timeline timeline.old) (record { at = T.position timeline.old; breaks = breaks }) (command.Back n))
+        (response_to (T.timeline timeline.old) (record { at = T.position timeline.old; breaks = breaks })
+        (command.Back n))
         text.old.items text.new.items (T.position timeline.new) breaks) }
 {
     let at = timeline.position();
@@ -128,7 +133,8 @@ fn goto<T: Timeline>(
     ensures whole { OnOk result (T.IsWhole timeline.new) }
     ensures same { OnOk result (T.timeline timeline.new ≡ T.timeline timeline.old) }
     ensures answer { OnOk result ((breaks : List Breakpoint) → IsAnswer
-        (response_to (T.timeline timeline.old) (record { at = T.position timeline.old; breaks = breaks }) (command.Goto n))
+        (response_to (T.timeline timeline.old) (record { at = T.position timeline.old; breaks = breaks })
+        (command.Goto n))
         text.old.items text.new.items (T.position timeline.new) breaks) }
 {
     if n > timeline.end() as u64 {
@@ -168,7 +174,9 @@ fn run<T: Timeline>(
     ensures source { T.source timeline.new ≡ T.source timeline.old }
     ensures whole { OnOk result (T.IsWhole timeline.new) }
     ensures same { OnOk result (T.timeline timeline.new ≡ T.timeline timeline.old) }
-    ensures answer { OnOk result (IsAnswer (response_to (T.timeline timeline.old) (record { at = T.position timeline.old; breaks = breaks.now }) command.Run)
+    ensures answer { OnOk result (IsAnswer
+        (response_to (T.timeline timeline.old)
+        (record { at = T.position timeline.old; breaks = breaks.now }) command.Run)
         text.old.items text.new.items (T.position timeline.new) breaks.now) }
 {
     if timeline.position() == timeline.end() {

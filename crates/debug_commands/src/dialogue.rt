@@ -14,8 +14,8 @@ use std::alloc::Global;
 use std::io::{Read, Write};
 use streams::{Patience, WriteAllFault, flush, write_some};
 
-/// Reads commands line by line and writes the answer to each before the next one is read, up to `quit` or the end of the
-/// input. The output is flushed after each answer. Reads share their interruptions, and so do writes and flushes.
+/// Reads commands line by line and writes the answer to each before the next one is read, up to `quit` or the end of
+/// the input. The output is flushed after each answer. Reads share their interruptions, and so do writes and flushes.
 ///
 /// Errors: `TooLarge` where a line goes past `MAX_COMMAND_BYTES` bytes of input; the lines before it are answered.
 /// `OutOfMemory`, `Read` and `Write` where an allocation, the input or the output failed; output may be partial then.

@@ -21,7 +21,10 @@ fn a_line_is_one_command_or_none(rt: HostRuntime) {
             "break  evict 03",
             Line::Known(Command::Break(Breakpoint::Evict(3))),
         ),
-        ("break halve", Line::Known(Command::Break(Breakpoint::Halve))),
+        (
+            "break halve",
+            Line::Known(Command::Break(Breakpoint::Halve)),
+        ),
         ("break part", Line::Known(Command::Break(Breakpoint::Part))),
         ("run", Line::Known(Command::Run)),
         ("clear", Line::Known(Command::Clear)),
@@ -69,18 +72,38 @@ fn malformed_commands_are_unknown(rt: HostRuntime) -> std::result::Result<(), Fa
     for word in numbered {
         for tail in bad {
             let text = format!(in rt.alloc(); "{word}{tail}")?;
-            assert_eq!(rt; line(Dialect::Policies, text.as_bytes()), Line::Unknown, "{text}");
+            assert_eq!(rt;
+                line(Dialect::Policies, text.as_bytes()),
+                Line::Unknown,
+                "{text}"
+            );
         }
     }
-    let bare = ["run", "clear", "show", "part", "quit", "break halve", "break part"];
+    let bare = [
+        "run",
+        "clear",
+        "show",
+        "part",
+        "quit",
+        "break halve",
+        "break part",
+    ];
     for word in bare {
         for tail in ["s", " 1", " now", "\tnow", " ."] {
             let text = format!(in rt.alloc(); "{word}{tail}")?;
-            assert_eq!(rt; line(Dialect::Policies, text.as_bytes()), Line::Unknown, "{text}");
+            assert_eq!(rt;
+                line(Dialect::Policies, text.as_bytes()),
+                Line::Unknown,
+                "{text}"
+            );
         }
     }
     for text in ["save 1", "save now", "break drop 1"] {
-        assert_eq!(rt; line(Dialect::Journal, text.as_bytes()), Line::Unknown, "{text}");
+        assert_eq!(rt;
+            line(Dialect::Journal, text.as_bytes()),
+            Line::Unknown,
+            "{text}"
+        );
     }
     Ok(())
 }
@@ -100,8 +123,18 @@ impl Timeline for Count {
     ghost source = { λ w. tt };
 
     ghost timeline = { λ w. record {
-        dialect = Policies; end = 3; shown = λ n. []; own = λ n. [];
-        facts = λ n. record { hit = None; left = None; also_left = None; halved = false; parted = false; dropped = false };
+      dialect = Policies;
+      end = 3;
+      shown = λ n. [];
+      own = λ n. [];
+      facts = λ n. record {
+        hit = None;
+        left = None;
+        also_left = None;
+        halved = false;
+        parted = false;
+        dropped = false;
+      };
     } };
 
     ghost position = { λ w. w.at };
@@ -320,10 +353,14 @@ fn the_millionth_interruption_is_a_failure(rt: HostRuntime) {
         (1_000_000, 0, Err(DebugFault::Read)),
         (0, 1_000_000, Err(DebugFault::Write)),
     ] {
-        let mut source = source_of(COMMANDS, 1, Turns {
-            interruptions: reads,
-            passes: NEVER,
-        });
+        let mut source = source_of(
+            COMMANDS,
+            1,
+            Turns {
+                interruptions: reads,
+                passes: NEVER,
+            },
+        );
         let mut sink = sink_of(Turns {
             interruptions: writes,
             passes: NEVER,
@@ -342,7 +379,12 @@ fn commands_of_many_bytes(rt: HostRuntime) {
         (b" ".as_slice(), 1_048_576, Ok(()), 0),
         (b" ".as_slice(), 1_048_577, Err(DebugFault::TooLarge), 0),
         (b"step 2\n".as_slice(), 1_048_570, Ok(()), 2),
-        (b"step 2\n".as_slice(), 1_048_571, Err(DebugFault::TooLarge), 2),
+        (
+            b"step 2\n".as_slice(),
+            1_048_571,
+            Err(DebugFault::TooLarge),
+            2,
+        ),
         (b"quit\n".as_slice(), 1_048_577, Ok(()), 0),
     ] {
         let mut sink = sink_of(STEADY);

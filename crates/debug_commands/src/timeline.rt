@@ -6,8 +6,8 @@ use crate::breakpoint::StepFacts;
 use crate::command::Dialect;
 use std::alloc::{AllocError, Global};
 
-/// Steps that can be made and undone one by one, at a position: how many of them are made. The one error of each call is
-/// that an allocation failed; no further call may be made then.
+/// Steps that can be made and undone one by one, at a position: how many of them are made. The one error of each call
+/// is that an allocation failed; no further call may be made then.
 pub trait Timeline {
     ghost Source: { Type 0 };
 

@@ -21,8 +21,8 @@ pub struct TwoPolicies<'a> {
     second: OnePolicy<'a>,
 }
 
-/// Both policies before the first access. It requires configurations that `Config::check` accepts. The one error is that an
-/// allocation failed.
+/// Both policies before the first access. It requires configurations that `Config::check` accepts. The one error is
+/// that an allocation failed.
 pub fn both_at_start<'a>(
     alloc: Global,
     trace: &'a Trace,
