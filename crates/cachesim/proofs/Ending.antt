@@ -14,6 +14,8 @@ use Rattle.command_line.specs.declared.fault.ParseFault.TheVariants.{Refused, St
 use Rattle.command_line.specs.declared.debug.DebugArguments.{DebugArguments}
 use Rattle.command_line.specs.declared.drive.DriveArguments.{DriveArguments}
 use Rattle.command_line.specs.declared.replay.ReplayArguments.{ReplayArguments}
+use Rattle.std.specs.Prelude.{string_bytes}
+use Rattle.cachesim.specs.Debugged.{Debugging, KnownFiles, Replaying}
 use Rattle.cachesim.specs.Drove.{IsDriven}
 use Rattle.cachesim.specs.Jobs.{jobs_at, jobs_of}
 use Rattle.cachesim.specs.Part.{Parting}
@@ -37,9 +39,9 @@ odd_by words p = record {
   refuses = inr (p.gives.0, inr p.gives.1);
 }
 
-pub run_done : (words : List Text) (run : RunArguments) → ParsedBy words (Ok (Run run)) → (input before after : Option (List ℕ))
-    → Reports run.format (jobs_of run.config run.policies.items) input before after → DoneBy words input before after
-run_done words run p input before after h =
+pub run_done : (words : List Text) (run : RunArguments) → ParsedBy words (Ok (Run run)) → (files : KnownFiles) (input before after : Option (List ℕ))
+    → Reports run.format (jobs_of run.config run.policies.items) input before after → DoneBy words files input before after
+run_done words run p files input before after h =
     let is = p.gives.1.2 in
     record {
       lists = p.lists;
@@ -58,9 +60,9 @@ run_done words run p input before after h =
       );
     }
 
-pub sweep_done : (words : List Text) (sweep : SweepArguments) → ParsedBy words (Ok (Sweep sweep)) → (input before after : Option (List ℕ))
-    → Reports sweep.format (jobs_at sweep.job sweep.capacities.items) input before after → DoneBy words input before after
-sweep_done words sweep p input before after h =
+pub sweep_done : (words : List Text) (sweep : SweepArguments) → ParsedBy words (Ok (Sweep sweep)) → (files : KnownFiles) (input before after : Option (List ℕ))
+    → Reports sweep.format (jobs_at sweep.job sweep.capacities.items) input before after → DoneBy words files input before after
+sweep_done words sweep p files input before after h =
     let is = p.gives.1.2 in
     record {
       lists = p.lists;
@@ -80,9 +82,9 @@ sweep_done words sweep p input before after h =
       );
     }
 
-pub part_done : (words : List Text) (part : PartArguments) → ParsedBy words (Ok (Part part)) → (input before after : Option (List ℕ))
-    → Parting part.format part.first part.second input before after → DoneBy words input before after
-part_done words part p input before after h =
+pub part_done : (words : List Text) (part : PartArguments) → ParsedBy words (Ok (Part part)) → (files : KnownFiles) (input before after : Option (List ℕ))
+    → Parting part.format part.first part.second input before after → DoneBy words files input before after
+part_done words part p files input before after h =
     let is = p.gives.1.2 in
     let one : Job = record { policy = part.second.policy; config = part.first.config } in
     let both : Parting part.format part.first one input before after =
@@ -106,9 +108,9 @@ part_done words part p input before after h =
       );
     }
 
-pub drive_done : (words : List Text) (drive : DriveArguments) → ParsedBy words (Ok (Drive drive)) → (input before after : Option (List ℕ))
-    → IsDriven drive.config drive.format input before after → DoneBy words input before after
-drive_done words drive p input before after h =
+pub drive_done : (words : List Text) (drive : DriveArguments) → ParsedBy words (Ok (Drive drive)) → (files : KnownFiles) (input before after : Option (List ℕ))
+    → IsDriven drive.config drive.format input before after → DoneBy words files input before after
+drive_done words drive p files input before after h =
     let is = p.gives.1.2 in
     record {
       lists = p.lists;
@@ -126,16 +128,58 @@ drive_done words drive p input before after h =
       );
     }
 
-pub debug_done : (words : List Text) (debug : DebugArguments) → ParsedBy words (Ok (Debug debug)) → (input before after : Option (List ℕ)) → DoneBy words input before after
-debug_done words debug p input before after = record {
-  lists = p.lists;
-  are = p.are;
-  done = inl (p.gives.0, inr (inr (inr (inr (record { rows = p.gives.1.0; called = inl p.gives.1.1 })))));
-}
+pub debug_done : (words : List Text) (debug : DebugArguments) → ParsedBy words (Ok (Debug debug)) → (files : KnownFiles)
+    → (input before after : Option (List ℕ))
+    → Debugging debug.policies.format debug.policies.first debug.policies.second (files (string_bytes debug.trace)) input before after
+    → DoneBy words files input before after
+debug_done words debug p files input before after h =
+    let is = p.gives.1.2 in
+    let part : PartArguments = debug.policies in
+    let trace : Text = string_bytes debug.trace in
+    let one : Job = record { policy = part.second.policy; config = part.first.config } in
+    let both : Debugging part.format part.first one (files trace) input before after =
+    subst (λ (config : Config). Debugging part.format part.first (record { policy = part.second.policy; config = config }) (files trace) input before after)
+    is.policies.same h in
+    record {
+      lists = p.lists;
+      are = p.are;
+      done = inl (
+        p.gives.0,
+        inr (inr (inr (inr (inl (record {
+          rows = p.gives.1.0;
+          is_debug = p.gives.1.1;
+          config = part.first.config;
+          config_is = is.policies.config;
+          first = part.first.policy;
+          first_is = is.policies.first;
+          second = part.second.policy;
+          second_is = is.policies.second;
+          trace = trace;
+          trace_is = is.trace;
+          debugging = subst (λ f. Debugging f part.first one (files trace) input before after) is.policies.format both;
+        }))))),
+      );
+    }
 
-pub replay_done : (words : List Text) (replay : ReplayArguments) → ParsedBy words (Ok (Replay replay)) → (input before after : Option (List ℕ)) → DoneBy words input before after
-replay_done words replay p input before after = record {
-  lists = p.lists;
-  are = p.are;
-  done = inl (p.gives.0, inr (inr (inr (inr (record { rows = p.gives.1.0; called = inr p.gives.1.1 })))));
-}
+pub replay_done : (words : List Text) (replay : ReplayArguments) → ParsedBy words (Ok (Replay replay)) → (files : KnownFiles)
+    → (input before after : Option (List ℕ))
+    → Replaying replay.config (files (string_bytes replay.journal)) input before after → DoneBy words files input before after
+replay_done words replay p files input before after h =
+    let is = p.gives.1.2 in
+    record {
+      lists = p.lists;
+      are = p.are;
+      done = inl (
+        p.gives.0,
+        inr (inr (inr (inr (inr (record {
+          rows = p.gives.1.0;
+          is_replay = p.gives.1.1;
+          config = replay.config;
+          config_is = is.config;
+          stripes_are = is.stripes;
+          journal = string_bytes replay.journal;
+          journal_is = is.journal;
+          replaying = h;
+        }))))),
+      );
+    }

@@ -14,7 +14,8 @@ use Rattle.cachesim.specs.declared.files.FileFault.TheVariants as file
 use Rattle.policy_actors.specs.declared.fault.ActorFault.{ActorFault}
 use Rattle.policy_actors.specs.declared.fault.ActorFault.TheVariants as actor
 use Rattle.cachesim.specs.declared.fault.Fault.{Fault}
-use Rattle.cachesim.specs.declared.fault.Fault.TheVariants.{Actors, Batch, Config, Debug, Journal, JournalFull, NoFile, OutOfMemory, Write}
+use Rattle.cachesim.specs.declared.fault.Fault.TheVariants.{Actors, Batch, Config, Debug, Journal, JournalFull}
+use Rattle.cachesim.specs.declared.fault.Fault.TheVariants.{NoFile, OutOfMemory, Write}
 
 abbrev pub of_write : WriteFault → Fault
 of_write write.OutOfMemory = OutOfMemory

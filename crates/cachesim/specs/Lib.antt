@@ -1,3 +1,4 @@
+pub mod Debugged
 pub mod Drove
 pub mod Fault
 pub mod Jobs

@@ -1,7 +1,7 @@
 -- What the program writes, and when it refuses its words.
 use Rattle.std.specs.Prelude.{◌≡◌, ◌≢◌, ◌⊎◌, ℕ, List, [], Option, Some, None, codes, IfSome}
 use Rattle.std.specs.Io.KnownBytes.{Appends}
-use Rattle.clap.specs.Words.{IsAmong, Kinds, Row, Text, fault_of, subcommand_of}
+use Rattle.clap.specs.Words.{IsAmong, Kinds, Row, Text, fault_of, first_of, subcommand_of}
 use Rattle.clap.specs.declared.error.ErrorKind.{ErrorKind}
 use Rattle.clap.specs.declared.error.ErrorKind.TheVariants.{DisplayHelp, DisplayVersion}
 use Rattle.step_record.specs.declared.config.Config.{Config}
@@ -14,6 +14,7 @@ use Rattle.command_line.specs.Parsed.{HasOddStripes, IsIncomplete}
 use Rattle.command_line.specs.Program.{AreLists, Lists, called, program_app}
 use Rattle.command_line.specs.Program.{capacities_in, concurrent_in, config_at, config_in, format_in}
 use Rattle.command_line.specs.Program.{policies_in, policy_in, stripes_in}
+use Rattle.cachesim.specs.Debugged.{Debugging, KnownFiles, Replaying}
 use Rattle.cachesim.specs.Drove.{IsDriven}
 use Rattle.cachesim.specs.Jobs.{jobs_at, jobs_of, reports_on}
 use Rattle.cachesim.specs.Part.{Parting}
@@ -66,10 +67,34 @@ pub record Drove (subcommand : Option (Text × List Row)) (input before after : 
   pub stripes_are : stripes_in rows ≡ Some config.stripes
   pub driven : IsDriven config (format_in rows) input before after
 
--- `debug` or `replay` was called
-pub record IsDebugging (subcommand : Option (Text × List Row)) : Type 0 where
+-- `debug` was called, and has answered the commands about the two policies over the trace of the file that its matches
+-- name
+pub record Debugged (files : KnownFiles) (subcommand : Option (Text × List Row)) (input before after : Option (List ℕ))
+    : Type 0 where
   pub rows : List Row
-  pub called : (subcommand ≡ Some (codes "debug", rows)) ⊎ (subcommand ≡ Some (codes "replay", rows))
+  pub is_debug : subcommand ≡ Some (codes "debug", rows)
+  pub config : Config
+  pub config_is : config_in rows ≡ Some config
+  pub first : Policy
+  pub first_is : policy_in (codes "first") rows ≡ Some first
+  pub second : Policy
+  pub second_is : policy_in (codes "second") rows ≡ Some second
+  pub trace : Text
+  pub trace_is : first_of (codes "trace") rows ≡ Some trace
+  pub debugging : Debugging (format_in rows) (record { policy = first; config = config })
+      (record { policy = second; config = config }) (files trace) input before after
+
+-- `replay` was called, and has answered the commands about the journal of the file that its matches name
+pub record Replayed (files : KnownFiles) (subcommand : Option (Text × List Row)) (input before after : Option (List ℕ))
+    : Type 0 where
+  pub rows : List Row
+  pub is_replay : subcommand ≡ Some (codes "replay", rows)
+  pub config : Config
+  pub config_is : concurrent_in config.stripes rows ≡ Some config
+  pub stripes_are : stripes_in rows ≡ Some config.stripes
+  pub journal : Text
+  pub journal_is : first_of (codes "journal") rows ≡ Some journal
+  pub replaying : Replaying config (files journal) input before after
 
 abbrev pub is_help : ErrorKind → Type 0
 is_help kind = (kind ≡ DisplayHelp) ⊎ (kind ≡ DisplayVersion)
@@ -83,7 +108,7 @@ abbrev pub IsRefused : Kinds → Type 0
 IsRefused kinds = (kind : ErrorKind) × (¬ is_help kind) × IsAmong kind kinds
 
 -- done: clap takes the words and the reports are written, or the words ask for help
-pub record DoneBy (words : List Text) (input before after : Option (List ℕ)) : Type 0 where
+pub record DoneBy (words : List Text) (files : KnownFiles) (input before after : Option (List ℕ)) : Type 0 where
   pub lists : Lists
   pub are : AreLists lists
   pub done : ((fault_of (program_app lists) (called words) ≡ [])
@@ -91,7 +116,8 @@ pub record DoneBy (words : List Text) (input before after : Option (List ℕ)) :
       ⊎ Swept (subcommand_of (program_app lists) (called words)) input before after
       ⊎ Parted (subcommand_of (program_app lists) (called words)) input before after
       ⊎ Drove (subcommand_of (program_app lists) (called words)) input before after
-      ⊎ IsDebugging (subcommand_of (program_app lists) (called words))))
+      ⊎ Debugged files (subcommand_of (program_app lists) (called words)) input before after
+      ⊎ Replayed files (subcommand_of (program_app lists) (called words)) input before after))
       ⊎ AsksHelp (fault_of (program_app lists) (called words))
 
 -- a usage error: clap refuses the words, or they lack a number in its range or a known policy, or their number of read

@@ -1,6 +1,7 @@
 //! The subcommands `debug` and `replay`: commands on the input, about what a file has.
-ghost use Rattle.std.specs.Prelude.{◌≡◌, Ok};
+ghost use Rattle.std.specs.Prelude.{◌≡◌, Ok, OnOk, string_bytes};
 ghost use Rattle.step_record.specs.Config.{config_fault};
+ghost use Rattle.cachesim.specs.Debugged.{Debugging, Replaying};
 
 use crate::driving::open;
 use crate::fault::Fault;
@@ -21,7 +22,11 @@ pub fn debug<R: Read, W: Write, F: Files>(
     input: &mut R,
     out: &mut W,
     files: &F,
-) -> Result<(), Fault> {
+) -> Result<(), Fault>
+    ensures { OnOk result (Debugging arguments.now.policies.format arguments.now.policies.first
+        arguments.now.policies.second (F.known files.now (string_bytes arguments.now.trace))
+        (R.remaining input.old) (W.contents out.old) (W.contents out.new)) }
+{
     let bytes = files.bytes(alloc, arguments.trace.as_str())?;
     let policies = &arguments.policies;
     let trace = read_trace(alloc, &mut bytes.as_slice(), policies.format)?;
@@ -39,6 +44,8 @@ pub fn replay<R: Read, W: Write, F: Files>(
     files: &F,
 ) -> Result<(), Fault>
     requires { config_fault arguments.now.config ≡ Ok tt }
+    ensures { OnOk result (Replaying arguments.now.config (F.known files.now (string_bytes arguments.now.journal))
+        (R.remaining input.old) (W.contents out.old) (W.contents out.new)) }
 {
     let bytes = files.bytes(alloc, arguments.journal.as_str())?;
     let mut session = open(alloc, &arguments.config)?;

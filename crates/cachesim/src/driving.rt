@@ -45,6 +45,7 @@ pub fn open(alloc: Global, config: &Config) -> Result<Session<Shell>, AllocError
     requires { config_fault config.now ≡ Ok tt }
     ensures first { IfOk result (IsFirst config.now) }
     ensures tail { IfOk result (λ session. session.tail ≡ []) }
+    ensures limit { IfOk result (λ session. session.limit ≡ config.now.journal_limit) }
 {
     let shell = Shell::new(alloc, config)?;
     Ok(Session::open(alloc, shell, config.journal_limit as usize))

@@ -1,4 +1,6 @@
 //! The files that the arguments of a call name.
+ghost use Rattle.std.specs.Prelude.{◌≡◌, IfOk, IfSome};
+ghost use Rattle.cachesim.specs.Debugged.{KnownFiles};
 
 use std::alloc::Global;
 
@@ -16,6 +18,10 @@ pub enum FileFault {
 
 /// Where the files are.
 pub trait Files {
+    /// What is known of the bytes of each file.
+    ghost known: { Self → KnownFiles };
+
     /// All bytes of the file at the path.
-    fn bytes(&self, alloc: Global, path: &str) -> Result<Vec<u8>, FileFault>;
+    fn bytes(&self, alloc: Global, path: &str) -> Result<Vec<u8>, FileFault>
+        ensures { IfOk result (λ bytes. IfSome (known self.now path.now) (λ xs. bytes.items ≡ xs)) };
 }

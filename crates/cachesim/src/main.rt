@@ -30,6 +30,11 @@ struct HostFiles<'a> {
 }
 
 impl<'a> Files for HostFiles<'a> {
+    ghost use Rattle.std.specs.Prelude.{None};
+
+    // No contract says what a file of the machine has.
+    ghost known = { λ files path. None };
+
     fn bytes(&self, alloc: Global, path: &str) -> Result<Vec<u8>, FileFault> {
         let Ok(mut file) = fs::open(self.rt, path) else {
             return Err(FileFault::NoFile);

@@ -11,6 +11,10 @@ const HEADER: &str = "policy,capacity,accesses,hits,misses,evictions,rejections,
 struct Nowhere;
 
 impl Files for Nowhere {
+    ghost use Rattle.std.specs.Prelude.{None};
+
+    ghost known = { λ files path. None };
+
     fn bytes(&self, _alloc: Global, _path: &str) -> Result<Vec<u8>, FileFault> {
         Err(FileFault::NoFile)
     }

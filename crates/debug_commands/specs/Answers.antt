@@ -1,6 +1,7 @@
 -- What the debugger answers to a command: from the position and the breakpoints before it, the text and those after it.
 -- (Commands of this project.)
-use Rattle.std.specs.Prelude.{ℕ, zero, suc, ◌+◌, ◌-◌, ◌==◌, nat_lt, if◌then◌else◌, Option, Some, None, List, [], ◌∷◌, ◌++◌, length, codes}
+use Rattle.std.specs.Prelude.{ℕ, zero, suc, ◌+◌, ◌-◌, ◌==◌, nat_lt, if◌then◌else◌, Option, Some, None, List, [], ◌∷◌}
+use Rattle.std.specs.Prelude.{◌++◌, length, codes}
 use Rattle.std.specs.Fmt.{decimal}
 use Rattle.debug_commands.specs.Breakpoints.{first_holding, word_of}
 use Rattle.debug_commands.specs.Timeline.{TimelineData}
@@ -59,11 +60,13 @@ abbrev pub runs : Place → ℕ × Option Breakpoint → Response
 runs p stop = record { text = stop_line stop.1 ++ at_line stop.0; place = record { at = stop.0; breaks = p.breaks } }
 
 unfoldable pub response_to : TimelineData → Place → Command → Response
-response_to t p (command.Step n) = if nat_lt t.end (p.at + n) then stays p (codes "fault: PastEnd\n") else goes p (p.at + n)
+response_to t p (command.Step n) =
+    if nat_lt t.end (p.at + n) then stays p (codes "fault: PastEnd\n") else goes p (p.at + n)
 response_to t p (command.Back n) = if nat_lt p.at n then stays p (codes "fault: PastStart\n") else goes p (p.at - n)
 response_to t p (command.Goto n) = if nat_lt t.end n then stays p (codes "fault: PastEnd\n") else goes p n
 response_to t p command.Run =
-    if p.at == t.end then stays p (codes "fault: PastEnd\n") else runs p (stop_after t.facts p.breaks p.at (t.end - p.at))
+    if p.at == t.end then stays p (codes "fault: PastEnd\n")
+    else runs p (stop_after t.facts p.breaks p.at (t.end - p.at))
 response_to t p (command.Break b) =
     if length p.breaks == MAX_BREAKPOINTS then stays p (codes "fault: Breaks\n") else sets p (p.breaks ++ b ∷ [])
 response_to t p command.Clear = sets p []

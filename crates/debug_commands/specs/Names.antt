@@ -2,7 +2,8 @@
 use Rattle.std.specs.Prelude.{ℕ, List, [], ◌∷◌, Option, Some, None, codes, if◌then◌else◌}
 use Rattle.std.specs.Str.{bytes_eq}
 use Rattle.debug_commands.specs.declared.name.Name.{Name}
-use Rattle.debug_commands.specs.declared.name.Name.TheVariants.{Step, Back, Goto, Run, Break, Clear, Show, Part, Save, Quit, Hit, Evict, Halve, Drop}
+use Rattle.debug_commands.specs.declared.name.Name.TheVariants.{Step, Back, Goto, Run, Break, Clear, Show, Part, Save}
+use Rattle.debug_commands.specs.declared.name.Name.TheVariants.{Quit, Hit, Evict, Halve, Drop}
 use Rattle.debug_commands.specs.declared.name.TheConstants.{NAMES}
 
 abbrev pub spelling : Name → List ℕ

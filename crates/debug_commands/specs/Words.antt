@@ -1,6 +1,7 @@
--- The words of a line, and the numbers among them. (Rules of this project: words are separated by spaces alone; tabs and
--- carriage returns are dropped at the ends of a line.)
-use Rattle.std.specs.Prelude.{ℕ, ◌^◌, ◌==◌, ◌&&◌, ◌||◌, Bool, List, [], ◌∷◌, Option, Some, None, length, nat_lt, if◌then◌else◌}
+-- The words of a line, and the numbers among them. (Rules of this project: words are separated by spaces alone; tabs
+-- and carriage returns are dropped at the ends of a line.)
+use Rattle.std.specs.Prelude.{ℕ, ◌^◌, ◌==◌, ◌&&◌, ◌||◌, Bool, List, [], ◌∷◌, Option, Some, None, length, nat_lt}
+use Rattle.std.specs.Prelude.{if◌then◌else◌}
 use Rattle.std.specs.List.{filter, slice_split}
 use Rattle.std.specs.Str.{all_ascii_digits}
 use Rattle.std.specs.Str.Parse.{digits_value}

@@ -24,9 +24,11 @@ pub fn answer<T: Timeline>(
     text: &mut Vec<u8>,
 ) -> Result<(), AllocError>
     requires { T.IsWhole timeline.old }
+    ensures source { T.source timeline.new ≡ T.source timeline.old }
     ensures whole { OnOk result (T.IsWhole timeline.new) }
     ensures same { OnOk result (T.timeline timeline.new ≡ T.timeline timeline.old) }
-    ensures answer { OnOk result (IsAnswer (answer_to (T.timeline timeline.old) (record { at = T.position timeline.old; breaks = breaks.old.items }) line)
+    ensures answer { OnOk result (IsAnswer
+        (answer_to (T.timeline timeline.old) (record { at = T.position timeline.old; breaks = breaks.old.items }) line)
         text.old.items text.new.items (T.position timeline.new) breaks.new.items) }
 {
     match line {
@@ -46,9 +48,12 @@ fn respond<T: Timeline>(
     text: &mut Vec<u8>,
 ) -> Result<(), AllocError>
     requires { T.IsWhole timeline.old }
+    ensures source { T.source timeline.new ≡ T.source timeline.old }
     ensures whole { OnOk result (T.IsWhole timeline.new) }
     ensures same { OnOk result (T.timeline timeline.new ≡ T.timeline timeline.old) }
-    ensures answer { OnOk result (IsAnswer (response_to (T.timeline timeline.old) (record { at = T.position timeline.old; breaks = breaks.old.items }) command)
+    ensures answer { OnOk result (IsAnswer
+        (response_to (T.timeline timeline.old)
+        (record { at = T.position timeline.old; breaks = breaks.old.items }) command)
         text.old.items text.new.items (T.position timeline.new) breaks.new.items) }
 {
     match command {
@@ -76,10 +81,12 @@ fn step<T: Timeline>(
     text: &mut Vec<u8>,
 ) -> Result<(), AllocError>
     requires { T.IsWhole timeline.old }
+    ensures source { T.source timeline.new ≡ T.source timeline.old }
     ensures whole { OnOk result (T.IsWhole timeline.new) }
     ensures same { OnOk result (T.timeline timeline.new ≡ T.timeline timeline.old) }
     ensures answer { OnOk result ((breaks : List Breakpoint) → IsAnswer
-        (response_to (T.timeline timeline.old) (record { at = T.position timeline.old; breaks = breaks }) (command.Step n))
+        (response_to (T.timeline timeline.old) (record { at = T.position timeline.old; breaks = breaks })
+        (command.Step n))
         text.old.items text.new.items (T.position timeline.new) breaks) }
 {
     let at = timeline.position();
@@ -98,10 +105,12 @@ fn back<T: Timeline>(
     text: &mut Vec<u8>,
 ) -> Result<(), AllocError>
     requires { T.IsWhole timeline.old }
+    ensures source { T.source timeline.new ≡ T.source timeline.old }
     ensures whole { OnOk result (T.IsWhole timeline.new) }
     ensures same { OnOk result (T.timeline timeline.new ≡ T.timeline timeline.old) }
     ensures answer { OnOk result ((breaks : List Breakpoint) → IsAnswer
-        (response_to (T.timeline timeline.old) (record { at = T.position timeline.old; breaks = breaks }) (command.Back n))
+        (response_to (T.timeline timeline.old) (record { at = T.position timeline.old; breaks = breaks })
+        (command.Back n))
         text.old.items text.new.items (T.position timeline.new) breaks) }
 {
     let at = timeline.position();
@@ -120,10 +129,12 @@ fn goto<T: Timeline>(
     text: &mut Vec<u8>,
 ) -> Result<(), AllocError>
     requires { T.IsWhole timeline.old }
+    ensures source { T.source timeline.new ≡ T.source timeline.old }
     ensures whole { OnOk result (T.IsWhole timeline.new) }
     ensures same { OnOk result (T.timeline timeline.new ≡ T.timeline timeline.old) }
     ensures answer { OnOk result ((breaks : List Breakpoint) → IsAnswer
-        (response_to (T.timeline timeline.old) (record { at = T.position timeline.old; breaks = breaks }) (command.Goto n))
+        (response_to (T.timeline timeline.old) (record { at = T.position timeline.old; breaks = breaks })
+        (command.Goto n))
         text.old.items text.new.items (T.position timeline.new) breaks) }
 {
     if n > timeline.end() as u64 {
@@ -141,6 +152,7 @@ fn go<T: Timeline>(
 ) -> Result<(), AllocError>
     requires whole { T.IsWhole timeline.old }
     requires within { n ≤ (T.timeline timeline.old).end }
+    ensures source { T.source timeline.new ≡ T.source timeline.old }
     ensures whole { OnOk result (T.IsWhole timeline.new) }
     ensures same { OnOk result (T.timeline timeline.new ≡ T.timeline timeline.old) }
     ensures position { OnOk result (T.position timeline.new ≡ n) }
@@ -159,9 +171,12 @@ fn run<T: Timeline>(
     text: &mut Vec<u8>,
 ) -> Result<(), AllocError>
     requires { T.IsWhole timeline.old }
+    ensures source { T.source timeline.new ≡ T.source timeline.old }
     ensures whole { OnOk result (T.IsWhole timeline.new) }
     ensures same { OnOk result (T.timeline timeline.new ≡ T.timeline timeline.old) }
-    ensures answer { OnOk result (IsAnswer (response_to (T.timeline timeline.old) (record { at = T.position timeline.old; breaks = breaks.now }) command.Run)
+    ensures answer { OnOk result (IsAnswer
+        (response_to (T.timeline timeline.old)
+        (record { at = T.position timeline.old; breaks = breaks.now }) command.Run)
         text.old.items text.new.items (T.position timeline.new) breaks.now) }
 {
     if timeline.position() == timeline.end() {
@@ -193,6 +208,7 @@ fn next_stop<T: Timeline>(
     breaks: &[Breakpoint],
 ) -> Result<Option<Breakpoint>, AllocError>
     requires { T.IsWhole timeline.old }
+    ensures source { T.source timeline.new ≡ T.source timeline.old }
     ensures whole { OnOk result (T.IsWhole timeline.new) }
     ensures same { OnOk result (T.timeline timeline.new ≡ T.timeline timeline.old) }
     ensures stop { IfOk result (λ stop. stop_after (T.timeline timeline.old).facts breaks.now (T.position timeline.old)

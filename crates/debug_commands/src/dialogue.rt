@@ -14,8 +14,8 @@ use std::alloc::Global;
 use std::io::{Read, Write};
 use streams::{Patience, WriteAllFault, flush, write_some};
 
-/// Reads commands line by line and writes the answer to each before the next one is read, up to `quit` or the end of the
-/// input. The output is flushed after each answer. Reads share their interruptions, and so do writes and flushes.
+/// Reads commands line by line and writes the answer to each before the next one is read, up to `quit` or the end of
+/// the input. The output is flushed after each answer. Reads share their interruptions, and so do writes and flushes.
 ///
 /// Errors: `TooLarge` where a line goes past `MAX_COMMAND_BYTES` bytes of input; the lines before it are answered.
 /// `OutOfMemory`, `Read` and `Write` where an allocation, the input or the output failed; output may be partial then.
@@ -34,6 +34,8 @@ pub fn answer_commands<T: Timeline, R: Read, W: Write>(
     ensures large { result ≡ Err DebugFault.TooLarge → IfSome (R.remaining input.old) (λ bytes.
         IsHeld (dialogue_of (T.timeline timeline.old) (T.position timeline.old) bytes) false
         (W.contents out.old) (W.contents out.new) (T.position timeline.new)) }
+    // What is walked stays, whatever comes.
+    ensures source { T.source timeline.new ≡ T.source timeline.old }
     ensures whole { OnOk result (T.IsWhole timeline.new) }
     ensures same { OnOk result (T.timeline timeline.new ≡ T.timeline timeline.old) }
     ensures config { (i : ℕ) → result ≡ Err (DebugFault.Config i) → ⊥ }

@@ -1,8 +1,10 @@
-//! The commands of the debugger: their grammar, what each is answered, and the reading and answering of them line by line.
+//! The commands of the debugger: their grammar, what each is answered, and the reading and answering of them line by
+//! line.
 //!
-//! The debugger walks a `Timeline`: steps that can be made and undone one by one. What it answers is a definition over the
-//! timeline's steps alone (`specs/Answers.antt`, `specs/Dialogue.antt`): a position, a list of breakpoints, and the lines
-//! for each command. `answer_commands` promises that with `Ok` it has written just these lines for the commands it read.
+//! The debugger walks a `Timeline`: steps that can be made and undone one by one. What it answers is a definition over
+//! the timeline's steps alone (`specs/Answers.antt`, `specs/Dialogue.antt`): a position, a list of breakpoints, and the
+//! lines for each command. `answer_commands` promises that with `Ok` it has written just these lines for the commands
+//! it read.
 #![tactic(auto)]
 
 mod answers;

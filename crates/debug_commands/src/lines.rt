@@ -20,11 +20,13 @@ pub fn read_line<R: Read>(
     patience: &mut Patience,
 ) -> Result<bool, DebugFault>
     requires { text.old.items ≡ [] }
-    ensures read { IfOk result (λ fed. Consumes (R.remaining input.old) (R.remaining input.new) (text.new.items ++ feed fed)) }
+    ensures read { IfOk result (λ fed.
+        Consumes (R.remaining input.old) (R.remaining input.new) (text.new.items ++ feed fed)) }
     ensures feeds { OnOk result (HasNoFeed text.new.items) }
     ensures room { IfOk result (λ fed. room.new + length text.new.items + length (feed fed) ≡ room.old) }
     ensures end { result ≡ Ok false → IsAtEnd (R.remaining input.new) }
-    ensures large { result ≡ Err DebugFault.TooLarge → IsTooLarge room.old (R.remaining input.old) (R.remaining input.new) }
+    ensures large { result ≡ Err DebugFault.TooLarge
+        → IsTooLarge room.old (R.remaining input.old) (R.remaining input.new) }
     ensures config { (i : ℕ) → result ≡ Err (DebugFault.Config i) → ⊥ }
 {
     let mut byte = [0u8; 1];

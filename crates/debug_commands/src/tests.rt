@@ -1,5 +1,8 @@
-//! Lines of the grammar, worked out by hand.
+//! Lines of the grammar, and dialogues over inputs and outputs that fail, worked out by hand.
 use super::*;
+use std::alloc::{AllocError, Global};
+use std::io::{Error, ErrorKind, Read, Result, Write};
+use std::test::Fail;
 
 #[test]
 fn a_line_is_one_command_or_none(rt: HostRuntime) {
@@ -14,24 +17,379 @@ fn a_line_is_one_command_or_none(rt: HostRuntime) {
             "break hit 3",
             Line::Known(Command::Break(Breakpoint::Hit(3))),
         ),
+        (
+            "break  evict 03",
+            Line::Known(Command::Break(Breakpoint::Evict(3))),
+        ),
+        (
+            "break halve",
+            Line::Known(Command::Break(Breakpoint::Halve)),
+        ),
         ("break part", Line::Known(Command::Break(Breakpoint::Part))),
+        ("run", Line::Known(Command::Run)),
+        ("clear", Line::Known(Command::Clear)),
+        ("show", Line::Known(Command::Show)),
         ("part", Line::Known(Command::Own)),
+        ("quit", Line::Known(Command::Quit)),
         ("", Line::Empty),
         (" \t\r ", Line::Empty),
-        ("step", Line::Unknown),
-        ("step\t1", Line::Unknown),
-        ("step +1", Line::Unknown),
-        ("step 18446744073709551616", Line::Unknown),
-        ("run on", Line::Unknown),
-        ("quit now", Line::Unknown),
         ("break", Line::Unknown),
+        ("break now", Line::Unknown),
+        ("hit 3", Line::Unknown),
         ("break drop", Line::Unknown),
-        ("break hit", Line::Unknown),
         ("save", Line::Unknown),
         ("Run", Line::Unknown),
+        ("7", Line::Unknown),
     ] {
         assert_eq!(rt; line(Dialect::Policies, text.as_bytes()), said, "{text}");
     }
     assert_eq!(rt; line(Dialect::Journal, b"save"), Line::Known(Command::Own));
+    assert_eq!(rt;
+        line(Dialect::Journal, b"break drop"),
+        Line::Known(Command::Break(Breakpoint::Drop))
+    );
     assert_eq!(rt; line(Dialect::Journal, b"part"), Line::Unknown);
+    assert_eq!(rt; line(Dialect::Journal, b"break part"), Line::Unknown);
+}
+
+// Each word that takes a number, with something else behind it; each that takes none, with something behind it.
+#[test]
+fn malformed_commands_are_unknown(rt: HostRuntime) -> std::result::Result<(), Fail> {
+    let numbered = ["step", "back", "goto", "break hit", "break evict"];
+    let bad = [
+        "",
+        "1",
+        " x",
+        " -1",
+        " +1",
+        " 1x",
+        " 1.0",
+        " 1 2",
+        "\t1",
+        " 1\t2",
+        " 18446744073709551616",
+    ];
+    for word in numbered {
+        for tail in bad {
+            let text = format!(in rt.alloc(); "{word}{tail}")?;
+            assert_eq!(rt;
+                line(Dialect::Policies, text.as_bytes()),
+                Line::Unknown,
+                "{text}"
+            );
+        }
+    }
+    let bare = [
+        "run",
+        "clear",
+        "show",
+        "part",
+        "quit",
+        "break halve",
+        "break part",
+    ];
+    for word in bare {
+        for tail in ["s", " 1", " now", "\tnow", " ."] {
+            let text = format!(in rt.alloc(); "{word}{tail}")?;
+            assert_eq!(rt;
+                line(Dialect::Policies, text.as_bytes()),
+                Line::Unknown,
+                "{text}"
+            );
+        }
+    }
+    for text in ["save 1", "save now", "break drop 1"] {
+        assert_eq!(rt;
+            line(Dialect::Journal, text.as_bytes()),
+            Line::Unknown,
+            "{text}"
+        );
+    }
+    Ok(())
+}
+
+// Three steps at which no breakpoint holds, and which show nothing.
+#[derive(Drop)]
+struct Count {
+    at: usize,
+}
+
+impl Timeline for Count {
+    ghost use Rattle.std.specs.Prelude.{◌≤◌, [], None, false, ⊤};
+    ghost use Rattle.debug_commands.specs.declared.command.Dialect.TheVariants.{Policies};
+
+    ghost Source = { ⊤ };
+
+    ghost source = { λ w. tt };
+
+    ghost timeline = { λ w. record {
+      dialect = Policies;
+      end = 3;
+      shown = λ n. [];
+      own = λ n. [];
+      facts = λ n. record {
+        hit = None;
+        left = None;
+        also_left = None;
+        halved = false;
+        parted = false;
+        dropped = false;
+      };
+    } };
+
+    ghost position = { λ w. w.at };
+
+    ghost IsWhole = { λ w. w.at ≤ 3 };
+
+    fn dialect(&self) -> Dialect {
+        Dialect::Policies
+    }
+
+    fn end(&self) -> usize {
+        3
+    }
+
+    fn position(&self) -> usize {
+        self.at
+    }
+
+    fn goto(&mut self, _alloc: Global, n: usize) -> std::result::Result<(), AllocError> {
+        self.at = n;
+        Ok(())
+    }
+
+    fn next(&mut self, _alloc: Global) -> std::result::Result<StepFacts, AllocError> {
+        self.at += 1;
+        Ok(StepFacts {
+            hit: None,
+            left: None,
+            also_left: None,
+            halved: false,
+            parted: false,
+            dropped: false,
+        })
+    }
+
+    fn show(&self, _alloc: Global, _text: &mut Vec<u8>) -> std::result::Result<(), AllocError> {
+        Ok(())
+    }
+
+    fn own(&self, _alloc: Global, _text: &mut Vec<u8>) -> std::result::Result<(), AllocError> {
+        Ok(())
+    }
+}
+
+// What an end does: it interrupts so many calls, lets so many pass, and then fails.
+#[derive(Clone, Copy)]
+struct Turns {
+    interruptions: u32,
+    passes: usize,
+}
+
+const NEVER: usize = usize::MAX;
+
+impl Turns {
+    fn next(&mut self) -> Result<()> {
+        if self.interruptions > 0 {
+            self.interruptions -= 1;
+            return Err(Error::from(ErrorKind::Interrupted));
+        }
+        if self.passes == 0 {
+            return Err(Error::from(ErrorKind::BrokenPipe));
+        }
+        self.passes -= 1;
+        Ok(())
+    }
+}
+
+// Gives a text and then the last of its bytes again, so many times, one byte at a call.
+#[derive(Drop)]
+struct Source<'a> {
+    text: &'a [u8],
+    again: usize,
+    turns: Turns,
+}
+
+impl<'a> Read for Source<'a> {
+    fn read(&mut self, buf: &mut [u8]) -> Result<usize> {
+        self.turns.next()?;
+        if buf.is_empty() {
+            return Ok(0);
+        }
+        match self.text {
+            [byte, _, ..] => {
+                buf[0] = *byte;
+                self.text = &self.text[1..];
+                Ok(1)
+            }
+            [byte] if self.again > 0 => {
+                buf[0] = *byte;
+                self.again -= 1;
+                Ok(1)
+            }
+            _ => Ok(0),
+        }
+    }
+}
+
+// Takes one byte at a call.
+#[derive(Drop)]
+struct Sink {
+    taken: [u8; 64],
+    count: usize,
+    turns: Turns,
+}
+
+impl Sink {
+    // What it took.
+    fn sent(&self) -> &[u8] {
+        &self.taken[..self.count.min(64)]
+    }
+}
+
+impl Write for Sink {
+    fn write(&mut self, buf: &[u8]) -> Result<usize> {
+        self.turns.next()?;
+        if buf.is_empty() || self.count >= self.taken.len() {
+            return Ok(0);
+        }
+        self.taken[self.count] = buf[0];
+        self.count += 1;
+        Ok(1)
+    }
+
+    fn flush(&mut self) -> Result<()> {
+        self.turns.next()
+    }
+}
+
+// What became of a dialogue: the answer, the position, and how many bytes of the text went out.
+fn ended(
+    alloc: Global,
+    source: &mut Source<'_>,
+    sink: &mut Sink,
+) -> (std::result::Result<(), DebugFault>, usize) {
+    let mut count = Count { at: 0 };
+    let answer = answer_commands(alloc, &mut count, source, sink);
+    (answer, count.at)
+}
+
+fn source_of(text: &[u8], again: usize, turns: Turns) -> Source<'_> {
+    Source { text, again, turns }
+}
+
+fn sink_of(turns: Turns) -> Sink {
+    Sink {
+        taken: [0; 64],
+        count: 0,
+        turns,
+    }
+}
+
+const STEADY: Turns = Turns {
+    interruptions: 0,
+    passes: NEVER,
+};
+
+// What stands behind `quit` is not read; an empty line is answered by nothing.
+const COMMANDS: &[u8] = b"step 1\n\ngoto 3\nback 4\nquit\nstep 1\n\n";
+
+// How many bytes of them are read, up to the line feed of `quit`.
+const READ: usize = 27;
+
+const ANSWERS: &[u8] = b"at 1\nat 3\nfault: PastStart\n";
+
+// Each byte of the answers is a write, and each of the five lines a flush.
+const WRITES: usize = 27 + 5;
+
+#[test]
+fn each_failing_read_is_reported(rt: HostRuntime) {
+    for passes in 0..READ {
+        let mut sink = sink_of(STEADY);
+        let turns = Turns {
+            interruptions: 0,
+            passes,
+        };
+        let (answer, _) = ended(rt.alloc(), &mut source_of(COMMANDS, 1, turns), &mut sink);
+        assert_eq!(rt; answer, Err(DebugFault::Read), "after {passes} reads");
+        assert!(rt; ANSWERS.starts_with(sink.sent()));
+    }
+    let turns = Turns {
+        interruptions: 0,
+        passes: READ,
+    };
+    let mut sink = sink_of(STEADY);
+    let (answer, at) = ended(rt.alloc(), &mut source_of(COMMANDS, 1, turns), &mut sink);
+    assert_eq!(rt; answer, Ok(()));
+    assert_eq!(rt; at, 3);
+    assert_eq!(rt; sink.sent(), ANSWERS);
+}
+
+#[test]
+fn each_failing_write_and_flush_is_reported(rt: HostRuntime) {
+    for passes in 0..WRITES {
+        let mut sink = sink_of(Turns {
+            interruptions: 0,
+            passes,
+        });
+        let (answer, _) = ended(rt.alloc(), &mut source_of(COMMANDS, 1, STEADY), &mut sink);
+        assert_eq!(rt; answer, Err(DebugFault::Write), "after {passes} calls");
+        assert!(rt; ANSWERS.starts_with(sink.sent()));
+    }
+    let mut sink = sink_of(Turns {
+        interruptions: 0,
+        passes: WRITES,
+    });
+    let (answer, at) = ended(rt.alloc(), &mut source_of(COMMANDS, 1, STEADY), &mut sink);
+    assert_eq!(rt; answer, Ok(()));
+    assert_eq!(rt; at, 3);
+    assert_eq!(rt; sink.sent(), ANSWERS);
+}
+
+#[test]
+fn the_millionth_interruption_is_a_failure(rt: HostRuntime) {
+    for (reads, writes, result) in [
+        (999_999, 999_999, Ok(())),
+        (1_000_000, 0, Err(DebugFault::Read)),
+        (0, 1_000_000, Err(DebugFault::Write)),
+    ] {
+        let mut source = source_of(
+            COMMANDS,
+            1,
+            Turns {
+                interruptions: reads,
+                passes: NEVER,
+            },
+        );
+        let mut sink = sink_of(Turns {
+            interruptions: writes,
+            passes: NEVER,
+        });
+        let (answer, _) = ended(rt.alloc(), &mut source, &mut sink);
+        assert_eq!(rt; answer, result, "of {reads} and {writes}");
+    }
+}
+
+// The last byte of each text is given so many times; the limit is 1048576 bytes.
+#[test]
+fn commands_of_many_bytes(rt: HostRuntime) {
+    for (text, again, result, at) in [
+        (b"\n".as_slice(), 1_048_576, Ok(()), 0),
+        (b"\n".as_slice(), 1_048_577, Err(DebugFault::TooLarge), 0),
+        (b" ".as_slice(), 1_048_576, Ok(()), 0),
+        (b" ".as_slice(), 1_048_577, Err(DebugFault::TooLarge), 0),
+        (b"step 2\n".as_slice(), 1_048_570, Ok(()), 2),
+        (
+            b"step 2\n".as_slice(),
+            1_048_571,
+            Err(DebugFault::TooLarge),
+            2,
+        ),
+        (b"quit\n".as_slice(), 1_048_577, Ok(()), 0),
+    ] {
+        let mut sink = sink_of(STEADY);
+        let (answer, end) = ended(rt.alloc(), &mut source_of(text, again, STEADY), &mut sink);
+        assert_eq!(rt; answer, result, "of {again} last bytes");
+        assert_eq!(rt; end, at);
+    }
 }

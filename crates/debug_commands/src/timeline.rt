@@ -6,10 +6,15 @@ use crate::breakpoint::StepFacts;
 use crate::command::Dialect;
 use std::alloc::{AllocError, Global};
 
-/// Steps that can be made and undone one by one, at a position: how many of them are made. The one error of each call is
-/// that an allocation failed; the timeline is of no more use then.
+/// Steps that can be made and undone one by one, at a position: how many of them are made. The one error of each call
+/// is that an allocation failed; no further call may be made then.
 pub trait Timeline {
-    /// All that the debugger's answers go by. No call changes it.
+    ghost Source: { Type 0 };
+
+    /// What is walked. No call changes it, nor does one that fails.
+    ghost source: { Self → Source };
+
+    /// All that the debugger's answers go by. No call that succeeds changes it.
     ghost timeline: { Self → TimelineData };
 
     /// How many steps are made.
@@ -37,6 +42,7 @@ pub trait Timeline {
     fn goto(&mut self, alloc: Global, n: usize) -> Result<(), AllocError>
         requires whole { IsWhole self.old }
         requires within { n ≤ (timeline self.old).end }
+        ensures source { source self.new ≡ source self.old }
         ensures whole { OnOk result (IsWhole self.new) }
         ensures same { OnOk result (timeline self.new ≡ timeline self.old) }
         ensures position { OnOk result (position self.new ≡ n) };
@@ -45,6 +51,7 @@ pub trait Timeline {
     fn next(&mut self, alloc: Global) -> Result<StepFacts, AllocError>
         requires whole { IsWhole self.old }
         requires within { position self.old < (timeline self.old).end }
+        ensures source { source self.new ≡ source self.old }
         ensures whole { OnOk result (IsWhole self.new) }
         ensures same { OnOk result (timeline self.new ≡ timeline self.old) }
         ensures position { OnOk result (position self.new ≡ position self.old + 1) }

@@ -1,5 +1,7 @@
 -- The session of a concurrent cache as the debugger walks it: its steps are the applied and the undone ones together.
-use Rattle.std.specs.Prelude.{ℕ, ◌-◌, Bool, true, false, nat_lt, Option, Some, None, List, ◌++◌, length, take, slice_get}
+use Rattle.std.specs.Prelude.{ℕ, ◌-◌, Bool, true, false, nat_lt, Option, Some, None, List, ◌++◌, length, take}
+use Rattle.std.specs.Prelude.{slice_get}
+use Rattle.std.specs.Borrow.{GName, MutBor}
 use Rattle.step_record.specs.declared.entry.Entry.{Entry}
 use Rattle.step_record.specs.declared.step.Act.{Act}
 use Rattle.step_record.specs.declared.step.Act.TheVariants.{Look}
@@ -7,6 +9,7 @@ use Rattle.step_record.specs.declared.step.Reply.{Reply}
 use Rattle.step_record.specs.declared.step.Reply.TheVariants.{Hit, Full, Lost, Evicted, Rejected}
 use Rattle.step_record.specs.declared.step.Step.{Step}
 use Rattle.step_record.specs.History.{after}
+use Rattle.journal.specs.Session.{SessionState}
 use Rattle.debug_commands.specs.Timeline.{TimelineData}
 use Rattle.debug_commands.specs.declared.breakpoint.StepFacts.{StepFacts}
 use Rattle.debug_commands.specs.declared.command.Dialect.TheVariants.{Journal}
@@ -48,10 +51,12 @@ state_at opening steps n = after act opening (take n steps)
 
 -- the age of the sketch falls at step n
 abbrev pub halves_at : Shell → Entries → ℕ → Bool
-halves_at opening steps n = nat_lt (state_at opening steps n).frequency.age (state_at opening steps (n - 1)).frequency.age
+halves_at opening steps n =
+    nat_lt (state_at opening steps n).frequency.age (state_at opening steps (n - 1)).frequency.age
 
 abbrev pub entry_facts : Option (Entry Step Reply) → Bool → StepFacts
-entry_facts None halved = record { hit = None; left = None; also_left = None; halved = halved; parted = false; dropped = false }
+entry_facts None halved =
+    record { hit = None; left = None; also_left = None; halved = halved; parted = false; dropped = false }
 entry_facts (Some e) halved = facts_of e.step.act e.reply halved
 
 abbrev pub replay_timeline : Shell → Entries → TimelineData
@@ -61,4 +66,20 @@ replay_timeline opening steps = record {
   facts = λ n. entry_facts (slice_get steps (n - 1)) (halves_at opening steps n);
   shown = λ n. shown_text (state_at opening steps n);
   own = λ n. journal_of Two (take n steps);
+}
+
+-- what a walk through a borrowed session leaves: which one it is, the state it was opened on, its limit, and its steps,
+-- applied and undone together
+pub record Walked : Type 0 where
+  pub name : GName
+  pub opening : Shell
+  pub limit : ℕ
+  pub steps : Entries
+
+abbrev pub walked_in : MutBor (SessionState Shell Shell Step Reply) → Walked
+walked_in s = record {
+  name = s.ghost_name;
+  opening = s.now.opening;
+  limit = s.now.limit;
+  steps = s.now.kept ++ s.now.tail;
 }

@@ -83,16 +83,19 @@ abbrev pub looks_text : ShellStats → List ℕ
 looks_text s = count_text (codes "hits ") s.hits ++ count_text (codes " misses ") s.misses
 
 abbrev pub offers_text : ShellStats → List ℕ
-offers_text s = count_text (codes " kept ") s.kept ++ (count_text (codes " full ") s.full ++ count_text (codes " lost ") s.lost)
+offers_text s =
+    count_text (codes " kept ") s.kept ++ (count_text (codes " full ") s.full ++ count_text (codes " lost ") s.lost)
 
 abbrev pub writes_text : ShellStats → List ℕ
-writes_text s = count_text (codes " added ") s.added ++ (count_text (codes " updated ") s.updated ++ count_text (codes " refused ") s.refused)
+writes_text s = count_text (codes " added ") s.added
+    ++ (count_text (codes " updated ") s.updated ++ count_text (codes " refused ") s.refused)
 
 abbrev pub evictions_text : ShellStats → List ℕ
 evictions_text s = count_text (codes " evictions ") s.evictions ++ count_text (codes " rejections ") s.rejections
 
 abbrev pub maintenance_text : ShellStats → List ℕ
-maintenance_text s = count_text (codes " begun ") s.begun ++ (count_text (codes " busy ") s.busy ++ count_line (codes " removed ") s.removed)
+maintenance_text s = count_text (codes " begun ") s.begun
+    ++ (count_text (codes " busy ") s.busy ++ count_line (codes " removed ") s.removed)
 
 abbrev pub stats_line : ShellStats → List ℕ
 stats_line s = looks_text s ++ (offers_text s ++ (writes_text s ++ (evictions_text s ++ maintenance_text s)))
@@ -100,7 +103,8 @@ stats_line s = looks_text s ++ (offers_text s ++ (writes_text s ++ (evictions_te
 -- ---- the whole
 
 abbrev pub lists_text : Shell → List ℕ
-lists_text x = items_line (codes "table") x.table ++ (queues_text x ++ (stripe_lines x.stripes x.config.stripes ++ tasks_line x.writes))
+lists_text x = items_line (codes "table") x.table
+    ++ (queues_text x ++ (stripe_lines x.stripes x.config.stripes ++ tasks_line x.writes))
 
 abbrev pub shown_text : Shell → List ℕ
 shown_text x = state_text x ++ (lists_text x ++ (age_line x.frequency ++ stats_line x.stats))

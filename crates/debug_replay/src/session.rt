@@ -18,7 +18,11 @@ pub struct Replay<'a> {
 
 impl<'a> Timeline for Replay<'a> {
     ghost use Rattle.std.specs.Prelude.{◌++◌, length, ⊤};
-    ghost use Rattle.debug_replay.specs.Replay.{replay_timeline};
+    ghost use Rattle.debug_replay.specs.Replay.{replay_timeline, walked_in, Walked};
+
+    ghost Source = { Walked };
+
+    ghost source = { λ w. walked_in w.session };
 
     ghost timeline = { λ w. replay_timeline w.session.now.opening (w.session.now.kept ++ w.session.now.tail) };
 

@@ -1,5 +1,6 @@
 -- What the debugger sees of a policy over a trace once the first accesses are made: by the policy's definition.
-use Rattle.std.specs.Prelude.{◌≡◌, ℕ, zero, suc, ◌≤◌, ◌^◌, if◌then◌else◌, Option, Some, None, List, ◌++◌, codes, length, map, slice_index_or, take, []}
+use Rattle.std.specs.Prelude.{◌≡◌, ℕ, zero, suc, ◌≤◌, ◌^◌, if◌then◌else◌, Option, Some, None, List, ◌++◌, codes}
+use Rattle.std.specs.Prelude.{length, map, slice_index_or, take, []}
 use Rattle.std.specs.Fmt.{decimal}
 use Rattle.std.specs.List.{flat_map}
 use Rattle.step_record.specs.declared.entry.Entry.{Entry}
@@ -30,7 +31,8 @@ stats_at j trace n = stats_of (take n (outcomes_on j trace))
 -- the keys that are cached after them
 abbrev pub residents_at : Job → List ℕ → ℕ → List ℕ
 residents_at j trace n =
-    if knows_trace j.policy then residents j.config.capacity trace n else residents_in (state_after j (take n trace)).queues
+    if knows_trace j.policy then residents j.config.capacity trace n
+    else residents_in (state_after j (take n trace)).queues
 
 abbrev pub age_in : Option FrequencyData → ℕ
 age_in None = 0
@@ -46,8 +48,10 @@ abbrev pub count_text : List ℕ → ℕ → List ℕ
 count_text name n = name ++ decimal n
 
 abbrev pub counts_line : List ℕ → Job → Stats → List ℕ
-counts_line label j s = label ++ (codes " " ++ (word_of j.policy ++ (count_text (codes " hits ") s.hits ++ (count_text (codes " misses ") s.misses
-    ++ (count_text (codes " evictions ") s.evictions ++ (count_text (codes " rejections ") s.rejections ++ codes "\n"))))))
+counts_line label j s = label ++ (codes " " ++ (word_of j.policy
+    ++ (count_text (codes " hits ") s.hits ++ (count_text (codes " misses ") s.misses
+    ++ (count_text (codes " evictions ") s.evictions
+    ++ (count_text (codes " rejections ") s.rejections ++ codes "\n"))))))
 
 abbrev pub spaced_key : ℕ → List ℕ
 spaced_key key = codes " " ++ decimal key

@@ -1,5 +1,6 @@
 -- Two policies over a trace, as the debugger walks them. (Its breakpoints and texts are defined by this project.)
-use Rattle.std.specs.Prelude.{◌≡◌, ◌≤◌, ℕ, ◌+◌, ◌-◌, Bool, false, not, ◌||◌, nat_lt, if◌then◌else◌, Option, Some, None, List, [], ◌∷◌, ◌++◌, codes, length, slice_index}
+use Rattle.std.specs.Prelude.{◌≡◌, ◌≤◌, ℕ, ◌+◌, ◌-◌, Bool, false, not, ◌||◌, nat_lt, if◌then◌else◌, Option, Some}
+use Rattle.std.specs.Prelude.{None, List, [], ◌∷◌, ◌++◌, codes, length, slice_index}
 use Rattle.std.specs.Fmt.{decimal}
 use Rattle.step_record.specs.declared.job.Job.{Job}
 use Rattle.step_record.specs.declared.outcome.Outcome.{Outcome}
@@ -38,7 +39,8 @@ abbrev pub halves_at : Job → List ℕ → ℕ → Bool
 halves_at j trace n = nat_lt (age_at j trace n) (age_at j trace (n - 1))
 
 abbrev pub facts_at : List ℕ → Job → Job → ℕ → StepFacts
-facts_at trace first second n = facts_of (slice_index trace (n - 1)) (outcome_at first trace n) (outcome_at second trace n)
+facts_at trace first second n =
+    facts_of (slice_index trace (n - 1)) (outcome_at first trace n) (outcome_at second trace n)
     (halves_at first trace n) (halves_at second trace n)
 
 -- ---- what is printed

@@ -11,12 +11,12 @@ use std::alloc::Global;
 use std::io::{Read, Write};
 use step_record::{Job, Trace};
 
-/// Reads commands line by line and answers each at once, about two policies over a trace: where they part, and what they
-/// hold after any number of accesses. It ends at `quit` or the end of the input.
+/// Reads commands line by line and answers each at once, about two policies over a trace: where they part, and what
+/// they hold after any number of accesses. It ends at `quit` or the end of the input.
 ///
-/// Errors: `Config` with the index of the first job whose configuration `Config::check` refuses, before anything is read;
-/// `TooLarge` where a line goes past 2^20 bytes of input, with the lines before it answered; `OutOfMemory`, `Read` and
-/// `Write` where an allocation, the input or the output failed, after which output may be partial.
+/// Errors: `Config` with the index of the first job whose configuration `Config::check` refuses, before anything is
+/// read; `TooLarge` where a line goes past 2^20 bytes of input, with the lines before it answered; `OutOfMemory`,
+/// `Read` and `Write` where an allocation, the input or the output failed, after which output may be partial.
 pub fn run_debug<R: Read, W: Write>(
     alloc: Global,
     trace: &Trace,

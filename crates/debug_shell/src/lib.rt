@@ -1,9 +1,9 @@
 //! Where two policies part over one trace, and a debugger that walks there and back.
 //!
-//! `part` runs both policies side by side, once, and promises by their definitions over the whole trace: the access that it
-//! returns is the first at which just one of the two hits, and with `None` there is no such access. `run_debug` reads commands
-//! and answers them: it promises that with `Ok` it has written just the lines that the definition of its answers gives for
-//! the commands it read, in which what is shown is the policies' definitions over the first accesses.
+//! `part` runs both policies side by side, once, and promises by their definitions over the whole trace: the access
+//! that it returns is the first at which just one of the two hits, and with `None` there is no such access. `run_debug`
+//! reads commands and answers them: it promises that with `Ok` it has written just the lines that the definition of its
+//! answers gives for the commands it read, in which what is shown is the policies' definitions over the first accesses.
 #![tactic(auto)]
 
 mod debugging;

@@ -1,9 +1,11 @@
 //! One policy over a trace, in a session that goes back and forth.
-ghost use Rattle.std.specs.Prelude.{◌≡◌, ◌≢◌, ◌≤◌, ◌<◌, ◌+◌, ◌-◌, ◌++◌, Ok, Some, None, IfOk, OnOk, OnErr, List, [], ◌∷◌, length};
+ghost use Rattle.std.specs.Prelude.{◌≡◌, ◌≢◌, ◌≤◌, ◌<◌, ◌+◌, ◌-◌, ◌++◌, Ok, Some, None, IfOk, OnOk, OnErr, List, []};
+ghost use Rattle.std.specs.Prelude.{◌∷◌, length};
 ghost use Rattle.std.specs.List.{flat_map};
 ghost use Rattle.step_record.specs.Config.{config_fault};
 ghost use Rattle.policies.specs.AnyStep.{any_act};
-ghost use Rattle.debug_shell.specs.OnePolicy.{age_at, count_text, counts_line, holds_line, outcome_at, policy_lines, spaced_key};
+ghost use Rattle.debug_shell.specs.OnePolicy.{age_at, count_text, counts_line, holds_line, outcome_at, policy_lines};
+ghost use Rattle.debug_shell.specs.OnePolicy.{spaced_key};
 
 use debug_commands::{push_bytes, push_number};
 use journal::{BackFault, Session, SessionFault};

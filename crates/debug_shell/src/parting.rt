@@ -15,8 +15,8 @@ use step_record::{Job, Key, Outcome, StepFault, Trace};
 /// The first access of the trace, counted from 1, at which the policy of one job hits and that of the other does not;
 /// `None` where there is no such access.
 ///
-/// Errors: `Config` with index 0 exactly where `Config::check` refuses the first job's configuration, with index 1 exactly
-/// where it refuses the second's and accepts the first's; then `OutOfMemory`.
+/// Errors: `Config` with index 0 exactly where `Config::check` refuses the first job's configuration, with index 1
+/// exactly where it refuses the second's and accepts the first's; then `OutOfMemory`.
 pub fn part(
     alloc: Global,
     trace: &Trace,

@@ -21,8 +21,8 @@ pub struct TwoPolicies<'a> {
     second: OnePolicy<'a>,
 }
 
-/// Both policies before the first access. It requires configurations that `Config::check` accepts. The one error is that an
-/// allocation failed.
+/// Both policies before the first access. It requires configurations that `Config::check` accepts. The one error is
+/// that an allocation failed.
 pub fn both_at_start<'a>(
     alloc: Global,
     trace: &'a Trace,
@@ -47,7 +47,13 @@ pub fn both_at_start<'a>(
 }
 
 impl<'a> Timeline for TwoPolicies<'a> {
+    ghost use Rattle.std.specs.Prelude.{ℕ, List};
+    ghost use Rattle.step_record.specs.declared.job.Job.{Job};
     ghost use Rattle.debug_shell.specs.TwoPolicies.{policies_timeline, IsWalk};
+
+    ghost Source = { List ℕ × Job × Job };
+
+    ghost source = { λ w. (w.trace.now, w.first_job, w.second_job) };
 
     ghost timeline = { λ w. policies_timeline w.trace.now w.first_job w.second_job };
 

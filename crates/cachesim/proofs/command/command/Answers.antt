@@ -5,6 +5,8 @@ use Rattle.command_line.specs.declared.arguments.Arguments.{Arguments}
 use Rattle.command_line.specs.declared.fault.ParseFault.{ParseFault}
 use Rattle.command_line.specs.declared.fault.ParseFault.TheVariants.{Stripes}
 use Rattle.std.specs.Prelude.{OnOk}
+use Rattle.std.specs.Prelude.{string_bytes}
+use Rattle.cachesim.specs.Debugged.{Debugging, KnownFiles, Replaying}
 use Rattle.cachesim.specs.Jobs.{jobs_at, jobs_of}
 use Rattle.cachesim.specs.Drove.{IsDriven}
 use Rattle.cachesim.specs.Part.{Parting}
@@ -31,6 +33,7 @@ returns-in-Err-Stripes-clause-refused g c two =
 pub returns-in-Ok-done-clause-done : goal.returns-in-Ok-done-clause-done
 returns-in-Ok-done-clause-done g c zero =
     let words = map (λ (s : Bor (List ℕ)). s.now) c.args.words.now in
+    let known : KnownFiles = g.F.Files.known c.args.files.now in
     let p = subst (λ (r : Result Arguments ParseFault). ParsedBy words r) c.in-Ok.is c.parse.ensures in
     elim c.match-arguments.branch [
       | in-Run w ↦
@@ -39,28 +42,40 @@ returns-in-Ok-done-clause-done g c zero =
           let ok = w.run-done.ensures.ok in
           let Wrote = Reports run.format (jobs_of run.config run.policies.items) (g.R.Read.remaining c.args.input.now) (g.W.Write.contents c.args.out.now) (g.W.Write.contents w.run-done.new.out) in
           let h : Wrote = subst (λ (r : Result (Unit {0}) Fault). OnOk r Wrote) (sym w.done-is ∙ c.in-Ok-done.is) ok in
-          rw w.out-is (run_done words run q _ _ _ h)
+          rw w.out-is (run_done words run q known _ _ _ h)
       | in-Sweep w ↦
           let sweep = w.in-Sweep.arguments in
           let q = subst (λ (a : Arguments). ParsedBy words (Ok a)) w.in-Sweep.is p in
           let ok = w.sweep-done.ensures.ok in
           let Wrote = Reports sweep.format (jobs_at sweep.job sweep.capacities.items) (g.R.Read.remaining c.args.input.now) (g.W.Write.contents c.args.out.now) (g.W.Write.contents w.sweep-done.new.out) in
           let h : Wrote = subst (λ (r : Result (Unit {0}) Fault). OnOk r Wrote) (sym w.done-is ∙ c.in-Ok-done.is) ok in
-          rw w.out-is (sweep_done words sweep q _ _ _ h)
+          rw w.out-is (sweep_done words sweep q known _ _ _ h)
       | in-Part w ↦
           let part = w.in-Part.arguments in
           let q = subst (λ (a : Arguments). ParsedBy words (Ok a)) w.in-Part.is p in
           let ok = w.part-done.ensures.ok in
           let Wrote = Parting part.format part.first part.second (g.R.Read.remaining c.args.input.now) (g.W.Write.contents c.args.out.now) (g.W.Write.contents w.part-done.new.out) in
           let h : Wrote = subst (λ (r : Result (Unit {0}) Fault). OnOk r Wrote) (sym w.done-is ∙ c.in-Ok-done.is) ok in
-          rw w.out-is (part_done words part q _ _ _ h)
+          rw w.out-is (part_done words part q known _ _ _ h)
       | in-Drive w ↦
           let drive = w.in-Drive.arguments in
           let q = subst (λ (a : Arguments). ParsedBy words (Ok a)) w.in-Drive.is p in
           let ok = w.drive-done.ensures in
           let Wrote = IsDriven drive.config drive.format (g.R.Read.remaining c.args.input.now) (g.W.Write.contents c.args.out.now) (g.W.Write.contents w.drive-done.new.out) in
           let h : Wrote = subst (λ (r : Result (Unit {0}) Fault). OnOk r Wrote) (sym w.done-is ∙ c.in-Ok-done.is) ok in
-          rw w.out-is (drive_done words drive q _ _ _ h)
-      | in-Debug w ↦ debug_done words w.in-Debug.arguments (subst (λ (a : Arguments). ParsedBy words (Ok a)) w.in-Debug.is p) _ _ _
-      | in-Replay w ↦ replay_done words w.in-Replay.arguments (subst (λ (a : Arguments). ParsedBy words (Ok a)) w.in-Replay.is p) _ _ _
+          rw w.out-is (drive_done words drive q known _ _ _ h)
+      | in-Debug w ↦
+          let debug = w.in-Debug.arguments in
+          let q = subst (λ (a : Arguments). ParsedBy words (Ok a)) w.in-Debug.is p in
+          let ok = w.debug-done.ensures in
+          let Wrote = Debugging debug.policies.format debug.policies.first debug.policies.second (known (string_bytes debug.trace)) (g.R.Read.remaining c.args.input.now) (g.W.Write.contents c.args.out.now) (g.W.Write.contents w.debug-done.new.out) in
+          let h : Wrote = subst (λ (r : Result (Unit {0}) Fault). OnOk r Wrote) (sym w.done-is ∙ c.in-Ok-done.is) ok in
+          rw w.out-is (debug_done words debug q known _ _ _ h)
+      | in-Replay w ↦
+          let replay = w.in-Replay.arguments in
+          let q = subst (λ (a : Arguments). ParsedBy words (Ok a)) w.in-Replay.is p in
+          let ok = w.replay-done.ensures in
+          let Wrote = Replaying replay.config (known (string_bytes replay.journal)) (g.R.Read.remaining c.args.input.now) (g.W.Write.contents c.args.out.now) (g.W.Write.contents w.replay-done.new.out) in
+          let h : Wrote = subst (λ (r : Result (Unit {0}) Fault). OnOk r Wrote) (sym w.done-is ∙ c.in-Ok-done.is) ok in
+          rw w.out-is (replay_done words replay q known _ _ _ h)
     ]

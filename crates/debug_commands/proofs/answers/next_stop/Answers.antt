@@ -22,6 +22,7 @@ steps-preserved g c =
     let lt : at < t.end = omega (arith, end, c.position.ensures.position, c.steps-test.true) in
     let facts : c.in_ok-facts.facts ≡ t.facts (at + 1) = c.in_ok-facts.ensures.facts ∙ ap (λ (x : TimelineData). x.facts (at + 1)) c.steps.invariant.same in
     record {
+      source = c.next.ensures.source ∙ c.steps.invariant.source;
       whole = c.in_ok-facts.ensures.whole;
       same = c.in_ok-facts.ensures.same ∙ c.steps.invariant.same;
       stop = stops_later t.facts c.args.breaks.now at t.end (g.T.Timeline.position c.next.new.self) c.in_ok-facts.facts lt

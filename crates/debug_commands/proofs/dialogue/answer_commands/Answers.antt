@@ -14,6 +14,7 @@ use Rattle.debug_commands.proofs.dialogue.answer_commands.Goals as goal
 
 pub lines-init : goal.lines-init
 lines-init g c = record {
+  source = refl;
   whole = c.requires;
   same = refl;
   ahead = begins (g.T.Timeline.timeline c.args.timeline.now) (g.T.Timeline.position c.args.timeline.now) 1048576 c.new-breaks.result.items
@@ -118,6 +119,7 @@ lines-preserved g c =
     let sent : Appends has more text = subst (Appends has more) c.as_slice-in-lines.ensures.value c.in_ok-send.ensures in
     let other : is_quit (line_of t.dialect l) ≡ false = sym (ap is_quit said) ∙ (sym c.is_quit.ensures ∙ c.if-is_quit.false) in
     record {
+      source = c.answer.ensures.source ∙ c.lines.invariant.source;
       whole = c.in_ok-answer.ensures.whole;
       same = c.in_ok-answer.ensures.same ∙ c.lines.invariant.same;
       ahead = goes_on t first p room less given left rest had has more l text at breaks c.lines.invariant.ahead
