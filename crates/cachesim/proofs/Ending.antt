@@ -107,7 +107,7 @@ part_done words part p input before after h =
     }
 
 pub drive_done : (words : List Text) (drive : DriveArguments) → ParsedBy words (Ok (Drive drive)) → (input before after : Option (List ℕ))
-    → IsDriven drive.config drive.format input before after → DoneBy words input before after
+    → IsDriven drive.config drive.workers drive.format input before after → DoneBy words input before after
 drive_done words drive p input before after h =
     let is = p.gives.1.2 in
     record {
@@ -121,7 +121,9 @@ drive_done words drive p input before after h =
           config = drive.config;
           config_is = is.config;
           stripes_are = is.stripes;
-          driven = subst (λ f. IsDriven drive.config f input before after) is.format h;
+          workers = drive.workers;
+          workers_are = is.workers;
+          driven = subst (λ f. IsDriven drive.config drive.workers f input before after) is.format h;
         })))),
       );
     }
