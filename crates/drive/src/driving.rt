@@ -7,6 +7,7 @@ ghost use Rattle.turn_book.specs.Passes.{InOrder, id_of};
 ghost use Rattle.drive.specs.Walks.{AreWalks};
 ghost use Rattle.drive.specs.Made.{BeginWalks};
 ghost use Rattle.drive.specs.Desks.{AdmitsAll};
+ghost use Rattle.drive.specs.Draws.{IsWithin};
 ghost use Rattle.drive.specs.Driven.{IsRun};
 ghost use Rattle.step_record.specs.History.{after, IsLegal};
 ghost use Rattle.shell_model.specs.Shell.{act};
@@ -191,7 +192,8 @@ fn run_book<G: Gate, R: Threads + Wait + Sync>(
     requires workers { (length pieces.now ≡ book.workers) × (1 ≤ length pieces.now) × (length pieces.now ≤ MAX_WORKERS) }
     requires order { InOrder 0 passes.items × (length passes.items ≡ length pieces.now) }
     requires own { Every (λ p. p.book ≡ id_of book) passes.items }
-    requires empty { Every (λ p. p.own ≡ []) passes.items }
+    requires empty { Every (λ p. (p.own ≡ []) × IsWithin book.opening.limit p) passes.items }
+    requires turns { book.opening.limit ≤ book.turns }
     requires fresh { (room.desks.items ≡ []) × (room.passes.items ≡ []) × (room.lists.items ≡ []) }
     requires room { (length pieces.now ≤ vec_capacity room.desks) × (length pieces.now ≤ vec_capacity room.passes) × (length pieces.now ≤ vec_capacity room.lists) }
     ensures none { result.2 ≡ None → IsRun (λ w. AreWalks w stripes) (map (λ p. p.items) pieces.now) book.opening result.0 (map (λ l. l.items) result.1.items) }

@@ -12,6 +12,7 @@ use Rattle.drive.proofs.Admitting.{shell_admits, run_frees}
 use Rattle.shell_model.specs.Reached.{IsReachable}
 use Rattle.drive.proofs.Rising.{every_map}
 use Rattle.drive.proofs.Handing.{moved_run, free_of, if_ok, if_err, on_ok, full_cause}
+use Rattle.drive.proofs.Turning.{within_first}
 use Rattle.drive.proofs.driving.drive.Goals as goal
 
 pub returns-in-Ok-open-clause-run : goal.returns-in-Ok-open-clause-run
@@ -72,7 +73,17 @@ returns-in-Ok-open-clause-fault g c =
     if_err c.handed.result _ _ (λ f h. subst (λ x. LeavesFault x (map (λ p. vec_items p) c.args.pieces.items) c.args.session) (sym h) (can, c.handed.ensures.legal, (λ e. (let full = c.run_book-session.ensures.full (full_cause c.run_book-session.result.2 e) in omega arith)), run)) c.handed.ensures.err
 
 pub run_book-session-requires-clause-empty : goal.run_book-session-requires-clause-empty
-run_book-session-requires-clause-empty g c κs within = every_map _ _ _ (λ p h. h.0) c.in-Ok-open.ensures.fresh
+run_book-session-requires-clause-empty g c κs within =
+    let room = c.engine-shell.ensures.sound.room in
+    let limit = ap (λ s. s.limit) c.in-Ok-open.ensures.opens.0 in
+    every_map _ _ _ (λ p h. (h.0, within_first _ p c.args.session.kept h.0 h.1 h.2 (omega (arith, room, limit)))) c.in-Ok-open.ensures.fresh
+
+pub run_book-session-requires-clause-turns : goal.run_book-session-requires-clause-turns
+run_book-session-requires-clause-turns g c κs within =
+    let limit = ap (λ s. s.limit) c.in-Ok-open.ensures.opens.0 in
+    let turns = c.in-Ok-open.ensures.opens.2 in
+    let few = c.engine-shell.ensures.sound.countable in
+    omega (arith, limit, turns, few)
 
 pub run_book-session-requires-clause-admits : goal.run_book-session-requires-clause-admits
 run_book-session-requires-clause-admits g c κs within = λ w.
