@@ -109,7 +109,7 @@ part_done words part p files input before after h =
     }
 
 pub drive_done : (words : List Text) (drive : DriveArguments) → ParsedBy words (Ok (Drive drive)) → (files : KnownFiles) (input before after : Option (List ℕ))
-    → IsDriven drive.config drive.format input before after → DoneBy words files input before after
+    → IsDriven drive.config drive.workers drive.format input before after → DoneBy words files input before after
 drive_done words drive p files input before after h =
     let is = p.gives.1.2 in
     record {
@@ -123,7 +123,9 @@ drive_done words drive p files input before after h =
           config = drive.config;
           config_is = is.config;
           stripes_are = is.stripes;
-          driven = subst (λ f. IsDriven drive.config f input before after) is.format h;
+          workers = drive.workers;
+          workers_are = is.workers;
+          driven = subst (λ f. IsDriven drive.config drive.workers f input before after) is.format h;
         })))),
       );
     }

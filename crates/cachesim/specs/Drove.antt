@@ -5,12 +5,13 @@ use Rattle.step_record.specs.History.{IsLegal}
 use Rattle.step_record.specs.declared.config.Config.{Config}
 use Rattle.step_record.specs.declared.step.Reply.{Reply}
 use Rattle.step_record.specs.declared.step.Step.{Step}
-use Rattle.trace_read.specs.Reading.{fault_in}
+use Rattle.trace_read.specs.Reading.{fault_in, keys_in}
 use Rattle.trace_read.specs.declared.format.Format.{Format}
 use Rattle.shell_model.specs.Shell.{Shell, act}
 use Rattle.maintenance.specs.Opened.{IsOpened}
 use Rattle.journal.specs.Session.{SessionState}
 use Rattle.drive.specs.Walks.{Entries}
+use Rattle.cachesim.specs.Dealt.{AreOfReads}
 use Rattle.journal_text.specs.Journal.{journal_of}
 use Rattle.journal_text.specs.declared.version.Version.TheVariants.{Two}
 
@@ -21,11 +22,13 @@ pub record IsFirst (config : Config) (session : SessionState Shell Shell Step Re
   pub none : session.kept ≡ []
 
 -- The bytes read have no fault, and those written are the journal of steps that the cache of the configuration accepts
--- one after another, each with its reply, from the empty state on.
-pub record IsDriven (config : Config) (format : Format) (input before after : Option (List ℕ)) : Type 0 where
+-- one after another, each with its reply, from the empty state on. They are the walks of the accesses in the bytes read,
+-- each by the worker whose turn it is.
+pub record IsDriven (config : Config) (workers : ℕ) (format : Format) (input before after : Option (List ℕ)) : Type 0 where
   pub faultless : IfSome input (λ bytes. fault_in format bytes ≡ None)
   pub opening : Shell
   pub opened : IsOpened config opening
   pub steps : Entries
   pub legal : IsLegal act opening steps
+  pub walks : IfSome input (λ bytes. AreOfReads workers config.stripes (keys_in format bytes) steps)
   pub written : Appends before after (journal_of Two steps)

@@ -4,3 +4,4 @@ pub mod Fault
 pub mod Jobs
 pub mod Part
 pub mod Run
+pub mod Dealt

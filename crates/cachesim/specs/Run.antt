@@ -13,7 +13,7 @@ use Rattle.report.specs.Text.{text_of}
 use Rattle.command_line.specs.Parsed.{HasOddStripes, IsIncomplete}
 use Rattle.command_line.specs.Program.{AreLists, Lists, called, program_app}
 use Rattle.command_line.specs.Program.{capacities_in, concurrent_in, config_at, config_in, format_in}
-use Rattle.command_line.specs.Program.{policies_in, policy_in, stripes_in}
+use Rattle.command_line.specs.Program.{policies_in, policy_in, stripes_in, workers_in}
 use Rattle.cachesim.specs.Debugged.{Debugging, KnownFiles, Replaying}
 use Rattle.cachesim.specs.Drove.{IsDriven}
 use Rattle.cachesim.specs.Jobs.{jobs_at, jobs_of, reports_on}
@@ -58,14 +58,16 @@ pub record Parted (subcommand : Option (Text × List Row)) (input before after :
   pub parting : Parting (format_in rows) (record { policy = first; config = config })
       (record { policy = second; config = config }) input before after
 
--- `drive` was called, and has written a journal of steps that its empty cache accepts
+-- `drive` was called, and has written the journal of its workers' walks, from the empty cache on
 pub record Drove (subcommand : Option (Text × List Row)) (input before after : Option (List ℕ)) : Type 0 where
   pub rows : List Row
   pub is_drive : subcommand ≡ Some (codes "drive", rows)
   pub config : Config
   pub config_is : concurrent_in config.stripes rows ≡ Some config
   pub stripes_are : stripes_in rows ≡ Some config.stripes
-  pub driven : IsDriven config (format_in rows) input before after
+  pub workers : ℕ
+  pub workers_are : workers_in rows ≡ Some workers
+  pub driven : IsDriven config workers (format_in rows) input before after
 
 -- `debug` was called, and has answered the commands about the two policies over the trace of the file that its matches
 -- name

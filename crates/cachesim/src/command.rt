@@ -91,10 +91,10 @@ pub fn command<T: Threads + Wait + Sync, R: Read, W: Write, X: Write, F: Files>(
     ensures status { result ≤ 2 }
     // With status 0 the words are taken as `run`, `sweep`, `part` or `drive`, the bytes read have no
     // fault, and those written are the text of the report of each policy, or of the policy at each
-    // capacity, that the words name, or the line of the access at which two policies part, or a journal
-    // of steps that the empty cache accepts; or the words are taken as `debug` or `replay`, the file that
-    // they name is a trace or a journal without a fault, and the bytes written are the answers to the
-    // commands read; or the words ask for help.
+    // capacity, that the words name, or the line of the access at which two policies part, or the journal
+    // of the walks by which so many workers read the accesses in turn, in an empty cache; or the words are
+    // taken as `debug` or `replay`, the file that they name is a trace or a journal without a fault, and the
+    // bytes written are the answers to the commands read; or the words ask for help.
     ensures done { result ≡ 0 → DoneBy (map (λ s. s.now) words.now) (F.known files.now) (R.remaining input.old)
         (W.contents out.old) (W.contents out.new) }
     // A usage error comes only where it is due, before anything is read or written.

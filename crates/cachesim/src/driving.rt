@@ -1,7 +1,8 @@
 //! The subcommand `drive`: a trace to the journal of workers on threads.
-ghost use Rattle.std.specs.Prelude.{◌≡◌, ◌≤◌, Ok, [], IfOk, OnOk, length};
+ghost use Rattle.std.specs.Prelude.{◌≡◌, ◌≤◌, ℕ, Ok, [], IfOk, OnOk, get_or, length, map};
 ghost use Rattle.step_record.specs.Config.{config_fault};
 ghost use Rattle.step_record.specs.declared.worker.TheConstants.{MAX_WORKERS};
+ghost use Rattle.cachesim.specs.Dealt.{IsDealt};
 ghost use Rattle.cachesim.specs.Drove.{IsDriven, IsFirst};
 
 use crate::fault::Fault;
@@ -19,7 +20,8 @@ use trace_read::read_trace;
 
 // A list of no call for each worker.
 fn empty_pieces(alloc: Global, workers: u8) -> Result<Vec<Vec<Call>>, AllocError>
-    ensures { IfOk result (λ pieces. length pieces.items ≡ workers) }
+    ensures many { IfOk result (λ pieces. length pieces.items ≡ workers) }
+    ensures empty { IfOk result (λ pieces. (w : ℕ) → get_or (map (λ p. p.items) pieces.items) w [] ≡ []) }
 {
     let mut pieces = Vec::new(alloc);
     for _ in 0..workers {
@@ -31,7 +33,7 @@ fn empty_pieces(alloc: Global, workers: u8) -> Result<Vec<Vec<Call>>, AllocError
 // The calls of each worker: access i, counted from 0, is a read by the worker i modulo their number.
 fn deal(alloc: Global, keys: &[Key], workers: u8) -> Result<Vec<Vec<Call>>, AllocError>
     requires { 1 ≤ workers }
-    ensures { IfOk result (λ pieces. length pieces.items ≡ workers) }
+    ensures { IfOk result (λ pieces. IsDealt workers keys.now (map (λ p. p.items) pieces.items)) }
 {
     let mut pieces = empty_pieces(alloc, workers)?;
     for (i, key) in keys.iter().enumerate() {
@@ -64,8 +66,8 @@ pub fn drive<T: Threads + Wait + Sync, R: Read, W: Write>(
     requires checked { config_fault arguments.now.config ≡ Ok tt }
     requires some { 1 ≤ arguments.now.workers }
     requires few { arguments.now.workers ≤ MAX_WORKERS }
-    ensures { OnOk result (IsDriven arguments.now.config arguments.now.format (R.remaining input.old)
-        (W.contents out.old) (W.contents out.new)) }
+    ensures { OnOk result (IsDriven arguments.now.config arguments.now.workers arguments.now.format
+        (R.remaining input.old) (W.contents out.old) (W.contents out.new)) }
 {
     let trace = read_trace(alloc, input, arguments.format)?;
     let pieces = deal(alloc, trace.keys(), arguments.workers)?;

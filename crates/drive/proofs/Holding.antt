@@ -126,7 +126,7 @@ evict-fits x h =
       | inr e ↦ rw (e, e) refl
     ]
 
-mine : (w : ℕ) (x : Shell) (h : Holder) → x.holder ≡ Some h → h.worker ≡ w → held_by w x.holder ≡ Some h
+pub mine : (w : ℕ) (x : Shell) (h : Holder) → x.holder ≡ Some h → h.worker ≡ w → held_by w x.holder ≡ Some h
 mine w x h e f = let q : eqb w h.worker ≡ true = eq-eqb w h.worker (sym f) in rw (e, q) refl
 
 -- what is ready is accepted
@@ -316,7 +316,7 @@ write-on w n x y r (told.Do a m) v e asks back =
       suits = suits-writes a u.1 y i u.5;
     }
 
-fits-end : (w : ℕ) (x z : Shell) (h : Holder) (r : Reply) → held_by w x.holder ≡ Some h → perform w act.Evict x ≡ Some (r, z) → r ≡ reply.Fits → is_over z ≡ false
+pub fits-end : (w : ℕ) (x z : Shell) (h : Holder) (r : Reply) → held_by w x.holder ≡ Some h → perform w act.Evict x ≡ Some (r, z) → r ≡ reply.Fits → is_over z ≡ false
 fits-end w x z h r m e f =
     let g : Some (evict (in_phase Evictions h x)) ≡ Some (r, z) = rw m at e in
     let one : evict (in_phase Evictions h x) ≡ (r, z) = cc (g) in

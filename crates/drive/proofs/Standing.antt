@@ -1,5 +1,5 @@
 -- How far a worker is in the maintenance that it holds, told by its own steps alone.
-use Rattle.std.proofs.Common.{◌≡◌, ℕ, ◌<◌, ◌≤◌, Bool, true, false, eqb, nat_lt, Option, Some, None, [], ◌∷◌, length, refl, sym, ap, ◌∙◌, subst, arith, inl, inr, length-set}
+use Rattle.std.proofs.Common.{◌≡◌, ℕ, ◌<◌, ◌≤◌, Bool, true, false, cond, eqb, nat_lt, Option, Some, None, [], ◌∷◌, length, refl, sym, ap, ◌∙◌, subst, arith, ◌⊎◌, inl, inr, length-set}
 use Rattle.std.proofs.lemmas.Bool.{cases_Bool, eqb-true, eq-eqb}
 use Rattle.std.proofs.lemmas.Bool.Decides.{nat_tests}
 use Rattle.step_record.specs.declared.entry.Entry.{Entry}
@@ -9,11 +9,14 @@ use Rattle.step_record.specs.declared.step.Act.TheVariants as a
 use Rattle.step_record.specs.declared.step.Reply.{Reply}
 use Rattle.step_record.specs.declared.step.Reply.TheVariants as reply
 use Rattle.step_record.specs.declared.step.Step.{Step}
+use Rattle.step_record.specs.declared.drain.Drain.{Drain}
+use Rattle.step_record.specs.declared.drain.Drain.TheVariants as drain
 use Rattle.step_record.specs.declared.drain.Phase.{Phase}
 use Rattle.step_record.specs.declared.drain.Phase.TheVariants.{Reads, Writes, Evictions}
 use Rattle.step_record.specs.History.{went, after, IsLegal}
 use Rattle.shell_model.specs.declared.holder.Holder.{Holder}
 use Rattle.shell_model.specs.Shell.{Shell, act, perform, held_by, hold_read, hold_write, hold_evict, hold_end, may_read, may_write, node_of, look, tallied}
+use Rattle.shell_model.specs.Shell.{is_over, end, ended}
 use Rattle.shell_model.specs.Consistent.{IsConsistent}
 use Rattle.shell_model.proofs.Counting.{listed-times, node-listed}
 use Rattle.shell_model.proofs.Histories.{Steps, stepped, after-sound}
@@ -21,19 +24,29 @@ use Rattle.shell_model.proofs.Making as k
 use Rattle.shell_model.proofs.Making.{Makes}
 use Rattle.drive.specs.Walks.{Entries, step_of}
 use Rattle.drive.specs.Driven.{entries_of}
+use Rattle.drive.proofs.Holding.{Performs, performs, fits-end, mine}
 
--- the phase of the maintenance that the worker holds, and the node that it last found
+-- the phase of the maintenance that the worker holds, the node that it last found, and whether its last eviction told it
+-- that the window fits
 pub record Standing : Type 0 where
   pub at : Option Phase
   pub node : Option ℕ
+  pub fits : Bool
 
+abbrev held_at : Standing → Option Phase → Bool → Standing
+held_at s p f = record { at = p; node = s.node; fits = f }
+
+-- where the window fits, an End ends the maintenance, whatever it answers: NotYet does not come there
 abbrev pub next_of : Standing → Act → Reply → Standing
-next_of s a.Begin reply.Began = record { at = Some Reads; node = s.node }
-next_of s a.DrainWrite r = record { at = Some Writes; node = s.node }
-next_of s a.Evict r = record { at = Some Evictions; node = s.node }
-next_of s a.End reply.Idle = record { at = None; node = s.node }
-next_of s a.End reply.Again = record { at = None; node = s.node }
-next_of s (a.Look key) (reply.Hit n) = record { at = s.at; node = Some n }
+next_of s a.Begin reply.Began = held_at s (Some Reads) false
+next_of s (a.DrainRead st) r = held_at s s.at false
+next_of s a.DrainWrite r = held_at s (Some Writes) false
+next_of s a.Evict reply.Fits = held_at s (Some Evictions) true
+next_of s a.Evict r = held_at s (Some Evictions) false
+next_of s a.End reply.Idle = held_at s None false
+next_of s a.End reply.Again = held_at s None false
+next_of s a.End reply.NotYet = held_at s (cond s.fits None s.at) false
+next_of s (a.Look key) (reply.Hit n) = record { at = s.at; node = Some n; fits = s.fits }
 next_of s b r = s
 
 abbrev pub standing : Standing → Entries → Standing
@@ -44,11 +57,16 @@ abbrev pub phase_of : Option Holder → Option Phase
 phase_of None = None
 phase_of (Some h) = Some h.phase
 
+-- where the worker was told that the window fits, it holds the maintenance, and the window fits
+abbrev Fitting : Standing → Shell → Type 0
+Fitting s x = s.fits ≡ true → (p : Phase) × (s.at ≡ Some p) × (is_over x ≡ false)
+
 -- the shell is so that the worker stands there
 pub record Stands (w n : ℕ) (s : Standing) (x : Shell) : Type 0 where
   pub holds : phase_of (held_by w x.holder) ≡ s.at
   pub node : (m : ℕ) → s.node ≡ Some m → m < x.next
   pub stripes : length x.stripes ≡ n
+  pub window : Fitting s x
 
 -- the act is one of the holder's
 abbrev is_holding : Act → Bool
@@ -134,20 +152,27 @@ other_holds w v x b r y made ne o = refl
 own_phase : (w : ℕ) (x : Shell) (h : Holder) (p : Phase) (l : ℕ) → x.holder ≡ Some h → Own w x → phase_of (held_by w (put_at h.worker p l)) ≡ Some p
 own_phase w x h p l e o = (let t : eqb w h.worker ≡ true = eq-eqb w h.worker (same_worker w x h e o) in rw t refl)
 
-own_holds : (w : ℕ) (s : Standing) (x : Shell) (b : Act) (r : Reply) (y : Shell) → Makes w x b r y → (is_holding b ≡ true → Own w x) → phase_of (held_by w x.holder) ≡ s.at → phase_of (held_by w y.holder) ≡ (next_of s b r).at
-own_holds w s x b r y (k.began e) o h = (let t : eqb w w ≡ true = eq-eqb w w refl in rw t refl)
-own_holds w s x b r y (k.write_empty g f m) o h = own_phase w x g Writes g.left f (o refl)
-own_holds w s x b r y (k.enough g f m) o h = own_phase w x g Writes g.left f (o refl)
-own_holds w s x b r y (k.applied_add g f m i rest e l) o h = own_phase w x g Writes l f (o refl)
-own_holds w s x b r y (k.applied_update g f m i rest e l) o h = own_phase w x g Writes l f (o refl)
-own_holds w s x b r y (k.applied_remove g f m i rest e l) o h = own_phase w x g Writes l f (o refl)
-own_holds w s x b r y (k.fits g f) o h = own_phase w x g Evictions g.left f (o refl)
-own_holds w s x b r y (k.shifted g f c i) o h = own_phase w x g Evictions g.left f (o refl)
-own_holds w s x b r y (k.evicted g f c u i j) o h = own_phase w x g Evictions g.left f (o refl)
-own_holds w s x b r y (k.rejected g f c i) o h = own_phase w x g Evictions g.left f (o refl)
-own_holds w s x b r y (k.idle g f d e) o h = refl
-own_holds w s x b r y (k.again g f d e) o h = refl
-own_holds w s x b r y made o h = h
+-- an End that is too early leaves the holder where it is, and the window does not fit
+too_early : (w : ℕ) (s : Standing) (x : Shell) → (is_over x ≡ true) → Fitting s x → phase_of (held_by w x.holder) ≡ s.at → (f : Bool) → s.fits ≡ f → phase_of (held_by w x.holder) ≡ cond f None s.at
+too_early w s x over fit h false e = h
+too_early w s x over fit h true e = absurd (let no : true ≡ false = sym over ∙ (fit e).2 in cc (no))
+
+own_holds : (w : ℕ) (s : Standing) (x : Shell) (b : Act) (r : Reply) (y : Shell) → Makes w x b r y → (is_holding b ≡ true → Own w x) → (b ≡ a.End → r ≡ reply.NotYet → is_over x ≡ true) → Fitting s x
+    → phase_of (held_by w x.holder) ≡ s.at → phase_of (held_by w y.holder) ≡ (next_of s b r).at
+own_holds w s x b r y (k.began e) o early fit h = (let t : eqb w w ≡ true = eq-eqb w w refl in rw t refl)
+own_holds w s x b r y (k.write_empty g f m) o early fit h = own_phase w x g Writes g.left f (o refl)
+own_holds w s x b r y (k.enough g f m) o early fit h = own_phase w x g Writes g.left f (o refl)
+own_holds w s x b r y (k.applied_add g f m i rest e l) o early fit h = own_phase w x g Writes l f (o refl)
+own_holds w s x b r y (k.applied_update g f m i rest e l) o early fit h = own_phase w x g Writes l f (o refl)
+own_holds w s x b r y (k.applied_remove g f m i rest e l) o early fit h = own_phase w x g Writes l f (o refl)
+own_holds w s x b r y (k.fits g f) o early fit h = own_phase w x g Evictions g.left f (o refl)
+own_holds w s x b r y (k.shifted g f c i) o early fit h = own_phase w x g Evictions g.left f (o refl)
+own_holds w s x b r y (k.evicted g f c u i j) o early fit h = own_phase w x g Evictions g.left f (o refl)
+own_holds w s x b r y (k.rejected g f c i) o early fit h = own_phase w x g Evictions g.left f (o refl)
+own_holds w s x b r y (k.idle g f d e) o early fit h = refl
+own_holds w s x b r y (k.again g f d e) o early fit h = refl
+own_holds w s x b r y k.not_yet o early fit h = too_early w s x (early refl refl) fit h s.fits refl
+own_holds w s x b r y made o early fit h = h
 
 -- nodes and stripes, whoever steps
 
@@ -159,6 +184,70 @@ stripes_stay : (v : ℕ) (x : Shell) (b : Act) (r : Reply) (y : Shell) → Makes
 stripes_stay v x b r y (k.kept s i h) = length-set x.stripes s _
 stripes_stay v x b r y (k.drained s i rest h e) = length-set x.stripes s rest
 stripes_stay v x b r y made = refl
+
+-- the window, whoever steps
+
+not_mine : (w v : ℕ) (x : Shell) (p : Phase) → phase_of (held_by w x.holder) ≡ Some p → (v ≡ w → ⊥) → Own v x → ⊥
+not_mine w v x p e ne o =
+    let t : eqb w o.by.worker ≡ false = not_of w o.by.worker (λ i. ne (o.mine ∙ i)) in
+    let no : None ≡ Some p = rw (o.is, t) at e in
+    cc (no)
+
+-- only the holder's acts move the window
+window_stays : (v : ℕ) (x : Shell) (b : Act) (r : Reply) (y : Shell) → Makes v x b r y → is_holding b ≡ false → is_over y ≡ is_over x
+window_stays v x b r y (k.read_empty st) h = absurd (cc (h))
+window_stays v x b r y (k.drained st i rest l e) h = absurd (cc (h))
+window_stays v x b r y (k.write_empty g f m) h = absurd (cc (h))
+window_stays v x b r y (k.enough g f m) h = absurd (cc (h))
+window_stays v x b r y (k.applied_add g f m i rest e l) h = absurd (cc (h))
+window_stays v x b r y (k.applied_update g f m i rest e l) h = absurd (cc (h))
+window_stays v x b r y (k.applied_remove g f m i rest e l) h = absurd (cc (h))
+window_stays v x b r y (k.fits g f) h = absurd (cc (h))
+window_stays v x b r y (k.shifted g f c i) h = absurd (cc (h))
+window_stays v x b r y (k.evicted g f c u i j) h = absurd (cc (h))
+window_stays v x b r y (k.rejected g f c i) h = absurd (cc (h))
+window_stays v x b r y k.not_yet h = absurd (cc (h))
+window_stays v x b r y (k.idle g f d e) h = absurd (cc (h))
+window_stays v x b r y (k.again g f d e) h = absurd (cc (h))
+window_stays v x b r y made h = refl
+
+other_window : (w v : ℕ) (s : Standing) (x : Shell) (b : Act) (r : Reply) (y : Shell) → Makes v x b r y → (v ≡ w → ⊥) → (is_holding b ≡ true → Own v x) → phase_of (held_by w x.holder) ≡ s.at → Fitting s x → Fitting s y
+other_window w v s x b r y m ne o holds fit e =
+    let was : (p : Phase) × (s.at ≡ Some p) × (is_over x ≡ false) = fit e in
+    elim (cases_Bool (is_holding b)) [
+      | inl t ↦ absurd (not_mine w v x was.0 (holds ∙ was.1) ne (o t))
+      | inr f ↦ (was.0, was.1, window_stays v x b r y m f ∙ was.2)
+    ]
+
+-- after an own step the worker knows that the window fits where that step told it so, or where the step is none of the
+-- holder's and it knew before
+abbrev Keeps : Standing → Act → Reply → Type 0
+Keeps s b r = (next_of s b r).fits ≡ true → ((b ≡ a.Evict) × (r ≡ reply.Fits)) ⊎ ((is_holding b ≡ false) × (s.fits ≡ true) × ((next_of s b r).at ≡ s.at))
+
+keeps : (w : ℕ) (s : Standing) (x : Shell) (b : Act) (r : Reply) (y : Shell) → Makes w x b r y → Keeps s b r
+keeps w s x b r y (k.began e) h = absurd (cc (h))
+keeps w s x b r y (k.read_empty st) h = absurd (cc (h))
+keeps w s x b r y (k.drained st i rest l e) h = absurd (cc (h))
+keeps w s x b r y (k.write_empty g f m) h = absurd (cc (h))
+keeps w s x b r y (k.enough g f m) h = absurd (cc (h))
+keeps w s x b r y (k.applied_add g f m i rest e l) h = absurd (cc (h))
+keeps w s x b r y (k.applied_update g f m i rest e l) h = absurd (cc (h))
+keeps w s x b r y (k.applied_remove g f m i rest e l) h = absurd (cc (h))
+keeps w s x b r y (k.fits g f) h = inl (refl, refl)
+keeps w s x b r y (k.shifted g f c i) h = absurd (cc (h))
+keeps w s x b r y (k.evicted g f c u i j) h = absurd (cc (h))
+keeps w s x b r y (k.rejected g f c i) h = absurd (cc (h))
+keeps w s x b r y k.not_yet h = absurd (cc (h))
+keeps w s x b r y (k.idle g f d e) h = absurd (cc (h))
+keeps w s x b r y (k.again g f d e) h = absurd (cc (h))
+keeps w s x b r y made h = inr (refl, h, refl)
+
+own_window : (w : ℕ) (s : Standing) (x : Shell) (b : Act) (r : Reply) (y : Shell) → Makes w x b r y → (b ≡ a.Evict → r ≡ reply.Fits → is_over y ≡ false) → Fitting s x → Fitting (next_of s b r) y
+own_window w s x b r y m told fit e =
+    elim (keeps w s x b r y m e) [
+      | inl g ↦ (Evictions, ap (λ (c : Act). (next_of s c r).at) g.0 ∙ ap (λ (t : Reply). (next_of s a.Evict t).at) g.1, told g.0 g.1)
+      | inr g ↦ (let was : (p : Phase) × (s.at ≡ Some p) × (is_over x ≡ false) = fit g.1 in (was.0, g.2 ∙ was.1, window_stays w x b r y m g.0 ∙ was.2))
+    ]
 
 look_of : (o : Option ℕ) (n : ℕ) → look o ≡ reply.Hit n → o ≡ Some n
 look_of None n e = absurd (cc (e))
@@ -186,6 +275,37 @@ own_node : (w : ℕ) (s : Standing) (x : Shell) (b : Act) (r : Reply) (y : Shell
 own_node w s x b r y (k.hit key m) seen h j e = subst (λ i. i < x.next) (some_same m j e) (seen key m refl refl)
 own_node w s x b r y made seen h j e = (let old = h j e in let g = next_grows w x b r y made in omega arith)
 
+some_not_none : {X : Type 0} (o : Option X) (x : X) → o ≡ Some x → o ≡ None → ⊥
+some_not_none o x e n = (let no : Some x ≡ None = sym e ∙ n in cc (no))
+
+-- an Evict that answers Fits leaves a window that fits
+fits_told : (w : ℕ) (x z : Shell) (b : Act) (r : Reply) → act x (step_of w b) ≡ Some (r, z) → b ≡ a.Evict → r ≡ reply.Fits → is_over z ≡ false
+fits_told w x z b r h q t =
+    let p : Performs x w b r z = performs x w b r z h in
+    let e : perform w a.Evict x ≡ Some (r, p.left) = ap (λ (c : Act). perform w c x) (sym q) ∙ p.is in
+    let o : Own w x = own_of_act w x a.Evict refl (some_not_none (perform w a.Evict x) (r, p.left) e) in
+    ap is_over p.counts ∙ fits-end w x p.left o.by r (mine w x o.by o.is (sym o.mine)) e t
+
+ended_at_last : (d : Drain) → (ended d).0 ≡ reply.NotYet → ⊥
+ended_at_last drain.ToRequired e = cc (e)
+ended_at_last drain.Required e = cc (e)
+ended_at_last drain.ToIdle e = cc (e)
+ended_at_last drain.Idle e = cc (e)
+
+-- an End that answers NotYet met a window that does not fit
+not_yet_told : (w : ℕ) (x z : Shell) (b : Act) (r : Reply) → act x (step_of w b) ≡ Some (r, z) → b ≡ a.End → r ≡ reply.NotYet → is_over x ≡ true
+not_yet_told w x z b r h q t =
+    let p : Performs x w b r z = performs x w b r z h in
+    let e : perform w a.End x ≡ Some (r, p.left) = ap (λ (c : Act). perform w c x) (sym q) ∙ p.is in
+    let o : Own w x = own_of_act w x a.End refl (some_not_none (perform w a.End x) (r, p.left) e) in
+    elim (cases_Bool (is_over x)) [
+      | inl over ↦ over
+      | inr under ↦
+          let g : Some (end x) ≡ Some (r, p.left) = rw (mine w x o.by o.is (sym o.mine)) at e in
+          let same : (end x).0 ≡ reply.NotYet = ap (λ (q : Reply × Shell). q.0) (some_same (end x) (r, p.left) g) ∙ t in
+          absurd (ended_at_last x.drain (rw under at same))
+    ]
+
 look_step : (v : ℕ) (b : Act) (key : ℕ) → b ≡ a.Look key → step_of v b ≡ step_of v (a.Look key)
 look_step v b key e = ap (λ c. step_of v c) e
 
@@ -194,12 +314,17 @@ own_step n s x e z c h st =
     let t : Steps x e z = stepped x e z h in
     let seen : (key m : ℕ) → e.step.act ≡ a.Look key → e.reply ≡ reply.Hit m → m < x.next =
     λ key m f g. hit_below e.step.worker x z key m c (ap (λ u. act x u) (sym (look_step e.step.worker e.step.act key f)) ∙ h ∙ ap (λ (u : Reply). Some (u, z)) g) in
-    let holds = own_holds e.step.worker s x e.step.act e.reply t.left t.made (λ i. own_of_act e.step.worker x e.step.act i (performed x e.step (e.reply, z) h)) st.holds in
+    let early = not_yet_told e.step.worker x z e.step.act e.reply h in
+    let holds = own_holds e.step.worker s x e.step.act e.reply t.left t.made (λ i. own_of_act e.step.worker x e.step.act i (performed x e.step (e.reply, z) h)) early st.window st.holds in
+    let fitted : e.step.act ≡ a.Evict → e.reply ≡ reply.Fits → is_over t.left ≡ false =
+    λ q u. sym (ap is_over t.is) ∙ fits_told e.step.worker x z e.step.act e.reply h q u in
+    let window = own_window e.step.worker s x e.step.act e.reply t.left t.made fitted st.window in
     let node = own_node e.step.worker s x e.step.act e.reply t.left t.made seen st.node in
     record {
       holds = ap (λ (y : Shell). phase_of (held_by e.step.worker y.holder)) t.is ∙ holds;
       node = λ m f. subst (λ (y : Shell). m < y.next) (sym t.is) (node m f);
       stripes = ap (λ (y : Shell). length y.stripes) t.is ∙ stripes_stay e.step.worker x e.step.act e.reply t.left t.made ∙ st.stripes;
+      window = λ f. (let m = window f in (m.0, m.1, ap is_over t.is ∙ m.2));
     }
 
 other_step : (w n : ℕ) (s : Standing) (x : Shell) (e : Entry Step Reply) (z : Shell) → (e.step.worker ≡ w → ⊥) → act x e.step ≡ Some (e.reply, z) → Stands w n s x → Stands w n s z
@@ -207,10 +332,12 @@ other_step w n s x e z ne h st =
     let t : Steps x e z = stepped x e z h in
     let holds = other_holds w e.step.worker x e.step.act e.reply t.left t.made ne (λ i. own_of_act e.step.worker x e.step.act i (performed x e.step (e.reply, z) h)) in
     let grows = next_grows e.step.worker x e.step.act e.reply t.left t.made in
+    let window = other_window w e.step.worker s x e.step.act e.reply t.left t.made ne (λ i. own_of_act e.step.worker x e.step.act i (performed x e.step (e.reply, z) h)) st.holds st.window in
     record {
       holds = ap (λ (y : Shell). phase_of (held_by w y.holder)) t.is ∙ holds ∙ st.holds;
       node = λ m f. subst (λ (y : Shell). m < y.next) (sym t.is) (let old = st.node m f in omega arith);
       stripes = ap (λ (y : Shell). length y.stripes) t.is ∙ stripes_stay e.step.worker x e.step.act e.reply t.left t.made ∙ st.stripes;
+      window = λ f. (let m = window f in (m.0, m.1, ap is_over t.is ∙ m.2));
     }
 
 -- whatever the others do, a worker stands where its own steps led it

@@ -5,6 +5,7 @@ ghost use Rattle.step_record.specs.declared.worker.TheConstants.{MAX_WORKERS};
 ghost use Rattle.journal.specs.declared.fault.SessionFault.TheVariants.{JournalFull};
 ghost use Rattle.turn_book.specs.Turns.{Every};
 ghost use Rattle.turn_book.specs.Passes.{InOrder, id_of};
+ghost use Rattle.drive.specs.Draws.{IsWithin};
 ghost use Rattle.drive.specs.Desks.{Sits, HasWorked, Counts, AdmitsAll, calls_of};
 
 use super::turns::work_in_turns;
@@ -40,6 +41,8 @@ fn work_at<G: Gate, R: Wait>(
     requires admits { AdmitsAll stripes book.now.opening }
     requires sits { Sits (id_of book.now) desk.old }
     requires fresh { desk.old.list.items ≡ [] }
+    requires within { IfSome desk.old.pass (λ p. IsWithin book.now.opening.limit p) }
+    requires turns { book.now.opening.limit ≤ book.now.turns }
     requires below { desk.old.worker < length pieces.now }
     ensures sits { Sits (id_of book.now) desk.new }
     ensures worked { HasWorked stripes book.now.opening.limit (calls_of pieces.now) desk.new }
@@ -75,7 +78,9 @@ fn work_all<G: Gate, R: Threads + Wait + Sync>(
 )
     requires stripes { (1 ≤ stripes) × (stripes ≤ MAX_STRIPES) }
     requires admits { AdmitsAll stripes book.now.opening }
-    requires sit { All (λ d. Sits (id_of book.now) d × (d.list.items ≡ []) × (d.worker < length pieces.now)) desks.old }
+    requires turns { book.now.opening.limit ≤ book.now.turns }
+    requires sit { All (λ d. Sits (id_of book.now) d × (d.list.items ≡ [])
+        × IfSome d.pass (λ p. IsWithin book.now.opening.limit p) × (d.worker < length pieces.now)) desks.old }
     ensures sit { All (λ d. Sits (id_of book.now) d × HasWorked stripes book.now.opening.limit (calls_of pieces.now) d) desks.new }
     ensures workers { (i : ℕ) (d : Desk) → i < length desks.old → (slice_index_or desks.new i d).worker ≡ (slice_index_or desks.old i d).worker }
 {
@@ -84,7 +89,9 @@ fn work_all<G: Gate, R: Threads + Wait + Sync>(
     }
     let threads = desks.len();
     let each = |_i: usize, desk: &mut Desk|
-        requires { (1 ≤ stripes) × (stripes ≤ MAX_STRIPES) × AdmitsAll stripes book.now.opening × Sits (id_of book.now) desk.now × (desk.now.list.items ≡ []) × (desk.now.worker < length pieces.now) }
+        requires { (1 ≤ stripes) × (stripes ≤ MAX_STRIPES) × AdmitsAll stripes book.now.opening
+            × (book.now.opening.limit ≤ book.now.turns) × Sits (id_of book.now) desk.now × (desk.now.list.items ≡ [])
+            × IfSome desk.now.pass (λ p. IsWithin book.now.opening.limit p) × (desk.now.worker < length pieces.now) }
         ensures { Sits (id_of book.entry.now) desk.exit.now × HasWorked stripes book.entry.now.opening.limit (calls_of pieces.entry.now) desk.exit.now × (desk.exit.now.worker ≡ desk.entry.now.worker) }
     { work_at(rt, gate, book, pieces, stripes, desk) };
     thread::for_each_mut(rt, desks, threads, &each);
@@ -99,9 +106,10 @@ pub(crate) fn seat_all(
 ) -> Vec<Desk>
     requires order { InOrder 0 passes.items × (length passes.items ≤ MAX_WORKERS) }
     requires own { Every (λ p. p.book ≡ id_of book.now) passes.items }
-    requires empty { Every (λ p. p.own ≡ []) passes.items }
+    requires empty { Every (λ p. (p.own ≡ []) × IsWithin book.now.opening.limit p) passes.items }
     requires room { (desks.items ≡ []) × (length passes.items ≤ vec_capacity desks) }
-    ensures sit { Every (λ d. Sits (id_of book.now) d × (d.list.items ≡ [])) result.items }
+    ensures sit { Every (λ d. Sits (id_of book.now) d × (d.list.items ≡ [])
+        × IfSome d.pass (λ p. IsWithin book.now.opening.limit p)) result.items }
     ensures counts { Counts 0 result.items × (length result.items ≡ length passes.items) }
 {
     for pass in passes {
@@ -129,7 +137,9 @@ pub(crate) fn work_seated<G: Gate, R: Threads + Wait + Sync>(
 ) -> Vec<Desk>
     requires stripes { (1 ≤ stripes) × (stripes ≤ MAX_STRIPES) }
     requires admits { AdmitsAll stripes book.now.opening }
-    requires sit { Every (λ d. Sits (id_of book.now) d × (d.list.items ≡ [])) desks.items }
+    requires turns { book.now.opening.limit ≤ book.now.turns }
+    requires sit { Every (λ d. Sits (id_of book.now) d × (d.list.items ≡ [])
+        × IfSome d.pass (λ p. IsWithin book.now.opening.limit p)) desks.items }
     requires counts { Counts 0 desks.items × (length desks.items ≡ length pieces.now) }
     ensures sit { Every (λ d. Sits (id_of book.now) d × HasWorked stripes book.now.opening.limit (calls_of pieces.now) d) result.items }
     ensures counts { Counts 0 result.items × (length result.items ≡ length pieces.now) }

@@ -7,8 +7,9 @@ ghost use Rattle.turn_book.specs.Passes.{InOrder, id_of};
 ghost use Rattle.drive.specs.Walks.{AreWalks};
 ghost use Rattle.drive.specs.Made.{BeginWalks};
 ghost use Rattle.drive.specs.Desks.{AdmitsAll};
+ghost use Rattle.drive.specs.Draws.{IsWithin};
 ghost use Rattle.drive.specs.Driven.{IsRun};
-ghost use Rattle.step_record.specs.History.{IsLegal};
+ghost use Rattle.step_record.specs.History.{after, IsLegal};
 ghost use Rattle.shell_model.specs.Shell.{act};
 ghost use Rattle.drive.specs.DriveFaults.{CanRun, LeavesFault, the_cause};
 
@@ -77,6 +78,8 @@ pub fn drive<G: Gate, R: Threads + Wait + Sync>(
     // Past the old entries, those of each worker are its list: one walk for each of its calls, in order.
     ensures run { IfOk result (λ d. IsRun (λ w. AreWalks w session.engine.config.stripes) (map (λ p. p.items) pieces.items) session d.session (map (λ l. l.items) d.lists.items)) }
     ensures legal { IfOk result (λ d. IsLegal act d.session.opening d.session.kept) }
+    // Nobody holds the maintenance.
+    ensures free { IfOk result (λ d. d.session.engine.holder ≡ None) }
     ensures accepted { OnOk result (CanRun (map (λ p. p.items) pieces.items) session.engine) }
     ensures fault { IfErr result (λ f. LeavesFault f (map (λ p. p.items) pieces.items) session) }
 {
@@ -121,6 +124,7 @@ fn handed(
     ensures ok { IfOk result (λ d. (d.session ≡ session) × (d.lists.items ≡ lists.items) × (fault ≡ None)) }
     ensures err { IfErr result (λ f. f ≡ DriveFault.Stopped session lists (the_cause fault)) }
     ensures legal { IsLegal act session.opening session.kept }
+    ensures stands { session.engine ≡ after act session.opening session.kept }
     ensures room { length session.kept ≤ session.limit }
 {
     session.len();
@@ -188,7 +192,8 @@ fn run_book<G: Gate, R: Threads + Wait + Sync>(
     requires workers { (length pieces.now ≡ book.workers) × (1 ≤ length pieces.now) × (length pieces.now ≤ MAX_WORKERS) }
     requires order { InOrder 0 passes.items × (length passes.items ≡ length pieces.now) }
     requires own { Every (λ p. p.book ≡ id_of book) passes.items }
-    requires empty { Every (λ p. p.own ≡ []) passes.items }
+    requires empty { Every (λ p. (p.own ≡ []) × IsWithin book.opening.limit p) passes.items }
+    requires turns { book.opening.limit ≤ book.turns }
     requires fresh { (room.desks.items ≡ []) × (room.passes.items ≡ []) × (room.lists.items ≡ []) }
     requires room { (length pieces.now ≤ vec_capacity room.desks) × (length pieces.now ≤ vec_capacity room.passes) × (length pieces.now ≤ vec_capacity room.lists) }
     ensures none { result.2 ≡ None → IsRun (λ w. AreWalks w stripes) (map (λ p. p.items) pieces.now) book.opening result.0 (map (λ l. l.items) result.1.items) }

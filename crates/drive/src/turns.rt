@@ -7,6 +7,7 @@ ghost use Rattle.step_record.specs.History.{after};
 ghost use Rattle.step_record.specs.declared.step.Call.{Call};
 ghost use Rattle.drive.specs.Walks.{IsWalk, AreWalks};
 ghost use Rattle.drive.specs.Admits.{AdmitsWalks, IsTaken};
+ghost use Rattle.drive.specs.Draws.{IsWithin};
 ghost use Rattle.drive.specs.Made.{Made, BeginsWalk, BeginWalks};
 
 use super::local::Local;
@@ -16,7 +17,8 @@ use std::sync::Wait;
 use step_record::{Call, Engine, Entry, Gate, Reply, Step, Worker};
 use turn_book::{Pass, TurnBook};
 
-/// Makes one step in a turn. It is refused where the session refuses it, or where the pass is spent.
+/// Makes one step in a turn. It is refused where the session refuses it. A pass that has drawn all of its turns made an
+/// entry in each of them, and so many fill the journal.
 pub fn turn<E: Engine<Step = Step, Reply = Reply> + Drop, R: Wait>(
     rt: &R,
     book: &TurnBook<Session<E>>,
@@ -27,6 +29,8 @@ pub fn turn<E: Engine<Step = Step, Reply = Reply> + Drop, R: Wait>(
     requires worker { pass.worker ≡ step.worker }
     requires answers { AnswersItsActs E.act }
     requires takes { IsTaken E.act E.count (after E.act book.now.opening.opening book.now.opening.kept) pass.own step }
+    requires within { IsWithin book.now.opening.limit pass }
+    requires turns { book.now.opening.limit ≤ book.now.turns }
     ensures same { result.0.book ≡ pass.book }
     ensures worker { result.0.worker ≡ pass.worker }
     ensures own { MatchResult result.1 (λ r. result.0.own ≡ pass.own ++ record { step = step; reply = r } ∷ []) (λ _. result.0.own ≡ pass.own) }
@@ -34,13 +38,14 @@ pub fn turn<E: Engine<Step = Step, Reply = Reply> + Drop, R: Wait>(
     // A full journal: what the pass last saw is as long as the limit.
     ensures full { result.1 ≡ Err SessionFault.JournalFull → length result.0.last ≡ book.now.opening.limit }
     ensures now { result.1 ≢ Err SessionFault.NotNow }
+    ensures within { OnOk result.1 (IsWithin book.now.opening.limit result.0) }
 {
     match book.take(rt, pass) {
         Ok(mut turn) => match turn.value().step(step) {
             Ok(reply) => (book.give(turn), Ok(reply)),
             Err(fault) => (book.give(turn), Err(fault)),
         },
-        Err(pass) => (pass, Err(SessionFault::OutOfMemory)),
+        Err(pass) => (pass, Err(SessionFault::JournalFull)),
     }
 }
 
@@ -60,12 +65,15 @@ pub fn walk_in_turns<E: Engine<Step = Step, Reply = Reply> + Drop, R: Wait>(
     requires admits { AdmitsWalks E.act E.count worker stripes (after E.act book.now.opening.opening book.now.opening.kept) }
     requires walks { (before : List Call) × AreWalks worker stripes before pass.own }
     requires stripes { (1 ≤ stripes) × (stripes ≤ MAX_STRIPES) }
+    requires within { IsWithin book.now.opening.limit pass }
+    requires turns { book.now.opening.limit ≤ book.now.turns }
     ensures same { result.0.book ≡ pass.book }
     ensures worker { result.0.worker ≡ worker }
     ensures ok { OnOk result.1 (Made (IsWalk worker stripes call) pass.own result.0.own list.old.items list.new.items) }
     ensures err { OnErr result.1 (Made (BeginsWalk worker stripes call) pass.own result.0.own list.old.items list.new.items) }
     ensures full { result.1 ≡ Err SessionFault.JournalFull → length result.0.last ≡ book.now.opening.limit }
     ensures now { result.1 ≢ Err SessionFault.NotNow }
+    ensures within { OnOk result.1 (IsWithin book.now.opening.limit result.0) }
 {
     let mut next = next_step(Local::start(worker, stripes, call), None);
     for _ in rt.forever() {
@@ -107,12 +115,15 @@ pub fn work_in_turns<E: Engine<Step = Step, Reply = Reply> + Drop, G: Gate, R: W
     requires admits { AdmitsWalks E.act E.count worker stripes (after E.act book.now.opening.opening book.now.opening.kept) }
     requires walks { (before : List Call) × AreWalks worker stripes before pass.own }
     requires stripes { (1 ≤ stripes) × (stripes ≤ MAX_STRIPES) }
+    requires within { IsWithin book.now.opening.limit pass }
+    requires turns { book.now.opening.limit ≤ book.now.turns }
     ensures same { result.0.book ≡ pass.book }
     ensures worker { result.0.worker ≡ worker }
     ensures ok { OnOk result.1 (Made (AreWalks worker stripes calls.now) pass.own result.0.own list.old.items list.new.items) }
     ensures err { OnErr result.1 (Made (BeginWalks worker stripes calls.now) pass.own result.0.own list.old.items list.new.items) }
     ensures full { result.1 ≡ Err SessionFault.JournalFull → length result.0.last ≡ book.now.opening.limit }
     ensures now { result.1 ≢ Err SessionFault.NotNow }
+    ensures within { OnOk result.1 (IsWithin book.now.opening.limit result.0) }
 {
     for (n, call) in calls.iter().enumerate() {
         gate.before(worker.number(), n as u64);

@@ -61,7 +61,7 @@ returns-in-Ok-done-clause-done g c zero =
           let drive = w.in-Drive.arguments in
           let q = subst (λ (a : Arguments). ParsedBy words (Ok a)) w.in-Drive.is p in
           let ok = w.drive-done.ensures in
-          let Wrote = IsDriven drive.config drive.format (g.R.Read.remaining c.args.input.now) (g.W.Write.contents c.args.out.now) (g.W.Write.contents w.drive-done.new.out) in
+          let Wrote = IsDriven drive.config drive.workers drive.format (g.R.Read.remaining c.args.input.now) (g.W.Write.contents c.args.out.now) (g.W.Write.contents w.drive-done.new.out) in
           let h : Wrote = subst (λ (r : Result (Unit {0}) Fault). OnOk r Wrote) (sym w.done-is ∙ c.in-Ok-done.is) ok in
           rw w.out-is (drive_done words drive q known _ _ _ h)
       | in-Debug w ↦

@@ -2,6 +2,7 @@ use Rattle.std.proofs.Common.{rules, ◌≡◌, [], ◌∷◌, refl, sym, ap, su
 use Rattle.std.specs.Vec.Iter.{into_iter_items}
 use Rattle.turn_book.specs.Turns.{Every}
 use Rattle.turn_book.specs.Passes.{InOrder, id_of}
+use Rattle.drive.specs.Draws.{IsWithin}
 use Rattle.drive.proofs.Seating.{every_more, counts_more, length_snoc}
 use Rattle.drive.proofs.desk.seat_all.Goals as goal
 
@@ -12,7 +13,7 @@ loop-pass-preserved c =
     let rest : into_iter_items c.loop-pass.pass-iterator ≡ p ∷ into_iter_items c.next.new.self = search rules in
     let order = subst (InOrder (length c.loop-pass.desks.items)) rest i.order in
     let own = subst (Every (λ p. p.book ≡ id_of c.args.book.now)) rest i.own in
-    let empty = subst (Every (λ p. p.own ≡ [])) rest i.empty in
+    let empty = subst (Every (λ p. (p.own ≡ []) × IsWithin c.args.book.now.opening.limit p)) rest i.empty in
     let added = c.push_reserved.ensures.items in
     let len = length_snoc _ _ _ added in
     let left = ap length rest in
@@ -26,7 +27,7 @@ loop-pass-preserved c =
       order = subst (λ n. InOrder n (into_iter_items c.next.new.self)) (omega arith) order.1;
       own = own.1;
       empty = empty.1;
-      sit = every_more _ _ _ _ added i.sit (record { has = refl; own = (own.0, order.0 ∙ sym named, empty.0 ∙ sym c.new-in-loop-pass.ensures.items) }, c.new-in-loop-pass.ensures.items);
+      sit = every_more _ _ _ _ added i.sit (record { has = refl; own = (own.0, order.0 ∙ sym named, empty.0.0 ∙ sym c.new-in-loop-pass.ensures.items) }, c.new-in-loop-pass.ensures.items, empty.0.1);
       counts = counts_more _ _ _ added i.counts named;
       total = omega arith;
       room = search rules;

@@ -2,15 +2,17 @@ use Rattle.std.proofs.Common.{◌≡◌, ◌≤◌, ◌+◌, [], length, vec_cap
 use Rattle.std.specs.Vec.Iter.{into_iter_items}
 use Rattle.turn_book.specs.Turns.{Every}
 use Rattle.turn_book.specs.Passes.{InOrder, id_of}
+use Rattle.std.specs.Prelude.{IfSome}
 use Rattle.drive.specs.Desks.{Sits, Counts}
+use Rattle.drive.specs.Draws.{IsWithin}
 use Rattle.drive.proofs.desk.seat_all.Given as goal
 
 abbrev pub invariant-loop-pass : goal.invariant-loop-pass
 invariant-loop-pass l = record {
   order : InOrder (length l.desks.items) (into_iter_items l.pass-iterator);
   own : Every (λ p. p.book ≡ id_of l.book) (into_iter_items l.pass-iterator);
-  empty : Every (λ p. p.own ≡ []) (into_iter_items l.pass-iterator);
-  sit : Every (λ d. Sits (id_of l.book) d × (d.list.items ≡ [])) l.desks.items;
+  empty : Every (λ p. (p.own ≡ []) × IsWithin l.book.opening.limit p) (into_iter_items l.pass-iterator);
+  sit : Every (λ d. Sits (id_of l.book) d × (d.list.items ≡ []) × IfSome d.pass (λ p. IsWithin l.book.opening.limit p)) l.desks.items;
   counts : Counts 0 l.desks.items;
   total : length l.desks.items + length (into_iter_items l.pass-iterator) ≡ length l.fn.passes.items;
   room : length l.fn.passes.items ≤ vec_capacity l.desks;

@@ -2,16 +2,18 @@ use Rattle.std.proofs.Common.{◌≡◌, ◌<◌, ℕ, [], sym, ap, subst, ◌�
 use Rattle.turn_book.specs.Turns.{Every}
 use Rattle.turn_book.specs.Passes.{id_of}
 use Rattle.drive.specs.declared.desk.Desk.{Desk}
+use Rattle.std.specs.Prelude.{IfSome}
 use Rattle.drive.specs.Desks.{Counts, Sits, HasWorked, calls_of}
+use Rattle.drive.specs.Draws.{IsWithin}
 use Rattle.drive.proofs.Rising.{every_both}
 use Rattle.drive.proofs.Seating.{all_of_every, every_of_all, every_below, counts_same, take_back}
 use Rattle.drive.proofs.desk.work_seated.Goals as goal
 
 pub work_all-requires-clause-sit : goal.work_all-requires-clause-sit
 work_all-requires-clause-sit g c κs within =
-    let all = every_both _ _ (λ d. Sits (id_of c.args.book.now) d × (d.list.items ≡ []) × (d.worker < length c.args.pieces.now)) c.args.desks.items (λ d h lt. (h.0, h.1, lt))
+    let all = every_both _ _ (λ d. Sits (id_of c.args.book.now) d × (d.list.items ≡ []) × IfSome d.pass (λ p. IsWithin c.args.book.now.opening.limit p) × (d.worker < length c.args.pieces.now)) c.args.desks.items (λ d h lt. (h.0, h.1, h.2, lt))
     c.requires.sit (every_below c.args.desks.items (length c.args.pieces.now) c.requires.counts.0 c.requires.counts.1) in
-    all_of_every _ _ (subst (Every (λ d. Sits (id_of c.args.book.now) d × (d.list.items ≡ []) × (d.worker < length c.args.pieces.now))) (sym c.as_mut_slice.ensures.value) all)
+    all_of_every _ _ (subst (Every (λ d. Sits (id_of c.args.book.now) d × (d.list.items ≡ []) × IfSome d.pass (λ p. IsWithin c.args.book.now.opening.limit p) × (d.worker < length c.args.pieces.now))) (sym c.as_mut_slice.ensures.value) all)
 
 pub returns-clause-sit : goal.returns-clause-sit
 returns-clause-sit g c =

@@ -1,4 +1,4 @@
-use Rattle.std.proofs.Common.{rules, arith, ◌≤◌, map, vec_items, sym, ap, subst, ◌∙◌}
+use Rattle.std.proofs.Common.{rules, arith, ◌≤◌, map, vec_items, length, refl, sym, ap, subst, ◌∙◌}
 use Rattle.std.proofs.lemmas.List.{length-map}
 use Rattle.step_record.specs.declared.worker.TheConstants.{MAX_WORKERS}
 use Rattle.drive.specs.Walks.{AreWalks}
@@ -8,9 +8,11 @@ use Rattle.drive.specs.DriveFaults.{CanRun, LeavesFault}
 use Rattle.step_record.specs.History.{after}
 use Rattle.shell_model.specs.Shell.{act}
 use Rattle.drive.specs.Admits.{AdmitsWalks}
-use Rattle.drive.proofs.Admitting.{shell_admits}
+use Rattle.drive.proofs.Admitting.{shell_admits, run_frees}
+use Rattle.shell_model.specs.Reached.{IsReachable}
 use Rattle.drive.proofs.Rising.{every_map}
 use Rattle.drive.proofs.Handing.{moved_run, free_of, if_ok, if_err, on_ok, full_cause}
+use Rattle.drive.proofs.Turning.{within_first}
 use Rattle.drive.proofs.driving.drive.Goals as goal
 
 pub returns-in-Ok-open-clause-run : goal.returns-in-Ok-open-clause-run
@@ -21,6 +23,18 @@ returns-in-Ok-open-clause-run g c =
     let run = moved_run (λ w n. AreWalks w n) _ _ _ _ _ _ c.run_book-session.result.0 _ stripes pieces c.in-Ok-open.ensures.opens.0 (c.run_book-session.ensures.none h.2) in
     subst (λ l. IsRun (λ w. AreWalks w c.args.session.engine.config.stripes) (map (λ p. vec_items p) c.args.pieces.items) c.args.session d.session l) (ap (map (λ x. vec_items x)) (sym h.1))
     (subst (λ s. IsRun (λ w. AreWalks w c.args.session.engine.config.stripes) (map (λ p. vec_items p) c.args.pieces.items) c.args.session s (map (λ x. vec_items x) c.run_book-session.result.1.items)) (sym h.0) run)
+    )) c.handed.ensures.ok
+
+pub returns-in-Ok-open-clause-free : goal.returns-in-Ok-open-clause-free
+returns-in-Ok-open-clause-free g c =
+    let shell = c.engine-shell.ensures.engine in
+    let stripes = c.stripes-stripes.ensures in
+    let free = free_of _ _ (sym c.holder.ensures ∙ c.in_default.is) in
+    if_ok c.handed.result _ _ (λ d h. (
+    let run = moved_run (λ w n. AreWalks w n) _ _ _ _ _ _ c.run_book-session.result.0 _ refl refl c.in-Ok-open.ensures.opens.0 (c.run_book-session.ensures.none h.2) in
+    ap (λ s. s.engine.holder) h.0
+    ∙ run_frees c.args.session c.run_book-session.result.0 c.stripes-stripes.result _ _ stripes.range.0 (subst IsReachable shell stripes.reached) (ap (λ x. x.holder) (sym shell) ∙ free)
+    (ap (λ x. length x.stripes) (sym shell) ∙ stripes.count) c.engine-shell.ensures.sound.stands run c.handed.ensures.legal c.handed.ensures.stands
     )) c.handed.ensures.ok
 
 pub returns-in-Ok-open-clause-accepted : goal.returns-in-Ok-open-clause-accepted
@@ -59,7 +73,17 @@ returns-in-Ok-open-clause-fault g c =
     if_err c.handed.result _ _ (λ f h. subst (λ x. LeavesFault x (map (λ p. vec_items p) c.args.pieces.items) c.args.session) (sym h) (can, c.handed.ensures.legal, (λ e. (let full = c.run_book-session.ensures.full (full_cause c.run_book-session.result.2 e) in omega arith)), run)) c.handed.ensures.err
 
 pub run_book-session-requires-clause-empty : goal.run_book-session-requires-clause-empty
-run_book-session-requires-clause-empty g c κs within = every_map _ _ _ (λ p h. h.0) c.in-Ok-open.ensures.fresh
+run_book-session-requires-clause-empty g c κs within =
+    let room = c.engine-shell.ensures.sound.room in
+    let limit = ap (λ s. s.limit) c.in-Ok-open.ensures.opens.0 in
+    every_map _ _ _ (λ p h. (h.0, within_first _ p c.args.session.kept h.0 h.1 h.2 (omega (arith, room, limit)))) c.in-Ok-open.ensures.fresh
+
+pub run_book-session-requires-clause-turns : goal.run_book-session-requires-clause-turns
+run_book-session-requires-clause-turns g c κs within =
+    let limit = ap (λ s. s.limit) c.in-Ok-open.ensures.opens.0 in
+    let turns = c.in-Ok-open.ensures.opens.2 in
+    let few = c.engine-shell.ensures.sound.countable in
+    omega (arith, limit, turns, few)
 
 pub run_book-session-requires-clause-admits : goal.run_book-session-requires-clause-admits
 run_book-session-requires-clause-admits g c κs within = λ w.

@@ -2,7 +2,7 @@ use Rattle.std.proofs.Common.{refl, sym, ap, subst, ◌∙◌, Err}
 use Rattle.drive.specs.Admits.{MayMake}
 use Rattle.drive.proofs.Coming.{may_make}
 use Rattle.drive.proofs.Walking.{nothing, stopped, stepped, over, known, asks_same, asked_of, Completes, listed}
-use Rattle.drive.proofs.Turning.{at_ok, at_err, err_same}
+use Rattle.drive.proofs.Turning.{at_ok, at_err, err_same, on_ok_at}
 use Rattle.drive.proofs.turns.walk_in_turns.Goals as goal
 
 pub loop-init : goal.loop-init
@@ -11,6 +11,7 @@ loop-init g c = record {
   finite = tt;
   same = refl;
   worker = c.requires.worker;
+  within = c.requires.within;
   made = nothing (Completes c.args.worker c.args.stripes c.args.call c.next_step-next.result) _ _ (λ rest left. (c.start.ensures.ahead rest).1 ((c.next_step-next.ensures.left rest).1 left));
   asks = asks_same c.args.worker c.args.stripes c.args.call _ _ c.next_step-next.result c.start.ensures.same.0 c.start.ensures.same.1 c.next_step-next.ensures.asks;
 }
@@ -31,6 +32,7 @@ loop-preserved g c =
       finite = tt;
       same = c.turn-given.ensures.same ∙ c.loop.invariant.same;
       worker = c.turn-given.ensures.worker ∙ c.loop.invariant.worker;
+      within = on_ok_at _ _ _ c.in-Ok.is c.turn-given.ensures.within;
       made = stepped c.args.worker c.args.stripes c.args.call c.loop.next c.next_step-next-in-Ok.result c.in-Do.act c.in-Do.local c.in-Ok.reply c.in-Do.is c.loop.invariant.asks
           (λ rest left. (c.next_step-next-in-Ok.ensures.left rest).1 left) _ _ _ _ _ _ (at_ok _ _ _ _ c.in-Ok.is c.turn-given.ensures.own)
           (listed _ _ _ _ _ c.push_reserved.ensures.items c.entry_of.ensures c.reserve.ensures.items)

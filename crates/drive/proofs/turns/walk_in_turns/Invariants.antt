@@ -1,6 +1,7 @@
 use Rattle.std.proofs.Common.{◌≡◌, ◌++◌}
 use Rattle.drive.specs.Walks.{Entries, IsWalk}
 use Rattle.drive.specs.Made.{Made}
+use Rattle.drive.specs.Draws.{IsWithin}
 use Rattle.drive.specs.Nexts.{Left, Asks}
 use Rattle.drive.proofs.turns.walk_in_turns.Given as goal
 
@@ -10,6 +11,7 @@ invariant-loop g l = record {
   finite : (goal.iterator-loop g).is_finite l.iterator';
   same : l.pass.book ≡ l.fn.pass.book;
   worker : l.pass.worker ≡ l.fn.worker;
+  within : IsWithin l.book.opening.limit l.pass;
   made : Made (λ es. (rest : Entries) → Left l.next rest → IsWalk l.fn.worker l.fn.stripes l.fn.call (es ++ rest)) l.fn.pass.own l.pass.own l.fn.list.items l.list.items;
   asks : Asks l.fn.worker l.fn.stripes l.next;
 }
