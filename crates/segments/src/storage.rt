@@ -29,7 +29,7 @@ pub struct Segments {
 
 impl Model for Segments {
     ghost use Rattle.segments.specs.Queues.{Shown};
-    ghost use Rattle.segments.specs.Counts.{shown_of, IsKept};
+    ghost use Rattle.segments.specs.Table.{shown_of, IsKept};
 
     ghost Value = { Shown };
 

@@ -4,12 +4,9 @@ ghost use Rattle.step_record.specs.declared.item.Item.{Item};
 ghost use Rattle.segments.specs.Items.{first, put_behind, IsGap};
 ghost use Rattle.segments.specs.Queues.{queue_of, with_queue, place_of, pushed, taken, moved};
 ghost use Rattle.segments.specs.Moves.{place_in};
-ghost use Rattle.segments.specs.Chains.{item_at};
-ghost use Rattle.segments.specs.Fields.{items, chains, olders, newers, tags};
-ghost use Rattle.segments.specs.Rings.{count, IsRing};
-ghost use Rattle.segments.specs.Held.{ring, used, section, closing, order_of, order_without, no_slots, more_free, lists, IsNewer, IsPlace, IsQueued, IsHeld, IsSlotOf};
-ghost use Rattle.segments.specs.Counts.{lengths_of, one_more, IsLoaded};
-ghost use Rattle.segments.specs.Growth.{IsSound, IsSame};
+ghost use Rattle.segments.specs.Ring.{item_at, items, chains, olders, newers, tags, count, IsRing, ring, used, section, closing, order_of, order_without, no_slots, more_free, lists, IsNewer, IsPlace, IsQueued};
+ghost use Rattle.segments.specs.Index.{IsLoaded};
+ghost use Rattle.segments.specs.Table.{IsHeld, IsSlotOf, lengths_of, one_more, IsSound, IsSame};
 ghost use Rattle.segments.specs.declared.records.Queue.TheVariants.{Window};
 
 use crate::index::Index;

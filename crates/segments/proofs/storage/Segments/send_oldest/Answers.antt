@@ -2,7 +2,8 @@ use Rattle.std.proofs.Common.{◌≡◌, ◌∙◌, ◌++◌, List, length, take
 use Rattle.segments.specs.Queues.{Shown}
 use Rattle.segments.proofs.CallLaws.{move_led}
 use Rattle.segments.specs.declared.slot.Slot.{Slot}
-use Rattle.segments.specs.Held.{order_of, lists, IsHeld}
+use Rattle.segments.specs.Ring.{order_of, lists}
+use Rattle.segments.specs.Table.{IsHeld}
 use Rattle.segments.proofs.Tables.{take-front}
 use Rattle.segments.proofs.Growing.{still_loaded}
 use Rattle.segments.proofs.Calls.{placed-for, moved-for}
