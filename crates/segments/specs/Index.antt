@@ -1,8 +1,11 @@
 -- The hash index: chains of slots, by the number of the next slot; 0 ends a chain.
-use Rattle.std.specs.Prelude.{◌≡◌, ℕ, suc, zero, ◌+◌, ◌-◌, ◌*◌, ◌/◌, ◌%◌, ◌^◌, ◌≤◌, ◌<◌, eqb, cond, slice_set, List, [], ◌∷◌, length, slice_index}
+use Rattle.std.specs.Prelude.{◌≡◌, ℕ, suc, zero, ◌+◌, ◌-◌, ◌*◌, ◌/◌, ◌%◌, ◌^◌, ◌≤◌, ◌<◌, eqb, cond}
+use Rattle.std.specs.Prelude.{List, [], ◌∷◌, length, slice_index, slice_set}
 use Rattle.step_record.specs.declared.item.Item.{Item}
 use Rattle.segments.specs.Items.{same}
-use Rattle.segments.specs.Ring.{count, without, item_at}
+use Rattle.segments.specs.declared.index.Index.{Index}
+use Rattle.segments.specs.declared.slot.Slot.{Slot}
+use Rattle.segments.specs.Ring.{items, chains, count, without, item_at}
 
 -- the list is the whole chain that begins at the slot
 abbrev pub IsChain : List ℕ → ℕ → List ℕ → Type 0
@@ -13,6 +16,10 @@ IsChain next at (i ∷ l) = (at ≡ i) × (1 ≤ i) × (i < length next) × IsCh
 abbrev pub trail : List ℕ → ℕ → ℕ → List ℕ
 trail next at zero = []
 trail next at (suc n) = cond (eqb at 0) [] (at ∷ trail next (slice_index next at) n)
+
+-- the whole chain of slots that begins at the slot
+abbrev pub chain_from : ℕ → List Slot → List ℕ
+chain_from at slots = trail (chains slots) at (length slots)
 
 -- the slot of the list that holds the item, 0 where none does
 abbrev pub found_in : Item → List Item → List ℕ → ℕ
@@ -39,7 +46,25 @@ pub record IsIndexed (heads next : List ℕ) (items : List Item) (bits : ℕ) (u
   pub some : (1 ≤ bits) × (bits < 32)
   pub lists : ℕ → List ℕ
   pub chained : (b : ℕ) → b < length heads → IsChain next (slice_index heads b) (lists b)
-  pub placed : (b k : ℕ) → b < length heads → count k (lists b) ≡ cond (eqb (bucket bits (item_at items k)) b) (count k used) 0
+  pub placed : (b k : ℕ) → b < length heads →
+      count k (lists b) ≡ cond (eqb (bucket bits (item_at items k)) b) (count k used) 0
+
+-- a slot comes into use besides others: nothing but what it holds changes
+pub record IsJoining (at : ℕ) (old new : List Item) (used more : List ℕ) : Type 0 where
+  pub fresh : count at used ≡ 0
+  pub others : (j : ℕ) → (j ≡ at → ⊥) → item_at new j ≡ item_at old j
+  pub counted : (j : ℕ) → count j more ≡ cond (eqb j at) 1 0 + count j used
+
+-- the index takes in the slot that comes into use
+abbrev pub TakesIn : ℕ → Index → Index → List Slot → List Slot → Type 0
+TakesIn at old new slots slots2 =
+    (its : List Item) (used more : List ℕ) → IsIndexed old.heads.items (chains slots) its old.bits used →
+    IsJoining at its (items slots) used more → IsIndexed new.heads.items (chains slots2) (items slots2) new.bits more
+
+-- a slot goes out of one chain, and each chain that shares no slot with that one stays a chain
+abbrev pub LeavesOthers : List ℕ → List ℕ → List ℕ → Type 0
+LeavesOthers next next2 gone =
+    (h : ℕ) (l : List ℕ) → ((k : ℕ) → count k l + count k gone ≤ 1) → IsChain next h l → IsChain next2 h l
 
 -- n slots from slot 4 on
 abbrev pub from_four : ℕ → List ℕ

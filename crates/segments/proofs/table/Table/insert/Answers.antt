@@ -64,10 +64,11 @@ invariant_of-self c =
     ∙ (ap (raised c.args.queue) (ap one_less (c.self.invariant.counted ∙ ap (λ (s : List Slot). lengths_of (order_of s)) (sym c.deref_mut-slots.ensures.value)) ∙ sym (lengths-taken c.newest_free-at.result (order_of c.deref_mut-slots.result.now) h.queued.linked.once n))
     ∙ (sym (lengths-sent c.args.queue c.newest_free-at.result c.args.before (order_of c.deref_mut-slots.result.now)) ∙ ap lengths_of (sym eo))) in
     let x : IsIndexed c.self.inside.index.heads.items (chains c.set_item.new.slots) (items c.deref_mut-slots.result.now) c.self.inside.index.bits (used (order_of c.deref_mut-slots.result.now)) = rw c.set_item.ensures.chains h.index in
-    let y = c.add.ensures.indexed (items c.deref_mut-slots.result.now) (used (order_of c.deref_mut-slots.result.now)) (used (sent c.newest_free-at.result c.args.queue c.args.before (order_of c.deref_mut-slots.result.now))) x
-    (free-unused c.deref_mut-slots.result.now (order_of c.deref_mut-slots.result.now) h.queued c.newest_free-at.result n)
-    (λ j d. rw c.set_item.ensures.items (get_or-set_other (items c.deref_mut-slots.result.now) c.newest_free-at.result j c.args.item _ d))
-    (λ j. used-more j c.newest_free-at.result c.args.before c.args.queue (order_of c.deref_mut-slots.result.now) (free-unused c.deref_mut-slots.result.now (order_of c.deref_mut-slots.result.now) h.queued c.newest_free-at.result n)) in
+    let y = c.add.ensures.indexed (items c.deref_mut-slots.result.now) (used (order_of c.deref_mut-slots.result.now)) (used (sent c.newest_free-at.result c.args.queue c.args.before (order_of c.deref_mut-slots.result.now))) x record {
+      fresh = free-unused c.deref_mut-slots.result.now (order_of c.deref_mut-slots.result.now) h.queued c.newest_free-at.result n;
+      others = λ j d. rw c.set_item.ensures.items (get_or-set_other (items c.deref_mut-slots.result.now) c.newest_free-at.result j c.args.item _ d);
+      counted = λ j. used-more j c.newest_free-at.result c.args.before c.args.queue (order_of c.deref_mut-slots.result.now) (free-unused c.deref_mut-slots.result.now (order_of c.deref_mut-slots.result.now) h.queued c.newest_free-at.result n);
+    } in
     let absent : place_of c.args.item (lists c.deref_mut-slots.result.now) ≡ None = rw e c.requires.absent in
     let held = subst (IsHeld c.send.new.slots c.add.new.self.heads.items c.add.new.self.bits) (sym eo)
     (held-inserted c.deref_mut-slots.result.now c.send.new.slots c.add.new.self.heads.items c.add.new.self.bits (order_of c.deref_mut-slots.result.now) h.queued c.newest_free-at.result n c.args.queue c.args.before c.args.item
