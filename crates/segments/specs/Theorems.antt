@@ -1,5 +1,5 @@
 -- What the definitions of the moves give.
-use Rattle.std.specs.Prelude.{◌≡◌, Option, Some, None}
+use Rattle.std.specs.Prelude.{◌≡◌, Some, None}
 use Rattle.step_record.specs.declared.item.Item.{Item}
 use Rattle.segments.specs.declared.records.Queue.{Queue}
 use Rattle.segments.specs.declared.records.MoveRecord.{MoveRecord}

@@ -4,14 +4,9 @@ ghost use Rattle.segments.specs.Items.{first};
 ghost use Rattle.segments.specs.Queues.{empty, queue_of, place_of, IsDistinct, pushed, taken, moved, popped, refreshed_to};
 ghost use Rattle.segments.specs.Moves.{move_record, undone, Fits, needed};
 
-use crate::index::Index;
-use crate::lengths::Lengths;
-use crate::links::{items_in, oldest_slot, slot_behind};
+use crate::links::slot_behind;
 use crate::records::{MoveRecord, Queue};
-use crate::slot::Slot;
-use crate::table::{
-    find_held, find_slot, grow, insert, insert_at, oldest_held, remove, shift, shift_to,
-};
+use crate::table::Table;
 use std::alloc::{AllocError, Global};
 use std::marker::Model;
 use step_record::{Item, Key, Node};
@@ -20,27 +15,18 @@ use step_record::{Item, Key, Node};
 #[derive(Drop)]
 pub struct Segments {
     alloc: Global,
-    slots: Vec<Slot>,
-    index: Index,
-    lengths: Lengths,
+    table: Table,
     /// A sum over what `warm` read, kept so that the compiler cannot drop the reads.
     warmth: u32,
 }
 
 impl Model for Segments {
     ghost use Rattle.segments.specs.Queues.{Shown};
-    ghost use Rattle.segments.specs.Counts.{shown_of, IsKept};
+    ghost use Rattle.segments.specs.Table.{shown_of};
 
     ghost Value = { Shown };
 
-    ghost view = { λ s. shown_of s.slots.items };
-
-    ghost invariant = { λ s. IsKept s.slots.items s.index.heads.items s.index.bits s.lengths };
-}
-
-// How many bits number two chains for each of so many items.
-fn bits_for(items: u32) -> u32 {
-    u32::wrapping_sub(33, items.wrapping_sub(1).leading_zeros())
+    ghost view = { λ s. shown_of s.table };
 }
 
 // The queue to which an item goes on a hit where it stands.
@@ -71,17 +57,7 @@ impl Segments {
     {
         Segments {
             alloc,
-            slots: Vec::new(alloc),
-            index: Index {
-                heads: Vec::new(alloc),
-                bits: bits_for(items),
-            },
-            lengths: Lengths {
-                window: 0,
-                probation: 0,
-                protected: 0,
-                free: 0,
-            },
+            table: Table::for_items(alloc, items),
             warmth: 0,
         }
     }
@@ -92,12 +68,7 @@ impl Segments {
     pub fn warm(&mut self, keys: &[Key], node: Node)
         ensures { self.new ≡ self.old }
     {
-        let mut read = 0;
-        for key in keys {
-            let item = Item { key: *key, node };
-            read ^= self.index.touch(&self.slots, item);
-        }
-        self.warmth ^= read;
+        self.warmth ^= self.table.touch(keys, node);
     }
 
     /// Makes room for at least one more item; where there is room, it allocates nothing and returns Ok. The one error
@@ -109,19 +80,14 @@ impl Segments {
         ensures enough { 1 ≤ self.old.spare → result ≡ Ok tt }
         ensures spare { self.old.spare ≤ self.new.spare }
     {
-        if self.lengths.free > 0 {
-            return Ok(());
-        }
-        grow(self.alloc, &mut self.slots, &mut self.index)?;
-        self.lengths.free += 1;
-        Ok(())
+        self.table.reserve(self.alloc)
     }
 
     /// For how many more items there is room.
     pub fn spare(&self) -> usize
         ensures { result ≡ self.now.spare }
     {
-        self.lengths.spare()
+        self.table.spare()
     }
 
     /// Puts an item that stands in no queue at the recent end of one. It requires room, and takes room for one.
@@ -135,14 +101,7 @@ impl Segments {
         ensures undone { undone result self.new.lists ≡ self.old.lists }
         ensures spare { self.old.spare ≤ self.new.spare + 1 }
     {
-        insert(
-            &mut self.slots,
-            &mut self.index,
-            &mut self.lengths,
-            item,
-            queue,
-            slot_behind(queue),
-        );
+        self.table.insert(item, queue, slot_behind(queue));
         MoveRecord {
             item,
             from: None,
@@ -161,11 +120,10 @@ impl Segments {
         ensures undone { IfSome result (λ r. undone r self.new.lists ≡ self.old.lists) }
         ensures spare { self.old.spare ≤ self.new.spare }
     {
-        let Some(at) = find_slot(&self.slots, &self.index, item) else {
+        let Some(at) = self.table.find_slot(item) else {
             return None;
         };
-        let before = slot_behind(queue);
-        let place = shift(&mut self.slots, &mut self.lengths, at, queue, before);
+        let place = self.table.shift(at, queue, slot_behind(queue));
         Some(MoveRecord {
             item,
             from: Some(place),
@@ -189,12 +147,11 @@ impl Segments {
         // Of every `Segments`: no item stands twice.
         ensures distinct { IsDistinct self.old.lists }
     {
-        let Some((at, from)) = find_held(&self.slots, &self.index, item) else {
+        let Some((at, from)) = self.table.find(item) else {
             return None;
         };
         let to = refreshed(from);
-        let before = slot_behind(to);
-        let place = shift(&mut self.slots, &mut self.lengths, at, to, before);
+        let place = self.table.shift(at, to, slot_behind(to));
         let record = MoveRecord {
             item,
             from: Some(place),
@@ -215,12 +172,10 @@ impl Segments {
         ensures spare { self.old.spare ≤ self.new.spare }
         ensures gained { IfSome result (λ _. self.old.spare + 1 ≤ self.new.spare) }
     {
-        if self.lengths.of(queue) == 0 {
+        let Some((at, item)) = self.table.oldest(queue) else {
             return None;
-        }
-        let at = oldest_slot(&self.slots, queue);
-        let item = self.slots[at as usize].item;
-        let place = remove(&mut self.slots, &mut self.index, &mut self.lengths, at);
+        };
+        let place = self.table.remove(at);
         let record = MoveRecord {
             item,
             from: Some(place),
@@ -234,7 +189,7 @@ impl Segments {
     pub fn oldest(&self, queue: Queue) -> Option<Item>
         ensures { result ≡ first (queue_of queue self.now.lists) }
     {
-        let (_, item) = oldest_held(&self.slots, &self.index, &self.lengths, queue)?;
+        let (_, item) = self.table.oldest(queue)?;
         Some(item)
     }
 
@@ -250,11 +205,10 @@ impl Segments {
         ensures undone { IfSome result (λ r. undone r self.new.lists ≡ self.old.lists) }
         ensures spare { self.old.spare ≤ self.new.spare }
     {
-        let Some((at, item)) = oldest_held(&self.slots, &self.index, &self.lengths, from) else {
+        let Some((at, item)) = self.table.oldest(from) else {
             return None;
         };
-        let before = slot_behind(to);
-        let place = shift(&mut self.slots, &mut self.lengths, at, to, before);
+        let place = self.table.shift(at, to, slot_behind(to));
         Some(MoveRecord {
             item,
             from: Some(place),
@@ -273,8 +227,8 @@ impl Segments {
         ensures spare { self.old.spare ≤ self.new.spare }
         ensures gained { IfSome result (λ _. self.old.spare + 1 ≤ self.new.spare) }
     {
-        let at = find_slot(&self.slots, &self.index, item)?;
-        let from = remove(&mut self.slots, &mut self.index, &mut self.lengths, at);
+        let at = self.table.find_slot(item)?;
+        let from = self.table.remove(at);
         Some(MoveRecord {
             item,
             from: Some(from),
@@ -294,15 +248,9 @@ impl Segments {
             let _ = self.take_out(done.item);
             return;
         };
-        match find_slot(&self.slots, &self.index, done.item) {
-            Some(at) => shift_to(&mut self.slots, &self.index, &mut self.lengths, at, place),
-            None => insert_at(
-                &mut self.slots,
-                &mut self.index,
-                &mut self.lengths,
-                done.item,
-                place,
-            ),
+        match self.table.find_slot(done.item) {
+            Some(at) => self.table.shift_to(at, place),
+            None => self.table.insert_at(done.item, place),
         }
     }
 
@@ -310,7 +258,7 @@ impl Segments {
     pub fn list(&self, alloc: Global, queue: Queue) -> Result<Vec<Item>, AllocError>
         ensures { IfOk result (λ items. items.items ≡ queue_of queue self.now.lists) }
     {
-        items_in(&self.slots, alloc, queue, self.lengths.of(queue))
+        self.table.list(alloc, queue)
     }
 
     /// How many items stand in the queue.
@@ -318,7 +266,7 @@ impl Segments {
     pub fn len(&self, queue: Queue) -> usize
         ensures { result ≡ length (queue_of queue self.now.lists) }
     {
-        self.lengths.of(queue)
+        self.table.len(queue)
     }
 
     /// The queue in which the item stands.
@@ -327,7 +275,7 @@ impl Segments {
         // Of every `Segments`: no item stands twice.
         ensures distinct { IsDistinct self.now.lists }
     {
-        let at = find_slot(&self.slots, &self.index, item)?;
-        Some(self.slots[at as usize].queue)
+        let (_, queue) = self.table.find(item)?;
+        Some(queue)
     }
 }

@@ -1,0 +1,139 @@
+//! How a table gets room for one more item: its first slots and chains, a free slot more, and wider chains.
+ghost use Rattle.std.specs.Prelude.{◌≡◌, ◌<◌, ◌≤◌, ◌*◌, ◌^◌, ◌++◌, ◌∷◌, [], OnOk, OnErr, IfOk, length};
+ghost use Rattle.segments.specs.Ring.{items, chains, olders, newers, tags, IsRing, ring, order_of, no_slots, more_free, lists, IsQueued};
+ghost use Rattle.segments.specs.Index.{IsLoaded};
+ghost use Rattle.segments.specs.Table.{IsHeld, lengths_of, one_more, IsSound, IsSame};
+ghost use Rattle.segments.specs.declared.records.Queue.TheVariants.{Window};
+
+use crate::index::Index;
+use crate::links::link;
+use crate::records::Queue;
+use crate::slot::Slot;
+use std::alloc::{AllocError, Global};
+use step_record::Item;
+
+/// Slots are numbered by 32 bits.
+const MAX_SLOTS: usize = 4294967295;
+
+/// The first index has at least 2^3 chains.
+const MIN_FIRST_BITS: u32 = 3;
+
+/// The first index has at most 2^24 chains.
+const MAX_FIRST_BITS: u32 = 24;
+
+/// A slot of the ring that holds no item.
+fn bare(older: u32, newer: u32) -> Slot
+    ensures { result ≡ record { item = record { key = 0; node = 0 }; chain = 0; older = older; newer = newer; queue = Window } }
+{
+    Slot {
+        item: Item { key: 0, node: 0 },
+        chain: 0,
+        older,
+        newer,
+        queue: Queue::Window,
+    }
+}
+
+/// The four slots that stand before the queues and the free slots.
+fn first_slots(alloc: Global) -> Result<Vec<Slot>, AllocError>
+    ensures queued { IfOk result (λ v. IsQueued v.items no_slots) }
+    ensures len { IfOk result (λ v. length v.items ≡ 4) }
+{
+    let slots = Vec::from_array(alloc, [bare(3, 1), bare(0, 2), bare(1, 3), bare(2, 0)])?;
+    Ok(slots)
+}
+
+/// By how many bits the chains of the first index are numbered, if so many are wished for.
+fn first_bits(wished: u32) -> u32
+    ensures { (3 ≤ result) × (result < 32) }
+{
+    if wished < MIN_FIRST_BITS || wished > MAX_FIRST_BITS {
+        return MIN_FIRST_BITS;
+    }
+    wished
+}
+
+/// Makes the first slots and chains where there are none.
+fn begin(alloc: Global, slots: &mut Vec<Slot>, index: &mut Index) -> Result<(), AllocError>
+    requires sound { IsSound slots.old.items index.old.heads.items index.old.bits }
+    requires few { length slots.old.items < 2 ^ 32 }
+    requires load { IsLoaded (length slots.old.items) index.old.bits }
+    ensures held { OnOk result (IsHeld slots.new.items index.new.heads.items index.new.bits (order_of slots.new.items)) }
+    ensures same { IsSame slots.old.items slots.new.items }
+    ensures load { IsLoaded (length slots.new.items) index.new.bits }
+    ensures few { length slots.new.items < 2 ^ 32 }
+    ensures err { OnErr result (IsSound slots.new.items index.new.heads.items index.new.bits) }
+{
+    if !slots.is_empty() {
+        return Ok(());
+    }
+    let first = first_slots(alloc)?;
+    let bits = first_bits(index.bits);
+    *index = Index::new(alloc, bits)?;
+    *slots = first;
+    Ok(())
+}
+
+/// Adds a free slot.
+fn add_slot(slots: &mut Vec<Slot>) -> Result<(), AllocError>
+    requires ring { IsRing (newers slots.old.items) (olders slots.old.items) (ring (order_of slots.old.items)) }
+    requires few { length slots.old.items < 2 ^ 32 }
+    ensures ring { OnOk result (IsRing (newers slots.new.items) (olders slots.new.items) (ring (more_free (length slots.old.items) (order_of slots.old.items)))) }
+    ensures chains { OnOk result (chains slots.new.items ≡ chains slots.old.items ++ 0 ∷ []) }
+    ensures items { OnOk result (items slots.new.items ≡ items slots.old.items ++ record { key = 0; node = 0 } ∷ []) }
+    ensures tags { OnOk result (tags slots.new.items ≡ tags slots.old.items ++ Window ∷ []) }
+    ensures err { OnErr result (slots.new.items ≡ slots.old.items) }
+{
+    let at = slots.len() as u32;
+    slots.push(bare(0, 0))?;
+    link(slots, at, 0);
+    Ok(())
+}
+
+/// Spreads the items over twice as many chains where there are fewer than two chains a slot; all slots are in use.
+fn widen(alloc: Global, slots: &mut [Slot], index: &mut Index) -> Result<(), AllocError>
+    requires held { IsHeld slots.old index.old.heads.items index.old.bits (order_of slots.old) }
+    requires free { (order_of slots.old).free ≡ [] }
+    requires few { length slots.old ≤ 2 ^ 32 }
+    requires load { IsLoaded (length slots.old) index.old.bits }
+    ensures held { IsHeld slots.new index.new.heads.items index.new.bits (order_of slots.old) }
+    ensures items { items slots.new ≡ items slots.old }
+    ensures load { IsLoaded (length slots.new) index.new.bits }
+    ensures roomy { OnOk result (index.new.bits < 31 → 2 * length slots.new ≤ 2 ^ index.new.bits) }
+{
+    if slots.len() <= index.heads.len() / 2 || index.bits >= 31 {
+        return Ok(());
+    }
+    let mut wider = Index::new(alloc, index.bits + 1)?;
+    wider.fill(slots);
+    *index = wider;
+    Ok(())
+}
+
+/// Adds a free slot where there is none, and chains where there are too few. All room is made first.
+#[cold]
+#[inline(never)]
+pub(crate) fn grow(
+    alloc: Global,
+    slots: &mut Vec<Slot>,
+    index: &mut Index,
+) -> Result<(), AllocError>
+    requires sound { IsSound slots.old.items index.old.heads.items index.old.bits }
+    requires none { (order_of slots.old.items).free ≡ [] }
+    requires few { length slots.old.items < 2 ^ 32 }
+    requires load { IsLoaded (length slots.old.items) index.old.bits }
+    ensures sound { IsSound slots.new.items index.new.heads.items index.new.bits }
+    ensures lists { lists slots.new.items ≡ lists slots.old.items }
+    ensures few { length slots.new.items < 2 ^ 32 }
+    ensures ok { OnOk result (lengths_of (order_of slots.new.items) ≡ one_more (lengths_of (order_of slots.old.items))) }
+    ensures err { OnErr result (lengths_of (order_of slots.new.items) ≡ lengths_of (order_of slots.old.items)) }
+    ensures load { IsLoaded (length slots.new.items) index.new.bits }
+{
+    begin(alloc, slots, index)?;
+    if slots.len() >= MAX_SLOTS {
+        return Err(AllocError);
+    }
+    slots.reserve(1)?;
+    widen(alloc, slots, index)?;
+    add_slot(slots)
+}
