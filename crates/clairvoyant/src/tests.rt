@@ -210,27 +210,109 @@ fn small_traces_against_a_plain_scan(rt: HostRuntime) -> Result<(), Fail> {
     Ok(())
 }
 
-/// A cache of two keys, built and opened once more where memory is refused.
-fn opened_at_last(rt: &impl Abort, alloc: Global, trace: &Trace) -> Clairvoyant {
-    let uses = match NextUse::build(alloc, trace) {
-        Ok(uses) => uses,
-        Err(_) => NextUse::build(alloc, trace).expect(rt, "memory the second time"),
-    };
-    match Clairvoyant::open(alloc, uses, 2) {
-        Ok(cache) => cache,
-        Err(_) => {
-            let again = NextUse::build(alloc, trace).expect(rt, "memory for the uses again");
-            Clairvoyant::open(alloc, again, 2).expect(rt, "memory the second time")
+/// A trace of accesses to keys below `range`.
+fn drawn_trace(alloc: Global, seed: u64, length: usize, range: u64) -> Result<Vec<Key>, AllocError>
+    requires { 1 ≤ range }
+{
+    let mut keys = Vec::new(alloc);
+    let mut drawn = seed;
+    for _ in 0..length {
+        drawn = next(drawn);
+        keys.push((drawn >> 33) % range)?;
+    }
+    Ok(keys)
+}
+
+// Lengths about those at which the ranks of a trace fill one more word of 64, and one more layer of 64 words, and
+// capacities below, at and above the number of keys.
+#[test]
+fn traces_of_many_sizes_against_a_plain_scan(rt: HostRuntime) -> Result<(), Fail> {
+    for (length, range, capacity) in [
+        (0, 1, 1_048_576),
+        (1, 1, 1_048_576),
+        (2, 2, 1),
+        (31, 40, 7),
+        (32, 10, 9),
+        (33, 10, 10),
+        (63, 200, 63),
+        (64, 200, 64),
+        (65, 80, 65),
+        (100, 30, 1_048_576),
+        (500, 300, 100),
+        (2047, 40, 20),
+        (2048, 40, 39),
+        (2049, 40, 41),
+        (2100, 3000, 5),
+    ] {
+        assert!(rt; range >= 1 && capacity >= 1 && capacity <= 1_048_576);
+        let keys = drawn_trace(rt.alloc(), length as u64, length, range)?;
+        assert_scanned(&rt, rt.alloc(), keys.as_slice(), capacity)?;
+    }
+    Ok(())
+}
+
+// Counts a refused allocation, of which there is one in a test at most.
+fn count(rt: &impl Abort, refused: &mut u32) {
+    assert_eq!(rt; *refused, 0, "refused once before");
+    *refused = 1;
+}
+
+fn built(
+    rt: &impl Abort,
+    refused: &mut u32,
+    alloc: Global,
+    trace: &Trace,
+) -> Result<NextUse, AllocError> {
+    match NextUse::build(alloc, trace) {
+        Ok(uses) => Ok(uses),
+        Err(AllocError) => {
+            count(rt, refused);
+            NextUse::build(alloc, trace)
         }
     }
 }
 
+/// A cache of two keys, opened once more where memory is refused.
+fn opened_again(
+    rt: &impl Abort,
+    refused: &mut u32,
+    alloc: Global,
+    trace: &Trace,
+) -> Result<Clairvoyant, AllocError> {
+    let uses = built(rt, refused, alloc, trace)?;
+    match Clairvoyant::open(alloc, uses, 2) {
+        Ok(cache) => Ok(cache),
+        Err(AllocError) => {
+            count(rt, refused);
+            let uses = built(rt, refused, alloc, trace)?;
+            Clairvoyant::open(alloc, uses, 2)
+        }
+    }
+}
+
+fn held_by(
+    rt: &impl Abort,
+    refused: &mut u32,
+    alloc: Global,
+    cache: &Clairvoyant,
+) -> Result<Vec<Key>, AllocError> {
+    match cache.residents(alloc) {
+        Ok(residents) => Ok(residents),
+        Err(AllocError) => {
+            count(rt, refused);
+            cache.residents(alloc)
+        }
+    }
+}
+
+// An access and its undoing ask for no memory, and one refused allocation changes no answer.
 #[test]
 fn a_refusal_of_memory_changes_no_answer(rt: HostRuntime) -> Result<(), Fail> {
     let keys = Vec::from_slice(rt.alloc(), &[1, 2, 3, 1, 2])?;
     assert!(rt; keys.len() == 5);
     let trace = Trace::new(keys);
-    let mut cache = opened_at_last(&rt, rt.alloc(), &trace);
+    let mut refused = 0;
+    let mut cache = opened_again(&rt, &mut refused, rt.alloc(), &trace)?;
     for (key, outcome, after) in [
         (1, Outcome::Kept, &[1][..]),
         (2, Outcome::Kept, &[1, 2][..]),
@@ -240,12 +322,7 @@ fn a_refusal_of_memory_changes_no_answer(rt: HostRuntime) -> Result<(), Fail> {
     ] {
         let step = cache.apply(&key);
         assert_eq!(rt; step.ok().map(|step| step.0), Some(outcome));
-        let residents = match cache.residents(rt.alloc()) {
-            Ok(residents) => residents,
-            Err(_) => cache
-                .residents(rt.alloc())
-                .expect(&rt, "memory the second time"),
-        };
+        let residents = held_by(&rt, &mut refused, rt.alloc(), &cache)?;
         assert_eq!(rt; residents.as_slice(), after);
     }
     Ok(())

@@ -230,3 +230,43 @@ fn a_file_that_is_too_large_is_that_before_its_faulty_line(rt: HostRuntime) {
         assert_eq!(rt; fault, Some(told), "of {left} bytes");
     }
 }
+
+/// Gives a text so many times, and another one after it.
+#[derive(Drop)]
+struct Repeated<'a> {
+    text: &'a [u8],
+    times: u32,
+    last: &'a [u8],
+}
+
+impl Read for Repeated<'_> {
+    fn read(&mut self, buf: &mut [u8]) -> io::Result<usize> {
+        let mut text = self.last;
+        if self.times > 0 {
+            self.times -= 1;
+            text = self.text;
+        } else {
+            self.last = b"".as_slice();
+        }
+        let count = text.len().min(buf.len());
+        buf[..count].copy_from_slice(&text[..count]);
+        Ok(count)
+    }
+}
+
+// A line each for 2^24 accesses, the most that a trace has, and then one more.
+#[test]
+fn a_trace_that_is_too_long_names_the_line(rt: HostRuntime) {
+    let told = TraceFault::TooLong { line: 16_777_217 };
+    for (last, fault) in [("", None), ("2", Some(told)), ("2\nx\n", Some(told))] {
+        let mut lines = Repeated {
+            text: b"1\n2\n3\n4\n5\n6\n7\n8\n".as_slice(),
+            times: 2_097_152,
+            last: last.as_bytes(),
+        };
+        match read_trace(rt.alloc(), &mut lines, Format::Lirs) {
+            Ok(trace) => assert_eq!(rt; (trace.len(), fault), (16_777_216, None)),
+            Err(other) => assert_eq!(rt; Some(other), fault, "with {last:?} at its end"),
+        }
+    }
+}
