@@ -1,1 +1,3 @@
 pub mod Agreeing
+pub mod Nodes
+pub mod Accessing
