@@ -1,6 +1,6 @@
 //! The frequency, in the words of the shell's definition.
 ghost use Rattle.std.specs.Prelude.{◌≡◌, ◌≤◌, IfOk, OnOk, OnErr};
-ghost use Rattle.shell_model.specs.Frequency.{recorded, record_of, admits as is_admitted, unrecorded, FitsFrequency};
+ghost use Rattle.shell_model.specs.Frequency.{recorded, record_of, unrecorded, FitsFrequency};
 
 use admission::{FreqRecord, Frequency};
 use std::alloc::AllocError;
@@ -22,11 +22,4 @@ pub(crate) fn unrecord_key(frequency: &mut Frequency, made: FreqRecord)
     ensures { frequency.new ≡ unrecorded made frequency.old }
 {
     frequency.unrecord(made);
-}
-
-// Whether the candidate came more often than the victim.
-pub(crate) fn admits(frequency: &Frequency, candidate: Key, victim: Key) -> bool
-    ensures { result ≡ is_admitted frequency.now candidate victim }
-{
-    frequency.admits(candidate, victim)
 }

@@ -11,6 +11,7 @@ ghost use Rattle.shell_buffers.specs.declared.task.Task.TheVariants as task;
 use crate::counting::record_key;
 use crate::moves::{clear, hit};
 use crate::parts::Core;
+use replacement::Moves;
 use segments::Queue;
 use shell_buffers::Task;
 use shell_model::{Change, Holder, UseRecord};
@@ -25,14 +26,9 @@ impl Core {
         ensures made { IfOk result (λ r. r ≡ touched_of item self.old) }
         ensures err { OnErr result (self.new ≡ self.old) }
     {
-        let size = self.protected_size();
         let frequency = record_key(&mut self.frequency, item.key)?;
-        let (first, second) = hit(&mut self.queues, size, item);
-        Ok(UseRecord {
-            frequency,
-            first,
-            second,
-        })
+        let moves = hit(&mut self.queues, self.rules.protected, item);
+        Ok(UseRecord { frequency, moves })
     }
 
     // An item that is queued nowhere is recorded, and comes into the window.
@@ -45,12 +41,12 @@ impl Core {
     {
         self.queues.reserve()?;
         let frequency = record_key(&mut self.frequency, item.key)?;
-        let first = self.queues.push_recent(Queue::Window, item);
-        Ok(UseRecord {
-            frequency,
-            first: Some(first),
-            second: None,
-        })
+        let joined = self.queues.push_recent(Queue::Window, item);
+        let moves = Moves {
+            last: Some(joined),
+            ..Moves::NONE
+        };
+        Ok(UseRecord { frequency, moves })
     }
 
     fn apply_add(&mut self, before: Phase, item: Item) -> Result<(Reply, Change), AllocError>

@@ -1,97 +1,84 @@
 //! What the maintenance evicts.
-ghost use Rattle.std.specs.Prelude.{◌≡◌, ◌≤◌, Some, None};
-ghost use Rattle.segments.specs.Items.{first};
-ghost use Rattle.segments.specs.Moves.{move_record};
-ghost use Rattle.segments.specs.declared.records.Queue.TheVariants as queue;
-ghost use Rattle.shell_model.specs.Shell.{contest, evict_from, shift, leave, evict, in_phase};
-ghost use Rattle.shell_model.specs.Records.{left_of, gone_of, contest_gone, evict_change, oldest_change};
+ghost use Rattle.std.specs.Prelude.{◌≡◌, ◌≤◌};
 ghost use Rattle.step_record.specs.declared.drain.Phase.TheVariants as phase;
+ghost use Rattle.segments.specs.Queues.{IsDistinct};
+ghost use Rattle.replacement.specs.Moving.{queues_after, moves_of};
+ghost use Rattle.shell_model.specs.Shell.{evict, in_phase};
+ghost use Rattle.shell_model.specs.Evicting.{reply_by, unlisted_by};
+ghost use Rattle.shell_model.specs.Records.{leaves_table, evict_change};
+ghost use Rattle.maintenance.specs.Evicted.{planned, item_out};
 
-use crate::counting::admits;
-use crate::moves::take_out;
 use crate::parts::Core;
-use segments::Queue;
-use shell_model::{Change, EvictionRecord, Holder, LeaverRecord};
-use step_record::{Item, Phase, Reply};
+use admission::Frequency;
+use replacement::{Effect, Rules};
+use segments::{MoveRecord, Segments};
+use shell_model::{Change, EvictionRecord, Holder};
+use step_record::{Item, Outcome, Phase, Reply};
+
+// What is replied of a candidate, by what the eviction came to.
+fn reply_to(candidate: Item, effect: &Effect) -> Reply
+    ensures { result ≡ reply_by effect.now.outcome (item_out effect.now.moves.out) candidate }
+{
+    match (effect.outcome, effect.moves.out) {
+        (Outcome::Evicted(_), Some(out)) => Reply::Evicted { item: out.item },
+        (Outcome::Rejected(_), Some(out)) => Reply::Rejected { item: out.item },
+        _ => Reply::Shifted { item: candidate },
+    }
+}
+
+// Moves what the plan of an eviction moves.
+fn carry_out(queues: &mut Segments, frequency: &Frequency, rules: &Rules) -> Effect
+    requires distinct { IsDistinct queues.old.lists }
+    ensures lists { queues.new.lists ≡ queues_after (planned rules.now frequency.now queues.old.lists) queues.old.lists }
+    ensures moves { result.moves ≡ moves_of (planned rules.now frequency.now queues.old.lists) queues.old.lists }
+    ensures outcome { result.outcome ≡ (planned rules.now frequency.now queues.old.lists).outcome }
+{
+    replacement::evict(queues, Some(frequency), rules)
+}
 
 impl Core {
-    // An item leaves the queues, and the table where it is listed there.
-    fn leave(&mut self, item: Item) -> LeaverRecord
-        ensures state { self.new ≡ leave item self.old }
-        ensures made { result ≡ left_of item self.old.table self.old.queues }
+    // What went out of the queues leaves the table, where it is listed there.
+    fn unlist(&mut self, out: Option<MoveRecord>) -> bool
+        ensures state { self.new ≡ record self.old { table = unlisted_by (item_out out) self.old.table } }
+        ensures listed { result ≡ leaves_table (item_out out) self.old.table }
     {
-        let listed = self.table.is_listed(item);
+        let Some(out) = out else {
+            return false;
+        };
+        let listed = self.table.is_listed(out.item);
         if listed {
-            self.table.remove(item);
+            self.table.remove(out.item);
         }
-        let out = take_out(&mut self.queues, item);
-        LeaverRecord { out, listed }
-    }
-
-    // The candidate stands in probation already, whose oldest is the victim: one of them leaves.
-    fn contest(&mut self, candidate: Item) -> (Reply, Option<LeaverRecord>)
-        ensures reply { result.0 ≡ (contest candidate (first self.old.queues.probation) self.old).0 }
-        ensures state { self.new ≡ (contest candidate (first self.old.queues.probation) self.old).1 }
-        ensures made { result.1 ≡ contest_gone candidate (first self.old.queues.probation) self.old.frequency self.old.table self.old.queues }
-    {
-        match self.queues.oldest(Queue::Probation) {
-            None => (Reply::Shifted { item: candidate }, None),
-            Some(victim) => {
-                let same = candidate.key == victim.key && candidate.node == victim.node;
-                if !same && admits(&self.frequency, candidate.key, victim.key) {
-                    let left = self.leave(victim);
-                    (Reply::Evicted { item: victim }, Some(left))
-                } else {
-                    let left = self.leave(candidate);
-                    (Reply::Rejected { item: candidate }, Some(left))
-                }
-            }
-        }
-    }
-
-    // The candidate stands in probation: where the queues hold too much, it contends with the victim.
-    fn settle_candidate(&mut self, candidate: Item) -> (Reply, Option<LeaverRecord>)
-        ensures reply { result.0 ≡ (evict_from candidate self.old).0 }
-        ensures state { self.new ≡ (evict_from candidate self.old).1 }
-        ensures left { result.1 ≡ gone_of self.old.config.capacity candidate self.old.frequency self.old.table self.old.queues }
-    {
-        let total = self.queues.len(Queue::Window) as u128
-            + self.queues.len(Queue::Probation) as u128
-            + self.queues.len(Queue::Protected) as u128;
-        if total > self.config.capacity as u128 {
-            self.contest(candidate)
-        } else {
-            (Reply::Shifted { item: candidate }, None)
-        }
+        listed
     }
 
     pub(crate) fn evict(&mut self, holder: Holder) -> (Reply, Change)
-        requires { holder.left ≤ 128 }
+        requires left { holder.left ≤ 128 }
+        requires distinct { IsDistinct self.old.queues }
         ensures reply { result.0 ≡ (evict (in_phase phase.Evictions holder self.old)).0 }
         ensures state { self.new ≡ (evict (in_phase phase.Evictions holder self.old)).1 }
         ensures change { result.1 ≡ evict_change holder self.old }
     {
         let before = holder.phase;
         self.enter(holder, Phase::Evictions);
-        let passed = Change::Passed {
-            before,
-            now: Phase::Evictions,
+        let Some(candidate) = self.candidate() else {
+            return (
+                Reply::Fits,
+                Change::Passed {
+                    before,
+                    now: Phase::Evictions,
+                },
+            );
         };
-        if !self.is_over() {
-            return (Reply::Fits, passed);
-        }
-        match self.queues.send_oldest(Queue::Window, Queue::Probation) {
-            None => (Reply::Fits, passed),
-            Some(shift) => {
-                let (reply, left) = self.settle_candidate(shift.item);
-                (
-                    reply,
-                    Change::Evicted {
-                        before,
-                        eviction: EvictionRecord { shift, left },
-                    },
-                )
-            }
-        }
+        let effect = carry_out(&mut self.queues, &self.frequency, &self.rules);
+        let listed = self.unlist(effect.moves.out);
+        let eviction = EvictionRecord {
+            moves: effect.moves,
+            listed,
+        };
+        (
+            reply_to(candidate, &effect),
+            Change::Evicted { before, eviction },
+        )
     }
 }

@@ -2,23 +2,27 @@
 ghost use Rattle.std.specs.Prelude.{◌≡◌, ◌≤◌, IfOk, Ok, [], replicate};
 ghost use Rattle.step_record.specs.Config.{config_fault};
 ghost use Rattle.admission.specs.Frequency.{StandsFor};
-ghost use Rattle.shell_model.specs.Shell.{protected_size, window_size, is_over};
+ghost use Rattle.replacement.specs.Rules.{three_queues};
+ghost use Rattle.replacement.specs.Plan.{candidate_of};
+ghost use Rattle.shell_model.specs.Shell.{is_over};
 ghost use Rattle.shell_model.specs.Laws.{opened};
 
 use crate::table::Table;
 use admission::Frequency;
+use replacement::Rules;
 use segments::{Queue, Segments};
 use shell_buffers::{Stripes, WriteTasks};
 use shell_model::{Holder, ShellStats};
 use std::alloc::{AllocError, Global};
 use std::marker::Model;
-use step_record::{Config, Drain};
+use step_record::{Config, Drain, Item};
 
 /// The state of a shell. What is assumed of it here is only what keeps its numbers in range; the shell around it keeps
 /// that it is reachable.
 #[derive(Drop)]
 pub(crate) struct Core {
     pub(crate) config: Config,
+    pub(crate) rules: Rules,
     pub(crate) table: Table,
     pub(crate) next: u64,
     pub(crate) queues: Segments,
@@ -32,9 +36,10 @@ pub(crate) struct Core {
 }
 
 impl Model for Core {
-    ghost use Rattle.std.specs.Prelude.{◌≤◌};
+    ghost use Rattle.std.specs.Prelude.{◌≡◌, ◌≤◌};
     ghost use Rattle.shell_model.specs.Shell.{Shell};
     ghost use Rattle.shell_model.specs.Consistent.{IsLeft};
+    ghost use Rattle.replacement.specs.Rules.{three_queues};
 
     ghost Value = { Shell };
 
@@ -52,24 +57,26 @@ impl Model for Core {
       applied = s.applied;
     } };
 
-    ghost invariant = { λ s. (s.next ≤ 4294967296) × (s.applied ≤ 4294967296) × (IsLeft s.holder) };
+    ghost invariant = { λ s. (s.next ≤ 4294967296) × (s.applied ≤ 4294967296) × (IsLeft s.holder)
+        × (s.rules ≡ three_queues s.config) };
 }
 
 impl Core {
-    pub(crate) fn protected_size(&self) -> usize
-        ensures { result ≡ protected_size self.now.config }
-    {
-        let main = self.config.capacity as u64 * self.config.main_percent as u64 / 100;
-        (main * 80 / 100) as usize
-    }
-
     // Whether the window is over its size.
     pub(crate) fn is_over(&self) -> bool
         ensures { result ≡ is_over self.now }
     {
-        let main = self.config.capacity as u64 * self.config.main_percent as u64 / 100;
-        let capacity = self.config.capacity as u64;
-        let window = if main <= capacity { capacity - main } else { 0 };
-        self.queues.len(Queue::Window) as u64 > window
+        self.queues.len(Queue::Window) > self.rules.window
+    }
+
+    // The item that has to leave the window, where that is over its size.
+    pub(crate) fn candidate(&self) -> Option<Item>
+        ensures { result ≡ candidate_of (three_queues self.now.config) self.now.queues }
+    {
+        if self.is_over() {
+            self.queues.oldest(Queue::Window)
+        } else {
+            None
+        }
     }
 }

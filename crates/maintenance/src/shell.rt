@@ -12,6 +12,7 @@ ghost use Rattle.maintenance.specs.Opened.{IsOpened, triple};
 use crate::parts::Core;
 use crate::table::Table;
 use admission::Frequency;
+use replacement::Rules;
 use segments::{Queue, Segments};
 use shell_buffers::{Stripes, Task, WriteTasks};
 use shell_model::{Change, ShellRecord, ShellStats};
@@ -53,6 +54,7 @@ impl Shell {
         Ok(Shell {
             core: Core {
                 config,
+                rules: Rules::three_queues(&config),
                 table: Table::new(alloc),
                 next: 0,
                 queues: Segments::for_items(alloc, config.capacity),

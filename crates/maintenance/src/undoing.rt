@@ -1,16 +1,15 @@
 //! Undoing one step.
 ghost use Rattle.std.specs.Prelude.{◌≡◌, ◌<◌, ◌≤◌, length, Some, None, IfErr, OnOk, OnErr};
-ghost use Rattle.shell_model.specs.Records.{back, FitsMove, untouched, FitsTouched, rephased, refilled, HasLeft, out_of, entered, IsOut, ungone, FitsGone, unchanged, FitsChange, undone_step, FitsStep};
+ghost use Rattle.shell_model.specs.Records.{back, FitsMove, untouched, FitsTouched, rephased, refilled, HasLeft, unchanged, FitsChange, undone_step, FitsStep};
 ghost use Rattle.shell_model.specs.Consistent.{IsLeft};
 ghost use Rattle.shell_model.specs.declared.record.Change.TheVariants.{Nothing, Offered, Updated, Added, Removed, Read, Applied, Cleared, Evicted, Ended};
 
 use crate::counting::unrecord_key;
 use crate::counts::uncounted;
-use crate::moves::put_back;
 use crate::parts::Core;
 use segments::MoveRecord;
 use shell_buffers::Task;
-use shell_model::{Change, EvictionRecord, Holder, LeaverRecord, ShellRecord, UseRecord};
+use shell_model::{Change, EvictionRecord, Holder, ShellRecord, UseRecord};
 use std::alloc::AllocError;
 use step_record::{Item, Phase};
 
@@ -19,13 +18,8 @@ impl Core {
         requires { FitsTouched used self.old }
         ensures { self.new ≡ untouched used self.old }
     {
-        let UseRecord {
-            frequency,
-            first,
-            second,
-        } = used;
-        put_back(&mut self.queues, second);
-        put_back(&mut self.queues, first);
+        let UseRecord { frequency, moves } = used;
+        replacement::undo(&mut self.queues, moves);
         unrecord_key(&mut self.frequency, frequency);
     }
 
@@ -69,24 +63,6 @@ impl Core {
         };
         self.queues.reserve()?;
         self.queues.put_back(out);
-        Ok(())
-    }
-
-    // What left comes back, to the table too where it was listed.
-    fn unleave(&mut self, left: Option<LeaverRecord>) -> Result<(), AllocError>
-        requires queues { FitsMove (out_of left) self.old.queues }
-        requires table { IsOut left self.old.table }
-        ensures ok { OnOk result (self.new ≡ record self.old { queues = back (out_of left) self.old.queues; table = entered left self.old.table }) }
-        ensures err { OnErr result (self.new ≡ self.old) }
-    {
-        let Some(left) = left else {
-            return Ok(());
-        };
-        self.queues.reserve()?;
-        if left.listed {
-            self.table.place(left.out.item)?;
-        }
-        self.queues.put_back(left.out);
         Ok(())
     }
 
@@ -161,8 +137,14 @@ impl Core {
         ensures ok { OnOk result (self.new ≡ unchanged (Evicted before eviction) self.old) }
         ensures err { OnErr result (self.new ≡ self.old) }
     {
-        self.unleave(eviction.left)?;
-        self.queues.put_back(eviction.shift);
+        let EvictionRecord { moves, listed } = eviction;
+        if let Some(out) = moves.out {
+            self.queues.reserve()?;
+            if listed {
+                self.table.place(out.item)?;
+            }
+        }
+        replacement::undo(&mut self.queues, moves);
         self.rephase(before);
         Ok(())
     }

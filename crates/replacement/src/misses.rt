@@ -1,6 +1,6 @@
 //! A miss, and one eviction.
-ghost use Rattle.std.specs.Prelude.{◌≡◌, ◌≤◌, ◌<◌, ◌+◌, ◌^◌, Option, Some, None, option_map};
-ghost use Rattle.segments.specs.Queues.{place_of, moved, total, IsDistinct};
+ghost use Rattle.std.specs.Prelude.{◌≡◌, ◌≤◌, ◌+◌, Option, Some, None, option_map};
+ghost use Rattle.segments.specs.Queues.{place_of, moved, IsDistinct};
 ghost use Rattle.replacement.specs.Admission.{admits_in};
 ghost use Rattle.replacement.specs.Table.{eviction};
 ghost use Rattle.replacement.specs.Plan.{direct_plan, eviction_plan, joining_first};
@@ -26,11 +26,10 @@ pub(crate) fn direct(
     requires absent { place_of item segments.old.lists ≡ None }
     requires distinct { IsDistinct segments.old.lists }
     requires room { 1 ≤ segments.old.spare }
-    requires few { total segments.old.lists < 2 ^ 40 }
     ensures { IsEffect (direct_plan rules.now (admits_in (option_map (λ f. f.now) frequency.entry)) item segments.old.lists)
         segments.old.lists segments.new.lists result }
 {
-    if count(segments) < rules.capacity {
+    if count(segments) < rules.capacity as u128 {
         let last = join(segments, rules.home, item);
         return Effect {
             outcome: Outcome::Kept,
@@ -70,7 +69,6 @@ pub(crate) fn evict_planned(
     rules: &Rules,
 ) -> Effect
     requires distinct { IsDistinct segments.old.lists }
-    requires few { total segments.old.lists < 2 ^ 40 }
     ensures { IsEffect (eviction_plan rules.now (admits_in (option_map (λ f. f.now) frequency.entry)) segments.old.lists)
         segments.old.lists segments.new.lists result }
 {
@@ -84,7 +82,7 @@ pub(crate) fn evict_planned(
     let Some(candidate) = segments.oldest(Queue::Window) else {
         return effect;
     };
-    if count(segments) <= rules.capacity {
+    if count(segments) <= rules.capacity as u128 {
         effect.moves.last = Some(send_oldest(segments, Queue::Window, candidate, Queue::Probation));
         return effect;
     }
@@ -117,7 +115,6 @@ pub(crate) fn windowed(
     requires absent { place_of item segments.old.lists ≡ None }
     requires distinct { IsDistinct segments.old.lists }
     requires room { 1 ≤ segments.old.spare }
-    requires few { total segments.old.lists + 1 < 2 ^ 40 }
     ensures { IsEffect (joining_first item
         (eviction_plan rules.now (admits_in (option_map (λ f. f.now) frequency.entry)) (moved item Queue.Window segments.old.lists)))
         segments.old.lists segments.new.lists result }
@@ -135,7 +132,6 @@ pub(crate) fn windowed(
 #[inline(always)]
 pub fn evict(segments: &mut Segments, frequency: Option<&Frequency>, rules: &Rules) -> Effect
     requires distinct { IsDistinct segments.old.lists }
-    requires few { total segments.old.lists < 2 ^ 40 }
     ensures outcome { result.outcome
         ≡ (eviction rules.now (admits_in (option_map (λ f. f.now) frequency.entry)) segments.old.lists).outcome }
     ensures lists { segments.new.lists

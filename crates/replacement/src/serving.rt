@@ -1,6 +1,6 @@
 //! An access.
-ghost use Rattle.std.specs.Prelude.{◌≡◌, ◌≤◌, ◌<◌, ◌+◌, ◌^◌, Option, Some, None, option_map};
-ghost use Rattle.segments.specs.Queues.{total, IsDistinct};
+ghost use Rattle.std.specs.Prelude.{◌≡◌, ◌≤◌, ◌+◌, Option, Some, None, option_map};
+ghost use Rattle.segments.specs.Queues.{IsDistinct};
 ghost use Rattle.replacement.specs.Admission.{admits_in};
 ghost use Rattle.replacement.specs.Table.{access};
 ghost use Rattle.replacement.specs.Plan.{plan};
@@ -24,7 +24,6 @@ fn access_planned<C>(
     item: Item,
 ) -> Effect
     requires room { 1 ≤ segments.old.spare }
-    requires few { total segments.old.lists + 1 < 2 ^ 40 }
     ensures effect { IsEffect (plan rules.now (admits_in (option_map (λ f. f.now) frequency.entry)) item segments.old.lists)
         segments.old.lists segments.new.lists result }
     ensures distinct { IsDistinct segments.old.lists }
@@ -57,7 +56,6 @@ pub fn access<C>(
     item: Item,
 ) -> Effect
     requires room { 1 ≤ segments.old.spare }
-    requires few { total segments.old.lists + 1 < 2 ^ 40 }
     ensures outcome { result.outcome
         ≡ (access rules.now (admits_in (option_map (λ f. f.now) frequency.entry)) item segments.old.lists).outcome }
     ensures lists { segments.new.lists

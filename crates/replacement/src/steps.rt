@@ -1,5 +1,5 @@
 //! Single moves in the queues, each of which knows beforehand where its item stands.
-ghost use Rattle.std.specs.Prelude.{◌≡◌, ◌≤◌, ◌<◌, ◌+◌, ◌^◌, Option, Some, None};
+ghost use Rattle.std.specs.Prelude.{◌≡◌, ◌≤◌, ◌+◌, Option, Some, None};
 ghost use Rattle.segments.specs.Items.{first};
 ghost use Rattle.segments.specs.Queues.{queue_of, place_of, taken, moved, popped, total, IsDistinct};
 ghost use Rattle.segments.specs.Moves.{move_record};
@@ -9,11 +9,12 @@ use step_record::Item;
 
 /// How many items stand in the queues.
 #[inline(always)]
-pub(crate) fn count(segments: &Segments) -> usize
-    requires { total segments.now.lists < 2 ^ 40 }
+pub(crate) fn count(segments: &Segments) -> u128
     ensures { result ≡ total segments.now.lists }
 {
-    segments.len(Queue::Window) + segments.len(Queue::Probation) + segments.len(Queue::Protected)
+    segments.len(Queue::Window) as u128
+        + segments.len(Queue::Probation) as u128
+        + segments.len(Queue::Protected) as u128
 }
 
 /// Puts an item that stands in no queue at the recent end of one.

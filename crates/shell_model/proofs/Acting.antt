@@ -62,11 +62,11 @@ tallied-fits (Added i) y s n h = h
 tallied-fits (Removed i) y s n h = h
 tallied-fits (Requested b c) y s n h = h
 tallied-fits (Began w b) y s n h = h
-tallied-fits (Read k i t) y s n h = (record { second = h.0.second; first = h.0.first; frequency = h.0.frequency; stays = h.0.stays }, h.1, h.2)
+tallied-fits (Read k i t) y s n h = (record { moves = h.0.moves; frequency = h.0.frequency; stays = h.0.stays }, h.1, h.2)
 tallied-fits (Passed b c) y s n h = h
-tallied-fits (Applied b k t) y s n h = (record { second = h.0.second; first = h.0.first; frequency = h.0.frequency; stays = h.0.stays }, h.1, h.2, h.3)
+tallied-fits (Applied b k t) y s n h = (record { moves = h.0.moves; frequency = h.0.frequency; stays = h.0.stays }, h.1, h.2, h.3)
 tallied-fits (Cleared b i r) y s n h = h
-tallied-fits (Evicted b g) y s n h = (record { left = h.0.left; shift = h.0.shift; table = h.0.table; stays = h.0.stays }, h.1)
+tallied-fits (Evicted b g) y s n h = (record { moves = h.0.moves; table = h.0.table }, h.1)
 tallied-fits (Ended k b c) y s n h = h
 
 tallied-back : (c : Change) (y : Shell) (s : ShellStats) (n : ℕ) → unchanged c record y { stats = s; applied = n } ≡ record (unchanged c y) { stats = s; applied = n }
@@ -84,7 +84,7 @@ tallied-back (Cleared b i r) y s n = refl
 tallied-back (Evicted b g) y s n = refl
 tallied-back (Ended k b c) y s n = refl
 
-same-tally : (c : Change) (y : Shell) → record (unchanged c y) { stats = y.stats; applied = y.applied } ≡ unchanged c y
+pub same-tally : (c : Change) (y : Shell) → record (unchanged c y) { stats = y.stats; applied = y.applied } ≡ unchanged c y
 same-tally Nothing y = refl
 same-tally (Offered k i) y = refl
 same-tally (Updated i) y = refl

@@ -15,7 +15,8 @@ use Rattle.admission.proofs.Weighing.{frequency_is}
 use Rattle.shell_model.specs.declared.holder.Holder.{Holder}
 use Rattle.shell_model.specs.ShellStats.{is_hit, is_miss, is_kept, is_full, is_lost, is_added, is_updated, is_refused, is_eviction, is_rejection, is_begun, is_busy, is_removed}
 use Rattle.shell_buffers.specs.Buffers.{stripe_at}
-use Rattle.shell_model.specs.Shell.{Shell, may_write, act, main_size}
+use Rattle.replacement.specs.Rules.{main_size}
+use Rattle.shell_model.specs.Shell.{Shell, may_write, act}
 use Rattle.shell_model.specs.Consistent.{IsConsistent, main_length}
 use Rattle.shell_model.specs.Laws.{Made, collect, IsShapeOf, opened, added, is_ending, is_drain_write, is_evict, some_end, some_act, phase_after, open_from, open_began, seat_of, seat_from, AreReplies, HistoryLaws}
 use Rattle.shell_model.proofs.Making as k

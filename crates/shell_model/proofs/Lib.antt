@@ -1,5 +1,6 @@
 pub mod Counting
 pub mod Frequency
+pub mod Evicting
 pub mod Undoing
 pub mod Acting
 pub mod Preserving

@@ -17,12 +17,14 @@ use Rattle.segments.specs.Items.{same, times, without, first}
 use Rattle.segments.specs.Queues.{Queues, place_of, pushed, moved, taken, total, IsDistinct}
 use Rattle.segments.proofs.ItemLists.{same-refl, same-true, times-append, times-one, length-without, times-without}
 use Rattle.segments.proofs.MoveLaws.{Stands, in_window, in_probation, in_protected, nowhere, stands}
+use Rattle.replacement.specs.Rules.{main_size}
+use Rattle.replacement.specs.Table.{with_recent, hit_in, after_hit}
 use Rattle.shell_buffers.specs.declared.task.Task.{Task}
 use Rattle.shell_buffers.specs.declared.task.Task.TheVariants.{Add, Update, Remove}
 use Rattle.shell_model.specs.declared.holder.Holder.{Holder}
 use Rattle.shell_model.specs.Frequency.{admits}
 use Rattle.shell_buffers.specs.Buffers.{stripe_at}
-use Rattle.shell_model.specs.Shell.{Shell, node_of, placed, cleared, main_size, window_size, protected_size, offer, put, put_at, removing, remove_at, begin, is_over, held_by, shift, in_phase, hit, hit_from, demote, drain_read, drain_write, apply_task, contest, leave, evict_from, evict_oldest, evict, end, when, may_read, may_write, is_stripe, hold_read, hold_write, hold_evict, hold_end, perform, tallied, act}
+use Rattle.shell_model.specs.Shell.{Shell, node_of, placed, cleared, window_size, protected_size, offer, put, put_at, removing, remove_at, begin, is_over, held_by, shift, in_phase, drain_read, drain_write, apply_task, contest, leave, evict_from, evict_oldest, evict, end, when, may_read, may_write, is_stripe, hold_read, hold_write, hold_evict, hold_end, perform, tallied, act}
 use Rattle.shell_model.specs.Consistent.{IsConsistent, IsPlaced, main_length, queued, waiting, leaving, IsOrdered, AreAbove, IsAscending, IsLeft}
 use Rattle.admission.specs.Frequency.{IsFrequency}
 use Rattle.shell_model.proofs.Frequency.{recorded-whole}
@@ -62,7 +64,7 @@ pub record IsKept (q r : Queues) : Type 0 where
   pub queued : (j : Item) → queued j r ≡ queued j q
   pub main : main_length r ≤ main_length q
 
-kept-demote : (o : Option Item) (q : Queues) → IsDistinct q → ((d : Item) → o ≡ Some d → 1 ≤ times d q.protected) → IsKept q (demote o q)
+kept-demote : (o : Option Item) (q : Queues) → IsDistinct q → ((d : Item) → o ≡ Some d → 1 ≤ times d q.protected) → IsKept q (with_recent o Probation q)
 kept-demote None q u k = record { queued = λ j. refl; main = omega arith }
 kept-demote (Some d) q u k =
     let n : 1 ≤ times d q.protected = k d refl in
@@ -70,7 +72,7 @@ kept-demote (Some d) q u k =
     let one : queued d q ≡ 1 = omega (arith, n, few) in
     record { queued = λ j. queued-kept j d Probation q one; main = moved-probation d q (omega (arith, n)) }
 
-hit-kept : (size : ℕ) (i : Item) (q : Queues) (p : Option Queue) → IsDistinct q → Stands i q p → IsKept q (hit_from size i p q)
+hit-kept : (size : ℕ) (i : Item) (q : Queues) (p : Option Queue) → IsDistinct q → Stands i q p → IsKept q (hit_in size i p q)
 hit-kept size i q p u (nowhere e f g) = record { queued = λ j. refl; main = omega arith }
 hit-kept size i q p u (in_window e f g) = record { queued = λ j. queued-kept j i Window q (omega (arith, e, f, g)); main = moved-window i q }
 hit-kept size i q p u (in_protected e f g) = record { queued = λ j. queued-kept j i Protected q (omega (arith, e, f, g)); main = moved-protected i q (omega (arith, e, f, g)) }
@@ -78,13 +80,13 @@ hit-kept size i q p u (in_probation e f g) =
     let r : Queues = moved i Protected q in
     let m : main_length (moved i Protected q) ≤ main_length q = moved-protected i q (omega (arith, e, f, g)) in
     let k : (j : Item) → queued j (moved i Protected q) ≡ queued j q = λ j. queued-kept j i Protected q (omega (arith, e, f, g)) in
-    elim (cases_Bool (nat_lt size (length (moved i Protected q).protected))) as (λ _. IsKept q (cond (nat_lt size (length (moved i Protected q).protected)) (demote (first (moved i Protected q).protected) (moved i Protected q)) (moved i Protected q))) [
-      | inl t ↦ rw t (let d : IsKept (moved i Protected q) (demote (first (moved i Protected q).protected) (moved i Protected q)) = kept-demote (first (moved i Protected q).protected) (moved i Protected q) (distinct-moved i Protected q u) (λ d h. first-queued d (moved i Protected q).protected h) in
+    elim (cases_Bool (nat_lt size (length (moved i Protected q).protected))) as (λ _. IsKept q (cond (nat_lt size (length (moved i Protected q).protected)) (with_recent (first (moved i Protected q).protected) Probation (moved i Protected q)) (moved i Protected q))) [
+      | inl t ↦ rw t (let d : IsKept (moved i Protected q) (with_recent (first (moved i Protected q).protected) Probation (moved i Protected q)) = kept-demote (first (moved i Protected q).protected) (moved i Protected q) (distinct-moved i Protected q u) (λ d h. first-queued d (moved i Protected q).protected h) in
           record { queued = λ j. d.queued j ∙ k j; main = omega (arith, d.main, m) })
       | inr t ↦ rw t record { queued = k; main = m }
     ]
 
-pub hit-is-kept : (size : ℕ) (i : Item) (q : Queues) → IsDistinct q → IsKept q (hit size i q)
+pub hit-is-kept : (size : ℕ) (i : Item) (q : Queues) → IsDistinct q → IsKept q (after_hit size i q)
 hit-is-kept size i q u = hit-kept size i q (place_of i q) u (stands i q u)
 
 -- the table
@@ -362,7 +364,7 @@ read-sound s (i ∷ rest) x e h v =
     let k = hit-is-kept (protected_size x.config) i x.queues (sound-distinct x v) in
     let few : suc (length rest) ≤ 16 = rw e at (v.stripes s) in
     record {
-      placed = placed-hit x.table x.next x.queues (hit (protected_size x.config) i x.queues) x.writes k v.placed;
+      placed = placed-hit x.table x.next x.queues (after_hit (protected_size x.config) i x.queues) x.writes k v.placed;
       stripes = set-short x.stripes s rest h (omega (arith, few)) v.stripes;
       writes = v.writes;
       left = v.left;
@@ -407,7 +409,7 @@ applied-sound (Update i) rest h x e n v =
     let p : IsPlaced x.table x.next x.queues (Update i ∷ rest) = rw e at v.placed in
     let k = hit-is-kept (protected_size x.config) i x.queues (sound-distinct x v) in
     record {
-      placed = placed-hit x.table x.next x.queues (hit (protected_size x.config) i x.queues) rest k (placed-update-done x.table x.next x.queues rest i p);
+      placed = placed-hit x.table x.next x.queues (after_hit (protected_size x.config) i x.queues) rest k (placed-update-done x.table x.next x.queues rest i p);
       writes = omega (arith, few);
       stripes = v.stripes;
       left = n;

@@ -1,5 +1,5 @@
 -- Each step's change fits what the step left, and undoes it.
-use Rattle.std.proofs.Common.{◌≡◌, ℕ, suc, zero, ◌+◌, ◌-◌, ◌<◌, ◌≤◌, Bool, true, false, cond, ◌&&◌, eqb, nat_lt, Option, Some, None, List, [], ◌∷◌, ◌++◌, length, set, ap, subst, ◌∙◌, refl, arith, inl, inr, length-append}
+use Rattle.std.proofs.Common.{◌≡◌, ℕ, suc, zero, ◌+◌, ◌-◌, ◌<◌, ◌≤◌, Bool, true, false, cond, ◌&&◌, eqb, nat_lt, Option, Some, None, List, [], ◌∷◌, ◌++◌, length, set, ap, sym, subst, ◌∙◌, refl, arith, inl, inr, length-append}
 use Rattle.std.proofs.lemmas.Bool.{and_parts, cases_Bool}
 use Rattle.std.proofs.lemmas.Bool.Decides.{nat_tests}
 use Rattle.std.proofs.lemmas.List.{take_at, get_or-set_same, set-set, set-get_or, length-set}
@@ -10,26 +10,33 @@ use Rattle.step_record.specs.declared.drain.Phase.TheVariants.{Writes, Evictions
 use Rattle.step_record.specs.declared.step.Reply.{Reply}
 use Rattle.step_record.specs.declared.step.Reply.TheVariants as reply
 use Rattle.segments.specs.declared.records.Queue.{Queue}
-use Rattle.segments.specs.declared.records.Queue.TheVariants.{Window, Probation, Protected}
+use Rattle.segments.specs.declared.records.Queue.TheVariants.{Window, Probation}
 use Rattle.segments.specs.declared.records.MoveRecord.{MoveRecord}
 use Rattle.segments.specs.Items.{same, times, first}
 use Rattle.segments.specs.Queues.{Queues, place_of, pushed, moved, taken, total, IsDistinct}
-use Rattle.segments.specs.Moves.{move_record}
 use Rattle.segments.proofs.ItemLists.{same-refl, same-true}
-use Rattle.segments.proofs.MoveLaws.{Leads, move_leads, out_leads, taken-none}
+use Rattle.segments.proofs.MoveLaws.{out_leads, taken-none}
+use Rattle.replacement.specs.declared.record.Moves.{Moves}
+use Rattle.replacement.specs.Rules.{three_queues}
+use Rattle.replacement.specs.Table.{hit_in}
+use Rattle.replacement.specs.Plan.{Plan, hit_plan, stay_plan, candidate_of, eviction_plan}
+use Rattle.replacement.specs.Moving.{transferred, queues_after, response, removal_record, moves_of, undone_moves, FitsMoves}
+use Rattle.replacement.proofs.Carrying.{carries}
+use Rattle.replacement.proofs.Planned.{hits-planned}
 use Rattle.shell_buffers.specs.declared.task.Task.{Task}
 use Rattle.shell_buffers.specs.declared.task.Task.TheVariants.{Add, Update, Remove}
 use Rattle.shell_model.specs.declared.holder.Holder.{Holder}
 use Rattle.shell_model.specs.declared.record.UseRecord.{UseRecord}
-use Rattle.shell_model.specs.declared.record.LeaverRecord.{LeaverRecord}
 use Rattle.shell_model.specs.declared.record.Change.{Change}
 use Rattle.shell_model.specs.declared.record.Change.TheVariants.{Nothing, Offered, Removed, Passed, Evicted, Ended}
 use Rattle.shell_model.specs.Frequency.{unrecorded, admits}
 use Rattle.shell_buffers.specs.Buffers.{stripe_at, but_newest}
-use Rattle.shell_model.specs.Shell.{Shell, node_of, is_listed, protected_size, cleared_from, offer, put, put_at, removing, remove_at, begin, is_over, held_by, shift, in_phase, ended, hit_from, demote, touching, drain_read, drain_write, apply_task, contest, leave, evict_from, evict_oldest, evict, end, when, may_read, may_write, is_stripe, hold_read, hold_write, hold_evict, hold_end, perform}
-use Rattle.shell_model.specs.Records.{IsNewest, back, FitsMove, IsStay, FitsTouched, out_of, entered, IsOut, unchanged, FitsChange, second_of, hit_first, hit_second, touched_of, added_of, cleared_of, task_change, put_change, remove_change, begin_change, read_change, write_change, left_of, contest_gone, gone_of, oldest_change, evict_change, if_held, change_of}
+use Rattle.shell_model.specs.Shell.{Shell, node_of, is_listed, unlisted, protected_size, cleared_from, offer, put, put_at, removing, remove_at, begin, is_over, held_by, in_phase, ended, touching, drain_read, drain_write, apply_task, evict, end, when, may_read, may_write, is_stripe, hold_read, hold_write, hold_evict, hold_end, perform}
+use Rattle.shell_model.specs.Evicting.{unlisted_by, evicted_by}
+use Rattle.shell_model.specs.Records.{IsNewest, back, FitsMove, FitsTouched, entered, IsOut, unchanged, FitsChange, hit_moves, touched_of, added_of, cleared_of, task_change, put_change, remove_change, begin_change, read_change, write_change, leaves_table, planned_change, evict_change, if_held, change_of}
 use Rattle.shell_model.specs.Consistent.{IsConsistent, queued, waiting, leaving, IsAscending}
 use Rattle.shell_model.proofs.Counting.{queued-moved, distinct-moved, without-placed, node_of-placed, placed-without, node_of-without, listed-times, node-listed}
+use Rattle.shell_model.proofs.Evicting.{evictions-by-plan}
 use Rattle.shell_model.proofs.Frequency.{fits_recorded, unrecorded-recorded}
 
 -- the change leads from x to y
@@ -114,32 +121,23 @@ begin-goes w None x e = record { fits = (refl, refl); back = rw (← e) refl }
 
 -- hits
 
-pub record QueuesBack (f g : Option MoveRecord) (q r : Queues) : Type 0 where
-  pub second : FitsMove g r
-  pub first : FitsMove f (back g r)
-  pub back : back f (back g r) ≡ q
-  pub stays : IsStay f × IsStay g
+-- what was moved fits, and leads back
+pub record MovesBack (m : Moves) (q r : Queues) : Type 0 where
+  pub fits : FitsMoves m r
+  pub back : undone_moves m r ≡ q
 
-one-back : (i : Item) (to : Queue) (q : Queues) → IsDistinct q → QueuesBack (Some (move_record i (Some to) q)) None q (moved i to q)
-one-back i to q d = let l = move_leads i to q d in record { second = tt; first = l.fits; back = l.back; stays = (refl, tt) }
+plan-back : (p : Plan) (q : Queues) → IsDistinct q → MovesBack (moves_of p q) q (queues_after p q)
+plan-back p q d = let c = carries p q d in record { fits = c.fits; back = c.back }
 
-demote-back : (i d : Item) (q : Queues) → IsDistinct q → (o : Option Item) → QueuesBack (Some (move_record i (Some Protected) q)) (second_of 0 o (moved i Protected q)) q (demote o (moved i Protected q))
-demote-back i d q u None = one-back i Protected q u
-demote-back i d q u (Some j) =
-    let l = move_leads j Probation (moved i Protected q) (distinct-moved i Protected q u) in
-    let m = move_leads i Protected q u in
-    record { second = l.fits; first = rw l.back m.fits; back = rw l.back m.back; stays = (refl, refl) }
+pub hit-back : (size : ℕ) (i : Item) (q : Queues) (p : Option Queue) → IsDistinct q
+    → MovesBack (hit_moves size i p q) q (hit_in size i p q)
+hit-back size i q None d = record { fits = record { last = tt; out = tt; first = tt; stays = (refl, refl) }; back = refl }
+hit-back size i q (Some p) d =
+    subst (λ r. MovesBack (hit_moves size i (Some p) q) q r) (sym (hits-planned size i p q)) (plan-back (hit_plan size i p q) q d)
 
-pub hit-back : (size : ℕ) (i : Item) (q : Queues) (p : Option Queue) → IsDistinct q → QueuesBack (hit_first i p q) (hit_second size i p q) q (hit_from size i p q)
-hit-back size i q None d = record { second = tt; first = tt; back = refl; stays = (tt, tt) }
-hit-back size i q (Some Window) d = one-back i Window q d
-hit-back size i q (Some Probation) d =
-    let r : Queues = moved i Protected q in
-    elim (cases_Bool (nat_lt size (length (moved i Protected q).protected))) as (λ _. QueuesBack (Some (move_record i (Some Protected) q)) (cond (nat_lt size (length (moved i Protected q).protected)) (second_of size (first (moved i Protected q).protected) (moved i Protected q)) None) q (cond (nat_lt size (length (moved i Protected q).protected)) (demote (first (moved i Protected q).protected) (moved i Protected q)) (moved i Protected q))) [
-      | inl e ↦ rw e (demote-back i i q d (first (moved i Protected q).protected))
-      | inr e ↦ rw e (one-back i Protected q d)
-    ]
-hit-back size i q (Some Protected) d = one-back i Protected q d
+hit-stays : (size : ℕ) (i : Item) (q : Queues) (p : Option Queue) → (hit_moves size i p q).out ≡ None
+hit-stays size i q None = refl
+hit-stays size i q (Some p) = refl
 
 pub sound-distinct : (x : Shell) → IsConsistent x → IsDistinct x.queues
 sound-distinct x w j = omega (arith, w.placed.known j, w.placed.once j)
@@ -147,14 +145,18 @@ sound-distinct x w j = omega (arith, w.placed.known j, w.placed.once j)
 -- what touching an item does besides, where y is x but for stripes, writes and holder
 pub record TouchBack (t : UseRecord) (x y : Shell) : Type 0 where
   pub fits : FitsTouched t y
-  pub queues : back t.first (back t.second y.queues) ≡ x.queues
+  pub queues : undone_moves t.moves y.queues ≡ x.queues
   pub frequency : unrecorded t.frequency y.frequency ≡ x.frequency
 
 touch-back : (i : Item) (x : Shell) → IsConsistent x → TouchBack (touched_of i x) x (touching i x)
 touch-back i x w =
     let b = hit-back (protected_size x.config) i x.queues (place_of i x.queues) (sound-distinct x w) in
     record {
-      fits = record { second = b.second; first = b.first; frequency = fits_recorded x.frequency i.key w.frequency; stays = b.stays };
+      fits = record {
+        moves = b.fits;
+        frequency = fits_recorded x.frequency i.key w.frequency;
+        stays = hit-stays (protected_size x.config) i x.queues (place_of i x.queues);
+      };
       queues = b.back;
       frequency = unrecorded-recorded x.frequency i.key w.frequency;
     }
@@ -170,7 +172,7 @@ read-goes s (i ∷ rest) x e h w =
     let few2 : suc (length rest) ≤ 16 = rw e at few in
     let whole : set x.stripes s (i ∷ rest) ≡ x.stripes = rw (← e) (set-get_or x.stripes s []) in
     record {
-      fits = (record { second = b.fits.second; first = b.fits.first; frequency = b.fits.frequency; stays = b.fits.stays }, omega (arith, h, length-set x.stripes s rest), rw same (omega (arith, few2)));
+      fits = (record { moves = b.fits.moves; frequency = b.fits.frequency; stays = b.fits.stays }, omega (arith, h, length-set x.stripes s rest), rw same (omega (arith, few2)));
       back = rw (b.queues, b.frequency, same, set-set x.stripes s rest (i ∷ rest), whole) refl;
     }
 
@@ -195,9 +197,10 @@ added-back : (i : Item) (rest : List Task) (x : Shell) → x.writes ≡ Add i �
 added-back i rest x e w =
     let n : taken i x.queues ≡ x.queues = taken-none i x.queues (queued-waits i rest x e w) in
     let m : moved i Window x.queues ≡ pushed Window i x.queues = ap (λ r. pushed Window i r) n in
-    let b = subst (λ r. QueuesBack (Some (move_record i (Some Window) x.queues)) None x.queues r) m (one-back i Window x.queues (sound-distinct x w)) in
+    let b = subst (λ r. MovesBack (moves_of (stay_plan Window i) x.queues) x.queues r) m
+        (plan-back (stay_plan Window i) x.queues (sound-distinct x w)) in
     record {
-      fits = record { second = tt; first = b.first; frequency = fits_recorded x.frequency i.key w.frequency; stays = b.stays };
+      fits = record { moves = b.fits; frequency = fits_recorded x.frequency i.key w.frequency; stays = refl };
       queues = b.back;
       frequency = unrecorded-recorded x.frequency i.key w.frequency;
     }
@@ -222,7 +225,7 @@ task-goes (Add i) rest h x e f more w =
     let left : h.left ≤ 128 = rw f at w.left in
     let again : h.left - 1 + 1 ≡ h.left = omega arith in
     record {
-      fits = (record { second = b.fits.second; first = b.fits.first; frequency = b.fits.frequency; stays = b.fits.stays }, omega (arith, few), refl, omega (arith, left, more));
+      fits = (record { moves = b.fits.moves; frequency = b.fits.frequency; stays = b.fits.stays }, omega (arith, few), refl, omega (arith, left, more));
       back = rw (b.queues, b.frequency, again, ← e, ← f) refl;
     }
 task-goes (Update i) rest h x e f more w =
@@ -231,7 +234,7 @@ task-goes (Update i) rest h x e f more w =
     let left : h.left ≤ 128 = rw f at w.left in
     let again : h.left - 1 + 1 ≡ h.left = omega arith in
     record {
-      fits = (record { second = b.fits.second; first = b.fits.first; frequency = b.fits.frequency; stays = b.fits.stays }, omega (arith, few), refl, omega (arith, left, more));
+      fits = (record { moves = b.fits.moves; frequency = b.fits.frequency; stays = b.fits.stays }, omega (arith, few), refl, omega (arith, left, more));
       back = rw (b.queues, b.frequency, again, ← e, ← f) refl;
     }
 task-goes (Remove i) rest h x e f more w =
@@ -276,37 +279,6 @@ first-queued i (x ∷ l) h =
     unsome : (x i : Item) → Some x ≡ Some i → x ≡ i
     unsome x i h = ap (item_in x) h
 
--- an item leaves: r is its record
-pub record LeftBack (r : Option LeaverRecord) (x y : Shell) : Type 0 where
-  pub fits : FitsMove (out_of r) y.queues
-  pub queues : back (out_of r) y.queues ≡ x.queues
-  pub table : entered r y.table ≡ x.table
-  pub out : IsOut r y.table
-  pub rest : record y { queues = x.queues; table = x.table } ≡ x
-
-stay-back : (x : Shell) → LeftBack None x x
-stay-back x = record { fits = tt; queues = refl; table = refl; out = tt; rest = refl }
-
-leave-back : (v : Item) (x : Shell) → IsDistinct x.queues → IsAscending x.table → LeftBack (Some (left_of v x.table x.queues)) x (leave v x)
-leave-back v x d a =
-    let l = out_leads v x.queues d in
-    elim (cases_Bool (is_listed v x.table)) as (λ _. LeftBack (Some (left_of v x.table x.queues)) x (leave v x)) [
-      | inl e ↦ let h : 1 ≤ times v x.table = listed-times v x.table e in
-          rw e record { fits = l.fits; queues = l.back; table = placed-without v x.table a h; out = node_of-without v x.table a h; rest = refl }
-      | inr e ↦ rw e record { fits = l.fits; queues = l.back; table = refl; out = tt; rest = refl }
-    ]
-
-contest-back : (c : Item) (o : Option Item) (x : Shell) → IsDistinct x.queues → IsAscending x.table → LeftBack (contest_gone c o x.frequency x.table x.queues) x (contest c o x).1
-contest-back c None x d a = stay-back x
-contest-back c (Some v) x d a =
-    elim (cases_Bool (same c v)) as (λ _. LeftBack (cond (same c v) (Some (left_of c x.table x.queues)) (cond (admits x.frequency c.key v.key) (Some (left_of v x.table x.queues)) (Some (left_of c x.table x.queues)))) x (contest c (Some v) x).1) [
-      | inl e ↦ rw e (leave-back c x d a)
-      | inr e ↦ rw e (elim (cases_Bool (admits x.frequency c.key v.key)) as (λ _. LeftBack (cond (admits x.frequency c.key v.key) (Some (left_of v x.table x.queues)) (Some (left_of c x.table x.queues))) x (cond {A = Reply × Shell} (admits x.frequency c.key v.key) (reply.Evicted v, leave v x) (reply.Rejected c, leave c x)).1) [
-        | inl f ↦ rw f (leave-back v x d a)
-        | inr f ↦ rw f (leave-back c x d a)
-      ])
-    ]
-
 -- the candidate was queued, and goes to probation, whose items were queued all
 pub shifted-queued : (c v : Item) (x : Shell) → 1 ≤ queued c x.queues → first (moved c Probation x.queues).probation ≡ Some v → 1 ≤ queued v x.queues
 shifted-queued c v x h f =
@@ -318,49 +290,39 @@ shifted-queued c v x h f =
       | inr e ↦ rw e at m
     ]
 
-from-back : (c : Item) (x : Shell) → IsConsistent x → (y : Shell) → y ≡ shift c x → LeftBack (gone_of y.config.capacity c y.frequency y.table y.queues) y (evict_from c y).1
-from-back c x w y e =
-    let d : IsDistinct y.queues = rw e (distinct-moved c Probation x.queues (sound-distinct x w)) in
-    let t : y.table ≡ x.table = ap (λ (z : Shell). z.table) e in
-    elim (cases_Bool (nat_lt y.config.capacity (total y.queues))) as (λ _. LeftBack (cond (nat_lt y.config.capacity (total y.queues)) (contest_gone c (first y.queues.probation) y.frequency y.table y.queues) None) y (cond {A = Reply × Shell} (nat_lt y.config.capacity (total y.queues)) (contest c (first y.queues.probation) y) (reply.Shifted c, y)).1) [
-      | inl f ↦ rw f (contest-back c (first y.queues.probation) y d (rw t w.placed.ascending))
-      | inr f ↦ rw f (stay-back y)
+-- the item that left the queues is back in the table
+record TableBack (b : Bool) (r : Option MoveRecord) (t u : List Item) : Type 0 where
+  out : IsOut b r u
+  back : entered b r u ≡ t
+
+table-back : (o : Option Item) (s : Queues) (t : List Item) → IsAscending t
+    → TableBack (leaves_table o t) (removal_record o s) t (unlisted_by o t)
+table-back None s t a = record { out = tt; back = refl }
+table-back (Some i) s t a =
+    elim (cases_Bool (is_listed i t)) as (λ _. TableBack (is_listed i t) (removal_record (Some i) s) t (unlisted i t)) [
+      | inl e ↦
+          let h : 1 ≤ times i t = listed-times i t e in
+          rw e record { out = node_of-without i t a h; back = placed-without i t a h }
+      | inr e ↦ rw e record { out = tt; back = refl }
     ]
 
-oldest-goes : (h : Holder) (o : Option Item) (x : Shell) → x.holder ≡ Some h → IsConsistent x → Goes (oldest_change h o x) x (evict_oldest o (in_phase Evictions h x)).1
-oldest-goes h None x f w = record { fits = refl; back = rw (← f) refl }
-oldest-goes h (Some c) x f w =
-    let v : IsConsistent (in_phase Evictions h x) = record {
-      placed = w.placed;
-      stripes = w.stripes;
-      writes = w.writes;
-      left = rw f at w.left;
-      main = w.main;
-      frequency = w.frequency;
-    } in
-    let b : LeftBack (gone_of x.config.capacity c x.frequency x.table (moved c Probation x.queues)) (shift c (in_phase Evictions h x)) (evict_from c (shift c (in_phase Evictions h x))).1 = from-back c (in_phase Evictions h x) v (shift c (in_phase Evictions h x)) refl in
-    let l = move_leads c Probation x.queues (sound-distinct x w) in
-    evicted-goes h c x f (gone_of x.config.capacity c x.frequency x.table (moved c Probation x.queues)) (evict_from c (shift c (in_phase Evictions h x))).1 b l
-  where
-    holder-of : (r : Option LeaverRecord) (x y : Shell) → LeftBack r x y → y.holder ≡ x.holder
-    holder-of r x y b = ap (λ (z : Shell). z.holder) b.rest
+planned-goes : (h : Holder) (o : Option Item) (p : Plan) (x : Shell) → x.holder ≡ Some h → IsConsistent x
+    → Goes (planned_change h o p x) x (evicted_by o (response p x.queues) (in_phase Evictions h x)).1
+planned-goes h None p x f w = record { fits = refl; back = rw (← f) refl }
+planned-goes h (Some c) p x f w =
+    let m = plan-back p x.queues (sound-distinct x w) in
+    let t = table-back p.leaves (transferred p.first x.queues) x.table w.placed.ascending in
+    record { fits = (record { moves = m.fits; table = t.out }, refl); back = rw (m.back, t.back) (rw (← f) refl) }
 
-    evicted-goes : (h : Holder) (c : Item) (x : Shell) → x.holder ≡ Some h → (r : Option LeaverRecord) (z : Shell) → LeftBack r (shift c (in_phase Evictions h x)) z → Leads (move_record c (Some Probation) x.queues) x.queues (moved c Probation x.queues) → Goes (Evicted h.phase record { shift = move_record c (Some Probation) x.queues; left = r }) x z
-    evicted-goes h c x f r z b l =
-        let k : z.holder ≡ Some record { worker = h.worker; phase = Evictions; left = h.left } = holder-of r (shift c (in_phase Evictions h x)) z b in
-        let whole : record z { queues = moved c Probation x.queues; table = x.table } ≡ shift c (in_phase Evictions h x) = b.rest in
-        let all : record z { queues = x.queues; table = x.table; holder = Some h } ≡ record x { holder = Some h } = ap (λ (u : Shell). let y : Shell = record u { queues = x.queues; table = x.table; holder = Some h } in y) whole in
-        record {
-          fits = (record { left = b.fits; shift = rw b.queues l.fits; table = b.out; stays = refl }, rw k refl);
-          back = rw (b.queues, l.back, b.table, k) (all ∙ rw (← f) refl);
-        }
-
-evict-goes : (h : Holder) (x : Shell) → x.holder ≡ Some h → IsConsistent x → Goes (evict_change h x) x (evict (in_phase Evictions h x)).1
+evict-goes : (h : Holder) (x : Shell) → x.holder ≡ Some h → IsConsistent x
+    → Goes (evict_change h x) x (evict (in_phase Evictions h x)).1
 evict-goes h x f w =
-    elim (cases_Bool (is_over x)) as (λ _. Goes (cond (is_over x) (oldest_change h (first x.queues.window) x) (Passed h.phase Evictions)) x (cond {A = Reply × Shell} (is_over x) (evict_oldest (first x.queues.window) (in_phase Evictions h x)) (reply.Fits, in_phase Evictions h x)).1) [
-      | inl e ↦ rw e (oldest-goes h (first x.queues.window) x f w)
-      | inr e ↦ rw e record { fits = refl; back = rw (← f) refl }
-    ]
+    subst (λ (r : Reply × Shell). Goes (evict_change h x) x r.1)
+        (sym (evictions-by-plan (in_phase Evictions h x) (sound-distinct x w)))
+        (planned-goes h
+            (candidate_of (three_queues x.config) x.queues)
+            (eviction_plan (three_queues x.config) (admits x.frequency) x.queues)
+            x f w)
 
 end-goes : (w : ℕ) (x : Shell) → GoesTo (cond (is_over x) Nothing (if_held (λ h. Ended h x.drain (ended x.drain).1) x.holder)) x (hold_end (held_by w x.holder) x)
 end-goes w x =

@@ -7,7 +7,8 @@ use Rattle.segments.specs.Queues.{Queues}
 use Rattle.shell_buffers.specs.declared.task.Task.{Task}
 use Rattle.shell_buffers.specs.declared.task.Task.TheVariants.{Add, Update, Remove}
 use Rattle.shell_buffers.specs.Buffers.{stripe_at}
-use Rattle.shell_model.specs.Shell.{Shell, main_size}
+use Rattle.replacement.specs.Rules.{main_size}
+use Rattle.shell_model.specs.Shell.{Shell}
 use Rattle.shell_model.specs.declared.holder.Holder.{Holder}
 
 -- how often an Add of the item waits

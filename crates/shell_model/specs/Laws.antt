@@ -22,7 +22,8 @@ use Rattle.shell_buffers.specs.declared.task.Task.TheVariants.{Add, Update, Remo
 use Rattle.shell_model.specs.declared.holder.Holder.{Holder}
 use Rattle.shell_model.specs.ShellStats.{one, is_hit, is_miss, is_kept, is_full, is_lost, is_added, is_updated, is_refused, is_eviction, is_rejection, is_begun, is_busy, is_removed}
 use Rattle.shell_buffers.specs.Buffers.{stripe_at}
-use Rattle.shell_model.specs.Shell.{Shell, main_size, act}
+use Rattle.replacement.specs.Rules.{main_size}
+use Rattle.shell_model.specs.Shell.{Shell, act}
 use Rattle.shell_model.specs.Consistent.{queued, waiting, leaving, main_length}
 
 -- a step with its reply

@@ -7,18 +7,20 @@ use Rattle.step_record.specs.declared.drain.Drain.TheVariants.{ToIdle}
 use Rattle.step_record.specs.declared.drain.Phase.{Phase}
 use Rattle.step_record.specs.declared.drain.Phase.TheVariants.{Reads, Writes, Evictions}
 use Rattle.segments.specs.declared.records.Queue.{Queue}
-use Rattle.segments.specs.declared.records.Queue.TheVariants.{Window, Probation, Protected}
+use Rattle.segments.specs.declared.records.Queue.TheVariants.{Window}
 use Rattle.segments.specs.declared.records.MoveRecord.{MoveRecord}
-use Rattle.segments.specs.Items.{same, without, first}
-use Rattle.segments.specs.Queues.{Queues, place_of, moved, total}
-use Rattle.segments.specs.Moves.{move_record, undone, Fits, needed}
-use Rattle.admission.specs.Frequency.{FrequencyData}
+use Rattle.segments.specs.Items.{without}
+use Rattle.segments.specs.Queues.{Queues, place_of}
+use Rattle.segments.specs.Moves.{move_record, undone, Fits}
+use Rattle.replacement.specs.declared.record.Moves.{Moves}
+use Rattle.replacement.specs.Rules.{three_queues}
+use Rattle.replacement.specs.Plan.{Plan, hit_plan, stay_plan, candidate_of, eviction_plan}
+use Rattle.replacement.specs.Moving.{moves_of, undone_moves, FitsMoves}
 use Rattle.shell_buffers.specs.declared.task.Task.{Task}
 use Rattle.shell_buffers.specs.declared.task.Task.TheVariants.{Add, Update, Remove}
 use Rattle.admission.specs.FreqRecord.{size_of}
 use Rattle.shell_model.specs.declared.holder.Holder.{Holder}
 use Rattle.shell_model.specs.declared.record.UseRecord.{UseRecord}
-use Rattle.shell_model.specs.declared.record.LeaverRecord.{LeaverRecord}
 use Rattle.shell_model.specs.declared.record.EvictionRecord.{EvictionRecord}
 use Rattle.shell_model.specs.declared.record.ShellRecord.{ShellRecord}
 use Rattle.shell_model.specs.declared.record.Change.{Change}
@@ -42,19 +44,17 @@ abbrev pub FitsMove : Option MoveRecord → Queues → Type 0
 FitsMove None q = Unit {0}
 FitsMove (Some r) q = Fits r q
 
--- the item did not go out, so that putting it back takes no room
-abbrev pub IsStay : Option MoveRecord → Type 0
-IsStay None = Unit {0}
-IsStay (Some r) = needed r.to ≡ 0
-
 abbrev pub untouched : UseRecord → Shell → Shell
-untouched t x = record x { queues = back t.first (back t.second x.queues); frequency = unrecorded t.frequency x.frequency }
+untouched t x = record x {
+  queues = undone_moves t.moves x.queues;
+  frequency = unrecorded t.frequency x.frequency;
+}
 
+-- no item went out, so that undoing takes no room
 pub record FitsTouched (t : UseRecord) (x : Shell) : Type 0 where
-  pub second : FitsMove t.second x.queues
-  pub first : FitsMove t.first (back t.second x.queues)
+  pub moves : FitsMoves t.moves x.queues
   pub frequency : FitsFrequency t.frequency x.frequency
-  pub stays : IsStay t.first × IsStay t.second
+  pub stays : t.moves.out ≡ None
 
 abbrev pub rephased : Phase → Option Holder → Option Holder
 rephased p None = None
@@ -73,36 +73,31 @@ abbrev pub HasLeft : Option Holder → Type 0
 HasLeft None = ⊥
 HasLeft (Some h) = h.left < 128
 
-abbrev pub out_of : Option LeaverRecord → Option MoveRecord
-out_of None = None
-out_of (Some l) = Some l.out
-
 -- back in the table, where it was listed
 abbrev pub listed : Bool → Item → List Item → List Item
 listed true i t = placed i t
 listed false i t = t
 
-abbrev pub entered : Option LeaverRecord → List Item → List Item
-entered None t = t
-entered (Some l) t = listed l.listed l.out.item t
+-- what went out of the queues is back in the table, where it was listed
+abbrev pub entered : Bool → Option MoveRecord → List Item → List Item
+entered b None t = t
+entered b (Some r) t = listed b r.item t
 
 -- the table has room for the item's key, where it was listed
 abbrev pub IsFree : Bool → Item → List Item → Type 0
 IsFree true i t = node_of i.key t ≡ None
 IsFree false i t = Unit {0}
 
-abbrev pub IsOut : Option LeaverRecord → List Item → Type 0
-IsOut None t = Unit {0}
-IsOut (Some l) t = IsFree l.listed l.out.item t
+abbrev pub IsOut : Bool → Option MoveRecord → List Item → Type 0
+IsOut b None t = Unit {0}
+IsOut b (Some r) t = IsFree b r.item t
 
-abbrev pub ungone : EvictionRecord → Shell → Shell
-ungone g x = record x { queues = undone g.shift (back (out_of g.left) x.queues); table = entered g.left x.table }
+abbrev pub unevicted : EvictionRecord → Shell → Shell
+unevicted g x = record x { queues = undone_moves g.moves x.queues; table = entered g.listed g.moves.out x.table }
 
-pub record FitsGone (g : EvictionRecord) (x : Shell) : Type 0 where
-  pub left : FitsMove (out_of g.left) x.queues
-  pub shift : Fits g.shift (back (out_of g.left) x.queues)
-  pub table : IsOut g.left x.table
-  pub stays : needed g.shift.to ≡ 0
+pub record FitsEviction (g : EvictionRecord) (x : Shell) : Type 0 where
+  pub moves : FitsMoves g.moves x.queues
+  pub table : IsOut g.listed g.moves.out x.table
 
 -- changes
 
@@ -118,7 +113,7 @@ unchanged (Read s i t) x = let y = untouched t x in record y { stripes = set x.s
 unchanged (Passed before now) x = record x { holder = rephased before x.holder }
 unchanged (Applied before task t) x = let y = untouched t x in record y { writes = task ∷ x.writes; holder = refilled before x.holder }
 unchanged (Cleared before i r) x = record x { queues = back r x.queues; writes = Remove i ∷ x.writes; holder = refilled before x.holder }
-unchanged (Evicted before g) x = let y = ungone g x in record y { holder = rephased before x.holder }
+unchanged (Evicted before g) x = let y = unevicted g x in record y { holder = rephased before x.holder }
 unchanged (Ended h before now) x = record x { drain = before; holder = Some h }
 
 abbrev pub FitsChange : Change → Shell → Type 0
@@ -133,7 +128,7 @@ FitsChange (Read s i t) x = FitsTouched t x × (s < length x.stripes) × (length
 FitsChange (Passed before now) x = IsInPhase now x.holder
 FitsChange (Applied before task t) x = FitsTouched t x × (length x.writes < 128) × IsInPhase Writes x.holder × HasLeft x.holder
 FitsChange (Cleared before i r) x = FitsMove r x.queues × (length x.writes < 128) × IsInPhase Writes x.holder × HasLeft x.holder
-FitsChange (Evicted before g) x = FitsGone g x × IsInPhase Evictions x.holder
+FitsChange (Evicted before g) x = FitsEviction g x × IsInPhase Evictions x.holder
 FitsChange (Ended h before now) x = (x.drain ≡ now) × (x.holder ≡ None)
 
 abbrev pub undone_step : ShellRecord → Shell → Shell
@@ -146,34 +141,19 @@ pub record FitsStep (r : ShellRecord) (x : Shell) : Type 0 where
 
 -- the change that a step makes to x
 
-abbrev pub second_of : ℕ → Option Item → Queues → Option MoveRecord
-second_of size None q = None
-second_of size (Some i) q = Some (move_record i (Some Probation) q)
-
-abbrev pub demotion : ℕ → Queues → Option MoveRecord
-demotion size q = cond (nat_lt size (length q.protected)) (second_of size (first q.protected) q) None
-
-abbrev pub hit_first : Item → Option Queue → Queues → Option MoveRecord
-hit_first i None q = None
-hit_first i (Some Window) q = Some (move_record i (Some Window) q)
-hit_first i (Some Probation) q = Some (move_record i (Some Protected) q)
-hit_first i (Some Protected) q = Some (move_record i (Some Protected) q)
-
-abbrev pub hit_second : ℕ → Item → Option Queue → Queues → Option MoveRecord
-hit_second size i None q = None
-hit_second size i (Some Window) q = None
-hit_second size i (Some Probation) q = demotion size (moved i Protected q)
-hit_second size i (Some Protected) q = None
+-- a hit's moves, by where the item is queued
+abbrev pub hit_moves : ℕ → Item → Option Queue → Queues → Moves
+hit_moves size i None q = record { first = None; out = None; last = None }
+hit_moves size i (Some p) q = moves_of (hit_plan size i p q) q
 
 abbrev pub touched_of : Item → Shell → UseRecord
 touched_of i x = record {
   frequency = record_of x.frequency i.key;
-  first = hit_first i (place_of i x.queues) x.queues;
-  second = hit_second (protected_size x.config) i (place_of i x.queues) x.queues;
+  moves = hit_moves (protected_size x.config) i (place_of i x.queues) x.queues;
 }
 
 abbrev pub added_of : Item → Shell → UseRecord
-added_of i x = record { frequency = record_of x.frequency i.key; first = Some (move_record i (Some Window) x.queues); second = None }
+added_of i x = record { frequency = record_of x.frequency i.key; moves = moves_of (stay_plan Window i) x.queues }
 
 abbrev pub cleared_of : Item → Option Queue → Queues → Option MoveRecord
 cleared_of i None q = None
@@ -204,23 +184,24 @@ abbrev pub write_change : Holder → List Task → Shell → Change
 write_change h [] x = Passed h.phase Writes
 write_change h (t ∷ rest) x = cond (eqb h.left 0) (Passed h.phase Writes) (task_change h.phase t x)
 
-abbrev pub left_of : Item → List Item → Queues → LeaverRecord
-left_of v t q = record { out = move_record v None q; listed = is_listed v t }
+-- whether the item that leaves the queues leaves the table too
+abbrev pub leaves_table : Option Item → List Item → Bool
+leaves_table None t = false
+leaves_table (Some i) t = is_listed i t
 
-abbrev pub contest_gone : Item → Option Item → FrequencyData → List Item → Queues → Option LeaverRecord
-contest_gone c None f t q = None
-contest_gone c (Some v) f t q = cond (same c v) (Some (left_of c t q)) (cond (admits f c.key v.key) (Some (left_of v t q)) (Some (left_of c t q)))
+abbrev pub eviction_record : Plan → Shell → EvictionRecord
+eviction_record p x = record { moves = moves_of p x.queues; listed = leaves_table p.leaves x.table }
 
--- q is the queues with the candidate in probation
-abbrev pub gone_of : ℕ → Item → FrequencyData → List Item → Queues → Option LeaverRecord
-gone_of capacity c f t q = cond (nat_lt capacity (total q)) (contest_gone c (first q.probation) f t q) None
-
-abbrev pub oldest_change : Holder → Option Item → Shell → Change
-oldest_change h None x = Passed h.phase Evictions
-oldest_change h (Some c) x = Evicted h.phase record { shift = move_record c (Some Probation) x.queues; left = gone_of x.config.capacity c x.frequency x.table (moved c Probation x.queues) }
+-- by the candidate and the eviction's plan
+abbrev pub planned_change : Holder → Option Item → Plan → Shell → Change
+planned_change h None p x = Passed h.phase Evictions
+planned_change h (Some c) p x = Evicted h.phase (eviction_record p x)
 
 abbrev pub evict_change : Holder → Shell → Change
-evict_change h x = cond (is_over x) (oldest_change h (first x.queues.window) x) (Passed h.phase Evictions)
+evict_change h x = planned_change h
+    (candidate_of (three_queues x.config) x.queues)
+    (eviction_plan (three_queues x.config) (admits x.frequency) x.queues)
+    x
 
 abbrev pub if_held : (Holder → Change) → Option Holder → Change
 if_held f None = Nothing

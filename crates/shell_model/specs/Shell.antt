@@ -18,6 +18,8 @@ use Rattle.segments.specs.declared.records.Queue.{Queue}
 use Rattle.segments.specs.Items.{same, without, first}
 use Rattle.segments.specs.Queues.{Queues, place_of, pushed, taken, moved, total}
 use Rattle.admission.specs.Frequency.{FrequencyData}
+use Rattle.replacement.specs.Rules.{three_queues}
+use Rattle.replacement.specs.Table.{after_hit}
 use Rattle.shell_buffers.specs.declared.task.Task.{Task}
 use Rattle.shell_buffers.specs.declared.task.Task.TheVariants.{Add, Update, Remove}
 use Rattle.shell_model.specs.declared.holder.Holder.{Holder}
@@ -39,16 +41,13 @@ pub record Shell : Type 0 where
   pub stats : ShellStats
   pub applied : ℕ  -- how many steps stand
 
--- sizes
-
-abbrev pub main_size : Config → ℕ
-main_size c = c.capacity * c.main_percent / 100
+-- the sizes of the parts, by the policies' rules
 
 abbrev pub window_size : Config → ℕ
-window_size c = c.capacity - main_size c
+window_size c = (three_queues c).window
 
 abbrev pub protected_size : Config → ℕ
-protected_size c = main_size c * 80 / 100
+protected_size c = (three_queues c).protected
 
 -- the table
 
@@ -71,25 +70,6 @@ is_listed i t = is_node i.node (node_of i.key t)
 -- the item leaves the table where it is listed there: a newer node of its key stays
 abbrev pub unlisted : Item → List Item → List Item
 unlisted i t = cond (is_listed i t) (without i t) t
-
--- queues: a hit on an item, where it is queued
-
-abbrev pub demote : Option Item → Queues → Queues
-demote None q = q
-demote (Some i) q = moved i Probation q
-
--- protected over its size gives its oldest to probation
-abbrev pub demoted : ℕ → Queues → Queues
-demoted size q = cond (nat_lt size (length q.protected)) (demote (first q.protected) q) q
-
-abbrev pub hit_from : ℕ → Item → Option Queue → Queues → Queues
-hit_from size i None q = q
-hit_from size i (Some Window) q = moved i Window q
-hit_from size i (Some Probation) q = demoted size (moved i Protected q)
-hit_from size i (Some Protected) q = moved i Protected q
-
-abbrev pub hit : ℕ → Item → Queues → Queues
-hit size i q = hit_from size i (place_of i q) q
 
 -- queues: an item is taken out, where it is queued
 
@@ -158,7 +138,7 @@ abbrev pub recording : ℕ → Shell → Shell
 recording k x = record x { frequency = recorded x.frequency k }
 
 abbrev pub touching : Item → Shell → Shell
-touching i x = record x { frequency = recorded x.frequency i.key; queues = hit (protected_size x.config) i x.queues }
+touching i x = record x { frequency = recorded x.frequency i.key; queues = after_hit (protected_size x.config) i x.queues }
 
 abbrev pub drain_read : ℕ → List Item → Shell → Reply × Shell
 drain_read s [] x = (Empty, x)

@@ -8,5 +8,5 @@ mod stats;
 pub mod theorems;
 
 pub use holder::Holder;
-pub use record::{Change, EvictionRecord, LeaverRecord, ShellRecord, UseRecord};
+pub use record::{Change, EvictionRecord, ShellRecord, UseRecord};
 pub use stats::ShellStats;

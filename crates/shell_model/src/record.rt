@@ -1,6 +1,7 @@
 //! The undo record of a step.
 use crate::holder::Holder;
 use admission::FreqRecord;
+use replacement::Moves;
 use segments::MoveRecord;
 use shell_buffers::Task;
 use step_record::{Drain, Item, Phase, Reply, Worker};
@@ -10,22 +11,14 @@ use step_record::{Drain, Item, Phase, Reply, Worker};
 #[derive(Drop)]
 pub struct UseRecord {
     pub frequency: FreqRecord,
-    pub first: Option<MoveRecord>,
-    pub second: Option<MoveRecord>,
+    pub moves: Moves,
 }
 
-/// An item that left the queues, and whether it left the table with that.
-#[derive(Clone, Copy, Debug, PartialEq, Eq)]
-pub struct LeaverRecord {
-    pub out: MoveRecord,
-    pub listed: bool,
-}
-
-/// What an eviction moved: the candidate to probation, and the item that left.
+/// What an eviction moved in the queues, and whether the item that left them left the table too.
 #[derive(Clone, Copy, Debug, PartialEq, Eq)]
 pub struct EvictionRecord {
-    pub shift: MoveRecord,
-    pub left: Option<LeaverRecord>,
+    pub moves: Moves,
+    pub listed: bool,
 }
 
 /// What a step changed besides the statistics and the count of steps.

@@ -1,20 +1,7 @@
-use Rattle.std.proofs.Common.{option_map, ap, arith, Some, sym, subst}
-use Rattle.segments.specs.declared.records.Queue.TheVariants.{Window}
-use Rattle.segments.specs.declared.records.MoveRecord.{MoveRecord}
-use Rattle.segments.specs.Queues.{total}
+use Rattle.std.proofs.Common.{option_map}
 use Rattle.replacement.specs.Admission.{admits_in}
-use Rattle.replacement.specs.Plan.{eviction_plan, joining_first}
-use Rattle.replacement.specs.Effects.{IsEffect}
-use Rattle.replacement.proofs.Carrying.{moved-few}
 use Rattle.replacement.proofs.Served.{joined-effect}
 use Rattle.replacement.proofs.misses.windowed.Goals as goal
-
-pub evict_planned-effect-requires-clause-few : goal.evict_planned-effect-requires-clause-few
-evict_planned-effect-requires-clause-few c =
-    let t = ap total c.join-first.ensures.lists in
-    let f = moved-few c.args.item Window c.args.segments.now.lists in
-    let r = c.requires.few in
-    omega (arith, t, f, r)
 
 pub returns : goal.returns
 returns c =

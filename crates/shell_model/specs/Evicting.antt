@@ -1,19 +1,17 @@
--- The moves of the concurrent cache's maintenance by the policies' table of moves.
-use Rattle.std.specs.Prelude.{◌≡◌, ℕ, Option, Some, None, List}
+-- An eviction of the maintenance by the policies' table of moves.
+use Rattle.std.specs.Prelude.{◌≡◌, Option, Some, None, List}
 use Rattle.step_record.specs.declared.item.Item.{Item}
 use Rattle.step_record.specs.declared.outcome.Outcome.{Outcome}
 use Rattle.step_record.specs.declared.outcome.Outcome.TheVariants as outcome
 use Rattle.step_record.specs.declared.step.Reply.{Reply}
 use Rattle.step_record.specs.declared.step.Reply.TheVariants as reply
-use Rattle.segments.specs.Queues.{Queues}
-use Rattle.replacement.specs.Admission.{admits_in}
+use Rattle.segments.specs.Queues.{IsDistinct}
 use Rattle.replacement.specs.Rules.{three_queues}
-use Rattle.replacement.specs.Plan.{candidate_of}
-use Rattle.replacement.specs.Table.{Response, after_hit, eviction}
-use Rattle.shell_model.specs.Shell.{Shell, unlisted, hit, evict}
-
-abbrev pub HitsAgree : Type 0
-HitsAgree = (size : ℕ) (i : Item) (q : Queues) → hit size i q ≡ after_hit size i q
+use Rattle.replacement.specs.Plan.{candidate_of, eviction_plan}
+use Rattle.replacement.specs.Table.{Response, eviction}
+use Rattle.replacement.specs.Moving.{response}
+use Rattle.shell_model.specs.Frequency.{admits}
+use Rattle.shell_model.specs.Shell.{Shell, unlisted, evict}
 
 -- what is replied of a candidate, by the outcome and the item that left
 abbrev pub reply_by : Outcome → Option Item → Item → Reply
@@ -26,7 +24,7 @@ abbrev pub unlisted_by : Option Item → List Item → List Item
 unlisted_by None t = t
 unlisted_by (Some i) t = unlisted i t
 
--- an eviction's reply and the shell that it leaves, by its candidate and the table's response
+-- an eviction's reply and the shell that it leaves, by its candidate and what it comes to
 abbrev pub evicted_by : Option Item → Response → Shell → Reply × Shell
 evicted_by None r x = (reply.Fits, x)
 evicted_by (Some c) r x =
@@ -35,5 +33,12 @@ evicted_by (Some c) r x =
 abbrev pub EvictionsAgree : Type 0
 EvictionsAgree = (x : Shell) → evict x ≡ evicted_by
     (candidate_of (three_queues x.config) x.queues)
-    (eviction (three_queues x.config) (admits_in (Some x.frequency)) x.queues)
+    (eviction (three_queues x.config) (admits x.frequency) x.queues)
+    x
+
+-- the same by the plan, in which a candidate goes straight to its place, or out
+abbrev pub EvictionsPlanned : Type 0
+EvictionsPlanned = (x : Shell) → IsDistinct x.queues → evict x ≡ evicted_by
+    (candidate_of (three_queues x.config) x.queues)
+    (response (eviction_plan (three_queues x.config) (admits x.frequency) x.queues) x.queues)
     x
