@@ -1,10 +1,7 @@
-use Rattle.std.proofs.Common.{option_map, ap, arith, Some, sym, subst}
+use Rattle.std.proofs.Common.{option_map, ap, arith}
 use Rattle.segments.specs.declared.records.Queue.TheVariants.{Window}
-use Rattle.segments.specs.declared.records.MoveRecord.{MoveRecord}
 use Rattle.segments.specs.Queues.{total}
 use Rattle.replacement.specs.Admission.{admits_in}
-use Rattle.replacement.specs.Plan.{eviction_plan, joining_first}
-use Rattle.replacement.specs.Effects.{IsEffect}
 use Rattle.replacement.proofs.Carrying.{moved-few}
 use Rattle.replacement.proofs.Served.{joined-effect}
 use Rattle.replacement.proofs.misses.windowed.Goals as goal
