@@ -4,12 +4,15 @@ use Rattle.step_record.specs.Pace.{IsPaced}
 use Rattle.admission.specs.declared.freq_record.FreqRecord.{FreqRecord}
 use Rattle.admission.specs.Shape.{Shape, IsShape}
 use Rattle.admission.specs.Eras.{halvings, age}
-use Rattle.admission.specs.Frequency.{FrequencyData, frequency_of, recorded, halves, halving_words, words_of_halvings, pace_of, IsFrequency}
+use Rattle.admission.specs.Frequency.{FrequencyData, frequency_of, recorded, halves, halving_words, words_of_halvings}
+use Rattle.admission.specs.Frequency.{pace_of, IsFrequency}
 use Rattle.admission.specs.FreqRecord.{record_of, undone, FitsRecord, size_of}
 
 -- what recording does to the data of any list of keys gives the data of the list with the key at its end
 abbrev pub RecordingAppends : Type 0
-RecordingAppends = (s : Shape) (keys : List ℕ) (key : ℕ) → IsShape s → recorded key (frequency_of s keys) ≡ frequency_of s (keys ++ key ∷ [])
+RecordingAppends =
+    (s : Shape) (keys : List ℕ) (key : ℕ) → IsShape s
+    → recorded key (frequency_of s keys) ≡ frequency_of s (keys ++ key ∷ [])
 
 -- a record fits what recording leaves
 abbrev pub RecordsFit : Type 0
@@ -19,13 +22,17 @@ RecordsFit = (f : FrequencyData) (key : ℕ) → IsFrequency f → FitsRecord (r
 abbrev pub RecordsUndo : Type 0
 RecordsUndo = (f : FrequencyData) (key : ℕ) → IsFrequency f → undone (record_of key f) (recorded key f) ≡ f
 
--- a record's size, that of a halving's record stays as it is, and how the words_of_halvings of the halvings rises and falls by it
+-- a record's size, that of a halving's record stays as it is, and how the words_of_halvings of the halvings rises and
+-- falls by it
 pub record RecordsWeigh : Type 0 where
   pub of_lists : (s : Shape) (keys : List ℕ) → halving_words (frequency_of s keys) ≡ s.width / 16 + s.size / 64
-  pub size : (f : FrequencyData) (key : ℕ) → IsFrequency f → size_of (record_of key f) ≡ cond (halves f) (halving_words f) 0
+  pub size : (f : FrequencyData) (key : ℕ) → IsFrequency f
+      → size_of (record_of key f) ≡ cond (halves f) (halving_words f) 0
   pub same : (f : FrequencyData) (key : ℕ) → halving_words (recorded key f) ≡ halving_words f
-  pub rises : (f : FrequencyData) (key : ℕ) → IsFrequency f → words_of_halvings (recorded key f) ≡ words_of_halvings f + size_of (record_of key f)
-  pub falls : (f : FrequencyData) (r : FreqRecord) → FitsRecord r f → words_of_halvings f ≡ words_of_halvings (undone r f) + size_of r
+  pub rises : (f : FrequencyData) (key : ℕ) → IsFrequency f
+      → words_of_halvings (recorded key f) ≡ words_of_halvings f + size_of (record_of key f)
+  pub falls : (f : FrequencyData) (r : FreqRecord) → FitsRecord r f
+      → words_of_halvings f ≡ words_of_halvings (undone r f) + size_of r
 
 -- age and halvings are those of the number of recorded keys; n keys bring at most n halvings, and m keys more at most
 -- 1 + m/(5*c) more

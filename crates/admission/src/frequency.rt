@@ -1,9 +1,12 @@
 //! Approximate access frequencies.
-ghost use Rattle.std.specs.Prelude.{◌≡◌, ◌<◌, ◌≤◌, ◌+◌, ◌-◌, ◌^◌, ◌*◌, ◌++◌, ◌∷◌, List, [], ℕ, nat_lt, cond, Some, IfOk, OnOk, OnErr};
+ghost use Rattle.std.specs.Prelude.{◌≡◌, ◌<◌, ◌≤◌, ◌+◌, ◌-◌, ◌^◌, ◌*◌, ◌++◌, ◌∷◌, List, [], ℕ, nat_lt, cond, Some};
+ghost use Rattle.std.specs.Prelude.{IfOk, OnOk, OnErr};
 ghost use Rattle.step_record.specs.declared.limits.TheConstants.{MAX_CAPACITY};
 ghost use Rattle.admission.specs.Shape.{Shape, IsShape};
-ghost use Rattle.admission.specs.Frequency.{StandsFor, frequency_of, marked, faded, recorded, halves, halving_words, estimate as estimate_of};
-ghost use Rattle.admission.specs.FreqRecord.{record_of, mark_of, lost_of, undone, FitsRecord, unmarked, FitsMark, unfaded, FitsFade, size_of};
+ghost use Rattle.admission.specs.Frequency.{StandsFor, frequency_of, marked, faded, recorded, halves, halving_words};
+ghost use Rattle.admission.specs.Frequency.{estimate as estimate_of};
+ghost use Rattle.admission.specs.FreqRecord.{record_of, mark_of, lost_of, undone, FitsRecord, unmarked, FitsMark};
+ghost use Rattle.admission.specs.FreqRecord.{unfaded, FitsFade, size_of};
 
 use crate::doorkeeper::Doorkeeper;
 use crate::freq_record::{FreqRecord, Halving, Mark};
@@ -13,8 +16,8 @@ use std::alloc::{AllocError, Global};
 use std::marker::Model;
 use step_record::{Key, Spread};
 
-/// Approximate access frequencies: a sketch behind a doorkeeper, both aged by halving. Contracts see the capacity, the table of
-/// the sketch, the doorkeeper, the age and the halvings.
+/// Approximate access frequencies: a sketch behind a doorkeeper, both aged by halving. Contracts see the capacity, the
+/// table of the sketch, the doorkeeper, the age and the halvings.
 #[derive(Drop)]
 pub struct Frequency {
     capacity: u32,
@@ -31,7 +34,13 @@ impl Model for Frequency {
 
     ghost Value = { FrequencyData };
 
-    ghost view = { λ f. record { capacity = f.capacity; table = f.sketch; door = f.door; age = f.age; halvings = f.halvings } };
+    ghost view = { λ f. record {
+      capacity = f.capacity;
+      table = f.sketch;
+      door = f.door;
+      age = f.age;
+      halvings = f.halvings;
+    } };
 
     ghost invariant = { λ f. (1 ≤ f.capacity) × (f.capacity ≤ MAX_CAPACITY) × (f.age < 10 * f.capacity) };
 }
@@ -72,7 +81,8 @@ impl Frequency {
         ensures appends { (s : Shape) (keys : List ℕ) → IsShape s → self.old ≡ frequency_of s keys
             → OnOk result (self.new ≡ frequency_of s (keys ++ key ∷ [])) }
     {
-        // Inlined, so that what a caller does not read of the record is not written; the halving is apart, as it is rare.
+        // Inlined, so that what a caller does not read of the record is not written; the halving is apart, as it is
+        // rare.
         let mark = self.mark(key);
         let halving = if self.age + 1 == 10 * self.capacity {
             Some(self.end_sample(mark)?)
@@ -167,18 +177,20 @@ impl Frequency {
         }
     }
 
-    // The key that left the mark fills the sample: the counters are halved and the doorkeeper is emptied, or the mark is
-    // taken back if that is out of memory.
+    // The key that left the mark fills the sample: the counters are halved and the doorkeeper is emptied, or the mark
+    // is taken back if that is out of memory.
     #[cold]
     #[inline(never)]
     fn end_sample(&mut self, mark: Mark) -> Result<Halving, AllocError>
         requires full { self.old.age + 1 ≡ 10 * self.old.capacity }
         requires few { self.old.halvings < 2 ^ 64 - 1 }
         requires mark { FitsMark mark self.old }
-        ensures after { OnOk result (self.new ≡ record (faded self.old) { age = 5 * self.old.capacity; halvings = self.old.halvings + 1 }) }
+        ensures after { OnOk result (self.new ≡ record (faded self.old)
+            { age = 5 * self.old.capacity; halvings = self.old.halvings + 1 }) }
         ensures record_is { IfOk result (λ lost. lost ≡ lost_of self.old) }
         ensures fits { IfOk result (λ lost. FitsRecord record { mark = mark; halving = Some lost } self.new) }
-        ensures undone { IfOk result (λ lost. undone record { mark = mark; halving = Some lost } self.new ≡ unmarked mark self.old) }
+        ensures undone { IfOk result (λ lost. undone record { mark = mark; halving = Some lost } self.new
+            ≡ unmarked mark self.old) }
         ensures err { OnErr result (self.new ≡ unmarked mark self.old) }
     {
         match self.fade() {

@@ -1,6 +1,7 @@
 //! What the definitions give, for the engines above. Each of these functions does nothing: its contract is the
 //! theorem.
-ghost use Rattle.admission.specs.Theorems.{RecordingAppends, RecordsFit, RecordsUndo, RecordsWeigh, RecordingPaces, CountsRecords, AreWhole};
+ghost use Rattle.admission.specs.Theorems.{RecordingAppends, RecordsFit, RecordsUndo, RecordsWeigh, RecordingPaces};
+ghost use Rattle.admission.specs.Theorems.{CountsRecords, AreWhole};
 
 /// Recording a key in the data of a list of keys gives the data of the list with the key at its end.
 pub fn recording_appends()

@@ -1,6 +1,7 @@
 -- How a session is kept: its entries, an undo record for each applied step, and how these lead back.
 use Rattle.std.specs.Prelude.{◌≡◌, ℕ, ◌+◌, ◌-◌, ◌≤◌, Option, Some, List, [], ◌∷◌, ◌++◌, length, take, drop, sum_by, min}
 use Rattle.step_record.specs.declared.entry.Entry.{Entry}
+use Rattle.step_record.specs.declared.limits.TheConstants.{MAX_JOURNAL_LIMIT, MAX_STEPS}
 use Rattle.step_record.specs.History.{IsLegal}
 use Rattle.step_record.specs.Pace.{Pace, words_of_halvings}
 use Rattle.journal.specs.Session.{SessionState}
@@ -15,7 +16,8 @@ abbrev pub spare : ℕ → ℕ → ℕ → ℕ → ℕ
 spare c n d m = min (c - n) (d - m)
 
 -- the session that an engine, a limit, entries and the records of the first of them make up
-abbrev pub session_of : {C E D S R : Type 0} → (C → D → D) → (C → ℕ) → (E → D) → E → ℕ → List (Entry S R) → List C → ℕ → SessionState E D S R
+abbrev pub session_of : {C E D S R : Type 0} → (C → D → D) → (C → ℕ) → (E → D) → E → ℕ → List (Entry S R) → List C → ℕ
+    → SessionState E D S R
 session_of undone size seen engine limit es cs room = record {
   opening = opening_from undone (seen engine) cs;
   limit = limit;
@@ -27,7 +29,8 @@ session_of undone size seen engine limit es cs room = record {
 }
 
 -- each record fits the data that its step left, and undoing it leads to data from which the step gives its entry
-abbrev pub LeadsBack : {C D S R : Type 0} → (D → S → Option (R × D)) → (C → D → Type 0) → (C → D → D) → D → List (Entry S R) → List C → Type 0
+abbrev pub LeadsBack : {C D S R : Type 0} → (D → S → Option (R × D)) → (C → D → Type 0) → (C → D → D) → D
+    → List (Entry S R) → List C → Type 0
 LeadsBack act fits undone d [] [] = Unit {0}
 LeadsBack act fits undone d (e ∷ es) (c ∷ cs) =
     (act (undone c (opening_from undone d cs)) e.step ≡ Some (e.reply, opening_from undone d cs))
@@ -37,10 +40,12 @@ LeadsBack act fits undone d (e ∷ es) [] = ⊥
 
 -- the record fits, and holds the words of the halvings of its step
 abbrev pub FitsWithWords : {C D : Type 0} → (C → D → Type 0) → (C → D → D) → (C → ℕ) → (D → Pace) → C → D → Type 0
-FitsWithWords fits undone size pace c d = fits c d × (words_of_halvings (pace d) ≡ words_of_halvings (pace (undone c d)) + size c)
+FitsWithWords fits undone size pace c d =
+    fits c d × (words_of_halvings (pace d) ≡ words_of_halvings (pace (undone c d)) + size c)
 
 -- one record more, which fits the new data and leads back to the old
-pub record IsOneMore {C D : Type 0} (fits : C → D → Type 0) (undone : C → D → D) (x d : D) (cs cs' : List C) : Type 0 where
+pub record IsOneMore {C D : Type 0} (fits : C → D → Type 0) (undone : C → D → D) (x d : D)
+    (cs cs' : List C) : Type 0 where
   pub last : C
   pub longer : cs' ≡ cs ++ last ∷ []
   pub fitting : fits last d
@@ -48,11 +53,12 @@ pub record IsOneMore {C D : Type 0} (fits : C → D → Type 0) (undone : C → 
 
 -- The invariant: the entries of the applied steps have a record each and lead back by them, and the
 -- rest are legal from the data.
-pub record IsJournal {C D S R : Type 0} (act : D → S → Option (R × D)) (fits : C → D → Type 0) (undone : C → D → D) (count : D → ℕ)
+pub record IsJournal {C D S R : Type 0} (act : D → S → Option (R × D)) (fits : C → D → Type 0) (undone : C → D → D)
+    (count : D → ℕ)
     (d : D) (limit : ℕ) (es : List (Entry S R)) (cs : List C) : Type 0 where
   pub within : length cs ≤ length es
   pub room : length es ≤ limit
-  pub small : limit ≤ 16777216
-  pub steps : count (opening_from undone d cs) + limit ≤ 4294967296
+  pub small : limit ≤ MAX_JOURNAL_LIMIT
+  pub steps : count (opening_from undone d cs) + limit ≤ MAX_STEPS
   pub back : LeadsBack act fits undone d (take (length cs) es) cs
   pub redo : IsLegal act d (drop (length cs) es)

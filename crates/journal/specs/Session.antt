@@ -1,7 +1,8 @@
 -- A session: an engine with the journal of its steps, and what a session promises of them.
 -- (Defined by this project: the opening state is kept in no field; undo records lead back to it.)
-use Rattle.std.specs.Prelude.{◌≡◌, ℕ, ◌+◌, ◌*◌, ◌/◌, ◌≤◌, ◌^◌, Option, List, ◌++◌, length, take, drop}
+use Rattle.std.specs.Prelude.{◌≡◌, ℕ, ◌+◌, ◌*◌, ◌/◌, ◌≤◌, Option, List, ◌++◌, length, take, drop}
 use Rattle.step_record.specs.declared.entry.Entry.{Entry}
+use Rattle.step_record.specs.declared.limits.TheConstants.{MAX_STEPS}
 use Rattle.step_record.specs.History.{after, IsLegal}
 use Rattle.step_record.specs.Pace.{Pace}
 
@@ -31,14 +32,15 @@ pub record HoldsFew (opening now : Pace) (steps words : ℕ) : Type 0 where
 -- What a session promises: the entries of the applied steps are legal from the opening state, the
 -- engine's data are what they lead to, the undone ones are legal from there, and the undo records
 -- hold little. The engine's count of applied steps never comes to its end in a session.
-pub record IsSoundSession {E D S R : Type 0} (act : D → S → Option (R × D)) (count : D → ℕ) (pace : D → Pace) (seen : E → D)
+pub record IsSoundSession {E D S R : Type 0} (act : D → S → Option (R × D)) (count : D → ℕ) (pace : D → Pace)
+    (seen : E → D)
     (s : SessionState E D S R) : Type 0 where
   pub legal : IsLegal act s.opening s.kept
   pub stands : seen s.engine ≡ after act s.opening s.kept
   pub redo : IsLegal act (seen s.engine) s.tail
   pub room : length s.kept + length s.tail ≤ s.limit
   pub counted : count (seen s.engine) ≡ count s.opening + length s.kept
-  pub countable : count s.opening + s.limit ≤ 2 ^ 32
+  pub countable : count s.opening + s.limit ≤ MAX_STEPS
   pub holds : HoldsFew (pace s.opening) (pace (seen s.engine)) (length s.kept) s.held
 
 -- nothing that a session promises differs

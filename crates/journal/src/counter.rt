@@ -2,7 +2,7 @@
 ghost use Rattle.std.specs.Prelude.{◌≡◌};
 
 use std::marker::Model;
-use step_record::{Engine, StepFault};
+use step_record::{Engine, MAX_STEPS, StepFault};
 
 /// A count of steps. Its calls of `apply` and `undo` count from 1, and those whose numbers are
 /// given are refused memory. A step is no value, the reply is the new count, and so is the record.
@@ -15,12 +15,13 @@ pub struct Counter {
 
 impl Model for Counter {
     ghost use Rattle.std.specs.Prelude.{ℕ, ◌≤◌};
+    ghost use Rattle.step_record.specs.declared.limits.TheConstants.{MAX_STEPS};
 
     ghost Value = { ℕ };
 
     ghost view = { λ c. c.count };
 
-    ghost invariant = { λ c. c.count ≤ 4294967296 };
+    ghost invariant = { λ c. c.count ≤ MAX_STEPS };
 }
 
 impl Counter {
@@ -46,6 +47,7 @@ impl Counter {
 
 impl Engine for Counter {
     ghost use Rattle.std.specs.Prelude.{◌+◌, ◌-◌, ◌≤◌, cond, eqb, Some, None};
+    ghost use Rattle.step_record.specs.declared.limits.TheConstants.{MAX_STEPS};
     ghost use Rattle.std.proofs.Common.{rules};
     ghost use Rattle.step_record.specs.Pace.{still, still-paced};
 
@@ -59,9 +61,9 @@ impl Engine for Counter {
 
     ghost seen = { λ c. c };
 
-    ghost act = { λ n s. cond (eqb n 4294967296) None (Some (n + 1, n + 1)) };
+    ghost act = { λ n s. cond (eqb n MAX_STEPS) None (Some (n + 1, n + 1)) };
 
-    ghost fits = { λ r n. (1 ≤ n) × (n ≤ 4294967296) };
+    ghost fits = { λ r n. (1 ≤ n) × (n ≤ MAX_STEPS) };
 
     ghost undone = { λ r n. n - 1 };
 
@@ -72,7 +74,7 @@ impl Engine for Counter {
     ghost pace = { λ n. still };
 
     fn apply(&mut self, _step: &()) -> Result<(u64, u64), StepFault> {
-        if self.count == 1 << 32 {
+        if self.count == MAX_STEPS {
             return Err(StepFault::NotNow);
         }
         if self.is_refused() {

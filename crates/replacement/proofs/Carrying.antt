@@ -1,5 +1,5 @@
 -- Carrying a plan out is undone by its record.
-use Rattle.std.proofs.Common.{◌≡◌, ℕ, ◌+◌, ◌≤◌, Option, Some, None, List, length, ap, sym, refl, arith, subst}
+use Rattle.std.proofs.Common.{◌≡◌, ◌+◌, ◌≤◌, Option, Some, None, List, length, ap, sym, refl, arith, subst}
 use Rattle.step_record.specs.declared.item.Item.{Item}
 use Rattle.segments.specs.declared.records.Queue.{Queue}
 use Rattle.segments.specs.declared.records.Queue.TheVariants.{Window, Probation, Protected}
@@ -12,9 +12,7 @@ use Rattle.std.proofs.Common.{length-append}
 use Rattle.segments.proofs.MoveLaws.{Leads, move_leads, out_leads}
 use Rattle.segments.proofs.QueueLists.{absent, is_absent, absent-taken, taken-absent, distinct-taken, distinct-put, put-last, taken-first}
 use Rattle.replacement.specs.declared.record.Moves.{Moves}
-use Rattle.replacement.specs.declared.record.Effect.{Effect}
 use Rattle.replacement.specs.Plan.{Transfer, Plan}
-use Rattle.replacement.specs.Effects.{IsEffect}
 use Rattle.replacement.specs.Moving.{transferred, removed, queues_after, transfer_record, removal_record, moves_of, undone_by, undone_moves, FitsBy, needed_by, FitsMoves}
 
 pub moved-distinct : (i : Item) (q : Queue) (s : Queues) → IsDistinct s → IsDistinct (moved i q s)

@@ -3,18 +3,18 @@ use Rattle.std.proofs.Common.{◌≡◌, ℕ, ◌+◌, ◌≤◌, Bool, true, fa
 use Rattle.std.specs.Prelude.{if◌then◌else◌}
 use Rattle.std.proofs.lemmas.Bool.{cases_Bool}
 use Rattle.step_record.specs.declared.item.Item.{Item}
-use Rattle.step_record.specs.declared.outcome.Outcome.TheVariants.{Kept, Evicted, Rejected}
+use Rattle.step_record.specs.declared.outcome.Outcome.TheVariants.{Evicted}
 use Rattle.segments.specs.declared.records.Queue.{Queue}
 use Rattle.segments.specs.declared.records.Queue.TheVariants.{Window, Probation, Protected}
 use Rattle.segments.specs.Items.{same, times, without, first}
 use Rattle.segments.specs.Queues.{Queues, queue_of, place_of, pushed, taken, moved, total, IsDistinct}
-use Rattle.segments.proofs.ItemLists.{same-refl, same-sym, times-append, length-without, without-none, without-append}
+use Rattle.segments.proofs.ItemLists.{same-refl, same-sym, length-without, without-none, without-append}
 use Rattle.segments.proofs.MoveLaws.{taken-moved}
 use Rattle.segments.proofs.QueueLists.{first-stands}
 use Rattle.replacement.specs.declared.rules.Rules.{Rules}
-use Rattle.replacement.specs.Table.{Response, kept_in, with_recent, demoted, hit_in, rejection, contest, trial, trial_of, eviction, replacing, direct, miss, access_in, access}
-use Rattle.replacement.specs.Plan.{Plan, Transfer, transfer, demotion, hit_plan, stay_plan, rejection_plan, contest_plan, direct_plan, candidate_of, eviction_of, eviction_plan, joining_first, miss_plan, plan_in, plan}
-use Rattle.replacement.specs.Moving.{transferred, removed, queues_after, response}
+use Rattle.replacement.specs.Table.{Response, kept_in, with_recent, demoted, rejection, contest, trial_of, eviction, replacing, direct, miss, access_in, access}
+use Rattle.replacement.specs.Plan.{Plan, Transfer, transfer, demotion, stay_plan, contest_plan, direct_plan, candidate_of, eviction_of, eviction_plan, joining_first, miss_plan, plan_in, plan}
+use Rattle.replacement.specs.Moving.{transferred, removed, response}
 use Rattle.replacement.specs.Theorems.{HitsPlanned, EvictionsPlanned, AccessesPlanned}
 use Rattle.replacement.proofs.Carrying.{moved-distinct, pushed-moved, still-absent, carries, plan-few}
 

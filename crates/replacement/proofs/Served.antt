@@ -9,9 +9,9 @@ use Rattle.segments.specs.Queues.{Queues, place_of, moved, IsDistinct}
 use Rattle.replacement.specs.declared.record.Moves.{Moves}
 use Rattle.replacement.specs.declared.record.Effect.{Effect}
 use Rattle.replacement.specs.declared.rules.Rules.{Rules}
-use Rattle.replacement.specs.Plan.{Transfer, Plan, hit_plan, direct_plan, eviction_plan, joining_first, miss_plan, plan_in, plan}
+use Rattle.replacement.specs.Plan.{Transfer, Plan, hit_plan, direct_plan, eviction_plan, joining_first, miss_plan, plan}
 use Rattle.replacement.specs.Table.{hit_in, after_hit}
-use Rattle.replacement.specs.Moving.{transferred, removed, queues_after, transfer_record, removal_record, moves_of, undone_moves, FitsMoves}
+use Rattle.replacement.specs.Moving.{transferred, removed, queues_after, transfer_record, removal_record, moves_of}
 use Rattle.replacement.specs.Effects.{IsEffect, IsHit}
 use Rattle.replacement.proofs.Carrying.{IsUndone, undoes}
 use Rattle.replacement.proofs.Planned.{plan-at, hits-planned, evicts-first}

@@ -1,5 +1,5 @@
 -- That a plan was carried out.
-use Rattle.std.specs.Prelude.{◌≡◌, ℕ, Option, Some}
+use Rattle.std.specs.Prelude.{◌≡◌, ℕ, Some}
 use Rattle.step_record.specs.declared.item.Item.{Item}
 use Rattle.segments.specs.declared.records.Queue.{Queue}
 use Rattle.segments.specs.Queues.{Queues, place_of}

@@ -61,9 +61,9 @@ pub(crate) fn hit_planned(segments: &mut Segments, size: usize, item: Item) -> O
     })
 }
 
-/// A hit on an item, where protected holds `size` items: an item of the window goes to the window's recent end, any other
-/// to protected's, and where one that came from probation takes protected over its size, the oldest item there goes to
-/// probation's recent end. The undo record; `None`, and nothing moved, where the item stands in no queue.
+/// A hit on an item, where protected holds `size` items: an item of the window goes to the window's recent end, any
+/// other to protected's, and where one that came from probation takes protected over its size, the oldest item there
+/// goes to probation's recent end. The undo record; `None`, and nothing moved, where the item stands in no queue.
 #[inline(always)]
 pub fn hit(segments: &mut Segments, size: usize, item: Item) -> Option<Moves>
     ensures absent { result ≡ None ↔ place_of item segments.old.lists ≡ None }

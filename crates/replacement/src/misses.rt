@@ -26,7 +26,8 @@ pub(crate) fn direct(
     requires absent { place_of item segments.old.lists ≡ None }
     requires distinct { IsDistinct segments.old.lists }
     requires room { 1 ≤ segments.old.spare }
-    ensures { IsEffect (direct_plan rules.now (admits_in (option_map (λ f. f.now) frequency.entry)) item segments.old.lists)
+    ensures { IsEffect (direct_plan rules.now (admits_in
+        (option_map (λ f. f.now) frequency.entry)) item segments.old.lists)
         segments.old.lists segments.new.lists result }
 {
     if count(segments) < rules.capacity as u128 {
@@ -69,7 +70,8 @@ pub(crate) fn evict_planned(
     rules: &Rules,
 ) -> Effect
     requires distinct { IsDistinct segments.old.lists }
-    ensures { IsEffect (eviction_plan rules.now (admits_in (option_map (λ f. f.now) frequency.entry)) segments.old.lists)
+    ensures { IsEffect (eviction_plan rules.now (admits_in
+        (option_map (λ f. f.now) frequency.entry)) segments.old.lists)
         segments.old.lists segments.new.lists result }
 {
     let mut effect = Effect {
@@ -116,7 +118,8 @@ pub(crate) fn windowed(
     requires distinct { IsDistinct segments.old.lists }
     requires room { 1 ≤ segments.old.spare }
     ensures { IsEffect (joining_first item
-        (eviction_plan rules.now (admits_in (option_map (λ f. f.now) frequency.entry)) (moved item Queue.Window segments.old.lists)))
+        (eviction_plan rules.now (admits_in (option_map (λ f. f.now) frequency.entry))
+        (moved item Queue.Window segments.old.lists)))
         segments.old.lists segments.new.lists result }
 {
     let first = join(segments, Queue::Window, item);
@@ -125,10 +128,10 @@ pub(crate) fn windowed(
     effect
 }
 
-/// One eviction. Where the window is over its size, its oldest item goes to probation's recent end as the candidate; where
-/// the queues then hold more than the capacity, probation's oldest is the victim. Where these are one item it leaves; else
-/// the victim leaves if the candidate is admitted against it (`Evicted`), and the candidate if not (`Rejected`). In every
-/// other case nothing leaves (`Kept`).
+/// One eviction. Where the window is over its size, its oldest item goes to probation's recent end as the candidate;
+/// where the queues then hold more than the capacity, probation's oldest is the victim. Where these are one item it
+/// leaves; else the victim leaves if the candidate is admitted against it (`Evicted`), and the candidate if not
+/// (`Rejected`). In every other case nothing leaves (`Kept`).
 #[inline(always)]
 pub fn evict(segments: &mut Segments, frequency: Option<&Frequency>, rules: &Rules) -> Effect
     requires distinct { IsDistinct segments.old.lists }
@@ -137,7 +140,8 @@ pub fn evict(segments: &mut Segments, frequency: Option<&Frequency>, rules: &Rul
     ensures lists { segments.new.lists
         ≡ (eviction rules.now (admits_in (option_map (λ f. f.now) frequency.entry)) segments.old.lists).queues }
     ensures record { result.moves
-        ≡ moves_of (eviction_plan rules.now (admits_in (option_map (λ f. f.now) frequency.entry)) segments.old.lists) segments.old.lists }
+        ≡ moves_of (eviction_plan rules.now (admits_in
+        (option_map (λ f. f.now) frequency.entry)) segments.old.lists) segments.old.lists }
     ensures fits { FitsMoves result.moves segments.new.lists }
     ensures undone { undone_moves result.moves segments.new.lists ≡ segments.old.lists }
 {

@@ -24,7 +24,8 @@ fn access_planned<C>(
     item: Item,
 ) -> Effect
     requires room { 1 ≤ segments.old.spare }
-    ensures effect { IsEffect (plan rules.now (admits_in (option_map (λ f. f.now) frequency.entry)) item segments.old.lists)
+    ensures effect { IsEffect (plan rules.now (admits_in
+        (option_map (λ f. f.now) frequency.entry)) item segments.old.lists)
         segments.old.lists segments.new.lists result }
     ensures distinct { IsDistinct segments.old.lists }
 {
@@ -43,8 +44,8 @@ fn access_planned<C>(
     }
 }
 
-/// Accesses an item: a hit where it stands in a queue, else a miss, by the rules. Where keys are counted, `frequency` is
-/// the one that already has the item's key. It requires room for one item.
+/// Accesses an item: a hit where it stands in a queue, else a miss, by the rules. Where keys are counted, `frequency`
+/// is the one that already has the item's key. It requires room for one item.
 ///
 /// `C` is a type of the caller's choice, of which nothing is asked: each has code of its own, so that where callers
 /// that keep the undo record choose one type and those that drop it another, the latter's code writes no record.
@@ -61,7 +62,8 @@ pub fn access<C>(
     ensures lists { segments.new.lists
         ≡ (access rules.now (admits_in (option_map (λ f. f.now) frequency.entry)) item segments.old.lists).queues }
     ensures record { result.moves
-        ≡ moves_of (plan rules.now (admits_in (option_map (λ f. f.now) frequency.entry)) item segments.old.lists) segments.old.lists }
+        ≡ moves_of (plan rules.now (admits_in (option_map
+        (λ f. f.now) frequency.entry)) item segments.old.lists) segments.old.lists }
     ensures fits { FitsMoves result.moves segments.new.lists }
     ensures undone { undone_moves result.moves segments.new.lists ≡ segments.old.lists }
     // what holds of every Segments: no item stands twice

@@ -6,8 +6,8 @@ pub fn hits_planned()
     ensures { HitsPlanned }
 {}
 
-/// The plan of an eviction, in which a candidate goes straight to its place or out, gives what the table gives by way of
-/// probation.
+/// The plan of an eviction, in which a candidate goes straight to its place or out, gives what the table gives by way
+/// of probation.
 pub fn evictions_planned()
     ensures { EvictionsPlanned }
 {}

@@ -35,7 +35,7 @@ pub record IsBefore (next : List ℕ) (start at : ℕ) (whole : List ℕ) (befor
 -- a key and a node spread over the upper bits of one product by a number near 2^64 over the golden ratio (Knuth's
 -- multiplicative hashing)
 abbrev pub hash : Item → ℕ
-hash i = ((i.key + i.node * 4294967296) * 11400714819323198485) % 18446744073709551616
+hash i = ((i.key + i.node * 2 ^ 32) * 11400714819323198485) % 2 ^ 64
 
 abbrev pub bucket : ℕ → Item → ℕ
 bucket bits i = hash i / 2 ^ (64 - bits)

@@ -1,6 +1,7 @@
 //! How a table gets room for one more item: its first slots and chains, a free slot more, and wider chains.
 ghost use Rattle.std.specs.Prelude.{◌≡◌, ◌<◌, ◌≤◌, ◌*◌, ◌^◌, ◌++◌, ◌∷◌, [], OnOk, OnErr, IfOk, length};
-ghost use Rattle.segments.specs.Ring.{items, chains, olders, newers, tags, IsRing, ring, order_of, no_slots, more_free, lists, IsQueued};
+ghost use Rattle.segments.specs.Ring.{items, chains, olders, newers, tags, IsRing, ring, order_of, no_slots, more_free};
+ghost use Rattle.segments.specs.Ring.{lists, bare_slot, IsQueued};
 ghost use Rattle.segments.specs.Index.{IsLoaded};
 ghost use Rattle.segments.specs.Table.{IsHeld, lengths_of, one_more, IsSound, IsSame};
 ghost use Rattle.segments.specs.declared.records.Queue.TheVariants.{Window};
@@ -13,7 +14,7 @@ use std::alloc::{AllocError, Global};
 use step_record::Item;
 
 /// Slots are numbered by 32 bits.
-const MAX_SLOTS: usize = 4294967295;
+const MAX_SLOTS: usize = (1 << 32) - 1;
 
 /// The first index has at least 2^3 chains.
 const MIN_FIRST_BITS: u32 = 3;
@@ -23,7 +24,7 @@ const MAX_FIRST_BITS: u32 = 24;
 
 /// A slot of the ring that holds no item.
 fn bare(older: u32, newer: u32) -> Slot
-    ensures { result ≡ record { item = record { key = 0; node = 0 }; chain = 0; older = older; newer = newer; queue = Window } }
+    ensures { result ≡ bare_slot older newer }
 {
     Slot {
         item: Item { key: 0, node: 0 },
@@ -58,7 +59,8 @@ fn begin(alloc: Global, slots: &mut Vec<Slot>, index: &mut Index) -> Result<(), 
     requires sound { IsSound slots.old.items index.old.heads.items index.old.bits }
     requires few { length slots.old.items < 2 ^ 32 }
     requires load { IsLoaded (length slots.old.items) index.old.bits }
-    ensures held { OnOk result (IsHeld slots.new.items index.new.heads.items index.new.bits (order_of slots.new.items)) }
+    ensures held { OnOk result (IsHeld slots.new.items index.new.heads.items index.new.bits
+        (order_of slots.new.items)) }
     ensures same { IsSame slots.old.items slots.new.items }
     ensures load { IsLoaded (length slots.new.items) index.new.bits }
     ensures few { length slots.new.items < 2 ^ 32 }
@@ -78,7 +80,8 @@ fn begin(alloc: Global, slots: &mut Vec<Slot>, index: &mut Index) -> Result<(), 
 fn add_slot(slots: &mut Vec<Slot>) -> Result<(), AllocError>
     requires ring { IsRing (newers slots.old.items) (olders slots.old.items) (ring (order_of slots.old.items)) }
     requires few { length slots.old.items < 2 ^ 32 }
-    ensures ring { OnOk result (IsRing (newers slots.new.items) (olders slots.new.items) (ring (more_free (length slots.old.items) (order_of slots.old.items)))) }
+    ensures ring { OnOk result (IsRing (newers slots.new.items) (olders slots.new.items)
+        (ring (more_free (length slots.old.items) (order_of slots.old.items)))) }
     ensures chains { OnOk result (chains slots.new.items ≡ chains slots.old.items ++ 0 ∷ []) }
     ensures items { OnOk result (items slots.new.items ≡ items slots.old.items ++ record { key = 0; node = 0 } ∷ []) }
     ensures tags { OnOk result (tags slots.new.items ≡ tags slots.old.items ++ Window ∷ []) }
@@ -125,7 +128,8 @@ pub(crate) fn grow(
     ensures sound { IsSound slots.new.items index.new.heads.items index.new.bits }
     ensures lists { lists slots.new.items ≡ lists slots.old.items }
     ensures few { length slots.new.items < 2 ^ 32 }
-    ensures ok { OnOk result (lengths_of (order_of slots.new.items) ≡ one_more (lengths_of (order_of slots.old.items))) }
+    ensures ok { OnOk result (lengths_of (order_of slots.new.items)
+        ≡ one_more (lengths_of (order_of slots.old.items))) }
     ensures err { OnErr result (lengths_of (order_of slots.new.items) ≡ lengths_of (order_of slots.old.items)) }
     ensures load { IsLoaded (length slots.new.items) index.new.bits }
 {

@@ -1,7 +1,9 @@
 //! The queues, in linked slots.
-ghost use Rattle.std.specs.Prelude.{◌≡◌, ◌↔◌, ◌+◌, ◌≤◌, ◌∷◌, ℕ, Ok, List, [], length, Option, Some, None, MatchOption, IfOk, OnOk, IfSome, IfNone, OnSome};
+ghost use Rattle.std.specs.Prelude.{◌≡◌, ◌↔◌, ◌+◌, ◌≤◌, ◌∷◌, ℕ, Ok, List, [], length, Option, Some, None, MatchOption};
+ghost use Rattle.std.specs.Prelude.{IfOk, OnOk, IfSome, IfNone, OnSome};
 ghost use Rattle.segments.specs.Items.{first};
-ghost use Rattle.segments.specs.Queues.{empty, queue_of, place_of, IsDistinct, pushed, taken, moved, popped, refreshed_to};
+ghost use Rattle.segments.specs.Queues.{empty, queue_of, place_of, IsDistinct, pushed, taken, moved, popped};
+ghost use Rattle.segments.specs.Queues.{refreshed_to};
 ghost use Rattle.segments.specs.Moves.{move_record, undone, Fits, needed};
 
 use crate::links::slot_behind;
@@ -131,8 +133,8 @@ impl Segments {
         })
     }
 
-    /// Moves the item to the recent end of the queue that it goes to on a hit: of the window if it stands there, else of
-    /// protected. Returns where it stood, and the record of the move. `None`, and nothing moved, if it stands in no
+    /// Moves the item to the recent end of the queue that it goes to on a hit: of the window if it stands there, else
+    /// of protected. Returns where it stood, and the record of the move. `None`, and nothing moved, if it stands in no
     /// queue. Looks the item up once.
     #[inline(always)]
     pub fn refresh(&mut self, item: Item) -> Option<(Queue, MoveRecord)>
@@ -163,7 +165,8 @@ impl Segments {
     /// Takes the oldest item of the queue out. `None`, and nothing moved, where the queue is empty.
     #[inline(always)]
     pub fn pop_oldest(&mut self, queue: Queue) -> Option<(Item, MoveRecord)>
-        ensures item { MatchOption result (queue_of queue self.old.lists ≡ []) (λ r. first (queue_of queue self.old.lists) ≡ Some r.0) }
+        ensures item { MatchOption result (queue_of queue self.old.lists ≡ [])
+            (λ r. first (queue_of queue self.old.lists) ≡ Some r.0) }
         ensures lists { self.new.lists ≡ popped queue self.old.lists }
         ensures none { IfNone result (self.new.lists ≡ self.old.lists) }
         ensures record { IfSome result (λ r. r.1 ≡ move_record r.0 None self.old.lists) }
@@ -197,7 +200,8 @@ impl Segments {
     /// empty. Does not search the hash index.
     #[inline(always)]
     pub fn send_oldest(&mut self, from: Queue, to: Queue) -> Option<MoveRecord>
-        ensures item { MatchOption result (queue_of from self.old.lists ≡ []) (λ r. first (queue_of from self.old.lists) ≡ Some r.item) }
+        ensures item { MatchOption result (queue_of from self.old.lists ≡ [])
+            (λ r. first (queue_of from self.old.lists) ≡ Some r.item) }
         ensures lists { IfSome result (λ r. self.new.lists ≡ moved r.item to self.old.lists) }
         ensures none { IfNone result (self.new.lists ≡ self.old.lists) }
         ensures record { IfSome result (λ r. r ≡ move_record r.item (Some to) self.old.lists) }

@@ -1,10 +1,11 @@
 //! Slots, index and lengths together: what holds of the three, and the calls that keep it.
-ghost use Rattle.std.specs.Prelude.{◌≡◌, ◌≢◌, ◌<◌, ◌≤◌, ◌+◌, [], Ok, Option, Some, None, OnOk, IfOk, IfSome, IfNone, length};
+ghost use Rattle.std.specs.Prelude.{◌≡◌, ◌≢◌, ◌<◌, ◌≤◌, ◌+◌, [], Ok, Option, Some, None, OnOk, IfOk, IfSome, IfNone};
+ghost use Rattle.std.specs.Prelude.{length};
 ghost use Rattle.step_record.specs.declared.item.Item.{Item};
 ghost use Rattle.segments.specs.Items.{first, IsGap};
 ghost use Rattle.segments.specs.Queues.{queue_of, place_of, pushed, taken, moved, IsDistinct};
 ghost use Rattle.segments.specs.Ring.{count, used, closing, order_of, order_without, lists, IsPlace, IsQueued};
-ghost use Rattle.segments.specs.Table.{spare, item_in, place_at, put_at, IsBehind, IsSlotOf};
+ghost use Rattle.segments.specs.Table.{spare_in, item_in, place_at, put_in_place, IsBehind, IsSlotOf};
 
 use crate::growth::grow;
 use crate::index::Index;
@@ -76,9 +77,9 @@ impl Table {
     #[inline(always)]
     pub(crate) fn reserve(&mut self, alloc: Global) -> Result<(), AllocError>
         ensures lists { lists self.new ≡ lists self.old }
-        ensures room { OnOk result (1 ≤ spare self.new) }
-        ensures enough { 1 ≤ spare self.old → result ≡ Ok tt }
-        ensures spare { spare self.old ≤ spare self.new }
+        ensures room { OnOk result (1 ≤ spare_in self.new) }
+        ensures enough { 1 ≤ spare_in self.old → result ≡ Ok tt }
+        ensures spare { spare_in self.old ≤ spare_in self.new }
     {
         if self.lengths.free > 0 {
             return Ok(());
@@ -90,7 +91,7 @@ impl Table {
 
     /// For how many more items there is room.
     pub(crate) fn spare(&self) -> usize
-        ensures { result ≡ spare self.now }
+        ensures { result ≡ spare_in self.now }
     {
         self.lengths.free
     }
@@ -157,7 +158,8 @@ impl Table {
     // The slot behind a place: that of its newer neighbour, or the one that closes the queue.
     fn slot_at_place(&self, place: Place) -> u32
         ensures last { place.newer ≡ None → result ≡ closing place.queue }
-        ensures newer { (n : Item) → place.newer ≡ Some n → place_of n (lists self.now) ≢ None → IsSlotOf result n self.now }
+        ensures newer { (n : Item) → place.newer ≡ Some n → place_of n (lists self.now) ≢ None
+            → IsSlotOf result n self.now }
         // Of every table with slots: they are linked in their order.
         ensures queued { 0 < length self.now → IsQueued self.now (order_of self.now) }
     {
@@ -171,14 +173,14 @@ impl Table {
     /// Puts an item that is not there into a free slot, and the slot before another one of a queue.
     #[inline(always)]
     pub(crate) fn insert(&mut self, item: Item, queue: Queue, before: u32)
-        requires room { 1 ≤ spare self.old }
+        requires room { 1 ≤ spare_in self.old }
         requires absent { place_of item (lists self.old) ≡ None }
         requires place { IsPlace before queue (order_of self.old) }
         ensures distinct { IsDistinct (lists self.old) }
-        ensures spare { spare self.new + 1 ≡ spare self.old }
+        ensures spare { spare_in self.new + 1 ≡ spare_in self.old }
         ensures recent { before ≡ closing queue → lists self.new ≡ pushed queue item (lists self.old) }
         ensures back { (older newer : Option Item) → IsBehind before queue older newer self.old (order_of self.old)
-            → lists self.new ≡ put_at queue older item (lists self.old) }
+            → lists self.new ≡ put_in_place queue older item (lists self.old) }
     {
         let slots: &mut [Slot] = &mut self.slots;
         let at = newest_free(slots);
@@ -194,11 +196,12 @@ impl Table {
     pub(crate) fn shift(&mut self, at: u32, queue: Queue, before: u32) -> Place
         requires used { 1 ≤ count at (used (order_of self.old)) }
         requires place { IsPlace before queue (order_without at (order_of self.old)) }
-        ensures spare { spare self.new ≡ spare self.old }
+        ensures spare { spare_in self.new ≡ spare_in self.old }
         ensures place { Some result ≡ place_at (item_in at self.old) (lists self.old) }
         ensures recent { before ≡ closing queue → lists self.new ≡ moved (item_in at self.old) queue (lists self.old) }
-        ensures back { (older newer : Option Item) → IsBehind before queue older newer self.old (order_without at (order_of self.old))
-            → lists self.new ≡ put_at queue older (item_in at self.old) (taken (item_in at self.old) (lists self.old)) }
+        ensures back { (older newer : Option Item) → IsBehind before queue older newer self.old
+            (order_without at (order_of self.old))
+            → lists self.new ≡ put_in_place queue older (item_in at self.old) (taken (item_in at self.old) (lists self.old)) }
     {
         let slots: &mut [Slot] = &mut self.slots;
         let from = place_of_slot(slots, at);
@@ -210,11 +213,11 @@ impl Table {
 
     /// Puts an item that is not there into its place.
     pub(crate) fn insert_at(&mut self, item: Item, place: Place)
-        requires room { 1 ≤ spare self.old }
+        requires room { 1 ≤ spare_in self.old }
         requires absent { place_of item (lists self.old) ≡ None }
         requires gap { IsGap place.older place.newer (queue_of place.queue (lists self.old)) }
-        ensures spare { spare self.new + 1 ≡ spare self.old }
-        ensures lists { lists self.new ≡ put_at place.queue place.older item (lists self.old) }
+        ensures spare { spare_in self.new + 1 ≡ spare_in self.old }
+        ensures lists { lists self.new ≡ put_in_place place.queue place.older item (lists self.old) }
     {
         let before = self.slot_at_place(place);
         self.insert(item, place.queue, before);
@@ -223,10 +226,11 @@ impl Table {
     /// Moves a slot in use into a place.
     pub(crate) fn shift_to(&mut self, at: u32, place: Place)
         requires used { 1 ≤ count at (used (order_of self.old)) }
-        requires gap { IsGap place.older place.newer (queue_of place.queue (taken (item_in at self.old) (lists self.old))) }
-        ensures spare { spare self.new ≡ spare self.old }
+        requires gap { IsGap place.older place.newer (queue_of place.queue
+            (taken (item_in at self.old) (lists self.old))) }
+        ensures spare { spare_in self.new ≡ spare_in self.old }
         ensures lists { lists self.new
-            ≡ put_at place.queue place.older (item_in at self.old) (taken (item_in at self.old) (lists self.old)) }
+            ≡ put_in_place place.queue place.older (item_in at self.old) (taken (item_in at self.old) (lists self.old)) }
     {
         let before = self.slot_at_place(place);
         let _ = self.shift(at, place.queue, before);
@@ -236,7 +240,7 @@ impl Table {
     #[inline(always)]
     pub(crate) fn remove(&mut self, at: u32) -> Place
         requires used { 1 ≤ count at (used (order_of self.old)) }
-        ensures spare { spare self.new ≡ spare self.old + 1 }
+        ensures spare { spare_in self.new ≡ spare_in self.old + 1 }
         ensures place { Some result ≡ place_at (item_in at self.old) (lists self.old) }
         ensures lists { lists self.new ≡ taken (item_in at self.old) (lists self.old) }
     {

@@ -1,5 +1,6 @@
 //! The striped read buffers.
-ghost use Rattle.std.specs.Prelude.{◌≡◌, ◌<◌, ◌≤◌, [], ◌∷◌, ◌++◌, length, drop, set, replicate, nat_lt, true, false, IfOk, IfSome, IfNone};
+ghost use Rattle.std.specs.Prelude.{◌≡◌, ◌<◌, ◌≤◌, [], ◌∷◌, ◌++◌, length, drop, set, replicate, nat_lt, true, false};
+ghost use Rattle.std.specs.Prelude.{IfOk, IfSome, IfNone};
 ghost use Rattle.shell_buffers.specs.Buffers.{stripe_at, but_newest};
 ghost use Rattle.shell_buffers.specs.declared.stripes.TheConstants.{MAX_STRIPES, MAX_ITEMS};
 

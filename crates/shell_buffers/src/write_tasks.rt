@@ -1,5 +1,6 @@
 //! The write queue.
-ghost use Rattle.std.specs.Prelude.{◌≡◌, ◌<◌, ◌≤◌, ◌+◌, [], ◌∷◌, ◌++◌, length, nat_lt, true, false, IfOk, IfSome, IfNone};
+ghost use Rattle.std.specs.Prelude.{◌≡◌, ◌<◌, ◌≤◌, ◌+◌, [], ◌∷◌, ◌++◌, length, nat_lt, true, false, IfOk, IfSome};
+ghost use Rattle.std.specs.Prelude.{IfNone};
 ghost use Rattle.shell_buffers.specs.Buffers.{but_newest};
 ghost use Rattle.shell_buffers.specs.Ring.{IsWrapped};
 ghost use Rattle.shell_buffers.specs.declared.write_tasks.TheConstants.{MAX_TASKS};

@@ -1,5 +1,6 @@
 //! Eight words of counters at a time, by vectors.
-ghost use Rattle.std.specs.Prelude.{[], ◌∷◌, ◌≡◌, ◌<◌, ◌≤◌, ◌+◌, ◌*◌, ◌/◌, ◌%◌, ◌^◌, cond, nat_lt, length, map, ℕ, slice_index};
+ghost use Rattle.std.specs.Prelude.{[], ◌∷◌, ◌≡◌, ◌<◌, ◌≤◌, ◌+◌, ◌*◌, ◌/◌, ◌%◌, ◌^◌, cond, nat_lt, length, map, ℕ};
+ghost use Rattle.std.specs.Prelude.{slice_index};
 ghost use Rattle.sketch.specs.Counters.{nibble};
 ghost use Rattle.sketch.specs.Laws.{halved_word, odd_bits, lost_word};
 ghost use lib.Lanes.{chunk, put_chunk};
@@ -37,7 +38,8 @@ pub fn unhalve_block(words: &mut [u64], at: usize, low: u64, high: u64)
     requires within { at + 8 ≤ length words.old }
     requires low { (t : ℕ) → t < 8 → (n : ℕ) → n < 16 → nibble (slice_index words.old (at + t)) n ≤ 7 }
     ensures block { (t : ℕ) → t < 8
-        → slice_index words.new (at + t) ≡ 2 * slice_index words.old (at + t) + odd_bits (cond (nat_lt t 4) low high / 2 ^ (t % 4)) }
+        → slice_index words.new (at + t) ≡ 2 * slice_index words.old (at + t) + odd_bits
+        (cond (nat_lt t 4) low high / 2 ^ (t % 4)) }
     ensures below { (k : ℕ) → k < at → slice_index words.new k ≡ slice_index words.old k }
     ensures above { (k : ℕ) → at + 8 ≤ k → slice_index words.new k ≡ slice_index words.old k }
 {

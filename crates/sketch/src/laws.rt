@@ -71,7 +71,8 @@ fn gather_rest(words: &[u64], lost: &mut [u64], from: usize)
 // Halves the words from one on.
 fn halve_rest(words: &mut [u64], from: usize)
     ensures before { (k : ℕ) → k < from → slice_index words.new k ≡ slice_index words.old k }
-    ensures rest { (k : ℕ) → from ≤ k → k < length words.old → slice_index words.new k ≡ halved_word (slice_index words.old k) }
+    ensures rest { (k : ℕ) → from ≤ k → k < length words.old
+        → slice_index words.new k ≡ halved_word (slice_index words.old k) }
 {
     for i in from..words.len() {
         words[i] = (words[i] >> 1) & SEVENS;

@@ -1,5 +1,7 @@
 //! A key's counter in each row of a table, over the words that hold the rows one after another.
-ghost use Rattle.std.specs.Prelude.{◌≡◌, ◌<◌, ◌≤◌, ◌+◌, ◌-◌, ◌^◌, ◌*◌, ◌/◌, ◌%◌, ◌==◌, ◌&&◌, cond, nat_lt, min, true, length, slice_index, ℕ};
+ghost use Rattle.std.specs.Prelude.{◌≡◌, ◌<◌, ◌≤◌, ◌+◌, ◌-◌, ◌^◌, ◌*◌, ◌/◌, ◌%◌, ◌==◌, ◌&&◌, cond, nat_lt, min, true};
+ghost use Rattle.std.specs.Prelude.{length, slice_index, ℕ};
+ghost use Rattle.step_record.specs.declared.limits.TheConstants.{MAX_CAPACITY};
 ghost use Rattle.sketch.specs.Counters.{counter_at};
 ghost use Rattle.sketch.specs.Columns.{column as column_of};
 ghost use Rattle.bits_and_lists.specs.Places.{by_place};
@@ -14,11 +16,12 @@ use step_record::{Key, Spread};
 /// Raises the counter at a column of each row, and returns what the four were.
 pub fn raise_rows(words: &mut [u64], width: u32, columns: [u32; 4]) -> [u32; 4]
     requires low { 1 ≤ width }
-    requires high { width ≤ 2 ^ 20 }
+    requires high { width ≤ MAX_CAPACITY }
     requires whole { width ≡ 4 * length words.old }
     requires below { (row : ℕ) → row < 4 → slice_index columns row < width }
     ensures counters { (i : ℕ) → counter_at words.new i
-        ≡ cond (nat_lt (i / width) 4 && slice_index columns (i / width) == i % width) (min 15 (counter_at words.old i + 1)) (counter_at words.old i) }
+        ≡ cond (nat_lt (i / width) 4 && slice_index columns (i / width) == i % width)
+        (min 15 (counter_at words.old i + 1)) (counter_at words.old i) }
     ensures were { result ≡ by_place 4 (λ row. counter_at words.old (row * width + slice_index columns row)) }
 {
     let mut were = [0; 4];
@@ -32,7 +35,7 @@ pub fn raise_rows(words: &mut [u64], width: u32, columns: [u32; 4]) -> [u32; 4]
 /// Lowers the key's counter in each row where the touch raised it.
 pub fn lower_rows(words: &mut [u64], width: u32, spread: Spread, done: &TouchRecord)
     requires low { 1 ≤ width }
-    requires high { width ≤ 2 ^ 20 }
+    requires high { width ≤ MAX_CAPACITY }
     requires whole { width ≡ 4 * length words.old }
     requires some { (row : ℕ) → row < 4 → rose_of done.now row ≡ true
         → 0 < counter_at words.old (row * width + column_of spread done.now.key row width) }

@@ -1,6 +1,7 @@
 //! Four rows of counters up to 15.
 ghost use Rattle.std.specs.Prelude.{◌≡◌, ◌<◌, ◌≤◌, ◌*◌, ◌^◌, min, slice_index, IfOk, OnOk, OnErr};
 ghost use Rattle.std.specs.Int.{IsPowerOfTwo};
+ghost use Rattle.step_record.specs.declared.limits.TheConstants.{MAX_CAPACITY};
 ghost use Rattle.bits_and_lists.specs.Places.{by_place};
 ghost use Rattle.sketch.specs.Sketch.{counter as counter_of, touched, halved, least as least_of};
 ghost use Rattle.sketch.specs.TouchRecord.{touch_record_of, untouched, FitsTouch};
@@ -37,13 +38,25 @@ impl Model for Sketch {
     ghost use Rattle.bits_and_lists.specs.Places.{by_place};
     ghost use Rattle.sketch.specs.Counters.{counter_at};
     ghost use Rattle.std.specs.Int.{IsPowerOfTwo};
+    ghost use Rattle.step_record.specs.declared.limits.TheConstants.{MAX_CAPACITY};
 
     ghost Value = { Table };
 
-    ghost view = { λ s. record { width = s.width; spread = s.spread; counters = by_place (4 * s.width) (counter_at s.words.items) } };
+    ghost view = { λ s. record {
+      width = s.width;
+      spread = s.spread;
+      counters = by_place (4 * s.width) (counter_at s.words.items);
+    } };
 
-    ghost invariant = { λ s. (16 ≤ s.width) × (s.width ≤ 1048576) × (s.width ≡ 4 * length s.words.items) × (s.width ≡ 16 * (s.width / 16)) × IsPowerOfTwo s.width
-        × IfSome s.last_least (λ n. n ≡ least_of s.last record { width = s.width; spread = s.spread; counters = by_place (4 * s.width) (counter_at s.words.items) }) };
+    ghost invariant = { λ s. (16 ≤ s.width) × (s.width ≤ MAX_CAPACITY) × (s.width ≡ 4 * length s.words.items)
+        × (s.width ≡ 16 * (s.width / 16)) × IsPowerOfTwo s.width
+        × IfSome s.last_least (λ n. n ≡ least_of s.last
+        record {
+          width = s.width;
+          spread = s.spread;
+          counters = by_place (4 * s.width)
+              (counter_at s.words.items);
+        }) };
 }
 
 impl Sketch {
@@ -52,8 +65,9 @@ impl Sketch {
     pub fn new(alloc: Global, width: u32, spread: Spread) -> Result<Sketch, AllocError>
         requires power { IsPowerOfTwo width }
         requires low { 16 ≤ width }
-        requires high { width ≤ 2 ^ 20 }
-        ensures { IfOk result (λ s. s ≡ record { width = width; spread = spread; counters = by_place (4 * width) (λ i. 0) }) }
+        requires high { width ≤ MAX_CAPACITY }
+        ensures { IfOk result (λ s. s
+            ≡ record { width = width; spread = spread; counters = by_place (4 * width) (λ i. 0) }) }
     {
         let words = vec![in alloc; 0; (width / 4) as usize]?;
         Ok(Sketch {
@@ -167,7 +181,8 @@ impl Sketch {
 }
 
 fn least_of_four(counters: [u32; 4]) -> u32
-    ensures { result ≡ min (min (slice_index counters 0) (slice_index counters 1)) (min (slice_index counters 2) (slice_index counters 3)) }
+    ensures { result ≡ min (min (slice_index counters 0) (slice_index counters 1))
+        (min (slice_index counters 2) (slice_index counters 3)) }
 {
     let [a, b, c, d] = counters;
     a.min(b).min(c.min(d))

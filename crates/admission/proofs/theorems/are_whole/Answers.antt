@@ -1,4 +1,4 @@
-use Rattle.std.proofs.Common.{◌≡◌, ◌≤◌, ◌*◌, ◌/◌, ◌^◌, arith}
+use Rattle.std.proofs.Common.{◌≡◌, ◌≤◌, ◌*◌, ◌/◌, arith}
 use Rattle.admission.specs.Shape.{Shape, IsShape}
 use Rattle.admission.proofs.Doors.{part_16}
 use Rattle.admission.proofs.Undoing.{recorded_is}

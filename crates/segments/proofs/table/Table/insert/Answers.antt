@@ -4,7 +4,7 @@ use Rattle.segments.specs.declared.slot.Slot.{Slot}
 use Rattle.segments.specs.Queues.{place_of}
 use Rattle.segments.specs.Ring.{items, chains, newers, olders, ring_of, IsRing, Order, ring, used, order_in, order_of, sent, lists}
 use Rattle.segments.specs.Index.{IsIndexed}
-use Rattle.segments.specs.Table.{IsHeld, spare, raised, one_less, lengths_of}
+use Rattle.segments.specs.Table.{IsHeld, spare_in, raised, one_less, lengths_of}
 use Rattle.segments.proofs.Orders.{used-more, order-is}
 use Rattle.segments.proofs.Calls.{lengths-taken, lengths-sent, insert-recent, insert-back}
 use Rattle.segments.proofs.Tables.{free-real, free-unused, free-within, place-free, held-inserted, take-front}
@@ -14,21 +14,21 @@ use Rattle.segments.proofs.table.Table.insert.Goals as goal
 pub newest_free-at-requires-clause-queued : goal.newest_free-at-requires-clause-queued
 newest_free-at-requires-clause-queued c =
     let e : c.deref_mut-slots.result.now ≡ c.args.self.now = c.deref_mut-slots.ensures.value ∙ c.self.view_is in
-    let room : 1 ≤ spare c.deref_mut-slots.result.now = subst (λ (s : List Slot). 1 ≤ spare s) (sym e) c.requires.room in
+    let room : 1 ≤ spare_in c.deref_mut-slots.result.now = subst (λ (s : List Slot). 1 ≤ spare_in s) (sym e) c.requires.room in
     let h = held-room c.deref_mut-slots.result.now c.self.inside.slots.items _ _ _ c.self.invariant c.deref_mut-slots.ensures.value room in
     h.queued
 
 pub set_item-requires : goal.set_item-requires
 set_item-requires c =
     let e : c.deref_mut-slots.result.now ≡ c.args.self.now = c.deref_mut-slots.ensures.value ∙ c.self.view_is in
-    let room : 1 ≤ spare c.deref_mut-slots.result.now = subst (λ (s : List Slot). 1 ≤ spare s) (sym e) c.requires.room in
+    let room : 1 ≤ spare_in c.deref_mut-slots.result.now = subst (λ (s : List Slot). 1 ≤ spare_in s) (sym e) c.requires.room in
     let h = held-room c.deref_mut-slots.result.now c.self.inside.slots.items _ _ _ c.self.invariant c.deref_mut-slots.ensures.value room in
     free-within c.deref_mut-slots.result.now (order_of c.deref_mut-slots.result.now) h.queued c.newest_free-at.result c.newest_free-at.ensures
 
 pub add-requires-clause-at : goal.add-requires-clause-at
 add-requires-clause-at c =
     let e : c.deref_mut-slots.result.now ≡ c.args.self.now = c.deref_mut-slots.ensures.value ∙ c.self.view_is in
-    let room : 1 ≤ spare c.deref_mut-slots.result.now = subst (λ (s : List Slot). 1 ≤ spare s) (sym e) c.requires.room in
+    let room : 1 ≤ spare_in c.deref_mut-slots.result.now = subst (λ (s : List Slot). 1 ≤ spare_in s) (sym e) c.requires.room in
     let h = held-room c.deref_mut-slots.result.now c.self.inside.slots.items _ _ _ c.self.invariant c.deref_mut-slots.ensures.value room in
     let w = free-within c.deref_mut-slots.result.now (order_of c.deref_mut-slots.result.now) h.queued c.newest_free-at.result c.newest_free-at.ensures in
     let r = free-real c.deref_mut-slots.result.now (order_of c.deref_mut-slots.result.now) h.queued c.newest_free-at.result c.newest_free-at.ensures in
@@ -37,7 +37,7 @@ add-requires-clause-at c =
 pub send-requires-clause-at : goal.send-requires-clause-at
 send-requires-clause-at c =
     let e : c.deref_mut-slots.result.now ≡ c.args.self.now = c.deref_mut-slots.ensures.value ∙ c.self.view_is in
-    let room : 1 ≤ spare c.deref_mut-slots.result.now = subst (λ (s : List Slot). 1 ≤ spare s) (sym e) c.requires.room in
+    let room : 1 ≤ spare_in c.deref_mut-slots.result.now = subst (λ (s : List Slot). 1 ≤ spare_in s) (sym e) c.requires.room in
     let h = held-room c.deref_mut-slots.result.now c.self.inside.slots.items _ _ _ c.self.invariant c.deref_mut-slots.ensures.value room in
     let w = free-within c.deref_mut-slots.result.now (order_of c.deref_mut-slots.result.now) h.queued c.newest_free-at.result c.newest_free-at.ensures in
     let r = free-real c.deref_mut-slots.result.now (order_of c.deref_mut-slots.result.now) h.queued c.newest_free-at.result c.newest_free-at.ensures in
@@ -46,7 +46,7 @@ send-requires-clause-at c =
 pub send-requires-clause-place : goal.send-requires-clause-place
 send-requires-clause-place c =
     let e : c.deref_mut-slots.result.now ≡ c.args.self.now = c.deref_mut-slots.ensures.value ∙ c.self.view_is in
-    let room : 1 ≤ spare c.deref_mut-slots.result.now = subst (λ (s : List Slot). 1 ≤ spare s) (sym e) c.requires.room in
+    let room : 1 ≤ spare_in c.deref_mut-slots.result.now = subst (λ (s : List Slot). 1 ≤ spare_in s) (sym e) c.requires.room in
     let h = held-room c.deref_mut-slots.result.now c.self.inside.slots.items _ _ _ c.self.invariant c.deref_mut-slots.ensures.value room in
     let p = place-free c.deref_mut-slots.result.now (order_of c.deref_mut-slots.result.now) h.queued c.newest_free-at.result c.newest_free-at.ensures c.args.before c.args.queue (rw e c.requires.place) in
     rw (c.add.ensures.only.newers, c.set_item.ensures.newers) p
@@ -54,7 +54,7 @@ send-requires-clause-place c =
 pub invariant_of-self : goal.invariant_of-self
 invariant_of-self c =
     let e : c.deref_mut-slots.result.now ≡ c.args.self.now = c.deref_mut-slots.ensures.value ∙ c.self.view_is in
-    let room : 1 ≤ spare c.deref_mut-slots.result.now = subst (λ (s : List Slot). 1 ≤ spare s) (sym e) c.requires.room in
+    let room : 1 ≤ spare_in c.deref_mut-slots.result.now = subst (λ (s : List Slot). 1 ≤ spare_in s) (sym e) c.requires.room in
     let h = held-room c.deref_mut-slots.result.now c.self.inside.slots.items _ _ _ c.self.invariant c.deref_mut-slots.ensures.value room in
     let n = c.newest_free-at.ensures in
     let order : order_of c.add.new.slots ≡ order_of c.deref_mut-slots.result.now = ap (λ (l : List ℕ). order_in (ring_of l)) (c.add.ensures.only.newers ∙ c.set_item.ensures.newers) in
@@ -87,7 +87,7 @@ returns-clause-distinct c =
 pub returns-clause-spare : goal.returns-clause-spare
 returns-clause-spare c =
     let e : c.deref_mut-slots.result.now ≡ c.args.self.now = c.deref_mut-slots.ensures.value ∙ c.self.view_is in
-    let room : 1 ≤ spare c.deref_mut-slots.result.now = subst (λ (s : List Slot). 1 ≤ spare s) (sym e) c.requires.room in
+    let room : 1 ≤ spare_in c.deref_mut-slots.result.now = subst (λ (s : List Slot). 1 ≤ spare_in s) (sym e) c.requires.room in
     let h = held-room c.deref_mut-slots.result.now c.self.inside.slots.items _ _ _ c.self.invariant c.deref_mut-slots.ensures.value room in
     let n = c.newest_free-at.ensures in
     let order : order_of c.add.new.slots ≡ order_of c.deref_mut-slots.result.now = ap (λ (l : List ℕ). order_in (ring_of l)) (c.add.ensures.only.newers ∙ c.set_item.ensures.newers) in
@@ -100,13 +100,13 @@ returns-clause-spare c =
     let f = ap (λ (l : Lengths). l.free) counted in
     let g = ap (λ (l : Lengths). l.free) c.self.invariant.counted in
     let a = ap (λ (l : Lengths). l.free) c.raise.ensures ∙ free-raised c.args.queue _ in
-    let m = subst (λ (s : List Slot). 1 ≤ spare s) c.deref_mut-slots.ensures.value room in
+    let m = subst (λ (s : List Slot). 1 ≤ spare_in s) c.deref_mut-slots.ensures.value room in
     rw (whole, ← c.self.view_is) (omega (arith, f, g, a, m))
 
 pub returns-clause-recent : goal.returns-clause-recent
 returns-clause-recent c =
     let e : c.deref_mut-slots.result.now ≡ c.args.self.now = c.deref_mut-slots.ensures.value ∙ c.self.view_is in
-    let room : 1 ≤ spare c.deref_mut-slots.result.now = subst (λ (s : List Slot). 1 ≤ spare s) (sym e) c.requires.room in
+    let room : 1 ≤ spare_in c.deref_mut-slots.result.now = subst (λ (s : List Slot). 1 ≤ spare_in s) (sym e) c.requires.room in
     let h = held-room c.deref_mut-slots.result.now c.self.inside.slots.items _ _ _ c.self.invariant c.deref_mut-slots.ensures.value room in
     let n = c.newest_free-at.ensures in
     let order : order_of c.add.new.slots ≡ order_of c.deref_mut-slots.result.now = ap (λ (l : List ℕ). order_in (ring_of l)) (c.add.ensures.only.newers ∙ c.set_item.ensures.newers) in
@@ -118,7 +118,7 @@ returns-clause-recent c =
 pub returns-clause-back : goal.returns-clause-back
 returns-clause-back c =
     let e : c.deref_mut-slots.result.now ≡ c.args.self.now = c.deref_mut-slots.ensures.value ∙ c.self.view_is in
-    let room : 1 ≤ spare c.deref_mut-slots.result.now = subst (λ (s : List Slot). 1 ≤ spare s) (sym e) c.requires.room in
+    let room : 1 ≤ spare_in c.deref_mut-slots.result.now = subst (λ (s : List Slot). 1 ≤ spare_in s) (sym e) c.requires.room in
     let h = held-room c.deref_mut-slots.result.now c.self.inside.slots.items _ _ _ c.self.invariant c.deref_mut-slots.ensures.value room in
     let n = c.newest_free-at.ensures in
     let order : order_of c.add.new.slots ≡ order_of c.deref_mut-slots.result.now = ap (λ (l : List ℕ). order_in (ring_of l)) (c.add.ensures.only.newers ∙ c.set_item.ensures.newers) in

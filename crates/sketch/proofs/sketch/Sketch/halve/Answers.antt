@@ -4,7 +4,6 @@ use Rattle.std.proofs.lemmas.List.{with_items_is}
 use Rattle.sketch.specs.Laws.{lost_word}
 use Rattle.bits_and_lists.specs.Places.{by_place}
 use Rattle.sketch.specs.Sketch.{IsTable}
-use Rattle.bits_and_lists.proofs.Places.{length-by_place}
 use Rattle.sketch.proofs.Halves.{halve_after, lost_is, table_is}
 use Rattle.sketch.proofs.Undoing.{unhalved_is, halve_fits}
 use Rattle.bits_and_lists.specs.Bits.{bits_of}

@@ -1,13 +1,11 @@
-use Rattle.std.proofs.Common.{◌≡◌, ◌∙◌, Bool, List, ap, sym, arith, ◌*◌, ◌<◌, length}
+use Rattle.std.proofs.Common.{◌≡◌, ◌∙◌, Bool, List, ap, arith, ◌*◌, ◌<◌, length}
 use Rattle.std.specs.Vec.{with_items}
 use Rattle.std.proofs.lemmas.List.{with_items_is}
 use Rattle.bits_and_lists.specs.Places.{by_place}
-use Rattle.bits_and_lists.specs.Bits.{bit_of, bits_of}
+use Rattle.bits_and_lists.specs.Bits.{bit_of}
 use Rattle.bits_and_lists.proofs.Places.{length-by_place, get_or-by_place}
-use Rattle.sketch.specs.declared.halve_record.HalveRecord.{HalveRecord}
 use Rattle.sketch.specs.Counters.{counter_at}
 use Rattle.sketch.specs.HalveRecord.{unhalved}
-use Rattle.sketch.specs.Sketch.{Table}
 use Rattle.sketch.proofs.Halves.{unhalve_after, low_everywhere}
 use Rattle.sketch.proofs.sketch.Sketch.unhalve.Goals as goal
 
