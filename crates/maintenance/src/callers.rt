@@ -13,7 +13,8 @@ use step_record::{Answer, Drain, Item, Key, Phase, Reply, Worker};
 
 impl Core {
     pub(crate) fn look(&self, key: Key) -> Reply
-        ensures { result ≡ Rattle.shell_model.specs.Shell.look (Rattle.shell_model.specs.Shell.node_of key self.now.table) }
+        ensures { result ≡ Rattle.shell_model.specs.Shell.look
+            (Rattle.shell_model.specs.Shell.node_of key self.now.table) }
     {
         match self.table.node_of(key) {
             Some(node) => Reply::Hit { node },

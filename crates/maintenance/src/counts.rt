@@ -1,6 +1,8 @@
 //! The statistics: how often each kind of reply was given.
 ghost use Rattle.std.specs.Prelude.{◌≡◌, ◌+◌, ◌-◌, ◌≤◌};
-ghost use Rattle.shell_model.specs.ShellStats.{one, counted, uncounted, IsCounted, AreAtMost, is_hit, is_miss, is_kept, is_full, is_lost, is_added, is_updated, is_refused, is_eviction, is_rejection, is_begun, is_busy, is_removed};
+ghost use Rattle.shell_model.specs.ShellStats.{one, counted, uncounted, IsCounted, AreAtMost, is_hit, is_miss, is_kept};
+ghost use Rattle.shell_model.specs.ShellStats.{is_full, is_lost, is_added, is_updated, is_refused, is_eviction};
+ghost use Rattle.shell_model.specs.ShellStats.{is_rejection, is_begun, is_busy, is_removed};
 
 use shell_model::ShellStats;
 use step_record::Reply;

@@ -161,7 +161,8 @@ impl Core {
         requires { self.old.holder ≡ Some holder }
         ensures reply { result.0 ≡ (end self.old).0 }
         ensures state { self.new ≡ (end self.old).1 }
-        ensures change { result.1 ≡ cond (is_over self.old) Nothing (Ended holder self.old.drain (ended self.old.drain).1) }
+        ensures change { result.1
+            ≡ cond (is_over self.old) Nothing (Ended holder self.old.drain (ended self.old.drain).1) }
     {
         if self.is_over() {
             return (Reply::NotYet, Change::Nothing);

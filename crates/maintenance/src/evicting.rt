@@ -29,7 +29,8 @@ fn reply_to(candidate: Item, effect: &Effect) -> Reply
 // Moves what the plan of an eviction moves.
 fn carry_out(queues: &mut Segments, frequency: &Frequency, rules: &Rules) -> Effect
     requires distinct { IsDistinct queues.old.lists }
-    ensures lists { queues.new.lists ≡ queues_after (planned rules.now frequency.now queues.old.lists) queues.old.lists }
+    ensures lists { queues.new.lists
+        ≡ queues_after (planned rules.now frequency.now queues.old.lists) queues.old.lists }
     ensures moves { result.moves ≡ moves_of (planned rules.now frequency.now queues.old.lists) queues.old.lists }
     ensures outcome { result.outcome ≡ (planned rules.now frequency.now queues.old.lists).outcome }
 {

@@ -1,5 +1,6 @@
 //! The shell as an engine.
-ghost use Rattle.std.specs.Prelude.{◌≡◌, ◌<◌, ◌≤◌, ◌^◌, ◌↔◌, Ok, Some, None, IfOk, OnOk, OnErr, List, [], map, length, option_map};
+ghost use Rattle.std.specs.Prelude.{◌≡◌, ◌<◌, ◌≤◌, ◌^◌, ◌↔◌, Ok, Some, None, IfOk, OnOk, OnErr, List, [], map, length};
+ghost use Rattle.std.specs.Prelude.{option_map};
 ghost use Rattle.step_record.specs.declared.limits.TheConstants.{MAX_STRIPES};
 ghost use Rattle.step_record.specs.Config.{config_fault};
 ghost use Rattle.segments.specs.Queues.{queue_of};

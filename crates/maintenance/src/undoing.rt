@@ -1,8 +1,10 @@
 //! Undoing one step.
 ghost use Rattle.std.specs.Prelude.{◌≡◌, ◌<◌, ◌≤◌, length, Some, None, IfErr, OnOk, OnErr};
-ghost use Rattle.shell_model.specs.Records.{back, FitsMove, untouched, FitsTouched, rephased, refilled, HasLeft, unchanged, FitsChange, undone_step, FitsStep};
+ghost use Rattle.shell_model.specs.Records.{back, FitsMove, untouched, FitsTouched, rephased, refilled, HasLeft};
+ghost use Rattle.shell_model.specs.Records.{unchanged, FitsChange, undone_step, FitsStep};
 ghost use Rattle.shell_model.specs.Consistent.{IsLeft};
-ghost use Rattle.shell_model.specs.declared.record.Change.TheVariants.{Nothing, Offered, Updated, Added, Removed, Read, Applied, Cleared, Evicted, Ended};
+ghost use Rattle.shell_model.specs.declared.record.Change.TheVariants.{Nothing, Offered, Updated, Added, Removed, Read};
+ghost use Rattle.shell_model.specs.declared.record.Change.TheVariants.{Applied, Cleared, Evicted, Ended};
 
 use crate::counting::unrecord_key;
 use crate::counts::uncounted;

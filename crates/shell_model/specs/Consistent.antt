@@ -47,7 +47,8 @@ abbrev pub IsLeft : Option Holder → Type 0
 IsLeft None = Unit {0}
 IsLeft (Some h) = h.left ≤ 128
 
--- an item of the table is queued or waits for it, and what is queued or waits is in the table or is to be removed: each once
+-- an item of the table is queued or waits for it, and what is queued or waits is in the table or is to be removed: each
+-- once
 pub record IsPlaced (table : List Item) (next : ℕ) (queues : Queues) (writes : List Task) : Type 0 where
   pub stands : (i : Item) → times i table ≤ queued i queues + waiting i writes
   pub known : (i : Item) → queued i queues + waiting i writes ≤ times i table + leaving i writes

@@ -1,16 +1,19 @@
 -- What the replies so far say of the shell's state.
-use Rattle.std.specs.Prelude.{◌≡◌, ℕ, ◌+◌, ◌<◌, ◌≤◌, ◌↔◌, Bool, true, false, cond, eqb, Option, Some, None, List, [], ◌∷◌, ◌++◌, drop, replicate}
+use Rattle.std.specs.Prelude.{◌≡◌, ℕ, ◌+◌, ◌<◌, ◌≤◌, ◌↔◌, Bool, true, false, cond, eqb, Option, Some, None, List, []}
+use Rattle.std.specs.Prelude.{◌∷◌, ◌++◌, drop, replicate}
 use Rattle.step_record.specs.declared.item.Item.{Item}
 use Rattle.step_record.specs.declared.config.Config.{Config}
 use Rattle.step_record.specs.declared.step.Act.{Act}
-use Rattle.step_record.specs.declared.step.Act.TheVariants.{Offer, Put, Remove as RemoveKey, DrainRead, DrainWrite, Evict}
+use Rattle.step_record.specs.declared.step.Act.TheVariants.{Offer, Put, Remove as RemoveKey, DrainRead, DrainWrite}
+use Rattle.step_record.specs.declared.step.Act.TheVariants.{Evict}
 use Rattle.step_record.specs.declared.step.Step.{Step}
 use Rattle.step_record.specs.declared.entry.Entry.{Entry}
 use Rattle.step_record.specs.declared.drain.Phase.{Phase}
 use Rattle.step_record.specs.declared.drain.Phase.TheVariants.{Reads, Writes, Evictions}
 use Rattle.step_record.specs.declared.drain.Drain.TheVariants as drain
 use Rattle.step_record.specs.declared.step.Reply.{Reply}
-use Rattle.step_record.specs.declared.step.Reply.TheVariants.{Kept, Present, Added, Removed, Drained, Applied, Cleared, Evicted, Rejected, Idle, Again}
+use Rattle.step_record.specs.declared.step.Reply.TheVariants.{Kept, Present, Added, Removed, Drained, Applied, Cleared}
+use Rattle.step_record.specs.declared.step.Reply.TheVariants.{Evicted, Rejected, Idle, Again}
 use Rattle.step_record.specs.History.{after, IsLegal}
 use Rattle.segments.specs.Items.{times}
 use Rattle.segments.specs.Queues.{empty}
@@ -20,7 +23,8 @@ use Rattle.shell_model.specs.declared.stats.ShellStats.{ShellStats}
 use Rattle.shell_buffers.specs.declared.task.Task.{Task}
 use Rattle.shell_buffers.specs.declared.task.Task.TheVariants.{Add, Update, Remove}
 use Rattle.shell_model.specs.declared.holder.Holder.{Holder}
-use Rattle.shell_model.specs.ShellStats.{one, is_hit, is_miss, is_kept, is_full, is_lost, is_added, is_updated, is_refused, is_eviction, is_rejection, is_begun, is_busy, is_removed}
+use Rattle.shell_model.specs.ShellStats.{one, is_hit, is_miss, is_kept, is_full, is_lost, is_added, is_updated}
+use Rattle.shell_model.specs.ShellStats.{is_refused, is_eviction, is_rejection, is_begun, is_busy, is_removed}
 use Rattle.shell_buffers.specs.Buffers.{stripe_at}
 use Rattle.replacement.specs.Rules.{main_size}
 use Rattle.shell_model.specs.Shell.{Shell, act}
@@ -59,7 +63,10 @@ opened c s = record {
   drain = drain.Idle;
   holder = None;
   applied = 0;
-  stats = record { hits = 0; misses = 0; kept = 0; full = 0; lost = 0; added = 0; updated = 0; refused = 0; evictions = 0; rejections = 0; begun = 0; busy = 0; removed = 0 };
+  stats = record {
+    hits = 0; misses = 0; kept = 0; full = 0; lost = 0; added = 0; updated = 0; refused = 0;
+    evictions = 0; rejections = 0; begun = 0; busy = 0; removed = 0;
+  };
 }
 
 -- the items that steps put into read buffer k, and how many they took out
@@ -177,8 +184,10 @@ pub record IsHistory (s : Shape) (es : List Made) (x : Shell) : Type 0 where
   pub stripes : (k : ℕ) → stripe_at k x.stripes ≡ drop (tally (drained k) es) (collect (offered k) es)
   pub writes : x.writes ≡ drop (tally done es) (collect asked es)
   pub stats : AreReplies x.stats es
-  pub table : (i : Item) → (1 ≤ times i x.table) ↔ ((1 ≤ times i (collect added es)) × (times i (collect gone es) ≡ 0) × (times i (collect removed es) ≡ 0))
-  pub stands : (i : Item) → 1 ≤ times i x.table → (queued i x.queues + waiting i x.writes ≡ 1) × (leaving i x.writes ≡ 0)
+  pub table : (i : Item) → (1 ≤ times i x.table)
+      ↔ ((1 ≤ times i (collect added es)) × (times i (collect gone es) ≡ 0) × (times i (collect removed es) ≡ 0))
+  pub stands : (i : Item) → 1 ≤ times i x.table
+      → (queued i x.queues + waiting i x.writes ≡ 1) × (leaving i x.writes ≡ 0)
   pub others : (i : Item) → times i x.table ≡ 0 → 1 ≤ queued i x.queues + waiting i x.writes → leaving i x.writes ≡ 1
   pub behind : (i : Item) (before rest : List Task) → x.writes ≡ before ++ Add i ∷ rest → leaving i before ≡ 0
   pub main : main_length x.queues ≤ main_size x.config
@@ -187,4 +196,5 @@ pub record IsHistory (s : Shape) (es : List Made) (x : Shell) : Type 0 where
   pub holder : seat_of x.holder ≡ seat_from (open_began es)
 
 abbrev pub HistoryLaws : Type 0
-HistoryLaws = (c : Config) (s : Shape) (es : List Made) → IsShapeOf c s → IsLegal act (opened c s) es → IsHistory s es (after act (opened c s) es)
+HistoryLaws = (c : Config) (s : Shape) (es : List Made) → IsShapeOf c s
+    → IsLegal act (opened c s) es → IsHistory s es (after act (opened c s) es)

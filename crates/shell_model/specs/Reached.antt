@@ -30,7 +30,8 @@ pub record ShellFits (r : ShellRecord) (x : Shell) : Type 0 where
 -- a step's record fits what the step left, and undoes it
 abbrev pub RecordLaw : Type 0
 RecordLaw = (x y : Shell) (s : Step) (r : Reply) → IsReachable x → act x s ≡ Some (r, y)
-    → let c : ShellRecord = record { reply = r; change = change_of s.worker s.act x } in ShellFits c y × (undone_step c y ≡ x)
+    → let c : ShellRecord = record { reply = r; change = change_of s.worker s.act x } in
+      ShellFits c y × (undone_step c y ≡ x)
 
 -- from any state that a shell stands for and that no one holds
 pub record IsLaterHistory (es : List Made) (y : Shell) : Type 0 where
@@ -38,7 +39,8 @@ pub record IsLaterHistory (es : List Made) (y : Shell) : Type 0 where
   pub holder : seat_of y.holder ≡ seat_from (open_began es)
 
 abbrev pub LaterLaws : Type 0
-LaterLaws = (x : Shell) (es : List Made) → IsReachable x → x.holder ≡ None → IsLegal act x es → IsLaterHistory es (after act x es)
+LaterLaws = (x : Shell) (es : List Made) → IsReachable x → x.holder ≡ None
+    → IsLegal act x es → IsLaterHistory es (after act x es)
 
 -- no count passes the number of applied steps, which has a limit
 pub record IsBounded (x : Shell) : Type 0 where

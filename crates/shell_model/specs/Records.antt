@@ -1,5 +1,6 @@
 -- The records of steps, how a record undoes its step, and where it fits.
-use Rattle.std.specs.Prelude.{◌≡◌, ℕ, ◌+◌, ◌-◌, ◌<◌, ◌≤◌, nat_lt, Bool, true, false, cond, eqb, Option, Some, None, List, [], ◌∷◌, ◌++◌, length, take, set}
+use Rattle.std.specs.Prelude.{◌≡◌, ℕ, ◌+◌, ◌-◌, ◌<◌, ◌≤◌, nat_lt, Bool, true, false, cond, eqb, Option, Some, None}
+use Rattle.std.specs.Prelude.{List, [], ◌∷◌, ◌++◌, length, take, set}
 use Rattle.step_record.specs.declared.item.Item.{Item}
 use Rattle.step_record.specs.declared.step.Act.{Act}
 use Rattle.step_record.specs.declared.step.Act.TheVariants as a
@@ -24,7 +25,8 @@ use Rattle.shell_model.specs.declared.record.UseRecord.{UseRecord}
 use Rattle.shell_model.specs.declared.record.EvictionRecord.{EvictionRecord}
 use Rattle.shell_model.specs.declared.record.ShellRecord.{ShellRecord}
 use Rattle.shell_model.specs.declared.record.Change.{Change}
-use Rattle.shell_model.specs.declared.record.Change.TheVariants.{Nothing, Offered, Updated, Added, Removed, Requested, Began, Read, Passed, Applied, Cleared, Evicted, Ended}
+use Rattle.shell_model.specs.declared.record.Change.TheVariants.{Nothing, Offered, Updated, Added, Removed, Requested}
+use Rattle.shell_model.specs.declared.record.Change.TheVariants.{Began, Read, Passed, Applied, Cleared, Evicted, Ended}
 use Rattle.shell_model.specs.Frequency.{record_of, unrecorded, FitsFrequency, admits}
 use Rattle.shell_model.specs.ShellStats.{uncounted, IsCounted}
 use Rattle.shell_buffers.specs.Buffers.{stripe_at, but_newest}
@@ -111,8 +113,10 @@ unchanged (Requested before now) x = record x { drain = before }
 unchanged (Began w before) x = record x { drain = before; holder = None }
 unchanged (Read s i t) x = let y = untouched t x in record y { stripes = set x.stripes s (i ∷ stripe_at s x.stripes) }
 unchanged (Passed before now) x = record x { holder = rephased before x.holder }
-unchanged (Applied before task t) x = let y = untouched t x in record y { writes = task ∷ x.writes; holder = refilled before x.holder }
-unchanged (Cleared before i r) x = record x { queues = back r x.queues; writes = Remove i ∷ x.writes; holder = refilled before x.holder }
+unchanged (Applied before task t) x =
+    let y = untouched t x in record y { writes = task ∷ x.writes; holder = refilled before x.holder }
+unchanged (Cleared before i r) x =
+    record x { queues = back r x.queues; writes = Remove i ∷ x.writes; holder = refilled before x.holder }
 unchanged (Evicted before g) x = let y = unevicted g x in record y { holder = rephased before x.holder }
 unchanged (Ended h before now) x = record x { drain = before; holder = Some h }
 
@@ -126,13 +130,16 @@ FitsChange (Requested before now) x = x.drain ≡ now
 FitsChange (Began w before) x = (x.drain ≡ ToIdle) × (x.holder ≡ Some record { worker = w; phase = Reads; left = 128 })
 FitsChange (Read s i t) x = FitsTouched t x × (s < length x.stripes) × (length (stripe_at s x.stripes) < 16)
 FitsChange (Passed before now) x = IsInPhase now x.holder
-FitsChange (Applied before task t) x = FitsTouched t x × (length x.writes < 128) × IsInPhase Writes x.holder × HasLeft x.holder
-FitsChange (Cleared before i r) x = FitsMove r x.queues × (length x.writes < 128) × IsInPhase Writes x.holder × HasLeft x.holder
+FitsChange (Applied before task t) x =
+    FitsTouched t x × (length x.writes < 128) × IsInPhase Writes x.holder × HasLeft x.holder
+FitsChange (Cleared before i r) x =
+    FitsMove r x.queues × (length x.writes < 128) × IsInPhase Writes x.holder × HasLeft x.holder
 FitsChange (Evicted before g) x = FitsEviction g x × IsInPhase Evictions x.holder
 FitsChange (Ended h before now) x = (x.drain ≡ now) × (x.holder ≡ None)
 
 abbrev pub undone_step : ShellRecord → Shell → Shell
-undone_step r x = let y = unchanged r.change x in record y { stats = uncounted r.reply x.stats; applied = x.applied - 1 }
+undone_step r x =
+    let y = unchanged r.change x in record y { stats = uncounted r.reply x.stats; applied = x.applied - 1 }
 
 pub record FitsStep (r : ShellRecord) (x : Shell) : Type 0 where
   pub stats : IsCounted r.reply x.stats

@@ -1,14 +1,19 @@
 -- The shell's state, and what each step makes of it.
-use Rattle.std.specs.Prelude.{ℕ, ◌+◌, ◌-◌, ◌*◌, ◌/◌, nat_lt, Bool, true, false, cond, ◌&&◌, eqb, Option, Some, None, List, [], ◌∷◌, ◌++◌, length, set, get_or}
+use Rattle.std.specs.Prelude.{ℕ, ◌+◌, ◌-◌, ◌*◌, ◌/◌, nat_lt, Bool, true, false, cond, ◌&&◌, eqb, Option, Some, None}
+use Rattle.std.specs.Prelude.{List, [], ◌∷◌, ◌++◌, length, set, get_or}
 use Rattle.step_record.specs.declared.item.Item.{Item}
 use Rattle.step_record.specs.declared.config.Config.{Config}
 use Rattle.step_record.specs.declared.step.Answer.{Answer}
 use Rattle.step_record.specs.declared.step.Answer.TheVariants as answer
 use Rattle.step_record.specs.declared.step.Act.{Act}
-use Rattle.step_record.specs.declared.step.Act.TheVariants.{Look, Offer, Lose, Put, Remove as RemoveKey, AfterRead, AfterWrite, Begin, DrainRead, DrainWrite, Evict, End}
+use Rattle.step_record.specs.declared.step.Act.TheVariants.{Look, Offer, Lose, Put, Remove as RemoveKey, AfterRead}
+use Rattle.step_record.specs.declared.step.Act.TheVariants.{AfterWrite, Begin, DrainRead, DrainWrite, Evict, End}
 use Rattle.step_record.specs.declared.step.Step.{Step}
 use Rattle.step_record.specs.declared.step.Reply.{Reply}
-use Rattle.step_record.specs.declared.step.Reply.TheVariants.{Hit, Miss, Kept, Full, Lost, WritesFull, Present, Added, Removed, Absent, Go, Drain, Began, Busy, Drained, Empty, Applied, Cleared, Enough, Shifted, Evicted, Rejected, Fits, Idle, Again, NotYet}
+use Rattle.step_record.specs.declared.step.Reply.TheVariants.{Hit, Miss, Kept, Full, Lost, WritesFull, Present, Added}
+use Rattle.step_record.specs.declared.step.Reply.TheVariants.{Removed, Absent, Go, Drain, Began, Busy, Drained, Empty}
+use Rattle.step_record.specs.declared.step.Reply.TheVariants.{Applied, Cleared, Enough, Shifted, Evicted, Rejected}
+use Rattle.step_record.specs.declared.step.Reply.TheVariants.{Fits, Idle, Again, NotYet}
 use Rattle.step_record.specs.declared.drain.Drain.{Drain as DrainState}
 use Rattle.step_record.specs.declared.drain.Drain.TheVariants as drain
 use Rattle.step_record.specs.declared.drain.Phase.{Phase}
@@ -111,7 +116,8 @@ removing i x = record x { table = without i x.table; writes = x.writes ++ Remove
 
 abbrev pub remove_at : ℕ → Option ℕ → Shell → Reply × Shell
 remove_at k None x = (Absent, x)
-remove_at k (Some n) x = cond (nat_lt (length x.writes) 128) (Removed n, removing record { key = k; node = n } x) (WritesFull, x)
+remove_at k (Some n) x =
+    cond (nat_lt (length x.writes) 128) (Removed n, removing record { key = k; node = n } x) (WritesFull, x)
 
 abbrev pub remove : ℕ → Shell → Reply × Shell
 remove k x = remove_at k (node_of k x.table) x
@@ -132,13 +138,15 @@ after_write drain.ToRequired = (Go, drain.ToRequired)
 
 abbrev pub begin : ℕ → Option Holder → Shell → Reply × Shell
 begin w (Some h) x = (Busy, x)
-begin w None x = (Began, record x { drain = drain.ToIdle; holder = Some record { worker = w; phase = Reads; left = 128 } })
+begin w None x =
+    (Began, record x { drain = drain.ToIdle; holder = Some record { worker = w; phase = Reads; left = 128 } })
 
 abbrev pub recording : ℕ → Shell → Shell
 recording k x = record x { frequency = recorded x.frequency k }
 
 abbrev pub touching : Item → Shell → Shell
-touching i x = record x { frequency = recorded x.frequency i.key; queues = after_hit (protected_size x.config) i x.queues }
+touching i x =
+    record x { frequency = recorded x.frequency i.key; queues = after_hit (protected_size x.config) i x.queues }
 
 abbrev pub drain_read : ℕ → List Item → Shell → Reply × Shell
 drain_read s [] x = (Empty, x)
@@ -148,7 +156,8 @@ abbrev pub in_phase : Phase → Holder → Shell → Shell
 in_phase p h x = record x { holder = Some record { worker = h.worker; phase = p; left = h.left } }
 
 abbrev pub apply_task : Task → Shell → Reply × Shell
-apply_task (Add i) x = (Applied i, record x { frequency = recorded x.frequency i.key; queues = pushed Window i x.queues })
+apply_task (Add i) x =
+    (Applied i, record x { frequency = recorded x.frequency i.key; queues = pushed Window i x.queues })
 apply_task (Update i) x = (Applied i, touching i x)
 apply_task (Remove i) x = (Cleared i, record x { queues = cleared i x.queues })
 
@@ -157,7 +166,10 @@ drain_write h [] x = (Empty, in_phase Writes h x)
 drain_write h (t ∷ rest) x =
     cond (eqb h.left 0)
     (Enough, in_phase Writes h x)
-    (apply_task t (record x { writes = rest; holder = Some record { worker = h.worker; phase = Writes; left = h.left - 1 } }))
+    (apply_task t (record x {
+      writes = rest;
+      holder = Some record { worker = h.worker; phase = Writes; left = h.left - 1 };
+    }))
 
 -- the item leaves the queues, and the table where it is listed there
 abbrev pub leave : Item → Shell → Shell
@@ -169,13 +181,18 @@ contest candidate None x = (Shifted candidate, x)
 contest candidate (Some victim) x =
     cond (same candidate victim)
     (Rejected candidate, leave candidate x)
-    (cond (admits x.frequency candidate.key victim.key) (Evicted victim, leave victim x) (Rejected candidate, leave candidate x))
+    (cond (admits x.frequency candidate.key victim.key)
+        (Evicted victim, leave victim x)
+        (Rejected candidate, leave candidate x))
 
 abbrev pub shift : Item → Shell → Shell
 shift i x = record x { queues = moved i Probation x.queues }
 
 abbrev pub evict_from : Item → Shell → Reply × Shell
-evict_from candidate x = cond (nat_lt x.config.capacity (total x.queues)) (contest candidate (first x.queues.probation) x) (Shifted candidate, x)
+evict_from candidate x =
+    cond (nat_lt x.config.capacity (total x.queues))
+    (contest candidate (first x.queues.probation) x)
+    (Shifted candidate, x)
 
 abbrev pub evict_oldest : Option Item → Shell → Reply × Shell
 evict_oldest None x = (Fits, x)

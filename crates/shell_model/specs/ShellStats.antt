@@ -1,7 +1,8 @@
 -- The statistics: how often each kind of reply was given.
 use Rattle.std.specs.Prelude.{ℕ, ◌+◌, ◌-◌, ◌≤◌, Bool, true, false, cond}
 use Rattle.step_record.specs.declared.step.Reply.{Reply}
-use Rattle.step_record.specs.declared.step.Reply.TheVariants.{Hit, Miss, Kept, Full, Lost, WritesFull, Present, Added, Removed, Began, Busy, Evicted, Rejected}
+use Rattle.step_record.specs.declared.step.Reply.TheVariants.{Hit, Miss, Kept, Full, Lost, WritesFull, Present, Added}
+use Rattle.step_record.specs.declared.step.Reply.TheVariants.{Removed, Began, Busy, Evicted, Rejected}
 use Rattle.shell_model.specs.declared.stats.ShellStats.{ShellStats}
 
 abbrev pub one : Bool → ℕ

@@ -45,8 +45,8 @@ pub fn evictions_agree()
     ensures { EvictionsAgree }
 {}
 
-/// An eviction comes to what its plan comes to, in which a candidate goes straight to its place, or out. Bodies and undo
-/// records go by the plan.
+/// An eviction comes to what its plan comes to, in which a candidate goes straight to its place, or out. Bodies and
+/// undo records go by the plan.
 pub fn evictions_planned()
     ensures { EvictionsPlanned }
 {}
