@@ -23,6 +23,7 @@ mod settling;
 mod settling_tests;
 #[cfg(test)]
 mod tests;
+pub mod theorems;
 mod turns;
 mod work;
 

@@ -1,14 +1,19 @@
 //! Accesses by one worker, with the maintenance finished after each.
 ghost use Rattle.std.specs.Prelude.{◌≡◌, ◌≤◌, ◌↔◌, ℕ, None, Some, Err, IsSome, IfOk, IfErr, OnOk, OnErr, length, ◌∷◌, ◌++◌, [], true, false, List};
+ghost use Rattle.step_record.specs.declared.config.Config.{Config};
 ghost use Rattle.step_record.specs.declared.limits.TheConstants.{MAX_STRIPES};
 ghost use Rattle.step_record.specs.declared.outcome.Outcome.{Outcome};
 ghost use Rattle.step_record.specs.declared.outcome.Outcome.TheVariants.{Kept};
 ghost use Rattle.step_record.specs.Answers.{is_answer};
+ghost use Rattle.policies.specs.QueueCache.{state_after};
 ghost use Rattle.shell_model.specs.Shell.{perform, act as acted};
+ghost use Rattle.quiet_shell.specs.Quiet.{IsQuiet, window_tiny_lfu};
+ghost use Rattle.maintenance.specs.Opened.{IsOpened};
 ghost use Rattle.drive.specs.Walks.{Entries, IsRound, step_of};
 ghost use Rattle.drive.specs.Outcomes.{outcome_from};
 ghost use Rattle.drive.specs.Settle.{Adds, IsCause};
 ghost use Rattle.drive.specs.QuietWalks.{AreQuietWalks, BeginQuietWalks, FollowsQuietOffer, FollowsQuietPut, IsCallers, IsQuietOffer, IsQuietPut, IsQuietReport, IsQuietWalk, Stopped};
+ghost use Rattle.drive.specs.QuietRuns.{GoesOn, IsPolicysRun};
 
 use super::local::Local;
 use super::settling::{Refusal, finish_round, make};
@@ -34,8 +39,9 @@ pub enum QuietFault {
 
 /// Accesses the keys one after another as worker 0, each with a whole round of maintenance after
 /// it, and returns their outcomes: a hit, or for a miss the last key that left in its round, if
-/// one did. A maintenance that is under way is to be settled first. After out of memory or a full
-/// journal the steps that were made stay, and worker 0 may hold the maintenance.
+/// one did. So the cache is W-TinyLFU: from a new one on, the outcomes and the keys that are held
+/// are the policy's. A maintenance that is under way is to be settled first. After out of memory or
+/// a full journal the steps that were made stay, and worker 0 may hold the maintenance.
 pub fn run_quiet(
     alloc: Global,
     session: &mut Session<Shell>,
@@ -46,6 +52,13 @@ pub fn run_quiet(
     // One walk for each key, in order, whose replies come to the outcomes; and no holder is left.
     ensures ok { IfOk result (λ os. Adds (AreQuietWalks session.old.engine.config.stripes keys.now os.items) session.old session.new) }
     ensures none { OnOk result (session.new.engine.holder ≡ None) }
+    // From a new cache the outcomes are those of W-TinyLFU, and the cache holds then what that
+    // holds: the same keys in the same order in the three queues, and the same frequency.
+    ensures new { (c : Config) → IsOpened c session.old.opening → session.old.kept ≡ [] →
+        IfOk result (λ os. IsPolicysRun c keys.now os.items session.new.engine) }
+    // So it goes on from a cache that holds what W-TinyLFU holds after the accesses of the past.
+    ensures later { (c : Config) (past : List ℕ) → IsQuiet session.old.engine (state_after (window_tiny_lfu c) past) →
+        IfOk result (λ os. GoesOn c past keys.now os.items session.new.engine) }
     // The first steps of these walks.
     ensures err { IfErr result (Stopped session.old.engine.config.stripes keys.now session.old session.new) }
     ensures held { result ≡ Err QuietFault.Held ↔ IsSome session.old.engine.holder }
@@ -59,14 +72,12 @@ pub fn run_quiet(
     let stripes = session.engine().stripes();
     let before = session.len();
     let mut outcomes = Vec::new(alloc);
-    match access_all(session, worker, stripes, keys, &mut outcomes) {
+    let ended = access_all(session, worker, stripes, keys, &mut outcomes);
+    let done = (session.len() - before) as u64;
+    match ended {
         Ok(()) => Ok(outcomes),
-        Err(Refusal::OutOfMemory) => Err(QuietFault::OutOfMemory {
-            done: (session.len() - before) as u64,
-        }),
-        Err(Refusal::JournalFull) => Err(QuietFault::JournalFull {
-            done: (session.len() - before) as u64,
-        }),
+        Err(Refusal::OutOfMemory) => Err(QuietFault::OutOfMemory { done }),
+        Err(Refusal::JournalFull) => Err(QuietFault::JournalFull { done }),
     }
 }
 

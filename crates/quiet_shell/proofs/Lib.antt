@@ -3,8 +3,3 @@ pub mod Nodes
 pub mod Accessing
 pub mod Residents
 pub mod Serving
-pub mod Reading
-pub mod Rounds
-pub mod Walked
-pub mod Keying
-pub mod Running

@@ -31,7 +31,7 @@ use Rattle.drive.specs.Walks.{Entries, Opens, IsEnding, FollowsEnd, IsEvicting, 
 use Rattle.drive.specs.Outcomes.{told}
 use Rattle.shell_model.specs.Evicting.{reply_by, unlisted_by}
 use Rattle.quiet_shell.proofs.Agreeing.{evictions-law}
-use Rattle.quiet_shell.proofs.Reading.{Leads, opens, over, state, held, Leaves}
+use Rattle.drive.proofs.QuietSteps.{Leads, opens, over, state, held, Leaves}
 
 -- ---- the end
 

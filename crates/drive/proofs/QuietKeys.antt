@@ -23,8 +23,8 @@ use Rattle.shell_model.specs.Shell.{Shell, window_size, protected_size, node_of,
 use Rattle.drive.specs.Walks.{IsRound, FollowsBegin, IsWriting, FollowsDrainWrite}
 use Rattle.drive.specs.QuietWalks.{FollowsQuietReport, FollowsQuietOffer, FollowsQuietPut, FollowsQuietLook, IsQuietWalk}
 use Rattle.shell_model.specs.Evicting.{unlisted_by}
-use Rattle.quiet_shell.proofs.Reading.{Leads, opens, state, held, Leaves}
-use Rattle.quiet_shell.proofs.Rounds.{fits, evicted, evicts, writing-opens, write-empty, Drains, reading-opens, reads}
+use Rattle.drive.proofs.QuietSteps.{Leads, opens, state, held, Leaves}
+use Rattle.drive.proofs.QuietRounds.{fits, evicted, evicts, writing-opens, write-empty, Drains, reading-opens, reads}
 
 -- an item at the first stripe, and nothing else, is drained
 hit-round : (c : Config) (t : List Item) (n : ℕ) (q : Queues) (rest : List (List Item)) (f : FrequencyData) (s : ShellStats) (m k nd : ℕ) (o : Outcome) (Q : Shell → Type 0)

@@ -33,12 +33,12 @@ use Rattle.drive.specs.Outcomes.{outcome_from}
 use Rattle.drive.specs.QuietWalks.{IsQuietWalk}
 use Rattle.quiet_shell.specs.Nodes.{nodeless_queues, nodeless_response}
 use Rattle.quiet_shell.specs.Quiet.{IsQuiet, window_tiny_lfu}
-use Rattle.quiet_shell.specs.Runs.{KeysAgree}
+use Rattle.drive.specs.QuietRuns.{KeysAgree}
 use Rattle.quiet_shell.proofs.Residents.{resident, keys-once, distinct-in, lacks, not-queued, place-some, place-none, hit-window}
 use Rattle.quiet_shell.proofs.Serving.{hit-response, miss-response, responses, frequencies}
-use Rattle.quiet_shell.proofs.Reading.{Leads, state}
-use Rattle.quiet_shell.proofs.Rounds.{window-after}
-use Rattle.quiet_shell.proofs.Walked.{hits, misses}
+use Rattle.drive.proofs.QuietSteps.{Leads, state}
+use Rattle.drive.proofs.QuietRounds.{window-after}
+use Rattle.drive.proofs.QuietKeys.{hits, misses}
 
 -- what a key leaves, of which the table is known besides
 record IsLeft (c : Config) (z : Shell) (d : QueueState) : Type 0 where
