@@ -3,6 +3,8 @@
 #![tactic(auto)]
 
 #[cfg(test)]
+mod repeating_tests;
+#[cfg(test)]
 mod session_tests;
 #[cfg(test)]
 mod showing;
