@@ -7,6 +7,8 @@ mod ends;
 #[cfg(test)]
 mod ends_tests;
 #[cfg(test)]
+mod repeating_tests;
+#[cfg(test)]
 mod session_tests;
 #[cfg(test)]
 mod showing;

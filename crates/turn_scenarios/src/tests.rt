@@ -121,12 +121,15 @@ fn a_pass_is_spent_after_its_only_turn(rt: HostRuntime) -> Result<(), Fail> {
     Ok(())
 }
 
+// How often workers yield, all together, before they give up waiting for one that does not begin.
+const MAX_YIELDS: u64 = 20_000_000;
+
 // Holds each worker before its first line until all have begun.
 #[derive(Drop)]
 struct Hold {
     workers: u64,
     begun: AtomicU64,
-    late: AtomicU64,
+    yields: AtomicU64,
 }
 
 impl Gate for Hold {
@@ -135,13 +138,13 @@ impl Gate for Hold {
             return;
         }
         self.begun.fetch_add(1, SeqCst);
-        for _ in 0..50_000_000 {
-            if self.begun.load(SeqCst) >= self.workers {
+        for _ in 0..MAX_YIELDS {
+            let all = self.begun.load(SeqCst) >= self.workers;
+            if all || self.yields.fetch_add(1, SeqCst) >= MAX_YIELDS {
                 return;
             }
             thread::yield_now();
         }
-        self.late.fetch_add(1, SeqCst);
     }
 
     fn after(&self, _who: u8, _n: u64) {}
@@ -177,10 +180,10 @@ fn assert_side_by_side<R: Threads + Wait + Sync + Abort>(
     let gate = Hold {
         workers: u64::from(workers),
         begun: AtomicU64::new(0),
-        late: AtomicU64::new(0),
+        yields: AtomicU64::new(0),
     };
     let written = write_log(rt, alloc, &gate, begun(alloc)?, workers, lines)?;
-    if gate.late.load(SeqCst) > 0 {
+    if gate.yields.load(SeqCst) >= MAX_YIELDS {
         return Err(Fail::from("no thread for a worker: out of memory"));
     }
     assert!(rt; written.log.lines.first() == Some(&FIRST));

@@ -1,0 +1,160 @@
+//! Calls that are made once more where their allocation failed: a refused call changes nothing, so the answers are
+//! those of calls that were never refused.
+ghost use Rattle.std.specs.Prelude.{◌≡◌, IfOk, OnOk};
+
+use super::walking::CONFIG;
+use maintenance::Shell;
+use segments::Queue;
+use std::alloc::{AllocError, Global};
+use std::process::Abort;
+use std::test::Fail;
+use step_record::{Act, Config, Engine, Item, Reply, Step, StepFault, Worker};
+
+const TINY: Config = Config {
+    capacity: 1,
+    ..CONFIG
+};
+
+const FIRST: Item = Item { key: 1, node: 0 };
+
+const OTHER: Item = Item { key: 2, node: 1 };
+
+const SECOND: Item = Item { key: 1, node: 2 };
+
+const LAST: Item = Item { key: 3, node: 3 };
+
+const OFFER: Act = Act::Offer {
+    stripe: 0,
+    item: SECOND,
+};
+
+const DRAIN: Act = Act::DrainRead { stripe: 0 };
+
+const DRAINED: Reply = Reply::Drained { item: SECOND };
+
+// Steps of a cache of one entry. The seventh read that is drained is the tenth key that is recorded, at which the
+// sketch is halved. Undone are, among others, a removal, two evictions, one of them of an item that the table lists,
+// and the clearing of an item that is queued.
+const STEPS: [(Act, Reply); 33] = [
+    (Act::Put { key: 1 }, Reply::Added { node: 0 }),
+    (Act::Put { key: 2 }, Reply::Added { node: 1 }),
+    (Act::Begin, Reply::Began),
+    (Act::DrainWrite, Reply::Applied { item: FIRST }),
+    (Act::DrainWrite, Reply::Applied { item: OTHER }),
+    (Act::Remove { key: 1 }, Reply::Removed { node: 0 }),
+    (Act::Put { key: 1 }, Reply::Added { node: 2 }),
+    (Act::Evict, Reply::Rejected { item: FIRST }),
+    (Act::End, Reply::Idle),
+    (Act::Begin, Reply::Began),
+    (Act::DrainWrite, Reply::Cleared { item: FIRST }),
+    (Act::DrainWrite, Reply::Applied { item: SECOND }),
+    (Act::Evict, Reply::Rejected { item: OTHER }),
+    (Act::End, Reply::Idle),
+    (Act::Begin, Reply::Began),
+    (OFFER, Reply::Kept),
+    (OFFER, Reply::Kept),
+    (OFFER, Reply::Kept),
+    (OFFER, Reply::Kept),
+    (OFFER, Reply::Kept),
+    (OFFER, Reply::Kept),
+    (OFFER, Reply::Kept),
+    (DRAIN, DRAINED),
+    (DRAIN, DRAINED),
+    (DRAIN, DRAINED),
+    (DRAIN, DRAINED),
+    (DRAIN, DRAINED),
+    (DRAIN, DRAINED),
+    (DRAIN, DRAINED),
+    (Act::Remove { key: 1 }, Reply::Removed { node: 2 }),
+    (Act::DrainWrite, Reply::Cleared { item: SECOND }),
+    (Act::Put { key: 3 }, Reply::Added { node: 3 }),
+    (Act::DrainWrite, Reply::Applied { item: LAST }),
+];
+
+// Makes a step, once more where its allocation failed.
+fn apply<E: Engine>(engine: &mut E, step: &E::Step) -> Result<(E::Reply, E::Record), StepFault>
+    ensures fits { IfOk result (λ r. E.fits r.1 (E.seen engine.new)) }
+    ensures undone { IfOk result (λ r. E.undone r.1 (E.seen engine.new) ≡ E.seen engine.old) }
+{
+    match engine.apply(step) {
+        Err(StepFault::OutOfMemory) => engine.apply(step),
+        answer => answer,
+    }
+}
+
+// Undoes a step, once more where its allocation failed.
+fn undo<E: Engine>(engine: &mut E, done: E::Record) -> Result<(), AllocError>
+    requires { E.fits done (E.seen engine.old) }
+    ensures { OnOk result (E.seen engine.new ≡ E.undone done (E.seen engine.old)) }
+{
+    match engine.undo(done) {
+        Ok(()) => Ok(()),
+        Err(done) => match engine.undo(done) {
+            Ok(()) => Ok(()),
+            Err(_) => Err(AllocError),
+        },
+    }
+}
+
+// The items of the table, asked for once more where the allocation failed.
+fn table(alloc: Global, shell: &Shell) -> Result<Vec<Item>, AllocError> {
+    match shell.table(alloc) {
+        Ok(items) => Ok(items),
+        Err(AllocError) => shell.table(alloc),
+    }
+}
+
+// The items of a queue, asked for once more where the allocation failed.
+fn list(alloc: Global, shell: &Shell, queue: Queue) -> Result<Vec<Item>, AllocError> {
+    match shell.list(alloc, queue) {
+        Ok(items) => Ok(items),
+        Err(AllocError) => shell.list(alloc, queue),
+    }
+}
+
+// Sees that a shell has just these items, in its table and its window, and so many keys since its last halving.
+fn assert_holds(
+    rt: &impl Abort,
+    alloc: Global,
+    shell: &Shell,
+    items: &[Item],
+    age: usize,
+) -> Result<(), Fail> {
+    assert_eq!(rt; table(alloc, shell)?.as_slice(), items);
+    assert_eq!(rt; list(alloc, shell, Queue::Window)?.as_slice(), items);
+    assert_eq!(rt; list(alloc, shell, Queue::Probation)?.len(), 0);
+    assert_eq!(rt; shell.frequency().age() as usize, age);
+    Ok(())
+}
+
+// Makes the steps, looks at what the last one left, and undoes them, the last one first.
+fn there_and_back(
+    rt: &impl Abort,
+    alloc: Global,
+    shell: &mut Shell,
+    worker: Worker,
+    steps: &[(Act, Reply)],
+) -> Result<(), Fail>
+    ensures { OnOk result (shell.new ≡ shell.old) }
+{
+    let [(act, reply), rest @ ..] = steps else {
+        return assert_holds(rt, alloc, shell, &[LAST], 6);
+    };
+    let (answer, done) = apply(shell, &Step { worker, act: *act })?;
+    assert_eq!(rt; answer, *reply, "{act:?}");
+    there_and_back(rt, alloc, shell, worker, rest)?;
+    undo(shell, done)?;
+    Ok(())
+}
+
+#[test]
+fn a_call_made_again_answers_as_if_it_was_never_refused(rt: HostRuntime) -> Result<(), Fail> {
+    assert!(rt; TINY.check() == Ok(()));
+    let mut shell = match Shell::new(rt.alloc(), &TINY) {
+        Ok(shell) => shell,
+        Err(AllocError) => Shell::new(rt.alloc(), &TINY)?,
+    };
+    let worker = Worker::new(0).ok_or("no worker")?;
+    there_and_back(&rt, rt.alloc(), &mut shell, worker, &STEPS)?;
+    assert_holds(&rt, rt.alloc(), &shell, &[], 0)
+}
