@@ -1,12 +1,10 @@
 -- The bytes of a journal, line by line.
-use Rattle.std.proofs.Common.{◌≡◌, ◌≢◌, ◌∙◌, ◌<◌, ◌+◌, ◌==◌, inl, inr, ℕ, Bool, true, false, List, [], ◌∷◌, ◌++◌, length, take, drop, ap, sym, refl, subst, arith, Option, Result, Ok, Err, append_assoc}
+use Rattle.std.proofs.Common.{◌≡◌, ◌≢◌, ◌∙◌, ◌<◌, ◌+◌, ◌==◌, inl, inr, ℕ, Bool, true, false, List, [], ◌∷◌, ◌++◌, length, ap, sym, refl, subst, arith, Option, Result, Ok, Err, append_assoc}
 use Rattle.std.proofs.lemmas.List.Elements.{All-from_recursion, All-push}
 use Rattle.std.proofs.lemmas.List.{append-nil, flat_map_more}
 use Rattle.std.proofs.lemmas.List.Splits.{length-slice_split, slice_split_at, slice_split_none}
 use Rattle.std.specs.List.{slice_split}
 use Rattle.std.specs.Prelude.{IfErr, IsErrAnd, OnOk}
-use Rattle.journal_text.proofs.Cuts.{cut_at}
-use Rattle.journal_text.specs.Cut.{feed_in}
 use Rattle.journal_text.specs.Faults.{IsFault, IsUnread, IsWrong, Lacks10, Took}
 use Rattle.journal_text.specs.Journal.{begun, ended, entry_line, header, journal_of, AreLines, Entries, IsTextOf}
 use Rattle.journal_text.specs.Table.{text_of, IsLine}
@@ -54,12 +52,6 @@ header_lacks One = All-from_recursion (λ b. (b == 10) ≡ false) (header One) (
 header_lacks Two = All-from_recursion (λ b. (b == 10) ≡ false) (header Two) (refl, (refl, (refl, (refl, (refl, (refl, (refl, (refl, (refl, (refl, (refl, (refl, (refl, (refl, (refl, (refl, (refl, (refl, tt))))))))))))))))))
 
 -- ---- the lines behind the header
-
--- a line, and what is behind its line feed
-pub split : (rest : List ℕ) (k : ℕ) → k ≡ feed_in rest → k < length rest → rest ≡ ended (take k rest) ++ drop (k + 1) rest
-split rest k at lt =
-    let here : rest ≡ take (feed_in rest) rest ++ (10 ∷ drop (feed_in rest + 1) rest) = cut_at 10 rest (omega arith) in
-    here ∙ sym (append_assoc (take (feed_in rest) rest) (10 ∷ []) (drop (feed_in rest + 1) rest)) ∙ ap (λ n. ended (take n rest) ++ drop (n + 1) rest) (sym at)
 
 -- an entry more was taken, and its line is gone
 pub line_gone : (v : Version) (old new : Entries) (text rest behind whole : List ℕ) (closed : Bool) → closed ≡ false → Took closed v text old new

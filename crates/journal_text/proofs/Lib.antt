@@ -1,5 +1,3 @@
-pub mod Numbers
-pub mod Cuts
 pub mod Spellings
 pub mod Parsed
 pub mod LineLaws

@@ -12,7 +12,7 @@ use Rattle.std.specs.Fmt.{decimal}
 use Rattle.std.specs.List.{All, join_with_byte, list_any}
 use Rattle.std.specs.Str.Parse.{AllDigits}
 use Rattle.journal_text.specs.Names.{spelling}
-use Rattle.journal_text.specs.Reading.{digits_of, number_of, name_at, wide_at, small_at, act_at, reply_at, at_end, only_equals, only_steps, entry_in, count_in, made_in, or_count, line_in, words_of}
+use Rattle.journal_text.specs.Reading.{numeral_of, name_at, wide_at, small_at, act_at, reply_at, at_end, only_equals, only_steps, entry_in, count_in, made_in, or_count, line_in, words_of}
 use Rattle.journal_text.specs.declared.word.Word.{Word}
 use Rattle.journal_text.specs.declared.word.Word.TheVariants.{Named, Worker, Stripe, Wide}
 use Rattle.journal_text.specs.Table.{word_text, spelled, FitsWord, Fit, act_words, reply_words, entry_words, count_words, text_of, is_answer_in, IsLine}
@@ -27,6 +27,7 @@ use Rattle.journal_text.proofs.Parsed.{name_back, wide_back, small_back, act_bac
 use Rattle.step_record.specs.declared.entry.Entry.{Entry}
 use Rattle.step_record.specs.declared.step.Reply.{Reply}
 use Rattle.step_record.specs.declared.step.Step.{Step}
+use Rattle.text_lines.specs.Numbers.{number_of}
 
 -- ---- words and entries
 
@@ -194,15 +195,15 @@ spelled_lacks w (v ∷ vs) f =
 
 -- the words of a count are no entry's
 no_entry : (n : ℕ) (o : Option (Entry Step Reply)) → entry_in (map word_text (count_words n)) ≡ o → o ≡ None
-unfolding number_of digits_of
+unfolding numeral_of number_of
 no_entry n None h = refl
 no_entry n (Some e) h =
     let taken = entry_taken (map word_text (count_words n)) e h in
     let w = e.step.worker in
     let words : map word_text (count_words n) ≡ map word_text (entry_words e) = taken.0 in
     let first : spelling name.Steps ≡ decimal w = cc in
-    let read : number_of (spelling name.Steps) ≡ Some w = ap number_of first ∙ number_again w (omega (arith, taken.1.0)) in
-    let none : number_of (spelling name.Steps) ≡ None = refl in
+    let read : numeral_of (spelling name.Steps) ≡ Some w = ap numeral_of first ∙ number_again w (omega (arith, taken.1.0)) in
+    let none : numeral_of (spelling name.Steps) ≡ None = refl in
     absurd (cc)
 
 made_back : (v : Version) (e : Entry Step Reply) → Fit (entry_words e) → is_answer_in v e.step.act e.reply ≡ true

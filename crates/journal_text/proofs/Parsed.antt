@@ -5,7 +5,7 @@ use Rattle.std.proofs.lemmas.Bool.Decides.{nat_tests}
 use Rattle.std.specs.Fmt.{decimal}
 use Rattle.std.specs.Prelude.{nat_lt}
 use Rattle.journal_text.specs.Names.{name_of, spelling}
-use Rattle.journal_text.specs.Reading.{number_of, ◌>>=◌, with_rest, name_at, wide_at, small_at, item_at, answer_at, answer_named, act_at, act_named, reply_at, reply_named}
+use Rattle.journal_text.specs.Reading.{numeral_of, ◌>>=◌, with_rest, name_at, wide_at, small_at, item_at, answer_at, answer_named, act_at, act_named, reply_at, reply_named}
 use Rattle.journal_text.specs.declared.word.Word.{Word}
 use Rattle.journal_text.specs.Table.{word_text, Fit, answer_name, act_words, reply_words}
 use Rattle.journal_text.specs.declared.name.Name.{Name}
@@ -126,7 +126,7 @@ pub wide_taken : (ws : List (List ℕ)) (k : ℕ × List (List ℕ)) → wide_at
 unfolding wide_at
 wide_taken [] k h = absurd (cc)
 wide_taken (w ∷ ws) k h =
-    let r = rest_taken ws (number_of w) k h in
+    let r = rest_taken ws (numeral_of w) k h in
     let t = number_takes w k.0 r.0 in
     let word : w ≡ decimal k.0 = sym t.0 in
     let rest : ws ≡ k.1 = r.1 in

@@ -3,7 +3,6 @@ pub mod Table
 pub mod Reading
 pub mod Journal
 pub mod Faults
-pub mod Cut
 pub mod Unread
 pub mod ReplyItem
 pub mod Writing

@@ -1,8 +1,6 @@
 -- How a line is read, word by word. What callers see is the table; the laws say that this reads just its lines.
-use Rattle.std.specs.Prelude.{◌^◌, ◌&&◌, ◌==◌, ℕ, List, [], ◌∷◌, Option, Some, None, length, nat_lt, slice_index, if◌then◌else◌}
+use Rattle.std.specs.Prelude.{◌&&◌, ◌==◌, ℕ, List, [], ◌∷◌, Option, Some, None, length, nat_lt, slice_index, if◌then◌else◌}
 use Rattle.std.specs.List.{slice_split}
-use Rattle.std.specs.Str.{all_ascii_digits}
-use Rattle.std.specs.Str.Parse.{digits_value}
 use Rattle.journal_text.specs.Names.{name_of}
 use Rattle.journal_text.specs.Table.{is_answer_in}
 use Rattle.journal_text.specs.declared.line.Line.{Line}
@@ -20,21 +18,16 @@ use Rattle.step_record.specs.declared.step.Answer.TheVariants as answer
 use Rattle.step_record.specs.declared.step.Reply.{Reply}
 use Rattle.step_record.specs.declared.step.Reply.TheVariants as reply
 use Rattle.step_record.specs.declared.step.Step.{Step}
+use Rattle.text_lines.specs.Numbers.{number_of}
 
 infixl 10 ◌>>=◌
 abbrev pub ◌>>=◌ : {A B : Type 0} → Option A → (A → Option B) → Option B
 None >>= f = None
 (Some x) >>= f = f x
 
--- one or more digits, of a value below 2^64
-unfoldable pub digits_of : List ℕ → Option ℕ
-digits_of ds =
-    if nat_lt 0 (length ds) && (all_ascii_digits ds && nat_lt (digits_value 10 ds) (2 ^ 64))
-    then Some (digits_value 10 ds) else None
-
--- such a number, whose first digit is 0 (48) only where it is alone
-unfoldable pub number_of : List ℕ → Option ℕ
-number_of w = if nat_lt 1 (length w) && slice_index w 0 == 48 then None else digits_of w
+-- a number, whose first digit is 0 (48) only where it is alone
+unfoldable pub numeral_of : List ℕ → Option ℕ
+numeral_of w = if nat_lt 1 (length w) && slice_index w 0 == 48 then None else number_of w
 
 -- the words of a text, between spaces (32)
 abbrev pub words_of : List ℕ → List (List ℕ)
@@ -54,7 +47,7 @@ name_at (w ∷ ws) = with_rest ws (name_of w)
 
 unfoldable pub wide_at : Reads ℕ
 wide_at [] = None
-wide_at (w ∷ ws) = with_rest ws (number_of w)
+wide_at (w ∷ ws) = with_rest ws (numeral_of w)
 
 -- a number below a small limit
 unfoldable pub small_at : ℕ → Reads ℕ

@@ -2,7 +2,6 @@
 ghost use Rattle.std.specs.Prelude.{◌≡◌, ◌≢◌, ◌≤◌, ◌<◌, ◌+◌, ◌++◌, ℕ, List, [], IfErr, OnOk, MatchOption, length};
 ghost use Rattle.journal_text.specs.Faults.{IsFault, IsUnread, Lacks10};
 ghost use Rattle.journal_text.specs.Journal.{begun, ended, header, journal_of, AreLines, IsTextOf};
-ghost use Rattle.journal_text.specs.Cut.{feed_in};
 ghost use Rattle.journal_text.specs.declared.version.Version.{Version};
 ghost use Rattle.journal_text.specs.declared.version.Version.TheVariants.{One};
 ghost use Rattle.journal.specs.Session.{IsSameSession};
@@ -12,6 +11,7 @@ use super::steps::take;
 use super::{JournalFault, Version};
 use journal::Session;
 use step_record::{Engine, Reply, Step};
+use text_lines::cut;
 
 /// Reads the bytes as a journal, into a session that has made no step: makes the step of each line
 /// and looks whether it gets the reply of the line.
@@ -124,24 +124,8 @@ fn first_line(bytes: &[u8]) -> Option<(&[u8], &[u8])>
     ensures { MatchOption result (Lacks10 bytes.now)
         (λ l. Lacks10 l.0.now × (bytes.now ≡ ended l.0.now ++ l.1.now)) }
 {
-    let end = line_end(bytes);
-    if end == bytes.len() {
-        return None;
+    match cut(bytes, b'\n') {
+        (line, Some(behind)) => Some((line, behind)),
+        (_, None) => None,
     }
-    Some((&bytes[..end], &bytes[end + 1..]))
-}
-
-// Where the first line feed is, or the length.
-fn line_end(bytes: &[u8]) -> usize
-    ensures place { result ≡ feed_in bytes.now }
-    ensures within { result ≤ length bytes.now }
-{
-    let mut end = 0;
-    'ends: while end < bytes.len() {
-        if bytes[end] == b'\n' {
-            break;
-        }
-        end += 1;
-    }
-    end
 }
