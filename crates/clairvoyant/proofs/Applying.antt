@@ -5,12 +5,12 @@ use Rattle.step_record.specs.declared.stats.Stats.{Stats}
 use Rattle.clairvoyant.specs.declared.use_record.UseRecord.{UseRecord}
 use Rattle.clairvoyant.specs.Belady.{residents, outcome}
 use Rattle.clairvoyant.specs.RankSet.{IsTied}
-use Rattle.step_record.specs.Stats.{counted, uncounted, IsCounted}
+use Rattle.step_record.specs.Stats.{counted, uncounted}
 use Rattle.clairvoyant.specs.Clairvoyant.{ClairvoyantState, clairvoyant_at, IsReached, clairvoyant_act}
 use Rattle.clairvoyant.specs.UseRecord.{record_at, outcome_of, undone_keys, clairvoyant_undone, ClairvoyantFits}
 use Rattle.clairvoyant.proofs.Records.{outcome-is, keys-back}
 use Rattle.clairvoyant.specs.Representation.{shown, IsRepresented}
-use Rattle.clairvoyant.proofs.Reached.{reached-next, act-next, uncount-by, is-counted}
+use Rattle.clairvoyant.proofs.Reached.{reached-next, act-next, uncount-by}
 
 module _ (c : ℕ) (t : List ℕ) (s u : Stats) (o : Outcome) (lt : s.accesses < length t) (r : IsReached (shown c t s)) (is : o ≡ outcome c t s.accesses) (more : u ≡ counted o s) where
   pub up : u.accesses ≡ suc s.accesses

@@ -6,13 +6,12 @@ use Rattle.clairvoyant.proofs.Records.{record-rejected, record-evicted}
 use Rattle.step_record.specs.Keys.{has, without}
 use Rattle.clairvoyant.specs.Keys.{put}
 use Rattle.clairvoyant.specs.Uses.{rank, key_at}
-use Rattle.clairvoyant.specs.Belady.{farthest, gone, residents, outcome}
+use Rattle.clairvoyant.specs.Belady.{farthest, residents}
 use Rattle.rank_tree.specs.Bits.{holds}
 use Rattle.clairvoyant.specs.RankSet.{IsTied}
 use Rattle.clairvoyant.proofs.Keys.{without-put}
-use Rattle.clairvoyant.proofs.Belady.{residents-ascending, residents-seen}
-use Rattle.clairvoyant.proofs.Steps.{same}
-use Rattle.clairvoyant.proofs.Serving.{served-hit, answer-hit, served-kept, answer-kept, served-full, answer-full, own-held, tied-hit, tied-kept, tied-rejected, rejects, evicts, tied-evicted, evicted-back, there, ranked-next, differs}
+use Rattle.clairvoyant.proofs.Belady.{residents-seen}
+use Rattle.clairvoyant.proofs.Serving.{served-hit, served-kept, served-full, own-held, tied-hit, tied-kept, tied-rejected, rejects, evicts, tied-evicted, ranked-next, differs}
 
 module _ (c : ℕ) (t : List ℕ) (i : ℕ) (lt : i < length t) (h : List Bool) (tied : IsTied t i (residents c t i) h) where
   pub tested : (b : Bool) (own : ℕ) → own ≡ 2 * length t - 1 - i → b ≡ holds h own → has (get_or t i 0) (residents c t i) ≡ b

@@ -7,7 +7,7 @@ use Rattle.clairvoyant.specs.declared.use_record.UseRecord.{UseRecord}
 use Rattle.clairvoyant.specs.Belady.{residents, outcome, outcomes}
 use Rattle.clairvoyant.specs.RankSet.{IsTied}
 use Rattle.clairvoyant.specs.Clairvoyant.{ClairvoyantState, IsReached}
-use Rattle.clairvoyant.specs.UseRecord.{record_at, outcome_of, undone_keys, clairvoyant_undone, ClairvoyantFits}
+use Rattle.clairvoyant.specs.UseRecord.{outcome_of, undone_keys, clairvoyant_undone, ClairvoyantFits}
 use Rattle.clairvoyant.specs.Representation.{shown, IsRepresented}
 use Rattle.clairvoyant.proofs.Records.{outcome-is, keys-back}
 use Rattle.clairvoyant.proofs.Reached.{uncount-by, is-counted}

@@ -1,16 +1,16 @@
 -- What undoing an access changes back.
-use Rattle.std.proofs.Common.{◌≡◌, ℕ, suc, ◌-◌, ◌*◌, ◌<◌, ◌≤◌, Bool, true, false, cond, not, eqb, nat_lt, inl, inr, List, length, get_or, ap, ◌∙◌, sym, refl, arith}
-use Rattle.std.proofs.lemmas.Bool.{cases_Bool, eqb-true, eqb-false, ltb-true, ltb-false}
+use Rattle.std.proofs.Common.{◌≡◌, ℕ, suc, ◌-◌, ◌*◌, ◌<◌, ◌≤◌, Bool, true, false, cond, eqb, List, length, get_or, ap, ◌∙◌, sym, refl, arith}
+use Rattle.std.proofs.lemmas.Bool.{eqb-true}
 use Rattle.std.proofs.lemmas.Bool.Decides.{nat_tests}
 use Rattle.step_record.specs.Keys.{has, without}
 use Rattle.clairvoyant.specs.Keys.{put}
 use Rattle.clairvoyant.specs.Uses.{rank, key_at}
-use Rattle.clairvoyant.specs.Belady.{farthest, answer, gone, residents}
+use Rattle.clairvoyant.specs.Belady.{farthest, residents}
 use Rattle.rank_tree.specs.Bits.{holds}
 use Rattle.clairvoyant.specs.RankSet.{is_ranked, IsTied}
 use Rattle.clairvoyant.proofs.Keys.{without-put}
 use Rattle.clairvoyant.proofs.Uses.{IsNamed, named, seen-more, rank-other}
-use Rattle.clairvoyant.proofs.Belady.{residents-seen, farthest-among}
+use Rattle.clairvoyant.proofs.Belady.{residents-seen}
 use Rattle.clairvoyant.proofs.Steps.{in-own, is-at, and-of, key-own, key-new, step-hit, step-kept, step-rejected, step-evicted, not-in, restore, restore-one}
 use Rattle.clairvoyant.proofs.Records.{was-in}
 use Rattle.clairvoyant.proofs.Serving.{served-hit, served-kept, served-full, edited}

@@ -1,5 +1,6 @@
 -- What a cache that knows the trace shows.
-use Rattle.std.specs.Prelude.{◌≡◌, ℕ, suc, ◌-◌, ◌*◌, ◌≤◌, nat_lt, Bool, cond, eqb, ◌&&◌, Option, Some, None, List, length, slice_index}
+use Rattle.std.specs.Prelude.{◌≡◌, ℕ, ◌≤◌, nat_lt, Bool, cond, eqb, ◌&&◌, Option, Some, None}
+use Rattle.std.specs.Prelude.{List, length, slice_index}
 use Rattle.step_record.specs.declared.outcome.Outcome.{Outcome}
 use Rattle.step_record.specs.declared.stats.Stats.{Stats}
 use Rattle.step_record.specs.Stats.{stats_of, counted}
@@ -13,7 +14,8 @@ pub record ClairvoyantState : Type 0 where
 
 -- a cache of capacity c once the accesses below place i of the trace are made
 abbrev pub clairvoyant_at : ℕ → List ℕ → ℕ → ClairvoyantState
-clairvoyant_at c t i = record { trace = t; capacity = c; residents = residents c t i; stats = stats_of (outcomes c t i) }
+clairvoyant_at c t i =
+    record { trace = t; capacity = c; residents = residents c t i; stats = stats_of (outcomes c t i) }
 
 -- the first accesses of the trace give it
 pub record IsReached (d : ClairvoyantState) : Type 0 where
@@ -24,7 +26,9 @@ pub record IsReached (d : ClairvoyantState) : Type 0 where
 
 -- k is the trace's next access, and there is one more step to count
 abbrev pub is_next : ClairvoyantState → ℕ → Bool
-is_next d k = nat_lt d.stats.accesses 4294967296 && (nat_lt d.stats.accesses (length d.trace) && eqb k (slice_index d.trace d.stats.accesses))
+is_next d k =
+    nat_lt d.stats.accesses 4294967296
+    && (nat_lt d.stats.accesses (length d.trace) && eqb k (slice_index d.trace d.stats.accesses))
 
 abbrev pub state_after : ClairvoyantState → ℕ → ClairvoyantState
 state_after d k = record {
@@ -35,4 +39,5 @@ state_after d k = record {
 }
 
 abbrev pub clairvoyant_act : ClairvoyantState → ℕ → Option (Outcome × ClairvoyantState)
-clairvoyant_act d k = cond (is_next d k) (Some (answer d.capacity d.trace d.stats.accesses k d.residents, state_after d k)) None
+clairvoyant_act d k =
+    cond (is_next d k) (Some (answer d.capacity d.trace d.stats.accesses k d.residents, state_after d k)) None

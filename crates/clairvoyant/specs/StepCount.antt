@@ -12,7 +12,8 @@ split : (b : Bool) → (b ≡ true) ⊎ (b ≡ false)
 split true = inl refl
 split false = inr refl
 
-pub act_counts : (d : ClairvoyantState) (k : ℕ) (o : Outcome) (e : ClairvoyantState) → clairvoyant_act d k ≡ Some (o, e) → e.stats.accesses ≡ d.stats.accesses + 1
+pub act_counts : (d : ClairvoyantState) (k : ℕ) (o : Outcome) (e : ClairvoyantState) → clairvoyant_act d k ≡ Some (o, e)
+    → e.stats.accesses ≡ d.stats.accesses + 1
 act_counts d k o e h =
     elim (split (is_next d k)) [
       | inl f ↦ sym (ap accesses_in (rw f at h))

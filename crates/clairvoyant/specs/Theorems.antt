@@ -7,10 +7,12 @@ use Rattle.clairvoyant.specs.Clairvoyant.{ClairvoyantState, clairvoyant_at, clai
 -- For a cache that made the first accesses of its trace, an accepted step is the next of them, answers the outcome
 -- that the definition gives at its place, and leaves a cache that made one access more.
 abbrev pub ClairvoyantStands : Type 0
-ClairvoyantStands = (d : ClairvoyantState) (k : ℕ) (o : Outcome) (e : ClairvoyantState) → d ≡ clairvoyant_at d.capacity d.trace d.stats.accesses → clairvoyant_act d k ≡ Some (o, e)
+ClairvoyantStands = (d : ClairvoyantState) (k : ℕ) (o : Outcome) (e : ClairvoyantState)
+    → d ≡ clairvoyant_at d.capacity d.trace d.stats.accesses → clairvoyant_act d k ≡ Some (o, e)
     → (d.stats.accesses < length d.trace) × (k ≡ slice_index d.trace d.stats.accesses)
     × (o ≡ outcome d.capacity d.trace d.stats.accesses) × (e ≡ clairvoyant_at d.capacity d.trace (suc d.stats.accesses))
 
 -- A cache that made fewer than all accesses of its trace accepts the next of them.
 abbrev pub ClairvoyantAccepts : Type 0
-ClairvoyantAccepts = (d : ClairvoyantState) → d.stats.accesses < length d.trace → length d.trace ≤ 2 ^ 24 → clairvoyant_act d (slice_index d.trace d.stats.accesses) ≡ None → ⊥
+ClairvoyantAccepts = (d : ClairvoyantState) → d.stats.accesses < length d.trace → length d.trace ≤ 2 ^ 24
+    → clairvoyant_act d (slice_index d.trace d.stats.accesses) ≡ None → ⊥

@@ -1,5 +1,6 @@
 //! The cache that knows the trace.
-ghost use Rattle.std.specs.Prelude.{◌≡◌, ℕ, suc, ◌+◌, ◌-◌, ◌*◌, ◌≤◌, ◌<◌, ◌↔◌, List, length, slice_index, IfOk, IfErr, OnOk, OnErr, Ok, Some, None};
+ghost use Rattle.std.specs.Prelude.{◌≡◌, ℕ, suc, ◌+◌, ◌-◌, ◌*◌, ◌≤◌, ◌<◌, ◌↔◌, List, length, slice_index};
+ghost use Rattle.std.specs.Prelude.{IfOk, IfErr, OnOk, OnErr, Ok, Some, None};
 ghost use Rattle.clairvoyant.specs.RankSet.{IsTied};
 ghost use Rattle.clairvoyant.specs.Belady.{residents, outcome};
 ghost use Rattle.clairvoyant.specs.UseRecord.{record_at};
@@ -187,7 +188,8 @@ impl Engine for Clairvoyant {
         ensures not_now { result ≡ Err StepFault.NotNow ↔ clairvoyant_act self.old step.now ≡ None }
         ensures err { OnErr result (self.new ≡ self.old) }
         // The outcome is the definition's at this place of the trace, and the cache goes on to the next.
-        ensures stands { IfOk result (λ r. (self.old ≡ clairvoyant_at self.old.capacity self.old.trace self.old.stats.accesses)
+        ensures stands { IfOk result (λ r.
+            (self.old ≡ clairvoyant_at self.old.capacity self.old.trace self.old.stats.accesses)
             × (r.0 ≡ outcome self.old.capacity self.old.trace self.old.stats.accesses)
             × (self.new ≡ clairvoyant_at self.old.capacity self.old.trace (suc self.old.stats.accesses))) }
         // No access asks for memory.

@@ -5,6 +5,7 @@ ghost use Rattle.clairvoyant.specs.Uses.{next, rank, rank_by, key_at};
 use std::alloc::{AllocError, Global};
 use std::collections::HashMap;
 use std::marker::Model;
+use std::sync::Arc;
 use step_record::{Key, Trace};
 
 /// The accesses of a trace, with the next use of each one's key.
@@ -13,21 +14,30 @@ use step_record::{Key, Trace};
 /// place `p` has rank `2 * n - 1 - p`, and a key that is never used again has the place of its
 /// last access for its rank. So the key whose next use is farthest ranks least, and of keys that
 /// are never used again the one whose last access is earliest.
+///
+/// It is found once, and any number of caches, on any threads, can read it.
 #[derive(Drop)]
 pub struct NextUse {
+    found: Arc<Found>,
+}
+
+// The keys of the accesses, and the rank of each one's key after it.
+#[derive(Drop)]
+struct Found {
     keys: Vec<Key>,
     ranks: Vec<u32>,
 }
 
 impl Model for NextUse {
     ghost use Rattle.std.specs.Prelude.{ℕ, List};
+    ghost use Rattle.std.specs.Arc.{arc_value};
     ghost use Rattle.clairvoyant.specs.Uses.{IsFound};
 
     ghost Value = { List ℕ };
 
-    ghost view = { λ u. u.keys.items };
+    ghost view = { λ u. (arc_value u.found).keys.items };
 
-    ghost invariant = { λ u. IsFound u.keys.items u.ranks.items };
+    ghost invariant = { λ u. IsFound (arc_value u.found).keys.items (arc_value u.found).ranks.items };
 }
 
 /// The rank of a key that is used next at one place and was used last at another.
@@ -59,7 +69,17 @@ impl NextUse {
             let next = following.insert(keys[place], place as u32)?;
             ranks[place] = rank_by(len, next, place);
         }
-        Ok(NextUse { keys, ranks })
+        let found = Arc::new(alloc, Found { keys, ranks })?;
+        Ok(NextUse { found })
+    }
+
+    /// The same next uses for one more cache. Nothing is copied, and no memory is taken; the only
+    /// error is that there are 2^63 of them already.
+    pub fn share(&self) -> Result<NextUse, AllocError>
+        ensures { IfOk result (λ u. u ≡ self.now) }
+    {
+        let found = Arc::try_clone(&self.found)?;
+        Ok(NextUse { found })
     }
 
     /// How many accesses there are.
@@ -67,7 +87,7 @@ impl NextUse {
         ensures len { result ≡ length self.now }
         ensures few { result ≤ 16777216 }
     {
-        self.keys.len()
+        self.found.keys.len()
     }
 
     /// The key of the access at a place.
@@ -75,7 +95,7 @@ impl NextUse {
         requires { place < length self.now }
         ensures { result ≡ slice_index self.now place }
     {
-        self.keys[place]
+        self.found.keys[place]
     }
 
     /// The next use of the key that is accessed at a place: the least later place that holds the
@@ -99,7 +119,7 @@ impl NextUse {
         ensures rank { result ≡ rank self.now (suc place) (slice_index self.now place) }
         ensures within { result < 2 * length self.now }
     {
-        self.ranks[place]
+        self.found.ranks[place]
     }
 
     /// The key that a rank is of.
@@ -107,11 +127,11 @@ impl NextUse {
         requires { rank < 2 * length self.now }
         ensures { result ≡ key_at self.now rank }
     {
-        let len = self.keys.len();
+        let len = self.found.keys.len();
         if rank < len {
-            self.keys[rank]
+            self.found.keys[rank]
         } else {
-            self.keys[2 * len - 1 - rank]
+            self.found.keys[2 * len - 1 - rank]
         }
     }
 }

@@ -78,6 +78,22 @@ fn each_next_use_is_told(rt: HostRuntime) -> Result<(), Fail> {
 }
 
 #[test]
+fn shared_next_uses_outlive_their_first_owner(rt: HostRuntime) -> Result<(), Fail> {
+    let keys = Vec::from_slice(rt.alloc(), &[1, 2, 3, 1, 2])?;
+    assert!(rt; keys.len() == 5);
+    let trace = Trace::new(keys);
+    let first = NextUse::build(rt.alloc(), &trace)?;
+    let second = first.share()?;
+    drop(first);
+    assert!(rt; second.len() == 5);
+    for (place, next) in [(0, Some(3)), (1, Some(4)), (2, None), (3, None), (4, None)] {
+        assert!(rt; place < second.len());
+        assert_eq!(rt; second.next(place), next);
+    }
+    Ok(())
+}
+
+#[test]
 fn an_undone_access_is_made_again(rt: HostRuntime) -> Result<(), Fail> {
     let mut cache = opened(rt.alloc(), &[1, 2, 3, 4], 2)?;
     for key in [1, 2] {

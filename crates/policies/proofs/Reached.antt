@@ -14,7 +14,6 @@ use Rattle.step_record.specs.Pace.{words_of_halvings}
 use Rattle.step_record.specs.Stats.{stats_of, counted, one, is_hit, is_miss, is_eviction, is_rejection, IsSmall}
 use Rattle.segments.specs.Queues.{Queues, empty, total, IsDistinct}
 use Rattle.admission.specs.declared.freq_record.FreqRecord.{FreqRecord}
-use Rattle.admission.specs.Eras.{halvings}
 use Rattle.admission.specs.Frequency.{FrequencyData, frequency_of}
 use Rattle.admission.proofs.Recording.{recorded_freq}
 use Rattle.admission.proofs.Weighing.{halvings_bounded, weight_falls}

@@ -1,6 +1,6 @@
 -- How one access changes what a cache of any policy shows, and how its undo record undoes it: by the policy's own
 -- engine.
-use Rattle.std.specs.Prelude.{◌≡◌, ℕ, Option, Some, None}
+use Rattle.std.specs.Prelude.{ℕ, Option, Some, None}
 use Rattle.step_record.specs.declared.outcome.Outcome.{Outcome}
 use Rattle.step_record.specs.Pace.{Pace, still}
 use Rattle.clairvoyant.specs.Clairvoyant.{ClairvoyantState, clairvoyant_act}

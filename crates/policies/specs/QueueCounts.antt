@@ -1,5 +1,5 @@
 -- How the count of accesses and the age of the frequency go on, as every engine promises.
-use Rattle.std.specs.Prelude.{◌≡◌, ℕ, ◌+◌, ◌^◌, ◌==◌, Bool, true, false, Option, Some, None}
+use Rattle.std.specs.Prelude.{◌≡◌, ℕ, ◌+◌, ◌^◌, ◌==◌, true, Option, Some, None}
 use Rattle.std.proofs.Common.{sym, ap, inl, inr, refl, subst}
 use Rattle.std.proofs.lemmas.Bool.{cases_Bool, eq-eqb}
 use Rattle.step_record.specs.declared.outcome.Outcome.{Outcome}

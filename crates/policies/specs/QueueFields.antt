@@ -1,5 +1,5 @@
 -- What ties the fields of a cache of queues to what it shows.
-use Rattle.std.specs.Prelude.{◌≡◌, ℕ, ◌+◌, ◌≤◌, Option, Some, None}
+use Rattle.std.specs.Prelude.{◌≡◌, ◌≤◌, Option, Some, None}
 use Rattle.step_record.specs.declared.job.Job.{Job}
 use Rattle.step_record.specs.declared.stats.Stats.{Stats}
 use Rattle.segments.specs.Queues.{Queues}

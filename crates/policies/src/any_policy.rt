@@ -1,5 +1,5 @@
 //! All six policies as one engine.
-ghost use Rattle.std.specs.Prelude.{◌≡◌, ◌↔◌, IfOk, OnErr, Ok, Err, Some, None, [], option_map};
+ghost use Rattle.std.specs.Prelude.{◌≡◌, ◌↔◌, IfOk, IfSome, OnErr, Ok, Err, Some, None, [], option_map};
 
 use crate::queue_cache::QueueCache;
 use crate::record::AccessRecord;
@@ -31,16 +31,35 @@ impl AnyPolicy {
     ghost use Rattle.policies.specs.AnyPolicy.{Stands, stats_in, keys_in, frequency_in};
     ghost use Rattle.policies.specs.AnyStep.{any_act};
 
-    /// An empty cache for a job over a trace. It requires a configuration that `Config::check` accepts. The one error is
-    /// that an allocation failed.
+    /// An empty cache for a job over a trace. It requires a configuration that `Config::check` accepts. The one error
+    /// is that an allocation failed.
     pub fn open(alloc: Global, job: &Job, trace: &Trace) -> Result<AnyPolicy, AllocError>
         requires { config_fault job.now.config ≡ Ok tt }
         ensures stands { IfOk result (λ p. Stands job.now trace.now [] p) }
         ensures fresh { IfOk result (λ p. (stats_in p).accesses ≡ 0) }
     {
+        AnyPolicy::open_with(alloc, job, trace, None)
+    }
+
+    /// The same, where the next uses of the trace may have been found before: several caches can then share them. The
+    /// policies other than Belady's have no need of them.
+    pub fn open_with(
+        alloc: Global,
+        job: &Job,
+        trace: &Trace,
+        uses: Option<&NextUse>,
+    ) -> Result<AnyPolicy, AllocError>
+        requires checked { config_fault job.now.config ≡ Ok tt }
+        requires uses { IfSome uses (λ u. u.now ≡ trace.now) }
+        ensures stands { IfOk result (λ p. Stands job.now trace.now [] p) }
+        ensures fresh { IfOk result (λ p. (stats_in p).accesses ≡ 0) }
+    {
         match job.policy {
             Policy::Clairvoyant => {
-                let uses = NextUse::build(alloc, trace)?;
+                let uses = match uses {
+                    Some(found) => found.share()?,
+                    None => NextUse::build(alloc, trace)?,
+                };
                 let cache = Clairvoyant::open(alloc, uses, job.config.capacity)?;
                 Ok(AnyPolicy::Optimal(cache))
             }

@@ -2,11 +2,11 @@
 //! Belady's optimal policy beside them in `AnyPolicy`.
 //!
 //! Each policy promises that for every list of accesses that it made, an access answers the outcome that the policy's
-//! definition gives after the whole list, and leaves the cache with that access at the list's end; and that each access can
-//! be undone from its record and what the cache shows. The definition of the policies of queues is the table of moves of
-//! the crate `replacement`, folded over the accesses (`specs/QueueCache.antt`); that of Lru is also the last distinct
-//! keys (`specs/Lru.antt`). The promises stand as the theorems below, over the steps alone, so that they reach callers
-//! that see a cache through a session or `AnyPolicy`.
+//! definition gives after the whole list, and leaves the cache with that access at the list's end; and that each access
+//! can be undone from its record and what the cache shows. The definition of the policies of queues is the table of
+//! moves of the crate `replacement`, folded over the accesses (`specs/QueueCache.antt`); that of Lru is also the last
+//! distinct keys (`specs/Lru.antt`). The promises stand as the theorems below, over the steps alone, so that they reach
+//! callers that see a cache through a session or `AnyPolicy`.
 #![tactic(auto)]
 
 mod any_policy;

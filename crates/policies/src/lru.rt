@@ -27,7 +27,8 @@ impl Lru {
     ghost use Rattle.step_record.specs.Config.{config_fault};
     ghost use Rattle.policies.specs.QueueCache.{StandsFor, residents_in};
 
-    /// An empty cache. It requires a configuration that `Config::check` accepts. The one error is that an allocation failed.
+    /// An empty cache. It requires a configuration that `Config::check` accepts. The one error is that an allocation
+    /// failed.
     pub fn open(alloc: Global, config: &Config) -> Result<Lru, AllocError>
         requires { config_fault config.now ≡ Ok tt }
         ensures stands { IfOk result (λ l. StandsFor record { policy = Policy.Lru; config = config.now } [] l) }

@@ -3,8 +3,8 @@ use admission::FreqRecord;
 use replacement::Moves;
 use step_record::Outcome;
 
-/// The undo record of an access to a cache of queues: that of the recording of its key, where keys are counted, what was
-/// moved, and the outcome that was counted. It holds lists only where the recording brought a halving.
+/// The undo record of an access to a cache of queues: that of the recording of its key, where keys are counted, what
+/// was moved, and the outcome that was counted. It holds lists only where the recording brought a halving.
 #[derive(Drop)]
 pub struct AccessRecord {
     pub(crate) counting: Option<FreqRecord>,

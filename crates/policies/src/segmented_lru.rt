@@ -9,8 +9,8 @@ use std::marker::Model;
 use step_record::{Config, Engine, Job, Key, Outcome, Policy, Stats, StepFault};
 
 /// A cache of two queues. A new key joins probation, and goes to protected when it is hit; where protected is over four
-/// fifths of the capacity, its oldest key goes back to probation's recent end. A miss in a full cache evicts probation's
-/// oldest key.
+/// fifths of the capacity, its oldest key goes back to probation's recent end. A miss in a full cache evicts
+/// probation's oldest key.
 #[derive(Drop)]
 pub struct SegmentedLru {
     cache: QueueCache,
@@ -28,10 +28,12 @@ impl SegmentedLru {
     ghost use Rattle.step_record.specs.Config.{config_fault};
     ghost use Rattle.policies.specs.QueueCache.{StandsFor, residents_in};
 
-    /// An empty cache. It requires a configuration that `Config::check` accepts. The one error is that an allocation failed.
+    /// An empty cache. It requires a configuration that `Config::check` accepts. The one error is that an allocation
+    /// failed.
     pub fn open(alloc: Global, config: &Config) -> Result<SegmentedLru, AllocError>
         requires { config_fault config.now ≡ Ok tt }
-        ensures stands { IfOk result (λ l. StandsFor record { policy = Policy.SegmentedLru; config = config.now } [] l) }
+        ensures stands { IfOk result (λ l.
+            StandsFor record { policy = Policy.SegmentedLru; config = config.now } [] l) }
         ensures fresh { IfOk result (λ l. l.stats.accesses ≡ 0) }
     {
         let job = Job {

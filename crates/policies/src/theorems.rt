@@ -1,6 +1,7 @@
 //! Theorems on the policies' definitions, for callers that see a cache by its steps alone. Each of these functions does
 //! nothing: its contract is the theorem.
-ghost use Rattle.policies.specs.Theorems.{QueuesStand, QueuesAccept, QueuesCount, LruStands, AnyStands, AnyAccepts, AnyIsOne, AnyReports, AnyAnswers, AnyCoversTrace};
+ghost use Rattle.policies.specs.Theorems.{QueuesStand, QueuesAccept, QueuesCount, LruStands};
+ghost use Rattle.policies.specs.Theorems.{AnyStands, AnyAccepts, AnyIsOne, AnyReports, AnyAnswers, AnyCoversTrace};
 
 use clairvoyant::{clairvoyant_accepts, clairvoyant_stands};
 

@@ -8,8 +8,8 @@ use std::alloc::{AllocError, Global};
 use std::marker::Model;
 use step_record::{Config, Engine, Job, Key, Outcome, Policy, Stats, StepFault};
 
-/// A cache of Lru or segmented Lru with an admission filter: in a full cache a new key takes the victim's place only where
-/// its approximate access frequency is higher.
+/// A cache of Lru or segmented Lru with an admission filter: in a full cache a new key takes the victim's place only
+/// where its approximate access frequency is higher.
 #[derive(Drop)]
 pub struct TinyLfu {
     cache: QueueCache,
@@ -31,7 +31,8 @@ impl TinyLfu {
     /// accepts. The one error is that an allocation failed.
     pub fn open(alloc: Global, config: &Config, segmented: bool) -> Result<TinyLfu, AllocError>
         requires { config_fault config.now ≡ Ok tt }
-        ensures stands { IfOk result (λ l. StandsFor record { policy = cond segmented Policy.TinyLfuSegmented Policy.TinyLfuLru; config = config.now } [] l) }
+        ensures stands { IfOk result (λ l. StandsFor
+            record { policy = cond segmented Policy.TinyLfuSegmented Policy.TinyLfuLru; config = config.now } [] l) }
         ensures fresh { IfOk result (λ l. l.stats.accesses ≡ 0) }
     {
         let job = Job {
@@ -60,8 +61,8 @@ impl TinyLfu {
         self.cache.frequency()
     }
 
-    /// The keys that it holds, those of the window, of probation and of protected in that order, oldest first. The one error is that
-    /// an allocation failed.
+    /// The keys that it holds, those of the window, of probation and of protected in that order, oldest first. The one
+    /// error is that an allocation failed.
     pub fn residents(&self, alloc: Global) -> Result<Vec<Key>, AllocError>
         ensures { IfOk result (λ keys. keys.items ≡ residents_in self.now.queues) }
     {

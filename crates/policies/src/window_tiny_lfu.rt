@@ -8,9 +8,9 @@ use std::alloc::{AllocError, Global};
 use std::marker::Model;
 use step_record::{Config, Engine, Job, Key, Outcome, Policy, Stats, StepFault};
 
-/// A cache of three queues. A new key joins a window; where that is over its size, its oldest key seeks a place in the main
-/// part, a segmented Lru, and in a full cache the one of it and probation's oldest key whose approximate access frequency
-/// is higher stays.
+/// A cache of three queues. A new key joins a window; where that is over its size, its oldest key seeks a place in the
+/// main part, a segmented Lru, and in a full cache the one of it and probation's oldest key whose approximate access
+/// frequency is higher stays.
 #[derive(Drop)]
 pub struct WindowTinyLfu {
     cache: QueueCache,
@@ -28,10 +28,12 @@ impl WindowTinyLfu {
     ghost use Rattle.step_record.specs.Config.{config_fault};
     ghost use Rattle.policies.specs.QueueCache.{StandsFor, residents_in};
 
-    /// An empty cache. It requires a configuration that `Config::check` accepts. The one error is that an allocation failed.
+    /// An empty cache. It requires a configuration that `Config::check` accepts. The one error is that an allocation
+    /// failed.
     pub fn open(alloc: Global, config: &Config) -> Result<WindowTinyLfu, AllocError>
         requires { config_fault config.now ≡ Ok tt }
-        ensures stands { IfOk result (λ l. StandsFor record { policy = Policy.WindowTinyLfu; config = config.now } [] l) }
+        ensures stands { IfOk result (λ l.
+            StandsFor record { policy = Policy.WindowTinyLfu; config = config.now } [] l) }
         ensures fresh { IfOk result (λ l. l.stats.accesses ≡ 0) }
     {
         let job = Job {
@@ -56,8 +58,8 @@ impl WindowTinyLfu {
         self.cache.frequency()
     }
 
-    /// The keys that it holds, those of the window, of probation and of protected in that order, oldest first. The one error is that
-    /// an allocation failed.
+    /// The keys that it holds, those of the window, of probation and of protected in that order, oldest first. The one
+    /// error is that an allocation failed.
     pub fn residents(&self, alloc: Global) -> Result<Vec<Key>, AllocError>
         ensures { IfOk result (λ keys. keys.items ≡ residents_in self.now.queues) }
     {

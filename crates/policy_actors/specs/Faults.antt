@@ -1,5 +1,6 @@
 -- Which fault comes, and where none is due.
-use Rattle.std.specs.Prelude.{◌≡◌, ℕ, ◌+◌, cond, nat_le, Option, Some, None, Result, Ok, Err, IfErr, List, [], ◌∷◌, length}
+use Rattle.std.specs.Prelude.{◌≡◌, ℕ, ◌+◌, cond, nat_le, Option, Some, None, Result, Ok, Err, IfErr}
+use Rattle.std.specs.Prelude.{List, [], ◌∷◌, length}
 use Rattle.step_record.specs.Config.{config_fault, is_from_one}
 use Rattle.policy_actors.specs.declared.run.TheConstants.{MAX_ACTORS, MAX_BATCH}
 use Rattle.step_record.specs.declared.config.ConfigFault.{ConfigFault}
@@ -25,7 +26,10 @@ faulty_in jobs = faulty_from 0 jobs
 
 -- the size of a batch is looked at first, then the number of jobs, and then their configurations
 abbrev pub actor_fault : ℕ → List Job → Option ActorFault
-actor_fault batch jobs = cond (is_from_one MAX_BATCH batch) (cond (nat_le (length jobs) MAX_ACTORS) (faulty_in jobs) (Some Actors)) (Some Batch)
+actor_fault batch jobs =
+    cond (is_from_one MAX_BATCH batch)
+    (cond (nat_le (length jobs) MAX_ACTORS) (faulty_in jobs) (Some Actors))
+    (Some Batch)
 
 -- a fault that is due is answered; where none is due, nothing but memory can be wanting
 abbrev pub ReturnsFault : {A : Type 0} → Option ActorFault → Result A ActorFault → Type 0

@@ -14,10 +14,12 @@ use step_record::{Job, Key, StepFault, Trace};
 // For so many accesses at once what they read first is read ahead.
 const AHEAD: usize = 16;
 
-/// Makes the accesses in turn, which are the next ones of a trace. The one error is out of memory; the cache is dropped then.
+/// Makes the accesses in turn, which are the next ones of a trace. The one error is out of memory; the cache is dropped
+/// then.
 pub fn access_all(mut cache: AnyPolicy, keys: &[Key]) -> Result<AnyPolicy, AllocError>
     requires { IsNext keys.now cache }
-    ensures { (j : Job) (trace done : List ℕ) → Stands j trace done cache → IfOk result (λ next. Stands j trace (done ++ keys.now) next) }
+    ensures { (j : Job) (trace done : List ℕ) → Stands j trace done cache
+        → IfOk result (λ next. Stands j trace (done ++ keys.now) next) }
 {
     any_stands();
     any_accepts();
@@ -58,7 +60,8 @@ pub fn open(alloc: Global, job: &Job, trace: &Trace) -> Option<AnyPolicy>
 /// Makes the accesses of a batch. A cache that ran out of memory is dropped, and stays so.
 pub fn advance(cache: Option<AnyPolicy>, keys: &[Key]) -> Option<AnyPolicy>
     requires { IfSome cache (IsNext keys.now) }
-    ensures { (j : Job) (trace done : List ℕ) → IfSome cache (Stands j trace done) → IfSome result (Stands j trace (done ++ keys.now)) }
+    ensures { (j : Job) (trace done : List ℕ) → IfSome cache (Stands j trace done)
+        → IfSome result (Stands j trace (done ++ keys.now)) }
 {
     match cache {
         Some(cache) => match access_all(cache, keys) {
@@ -79,7 +82,8 @@ pub fn report_by(cache: &AnyPolicy, job: &Job) -> Report
 
 /// The same, unless the cache ran out of memory.
 pub fn finish(cache: Option<AnyPolicy>, job: &Job) -> Option<Report>
-    ensures { (trace : List ℕ) → IfSome cache (Stands job.now trace trace) → IfSome result (λ r. r ≡ report_on job.now trace) }
+    ensures { (trace : List ℕ) → IfSome cache (Stands job.now trace trace)
+        → IfSome result (λ r. r ≡ report_on job.now trace) }
 {
     match cache {
         Some(cache) => Some(report_by(&cache, job)),

@@ -11,8 +11,9 @@ use std::alloc::Global;
 use std::sync::Wait;
 use step_record::{Gate, Job};
 
-/// Takes batches up to the last one. With `Some`, the report is that of the whole trace. An actor that ran out of memory
-/// goes on taking batches, so that its feeder is not held up, and has no report; nor has one whose feeder ended early.
+/// Takes batches up to the last one. With `Some`, the report is that of the whole trace. An actor that ran out of
+/// memory goes on taking batches, so that its feeder is not held up, and has no report; nor has one whose feeder ended
+/// early.
 pub fn act<'a, S: Source, R: Wait, G: Gate>(
     rt: &R,
     alloc: Global,

@@ -1,5 +1,6 @@
 //! Each job on a thread of its own.
-ghost use Rattle.std.specs.Prelude.{◌≡◌, ◌<◌, ◌≤◌, Ok, None, [], ◌∷◌, ◌++◌, IfOk, OnOk, IfSome, IsTrue, ◌+◌, ◌*◌, map, length};
+ghost use Rattle.std.specs.Prelude.{◌≡◌, ◌<◌, ◌≤◌, ◌+◌, ◌*◌, [], ◌∷◌, ◌++◌, map, length};
+ghost use Rattle.std.specs.Prelude.{Ok, None, IfOk, OnOk, IfSome, IsTrue};
 ghost use denote.Param.Send.{IsSync};
 ghost use Rattle.step_record.specs.Config.{config_fault};
 ghost use Rattle.policy_actors.specs.Actors.{jobs_of, AllSent};
@@ -46,8 +47,8 @@ type Handle<S> = thread::PromisedHandle<Option<Report>, Promised<S>>;
 /// accesses of the trace, the last one may be shorter, and an empty trace is one empty batch. The gate is called before
 /// and after each batch of an actor, with the actor's index and the batch's number. No jobs: no reports.
 ///
-/// Errors: `Batch`, `Actors` and `Config`, exactly where their causes stand, in this order, before any thread is started;
-/// then `OutOfMemory`.
+/// Errors: `Batch`, `Actors` and `Config`, exactly where their causes stand, in this order, before any thread is
+/// started; then `OutOfMemory`.
 pub fn run_actors<R: Threads + Wait + Sync, G: Gate>(
     rt: &R,
     alloc: Global,

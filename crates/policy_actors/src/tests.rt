@@ -95,6 +95,16 @@ fn all_wanted() -> [Report; 4] {
     ]
 }
 
+// A test that gets no reports fails by the fault's name.
+fn failed(fault: ActorFault) -> Fail {
+    match fault {
+        ActorFault::OutOfMemory => Fail::from("OutOfMemory"),
+        ActorFault::Batch => Fail::from("Batch"),
+        ActorFault::Config { .. } => Fail::from("Config"),
+        ActorFault::Actors => Fail::from("Actors"),
+    }
+}
+
 // Runs the first jobs on actors, and sees that they ran side by side.
 fn run<R: Threads + Wait + Sync + Abort>(
     rt: &R,
@@ -111,7 +121,7 @@ fn run<R: Threads + Wait + Sync + Abort>(
     };
     let reports = match run_actors(rt, alloc, &trace, some, batch, &gate) {
         Ok(reports) => reports,
-        Err(_) => return Err(Fail::from("no reports")),
+        Err(fault) => return Err(failed(fault)),
     };
     let want = all_wanted();
     assert_eq!(rt; Some(reports.as_slice()), want.get(..actors));
@@ -144,7 +154,7 @@ fn sixty_four_actors_of_an_empty_trace(rt: HostRuntime) -> Result<(), Fail> {
         &gate,
     ) {
         Ok(reports) => assert_eq!(rt; reports.len(), 64),
-        Err(_) => return Err(Fail::from("no reports")),
+        Err(fault) => return Err(failed(fault)),
     }
     assert_eq!(rt; gate.late.load(SeqCst), 0);
     assert_eq!(rt; gate.over.load(SeqCst), 64);
@@ -196,32 +206,76 @@ fn faults_come_in_their_order(rt: HostRuntime) -> Result<(), Fail> {
     );
     match run_actors(&rt, alloc, &trace, &[], 65_536, &OpenGate) {
         Ok(reports) => assert!(rt; reports.is_empty()),
-        Err(_) => return Err(Fail::from("no reports")),
+        Err(fault) => return Err(failed(fault)),
     }
     Ok(())
 }
 
 #[test]
-fn sweeps_and_single_runs(rt: HostRuntime) -> Result<(), Fail> {
+fn single_runs(rt: HostRuntime) -> Result<(), Fail> {
     let alloc = rt.alloc();
-    let trace = trace(alloc)?;
+    let some = trace(alloc)?;
     let all = jobs();
     let want = all_wanted();
     for (one, report) in all.iter().zip(want.iter()) {
-        match run_one(alloc, &trace, one) {
+        match run_one(alloc, &some, one) {
             Ok(got) => assert_eq!(rt; got, *report),
-            Err(_) => return Err(Fail::from("no report")),
+            Err(fault) => return Err(failed(fault)),
         }
     }
-    match sweep(&rt, alloc, &trace, &job(Policy::Lru, 7), &[2, 3]) {
-        Ok(reports) => {
-            assert_eq!(rt; reports.len(), 2);
-            assert_eq!(rt; reports.get(0), want.get(0));
-            assert_eq!(rt; reports.get(1).map(|r: &Report| -> u64 { r.hits }), Some(2));
-        }
-        Err(_) => return Err(Fail::from("no reports")),
+    let other = Trace::new(vec![in alloc; 1, 1, 2, 3]?);
+    match run_one(alloc, &other, &job(Policy::TinyLfuSegmented, 2)) {
+        Ok(got) => assert_eq!(rt; got, counted(Policy::TinyLfuSegmented, 2, [4, 1, 3, 1, 1])),
+        Err(fault) => return Err(failed(fault)),
     }
     Ok(())
+}
+
+fn counted(policy: Policy, capacity: u32, counts: [u64; 5]) -> Report {
+    let [accesses, hits, misses, evictions, rejections] = counts;
+    Report {
+        policy,
+        capacity,
+        accesses,
+        hits,
+        misses,
+        evictions,
+        rejections,
+    }
+}
+
+fn compare_sweep<R: Threads + Sync + Abort>(
+    rt: &R,
+    alloc: Global,
+    trace: &Trace,
+    policy: Policy,
+    want: &[Report],
+) -> Result<(), Fail> {
+    match sweep(rt, alloc, trace, &job(policy, 7), &[1, 2, 3]) {
+        Ok(reports) => assert_eq!(rt; reports.as_slice(), want),
+        Err(fault) => return Err(failed(fault)),
+    }
+    Ok(())
+}
+
+#[test]
+fn sweeps(rt: HostRuntime) -> Result<(), Fail> {
+    let alloc = rt.alloc();
+    let some = Trace::new(vec![in alloc; 1, 2, 3, 1, 4, 2]?);
+    let want = [
+        counted(Policy::Lru, 1, [6, 0, 6, 5, 0]),
+        counted(Policy::Lru, 2, [6, 0, 6, 4, 0]),
+        counted(Policy::Lru, 3, [6, 1, 5, 2, 0]),
+    ];
+    compare_sweep(&rt, alloc, &some, Policy::Lru, &want)?;
+    // The capacities share the next uses.
+    let other = Trace::new(vec![in alloc; 1, 2, 3, 1, 2]?);
+    let want = [
+        counted(Policy::Clairvoyant, 1, [5, 1, 4, 3, 2]),
+        counted(Policy::Clairvoyant, 2, [5, 2, 3, 1, 1]),
+        counted(Policy::Clairvoyant, 3, [5, 2, 3, 0, 0]),
+    ];
+    compare_sweep(&rt, alloc, &other, Policy::Clairvoyant, &want)
 }
 
 #[test]

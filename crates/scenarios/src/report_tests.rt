@@ -31,6 +31,7 @@ fn compare<R: Abort>(
             assert_eq!(rt; reports.together.as_slice(), wanted);
             Ok(())
         }
+        Err(ActorFault::OutOfMemory) => Err(Fail::from("OutOfMemory")),
         Err(_) => Err(Fail::from("no reports")),
     }
 }

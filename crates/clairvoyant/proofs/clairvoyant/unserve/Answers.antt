@@ -1,4 +1,4 @@
-use Rattle.std.proofs.Common.{◌∙◌, sym, ap, refl, length, arith, ◌*◌, ◌-◌}
+use Rattle.std.proofs.Common.{◌∙◌, sym, ap, refl, arith, ◌*◌, ◌-◌}
 use Rattle.clairvoyant.proofs.Unserving.{hit-back, kept-back, evicted-back, rejected-stays, left-named}
 use Rattle.clairvoyant.proofs.Records.{told-hit, told-kept, told-evicted, told-rejected}
 use Rattle.clairvoyant.proofs.clairvoyant.unserve.Goals as goal
