@@ -31,7 +31,8 @@ pub record Sits (b : BookId ShellSession) (d : Desk) : Type 0 where
 -- Its list is one walk for each of its calls, or the beginning of such walks where it was stopped; and where a full
 -- journal did that, it last saw as many entries as the limit. It is not stopped for a step that may not come now.
 pub record HasWorked (n limit : ℕ) (calls : ℕ → List Call) (d : Desk) : Type 0 where
-  pub walks : MatchOption d.fault (AreWalks d.worker n (calls d.worker) d.list.items) (λ f. BeginWalks d.worker n (calls d.worker) d.list.items)
+  pub walks : MatchOption d.fault (AreWalks d.worker n (calls d.worker) d.list.items)
+      (λ f. BeginWalks d.worker n (calls d.worker) d.list.items)
   pub full : d.fault ≡ Some JournalFull → IfSome d.pass (λ p. length p.last ≡ limit)
   pub now : d.fault ≢ Some NotNow
 

@@ -33,7 +33,8 @@ the_cause o = Memory
 -- journal is a cause only where the session is full.
 abbrev pub LeavesFault : DriveFault → List (List Call) → SessionState Shell Shell Step Reply → Type 0
 LeavesFault (Workers s) pieces old = (s ≡ old) × (1 ≤ length pieces → MAX_WORKERS < length pieces)
-LeavesFault (Held w s) pieces old = (s ≡ old) × (1 ≤ length pieces) × (length pieces ≤ MAX_WORKERS) × (worker_of old.engine.holder ≡ Some w)
+LeavesFault (Held w s) pieces old = (s ≡ old) × (1 ≤ length pieces) × (length pieces ≤ MAX_WORKERS)
+    × (worker_of old.engine.holder ≡ Some w)
 LeavesFault (OutOfMemory s) pieces old = (s ≡ old) × CanRun pieces old.engine
 LeavesFault (Stopped s lists cause) pieces old =
     CanRun pieces old.engine × IsLegal act s.opening s.kept × (cause ≡ JournalFull → length s.kept ≡ s.limit)

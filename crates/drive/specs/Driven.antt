@@ -13,7 +13,8 @@ entries_of w es = filter (λ e. e.step.worker == w) es
 
 -- Past the old entries, the new session has those that the workers made: those of worker w are just its own list, in
 -- order, which is as IsMade says for its calls; and nobody else made any.
-pub record IsRun {E D : Type 0} (IsMade : ℕ → List Call → Entries → Type 0) (pieces : List (List Call)) (old new : SessionState E D Step Reply)
+pub record IsRun {E D : Type 0} (IsMade : ℕ → List Call → Entries → Type 0) (pieces : List (List Call))
+    (old new : SessionState E D Step Reply)
     (lists : List Entries) : Type 0 where
   pub opening : new.opening ≡ old.opening
   pub limit : new.limit ≡ old.limit

@@ -6,7 +6,8 @@ use Rattle.step_record.specs.declared.step.Reply.{Reply}
 use Rattle.step_record.specs.Answers.{is_answer}
 use Rattle.drive.specs.declared.place.Place.{Place}
 use Rattle.drive.specs.declared.place.Place.TheVariants as at
-use Rattle.drive.specs.Walks.{Entries, step_of, Opens, IsOffer, IsReport, IsPut, FollowsLook, FollowsRemove, IsRound, IsReading, IsWriting, IsEvicting, IsEnding}
+use Rattle.drive.specs.Walks.{Entries, step_of, Opens, IsOffer, IsReport, IsPut, FollowsLook, FollowsRemove, IsRound}
+use Rattle.drive.specs.Walks.{IsReading, IsWriting, IsEvicting, IsEnding}
 
 -- the act that a worker who stands there was told to make
 abbrev pub act_at : ℕ → ℕ → Place → Act

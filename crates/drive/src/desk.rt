@@ -1,5 +1,6 @@
 //! What each worker has at its own place, and how all of them work side by side.
-ghost use Rattle.std.specs.Prelude.{◌≡◌, ℕ, ◌<◌, ◌≤◌, None, Some, [], ◌∷◌, ◌++◌, All, Option, IfSome, IsSome, length, map, slice_index_or, vec_len, vec_capacity};
+ghost use Rattle.std.specs.Prelude.{◌≡◌, ℕ, ◌<◌, ◌≤◌, None, Some, [], ◌∷◌, ◌++◌, All, Option, IfSome, IsSome, length};
+ghost use Rattle.std.specs.Prelude.{map, slice_index_or, vec_len, vec_capacity};
 ghost use Rattle.step_record.specs.declared.limits.TheConstants.{MAX_STRIPES};
 ghost use Rattle.step_record.specs.declared.worker.TheConstants.{MAX_WORKERS};
 ghost use Rattle.journal.specs.declared.fault.SessionFault.TheVariants.{JournalFull};
@@ -81,8 +82,10 @@ fn work_all<G: Gate, R: Threads + Wait + Sync>(
     requires turns { book.now.opening.limit ≤ book.now.turns }
     requires sit { All (λ d. Sits (id_of book.now) d × (d.list.items ≡ [])
         × IfSome d.pass (λ p. IsWithin book.now.opening.limit p) × (d.worker < length pieces.now)) desks.old }
-    ensures sit { All (λ d. Sits (id_of book.now) d × HasWorked stripes book.now.opening.limit (calls_of pieces.now) d) desks.new }
-    ensures workers { (i : ℕ) (d : Desk) → i < length desks.old → (slice_index_or desks.new i d).worker ≡ (slice_index_or desks.old i d).worker }
+    ensures sit { All (λ d. Sits (id_of book.now) d × HasWorked stripes book.now.opening.limit (calls_of pieces.now) d)
+        desks.new }
+    ensures workers { (i : ℕ) (d : Desk) → i < length desks.old
+        → (slice_index_or desks.new i d).worker ≡ (slice_index_or desks.old i d).worker }
 {
     if desks.is_empty() {
         return;
@@ -92,7 +95,9 @@ fn work_all<G: Gate, R: Threads + Wait + Sync>(
         requires { (1 ≤ stripes) × (stripes ≤ MAX_STRIPES) × AdmitsAll stripes book.now.opening
             × (book.now.opening.limit ≤ book.now.turns) × Sits (id_of book.now) desk.now × (desk.now.list.items ≡ [])
             × IfSome desk.now.pass (λ p. IsWithin book.now.opening.limit p) × (desk.now.worker < length pieces.now) }
-        ensures { Sits (id_of book.entry.now) desk.exit.now × HasWorked stripes book.entry.now.opening.limit (calls_of pieces.entry.now) desk.exit.now × (desk.exit.now.worker ≡ desk.entry.now.worker) }
+        ensures { Sits (id_of book.entry.now) desk.exit.now
+            × HasWorked stripes book.entry.now.opening.limit (calls_of pieces.entry.now) desk.exit.now
+            × (desk.exit.now.worker ≡ desk.entry.now.worker) }
     { work_at(rt, gate, book, pieces, stripes, desk) };
     thread::for_each_mut(rt, desks, threads, &each);
 }
@@ -141,7 +146,8 @@ pub(crate) fn work_seated<G: Gate, R: Threads + Wait + Sync>(
     requires sit { Every (λ d. Sits (id_of book.now) d × (d.list.items ≡ [])
         × IfSome d.pass (λ p. IsWithin book.now.opening.limit p)) desks.items }
     requires counts { Counts 0 desks.items × (length desks.items ≡ length pieces.now) }
-    ensures sit { Every (λ d. Sits (id_of book.now) d × HasWorked stripes book.now.opening.limit (calls_of pieces.now) d) result.items }
+    ensures sit { Every (λ d. Sits (id_of book.now) d
+        × HasWorked stripes book.now.opening.limit (calls_of pieces.now) d) result.items }
     ensures counts { Counts 0 result.items × (length result.items ≡ length pieces.now) }
 {
     work_all(rt, gate, book, pieces, stripes, desks.as_mut_slice());
@@ -151,7 +157,8 @@ pub(crate) fn work_seated<G: Gate, R: Threads + Wait + Sync>(
 // Why the first of the workers that stopped did so; nothing where none stopped.
 pub(crate) fn first_fault(desks: &[Desk]) -> Option<SessionFault>
     ensures none { result ≡ None → Every (λ d. d.fault ≡ None) desks.now }
-    ensures some { IfSome result (λ f. (i : ℕ) × (i < length desks.now) × ((d : Desk) → (slice_index_or desks.now i d).fault ≡ Some f)) }
+    ensures some { IfSome result (λ f. (i : ℕ) × (i < length desks.now)
+        × ((d : Desk) → (slice_index_or desks.now i d).fault ≡ Some f)) }
 {
     for desk in desks {
         if let Some(fault) = desk.fault {

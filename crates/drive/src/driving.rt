@@ -1,5 +1,6 @@
 //! Workers on threads, over one session of the concurrent cache.
-ghost use Rattle.std.specs.Prelude.{◌≡◌, ◌≢◌, ℕ, ◌<◌, ◌≤◌, None, Some, [], ◌∷◌, ◌++◌, Option, IfOk, IfErr, OnOk, length, map, vec_len, vec_capacity};
+ghost use Rattle.std.specs.Prelude.{◌≡◌, ◌≢◌, ℕ, ◌<◌, ◌≤◌, None, Some, [], ◌∷◌, ◌++◌, Option, IfOk, IfErr, OnOk};
+ghost use Rattle.std.specs.Prelude.{length, map, vec_len, vec_capacity};
 ghost use Rattle.step_record.specs.declared.limits.TheConstants.{MAX_STRIPES};
 ghost use Rattle.step_record.specs.declared.worker.TheConstants.{MAX_WORKERS};
 ghost use Rattle.turn_book.specs.Turns.{Every};
@@ -76,7 +77,8 @@ pub fn drive<G: Gate, R: Threads + Wait + Sync>(
     gate: &G,
 ) -> Result<Driven, DriveFault>
     // Past the old entries, those of each worker are its list: one walk for each of its calls, in order.
-    ensures run { IfOk result (λ d. IsRun (λ w. AreWalks w session.engine.config.stripes) (map (λ p. p.items) pieces.items) session d.session (map (λ l. l.items) d.lists.items)) }
+    ensures run { IfOk result (λ d. IsRun (λ w. AreWalks w session.engine.config.stripes)
+        (map (λ p. p.items) pieces.items) session d.session (map (λ l. l.items) d.lists.items)) }
     ensures legal { IfOk result (λ d. IsLegal act d.session.opening d.session.kept) }
     // Nobody holds the maintenance.
     ensures free { IfOk result (λ d. d.session.engine.holder ≡ None) }
@@ -162,7 +164,8 @@ impl Room {
     // Room for so many workers.
     fn new(alloc: Global, workers: usize) -> Result<Room, AllocError>
         ensures empty { IfOk result (λ r. (r.desks.items ≡ []) × (r.passes.items ≡ []) × (r.lists.items ≡ [])) }
-        ensures room { IfOk result (λ r. (workers ≤ vec_capacity r.desks) × (workers ≤ vec_capacity r.passes) × (workers ≤ vec_capacity r.lists)) }
+        ensures room { IfOk result (λ r. (workers ≤ vec_capacity r.desks) × (workers ≤ vec_capacity r.passes)
+            × (workers ≤ vec_capacity r.lists)) }
     {
         Ok(Room {
             desks: Vec::with_capacity(alloc, workers)?,
@@ -189,17 +192,21 @@ fn run_book<G: Gate, R: Threads + Wait + Sync>(
 )
     requires stripes { (1 ≤ stripes) × (stripes ≤ MAX_STRIPES) }
     requires admits { AdmitsAll stripes book.opening }
-    requires workers { (length pieces.now ≡ book.workers) × (1 ≤ length pieces.now) × (length pieces.now ≤ MAX_WORKERS) }
+    requires workers { (length pieces.now ≡ book.workers) × (1 ≤ length pieces.now)
+        × (length pieces.now ≤ MAX_WORKERS) }
     requires order { InOrder 0 passes.items × (length passes.items ≡ length pieces.now) }
     requires own { Every (λ p. p.book ≡ id_of book) passes.items }
     requires empty { Every (λ p. (p.own ≡ []) × IsWithin book.opening.limit p) passes.items }
     requires turns { book.opening.limit ≤ book.turns }
     requires fresh { (room.desks.items ≡ []) × (room.passes.items ≡ []) × (room.lists.items ≡ []) }
-    requires room { (length pieces.now ≤ vec_capacity room.desks) × (length pieces.now ≤ vec_capacity room.passes) × (length pieces.now ≤ vec_capacity room.lists) }
-    ensures none { result.2 ≡ None → IsRun (λ w. AreWalks w stripes) (map (λ p. p.items) pieces.now) book.opening result.0 (map (λ l. l.items) result.1.items) }
+    requires room { (length pieces.now ≤ vec_capacity room.desks) × (length pieces.now ≤ vec_capacity room.passes)
+        × (length pieces.now ≤ vec_capacity room.lists) }
+    ensures none { result.2 ≡ None → IsRun (λ w. AreWalks w stripes) (map (λ p. p.items) pieces.now) book.opening
+        result.0 (map (λ l. l.items) result.1.items) }
     ensures full { result.2 ≡ Some SessionFault.JournalFull → book.opening.limit ≤ length result.0.kept }
     ensures now { result.2 ≢ Some SessionFault.NotNow }
-    ensures some { IsRun (λ w. BeginWalks w stripes) (map (λ p. p.items) pieces.now) book.opening result.0 (map (λ l. l.items) result.1.items) }
+    ensures some { IsRun (λ w. BeginWalks w stripes) (map (λ p. p.items) pieces.now) book.opening result.0
+        (map (λ l. l.items) result.1.items) }
 {
     let Room {
         desks,

@@ -27,7 +27,8 @@ impl Local {
     /// [`MAX_STRIPES`]: step_record::MAX_STRIPES
     pub fn start(worker: Worker, stripes: u8, call: Call) -> Local
         requires { (1 ≤ stripes) × (stripes ≤ MAX_STRIPES) }
-        ensures ahead { (es : Entries) → IsWalk worker stripes call es ↔ Ahead result.worker result.stripes result.place es }
+        ensures ahead { (es : Entries) → IsWalk worker stripes call es
+            ↔ Ahead result.worker result.stripes result.place es }
         ensures same { (result.worker ≡ worker) × (result.stripes ≡ stripes) }
     {
         let place = match call {

@@ -1,7 +1,9 @@
 //! Where a worker stands in a walk, and where it stands after a reply.
 ghost use Rattle.std.specs.Prelude.{◌≡◌, ◌≤◌, ◌<◌, ℕ, true, Option, Some, None, ◌↔◌, ◌+◌, ◌==◌, MatchBool, List, []};
 ghost use Rattle.step_record.specs.Answers.{is_answer};
-ghost use Rattle.drive.specs.Walks.{Entries, IsWriting, IsReading, FollowsLook, FollowsOffer, FollowsPut, FollowsRemove, FollowsReport, FollowsBegin, FollowsDrainRead, FollowsDrainWrite, FollowsEvict, FollowsEnd, IsEvicting};
+ghost use Rattle.drive.specs.Walks.{Entries, IsWriting, IsReading, FollowsLook, FollowsOffer, FollowsPut};
+ghost use Rattle.drive.specs.Walks.{FollowsRemove, FollowsReport, FollowsBegin, FollowsDrainRead, FollowsDrainWrite};
+ghost use Rattle.drive.specs.Walks.{FollowsEvict, FollowsEnd, IsEvicting};
 ghost use Rattle.drive.specs.Places.{Ahead, AheadIf, AheadAfter, IsReplyTo, act_at, is_place, is_place_if};
 
 use step_record::{Act, Answer, Item, Key, Reply, Worker};
@@ -121,7 +123,8 @@ fn after_begin(stripes: u8, reply: Reply) -> Option<Place>
 // Past the last entry of a stripe.
 fn after_stripe(stripes: u8, stripe: u8) -> Place
     requires { stripe < stripes }
-    ensures ahead { (w : ℕ) (es : Entries) → MatchBool (stripe + 1 == stripes) (IsWriting w stripes es) (IsReading w stripes (stripe + 1) 0 es) ↔ Ahead w stripes result es }
+    ensures ahead { (w : ℕ) (es : Entries) → MatchBool (stripe + 1 == stripes) (IsWriting w stripes es)
+        (IsReading w stripes (stripe + 1) 0 es) ↔ Ahead w stripes result es }
     ensures place { is_place stripes result ≡ true }
 {
     if stripe + 1 == stripes {
@@ -138,7 +141,9 @@ fn after_stripe(stripes: u8, stripe: u8) -> Place
 fn after_drained(stripes: u8, stripe: u8, drained: u8) -> Place
     requires stripe { stripe < stripes }
     requires drained { drained < 16 }
-    ensures ahead { (w : ℕ) (es : Entries) → MatchBool (drained + 1 == 16) (MatchBool (stripe + 1 == stripes) (IsWriting w stripes es) (IsReading w stripes (stripe + 1) 0 es)) (IsReading w stripes stripe (drained + 1) es) ↔ Ahead w stripes result es }
+    ensures ahead { (w : ℕ) (es : Entries) → MatchBool (drained + 1 == 16)
+        (MatchBool (stripe + 1 == stripes) (IsWriting w stripes es) (IsReading w stripes (stripe + 1) 0 es))
+        (IsReading w stripes stripe (drained + 1) es) ↔ Ahead w stripes result es }
     ensures place { is_place stripes result ≡ true }
 {
     if drained + 1 == 16 {
@@ -155,7 +160,11 @@ fn after_drain_read(stripes: u8, stripe: u8, drained: u8, reply: Reply) -> Place
     requires answer { is_answer (Act.DrainRead stripe) reply ≡ true }
     requires stripe { stripe < stripes }
     requires drained { drained < 16 }
-    ensures ahead { (w : ℕ) (es : Entries) → FollowsDrainRead w stripes (MatchBool (drained + 1 == 16) (MatchBool (stripe + 1 == stripes) (IsWriting w stripes es) (IsReading w stripes (stripe + 1) 0 es)) (IsReading w stripes stripe (drained + 1) es)) (MatchBool (stripe + 1 == stripes) (IsWriting w stripes es) (IsReading w stripes (stripe + 1) 0 es)) reply ↔ Ahead w stripes result es }
+    ensures ahead { (w : ℕ) (es : Entries) → FollowsDrainRead w stripes
+        (MatchBool (drained + 1 == 16) (MatchBool (stripe + 1 == stripes) (IsWriting w stripes es)
+        (IsReading w stripes (stripe + 1) 0 es)) (IsReading w stripes stripe (drained + 1) es))
+        (MatchBool (stripe + 1 == stripes) (IsWriting w stripes es) (IsReading w stripes (stripe + 1) 0 es)) reply
+        ↔ Ahead w stripes result es }
     ensures place { is_place stripes result ≡ true }
 {
     match reply {
@@ -167,7 +176,8 @@ fn after_drain_read(stripes: u8, stripe: u8, drained: u8, reply: Reply) -> Place
 
 fn after_drain_write(reply: Reply) -> Place
     requires { is_answer Act.DrainWrite reply ≡ true }
-    ensures ahead { (w : ℕ) (n : ℕ) (es : Entries) → FollowsDrainWrite w n (IsWriting w n es) reply es ↔ Ahead w n result es }
+    ensures ahead { (w : ℕ) (n : ℕ) (es : Entries) → FollowsDrainWrite w n (IsWriting w n es) reply es
+        ↔ Ahead w n result es }
     ensures place { (n : ℕ) → is_place n result ≡ true }
 {
     match reply {
@@ -181,7 +191,8 @@ fn after_drain_write(reply: Reply) -> Place
 
 fn after_evict(reply: Reply) -> Place
     requires { is_answer Act.Evict reply ≡ true }
-    ensures ahead { (w : ℕ) (n : ℕ) (es : Entries) → FollowsEvict w n (IsEvicting w n es) reply es ↔ Ahead w n result es }
+    ensures ahead { (w : ℕ) (n : ℕ) (es : Entries) → FollowsEvict w n (IsEvicting w n es) reply es
+        ↔ Ahead w n result es }
     ensures place { (n : ℕ) → is_place n result ≡ true }
 {
     match reply {
@@ -234,7 +245,8 @@ pub(crate) fn after(worker: Worker, stripes: u8, place: Place, reply: Reply) -> 
     requires answer { is_answer (act_at worker stripes place) reply ≡ true }
     requires some { 1 ≤ stripes }
     requires place { is_place stripes place ≡ true }
-    ensures ahead { (es : Entries) → AheadAfter worker stripes place (Some reply) es ↔ AheadIf worker stripes result es }
+    ensures ahead { (es : Entries) → AheadAfter worker stripes place (Some reply) es
+        ↔ AheadIf worker stripes result es }
     ensures place { is_place_if stripes result ≡ true }
 {
     match place {

@@ -1,5 +1,6 @@
 //! Finishing the maintenance that a worker holds.
-ghost use Rattle.std.specs.Prelude.{◌≡◌, ◌≤◌, ℕ, None, Some, Err, IsSome, IfOk, IfErr, OnOk, OnErr, length, ◌∷◌, ◌++◌, []};
+ghost use Rattle.std.specs.Prelude.{◌≡◌, ◌≤◌, ℕ, None, Some, Err, IsSome, IfOk, IfErr, OnOk, OnErr, length};
+ghost use Rattle.std.specs.Prelude.{◌∷◌, ◌++◌, []};
 ghost use Rattle.step_record.specs.declared.limits.TheConstants.{MAX_STRIPES};
 ghost use Rattle.journal.specs.Session.{IsSameSession};
 ghost use Rattle.shell_model.specs.Shell.{perform, act as acted};
@@ -34,10 +35,13 @@ pub fn settle(session: &mut Session<Shell>) -> Result<u64, SettleFault>
     ensures opening { session.new.opening ≡ session.old.opening }
     ensures limit { session.new.limit ≡ session.old.limit }
     // The holder's steps of a round from its phase on, or none, and no holder is left.
-    ensures ok { IfOk result (λ n. Adds (λ es. IsRest session.old.engine.config.stripes session.old.engine.holder es × (n ≡ length es)) session.old session.new) }
+    ensures ok { IfOk result (λ n. Adds (λ es. IsRest session.old.engine.config.stripes session.old.engine.holder es
+        × (n ≡ length es)) session.old session.new) }
     ensures none { OnOk result (session.new.engine.holder ≡ None) }
     // The first of these steps.
-    ensures err { IfErr result (λ f. Adds (λ es. BeginsRest session.old.engine.config.stripes session.old.engine.holder es × (steps_before f ≡ length es)) session.old session.new) }
+    ensures err { IfErr result (λ f. Adds (λ es.
+        BeginsRest session.old.engine.config.stripes session.old.engine.holder es × (steps_before f ≡ length es))
+        session.old session.new) }
     ensures cause { IfErr result (λ f. IsFullAt f session.new) }
 {
     let Some(holder) = session.engine().holder() else {
@@ -100,10 +104,12 @@ pub(crate) fn finish_round(
     requires ready { IsReady local.worker (act_at local.worker local.stripes local.place) session.old.engine }
     ensures opening { session.new.opening ≡ session.old.opening }
     ensures limit { session.new.limit ≡ session.old.limit }
-    ensures ok { IfOk result (λ o. Adds (λ es. Ahead local.worker local.stripes local.place es × (o ≡ outcome_from start es)) session.old session.new) }
+    ensures ok { IfOk result (λ o. Adds (λ es. Ahead local.worker local.stripes local.place es
+        × (o ≡ outcome_from start es)) session.old session.new) }
     ensures none { OnOk result (session.new.engine.holder ≡ None) }
     ensures stripes { length session.new.engine.stripes ≡ local.stripes }
-    ensures err { OnErr result (Adds (λ es. (rest : Entries) × Ahead local.worker local.stripes local.place (es ++ rest)) session.old session.new) }
+    ensures err { OnErr result (Adds (λ es. (rest : Entries)
+        × Ahead local.worker local.stripes local.place (es ++ rest)) session.old session.new) }
     ensures cause { IfErr result (λ f. IsCause f session.new) }
 {
     let worker = local.worker;
@@ -122,7 +128,8 @@ pub(crate) fn make(session: &mut Session<Shell>, worker: Worker, act: Act) -> Re
     requires { IsSome (perform worker act session.old.engine) }
     ensures opening { session.new.opening ≡ session.old.opening }
     ensures limit { session.new.limit ≡ session.old.limit }
-    ensures ok { IfOk result (λ r. session.new.kept ≡ session.old.kept ++ record { step = step_of worker act; reply = r } ∷ []) }
+    ensures ok { IfOk result (λ r. session.new.kept
+        ≡ session.old.kept ++ record { step = step_of worker act; reply = r } ∷ []) }
     ensures tail { OnOk result (session.new.tail ≡ []) }
     ensures accepted { IfOk result (λ r. acted session.old.engine (step_of worker act) ≡ Some (r, session.new.engine)) }
     ensures err { OnErr result (IsSameSession (λ x. x) session.old session.new) }

@@ -1,5 +1,6 @@
 //! What one worker does over a session that workers take in turns.
-ghost use Rattle.std.specs.Prelude.{◌≡◌, ◌≢◌, ◌≤◌, ℕ, List, ◌∷◌, ◌++◌, [], true, length, OnOk, OnErr, IfOk, MatchResult, Some, Err};
+ghost use Rattle.std.specs.Prelude.{◌≡◌, ◌≢◌, ◌≤◌, ℕ, List, ◌∷◌, ◌++◌, [], true, length, OnOk, OnErr, IfOk};
+ghost use Rattle.std.specs.Prelude.{MatchResult, Some, Err};
 ghost use Rattle.step_record.specs.declared.limits.TheConstants.{MAX_STRIPES};
 ghost use Rattle.step_record.specs.Answers.{AnswersItsActs, is_answer};
 ghost use Rattle.turn_book.specs.Passes.{id_of};
@@ -33,7 +34,8 @@ pub fn turn<E: Engine<Step = Step, Reply = Reply> + Drop, R: Wait>(
     requires turns { book.now.opening.limit ≤ book.now.turns }
     ensures same { result.0.book ≡ pass.book }
     ensures worker { result.0.worker ≡ pass.worker }
-    ensures own { MatchResult result.1 (λ r. result.0.own ≡ pass.own ++ record { step = step; reply = r } ∷ []) (λ _. result.0.own ≡ pass.own) }
+    ensures own { MatchResult result.1 (λ r. result.0.own ≡ pass.own ++ record { step = step; reply = r } ∷ [])
+        (λ _. result.0.own ≡ pass.own) }
     ensures answer { IfOk result.1 (λ r. is_answer step.act r ≡ true) }
     // A full journal: what the pass last saw is as long as the limit.
     ensures full { result.1 ≡ Err SessionFault.JournalFull → length result.0.last ≡ book.now.opening.limit }
@@ -62,7 +64,8 @@ pub fn walk_in_turns<E: Engine<Step = Step, Reply = Reply> + Drop, R: Wait>(
     requires own { pass.book ≡ id_of book.now }
     requires worker { pass.worker ≡ worker }
     requires answers { AnswersItsActs E.act }
-    requires admits { AdmitsWalks E.act E.count worker stripes (after E.act book.now.opening.opening book.now.opening.kept) }
+    requires admits { AdmitsWalks E.act E.count worker stripes
+        (after E.act book.now.opening.opening book.now.opening.kept) }
     requires walks { (before : List Call) × AreWalks worker stripes before pass.own }
     requires stripes { (1 ≤ stripes) × (stripes ≤ MAX_STRIPES) }
     requires within { IsWithin book.now.opening.limit pass }
@@ -70,7 +73,8 @@ pub fn walk_in_turns<E: Engine<Step = Step, Reply = Reply> + Drop, R: Wait>(
     ensures same { result.0.book ≡ pass.book }
     ensures worker { result.0.worker ≡ worker }
     ensures ok { OnOk result.1 (Made (IsWalk worker stripes call) pass.own result.0.own list.old.items list.new.items) }
-    ensures err { OnErr result.1 (Made (BeginsWalk worker stripes call) pass.own result.0.own list.old.items list.new.items) }
+    ensures err { OnErr result.1 (Made (BeginsWalk worker stripes call) pass.own result.0.own list.old.items
+        list.new.items) }
     ensures full { result.1 ≡ Err SessionFault.JournalFull → length result.0.last ≡ book.now.opening.limit }
     ensures now { result.1 ≢ Err SessionFault.NotNow }
     ensures within { OnOk result.1 (IsWithin book.now.opening.limit result.0) }
@@ -112,15 +116,18 @@ pub fn work_in_turns<E: Engine<Step = Step, Reply = Reply> + Drop, G: Gate, R: W
     requires own { pass.book ≡ id_of book.now }
     requires worker { pass.worker ≡ worker }
     requires answers { AnswersItsActs E.act }
-    requires admits { AdmitsWalks E.act E.count worker stripes (after E.act book.now.opening.opening book.now.opening.kept) }
+    requires admits { AdmitsWalks E.act E.count worker stripes
+        (after E.act book.now.opening.opening book.now.opening.kept) }
     requires walks { (before : List Call) × AreWalks worker stripes before pass.own }
     requires stripes { (1 ≤ stripes) × (stripes ≤ MAX_STRIPES) }
     requires within { IsWithin book.now.opening.limit pass }
     requires turns { book.now.opening.limit ≤ book.now.turns }
     ensures same { result.0.book ≡ pass.book }
     ensures worker { result.0.worker ≡ worker }
-    ensures ok { OnOk result.1 (Made (AreWalks worker stripes calls.now) pass.own result.0.own list.old.items list.new.items) }
-    ensures err { OnErr result.1 (Made (BeginWalks worker stripes calls.now) pass.own result.0.own list.old.items list.new.items) }
+    ensures ok { OnOk result.1 (Made (AreWalks worker stripes calls.now) pass.own result.0.own list.old.items
+        list.new.items) }
+    ensures err { OnErr result.1 (Made (BeginWalks worker stripes calls.now) pass.own result.0.own list.old.items
+        list.new.items) }
     ensures full { result.1 ≡ Err SessionFault.JournalFull → length result.0.last ≡ book.now.opening.limit }
     ensures now { result.1 ≢ Err SessionFault.NotNow }
     ensures within { OnOk result.1 (IsWithin book.now.opening.limit result.0) }

@@ -23,8 +23,10 @@ pub fn walk<E: Engine<Step = Step, Reply = Reply>>(
     requires stripes { (1 ≤ stripes) × (stripes ≤ MAX_STRIPES) }
     ensures opening { session.new.opening ≡ session.old.opening }
     ensures limit { session.new.limit ≡ session.old.limit }
-    ensures ok { OnOk result (Made (IsWalk worker stripes call) session.old.kept session.new.kept list.old.items list.new.items) }
-    ensures err { OnErr result (Made (BeginsWalk worker stripes call) session.old.kept session.new.kept list.old.items list.new.items) }
+    ensures ok { OnOk result (Made (IsWalk worker stripes call) session.old.kept session.new.kept list.old.items
+        list.new.items) }
+    ensures err { OnErr result (Made (BeginsWalk worker stripes call) session.old.kept session.new.kept list.old.items
+        list.new.items) }
     ensures full { result ≡ Err SessionFault.JournalFull → length session.new.kept ≡ session.new.limit }
 {
     let mut next = next_step(Local::start(worker, stripes, call), None);
@@ -52,8 +54,10 @@ pub fn make_walks<E: Engine<Step = Step, Reply = Reply>>(
     requires stripes { (1 ≤ stripes) × (stripes ≤ MAX_STRIPES) }
     ensures opening { session.new.opening ≡ session.old.opening }
     ensures limit { session.new.limit ≡ session.old.limit }
-    ensures ok { OnOk result (Made (AreWalks worker stripes calls.now) session.old.kept session.new.kept list.old.items list.new.items) }
-    ensures err { OnErr result (Made (BeginWalks worker stripes calls.now) session.old.kept session.new.kept list.old.items list.new.items) }
+    ensures ok { OnOk result (Made (AreWalks worker stripes calls.now) session.old.kept session.new.kept list.old.items
+        list.new.items) }
+    ensures err { OnErr result (Made (BeginWalks worker stripes calls.now) session.old.kept session.new.kept
+        list.old.items list.new.items) }
     ensures full { result ≡ Err SessionFault.JournalFull → length session.new.kept ≡ session.new.limit }
 {
     for call in calls {

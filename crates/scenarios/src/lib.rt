@@ -8,7 +8,10 @@ ghost use Rattle.admission.specs.Frequency.{FrequencyData, halving_words};
 ghost use Rattle.policies.specs.Lru.{outcome};
 ghost use Rattle.policies.specs.QueueCache.{StandsFor};
 
+mod headline;
 mod reports;
+
+pub use headline::{Rewound, drive_and_undo};
 
 use journal::{Session, SessionFault};
 use policies::{Lru, WindowTinyLfu, lru_stands, queues_stand};
