@@ -201,7 +201,8 @@ impl Table {
         ensures recent { before ≡ closing queue → lists self.new ≡ moved (item_in at self.old) queue (lists self.old) }
         ensures back { (older newer : Option Item) → IsBehind before queue older newer self.old
             (order_without at (order_of self.old))
-            → lists self.new ≡ put_in_place queue older (item_in at self.old) (taken (item_in at self.old) (lists self.old)) }
+            → lists self.new
+            ≡ put_in_place queue older (item_in at self.old) (taken (item_in at self.old) (lists self.old)) }
     {
         let slots: &mut [Slot] = &mut self.slots;
         let from = place_of_slot(slots, at);
@@ -230,7 +231,8 @@ impl Table {
             (taken (item_in at self.old) (lists self.old))) }
         ensures spare { spare_in self.new ≡ spare_in self.old }
         ensures lists { lists self.new
-            ≡ put_in_place place.queue place.older (item_in at self.old) (taken (item_in at self.old) (lists self.old)) }
+            ≡ put_in_place place.queue place.older (item_in at self.old)
+            (taken (item_in at self.old) (lists self.old)) }
     {
         let before = self.slot_at_place(place);
         let _ = self.shift(at, place.queue, before);
