@@ -1,5 +1,5 @@
 //! All six policies as one engine.
-ghost use Rattle.std.specs.Prelude.{◌≡◌, ◌↔◌, IfOk, IfSome, OnErr, Ok, Err, Some, None, [], option_map};
+ghost use Rattle.std.specs.Prelude.{◌≡◌, ◌≤◌, ◌^◌, ◌↔◌, IfOk, IfSome, OnErr, Ok, Err, Some, None, [], option_map};
 
 use crate::queue_cache::QueueCache;
 use crate::record::AccessRecord;
@@ -201,7 +201,10 @@ impl Engine for AnyPolicy {
         }
     }
 
-    fn words(done: &AnyRecord) -> u64 {
+    fn words(done: &AnyRecord) -> u64
+        ensures words { result ≡ any_words done.now }
+        ensures bounded { result ≤ 2 ^ 32 }
+    {
         match done {
             AnyRecord::Queues(done) => QueueCache::words(done),
             AnyRecord::Optimal(_) => 0,

@@ -1,5 +1,5 @@
 //! The policy that evicts the key whose last access is oldest.
-ghost use Rattle.std.specs.Prelude.{◌≡◌, IfOk, Ok, [], option_map};
+ghost use Rattle.std.specs.Prelude.{◌≡◌, ◌≤◌, ◌^◌, IfOk, Ok, [], option_map};
 
 use crate::queue_cache::QueueCache;
 use crate::record::AccessRecord;
@@ -104,7 +104,10 @@ impl Engine for Lru {
         self.cache.standing()
     }
 
-    fn words(done: &AccessRecord) -> u64 {
+    fn words(done: &AccessRecord) -> u64
+        ensures words { result ≡ queue_words done.now }
+        ensures bounded { result ≤ 2 ^ 32 }
+    {
         QueueCache::words(done)
     }
 

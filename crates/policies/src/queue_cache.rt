@@ -310,7 +310,10 @@ impl Engine for QueueCache {
         self.stats.accesses
     }
 
-    fn words(done: &AccessRecord) -> u64 {
+    fn words(done: &AccessRecord) -> u64
+        ensures words { result ≡ queue_words done.now }
+        ensures bounded { result ≤ 2 ^ 32 }
+    {
         match &done.counting {
             Some(counting) => counting.words(),
             None => 0,

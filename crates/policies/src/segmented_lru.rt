@@ -1,5 +1,5 @@
 //! Segmented Lru: a key has to be hit once to be protected.
-ghost use Rattle.std.specs.Prelude.{◌≡◌, IfOk, Ok, [], option_map};
+ghost use Rattle.std.specs.Prelude.{◌≡◌, ◌≤◌, ◌^◌, IfOk, Ok, [], option_map};
 
 use crate::queue_cache::QueueCache;
 use crate::record::AccessRecord;
@@ -106,7 +106,10 @@ impl Engine for SegmentedLru {
         self.cache.standing()
     }
 
-    fn words(done: &AccessRecord) -> u64 {
+    fn words(done: &AccessRecord) -> u64
+        ensures words { result ≡ queue_words done.now }
+        ensures bounded { result ≤ 2 ^ 32 }
+    {
         QueueCache::words(done)
     }
 

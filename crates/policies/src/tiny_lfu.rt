@@ -1,5 +1,5 @@
 //! Lru or segmented Lru behind an admission filter (TinyLFU, 2017).
-ghost use Rattle.std.specs.Prelude.{◌≡◌, IfOk, Ok, [], cond, option_map};
+ghost use Rattle.std.specs.Prelude.{◌≡◌, ◌≤◌, ◌^◌, IfOk, Ok, [], cond, option_map};
 
 use crate::queue_cache::QueueCache;
 use crate::record::AccessRecord;
@@ -109,7 +109,10 @@ impl Engine for TinyLfu {
         self.cache.standing()
     }
 
-    fn words(done: &AccessRecord) -> u64 {
+    fn words(done: &AccessRecord) -> u64
+        ensures words { result ≡ queue_words done.now }
+        ensures bounded { result ≤ 2 ^ 32 }
+    {
         QueueCache::words(done)
     }
 
