@@ -24,10 +24,7 @@ static int is_refused(void)
     }
     if (left == 0 || --left > 0)
         return 0;
-    if (write(2, TOLD, sizeof TOLD - 1) < 0)
-        return 0;
-    errno = ENOMEM;
-    return 1;
+    return write(2, TOLD, sizeof TOLD - 1) >= 0;
 }
 
 void *malloc(size_t size)

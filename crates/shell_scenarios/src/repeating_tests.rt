@@ -71,9 +71,9 @@ const STEPS: [(Act, Reply); 33] = [
     (Act::DrainWrite, Reply::Applied { item: LAST }),
 ];
 
-// Twelve additions, which are more than one leaf of the table holds, and six removals, which leave one: undoing them
-// takes memory again.
-const REMOVALS: [(Act, Reply); 18] = [
+// Sixteen additions, which are one more than a leaf of the table holds, and eight removals, which undone take memory
+// for a second leaf again.
+const REMOVALS: [(Act, Reply); 24] = [
     (Act::Put { key: 1 }, Reply::Added { node: 0 }),
     (Act::Put { key: 2 }, Reply::Added { node: 1 }),
     (Act::Put { key: 3 }, Reply::Added { node: 2 }),
@@ -86,12 +86,18 @@ const REMOVALS: [(Act, Reply); 18] = [
     (Act::Put { key: 10 }, Reply::Added { node: 9 }),
     (Act::Put { key: 11 }, Reply::Added { node: 10 }),
     (Act::Put { key: 12 }, Reply::Added { node: 11 }),
+    (Act::Put { key: 13 }, Reply::Added { node: 12 }),
+    (Act::Put { key: 14 }, Reply::Added { node: 13 }),
+    (Act::Put { key: 15 }, Reply::Added { node: 14 }),
+    (Act::Put { key: 16 }, Reply::Added { node: 15 }),
     (Act::Remove { key: 1 }, Reply::Removed { node: 0 }),
     (Act::Remove { key: 2 }, Reply::Removed { node: 1 }),
     (Act::Remove { key: 3 }, Reply::Removed { node: 2 }),
     (Act::Remove { key: 4 }, Reply::Removed { node: 3 }),
     (Act::Remove { key: 5 }, Reply::Removed { node: 4 }),
     (Act::Remove { key: 6 }, Reply::Removed { node: 5 }),
+    (Act::Remove { key: 7 }, Reply::Removed { node: 6 }),
+    (Act::Remove { key: 8 }, Reply::Removed { node: 7 }),
 ];
 
 // What a shell shows: the items of its table and of its window, and how many keys it recorded since the last halving,
@@ -116,12 +122,14 @@ const AT_LAST: Shown = Shown {
 
 const LEFT: Shown = Shown {
     table: &[
-        Item { key: 7, node: 6 },
-        Item { key: 8, node: 7 },
         Item { key: 9, node: 8 },
         Item { key: 10, node: 9 },
         Item { key: 11, node: 10 },
         Item { key: 12, node: 11 },
+        Item { key: 13, node: 12 },
+        Item { key: 14, node: 13 },
+        Item { key: 15, node: 14 },
+        Item { key: 16, node: 15 },
     ],
     window: &[],
     age: 0,
