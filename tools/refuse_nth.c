@@ -2,6 +2,7 @@
 // number REFUSE_NTH says, counted from 1 over malloc, calloc, realloc and the aligned allocations.
 // It says so on standard error.
 #include <errno.h>
+#include <stdatomic.h>
 #include <stddef.h>
 #include <stdlib.h>
 #include <unistd.h>
@@ -13,18 +14,17 @@ extern void *__libc_memalign(size_t align, size_t size);
 
 static const char TOLD[] = "an allocation was refused\n";
 
-// How many allocations are left up to the refused one; 0 once it is past.
-static long left = -1;
+// How many allocations were asked for, by any thread.
+static atomic_long asked;
 
 static int is_refused(void)
 {
-    if (left < 0) {
-        const char *nth = getenv("REFUSE_NTH");
-        left = nth ? atol(nth) : 0;
-    }
-    if (left == 0 || --left > 0)
+    const char *nth = getenv("REFUSE_NTH");
+    if (atomic_fetch_add(&asked, 1) + 1 != (nth ? atol(nth) : 0))
         return 0;
-    return write(2, TOLD, sizeof TOLD - 1) >= 0;
+    int written = write(2, TOLD, sizeof TOLD - 1) >= 0;
+    errno = ENOMEM; // as malloc does: the C library's own threads look at it
+    return written;
 }
 
 void *malloc(size_t size)
