@@ -71,6 +71,70 @@ const STEPS: [(Act, Reply); 33] = [
     (Act::DrainWrite, Reply::Applied { item: LAST }),
 ];
 
+// Sixteen additions, which are one more than a leaf of the table holds, and eight removals, which undone take memory
+// for a second leaf again.
+const REMOVALS: [(Act, Reply); 24] = [
+    (Act::Put { key: 1 }, Reply::Added { node: 0 }),
+    (Act::Put { key: 2 }, Reply::Added { node: 1 }),
+    (Act::Put { key: 3 }, Reply::Added { node: 2 }),
+    (Act::Put { key: 4 }, Reply::Added { node: 3 }),
+    (Act::Put { key: 5 }, Reply::Added { node: 4 }),
+    (Act::Put { key: 6 }, Reply::Added { node: 5 }),
+    (Act::Put { key: 7 }, Reply::Added { node: 6 }),
+    (Act::Put { key: 8 }, Reply::Added { node: 7 }),
+    (Act::Put { key: 9 }, Reply::Added { node: 8 }),
+    (Act::Put { key: 10 }, Reply::Added { node: 9 }),
+    (Act::Put { key: 11 }, Reply::Added { node: 10 }),
+    (Act::Put { key: 12 }, Reply::Added { node: 11 }),
+    (Act::Put { key: 13 }, Reply::Added { node: 12 }),
+    (Act::Put { key: 14 }, Reply::Added { node: 13 }),
+    (Act::Put { key: 15 }, Reply::Added { node: 14 }),
+    (Act::Put { key: 16 }, Reply::Added { node: 15 }),
+    (Act::Remove { key: 1 }, Reply::Removed { node: 0 }),
+    (Act::Remove { key: 2 }, Reply::Removed { node: 1 }),
+    (Act::Remove { key: 3 }, Reply::Removed { node: 2 }),
+    (Act::Remove { key: 4 }, Reply::Removed { node: 3 }),
+    (Act::Remove { key: 5 }, Reply::Removed { node: 4 }),
+    (Act::Remove { key: 6 }, Reply::Removed { node: 5 }),
+    (Act::Remove { key: 7 }, Reply::Removed { node: 6 }),
+    (Act::Remove { key: 8 }, Reply::Removed { node: 7 }),
+];
+
+// What a shell shows: the items of its table and of its window, and how many keys it recorded since the last halving,
+// with half of those before.
+struct Shown {
+    table: &'static [Item],
+    window: &'static [Item],
+    age: usize,
+}
+
+const NOTHING: Shown = Shown {
+    table: &[],
+    window: &[],
+    age: 0,
+};
+
+const AT_LAST: Shown = Shown {
+    table: &[LAST],
+    window: &[LAST],
+    age: 6,
+};
+
+const LEFT: Shown = Shown {
+    table: &[
+        Item { key: 9, node: 8 },
+        Item { key: 10, node: 9 },
+        Item { key: 11, node: 10 },
+        Item { key: 12, node: 11 },
+        Item { key: 13, node: 12 },
+        Item { key: 14, node: 13 },
+        Item { key: 15, node: 14 },
+        Item { key: 16, node: 15 },
+    ],
+    window: &[],
+    age: 0,
+};
+
 // Makes a step, once more where its allocation failed.
 fn apply<E: Engine>(engine: &mut E, step: &E::Step) -> Result<(E::Reply, E::Record), StepFault>
     ensures fits { IfOk result (λ r. E.fits r.1 (E.seen engine.new)) }
@@ -112,37 +176,32 @@ fn list(alloc: Global, shell: &Shell, queue: Queue) -> Result<Vec<Item>, AllocEr
     }
 }
 
-// Sees that a shell has just these items, in its table and its window, and so many keys since its last halving.
-fn assert_holds(
-    rt: &impl Abort,
-    alloc: Global,
-    shell: &Shell,
-    items: &[Item],
-    age: usize,
-) -> Result<(), Fail> {
-    assert_eq!(rt; table(alloc, shell)?.as_slice(), items);
-    assert_eq!(rt; list(alloc, shell, Queue::Window)?.as_slice(), items);
+// Sees that a shell shows just this, and nothing in probation.
+fn assert_shown(rt: &impl Abort, alloc: Global, shell: &Shell, shown: &Shown) -> Result<(), Fail> {
+    assert_eq!(rt; table(alloc, shell)?.as_slice(), shown.table);
+    assert_eq!(rt; list(alloc, shell, Queue::Window)?.as_slice(), shown.window);
     assert_eq!(rt; list(alloc, shell, Queue::Probation)?.len(), 0);
-    assert_eq!(rt; shell.frequency().age() as usize, age);
+    assert_eq!(rt; shell.frequency().age() as usize, shown.age);
     Ok(())
 }
 
-// Makes the steps, looks at what the last one left, and undoes them, the last one first.
+// Makes the steps, sees what the last one left, and undoes them, the last one first.
 fn there_and_back(
     rt: &impl Abort,
     alloc: Global,
     shell: &mut Shell,
     worker: Worker,
     steps: &[(Act, Reply)],
+    shown: &Shown,
 ) -> Result<(), Fail>
     ensures { OnOk result (shell.new ≡ shell.old) }
 {
     let [(act, reply), rest @ ..] = steps else {
-        return assert_holds(rt, alloc, shell, &[LAST], 6);
+        return assert_shown(rt, alloc, shell, shown);
     };
     let (answer, done) = apply(shell, &Step { worker, act: *act })?;
     assert_eq!(rt; answer, *reply, "{act:?}");
-    there_and_back(rt, alloc, shell, worker, rest)?;
+    there_and_back(rt, alloc, shell, worker, rest, shown)?;
     undo(shell, done)?;
     Ok(())
 }
@@ -155,6 +214,9 @@ fn a_call_made_again_answers_as_if_it_was_never_refused(rt: HostRuntime) -> Resu
         Err(AllocError) => Shell::new(rt.alloc(), &TINY)?,
     };
     let worker = Worker::new(0).ok_or("no worker")?;
-    there_and_back(&rt, rt.alloc(), &mut shell, worker, &STEPS)?;
-    assert_holds(&rt, rt.alloc(), &shell, &[], 0)
+    for (steps, shown) in [(&STEPS[..], &AT_LAST), (&REMOVALS[..], &LEFT)] {
+        there_and_back(&rt, rt.alloc(), &mut shell, worker, steps, shown)?;
+        assert_shown(&rt, rt.alloc(), &shell, &NOTHING)?;
+    }
+    Ok(())
 }
