@@ -47,9 +47,13 @@ const SIX: &str = "cachesim journal 2
 steps 6
 ";
 
+// Room for the longest journal here: 6000 lines of fewer than 64 bytes. A vector that grows while
+// it is written to would answer `Write` where it is out of memory.
+const ROOM: usize = 1 << 19;
+
 /// The journal of a session as text.
 pub fn written(alloc: Global, session: &Session<Shell>) -> Result<Vec<u8>, Fail> {
-    let mut text = Vec::new(alloc);
+    let mut text = Vec::with_capacity(alloc, ROOM)?;
     write_journal(alloc, session, &mut text)?;
     Ok(text)
 }
