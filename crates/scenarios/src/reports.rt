@@ -1,8 +1,9 @@
-//! A job's report is the same however it is made: alone on this thread, on a thread of its own beside other jobs, or within
-//! a sweep over capacities.
+//! A job's report is the same however it is made: alone on this thread, on a thread of its own beside other jobs, or
+//! within a sweep over capacities.
 //!
-//! Both functions make the same reports in two ways and hand out both lists. Their contracts stand on those of the calls
-//! alone: that the lists are equal, and that they are what the policies' definitions give over the keys of the trace.
+//! Both functions make the same reports in two ways and hand out both lists. Their contracts stand on those of the
+//! calls alone: that the lists are equal, and that they are what the policies' definitions give over the keys of the
+//! trace.
 ghost use Rattle.std.specs.Prelude.{◌≡◌, IfOk, map};
 ghost use Rattle.policy_actors.specs.Faults.{actor_fault, at_capacity, faulty_in, ReturnsFault};
 ghost use Rattle.policy_actors.specs.Reports.{report_on};
@@ -23,8 +24,8 @@ pub struct BothWays {
     pub together: Vec<Report>,
 }
 
-/// The reports of the jobs, by `run_one` of each and by `run_actors` of all. For every trace, list of jobs, batch and gate
-/// they are the same, and each is the one that the policy's definition gives for the job over the trace.
+/// The reports of the jobs, by `run_one` of each and by `run_actors` of all. For every trace, list of jobs, batch and
+/// gate they are the same, and each is the one that the policy's definition gives for the job over the trace.
 ///
 /// Errors: those of `run_actors`, and `OutOfMemory`.
 pub fn jobs_both_ways<R: Threads + Wait + Sync, G: Gate>(
@@ -56,7 +57,8 @@ pub fn capacities_both_ways<R: Threads + Sync>(
     capacities: &[u32],
 ) -> Result<BothWays, ActorFault>
     ensures same { IfOk result (λ r. r.together.items ≡ r.alone.items) }
-    ensures defined { IfOk result (λ r. r.alone.items ≡ map (λ c. report_on (at_capacity job.now c) trace.now) capacities.now) }
+    ensures defined { IfOk result (λ r.
+        r.alone.items ≡ map (λ c. report_on (at_capacity job.now c) trace.now) capacities.now) }
     ensures fault { ReturnsFault (faulty_in (map (at_capacity job.now) capacities.now)) result }
 {
     let together = sweep(rt, alloc, trace, job, capacities)?;
