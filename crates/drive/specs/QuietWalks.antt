@@ -1,5 +1,5 @@
 -- The walk of worker 0 over one key where a round of maintenance comes after each, whatever the reports were answered.
--- (This project's own: with it the concurrent cache is to be WindowTinyLfu.)
+-- (This project's own: with it the concurrent cache is W-TinyLFU.)
 use Rattle.std.specs.Prelude.{◌≡◌, ℕ, Option, Some, List, [], ◌∷◌, ◌++◌, length}
 use Rattle.step_record.specs.declared.item.Item.{Item}
 use Rattle.step_record.specs.declared.outcome.Outcome.{Outcome}
