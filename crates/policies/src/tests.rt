@@ -114,6 +114,9 @@ fn lru_evicts_the_key_whose_last_access_is_oldest(rt: HostRuntime) -> Result<(),
 
 #[test]
 fn segmented_lru_protects_a_key_that_was_hit(rt: HostRuntime) -> Result<(), Fail> {
+    let accesses = [(1, Kept), (1, Hit), (2, Kept), (3, Evicted(2))];
+    let counted = (4, 1, 3, 1, 0);
+    run(&rt, rt.alloc(), (Segmented, 2), &accesses, counted, &[3, 1])?;
     let accesses = [(1, Kept), (1, Hit), (2, Kept), (3, Evicted(2)), (1, Hit)];
     let counted = (5, 2, 3, 1, 0);
     run(&rt, rt.alloc(), (Segmented, 2), &accesses, counted, &[3, 1])

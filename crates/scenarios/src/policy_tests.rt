@@ -1,4 +1,4 @@
-ghost use Rattle.std.specs.Prelude.{◌≡◌, ◌≤◌, IfOk};
+ghost use Rattle.std.specs.Prelude.{◌≡◌, ◌≤◌, IfOk, length};
 ghost use Rattle.policies.specs.AnyPolicy.{stats_in};
 
 use journal::Session;
@@ -16,9 +16,16 @@ const CONFIG: Config = Config {
     journal_limit: 600,
 };
 
-// The estimate of key 5.
-fn estimate(session: &Session<WindowTinyLfu>) -> Option<u8> {
-    Some(session.engine().frequency()?.estimate(5))
+/// What the frequency of a session over WindowTinyLfu shows of key 5: its least counter, the age,
+/// its estimate, and whether the doorkeeper has it.
+fn shown(session: &Session<WindowTinyLfu>) -> Option<(u8, u32, u8, bool)> {
+    let frequency = session.engine().frequency()?;
+    Some((
+        frequency.sketch().least(5),
+        frequency.age(),
+        frequency.estimate(5),
+        frequency.doorkeeper().has(5),
+    ))
 }
 
 #[test]
@@ -29,11 +36,20 @@ fn a_session_goes_back_across_a_halving(rt: HostRuntime) -> Result<(), Fail> {
     for _ in 0..20 {
         session.step(5)?;
     }
-    assert_eq!(rt; (estimate(&session), session.held()), (Some(7), 2));
+    assert_eq!(rt;
+        (shown(&session), session.held()),
+        (Some((7, 10, 7, false)), 2)
+    );
     session.back(1)?;
-    assert_eq!(rt; (estimate(&session), session.held()), (Some(16), 0));
+    assert_eq!(rt;
+        (shown(&session), session.held()),
+        (Some((15, 19, 16, true)), 0)
+    );
     session.back(5)?;
-    assert_eq!(rt; (estimate(&session), session.held()), (Some(14), 0));
+    assert_eq!(rt;
+        (shown(&session), session.held()),
+        (Some((13, 14, 14, true)), 0)
+    );
     session.forward(6)?;
     for _ in 0..10 {
         session.step(5)?;
@@ -47,12 +63,26 @@ fn next(seed: u64) -> u64 {
         .wrapping_add(1442695040888963407)
 }
 
-fn opened(rt: &impl Abort, alloc: Global, job: &Job) -> Result<AnyPolicy, Fail>
+// How many steps a session may make, and accesses the trace has.
+const MOST: usize = 1200;
+
+// A trace of accesses to 80 keys.
+fn drawn_trace(rt: &impl Abort, alloc: Global) -> Result<Trace, Fail> {
+    let mut keys = Vec::new(alloc);
+    let mut drawn = 1;
+    for _ in 0..MOST {
+        drawn = next(drawn);
+        keys.push((drawn >> 33) % 80)?;
+    }
+    assert!(rt; keys.len() <= MOST);
+    Ok(Trace::new(keys))
+}
+
+fn opened(rt: &impl Abort, alloc: Global, job: &Job, trace: &Trace) -> Result<AnyPolicy, Fail>
     ensures { IfOk result (λ p. (stats_in p).accesses ≡ 0) }
 {
     assert!(rt; job.config.check().is_ok());
-    let trace = Trace::new(Vec::new(alloc));
-    let cache = AnyPolicy::open(alloc, job, &trace)?;
+    let cache = AnyPolicy::open(alloc, job, trace)?;
     Ok(cache)
 }
 
@@ -60,11 +90,11 @@ fn opened(rt: &impl Abort, alloc: Global, job: &Job) -> Result<AnyPolicy, Fail>
 fn compare(
     rt: &impl Abort,
     alloc: Global,
-    job: &Job,
+    (job, trace): (&Job, &Trace),
     cache: &AnyPolicy,
     kept: &[Key],
 ) -> Result<(), Fail> {
-    let mut fresh = opened(rt, alloc, job)?;
+    let mut fresh = opened(rt, alloc, job, trace)?;
     for key in kept {
         fresh.apply(key)?;
     }
@@ -81,42 +111,82 @@ fn compare(
     Ok(())
 }
 
-// Goes forward and back by random numbers, some 400 times.
-fn wander(rt: &impl Abort, alloc: Global, job: &Job, seed: u64) -> Result<(), Fail> {
-    let cache = opened(rt, alloc, job)?;
-    let mut session = Session::open(alloc, cache, 600);
-    let mut kept: Vec<Key> = Vec::new(alloc);
-    let mut drawn = seed;
-    for _ in 0..400 {
-        drawn = next(drawn);
-        let number = drawn >> 33;
-        if number % 5 == 0 {
-            let steps = (number / 5 % 7) as usize;
-            if steps <= session.len() {
-                session.back(steps)?;
-                kept.truncate(session.len());
+/// A session, and the keys of its steps, those of the undone ones at the end.
+#[derive(Drop)]
+struct Walk {
+    session: Session<AnyPolicy>,
+    keys: Vec<Key>,
+}
+
+// Goes back or forward by a few steps, or makes one: of a key that is drawn, but where the policy
+// is the optimal one, of the trace's next.
+fn wander(walk: &mut Walk, policy: Policy, trace: &Trace, number: u64) -> Result<(), Fail> {
+    let steps = (number / 16 % 6) as usize;
+    let made = walk.session.len();
+    match number % 16 {
+        0 if steps <= made => walk.session.back(steps)?,
+        1..=2 if steps <= walk.session.ahead() => walk.session.forward(steps)?,
+        _ => {
+            let mut key = number / 16 % 80;
+            if policy == Policy::Clairvoyant {
+                key = *trace.keys().get(made).unwrap_or(&key);
             }
-        } else {
-            session.step(number % 80)?;
-            kept.push(number % 80)?;
+            walk.session.step(key)?;
+            walk.keys.truncate(made);
+            walk.keys.push(key)?;
         }
     }
-    compare(rt, alloc, job, session.engine(), &kept)
+    Ok(())
+}
+
+// Wanders for 1200 turns, and compares after each hundred of them.
+fn wander_about(
+    rt: &impl Abort,
+    alloc: Global,
+    job: &Job,
+    trace: &Trace,
+    seed: u64,
+) -> Result<(), Fail> {
+    let cache = opened(rt, alloc, job, trace)?;
+    let mut walk = Walk {
+        session: Session::open(alloc, cache, MOST),
+        keys: Vec::new(alloc),
+    };
+    let mut drawn = seed;
+    for turn in 1..=MOST {
+        drawn = next(drawn);
+        wander(&mut walk, job.policy, trace, drawn >> 33)?;
+        if turn % 100 == 0 {
+            let made = walk.session.len().min(walk.keys.len());
+            assert_eq!(rt; made, walk.session.len());
+            compare(
+                rt,
+                alloc,
+                (job, trace),
+                walk.session.engine(),
+                &walk.keys[..made],
+            )?;
+        }
+    }
+    assert!(rt; walk.session.len() > 500);
+    Ok(())
 }
 
 #[test]
 fn back_and_forward_leads_where_the_kept_accesses_lead(rt: HostRuntime) -> Result<(), Fail> {
+    let trace = drawn_trace(&rt, rt.alloc())?;
     for policy in [
         Policy::Lru,
         Policy::SegmentedLru,
         Policy::TinyLfuLru,
         Policy::TinyLfuSegmented,
         Policy::WindowTinyLfu,
+        Policy::Clairvoyant,
     ] {
         for capacity in [1, 2, 3, 7, 50] {
             let config = Config { capacity, ..CONFIG };
             let job = Job { policy, config };
-            wander(&rt, rt.alloc(), &job, capacity as u64)?;
+            wander_about(&rt, rt.alloc(), &job, &trace, capacity as u64)?;
         }
     }
     Ok(())
