@@ -28,5 +28,5 @@ pub evicted-is : (x : Shell) (c : Item) (r : Rules) (o : Outcome) (m : Moves) (q
 evicted-is x c r o m q t d hr hc hq hm ho ht =
     let p = planned (three_queues x.config) x.frequency x.queues in
     let h : evict x ≡ evicted_by (Some c) (response p x.queues) x =
-        evictions-by-plan x d ∙ ap (λ (k : Option Item). evicted_by k (response p x.queues) x) (sym hc) in
+    evictions-by-plan x d ∙ ap (λ (k : Option Item). evicted_by k (response p x.queues) x) (sym hc) in
     rw (ht, hq, hm, ho, hr, out-leaves p.leaves (transferred p.first x.queues)) h

@@ -22,7 +22,7 @@ contests : (c v : Item) (x : Shell) → contest c (Some v) (shift c x)
     ≡ evicted_by (Some c) (contest_in (admits x.frequency) c (Some v) (moved c Probation x.queues)) x
 contests c v x =
     elim (cases_Bool (same c v)) as (λ _. contest c (Some v) (shift c x)
-        ≡ evicted_by (Some c) (contest_in (admits x.frequency) c (Some v) (moved c Probation x.queues)) x) [
+    ≡ evicted_by (Some c) (contest_in (admits x.frequency) c (Some v) (moved c Probation x.queues)) x) [
       | inl e ↦ rw e refl
       | inr e ↦ rw e (elim (cases_Bool (admits x.frequency c.key v.key)) [
         | inl f ↦ rw f refl
@@ -34,7 +34,7 @@ trials : (c : Item) (x : Shell) → evict_from c (shift c x)
     ≡ evicted_by (Some c) (trial (three_queues x.config) (admits x.frequency) c (moved c Probation x.queues)) x
 trials c x =
     elim (cases_Bool (nat_lt x.config.capacity (total (moved c Probation x.queues)))) as (λ _. evict_from c (shift c x)
-        ≡ evicted_by (Some c) (trial (three_queues x.config) (admits x.frequency) c (moved c Probation x.queues)) x) [
+    ≡ evicted_by (Some c) (trial (three_queues x.config) (admits x.frequency) c (moved c Probation x.queues)) x) [
       | inl e ↦ (let v = last-some (without c x.queues.probation) c in rw (e, v.1) (contests c v.0 x))
       | inr e ↦ rw e refl
     ]
@@ -47,9 +47,9 @@ oldest (Some c) x = trials c x
 pub evictions-agree : EvictionsAgree
 evictions-agree x =
     elim (cases_Bool (nat_lt (window_size x.config) (length x.queues.window))) as (λ _. evict x ≡ evicted_by
-        (candidate_of (three_queues x.config) x.queues)
-        (eviction (three_queues x.config) (admits x.frequency) x.queues)
-        x) [
+    (candidate_of (three_queues x.config) x.queues)
+    (eviction (three_queues x.config) (admits x.frequency) x.queues)
+    x) [
       | inl e ↦ rw e (oldest (first x.queues.window) x)
       | inr e ↦ rw e refl
     ]
@@ -57,5 +57,5 @@ evictions-agree x =
 pub evictions-by-plan : EvictionsPlanned
 evictions-by-plan x d =
     evictions-agree x ∙ ap
-        (λ (r : Response). evicted_by (candidate_of (three_queues x.config) x.queues) r x)
-        (evictions-planned (three_queues x.config) (admits x.frequency) x.queues d)
+    (λ (r : Response). evicted_by (candidate_of (three_queues x.config) x.queues) r x)
+    (evictions-planned (three_queues x.config) (admits x.frequency) x.queues d)

@@ -198,7 +198,7 @@ added-back i rest x e w =
     let n : taken i x.queues ≡ x.queues = taken-none i x.queues (queued-waits i rest x e w) in
     let m : moved i Window x.queues ≡ pushed Window i x.queues = ap (λ r. pushed Window i r) n in
     let b = subst (λ r. MovesBack (moves_of (stay_plan Window i) x.queues) x.queues r) m
-        (plan-back (stay_plan Window i) x.queues (sound-distinct x w)) in
+    (plan-back (stay_plan Window i) x.queues (sound-distinct x w)) in
     record {
       fits = record { moves = b.fits; frequency = fits_recorded x.frequency i.key w.frequency; stays = refl };
       queues = b.back;
@@ -318,11 +318,11 @@ evict-goes : (h : Holder) (x : Shell) → x.holder ≡ Some h → IsConsistent x
     → Goes (evict_change h x) x (evict (in_phase Evictions h x)).1
 evict-goes h x f w =
     subst (λ (r : Reply × Shell). Goes (evict_change h x) x r.1)
-        (sym (evictions-by-plan (in_phase Evictions h x) (sound-distinct x w)))
-        (planned-goes h
-            (candidate_of (three_queues x.config) x.queues)
-            (eviction_plan (three_queues x.config) (admits x.frequency) x.queues)
-            x f w)
+    (sym (evictions-by-plan (in_phase Evictions h x) (sound-distinct x w)))
+    (planned-goes h
+    (candidate_of (three_queues x.config) x.queues)
+    (eviction_plan (three_queues x.config) (admits x.frequency) x.queues)
+    x f w)
 
 end-goes : (w : ℕ) (x : Shell) → GoesTo (cond (is_over x) Nothing (if_held (λ h. Ended h x.drain (ended x.drain).1) x.holder)) x (hold_end (held_by w x.holder) x)
 end-goes w x =

@@ -64,8 +64,19 @@ opened c s = record {
   holder = None;
   applied = 0;
   stats = record {
-    hits = 0; misses = 0; kept = 0; full = 0; lost = 0; added = 0; updated = 0; refused = 0;
-    evictions = 0; rejections = 0; begun = 0; busy = 0; removed = 0;
+    hits = 0;
+    misses = 0;
+    kept = 0;
+    full = 0;
+    lost = 0;
+    added = 0;
+    updated = 0;
+    refused = 0;
+    evictions = 0;
+    rejections = 0;
+    begun = 0;
+    busy = 0;
+    removed = 0;
   };
 }
 

@@ -31,7 +31,7 @@ pub record ShellFits (r : ShellRecord) (x : Shell) : Type 0 where
 abbrev pub RecordLaw : Type 0
 RecordLaw = (x y : Shell) (s : Step) (r : Reply) → IsReachable x → act x s ≡ Some (r, y)
     → let c : ShellRecord = record { reply = r; change = change_of s.worker s.act x } in
-      ShellFits c y × (undone_step c y ≡ x)
+    ShellFits c y × (undone_step c y ≡ x)
 
 -- from any state that a shell stands for and that no one holds
 pub record IsLaterHistory (es : List Made) (y : Shell) : Type 0 where

@@ -182,8 +182,8 @@ contest candidate (Some victim) x =
     cond (same candidate victim)
     (Rejected candidate, leave candidate x)
     (cond (admits x.frequency candidate.key victim.key)
-        (Evicted victim, leave victim x)
-        (Rejected candidate, leave candidate x))
+    (Evicted victim, leave victim x)
+    (Rejected candidate, leave candidate x))
 
 abbrev pub shift : Item → Shell → Shell
 shift i x = record x { queues = moved i Probation x.queues }

@@ -17,15 +17,15 @@ carried c =
     let e = c.self.view_is ∙ c.enter.ensures in
     ap evict (sym e)
     ∙ (evicted-is (the_view c.self.inside) c.in-Some.candidate c.self.inside.rules c.carry_out-effect.result.outcome c.carry_out-effect.result.moves
-        c.carry_out-effect.new.queues.lists (unlisted_by (item_out c.carry_out-effect.result.moves.out) c.self.inside.table)
-        (subst (λ (x : Shell). IsDistinct x.queues) (sym e) c.requires.distinct)
-        c.self.invariant.3
-        (subst (λ (x : Shell). Some c.in-Some.candidate ≡ candidate_of (three_queues x.config) x.queues) (sym c.self.view_is)
-            (sym c.in-Some.is ∙ c.candidate.ensures))
-        c.carry_out-effect.ensures.lists
-        c.carry_out-effect.ensures.moves
-        c.carry_out-effect.ensures.outcome
-        refl
+    c.carry_out-effect.new.queues.lists (unlisted_by (item_out c.carry_out-effect.result.moves.out) c.self.inside.table)
+    (subst (λ (x : Shell). IsDistinct x.queues) (sym e) c.requires.distinct)
+    c.self.invariant.3
+    (subst (λ (x : Shell). Some c.in-Some.candidate ≡ candidate_of (three_queues x.config) x.queues) (sym c.self.view_is)
+    (sym c.in-Some.is ∙ c.candidate.ensures))
+    c.carry_out-effect.ensures.lists
+    c.carry_out-effect.ensures.moves
+    c.carry_out-effect.ensures.outcome
+    refl
     ∙ ap (λ (x : Shell). (reply_by c.carry_out-effect.result.outcome (item_out c.carry_out-effect.result.moves.out) c.in-Some.candidate, x)) (sym c.unlist-listed.ensures.state))
 
 pub returns-clause-reply : goal.returns-clause-reply

@@ -7,6 +7,6 @@ use Rattle.maintenance.proofs.parts.Core.undo.Goals as goal
 pub uncounted-self-inside-requires : goal.uncounted-self-inside-requires
 uncounted-self-inside-requires c =
     let e = ap (λ (x : Shell). x.stats) c.self.view_is
-        ∙ (ap (λ (x : Shell). x.stats) c.in-Ok.ensures.ok
-        ∙ ap (λ (x : Shell). x.stats) (sym (same-tally c.args.made.change c.args.self.now))) in
+    ∙ (ap (λ (x : Shell). x.stats) c.in-Ok.ensures.ok
+    ∙ ap (λ (x : Shell). x.stats) (sym (same-tally c.args.made.change c.args.self.now))) in
     rw e c.requires.fits.stats
