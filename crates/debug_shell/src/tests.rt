@@ -30,6 +30,7 @@ fn part_of(alloc: Global, keys: &[Key], first: &Job, second: &Job) -> Result<Opt
     let trace = trace_of(alloc, keys)?;
     match part(alloc, &trace, first, second) {
         Ok(found) => Ok(found),
+        Err(ActorFault::OutOfMemory) => Err(Fail::from("out of memory")),
         Err(_) => Err(Fail::from("no answer")),
     }
 }
@@ -88,22 +89,29 @@ fn a_refused_configuration_is_reported_by_its_index(rt: HostRuntime) -> Result<(
     Ok(())
 }
 
-// What the debugger writes of the trace 1 1 2 3 1 at capacity 2, with lru as `a` and slru as `b`.
-fn said(alloc: Global, commands: &[u8]) -> Result<Vec<u8>, Fail> {
-    let trace = trace_of(alloc, &[1, 1, 2, 3, 1])?;
+// What the debugger writes of two policies over a trace.
+fn said_of(
+    alloc: Global,
+    keys: &[Key],
+    first: &Job,
+    second: &Job,
+    commands: &[u8],
+) -> Result<Vec<u8>, Fail> {
+    let trace = trace_of(alloc, keys)?;
     let mut out = Vec::new(alloc);
     let mut rest = commands;
-    match run_debug(
-        alloc,
-        &trace,
-        &job(Policy::Lru, 2),
-        &job(Policy::SegmentedLru, 2),
-        &mut rest,
-        &mut out,
-    ) {
+    match run_debug(alloc, &trace, first, second, &mut rest, &mut out) {
         Ok(()) => Ok(out),
+        Err(DebugFault::OutOfMemory) => Err(Fail::from("out of memory")),
         Err(_) => Err(Fail::from("a fault")),
     }
+}
+
+// What it writes of the trace 1 1 2 3 1 at capacity 2, with lru as `a` and slru as `b`.
+fn said(alloc: Global, commands: &[u8]) -> Result<Vec<u8>, Fail> {
+    let lru = job(Policy::Lru, 2);
+    let segmented = job(Policy::SegmentedLru, 2);
+    said_of(alloc, &[1, 1, 2, 3, 1], &lru, &segmented, commands)
 }
 
 #[test]
@@ -126,6 +134,58 @@ fault: Command
 ";
     let out = said(rt.alloc(), commands.as_slice())?;
     assert_eq!(rt; out.as_slice(), text.as_bytes());
+    Ok(())
+}
+
+// Lru hits at 2, and evicts 1 at 4 and 2 at 5; SegmentedLru hits at 2 and 5, and evicts 2 at 4. At 5 two breakpoints
+// hold, of which the one that was set first is named.
+#[test]
+fn breakpoints_of_two_policies(rt: HostRuntime) -> Result<(), Fail> {
+    let commands = b"break evict 2\nbreak hit 1\nrun\nrun\nrun\nclear\ngoto 0\nrun\nquit\nshow\n";
+    let text = "ok
+ok
+stop hit
+at 2
+stop evict
+at 4
+stop evict
+at 5
+ok
+at 0
+end
+at 5
+";
+    let out = said(rt.alloc(), commands.as_slice())?;
+    assert_eq!(rt; out.as_slice(), text.as_bytes());
+    Ok(())
+}
+
+// A sketch for one entry is halved at the tenth record. The position before it is the tenth step's start.
+#[test]
+fn a_breakpoint_at_a_halving(rt: HostRuntime) -> Result<(), Fail> {
+    let commands = b"break halve\nrun\nback 1\nrun\nrun\n";
+    let text = "ok\nstop halve\nat 10\nat 9\nstop halve\nat 10\nend\nat 12\n";
+    let (lru, window) = (job(Policy::Lru, 1), job(Policy::WindowTinyLfu, 1));
+    let out = said_of(rt.alloc(), &[1; 12], &lru, &window, commands.as_slice())?;
+    assert_eq!(rt; out.as_slice(), text.as_bytes());
+    let out = said_of(rt.alloc(), &[1; 12], &window, &lru, commands.as_slice())?;
+    assert_eq!(rt; out.as_slice(), text.as_bytes());
+    Ok(())
+}
+
+// Behind a 65th breakpoint that was not kept there is room for 64 again.
+#[test]
+fn sixty_four_breakpoints(rt: HostRuntime) -> Result<(), Fail> {
+    let mut commands = Vec::new(rt.alloc());
+    let mut text = Vec::new(rt.alloc());
+    for _ in 0..64 {
+        commands.extend_from_slice(b"break hit 7\n")?;
+        text.extend_from_slice(b"ok\n")?;
+    }
+    commands.extend_from_slice(b"break hit 1\nrun\nclear\nbreak hit 1\ngoto 0\nrun")?;
+    text.extend_from_slice(b"fault: Breaks\nend\nat 5\nok\nok\nat 0\nstop hit\nat 2\n")?;
+    let out = said(rt.alloc(), commands.as_slice())?;
+    assert_eq!(rt; out.as_slice(), text.as_slice());
     Ok(())
 }
 
