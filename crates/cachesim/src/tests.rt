@@ -52,11 +52,10 @@ struct Run {
 const ROOM: usize = 4096;
 
 impl Run {
-    /// The run, unless memory was refused: the program says so then, or has no memory to say what
-    /// else was wrong, and wrote no report.
+    /// The run, unless memory was refused: the program says so, for which it needs none, and wrote
+    /// no report.
     fn told(self) -> Result<Run, AllocError> {
-        let refused = self.fault.is_empty()
-            || self.fault.as_slice() == b"fault: OutOfMemory\n".as_slice();
+        let refused = self.fault.as_slice() == b"fault: OutOfMemory\n".as_slice();
         if self.status == 1 && self.out.is_empty() && refused {
             return Err(AllocError);
         }
@@ -390,7 +389,29 @@ fn help_to_an_output_that_fails(rt: HostRuntime) -> Result<(), Fail> {
 // Reports of all six policies, worked out by hand from the rules.
 #[test]
 fn small_traces_of_each_policy(rt: HostRuntime) -> Result<(), Fail> {
-    let table: [(&[&str], &str, &str); 5] = [
+    let table: [(&[&str], &str, &str); 7] = [
+        (
+            &[
+                "run",
+                "--capacity",
+                "3",
+                "lru",
+                "slru",
+                "tinylfu-lru",
+                "tinylfu-slru",
+                "wtinylfu",
+                "clairvoyant",
+            ],
+            "",
+            "lru,3,0,0,0,0,0,0.00\nslru,3,0,0,0,0,0,0.00\n\
+             tinylfu-lru,3,0,0,0,0,0,0.00\ntinylfu-slru,3,0,0,0,0,0,0.00\n\
+             wtinylfu,3,0,0,0,0,0,0.00\nclairvoyant,3,0,0,0,0,0,0.00\n",
+        ),
+        (
+            &["run", "--capacity", "2", "--spread", "plain", "wtinylfu"],
+            "1\n2\n1\n3\n1\n",
+            "wtinylfu,2,5,2,3,1,1,40.00\n",
+        ),
         (
             &["run", "--capacity", "1", "--spread", "plain", "wtinylfu"],
             "1\n2\n1\n",

@@ -292,7 +292,8 @@ impl Engine for QueueCache {
     }
 
     fn undo(&mut self, done: AccessRecord) -> Result<(), AccessRecord> {
-        if self.segments.reserve().is_err() {
+        // Only an item that left asks for room to come back.
+        if done.moves.out.is_some() && self.segments.reserve().is_err() {
             return Err(done);
         }
         let AccessRecord {
