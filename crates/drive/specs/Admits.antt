@@ -20,10 +20,10 @@ pub record MayMake (w n : ℕ) (own : Entries) (a : Act) : Type 0 where
 abbrev pub AdmitsWalks : {D : Type 0} → (D → Step → Option (Reply × D)) → (D → ℕ) → ℕ → ℕ → D → Type 0
 AdmitsWalks perform count w n x =
     (es : Entries) → IsLegal perform x es → (a : Act) → MayMake w n (entries_of w es) a
-        → count (after perform x es) < 2 ^ 32 → perform (after perform x es) (step_of w a) ≢ None
+    → count (after perform x es) < 2 ^ 32 → perform (after perform x es) (step_of w a) ≢ None
 
 -- From x on, after any legal entries of which those of the step's worker are its own, the machine takes the step.
 abbrev pub IsTaken : {D : Type 0} → (D → Step → Option (Reply × D)) → (D → ℕ) → D → Entries → Step → Type 0
 IsTaken perform count x own step =
     (es : Entries) → IsLegal perform x es → entries_of step.worker es ≡ own → count (after perform x es) < 2 ^ 32
-        → perform (after perform x es) step ≢ None
+    → perform (after perform x es) step ≢ None

@@ -73,7 +73,7 @@ module _ (w : ℕ) (n : ℕ) where
   IsReading s j (e ∷ es) = (e.step ≡ step_of w (act.DrainRead s))
       × FollowsDrainRead
       (MatchBool (j + 1 == 16) (MatchBool (s + 1 == n) (IsWriting es) (IsReading (s + 1) 0 es))
-          (IsReading s (j + 1) es))
+      (IsReading s (j + 1) es))
       (MatchBool (s + 1 == n) (IsWriting es) (IsReading (s + 1) 0 es))
       e.reply
 

@@ -16,7 +16,10 @@ const WORKERS: u8 = 64;
 const CALLS: u64 = 32;
 
 fn call_of(worker: u8, n: u64) -> Call {
-    let key = u64::from(worker).wrapping_mul(7).wrapping_add(n.wrapping_mul(13)) % 97;
+    let key = u64::from(worker)
+        .wrapping_mul(7)
+        .wrapping_add(n.wrapping_mul(13))
+        % 97;
     if n % 8 == 7 {
         Call::Remove(key)
     } else {

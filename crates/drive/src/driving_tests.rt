@@ -67,7 +67,11 @@ pub(crate) fn failed(fault: DriveFault) -> Fail {
 }
 
 // Each list has the session's entries of its worker, in order.
-pub(crate) fn assert_own_lists(rt: &impl Abort, session: &Session<Shell>, lists: &[Vec<Entry<Step, Reply>>]) {
+pub(crate) fn assert_own_lists(
+    rt: &impl Abort,
+    session: &Session<Shell>,
+    lists: &[Vec<Entry<Step, Reply>>],
+) {
     let mut total: usize = 0;
     for (worker, list) in lists.iter().enumerate() {
         let mut own: usize = 0;

@@ -12,7 +12,6 @@ mod headline;
 mod reports;
 
 pub use headline::{Rewound, drive_and_undo};
-
 use journal::{Session, SessionFault};
 use policies::{Lru, WindowTinyLfu, lru_stands, queues_stand};
 pub use reports::{BothWays, capacities_both_ways, jobs_both_ways};
