@@ -53,8 +53,25 @@ fn new_session(alloc: Global, limit: usize) -> Result<Session<Shell>, Fail>
     Ok(Session::open(alloc, shell, limit))
 }
 
+// What a run that did not make all walks is to a test.
+pub(crate) fn failed(fault: DriveFault) -> Fail {
+    match fault {
+        DriveFault::OutOfMemory { session: _ } => Fail::from("out of memory"),
+        DriveFault::Stopped {
+            session: _,
+            lists: _,
+            cause: Cause::Memory,
+        } => Fail::from("out of memory"),
+        _ => Fail::from("not driven"),
+    }
+}
+
 // Each list has the session's entries of its worker, in order.
-fn assert_own_lists(rt: &impl Abort, session: &Session<Shell>, lists: &[Vec<Entry<Step, Reply>>]) {
+pub(crate) fn assert_own_lists(
+    rt: &impl Abort,
+    session: &Session<Shell>,
+    lists: &[Vec<Entry<Step, Reply>>],
+) {
     let mut total: usize = 0;
     for (worker, list) in lists.iter().enumerate() {
         let mut own: usize = 0;
@@ -83,8 +100,9 @@ fn assert_held_run<R: Threads + Wait + Sync + Abort>(
         begun: AtomicU64::new(0),
         late: AtomicU64::new(0),
     };
-    let Ok(driven) = drive(rt, alloc, new_session(alloc, 1000)?, pieces, &gate) else {
-        return Err(Fail::from("not driven"));
+    let driven = match drive(rt, alloc, new_session(alloc, 1000)?, pieces, &gate) {
+        Ok(driven) => driven,
+        Err(fault) => return Err(failed(fault)),
     };
     assert_eq!(rt; gate.late.load(SeqCst), 0);
     assert_own_lists(rt, &driven.session, driven.lists.as_slice());
@@ -115,8 +133,9 @@ fn workers_run_side_by_side(rt: HostRuntime) -> Result<(), Fail> {
 fn a_removed_key_is_added_anew(rt: HostRuntime) -> Result<(), Fail> {
     let alloc = rt.alloc();
     let pieces = vec![in alloc; vec![in alloc; Call::Read(1), Call::Remove(1), Call::Read(1)]?]?;
-    let Ok(driven) = drive(&rt, alloc, new_session(alloc, 100)?, pieces, &OpenGate) else {
-        return Err(Fail::from("not driven"));
+    let driven = match drive(&rt, alloc, new_session(alloc, 100)?, pieces, &OpenGate) {
+        Ok(driven) => driven,
+        Err(fault) => return Err(failed(fault)),
     };
     assert_eq!(rt; driven.session.len(), 26);
     assert_own_lists(&rt, &driven.session, driven.lists.as_slice());
@@ -158,6 +177,37 @@ fn a_full_journal_stops_a_worker_at_its_maintenance(rt: HostRuntime) -> Result<(
     Ok(())
 }
 
+// What a run leaves that makes all walks, or is stopped for memory.
+fn left_by<R: Threads + Wait + Sync>(
+    rt: &R,
+    alloc: Global,
+    pieces: Vec<Vec<Call>>,
+) -> Result<Session<Shell>, Fail> {
+    match drive(rt, alloc, new_session(alloc, 100)?, pieces, &OpenGate) {
+        Ok(driven) => Ok(driven.session),
+        Err(
+            DriveFault::Stopped {
+                session,
+                lists: _,
+                cause: Cause::Memory,
+            },
+        ) => Ok(session),
+        Err(fault) => Err(failed(fault)),
+    }
+}
+
+// Where memory is refused once, what the run left is settled.
+#[test]
+fn a_stopped_maintenance_is_settled(rt: HostRuntime) -> Result<(), Fail> {
+    let alloc = rt.alloc();
+    let calls = vec![in alloc; Call::Read(1), Call::Remove(1), Call::Read(1)]?;
+    let pieces = vec![in alloc; calls]?;
+    let mut session = left_by(&rt, alloc, pieces)?;
+    assert!(rt; settle(&mut session).is_ok());
+    assert!(rt; session.engine().holder().is_none());
+    Ok(())
+}
+
 #[test]
 fn no_worker_or_too_many_is_a_fault(rt: HostRuntime) -> Result<(), Fail> {
     let alloc = rt.alloc();
@@ -168,7 +218,8 @@ fn no_worker_or_too_many_is_a_fault(rt: HostRuntime) -> Result<(), Fail> {
         }
         match drive(&rt, alloc, new_session(alloc, 9)?, pieces, &OpenGate) {
             Err(DriveFault::Workers { session }) => assert_eq!(rt; session.len(), 0),
-            _ => return Err(Fail::from("not refused")),
+            Err(fault) => return Err(failed(fault)),
+            Ok(_) => return Err(Fail::from("not refused")),
         }
     }
     Ok(())

@@ -10,6 +10,8 @@
 //! after each; both say which steps they added, and how many where they were cut off.
 #![tactic(auto)]
 
+#[cfg(test)]
+mod crowd_tests;
 mod desk;
 mod driving;
 #[cfg(test)]
