@@ -20,6 +20,9 @@ const JOURNAL: &str = "cachesim journal 1
 0 end = idle
 ";
 
+// Room for all that is written, so that no output asks for memory.
+const ROOM: usize = 1024;
+
 // A session that holds the journal.
 fn session_of(alloc: Global, capacity: u32, text: &str) -> Result<Session<Shell>, Fail> {
     let config = Config {
@@ -41,7 +44,7 @@ fn session_of(alloc: Global, capacity: u32, text: &str) -> Result<Session<Shell>
 // What the debugger writes of the journal.
 fn said(alloc: Global, capacity: u32, text: &str, commands: &[u8]) -> Result<Vec<u8>, Fail> {
     let mut session = session_of(alloc, capacity, text)?;
-    let mut out = Vec::new(alloc);
+    let mut out = Vec::with_capacity(alloc, ROOM)?;
     let mut rest = commands;
     run_replay(alloc, &mut session, &mut rest, &mut out)?;
     Ok(out)
@@ -158,7 +161,7 @@ impl<'a> Write for Broken<'a> {
 fn a_session_is_left_at_its_position(rt: HostRuntime) -> Result<(), Fail> {
     let alloc = rt.alloc();
     let mut session = session_of(alloc, 8, JOURNAL)?;
-    let mut out = Vec::new(alloc);
+    let mut out = Vec::with_capacity(alloc, ROOM)?;
     let mut done = b"back 3\nquit\nback 1\n".as_slice();
     run_replay(alloc, &mut session, &mut done, &mut out)?;
     assert_eq!(rt; (session.len(), session.ahead()), (6, 3));

@@ -89,6 +89,9 @@ fn a_refused_configuration_is_reported_by_its_index(rt: HostRuntime) -> Result<(
     Ok(())
 }
 
+// Room for all that is written, so that no output asks for memory.
+const ROOM: usize = 1024;
+
 // What the debugger writes of two policies over a trace.
 fn said_of(
     alloc: Global,
@@ -98,7 +101,7 @@ fn said_of(
     commands: &[u8],
 ) -> Result<Vec<u8>, Fail> {
     let trace = trace_of(alloc, keys)?;
-    let mut out = Vec::new(alloc);
+    let mut out = Vec::with_capacity(alloc, ROOM)?;
     let mut rest = commands;
     match run_debug(alloc, &trace, first, second, &mut rest, &mut out) {
         Ok(()) => Ok(out),
