@@ -1,10 +1,8 @@
--- The words of a line, and the numbers among them. (Rules of this project: words are separated by spaces alone; tabs
--- and carriage returns are dropped at the ends of a line.)
-use Rattle.std.specs.Prelude.{ℕ, ◌^◌, ◌==◌, ◌&&◌, ◌||◌, Bool, List, [], ◌∷◌, Option, Some, None, length, nat_lt}
+-- The words of a line. (Rules of this project: words are separated by spaces alone; tabs and carriage returns are
+-- dropped at the ends of a line.)
+use Rattle.std.specs.Prelude.{ℕ, ◌==◌, ◌&&◌, ◌||◌, Bool, List, [], ◌∷◌, length, nat_lt}
 use Rattle.std.specs.Prelude.{if◌then◌else◌}
 use Rattle.std.specs.List.{filter, slice_split}
-use Rattle.std.specs.Str.{all_ascii_digits}
-use Rattle.std.specs.Str.Parse.{digits_value}
 
 -- a space, a tab or a carriage return
 abbrev pub is_blank : ℕ → Bool
@@ -32,9 +30,3 @@ is_word w = nat_lt 0 (length w)
 -- the words of a text: what stands between spaces (32) and is not empty
 abbrev pub words_in : List ℕ → List (List ℕ)
 words_in text = filter is_word (slice_split (λ b. b == 32) text)
-
--- one or more digits, leading zeros allowed, of a value below 2^64
-unfoldable pub number_of : List ℕ → Option ℕ
-number_of ds =
-    if nat_lt 0 (length ds) && (all_ascii_digits ds && nat_lt (digits_value 10 ds) (2 ^ 64))
-    then Some (digits_value 10 ds) else None

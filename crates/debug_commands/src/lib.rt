@@ -16,7 +16,6 @@ mod fault;
 mod grammar;
 mod lines;
 mod name;
-mod number;
 mod text;
 mod timeline;
 mod words;

@@ -1,40 +1,12 @@
 //! The words of a line.
-ghost use Rattle.std.specs.Prelude.{◌≡◌, ◌≤◌, ◌==◌, ℕ, List, [], ◌∷◌, MatchOption, length};
+ghost use Rattle.std.specs.Prelude.{◌≡◌, ℕ, List, [], ◌∷◌, MatchOption};
 ghost use Rattle.std.specs.Option.{option_map_or};
-ghost use Rattle.std.specs.List.{position_or_len, slice_split};
 ghost use Rattle.debug_commands.specs.Words.{words_in};
 ghost use Rattle.debug_commands.specs.Commands.{name_at, number_at, with_rest};
 
 use crate::name::Name;
-use crate::number::number;
 use std::marker::Model;
-
-// Where the first space is, or the length.
-fn word_end(text: &[u8]) -> usize
-    ensures place { result ≡ position_or_len (λ b. b == 32) text.now }
-    ensures within { result ≤ length text.now }
-{
-    let mut end = 0;
-    'ends: while end < text.len() {
-        if text[end] == b' ' {
-            break;
-        }
-        end += 1;
-    }
-    end
-}
-
-// What stands before the first space, and behind it.
-fn first_piece(text: &[u8]) -> (&[u8], Option<&[u8]>)
-    ensures { slice_split (λ b. b == 32) text.now
-        ≡ result.0.now ∷ option_map_or (λ r. slice_split (λ b. b == 32) r.now) result.1 [] }
-{
-    let end = word_end(text);
-    if end == text.len() {
-        return (text, None);
-    }
-    (&text[..end], Some(&text[end + 1..]))
-}
+use text_lines::{cut, number};
 
 /// The words of a line that are not yet read.
 #[derive(Drop)]
@@ -61,7 +33,7 @@ impl<'a> Words<'a> {
         ensures { MatchOption result (self.old ≡ []) (λ w. self.old ≡ w.now ∷ self.new) }
     {
         'pieces: while let Some(text) = self.rest {
-            let (piece, rest) = first_piece(text);
+            let (piece, rest) = cut(text, b' ');
             self.rest = rest;
             if !piece.is_empty() {
                 return Some(piece);
