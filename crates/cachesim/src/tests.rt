@@ -6,6 +6,8 @@ use std::sync::Wait;
 use std::test::Fail;
 use std::thread::Threads;
 
+mod debugging;
+
 const HEADER: &str = "policy,capacity,accesses,hits,misses,evictions,rejections,rate\n";
 
 struct Nowhere;
@@ -226,7 +228,7 @@ const CUT_ROUND: &str = "cachesim journal 2
 steps 4
 ";
 
-fn driven(limit: &str) -> [&str; 9] {
+fn driven(limit: &str) -> [&str; 11] {
     [
         "drive",
         "--capacity",
@@ -235,6 +237,8 @@ fn driven(limit: &str) -> [&str; 9] {
         "1",
         "--stripes",
         "1",
+        "--spread",
+        "plain",
         "--limit",
         limit,
     ]
