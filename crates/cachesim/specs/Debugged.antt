@@ -21,8 +21,8 @@ abbrev pub Answering : TimelineData → ℕ → Option (List ℕ) → Option (Li
 Answering t at input before after =
     IfSome input (λ commands. (position : ℕ) × IsHeld (dialogue_of t at commands) true before after position)
 
--- the bytes of the file have no fault, and the answers are about the two policies over its accesses, none of them made at
--- first
+-- the bytes of the file have no fault, and the answers are about the two policies over its accesses, none of them made
+-- at first
 abbrev pub Debugging : Format → Job → Job → Option (List ℕ) → Option (List ℕ) → Option (List ℕ) → Option (List ℕ)
     → Type 0
 Debugging format first second file input before after = IfSome file (λ bytes. (fault_in format bytes ≡ None)

@@ -22,8 +22,8 @@ pub record IsFirst (config : Config) (session : SessionState Shell Shell Step Re
   pub none : session.kept ≡ []
 
 -- The bytes read have no fault, and those written are the journal of steps that the cache of the configuration accepts
--- one after another, each with its reply, from the empty state on. They are the walks of the accesses in the bytes read,
--- each by the worker whose turn it is.
+-- one after another, each with its reply, from the empty state on. They are the walks of the accesses in the bytes
+-- read, each by the worker whose turn it is.
 pub record IsDriven (config : Config) (workers : ℕ) (format : Format)
     (input before after : Option (List ℕ)) : Type 0 where
   pub faultless : IfSome input (λ bytes. fault_in format bytes ≡ None)

@@ -7,7 +7,8 @@ use Rattle.std.specs.Str.{bytes_eq}
 use Rattle.clap.specs.Words.{Text}
 use Rattle.step_record.specs.Job.{word_of}
 use Rattle.step_record.specs.declared.job.Policy.{Policy}
-use Rattle.step_record.specs.declared.job.Policy.TheVariants.{Lru, SegmentedLru, TinyLfuLru, TinyLfuSegmented, WindowTinyLfu, Clairvoyant}
+use Rattle.step_record.specs.declared.job.Policy.TheVariants.{Lru, SegmentedLru, TinyLfuLru, TinyLfuSegmented}
+use Rattle.step_record.specs.declared.job.Policy.TheVariants.{WindowTinyLfu, Clairvoyant}
 use Rattle.step_record.specs.declared.config.Spread.{Spread}
 use Rattle.step_record.specs.declared.config.Spread.TheVariants.{Mixed, Plain}
 use Rattle.trace_read.specs.Format.{word_of as format_word}

@@ -1,5 +1,6 @@
 -- What a parse of the words after the program's name gives.
-use Rattle.std.specs.Prelude.{◌≡◌, ◌⊎◌, ⊤, ℕ, List, [], Option, Some, None, Result, Ok, MatchResult, codes, string_bytes}
+use Rattle.std.specs.Prelude.{◌≡◌, ◌⊎◌, ⊤, ℕ, List, [], Option, Some, None, Result, Ok, MatchResult, codes}
+use Rattle.std.specs.Prelude.{string_bytes}
 use Rattle.clap.specs.Words.{HasKind, Row, Text, fault_of, first_of, subcommand_of}
 use Rattle.step_record.specs.Config.{config_fault}
 use Rattle.command_line.specs.Program.{AreLists, Lists, called, program_app}

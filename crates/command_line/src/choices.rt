@@ -2,7 +2,9 @@
 ghost use Rattle.std.specs.Prelude.{◌≡◌, find, option_map};
 ghost use Rattle.std.specs.Str.{bytes_eq};
 ghost use Rattle.step_record.specs.Job.{word_of};
-ghost use Rattle.command_line.specs.Choices.{AreWords, format_named as format_by, format_words, policy_named as policy_by, policy_words, spread_named as spread_by, spread_words};
+ghost use Rattle.command_line.specs.Choices.{AreWords, format_named as format_by, format_words};
+ghost use Rattle.command_line.specs.Choices.{policy_named as policy_by, policy_words, spread_named as spread_by};
+ghost use Rattle.command_line.specs.Choices.{spread_words};
 
 use step_record::{Policy, Spread};
 use trace_read::Format;

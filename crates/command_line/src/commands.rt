@@ -2,9 +2,12 @@
 ghost use Rattle.std.specs.Prelude.{◌≡◌, false, IfOk};
 ghost use Rattle.clap.specs.Words.{app_of, rule_of};
 ghost use Rattle.clap.specs.declared.builder.command.Command.TheViews.{out-Command};
-ghost use Rattle.command_line.specs.Program.{batch_rule, capacities_rule, capacity_rule, concurrent_app, configured_app, divided_app};
-ghost use Rattle.command_line.specs.Program.{debug_app, drive_app, file_rule, format_rule, limit_rule, paired_app, replay_app};
-ghost use Rattle.command_line.specs.Program.{main_rule, one_policy_rule, part_app, policy_rule, program_app, run_app, spread_rule};
+ghost use Rattle.command_line.specs.Program.{batch_rule, capacities_rule, capacity_rule, concurrent_app};
+ghost use Rattle.command_line.specs.Program.{configured_app, divided_app};
+ghost use Rattle.command_line.specs.Program.{debug_app, drive_app, file_rule, format_rule, limit_rule, paired_app};
+ghost use Rattle.command_line.specs.Program.{replay_app};
+ghost use Rattle.command_line.specs.Program.{main_rule, one_policy_rule, part_app, policy_rule, program_app, run_app};
+ghost use Rattle.command_line.specs.Program.{spread_rule};
 ghost use Rattle.command_line.specs.Program.{stripes_rule, sweep_app, workers_rule};
 
 use crate::choices::MIXED;

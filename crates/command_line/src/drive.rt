@@ -3,7 +3,8 @@ ghost use Rattle.std.specs.Prelude.{◌≡◌, Ok, IfSome, MatchResult};
 ghost use Rattle.clap.specs.Words.{found_of, rows_of};
 ghost use Rattle.step_record.specs.Config.{config_fault};
 ghost use Rattle.command_line.specs.Parsed.{IsDrive, LacksDrive};
-ghost use Rattle.command_line.specs.Program.{concurrent_in, max_number, number_in, stripes_from, stripes_in, workers_in};
+ghost use Rattle.command_line.specs.Program.{concurrent_in, max_number, number_in, stripes_from, stripes_in};
+ghost use Rattle.command_line.specs.Program.{workers_in};
 
 use crate::arguments::{config_named, format, number, small_number};
 use crate::fault::ParseFault;

@@ -6,8 +6,8 @@
 //! each of its calls, in order, both into the session and into its own list, or the beginning of such walks where a
 //! step was refused.
 //!
-//! `settle` finishes a maintenance under way by its holder's own steps, and `run_quiet` accesses keys with a whole round
-//! after each; both say which steps they added, and how many where they were cut off.
+//! `settle` finishes a maintenance under way by its holder's own steps, and `run_quiet` accesses keys with a whole
+//! round after each; both say which steps they added, and how many where they were cut off.
 #![tactic(auto)]
 
 #[cfg(test)]

@@ -1,5 +1,6 @@
 //! Accesses by one worker, with the maintenance finished after each.
-ghost use Rattle.std.specs.Prelude.{◌≡◌, ◌≤◌, ◌↔◌, ℕ, None, Some, Err, IsSome, IfOk, IfErr, OnOk, OnErr, length, ◌∷◌, ◌++◌, [], true, false, List};
+ghost use Rattle.std.specs.Prelude.{◌≡◌, ◌≤◌, ◌↔◌, ℕ, None, Some, Err, IsSome, IfOk, IfErr, OnOk, OnErr, length, ◌∷◌};
+ghost use Rattle.std.specs.Prelude.{◌++◌, [], true, false, List};
 ghost use Rattle.step_record.specs.declared.config.Config.{Config};
 ghost use Rattle.step_record.specs.declared.limits.TheConstants.{MAX_STRIPES};
 ghost use Rattle.step_record.specs.declared.outcome.Outcome.{Outcome};
@@ -12,7 +13,8 @@ ghost use Rattle.maintenance.specs.Opened.{IsOpened};
 ghost use Rattle.drive.specs.Walks.{Entries, IsRound, step_of};
 ghost use Rattle.drive.specs.Outcomes.{outcome_from};
 ghost use Rattle.drive.specs.Settle.{Adds, IsCause};
-ghost use Rattle.drive.specs.QuietWalks.{AreQuietWalks, BeginQuietWalks, FollowsQuietOffer, FollowsQuietPut, IsCallers, IsQuietOffer, IsQuietPut, IsQuietReport, IsQuietWalk, Stopped};
+ghost use Rattle.drive.specs.QuietWalks.{AreQuietWalks, BeginQuietWalks, FollowsQuietOffer, FollowsQuietPut, IsCallers};
+ghost use Rattle.drive.specs.QuietWalks.{IsQuietOffer, IsQuietPut, IsQuietReport, IsQuietWalk, Stopped};
 ghost use Rattle.drive.specs.QuietRuns.{GoesOn, IsPolicysRun};
 
 use super::local::Local;
@@ -50,7 +52,8 @@ pub fn run_quiet(
     ensures opening { session.new.opening ≡ session.old.opening }
     ensures limit { session.new.limit ≡ session.old.limit }
     // One walk for each key, in order, whose replies come to the outcomes; and no holder is left.
-    ensures ok { IfOk result (λ os. Adds (AreQuietWalks session.old.engine.config.stripes keys.now os.items) session.old session.new) }
+    ensures ok { IfOk result (λ os. Adds (AreQuietWalks session.old.engine.config.stripes keys.now os.items) session.old
+        session.new) }
     ensures none { OnOk result (session.new.engine.holder ≡ None) }
     // From a new cache the outcomes are those of W-TinyLFU, and the cache holds then what that
     // holds: the same keys in the same order in the three queues, and the same frequency.
@@ -124,10 +127,12 @@ fn quiet_key(
     requires none { session.old.engine.holder ≡ None }
     ensures opening { session.new.opening ≡ session.old.opening }
     ensures limit { session.new.limit ≡ session.old.limit }
-    ensures ok { IfOk result (λ o. Adds (λ es. IsQuietWalk stripes key es × (o ≡ outcome_from Kept es)) session.old session.new) }
+    ensures ok { IfOk result (λ o. Adds (λ es. IsQuietWalk stripes key es
+        × (o ≡ outcome_from Kept es)) session.old session.new) }
     ensures none { OnOk result (session.new.engine.holder ≡ None) }
     ensures stripes { length session.new.engine.stripes ≡ stripes }
-    ensures err { OnErr result (Adds (λ es. (rest : Entries) × IsQuietWalk stripes key (es ++ rest)) session.old session.new) }
+    ensures err { OnErr result (Adds (λ es. (rest : Entries)
+        × IsQuietWalk stripes key (es ++ rest)) session.old session.new) }
     ensures cause { IfErr result (λ f. IsCause f session.new) }
 {
     let outcome = announce(session, worker, stripes, key)?;
@@ -151,10 +156,12 @@ fn announce(
     requires some { 1 ≤ stripes }
     ensures opening { session.new.opening ≡ session.old.opening }
     ensures limit { session.new.limit ≡ session.old.limit }
-    ensures ok { IfOk result (λ o. Adds (λ es. ((rest : Entries) → IsRound 0 stripes rest → IsQuietWalk stripes key (es ++ rest)) × (o ≡ outcome_from Kept es)) session.old session.new) }
+    ensures ok { IfOk result (λ o. Adds (λ es. ((rest : Entries) → IsRound 0 stripes rest
+        → IsQuietWalk stripes key (es ++ rest)) × (o ≡ outcome_from Kept es)) session.old session.new) }
     ensures holder { session.new.engine.holder ≡ session.old.engine.holder }
     ensures stripes { length session.new.engine.stripes ≡ stripes }
-    ensures err { OnErr result (Adds (λ es. (rest : Entries) × IsQuietWalk stripes key (es ++ rest)) session.old session.new) }
+    ensures err { OnErr result (Adds (λ es. (rest : Entries)
+        × IsQuietWalk stripes key (es ++ rest)) session.old session.new) }
     ensures cause { IfErr result (λ f. IsCause f session.new) }
 {
     match make_own(session, worker, Act::Look { key })? {
@@ -182,10 +189,12 @@ fn offer(
     requires accepted { IsSome (perform worker (Act.Offer 0 item) session.old.engine) }
     ensures opening { session.new.opening ≡ session.old.opening }
     ensures limit { session.new.limit ≡ session.old.limit }
-    ensures ok { OnOk result (Adds (λ es. ((rest : Entries) → IsRound 0 stripes rest → IsQuietOffer stripes item (es ++ rest)) × ((o : Outcome) → outcome_from o es ≡ o)) session.old session.new) }
+    ensures ok { OnOk result (Adds (λ es. ((rest : Entries) → IsRound 0 stripes rest
+        → IsQuietOffer stripes item (es ++ rest)) × ((o : Outcome) → outcome_from o es ≡ o)) session.old session.new) }
     ensures holder { session.new.engine.holder ≡ session.old.engine.holder }
     ensures stripes { length session.new.engine.stripes ≡ length session.old.engine.stripes }
-    ensures err { OnErr result (Adds (λ es. (rest : Entries) × IsQuietOffer stripes item (es ++ rest)) session.old session.new) }
+    ensures err { OnErr result (Adds (λ es. (rest : Entries)
+        × IsQuietOffer stripes item (es ++ rest)) session.old session.new) }
     ensures cause { IfErr result (λ f. IsCause f session.new) }
 {
     let reply = make_own(session, worker, Act::Offer { stripe: 0, item })?;
@@ -211,10 +220,12 @@ fn put(session: &mut Session<Shell>, worker: Worker, stripes: u8, key: Key) -> R
     requires worker { worker ≡ 0 }
     ensures opening { session.new.opening ≡ session.old.opening }
     ensures limit { session.new.limit ≡ session.old.limit }
-    ensures ok { OnOk result (Adds (λ es. ((rest : Entries) → IsRound 0 stripes rest → IsQuietPut stripes key (es ++ rest)) × ((o : Outcome) → outcome_from o es ≡ o)) session.old session.new) }
+    ensures ok { OnOk result (Adds (λ es. ((rest : Entries) → IsRound 0 stripes rest
+        → IsQuietPut stripes key (es ++ rest)) × ((o : Outcome) → outcome_from o es ≡ o)) session.old session.new) }
     ensures holder { session.new.engine.holder ≡ session.old.engine.holder }
     ensures stripes { length session.new.engine.stripes ≡ length session.old.engine.stripes }
-    ensures err { OnErr result (Adds (λ es. (rest : Entries) × IsQuietPut stripes key (es ++ rest)) session.old session.new) }
+    ensures err { OnErr result (Adds (λ es. (rest : Entries)
+        × IsQuietPut stripes key (es ++ rest)) session.old session.new) }
     ensures cause { IfErr result (λ f. IsCause f session.new) }
 {
     let reply = make_own(session, worker, Act::Put { key })?;
@@ -228,7 +239,8 @@ fn put(session: &mut Session<Shell>, worker: Worker, stripes: u8, key: Key) -> R
 // Whether a put found room in the write queue.
 fn is_queued(key: Key, reply: Reply) -> bool
     requires { is_answer (Act.Put key) reply ≡ true }
-    ensures queued { result ≡ true → (n : ℕ) (es : Entries) → IsQuietReport n Act.AfterWrite es → FollowsQuietPut n reply es }
+    ensures queued { result ≡ true → (n : ℕ) (es : Entries) → IsQuietReport n Act.AfterWrite es
+        → FollowsQuietPut n reply es }
     ensures full { result ≡ false → (n : ℕ) (es : Entries) → IsRound 0 n es → FollowsQuietPut n reply es }
 {
     match reply {
@@ -245,7 +257,8 @@ fn make_own(session: &mut Session<Shell>, worker: Worker, act: Act) -> Result<Re
     requires own { IsCallers act }
     ensures opening { session.new.opening ≡ session.old.opening }
     ensures limit { session.new.limit ≡ session.old.limit }
-    ensures ok { IfOk result (λ r. Adds (λ es. es ≡ record { step = step_of worker act; reply = r } ∷ []) session.old session.new) }
+    ensures ok { IfOk result (λ r. Adds (λ es. es ≡ record { step = step_of worker act; reply = r } ∷ []) session.old
+        session.new) }
     ensures answer { IfOk result (λ r. is_answer act r ≡ true) }
     ensures accepted { IfOk result (λ r. acted session.old.engine (step_of worker act) ≡ Some (r, session.new.engine)) }
     ensures holder { session.new.engine.holder ≡ session.old.engine.holder }

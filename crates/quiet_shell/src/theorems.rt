@@ -1,4 +1,4 @@
-//! Theorems on the concurrent cache's moves. Each of these functions does nothing: its contract is the theorem.
+//! What the table of moves goes by. The function does nothing: its contract is the theorem.
 ghost use Rattle.quiet_shell.specs.Nodes.{AccessesAgree};
 
 /// Nodes aside, the policies' table of moves goes by keys alone: where each key has one item, an access over the keys

@@ -17,10 +17,11 @@ use policies::{Lru, WindowTinyLfu, lru_stands, queues_stand};
 pub use reports::{BothWays, capacities_both_ways, jobs_both_ways};
 use step_record::{Key, Outcome, Policy};
 
-/// One access to an Lru cache in a session. For every list of accesses that the cache made, the outcome is the one that the
-/// last distinct keys give, and the cache then made that list with the key at its end.
+/// One access to an Lru cache in a session. For every list of accesses that the cache made, the outcome is the one that
+/// the last distinct keys give, and the cache then made that list with the key at its end.
 pub fn lru_access(session: &mut Session<Lru>, key: Key) -> Result<Outcome, SessionFault>
-    ensures { (c : Config) (keys : List ℕ) → StandsFor record { policy = Policy.Lru; config = c } keys session.old.engine →
+    ensures { (c : Config) (keys : List ℕ) → StandsFor
+        record { policy = Policy.Lru; config = c } keys session.old.engine →
         IfOk result (λ r. (r ≡ outcome c.capacity keys key)
         × StandsFor record { policy = Policy.Lru; config = c } (keys ++ key ∷ []) session.new.engine) }
 {
@@ -30,8 +31,8 @@ pub fn lru_access(session: &mut Session<Lru>, key: Key) -> Result<Outcome, Sessi
     Ok(outcome)
 }
 
-/// How many words the undo records of a session over WindowTinyLfu hold: those of one halving for each halving since the
-/// session was opened, and these are at most one, and one more in each five times the capacity of steps.
+/// How many words the undo records of a session over WindowTinyLfu hold: those of one halving for each halving since
+/// the session was opened, and these are at most one, and one more in each five times the capacity of steps.
 pub fn words_held(session: &Session<WindowTinyLfu>) -> u64
     ensures { (f g : FrequencyData) → session.now.opening.frequency ≡ Some f → session.now.engine.frequency ≡ Some g →
         (result ≡ (g.halvings - f.halvings) * halving_words f)

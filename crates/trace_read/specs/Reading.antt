@@ -8,7 +8,8 @@ use Rattle.trace_read.specs.declared.format.Format.{Format}
 use Rattle.trace_read.specs.LineFault.{LineFault}
 use Rattle.trace_read.specs.LineFault as line
 use Rattle.trace_read.specs.declared.fault.TraceFault.{TraceFault}
-use Rattle.trace_read.specs.declared.fault.TraceFault.TheVariants.{OutOfMemory, BadNumber, MissingField, Range, TooLong, TooLarge, Read}
+use Rattle.trace_read.specs.declared.fault.TraceFault.TheVariants.{OutOfMemory, BadNumber, MissingField, Range, TooLong}
+use Rattle.trace_read.specs.declared.fault.TraceFault.TheVariants.{TooLarge, Read}
 
 -- the pieces between line feeds
 abbrev pub lines_of : List ℕ → List (List ℕ)

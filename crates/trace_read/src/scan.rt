@@ -1,5 +1,6 @@
 //! The lines of a trace file, one after another, as its bytes come in.
-ghost use Rattle.std.specs.Prelude.{◌≡◌, ◌≤◌, ◌<◌, ◌+◌, ◌-◌, ◌^◌, ◌∷◌, ◌++◌, ◌⊎◌, ℕ, List, [], Some, None, Ok, OnOk, IfOk, IfErr, IfSome, MatchOption, length, take, vec_len};
+ghost use Rattle.std.specs.Prelude.{◌≡◌, ◌≤◌, ◌<◌, ◌+◌, ◌-◌, ◌^◌, ◌∷◌, ◌++◌, ◌⊎◌, ℕ, List, [], Some, None, Ok, OnOk};
+ghost use Rattle.std.specs.Prelude.{IfOk, IfErr, IfSome, MatchOption, length, take, vec_len};
 ghost use Rattle.trace_read.specs.Lines.{line_of};
 ghost use Rattle.step_record.specs.declared.limits.TheConstants.{MAX_ACCESSES};
 ghost use Rattle.trace_read.specs.Reading.{fault_in, keys_in, IsOfLine, IsRead, IsRefused, IsStopped};

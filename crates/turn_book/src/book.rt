@@ -1,13 +1,15 @@
 //! The book: a table of two words and one slot. Word 0 is the next ticket, word 1 the ticket whose turn it is, and
 //! the slot has the value between two turns.
-ghost use Rattle.std.specs.Prelude.{◌≡◌, ◌≤◌, ◌<◌, ◌+◌, ◌∷◌, ◌++◌, List, map, length, vec_len, vec_capacity, [], IfOk, IfErr, OnOk};
+ghost use Rattle.std.specs.Prelude.{◌≡◌, ◌≤◌, ◌<◌, ◌+◌, ◌∷◌, ◌++◌, List, map, length, vec_len, vec_capacity, [], IfOk};
+ghost use Rattle.std.specs.Prelude.{IfErr, OnOk};
 ghost use Rattle.atomic_table.specs.Table.{Me};
 ghost use Rattle.step_record.specs.declared.worker.TheConstants.{MAX_WORKERS};
 ghost use Rattle.turn_book.specs.declared.book.TheConstants.{MAX_TURNS};
 ghost use Rattle.turn_book.specs.Faults.{value_in, IsCause};
 ghost use Rattle.turn_book.specs.Passes.{book_id, id_of, InOrder, Takes, Gives, Ends};
 ghost use Rattle.turn_book.specs.Seats.{IsBoard, part_of, pass_view, pass_in, IsPassAt};
-ghost use Rattle.turn_book.specs.Turns.{Adds, Every, IsPass, Draws, Waits, Comes, Rests, Cuts, left_of, right_of, parts_from, beginner};
+ghost use Rattle.turn_book.specs.Turns.{Adds, Every, IsPass, Draws, Waits, Comes, Rests, Cuts, left_of, right_of};
+ghost use Rattle.turn_book.specs.Turns.{parts_from, beginner};
 
 use crate::fault::OpenFault;
 use crate::pass::{Pass, Turn};
@@ -42,7 +44,12 @@ impl<T: Kept> Model for TurnBook<T> {
 
     ghost Value = { BookState T };
 
-    ghost view = { λ b. record { table = b.table.shared.table_id; opening = b.table.shared.key.opening.value; workers = b.table.shared.key.workers; turns = b.turns } };
+    ghost view = { λ b. record {
+      table = b.table.shared.table_id;
+      opening = b.table.shared.key.opening.value;
+      workers = b.table.shared.key.workers;
+      turns = b.turns;
+    } };
 
     ghost invariant = { λ b. IsBoard b.table.shared.table_id b.table.shared.key.workers × (b.turns ≤ 4294967296) };
 }
@@ -62,7 +69,8 @@ impl<T: Kept> TurnBook<T> {
         ensures opens { IfOk result (λ r. (r.0.opening ≡ value) × (r.0.workers ≡ workers) × (r.0.turns ≡ turns)) }
         ensures own { IfOk result (λ r. Every (λ p. p.book ≡ id_of r.0) r.1.items) }
         ensures all { IfOk result (λ r. InOrder 0 r.1.items × (length r.1.items ≡ workers) × (vec_len r.1 ≡ workers)) }
-        ensures fresh { IfOk result (λ r. Every (λ p. (p.own ≡ []) × (p.last ≡ T.entries value) × (p.draws ≡ 0)) r.1.items) }
+        ensures fresh { IfOk result (λ r. Every (λ p. (p.own ≡ []) × (p.last ≡ T.entries value)
+            × (p.draws ≡ 0)) r.1.items) }
         ensures accepted { OnOk result ((1 ≤ workers) × (workers ≤ MAX_WORKERS) × (1 ≤ turns) × (turns ≤ MAX_TURNS)) }
         ensures cause { IfErr result (λ f. IsCause f workers turns) }
         ensures returned { IfErr result (λ f. value_in f ≡ value) }
@@ -117,7 +125,8 @@ impl<T: Kept> TurnBook<T> {
     /// taken, and the same entries or one more, of this worker, at their end; the pass's own list gains just that.
     pub fn give(&self, turn: Turn<T>) -> Pass<T>
         requires own { turn.pass.book ≡ id_of self.now }
-        requires leaves { (made : List T.Entry) × Adds T.origin T.entries T.worker_of turn.pass.worker turn.taken turn.value made }
+        requires leaves { (made : List T.Entry) × Adds T.origin T.entries T.worker_of turn.pass.worker turn.taken
+            turn.value made }
         ensures gave { Gives T.origin T.entries T.worker_of turn result }
     {
         let Turn {
@@ -153,8 +162,10 @@ impl<T: Kept> TurnBook<T> {
 
 // Makes the table. Where the allocation fails, the value comes back.
 fn lay<T: Kept>(alloc: Global, value: T, workers: u8) -> Result<(Board<T>, Place<T>), T>
-    ensures counts { IfOk result (λ r. (r.0.shared.table_id.words ≡ 2) × (r.0.shared.table_id.slots ≡ 1) × (r.0.shared.key.workers ≡ workers) × (r.0.shared.key.opening.value ≡ value)) }
-    ensures seat { IfOk result (λ r. (r.1.table_id ≡ r.0.shared.table_id) × (r.1.me ≡ (beginner T.origin T.entries T.worker_of value workers, []))) }
+    ensures counts { IfOk result (λ r. (r.0.shared.table_id.words ≡ 2) × (r.0.shared.table_id.slots ≡ 1)
+        × (r.0.shared.key.workers ≡ workers) × (r.0.shared.key.opening.value ≡ value)) }
+    ensures seat { IfOk result (λ r. (r.1.table_id ≡ r.0.shared.table_id)
+        × (r.1.me ≡ (beginner T.origin T.entries T.worker_of value workers, []))) }
     ensures back { IfErr result (λ v. v ≡ value) }
 {
     let terms = Terms {
@@ -265,7 +276,8 @@ fn add<T: Kept>(passes: &mut Vec<Pass<T>>, pass: Pass<T>)
 fn gather<T: Kept>(board: &Board<T>, mut passes: Vec<Pass<T>>) -> Place<T>
     requires board { IsBoard board.now.shared.table_id board.now.shared.key.workers }
     requires some { 0 < vec_len passes }
-    requires own { Every (λ p. p.book ≡ book_id board.now.shared.table_id board.now.shared.key.opening.value) passes.items }
+    requires own { Every (λ p. p.book ≡ book_id board.now.shared.table_id board.now.shared.key.opening.value)
+        passes.items }
     ensures same { result.table_id ≡ board.now.shared.table_id }
     ensures parts { Rests result.me (map part_of passes.items) result.me.0.last }
 {

@@ -69,11 +69,14 @@ fn write_all<G: Gate, R: Threads + Wait + Sync>(
     let (others, own) = thread::join(
         rt,
         move || -> Result<(Vec<Pass<Log>>, Vec<Vec<Line>>), AllocError>
-            requires { IsSync R.row × IsSync G.row × Every (IsFresh (id_of book.now)) passes.items × InOrder 0 passes.items × (vec_len passes ≤ MAX_WORKERS) × (lines ≤ book.now.turns) }
-            ensures { IfOk result (λ r. WroteAll (id_of book.entry.now) lines 0 r.0.items r.1.items × (vec_len r.0 ≡ vec_len passes)) }
+            requires { IsSync R.row × IsSync G.row × Every (IsFresh (id_of book.now)) passes.items
+                × InOrder 0 passes.items × (vec_len passes ≤ MAX_WORKERS) × (lines ≤ book.now.turns) }
+            ensures { IfOk result (λ r. WroteAll (id_of book.entry.now) lines 0 r.0.items r.1.items
+                × (vec_len r.0 ≡ vec_len passes)) }
         { write_all(rt, alloc, gate, book, passes, lines) },
         move || -> Result<(Pass<Log>, Vec<Line>), AllocError>
-            requires { IsSync R.row × IsSync G.row × IsFresh (id_of book.now) pass × (pass.worker ≡ worker) × (lines ≤ book.now.turns) }
+            requires { IsSync R.row × IsSync G.row × IsFresh (id_of book.now) pass × (pass.worker ≡ worker)
+                × (lines ≤ book.now.turns) }
             ensures { IfOk result (λ r. Wrote (id_of book.entry.now) lines worker r.0 r.1) }
         { write_own(rt, alloc, gate, book, pass, worker, lines) },
     );
