@@ -10,6 +10,7 @@ use std::test::Fail;
 use std::thread::Threads;
 
 /// One file, at the path `file`.
+#[derive(Drop)]
 struct Shelf<'a> {
     text: &'a str,
 }
