@@ -4,15 +4,17 @@ use Rattle.std.proofs.KnownBytes.{Appends-trans, Consumes-trans}
 use Rattle.std.proofs.lemmas.Bool.{cond-true, cond-false, eqb-true, lt-ltb, le-ltb}
 use Rattle.std.proofs.lemmas.List.{append-nil}
 use Rattle.std.proofs.lemmas.List.Elements.{All-head, All-tail, All-push}
-use Rattle.std.proofs.lemmas.List.Splits.{slice_split_at, slice_split_none, slice_split-cons_no, length-slice_split}
+use Rattle.std.proofs.lemmas.List.Splits.{slice_split-cons_no}
 use Rattle.std.specs.Io.KnownBytes.{Appends, Consumes, IsAtEnd}
 use Rattle.std.specs.List.{onto_first}
 use Rattle.std.specs.Prelude.{IfSome}
 use Rattle.debug_commands.specs.Answering.{IsAnswer}
 use Rattle.debug_commands.specs.Answers.{Place, Response, answer_to, response_to}
 use Rattle.debug_commands.specs.Commands.{line_of}
-use Rattle.debug_commands.specs.Dialogue.{Dialogue, answers, dialogue_from, dialogue_of, ends, is_quit, lines_of, IsHeld}
-use Rattle.debug_commands.specs.Reading.{feed, HasNoFeed, IsTooLarge}
+use Rattle.debug_commands.specs.Dialogue.{Dialogue, answers, dialogue_from, dialogue_of, ends, is_quit, IsHeld}
+use Rattle.debug_commands.specs.Reading.{feed, IsTooLarge}
+use Rattle.text_lines.proofs.Feeds.{has_lines, lines_fed, one_unfed}
+use Rattle.text_lines.specs.Feeds.{lines_of, HasNoFeed}
 use Rattle.debug_commands.specs.Timeline.{TimelineData}
 use Rattle.debug_commands.specs.declared.breakpoint.Breakpoint.{Breakpoint}
 use Rattle.debug_commands.specs.declared.command.Command.TheVariants as command
@@ -29,15 +31,6 @@ behind_behind : (w v : List ℕ) (d : Dialogue) → behind w (behind v d) ≡ be
 behind_behind w v d = ap (λ t. record { text = t; at = d.at; fits = d.fits }) (sym (append_assoc w v d.text))
 
 -- ---- the first line
-
-lines_fed : (l bytes : List ℕ) → HasNoFeed l → lines_of ((l ++ 10 ∷ []) ++ bytes) ≡ l ∷ lines_of bytes
-lines_fed l bytes h = ap lines_of (append_assoc l (10 ∷ []) bytes) ∙ slice_split_at (λ b. b == 10) l 10 bytes h refl
-
-has_lines : (bytes : List ℕ) → lines_of bytes ≡ [] → ⊥
-has_lines bytes e =
-    let some = length-slice_split (λ b. b == 10) bytes in
-    let none : length (lines_of bytes) ≡ 0 = ap length e in
-    omega (arith, some, none)
 
 module _ (t : TimelineData) where
   fed_step : (room : ℕ) (l : List ℕ) (ls : List (List ℕ)) (p : Place) → (ls ≡ [] → ⊥) → length l + 1 ≤ room → is_quit (line_of t.dialect l) ≡ false
@@ -161,7 +154,7 @@ ends_at_last t first p room less given left rest had has more l text at breaks a
     let r = answer_to t p (line_of t.dialect l) in
     let is : dialogue_from t room (lines_of ((l ++ []) ++ [])) p ≡ d =
     ap (λ b. dialogue_from t room (lines_of b) p) (append-nil (l ++ []) ∙ append-nil l)
-    ∙ ap (λ ls. dialogue_from t room ls p) (slice_split_none (λ b. b == 10) l feeds)
+    ∙ ap (λ ls. dialogue_from t room ls p) (one_unfed l feeds)
     ∙ last_step t room l p (omega (arith, e))
     ∙ ap (λ x. record { text = x; at = r.place.at; fits = true }) (append-nil r.text ∙ sym answer.text)
     ∙ ap (λ x. record { text = text; at = x; fits = true }) (sym answer.at) in

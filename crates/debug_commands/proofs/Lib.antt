@@ -1,4 +1,3 @@
-pub mod Trims
 pub mod Stops
 pub mod OneByte
 pub mod Ahead

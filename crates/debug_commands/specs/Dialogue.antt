@@ -1,8 +1,8 @@
 -- What the debugger writes for the bytes of its input, line by line up to `quit`, the end, or a line that is too large.
-use Rattle.std.specs.Prelude.{◌≡◌, ℕ, ◌+◌, ◌-◌, ◌==◌, nat_lt, Bool, true, false, if◌then◌else◌, Option, List, [], ◌∷◌}
+use Rattle.std.specs.Prelude.{◌≡◌, ℕ, ◌+◌, ◌-◌, nat_lt, Bool, true, false, if◌then◌else◌, Option, List, [], ◌∷◌}
 use Rattle.std.specs.Prelude.{◌++◌, length}
 use Rattle.std.specs.Io.KnownBytes.{Appends}
-use Rattle.std.specs.List.{slice_split}
+use Rattle.text_lines.specs.Feeds.{lines_of}
 use Rattle.debug_commands.specs.Answers.{Place, Response, answer_to}
 use Rattle.debug_commands.specs.Commands.{line_of}
 use Rattle.debug_commands.specs.Timeline.{TimelineData}
@@ -10,10 +10,6 @@ use Rattle.debug_commands.specs.declared.command.Command.TheVariants.{Quit}
 use Rattle.debug_commands.specs.declared.command.Line.{Line}
 use Rattle.debug_commands.specs.declared.command.Line.TheVariants.{Known}
 use Rattle.debug_commands.specs.declared.lines.TheConstants.{MAX_COMMAND_BYTES}
-
--- the pieces between line feeds (10)
-abbrev pub lines_of : List ℕ → List (List ℕ)
-lines_of bytes = slice_split (λ b. b == 10) bytes
 
 abbrev pub is_quit : Line → Bool
 is_quit (Known Quit) = true

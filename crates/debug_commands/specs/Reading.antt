@@ -1,11 +1,7 @@
 -- One line of the input, as it is read.
-use Rattle.std.specs.Prelude.{◌≡◌, ℕ, ◌==◌, Bool, true, false, Option, List, [], ◌∷◌, ◌++◌, length}
+use Rattle.std.specs.Prelude.{◌≡◌, ℕ, Bool, true, false, Option, List, [], ◌∷◌, ◌++◌, length}
 use Rattle.std.specs.Io.KnownBytes.{Consumes}
-use Rattle.std.specs.List.{All}
-
--- no line feed (10) is among the bytes
-abbrev pub HasNoFeed : List ℕ → Type 0
-HasNoFeed = All (λ b. (b == 10) ≡ false)
+use Rattle.text_lines.specs.Feeds.{HasNoFeed}
 
 -- the line feed, where the line has one
 abbrev pub feed : Bool → List ℕ

@@ -3,11 +3,11 @@ ghost use Rattle.std.specs.Prelude.{◌≡◌};
 ghost use Rattle.debug_commands.specs.Commands.{command_at, command_in, line_in, line_of, point_at, with_rest};
 ghost use Rattle.debug_commands.specs.Words.{words_in};
 
-use crate::blanks::trimmed;
 use crate::breakpoint::Breakpoint;
 use crate::command::{Command, Dialect, Line};
 use crate::name::Name;
 use crate::words::Words;
+use text_lines::trimmed;
 
 /// What a line says, which is given without its line feed.
 pub fn line(dialect: Dialect, text: &[u8]) -> Line

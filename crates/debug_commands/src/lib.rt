@@ -8,7 +8,6 @@
 #![tactic(auto)]
 
 mod answers;
-mod blanks;
 mod breakpoint;
 mod command;
 mod dialogue;

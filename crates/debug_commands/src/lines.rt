@@ -1,7 +1,8 @@
 //! The lines of the input, read one at a time.
 ghost use Rattle.std.specs.Prelude.{◌≡◌, ◌≤◌, ◌+◌, ◌++◌, ℕ, [], Ok, Err, IfOk, OnOk, length, vec_len, false};
 ghost use Rattle.std.specs.Io.KnownBytes.{Consumes, IsAtEnd};
-ghost use Rattle.debug_commands.specs.Reading.{feed, HasNoFeed, IsTooLarge};
+ghost use Rattle.debug_commands.specs.Reading.{feed, IsTooLarge};
+ghost use Rattle.text_lines.specs.Feeds.{HasNoFeed};
 
 use crate::fault::DebugFault;
 use std::io::Read;

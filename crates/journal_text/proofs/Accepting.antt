@@ -4,7 +4,7 @@ use Rattle.std.proofs.lemmas.List.{append-nil, append_cancel_left}
 use Rattle.std.proofs.lemmas.List.Elements.{All-head, All-tail}
 use Rattle.std.specs.List.{flat_map}
 use Rattle.std.specs.Prelude.{IfErr, OnOk}
-use Rattle.journal_text.specs.Faults.{Accepts, IsAtLine, IsFault, IsWrong, Lacks10}
+use Rattle.journal_text.specs.Faults.{Accepts, IsAtLine, IsFault, IsWrong}
 use Rattle.journal_text.specs.Journal.{begun, closing, ended, entry_line, header, journal_of, AreLines, Entries, IsJournal, IsTextOf}
 use Rattle.journal_text.specs.declared.reader.TheConstants.{MAX_JOURNAL_BYTES}
 use Rattle.journal_text.specs.Table.{text_of, IsLine}
@@ -19,6 +19,7 @@ use Rattle.step_record.specs.History.{after, went, IsLegal}
 use Rattle.step_record.specs.declared.entry.Entry.{Entry}
 use Rattle.step_record.specs.declared.step.Reply.{Reply}
 use Rattle.step_record.specs.declared.step.Step.{Step}
+use Rattle.text_lines.specs.Feeds.{HasNoFeed}
 
 -- what stands behind the lines of the first entries
 record Rest (v : Version) (n : ℕ) (es fs : Entries) (z : List ℕ) : Type 0 where
@@ -57,12 +58,12 @@ data Next (v : Version) (n : ℕ) (es fs : Entries) (text : List ℕ) : Type 0 w
   Closes : v ≡ Two → es ≡ fs → text ≡ text_of (Steps n) → Next v n es fs text
   Goes : (g : Entry Step Reply) (gs : Entries) → es ≡ fs ++ g ∷ gs → IsLine v (Made g) → text ≡ text_of (Made g) → Next v n es fs text
 
-next_none : (v : Version) (n : ℕ) (es fs : Entries) (text more : List ℕ) → n < 2 ^ 64 → Lacks10 text → es ≡ fs → ended text ++ more ≡ closing v n → Next v n es fs text
+next_none : (v : Version) (n : ℕ) (es fs : Entries) (text more : List ℕ) → n < 2 ^ 64 → HasNoFeed text → es ≡ fs → ended text ++ more ≡ closing v n → Next v n es fs text
 next_none One n es fs text more h k same e = absurd (nothing_ended text more (sym e))
 next_none Two n es fs text more h k same e =
     Closes refl same (same_line text (text_of (Steps n)) more [] k (line_lacks Two (Steps n) (count_line n h)) (e ∙ sym (append-nil (ended (text_of (Steps n)))))).0
 
-next_of : (v : Version) (n : ℕ) (es fs : Entries) (text more : List ℕ) (gs : Entries) → n < 2 ^ 64 → Lacks10 text → AreLines v gs → es ≡ fs ++ gs
+next_of : (v : Version) (n : ℕ) (es fs : Entries) (text more : List ℕ) (gs : Entries) → n < 2 ^ 64 → HasNoFeed text → AreLines v gs → es ≡ fs ++ gs
     → ended text ++ more ≡ flat_map entry_line gs ++ closing v n → Next v n es fs text
 next_of v n es fs text more [] h k l w e = next_none v n es fs text more h k (w ∙ append-nil fs) e
 next_of v n es fs text more (g ∷ gs) h k l w e =
@@ -93,7 +94,7 @@ past_count m n (g ∷ gs) more hm hn l e =
     (e ∙ append_assoc (entry_line g) (flat_map entry_line gs) (closing Two n))).0 in
     absurd (cc)
 
-cut_short : (v : Version) (n : ℕ) (gs : Entries) (rest : List ℕ) → n < 2 ^ 64 → AreLines v gs → Lacks10 rest → (v ≡ One → 0 < length rest)
+cut_short : (v : Version) (n : ℕ) (gs : Entries) (rest : List ℕ) → n < 2 ^ 64 → AreLines v gs → HasNoFeed rest → (v ≡ One → 0 < length rest)
     → rest ≡ flat_map entry_line gs ++ closing v n → ⊥
 cut_short One n [] rest h l k some e =
     let none : length rest ≡ 0 = ap length e in

@@ -2,10 +2,8 @@
 use Rattle.std.proofs.Common.{◌≡◌, ◌≢◌, ◌∙◌, ◌<◌, ◌+◌, ◌==◌, inl, inr, ℕ, Bool, true, false, List, [], ◌∷◌, ◌++◌, length, ap, sym, refl, subst, arith, Option, Result, Ok, Err, append_assoc}
 use Rattle.std.proofs.lemmas.List.Elements.{All-from_recursion, All-push}
 use Rattle.std.proofs.lemmas.List.{append-nil, flat_map_more}
-use Rattle.std.proofs.lemmas.List.Splits.{length-slice_split, slice_split_at, slice_split_none}
-use Rattle.std.specs.List.{slice_split}
 use Rattle.std.specs.Prelude.{IfErr, IsErrAnd, OnOk}
-use Rattle.journal_text.specs.Faults.{IsFault, IsUnread, IsWrong, Lacks10, Took}
+use Rattle.journal_text.specs.Faults.{IsFault, IsUnread, IsWrong, Took}
 use Rattle.journal_text.specs.Journal.{begun, ended, entry_line, header, journal_of, AreLines, Entries, IsTextOf}
 use Rattle.journal_text.specs.Table.{text_of, IsLine}
 use Rattle.journal_text.specs.declared.fault.JournalFault.{JournalFault}
@@ -16,6 +14,8 @@ use Rattle.journal_text.specs.declared.version.Version.TheVariants.{One, Two}
 use Rattle.step_record.specs.declared.entry.Entry.{Entry}
 use Rattle.step_record.specs.declared.step.Reply.{Reply}
 use Rattle.step_record.specs.declared.step.Step.{Step}
+use Rattle.text_lines.proofs.Feeds.{has_lines, lines_fed, one_unfed}
+use Rattle.text_lines.specs.Feeds.{lines_of, HasNoFeed}
 
 pub begun_none : (v : Version) → begun v [] ≡ ended (header v)
 unfolding begun
@@ -25,29 +25,20 @@ pub begun_more : (v : Version) (es : Entries) (e : Entry Step Reply) → begun v
 unfolding begun
 begun_more v es e = sym (flat_map_more entry_line (ended (header v)) es e)
 
-first_part : (a more : List ℕ) → Lacks10 a → slice_split (λ b. b == 10) (ended a ++ more) ≡ a ∷ slice_split (λ b. b == 10) more
-first_part a more h = ap (slice_split (λ b. b == 10)) (append_assoc a (10 ∷ []) more) ∙ slice_split_at (λ b. b == 10) a 10 more h refl
-
 -- the first line is one line
-pub same_line : (a b x y : List ℕ) → Lacks10 a → Lacks10 b → ended a ++ x ≡ ended b ++ y → (a ≡ b) × (slice_split (λ b. b == 10) x ≡ slice_split (λ b. b == 10) y)
+pub same_line : (a b x y : List ℕ) → HasNoFeed a → HasNoFeed b → ended a ++ x ≡ ended b ++ y → (a ≡ b) × (lines_of x ≡ lines_of y)
 same_line a b x y h k e =
-    let both : a ∷ slice_split (λ b. b == 10) x ≡ b ∷ slice_split (λ b. b == 10) y = sym (first_part a x h) ∙ ap (slice_split (λ b. b == 10)) e ∙ first_part b y k in
+    let both : a ∷ lines_of x ≡ b ∷ lines_of y = sym (lines_fed a x h) ∙ ap lines_of e ∙ lines_fed b y k in
     (cc, cc)
 
-not_none : (y : List ℕ) → [] ≢ slice_split (λ b. b == 10) y
-not_none y h =
-    let count = length-slice_split (λ b. b == 10) y in
-    let none : 0 ≡ length (slice_split (λ b. b == 10) y) = ap length h in
-    omega arith
-
 -- a text without a line feed has no line that ended
-pub no_line : (a b y : List ℕ) → Lacks10 a → Lacks10 b → a ≢ ended b ++ y
+pub no_line : (a b y : List ℕ) → HasNoFeed a → HasNoFeed b → a ≢ ended b ++ y
 no_line a b y h k e =
-    let both : a ∷ [] ≡ b ∷ slice_split (λ b. b == 10) y = sym (slice_split_none (λ b. b == 10) a h) ∙ ap (slice_split (λ b. b == 10)) e ∙ first_part b y k in
-    let none : [] ≡ slice_split (λ b. b == 10) y = cc in
-    not_none y none
+    let both : a ∷ [] ≡ b ∷ lines_of y = sym (one_unfed a h) ∙ ap lines_of e ∙ lines_fed b y k in
+    let none : [] ≡ lines_of y = cc in
+    has_lines y (sym none)
 
-pub header_lacks : (v : Version) → Lacks10 (header v)
+pub header_lacks : (v : Version) → HasNoFeed (header v)
 header_lacks One = All-from_recursion (λ b. (b == 10) ≡ false) (header One) (refl, (refl, (refl, (refl, (refl, (refl, (refl, (refl, (refl, (refl, (refl, (refl, (refl, (refl, (refl, (refl, (refl, (refl, tt))))))))))))))))))
 header_lacks Two = All-from_recursion (λ b. (b == 10) ≡ false) (header Two) (refl, (refl, (refl, (refl, (refl, (refl, (refl, (refl, (refl, (refl, (refl, (refl, (refl, (refl, (refl, (refl, (refl, (refl, tt))))))))))))))))))
 
@@ -92,7 +83,7 @@ errs (Err y) e P h p = subst P (sym h) p
 module _ {D : Type 0} (act : D → Step → Option (Reply × D)) (x : D) (limit : ℕ) where
   -- a line that is wrong is the fault of the text
   pub wrong_line : (f : JournalFault) (v : Version) (es : Entries) (text rest behind whole : List ℕ) (kept : Entries) → AreLines v es
-      → begun v es ++ rest ≡ whole → rest ≡ ended text ++ behind → Lacks10 text → IsWrong act x limit f v es text kept → IsFault act x limit f whole kept
+      → begun v es ++ rest ≡ whole → rest ≡ ended text ++ behind → HasNoFeed text → IsWrong act x limit f v es text kept → IsFault act x limit f whole kept
   wrong_line fault.OutOfMemory v es text rest behind whole kept lines before line lacks wrong =
       inr (v, rest, sym before ∙ ap (λ k. begun v k ++ rest) (sym wrong))
   wrong_line (fault.Line n) v es text rest behind whole kept lines before line lacks wrong =
@@ -151,7 +142,7 @@ module _ {D : Type 0} (act : D → Step → Option (Reply × D)) (x : D) (limit 
       record { version = One; lines = subst (λ w. AreLines w kept) h.0 lines; text = sym text ∙ ap (λ b. begun v kept ++ b) h.1 ∙ ap (λ w. begun w kept ++ []) h.0 }
   stopped_ok (Err f) v whole rest kept lines text h = tt
 
-  pub stopped_err : {T : Type 0} (r : Result T JournalFault) (v : Version) (whole rest : List ℕ) (kept : Entries) → AreLines v kept → begun v kept ++ rest ≡ whole → Lacks10 rest
+  pub stopped_err : {T : Type 0} (r : Result T JournalFault) (v : Version) (whole rest : List ℕ) (kept : Entries) → AreLines v kept → begun v kept ++ rest ≡ whole → HasNoFeed rest
       → IfErr r (λ f. (f ≡ fault.Unended) × (v ≡ One → 0 < length rest)) → IfErr r (λ f. IsFault act x limit f whole kept)
   stopped_err (Ok u) v whole rest kept lines text lacks h = tt
   stopped_err (Err f) v whole rest kept lines text lacks h =

@@ -3,7 +3,6 @@ use Rattle.std.proofs.Common.{◌≡◌, ◌≢◌, ◌∙◌, ◌<◌, ◌^◌,
 use Rattle.std.proofs.lemmas.List.{append-nil, append_cancel_left}
 use Rattle.std.proofs.lemmas.List.Elements.{All-head, All-tail}
 use Rattle.std.specs.List.{flat_map}
-use Rattle.journal_text.specs.Faults.{Lacks10}
 use Rattle.journal_text.specs.Journal.{begun, closing, ended, entry_line, header, journal_of, AreLines, Entries}
 use Rattle.journal_text.specs.Reading.{line_in}
 use Rattle.journal_text.specs.Table.{text_of, IsLine}
@@ -18,6 +17,7 @@ use Rattle.journal_text.proofs.LineLaws.{line_again, spelled_lacks}
 use Rattle.step_record.specs.declared.entry.Entry.{Entry}
 use Rattle.step_record.specs.declared.step.Reply.{Reply}
 use Rattle.step_record.specs.declared.step.Step.{Step}
+use Rattle.text_lines.specs.Feeds.{HasNoFeed}
 
 same_some : {A : Type 0} {x y : A} → Some x ≡ Some y → x ≡ y
 same_some h = cc
@@ -26,7 +26,7 @@ same_some h = cc
 pub one_line : (v : Version) (l m : Line) → IsLine v l → IsLine v m → text_of l ≡ text_of m → l ≡ m
 one_line v l m h k e = same_some (sym (line_again v l h) ∙ ap (line_in v) e ∙ line_again v m k)
 
-pub line_lacks : (v : Version) (l : Line) → IsLine v l → Lacks10 (text_of l)
+pub line_lacks : (v : Version) (l : Line) → IsLine v l → HasNoFeed (text_of l)
 unfolding IsLine text_of
 line_lacks v (Made e) h = spelled_lacks (Worker e.step.worker) _ h.0
 line_lacks One (Steps n) h = absurd h

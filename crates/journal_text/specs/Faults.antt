@@ -1,7 +1,6 @@
 -- Why a text is not a journal that a session takes, and which entries the session then holds.
 use Rattle.std.specs.Prelude.{◌≡◌, ◌≢◌, ◌<◌, ◌+◌, ◌⊎◌, ◌==◌, ℕ, Bool, true, false, Option, Some, None, Result, Ok, Err}
 use Rattle.std.specs.Prelude.{List, [], ◌∷◌, ◌++◌, length}
-use Rattle.std.specs.List.{All}
 use Rattle.journal_text.specs.Journal.{begun, ended, header, journal_of, AreLines, Entries}
 use Rattle.journal_text.specs.Table.{text_of, IsLine}
 use Rattle.journal_text.specs.declared.fault.JournalFault.{JournalFault}
@@ -15,10 +14,7 @@ use Rattle.step_record.specs.History.{after}
 use Rattle.step_record.specs.declared.entry.Entry.{Entry}
 use Rattle.step_record.specs.declared.step.Reply.{Reply}
 use Rattle.step_record.specs.declared.step.Step.{Step}
-
--- no line feed (10) is among the bytes
-abbrev pub Lacks10 : List ℕ → Type 0
-Lacks10 text = All (λ b. (b == 10) ≡ false) text
+use Rattle.text_lines.specs.Feeds.{HasNoFeed}
 
 -- the text is the line of this entry
 abbrev pub IsLineOf : Version → Entry Step Reply → List ℕ → Type 0
@@ -60,7 +56,7 @@ module _ {D : Type 0} (act : D → Step → Option (Reply × D)) (x : D) (limit 
   -- Behind the lines of some entries stands a line that is wrong: the first that is, since the session made those.
   abbrev pub IsAtLine : JournalFault → List ℕ → Entries → Type 0
   IsAtLine f bytes kept = (v : Version) × (es : Entries) × (text : List ℕ) × (more : List ℕ)
-      × AreLines v es × (bytes ≡ begun v es ++ (ended text ++ more)) × Lacks10 text × IsWrong f v es text kept
+      × AreLines v es × (bytes ≡ begun v es ++ (ended text ++ more)) × HasNoFeed text × IsWrong f v es text kept
 
   -- What a fault says of the bytes, and of the entries that are kept then.
   abbrev pub IsFault : JournalFault → List ℕ → Entries → Type 0
@@ -77,7 +73,7 @@ module _ {D : Type 0} (act : D → Step → Option (Reply × D)) (x : D) (limit 
   IsFault fault.Count bytes kept = IsAtLine fault.Count bytes kept
   -- the last line has no line feed, or the count is missing
   IsFault fault.Unended bytes kept = (v : Version) × (rest : List ℕ)
-      × AreLines v kept × (bytes ≡ begun v kept ++ rest) × Lacks10 rest × (v ≡ One → 0 < length rest)
+      × AreLines v kept × (bytes ≡ begun v kept ++ rest) × HasNoFeed rest × (v ≡ One → 0 < length rest)
   IsFault fault.Read bytes kept = kept ≡ []
   IsFault fault.TooLarge bytes kept = (kept ≡ []) × (MAX_JOURNAL_BYTES < length bytes)
 

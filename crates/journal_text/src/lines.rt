@@ -1,6 +1,7 @@
 //! The lines of a journal, whose steps are made one after another.
 ghost use Rattle.std.specs.Prelude.{◌≡◌, ◌≢◌, ◌≤◌, ◌<◌, ◌+◌, ◌++◌, ℕ, List, [], IfErr, OnOk, MatchOption, length};
-ghost use Rattle.journal_text.specs.Faults.{IsFault, IsUnread, Lacks10};
+ghost use Rattle.journal_text.specs.Faults.{IsFault, IsUnread};
+ghost use Rattle.text_lines.specs.Feeds.{HasNoFeed};
 ghost use Rattle.journal_text.specs.Journal.{begun, ended, header, journal_of, AreLines, IsTextOf};
 ghost use Rattle.journal_text.specs.declared.version.Version.{Version};
 ghost use Rattle.journal_text.specs.declared.version.Version.TheVariants.{One};
@@ -121,8 +122,8 @@ fn version_of(text: &[u8]) -> Option<Version>
 
 // The first line without its line feed, and the bytes behind that.
 fn first_line(bytes: &[u8]) -> Option<(&[u8], &[u8])>
-    ensures { MatchOption result (Lacks10 bytes.now)
-        (λ l. Lacks10 l.0.now × (bytes.now ≡ ended l.0.now ++ l.1.now)) }
+    ensures { MatchOption result (HasNoFeed bytes.now)
+        (λ l. HasNoFeed l.0.now × (bytes.now ≡ ended l.0.now ++ l.1.now)) }
 {
     match cut(bytes, b'\n') {
         (line, Some(behind)) => Some((line, behind)),

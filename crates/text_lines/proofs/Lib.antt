@@ -1,2 +1,4 @@
 pub mod Cuts
+pub mod Feeds
 pub mod Numbers
+pub mod Trims

@@ -1,2 +1,4 @@
+pub mod Blanks
 pub mod Cuts
+pub mod Feeds
 pub mod Numbers

@@ -1,9 +1,11 @@
-//! What readers of text need: a text cut at a byte, as lines are at line feeds and words at spaces,
-//! and numbers in decimal.
+//! What readers of text need: a text cut at a byte, as lines are at line feeds and words at spaces, the blanks at the
+//! ends of a line, and numbers in decimal.
 #![tactic(auto)]
 
+mod blanks;
 mod cutting;
 mod digits;
 
+pub use blanks::trimmed;
 pub use cutting::{cut, place_of};
 pub use digits::number;

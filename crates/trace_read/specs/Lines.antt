@@ -1,39 +1,14 @@
 -- What one line of a trace file says, by itself.
-use Rattle.std.specs.Prelude.{ℕ, zero, suc, drop, ◌+◌, ◌^◌, ◌==◌, ◌&&◌, ◌||◌, Bool, List, [], ◌∷◌, Option, Some, None}
-use Rattle.std.specs.Prelude.{Result, Ok, Err, length, nat_lt, if◌then◌else◌}
+use Rattle.std.specs.Prelude.{ℕ, zero, suc, drop, ◌+◌, ◌^◌, ◌==◌, ◌||◌, Bool, List, [], ◌∷◌, Option, Some, None}
+use Rattle.std.specs.Prelude.{Result, Ok, Err, nat_lt, if◌then◌else◌}
 use Rattle.std.specs.List.{before_first, position_or_len}
-use Rattle.std.specs.Str.{all_ascii_digits, bytes_eq}
-use Rattle.std.specs.Str.Parse.{digits_value}
+use Rattle.std.specs.Str.{bytes_eq}
+use Rattle.text_lines.specs.Blanks.{is_empty, trimmed_text}
+use Rattle.text_lines.specs.Numbers.{number_of}
 use Rattle.trace_read.specs.declared.format.Format.{Format}
 use Rattle.trace_read.specs.declared.format.Format.TheVariants.{Lirs, Arc}
 use Rattle.trace_read.specs.LineFault.{LineFault}
 use Rattle.trace_read.specs.LineFault.{BadNumber, MissingField, Range}
-
--- a space, a tab or a CR
-abbrev pub is_blank : ℕ → Bool
-is_blank b = b == 32 || (b == 9 || b == 13)
-
-abbrev pub is_empty : List ℕ → Bool
-is_empty xs = length xs == 0
-
--- without the blanks at the front, and at the back
-abbrev pub without_front : List ℕ → List ℕ
-without_front [] = []
-without_front (b ∷ bs) = if is_blank b then without_front bs else b ∷ bs
-
-abbrev pub without_back : List ℕ → List ℕ
-without_back [] = []
-without_back (b ∷ bs) =
-    if is_blank b && is_empty (without_back bs) then [] else b ∷ without_back bs
-
-unfoldable pub trimmed_text : List ℕ → List ℕ
-trimmed_text bs = without_back (without_front bs)
-
--- one or more digits, of a value below 2^64
-unfoldable pub number_of : List ℕ → Option ℕ
-number_of ds =
-    if nat_lt 0 (length ds) && (all_ascii_digits ds && nat_lt (digits_value 10 ds) (2 ^ 64))
-    then Some (digits_value 10 ds) else None
 
 abbrev pub one_key : Option ℕ → Result (List ℕ) LineFault
 one_key None = Err BadNumber

@@ -1,8 +1,8 @@
 -- What the bytes of a trace file say: the accesses of their lines, or the first fault.
-use Rattle.std.specs.Prelude.{◌≡◌, ◌⊎◌, ℕ, ◌+◌, ◌==◌, List, [], ◌∷◌, ◌++◌, Option, Some, None}
+use Rattle.std.specs.Prelude.{◌≡◌, ◌⊎◌, ℕ, ◌+◌, List, [], ◌∷◌, ◌++◌, Option, Some, None}
 use Rattle.std.specs.Prelude.{Result, Ok, Err, length, nat_lt, if◌then◌else◌}
-use Rattle.std.specs.List.{slice_split}
 use Rattle.step_record.specs.declared.limits.TheConstants.{MAX_ACCESSES}
+use Rattle.text_lines.specs.Feeds.{lines_of}
 use Rattle.trace_read.specs.Lines.{line_of}
 use Rattle.trace_read.specs.declared.format.Format.{Format}
 use Rattle.trace_read.specs.LineFault.{LineFault}
@@ -10,10 +10,6 @@ use Rattle.trace_read.specs.LineFault as line
 use Rattle.trace_read.specs.declared.fault.TraceFault.{TraceFault}
 use Rattle.trace_read.specs.declared.fault.TraceFault.TheVariants.{OutOfMemory, BadNumber, MissingField, Range, TooLong}
 use Rattle.trace_read.specs.declared.fault.TraceFault.TheVariants.{TooLarge, Read}
-
--- the pieces between line feeds
-abbrev pub lines_of : List ℕ → List (List ℕ)
-lines_of = slice_split (λ b. b == 10)
 
 abbrev pub at_line : ℕ → LineFault → TraceFault
 at_line n line.BadNumber = BadNumber n

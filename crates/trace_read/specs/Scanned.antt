@@ -1,18 +1,10 @@
 -- What a scan of the lines comes to, whatever bytes still follow.
-use Rattle.std.specs.Prelude.{◌≡◌, ℕ, ◌+◌, ◌≤◌, ◌==◌, false, List, [], ◌++◌, Option, length}
-use Rattle.std.specs.List.{All, position_or_len}
+use Rattle.std.specs.Prelude.{◌≡◌, ℕ, ◌+◌, ◌≤◌, List, [], ◌++◌, Option, length}
 use Rattle.step_record.specs.declared.limits.TheConstants.{MAX_ACCESSES}
-use Rattle.trace_read.specs.Reading.{all_keys, first_fault, lines_of, IsRead}
+use Rattle.text_lines.specs.Feeds.{lines_of, HasNoFeed}
+use Rattle.trace_read.specs.Reading.{all_keys, first_fault, IsRead}
 use Rattle.trace_read.specs.declared.fault.TraceFault.{TraceFault}
 use Rattle.trace_read.specs.declared.scan.Scan.{Scan}
-
--- no byte is a line feed
-abbrev pub HasNoFeed : List ℕ → Type 0
-HasNoFeed = All (λ b. (b == 10) ≡ false)
-
--- where the first line feed is, or the length
-abbrev pub feed_in : List ℕ → ℕ
-feed_in = position_or_len (λ b. b == 10)
 
 -- the fault of the whole file, and its accesses, where these bytes still follow
 abbrev pub fault_ahead : Scan → List ℕ → Option TraceFault

@@ -6,11 +6,10 @@ ghost use Rattle.step_record.specs.declared.limits.TheConstants.{MAX_ACCESSES};
 ghost use Rattle.trace_read.specs.Reading.{fault_after, keys_or_none, IsRead, IsRefused};
 
 use super::TraceFault;
-use super::blanks::trimmed;
 use super::format::Format;
-use super::number::number;
 use std::alloc::AllocError;
 use step_record::{Key, MAX_ACCESSES};
+use text_lines::{number, trimmed};
 
 fn is_gap_byte(byte: u8) -> bool
     ensures { result ≡ is_gap byte }

@@ -10,11 +10,9 @@
 #![tactic(auto)]
 
 mod arc;
-mod blanks;
 mod fault;
 mod format;
 mod lirs;
-mod number;
 mod pieces;
 mod plain;
 mod reader;

@@ -6,10 +6,9 @@ ghost use Rattle.step_record.specs.declared.limits.TheConstants.{MAX_ACCESSES};
 ghost use Rattle.trace_read.specs.Reading.{IsRead, IsRefused};
 
 use super::TraceFault;
-use super::blanks::trimmed;
 use super::format::Format;
-use super::number::number;
 use step_record::{Key, MAX_ACCESSES};
+use text_lines::{number, trimmed};
 
 fn is_lone_star(text: &[u8]) -> bool
     ensures { result ≡ bytes_eq text.now (42 ∷ []) }

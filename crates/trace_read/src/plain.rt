@@ -1,7 +1,7 @@
 //! Lines that are a number and nothing else, as nearly all of a LIRS trace are.
 ghost use Rattle.std.specs.Prelude.{◌≡◌, ◌<◌, ◌∷◌, [], Ok, IfSome, length, take};
 ghost use Rattle.trace_read.specs.Lines.{line_of};
-ghost use Rattle.trace_read.specs.Scanned.{feed_in};
+ghost use Rattle.text_lines.specs.Feeds.{feed_in};
 
 use super::format::Format;
 use step_record::Key;

@@ -4,7 +4,8 @@ ghost use Rattle.std.specs.Prelude.{IfOk, IfErr, IfSome, MatchOption, length, ta
 ghost use Rattle.trace_read.specs.Lines.{line_of};
 ghost use Rattle.step_record.specs.declared.limits.TheConstants.{MAX_ACCESSES};
 ghost use Rattle.trace_read.specs.Reading.{fault_in, keys_in, IsOfLine, IsRead, IsRefused, IsStopped};
-ghost use Rattle.trace_read.specs.Scanned.{fault_ahead, feed_in, keys_ahead, IsEnded, IsScan, IsTaken};
+ghost use Rattle.trace_read.specs.Scanned.{fault_ahead, keys_ahead, IsEnded, IsScan, IsTaken};
+ghost use Rattle.text_lines.specs.Feeds.{feed_in};
 
 use super::arc::add_arc;
 use super::format::Format;
@@ -13,6 +14,7 @@ use super::plain::{PlainLine, plain_line};
 use super::{Trace, TraceFault};
 use std::alloc::Global;
 use step_record::Key;
+use text_lines::place_of;
 
 // Adds the accesses of a line to those of the lines before it.
 fn add_line(format: Format, text: &[u8], line: u64, keys: &mut Vec<Key>) -> Result<(), TraceFault>
@@ -25,21 +27,6 @@ fn add_line(format: Format, text: &[u8], line: u64, keys: &mut Vec<Key>) -> Resu
         Format::Lirs => add_lirs(text, line, keys),
         Format::Arc => add_arc(text, line, keys),
     }
-}
-
-// Where the first line feed is, or the length.
-fn line_end(bytes: &[u8]) -> usize
-    ensures place { result ≡ feed_in bytes.now }
-    ensures within { result ≤ length bytes.now }
-{
-    let mut end = 0;
-    'ends: while end < bytes.len() {
-        if bytes[end] == b'\n' {
-            break;
-        }
-        end += 1;
-    }
-    end
 }
 
 /// A scan of the lines of a trace file, whose bytes come in pieces. It keeps no byte but those of
@@ -132,7 +119,7 @@ impl Scan {
             self.line += 1;
             return Ok(Some(plain.end));
         }
-        let end = line_end(bytes);
+        let end = place_of(bytes, b'\n');
         if end == bytes.len() {
             return Ok(None);
         }

@@ -1,6 +1,6 @@
 use Rattle.std.proofs.Common.{◌≡◌, ◌+◌, length}
 use Rattle.std.specs.Io.KnownBytes.{Consumes}
-use Rattle.debug_commands.specs.Reading.{HasNoFeed}
+use Rattle.text_lines.specs.Feeds.{HasNoFeed}
 use Rattle.debug_commands.proofs.lines.read_line.Given as goal
 
 abbrev pub invariant-bytes : goal.invariant-bytes

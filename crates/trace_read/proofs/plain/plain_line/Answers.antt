@@ -4,7 +4,8 @@ use Rattle.std.proofs.lemmas.Grind.{common_steps}
 use Rattle.std.proofs.lemmas.Int.Digits.{digits_value_more}
 use Rattle.std.specs.Char.{digit_value}
 use Rattle.std.specs.Str.Parse.{digits_value}
-use Rattle.trace_read.proofs.Numbers.{digits_more, short, one_more, fits_word}
+use Rattle.text_lines.proofs.Numbers.{digits_more}
+use Rattle.trace_read.proofs.Numbers.{short, one_more, fits_word}
 use Rattle.trace_read.proofs.DigitLines.{plain_keys}
 use Rattle.trace_read.proofs.plain.plain_line.Goals as goal
 

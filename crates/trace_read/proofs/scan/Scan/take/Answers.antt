@@ -1,7 +1,9 @@
 use Rattle.std.proofs.Common.{[], ◌≡◌, ◌∙◌, ◌<◌, ◌++◌, arith, refl, sym, subst, take, drop, length, inl, inr, ◌+◌, ◌-◌, List, ℕ, Some, length-drop}
 use Rattle.std.proofs.lemmas.Grind.{common_steps}
-use Rattle.trace_read.proofs.Steps.{cut_line, ended_ahead, errs, no_feed_more, of_line, refused_here}
-use Rattle.trace_read.specs.Scanned.{fault_ahead, feed_in, HasNoFeed}
+use Rattle.text_lines.proofs.Feeds.{cut_line, no_feed_more}
+use Rattle.trace_read.proofs.Steps.{ended_ahead, errs, of_line, refused_here}
+use Rattle.text_lines.specs.Feeds.{feed_in, HasNoFeed}
+use Rattle.trace_read.specs.Scanned.{fault_ahead}
 use Rattle.trace_read.proofs.scan.Scan.take.Goals as goal
 
 pub returns-in_default-clause-scan : goal.returns-in_default-clause-scan

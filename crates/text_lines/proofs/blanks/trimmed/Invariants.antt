@@ -1,6 +1,6 @@
 use Rattle.std.proofs.Common.{◌≡◌, length}
-use Rattle.debug_commands.specs.Words.{without_front}
-use Rattle.debug_commands.proofs.blanks.trimmed.Given as goal
+use Rattle.text_lines.specs.Blanks.{without_front}
+use Rattle.text_lines.proofs.blanks.trimmed.Given as goal
 
 abbrev pub invariant-front : goal.invariant-front
 invariant-front l = without_front l.rest ≡ without_front l.line

@@ -1,7 +1,7 @@
 use Rattle.std.proofs.Common.{arith, sym, ◌∙◌}
-use Rattle.trace_read.proofs.Trims.{back_none, back_step, back_stop}
-use Rattle.trace_read.proofs.blanks.trimmed_back.Goals as goal
-use Rattle.trace_read.proofs.blanks.trimmed_back.Goals.{else-back-test, then-back-test+then-not-is_blank_byte}
+use Rattle.text_lines.proofs.Trims.{back_none, back_step, back_stop}
+use Rattle.text_lines.proofs.blanks.trimmed_back.Goals as goal
+use Rattle.text_lines.proofs.blanks.trimmed_back.Goals.{else-back-test, then-back-test+then-not-is_blank_byte}
 
 pub back-preserved : goal.back-preserved
 back-preserved c = (omega arith, back_step c.args.text.now c.back.end (omega arith) (omega arith) (sym c.is_blank_byte.ensures ∙ c.if-not-is_blank_byte.false) c.back.invariant.1)

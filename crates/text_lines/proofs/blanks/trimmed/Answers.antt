@@ -1,8 +1,8 @@
 use Rattle.std.proofs.Common.{sym, ◌∙◌, ap, ◌≡◌}
-use Rattle.debug_commands.proofs.Trims.{front_none, front_stop}
-use Rattle.debug_commands.specs.Words.{trimmed_text, without_back, without_front}
-use Rattle.debug_commands.proofs.blanks.trimmed.Goals as goal
-use Rattle.debug_commands.proofs.blanks.trimmed.Goals.{in_default, in-len1-up+then-not-is_blank_byte}
+use Rattle.text_lines.proofs.Trims.{front_none, front_stop}
+use Rattle.text_lines.specs.Blanks.{trimmed_text, without_back, without_front}
+use Rattle.text_lines.proofs.blanks.trimmed.Goals as goal
+use Rattle.text_lines.proofs.blanks.trimmed.Goals.{in_default, in-len1-up+then-not-is_blank_byte}
 
 pub returns : goal.returns
 unfolding trimmed_text

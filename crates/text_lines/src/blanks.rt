@@ -1,6 +1,6 @@
 //! The blanks at the ends of a line.
 ghost use Rattle.std.specs.Prelude.{◌≡◌};
-ghost use Rattle.trace_read.specs.Lines.{is_blank, trimmed_text, without_back};
+ghost use Rattle.text_lines.specs.Blanks.{is_blank, trimmed_text, without_back};
 
 fn is_blank_byte(byte: u8) -> bool
     ensures { result ≡ is_blank byte }

@@ -2,7 +2,7 @@
 use Rattle.std.proofs.Common.{◌≡◌, ◌∙◌, ◌≤◌, ◌<◌, ◌+◌, ◌-◌, ◌&&◌, ℕ, true, false, List, [], ◌∷◌, ◌++◌, length, take, get_or, refl, ap, sym, arith, cond}
 use Rattle.std.proofs.lemmas.Bool.{and_right, cond-false, ne_eqb}
 use Rattle.std.proofs.lemmas.List.{take_more}
-use Rattle.debug_commands.specs.Words.{is_blank, is_empty, without_back, without_front}
+use Rattle.text_lines.specs.Blanks.{is_blank, is_empty, without_back, without_front}
 
 -- what `without_back` makes of a byte before what it leaves
 abbrev before : ℕ → List ℕ → List ℕ
