@@ -2,6 +2,7 @@
 use Rattle.std.specs.Prelude.{ℕ, Option, Some, None, List, [], ◌∷◌}
 use Rattle.text_lines.specs.Blanks.{trimmed_text}
 use Rattle.text_lines.specs.Numbers.{number_of}
+use Rattle.text_lines.specs.Reads.{◌>>=◌, with_rest, Reads, at_end}
 use Rattle.debug_commands.specs.Names.{name_of}
 use Rattle.debug_commands.specs.Words.{words_in}
 use Rattle.debug_commands.specs.declared.breakpoint.Breakpoint.{Breakpoint}
@@ -14,19 +15,6 @@ use Rattle.debug_commands.specs.declared.command.Line.{Line}
 use Rattle.debug_commands.specs.declared.command.Line.TheVariants.{Empty, Unknown, Known}
 use Rattle.debug_commands.specs.declared.name.Name.{Name}
 use Rattle.debug_commands.specs.declared.name.Name.TheVariants as name
-
-infixl 10 ◌>>=◌
-abbrev pub ◌>>=◌ : {A B : Type 0} → Option A → (A → Option B) → Option B
-None >>= f = None
-(Some x) >>= f = f x
-
--- what is read of some words, and the words behind it
-abbrev pub Reads : Type 0 → Type 0
-Reads A = List (List ℕ) → Option (A × List (List ℕ))
-
-abbrev pub with_rest : {A : Type 0} → List (List ℕ) → Option A → Option (A × List (List ℕ))
-with_rest ws None = None
-with_rest ws (Some x) = Some (x, ws)
 
 unfoldable pub name_at : Reads Name
 name_at [] = None
@@ -64,11 +52,6 @@ command_named d _ ws = None
 
 unfoldable pub command_at : Dialect → Reads Command
 command_at d ws = name_at ws >>= λ n. command_named d n.0 n.1
-
--- where no word is left
-abbrev pub at_end : {A : Type 0} → A × List (List ℕ) → Option A
-at_end (x, []) = Some x
-at_end (x, (w ∷ ws)) = None
 
 unfoldable pub command_in : Dialect → List (List ℕ) → Option Command
 command_in d ws = command_at d ws >>= at_end

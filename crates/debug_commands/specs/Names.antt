@@ -1,10 +1,10 @@
 -- The words of a command that are no numbers.
-use Rattle.std.specs.Prelude.{ℕ, List, [], ◌∷◌, Option, Some, None, codes, if◌then◌else◌}
-use Rattle.std.specs.Str.{bytes_eq}
+use Rattle.std.specs.Prelude.{ℕ, List, Option, codes}
 use Rattle.debug_commands.specs.declared.name.Name.{Name}
 use Rattle.debug_commands.specs.declared.name.Name.TheVariants.{Step, Back, Goto, Run, Break, Clear, Show, Part, Save}
 use Rattle.debug_commands.specs.declared.name.Name.TheVariants.{Quit, Hit, Evict, Halve, Drop}
 use Rattle.debug_commands.specs.declared.name.TheConstants.{NAMES}
+use Rattle.text_lines.specs.Reads.{first_named}
 
 abbrev pub spelling : Name → List ℕ
 spelling Step = codes "step"
@@ -22,10 +22,6 @@ spelling Evict = codes "evict"
 spelling Halve = codes "halve"
 spelling Drop = codes "drop"
 
--- the first of these names that is spelled so
-abbrev pub first_named : List Name → List ℕ → Option Name
-first_named [] word = None
-first_named (n ∷ ns) word = if bytes_eq (spelling n) word then Some n else first_named ns word
-
+-- the name that is spelled so
 unfoldable pub name_of : List ℕ → Option Name
-name_of word = first_named NAMES word
+name_of word = first_named spelling NAMES word

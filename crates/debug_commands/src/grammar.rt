@@ -1,6 +1,7 @@
 //! The grammar of a line.
 ghost use Rattle.std.specs.Prelude.{◌≡◌};
-ghost use Rattle.debug_commands.specs.Commands.{command_at, command_in, line_in, line_of, point_at, with_rest};
+ghost use Rattle.debug_commands.specs.Commands.{command_at, command_in, line_in, line_of, point_at};
+ghost use Rattle.text_lines.specs.Reads.{with_rest};
 ghost use Rattle.debug_commands.specs.Words.{words_in};
 
 use crate::breakpoint::Breakpoint;

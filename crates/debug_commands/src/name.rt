@@ -1,6 +1,7 @@
 //! The words of a command that are no numbers.
 ghost use Rattle.std.specs.Prelude.{◌≡◌};
-ghost use Rattle.debug_commands.specs.Names.{first_named, name_of, spelling};
+ghost use Rattle.debug_commands.specs.Names.{name_of, spelling};
+ghost use Rattle.text_lines.specs.Reads.{first_named};
 
 /// A word of a command that is no number.
 #[derive(Clone, Copy, Debug, PartialEq, Eq)]
@@ -73,7 +74,7 @@ impl Name {
 
 // The first of the names that is spelled so.
 fn first_named(names: &[Name], word: &[u8]) -> Option<Name>
-    ensures { result ≡ first_named names.now word.now }
+    ensures { result ≡ first_named spelling names.now word.now }
 {
     for name in names {
         if name.text() == word {

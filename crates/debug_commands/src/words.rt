@@ -2,7 +2,8 @@
 ghost use Rattle.std.specs.Prelude.{◌≡◌, ℕ, List, [], ◌∷◌, MatchOption};
 ghost use Rattle.std.specs.Option.{option_map_or};
 ghost use Rattle.debug_commands.specs.Words.{words_in};
-ghost use Rattle.debug_commands.specs.Commands.{name_at, number_at, with_rest};
+ghost use Rattle.debug_commands.specs.Commands.{name_at, number_at};
+ghost use Rattle.text_lines.specs.Reads.{with_rest};
 
 use crate::name::Name;
 use std::marker::Model;

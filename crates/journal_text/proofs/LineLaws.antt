@@ -12,7 +12,7 @@ use Rattle.std.specs.Fmt.{decimal}
 use Rattle.std.specs.List.{All, join_with_byte, list_any}
 use Rattle.std.specs.Str.Parse.{AllDigits}
 use Rattle.journal_text.specs.Names.{spelling}
-use Rattle.journal_text.specs.Reading.{numeral_of, name_at, wide_at, small_at, act_at, reply_at, at_end, only_equals, only_steps, entry_in, count_in, made_in, or_count, line_in, words_of}
+use Rattle.journal_text.specs.Reading.{numeral_of, name_at, wide_at, small_at, act_at, reply_at, only_equals, only_steps, entry_in, count_in, made_in, or_count, line_in, words_of}
 use Rattle.journal_text.specs.declared.word.Word.{Word}
 use Rattle.journal_text.specs.declared.word.Word.TheVariants.{Named, Worker, Stripe, Wide}
 use Rattle.journal_text.specs.Table.{word_text, spelled, FitsWord, Fit, act_words, reply_words, entry_words, count_words, text_of, is_answer_in, IsLine}
@@ -28,6 +28,7 @@ use Rattle.step_record.specs.declared.entry.Entry.{Entry}
 use Rattle.step_record.specs.declared.step.Reply.{Reply}
 use Rattle.step_record.specs.declared.step.Step.{Step}
 use Rattle.text_lines.specs.Numbers.{number_of}
+use Rattle.text_lines.specs.Reads.{at_end}
 
 -- ---- words and entries
 

@@ -5,7 +5,7 @@ use Rattle.std.proofs.lemmas.Bool.Decides.{nat_tests}
 use Rattle.std.specs.Fmt.{decimal}
 use Rattle.std.specs.Prelude.{nat_lt}
 use Rattle.journal_text.specs.Names.{name_of, spelling}
-use Rattle.journal_text.specs.Reading.{numeral_of, ◌>>=◌, with_rest, name_at, wide_at, small_at, item_at, answer_at, answer_named, act_at, act_named, reply_at, reply_named}
+use Rattle.journal_text.specs.Reading.{numeral_of, name_at, wide_at, small_at, item_at, answer_at, answer_named, act_at, act_named, reply_at, reply_named}
 use Rattle.journal_text.specs.declared.word.Word.{Word}
 use Rattle.journal_text.specs.Table.{word_text, Fit, answer_name, act_words, reply_words}
 use Rattle.journal_text.specs.declared.name.Name.{Name}
@@ -18,6 +18,7 @@ use Rattle.step_record.specs.declared.step.Answer.{Answer}
 use Rattle.step_record.specs.declared.step.Answer.TheVariants as answer
 use Rattle.step_record.specs.declared.step.Reply.{Reply}
 use Rattle.step_record.specs.declared.step.Reply.TheVariants as reply
+use Rattle.text_lines.specs.Reads.{◌>>=◌, with_rest}
 
 -- ---- what is spelled is read again
 

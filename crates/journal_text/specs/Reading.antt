@@ -20,11 +20,7 @@ use Rattle.step_record.specs.declared.step.Reply.{Reply}
 use Rattle.step_record.specs.declared.step.Reply.TheVariants as reply
 use Rattle.step_record.specs.declared.step.Step.{Step}
 use Rattle.text_lines.specs.Numbers.{number_of}
-
-infixl 10 ◌>>=◌
-abbrev pub ◌>>=◌ : {A B : Type 0} → Option A → (A → Option B) → Option B
-None >>= f = None
-(Some x) >>= f = f x
+use Rattle.text_lines.specs.Reads.{◌>>=◌, with_rest, Reads, at_end}
 
 -- a number, whose first digit is 0 (48) only where it is alone
 unfoldable pub numeral_of : List ℕ → Option ℕ
@@ -33,14 +29,6 @@ numeral_of w = if nat_lt 1 (length w) && slice_index w 0 == 48 then None else nu
 -- the words of a text, between spaces (32)
 abbrev pub words_of : List ℕ → List (List ℕ)
 words_of text = slice_split (λ b. b == 32) text
-
--- what is read of some words, and the words behind it
-abbrev pub Reads : Type 0 → Type 0
-Reads A = List (List ℕ) → Option (A × List (List ℕ))
-
-abbrev pub with_rest : {A : Type 0} → List (List ℕ) → Option A → Option (A × List (List ℕ))
-with_rest ws None = None
-with_rest ws (Some x) = Some (x, ws)
 
 unfoldable pub name_at : Reads Name
 name_at [] = None
@@ -124,11 +112,6 @@ only_equals _ = None
 abbrev pub only_steps : Name → Option (Unit {0})
 only_steps name.Steps = Some tt
 only_steps _ = None
-
--- where no word is left
-abbrev pub at_end : {A : Type 0} → A × List (List ℕ) → Option A
-at_end (x, []) = Some x
-at_end (x, (w ∷ ws)) = None
 
 unfoldable pub entry_in : List (List ℕ) → Option (Entry Step Reply)
 entry_in ws = small_at 64 ws >>= λ w. (act_at w.1 >>= λ a. (name_at a.1 >>= λ n. (only_equals n.0 >>= λ _.

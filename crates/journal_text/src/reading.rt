@@ -3,7 +3,8 @@ ghost use Rattle.std.specs.Prelude.{◌≡◌, Some, IfSome};
 ghost use Rattle.journal_text.specs.Table.{text_of, IsLine};
 ghost use Rattle.journal_text.specs.declared.line.Line.{Line};
 ghost use Rattle.journal_text.specs.Reading.{act_at, count_in, entry_in, line_in, made_in};
-ghost use Rattle.journal_text.specs.Reading.{reply_at, with_rest, words_of};
+ghost use Rattle.journal_text.specs.Reading.{reply_at, words_of};
+ghost use Rattle.text_lines.specs.Reads.{with_rest};
 
 use super::name::Name;
 use super::table::is_answer_in;

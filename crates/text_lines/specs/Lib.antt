@@ -2,3 +2,4 @@ pub mod Blanks
 pub mod Cuts
 pub mod Feeds
 pub mod Numbers
+pub mod Reads
