@@ -1,6 +1,6 @@
 -- How one access changes what a cache of any policy shows, and how its undo record undoes it: by the policy's own
 -- engine.
-use Rattle.std.specs.Prelude.{ℕ, Option, Some, None}
+use Rattle.std.specs.Prelude.{◌≡◌, ℕ, Option, Some, None}
 use Rattle.step_record.specs.declared.outcome.Outcome.{Outcome}
 use Rattle.step_record.specs.Pace.{Pace, still}
 use Rattle.clairvoyant.specs.Clairvoyant.{ClairvoyantState, clairvoyant_act}
@@ -36,6 +36,11 @@ AnyFits (done.Queues r) (Queues d) = QueueFits r d
 AnyFits (done.Optimal r) (Optimal d) = ClairvoyantFits r d
 AnyFits (done.Queues r) (Optimal d) = ⊥
 AnyFits (done.Optimal r) (Queues d) = ⊥
+
+-- no item left queues in the step of the record
+abbrev pub NothingLeftQueues : AnyRecord → Type 0
+NothingLeftQueues (done.Queues r) = r.moves.out ≡ None
+NothingLeftQueues (done.Optimal r) = Unit {0}
 
 abbrev pub any_words : AnyRecord → ℕ
 any_words (done.Queues r) = queue_words r

@@ -1,5 +1,6 @@
 //! All six policies as one engine.
-ghost use Rattle.std.specs.Prelude.{◌≡◌, ◌≤◌, ◌^◌, ◌↔◌, IfOk, IfSome, OnErr, Ok, Err, Some, None, [], option_map};
+ghost use Rattle.std.specs.Prelude.{◌≡◌, ◌≤◌, ◌^◌, ◌↔◌, IfOk, IfErr, IfSome, OnOk, OnErr};
+ghost use Rattle.std.specs.Prelude.{Ok, Err, Some, None, [], option_map};
 
 use crate::queue_cache::QueueCache;
 use crate::record::AccessRecord;
@@ -136,7 +137,7 @@ impl AnyPolicy {
 
 impl Engine for AnyPolicy {
     ghost use Rattle.policies.specs.AnyPolicy.{stats_in};
-    ghost use Rattle.policies.specs.AnyStep.{any_act, any_undone, AnyFits, any_words, any_pace};
+    ghost use Rattle.policies.specs.AnyStep.{any_act, any_undone, AnyFits, NothingLeftQueues, any_words, any_pace};
     ghost use Rattle.policies.specs.AnyCounts.{any_counts, any_ends, any_paced};
 
     type Step = Key;
@@ -175,7 +176,14 @@ impl Engine for AnyPolicy {
         }
     }
 
-    fn undo(&mut self, done: AnyRecord) -> Result<(), AnyRecord> {
+    fn undo(&mut self, done: AnyRecord) -> Result<(), AnyRecord>
+        requires { AnyFits done self.old }
+        ensures ok { OnOk result (self.new ≡ any_undone done self.old) }
+        ensures err { OnErr result (self.new ≡ self.old) }
+        ensures returned { IfErr result (λ r. r ≡ done) }
+        // Only an item that left queues asks for room to come back.
+        ensures not_refused { NothingLeftQueues done → result ≡ Ok tt }
+    {
         match self {
             AnyPolicy::Queues(cache) => match done {
                 AnyRecord::Queues(done) => match cache.undo(done) {

@@ -291,8 +291,14 @@ impl Engine for QueueCache {
         self.step::<Recorder>(*step)
     }
 
-    fn undo(&mut self, done: AccessRecord) -> Result<(), AccessRecord> {
+    fn undo(&mut self, done: AccessRecord) -> Result<(), AccessRecord>
+        requires { QueueFits done self.old }
+        ensures ok { OnOk result (self.new ≡ queue_undone done self.old) }
+        ensures err { OnErr result (self.new ≡ self.old) }
+        ensures returned { IfErr result (λ r. r ≡ done) }
         // Only an item that left asks for room to come back.
+        ensures not_refused { done.moves.out ≡ None → result ≡ Ok tt }
+    {
         if done.moves.out.is_some() && self.segments.reserve().is_err() {
             return Err(done);
         }

@@ -1,5 +1,5 @@
 //! Lru or segmented Lru behind an admission filter (TinyLFU, 2017).
-ghost use Rattle.std.specs.Prelude.{◌≡◌, ◌≤◌, ◌^◌, IfOk, Ok, [], cond, option_map};
+ghost use Rattle.std.specs.Prelude.{◌≡◌, ◌≤◌, ◌^◌, IfOk, IfErr, OnOk, OnErr, Ok, [], cond, option_map, None};
 
 use crate::queue_cache::QueueCache;
 use crate::record::AccessRecord;
@@ -101,7 +101,14 @@ impl Engine for TinyLfu {
         self.cache.apply(step)
     }
 
-    fn undo(&mut self, done: AccessRecord) -> Result<(), AccessRecord> {
+    fn undo(&mut self, done: AccessRecord) -> Result<(), AccessRecord>
+        requires { QueueFits done self.old }
+        ensures ok { OnOk result (self.new ≡ queue_undone done self.old) }
+        ensures err { OnErr result (self.new ≡ self.old) }
+        ensures returned { IfErr result (λ r. r ≡ done) }
+        // Only an item that left asks for room to come back.
+        ensures not_refused { done.moves.out ≡ None → result ≡ Ok tt }
+    {
         self.cache.undo(done)
     }
 

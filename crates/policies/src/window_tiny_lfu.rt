@@ -1,5 +1,5 @@
 //! W-TinyLFU: a window before a filtered segmented Lru (TinyLFU, 2017; Caffeine's Design page).
-ghost use Rattle.std.specs.Prelude.{◌≡◌, ◌≤◌, ◌^◌, IfOk, Ok, [], option_map};
+ghost use Rattle.std.specs.Prelude.{◌≡◌, ◌≤◌, ◌^◌, IfOk, IfErr, OnOk, OnErr, Ok, [], option_map, None};
 
 use crate::queue_cache::QueueCache;
 use crate::record::AccessRecord;
@@ -98,7 +98,14 @@ impl Engine for WindowTinyLfu {
         self.cache.apply(step)
     }
 
-    fn undo(&mut self, done: AccessRecord) -> Result<(), AccessRecord> {
+    fn undo(&mut self, done: AccessRecord) -> Result<(), AccessRecord>
+        requires { QueueFits done self.old }
+        ensures ok { OnOk result (self.new ≡ queue_undone done self.old) }
+        ensures err { OnErr result (self.new ≡ self.old) }
+        ensures returned { IfErr result (λ r. r ≡ done) }
+        // Only an item that left asks for room to come back.
+        ensures not_refused { done.moves.out ≡ None → result ≡ Ok tt }
+    {
         self.cache.undo(done)
     }
 
