@@ -11,7 +11,7 @@ use Rattle.step_record.specs.declared.job.Policy.TheVariants.{Lru, SegmentedLru,
 use Rattle.step_record.specs.declared.job.Policy.TheVariants.{WindowTinyLfu, Clairvoyant}
 use Rattle.step_record.specs.declared.config.Spread.{Spread}
 use Rattle.step_record.specs.declared.config.Spread.TheVariants.{Mixed, Plain}
-use Rattle.trace_read.specs.Format.{word_of as format_word}
+use Rattle.trace_read.specs.Format.{format_word}
 use Rattle.trace_read.specs.declared.format.Format.{Format}
 use Rattle.trace_read.specs.declared.format.Format.TheVariants.{Lirs, Arc}
 

@@ -20,7 +20,7 @@ use Rattle.step_record.specs.declared.config.Spread.{Spread}
 use Rattle.step_record.specs.declared.job.Policy.{Policy}
 use Rattle.trace_read.specs.declared.format.Format.{Format}
 use Rattle.trace_read.specs.declared.format.Format.TheVariants.{Lirs}
-use Rattle.trace_read.specs.Format.{word_of as format_word}
+use Rattle.trace_read.specs.Format.{format_word}
 use Rattle.command_line.specs.Choices.{AreWords, all_named, format_named, format_words, policies_named, policy_named}
 use Rattle.command_line.specs.Choices.{policy_words, spread_named, spread_words}
 use Rattle.command_line.specs.declared.commands.TheConstants.{MAX_BATCH}

@@ -10,7 +10,7 @@ use Rattle.std.specs.List.{onto_first}
 use Rattle.std.specs.Prelude.{IfSome}
 use Rattle.debug_commands.specs.Answering.{IsAnswer}
 use Rattle.debug_commands.specs.Answers.{Place, Response, answer_to, response_to}
-use Rattle.debug_commands.specs.Commands.{line_of}
+use Rattle.debug_commands.specs.Commands.{command_line_of}
 use Rattle.debug_commands.specs.Dialogue.{Dialogue, answers, dialogue_from, dialogue_of, ends, is_quit, IsHeld}
 use Rattle.debug_commands.specs.Reading.{feed, IsTooLarge}
 use Rattle.text_lines.proofs.Feeds.{has_lines, lines_fed, one_unfed}
@@ -33,20 +33,20 @@ behind_behind w v d = ap (λ t. record { text = t; at = d.at; fits = d.fits }) (
 -- ---- the first line
 
 module _ (t : TimelineData) where
-  fed_step : (room : ℕ) (l : List ℕ) (ls : List (List ℕ)) (p : Place) → (ls ≡ [] → ⊥) → length l + 1 ≤ room → is_quit (line_of t.dialect l) ≡ false
-      → dialogue_from t room (l ∷ ls) p ≡ answers (answer_to t p (line_of t.dialect l)) (dialogue_from t (room - (length l + 1)) ls)
+  fed_step : (room : ℕ) (l : List ℕ) (ls : List (List ℕ)) (p : Place) → (ls ≡ [] → ⊥) → length l + 1 ≤ room → is_quit (command_line_of t.dialect l) ≡ false
+      → dialogue_from t room (l ∷ ls) p ≡ answers (answer_to t p (command_line_of t.dialect l)) (dialogue_from t (room - (length l + 1)) ls)
   unfolding dialogue_from
   fed_step room l [] p some within other = absurd (some refl)
   fed_step room l (m ∷ ms) p some within other = cond-false _ _ _ (le-ltb room (length l + 1) within) ∙ cond-false _ _ _ other
 
-  quit_step : (room : ℕ) (l : List ℕ) (ls : List (List ℕ)) (p : Place) → (ls ≡ [] → ⊥) → length l + 1 ≤ room → is_quit (line_of t.dialect l) ≡ true
+  quit_step : (room : ℕ) (l : List ℕ) (ls : List (List ℕ)) (p : Place) → (ls ≡ [] → ⊥) → length l + 1 ≤ room → is_quit (command_line_of t.dialect l) ≡ true
       → dialogue_from t room (l ∷ ls) p ≡ ends p true
   unfolding dialogue_from
   quit_step room l [] p some within quits = absurd (some refl)
   quit_step room l (m ∷ ms) p some within quits = cond-false _ _ _ (le-ltb room (length l + 1) within) ∙ cond-true _ _ _ quits
 
   last_step : (room : ℕ) (l : List ℕ) (p : Place) → length l ≤ room
-      → dialogue_from t room (l ∷ []) p ≡ answers (answer_to t p (line_of t.dialect l)) (λ q. ends q true)
+      → dialogue_from t room (l ∷ []) p ≡ answers (answer_to t p (command_line_of t.dialect l)) (λ q. ends q true)
   unfolding dialogue_from
   last_step room l p within = cond-false _ _ _ (le-ltb room (length l) within)
 
@@ -59,6 +59,24 @@ module _ (t : TimelineData) where
   unfolding dialogue_from
   large_fed room l [] p some over = absurd (some refl)
   large_fed room l (m ∷ ms) p some over = cond-true _ _ _ (lt-ltb room (length l + 1) over)
+
+-- ---- what was read of a line
+
+fed_read : (fed : Bool) (left rest : Option (List ℕ)) (l : List ℕ) → fed ≡ true → Consumes left rest (l ++ feed fed) → Consumes left rest (l ++ 10 ∷ [])
+fed_read true left rest l h c = c
+fed_read false left rest l h c = absurd (true≢false (sym h))
+
+unfed_read : (fed : Bool) (left rest : Option (List ℕ)) (l : List ℕ) → fed ≡ false → Consumes left rest (l ++ feed fed) → Consumes left rest (l ++ [])
+unfed_read false left rest l h c = c
+unfed_read true left rest l h c = absurd (true≢false h)
+
+fed_room : (fed : Bool) (less n room : ℕ) → fed ≡ true → less + n + length (feed fed) ≡ room → less + n + 1 ≡ room
+fed_room true less n room h e = omega (arith, e)
+fed_room false less n room h e = absurd (true≢false (sym h))
+
+unfed_room : (fed : Bool) (less n room : ℕ) → fed ≡ false → less + n + length (feed fed) ≡ room → less + n + 0 ≡ room
+unfed_room false less n room h e = omega (arith, e)
+unfed_room true less n room h e = absurd (true≢false h)
 
 -- ---- the whole so far
 
@@ -93,24 +111,35 @@ place_is : (p : Place) (at : ℕ) (breaks : List Breakpoint) → at ≡ p.at →
 place_is p at breaks e h =
     ap (λ a. record { at = a; breaks = breaks }) e ∙ ap (λ b. record { at = p.at; breaks = b }) h
 
+-- a line was read and answered, and the answer was sent
+pub record Round (t : TimelineData) (first : ℕ) (p : Place) (room less : ℕ) (given left rest had has more : Option (List ℕ)) (fed : Bool) (l text : List ℕ)
+    (at : ℕ) (breaks : List Breakpoint) : Type 0 where
+  pub ahead : IsAhead t first p room given left had has
+  pub read : Consumes left rest (l ++ feed fed)
+  pub feeds : HasNoFeed l
+  pub spent : less + length l + length (feed fed) ≡ room
+  pub answer : IsAnswer (answer_to t p (command_line_of t.dialect l)) [] text at breaks
+  pub sent : Appends has more text
+
 -- a line with its line feed was answered
-pub goes_on : (t : TimelineData) (first : ℕ) (p : Place) (room less : ℕ) (given left rest had has more : Option (List ℕ)) (l text : List ℕ) (at : ℕ)
-    (breaks : List Breakpoint) → IsAhead t first p room given left had has → Consumes left rest (l ++ 10 ∷ []) → HasNoFeed l → less + length l + 1 ≡ room
-    → is_quit (line_of t.dialect l) ≡ false → IsAnswer (answer_to t p (line_of t.dialect l)) [] text at breaks → Appends has more text
-    → IsAhead t first (record { at = at; breaks = breaks }) less given rest had more
-goes_on t first p room less given left rest had has more l text at breaks a c feeds e other answer sent =
-    let r = answer_to t p (line_of t.dialect l) in
-    let now : record { at = at; breaks = breaks } ≡ r.place = place_is r.place at breaks answer.at answer.breaks in
+pub goes_on : {t : TimelineData} {first : ℕ} {p : Place} {room less : ℕ} {given left rest had has more : Option (List ℕ)} {fed : Bool} {l text : List ℕ} {at : ℕ}
+    {breaks : List Breakpoint} → Round t first p room less given left rest had has more fed l text at breaks → fed ≡ true
+    → is_quit (command_line_of t.dialect l) ≡ false → IsAhead t first (record { at = at; breaks = breaks }) less given rest had more
+goes_on {t} {first} {p} {room} {less} {given} {left} {rest} {had} {has} {more} {fed} {l} {text} {at} {breaks} round has_feed other =
+    let a = round.ahead in
+    let r = answer_to t p (command_line_of t.dialect l) in
+    let now : record { at = at; breaks = breaks } ≡ r.place = place_is r.place at breaks round.answer.at round.answer.breaks in
+    let e : less + length l + 1 ≡ room = fed_room fed less (length l) room has_feed round.spent in
     let fewer : room - (length l + 1) ≡ less = omega (arith, e) in
     record {
       read = a.read ++ (l ++ 10 ∷ []);
       written = a.written ++ r.text;
-      consumed = Consumes-trans given left rest a.read (l ++ 10 ∷ []) a.consumed c;
-      appended = Appends-trans had has more a.written r.text a.appended (subst (Appends has more) answer.text sent);
+      consumed = Consumes-trans given left rest a.read (l ++ 10 ∷ []) a.consumed (fed_read fed left rest l has_feed round.read);
+      appended = Appends-trans had has more a.written r.text a.appended (subst (Appends has more) round.answer.text round.sent);
       follows = λ bytes.
           ap (dialogue_of t first) (append_assoc a.read (l ++ 10 ∷ []) bytes)
           ∙ a.follows ((l ++ 10 ∷ []) ++ bytes)
-          ∙ ap (λ ls. behind a.written (dialogue_from t room ls p)) (lines_fed l bytes feeds)
+          ∙ ap (λ ls. behind a.written (dialogue_from t room ls p)) (lines_fed l bytes round.feeds)
           ∙ ap (behind a.written) (fed_step t room l (lines_of bytes) p (has_lines bytes) (omega (arith, e)) other)
           ∙ behind_behind a.written r.text (dialogue_from t (room - (length l + 1)) (lines_of bytes) r.place)
           ∙ ap (λ k. behind (a.written ++ r.text) (dialogue_from t k (lines_of bytes) r.place)) fewer
@@ -145,37 +174,21 @@ at_the_end None P e h = tt
 at_the_end (Some xs) P e h = subst P (sym e) h
 
 -- the last line was answered, which had no line feed
-pub ends_at_last : (t : TimelineData) (first : ℕ) (p : Place) (room less : ℕ) (given left rest had has more : Option (List ℕ)) (l text : List ℕ) (at : ℕ)
-    (breaks : List Breakpoint) → IsAhead t first p room given left had has → Consumes left rest (l ++ []) → HasNoFeed l → less + length l + 0 ≡ room
-    → IsAtEnd rest → IsAnswer (answer_to t p (line_of t.dialect l)) [] text at breaks → Appends has more text
+pub ends_at_last : {t : TimelineData} {first : ℕ} {p : Place} {room less : ℕ} {given left rest had has more : Option (List ℕ)} {fed : Bool} {l text : List ℕ}
+    {at : ℕ} {breaks : List Breakpoint} → Round t first p room less given left rest had has more fed l text at breaks → fed ≡ false → IsAtEnd rest
     → IfSome given (λ bytes. IsHeld (dialogue_of t first bytes) true had more at)
-ends_at_last t first p room less given left rest had has more l text at breaks a c feeds e end answer sent =
+ends_at_last {t} {first} {p} {room} {less} {given} {left} {rest} {had} {has} {more} {fed} {l} {text} {at} {breaks} round no_feed end =
     let d : Dialogue = record { text = text; at = at; fits = true } in
-    let r = answer_to t p (line_of t.dialect l) in
+    let r = answer_to t p (command_line_of t.dialect l) in
+    let e : less + length l + 0 ≡ room = unfed_room fed less (length l) room no_feed round.spent in
     let is : dialogue_from t room (lines_of ((l ++ []) ++ [])) p ≡ d =
     ap (λ b. dialogue_from t room (lines_of b) p) (append-nil (l ++ []) ∙ append-nil l)
-    ∙ ap (λ ls. dialogue_from t room ls p) (one_unfed l feeds)
+    ∙ ap (λ ls. dialogue_from t room ls p) (one_unfed l round.feeds)
     ∙ last_step t room l p (omega (arith, e))
-    ∙ ap (λ x. record { text = x; at = r.place.at; fits = true }) (append-nil r.text ∙ sym answer.text)
-    ∙ ap (λ x. record { text = text; at = x; fits = true }) (sym answer.at) in
-    over t first p room given left rest had has more (l ++ []) d a c sent
+    ∙ ap (λ x. record { text = x; at = r.place.at; fits = true }) (append-nil r.text ∙ sym round.answer.text)
+    ∙ ap (λ x. record { text = text; at = x; fits = true }) (sym round.answer.at) in
+    over t first p room given left rest had has more (l ++ []) d round.ahead (unfed_read fed left rest l no_feed round.read) round.sent
     (at_the_end rest (λ bytes. dialogue_from t room (lines_of ((l ++ []) ++ bytes)) p ≡ d) end is)
-
--- a `quit` was read
-pub ends_at_quit : (t : TimelineData) (first : ℕ) (p : Place) (room less : ℕ) (given left rest had has more : Option (List ℕ)) (l text : List ℕ) (at : ℕ)
-    (breaks : List Breakpoint) → IsAhead t first p room given left had has → Consumes left rest (l ++ 10 ∷ []) → HasNoFeed l → less + length l + 1 ≡ room
-    → is_quit (line_of t.dialect l) ≡ true → answer_to t p (line_of t.dialect l) ≡ record { text = []; place = p }
-    → IsAnswer (answer_to t p (line_of t.dialect l)) [] text at breaks → Appends has more text
-    → IfSome given (λ bytes. IsHeld (dialogue_of t first bytes) true had more at)
-ends_at_quit t first p room less given left rest had has more l text at breaks a c feeds e quits none answer sent =
-    let d : Dialogue = record { text = text; at = at; fits = true } in
-    let is : (bytes : List ℕ) → dialogue_from t room (lines_of ((l ++ 10 ∷ []) ++ bytes)) p ≡ d = λ bytes.
-    ap (λ ls. dialogue_from t room ls p) (lines_fed l bytes feeds)
-    ∙ quit_step t room l (lines_of bytes) p (has_lines bytes) (omega (arith, e)) quits
-    ∙ ap (λ x. record { text = x; at = p.at; fits = true }) (sym (answer.text ∙ ap (λ (x : Response). x.text) none))
-    ∙ ap (λ x. record { text = text; at = x; fits = true }) (sym (answer.at ∙ ap (λ (x : Response). x.place.at) none)) in
-    over t first p room given left rest had has more (l ++ 10 ∷ []) d a c sent
-    (always rest (λ bytes. dialogue_from t room (lines_of ((l ++ 10 ∷ []) ++ bytes)) p ≡ d) is)
 
 quit_line : (t : TimelineData) (p : Place) (line : Line) → is_quit line ≡ true → answer_to t p line ≡ record { text = []; place = p }
 unfolding response_to
@@ -191,9 +204,25 @@ quit_line t p (Known command.Show) h = absurd (true≢false (sym h))
 quit_line t p (Known command.Own) h = absurd (true≢false (sym h))
 quit_line t p (Known command.Quit) h = refl
 
-pub quit_answer : (t : TimelineData) (p : Place) (l : List ℕ) → is_quit (line_of t.dialect l) ≡ true
-    → answer_to t p (line_of t.dialect l) ≡ record { text = []; place = p }
-quit_answer t p l h = quit_line t p (line_of t.dialect l) h
+quit_answer : (t : TimelineData) (p : Place) (l : List ℕ) → is_quit (command_line_of t.dialect l) ≡ true
+    → answer_to t p (command_line_of t.dialect l) ≡ record { text = []; place = p }
+quit_answer t p l h = quit_line t p (command_line_of t.dialect l) h
+
+-- a `quit` was read
+pub ends_at_quit : {t : TimelineData} {first : ℕ} {p : Place} {room less : ℕ} {given left rest had has more : Option (List ℕ)} {fed : Bool} {l text : List ℕ}
+    {at : ℕ} {breaks : List Breakpoint} → Round t first p room less given left rest had has more fed l text at breaks → fed ≡ true
+    → is_quit (command_line_of t.dialect l) ≡ true → IfSome given (λ bytes. IsHeld (dialogue_of t first bytes) true had more at)
+ends_at_quit {t} {first} {p} {room} {less} {given} {left} {rest} {had} {has} {more} {fed} {l} {text} {at} {breaks} round has_feed quits =
+    let d : Dialogue = record { text = text; at = at; fits = true } in
+    let e : less + length l + 1 ≡ room = fed_room fed less (length l) room has_feed round.spent in
+    let none = quit_answer t p l quits in
+    let is : (bytes : List ℕ) → dialogue_from t room (lines_of ((l ++ 10 ∷ []) ++ bytes)) p ≡ d = λ bytes.
+    ap (λ ls. dialogue_from t room ls p) (lines_fed l bytes round.feeds)
+    ∙ quit_step t room l (lines_of bytes) p (has_lines bytes) (omega (arith, e)) quits
+    ∙ ap (λ x. record { text = x; at = p.at; fits = true }) (sym (round.answer.text ∙ ap (λ (x : Response). x.text) none))
+    ∙ ap (λ x. record { text = text; at = x; fits = true }) (sym (round.answer.at ∙ ap (λ (x : Response). x.place.at) none)) in
+    over t first p room given left rest had has more (l ++ 10 ∷ []) d round.ahead (fed_read fed left rest l has_feed round.read) round.sent
+    (always rest (λ bytes. dialogue_from t room (lines_of ((l ++ 10 ∷ []) ++ bytes)) p ≡ d) is)
 
 -- ---- a line that is too large
 
@@ -231,41 +260,38 @@ large_by t p room byte front rest false is h full =
     ap (λ ls. dialogue_from t room ls p) long.lines ∙ large_step t room long.first long.later p (omega (arith, full, more, long.long))
 
 -- a line was too large, and the lines before it were answered
-pub ends_at_large : (t : TimelineData) (first : ℕ) (p : Place) (room : ℕ) (given left rest had has : Option (List ℕ))
+pub ends_at_large : {t : TimelineData} {first : ℕ} {p : Place} {room : ℕ} {given left rest had has : Option (List ℕ)}
     → IsAhead t first p room given left had has → IsTooLarge room left rest
     → IfSome given (λ bytes. IsHeld (dialogue_of t first bytes) false had has p.at)
-ends_at_large t first p room given left rest had has a large =
+ends_at_large {t} {first} {p} {room} {given} {left} {rest} {had} {has} a large =
     over t first p room given left rest had has has (large.front ++ large.byte ∷ []) (ends p false) a large.consumed (Appends-none has)
     (always rest (λ bytes. dialogue_from t room (lines_of ((large.front ++ large.byte ∷ []) ++ bytes)) p ≡ ends p false)
     (λ bytes. large_by t p room large.byte large.front bytes (large.byte == 10) refl large.feeds large.full))
 
 -- ---- what the calls of a round say
 
-pub fed_read : (fed : Bool) (left rest : Option (List ℕ)) (l : List ℕ) → fed ≡ true → Consumes left rest (l ++ feed fed) → Consumes left rest (l ++ 10 ∷ [])
-fed_read true left rest l h c = c
-fed_read false left rest l h c = absurd (true≢false (sym h))
+pub said_is : {u t : TimelineData} {d : Dialect} {slice l : List ℕ} {line : Line} → u ≡ t → d ≡ u.dialect → slice ≡ l → line ≡ command_line_of d slice
+    → line ≡ command_line_of t.dialect l
+said_is {u} {t} {d} {slice} {l} same dialect is said =
+    said ∙ ap (λ x. command_line_of x slice) (dialect ∙ ap (λ (x : TimelineData). x.dialect) same) ∙ ap (command_line_of t.dialect) is
 
-pub unfed_read : (fed : Bool) (left rest : Option (List ℕ)) (l : List ℕ) → fed ≡ false → Consumes left rest (l ++ feed fed) → Consumes left rest (l ++ [])
-unfed_read false left rest l h c = c
-unfed_read true left rest l h c = absurd (true≢false h)
-
-pub fed_room : (fed : Bool) (less n room : ℕ) → fed ≡ true → less + n + length (feed fed) ≡ room → less + n + 1 ≡ room
-fed_room true less n room h e = omega (arith, e)
-fed_room false less n room h e = absurd (true≢false (sym h))
-
-pub unfed_room : (fed : Bool) (less n room : ℕ) → fed ≡ false → less + n + length (feed fed) ≡ room → less + n + 0 ≡ room
-unfed_room false less n room h e = omega (arith, e)
-unfed_room true less n room h e = absurd (true≢false h)
-
-pub said_is : (u t : TimelineData) (d : Dialect) (slice l : List ℕ) (line : Line) → u ≡ t → d ≡ u.dialect → slice ≡ l → line ≡ line_of d slice
-    → line ≡ line_of t.dialect l
-said_is u t d slice l line same dialect is said =
-    said ∙ ap (λ x. line_of x slice) (dialect ∙ ap (λ (x : TimelineData). x.dialect) same) ∙ ap (line_of t.dialect) is
-
-pub answered : (u t : TimelineData) (p : Place) (line : Line) (l before after : List ℕ) (at : ℕ) (breaks : List Breakpoint) → u ≡ t
-    → line ≡ line_of t.dialect l → before ≡ [] → IsAnswer (answer_to u p line) before after at breaks
-    → IsAnswer (answer_to t p (line_of t.dialect l)) [] after at breaks
-answered u t p line l before after at breaks same said none a =
-    subst (λ x. IsAnswer (answer_to x p (line_of t.dialect l)) [] after at breaks) same
-    (subst (λ x. IsAnswer (answer_to u p x) [] after at breaks) said
-    (subst (λ x. IsAnswer (answer_to u p line) x after at breaks) none a))
+-- the line as it was read from the buffer, and its answer, are those of the timeline at the start
+pub a_round : {t u : TimelineData} {first : ℕ} {p : Place} {room less : ℕ} {given left had has : Option (List ℕ)} {fed : Bool} {l slice before text shown : List ℕ}
+    {at : ℕ} {breaks : List Breakpoint} {d : Dialect} {line : Line} (rest more : Option (List ℕ))
+    → IsAhead t first p room given left had has → u ≡ t → d ≡ u.dialect → slice ≡ l → line ≡ command_line_of d slice
+    → before ≡ [] → IsAnswer (answer_to u p line) before text at breaks
+    → Consumes left rest (l ++ feed fed) → HasNoFeed l → less + length l + length (feed fed) ≡ room → shown ≡ text → Appends has more shown
+    → Round t first p room less given left rest had has more fed l text at breaks
+a_round {t} {u} {first} {p} {room} {less} {given} {left} {had} {has} {fed} {l} {slice} {before} {text} {shown} {at} {breaks} {d} {line} rest more
+    ahead same dialect is said none answer read feeds spent as_text sent =
+    let whole : line ≡ command_line_of t.dialect l = said_is same dialect is said in
+    record {
+      ahead = ahead;
+      read = read;
+      feeds = feeds;
+      spent = spent;
+      answer = subst (λ x. IsAnswer (answer_to x p (command_line_of t.dialect l)) [] text at breaks) same
+          (subst (λ x. IsAnswer (answer_to u p x) [] text at breaks) whole
+          (subst (λ x. IsAnswer (answer_to u p line) x text at breaks) none answer));
+      sent = subst (Appends has more) as_text sent;
+    }

@@ -3,7 +3,7 @@
 use Rattle.std.specs.Prelude.{ℕ, zero, suc, ◌+◌, ◌-◌, ◌==◌, nat_lt, if◌then◌else◌, Option, Some, None, List, [], ◌∷◌}
 use Rattle.std.specs.Prelude.{◌++◌, length, codes}
 use Rattle.std.specs.Fmt.{decimal}
-use Rattle.debug_commands.specs.Breakpoints.{first_holding, word_of}
+use Rattle.debug_commands.specs.Breakpoints.{first_holding, breakpoint_word}
 use Rattle.debug_commands.specs.Timeline.{TimelineData}
 use Rattle.debug_commands.specs.declared.answers.TheConstants.{MAX_BREAKPOINTS}
 use Rattle.debug_commands.specs.declared.breakpoint.Breakpoint.{Breakpoint}
@@ -20,12 +20,12 @@ pub record Place : Type 0 where
 
 -- ---- the lines
 
-abbrev pub at_line : ℕ → List ℕ
-at_line n = codes "at " ++ (decimal n ++ codes "\n")
+abbrev pub position_line : ℕ → List ℕ
+position_line n = codes "at " ++ (decimal n ++ codes "\n")
 
 abbrev pub stop_line : Option Breakpoint → List ℕ
 stop_line None = codes "end\n"
-stop_line (Some b) = codes "stop " ++ (word_of b ++ codes "\n")
+stop_line (Some b) = codes "stop " ++ (breakpoint_word b ++ codes "\n")
 
 -- ---- the answer to a command
 
@@ -39,7 +39,7 @@ stays p text = record { text = text; place = p }
 
 -- the position is n
 abbrev pub goes : Place → ℕ → Response
-goes p n = record { text = at_line n; place = record { at = n; breaks = p.breaks } }
+goes p n = record { text = position_line n; place = record { at = n; breaks = p.breaks } }
 
 -- the breakpoints are these
 abbrev pub sets : Place → List Breakpoint → Response
@@ -57,7 +57,8 @@ stop_after facts breaks at (suc left) =
     stop_here (first_holding (facts (at + 1)) breaks) (at + 1) (stop_after facts breaks (at + 1) left)
 
 abbrev pub runs : Place → ℕ × Option Breakpoint → Response
-runs p stop = record { text = stop_line stop.1 ++ at_line stop.0; place = record { at = stop.0; breaks = p.breaks } }
+runs p stop =
+    record { text = stop_line stop.1 ++ position_line stop.0; place = record { at = stop.0; breaks = p.breaks } }
 
 unfoldable pub response_to : TimelineData → Place → Command → Response
 response_to t p (command.Step n) =

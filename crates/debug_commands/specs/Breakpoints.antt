@@ -9,21 +9,21 @@ is_key None key = false
 is_key (Some other) key = other == key
 
 -- whether a breakpoint holds after a step
-abbrev pub holds : StepFacts → Breakpoint → Bool
-holds f (Hit key) = is_key f.hit key
-holds f (Evict key) = is_key f.left key || is_key f.also_left key
-holds f Halve = f.halved
-holds f Part = f.parted
-holds f Drop = f.dropped
+abbrev pub holds_after : StepFacts → Breakpoint → Bool
+holds_after f (Hit key) = is_key f.hit key
+holds_after f (Evict key) = is_key f.left key || is_key f.also_left key
+holds_after f Halve = f.halved
+holds_after f Part = f.parted
+holds_after f Drop = f.dropped
 
 -- of several that hold, the one that was set first
 abbrev pub first_holding : StepFacts → List Breakpoint → Option Breakpoint
 first_holding f [] = None
-first_holding f (b ∷ bs) = if holds f b then Some b else first_holding f bs
+first_holding f (b ∷ bs) = if holds_after f b then Some b else first_holding f bs
 
-abbrev pub word_of : Breakpoint → List ℕ
-word_of (Hit key) = codes "hit"
-word_of (Evict key) = codes "evict"
-word_of Halve = codes "halve"
-word_of Part = codes "part"
-word_of Drop = codes "drop"
+abbrev pub breakpoint_word : Breakpoint → List ℕ
+breakpoint_word (Hit key) = codes "hit"
+breakpoint_word (Evict key) = codes "evict"
+breakpoint_word Halve = codes "halve"
+breakpoint_word Part = codes "part"
+breakpoint_word Drop = codes "drop"

@@ -65,5 +65,5 @@ line_in d [] = Empty
 line_in d (w ∷ ws) = known_or (command_in d (w ∷ ws))
 
 -- what a line says, without its line feed
-abbrev pub line_of : Dialect → List ℕ → Line
-line_of d text = line_in d (words_in (trimmed_text text))
+abbrev pub command_line_of : Dialect → List ℕ → Line
+command_line_of d text = line_in d (words_in (trimmed_text text))

@@ -4,7 +4,7 @@ use Rattle.std.specs.Prelude.{◌++◌, length}
 use Rattle.std.specs.Io.KnownBytes.{Appends}
 use Rattle.text_lines.specs.Feeds.{lines_of}
 use Rattle.debug_commands.specs.Answers.{Place, Response, answer_to}
-use Rattle.debug_commands.specs.Commands.{line_of}
+use Rattle.debug_commands.specs.Commands.{command_line_of}
 use Rattle.debug_commands.specs.Timeline.{TimelineData}
 use Rattle.debug_commands.specs.declared.command.Command.TheVariants.{Quit}
 use Rattle.debug_commands.specs.declared.command.Line.{Line}
@@ -33,10 +33,11 @@ answers r later = record { text = r.text ++ (later r.place).text; at = (later r.
 unfoldable pub dialogue_from : TimelineData → ℕ → List (List ℕ) → Place → Dialogue
 dialogue_from t room [] p = ends p true
 dialogue_from t room (l ∷ []) p =
-    if nat_lt room (length l) then ends p false else answers (answer_to t p (line_of t.dialect l)) (λ q. ends q true)
+    if nat_lt room (length l) then ends p false
+    else answers (answer_to t p (command_line_of t.dialect l)) (λ q. ends q true)
 dialogue_from t room (l ∷ m ∷ ls) p =
-    if nat_lt room (length l + 1) then ends p false else (if is_quit (line_of t.dialect l) then ends p true
-    else answers (answer_to t p (line_of t.dialect l)) (dialogue_from t (room - (length l + 1)) (m ∷ ls)))
+    if nat_lt room (length l + 1) then ends p false else (if is_quit (command_line_of t.dialect l) then ends p true
+    else answers (answer_to t p (command_line_of t.dialect l)) (dialogue_from t (room - (length l + 1)) (m ∷ ls)))
 
 -- the whole of it, from a position on, without breakpoints
 abbrev pub dialogue_of : TimelineData → ℕ → List ℕ → Dialogue

@@ -1,6 +1,6 @@
 //! What is answered to a line.
 ghost use Rattle.std.specs.Prelude.{◌≡◌, ◌≤◌, ◌-◌, ◌++◌, ℕ, List, OnOk, IfOk};
-ghost use Rattle.debug_commands.specs.Answers.{answer_to, at_line, response_to, stop_after, stop_line};
+ghost use Rattle.debug_commands.specs.Answers.{answer_to, position_line, response_to, stop_after, stop_line};
 ghost use Rattle.debug_commands.specs.Answering.{IsAnswer};
 ghost use Rattle.debug_commands.specs.Timeline.{TimelineData};
 ghost use Rattle.debug_commands.specs.declared.breakpoint.Breakpoint.{Breakpoint};
@@ -156,7 +156,7 @@ fn go<T: Timeline>(
     ensures whole { OnOk result (T.IsWhole timeline.new) }
     ensures same { OnOk result (T.timeline timeline.new ≡ T.timeline timeline.old) }
     ensures position { OnOk result (T.position timeline.new ≡ n) }
-    ensures text { OnOk result (text.new.items ≡ text.old.items ++ at_line n) }
+    ensures text { OnOk result (text.new.items ≡ text.old.items ++ position_line n) }
 {
     timeline.goto(alloc, n)?;
     push_at(text, n)

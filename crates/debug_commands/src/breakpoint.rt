@@ -1,6 +1,6 @@
 //! Breakpoints, and what they ask of a step.
 ghost use Rattle.std.specs.Prelude.{◌≡◌};
-ghost use Rattle.debug_commands.specs.Breakpoints.{first_holding, holds, word_of};
+ghost use Rattle.debug_commands.specs.Breakpoints.{first_holding, holds_after, breakpoint_word};
 
 use step_record::Key;
 
@@ -39,7 +39,7 @@ pub struct StepFacts {
 impl Breakpoint {
     /// The word that names it.
     pub fn word(self) -> &'static [u8]
-        ensures { result.now ≡ word_of self }
+        ensures { result.now ≡ breakpoint_word self }
     {
         match self {
             Breakpoint::Hit(_) => b"hit",
@@ -52,7 +52,7 @@ impl Breakpoint {
 
     /// Whether it holds after the step.
     pub fn holds(self, facts: &StepFacts) -> bool
-        ensures { result ≡ holds facts.now self }
+        ensures { result ≡ holds_after facts.now self }
     {
         match self {
             Breakpoint::Hit(key) => is_key(facts.hit, key),

@@ -1,6 +1,6 @@
 //! The grammar of a line.
 ghost use Rattle.std.specs.Prelude.{◌≡◌};
-ghost use Rattle.debug_commands.specs.Commands.{command_at, command_in, line_in, line_of, point_at};
+ghost use Rattle.debug_commands.specs.Commands.{command_at, command_in, line_in, command_line_of, point_at};
 ghost use Rattle.text_lines.specs.Reads.{with_rest};
 ghost use Rattle.debug_commands.specs.Words.{words_in};
 
@@ -12,7 +12,7 @@ use text_lines::trimmed;
 
 /// What a line says, which is given without its line feed.
 pub fn line(dialect: Dialect, text: &[u8]) -> Line
-    ensures { result ≡ line_of dialect text.now }
+    ensures { result ≡ command_line_of dialect text.now }
 {
     line_read(dialect, trimmed(text))
 }

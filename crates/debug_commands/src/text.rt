@@ -1,7 +1,7 @@
 //! Text behind what a buffer holds already.
 ghost use Rattle.std.specs.Prelude.{◌≡◌, ◌++◌, OnOk};
 ghost use Rattle.std.specs.Fmt.{decimal};
-ghost use Rattle.debug_commands.specs.Answers.{at_line};
+ghost use Rattle.debug_commands.specs.Answers.{position_line};
 
 use itoa::Buffer;
 use std::alloc::AllocError;
@@ -23,7 +23,7 @@ pub fn push_number(text: &mut Vec<u8>, number: u64) -> Result<(), AllocError>
 
 // Adds the line that names a position.
 pub(crate) fn push_at(text: &mut Vec<u8>, position: usize) -> Result<(), AllocError>
-    ensures { OnOk result (text.new.items ≡ text.old.items ++ at_line position) }
+    ensures { OnOk result (text.new.items ≡ text.old.items ++ position_line position) }
 {
     push_bytes(text, b"at ")?;
     push_number(text, position as u64)?;

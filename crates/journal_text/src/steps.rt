@@ -2,7 +2,7 @@
 ghost use Rattle.std.specs.Prelude.{◌≡◌, ◌≢◌, true, false, ◌∷◌, [], ◌++◌, ◌+◌, ◌≤◌, length, IfErr, IfOk, OnOk};
 ghost use Rattle.journal_text.specs.Faults.{IsWrong, Took};
 ghost use Rattle.step_record.specs.History.{IsLegal};
-ghost use Rattle.journal_text.specs.ReplyItem.{item_of};
+ghost use Rattle.journal_text.specs.ReplyItem.{reply_item};
 ghost use Rattle.journal_text.specs.Table.{text_of, IsLine};
 ghost use Rattle.journal_text.specs.declared.line.Line.TheVariants.{Made};
 
@@ -81,8 +81,8 @@ fn is_same(reply: Reply, other: Reply) -> bool
     ensures same { result ≡ true → reply ≡ other }
     ensures differs { result ≡ false → reply ≢ other }
 {
-    let item = item_of(reply);
-    let wanted = item_of(other);
+    let item = reply_item(reply);
+    let wanted = reply_item(other);
     is_same_name(reply_name(&reply), reply_name(&other))
         && item.key == wanted.key
         && item.node == wanted.node
@@ -97,8 +97,8 @@ fn is_same_name(name: Name, other: Name) -> bool
 }
 
 // The key and the node of a reply, 0 where it has none.
-fn item_of(reply: Reply) -> Item
-    ensures { result ≡ item_of reply }
+fn reply_item(reply: Reply) -> Item
+    ensures { result ≡ reply_item reply }
 {
     match reply {
         Reply::Hit { node }

@@ -6,8 +6,8 @@ abbrev pub is_byte : ℕ → ℕ → Bool
 is_byte byte b = b == byte
 
 -- where the byte first stands, or the length
-abbrev pub place_in : ℕ → List ℕ → ℕ
-place_in byte = position_or_len (is_byte byte)
+abbrev pub byte_place : ℕ → List ℕ → ℕ
+byte_place byte = position_or_len (is_byte byte)
 
 -- the byte is not in the text
 abbrev pub Lacks : ℕ → List ℕ → Type 0

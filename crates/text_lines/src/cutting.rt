@@ -2,11 +2,11 @@
 ghost use Rattle.std.specs.Prelude.{◌≡◌, ◌≤◌, ◌++◌, ◌∷◌, [], length};
 ghost use Rattle.std.specs.List.{slice_split};
 ghost use Rattle.std.specs.Option.{option_map_or};
-ghost use Rattle.text_lines.specs.Cuts.{is_byte, place_in, Lacks};
+ghost use Rattle.text_lines.specs.Cuts.{is_byte, byte_place, Lacks};
 
 /// Where the byte first stands in the text, or the length of the text.
 pub fn place_of(text: &[u8], byte: u8) -> usize
-    ensures place { result ≡ place_in byte text.now }
+    ensures place { result ≡ byte_place byte text.now }
     ensures within { result ≤ length text.now }
 {
     let mut place = 0;

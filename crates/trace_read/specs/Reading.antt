@@ -11,14 +11,14 @@ use Rattle.trace_read.specs.declared.fault.TraceFault.{TraceFault}
 use Rattle.trace_read.specs.declared.fault.TraceFault.TheVariants.{OutOfMemory, BadNumber, MissingField, Range, TooLong}
 use Rattle.trace_read.specs.declared.fault.TraceFault.TheVariants.{TooLarge, Read}
 
-abbrev pub at_line : ℕ → LineFault → TraceFault
-at_line n line.BadNumber = BadNumber n
-at_line n line.MissingField = MissingField n
-at_line n line.Range = Range n
+abbrev pub trace_fault_at : ℕ → LineFault → TraceFault
+trace_fault_at n line.BadNumber = BadNumber n
+trace_fault_at n line.MissingField = MissingField n
+trace_fault_at n line.Range = Range n
 
 -- the fault of line n, which stands after so many accesses
 abbrev pub fault_after : ℕ → ℕ → Result (List ℕ) LineFault → Option TraceFault
-fault_after n before (Err e) = Some (at_line n e)
+fault_after n before (Err e) = Some (trace_fault_at n e)
 fault_after n before (Ok keys) =
     if nat_lt MAX_ACCESSES (before + length keys) then Some (TooLong n) else None
 

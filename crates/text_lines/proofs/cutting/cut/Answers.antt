@@ -1,6 +1,6 @@
 use Rattle.std.proofs.Common.{◌∙◌, ◌+◌, ◌<◌, sym, arith, length, take, subst}
 use Rattle.std.proofs.lemmas.List.{append-nil}
-use Rattle.text_lines.specs.Cuts.{place_in, Lacks}
+use Rattle.text_lines.specs.Cuts.{byte_place, Lacks}
 use Rattle.text_lines.proofs.Cuts.{behind, cut_at, first_part, lacks_all, lacks_before, last_part}
 use Rattle.text_lines.proofs.cutting.cut.Goals as goal
 
@@ -21,7 +21,7 @@ returns c =
     let text = c.args.text.now in
     let k = c.place_of-place.result in
     let at = c.place_of-place.ensures.place in
-    let inside : place_in byte text < length text =
+    let inside : byte_place byte text < length text =
     omega (arith, at, c.place_of-place.ensures.within, c.if-place-text.false) in
     record {
       front = subst (λ n. Lacks byte (take n text)) (sym at) (lacks_before byte text);
