@@ -1,5 +1,5 @@
 -- What some list of accesses gives, one access further.
-use Rattle.std.proofs.Common.{◌≡◌, ◌≢◌, ℕ, ◌+◌, ◌*◌, ◌≤◌, Bool, true, false, ◌==◌, inl, inr, Option, Some, None, Ok, Err, List, [], ◌∷◌, ◌++◌, length, ap, ◌∙◌, sym, refl, arith, subst, length-append, append-nil, add-zero, lit≤}
+use Rattle.std.proofs.Common.{◌≡◌, ◌≢◌, ℕ, ◌+◌, ◌≤◌, Bool, true, false, ◌==◌, inl, inr, Option, Some, None, Ok, Err, List, [], ◌∷◌, ◌++◌, length, ap, ◌∙◌, sym, refl, arith, subst, length-append, append-nil, add-zero}
 use Rattle.std.proofs.lemmas.List.{append_assoc}
 use Rattle.std.proofs.lemmas.Bool.{cases_Bool, eqb-true}
 use Rattle.std.proofs.lemmas.Bool.Decides.{nat_tests}
@@ -12,7 +12,7 @@ use Rattle.step_record.specs.declared.stats.Stats.{Stats}
 use Rattle.step_record.specs.Config.{config_fault, is_from_one}
 use Rattle.step_record.specs.Pace.{words_of_halvings}
 use Rattle.step_record.specs.Stats.{stats_of, counted, one, is_hit, is_miss, is_eviction, is_rejection, IsSmall}
-use Rattle.segments.specs.Queues.{Queues, empty, total, IsDistinct}
+use Rattle.segments.specs.Queues.{Queues, empty}
 use Rattle.admission.specs.declared.freq_record.FreqRecord.{FreqRecord}
 use Rattle.admission.specs.Frequency.{FrequencyData, frequency_of}
 use Rattle.admission.proofs.Recording.{recorded_freq}
@@ -22,7 +22,6 @@ use Rattle.replacement.specs.declared.record.Effect.{Effect}
 use Rattle.replacement.specs.Admission.{admits_in}
 use Rattle.replacement.specs.Shape.{shape_of}
 use Rattle.replacement.specs.Table.{Response, access}
-use Rattle.replacement.proofs.Planned.{access-distinct, access-few}
 use Rattle.replacement.proofs.Shape.{shape-is}
 use Rattle.policies.specs.QueueCache.{QueueState, is_counting, rules_of, item_of, response_to, accessed, frequency_by, frequency_after, state_from, opened, state_after, outcome_after, StandsFor}
 use Rattle.policies.specs.QueueStep.{IsReached, recorded_in, queue_act, FitsCounting, unrecorded, counting_words, pace_by}
@@ -57,15 +56,13 @@ pub after-job : (j : Job) (keys : List ℕ) → (state_after j keys).job ≡ j
 unfolding state_after
 after-job j keys = from-job j [] (opened j) keys
 
--- each count is within that of the accesses, and each access adds two items at most
+-- each count is within that of the accesses
 record IsSteady (d : QueueState) (n : ℕ) : Type 0 where
   accesses : d.stats.accesses ≡ n
   hits : d.stats.hits ≤ n
   misses : d.stats.misses ≤ n
   evictions : d.stats.evictions ≤ n
   rejections : d.stats.rejections ≤ n
-  items : total d.queues ≤ 2 * n
-  distinct : IsDistinct d.queues
 
 one-few : (b : Bool) → one b ≤ 1
 one-few true = omega arith
@@ -80,8 +77,6 @@ steady-step f k d n h =
       misses = (let a = h.misses in let b = one-few (is_miss o) in omega arith);
       evictions = (let a = h.evictions in let b = one-few (is_eviction o) in omega arith);
       rejections = (let a = h.rejections in let b = one-few (is_rejection o) in omega arith);
-      items = (let a = h.items in let b = access-few (rules_of d.job) (admits_in f) (item_of k) d.queues h.distinct in omega arith);
-      distinct = access-distinct (rules_of d.job) (admits_in f) (item_of k) d.queues h.distinct;
     }
 
 from-steady : (j : Job) (past : List ℕ) (d : QueueState) (keys : List ℕ) (n : ℕ) → IsSteady d n → IsSteady (state_from j past d keys) (n + length keys)
@@ -95,7 +90,7 @@ unfolding state_after
 after-steady j keys =
     subst (IsSteady (state_from j [] (opened j) keys)) (omega arith)
     (from-steady j [] (opened j) keys 0
-    record { accesses = refl; hits = omega arith; misses = omega arith; evictions = omega arith; rejections = omega arith; items = omega arith; distinct = λ i. lit≤ tt })
+    record { accesses = refl; hits = omega arith; misses = omega arith; evictions = omega arith; rejections = omega arith })
 
 reached-steady : (d : QueueState) (r : IsReached d) → IsSteady d (length r.keys)
 reached-steady d r = subst (λ (e : QueueState). IsSteady e (length r.keys)) (sym r.stands.gives) (after-steady d.job r.keys)
@@ -111,9 +106,6 @@ reached-small d r =
       evictions = (let a = h.evictions in omega arith);
       rejections = (let a = h.rejections in omega arith);
     }
-
-pub reached-items : (d : QueueState) → IsReached d → total d.queues ≤ 8589934592
-reached-items d r = let h = (reached-steady d r).items in let n = r.few in omega arith
 
 by-few : (b : Bool) (c : Config) (keys : List ℕ) → 1 ≤ c.capacity → length keys ≤ 4294967296 → FewHalvings (frequency_by b (shape_of c) keys)
 unfolding frequency_of

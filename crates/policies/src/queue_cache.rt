@@ -3,7 +3,6 @@ ghost use Rattle.std.specs.Prelude.{◌≡◌, ◌≢◌, ◌+◌, ◌≤◌, �
 ghost use Rattle.std.specs.Prelude.{IfOk, IfErr, OnOk, OnErr, IsTrue, Ok, Option, Some, None};
 ghost use Rattle.step_record.specs.Config.{config_fault};
 ghost use Rattle.step_record.specs.Pace.{words_of_halvings};
-ghost use Rattle.segments.specs.Queues.{total};
 ghost use Rattle.replacement.specs.Admission.{admits_in};
 ghost use Rattle.replacement.specs.Table.{access};
 ghost use Rattle.replacement.specs.Moving.{undone_moves, FitsMoves};
@@ -131,7 +130,6 @@ fn access_key<C>(
     key: Key,
 ) -> Effect
     requires room { 1 ≤ segments.old.spare }
-    requires few { total segments.old.lists ≤ 2 ^ 33 }
     ensures outcome { result.outcome
         ≡ (access rules.now (admits_in frequency.now) (item_of key) segments.old.lists).outcome }
     ensures lists { segments.new.lists

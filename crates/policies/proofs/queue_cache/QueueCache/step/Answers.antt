@@ -1,14 +1,8 @@
-use Rattle.std.proofs.Common.{◌≤◌, sym, subst}
-use Rattle.segments.specs.Queues.{Queues, total}
-use Rattle.policies.proofs.Reached.{reached-halvings, reached-items, reached-small, access-reached, counting-weighs}
+use Rattle.policies.proofs.Reached.{reached-halvings, reached-small, access-reached, counting-weighs}
 use Rattle.policies.proofs.queue_cache.QueueCache.step.Goals as goal
 
 pub record_in-requires : goal.record_in-requires
 record_in-requires g c = reached-halvings _ c.self.invariant.reached
-
-pub access_key-effect-requires-clause-few : goal.access_key-effect-requires-clause-few
-access_key-effect-requires-clause-few g c =
-    subst (λ (q : Queues). total q ≤ 8589934592) (sym c.reserve.ensures.lists) (reached-items _ c.self.invariant.reached)
 
 pub count-requires : goal.count-requires
 count-requires g c = reached-small _ c.self.invariant.reached
