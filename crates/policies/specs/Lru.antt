@@ -1,9 +1,14 @@
 -- The least recently used policy, over a whole list of accesses: a cache holds the last distinct keys in order of last
 -- access. (The textbook definition of Lru.)
-use Rattle.std.specs.Prelude.{ℕ, ◌-◌, nat_lt, Bool, ◌&&◌, if◌then◌else◌, List, [], ◌∷◌, length, drop}
+use Rattle.std.specs.Prelude.{ℕ, ◌-◌, nat_lt, Bool, false, ◌&&◌, if◌then◌else◌, List, [], ◌∷◌, length, drop}
+use Rattle.step_record.specs.declared.config.Config.{Config}
 use Rattle.step_record.specs.Keys.{has}
 use Rattle.step_record.specs.declared.outcome.Outcome.{Outcome}
 use Rattle.step_record.specs.declared.outcome.Outcome.TheVariants.{Hit, Kept, Evicted}
+use Rattle.replacement.specs.declared.rules.Rules.{Rules}
+use Rattle.replacement.specs.Rules.{one_queue}
+
+-- ---- over the accesses
 
 -- the distinct keys, in order of last access
 abbrev pub distinct : List ℕ → List ℕ
@@ -31,3 +36,13 @@ first_or d (a ∷ xs) = a
 abbrev pub outcome : ℕ → List ℕ → ℕ → Outcome
 outcome c xs k =
     if hits c xs k then Hit else if nat_lt (length (distinct xs)) c then Kept else Evicted (first_or 0 (residents c xs))
+
+-- ---- as a policy of queues
+
+-- the size of its one queue, where new keys go and hits stay
+abbrev pub lru_rules : Config → Rules
+lru_rules c = one_queue c
+
+-- whether it counts keys
+abbrev pub lru_counts : Bool
+lru_counts = false
