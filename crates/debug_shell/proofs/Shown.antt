@@ -10,8 +10,8 @@ use Rattle.clairvoyant.specs.Belady.{outcomes, outcome, residents}
 use Rattle.clairvoyant.specs.Clairvoyant.{ClairvoyantState}
 use Rattle.policies.specs.declared.any_policy.AnyPolicy.{AnyPolicy}
 use Rattle.policies.specs.declared.any_policy.AnyPolicy.TheVariants.{Queues, Optimal}
-use Rattle.policies.specs.AnyPolicy.{frequency_in, keys_in, knows_trace, stats_in, Stands}
-use Rattle.policies.specs.QueueCache.{QueueState, accessed, frequency_after, frequency_by, is_counting, opened, outcomes_after, outcomes_from, residents_in, response_to}
+use Rattle.policies.specs.AnyPolicy.{frequency_in, any_residents, knows_trace, stats_in, Stands}
+use Rattle.policies.specs.QueueCache.{QueueState, accessed, frequency_after, frequency_by, is_counting, empty_queue_state, outcomes_after, outcomes_from, residents_in, response_to}
 use Rattle.policies.proofs.Answered.{outcomes-length}
 use Rattle.policies.proofs.Counting.{after-counts}
 use Rattle.policies.proofs.Reached.{after-frequency}
@@ -39,7 +39,7 @@ shown_age j trace keys (Optimal d) s = ap (λ p. age_in (frequency_by (is_counti
 
 -- ---- the residents
 
-pub shown_keys : (j : Job) (trace : List ℕ) (n : ℕ) (d : AnyPolicy) → n ≤ length trace → Stands j trace (take n trace) d → keys_in d ≡ residents_at j trace n
+pub shown_keys : (j : Job) (trace : List ℕ) (n : ℕ) (d : AnyPolicy) → n ≤ length trace → Stands j trace (take n trace) d → any_residents d ≡ residents_at j trace n
 shown_keys j trace n (Queues d) le s =
     ap (λ (x : QueueState). residents_in x.queues) s.1.gives ∙ sym (cond-false _ _ _ (knows_not j.policy s.0))
 shown_keys j trace n (Optimal d) le s =
@@ -57,7 +57,7 @@ from_first j past d (suc n) (k ∷ keys) =
 
 queues_first : (j : Job) (n : ℕ) (keys : List ℕ) → outcomes_after j (take n keys) ≡ take n (outcomes_after j keys)
 unfolding outcomes_after
-queues_first j n keys = from_first j [] (opened j) n keys
+queues_first j n keys = from_first j [] (empty_queue_state j) n keys
 
 optimal_first : (c : ℕ) (t : List ℕ) (n m : ℕ) → n ≤ m → outcomes c t n ≡ take n (outcomes c t m)
 optimal_first c t n zero le =

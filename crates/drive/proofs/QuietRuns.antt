@@ -11,7 +11,7 @@ use Rattle.admission.specs.Frequency.{FrequencyData, frequency_of, pace_of}
 use Rattle.admission.proofs.Recording.{recorded_freq}
 use Rattle.replacement.specs.Shape.{shape_of}
 use Rattle.replacement.proofs.Shape.{shape-is, own-shape}
-use Rattle.policies.specs.QueueCache.{QueueState, response_to, accessed, frequency_after, opened as opened_policy, outcomes_from, outcomes_after, state_from, state_after}
+use Rattle.policies.specs.QueueCache.{QueueState, response_to, accessed, frequency_after, empty_queue_state as opened_policy, outcomes_from, outcomes_after, state_from, state_after}
 use Rattle.policies.specs.QueueStep.{recorded_in}
 use Rattle.policies.proofs.Reached.{has-room, after-frequency, after-job}
 use Rattle.shell_model.specs.Shell.{Shell, act}

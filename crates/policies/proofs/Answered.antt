@@ -6,7 +6,7 @@ use Rattle.std.proofs.Math.Seq.{get_or-append_seam}
 use Rattle.step_record.specs.declared.job.Job.{Job}
 use Rattle.step_record.specs.declared.outcome.Outcome.{Outcome}
 use Rattle.clairvoyant.specs.Belady.{outcomes, outcome as outcome_at}
-use Rattle.policies.specs.QueueCache.{QueueState, response_to, accessed, frequency_after, state_from, opened, state_after, outcomes_from, outcomes_after, outcome_after}
+use Rattle.policies.specs.QueueCache.{QueueState, response_to, accessed, frequency_after, state_from, empty_queue_state, state_after, outcomes_from, outcomes_after, outcome_after}
 
 -- ---- of a policy of queues
 
@@ -21,7 +21,7 @@ from-answers j past d (a ∷ keys) rest k x =
 pub after-answers : (j : Job) (keys rest : List ℕ) (k : ℕ) (x : Outcome)
     → get_or (outcomes_after j (keys ++ k ∷ rest)) (length keys) x ≡ outcome_after j keys k
 unfolding state_after outcomes_after
-after-answers j keys rest k x = from-answers j [] (opened j) keys rest k x
+after-answers j keys rest k x = from-answers j [] (empty_queue_state j) keys rest k x
 
 from-length : (j : Job) (past : List ℕ) (d : QueueState) (keys : List ℕ) → length (outcomes_from j past d keys) ≡ length keys
 from-length j past d [] = refl
@@ -30,7 +30,7 @@ from-length j past d (k ∷ keys) =
 
 pub after-length : (j : Job) (keys : List ℕ) → length (outcomes_after j keys) ≡ length keys
 unfolding outcomes_after
-after-length j keys = from-length j [] (opened j) keys
+after-length j keys = from-length j [] (empty_queue_state j) keys
 
 -- ---- of Belady's optimal policy
 

@@ -4,7 +4,7 @@ use Rattle.step_record.specs.declared.job.Job.{Job}
 use Rattle.step_record.specs.declared.outcome.Outcome.{Outcome}
 use Rattle.step_record.specs.Stats.{stats_of, counted}
 use Rattle.step_record.proofs.Counting.{stats-snoc}
-use Rattle.policies.specs.QueueCache.{QueueState, response_to, accessed, frequency_after, state_from, opened, state_after, outcomes_from, outcomes_after}
+use Rattle.policies.specs.QueueCache.{QueueState, response_to, accessed, frequency_after, state_from, empty_queue_state, state_after, outcomes_from, outcomes_after}
 
 from-counts : (j : Job) (past : List ℕ) (d : QueueState) (os : List Outcome) (keys : List ℕ) → d.stats ≡ stats_of os
     → (state_from j past d keys).stats ≡ stats_of (os ++ outcomes_from j past d keys)
@@ -17,4 +17,4 @@ from-counts j past d os (k ∷ keys) h =
 
 pub after-counts : (j : Job) (keys : List ℕ) → (state_after j keys).stats ≡ stats_of (outcomes_after j keys)
 unfolding state_after outcomes_after
-after-counts j keys = from-counts j [] (opened j) [] keys refl
+after-counts j keys = from-counts j [] (empty_queue_state j) [] keys refl

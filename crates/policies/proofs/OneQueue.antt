@@ -16,35 +16,35 @@ use Rattle.replacement.specs.Admission.{admits_in}
 use Rattle.replacement.specs.Shape.{shape_of}
 use Rattle.replacement.specs.Table.{Response, kept_in, hit_in, replacing, direct, access}
 use Rattle.replacement.proofs.Planned.{access-at}
-use Rattle.policies.specs.Lru.{residents, outcome, distinct}
-use Rattle.policies.specs.QueueCache.{QueueState, rules_by, rules_of, is_counting, item_of, accessed, frequency_by, frequency_after, state_from, opened, state_after, outcome_after}
+use Rattle.policies.specs.Lru.{lru_residents, lru_outcome, distinct}
+use Rattle.policies.specs.QueueCache.{QueueState, rules_by, rules_of, is_counting, nodeless_item, accessed, frequency_by, frequency_after, state_from, empty_queue_state, state_after, outcome_after}
 use Rattle.policies.specs.InWindow.{in_window}
 use Rattle.policies.proofs.Recency.{IsDistinct, moved, answer, two, without-none, distinct-distinct, residents-snoc, outcome-residents}
 
 pos : (n : ℕ) → nat_lt 0 (1 + n) ≡ true
 pos n = grind (arith, nat_tests)
 
-has-map : (k : ℕ) (l : List ℕ) → has (item_of k) (map item_of l) ≡ has_key k l
+has-map : (k : ℕ) (l : List ℕ) → has (nodeless_item k) (map nodeless_item l) ≡ has_key k l
 has-map k [] = refl
 has-map k (a ∷ l) =
-    elim (two (eqb k a)) as (λ _. has (item_of k) (item_of a ∷ map item_of l) ≡ cond (eqb k a) true (has_key k l)) [
-      | inl e ↦ rw e (pos (times (item_of k) (map item_of l)))
-      | inr e ↦ let z : 0 + times (item_of k) (map item_of l) ≡ times (item_of k) (map item_of l) = omega arith in rw (e, z) (has-map k l)
+    elim (two (eqb k a)) as (λ _. has (nodeless_item k) (nodeless_item a ∷ map nodeless_item l) ≡ cond (eqb k a) true (has_key k l)) [
+      | inl e ↦ rw e (pos (times (nodeless_item k) (map nodeless_item l)))
+      | inr e ↦ let z : 0 + times (nodeless_item k) (map nodeless_item l) ≡ times (nodeless_item k) (map nodeless_item l) = omega arith in rw (e, z) (has-map k l)
     ]
 
-without-map : (k : ℕ) (l : List ℕ) → without (item_of k) (map item_of l) ≡ map item_of (without_key k l)
+without-map : (k : ℕ) (l : List ℕ) → without (nodeless_item k) (map nodeless_item l) ≡ map nodeless_item (without_key k l)
 without-map k [] = refl
 without-map k (a ∷ l) =
-    elim (two (eqb k a)) as (λ _. without (item_of k) (item_of a ∷ map item_of l) ≡ map item_of (cond (eqb k a) (without_key k l) (a ∷ without_key k l))) [
+    elim (two (eqb k a)) as (λ _. without (nodeless_item k) (nodeless_item a ∷ map nodeless_item l) ≡ map nodeless_item (cond (eqb k a) (without_key k l) (a ∷ without_key k l))) [
       | inl e ↦ rw e (without-map k l)
-      | inr e ↦ rw e (ap (λ t. item_of a ∷ t) (without-map k l))
+      | inr e ↦ rw e (ap (λ t. nodeless_item a ∷ t) (without-map k l))
     ]
 
-map-snoc : (l : List ℕ) (k : ℕ) → map item_of (l ++ k ∷ []) ≡ map item_of l ++ item_of k ∷ []
+map-snoc : (l : List ℕ) (k : ℕ) → map nodeless_item (l ++ k ∷ []) ≡ map nodeless_item l ++ nodeless_item k ∷ []
 map-snoc [] k = refl
-map-snoc (a ∷ l) k = ap (λ t. item_of a ∷ t) (map-snoc l k)
+map-snoc (a ∷ l) k = ap (λ t. nodeless_item a ∷ t) (map-snoc l k)
 
-length-keys : (l : List ℕ) → length (map item_of l) ≡ length l
+length-keys : (l : List ℕ) → length (map nodeless_item l) ≡ length l
 length-keys [] = refl
 length-keys (a ∷ l) = ap suc (length-keys l)
 
@@ -58,19 +58,19 @@ record IsLru (c k : ℕ) (l : List ℕ) (r : Response) : Type 0 where
   lists : r.queues ≡ in_window (moved c l k)
   outcome : r.outcome ≡ answer c l k
 
-lru-hit : (c k : ℕ) (l : List ℕ) → has_key k l ≡ true → IsLru c k l record { outcome = Hit; left = None; queues = hit_in 0 (item_of k) (Some Window) (in_window l) }
+lru-hit : (c k : ℕ) (l : List ℕ) → has_key k l ≡ true → IsLru c k l record { outcome = Hit; left = None; queues = hit_in 0 (nodeless_item k) (Some Window) (in_window l) }
 lru-hit c k l h = record {
   lists = rw (h, without-map k l, map-snoc (without_key k l) k) refl;
   outcome = rw h refl;
 }
 
-lru-room : (c k : ℕ) (l : List ℕ) → has_key k l ≡ false → nat_lt (length l) c ≡ true → IsLru c k l (kept_in (pushed Window (item_of k) (in_window l)))
+lru-room : (c k : ℕ) (l : List ℕ) → has_key k l ≡ false → nat_lt (length l) c ≡ true → IsLru c k l (kept_in (pushed Window (nodeless_item k) (in_window l)))
 lru-room c k l h f = record {
   lists = rw (h, f, map-snoc l k) refl;
   outcome = rw (h, f) refl;
 }
 
-lru-full : (c k : ℕ) (l : List ℕ) → has_key k l ≡ false → nat_lt (length l) c ≡ false → IsDistinct l → 1 ≤ c → IsLru c k l (replacing (admits_in None) Window (item_of k) (first (map item_of l)) (in_window l))
+lru-full : (c k : ℕ) (l : List ℕ) → has_key k l ≡ false → nat_lt (length l) c ≡ false → IsDistinct l → 1 ≤ c → IsLru c k l (replacing (admits_in None) Window (nodeless_item k) (first (map nodeless_item l)) (in_window l))
 lru-full c k [] h f d w = absurd (let t : nat_lt 0 c ≡ true = grind (arith, nat_tests) in let no : true ≡ false = sym t ∙ f in cc (no))
 lru-full c k (a ∷ l) h f d w =
     let self : eqb a a ≡ true = eq-eqb a a refl in
@@ -79,23 +79,23 @@ lru-full c k (a ∷ l) h f d w =
       outcome = rw (h, f) refl;
     }
 
-lru-direct : (c k : ℕ) (l : List ℕ) → has_key k l ≡ false → IsDistinct l → 1 ≤ c → IsLru c k l (direct (one c) (admits_in None) (item_of k) (in_window l))
+lru-direct : (c k : ℕ) (l : List ℕ) → has_key k l ≡ false → IsDistinct l → 1 ≤ c → IsLru c k l (direct (one c) (admits_in None) (nodeless_item k) (in_window l))
 lru-direct c k l h d w =
-    let full : Bool → Response = λ b. cond b (kept_in (pushed Window (item_of k) (in_window l))) (replacing (admits_in None) Window (item_of k) (first (map item_of l)) (in_window l)) in
+    let full : Bool → Response = λ b. cond b (kept_in (pushed Window (nodeless_item k) (in_window l))) (replacing (admits_in None) Window (nodeless_item k) (first (map nodeless_item l)) (in_window l)) in
     elim (two (nat_lt (length l) c)) [
       | inl f ↦ subst (λ (b : Bool). IsLru c k l (full b)) (sym (ap (λ n. nat_lt n c) (total-in l) ∙ f)) (lru-room c k l h f)
       | inr f ↦ subst (λ (b : Bool). IsLru c k l (full b)) (sym (ap (λ n. nat_lt n c) (total-in l) ∙ f)) (lru-full c k l h f d w)
     ]
 
-lru-access : (c k : ℕ) (l : List ℕ) → IsDistinct l → 1 ≤ c → IsLru c k l (access (one c) (admits_in None) (item_of k) (in_window l))
+lru-access : (c k : ℕ) (l : List ℕ) → IsDistinct l → 1 ≤ c → IsLru c k l (access (one c) (admits_in None) (nodeless_item k) (in_window l))
 lru-access c k l d w =
     elim (two (has_key k l)) [
       | inl h ↦
-          let there : place_of (item_of k) (in_window l) ≡ Some Window = rw (has-map k l, h) refl in
-          subst (IsLru c k l) (sym (access-at (one c) (admits_in None) (item_of k) (in_window l) (Some Window) there)) (lru-hit c k l h)
+          let there : place_of (nodeless_item k) (in_window l) ≡ Some Window = rw (has-map k l, h) refl in
+          subst (IsLru c k l) (sym (access-at (one c) (admits_in None) (nodeless_item k) (in_window l) (Some Window) there)) (lru-hit c k l h)
       | inr h ↦
-          let there : place_of (item_of k) (in_window l) ≡ None = rw (has-map k l, h) refl in
-          subst (IsLru c k l) (sym (access-at (one c) (admits_in None) (item_of k) (in_window l) None there)) (lru-direct c k l h d w)
+          let there : place_of (nodeless_item k) (in_window l) ≡ None = rw (has-map k l, h) refl in
+          subst (IsLru c k l) (sym (access-at (one c) (admits_in None) (nodeless_item k) (in_window l) None there)) (lru-direct c k l h d w)
     ]
 
 distinct-drop : (n : ℕ) (l : List ℕ) → IsDistinct l → IsDistinct (drop n l)
@@ -103,47 +103,47 @@ distinct-drop zero l d = d
 distinct-drop (suc n) [] d = tt
 distinct-drop (suc n) (a ∷ l) d = distinct-drop n l d.1
 
-residents-distinct : (c : ℕ) (xs : List ℕ) → IsDistinct (residents c xs)
+residents-distinct : (c : ℕ) (xs : List ℕ) → IsDistinct (lru_residents c xs)
 residents-distinct c xs = distinct-drop (length (distinct xs) - c) (distinct xs) (distinct-distinct xs)
 
-residents-none : (c : ℕ) → residents c [] ≡ []
+residents-none : (c : ℕ) → lru_residents c [] ≡ []
 residents-none c = let z : 0 - c ≡ 0 = omega arith in rw z refl
 
-residents-one : (c k : ℕ) (xs : List ℕ) → 1 ≤ c → residents c (xs ++ k ∷ []) ≡ moved c (residents c xs) k
+residents-one : (c k : ℕ) (xs : List ℕ) → 1 ≤ c → lru_residents c (xs ++ k ∷ []) ≡ moved c (lru_residents c xs) k
 residents-one zero k xs h = absurd (omega arith)
 residents-one (suc c) k xs h = residents-snoc c k xs
 
 module _ (j : Job) (is_lru : j.policy ≡ Lru) (room : 1 ≤ j.config.capacity) where
   -- the response of an Lru cache whose queue has the last distinct keys
-  response-lru : (past : List ℕ) (d : QueueState) (k : ℕ) (ks : List ℕ) → d.job ≡ j → d.queues ≡ in_window (residents j.config.capacity past)
-      → access (rules_of d.job) (admits_in (frequency_after j ks)) (item_of k) d.queues ≡ access (one j.config.capacity) (admits_in None) (item_of k) (in_window (residents j.config.capacity past))
+  response-lru : (past : List ℕ) (d : QueueState) (k : ℕ) (ks : List ℕ) → d.job ≡ j → d.queues ≡ in_window (lru_residents j.config.capacity past)
+      → access (rules_of d.job) (admits_in (frequency_after j ks)) (nodeless_item k) d.queues ≡ access (one j.config.capacity) (admits_in None) (nodeless_item k) (in_window (lru_residents j.config.capacity past))
   response-lru past d k ks ej eq =
       let r : rules_of d.job ≡ one j.config.capacity = ap rules_of ej ∙ ap (λ p. rules_by p j.config) is_lru in
       let f : frequency_after j ks ≡ None = ap (λ p. frequency_by (is_counting p) (shape_of j.config) ks) is_lru in
-      ap (λ (x : Rules). access x (admits_in (frequency_after j ks)) (item_of k) d.queues) r
-      ∙ (ap (λ (x : Option FrequencyData). access (one j.config.capacity) (admits_in x) (item_of k) d.queues) f
-      ∙ ap (λ (x : Queues). access (one j.config.capacity) (admits_in None) (item_of k) x) eq)
+      ap (λ (x : Rules). access x (admits_in (frequency_after j ks)) (nodeless_item k) d.queues) r
+      ∙ (ap (λ (x : Option FrequencyData). access (one j.config.capacity) (admits_in x) (nodeless_item k) d.queues) f
+      ∙ ap (λ (x : Queues). access (one j.config.capacity) (admits_in None) (nodeless_item k) x) eq)
 
-  step-lru : (past : List ℕ) (d : QueueState) (k : ℕ) (ks : List ℕ) → d.job ≡ j → d.queues ≡ in_window (residents j.config.capacity past)
-      → (accessed (frequency_after j ks) k d).queues ≡ in_window (residents j.config.capacity (past ++ k ∷ []))
+  step-lru : (past : List ℕ) (d : QueueState) (k : ℕ) (ks : List ℕ) → d.job ≡ j → d.queues ≡ in_window (lru_residents j.config.capacity past)
+      → (accessed (frequency_after j ks) k d).queues ≡ in_window (lru_residents j.config.capacity (past ++ k ∷ []))
   step-lru past d k ks ej eq =
       let p = response-lru past d k ks ej eq in
-      let l = lru-access j.config.capacity k (residents j.config.capacity past) (residents-distinct j.config.capacity past) room in
+      let l = lru-access j.config.capacity k (lru_residents j.config.capacity past) (residents-distinct j.config.capacity past) room in
       ap (λ (x : Response). x.queues) p ∙ (l.lists ∙ ap in_window (sym (residents-one j.config.capacity k past room)))
 
-  from-lru : (past : List ℕ) (d : QueueState) (keys : List ℕ) → d.job ≡ j → d.queues ≡ in_window (residents j.config.capacity past)
-      → (state_from j past d keys).queues ≡ in_window (residents j.config.capacity (past ++ keys))
+  from-lru : (past : List ℕ) (d : QueueState) (keys : List ℕ) → d.job ≡ j → d.queues ≡ in_window (lru_residents j.config.capacity past)
+      → (state_from j past d keys).queues ≡ in_window (lru_residents j.config.capacity (past ++ keys))
   from-lru past d [] ej eq = rw (append-nil past) eq
   from-lru past d (a ∷ keys) ej eq =
       from-lru (past ++ a ∷ []) (accessed (frequency_after j (past ++ a ∷ [])) a d) keys ej (step-lru past d a (past ++ a ∷ []) ej eq)
       ∙ rw (append_assoc past (a ∷ []) keys) refl
 
-  pub after-lru : (keys : List ℕ) → (state_after j keys).queues ≡ in_window (residents j.config.capacity keys)
+  pub after-lru : (keys : List ℕ) → (state_after j keys).queues ≡ in_window (lru_residents j.config.capacity keys)
   unfolding state_after
-  after-lru keys = from-lru [] (opened j) keys refl (ap in_window (sym (residents-none j.config.capacity)))
+  after-lru keys = from-lru [] (empty_queue_state j) keys refl (ap in_window (sym (residents-none j.config.capacity)))
 
-  pub outcome-lru : (keys : List ℕ) (k : ℕ) → (state_after j keys).job ≡ j → outcome_after j keys k ≡ outcome j.config.capacity keys k
+  pub outcome-lru : (keys : List ℕ) (k : ℕ) → (state_after j keys).job ≡ j → outcome_after j keys k ≡ lru_outcome j.config.capacity keys k
   outcome-lru keys k ej =
-      let l = lru-access j.config.capacity k (residents j.config.capacity keys) (residents-distinct j.config.capacity keys) room in
+      let l = lru-access j.config.capacity k (lru_residents j.config.capacity keys) (residents-distinct j.config.capacity keys) room in
       ap (λ (x : Response). x.outcome) (response-lru keys (state_after j keys) k (keys ++ k ∷ []) ej (after-lru keys))
       ∙ (l.outcome ∙ sym (outcome-residents j.config.capacity k keys))

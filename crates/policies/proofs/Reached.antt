@@ -23,7 +23,7 @@ use Rattle.replacement.specs.Admission.{admits_in}
 use Rattle.replacement.specs.Shape.{shape_of}
 use Rattle.replacement.specs.Table.{Response, access}
 use Rattle.replacement.proofs.Shape.{shape-is}
-use Rattle.policies.specs.QueueCache.{QueueState, is_counting, rules_of, item_of, response_to, accessed, frequency_by, frequency_after, state_from, opened, state_after, outcome_after, StandsFor}
+use Rattle.policies.specs.QueueCache.{QueueState, is_counting, rules_of, nodeless_item, response_to, accessed, frequency_by, frequency_after, state_from, empty_queue_state, state_after, outcome_after, StandsFor}
 use Rattle.policies.specs.QueueStep.{IsReached, recorded_in, queue_act, FitsCounting, unrecorded, counting_words, pace_by}
 use Rattle.policies.specs.QueueFields.{FewHalvings}
 
@@ -36,7 +36,7 @@ from-snoc j past d (a ∷ keys) k =
 -- one access more
 pub after-snoc : (j : Job) (keys : List ℕ) (k : ℕ) → state_after j (keys ++ k ∷ []) ≡ accessed (frequency_after j (keys ++ k ∷ [])) k (state_after j keys)
 unfolding state_after
-after-snoc j keys k = from-snoc j [] (opened j) keys k
+after-snoc j keys k = from-snoc j [] (empty_queue_state j) keys k
 
 from-frequency : (j : Job) (past : List ℕ) (d : QueueState) (keys : List ℕ) → d.frequency ≡ frequency_after j past → (state_from j past d keys).frequency ≡ frequency_after j (past ++ keys)
 from-frequency j past d [] h = rw (append-nil past) h
@@ -46,7 +46,7 @@ from-frequency j past d (a ∷ keys) h =
 
 pub after-frequency : (j : Job) (keys : List ℕ) → (state_after j keys).frequency ≡ frequency_after j keys
 unfolding state_after
-after-frequency j keys = from-frequency j [] (opened j) keys refl
+after-frequency j keys = from-frequency j [] (empty_queue_state j) keys refl
 
 from-job : (j : Job) (past : List ℕ) (d : QueueState) (keys : List ℕ) → (state_from j past d keys).job ≡ d.job
 from-job j past d [] = refl
@@ -54,7 +54,7 @@ from-job j past d (a ∷ keys) = from-job j (past ++ a ∷ []) (accessed (freque
 
 pub after-job : (j : Job) (keys : List ℕ) → (state_after j keys).job ≡ j
 unfolding state_after
-after-job j keys = from-job j [] (opened j) keys
+after-job j keys = from-job j [] (empty_queue_state j) keys
 
 -- each count is within that of the accesses
 record IsSteady (d : QueueState) (n : ℕ) : Type 0 where
@@ -88,8 +88,8 @@ from-steady j past d (a ∷ keys) n h =
 after-steady : (j : Job) (keys : List ℕ) → IsSteady (state_after j keys) (length keys)
 unfolding state_after
 after-steady j keys =
-    subst (IsSteady (state_from j [] (opened j) keys)) (omega arith)
-    (from-steady j [] (opened j) keys 0
+    subst (IsSteady (state_from j [] (empty_queue_state j) keys)) (omega arith)
+    (from-steady j [] (empty_queue_state j) keys 0
     record { accesses = refl; hits = omega arith; misses = omega arith; evictions = omega arith; rejections = omega arith })
 
 reached-steady : (d : QueueState) (r : IsReached d) → IsSteady d (length r.keys)
@@ -167,17 +167,17 @@ first-stands j f q h g e = record { checked = h; gives = rw (e, g) refl }
 -- an access as the fields show it
 pub access-reached : (j : Job) (r : Rules) (q p t : Queues) (f g : Option FrequencyData) (s z : Stats) (k : ℕ) (w : Effect)
     → r ≡ rules_of j → IsReached record { job = j; queues = q; frequency = f; stats = s } → s.accesses ≢ 4294967296
-    → p ≡ q → g ≡ recorded_in k f → w.outcome ≡ (access r (admits_in g) (item_of k) p).outcome → t ≡ (access r (admits_in g) (item_of k) p).queues
+    → p ≡ q → g ≡ recorded_in k f → w.outcome ≡ (access r (admits_in g) (nodeless_item k) p).outcome → t ≡ (access r (admits_in g) (nodeless_item k) p).queues
     → z ≡ counted w.outcome s → IsReached record { job = j; queues = t; frequency = g; stats = z }
 access-reached j r q p t f g s z k w er reached below ep eg ho hl ez =
     let d : QueueState = record { job = j; queues = q; frequency = f; stats = s } in
     let new : QueueState = record { job = j; queues = t; frequency = g; stats = z } in
-    let same : access r (admits_in g) (item_of k) p ≡ access (rules_of j) (admits_in (recorded_in k f)) (item_of k) q =
-    ap (λ (x : Queues). access r (admits_in g) (item_of k) x) ep
-    ∙ (ap (λ (x : Option FrequencyData). access r (admits_in x) (item_of k) q) eg ∙ ap (λ (x : Rules). access x (admits_in (recorded_in k f)) (item_of k) q) er) in
-    let lists : t ≡ (access (rules_of j) (admits_in (recorded_in k f)) (item_of k) q).queues = hl ∙ ap (λ (x : Response). x.queues) same in
-    let outcome : w.outcome ≡ (access (rules_of j) (admits_in (recorded_in k f)) (item_of k) q).outcome = ho ∙ ap (λ (x : Response). x.outcome) same in
-    let stats : z ≡ counted (access (rules_of j) (admits_in (recorded_in k f)) (item_of k) q).outcome s = ez ∙ ap (λ o. counted o s) outcome in
+    let same : access r (admits_in g) (nodeless_item k) p ≡ access (rules_of j) (admits_in (recorded_in k f)) (nodeless_item k) q =
+    ap (λ (x : Queues). access r (admits_in g) (nodeless_item k) x) ep
+    ∙ (ap (λ (x : Option FrequencyData). access r (admits_in x) (nodeless_item k) q) eg ∙ ap (λ (x : Rules). access x (admits_in (recorded_in k f)) (nodeless_item k) q) er) in
+    let lists : t ≡ (access (rules_of j) (admits_in (recorded_in k f)) (nodeless_item k) q).queues = hl ∙ ap (λ (x : Response). x.queues) same in
+    let outcome : w.outcome ≡ (access (rules_of j) (admits_in (recorded_in k f)) (nodeless_item k) q).outcome = ho ∙ ap (λ (x : Response). x.outcome) same in
+    let stats : z ≡ counted (access (rules_of j) (admits_in (recorded_in k f)) (nodeless_item k) q).outcome s = ez ∙ ap (λ o. counted o s) outcome in
     let all : new ≡ accessed (recorded_in k f) k d = rw (lists, eg, stats) refl in
     subst IsReached (sym all) (reached-step d k reached below)
 

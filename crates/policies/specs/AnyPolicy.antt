@@ -41,9 +41,9 @@ stats_in (Queues d) = d.stats
 stats_in (Optimal d) = d.stats
 
 -- the keys that are cached
-abbrev pub keys_in : AnyPolicy → List ℕ
-keys_in (Queues d) = residents_in d.queues
-keys_in (Optimal d) = d.residents
+abbrev pub any_residents : AnyPolicy → List ℕ
+any_residents (Queues d) = residents_in d.queues
+any_residents (Optimal d) = d.residents
 
 abbrev pub frequency_in : AnyPolicy → Option FrequencyData
 frequency_in (Queues d) = d.frequency

@@ -21,8 +21,8 @@ since k [] = []
 since k (a ∷ xs) = if has k xs then since k xs else xs
 
 -- the last c of the distinct keys
-abbrev pub residents : ℕ → List ℕ → List ℕ
-residents c xs = drop (length (distinct xs) - c) (distinct xs)
+abbrev pub lru_residents : ℕ → List ℕ → List ℕ
+lru_residents c xs = drop (length (distinct xs) - c) (distinct xs)
 
 -- k came before, and fewer than c distinct other keys came since
 abbrev pub hits : ℕ → List ℕ → ℕ → Bool
@@ -33,9 +33,11 @@ first_or d [] = d
 first_or d (a ∷ xs) = a
 
 -- the outcome of an access to k after the accesses xs, at capacity c
-abbrev pub outcome : ℕ → List ℕ → ℕ → Outcome
-outcome c xs k =
-    if hits c xs k then Hit else if nat_lt (length (distinct xs)) c then Kept else Evicted (first_or 0 (residents c xs))
+abbrev pub lru_outcome : ℕ → List ℕ → ℕ → Outcome
+lru_outcome c xs k =
+    if hits c xs k
+    then Hit
+    else if nat_lt (length (distinct xs)) c then Kept else Evicted (first_or 0 (lru_residents c xs))
 
 -- ---- as a policy of queues
 

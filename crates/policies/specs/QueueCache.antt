@@ -48,8 +48,8 @@ is_counting WindowTinyLfu = window_tiny_lfu_counts
 is_counting Clairvoyant = false
 
 -- a key is cached once at a time, so one node serves all
-abbrev pub item_of : ℕ → Item
-item_of k = record { key = k; node = 0 }
+abbrev pub nodeless_item : ℕ → Item
+nodeless_item k = record { key = k; node = 0 }
 
 -- ---- the state
 
@@ -66,7 +66,7 @@ residents_in q = map (λ i. i.key) q.window ++ map (λ i. i.key) q.probation ++ 
 -- ---- one access, where the frequency f has the key already
 
 abbrev pub response_to : Option FrequencyData → ℕ → QueueState → Response
-response_to f k d = access (rules_of d.job) (admits_in f) (item_of k) d.queues
+response_to f k d = access (rules_of d.job) (admits_in f) (nodeless_item k) d.queues
 
 abbrev pub accessed : Option FrequencyData → ℕ → QueueState → QueueState
 accessed f k d = record {
@@ -92,12 +92,12 @@ state_from j past d [] = d
 state_from j past d (k ∷ ks) = state_from j (past ++ k ∷ []) (accessed (frequency_after j (past ++ k ∷ [])) k d) ks
 
 -- an empty cache
-abbrev pub opened : Job → QueueState
-opened j = record { job = j; queues = empty; frequency = frequency_after j []; stats = stats_of [] }
+abbrev pub empty_queue_state : Job → QueueState
+empty_queue_state j = record { job = j; queues = empty; frequency = frequency_after j []; stats = stats_of [] }
 
 -- what a cache shows after the accesses
 unfoldable pub state_after : Job → List ℕ → QueueState
-state_after j keys = state_from j [] (opened j) keys
+state_after j keys = state_from j [] (empty_queue_state j) keys
 
 abbrev pub outcomes_from : Job → List ℕ → QueueState → List ℕ → List Outcome
 outcomes_from j past d [] = []
@@ -107,7 +107,7 @@ outcomes_from j past d (k ∷ ks) =
 
 -- the outcomes of the accesses, in order
 unfoldable pub outcomes_after : Job → List ℕ → List Outcome
-outcomes_after j keys = outcomes_from j [] (opened j) keys
+outcomes_after j keys = outcomes_from j [] (empty_queue_state j) keys
 
 -- the outcome of an access to k after the accesses
 abbrev pub outcome_after : Job → List ℕ → ℕ → Outcome

@@ -9,9 +9,9 @@ use Rattle.admission.proofs.Weighing.{recorded_paced}
 use Rattle.policies.specs.QueueCache.{QueueState, accessed}
 use Rattle.policies.specs.QueueStep.{queue_act, recorded_in, pace_by, queue_pace}
 
-abbrev accesses_in : Option (Outcome × QueueState) → ℕ
-accesses_in None = 0
-accesses_in (Some p) = p.1.stats.accesses
+abbrev accesses_after_step : Option (Outcome × QueueState) → ℕ
+accesses_after_step None = 0
+accesses_after_step (Some p) = p.1.stats.accesses
 
 abbrev state_in : QueueState → Option (Outcome × QueueState) → QueueState
 state_in d None = d
@@ -22,7 +22,7 @@ pub act_counts : (d : QueueState) (k : ℕ) (o : Outcome) (e : QueueState) → q
 act_counts d k o e h =
     elim (cases_Bool (d.stats.accesses == 4294967296)) [
       | inl f ↦ absurd (let no : None ≡ Some (o, e) = rw f at h in cc (no))
-      | inr f ↦ sym (ap accesses_in (rw f at h))
+      | inr f ↦ sym (ap accesses_after_step (rw f at h))
     ]
 
 pub act_ends : (d : QueueState) (k : ℕ) → d.stats.accesses ≡ 2 ^ 32 → queue_act d k ≡ None

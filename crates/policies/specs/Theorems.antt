@@ -5,7 +5,7 @@ use Rattle.step_record.specs.declared.job.Policy.TheVariants.{Lru}
 use Rattle.step_record.specs.declared.outcome.Outcome.{Outcome}
 use Rattle.step_record.specs.Stats.{stats_of}
 use Rattle.policies.specs.declared.any_policy.AnyPolicy.{AnyPolicy}
-use Rattle.policies.specs.Lru.{residents, outcome}
+use Rattle.policies.specs.Lru.{lru_residents, lru_outcome}
 use Rattle.policies.specs.InWindow.{in_window}
 use Rattle.policies.specs.QueueCache.{QueueState, state_after, outcome_after, outcomes_after, StandsFor}
 use Rattle.policies.specs.QueueStep.{queue_act}
@@ -30,8 +30,8 @@ QueuesCount = (j : Job) (keys : List ℕ) → (state_after j keys).stats ≡ sta
 -- the whole list gives.
 abbrev pub LruStands : Type 0
 LruStands = (j : Job) (keys : List ℕ) (k : ℕ) → j.policy ≡ Lru → 1 ≤ j.config.capacity
-    → ((state_after j keys).queues ≡ in_window (residents j.config.capacity keys))
-    × (outcome_after j keys k ≡ outcome j.config.capacity keys k)
+    → ((state_after j keys).queues ≡ in_window (lru_residents j.config.capacity keys))
+    × (outcome_after j keys k ≡ lru_outcome j.config.capacity keys k)
 
 -- A cache of any policy that made some accesses made one more after an accepted step.
 abbrev pub AnyStands : Type 0

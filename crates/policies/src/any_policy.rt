@@ -29,7 +29,7 @@ pub enum AnyRecord {
 
 impl AnyPolicy {
     ghost use Rattle.step_record.specs.Config.{config_fault};
-    ghost use Rattle.policies.specs.AnyPolicy.{Stands, stats_in, keys_in, frequency_in};
+    ghost use Rattle.policies.specs.AnyPolicy.{Stands, stats_in, any_residents, frequency_in};
     ghost use Rattle.policies.specs.AnyStep.{any_act};
 
     /// An empty cache for a job over a trace. It requires a configuration that `Config::check` accepts. The one error
@@ -126,7 +126,7 @@ impl AnyPolicy {
     /// The keys that it holds: of a policy of queues those of the window, of probation and of protected in that order,
     /// oldest first; of the optimal policy in ascending order. The one error is that an allocation failed.
     pub fn residents(&self, alloc: Global) -> Result<Vec<Key>, AllocError>
-        ensures { IfOk result (λ keys. keys.items ≡ keys_in self.now) }
+        ensures { IfOk result (λ keys. keys.items ≡ any_residents self.now) }
     {
         match self {
             AnyPolicy::Queues(cache) => cache.residents(alloc),

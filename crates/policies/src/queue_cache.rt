@@ -6,7 +6,7 @@ ghost use Rattle.step_record.specs.Pace.{words_of_halvings};
 ghost use Rattle.replacement.specs.Admission.{admits_in};
 ghost use Rattle.replacement.specs.Table.{access};
 ghost use Rattle.replacement.specs.Moving.{undone_moves, FitsMoves};
-ghost use Rattle.policies.specs.QueueCache.{rules_of, is_counting, item_of, frequency_after};
+ghost use Rattle.policies.specs.QueueCache.{rules_of, is_counting, nodeless_item, frequency_after};
 ghost use Rattle.policies.specs.QueueStep.{recorded_in, counting_record, unrecorded, FitsCounting};
 ghost use Rattle.policies.specs.QueueFields.{FewHalvings};
 
@@ -131,9 +131,9 @@ fn access_key<C>(
 ) -> Effect
     requires room { 1 ≤ segments.old.spare }
     ensures outcome { result.outcome
-        ≡ (access rules.now (admits_in frequency.now) (item_of key) segments.old.lists).outcome }
+        ≡ (access rules.now (admits_in frequency.now) (nodeless_item key) segments.old.lists).outcome }
     ensures lists { segments.new.lists
-        ≡ (access rules.now (admits_in frequency.now) (item_of key) segments.old.lists).queues }
+        ≡ (access rules.now (admits_in frequency.now) (nodeless_item key) segments.old.lists).queues }
     ensures fits { FitsMoves result.moves segments.new.lists }
     ensures undone { undone_moves result.moves segments.new.lists ≡ segments.old.lists }
 {

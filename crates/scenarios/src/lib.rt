@@ -5,7 +5,7 @@
 ghost use Rattle.std.specs.Prelude.{◌≡◌, ℕ, ◌+◌, ◌-◌, ◌*◌, ◌/◌, ◌≤◌, Some, List, [], ◌∷◌, ◌++◌, length, IfOk};
 ghost use Rattle.step_record.specs.declared.config.Config.{Config};
 ghost use Rattle.admission.specs.Frequency.{FrequencyData, halving_words};
-ghost use Rattle.policies.specs.Lru.{outcome};
+ghost use Rattle.policies.specs.Lru.{lru_outcome};
 ghost use Rattle.policies.specs.QueueCache.{StandsFor};
 
 mod headline;
@@ -22,7 +22,7 @@ use step_record::{Key, Outcome, Policy};
 pub fn lru_access(session: &mut Session<Lru>, key: Key) -> Result<Outcome, SessionFault>
     ensures { (c : Config) (keys : List ℕ) → StandsFor
         record { policy = Policy.Lru; config = c } keys session.old.engine →
-        IfOk result (λ r. (r ≡ outcome c.capacity keys key)
+        IfOk result (λ r. (r ≡ lru_outcome c.capacity keys key)
         × StandsFor record { policy = Policy.Lru; config = c } (keys ++ key ∷ []) session.new.engine) }
 {
     queues_stand();

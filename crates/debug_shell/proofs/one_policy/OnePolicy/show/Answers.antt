@@ -1,7 +1,7 @@
 use Rattle.std.proofs.Common.{◌≡◌, ◌∙◌, ◌++◌, ap, subst, List, ℕ, length}
 use Rattle.std.specs.Prelude.{OnOk}
 use Rattle.step_record.specs.declared.job.Job.{Job}
-use Rattle.policies.specs.AnyPolicy.{keys_in, stats_in}
+use Rattle.policies.specs.AnyPolicy.{any_residents, stats_in}
 use Rattle.debug_shell.specs.OnePolicy.{counts_line, holds_line, policy_lines, residents_at, stats_at, OnePolicyState}
 use Rattle.debug_shell.proofs.Shown.{shown_keys, shown_stats}
 use Rattle.debug_shell.proofs.Texts.{at_last, piece}
@@ -21,7 +21,7 @@ returns c =
     let stats : c.stats.result ≡ stats_at j trace n =
     c.stats.ensures ∙ ap stats_in c.engine-cache.ensures.engine ∙ shown_stats j trace n s.engine c.self.invariant.within c.self.invariant.stands in
     let held : keys ≡ residents_at j trace n =
-    c.as_slice.ensures.value ∙ c.in_ok-keys.ensures ∙ ap keys_in c.engine-cache.ensures.engine
+    c.as_slice.ensures.value ∙ c.in_ok-keys.ensures ∙ ap any_residents c.engine-cache.ensures.engine
     ∙ shown_keys j trace n s.engine c.self.invariant.within c.self.invariant.stands in
     let first : t1 ≡ text ++ counts_line label j (stats_at j trace n) = c.in_ok-push_counts.ensures ∙ ap (λ x. text ++ counts_line label j x) stats in
     let all : OnOk c.push_holds.result (last ≡ text ++ policy_lines label j trace n) =
