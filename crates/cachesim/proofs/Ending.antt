@@ -17,7 +17,7 @@ use Rattle.command_line.specs.declared.replay.ReplayArguments.{ReplayArguments}
 use Rattle.std.specs.Prelude.{string_bytes}
 use Rattle.cachesim.specs.Debugged.{Debugging, KnownFiles, Replaying}
 use Rattle.cachesim.specs.Drove.{IsDriven}
-use Rattle.cachesim.specs.Jobs.{jobs_at, jobs_of}
+use Rattle.cachesim.specs.Jobs.{jobs_at, jobs_by_policy}
 use Rattle.cachesim.specs.Part.{Parting}
 use Rattle.cachesim.specs.Run.{DoneBy, RefusedBy, Reports, is_help}
 
@@ -40,7 +40,7 @@ odd_by words p = record {
 }
 
 pub run_done : (words : List Text) (run : RunArguments) → ParsedBy words (Ok (Run run)) → (files : KnownFiles) (input before after : Option (List ℕ))
-    → Reports run.format (jobs_of run.config run.policies.items) input before after → DoneBy words files input before after
+    → Reports run.format (jobs_by_policy run.config run.policies.items) input before after → DoneBy words files input before after
 run_done words run p files input before after h =
     let is = p.gives.1.2 in
     record {
@@ -55,7 +55,7 @@ run_done words run p files input before after h =
           config_is = is.config;
           policies = run.policies.items;
           policies_are = is.policies;
-          reports = subst (λ f. Reports f (jobs_of run.config run.policies.items) input before after) is.format h;
+          reports = subst (λ f. Reports f (jobs_by_policy run.config run.policies.items) input before after) is.format h;
         }),
       );
     }

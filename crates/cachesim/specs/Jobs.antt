@@ -8,8 +8,8 @@ use Rattle.policy_actors.specs.Faults.{at_capacity}
 use Rattle.policy_actors.specs.Reports.{report_on}
 
 -- one job for each policy, all on one configuration
-abbrev pub jobs_of : Config → List Policy → List Job
-jobs_of config policies = map (λ policy. record { policy = policy; config = config }) policies
+abbrev pub jobs_by_policy : Config → List Policy → List Job
+jobs_by_policy config policies = map (λ policy. record { policy = policy; config = config }) policies
 
 -- the job at each of the capacities
 abbrev pub jobs_at : Job → List ℕ → List Job

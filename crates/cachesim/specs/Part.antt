@@ -1,17 +1,11 @@
 -- What `part` writes.
-use Rattle.std.specs.Prelude.{◌≡◌, ℕ, List, [], ◌∷◌, ◌++◌, Option, Some, None, codes, IfSome}
-use Rattle.std.specs.Fmt.{decimal}
+use Rattle.std.specs.Prelude.{◌≡◌, ℕ, List, Option, None, IfSome}
 use Rattle.std.specs.Io.KnownBytes.{Appends}
 use Rattle.step_record.specs.declared.job.Job.{Job}
 use Rattle.trace_read.specs.Reading.{fault_in, keys_in}
 use Rattle.trace_read.specs.declared.format.Format.{Format}
 use Rattle.policies.specs.AnyPolicy.{outcomes_on}
-use Rattle.debug_shell.specs.Part.{IsPart}
-
--- the line of an access, or of none
-abbrev pub part_line : Option ℕ → List ℕ
-part_line (Some access) = codes "part " ++ decimal access ++ codes "\n"
-part_line None = codes "part none\n"
+use Rattle.debug_shell.specs.Part.{part_line, IsPart}
 
 -- the bytes read have no fault, and those written are the line of the access at which the two jobs part
 abbrev pub Parting : Format → Job → Job → Option (List ℕ) → Option (List ℕ) → Option (List ℕ) → Type 0

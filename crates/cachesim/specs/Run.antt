@@ -16,7 +16,7 @@ use Rattle.command_line.specs.Program.{capacities_in, concurrent_in, config_at, 
 use Rattle.command_line.specs.Program.{policies_in, policy_in, stripes_in, workers_in}
 use Rattle.cachesim.specs.Debugged.{Debugging, KnownFiles, Replaying}
 use Rattle.cachesim.specs.Drove.{IsDriven}
-use Rattle.cachesim.specs.Jobs.{jobs_at, jobs_of, reports_on}
+use Rattle.cachesim.specs.Jobs.{jobs_at, jobs_by_policy, reports_on}
 use Rattle.cachesim.specs.Part.{Parting}
 
 -- the bytes read have no fault, and those written are the text of the jobs' reports
@@ -32,7 +32,7 @@ pub record Ran (subcommand : Option (Text × List Row)) (input before after : Op
   pub config_is : config_in rows ≡ Some config
   pub policies : List Policy
   pub policies_are : policies_in rows ≡ Some policies
-  pub reports : Reports (format_in rows) (jobs_of config policies) input before after
+  pub reports : Reports (format_in rows) (jobs_by_policy config policies) input before after
 
 -- `sweep` was called, and has written the reports of what its matches name
 pub record Swept (subcommand : Option (Text × List Row)) (input before after : Option (List ℕ)) : Type 0 where
@@ -106,8 +106,8 @@ abbrev pub AsksHelp : Kinds → Type 0
 AsksHelp kinds = (kind : ErrorKind) × is_help kind × IsAmong kind kinds
 
 -- the words are refused, and not because they ask for help or the version
-abbrev pub IsRefused : Kinds → Type 0
-IsRefused kinds = (kind : ErrorKind) × (¬ is_help kind) × IsAmong kind kinds
+abbrev pub RefusesWords : Kinds → Type 0
+RefusesWords kinds = (kind : ErrorKind) × (¬ is_help kind) × IsAmong kind kinds
 
 -- done: clap takes the words and the reports are written, or the words ask for help
 pub record DoneBy (words : List Text) (files : KnownFiles) (input before after : Option (List ℕ)) : Type 0 where
@@ -127,7 +127,7 @@ pub record DoneBy (words : List Text) (files : KnownFiles) (input before after :
 pub record RefusedBy (words : List Text) : Type 0 where
   pub lists : Lists
   pub are : AreLists lists
-  pub refuses : IsRefused (fault_of (program_app lists) (called words))
+  pub refuses : RefusesWords (fault_of (program_app lists) (called words))
       ⊎ ((fault_of (program_app lists) (called words) ≡ [])
       × (IsIncomplete (subcommand_of (program_app lists) (called words))
       ⊎ HasOddStripes (subcommand_of (program_app lists) (called words))))

@@ -1,22 +1,13 @@
 //! The subcommand `part`: a trace to the access at which two policies part.
-ghost use Rattle.std.specs.Prelude.{◌≡◌, ◌≢◌, IfErr, IfOk, OnOk, string_bytes};
-ghost use Rattle.cachesim.specs.Part.{Parting, part_line};
+ghost use Rattle.std.specs.Prelude.{◌≡◌, ◌≢◌, IfErr, OnOk};
+ghost use Rattle.cachesim.specs.Part.{Parting};
 
 use crate::fault::Fault;
 use command_line::PartArguments;
-use std::alloc::{AllocError, Global};
+use debug_shell::push_part;
+use std::alloc::Global;
 use std::io::{Read, Write};
 use trace_read::read_trace;
-
-// The line of the access that was found, or of none.
-fn line(alloc: Global, found: Option<u64>) -> Result<String, AllocError>
-    ensures { IfOk result (λ s. string_bytes s ≡ part_line found) }
-{
-    match found {
-        Some(access) => format!(in alloc; "part {access}\n"),
-        None => format!(in alloc; "part none\n"),
-    }
-}
 
 /// Reads the trace and writes one line: the first access at which just one of the two policies
 /// hits, counted from 1, or `none`. A fault has written nothing, but for `Write`, after which the
@@ -33,8 +24,9 @@ pub fn part<R: Read, W: Write>(
 {
     let trace = read_trace(alloc, input, arguments.format)?;
     let found = debug_shell::part(alloc, &trace, &arguments.first, &arguments.second)?;
-    let line = line(alloc, found)?;
-    match streams::write_all(out, line.as_bytes()) {
+    let mut line = Vec::new(alloc);
+    push_part(&mut line, found)?;
+    match streams::write_all(out, line.as_slice()) {
         Ok(()) => Ok(()),
         Err(_) => Err(Fault::Write),
     }

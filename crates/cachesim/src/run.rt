@@ -1,6 +1,6 @@
 //! The subcommand `run`: a trace to the reports of policies.
 ghost use Rattle.std.specs.Prelude.{◌≡◌, ◌≢◌, IfErr, IfOk, OnOk};
-ghost use Rattle.cachesim.specs.Jobs.{jobs_of, reports_on};
+ghost use Rattle.cachesim.specs.Jobs.{jobs_by_policy, reports_on};
 ghost use Rattle.cachesim.specs.Run.{Reports};
 
 use crate::fault::Fault;
@@ -16,7 +16,7 @@ use trace_read::read_trace;
 
 // A job for each policy, in order, all on one configuration.
 fn jobs(alloc: Global, config: Config, policies: &[Policy]) -> Result<Vec<Job>, AllocError>
-    ensures { IfOk result (λ jobs. jobs.items ≡ jobs_of config policies.now) }
+    ensures { IfOk result (λ jobs. jobs.items ≡ jobs_by_policy config policies.now) }
 {
     let mut jobs = Vec::new(alloc);
     for policy in policies {
@@ -36,7 +36,7 @@ fn reports<T: Threads + Wait + Sync>(
     arguments: &RunArguments,
 ) -> Result<Vec<Report>, ActorFault>
     ensures { IfOk result (λ reports. reports.items
-        ≡ reports_on (jobs_of arguments.now.config arguments.now.policies.items) trace.now) }
+        ≡ reports_on (jobs_by_policy arguments.now.config arguments.now.policies.items) trace.now) }
 {
     let jobs = jobs(alloc, arguments.config, arguments.policies.as_slice())?;
     let batch = arguments.batch;
@@ -54,7 +54,7 @@ pub fn run<T: Threads + Wait + Sync, R: Read, W: Write>(
     out: &mut W,
 ) -> Result<(), Fault>
     ensures ok { OnOk result (Reports arguments.now.format
-        (jobs_of arguments.now.config arguments.now.policies.items) (R.remaining input.old)
+        (jobs_by_policy arguments.now.config arguments.now.policies.items) (R.remaining input.old)
         (W.contents out.old) (W.contents out.new)) }
     ensures kept { IfErr result (λ fault. fault ≢ Fault.Write → out.new ≡ out.old) }
 {

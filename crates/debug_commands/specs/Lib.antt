@@ -3,6 +3,7 @@ pub mod Words
 pub mod Commands
 pub mod Breakpoints
 pub mod Timeline
+pub mod Texts
 pub mod Answers
 pub mod Answering
 pub mod Reading

@@ -25,7 +25,7 @@ pub use dialogue::answer_commands;
 pub use fault::DebugFault;
 pub use grammar::line;
 pub use lines::MAX_COMMAND_BYTES;
-pub use text::{push_bytes, push_number};
+pub use text::{push_bytes, push_count, push_number};
 pub use timeline::Timeline;
 
 #[cfg(test)]

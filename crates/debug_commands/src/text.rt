@@ -2,6 +2,7 @@
 ghost use Rattle.std.specs.Prelude.{◌≡◌, ◌++◌, OnOk};
 ghost use Rattle.std.specs.Fmt.{decimal};
 ghost use Rattle.debug_commands.specs.Answers.{position_line};
+ghost use Rattle.debug_commands.specs.Texts.{count_text};
 
 use itoa::Buffer;
 use std::alloc::AllocError;
@@ -19,6 +20,14 @@ pub fn push_number(text: &mut Vec<u8>, number: u64) -> Result<(), AllocError>
 {
     let mut digits = Buffer::new();
     push_bytes(text, digits.format(number).as_bytes())
+}
+
+/// Adds a name and a number. The one error is that the allocation failed.
+pub fn push_count(text: &mut Vec<u8>, name: &[u8], count: u64) -> Result<(), AllocError>
+    ensures { OnOk result (text.new.items ≡ text.old.items ++ count_text name.now count) }
+{
+    push_bytes(text, name)?;
+    push_number(text, count)
 }
 
 // Adds the line that names a position.

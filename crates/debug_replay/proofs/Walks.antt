@@ -8,7 +8,7 @@ use Rattle.step_record.specs.declared.step.Step.{Step}
 use Rattle.step_record.specs.History.{after}
 use Rattle.journal_text.specs.Journal.{Entries}
 use Rattle.shell_model.specs.Shell.{Shell, act}
-use Rattle.debug_replay.specs.Replay.{entry_facts, facts_of, halves_at, state_at}
+use Rattle.debug_replay.specs.Replay.{entry_facts, step_facts, halves_on_step, state_at}
 
 get_take : (n : ℕ) (steps : Entries) (e : Entry Step Reply) → slice_get (take (suc n) steps) n ≡ Some e → slice_get steps n ≡ Some e
 get_take n [] e h = absurd (cc h)
@@ -29,16 +29,16 @@ stands_there opening from x kept steps n same k e = e ∙ ap (λ o. after act o 
 
 pub facts_are : (opening before now : Shell) (kept steps : Entries) (n place : ℕ) (e : Entry Step Reply) (halved : Bool) → before ≡ state_at opening steps n
     → now ≡ state_at opening steps (n + 1) → halved ≡ nat_lt now.frequency.age before.frequency.age → kept ≡ take (n + 1) steps → place ≡ n
-    → slice_get kept place ≡ Some e → facts_of e.step.act e.reply halved ≡ entry_facts (slice_get steps (n + 1 - 1)) (halves_at opening steps (n + 1))
+    → slice_get kept place ≡ Some e → step_facts e.step.act e.reply halved ≡ entry_facts (slice_get steps (n + 1 - 1)) (halves_on_step opening steps (n + 1))
 facts_are opening before now kept steps n place e halved b a h k at got =
     let one : n ≡ n + 1 - 1 = omega arith in
     let next : n + 1 ≡ suc n = omega arith in
     let there : slice_get (take (suc n) steps) n ≡ Some e = ap (λ m. slice_get (take m steps) n) (sym next) ∙ ap (λ es. slice_get es n) (sym k) ∙ ap (slice_get kept) (sym at) ∙ got in
     let found : slice_get steps (n + 1 - 1) ≡ Some e = ap (slice_get steps) (sym one) ∙ get_take n steps e there in
-    let fell : halved ≡ halves_at opening steps (n + 1) =
+    let fell : halved ≡ halves_on_step opening steps (n + 1) =
     h ∙ ap (λ (x : Shell). nat_lt x.frequency.age before.frequency.age) a
     ∙ ap (λ (x : Shell). nat_lt (state_at opening steps (n + 1)).frequency.age x.frequency.age) (b ∙ ap (state_at opening steps) one) in
-    ap (facts_of e.step.act e.reply) fell ∙ ap (λ o. entry_facts o (halves_at opening steps (n + 1))) (sym found)
+    ap (step_facts e.step.act e.reply) fell ∙ ap (λ o. entry_facts o (halves_on_step opening steps (n + 1))) (sym found)
 
 -- what holds of a call that did not fail
 pub ok_on : {E : Type 0} (r : Result (Unit {0}) E) (P : Type 0) → is_err r ≡ false → OnOk r P → P

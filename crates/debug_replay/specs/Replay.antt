@@ -24,10 +24,10 @@ hit_key (Look key) (Hit node) = Some key
 hit_key a r = None
 
 -- the key that an eviction took out
-abbrev pub left_key : Reply → Option ℕ
-left_key (Evicted item) = Some item.key
-left_key (Rejected item) = Some item.key
-left_key r = None
+abbrev pub left_on_step : Reply → Option ℕ
+left_on_step (Evicted item) = Some item.key
+left_on_step (Rejected item) = Some item.key
+left_on_step r = None
 
 -- whether the reply drops an offer
 abbrev pub is_dropped : Reply → Bool
@@ -35,10 +35,10 @@ is_dropped Full = true
 is_dropped Lost = true
 is_dropped r = false
 
-abbrev pub facts_of : Act → Reply → Bool → StepFacts
-facts_of a r halved = record {
+abbrev pub step_facts : Act → Reply → Bool → StepFacts
+step_facts a r halved = record {
   hit = hit_key a r;
-  left = left_key r;
+  left = left_on_step r;
   also_left = None;
   halved = halved;
   parted = false;
@@ -50,20 +50,20 @@ abbrev pub state_at : Shell → Entries → ℕ → Shell
 state_at opening steps n = after act opening (take n steps)
 
 -- the age of the sketch falls at step n
-abbrev pub halves_at : Shell → Entries → ℕ → Bool
-halves_at opening steps n =
+abbrev pub halves_on_step : Shell → Entries → ℕ → Bool
+halves_on_step opening steps n =
     nat_lt (state_at opening steps n).frequency.age (state_at opening steps (n - 1)).frequency.age
 
 abbrev pub entry_facts : Option (Entry Step Reply) → Bool → StepFacts
 entry_facts None halved =
     record { hit = None; left = None; also_left = None; halved = halved; parted = false; dropped = false }
-entry_facts (Some e) halved = facts_of e.step.act e.reply halved
+entry_facts (Some e) halved = step_facts e.step.act e.reply halved
 
 abbrev pub replay_timeline : Shell → Entries → TimelineData
 replay_timeline opening steps = record {
   dialect = Journal;
   end = length steps;
-  facts = λ n. entry_facts (slice_get steps (n - 1)) (halves_at opening steps n);
+  facts = λ n. entry_facts (slice_get steps (n - 1)) (halves_on_step opening steps n);
   shown = λ n. shown_text (state_at opening steps n);
   own = λ n. journal_of Two (take n steps);
 }

@@ -8,6 +8,7 @@ use Rattle.step_record.specs.declared.drain.Phase.{Phase}
 use Rattle.step_record.specs.declared.drain.Phase.TheVariants.{Reads, Writes, Evictions}
 use Rattle.step_record.specs.declared.item.Item.{Item}
 use Rattle.admission.specs.Frequency.{FrequencyData}
+use Rattle.debug_commands.specs.Texts.{count_text}
 use Rattle.shell_buffers.specs.Buffers.{stripe_at}
 use Rattle.shell_buffers.specs.declared.task.Task.{Task}
 use Rattle.shell_buffers.specs.declared.task.Task.TheVariants.{Add, Update, Remove}
@@ -16,9 +17,6 @@ use Rattle.shell_model.specs.declared.holder.Holder.{Holder}
 use Rattle.shell_model.specs.declared.stats.ShellStats.{ShellStats}
 
 -- ---- pieces
-
-abbrev pub count_text : List ℕ → ℕ → List ℕ
-count_text name n = name ++ decimal n
 
 abbrev pub count_line : List ℕ → ℕ → List ℕ
 count_line name n = count_text name n ++ codes "\n"

@@ -1,6 +1,6 @@
 //! The session of a concurrent cache, as the debugger walks it.
 ghost use Rattle.std.specs.Prelude.{◌≡◌, nat_lt};
-ghost use Rattle.debug_replay.specs.Replay.{facts_of, hit_key, is_dropped, left_key};
+ghost use Rattle.debug_replay.specs.Replay.{step_facts, hit_key, is_dropped, left_on_step};
 
 use crate::showing::push_shell;
 use debug_commands::{Dialect, StepFacts, Timeline, push_bytes};
@@ -56,7 +56,7 @@ impl<'a> Timeline for Replay<'a> {
         }
         let halved = is_less(self.session.engine().frequency().age(), age);
         match self.session.entry(self.session.len()) {
-            Some(entry) => Ok(facts_of(&entry.step.act, &entry.reply, halved)),
+            Some(entry) => Ok(step_facts(&entry.step.act, &entry.reply, halved)),
             None => unreachable!(),
         }
     }
@@ -75,12 +75,12 @@ impl<'a> Timeline for Replay<'a> {
 }
 
 // What breakpoints look at in a step.
-fn facts_of(act: &Act, reply: &Reply, halved: bool) -> StepFacts
-    ensures { result ≡ facts_of act.now reply.now halved }
+fn step_facts(act: &Act, reply: &Reply, halved: bool) -> StepFacts
+    ensures { result ≡ step_facts act.now reply.now halved }
 {
     StepFacts {
         hit: hit_key(act, reply),
-        left: left_key(reply),
+        left: left_on_step(reply),
         also_left: None,
         halved,
         parted: false,
@@ -102,8 +102,8 @@ fn hit_key(act: &Act, reply: &Reply) -> Option<Key>
 }
 
 // The key that an eviction took out.
-fn left_key(reply: &Reply) -> Option<Key>
-    ensures { result ≡ left_key reply.now }
+fn left_on_step(reply: &Reply) -> Option<Key>
+    ensures { result ≡ left_on_step reply.now }
 {
     match reply {
         Reply::Evicted { item } => Some(item.key),

@@ -7,11 +7,10 @@ ghost use Rattle.debug_replay.specs.Shown.{maintenance_text, offers_text, queues
 ghost use Rattle.debug_replay.specs.Shown.{stats_line, stripe_line, stripe_lines, writes_text};
 
 use crate::texts::{
-    drain_word, phase_word, push_count, push_count_line, push_items, push_items_line,
-    push_tasks_line,
+    drain_word, phase_word, push_count_line, push_items, push_items_line, push_tasks_line,
 };
 use admission::Frequency;
-use debug_commands::push_bytes;
+use debug_commands::{push_bytes, push_count};
 use maintenance::Shell;
 use segments::Queue;
 use shell_model::ShellStats;

@@ -1,10 +1,10 @@
 //! The pieces of what is shown.
 ghost use Rattle.std.specs.Prelude.{◌≡◌, ◌++◌, OnOk};
 ghost use Rattle.std.specs.List.{flat_map};
-ghost use Rattle.debug_replay.specs.Shown.{count_line, count_text, drain_word, item_text, items_line, number_text};
+ghost use Rattle.debug_replay.specs.Shown.{count_line, drain_word, item_text, items_line, number_text};
 ghost use Rattle.debug_replay.specs.Shown.{phase_word, task_text, tasks_line};
 
-use debug_commands::{push_bytes, push_number};
+use debug_commands::{push_bytes, push_count, push_number};
 use shell_buffers::Task;
 use std::alloc::AllocError;
 use step_record::{Drain, Item, Phase};
@@ -30,14 +30,6 @@ pub fn phase_word(phase: Phase) -> &'static [u8]
         Phase::Writes => b" writes ",
         Phase::Evictions => b" evictions ",
     }
-}
-
-/// Adds a name and a number.
-pub fn push_count(text: &mut Vec<u8>, name: &[u8], count: u64) -> Result<(), AllocError>
-    ensures { OnOk result (text.new.items ≡ text.old.items ++ count_text name.now count) }
-{
-    push_bytes(text, name)?;
-    push_number(text, count)
 }
 
 /// Adds a line of a name and a number.

@@ -12,6 +12,7 @@ use Rattle.step_record.specs.Job.{word_of}
 use Rattle.step_record.specs.Stats.{stats_of}
 use Rattle.admission.specs.Frequency.{FrequencyData}
 use Rattle.clairvoyant.specs.Belady.{residents}
+use Rattle.debug_commands.specs.Texts.{count_text}
 use Rattle.journal.specs.Session.{SessionState}
 use Rattle.policies.specs.declared.any_policy.AnyPolicy.{AnyPolicy}
 use Rattle.policies.specs.AnyPolicy.{knows_trace, outcomes_on, Stands}
@@ -43,9 +44,6 @@ abbrev pub age_at : Job → List ℕ → ℕ → ℕ
 age_at j trace n = age_in (frequency_after j (take n trace))
 
 -- ---- the text
-
-abbrev pub count_text : List ℕ → ℕ → List ℕ
-count_text name n = name ++ decimal n
 
 abbrev pub counts_line : List ℕ → Job → Stats → List ℕ
 counts_line label j s = label ++ (codes " " ++ (word_of j.policy

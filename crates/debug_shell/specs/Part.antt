@@ -1,5 +1,7 @@
 -- Where two policies part: the first access of a trace at which just one of them hits.
-use Rattle.std.specs.Prelude.{◌≡◌, ◌≢◌, ℕ, zero, suc, ◌<◌, Bool, false, Option, Some, None, List, slice_index_or}
+use Rattle.std.specs.Prelude.{◌≡◌, ◌≢◌, ℕ, zero, suc, ◌<◌, Bool, false, Option, Some, None, List, ◌++◌}
+use Rattle.std.specs.Prelude.{codes, slice_index_or}
+use Rattle.std.specs.Fmt.{decimal}
 use Rattle.step_record.specs.declared.outcome.Outcome.{Outcome}
 use Rattle.step_record.specs.declared.outcome.Outcome.TheVariants.{Kept}
 use Rattle.step_record.specs.Stats.{is_hit}
@@ -17,3 +19,8 @@ AgreeBelow n first second = (m : ℕ) → m < n → is_hit_at first m ≡ is_hit
 abbrev pub IsPart : List Outcome → List Outcome → Option ℕ → Type 0
 IsPart first second (Some n) = (is_hit_at first n ≢ is_hit_at second n) × AgreeBelow n first second
 IsPart first second None = (n : ℕ) → is_hit_at first n ≡ is_hit_at second n
+
+-- what is printed of it. (Format of this project.)
+abbrev pub part_line : Option ℕ → List ℕ
+part_line None = codes "part none\n"
+part_line (Some n) = codes "part " ++ (decimal n ++ codes "\n")

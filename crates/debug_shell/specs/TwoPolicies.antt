@@ -1,7 +1,6 @@
 -- Two policies over a trace, as the debugger walks them. (Its breakpoints and texts are defined by this project.)
 use Rattle.std.specs.Prelude.{◌≡◌, ◌≤◌, ℕ, ◌+◌, ◌-◌, Bool, false, not, ◌||◌, nat_lt, if◌then◌else◌, Option, Some}
 use Rattle.std.specs.Prelude.{None, List, [], ◌∷◌, ◌++◌, codes, length, slice_index}
-use Rattle.std.specs.Fmt.{decimal}
 use Rattle.step_record.specs.declared.job.Job.{Job}
 use Rattle.step_record.specs.declared.outcome.Outcome.{Outcome}
 use Rattle.step_record.specs.declared.outcome.Outcome.TheVariants.{Hit, Kept, Evicted, Rejected}
@@ -11,37 +10,38 @@ use Rattle.debug_commands.specs.Timeline.{TimelineData}
 use Rattle.debug_commands.specs.declared.breakpoint.StepFacts.{StepFacts}
 use Rattle.debug_commands.specs.declared.command.Dialect.TheVariants.{Policies}
 use Rattle.debug_shell.specs.OnePolicy.{age_at, outcome_at, policy_lines, OnePolicyState}
+use Rattle.debug_shell.specs.Part.{part_line}
 
 -- ---- what breakpoints look at
 
-abbrev pub left_key : Outcome → Option ℕ
-left_key Hit = None
-left_key Kept = None
-left_key (Evicted key) = Some key
-left_key (Rejected key) = Some key
+abbrev pub left_on_access : Outcome → Option ℕ
+left_on_access Hit = None
+left_on_access Kept = None
+left_on_access (Evicted key) = Some key
+left_on_access (Rejected key) = Some key
 
 abbrev pub just_one : Bool → Bool → Bool
 just_one a b = if a then not b else b
 
 -- the facts of an access to a key, with the outcomes of both policies, and whether their sketches were halved
-abbrev pub facts_of : ℕ → Outcome → Outcome → Bool → Bool → StepFacts
-facts_of key a b a_halved b_halved = record {
+abbrev pub access_facts : ℕ → Outcome → Outcome → Bool → Bool → StepFacts
+access_facts key a b a_halved b_halved = record {
   hit = if is_hit a || is_hit b then Some key else None;
-  left = left_key a;
-  also_left = left_key b;
+  left = left_on_access a;
+  also_left = left_on_access b;
   halved = a_halved || b_halved;
   parted = just_one (is_hit a) (is_hit b);
   dropped = false;
 }
 
 -- a sketch is halved where its age falls
-abbrev pub halves_at : Job → List ℕ → ℕ → Bool
-halves_at j trace n = nat_lt (age_at j trace n) (age_at j trace (n - 1))
+abbrev pub halves_on_access : Job → List ℕ → ℕ → Bool
+halves_on_access j trace n = nat_lt (age_at j trace n) (age_at j trace (n - 1))
 
 abbrev pub facts_at : List ℕ → Job → Job → ℕ → StepFacts
 facts_at trace first second n =
-    facts_of (slice_index trace (n - 1)) (outcome_at first trace n) (outcome_at second trace n)
-    (halves_at first trace n) (halves_at second trace n)
+    access_facts (slice_index trace (n - 1)) (outcome_at first trace n) (outcome_at second trace n)
+    (halves_on_access first trace n) (halves_on_access second trace n)
 
 -- ---- what is printed
 
@@ -50,10 +50,6 @@ abbrev pub first_part : ℕ → List Outcome → List Outcome → Option ℕ
 first_part n [] ps = None
 first_part n (a ∷ os) [] = None
 first_part n (a ∷ os) (b ∷ ps) = if just_one (is_hit a) (is_hit b) then Some n else first_part (n + 1) os ps
-
-abbrev pub part_line : Option ℕ → List ℕ
-part_line None = codes "part none\n"
-part_line (Some n) = codes "part " ++ (decimal n ++ codes "\n")
 
 -- ---- the timeline: its steps are the accesses of the trace
 

@@ -13,7 +13,7 @@ mod two_policies;
 
 pub use debug_commands::DebugFault;
 pub use debugging::run_debug;
-pub use parting::part;
+pub use parting::{part, push_part};
 
 #[cfg(test)]
 mod tests;

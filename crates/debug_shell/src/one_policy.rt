@@ -4,10 +4,10 @@ ghost use Rattle.std.specs.Prelude.{◌∷◌, length};
 ghost use Rattle.std.specs.List.{flat_map};
 ghost use Rattle.step_record.specs.Config.{config_fault};
 ghost use Rattle.policies.specs.AnyStep.{any_act};
-ghost use Rattle.debug_shell.specs.OnePolicy.{age_at, count_text, counts_line, holds_line, outcome_at, policy_lines};
+ghost use Rattle.debug_shell.specs.OnePolicy.{age_at, counts_line, holds_line, outcome_at, policy_lines};
 ghost use Rattle.debug_shell.specs.OnePolicy.{spaced_key};
 
-use debug_commands::{push_bytes, push_number};
+use debug_commands::{push_bytes, push_count, push_number};
 use journal::{BackFault, Session, SessionFault};
 use policies::{AnyPolicy, any_accepts, any_answers, any_stands};
 use std::alloc::{AllocError, Global};
@@ -156,14 +156,6 @@ fn push_counts(text: &mut Vec<u8>, label: &[u8], job: &Job, stats: &Stats) -> Re
     push_count(text, b" evictions ", stats.evictions)?;
     push_count(text, b" rejections ", stats.rejections)?;
     push_bytes(text, b"\n")
-}
-
-// Adds a name and a number.
-fn push_count(text: &mut Vec<u8>, name: &[u8], count: u64) -> Result<(), AllocError>
-    ensures { OnOk result (text.new.items ≡ text.old.items ++ count_text name.now count) }
-{
-    push_bytes(text, name)?;
-    push_number(text, count)
 }
 
 // Adds the line of the residents.

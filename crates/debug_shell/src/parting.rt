@@ -1,12 +1,13 @@
 //! The first access at which one policy hits and the other does not.
-ghost use Rattle.std.specs.Prelude.{◌≡◌, ◌≢◌, Ok, Some, None, [], ◌∷◌, IfOk};
+ghost use Rattle.std.specs.Prelude.{◌≡◌, ◌≢◌, ◌++◌, Ok, Some, None, [], ◌∷◌, IfOk, OnOk};
 ghost use Rattle.step_record.specs.Config.{config_fault};
 ghost use Rattle.step_record.specs.Stats.{is_hit};
 ghost use Rattle.policies.specs.AnyPolicy.{outcomes_on};
 ghost use Rattle.policies.specs.AnyStep.{any_act};
 ghost use Rattle.policy_actors.specs.Faults.{faulty_in, ReturnsFault};
-ghost use Rattle.debug_shell.specs.Part.{IsPart};
+ghost use Rattle.debug_shell.specs.Part.{part_line, IsPart};
 
+use debug_commands::{push_bytes, push_count};
 use policies::{AnyPolicy, any_accepts, any_answers, any_covers_trace, any_stands};
 use policy_actors::ActorFault;
 use std::alloc::{AllocError, Global};
@@ -34,6 +35,19 @@ pub fn part(
     }
     let found = walk(alloc, trace, first, second)?;
     Ok(found)
+}
+
+/// Adds the line of the access that `part` found, or of none. The one error is that an allocation failed.
+pub fn push_part(text: &mut Vec<u8>, found: Option<u64>) -> Result<(), AllocError>
+    ensures { OnOk result (text.new.items ≡ text.old.items ++ part_line found) }
+{
+    match found {
+        Some(access) => {
+            push_count(text, b"part ", access)?;
+            push_bytes(text, b"\n")
+        }
+        None => push_bytes(text, b"part none\n"),
+    }
 }
 
 // Makes the accesses of the trace in both caches, up to the first at which just one of them hits.
@@ -74,9 +88,9 @@ fn access(cache: &mut AnyPolicy, key: Key) -> Result<Outcome, AllocError>
     }
 }
 
-// Whether the outcome is a hit.
+/// Whether the outcome is a hit.
 #[inline(always)]
-fn hits(outcome: Outcome) -> bool
+pub fn hits(outcome: Outcome) -> bool
     ensures { result ≡ is_hit outcome }
 {
     matches!(outcome, Outcome::Hit)

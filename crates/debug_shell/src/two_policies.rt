@@ -1,12 +1,11 @@
 //! Two policies over one trace, as the debugger walks them.
 ghost use Rattle.std.specs.Prelude.{◌≡◌, ◌++◌, nat_lt, Ok, IfOk, OnOk};
 ghost use Rattle.step_record.specs.Config.{config_fault};
-ghost use Rattle.step_record.specs.Stats.{is_hit};
-ghost use Rattle.debug_shell.specs.TwoPolicies.{facts_of, just_one, left_key, part_line, policies_timeline, IsWalk};
+ghost use Rattle.debug_shell.specs.TwoPolicies.{access_facts, just_one, left_on_access, policies_timeline, IsWalk};
 
 use crate::one_policy::OnePolicy;
-use crate::parting::part;
-use debug_commands::{Dialect, StepFacts, Timeline, push_bytes, push_number};
+use crate::parting::{hits, part, push_part};
+use debug_commands::{Dialect, StepFacts, Timeline};
 use policies::any_covers_trace;
 use std::alloc::{AllocError, Global};
 use step_record::{Job, Key, Outcome, Trace};
@@ -86,7 +85,7 @@ impl<'a> Timeline for TwoPolicies<'a> {
         let second = self.second.next()?;
         let first_fell = is_less(self.first.age(), first_age);
         let second_fell = is_less(self.second.age(), second_age);
-        Ok(facts_of(key, first, second, first_fell, second_fell))
+        Ok(access_facts(key, first, second, first_fell, second_fell))
     }
 
     fn show(&self, alloc: Global, text: &mut Vec<u8>) -> Result<(), AllocError> {
@@ -104,14 +103,14 @@ impl<'a> Timeline for TwoPolicies<'a> {
 }
 
 // What breakpoints look at in an access of both policies.
-fn facts_of(
+fn access_facts(
     key: Key,
     first: Outcome,
     second: Outcome,
     first_halved: bool,
     second_halved: bool,
 ) -> StepFacts
-    ensures { result ≡ facts_of key first second first_halved second_halved }
+    ensures { result ≡ access_facts key first second first_halved second_halved }
 {
     StepFacts {
         hit: if hits(first) || hits(second) {
@@ -119,8 +118,8 @@ fn facts_of(
         } else {
             None
         },
-        left: left_key(first),
-        also_left: left_key(second),
+        left: left_on_access(first),
+        also_left: left_on_access(second),
         halved: first_halved || second_halved,
         parted: just_one(hits(first), hits(second)),
         dropped: false,
@@ -134,16 +133,9 @@ fn is_less(age: u32, other: u32) -> bool
     age < other
 }
 
-// Whether the outcome is a hit.
-fn hits(outcome: Outcome) -> bool
-    ensures { result ≡ is_hit outcome }
-{
-    matches!(outcome, Outcome::Hit)
-}
-
 // The key that left, or was not kept.
-fn left_key(outcome: Outcome) -> Option<Key>
-    ensures { result ≡ left_key outcome }
+fn left_on_access(outcome: Outcome) -> Option<Key>
+    ensures { result ≡ left_on_access outcome }
 {
     match outcome {
         Outcome::Evicted(key) | Outcome::Rejected(key) => Some(key),
@@ -156,18 +148,4 @@ fn just_one(first: bool, second: bool) -> bool
     ensures { result ≡ just_one first second }
 {
     if first { !second } else { second }
-}
-
-// Adds the line that says where the policies part.
-fn push_part(text: &mut Vec<u8>, found: Option<u64>) -> Result<(), AllocError>
-    ensures { OnOk result (text.new.items ≡ text.old.items ++ part_line found) }
-{
-    match found {
-        Some(access) => {
-            push_bytes(text, b"part ")?;
-            push_number(text, access)?;
-            push_bytes(text, b"\n")
-        }
-        None => push_bytes(text, b"part none\n"),
-    }
 }

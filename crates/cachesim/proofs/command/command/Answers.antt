@@ -7,7 +7,7 @@ use Rattle.command_line.specs.declared.fault.ParseFault.TheVariants.{Stripes}
 use Rattle.std.specs.Prelude.{OnOk}
 use Rattle.std.specs.Prelude.{string_bytes}
 use Rattle.cachesim.specs.Debugged.{Debugging, KnownFiles, Replaying}
-use Rattle.cachesim.specs.Jobs.{jobs_at, jobs_of}
+use Rattle.cachesim.specs.Jobs.{jobs_at, jobs_by_policy}
 use Rattle.cachesim.specs.Drove.{IsDriven}
 use Rattle.cachesim.specs.Part.{Parting}
 use Rattle.cachesim.specs.Run.{Reports}
@@ -40,7 +40,7 @@ returns-in-Ok-done-clause-done g c zero =
           let run = w.in-Run.arguments in
           let q = subst (λ (a : Arguments). ParsedBy words (Ok a)) w.in-Run.is p in
           let ok = w.run-done.ensures.ok in
-          let Wrote = Reports run.format (jobs_of run.config run.policies.items) (g.R.Read.remaining c.args.input.now) (g.W.Write.contents c.args.out.now) (g.W.Write.contents w.run-done.new.out) in
+          let Wrote = Reports run.format (jobs_by_policy run.config run.policies.items) (g.R.Read.remaining c.args.input.now) (g.W.Write.contents c.args.out.now) (g.W.Write.contents w.run-done.new.out) in
           let h : Wrote = subst (λ (r : Result (Unit {0}) Fault). OnOk r Wrote) (sym w.done-is ∙ c.in-Ok-done.is) ok in
           rw w.out-is (run_done words run q known _ _ _ h)
       | in-Sweep w ↦

@@ -1,7 +1,8 @@
 use Rattle.std.proofs.Common.{◌≡◌, ◌∙◌, ◌++◌, ap, List, ℕ}
 use Rattle.std.specs.Prelude.{codes}
 use Rattle.step_record.specs.Job.{word_of}
-use Rattle.debug_shell.specs.OnePolicy.{count_text, counts_line}
+use Rattle.debug_commands.specs.Texts.{count_text}
+use Rattle.debug_shell.specs.OnePolicy.{counts_line}
 use Rattle.debug_shell.proofs.Texts.{at_last, piece}
 use Rattle.debug_shell.proofs.one_policy.push_counts.Goals as goal
 

@@ -1,7 +1,8 @@
 use Rattle.std.proofs.Common.{◌≡◌, ◌∙◌, ◌++◌, ap, sym, List, ℕ, length}
 use Rattle.step_record.specs.declared.job.Job.{Job}
 use Rattle.policies.specs.AnyPolicy.{outcomes_on}
-use Rattle.debug_shell.specs.TwoPolicies.{first_part, part_line}
+use Rattle.debug_shell.specs.Part.{part_line}
+use Rattle.debug_shell.specs.TwoPolicies.{first_part}
 use Rattle.debug_shell.proofs.Facts.{part_is}
 use Rattle.debug_shell.proofs.Texts.{at_last}
 use Rattle.debug_shell.proofs.two_policies.TwoPoliciesTimeline.own.Goals as goal
