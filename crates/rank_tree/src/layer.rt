@@ -1,8 +1,10 @@
 //! A set as bits in words, over a smaller set.
 ghost use Rattle.std.specs.Prelude.{◌≡◌, ℕ, ◌*◌, ◌≤◌, length};
 ghost use Rattle.bits_and_lists.specs.Bits.{bit_of};
+ghost use Rattle.rank_tree.specs.declared.limits.TheConstants.{WORD_BITS, MAX_WORDS};
 ghost use Rattle.rank_tree.specs.Bits.{IsAbove};
 
+use crate::limits::WORD_BITS;
 use crate::places::Places;
 use bits_and_lists::bits;
 use std::alloc::{AllocError, Global};
@@ -13,35 +15,35 @@ pub(crate) struct Layer<U: Places> {
     words: Vec<u64>,
     upper: U,
     ghost above: { IsAbove words.items (U.size upper) (U.held upper) },
-    ghost few: { length words.items ≤ 16777216 },
+    ghost few: { length words.items ≤ MAX_WORDS },
 }
 
 impl<U: Places> Places for Layer<U> {
-    ghost most = { 64 * U.most };
+    ghost most = { WORD_BITS * U.most };
 
-    ghost size = { λ l. 64 * length l.words.items };
+    ghost size = { λ l. WORD_BITS * length l.words.items };
 
     ghost held = { λ l. bit_of l.words.items };
 
     fn new(alloc: Global, len: usize) -> Result<Layer<U>, AllocError> {
-        let count = len.div_ceil(64);
+        let count = len.div_ceil(WORD_BITS);
         let words = vec![in alloc; 0; count]?;
         let upper = U::new(alloc, count)?;
         Ok(Layer { words, upper })
     }
 
     fn put(&mut self, place: usize) {
-        let word = place / 64;
+        let word = place / WORD_BITS;
         let old = self.words[word];
-        self.words[word] = old | 1 << (place % 64);
+        self.words[word] = old | 1 << (place % WORD_BITS);
         if old == 0 {
             self.upper.put(word);
         }
     }
 
     fn take(&mut self, place: usize) {
-        let word = place / 64;
-        let left = self.words[word] & !(1 << (place % 64));
+        let word = place / WORD_BITS;
+        let left = self.words[word] & !(1 << (place % WORD_BITS));
         self.words[word] = left;
         if left == 0 {
             self.upper.take(word);
@@ -51,7 +53,7 @@ impl<U: Places> Places for Layer<U> {
     fn least(&self) -> Option<usize> {
         match self.upper.least() {
             None => None,
-            Some(word) => Some(64 * word + self.words[word].trailing_zeros() as usize),
+            Some(word) => Some(WORD_BITS * word + self.words[word].trailing_zeros() as usize),
         }
     }
 }
@@ -61,7 +63,7 @@ impl<U: Places> Layer<U> {
 
     /// Whether a number is in the set.
     pub(crate) fn has(&self, place: usize) -> bool
-        requires { place < 64 * length self.now.words.items }
+        requires { place < WORD_BITS * length self.now.words.items }
         ensures { result ≡ bit_of self.now.words.items place }
     {
         bits::get(&self.words, place)

@@ -7,10 +7,12 @@
 #![tactic(auto)]
 
 mod layer;
+mod limits;
 mod places;
 mod ranks;
 mod single;
 
+pub use limits::MAX_SIZE;
 pub use ranks::Ranks;
 
 #[cfg(test)]

@@ -1,5 +1,6 @@
 //! What a set of small numbers can do.
-ghost use Rattle.std.specs.Prelude.{◌≡◌, ℕ, ◌<◌, ◌≤◌, ◌^◌, Bool, true, false, cond, eqb, MatchOption, IfOk};
+ghost use Rattle.std.specs.Prelude.{◌≡◌, ℕ, ◌<◌, ◌≤◌, Bool, true, false, cond, eqb, MatchOption, IfOk};
+ghost use Rattle.rank_tree.specs.declared.limits.TheConstants.{MAX_SIZE};
 
 use std::alloc::{AllocError, Global};
 
@@ -15,7 +16,7 @@ pub(crate) trait Places: Drop {
     /// A set without a number, for the numbers below `len` at least.
     fn new(alloc: Global, len: usize) -> Result<Self, AllocError>
         requires most { len ≤ most }
-        requires few { len ≤ 2 ^ 30 }
+        requires few { len ≤ MAX_SIZE }
         ensures size { IfOk result (λ s. len ≤ size s) }
         ensures none { IfOk result (λ s. (q : ℕ) → held s q ≡ false) };
 

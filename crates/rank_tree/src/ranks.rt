@@ -1,5 +1,6 @@
 //! A set of numbers below a size that is fixed when it is made.
-ghost use Rattle.std.specs.Prelude.{◌≡◌, ℕ, ◌<◌, ◌≤◌, ◌^◌, true, false, cond, eqb, MatchOption, IfOk, length};
+ghost use Rattle.std.specs.Prelude.{◌≡◌, ℕ, ◌<◌, ◌≤◌, true, false, cond, eqb, MatchOption, IfOk, length};
+ghost use Rattle.rank_tree.specs.declared.limits.TheConstants.{MAX_SIZE};
 ghost use Rattle.rank_tree.specs.Bits.{holds};
 
 use crate::layer::Layer;
@@ -8,7 +9,7 @@ use crate::single::Single;
 use std::alloc::{AllocError, Global};
 use std::marker::Model;
 
-/// A set of the numbers below a size of at most 2^30, shown as one test for each number: five
+/// A set of the numbers below a size of at most `MAX_SIZE`, shown as one test for each number: five
 /// layers of words, each with a bit for each word of the layer below.
 #[derive(Drop)]
 pub struct Ranks {
@@ -18,6 +19,7 @@ pub struct Ranks {
 
 impl Model for Ranks {
     ghost use Rattle.std.specs.Prelude.{List, Bool, ◌*◌, ◌≤◌, length};
+    ghost use Rattle.rank_tree.specs.declared.limits.TheConstants.{WORD_BITS};
     ghost use Rattle.bits_and_lists.specs.Bits.{bit_of};
     ghost use Rattle.bits_and_lists.specs.Places.{by_place};
 
@@ -25,13 +27,13 @@ impl Model for Ranks {
 
     ghost view = { λ r. by_place r.size (bit_of r.tree.words.items) };
 
-    ghost invariant = { λ r. r.size ≤ 64 * length r.tree.words.items };
+    ghost invariant = { λ r. r.size ≤ WORD_BITS * length r.tree.words.items };
 }
 
 impl Ranks {
     /// A set without a number. The only error is want of memory.
     pub fn new(alloc: Global, size: usize) -> Result<Ranks, AllocError>
-        requires { size ≤ 2 ^ 30 }
+        requires { size ≤ MAX_SIZE }
         ensures size { IfOk result (λ r. length r ≡ size) }
         ensures none { IfOk result (λ r. (q : ℕ) → holds r q ≡ false) }
     {
