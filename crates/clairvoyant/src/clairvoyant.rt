@@ -18,8 +18,7 @@ use step_record::{Engine, Key, Outcome, Stats, StepFault};
 /// last access is earliest leaves.
 #[derive(Drop)]
 pub struct Clairvoyant {
-    uses: NextUse,
-    capacity: usize,
+    core: Core,
     ranks: Ranks,
     stats: Stats,
 }
@@ -30,87 +29,75 @@ impl Model for Clairvoyant {
 
     ghost Value = { ClairvoyantState };
 
-    ghost view = { λ l. shown l.capacity l.uses l.stats };
+    ghost view = { λ l. shown l.core.capacity l.core.uses l.stats };
 
-    ghost invariant = { λ l. IsRepresented l.capacity l.uses l.stats l.ranks };
+    ghost invariant = { λ l. IsRepresented l.core.capacity l.core.uses l.stats l.ranks };
 }
 
-// Makes the access at a place: changes the ranks that are held, `held` of them before, and returns
-// its undo record.
-fn serve(uses: &NextUse, ranks: &mut Ranks, capacity: usize, held: usize, place: usize) -> UseRecord
-    requires place { place < length uses.now }
-    requires tied { IsTied uses.now place (residents capacity uses.now place) ranks.old }
-    requires held { held ≡ length (residents capacity uses.now place) }
-    ensures tied { IsTied uses.now (suc place) (residents capacity uses.now (suc place)) ranks.new }
-    ensures record { result ≡ record_at capacity uses.now place }
-{
-    let former = 2 * uses.len() - 1 - place;
-    let rank = uses.rank(place);
-    if ranks.has(former) {
-        ranks.take(former);
-        ranks.put(rank as usize);
-        return UseRecord::Hit;
-    }
-    if held < capacity {
-        ranks.put(rank as usize);
-        return UseRecord::Kept;
-    }
-    match ranks.least_below(rank as usize) {
-        Some(least) => {
-            ranks.take(least);
+// The trace and the capacity, which no access changes.
+#[derive(Drop)]
+struct Core {
+    uses: NextUse,
+    capacity: usize,
+}
+
+impl Core {
+    // Makes the access at a place: changes the ranks that are held, `held` of them before, and
+    // returns its undo record.
+    fn serve(&self, ranks: &mut Ranks, held: usize, place: usize) -> UseRecord
+        requires place { place < length self.now.uses }
+        requires tied { IsTied self.now.uses place (residents self.now.capacity self.now.uses place) ranks.old }
+        requires held { held ≡ length (residents self.now.capacity self.now.uses place) }
+        ensures tied { IsTied self.now.uses (suc place)
+            (residents self.now.capacity self.now.uses (suc place)) ranks.new }
+        ensures record { result ≡ record_at self.now.capacity self.now.uses place }
+    {
+        let former = 2 * self.uses.len() - 1 - place;
+        let rank = self.uses.rank(place);
+        if ranks.has(former) {
+            ranks.take(former);
             ranks.put(rank as usize);
-            UseRecord::Evicted(Gone {
-                key: uses.key_at(least),
-                rank: least as u32,
-            })
+            return UseRecord::Hit;
         }
-        None => UseRecord::Rejected(uses.key(place)),
+        if held < self.capacity {
+            ranks.put(rank as usize);
+            return UseRecord::Kept;
+        }
+        match ranks.least_below(rank as usize) {
+            Some(least) => {
+                ranks.take(least);
+                ranks.put(rank as usize);
+                UseRecord::Evicted(Gone {
+                    key: self.uses.key_at(least),
+                    rank: least as u32,
+                })
+            }
+            None => UseRecord::Rejected(self.uses.key(place)),
+        }
     }
-}
 
-// Takes back what the access at a place did to the ranks that are held.
-fn unserve(uses: &NextUse, ranks: &mut Ranks, _capacity: usize, place: usize, done: UseRecord)
-    requires place { place < length uses.now }
-    requires tied { IsTied uses.now (suc place) (residents _capacity uses.now (suc place)) ranks.old }
-    requires record { done ≡ record_at _capacity uses.now place }
-    ensures { IsTied uses.now place (residents _capacity uses.now place) ranks.new }
-{
-    let rank = uses.rank(place) as usize;
-    match done {
-        UseRecord::Hit => {
-            ranks.take(rank);
-            ranks.put(2 * uses.len() - 1 - place);
-        }
-        UseRecord::Kept => ranks.take(rank),
-        UseRecord::Evicted(gone) => {
-            ranks.take(rank);
-            ranks.put(gone.rank as usize);
-        }
-        UseRecord::Rejected(_) => {}
-    }
-}
-
-/// The keys of the ranks that are held once the accesses below a place are made, ascending.
-fn keys_held(
-    alloc: Global,
-    uses: &NextUse,
-    ranks: &Ranks,
-    _capacity: usize,
-    _place: usize,
-) -> Result<Vec<Key>, AllocError>
-    requires place { _place ≤ length uses.now }
-    requires tied { IsTied uses.now _place (residents _capacity uses.now _place) ranks.now }
-    ensures { IfOk result (λ keys. keys.items ≡ residents _capacity uses.now _place) }
-{
-    let mut keys = Vec::new(alloc);
-    let size = 2 * uses.len();
-    for rank in 0..size {
-        if ranks.has(rank) {
-            keys.push(uses.key_at(rank))?;
+    // Takes back what the access at a place did to the ranks that are held.
+    fn unserve(&self, ranks: &mut Ranks, place: usize, done: UseRecord)
+        requires place { place < length self.now.uses }
+        requires tied { IsTied self.now.uses (suc place)
+            (residents self.now.capacity self.now.uses (suc place)) ranks.old }
+        requires record { done ≡ record_at self.now.capacity self.now.uses place }
+        ensures { IsTied self.now.uses place (residents self.now.capacity self.now.uses place) ranks.new }
+    {
+        let rank = self.uses.rank(place) as usize;
+        match done {
+            UseRecord::Hit => {
+                ranks.take(rank);
+                ranks.put(2 * self.uses.len() - 1 - place);
+            }
+            UseRecord::Kept => ranks.take(rank),
+            UseRecord::Evicted(gone) => {
+                ranks.take(rank);
+                ranks.put(gone.rank as usize);
+            }
+            UseRecord::Rejected(_) => {}
         }
     }
-    keys.sort_unstable();
-    Ok(keys)
 }
 
 impl Clairvoyant {
@@ -123,9 +110,9 @@ impl Clairvoyant {
         ensures { IfOk result (λ l. l ≡ clairvoyant_at capacity uses 0) }
     {
         let ranks = Ranks::new(alloc, 2 * uses.len())?;
+        let capacity = capacity as usize;
         Ok(Clairvoyant {
-            uses,
-            capacity: capacity as usize,
+            core: Core { uses, capacity },
             ranks,
             stats: Stats::NONE,
         })
@@ -142,13 +129,15 @@ impl Clairvoyant {
     pub fn residents(&self, alloc: Global) -> Result<Vec<Key>, AllocError>
         ensures { IfOk result (λ keys. keys.items ≡ self.now.residents) }
     {
-        keys_held(
-            alloc,
-            &self.uses,
-            &self.ranks,
-            self.capacity,
-            self.stats.accesses as usize,
-        )
+        let mut keys = Vec::new(alloc);
+        let size = 2 * self.core.uses.len();
+        for rank in 0..size {
+            if self.ranks.has(rank) {
+                keys.push(self.core.uses.key_at(rank))?;
+            }
+        }
+        keys.sort_unstable();
+        Ok(keys)
     }
 }
 
@@ -196,14 +185,14 @@ impl Engine for Clairvoyant {
         ensures no_want { result ≡ Err StepFault.OutOfMemory → ⊥ }
     {
         let place = self.stats.accesses as usize;
-        if place >= self.uses.len() {
+        if place >= self.core.uses.len() {
             return Err(StepFault::NotNow);
         }
-        if self.uses.key(place) != *step {
+        if self.core.uses.key(place) != *step {
             return Err(StepFault::NotNow);
         }
         let held = (self.stats.misses - self.stats.evictions) as usize;
-        let record = serve(&self.uses, &mut self.ranks, self.capacity, held, place);
+        let record = self.core.serve(&mut self.ranks, held, place);
         let outcome = record.outcome();
         self.stats.count(outcome);
         Ok((outcome, record))
@@ -218,7 +207,7 @@ impl Engine for Clairvoyant {
         ensures never_refused { result ≡ Ok tt }
     {
         let place = (self.stats.accesses - 1) as usize;
-        unserve(&self.uses, &mut self.ranks, self.capacity, place, done);
+        self.core.unserve(&mut self.ranks, place, done);
         self.stats.uncount(done.outcome());
         Ok(())
     }

@@ -6,32 +6,32 @@ use Rattle.clairvoyant.proofs.Applying.{next-keeping, next-accepted, next-stands
 use Rattle.clairvoyant.proofs.clairvoyant.ClairvoyantEngine.apply.Goals as goal
 
 pub overflow_sub-held : goal.overflow_sub-held
-overflow_sub-held c = let s = c.self.inside in omega (arith, reached-held s.capacity s.uses s.stats c.self.invariant.reached)
+overflow_sub-held c = let s = c.self.inside in omega (arith, reached-held s.core.capacity s.core.uses s.stats c.self.invariant.reached)
 
 pub serve-record-requires-clause-held : goal.serve-record-requires-clause-held
-serve-record-requires-clause-held c = let s = c.self.inside in omega (arith, reached-held s.capacity s.uses s.stats c.self.invariant.reached)
+serve-record-requires-clause-held c = let s = c.self.inside in omega (arith, reached-held s.core.capacity s.core.uses s.stats c.self.invariant.reached)
 
 pub invariant_of-self : goal.invariant_of-self
 invariant_of-self c =
     let s = c.self.inside in
-    next-keeping s.capacity s.uses s.stats c.count.new.self c.outcome-outcome.result (omega (arith, c.if-place-len.false, c.len.ensures.len)) c.self.invariant.reached (c.outcome-outcome.ensures ∙ ap outcome_of c.serve-record.ensures.record ∙ outcome-is s.capacity s.uses s.stats.accesses) c.count.ensures c.serve-record.new.ranks c.serve-record.ensures.tied
+    next-keeping s.core.capacity s.core.uses s.stats c.count.new.self c.outcome-outcome.result (omega (arith, c.if-place-len.false, c.len.ensures.len)) c.self.invariant.reached (c.outcome-outcome.ensures ∙ ap outcome_of c.serve-record.ensures.record ∙ outcome-is s.core.capacity s.core.uses s.stats.accesses) c.count.ensures c.serve-record.new.ranks c.serve-record.ensures.tied
 
 pub returns-clause-accepted : goal.returns-clause-accepted
 returns-clause-accepted c =
     let s = c.self.inside in
-    next-accepted s.capacity s.uses s.stats c.count.new.self c.outcome-outcome.result (omega (arith, c.if-place-len.false, c.len.ensures.len)) c.self.invariant.reached (c.outcome-outcome.ensures ∙ ap outcome_of c.serve-record.ensures.record ∙ outcome-is s.capacity s.uses s.stats.accesses) c.count.ensures c.args.step.now c.args.self.now c.self.view_is (sym c.if-key-step.false ∙ c.key.ensures)
+    next-accepted s.core.capacity s.core.uses s.stats c.count.new.self c.outcome-outcome.result (omega (arith, c.if-place-len.false, c.len.ensures.len)) c.self.invariant.reached (c.outcome-outcome.ensures ∙ ap outcome_of c.serve-record.ensures.record ∙ outcome-is s.core.capacity s.core.uses s.stats.accesses) c.count.ensures c.args.step.now c.args.self.now c.self.view_is (sym c.if-key-step.false ∙ c.key.ensures)
 
 pub returns-clause-fits : goal.returns-clause-fits
 returns-clause-fits c =
     let s = c.self.inside in
-    next-fits s.capacity s.uses s.stats c.count.new.self c.outcome-outcome.result (omega (arith, c.if-place-len.false, c.len.ensures.len)) c.self.invariant.reached (c.outcome-outcome.ensures ∙ ap outcome_of c.serve-record.ensures.record ∙ outcome-is s.capacity s.uses s.stats.accesses) c.count.ensures c.serve-record.result c.serve-record.ensures.record
+    next-fits s.core.capacity s.core.uses s.stats c.count.new.self c.outcome-outcome.result (omega (arith, c.if-place-len.false, c.len.ensures.len)) c.self.invariant.reached (c.outcome-outcome.ensures ∙ ap outcome_of c.serve-record.ensures.record ∙ outcome-is s.core.capacity s.core.uses s.stats.accesses) c.count.ensures c.serve-record.result c.serve-record.ensures.record
 
 pub returns-clause-undone : goal.returns-clause-undone
 returns-clause-undone c =
     let s = c.self.inside in
-    next-undone s.capacity s.uses s.stats c.count.new.self c.outcome-outcome.result (omega (arith, c.if-place-len.false, c.len.ensures.len)) c.self.invariant.reached (c.outcome-outcome.ensures ∙ ap outcome_of c.serve-record.ensures.record ∙ outcome-is s.capacity s.uses s.stats.accesses) c.count.ensures c.serve-record.result c.serve-record.ensures.record ∙ c.self.view_is
+    next-undone s.core.capacity s.core.uses s.stats c.count.new.self c.outcome-outcome.result (omega (arith, c.if-place-len.false, c.len.ensures.len)) c.self.invariant.reached (c.outcome-outcome.ensures ∙ ap outcome_of c.serve-record.ensures.record ∙ outcome-is s.core.capacity s.core.uses s.stats.accesses) c.count.ensures c.serve-record.result c.serve-record.ensures.record ∙ c.self.view_is
 
 pub returns-clause-stands : goal.returns-clause-stands
 returns-clause-stands c =
     let s = c.self.inside in
-    next-stands s.capacity s.uses s.stats c.count.new.self c.outcome-outcome.result (omega (arith, c.if-place-len.false, c.len.ensures.len)) c.self.invariant.reached (c.outcome-outcome.ensures ∙ ap outcome_of c.serve-record.ensures.record ∙ outcome-is s.capacity s.uses s.stats.accesses) c.count.ensures c.args.self.now c.self.view_is
+    next-stands s.core.capacity s.core.uses s.stats c.count.new.self c.outcome-outcome.result (omega (arith, c.if-place-len.false, c.len.ensures.len)) c.self.invariant.reached (c.outcome-outcome.ensures ∙ ap outcome_of c.serve-record.ensures.record ∙ outcome-is s.core.capacity s.core.uses s.stats.accesses) c.count.ensures c.args.self.now c.self.view_is
