@@ -1,6 +1,7 @@
 -- What the first accesses of a trace give, one access further.
 use Rattle.std.proofs.Common.{◌≡◌, ℕ, suc, zero, ◌+◌, ◌-◌, ◌<◌, ◌≤◌, Bool, true, false, cond, ◌&&◌, eqb, nat_lt, inl, inr, Some, None, List, [], ◌∷◌, length, count_by, get_or, ap, ◌∙◌, sym, refl, subst, arith, add-one, length-append}
 use Rattle.std.proofs.lemmas.Bool.{cases_Bool, eq-eqb, ne_eqb, lt-ltb, le-ltb}
+use Rattle.step_record.specs.declared.limits.TheConstants.{MAX_ACCESSES, MAX_STEPS}
 use Rattle.step_record.specs.declared.outcome.Outcome.{Outcome}
 use Rattle.step_record.specs.declared.stats.Stats.{Stats}
 use Rattle.step_record.specs.Keys.{has, without}
@@ -32,7 +33,7 @@ reached-next c t s lt r = record {
 
 pub reached-small : (c : ℕ) (t : List ℕ) (s : Stats) → IsReached (shown c t s) → IsSmall s
 reached-small c t s r =
-    let few : length (outcomes c t s.accesses) ≤ 4294967296 = let a = r.within in let b = r.short in omega (arith, a, b, outcomes-length c t s.accesses) in
+    let few : length (outcomes c t s.accesses) ≤ MAX_STEPS = let a = r.within in let b = r.short in omega (arith, a, b, outcomes-length c t s.accesses) in
     let e : s ≡ stats_of (outcomes c t s.accesses) = ap (λ d. d.stats) r.gives in
     let P : Stats → Type 0 = λ x. IsSmall x in subst P (sym e) (stats-small (outcomes c t s.accesses) few)
 
@@ -74,14 +75,14 @@ reached-held c t s r =
 
 -- ---- steps
 
-now-holds : (c : ℕ) (t : List ℕ) (s : Stats) (k : ℕ) → s.accesses < length t → length t ≤ 16777216 → k ≡ get_or t s.accesses 0 → is_next (shown c t s) k ≡ true
+now-holds : (c : ℕ) (t : List ℕ) (s : Stats) (k : ℕ) → s.accesses < length t → length t ≤ MAX_ACCESSES → k ≡ get_or t s.accesses 0 → is_next (shown c t s) k ≡ true
 now-holds c t s k lt few e =
-    let a : nat_lt s.accesses 4294967296 ≡ true = lt-ltb s.accesses 4294967296 (omega arith) in
+    let a : nat_lt s.accesses MAX_STEPS ≡ true = lt-ltb s.accesses MAX_STEPS (omega arith) in
     let b : nat_lt s.accesses (length t) ≡ true = lt-ltb s.accesses (length t) lt in
     let d : eqb k (get_or t s.accesses 0) ≡ true = eq-eqb k (get_or t s.accesses 0) e in
     rw (a, b, d) refl
 
-pub act-next : (c : ℕ) (t : List ℕ) (s : Stats) (k : ℕ) (o : Outcome) → s.accesses < length t → length t ≤ 16777216 → k ≡ get_or t s.accesses 0 → o ≡ outcome c t s.accesses → clairvoyant_act (shown c t s) k ≡ Some (o, shown c t (counted o s))
+pub act-next : (c : ℕ) (t : List ℕ) (s : Stats) (k : ℕ) (o : Outcome) → s.accesses < length t → length t ≤ MAX_ACCESSES → k ≡ get_or t s.accesses 0 → o ≡ outcome c t s.accesses → clairvoyant_act (shown c t s) k ≡ Some (o, shown c t (counted o s))
 act-next c t s k o lt few e f =
     let yes : is_next (shown c t s) k ≡ true = now-holds c t s k lt few e in
     ap (λ b. cond b (Some (answer c t s.accesses k (residents c t s.accesses), state_after (shown c t s) k)) None) yes
@@ -99,10 +100,10 @@ other true false d e = refl
 other false b d e = refl
 
 pub act-past : (c : ℕ) (t : List ℕ) (s : Stats) (k : ℕ) → length t ≤ s.accesses → clairvoyant_act (shown c t s) k ≡ None
-act-past c t s k le = rw (past (nat_lt s.accesses 4294967296) (nat_lt s.accesses (length t)) (eqb k (get_or t s.accesses 0)) (le-ltb s.accesses (length t) le)) refl
+act-past c t s k le = rw (past (nat_lt s.accesses MAX_STEPS) (nat_lt s.accesses (length t)) (eqb k (get_or t s.accesses 0)) (le-ltb s.accesses (length t) le)) refl
 
 pub act-other : (c : ℕ) (t : List ℕ) (s : Stats) (k : ℕ) → (get_or t s.accesses 0 ≡ k → ⊥) → clairvoyant_act (shown c t s) k ≡ None
-act-other c t s k ne = rw (other (nat_lt s.accesses 4294967296) (nat_lt s.accesses (length t)) (eqb k (get_or t s.accesses 0)) (ne_eqb k (get_or t s.accesses 0) (λ h. ne (sym h)))) refl
+act-other c t s k ne = rw (other (nat_lt s.accesses MAX_STEPS) (nat_lt s.accesses (length t)) (eqb k (get_or t s.accesses 0)) (ne_eqb k (get_or t s.accesses 0) (λ h. ne (sym h)))) refl
 
 uncount : (o : Outcome) (s : Stats) → uncounted o (counted o s) ≡ s
 uncount o s =

@@ -1,6 +1,7 @@
 -- What a cache that knows the trace shows.
 use Rattle.std.specs.Prelude.{◌≡◌, ℕ, ◌≤◌, nat_lt, Bool, cond, eqb, ◌&&◌, Option, Some, None}
 use Rattle.std.specs.Prelude.{List, length, slice_index}
+use Rattle.step_record.specs.declared.limits.TheConstants.{MAX_ACCESSES, MAX_STEPS}
 use Rattle.step_record.specs.declared.outcome.Outcome.{Outcome}
 use Rattle.step_record.specs.declared.stats.Stats.{Stats}
 use Rattle.step_record.specs.Stats.{stats_of, counted}
@@ -21,13 +22,13 @@ clairvoyant_at c t i =
 pub record IsReached (d : ClairvoyantState) : Type 0 where
   pub gives : d ≡ clairvoyant_at d.capacity d.trace d.stats.accesses
   pub within : d.stats.accesses ≤ length d.trace
-  pub short : length d.trace ≤ 16777216
+  pub short : length d.trace ≤ MAX_ACCESSES
   pub room : 1 ≤ d.capacity
 
 -- k is the trace's next access, and there is one more step to count
 abbrev pub is_next : ClairvoyantState → ℕ → Bool
 is_next d k =
-    nat_lt d.stats.accesses 4294967296
+    nat_lt d.stats.accesses MAX_STEPS
     && (nat_lt d.stats.accesses (length d.trace) && eqb k (slice_index d.trace d.stats.accesses))
 
 abbrev pub state_after : ClairvoyantState → ℕ → ClairvoyantState

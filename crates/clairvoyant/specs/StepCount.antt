@@ -1,6 +1,7 @@
 -- How an accepted step of the engine counts.
-use Rattle.std.specs.Prelude.{◌≡◌, ℕ, ◌+◌, ◌^◌, Bool, true, false, nat_lt, Option, Some, None}
+use Rattle.std.specs.Prelude.{◌≡◌, ℕ, ◌+◌, Bool, true, false, nat_lt, Option, Some, None}
 use Rattle.std.proofs.Common.{sym, ap, ◌⊎◌, inl, inr, refl}
+use Rattle.step_record.specs.declared.limits.TheConstants.{MAX_STEPS}
 use Rattle.step_record.specs.declared.outcome.Outcome.{Outcome}
 use Rattle.clairvoyant.specs.Clairvoyant.{ClairvoyantState, clairvoyant_act, is_next}
 
@@ -20,5 +21,5 @@ act_counts d k o e h =
       | inr f ↦ absurd (let no : None ≡ Some (o, e) = rw f at h in cc (no))
     ]
 
-pub act_ends : (d : ClairvoyantState) (k : ℕ) → d.stats.accesses ≡ 2 ^ 32 → clairvoyant_act d k ≡ None
-act_ends d k h = let f : nat_lt d.stats.accesses 4294967296 ≡ false = rw h refl in rw f refl
+pub act_ends : (d : ClairvoyantState) (k : ℕ) → d.stats.accesses ≡ MAX_STEPS → clairvoyant_act d k ≡ None
+act_ends d k h = let f : nat_lt d.stats.accesses MAX_STEPS ≡ false = rw h refl in rw f refl

@@ -1,5 +1,6 @@
 -- What an accepted step stands for, for callers that see the cache by its steps alone.
-use Rattle.std.specs.Prelude.{◌≡◌, ℕ, suc, ◌^◌, ◌<◌, ◌≤◌, Some, None, length, slice_index}
+use Rattle.std.specs.Prelude.{◌≡◌, ℕ, suc, ◌<◌, ◌≤◌, Some, None, length, slice_index}
+use Rattle.step_record.specs.declared.limits.TheConstants.{MAX_ACCESSES}
 use Rattle.step_record.specs.declared.outcome.Outcome.{Outcome}
 use Rattle.clairvoyant.specs.Belady.{outcome}
 use Rattle.clairvoyant.specs.Clairvoyant.{ClairvoyantState, clairvoyant_at, clairvoyant_act}
@@ -14,5 +15,5 @@ ClairvoyantStands = (d : ClairvoyantState) (k : ℕ) (o : Outcome) (e : Clairvoy
 
 -- A cache that made fewer than all accesses of its trace accepts the next of them.
 abbrev pub ClairvoyantAccepts : Type 0
-ClairvoyantAccepts = (d : ClairvoyantState) → d.stats.accesses < length d.trace → length d.trace ≤ 2 ^ 24
+ClairvoyantAccepts = (d : ClairvoyantState) → d.stats.accesses < length d.trace → length d.trace ≤ MAX_ACCESSES
     → clairvoyant_act d (slice_index d.trace d.stats.accesses) ≡ None → ⊥

@@ -1,6 +1,7 @@
 //! The cache that knows the trace.
 ghost use Rattle.std.specs.Prelude.{◌≡◌, ℕ, suc, ◌+◌, ◌-◌, ◌*◌, ◌≤◌, ◌<◌, ◌↔◌, List, length, slice_index};
 ghost use Rattle.std.specs.Prelude.{IfOk, IfErr, OnOk, OnErr, Ok, Some, None};
+ghost use Rattle.step_record.specs.declared.limits.TheConstants.{MAX_CAPACITY};
 ghost use Rattle.clairvoyant.specs.RankSet.{IsTied};
 ghost use Rattle.clairvoyant.specs.Belady.{residents, outcome};
 ghost use Rattle.clairvoyant.specs.UseRecord.{record_at};
@@ -103,10 +104,10 @@ impl Core {
 impl Clairvoyant {
     ghost use Rattle.clairvoyant.specs.Clairvoyant.{clairvoyant_at};
 
-    /// An empty cache at the start of a trace, for 1 to 2^20 keys. The only error is want of
+    /// An empty cache at the start of a trace, for 1 to `MAX_CAPACITY` keys. The only error is want of
     /// memory; a cache that is open asks for no more.
     pub fn open(alloc: Global, uses: NextUse, capacity: u32) -> Result<Clairvoyant, AllocError>
-        requires { (1 ≤ capacity) × (capacity ≤ 1048576) }
+        requires { (1 ≤ capacity) × (capacity ≤ MAX_CAPACITY) }
         ensures { IfOk result (λ l. l ≡ clairvoyant_at capacity uses 0) }
     {
         let ranks = Ranks::new(alloc, 2 * uses.len())?;

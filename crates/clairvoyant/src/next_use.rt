@@ -1,5 +1,6 @@
 //! A trace with the next use of each access, found beforehand.
 ghost use Rattle.std.specs.Prelude.{◌≡◌, ℕ, suc, ◌+◌, ◌-◌, ◌*◌, ◌<◌, ◌≤◌, IfOk, IfSome, length, slice_index};
+ghost use Rattle.step_record.specs.declared.limits.TheConstants.{MAX_ACCESSES};
 ghost use Rattle.clairvoyant.specs.Uses.{next, rank, rank_by, key_at};
 
 use std::alloc::{AllocError, Global};
@@ -42,7 +43,7 @@ impl Model for NextUse {
 
 /// The rank of a key that is used next at one place and was used last at another.
 fn rank_by(len: usize, next: Option<u32>, last: usize) -> u32
-    requires few { len ≤ 16777216 }
+    requires few { len ≤ MAX_ACCESSES }
     requires next { IfSome next (λ n. n < len) }
     requires last { last < len }
     ensures rank { result ≡ rank_by len next last }
@@ -85,7 +86,7 @@ impl NextUse {
     /// How many accesses there are.
     pub fn len(&self) -> usize
         ensures len { result ≡ length self.now }
-        ensures few { result ≤ 16777216 }
+        ensures few { result ≤ MAX_ACCESSES }
     {
         self.found.keys.len()
     }
