@@ -124,30 +124,48 @@ fn a_pass_is_spent_after_its_only_turn(rt: HostRuntime) -> Result<(), Fail> {
 // How often workers yield, all together, before they give up waiting for one that does not begin.
 const MAX_YIELDS: u64 = 20_000_000;
 
-// Holds each worker before its first line until all have begun.
+// Holds each worker before its first line until all have begun. Each then writes so many lines amid the crowd, and the
+// rest of them one worker after another: a crowd on few processors that other programs use as well waits milliseconds
+// a round.
 #[derive(Drop)]
 struct Hold {
     workers: u64,
+    crowded: u64,
+    lines: u64,
     begun: AtomicU64,
+    done: AtomicU64,
     yields: AtomicU64,
 }
 
-impl Gate for Hold {
-    fn before(&self, _who: u8, n: u64) {
-        if n > 0 {
-            return;
-        }
-        self.begun.fetch_add(1, SeqCst);
+impl Hold {
+    // Yields until the count has come to a number.
+    fn wait_for(&self, count: &AtomicU64, wanted: u64) {
         for _ in 0..MAX_YIELDS {
-            let all = self.begun.load(SeqCst) >= self.workers;
-            if all || self.yields.fetch_add(1, SeqCst) >= MAX_YIELDS {
+            let reached = count.load(SeqCst) >= wanted;
+            if reached || self.yields.fetch_add(1, SeqCst) >= MAX_YIELDS {
                 return;
             }
             thread::yield_now();
         }
     }
+}
 
-    fn after(&self, _who: u8, _n: u64) {}
+impl Gate for Hold {
+    fn before(&self, who: u8, n: u64) {
+        if n == 0 {
+            self.begun.fetch_add(1, SeqCst);
+            self.wait_for(&self.begun, self.workers);
+        }
+        if n == self.crowded {
+            self.wait_for(&self.done, u64::from(who));
+        }
+    }
+
+    fn after(&self, _who: u8, n: u64) {
+        if n.wrapping_add(1) == self.lines {
+            self.done.fetch_add(1, SeqCst);
+        }
+    }
 }
 
 // Each list has the lines of its worker, from the first to the last, and the log has them past its first line.
@@ -172,6 +190,7 @@ fn assert_side_by_side<R: Threads + Wait + Sync + Abort>(
     rt: &R,
     alloc: Global,
     workers: u8,
+    crowded: u64,
     lines: u64,
 ) -> Result<(), Fail>
     requires workers { (1 ≤ workers) × (workers ≤ MAX_WORKERS) }
@@ -179,7 +198,10 @@ fn assert_side_by_side<R: Threads + Wait + Sync + Abort>(
 {
     let gate = Hold {
         workers: u64::from(workers),
+        crowded,
+        lines,
         begun: AtomicU64::new(0),
+        done: AtomicU64::new(0),
         yields: AtomicU64::new(0),
     };
     let written = write_log(rt, alloc, &gate, begun(alloc)?, workers, lines)?;
@@ -193,6 +215,6 @@ fn assert_side_by_side<R: Threads + Wait + Sync + Abort>(
 
 #[test]
 fn threads_write_one_log(rt: HostRuntime) -> Result<(), Fail> {
-    assert_side_by_side(&rt, rt.alloc(), 2, 3000)?;
-    assert_side_by_side(&rt, rt.alloc(), 64, 300)
+    assert_side_by_side(&rt, rt.alloc(), 2, 3000, 3000)?;
+    assert_side_by_side(&rt, rt.alloc(), 64, 300, 2000)
 }
