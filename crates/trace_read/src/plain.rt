@@ -18,23 +18,26 @@ pub struct PlainLine {
 }
 
 /// The first line of these bytes, where it ends in them and the LIRS format takes it for a number and nothing else:
-/// by one look at each byte. `None` says nothing of the line.
+/// by one look at each byte. `None` says nothing of the line; it comes for the last few bytes of a piece too, so that
+/// the loop over the digits has a constant bound, and the compiler unrolls it.
 pub fn plain_line(bytes: &[u8]) -> Option<PlainLine>
     ensures end { IfSome result (λ p. p.end ≡ feed_in bytes.now) }
     ensures within { IfSome result (λ p. p.end < length bytes.now) }
     ensures line { IfSome result (λ p. line_of Format.Lirs (take p.end bytes.now) ≡ Ok (p.key ∷ [])) }
 {
+    if bytes.len() <= ROOMY {
+        return None;
+    }
     let mut key: u64 = 0;
     let mut end = 0;
-    let most = bytes.len().min(ROOMY);
-    'digits: while end < most {
+    'digits: while end < ROOMY {
         if !bytes[end].is_ascii_digit() {
             break;
         }
         key = key * 10 + u64::from(bytes[end] - b'0');
         end += 1;
     }
-    if end == 0 || end == bytes.len() || bytes[end] != b'\n' {
+    if end == 0 || bytes[end] != b'\n' {
         return None;
     }
     Some(PlainLine { key, end })
