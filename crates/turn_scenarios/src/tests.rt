@@ -216,5 +216,5 @@ fn assert_side_by_side<R: Threads + Wait + Sync + Abort>(
 #[test]
 fn threads_write_one_log(rt: HostRuntime) -> Result<(), Fail> {
     assert_side_by_side(&rt, rt.alloc(), 2, 3000, 3000)?;
-    assert_side_by_side(&rt, rt.alloc(), 64, 300, 2000)
+    assert_side_by_side(&rt, rt.alloc(), 64, 150, 2000)
 }
