@@ -131,29 +131,64 @@ steps 0
     Ok(())
 }
 
-// Ends where a text does, and fails then.
+// An input or an output of one byte at a call: it is interrupted so often first, and fails once so many calls passed.
 #[derive(Drop)]
-struct Broken<'a> {
+struct Pipe<'a> {
     text: &'a [u8],
+    taken: Vec<u8>,
+    interruptions: u32,
+    passes: usize,
 }
 
-impl<'a> Read for Broken<'a> {
-    fn read(&mut self, buf: &mut [u8]) -> std::io::Result<usize> {
-        if self.text.is_empty() {
+impl<'a> Pipe<'a> {
+    fn of(text: &'a [u8], taken: Vec<u8>, passes: usize) -> Pipe<'a> {
+        Pipe {
+            text,
+            taken,
+            interruptions: 0,
+            passes,
+        }
+    }
+
+    fn next(&mut self) -> std::io::Result<()> {
+        if self.interruptions > 0 {
+            self.interruptions -= 1;
+            return Err(Error::from(ErrorKind::Interrupted));
+        }
+        if self.passes == 0 {
             return Err(Error::from(ErrorKind::BrokenPipe));
         }
-        self.text.read(buf)
+        self.passes -= 1;
+        Ok(())
     }
 }
 
-impl<'a> Write for Broken<'a> {
-    fn write(&mut self, _buf: &[u8]) -> std::io::Result<usize> {
-        Err(Error::from(ErrorKind::BrokenPipe))
+impl<'a> Read for Pipe<'a> {
+    fn read(&mut self, buf: &mut [u8]) -> std::io::Result<usize> {
+        self.next()?;
+        let count = buf.len().min(self.text.len()).min(1);
+        buf[..count].copy_from_slice(&self.text[..count]);
+        self.text = &self.text[count..];
+        Ok(count)
+    }
+}
+
+impl<'a> Write for Pipe<'a> {
+    fn write(&mut self, buf: &[u8]) -> std::io::Result<usize> {
+        self.next()?;
+        let count = buf.len().min(1);
+        self.taken.extend_from_slice(&buf[..count])?;
+        Ok(count)
     }
 
     fn flush(&mut self) -> std::io::Result<()> {
-        Err(Error::from(ErrorKind::BrokenPipe))
+        self.next()
     }
+}
+
+// A pipe with these bytes.
+fn pipe_of(alloc: Global, text: &[u8], passes: usize) -> Result<Pipe<'_>, Fail> {
+    Ok(Pipe::of(text, Vec::with_capacity(alloc, ROOM)?, passes))
 }
 
 // The session stands where the commands left it, also behind a fault, and no step is lost.
@@ -165,21 +200,107 @@ fn a_session_is_left_at_its_position(rt: HostRuntime) -> Result<(), Fail> {
     let mut done = b"back 3\nquit\nback 1\n".as_slice();
     run_replay(alloc, &mut session, &mut done, &mut out)?;
     assert_eq!(rt; (session.len(), session.ahead()), (6, 3));
-    let mut cut = Broken {
-        text: b"step 1\nback",
-    };
+    let mut cut = pipe_of(alloc, b"step 1\nback", 11)?;
     let answer = run_replay(alloc, &mut session, &mut cut, &mut out);
     assert_eq!(rt; answer, Err(DebugFault::Read));
     assert_eq!(rt; (session.len(), session.ahead()), (7, 2));
     let mut commands = b"back 5\n".as_slice();
-    let answer = run_replay(
-        alloc,
-        &mut session,
-        &mut commands,
-        &mut Broken { text: b"" },
-    );
+    let mut full = pipe_of(alloc, b"", 0)?;
+    let answer = run_replay(alloc, &mut session, &mut commands, &mut full);
     assert_eq!(rt; answer, Err(DebugFault::Write));
     assert_eq!(rt; (session.len(), session.ahead()), (2, 7));
     assert_eq!(rt; out.as_slice(), b"at 6\nat 7\n".as_slice());
+    Ok(())
+}
+
+// Two commands, of which the second ends the run, and what lies behind it.
+const COMMANDS: &[u8] = b"back 3\nquit\nshow\n";
+
+// As many reads as there are bytes up to the line feed of `quit`.
+const READS: usize = 12;
+
+const ANSWERS: &[u8] = b"at 6\n";
+
+// As many writes as the answer has bytes, and a flush for each of the two commands.
+const WRITES: usize = 5 + 2;
+
+// The answer to the commands, through these ends.
+fn answer_through(
+    alloc: Global,
+    input: &mut Pipe<'_>,
+    output: &mut Pipe<'_>,
+) -> Result<Result<(), DebugFault>, Fail> {
+    let mut session = session_of(alloc, 8, JOURNAL)?;
+    match run_replay(alloc, &mut session, input, output) {
+        Err(DebugFault::OutOfMemory) => Err(Fail::from("out of memory")),
+        answer => Ok(answer),
+    }
+}
+
+#[test]
+fn each_read_that_fails_is_reported(rt: HostRuntime) -> Result<(), Fail> {
+    let alloc = rt.alloc();
+    for passes in 0..READS {
+        let mut output = pipe_of(alloc, b"", ROOM)?;
+        let answer = answer_through(alloc, &mut pipe_of(alloc, COMMANDS, passes)?, &mut output)?;
+        assert_eq!(rt; answer, Err(DebugFault::Read), "after {passes} reads");
+        assert!(rt; ANSWERS.starts_with(output.taken.as_slice()));
+    }
+    let mut output = pipe_of(alloc, b"", ROOM)?;
+    let answer = answer_through(alloc, &mut pipe_of(alloc, COMMANDS, READS)?, &mut output)?;
+    assert_eq!(rt; answer, Ok(()));
+    assert_eq!(rt; output.taken.as_slice(), ANSWERS);
+    Ok(())
+}
+
+#[test]
+fn each_write_or_flush_that_fails_is_reported(rt: HostRuntime) -> Result<(), Fail> {
+    let alloc = rt.alloc();
+    for passes in 0..WRITES {
+        let mut output = pipe_of(alloc, b"", passes)?;
+        let answer = answer_through(alloc, &mut pipe_of(alloc, COMMANDS, READS)?, &mut output)?;
+        assert_eq!(rt; answer, Err(DebugFault::Write), "after {passes} calls");
+        assert!(rt; ANSWERS.starts_with(output.taken.as_slice()));
+    }
+    let mut output = pipe_of(alloc, b"", WRITES)?;
+    let answer = answer_through(alloc, &mut pipe_of(alloc, COMMANDS, READS)?, &mut output)?;
+    assert_eq!(rt; answer, Ok(()));
+    Ok(())
+}
+
+#[test]
+fn the_millionth_interruption_is_a_failure(rt: HostRuntime) -> Result<(), Fail> {
+    let alloc = rt.alloc();
+    for (reads, writes, answer) in [
+        (999_999, 999_999, Ok(())),
+        (1_000_000, 0, Err(DebugFault::Read)),
+        (0, 1_000_000, Err(DebugFault::Write)),
+    ] {
+        let mut input = pipe_of(alloc, COMMANDS, READS)?;
+        let mut output = pipe_of(alloc, b"", WRITES)?;
+        input.interruptions = reads;
+        output.interruptions = writes;
+        assert_eq!(rt; answer_through(alloc, &mut input, &mut output)?, answer);
+    }
+    Ok(())
+}
+
+// The limit is 2^20 bytes; the lines before the one that passes it are answered, and the session stands where they led.
+#[test]
+fn a_line_past_the_limit_is_too_large(rt: HostRuntime) -> Result<(), Fail> {
+    let alloc = rt.alloc();
+    for (blanks, answer) in [(1_048_569, Ok(())), (1_048_570, Err(DebugFault::TooLarge))] {
+        let mut session = session_of(alloc, 8, JOURNAL)?;
+        let mut commands = Vec::new(alloc);
+        commands.extend_from_slice(b"goto 2\n")?;
+        commands.extend_from_slice(vec![in alloc; b' '; blanks]?.as_slice())?;
+        let mut out = Vec::with_capacity(alloc, ROOM)?;
+        match run_replay(alloc, &mut session, &mut commands.as_slice(), &mut out) {
+            Err(DebugFault::OutOfMemory) => return Err(Fail::from("out of memory")),
+            said => assert_eq!(rt; said, answer, "with {blanks} blanks"),
+        }
+        assert_eq!(rt; out.as_slice(), b"at 2\n".as_slice());
+        assert_eq!(rt; (session.len(), session.ahead()), (2, 7));
+    }
     Ok(())
 }
