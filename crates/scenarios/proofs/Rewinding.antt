@@ -14,6 +14,7 @@ use Rattle.journal.specs.Faults.{StandsBack}
 use Rattle.journal.specs.declared.fault.BackFault.{BackFault}
 use Rattle.journal.specs.declared.fault.BackFault.TheVariants as back
 use Rattle.drive.specs.declared.driving.Cause.{Cause}
+use Rattle.drive.specs.declared.driving.Cause.TheVariants.{JournalFull}
 use Rattle.drive.specs.Walks.{Entries}
 use Rattle.drive.specs.Driven.{IsRun, entries_of}
 use Rattle.drive.specs.Desks.{ShellSession}
@@ -43,13 +44,14 @@ answered x steps legal before later e is =
     last.0 ∙ ap (λ (y : Shell). Some (e.reply, y)) (sym (after_append act x before (e ∷ [])))
 
 pub rewound : (n k : ℕ) (pieces : List (List Call)) (cause : Option Cause) (o : Result (Unit {0}) BackFault) (old whole new : ShellSession) (lists : List Entries)
-    → IsRun (AreMade n cause) pieces old whole lists → IsLegal act whole.opening whole.kept → new.opening ≡ whole.opening → new.kept ≡ take (length whole.kept - undone_of k o) whole.kept
+    → IsRun (AreMade n cause) pieces old whole lists → (cause ≡ Some JournalFull → length whole.kept ≡ whole.limit) → IsLegal act whole.opening whole.kept → new.opening ≡ whole.opening → new.kept ≡ take (length whole.kept - undone_of k o) whole.kept
     → new.engine ≡ after act new.opening new.kept → (o ≡ Err back.PastStart ↔ length whole.kept < k) → IsRewound n k pieces cause o old new lists
-rewound n k pieces cause o old whole new lists run legal opening left state past = record {
+rewound n k pieces cause o old whole new lists run filled legal opening left state past = record {
   run = run.news;
   listed = run.own;
   made = λ w lt. subst (λ es. AreMade n cause w (get_or pieces w []) es) (sym (run.own w lt)) (run.made w lt);
   no_other = run.no_other;
+  full = λ e. sym (ap (λ (es : Entries). length es) run.entered) ∙ filled e ∙ run.limit;
   answered = answered old.opening (old.kept ++ run.news) (subst (λ es. IsLegal act old.opening es) run.entered (subst (λ x. IsLegal act x whole.kept) run.opening legal));
   left = left ∙ ap (λ es. take (length es - undone_of k o) es) run.entered;
   state = state ∙ ap (λ x. after act x new.kept) (opening ∙ run.opening);

@@ -10,6 +10,7 @@ use Rattle.shell_model.specs.Shell.{Shell, act}
 use Rattle.journal.specs.declared.fault.BackFault.{BackFault}
 use Rattle.journal.specs.declared.fault.BackFault.TheVariants as back
 use Rattle.drive.specs.declared.driving.Cause.{Cause}
+use Rattle.drive.specs.declared.driving.Cause.TheVariants.{JournalFull}
 use Rattle.drive.specs.Walks.{Entries, AreWalks}
 use Rattle.drive.specs.Made.{BeginWalks}
 use Rattle.drive.specs.Driven.{entries_of}
@@ -32,14 +33,16 @@ undone_of k (Err back.PastStart) = 0
 undone_of k (Err (back.OutOfMemory undone)) = undone
 
 -- The run is one list of steps behind the old ones. Of these, those of each worker are its own list, in order, which
--- are the walks of its calls, and nobody else made any. Each reply is the definition's on the steps before it. And once
--- the last steps are undone, the state is the one that the definition gives on the others.
+-- are the walks of its calls, and nobody else made any. A full journal is the cause only where it is full. Each reply is
+-- the definition's on the steps before it. And once the last steps are undone, the state is the one that the definition
+-- gives on the others.
 pub record IsRewound (n k : ℕ) (pieces : List (List Call)) (cause : Option Cause) (undone : Result (Unit {0}) BackFault)
     (old new : ShellSession) (lists : List Entries) : Type 0 where
   pub run : Entries
   pub listed : (w : ℕ) → w < length pieces → entries_of w run ≡ get_or lists w []
   pub made : (w : ℕ) → w < length pieces → AreMade n cause w (get_or pieces w []) (entries_of w run)
   pub no_other : (w : ℕ) → length pieces ≤ w → entries_of w run ≡ []
+  pub full : cause ≡ Some JournalFull → length (old.kept ++ run) ≡ old.limit
   pub answered : IsAnswered old.opening (old.kept ++ run)
   pub left : new.kept ≡ take (length (old.kept ++ run) - undone_of k undone) (old.kept ++ run)
   pub state : new.engine ≡ after act old.opening new.kept
