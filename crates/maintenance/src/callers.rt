@@ -1,5 +1,6 @@
 //! What readers and writers do.
 ghost use Rattle.std.specs.Prelude.{◌≡◌, ◌<◌, ◌≤◌, length, Some, None, IfOk, OnOk, OnErr};
+ghost use Rattle.step_record.specs.declared.limits.TheConstants.{MAX_STEPS};
 ghost use Rattle.shell_buffers.specs.Buffers.{stripe_at};
 ghost use Rattle.shell_model.specs.Shell.{put, remove, begin, offer, after_write, after_read, held_by};
 ghost use Rattle.shell_model.specs.Records.{change_of};
@@ -36,7 +37,7 @@ impl Core {
     }
 
     pub(crate) fn put(&mut self, worker: Worker, key: Key) -> Result<(Reply, Change), AllocError>
-        requires { self.old.next < 4294967296 }
+        requires { self.old.next < MAX_STEPS }
         ensures reply { IfOk result (λ r. r.0 ≡ (put key self.old).0) }
         ensures state { OnOk result (self.new ≡ (put key self.old).1) }
         ensures change { IfOk result (λ r. r.1 ≡ change_of worker (act.Put key) self.old) }
@@ -124,7 +125,7 @@ impl Core {
         self.holder = Some(Holder {
             worker,
             phase: Phase::Reads,
-            left: 128,
+            left: MAX_TASKS as u8,
         });
         (Reply::Began, Change::Began { worker, before })
     }

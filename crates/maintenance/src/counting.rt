@@ -1,5 +1,6 @@
 //! The frequency, in the words of the shell's definition.
 ghost use Rattle.std.specs.Prelude.{◌≡◌, ◌≤◌, IfOk, OnOk, OnErr};
+ghost use Rattle.step_record.specs.declared.limits.TheConstants.{MAX_STEPS};
 ghost use Rattle.shell_model.specs.Frequency.{recorded, record_of, unrecorded, FitsFrequency};
 
 use admission::{FreqRecord, Frequency};
@@ -8,7 +9,7 @@ use step_record::Key;
 
 // Records a key. The only error is that the allocation of a halving failed; nothing is changed then.
 pub(crate) fn record_key(frequency: &mut Frequency, key: Key) -> Result<FreqRecord, AllocError>
-    requires { frequency.old.halvings ≤ 4294967296 }
+    requires { frequency.old.halvings ≤ MAX_STEPS }
     ensures state { OnOk result (frequency.new ≡ recorded frequency.old key) }
     ensures made { IfOk result (λ r. r ≡ record_of frequency.old key) }
     ensures err { OnErr result (frequency.new ≡ frequency.old) }

@@ -1,5 +1,6 @@
 //! The statistics: how often each kind of reply was given.
 ghost use Rattle.std.specs.Prelude.{◌≡◌, ◌+◌, ◌-◌, ◌≤◌};
+ghost use Rattle.step_record.specs.declared.limits.TheConstants.{MAX_STEPS};
 ghost use Rattle.shell_model.specs.ShellStats.{one, counted, uncounted, IsCounted, AreAtMost, is_hit, is_miss, is_kept};
 ghost use Rattle.shell_model.specs.ShellStats.{is_full, is_lost, is_added, is_updated, is_refused, is_eviction};
 ghost use Rattle.shell_model.specs.ShellStats.{is_rejection, is_begun, is_busy, is_removed};
@@ -86,7 +87,7 @@ fn is_removed(reply: Reply) -> bool
 }
 
 fn raised(count: u64, is: bool) -> u64
-    requires { count ≤ 4294967296 }
+    requires { count ≤ MAX_STEPS }
     ensures { result ≡ count + one is }
 {
     if is { count + 1 } else { count }
@@ -101,7 +102,7 @@ fn lowered(count: u64, is: bool) -> u64
 
 // The statistics with the reply counted.
 pub(crate) fn counted(reply: Reply, stats: ShellStats) -> ShellStats
-    requires { AreAtMost 4294967296 stats }
+    requires { AreAtMost MAX_STEPS stats }
     ensures { result ≡ counted reply stats }
 {
     ShellStats {

@@ -1,5 +1,7 @@
 //! What the maintenance does with reads and writes.
 ghost use Rattle.std.specs.Prelude.{◌≡◌, ◌<◌, ◌≤◌, length, cond, Some, None, IfOk, OnOk, OnErr};
+ghost use Rattle.step_record.specs.declared.limits.TheConstants.{MAX_STEPS};
+ghost use Rattle.shell_buffers.specs.declared.write_tasks.TheConstants.{MAX_TASKS};
 ghost use Rattle.shell_buffers.specs.Buffers.{stripe_at};
 ghost use Rattle.shell_model.specs.Shell.{touching, apply_task, drain_read, drain_write, in_phase, end, ended, is_over};
 ghost use Rattle.shell_model.specs.Records.{touched_of, added_of, task_change, read_change, write_change};
@@ -21,7 +23,7 @@ use step_record::{Drain, Item, Phase, Reply};
 impl Core {
     // A key is recorded, and its item moves where it is queued.
     fn touch(&mut self, item: Item) -> Result<UseRecord, AllocError>
-        requires { self.old.frequency.halvings ≤ 4294967296 }
+        requires { self.old.frequency.halvings ≤ MAX_STEPS }
         ensures state { OnOk result (self.new ≡ touching item self.old) }
         ensures made { IfOk result (λ r. r ≡ touched_of item self.old) }
         ensures err { OnErr result (self.new ≡ self.old) }
@@ -33,7 +35,7 @@ impl Core {
 
     // An item that is queued nowhere is recorded, and comes into the window.
     fn enter_window(&mut self, item: Item) -> Result<UseRecord, AllocError>
-        requires few { self.old.frequency.halvings ≤ 4294967296 }
+        requires few { self.old.frequency.halvings ≤ MAX_STEPS }
         requires absent { place_of item self.old.queues ≡ None }
         ensures state { OnOk result (self.new ≡ (apply_task (task.Add item) self.old).1) }
         ensures made { IfOk result (λ r. r ≡ added_of item self.old) }
@@ -50,7 +52,7 @@ impl Core {
     }
 
     fn apply_add(&mut self, before: Phase, item: Item) -> Result<(Reply, Change), AllocError>
-        requires few { self.old.frequency.halvings ≤ 4294967296 }
+        requires few { self.old.frequency.halvings ≤ MAX_STEPS }
         requires absent { place_of item self.old.queues ≡ None }
         ensures reply { IfOk result (λ r. r.0 ≡ (apply_task (task.Add item) self.old).0) }
         ensures state { OnOk result (self.new ≡ (apply_task (task.Add item) self.old).1) }
@@ -66,7 +68,7 @@ impl Core {
     }
 
     fn apply_update(&mut self, before: Phase, item: Item) -> Result<(Reply, Change), AllocError>
-        requires { self.old.frequency.halvings ≤ 4294967296 }
+        requires { self.old.frequency.halvings ≤ MAX_STEPS }
         ensures reply { IfOk result (λ r. r.0 ≡ (apply_task (task.Update item) self.old).0) }
         ensures state { OnOk result (self.new ≡ (apply_task (task.Update item) self.old).1) }
         ensures change { IfOk result (λ r. r.1 ≡ task_change before (task.Update item) self.old) }
@@ -94,7 +96,7 @@ impl Core {
 
     pub(crate) fn drain_read(&mut self, stripe: u8) -> Result<(Reply, Change), AllocError>
         requires stripe { stripe < length self.old.stripes }
-        requires few { self.old.frequency.halvings ≤ 4294967296 }
+        requires few { self.old.frequency.halvings ≤ MAX_STEPS }
         ensures reply { IfOk result (λ r. r.0 ≡ (drain_read stripe (stripe_at stripe self.old.stripes) self.old).0) }
         ensures state { OnOk result (self.new ≡ (drain_read stripe (stripe_at stripe self.old.stripes) self.old).1) }
         ensures change { IfOk result (λ r. r.1 ≡ read_change stripe (stripe_at stripe self.old.stripes) self.old) }
@@ -111,7 +113,7 @@ impl Core {
 
     // The maintenance is at a phase.
     pub(crate) fn enter(&mut self, holder: Holder, phase: Phase)
-        requires { holder.left ≤ 128 }
+        requires { holder.left ≤ MAX_TASKS }
         ensures { self.new ≡ in_phase phase holder self.old }
     {
         self.holder = Some(Holder {
@@ -124,7 +126,7 @@ impl Core {
     pub(crate) fn drain_write(&mut self, holder: Holder) -> Result<(Reply, Change), AllocError>
         requires holds { self.old.holder ≡ Some holder }
         requires sound { IsConsistent self.old }
-        requires few { self.old.frequency.halvings ≤ 4294967296 }
+        requires few { self.old.frequency.halvings ≤ MAX_STEPS }
         ensures reply { IfOk result (λ r. r.0 ≡ (drain_write holder self.old.writes self.old).0) }
         ensures state { OnOk result (self.new ≡ (drain_write holder self.old.writes self.old).1) }
         ensures change { IfOk result (λ r. r.1 ≡ write_change holder self.old.writes self.old) }

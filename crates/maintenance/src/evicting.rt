@@ -1,5 +1,6 @@
 //! What the maintenance evicts.
 ghost use Rattle.std.specs.Prelude.{◌≡◌, ◌≤◌};
+ghost use Rattle.shell_buffers.specs.declared.write_tasks.TheConstants.{MAX_TASKS};
 ghost use Rattle.step_record.specs.declared.drain.Phase.TheVariants as phase;
 ghost use Rattle.segments.specs.Queues.{IsDistinct};
 ghost use Rattle.replacement.specs.Moving.{queues_after, moves_of};
@@ -54,7 +55,7 @@ impl Core {
     }
 
     pub(crate) fn evict(&mut self, holder: Holder) -> (Reply, Change)
-        requires left { holder.left ≤ 128 }
+        requires left { holder.left ≤ MAX_TASKS }
         requires distinct { IsDistinct self.old.queues }
         ensures reply { result.0 ≡ (evict (in_phase phase.Evictions holder self.old)).0 }
         ensures state { self.new ≡ (evict (in_phase phase.Evictions holder self.old)).1 }

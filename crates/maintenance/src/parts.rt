@@ -37,6 +37,7 @@ pub(crate) struct Core {
 
 impl Model for Core {
     ghost use Rattle.std.specs.Prelude.{◌≡◌, ◌≤◌};
+    ghost use Rattle.step_record.specs.declared.limits.TheConstants.{MAX_STEPS};
     ghost use Rattle.shell_model.specs.Shell.{Shell};
     ghost use Rattle.shell_model.specs.Consistent.{IsLeft};
     ghost use Rattle.replacement.specs.Rules.{three_queues};
@@ -57,7 +58,7 @@ impl Model for Core {
       applied = s.applied;
     } };
 
-    ghost invariant = { λ s. (s.next ≤ 4294967296) × (s.applied ≤ 4294967296) × (IsLeft s.holder)
+    ghost invariant = { λ s. (s.next ≤ MAX_STEPS) × (s.applied ≤ MAX_STEPS) × (IsLeft s.holder)
         × (s.rules ≡ three_queues s.config) };
 }
 

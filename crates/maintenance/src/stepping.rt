@@ -1,5 +1,6 @@
 //! One step.
 ghost use Rattle.std.specs.Prelude.{◌≡◌, ◌<◌, ◌≤◌, ◌↔◌, Some, None, IfOk, OnOk, OnErr, Err, IsSome, IfSome, IfNone};
+ghost use Rattle.step_record.specs.declared.limits.TheConstants.{MAX_STEPS};
 ghost use Rattle.shell_model.specs.Shell.{perform, act as acted};
 ghost use Rattle.shell_model.specs.Records.{change_of};
 ghost use Rattle.shell_model.specs.ShellStats.{AreAtMost};
@@ -9,14 +10,14 @@ use crate::counts::counted;
 use crate::parts::Core;
 use shell_model::{Change, ShellRecord};
 use std::alloc::AllocError;
-use step_record::{Act, Phase, Reply, Step, StepFault, Worker};
+use step_record::{Act, MAX_STEPS, Phase, Reply, Step, StepFault, Worker};
 
 impl Core {
     // One act, or `None` where it may not come now.
     fn perform(&mut self, worker: Worker, act: Act) -> Result<Option<(Reply, Change)>, AllocError>
         requires sound { IsConsistent self.old }
-        requires room { self.old.next < 4294967296 }
-        requires few { self.old.frequency.halvings ≤ 4294967296 }
+        requires room { self.old.next < MAX_STEPS }
+        requires few { self.old.frequency.halvings ≤ MAX_STEPS }
         ensures some { IfOk result (λ o. IfSome o (λ r. perform worker act self.old ≡ Some (r.0, self.new))) }
         ensures change { IfOk result (λ o. IfSome o (λ r. r.1 ≡ change_of worker act self.old)) }
         ensures none { IfOk result (λ o. IfNone o ((perform worker act self.old ≡ None) × (self.new ≡ self.old))) }
@@ -72,15 +73,15 @@ impl Core {
     pub(crate) fn apply(&mut self, step: Step) -> Result<(Reply, ShellRecord), StepFault>
         requires sound { IsConsistent self.old }
         requires next { self.old.next ≤ self.old.applied }
-        requires counts { AreAtMost 4294967296 self.old.stats }
-        requires few { self.old.frequency.halvings ≤ 4294967296 }
+        requires counts { AreAtMost MAX_STEPS self.old.stats }
+        requires few { self.old.frequency.halvings ≤ MAX_STEPS }
         ensures some { IfOk result (λ r. acted self.old step ≡ Some (r.0, self.new)) }
         ensures reply { IfOk result (λ r. r.1.reply ≡ r.0) }
         ensures change { IfOk result (λ r. r.1.change ≡ change_of step.worker step.act self.old) }
         ensures not_now { result ≡ Err StepFault.NotNow ↔ acted self.old step ≡ None }
         ensures err { OnErr result (self.new ≡ self.old) }
     {
-        if self.applied >= 4294967296 {
+        if self.applied >= MAX_STEPS {
             return Err(StepFault::NotNow);
         }
         match self.perform(step.worker, step.act) {

@@ -12,6 +12,6 @@ mod task;
 mod tests;
 mod write_tasks;
 
-pub use stripes::{MAX_ITEMS, MAX_STRIPES, Stripes};
+pub use stripes::{MAX_ITEMS, Stripes};
 pub use task::Task;
 pub use write_tasks::{MAX_TASKS, WriteTasks};

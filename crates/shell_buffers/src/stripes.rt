@@ -2,15 +2,13 @@
 ghost use Rattle.std.specs.Prelude.{◌≡◌, ◌<◌, ◌≤◌, [], ◌∷◌, ◌++◌, length, drop, set, replicate, nat_lt, true, false};
 ghost use Rattle.std.specs.Prelude.{IfOk, IfSome, IfNone};
 ghost use Rattle.shell_buffers.specs.Buffers.{stripe_at, but_newest};
-ghost use Rattle.shell_buffers.specs.declared.stripes.TheConstants.{MAX_STRIPES, MAX_ITEMS};
+ghost use Rattle.step_record.specs.declared.limits.TheConstants.{MAX_STRIPES};
+ghost use Rattle.shell_buffers.specs.declared.stripes.TheConstants.{MAX_ITEMS};
 
 use arrayvec::ArrayVec;
 use std::alloc::{AllocError, Global};
 use std::marker::Model;
 use step_record::Item;
-
-/// How many stripes there are at most.
-pub const MAX_STRIPES: u8 = 64;
 
 /// How many items a stripe holds at most, as a read buffer of Caffeine does.
 pub const MAX_ITEMS: usize = 16;
@@ -33,7 +31,10 @@ impl Model for Stripes {
 }
 
 impl Stripes {
-    /// So many empty stripes, with room for all that they may hold. The only error is that the allocation failed.
+    /// So many empty stripes, at most [`MAX_STRIPES`], with room for all that they may hold. The only error is that
+    /// the allocation failed.
+    ///
+    /// [`MAX_STRIPES`]: step_record::MAX_STRIPES
     pub fn new(alloc: Global, count: u8) -> Result<Stripes, AllocError>
         requires some { 1 ≤ count }
         requires few { count ≤ MAX_STRIPES }

@@ -10,7 +10,7 @@ use std::alloc::{AllocError, Global};
 use std::marker::Model;
 use step_record::Item;
 
-/// How many tasks the write queue holds at most.
+/// How many tasks the write queue holds at most, and one maintenance applies at most.
 pub const MAX_TASKS: usize = 128;
 
 /// The tasks that were not applied yet, shown as a list, oldest first.

@@ -1,5 +1,7 @@
 -- What holds of the shell after any steps.
 use Rattle.std.specs.Prelude.{◌≡◌, ℕ, ◌+◌, ◌<◌, ◌≤◌, cond, Option, Some, None, List, [], ◌∷◌, length}
+use Rattle.shell_buffers.specs.declared.stripes.TheConstants.{MAX_ITEMS}
+use Rattle.shell_buffers.specs.declared.write_tasks.TheConstants.{MAX_TASKS}
 use Rattle.step_record.specs.declared.item.Item.{Item}
 use Rattle.admission.specs.Frequency.{IsFrequency}
 use Rattle.segments.specs.Items.{same, times}
@@ -45,7 +47,7 @@ IsAscending (x ∷ t) = AreAbove x.key t × IsAscending t
 
 abbrev pub IsLeft : Option Holder → Type 0
 IsLeft None = Unit {0}
-IsLeft (Some h) = h.left ≤ 128
+IsLeft (Some h) = h.left ≤ MAX_TASKS
 
 -- an item of the table is queued or waits for it, and what is queued or waits is in the table or is to be removed: each
 -- once
@@ -62,8 +64,8 @@ main_length q = length q.probation + length q.protected
 
 pub record IsConsistent (x : Shell) : Type 0 where
   pub placed : IsPlaced x.table x.next x.queues x.writes
-  pub stripes : (s : ℕ) → length (stripe_at s x.stripes) ≤ 16
-  pub writes : length x.writes ≤ 128
+  pub stripes : (s : ℕ) → length (stripe_at s x.stripes) ≤ MAX_ITEMS
+  pub writes : length x.writes ≤ MAX_TASKS
   pub left : IsLeft x.holder
   pub main : main_length x.queues ≤ main_size x.config
   pub frequency : IsFrequency x.frequency

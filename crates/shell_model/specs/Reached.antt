@@ -1,5 +1,6 @@
 -- The states that steps lead to from an opened shell, and where a record of the shell fits.
 use Rattle.std.specs.Prelude.{◌≡◌, ℕ, ◌<◌, ◌≤◌, false, Option, Some, None, List, Ok}
+use Rattle.step_record.specs.declared.limits.TheConstants.{MAX_STEPS}
 use Rattle.step_record.specs.Config.{config_fault}
 use Rattle.step_record.specs.History.{after, IsLegal}
 use Rattle.step_record.specs.declared.step.Step.{Step}
@@ -47,7 +48,7 @@ pub record IsBounded (x : Shell) : Type 0 where
   pub next : x.next ≤ x.applied
   pub counts : AreAtMost x.applied x.stats
   pub halvings : x.frequency.halvings ≤ x.applied
-  pub applied : x.applied ≤ 4294967296
+  pub applied : x.applied ≤ MAX_STEPS
 
 abbrev pub BoundLaw : Type 0
 BoundLaw = (x : Shell) → IsReachable x → IsBounded x

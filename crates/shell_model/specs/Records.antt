@@ -1,6 +1,8 @@
 -- The records of steps, how a record undoes its step, and where it fits.
 use Rattle.std.specs.Prelude.{◌≡◌, ℕ, ◌+◌, ◌-◌, ◌<◌, ◌≤◌, nat_lt, Bool, true, false, cond, eqb, Option, Some, None}
 use Rattle.std.specs.Prelude.{List, [], ◌∷◌, ◌++◌, length, take, set}
+use Rattle.shell_buffers.specs.declared.stripes.TheConstants.{MAX_ITEMS}
+use Rattle.shell_buffers.specs.declared.write_tasks.TheConstants.{MAX_TASKS}
 use Rattle.step_record.specs.declared.item.Item.{Item}
 use Rattle.step_record.specs.declared.step.Act.{Act}
 use Rattle.step_record.specs.declared.step.Act.TheVariants as a
@@ -73,7 +75,7 @@ IsInPhase p (Some h) = h.phase ≡ p
 
 abbrev pub HasLeft : Option Holder → Type 0
 HasLeft None = ⊥
-HasLeft (Some h) = h.left < 128
+HasLeft (Some h) = h.left < MAX_TASKS
 
 -- back in the table, where it was listed
 abbrev pub listed : Bool → Item → List Item → List Item
@@ -127,13 +129,14 @@ FitsChange (Updated i) x = IsNewest (Update i) x.writes
 FitsChange (Added i) x = IsNewest (Add i) x.writes × (node_of i.key x.table ≡ Some i.node) × (x.next ≡ i.node + 1)
 FitsChange (Removed i) x = IsNewest (Remove i) x.writes × (node_of i.key x.table ≡ None)
 FitsChange (Requested before now) x = x.drain ≡ now
-FitsChange (Began w before) x = (x.drain ≡ ToIdle) × (x.holder ≡ Some record { worker = w; phase = Reads; left = 128 })
-FitsChange (Read s i t) x = FitsTouched t x × (s < length x.stripes) × (length (stripe_at s x.stripes) < 16)
+FitsChange (Began w before) x =
+    (x.drain ≡ ToIdle) × (x.holder ≡ Some record { worker = w; phase = Reads; left = MAX_TASKS })
+FitsChange (Read s i t) x = FitsTouched t x × (s < length x.stripes) × (length (stripe_at s x.stripes) < MAX_ITEMS)
 FitsChange (Passed before now) x = IsInPhase now x.holder
 FitsChange (Applied before task t) x =
-    FitsTouched t x × (length x.writes < 128) × IsInPhase Writes x.holder × HasLeft x.holder
+    FitsTouched t x × (length x.writes < MAX_TASKS) × IsInPhase Writes x.holder × HasLeft x.holder
 FitsChange (Cleared before i r) x =
-    FitsMove r x.queues × (length x.writes < 128) × IsInPhase Writes x.holder × HasLeft x.holder
+    FitsMove r x.queues × (length x.writes < MAX_TASKS) × IsInPhase Writes x.holder × HasLeft x.holder
 FitsChange (Evicted before g) x = FitsEviction g x × IsInPhase Evictions x.holder
 FitsChange (Ended h before now) x = (x.drain ≡ now) × (x.holder ≡ None)
 
@@ -177,7 +180,7 @@ put_change k None x = Added record { key = k; node = x.next }
 
 abbrev pub remove_change : ℕ → Option ℕ → Shell → Change
 remove_change k None x = Nothing
-remove_change k (Some n) x = cond (nat_lt (length x.writes) 128) (Removed record { key = k; node = n }) Nothing
+remove_change k (Some n) x = cond (nat_lt (length x.writes) MAX_TASKS) (Removed record { key = k; node = n }) Nothing
 
 abbrev pub begin_change : ℕ → Option Holder → Shell → Change
 begin_change w (Some h) x = Nothing
@@ -216,9 +219,9 @@ if_held f (Some h) = f h
 
 abbrev pub change_of : ℕ → Act → Shell → Change
 change_of w (a.Look k) x = Nothing
-change_of w (a.Offer s i) x = cond (nat_lt (length (stripe_at s x.stripes)) 16) (Offered s i) Nothing
+change_of w (a.Offer s i) x = cond (nat_lt (length (stripe_at s x.stripes)) MAX_ITEMS) (Offered s i) Nothing
 change_of w (a.Lose s i) x = Nothing
-change_of w (a.Put k) x = cond (nat_lt (length x.writes) 128) (put_change k (node_of k x.table) x) Nothing
+change_of w (a.Put k) x = cond (nat_lt (length x.writes) MAX_TASKS) (put_change k (node_of k x.table) x) Nothing
 change_of w (a.Remove k) x = remove_change k (node_of k x.table) x
 change_of w (a.AfterRead b) x = Nothing
 change_of w a.AfterWrite x = Requested x.drain (after_write x.drain).1

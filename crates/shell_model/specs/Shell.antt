@@ -1,6 +1,9 @@
 -- The shell's state, and what each step makes of it.
 use Rattle.std.specs.Prelude.{ℕ, ◌+◌, ◌-◌, ◌*◌, ◌/◌, nat_lt, Bool, true, false, cond, ◌&&◌, eqb, Option, Some, None}
 use Rattle.std.specs.Prelude.{List, [], ◌∷◌, ◌++◌, length, set, get_or}
+use Rattle.step_record.specs.declared.limits.TheConstants.{MAX_STEPS}
+use Rattle.shell_buffers.specs.declared.stripes.TheConstants.{MAX_ITEMS}
+use Rattle.shell_buffers.specs.declared.write_tasks.TheConstants.{MAX_TASKS}
 use Rattle.step_record.specs.declared.item.Item.{Item}
 use Rattle.step_record.specs.declared.config.Config.{Config}
 use Rattle.step_record.specs.declared.step.Answer.{Answer}
@@ -93,7 +96,7 @@ look None = Miss
 
 abbrev pub offer : ℕ → Item → Shell → Reply × Shell
 offer s i x =
-    cond (nat_lt (length (stripe_at s x.stripes)) 16)
+    cond (nat_lt (length (stripe_at s x.stripes)) MAX_ITEMS)
     (Kept, record x { stripes = set x.stripes s (stripe_at s x.stripes ++ i ∷ []) })
     (Full, x)
 
@@ -109,7 +112,7 @@ put_at k None x = (
 )
 
 abbrev pub put : ℕ → Shell → Reply × Shell
-put k x = cond (nat_lt (length x.writes) 128) (put_at k (node_of k x.table) x) (WritesFull, x)
+put k x = cond (nat_lt (length x.writes) MAX_TASKS) (put_at k (node_of k x.table) x) (WritesFull, x)
 
 abbrev pub removing : Item → Shell → Shell
 removing i x = record x { table = without i x.table; writes = x.writes ++ Remove i ∷ [] }
@@ -117,7 +120,7 @@ removing i x = record x { table = without i x.table; writes = x.writes ++ Remove
 abbrev pub remove_at : ℕ → Option ℕ → Shell → Reply × Shell
 remove_at k None x = (Absent, x)
 remove_at k (Some n) x =
-    cond (nat_lt (length x.writes) 128) (Removed n, removing record { key = k; node = n } x) (WritesFull, x)
+    cond (nat_lt (length x.writes) MAX_TASKS) (Removed n, removing record { key = k; node = n } x) (WritesFull, x)
 
 abbrev pub remove : ℕ → Shell → Reply × Shell
 remove k x = remove_at k (node_of k x.table) x
@@ -139,7 +142,7 @@ after_write drain.ToRequired = (Go, drain.ToRequired)
 abbrev pub begin : ℕ → Option Holder → Shell → Reply × Shell
 begin w (Some h) x = (Busy, x)
 begin w None x =
-    (Began, record x { drain = drain.ToIdle; holder = Some record { worker = w; phase = Reads; left = 128 } })
+    (Began, record x { drain = drain.ToIdle; holder = Some record { worker = w; phase = Reads; left = MAX_TASKS } })
 
 abbrev pub recording : ℕ → Shell → Shell
 recording k x = record x { frequency = recorded x.frequency k }
@@ -273,4 +276,4 @@ tallied None = None
 tallied (Some p) = let x = p.1 in Some (p.0, record x { stats = counted p.0 x.stats; applied = x.applied + 1 })
 
 abbrev pub act : Shell → Step → Option (Reply × Shell)
-act x s = cond (nat_lt x.applied 4294967296) (tallied (perform s.worker s.act x)) None
+act x s = cond (nat_lt x.applied MAX_STEPS) (tallied (perform s.worker s.act x)) None

@@ -13,4 +13,4 @@ invariant_of-self c =
     let made = rw c.in-Ok-Some.field-0-is at c.in-Ok-Some.ensures.some in
     let e = ap (λ (x : Shell). x.applied) c.self-2.view_is ∙ perform-applied c.args.step.worker c.args.step.act _ _ made in
     let f = ap (λ (x : Shell). x.applied) c.self.view_is in
-    (c.self-2.invariant.0, omega (arith, e, f, c.if-self-ge4294967296.false), c.self-2.invariant.2, c.self-2.invariant.3)
+    (c.self-2.invariant.0, omega (arith, e, f, c.if-self-ge-MAX_STEPS.false), c.self-2.invariant.2, c.self-2.invariant.3)
