@@ -192,39 +192,179 @@ fn sixty_four_breakpoints(rt: HostRuntime) -> Result<(), Fail> {
     Ok(())
 }
 
-// Fails at each read, write and flush.
+// An input or an output of one byte at a call: it is interrupted so often first, and fails once so many calls passed.
 #[derive(Drop)]
-struct Broken;
+struct Pipe<'a> {
+    text: &'a [u8],
+    taken: Vec<u8>,
+    interruptions: u32,
+    passes: usize,
+}
 
-impl Read for Broken {
-    fn read(&mut self, _buf: &mut [u8]) -> std::io::Result<usize> {
-        Err(Error::from(ErrorKind::BrokenPipe))
+impl<'a> Pipe<'a> {
+    fn of(text: &'a [u8], taken: Vec<u8>, passes: usize) -> Pipe<'a> {
+        Pipe {
+            text,
+            taken,
+            interruptions: 0,
+            passes,
+        }
+    }
+
+    fn next(&mut self) -> std::io::Result<()> {
+        if self.interruptions > 0 {
+            self.interruptions -= 1;
+            return Err(Error::from(ErrorKind::Interrupted));
+        }
+        if self.passes == 0 {
+            return Err(Error::from(ErrorKind::BrokenPipe));
+        }
+        self.passes -= 1;
+        Ok(())
     }
 }
 
-impl Write for Broken {
-    fn write(&mut self, _buf: &[u8]) -> std::io::Result<usize> {
-        Err(Error::from(ErrorKind::BrokenPipe))
+impl<'a> Read for Pipe<'a> {
+    fn read(&mut self, buf: &mut [u8]) -> std::io::Result<usize> {
+        self.next()?;
+        let count = buf.len().min(self.text.len()).min(1);
+        buf[..count].copy_from_slice(&self.text[..count]);
+        self.text = &self.text[count..];
+        Ok(count)
+    }
+}
+
+impl<'a> Write for Pipe<'a> {
+    fn write(&mut self, buf: &[u8]) -> std::io::Result<usize> {
+        self.next()?;
+        let count = buf.len().min(1);
+        self.taken.extend_from_slice(&buf[..count])?;
+        Ok(count)
     }
 
     fn flush(&mut self) -> std::io::Result<()> {
-        Err(Error::from(ErrorKind::BrokenPipe))
+        self.next()
     }
 }
 
+// Two commands, of which the second ends the run, and what lies behind it.
+const COMMANDS: &[u8] = b"goto 5\nquit\nshow\n";
+
+// As many reads as there are bytes up to the line feed of `quit`.
+const READS: usize = 12;
+
+const ANSWERS: &[u8] = b"at 5\n";
+
+// As many writes as the answer has bytes, and a flush for each of the two commands.
+const WRITES: usize = 5 + 2;
+
+// The answer to the commands, through these ends.
+fn answer_through(
+    alloc: Global,
+    input: &mut Pipe<'_>,
+    output: &mut Pipe<'_>,
+) -> Result<Result<(), DebugFault>, Fail> {
+    let trace = trace_of(alloc, &[1, 1, 2, 3, 1])?;
+    let (lru, segmented) = (job(Policy::Lru, 2), job(Policy::SegmentedLru, 2));
+    match run_debug(alloc, &trace, &lru, &segmented, input, output) {
+        Err(DebugFault::OutOfMemory) => Err(Fail::from("out of memory")),
+        answer => Ok(answer),
+    }
+}
+
+fn pipe_of(alloc: Global, passes: usize) -> Result<Pipe<'static>, Fail> {
+    Ok(Pipe::of(COMMANDS, Vec::with_capacity(alloc, ROOM)?, passes))
+}
+
 #[test]
-fn a_failing_input_or_output_is_reported(rt: HostRuntime) -> Result<(), Fail> {
+fn each_read_that_fails_is_reported(rt: HostRuntime) -> Result<(), Fail> {
+    let alloc = rt.alloc();
+    for passes in 0..READS {
+        let mut output = pipe_of(alloc, ROOM)?;
+        let answer = answer_through(alloc, &mut pipe_of(alloc, passes)?, &mut output)?;
+        assert_eq!(rt; answer, Err(DebugFault::Read), "after {passes} reads");
+        assert!(rt; ANSWERS.starts_with(output.taken.as_slice()));
+    }
+    let mut output = pipe_of(alloc, ROOM)?;
+    let answer = answer_through(alloc, &mut pipe_of(alloc, READS)?, &mut output)?;
+    assert_eq!(rt; answer, Ok(()));
+    assert_eq!(rt; output.taken.as_slice(), ANSWERS);
+    Ok(())
+}
+
+#[test]
+fn each_write_or_flush_that_fails_is_reported(rt: HostRuntime) -> Result<(), Fail> {
+    let alloc = rt.alloc();
+    for passes in 0..WRITES {
+        let mut output = pipe_of(alloc, passes)?;
+        let answer = answer_through(alloc, &mut pipe_of(alloc, READS)?, &mut output)?;
+        assert_eq!(rt; answer, Err(DebugFault::Write), "after {passes} calls");
+        assert!(rt; ANSWERS.starts_with(output.taken.as_slice()));
+    }
+    let answer = answer_through(
+        alloc,
+        &mut pipe_of(alloc, READS)?,
+        &mut pipe_of(alloc, WRITES)?,
+    )?;
+    assert_eq!(rt; answer, Ok(()));
+    Ok(())
+}
+
+#[test]
+fn the_millionth_interruption_is_a_failure(rt: HostRuntime) -> Result<(), Fail> {
+    let alloc = rt.alloc();
+    for (reads, writes, answer) in [
+        (999_999, 999_999, Ok(())),
+        (1_000_000, 0, Err(DebugFault::Read)),
+        (0, 1_000_000, Err(DebugFault::Write)),
+    ] {
+        let mut input = pipe_of(alloc, READS)?;
+        let mut output = pipe_of(alloc, WRITES)?;
+        input.interruptions = reads;
+        output.interruptions = writes;
+        assert_eq!(rt; answer_through(alloc, &mut input, &mut output)?, answer);
+    }
+    Ok(())
+}
+
+// The limit is 2^20 bytes; the lines before the one that passes it are answered.
+#[test]
+fn a_line_past_the_limit_is_too_large(rt: HostRuntime) -> Result<(), Fail> {
+    let alloc = rt.alloc();
+    let trace = trace_of(alloc, &[1, 1, 2, 3, 1])?;
+    let lru = job(Policy::Lru, 2);
+    for (blanks, answer) in [(1_048_569, Ok(())), (1_048_570, Err(DebugFault::TooLarge))] {
+        let mut commands = Vec::new(alloc);
+        commands.extend_from_slice(b"goto 2\n")?;
+        commands.extend_from_slice(vec![in alloc; b' '; blanks]?.as_slice())?;
+        let mut out = Vec::with_capacity(alloc, ROOM)?;
+        let mut rest = commands.as_slice();
+        match run_debug(alloc, &trace, &lru, &lru, &mut rest, &mut out) {
+            Err(DebugFault::OutOfMemory) => return Err(Fail::from("out of memory")),
+            said => assert_eq!(rt; said, answer, "with {blanks} blanks"),
+        }
+        assert_eq!(rt; out.as_slice(), b"at 2\n".as_slice());
+    }
+    Ok(())
+}
+
+#[test]
+fn a_refused_configuration_is_reported_before_anything_is_read(
+    rt: HostRuntime,
+) -> Result<(), Fail> {
     let alloc = rt.alloc();
     let trace = trace_of(alloc, &[1, 2])?;
-    let lru = job(Policy::Lru, 2);
-    let mut out = Vec::new(alloc);
-    let input = run_debug(alloc, &trace, &lru, &lru, &mut Broken, &mut out);
-    assert_eq!(rt; input, Err(DebugFault::Read));
-    let mut commands = b"show\n".as_slice();
-    let output = run_debug(alloc, &trace, &lru, &lru, &mut commands, &mut Broken);
-    assert_eq!(rt; output, Err(DebugFault::Write));
-    let bad = job(Policy::Lru, 0);
-    let refused = run_debug(alloc, &trace, &lru, &bad, &mut Broken, &mut Broken);
-    assert_eq!(rt; refused, Err(DebugFault::Config { index: 1 }));
+    let (good, bad) = (job(Policy::Lru, 2), job(Policy::Lru, 0));
+    for (first, second, index) in [(bad, bad, 0), (bad, good, 0), (good, bad, 1)] {
+        let refused = run_debug(
+            alloc,
+            &trace,
+            &first,
+            &second,
+            &mut pipe_of(alloc, 0)?,
+            &mut pipe_of(alloc, 0)?,
+        );
+        assert_eq!(rt; refused, Err(DebugFault::Config { index }));
+    }
     Ok(())
 }
