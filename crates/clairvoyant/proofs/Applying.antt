@@ -3,7 +3,7 @@ use Rattle.std.proofs.Common.{◌≡◌, ℕ, suc, ◌-◌, ◌<◌, Some, Bool,
 use Rattle.step_record.specs.declared.outcome.Outcome.{Outcome}
 use Rattle.step_record.specs.declared.stats.Stats.{Stats}
 use Rattle.clairvoyant.specs.declared.use_record.UseRecord.{UseRecord}
-use Rattle.clairvoyant.specs.Belady.{residents, outcome}
+use Rattle.clairvoyant.specs.Belady.{belady_residents, belady_outcome}
 use Rattle.clairvoyant.specs.RankSet.{IsTied}
 use Rattle.step_record.specs.Stats.{counted, uncounted}
 use Rattle.clairvoyant.specs.Clairvoyant.{ClairvoyantState, clairvoyant_at, IsReached, clairvoyant_act}
@@ -12,7 +12,7 @@ use Rattle.clairvoyant.proofs.Records.{outcome-is, keys-back}
 use Rattle.clairvoyant.specs.Representation.{shown, IsRepresented}
 use Rattle.clairvoyant.proofs.Reached.{reached-next, act-next, uncount-by}
 
-module _ (c : ℕ) (t : List ℕ) (s u : Stats) (o : Outcome) (lt : s.accesses < length t) (r : IsReached (shown c t s)) (is : o ≡ outcome c t s.accesses) (more : u ≡ counted o s) where
+module _ (c : ℕ) (t : List ℕ) (s u : Stats) (o : Outcome) (lt : s.accesses < length t) (r : IsReached (shown c t s)) (is : o ≡ belady_outcome c t s.accesses) (more : u ≡ counted o s) where
   pub up : u.accesses ≡ suc s.accesses
   up = ap (λ x. x.accesses) more ∙ add-one s.accesses
 
@@ -24,10 +24,10 @@ module _ (c : ℕ) (t : List ℕ) (s u : Stats) (o : Outcome) (lt : s.accesses <
       let P : Stats → Type 0 = λ x. IsReached (shown c t x) in
       subst P (sym (more ∙ ap (λ x. counted x s) is)) (reached-next c t s lt r)
 
-  pub next-keeping : (h : List Bool) → IsTied t (suc s.accesses) (residents c t (suc s.accesses)) h → IsRepresented c t u h
+  pub next-keeping : (h : List Bool) → IsTied t (suc s.accesses) (belady_residents c t (suc s.accesses)) h → IsRepresented c t u h
   next-keeping h tied = record {
     reached = next-reached;
-    tied = let P : ℕ → Type 0 = λ n. IsTied t n (residents c t n) h in subst P (sym up) tied;
+    tied = let P : ℕ → Type 0 = λ n. IsTied t n (belady_residents c t n) h in subst P (sym up) tied;
   }
 
   pub next-accepted : (k : ℕ) (d : ClairvoyantState) → shown c t s ≡ d → k ≡ get_or t s.accesses 0 → clairvoyant_act d k ≡ Some (o, shown c t u)
@@ -37,25 +37,25 @@ module _ (c : ℕ) (t : List ℕ) (s u : Stats) (o : Outcome) (lt : s.accesses <
   pub next-seen : shown c t u ≡ clairvoyant_at c t (suc s.accesses)
   next-seen = let n : IsReached (shown c t u) = next-reached in n.gives ∙ ap (clairvoyant_at c t) up
 
-  pub next-stands : (d : ClairvoyantState) → shown c t s ≡ d → (d ≡ clairvoyant_at d.capacity d.trace d.stats.accesses) × (o ≡ outcome d.capacity d.trace d.stats.accesses) × (shown c t u ≡ clairvoyant_at d.capacity d.trace (suc d.stats.accesses))
+  pub next-stands : (d : ClairvoyantState) → shown c t s ≡ d → (d ≡ clairvoyant_at d.capacity d.trace d.stats.accesses) × (o ≡ belady_outcome d.capacity d.trace d.stats.accesses) × (shown c t u ≡ clairvoyant_at d.capacity d.trace (suc d.stats.accesses))
   next-stands d e =
-      let P : ClairvoyantState → Type 0 = λ x. (x ≡ clairvoyant_at x.capacity x.trace x.stats.accesses) × (o ≡ outcome x.capacity x.trace x.stats.accesses) × (shown c t u ≡ clairvoyant_at x.capacity x.trace (suc x.stats.accesses)) in
+      let P : ClairvoyantState → Type 0 = λ x. (x ≡ clairvoyant_at x.capacity x.trace x.stats.accesses) × (o ≡ belady_outcome x.capacity x.trace x.stats.accesses) × (shown c t u ≡ clairvoyant_at x.capacity x.trace (suc x.stats.accesses)) in
       subst P e (r.gives, is, next-seen)
 
   module _ (done : UseRecord) (last : done ≡ record_at c t s.accesses) where
     by : outcome_of done ≡ o
     by = ap outcome_of last ∙ outcome-is c t s.accesses ∙ sym is
 
-    back : undone_keys done (get_or t (u.accesses - 1) 0) (residents c t u.accesses) ≡ residents c t s.accesses
+    back : undone_keys done (get_or t (u.accesses - 1) 0) (belady_residents c t u.accesses) ≡ belady_residents c t s.accesses
     back =
-        ap (λ n. undone_keys done (get_or t n 0) (residents c t u.accesses)) (sym down)
-        ∙ ap (λ n. undone_keys done (get_or t s.accesses 0) (residents c t n)) up
-        ∙ ap (λ x. undone_keys x (get_or t s.accesses 0) (residents c t (suc s.accesses))) last ∙ keys-back c t s.accesses
+        ap (λ n. undone_keys done (get_or t n 0) (belady_residents c t u.accesses)) (sym down)
+        ∙ ap (λ n. undone_keys done (get_or t s.accesses 0) (belady_residents c t n)) up
+        ∙ ap (λ x. undone_keys x (get_or t s.accesses 0) (belady_residents c t (suc s.accesses))) last ∙ keys-back c t s.accesses
 
     pub next-undone : clairvoyant_undone done (shown c t u) ≡ shown c t s
     next-undone =
         ap (λ x. record { trace = t; capacity = c; residents = x; stats = uncounted (outcome_of done) u }) back
-        ∙ ap (λ x. record { trace = t; capacity = c; residents = residents c t s.accesses; stats = x }) (ap (uncounted (outcome_of done)) more ∙ uncount-by (outcome_of done) o s by)
+        ∙ ap (λ x. record { trace = t; capacity = c; residents = belady_residents c t s.accesses; stats = x }) (ap (uncounted (outcome_of done)) more ∙ uncount-by (outcome_of done) o s by)
 
     pub next-fits : ClairvoyantFits done (shown c t u)
     next-fits = record {

@@ -2,27 +2,27 @@
 use Rattle.std.proofs.Common.{◌≡◌, ℕ, suc, zero, ◌<◌, ◌≤◌, true, false, cond, eqb, nat_lt, ◌⊎◌, inl, inr, List, [], ◌∷◌, length, get_or, ap, ◌∙◌, sym, refl, arith}
 use Rattle.std.proofs.lemmas.Bool.{cases_Bool, eqb-true, eq-eqb, ltb-true, ltb-false}
 use Rattle.step_record.specs.Keys.{has, without}
-use Rattle.clairvoyant.specs.Keys.{put, IsAscending}
+use Rattle.clairvoyant.specs.Keys.{residents_with, IsAscendingKeys}
 use Rattle.clairvoyant.specs.Uses.{rank, key_at}
-use Rattle.clairvoyant.specs.Belady.{leaves_first, farthest, served, residents}
+use Rattle.clairvoyant.specs.Belady.{leaves_first, farthest, belady_residents_after, belady_residents}
 use Rattle.clairvoyant.proofs.Keys.{has-put, has-without, ascending-put, ascending-without}
 use Rattle.clairvoyant.proofs.Uses.{IsSeen, seen-own, seen-more, named, leaves-rank}
 
-served-ascending : (c : ℕ) (t : List ℕ) (i k : ℕ) (r : List ℕ) → IsAscending r → IsAscending (served c t i k r)
+served-ascending : (c : ℕ) (t : List ℕ) (i k : ℕ) (r : List ℕ) → IsAscendingKeys r → IsAscendingKeys (belady_residents_after c t i k r)
 served-ascending c t i k r s =
-    elim (cases_Bool (has k r)) as (λ _. IsAscending (served c t i k r)) [
+    elim (cases_Bool (has k r)) as (λ _. IsAscendingKeys (belady_residents_after c t i k r)) [
       | inl e ↦ rw e s
-      | inr e ↦ elim (cases_Bool (nat_lt (length r) c)) as (λ _. IsAscending (served c t i k r)) [
+      | inr e ↦ elim (cases_Bool (nat_lt (length r) c)) as (λ _. IsAscendingKeys (belady_residents_after c t i k r)) [
         | inl f ↦ rw (e, f) (ascending-put k r s e)
-        | inr f ↦ rw (e, f) (ascending-without (farthest t i k r) (put k r) (ascending-put k r s e))
+        | inr f ↦ rw (e, f) (ascending-without (farthest t i k r) (residents_with k r) (ascending-put k r s e))
       ]
     ]
 
-pub residents-ascending : (c : ℕ) (t : List ℕ) (i : ℕ) → IsAscending (residents c t i)
+pub residents-ascending : (c : ℕ) (t : List ℕ) (i : ℕ) → IsAscendingKeys (belady_residents c t i)
 residents-ascending c t zero = tt
-residents-ascending c t (suc i) = served-ascending c t i (get_or t i 0) (residents c t i) (residents-ascending c t i)
+residents-ascending c t (suc i) = served-ascending c t i (get_or t i 0) (belady_residents c t i) (residents-ascending c t i)
 
-put-has : (x k : ℕ) (r : List ℕ) → has x (put k r) ≡ true → (x ≡ k) ⊎ (has x r ≡ true)
+put-has : (x k : ℕ) (r : List ℕ) → has x (residents_with k r) ≡ true → (x ≡ k) ⊎ (has x r ≡ true)
 put-has x k r h =
     elim (cases_Bool (eqb x k)) [
       | inl e ↦ inl (eqb-true x k e)
@@ -36,20 +36,20 @@ without-has x v r h =
       | inr e ↦ rw (has-without x v r, e) at h
     ]
 
-served-has : (c : ℕ) (t : List ℕ) (i k x : ℕ) (r : List ℕ) → has x (served c t i k r) ≡ true → (x ≡ k) ⊎ (has x r ≡ true)
+served-has : (c : ℕ) (t : List ℕ) (i k x : ℕ) (r : List ℕ) → has x (belady_residents_after c t i k r) ≡ true → (x ≡ k) ⊎ (has x r ≡ true)
 served-has c t i k x r h =
     elim (cases_Bool (has k r)) [
       | inl e ↦ inr (rw e at h)
       | inr e ↦ elim (cases_Bool (nat_lt (length r) c)) [
         | inl f ↦ put-has x k r (rw (e, f) at h)
-        | inr f ↦ put-has x k r (without-has x (farthest t i k r) (put k r) (rw (e, f) at h))
+        | inr f ↦ put-has x k r (without-has x (farthest t i k r) (residents_with k r) (rw (e, f) at h))
       ]
     ]
 
-pub residents-seen : (c : ℕ) (t : List ℕ) (i x : ℕ) → has x (residents c t i) ≡ true → IsSeen t i x
+pub residents-seen : (c : ℕ) (t : List ℕ) (i x : ℕ) → has x (belady_residents c t i) ≡ true → IsSeen t i x
 residents-seen c t zero x h = absurd (cc (h))
 residents-seen c t (suc i) x h =
-    elim (served-has c t i (get_or t i 0) x (residents c t i) h) [
+    elim (served-has c t i (get_or t i 0) x (belady_residents c t i) h) [
       | inl e ↦ rw e (seen-own t i)
       | inr g ↦ seen-more t i x (residents-seen c t i x g)
     ]

@@ -3,7 +3,7 @@ use Rattle.std.proofs.Common.{◌≡◌, ℕ, suc, ◌<◌, ◌≤◌, Bool, tru
 use Rattle.std.proofs.lemmas.Bool.{cases_Bool, eqb-true, eqb-false, eq-eqb, ne_eqb, ltb-true, ltb-false, le-ltb, lt-ltb}
 use Rattle.std.proofs.lemmas.Bool.Decides.{nat_tests}
 use Rattle.step_record.specs.Keys.{has, without}
-use Rattle.clairvoyant.specs.Keys.{put, IsBelowAll, IsAscending}
+use Rattle.clairvoyant.specs.Keys.{residents_with, IsBelowAll, IsAscendingKeys}
 
 swap : (x y z : Bool) → cond x true (cond y true z) ≡ cond y true (cond x true z)
 swap true true z = refl
@@ -11,10 +11,10 @@ swap true false z = refl
 swap false true z = refl
 swap false false z = refl
 
-pub has-put : (k b : ℕ) (l : List ℕ) → has k (put b l) ≡ cond (eqb k b) true (has k l)
+pub has-put : (k b : ℕ) (l : List ℕ) → has k (residents_with b l) ≡ cond (eqb k b) true (has k l)
 has-put k b [] = refl
 has-put k b (a ∷ l) =
-    elim (cases_Bool (nat_lt b a)) as (λ _. has k (cond (nat_lt b a) (b ∷ a ∷ l) (a ∷ put b l)) ≡ cond (eqb k b) true (cond (eqb k a) true (has k l))) [
+    elim (cases_Bool (nat_lt b a)) as (λ _. has k (cond (nat_lt b a) (b ∷ a ∷ l) (a ∷ residents_with b l)) ≡ cond (eqb k b) true (cond (eqb k a) true (has k l))) [
       | inl e ↦ rw e refl
       | inr e ↦ rw (e, has-put k b l) (swap (eqb k a) (eqb k b) (has k l))
     ]
@@ -38,12 +38,12 @@ without-none k (a ∷ l) h =
       | inr e ↦ rw e (ap (λ t. a ∷ t) (without-none k l (rw e at h)))
     ]
 
-pub without-put : (k : ℕ) (l : List ℕ) → has k l ≡ false → without k (put k l) ≡ l
+pub without-put : (k : ℕ) (l : List ℕ) → has k l ≡ false → without k (residents_with k l) ≡ l
 without-put k [] h = let e : eqb k k ≡ true = eq-eqb k k refl in rw e refl
 without-put k (a ∷ l) h =
-    elim (cases_Bool (eqb k a)) as (λ _. without k (cond (nat_lt k a) (k ∷ a ∷ l) (a ∷ put k l)) ≡ a ∷ l) [
+    elim (cases_Bool (eqb k a)) as (λ _. without k (cond (nat_lt k a) (k ∷ a ∷ l) (a ∷ residents_with k l)) ≡ a ∷ l) [
       | inl e ↦ absurd (let no : true ≡ false = rw e at h in cc (no))
-      | inr e ↦ elim (cases_Bool (nat_lt k a)) as (λ _. without k (cond (nat_lt k a) (k ∷ a ∷ l) (a ∷ put k l)) ≡ a ∷ l) [
+      | inr e ↦ elim (cases_Bool (nat_lt k a)) as (λ _. without k (cond (nat_lt k a) (k ∷ a ∷ l) (a ∷ residents_with k l)) ≡ a ∷ l) [
         | inl f ↦ let s : eqb k k ≡ true = eq-eqb k k refl in rw (f, s) (without-none k (a ∷ l) h)
         | inr f ↦ rw (f, e) (ap (λ t. a ∷ t) (without-put k l (rw e at h)))
       ]
@@ -72,20 +72,20 @@ pub below-none : (k : ℕ) (l : List ℕ) → IsBelowAll k l → has k l ≡ fal
 below-none k [] w = refl
 below-none k (a ∷ l) w = let n = w.0 in let e : eqb k a ≡ false = ne_eqb k a (λ h. omega (arith, n, h)) in rw e (below-none k l w.1)
 
-below-put : (a k : ℕ) (l : List ℕ) → a < k → IsBelowAll a l → IsBelowAll a (put k l)
+below-put : (a k : ℕ) (l : List ℕ) → a < k → IsBelowAll a l → IsBelowAll a (residents_with k l)
 below-put a k [] h w = (h, tt)
 below-put a k (x ∷ l) h w =
-    elim (cases_Bool (nat_lt k x)) as (λ _. IsBelowAll a (cond (nat_lt k x) (k ∷ x ∷ l) (x ∷ put k l))) [
+    elim (cases_Bool (nat_lt k x)) as (λ _. IsBelowAll a (cond (nat_lt k x) (k ∷ x ∷ l) (x ∷ residents_with k l))) [
       | inl e ↦ rw e (h, w)
       | inr e ↦ rw e (w.0, below-put a k l h w.1)
     ]
 
-pub ascending-put : (k : ℕ) (l : List ℕ) → IsAscending l → has k l ≡ false → IsAscending (put k l)
+pub ascending-put : (k : ℕ) (l : List ℕ) → IsAscendingKeys l → has k l ≡ false → IsAscendingKeys (residents_with k l)
 ascending-put k [] s h = (tt, tt)
 ascending-put k (a ∷ l) s h =
-    elim (cases_Bool (eqb k a)) as (λ _. IsAscending (cond (nat_lt k a) (k ∷ a ∷ l) (a ∷ put k l))) [
+    elim (cases_Bool (eqb k a)) as (λ _. IsAscendingKeys (cond (nat_lt k a) (k ∷ a ∷ l) (a ∷ residents_with k l))) [
       | inl e ↦ absurd (let no : true ≡ false = rw e at h in cc (no))
-      | inr e ↦ elim (cases_Bool (nat_lt k a)) as (λ _. IsAscending (cond (nat_lt k a) (k ∷ a ∷ l) (a ∷ put k l))) [
+      | inr e ↦ elim (cases_Bool (nat_lt k a)) as (λ _. IsAscendingKeys (cond (nat_lt k a) (k ∷ a ∷ l) (a ∷ residents_with k l))) [
         | inl f ↦ let n : k < a = ltb-true k a f in rw f ((n, below-all k a l (omega arith) s.0), s)
         | inr f ↦
             let n : a ≤ k = ltb-false k a f in
@@ -102,15 +102,15 @@ below-without a k (x ∷ l) w =
       | inr e ↦ rw e (w.0, below-without a k l w.1)
     ]
 
-pub ascending-without : (k : ℕ) (l : List ℕ) → IsAscending l → IsAscending (without k l)
+pub ascending-without : (k : ℕ) (l : List ℕ) → IsAscendingKeys l → IsAscendingKeys (without k l)
 ascending-without k [] s = tt
 ascending-without k (a ∷ l) s =
-    elim (cases_Bool (eqb k a)) as (λ _. IsAscending (cond (eqb k a) (without k l) (a ∷ without k l))) [
+    elim (cases_Bool (eqb k a)) as (λ _. IsAscendingKeys (cond (eqb k a) (without k l) (a ∷ without k l))) [
       | inl e ↦ rw e (ascending-without k l s.1)
       | inr e ↦ rw e (below-without a k l s.0, ascending-without k l s.1)
     ]
 
-put-below : (k : ℕ) (l : List ℕ) → IsBelowAll k l → put k l ≡ k ∷ l
+put-below : (k : ℕ) (l : List ℕ) → IsBelowAll k l → residents_with k l ≡ k ∷ l
 put-below k [] w = refl
 put-below k (a ∷ l) w = let n = w.0 in let e : nat_lt k a ≡ true = lt-ltb k a n in rw e refl
 
@@ -123,10 +123,10 @@ below-has a k (x ∷ l) w h =
     ]
 
 -- what was taken out goes back to its place
-pub put-without : (k : ℕ) (l : List ℕ) → IsAscending l → has k l ≡ true → put k (without k l) ≡ l
+pub put-without : (k : ℕ) (l : List ℕ) → IsAscendingKeys l → has k l ≡ true → residents_with k (without k l) ≡ l
 put-without k [] s h = absurd (cc (h))
 put-without k (a ∷ l) s h =
-    elim (cases_Bool (eqb k a)) as (λ _. put k (cond (eqb k a) (without k l) (a ∷ without k l)) ≡ a ∷ l) [
+    elim (cases_Bool (eqb k a)) as (λ _. residents_with k (cond (eqb k a) (without k l) (a ∷ without k l)) ≡ a ∷ l) [
       | inl e ↦
           let same : k ≡ a = eqb-true k a e in
           rw (e, same, without-none a l (below-none a l s.0)) (put-below a l s.0)
@@ -136,15 +136,15 @@ put-without k (a ∷ l) s h =
           rw (e, f) (ap (λ t. a ∷ t) (put-without k l s.1 there))
     ]
 
-pub length-put : (k : ℕ) (l : List ℕ) → length (put k l) ≡ suc (length l)
+pub length-put : (k : ℕ) (l : List ℕ) → length (residents_with k l) ≡ suc (length l)
 length-put k [] = refl
 length-put k (a ∷ l) =
-    elim (cases_Bool (nat_lt k a)) as (λ _. length (cond (nat_lt k a) (k ∷ a ∷ l) (a ∷ put k l)) ≡ suc (suc (length l))) [
+    elim (cases_Bool (nat_lt k a)) as (λ _. length (cond (nat_lt k a) (k ∷ a ∷ l) (a ∷ residents_with k l)) ≡ suc (suc (length l))) [
       | inl e ↦ rw e refl
       | inr e ↦ rw e (ap suc (length-put k l))
     ]
 
-pub length-without : (k : ℕ) (l : List ℕ) → IsAscending l → has k l ≡ true → suc (length (without k l)) ≡ length l
+pub length-without : (k : ℕ) (l : List ℕ) → IsAscendingKeys l → has k l ≡ true → suc (length (without k l)) ≡ length l
 length-without k [] s h = absurd (cc (h))
 length-without k (a ∷ l) s h =
     elim (cases_Bool (eqb k a)) as (λ _. suc (length (cond (eqb k a) (without k l) (a ∷ without k l))) ≡ suc (length l)) [

@@ -8,10 +8,10 @@ use Rattle.std.proofs.lemmas.Bool.{cases_Bool, cases_eq, cases_lt, eqb-true, eq-
 use Rattle.step_record.specs.Stats.{one}
 use Rattle.step_record.specs.Keys.{has}
 use Rattle.rank_tree.specs.Bits.{holds}
-use Rattle.clairvoyant.specs.Keys.{IsAscending}
+use Rattle.clairvoyant.specs.Keys.{IsAscendingKeys}
 use Rattle.clairvoyant.specs.Uses.{rank, key_at}
 use Rattle.clairvoyant.specs.RankSet.{IsTied, is_ranked}
-use Rattle.clairvoyant.specs.Belady.{residents}
+use Rattle.clairvoyant.specs.Belady.{belady_residents}
 use Rattle.clairvoyant.proofs.Keys.{below-none, below-has}
 use Rattle.clairvoyant.proofs.Uses.{IsSeen, named}
 use Rattle.clairvoyant.proofs.Belady.{residents-seen, residents-ascending}
@@ -32,7 +32,7 @@ times-snoc : (k a : ℕ) (xs : List ℕ) → times k (xs ++ a ∷ []) ≡ times 
 times-snoc k a [] = omega arith
 times-snoc k a (x ∷ xs) = let past : times k (xs ++ a ∷ []) ≡ times k xs + one (eqb k a) = times-snoc k a xs in omega (arith, past)
 
-times-has : (k : ℕ) (rs : List ℕ) → IsAscending rs → times k rs ≡ one (has k rs)
+times-has : (k : ℕ) (rs : List ℕ) → IsAscendingKeys rs → times k rs ≡ one (has k rs)
 times-has k [] s = refl
 times-has k (a ∷ rs) s =
     let rest : times k rs ≡ one (has k rs) = times-has k rs s.1 in
@@ -66,7 +66,7 @@ own x xs = let one_there : one (eqb x x) ≡ 1 = ap one (eq-eqb x x refl) in ome
 low-sorted : (x : ℕ) (xs : List ℕ) → IsNonDecreasing (x ∷ xs) → (k : ℕ) → 0 < times k (x ∷ xs) → x ≤ k
 low-sorted x xs up k h = found k (x ∷ xs) h (λ y. x ≤ y) (λ j lt. up 0 j 0 (omega arith) lt)
 
-low-ascending : (r : ℕ) (rs : List ℕ) → IsAscending (r ∷ rs) → (k : ℕ) → 0 < times k (r ∷ rs) → r ≤ k
+low-ascending : (r : ℕ) (rs : List ℕ) → IsAscendingKeys (r ∷ rs) → (k : ℕ) → 0 < times k (r ∷ rs) → r ≤ k
 low-ascending r rs s k h =
     elim (cases_Bool (eqb k r)) [
       | inl e ↦ let same : k ≡ r = eqb-true k r e in omega (arith, same)
@@ -80,7 +80,7 @@ low-ascending r rs s k h =
     ]
 
 -- a sorted list in which each key is as often as in an ascending one is that
-pub same-list : (xs rs : List ℕ) → IsNonDecreasing xs → IsAscending rs → ((k : ℕ) → times k xs ≡ times k rs) → xs ≡ rs
+pub same-list : (xs rs : List ℕ) → IsNonDecreasing xs → IsAscendingKeys rs → ((k : ℕ) → times k xs ≡ times k rs) → xs ≡ rs
 same-list [] [] up s e = refl
 same-list [] (r ∷ rs) up s e = absurd (let there = own r rs in let no : 0 ≡ times r (r ∷ rs) = e r in omega (arith, there, no))
 same-list (x ∷ xs) [] up s e = absurd (let there = own x xs in let no : times x (x ∷ xs) ≡ 0 = e x in omega (arith, there, no))
@@ -168,7 +168,7 @@ module _ (t : List ℕ) (i : ℕ) (r : List ℕ) (le : i ≤ length t) (seen : (
               times-snoc k a keys ∙ sum ∙ all k ∙ ap one (sym (unmoved q k apart))
         ]
 
-pub listed-residents : (c : ℕ) (t : List ℕ) (i : ℕ) (keys sorted : List ℕ) → i ≤ length t → ((k : ℕ) → times k keys ≡ one (is_listed t i (residents c t i) (2 * length t) k)) → IsPermutation keys sorted → IsNonDecreasing sorted → sorted ≡ residents c t i
+pub listed-residents : (c : ℕ) (t : List ℕ) (i : ℕ) (keys sorted : List ℕ) → i ≤ length t → ((k : ℕ) → times k keys ≡ one (is_listed t i (belady_residents c t i) (2 * length t) k)) → IsPermutation keys sorted → IsNonDecreasing sorted → sorted ≡ belady_residents c t i
 listed-residents c t i keys sorted le all moved up =
-    let s : IsAscending (residents c t i) = residents-ascending c t i in
-    same-list sorted (residents c t i) up s (λ k. times-moved k keys sorted moved ∙ all k ∙ ap one (listed-all t i (residents c t i) le (residents-seen c t i) k) ∙ sym (times-has k (residents c t i) s))
+    let s : IsAscendingKeys (belady_residents c t i) = residents-ascending c t i in
+    same-list sorted (belady_residents c t i) up s (λ k. times-moved k keys sorted moved ∙ all k ∙ ap one (listed-all t i (belady_residents c t i) le (residents-seen c t i) k) ∙ sym (times-has k (belady_residents c t i) s))

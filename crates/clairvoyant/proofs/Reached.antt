@@ -5,8 +5,8 @@ use Rattle.step_record.specs.declared.limits.TheConstants.{MAX_ACCESSES, MAX_STE
 use Rattle.step_record.specs.declared.outcome.Outcome.{Outcome}
 use Rattle.step_record.specs.declared.stats.Stats.{Stats}
 use Rattle.step_record.specs.Keys.{has, without}
-use Rattle.clairvoyant.specs.Keys.{put, IsAscending}
-use Rattle.clairvoyant.specs.Belady.{farthest, served, answer, gone, residents, outcome, outcomes}
+use Rattle.clairvoyant.specs.Keys.{residents_with, IsAscendingKeys}
+use Rattle.clairvoyant.specs.Belady.{farthest, belady_residents_after, belady_answer, belady_departure, belady_residents, belady_outcome, belady_outcomes}
 use Rattle.step_record.specs.Stats.{is_hit, is_miss, is_eviction, is_rejection, one, counted, uncounted, IsCounted, IsSmall, stats_of}
 use Rattle.clairvoyant.specs.Clairvoyant.{IsReached, clairvoyant_act, is_next, state_after}
 use Rattle.clairvoyant.specs.Representation.{shown}
@@ -14,18 +14,18 @@ use Rattle.step_record.proofs.Counting.{stats-snoc, stats-small}
 use Rattle.clairvoyant.proofs.Keys.{has-put, length-put, length-without, ascending-put}
 use Rattle.clairvoyant.proofs.Belady.{residents-ascending, farthest-among, soon}
 
-pub outcomes-length : (c : ℕ) (t : List ℕ) (i : ℕ) → length (outcomes c t i) ≡ i
+pub outcomes-length : (c : ℕ) (t : List ℕ) (i : ℕ) → length (belady_outcomes c t i) ≡ i
 outcomes-length c t zero = refl
-outcomes-length c t (suc i) = length-append (outcomes c t i) (outcome c t i ∷ []) ∙ (let n : length (outcomes c t i) ≡ i = outcomes-length c t i in omega arith)
+outcomes-length c t (suc i) = length-append (belady_outcomes c t i) (belady_outcome c t i ∷ []) ∙ (let n : length (belady_outcomes c t i) ≡ i = outcomes-length c t i in omega arith)
 
 -- the counts after one access more
-pub stats-next : (c : ℕ) (t : List ℕ) (s : Stats) → s ≡ stats_of (outcomes c t s.accesses) → counted (outcome c t s.accesses) s ≡ stats_of (outcomes c t (s.accesses + 1))
+pub stats-next : (c : ℕ) (t : List ℕ) (s : Stats) → s ≡ stats_of (belady_outcomes c t s.accesses) → counted (belady_outcome c t s.accesses) s ≡ stats_of (belady_outcomes c t (s.accesses + 1))
 stats-next c t s e =
-    ap (counted (outcome c t s.accesses)) e ∙ sym (stats-snoc (outcomes c t s.accesses) (outcome c t s.accesses)) ∙ ap (λ n. stats_of (outcomes c t n)) (sym (add-one s.accesses))
+    ap (counted (belady_outcome c t s.accesses)) e ∙ sym (stats-snoc (belady_outcomes c t s.accesses) (belady_outcome c t s.accesses)) ∙ ap (λ n. stats_of (belady_outcomes c t n)) (sym (add-one s.accesses))
 
-pub reached-next : (c : ℕ) (t : List ℕ) (s : Stats) → s.accesses < length t → IsReached (shown c t s) → IsReached (shown c t (counted (outcome c t s.accesses) s))
+pub reached-next : (c : ℕ) (t : List ℕ) (s : Stats) → s.accesses < length t → IsReached (shown c t s) → IsReached (shown c t (counted (belady_outcome c t s.accesses) s))
 reached-next c t s lt r = record {
-  gives = ap (λ x. record { trace = t; capacity = c; residents = residents c t (s.accesses + 1); stats = x }) (stats-next c t s (ap (λ d. d.stats) r.gives));
+  gives = ap (λ x. record { trace = t; capacity = c; residents = belady_residents c t (s.accesses + 1); stats = x }) (stats-next c t s (ap (λ d. d.stats) r.gives));
   within = omega arith;
   short = r.short;
   room = r.room;
@@ -33,45 +33,45 @@ reached-next c t s lt r = record {
 
 pub reached-small : (c : ℕ) (t : List ℕ) (s : Stats) → IsReached (shown c t s) → IsSmall s
 reached-small c t s r =
-    let few : length (outcomes c t s.accesses) ≤ MAX_STEPS = let a = r.within in let b = r.short in omega (arith, a, b, outcomes-length c t s.accesses) in
-    let e : s ≡ stats_of (outcomes c t s.accesses) = ap (λ d. d.stats) r.gives in
-    let P : Stats → Type 0 = λ x. IsSmall x in subst P (sym e) (stats-small (outcomes c t s.accesses) few)
+    let few : length (belady_outcomes c t s.accesses) ≤ MAX_STEPS = let a = r.within in let b = r.short in omega (arith, a, b, outcomes-length c t s.accesses) in
+    let e : s ≡ stats_of (belady_outcomes c t s.accesses) = ap (λ d. d.stats) r.gives in
+    let P : Stats → Type 0 = λ x. IsSmall x in subst P (sym e) (stats-small (belady_outcomes c t s.accesses) few)
 
 -- ---- residents are the misses less the evictions
 
-gone-both : (k v : ℕ) → (is_miss (gone k v) ≡ true) × (is_eviction (gone k v) ≡ true)
-gone-both k v = elim (cases_Bool (eqb k v)) as (λ _. (is_miss (gone k v) ≡ true) × (is_eviction (gone k v) ≡ true)) [ inl e ↦ rw e (refl, refl) | inr e ↦ rw e (refl, refl) ]
+gone-both : (k v : ℕ) → (is_miss (belady_departure k v) ≡ true) × (is_eviction (belady_departure k v) ≡ true)
+gone-both k v = elim (cases_Bool (eqb k v)) as (λ _. (is_miss (belady_departure k v) ≡ true) × (is_eviction (belady_departure k v) ≡ true)) [ inl e ↦ rw e (refl, refl) | inr e ↦ rw e (refl, refl) ]
 
-served-count : (c : ℕ) (t : List ℕ) (i k : ℕ) (r : List ℕ) → IsAscending r → length (served c t i k r) + one (is_eviction (answer c t i k r)) ≡ length r + one (is_miss (answer c t i k r))
+served-count : (c : ℕ) (t : List ℕ) (i k : ℕ) (r : List ℕ) → IsAscendingKeys r → length (belady_residents_after c t i k r) + one (is_eviction (belady_answer c t i k r)) ≡ length r + one (is_miss (belady_answer c t i k r))
 served-count c t i k r s =
-    elim (cases_Bool (has k r)) as (λ _. length (served c t i k r) + one (is_eviction (answer c t i k r)) ≡ length r + one (is_miss (answer c t i k r))) [
+    elim (cases_Bool (has k r)) as (λ _. length (belady_residents_after c t i k r) + one (is_eviction (belady_answer c t i k r)) ≡ length r + one (is_miss (belady_answer c t i k r))) [
       | inl e ↦ rw e refl
-      | inr e ↦ elim (cases_Bool (nat_lt (length r) c)) as (λ _. length (served c t i k r) + one (is_eviction (answer c t i k r)) ≡ length r + one (is_miss (answer c t i k r))) [
-        | inl f ↦ rw (e, f) (let n : length (put k r) ≡ suc (length r) = length-put k r in omega arith)
+      | inr e ↦ elim (cases_Bool (nat_lt (length r) c)) as (λ _. length (belady_residents_after c t i k r) + one (is_eviction (belady_answer c t i k r)) ≡ length r + one (is_miss (belady_answer c t i k r))) [
+        | inl f ↦ rw (e, f) (let n : length (residents_with k r) ≡ suc (length r) = length-put k r in omega arith)
         | inr f ↦
             let v : ℕ = farthest t i k r in
-            let in_it : has v (put k r) ≡ true = has-put v k r ∙ soon v k r (farthest-among t i k r) in
-            let fewer : suc (length (without v (put k r))) ≡ length (put k r) = length-without v (put k r) (ascending-put k r s e) in_it in
-            let n : length (put k r) ≡ suc (length r) = length-put k r in
+            let in_it : has v (residents_with k r) ≡ true = has-put v k r ∙ soon v k r (farthest-among t i k r) in
+            let fewer : suc (length (without v (residents_with k r))) ≡ length (residents_with k r) = length-without v (residents_with k r) (ascending-put k r s e) in_it in
+            let n : length (residents_with k r) ≡ suc (length r) = length-put k r in
             let both = gone-both k v in
             rw (e, f, both.0, both.1) (omega arith)
       ]
     ]
 
-pub held-count : (c : ℕ) (t : List ℕ) (i : ℕ) → length (residents c t i) + count_by is_eviction (outcomes c t i) ≡ count_by is_miss (outcomes c t i)
+pub held-count : (c : ℕ) (t : List ℕ) (i : ℕ) → length (belady_residents c t i) + count_by is_eviction (belady_outcomes c t i) ≡ count_by is_miss (belady_outcomes c t i)
 held-count c t zero = refl
 held-count c t (suc i) =
-    let past : length (residents c t i) + count_by is_eviction (outcomes c t i) ≡ count_by is_miss (outcomes c t i) = held-count c t i in
-    let now : length (residents c t (suc i)) + one (is_eviction (outcome c t i)) ≡ length (residents c t i) + one (is_miss (outcome c t i)) = served-count c t i (get_or t i 0) (residents c t i) (residents-ascending c t i) in
-    let counts : stats_of (outcomes c t (suc i)) ≡ counted (outcome c t i) (stats_of (outcomes c t i)) = stats-snoc (outcomes c t i) (outcome c t i) in
-    let evictions : count_by is_eviction (outcomes c t (suc i)) ≡ count_by is_eviction (outcomes c t i) + one (is_eviction (outcome c t i)) = ap (λ x. x.evictions) counts in
-    let misses : count_by is_miss (outcomes c t (suc i)) ≡ count_by is_miss (outcomes c t i) + one (is_miss (outcome c t i)) = ap (λ x. x.misses) counts in
+    let past : length (belady_residents c t i) + count_by is_eviction (belady_outcomes c t i) ≡ count_by is_miss (belady_outcomes c t i) = held-count c t i in
+    let now : length (belady_residents c t (suc i)) + one (is_eviction (belady_outcome c t i)) ≡ length (belady_residents c t i) + one (is_miss (belady_outcome c t i)) = served-count c t i (get_or t i 0) (belady_residents c t i) (residents-ascending c t i) in
+    let counts : stats_of (belady_outcomes c t (suc i)) ≡ counted (belady_outcome c t i) (stats_of (belady_outcomes c t i)) = stats-snoc (belady_outcomes c t i) (belady_outcome c t i) in
+    let evictions : count_by is_eviction (belady_outcomes c t (suc i)) ≡ count_by is_eviction (belady_outcomes c t i) + one (is_eviction (belady_outcome c t i)) = ap (λ x. x.evictions) counts in
+    let misses : count_by is_miss (belady_outcomes c t (suc i)) ≡ count_by is_miss (belady_outcomes c t i) + one (is_miss (belady_outcome c t i)) = ap (λ x. x.misses) counts in
     omega (arith, past, now, evictions, misses)
 
-pub reached-held : (c : ℕ) (t : List ℕ) (s : Stats) → IsReached (shown c t s) → length (residents c t s.accesses) + s.evictions ≡ s.misses
+pub reached-held : (c : ℕ) (t : List ℕ) (s : Stats) → IsReached (shown c t s) → length (belady_residents c t s.accesses) + s.evictions ≡ s.misses
 reached-held c t s r =
-    let e : s ≡ stats_of (outcomes c t s.accesses) = ap (λ d. d.stats) r.gives in
-    ap (λ x. length (residents c t s.accesses) + x.evictions) e ∙ held-count c t s.accesses ∙ sym (ap (λ x. x.misses) e)
+    let e : s ≡ stats_of (belady_outcomes c t s.accesses) = ap (λ d. d.stats) r.gives in
+    ap (λ x. length (belady_residents c t s.accesses) + x.evictions) e ∙ held-count c t s.accesses ∙ sym (ap (λ x. x.misses) e)
 
 -- ---- steps
 
@@ -82,12 +82,12 @@ now-holds c t s k lt few e =
     let d : eqb k (get_or t s.accesses 0) ≡ true = eq-eqb k (get_or t s.accesses 0) e in
     rw (a, b, d) refl
 
-pub act-next : (c : ℕ) (t : List ℕ) (s : Stats) (k : ℕ) (o : Outcome) → s.accesses < length t → length t ≤ MAX_ACCESSES → k ≡ get_or t s.accesses 0 → o ≡ outcome c t s.accesses → clairvoyant_act (shown c t s) k ≡ Some (o, shown c t (counted o s))
+pub act-next : (c : ℕ) (t : List ℕ) (s : Stats) (k : ℕ) (o : Outcome) → s.accesses < length t → length t ≤ MAX_ACCESSES → k ≡ get_or t s.accesses 0 → o ≡ belady_outcome c t s.accesses → clairvoyant_act (shown c t s) k ≡ Some (o, shown c t (counted o s))
 act-next c t s k o lt few e f =
     let yes : is_next (shown c t s) k ≡ true = now-holds c t s k lt few e in
-    ap (λ b. cond b (Some (answer c t s.accesses k (residents c t s.accesses), state_after (shown c t s) k)) None) yes
-    ∙ ap (λ x. Some (answer c t s.accesses x (residents c t s.accesses), state_after (shown c t s) x)) e
-    ∙ ap (λ n. Some (outcome c t s.accesses, record { trace = t; capacity = c; residents = residents c t n; stats = counted (outcome c t s.accesses) s })) (sym (add-one s.accesses))
+    ap (λ b. cond b (Some (belady_answer c t s.accesses k (belady_residents c t s.accesses), state_after (shown c t s) k)) None) yes
+    ∙ ap (λ x. Some (belady_answer c t s.accesses x (belady_residents c t s.accesses), state_after (shown c t s) x)) e
+    ∙ ap (λ n. Some (belady_outcome c t s.accesses, record { trace = t; capacity = c; residents = belady_residents c t n; stats = counted (belady_outcome c t s.accesses) s })) (sym (add-one s.accesses))
     ∙ ap (λ x. Some (x, shown c t (counted x s))) (sym f)
 
 past : (a b d : Bool) → b ≡ false → (a && (b && d)) ≡ false

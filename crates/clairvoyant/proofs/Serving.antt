@@ -3,9 +3,9 @@ use Rattle.std.proofs.Common.{◌≡◌, ℕ, suc, ◌-◌, ◌*◌, ◌<◌, �
 use Rattle.std.proofs.lemmas.Bool.{cases_lt, and_parts, eqb-true, ne_eqb, le-ltb, lt-ltb}
 use Rattle.step_record.specs.declared.outcome.Outcome.TheVariants.{Hit, Kept}
 use Rattle.step_record.specs.Keys.{has, without}
-use Rattle.clairvoyant.specs.Keys.{put, IsAscending}
+use Rattle.clairvoyant.specs.Keys.{residents_with, IsAscendingKeys}
 use Rattle.clairvoyant.specs.Uses.{rank, key_at}
-use Rattle.clairvoyant.specs.Belady.{farthest, served, answer, gone}
+use Rattle.clairvoyant.specs.Belady.{farthest, belady_residents_after, belady_answer, belady_departure}
 use Rattle.rank_tree.specs.Bits.{holds}
 use Rattle.clairvoyant.specs.RankSet.{IsTied}
 use Rattle.clairvoyant.proofs.Keys.{without-put, without-swap, put-without}
@@ -14,23 +14,23 @@ use Rattle.clairvoyant.proofs.Belady.{farthest-is}
 use Rattle.clairvoyant.proofs.Steps.{same, in-own, step-hit, step-kept, step-rejected, step-evicted, key-own, is-at}
 
 module _ (c : ℕ) (t : List ℕ) (i k : ℕ) (r : List ℕ) where
-  pub served-hit : has k r ≡ true → served c t i k r ≡ r
+  pub served-hit : has k r ≡ true → belady_residents_after c t i k r ≡ r
   served-hit h = rw h refl
 
-  pub answer-hit : has k r ≡ true → answer c t i k r ≡ Hit
+  pub answer-hit : has k r ≡ true → belady_answer c t i k r ≡ Hit
   answer-hit h = rw h refl
 
-  pub served-kept : has k r ≡ false → length r < c → served c t i k r ≡ put k r
+  pub served-kept : has k r ≡ false → length r < c → belady_residents_after c t i k r ≡ residents_with k r
   served-kept h l = let f : nat_lt (length r) c ≡ true = lt-ltb (length r) c l in rw (h, f) refl
 
-  pub answer-kept : has k r ≡ false → length r < c → answer c t i k r ≡ Kept
+  pub answer-kept : has k r ≡ false → length r < c → belady_answer c t i k r ≡ Kept
   answer-kept h l = let f : nat_lt (length r) c ≡ true = lt-ltb (length r) c l in rw (h, f) refl
 
-  pub served-full : (v : ℕ) → has k r ≡ false → c ≤ length r → farthest t i k r ≡ v → served c t i k r ≡ without v (put k r)
-  served-full v h l e = let f : nat_lt (length r) c ≡ false = le-ltb (length r) c l in rw (h, f) (ap (λ x. without x (put k r)) e)
+  pub served-full : (v : ℕ) → has k r ≡ false → c ≤ length r → farthest t i k r ≡ v → belady_residents_after c t i k r ≡ without v (residents_with k r)
+  served-full v h l e = let f : nat_lt (length r) c ≡ false = le-ltb (length r) c l in rw (h, f) (ap (λ x. without x (residents_with k r)) e)
 
-  pub answer-full : (v : ℕ) → has k r ≡ false → c ≤ length r → farthest t i k r ≡ v → answer c t i k r ≡ gone k v
-  answer-full v h l e = let f : nat_lt (length r) c ≡ false = le-ltb (length r) c l in rw (h, f) (ap (gone k) e)
+  pub answer-full : (v : ℕ) → has k r ≡ false → c ≤ length r → farthest t i k r ≡ v → belady_answer c t i k r ≡ belady_departure k v
+  answer-full v h l e = let f : nat_lt (length r) c ≡ false = le-ltb (length r) c l in rw (h, f) (ap (belady_departure k) e)
 
 and-same : (b : Bool) (n : ℕ) → (b && eqb n n) ≡ b
 and-same true n = same n
@@ -55,7 +55,7 @@ module _ (t : List ℕ) (i : ℕ) (lt : i < length t) (r : List ℕ) (seen : (a 
   }
 
   module _ (none : has (get_or t i 0) r ≡ false) where
-    pub tied-kept : (h1 : List Bool) (new : ℕ) → new ≡ rank t (suc i) (get_or t i 0) → length h1 ≡ length h → ((q : ℕ) → holds h1 q ≡ cond (eqb q new) true (holds h q)) → IsTied t (suc i) (put (get_or t i 0) r) h1
+    pub tied-kept : (h1 : List Bool) (new : ℕ) → new ≡ rank t (suc i) (get_or t i 0) → length h1 ≡ length h → ((q : ℕ) → holds h1 q ≡ cond (eqb q new) true (holds h q)) → IsTied t (suc i) (residents_with (get_or t i 0) r) h1
     tied-kept h1 new f l1 puts = record {
       size = l1 ∙ tied.size;
       ranks = λ q w. puts q ∙ ap (λ x. cond (eqb q x) true (holds h q)) f ∙ ap (cond (eqb q (rank t (suc i) (get_or t i 0))) true) (tied.ranks q w) ∙ sym (step-kept t i lt r none q);
@@ -115,7 +115,7 @@ module _ (t : List ℕ) (i : ℕ) (lt : i < length t) (r : List ℕ) (seen : (a 
             all = λ a g. let u : m ≤ rank t (suc i) a = above m empty a g in omega arith;
           }
 
-      pub tied-evicted : (h1 h2 : List Bool) (new : ℕ) → new ≡ rank t (suc i) (get_or t i 0) → length h1 ≡ length h → ((q : ℕ) → holds h1 q ≡ cond (eqb q m) false (holds h q)) → length h2 ≡ length h1 → ((q : ℕ) → holds h2 q ≡ cond (eqb q new) true (holds h1 q)) → IsTied t (suc i) (without (key_at t m) (put (get_or t i 0) r)) h2
+      pub tied-evicted : (h1 h2 : List Bool) (new : ℕ) → new ≡ rank t (suc i) (get_or t i 0) → length h1 ≡ length h → ((q : ℕ) → holds h1 q ≡ cond (eqb q m) false (holds h q)) → length h2 ≡ length h1 → ((q : ℕ) → holds h2 q ≡ cond (eqb q new) true (holds h1 q)) → IsTied t (suc i) (without (key_at t m) (residents_with (get_or t i 0) r)) h2
       tied-evicted h1 h2 new f l1 takes l2 puts = record {
         size = l2 ∙ l1 ∙ tied.size;
         ranks = λ q w. edited h h1 h2 m new m (rank t (suc i) (get_or t i 0)) q refl f (takes q) (puts q)
@@ -124,5 +124,5 @@ module _ (t : List ℕ) (i : ℕ) (lt : i < length t) (r : List ℕ) (seen : (a 
       }
 
 -- what left goes back, and what came goes out
-pub evicted-back : (k v : ℕ) (r : List ℕ) → IsAscending r → has k r ≡ false → has v r ≡ true → put v (without k (without v (put k r))) ≡ r
-evicted-back k v r s none there = ap (put v) (without-swap k v (put k r) ∙ ap (without v) (without-put k r none)) ∙ put-without v r s there
+pub evicted-back : (k v : ℕ) (r : List ℕ) → IsAscendingKeys r → has k r ≡ false → has v r ≡ true → residents_with v (without k (without v (residents_with k r))) ≡ r
+evicted-back k v r s none there = ap (residents_with v) (without-swap k v (residents_with k r) ∙ ap (without v) (without-put k r none)) ∙ put-without v r s there

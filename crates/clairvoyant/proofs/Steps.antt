@@ -3,7 +3,7 @@ use Rattle.std.proofs.Common.{◌≡◌, ℕ, suc, ◌-◌, ◌*◌, ◌<◌, Bo
 use Rattle.std.proofs.lemmas.Bool.{cases_Bool, eqb-true, eqb-false, eq-eqb, ne_eqb, le-ltb}
 use Rattle.std.proofs.lemmas.Bool.Decides.{nat_tests}
 use Rattle.step_record.specs.Keys.{has, without}
-use Rattle.clairvoyant.specs.Keys.{put}
+use Rattle.clairvoyant.specs.Keys.{residents_with}
 use Rattle.clairvoyant.specs.Uses.{rank, key_at}
 use Rattle.clairvoyant.specs.RankSet.{is_ranked}
 use Rattle.clairvoyant.proofs.Keys.{has-put, has-without}
@@ -71,23 +71,23 @@ module _ (t : List ℕ) (i : ℕ) (lt : i < length t) (r : List ℕ) where
       ]
 
   module _ (none : has (get_or t i 0) r ≡ false) where
-    put-own : has (get_or t i 0) (put (get_or t i 0) r) ≡ true
+    put-own : has (get_or t i 0) (residents_with (get_or t i 0) r) ≡ true
     put-own = has-put (get_or t i 0) (get_or t i 0) r ∙ ap (λ b. cond b true (has (get_or t i 0) r)) (same (get_or t i 0))
 
     -- the key was no resident, so no rank of its is held
     pub not-in : (q : ℕ) → key_at t q ≡ get_or t i 0 → is_ranked t i r q ≡ false
     not-in q k = in-own t i r q lt k ∙ and-of (has (get_or t i 0) r) (eqb (2 * length t - 1 - i) q) false none
 
-    pub step-kept : (q : ℕ) → is_ranked t (suc i) (put (get_or t i 0) r) q ≡ cond (eqb q (rank t (suc i) (get_or t i 0))) true (is_ranked t i r q)
+    pub step-kept : (q : ℕ) → is_ranked t (suc i) (residents_with (get_or t i 0) r) q ≡ cond (eqb q (rank t (suc i) (get_or t i 0))) true (is_ranked t i r q)
     step-kept q =
         elim (cases_Bool (eqb (key_at t q) (get_or t i 0))) [
           | inl e ↦
               let k : key_at t q ≡ get_or t i 0 = eqb-true (key_at t q) (get_or t i 0) e in
-              in-new t i (put (get_or t i 0) r) q k ∙ and-of (has (get_or t i 0) (put (get_or t i 0) r)) (eqb (rank t (suc i) (get_or t i 0)) q) true put-own
+              in-new t i (residents_with (get_or t i 0) r) q k ∙ and-of (has (get_or t i 0) (residents_with (get_or t i 0) r)) (eqb (rank t (suc i) (get_or t i 0)) q) true put-own
               ∙ kept-plain q (rank t (suc i) (get_or t i 0))
               ∙ ap (λ z. cond (eqb q (rank t (suc i) (get_or t i 0))) true z) (sym (not-in q k))
           | inr e ↦
-              in-other t i r (put (get_or t i 0) r) q lt e (has-put (key_at t q) (get_or t i 0) r ∙ ap (λ b. cond b true (has (key_at t q) r)) e)
+              in-other t i r (residents_with (get_or t i 0) r) q lt e (has-put (key_at t q) (get_or t i 0) r ∙ ap (λ b. cond b true (has (key_at t q) r)) e)
               ∙ sym (ap (λ b. cond b true (is_ranked t i r q)) (apart t q (rank t (suc i) (get_or t i 0)) (get_or t i 0) e (key-new t i lt)))
         ]
 
@@ -104,18 +104,18 @@ module _ (t : List ℕ) (i : ℕ) (lt : i < length t) (r : List ℕ) where
       vk : eqb (get_or t i 0) v ≡ false
       vk = ne_eqb (get_or t i 0) v (λ h. let no : true ≡ false = sym there ∙ ap (λ x. has x r) (sym h) ∙ none in cc (no))
 
-      came : has (get_or t i 0) (without v (put (get_or t i 0) r)) ≡ true
-      came = has-without (get_or t i 0) v (put (get_or t i 0) r) ∙ ap (λ b. cond b false (has (get_or t i 0) (put (get_or t i 0) r))) vk ∙ put-own
+      came : has (get_or t i 0) (without v (residents_with (get_or t i 0) r)) ≡ true
+      came = has-without (get_or t i 0) v (residents_with (get_or t i 0) r) ∙ ap (λ b. cond b false (has (get_or t i 0) (residents_with (get_or t i 0) r))) vk ∙ put-own
 
-      left : has v (without v (put (get_or t i 0) r)) ≡ false
-      left = has-without v v (put (get_or t i 0) r) ∙ ap (λ b. cond b false (has v (put (get_or t i 0) r))) (same v)
+      left : has v (without v (residents_with (get_or t i 0) r)) ≡ false
+      left = has-without v v (residents_with (get_or t i 0) r) ∙ ap (λ b. cond b false (has v (residents_with (get_or t i 0) r))) (same v)
 
-      pub step-evicted : (q : ℕ) → is_ranked t (suc i) (without v (put (get_or t i 0) r)) q ≡ cond (eqb q (rank t (suc i) (get_or t i 0))) true (cond (eqb q m) false (is_ranked t i r q))
+      pub step-evicted : (q : ℕ) → is_ranked t (suc i) (without v (residents_with (get_or t i 0) r)) q ≡ cond (eqb q (rank t (suc i) (get_or t i 0))) true (cond (eqb q m) false (is_ranked t i r q))
       step-evicted q =
           elim (cases_Bool (eqb (key_at t q) (get_or t i 0))) [
             | inl e ↦
                 let k : key_at t q ≡ get_or t i 0 = eqb-true (key_at t q) (get_or t i 0) e in
-                in-new t i (without v (put (get_or t i 0) r)) q k ∙ and-of (has (get_or t i 0) (without v (put (get_or t i 0) r))) (eqb (rank t (suc i) (get_or t i 0)) q) true came
+                in-new t i (without v (residents_with (get_or t i 0) r)) q k ∙ and-of (has (get_or t i 0) (without v (residents_with (get_or t i 0) r))) (eqb (rank t (suc i) (get_or t i 0)) q) true came
                 ∙ came-plain q (rank t (suc i) (get_or t i 0)) m
                 ∙ ap (λ z. cond (eqb q (rank t (suc i) (get_or t i 0))) true (cond (eqb q m) false z)) (sym (not-in q k))
             | inr e ↦
@@ -123,13 +123,13 @@ module _ (t : List ℕ) (i : ℕ) (lt : i < length t) (r : List ℕ) where
                 elim (cases_Bool (eqb (key_at t q) v)) [
                   | inl f ↦
                       let g : key_at t q ≡ v = eqb-true (key_at t q) v f in
-                      is-at t (suc i) (without v (put (get_or t i 0) r)) q v g ∙ and-of (has v (without v (put (get_or t i 0) r))) (eqb (rank t (suc i) v) q) false left
+                      is-at t (suc i) (without v (residents_with (get_or t i 0) r)) q v g ∙ and-of (has v (without v (residents_with (get_or t i 0) r))) (eqb (rank t (suc i) v) q) false left
                       ∙ left-plain q m
                       ∙ ap (λ z. cond (eqb q m) false z) (sym (is-at t i r q v g ∙ and-of (has v r) (eqb (rank t i v) q) true there ∙ ap (λ n. eqb n q) ranked))
                       ∙ sym (ap (λ b. cond b true (cond (eqb q m) false (is_ranked t i r q))) new)
                   | inr f ↦
-                      in-other t i r (without v (put (get_or t i 0) r)) q lt e
-                      (has-without (key_at t q) v (put (get_or t i 0) r) ∙ ap (λ b. cond b false (has (key_at t q) (put (get_or t i 0) r))) f ∙ has-put (key_at t q) (get_or t i 0) r ∙ ap (λ b. cond b true (has (key_at t q) r)) e)
+                      in-other t i r (without v (residents_with (get_or t i 0) r)) q lt e
+                      (has-without (key_at t q) v (residents_with (get_or t i 0) r) ∙ ap (λ b. cond b false (has (key_at t q) (residents_with (get_or t i 0) r))) f ∙ has-put (key_at t q) (get_or t i 0) r ∙ ap (λ b. cond b true (has (key_at t q) r)) e)
                       ∙ skip (eqb q (rank t (suc i) (get_or t i 0))) (eqb q m) (is_ranked t i r q) new (apart t q m v f key)
                 ]
           ]

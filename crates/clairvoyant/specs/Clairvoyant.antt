@@ -5,7 +5,7 @@ use Rattle.step_record.specs.declared.limits.TheConstants.{MAX_ACCESSES, MAX_STE
 use Rattle.step_record.specs.declared.outcome.Outcome.{Outcome}
 use Rattle.step_record.specs.declared.stats.Stats.{Stats}
 use Rattle.step_record.specs.Stats.{stats_of, counted}
-use Rattle.clairvoyant.specs.Belady.{served, answer, residents, outcomes}
+use Rattle.clairvoyant.specs.Belady.{belady_residents_after, belady_answer, belady_residents, belady_outcomes}
 
 pub record ClairvoyantState : Type 0 where
   pub trace : List ℕ
@@ -16,7 +16,7 @@ pub record ClairvoyantState : Type 0 where
 -- a cache of capacity c once the accesses below place i of the trace are made
 abbrev pub clairvoyant_at : ℕ → List ℕ → ℕ → ClairvoyantState
 clairvoyant_at c t i =
-    record { trace = t; capacity = c; residents = residents c t i; stats = stats_of (outcomes c t i) }
+    record { trace = t; capacity = c; residents = belady_residents c t i; stats = stats_of (belady_outcomes c t i) }
 
 -- the first accesses of the trace give it
 pub record IsReached (d : ClairvoyantState) : Type 0 where
@@ -35,10 +35,10 @@ abbrev pub state_after : ClairvoyantState → ℕ → ClairvoyantState
 state_after d k = record {
   trace = d.trace;
   capacity = d.capacity;
-  residents = served d.capacity d.trace d.stats.accesses k d.residents;
-  stats = counted (answer d.capacity d.trace d.stats.accesses k d.residents) d.stats;
+  residents = belady_residents_after d.capacity d.trace d.stats.accesses k d.residents;
+  stats = counted (belady_answer d.capacity d.trace d.stats.accesses k d.residents) d.stats;
 }
 
 abbrev pub clairvoyant_act : ClairvoyantState → ℕ → Option (Outcome × ClairvoyantState)
 clairvoyant_act d k =
-    cond (is_next d k) (Some (answer d.capacity d.trace d.stats.accesses k d.residents, state_after d k)) None
+    cond (is_next d k) (Some (belady_answer d.capacity d.trace d.stats.accesses k d.residents, state_after d k)) None

@@ -5,9 +5,9 @@ use Rattle.step_record.specs.declared.limits.TheConstants.{MAX_STEPS}
 use Rattle.step_record.specs.declared.outcome.Outcome.{Outcome}
 use Rattle.clairvoyant.specs.Clairvoyant.{ClairvoyantState, clairvoyant_act, is_next}
 
-abbrev accesses_in : Option (Outcome × ClairvoyantState) → ℕ
-accesses_in None = 0
-accesses_in (Some p) = p.1.stats.accesses
+abbrev clairvoyant_accesses : Option (Outcome × ClairvoyantState) → ℕ
+clairvoyant_accesses None = 0
+clairvoyant_accesses (Some p) = p.1.stats.accesses
 
 split : (b : Bool) → (b ≡ true) ⊎ (b ≡ false)
 split true = inl refl
@@ -17,7 +17,7 @@ pub act_counts : (d : ClairvoyantState) (k : ℕ) (o : Outcome) (e : Clairvoyant
     → e.stats.accesses ≡ d.stats.accesses + 1
 act_counts d k o e h =
     elim (split (is_next d k)) [
-      | inl f ↦ sym (ap accesses_in (rw f at h))
+      | inl f ↦ sym (ap clairvoyant_accesses (rw f at h))
       | inr f ↦ absurd (let no : None ≡ Some (o, e) = rw f at h in cc (no))
     ]
 

@@ -2,7 +2,7 @@
 use Rattle.std.specs.Prelude.{◌≡◌, ℕ, suc, ◌<◌, ◌≤◌, Some, None, length, slice_index}
 use Rattle.step_record.specs.declared.limits.TheConstants.{MAX_ACCESSES}
 use Rattle.step_record.specs.declared.outcome.Outcome.{Outcome}
-use Rattle.clairvoyant.specs.Belady.{outcome}
+use Rattle.clairvoyant.specs.Belady.{belady_outcome}
 use Rattle.clairvoyant.specs.Clairvoyant.{ClairvoyantState, clairvoyant_at, clairvoyant_act}
 
 -- For a cache that made the first accesses of its trace, an accepted step is the next of them, answers the outcome
@@ -11,7 +11,8 @@ abbrev pub ClairvoyantStands : Type 0
 ClairvoyantStands = (d : ClairvoyantState) (k : ℕ) (o : Outcome) (e : ClairvoyantState)
     → d ≡ clairvoyant_at d.capacity d.trace d.stats.accesses → clairvoyant_act d k ≡ Some (o, e)
     → (d.stats.accesses < length d.trace) × (k ≡ slice_index d.trace d.stats.accesses)
-    × (o ≡ outcome d.capacity d.trace d.stats.accesses) × (e ≡ clairvoyant_at d.capacity d.trace (suc d.stats.accesses))
+    × (o ≡ belady_outcome d.capacity d.trace d.stats.accesses)
+    × (e ≡ clairvoyant_at d.capacity d.trace (suc d.stats.accesses))
 
 -- A cache that made fewer than all accesses of its trace accepts the next of them.
 abbrev pub ClairvoyantAccepts : Type 0

@@ -6,9 +6,9 @@ use Rattle.step_record.specs.Stats.{uncounted}
 use Rattle.step_record.specs.Keys.{has, without}
 use Rattle.clairvoyant.specs.declared.use_record.UseRecord.{UseRecord}
 use Rattle.clairvoyant.specs.declared.use_record.UseRecord.TheVariants.{Hit, Kept, Evicted, Rejected}
-use Rattle.clairvoyant.specs.Keys.{put}
+use Rattle.clairvoyant.specs.Keys.{residents_with}
 use Rattle.clairvoyant.specs.Uses.{rank}
-use Rattle.clairvoyant.specs.Belady.{farthest, residents}
+use Rattle.clairvoyant.specs.Belady.{farthest, belady_residents}
 use Rattle.clairvoyant.specs.Clairvoyant.{ClairvoyantState}
 
 -- the record where k came to a full cache at place i, and v is the one to leave
@@ -16,12 +16,12 @@ abbrev pub record_full : List ℕ → ℕ → ℕ → ℕ → UseRecord
 record_full t i k v = cond (eqb k v) (Rejected k) (Evicted record { key = v; rank = rank t (suc i) v })
 
 -- the record of an access to k at place i, from the residents before it
-abbrev pub record_of : ℕ → List ℕ → ℕ → ℕ → List ℕ → UseRecord
-record_of c t i k r = cond (has k r) Hit (cond (nat_lt (length r) c) Kept (record_full t i k (farthest t i k r)))
+abbrev pub use_record_of : ℕ → List ℕ → ℕ → ℕ → List ℕ → UseRecord
+use_record_of c t i k r = cond (has k r) Hit (cond (nat_lt (length r) c) Kept (record_full t i k (farthest t i k r)))
 
 -- the record of the access at place i of the trace, in a cache of capacity c
 abbrev pub record_at : ℕ → List ℕ → ℕ → UseRecord
-record_at c t i = record_of c t i (slice_index t i) (residents c t i)
+record_at c t i = use_record_of c t i (slice_index t i) (belady_residents c t i)
 
 abbrev pub outcome_of : UseRecord → Outcome
 outcome_of Hit = outcome.Hit
@@ -33,7 +33,7 @@ outcome_of (Rejected k) = outcome.Rejected k
 abbrev pub undone_keys : UseRecord → ℕ → List ℕ → List ℕ
 undone_keys Hit k l = l
 undone_keys Kept k l = without k l
-undone_keys (Evicted g) k l = put g.key (without k l)
+undone_keys (Evicted g) k l = residents_with g.key (without k l)
 undone_keys (Rejected j) k l = l
 
 abbrev pub clairvoyant_undone : UseRecord → ClairvoyantState → ClairvoyantState

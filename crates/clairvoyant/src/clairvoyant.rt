@@ -3,7 +3,7 @@ ghost use Rattle.std.specs.Prelude.{◌≡◌, ℕ, suc, ◌+◌, ◌-◌, ◌*�
 ghost use Rattle.std.specs.Prelude.{IfOk, IfErr, OnOk, OnErr, Ok, Some, None};
 ghost use Rattle.step_record.specs.declared.limits.TheConstants.{MAX_CAPACITY};
 ghost use Rattle.clairvoyant.specs.RankSet.{IsTied};
-ghost use Rattle.clairvoyant.specs.Belady.{residents, outcome};
+ghost use Rattle.clairvoyant.specs.Belady.{belady_residents, belady_outcome};
 ghost use Rattle.clairvoyant.specs.UseRecord.{record_at};
 
 use crate::next_use::NextUse;
@@ -47,10 +47,10 @@ impl Core {
     // returns its undo record.
     fn serve(&self, ranks: &mut Ranks, held: usize, place: usize) -> UseRecord
         requires place { place < length self.now.uses }
-        requires tied { IsTied self.now.uses place (residents self.now.capacity self.now.uses place) ranks.old }
-        requires held { held ≡ length (residents self.now.capacity self.now.uses place) }
+        requires tied { IsTied self.now.uses place (belady_residents self.now.capacity self.now.uses place) ranks.old }
+        requires held { held ≡ length (belady_residents self.now.capacity self.now.uses place) }
         ensures tied { IsTied self.now.uses (suc place)
-            (residents self.now.capacity self.now.uses (suc place)) ranks.new }
+            (belady_residents self.now.capacity self.now.uses (suc place)) ranks.new }
         ensures record { result ≡ record_at self.now.capacity self.now.uses place }
     {
         let former = 2 * self.uses.len() - 1 - place;
@@ -81,9 +81,9 @@ impl Core {
     fn unserve(&self, ranks: &mut Ranks, place: usize, done: UseRecord)
         requires place { place < length self.now.uses }
         requires tied { IsTied self.now.uses (suc place)
-            (residents self.now.capacity self.now.uses (suc place)) ranks.old }
+            (belady_residents self.now.capacity self.now.uses (suc place)) ranks.old }
         requires record { done ≡ record_at self.now.capacity self.now.uses place }
-        ensures { IsTied self.now.uses place (residents self.now.capacity self.now.uses place) ranks.new }
+        ensures { IsTied self.now.uses place (belady_residents self.now.capacity self.now.uses place) ranks.new }
     {
         let rank = self.uses.rank(place) as usize;
         match done {
@@ -180,7 +180,7 @@ impl Engine for Clairvoyant {
         // The outcome is the definition's at this place of the trace, and the cache goes on to the next.
         ensures stands { IfOk result (λ r.
             (self.old ≡ clairvoyant_at self.old.capacity self.old.trace self.old.stats.accesses)
-            × (r.0 ≡ outcome self.old.capacity self.old.trace self.old.stats.accesses)
+            × (r.0 ≡ belady_outcome self.old.capacity self.old.trace self.old.stats.accesses)
             × (self.new ≡ clairvoyant_at self.old.capacity self.old.trace (suc self.old.stats.accesses))) }
         // No access asks for memory.
         ensures no_want { result ≡ Err StepFault.OutOfMemory → ⊥ }

@@ -1,4 +1,5 @@
 ghost use Rattle.std.specs.Prelude.{◌≤◌};
+ghost use Rattle.step_record.specs.declared.limits.TheConstants.{MAX_CAPACITY};
 
 use super::*;
 use std::alloc::{AllocError, Global};
@@ -7,7 +8,7 @@ use std::test::Fail;
 use step_record::{Engine, Key, Outcome, Stats, StepFault, Trace};
 
 fn opened(alloc: Global, keys: &[Key], capacity: u32) -> Result<Clairvoyant, Fail>
-    requires { (1 ≤ capacity) × (capacity ≤ 1048576) }
+    requires { (1 ≤ capacity) × (capacity ≤ MAX_CAPACITY) }
 {
     let keys = Vec::from_slice(alloc, keys)?;
     if keys.len() > 16_777_216 {
@@ -192,7 +193,7 @@ fn small_trace(seed: u64) -> [Key; 14] {
 /// Serves a trace by the cache and by scans of plain lists, and compares each outcome and the
 /// residents.
 fn assert_scanned(rt: &impl Abort, alloc: Global, keys: &[Key], capacity: u32) -> Result<(), Fail>
-    requires { (1 ≤ capacity) × (capacity ≤ 1048576) }
+    requires { (1 ≤ capacity) × (capacity ≤ MAX_CAPACITY) }
 {
     let mut cache = opened(alloc, keys, capacity)?;
     let mut residents = Vec::new(alloc);

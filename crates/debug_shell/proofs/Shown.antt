@@ -6,7 +6,7 @@ use Rattle.step_record.specs.declared.job.Job.{Job}
 use Rattle.step_record.specs.declared.job.Policy.{Policy}
 use Rattle.step_record.specs.declared.job.Policy.TheVariants.{Lru, SegmentedLru, TinyLfuLru, TinyLfuSegmented, WindowTinyLfu, Clairvoyant}
 use Rattle.step_record.specs.Stats.{stats_of}
-use Rattle.clairvoyant.specs.Belady.{outcomes, outcome, residents}
+use Rattle.clairvoyant.specs.Belady.{belady_outcomes, belady_outcome, belady_residents}
 use Rattle.clairvoyant.specs.Clairvoyant.{ClairvoyantState}
 use Rattle.policies.specs.declared.any_policy.AnyPolicy.{AnyPolicy}
 use Rattle.policies.specs.declared.any_policy.AnyPolicy.TheVariants.{Queues, Optimal}
@@ -44,7 +44,7 @@ shown_keys j trace n (Queues d) le s =
     ap (λ (x : QueueState). residents_in x.queues) s.1.gives ∙ sym (cond-false _ _ _ (knows_not j.policy s.0))
 shown_keys j trace n (Optimal d) le s =
     ap (λ (x : ClairvoyantState). x.residents) s.gives
-    ∙ ap (residents j.config.capacity trace) (first_length n trace le)
+    ∙ ap (belady_residents j.config.capacity trace) (first_length n trace le)
     ∙ sym (cond-true _ _ _ (ap knows_trace s.policy))
 
 -- ---- the counts
@@ -59,17 +59,17 @@ queues_first : (j : Job) (n : ℕ) (keys : List ℕ) → outcomes_after j (take 
 unfolding outcomes_after
 queues_first j n keys = from_first j [] (empty_queue_state j) n keys
 
-optimal_first : (c : ℕ) (t : List ℕ) (n m : ℕ) → n ≤ m → outcomes c t n ≡ take n (outcomes c t m)
+optimal_first : (c : ℕ) (t : List ℕ) (n m : ℕ) → n ≤ m → belady_outcomes c t n ≡ take n (belady_outcomes c t m)
 optimal_first c t n zero le =
-    let none : n ≡ 0 = omega arith in ap (outcomes c t) none ∙ ap (λ k. take k (outcomes c t zero)) (sym none)
+    let none : n ≡ 0 = omega arith in ap (belady_outcomes c t) none ∙ ap (λ k. take k (belady_outcomes c t zero)) (sym none)
 optimal_first c t n (suc m) le =
     let long = outcomes-length c t m in
     elim (cases_lt n (suc m)) [
       | inl below ↦
-          optimal_first c t n m (omega arith) ∙ sym (take_front n (outcomes c t m) (outcome c t m ∷ []) (omega (arith, long)))
+          optimal_first c t n m (omega arith) ∙ sym (take_front n (belady_outcomes c t m) (belady_outcome c t m ∷ []) (omega (arith, long)))
       | inr above ↦
           let same : n ≡ suc m = omega arith in
-          ap (outcomes c t) same ∙ sym (take_all n (outcomes c t (suc m)) (omega (arith, same, outcomes-length c t (suc m))))
+          ap (belady_outcomes c t) same ∙ sym (take_all n (belady_outcomes c t (suc m)) (omega (arith, same, outcomes-length c t (suc m))))
     ]
 
 pub shown_stats : (j : Job) (trace : List ℕ) (n : ℕ) (d : AnyPolicy) → n ≤ length trace → Stands j trace (take n trace) d → stats_in d ≡ stats_at j trace n
@@ -79,6 +79,6 @@ shown_stats j trace n (Queues d) le s =
     ∙ ap (λ os. stats_of (take n os)) (sym (cond-false _ _ _ (knows_not j.policy s.0)))
 shown_stats j trace n (Optimal d) le s =
     ap (λ (x : ClairvoyantState). x.stats) s.gives
-    ∙ ap (λ k. stats_of (outcomes j.config.capacity trace k)) (first_length n trace le)
+    ∙ ap (λ k. stats_of (belady_outcomes j.config.capacity trace k)) (first_length n trace le)
     ∙ ap stats_of (optimal_first j.config.capacity trace n (length trace) le)
     ∙ ap (λ os. stats_of (take n os)) (sym (cond-true _ _ _ (ap knows_trace s.policy)))

@@ -11,7 +11,7 @@ use Rattle.step_record.specs.declared.stats.Stats.{Stats}
 use Rattle.step_record.specs.Job.{word_of}
 use Rattle.step_record.specs.Stats.{stats_of}
 use Rattle.admission.specs.Frequency.{FrequencyData}
-use Rattle.clairvoyant.specs.Belady.{residents}
+use Rattle.clairvoyant.specs.Belady.{belady_residents}
 use Rattle.debug_commands.specs.Texts.{count_text}
 use Rattle.journal.specs.Session.{SessionState}
 use Rattle.policies.specs.declared.any_policy.AnyPolicy.{AnyPolicy}
@@ -32,7 +32,7 @@ stats_at j trace n = stats_of (take n (outcomes_on j trace))
 -- the keys that are cached after them
 abbrev pub residents_at : Job → List ℕ → ℕ → List ℕ
 residents_at j trace n =
-    if knows_trace j.policy then residents j.config.capacity trace n
+    if knows_trace j.policy then belady_residents j.config.capacity trace n
     else residents_in (state_after j (take n trace)).queues
 
 abbrev pub age_in : Option FrequencyData → ℕ

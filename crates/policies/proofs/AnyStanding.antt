@@ -7,7 +7,7 @@ use Rattle.step_record.specs.declared.job.Policy.{Policy}
 use Rattle.step_record.specs.declared.job.Policy.TheVariants.{Lru, SegmentedLru, TinyLfuLru, TinyLfuSegmented, WindowTinyLfu, Clairvoyant}
 use Rattle.step_record.specs.declared.outcome.Outcome.{Outcome}
 use Rattle.step_record.specs.Stats.{stats_of}
-use Rattle.clairvoyant.specs.Belady.{outcomes, outcome as outcome_at}
+use Rattle.clairvoyant.specs.Belady.{belady_outcomes, belady_outcome as outcome_at}
 use Rattle.clairvoyant.specs.Theorems.{ClairvoyantStands, ClairvoyantAccepts}
 use Rattle.clairvoyant.specs.Clairvoyant.{ClairvoyantState, clairvoyant_at, clairvoyant_act}
 use Rattle.policies.specs.declared.any_policy.AnyPolicy.TheVariants.{Queues, Optimal}
@@ -112,7 +112,7 @@ knows-not WindowTinyLfu n = refl
 knows-not Clairvoyant n = absurd (n refl)
 
 outcomes-by : Bool → Job → List ℕ → List Outcome
-outcomes-by b j trace = cond b (outcomes j.config.capacity trace (length trace)) (outcomes_after j trace)
+outcomes-by b j trace = cond b (belady_outcomes j.config.capacity trace (length trace)) (outcomes_after j trace)
 
 pub any_reports : AnyReports
 unfolding stats_on outcomes-by

@@ -8,7 +8,7 @@ use Rattle.step_record.specs.declared.outcome.Outcome.{Outcome}
 use Rattle.step_record.specs.declared.stats.Stats.{Stats}
 use Rattle.step_record.specs.Stats.{stats_of}
 use Rattle.admission.specs.Frequency.{FrequencyData}
-use Rattle.clairvoyant.specs.Belady.{outcomes}
+use Rattle.clairvoyant.specs.Belady.{belady_outcomes}
 use Rattle.clairvoyant.specs.Clairvoyant.{ClairvoyantState, clairvoyant_at}
 use Rattle.policies.specs.declared.any_policy.AnyPolicy.{AnyPolicy}
 use Rattle.policies.specs.declared.any_policy.AnyPolicy.TheVariants.{Queues, Optimal}
@@ -28,7 +28,7 @@ knows_trace Clairvoyant = true
 -- the outcomes of a job's accesses to the keys of a trace, in order
 abbrev pub outcomes_on : Job → List ℕ → List Outcome
 outcomes_on j trace =
-    if knows_trace j.policy then outcomes j.config.capacity trace (length trace) else outcomes_after j trace
+    if knows_trace j.policy then belady_outcomes j.config.capacity trace (length trace) else outcomes_after j trace
 
 -- what is counted of them: a report shows these numbers
 unfoldable pub stats_on : Job → List ℕ → Stats

@@ -1,7 +1,7 @@
 use Rattle.std.proofs.Common.{◌≡◌, ℕ, ◌+◌, ◌<◌, ◌*◌, List, length, arith, ap, ◌∙◌, sym, subst}
 use Rattle.std.proofs.lemmas.List.Sorted.{IsNonDecreasingBy-from_sort}
 use Rattle.step_record.specs.Stats.{one}
-use Rattle.clairvoyant.specs.Belady.{residents}
+use Rattle.clairvoyant.specs.Belady.{belady_residents}
 use Rattle.clairvoyant.proofs.Belady.{residents-seen}
 use Rattle.clairvoyant.proofs.Listing.{times, is_listed, listed-held, listed-other, listed-residents}
 use Rattle.clairvoyant.proofs.clairvoyant.Clairvoyant.residents.Goals as goal
@@ -12,7 +12,7 @@ loop-rank-preserved c =
     let s = c.self.inside in
     let t = s.core.uses in
     let i = s.stats.accesses in
-    let r = residents s.core.capacity t i in
+    let r = belady_residents s.core.capacity t i in
     let q = c.loop-rank.rank in
     let keys = c.loop-rank.keys.items in
     let within : q < 2 * length t = omega (arith, c.loop-rank-test.true, c.len-size.ensures.len) in
@@ -31,7 +31,7 @@ returns c =
     let s = c.self.inside in
     let t = s.core.uses in
     let i = s.stats.accesses in
-    let r = residents s.core.capacity t i in
+    let r = belady_residents s.core.capacity t i in
     let keys = c.loop-rank.keys.items in
     let end : c.loop-rank.rank ≡ 2 * length t = omega (arith, c.loop-rank-test.false, c.loop-rank.auto.rank-end, c.len-size.ensures.len) in
     let P : ℕ → Type 0 = λ n. (k : ℕ) → times k keys ≡ one (is_listed t i r n k) in

@@ -1,6 +1,6 @@
 use Rattle.std.proofs.Common.{◌≡◌, ℕ, suc, ◌-◌, arith, subst, sym, ap, ◌∙◌}
 use Rattle.clairvoyant.specs.RankSet.{IsTied}
-use Rattle.clairvoyant.specs.Belady.{residents}
+use Rattle.clairvoyant.specs.Belady.{belady_residents}
 use Rattle.step_record.specs.Stats.{IsCounted, uncounted}
 use Rattle.clairvoyant.specs.UseRecord.{clairvoyant_undone}
 use Rattle.clairvoyant.proofs.Undoing.{fits-shown, back-counted, back-shown, back-keeping}
@@ -24,7 +24,7 @@ unserve-requires-clause-tied c =
     let s = c.self.inside in
     let f = fits-shown s.core.capacity s.core.uses s.stats c.args.done c.args.self.now c.self.view_is c.requires in
     let e : s.stats.accesses ≡ suc (s.stats.accesses - 1) = omega (arith, f.applied) in
-    let P : ℕ → Type 0 = λ n. IsTied s.core.uses n (residents s.core.capacity s.core.uses n) s.ranks in
+    let P : ℕ → Type 0 = λ n. IsTied s.core.uses n (belady_residents s.core.capacity s.core.uses n) s.ranks in
     subst P e c.self.invariant.tied
 
 pub unserve-requires-clause-record : goal.unserve-requires-clause-record
