@@ -4,9 +4,9 @@ use Rattle.step_record.specs.Pace.{IsPaced}
 use Rattle.admission.specs.declared.freq_record.FreqRecord.{FreqRecord}
 use Rattle.admission.specs.Shape.{Shape, IsShape}
 use Rattle.admission.specs.Eras.{halvings, age}
-use Rattle.admission.specs.Frequency.{FrequencyData, frequency_of, recorded, halves, halving_words, words_of_halvings}
+use Rattle.admission.specs.Frequency.{FrequencyData, frequency_of, recorded, halves, halving_words, frequency_words}
 use Rattle.admission.specs.Frequency.{pace_of, IsFrequency}
-use Rattle.admission.specs.FreqRecord.{record_of, undone, FitsRecord, size_of}
+use Rattle.admission.specs.FreqRecord.{frequency_record, frequency_before, FitsRecord, size_of}
 
 -- what recording does to the data of any list of keys gives the data of the list with the key at its end
 abbrev pub RecordingAppends : Type 0
@@ -16,23 +16,24 @@ RecordingAppends =
 
 -- a record fits what recording leaves
 abbrev pub RecordsFit : Type 0
-RecordsFit = (f : FrequencyData) (key : ℕ) → IsFrequency f → FitsRecord (record_of key f) (recorded key f)
+RecordsFit = (f : FrequencyData) (key : ℕ) → IsFrequency f → FitsRecord (frequency_record key f) (recorded key f)
 
 -- and undoing it there leaves what was before
 abbrev pub RecordsUndo : Type 0
-RecordsUndo = (f : FrequencyData) (key : ℕ) → IsFrequency f → undone (record_of key f) (recorded key f) ≡ f
+RecordsUndo = (f : FrequencyData) (key : ℕ) → IsFrequency f
+    → frequency_before (frequency_record key f) (recorded key f) ≡ f
 
--- a record's size, that of a halving's record stays as it is, and how the words_of_halvings of the halvings rises and
+-- a record's size, that of a halving's record stays as it is, and how the words of the halvings rises and
 -- falls by it
 pub record RecordsWeigh : Type 0 where
   pub of_lists : (s : Shape) (keys : List ℕ) → halving_words (frequency_of s keys) ≡ s.width / 16 + s.size / 64
   pub size : (f : FrequencyData) (key : ℕ) → IsFrequency f
-      → size_of (record_of key f) ≡ cond (halves f) (halving_words f) 0
+      → size_of (frequency_record key f) ≡ cond (halves f) (halving_words f) 0
   pub same : (f : FrequencyData) (key : ℕ) → halving_words (recorded key f) ≡ halving_words f
   pub rises : (f : FrequencyData) (key : ℕ) → IsFrequency f
-      → words_of_halvings (recorded key f) ≡ words_of_halvings f + size_of (record_of key f)
+      → frequency_words (recorded key f) ≡ frequency_words f + size_of (frequency_record key f)
   pub falls : (f : FrequencyData) (r : FreqRecord) → FitsRecord r f
-      → words_of_halvings f ≡ words_of_halvings (undone r f) + size_of r
+      → frequency_words f ≡ frequency_words (frequency_before r f) + size_of r
 
 -- age and halvings are those of the number of recorded keys; n keys bring at most n halvings, and m keys more at most
 -- 1 + m/(5*c) more

@@ -3,9 +3,11 @@ ghost use Rattle.std.specs.Prelude.{◌≡◌, ◌<◌, ◌≤◌, ◌+◌, ◌-
 ghost use Rattle.std.specs.Prelude.{IfOk, OnOk, OnErr};
 ghost use Rattle.step_record.specs.declared.limits.TheConstants.{MAX_CAPACITY};
 ghost use Rattle.admission.specs.Shape.{Shape, IsShape};
-ghost use Rattle.admission.specs.Frequency.{StandsFor, frequency_of, marked, faded, recorded, halves, halving_words};
+ghost use Rattle.admission.specs.Frequency.{IsFrequencyOf, frequency_of, marked, faded, recorded, halves};
+ghost use Rattle.admission.specs.Frequency.{halving_words};
 ghost use Rattle.admission.specs.Frequency.{estimate as estimate_of};
-ghost use Rattle.admission.specs.FreqRecord.{record_of, mark_of, lost_of, undone, FitsRecord, unmarked, FitsMark};
+ghost use Rattle.admission.specs.FreqRecord.{frequency_record, mark_of, lost_of, frequency_before, FitsRecord};
+ghost use Rattle.admission.specs.FreqRecord.{unmarked, FitsMark};
 ghost use Rattle.admission.specs.FreqRecord.{unfaded, FitsFade, size_of};
 
 use crate::doorkeeper::Doorkeeper;
@@ -50,7 +52,7 @@ impl Frequency {
     pub fn new(alloc: Global, capacity: u32, spread: Spread) -> Result<Frequency, AllocError>
         requires some { 1 ≤ capacity }
         requires few { capacity ≤ MAX_CAPACITY }
-        ensures { IfOk result (λ f. StandsFor capacity spread [] f) }
+        ensures { IfOk result (λ f. IsFrequencyOf capacity spread [] f) }
     {
         let width = width_for(capacity);
         let size = size_for(capacity);
@@ -71,9 +73,9 @@ impl Frequency {
     pub fn record(&mut self, key: Key) -> Result<FreqRecord, AllocError>
         requires { self.old.halvings < 2 ^ 64 - 1 }
         ensures after { OnOk result (self.new ≡ recorded key self.old) }
-        ensures record_is { IfOk result (λ r. r ≡ record_of key self.old) }
+        ensures record_is { IfOk result (λ r. r ≡ frequency_record key self.old) }
         ensures fits { IfOk result (λ r. FitsRecord r self.new) }
-        ensures undone { IfOk result (λ r. undone r self.new ≡ self.old) }
+        ensures undone { IfOk result (λ r. frequency_before r self.new ≡ self.old) }
         ensures size { IfOk result (λ r. size_of r ≡ cond (halves self.old) (halving_words self.old) 0) }
         ensures err { OnErr result (self.new ≡ self.old) }
 
@@ -96,7 +98,7 @@ impl Frequency {
     /// Undoes the recording of a key. The record has to fit, as that of the last recording that is not undone does.
     pub fn unrecord(&mut self, done: FreqRecord)
         requires { FitsRecord done self.old }
-        ensures { self.new ≡ undone done self.old }
+        ensures { self.new ≡ frequency_before done self.old }
     {
         let FreqRecord { mark, halving } = done;
         match halving {
@@ -189,7 +191,7 @@ impl Frequency {
             { age = 5 * self.old.capacity; halvings = self.old.halvings + 1 }) }
         ensures record_is { IfOk result (λ lost. lost ≡ lost_of self.old) }
         ensures fits { IfOk result (λ lost. FitsRecord record { mark = mark; halving = Some lost } self.new) }
-        ensures undone { IfOk result (λ lost. undone record { mark = mark; halving = Some lost } self.new
+        ensures undone { IfOk result (λ lost. frequency_before record { mark = mark; halving = Some lost } self.new
             ≡ unmarked mark self.old) }
         ensures err { OnErr result (self.new ≡ unmarked mark self.old) }
     {
@@ -264,7 +266,7 @@ mod tests {
         key: Key,
     ) -> Result<FreqRecord, AllocError>
         ensures fits { IfOk result (λ r. FitsRecord r frequency.new) }
-        ensures undone { IfOk result (λ r. undone r frequency.new ≡ frequency.old) }
+        ensures undone { IfOk result (λ r. frequency_before r frequency.new ≡ frequency.old) }
     {
         assert!(rt; frequency.halvings() < u64::MAX);
         let before = (

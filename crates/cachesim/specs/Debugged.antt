@@ -6,8 +6,8 @@ use Rattle.trace_read.specs.Reading.{fault_in, keys_in}
 use Rattle.trace_read.specs.declared.format.Format.{Format}
 use Rattle.shell_model.specs.Shell.{Shell, act}
 use Rattle.maintenance.specs.Opened.{IsOpened}
-use Rattle.journal_text.specs.Journal.{Entries, IsJournal}
-use Rattle.debug_commands.specs.Dialogue.{dialogue_of, IsHeld}
+use Rattle.journal_text.specs.Journal.{JournalEntries, IsJournalText}
+use Rattle.debug_commands.specs.Dialogue.{dialogue_of, IsLineHeld}
 use Rattle.debug_commands.specs.Timeline.{TimelineData}
 use Rattle.debug_shell.specs.TwoPolicies.{policies_timeline}
 use Rattle.debug_replay.specs.Replay.{replay_timeline}
@@ -19,7 +19,7 @@ KnownFiles = List ℕ → Option (List ℕ)
 -- the bytes written answer the commands of the input about the timeline, from a position on to the end
 abbrev pub Answering : TimelineData → ℕ → Option (List ℕ) → Option (List ℕ) → Option (List ℕ) → Type 0
 Answering t at input before after =
-    IfSome input (λ commands. (position : ℕ) × IsHeld (dialogue_of t at commands) true before after position)
+    IfSome input (λ commands. (position : ℕ) × IsLineHeld (dialogue_of t at commands) true before after position)
 
 -- the bytes of the file have no fault, and the answers are about the two policies over its accesses, none of them made
 -- at first
@@ -33,8 +33,8 @@ Debugging format first second file input before after = IfSome file (λ bytes. (
 pub record IsReplayed (config : Config) (bytes : List ℕ) (input before after : Option (List ℕ)) : Type 0 where
   pub opening : Shell
   pub opened : IsOpened config opening
-  pub steps : Entries
-  pub journal : IsJournal act opening config.journal_limit bytes steps
+  pub steps : JournalEntries
+  pub journal : IsJournalText act opening config.journal_limit bytes steps
   pub answers : Answering (replay_timeline opening steps) (length steps) input before after
 
 abbrev pub Replaying : Config → Option (List ℕ) → Option (List ℕ) → Option (List ℕ) → Option (List ℕ) → Type 0

@@ -9,7 +9,7 @@ use Rattle.step_record.specs.declared.job.Job.{Job}
 use Rattle.step_record.specs.declared.job.Policy.{Policy}
 use Rattle.trace_read.specs.Reading.{fault_in, keys_in}
 use Rattle.trace_read.specs.declared.format.Format.{Format}
-use Rattle.report.specs.Text.{text_of}
+use Rattle.report.specs.Text.{reports_text}
 use Rattle.command_line.specs.Parsed.{HasOddStripes, IsIncomplete}
 use Rattle.command_line.specs.Program.{AreLists, Lists, called, program_app}
 use Rattle.command_line.specs.Program.{capacities_in, concurrent_in, config_at, config_in, format_in}
@@ -22,7 +22,7 @@ use Rattle.cachesim.specs.Part.{Parting}
 -- the bytes read have no fault, and those written are the text of the jobs' reports
 abbrev pub Reports : Format → List Job → Option (List ℕ) → Option (List ℕ) → Option (List ℕ) → Type 0
 Reports format jobs input before after = IfSome input (λ bytes. (fault_in format bytes ≡ None)
-    × Appends before after (text_of (reports_on jobs (keys_in format bytes))))
+    × Appends before after (reports_text (reports_on jobs (keys_in format bytes))))
 
 -- `run` was called, and has written the reports of what its matches name
 pub record Ran (subcommand : Option (Text × List Row)) (input before after : Option (List ℕ)) : Type 0 where

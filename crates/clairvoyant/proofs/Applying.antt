@@ -6,22 +6,22 @@ use Rattle.clairvoyant.specs.declared.use_record.UseRecord.{UseRecord}
 use Rattle.clairvoyant.specs.Belady.{belady_residents, belady_outcome}
 use Rattle.clairvoyant.specs.RankSet.{IsTied}
 use Rattle.step_record.specs.Stats.{counted, uncounted}
-use Rattle.clairvoyant.specs.Clairvoyant.{ClairvoyantState, clairvoyant_at, IsReached, clairvoyant_act}
+use Rattle.clairvoyant.specs.Clairvoyant.{ClairvoyantState, clairvoyant_at, IsBeladyReached, clairvoyant_act}
 use Rattle.clairvoyant.specs.UseRecord.{record_at, outcome_of, undone_keys, clairvoyant_undone, ClairvoyantFits}
 use Rattle.clairvoyant.proofs.Records.{outcome-is, keys-back}
 use Rattle.clairvoyant.specs.Representation.{shown, IsRepresented}
 use Rattle.clairvoyant.proofs.Reached.{reached-next, act-next, uncount-by}
 
-module _ (c : ℕ) (t : List ℕ) (s u : Stats) (o : Outcome) (lt : s.accesses < length t) (r : IsReached (shown c t s)) (is : o ≡ belady_outcome c t s.accesses) (more : u ≡ counted o s) where
+module _ (c : ℕ) (t : List ℕ) (s u : Stats) (o : Outcome) (lt : s.accesses < length t) (r : IsBeladyReached (shown c t s)) (is : o ≡ belady_outcome c t s.accesses) (more : u ≡ counted o s) where
   pub up : u.accesses ≡ suc s.accesses
   up = ap (λ x. x.accesses) more ∙ add-one s.accesses
 
   down : s.accesses ≡ u.accesses - 1
   down = let e : u.accesses ≡ suc s.accesses = up in omega arith
 
-  pub next-reached : IsReached (shown c t u)
+  pub next-reached : IsBeladyReached (shown c t u)
   next-reached =
-      let P : Stats → Type 0 = λ x. IsReached (shown c t x) in
+      let P : Stats → Type 0 = λ x. IsBeladyReached (shown c t x) in
       subst P (sym (more ∙ ap (λ x. counted x s) is)) (reached-next c t s lt r)
 
   pub next-keeping : (h : List Bool) → IsTied t (suc s.accesses) (belady_residents c t (suc s.accesses)) h → IsRepresented c t u h
@@ -35,7 +35,7 @@ module _ (c : ℕ) (t : List ℕ) (s u : Stats) (o : Outcome) (lt : s.accesses <
       ap (λ x. clairvoyant_act x k) (sym e) ∙ act-next c t s k o lt r.short same is ∙ ap (λ x. Some (o, shown c t x)) (sym more)
 
   pub next-seen : shown c t u ≡ clairvoyant_at c t (suc s.accesses)
-  next-seen = let n : IsReached (shown c t u) = next-reached in n.gives ∙ ap (clairvoyant_at c t) up
+  next-seen = let n : IsBeladyReached (shown c t u) = next-reached in n.gives ∙ ap (clairvoyant_at c t) up
 
   pub next-stands : (d : ClairvoyantState) → shown c t s ≡ d → (d ≡ clairvoyant_at d.capacity d.trace d.stats.accesses) × (o ≡ belady_outcome d.capacity d.trace d.stats.accesses) × (shown c t u ≡ clairvoyant_at d.capacity d.trace (suc d.stats.accesses))
   next-stands d e =

@@ -3,7 +3,7 @@ use Rattle.std.proofs.Common.{◌≡◌, ℕ, suc, ◌-◌, ◌*◌, ◌<◌, �
 use Rattle.clairvoyant.specs.declared.use_record.UseRecord.TheVariants.{Evicted, Rejected}
 use Rattle.clairvoyant.specs.UseRecord.{record_at}
 use Rattle.clairvoyant.proofs.Records.{record-rejected, record-evicted}
-use Rattle.step_record.specs.Keys.{has, without}
+use Rattle.step_record.specs.Keys.{has_key, without}
 use Rattle.clairvoyant.specs.Keys.{residents_with}
 use Rattle.clairvoyant.specs.Uses.{rank, key_at}
 use Rattle.clairvoyant.specs.Belady.{farthest, belady_residents}
@@ -14,17 +14,17 @@ use Rattle.clairvoyant.proofs.Belady.{residents-seen}
 use Rattle.clairvoyant.proofs.Serving.{served-hit, served-kept, served-full, own-held, tied-hit, tied-kept, tied-rejected, rejects, evicts, tied-evicted, ranked-next, differs}
 
 module _ (c : ℕ) (t : List ℕ) (i : ℕ) (lt : i < length t) (h : List Bool) (tied : IsTied t i (belady_residents c t i) h) where
-  pub tested : (b : Bool) (own : ℕ) → own ≡ 2 * length t - 1 - i → b ≡ holds h own → has (get_or t i 0) (belady_residents c t i) ≡ b
+  pub tested : (b : Bool) (own : ℕ) → own ≡ 2 * length t - 1 - i → b ≡ holds h own → has_key (get_or t i 0) (belady_residents c t i) ≡ b
   tested b own e f = sym (own-held t i lt (belady_residents c t i) (residents-seen c t i) h tied own e) ∙ sym f
 
   moved-to : (s : List ℕ) (g : List Bool) → belady_residents c t (suc i) ≡ s → IsTied t (suc i) s g → IsTied t (suc i) (belady_residents c t (suc i)) g
   moved-to s g e p = let P : List ℕ → Type 0 = λ x. IsTied t (suc i) x g in subst P (sym e) p
 
-  module _ (hit : has (get_or t i 0) (belady_residents c t i) ≡ true) where
+  module _ (hit : has_key (get_or t i 0) (belady_residents c t i) ≡ true) where
     pub hit-tied : (h1 h2 : List Bool) (own new : ℕ) → own ≡ 2 * length t - 1 - i → new ≡ rank t (suc i) (get_or t i 0) → length h1 ≡ length h → ((q : ℕ) → holds h1 q ≡ cond (eqb q own) false (holds h q)) → length h2 ≡ length h1 → ((q : ℕ) → holds h2 q ≡ cond (eqb q new) true (holds h1 q)) → IsTied t (suc i) (belady_residents c t (suc i)) h2
     hit-tied h1 h2 own new e f l1 takes l2 puts = moved-to (belady_residents c t i) h2 (served-hit c t i (get_or t i 0) (belady_residents c t i) hit) (tied-hit t i lt (belady_residents c t i) (residents-seen c t i) h tied h1 h2 own new e f hit l1 takes l2 puts)
 
-  module _ (miss : has (get_or t i 0) (belady_residents c t i) ≡ false) where
+  module _ (miss : has_key (get_or t i 0) (belady_residents c t i) ≡ false) where
     module _ (room : length (belady_residents c t i) < c) where
       pub kept-tied : (h1 : List Bool) (new : ℕ) → new ≡ rank t (suc i) (get_or t i 0) → length h1 ≡ length h → ((q : ℕ) → holds h1 q ≡ cond (eqb q new) true (holds h q)) → IsTied t (suc i) (belady_residents c t (suc i)) h1
       kept-tied h1 new f l1 puts = moved-to (residents_with (get_or t i 0) (belady_residents c t i)) h1 (served-kept c t i (get_or t i 0) (belady_residents c t i) miss room) (tied-kept t i lt (belady_residents c t i) (residents-seen c t i) h tied miss h1 new f l1 puts)

@@ -1,7 +1,7 @@
 -- The residents and what leaves.
 use Rattle.std.proofs.Common.{◌≡◌, ℕ, suc, zero, ◌<◌, ◌≤◌, true, false, cond, eqb, nat_lt, ◌⊎◌, inl, inr, List, [], ◌∷◌, length, get_or, ap, ◌∙◌, sym, refl, arith}
 use Rattle.std.proofs.lemmas.Bool.{cases_Bool, eqb-true, eq-eqb, ltb-true, ltb-false}
-use Rattle.step_record.specs.Keys.{has, without}
+use Rattle.step_record.specs.Keys.{has_key, without}
 use Rattle.clairvoyant.specs.Keys.{residents_with, IsAscendingKeys}
 use Rattle.clairvoyant.specs.Uses.{rank, key_at}
 use Rattle.clairvoyant.specs.Belady.{leaves_first, farthest, belady_residents_after, belady_residents}
@@ -10,7 +10,7 @@ use Rattle.clairvoyant.proofs.Uses.{IsSeen, seen-own, seen-more, named, leaves-r
 
 served-ascending : (c : ℕ) (t : List ℕ) (i k : ℕ) (r : List ℕ) → IsAscendingKeys r → IsAscendingKeys (belady_residents_after c t i k r)
 served-ascending c t i k r s =
-    elim (cases_Bool (has k r)) as (λ _. IsAscendingKeys (belady_residents_after c t i k r)) [
+    elim (cases_Bool (has_key k r)) as (λ _. IsAscendingKeys (belady_residents_after c t i k r)) [
       | inl e ↦ rw e s
       | inr e ↦ elim (cases_Bool (nat_lt (length r) c)) as (λ _. IsAscendingKeys (belady_residents_after c t i k r)) [
         | inl f ↦ rw (e, f) (ascending-put k r s e)
@@ -22,23 +22,23 @@ pub residents-ascending : (c : ℕ) (t : List ℕ) (i : ℕ) → IsAscendingKeys
 residents-ascending c t zero = tt
 residents-ascending c t (suc i) = served-ascending c t i (get_or t i 0) (belady_residents c t i) (residents-ascending c t i)
 
-put-has : (x k : ℕ) (r : List ℕ) → has x (residents_with k r) ≡ true → (x ≡ k) ⊎ (has x r ≡ true)
+put-has : (x k : ℕ) (r : List ℕ) → has_key x (residents_with k r) ≡ true → (x ≡ k) ⊎ (has_key x r ≡ true)
 put-has x k r h =
     elim (cases_Bool (eqb x k)) [
       | inl e ↦ inl (eqb-true x k e)
       | inr e ↦ inr (rw (has-put x k r, e) at h)
     ]
 
-without-has : (x v : ℕ) (r : List ℕ) → has x (without v r) ≡ true → has x r ≡ true
+without-has : (x v : ℕ) (r : List ℕ) → has_key x (without v r) ≡ true → has_key x r ≡ true
 without-has x v r h =
     elim (cases_Bool (eqb x v)) [
       | inl e ↦ absurd (let no : false ≡ true = rw (has-without x v r, e) at h in cc (no))
       | inr e ↦ rw (has-without x v r, e) at h
     ]
 
-served-has : (c : ℕ) (t : List ℕ) (i k x : ℕ) (r : List ℕ) → has x (belady_residents_after c t i k r) ≡ true → (x ≡ k) ⊎ (has x r ≡ true)
+served-has : (c : ℕ) (t : List ℕ) (i k x : ℕ) (r : List ℕ) → has_key x (belady_residents_after c t i k r) ≡ true → (x ≡ k) ⊎ (has_key x r ≡ true)
 served-has c t i k x r h =
-    elim (cases_Bool (has k r)) [
+    elim (cases_Bool (has_key k r)) [
       | inl e ↦ inr (rw e at h)
       | inr e ↦ elim (cases_Bool (nat_lt (length r) c)) [
         | inl f ↦ put-has x k r (rw (e, f) at h)
@@ -46,7 +46,7 @@ served-has c t i k x r h =
       ]
     ]
 
-pub residents-seen : (c : ℕ) (t : List ℕ) (i x : ℕ) → has x (belady_residents c t i) ≡ true → IsSeen t i x
+pub residents-seen : (c : ℕ) (t : List ℕ) (i x : ℕ) → has_key x (belady_residents c t i) ≡ true → IsSeen t i x
 residents-seen c t zero x h = absurd (cc (h))
 residents-seen c t (suc i) x h =
     elim (served-has c t i (get_or t i 0) x (belady_residents c t i) h) [
@@ -56,40 +56,40 @@ residents-seen c t (suc i) x h =
 
 -- ---- what leaves
 
-later : (x a : ℕ) (l : List ℕ) → has x l ≡ true → has x (a ∷ l) ≡ true
+later : (x a : ℕ) (l : List ℕ) → has_key x l ≡ true → has_key x (a ∷ l) ≡ true
 later x a l h = rw h (elim (cases_Bool (eqb x a)) as (λ _. cond (eqb x a) true true ≡ true) [ inl e ↦ rw e refl | inr e ↦ rw e refl ])
 
-pub soon : (x a : ℕ) (l : List ℕ) → (x ≡ a) ⊎ (has x l ≡ true) → has x (a ∷ l) ≡ true
+pub soon : (x a : ℕ) (l : List ℕ) → (x ≡ a) ⊎ (has_key x l ≡ true) → has_key x (a ∷ l) ≡ true
 soon x a l h = elim h [ inl f ↦ let s : eqb x a ≡ true = eq-eqb x a f in rw s refl | inr f ↦ later x a l f ]
 
-pub farthest-among : (t : List ℕ) (i b : ℕ) (l : List ℕ) → (farthest t i b l ≡ b) ⊎ (has (farthest t i b l) l ≡ true)
+pub farthest-among : (t : List ℕ) (i b : ℕ) (l : List ℕ) → (farthest t i b l ≡ b) ⊎ (has_key (farthest t i b l) l ≡ true)
 farthest-among t i b [] = inl refl
 farthest-among t i b (a ∷ l) =
     elim (cases_Bool (leaves_first t i a b)) [
       | inl e ↦
           let w : farthest t i b (a ∷ l) ≡ farthest t i a l = rw e refl in
-          inr (ap (λ x. has x (a ∷ l)) w ∙ soon (farthest t i a l) a l (farthest-among t i a l))
+          inr (ap (λ x. has_key x (a ∷ l)) w ∙ soon (farthest t i a l) a l (farthest-among t i a l))
       | inr e ↦
           let w : farthest t i b (a ∷ l) ≡ farthest t i b l = rw e refl in
           elim (farthest-among t i b l) [
             | inl f ↦ inl (w ∙ f)
-            | inr f ↦ inr (ap (λ x. has x (a ∷ l)) w ∙ later (farthest t i b l) a l f)
+            | inr f ↦ inr (ap (λ x. has_key x (a ∷ l)) w ∙ later (farthest t i b l) a l f)
           ]
     ]
 
 -- v ranks least of b and the keys l, after the access at place i
 pub record IsLeast (t : List ℕ) (i b : ℕ) (l : List ℕ) (v : ℕ) : Type 0 where
   pub first : rank t (suc i) v ≤ rank t (suc i) b
-  pub all : (a : ℕ) → has a l ≡ true → rank t (suc i) v ≤ rank t (suc i) a
+  pub all : (a : ℕ) → has_key a l ≡ true → rank t (suc i) v ≤ rank t (suc i) a
 
-least-all : (t : List ℕ) (i x a : ℕ) (l : List ℕ) (v : ℕ) → rank t (suc i) v ≤ rank t (suc i) a → ((y : ℕ) → has y l ≡ true → rank t (suc i) v ≤ rank t (suc i) y) → has x (a ∷ l) ≡ true → rank t (suc i) v ≤ rank t (suc i) x
+least-all : (t : List ℕ) (i x a : ℕ) (l : List ℕ) (v : ℕ) → rank t (suc i) v ≤ rank t (suc i) a → ((y : ℕ) → has_key y l ≡ true → rank t (suc i) v ≤ rank t (suc i) y) → has_key x (a ∷ l) ≡ true → rank t (suc i) v ≤ rank t (suc i) x
 least-all t i x a l v f all h =
     elim (cases_Bool (eqb x a)) [
       | inl e ↦ let same : x ≡ a = eqb-true x a e in rw same f
       | inr e ↦ all x (rw e at h)
     ]
 
-farthest-least : (t : List ℕ) (i b : ℕ) (l : List ℕ) → i < length t → IsSeen t (suc i) b → ((a : ℕ) → has a l ≡ true → IsSeen t (suc i) a) → IsLeast t i b l (farthest t i b l)
+farthest-least : (t : List ℕ) (i b : ℕ) (l : List ℕ) → i < length t → IsSeen t (suc i) b → ((a : ℕ) → has_key a l ≡ true → IsSeen t (suc i) a) → IsLeast t i b l (farthest t i b l)
 farthest-least t i b [] h s u = record { first = omega arith; all = λ a g. absurd (cc (g)) }
 farthest-least t i b (a ∷ l) h s u =
     let at : IsSeen t (suc i) a = u a (let e : eqb a a ≡ true = eq-eqb a a refl in rw e refl) in
@@ -108,7 +108,7 @@ farthest-least t i b (a ∷ l) h s u =
     ]
 
 -- what ranks least is what leaves
-pub farthest-is : (t : List ℕ) (i b : ℕ) (l : List ℕ) (y : ℕ) → i < length t → IsSeen t (suc i) b → ((a : ℕ) → has a l ≡ true → IsSeen t (suc i) a) → (y ≡ b) ⊎ (has y l ≡ true) → IsLeast t i b l y → farthest t i b l ≡ y
+pub farthest-is : (t : List ℕ) (i b : ℕ) (l : List ℕ) (y : ℕ) → i < length t → IsSeen t (suc i) b → ((a : ℕ) → has_key a l ≡ true → IsSeen t (suc i) a) → (y ≡ b) ⊎ (has_key y l ≡ true) → IsLeast t i b l y → farthest t i b l ≡ y
 farthest-is t i b l y h s u among least =
     let v : ℕ = farthest t i b l in
     let lower : IsLeast t i b l v = farthest-least t i b l h s u in

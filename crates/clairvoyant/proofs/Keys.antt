@@ -2,7 +2,7 @@
 use Rattle.std.proofs.Common.{◌≡◌, ℕ, suc, ◌<◌, ◌≤◌, Bool, true, false, cond, eqb, nat_lt, List, [], ◌∷◌, length, ap, refl, arith, inl, inr}
 use Rattle.std.proofs.lemmas.Bool.{cases_Bool, eqb-true, eqb-false, eq-eqb, ne_eqb, ltb-true, ltb-false, le-ltb, lt-ltb}
 use Rattle.std.proofs.lemmas.Bool.Decides.{nat_tests}
-use Rattle.step_record.specs.Keys.{has, without}
+use Rattle.step_record.specs.Keys.{has_key, without}
 use Rattle.clairvoyant.specs.Keys.{residents_with, IsBelowAll, IsAscendingKeys}
 
 swap : (x y z : Bool) → cond x true (cond y true z) ≡ cond y true (cond x true z)
@@ -11,26 +11,26 @@ swap true false z = refl
 swap false true z = refl
 swap false false z = refl
 
-pub has-put : (k b : ℕ) (l : List ℕ) → has k (residents_with b l) ≡ cond (eqb k b) true (has k l)
+pub has-put : (k b : ℕ) (l : List ℕ) → has_key k (residents_with b l) ≡ cond (eqb k b) true (has_key k l)
 has-put k b [] = refl
 has-put k b (a ∷ l) =
-    elim (cases_Bool (nat_lt b a)) as (λ _. has k (cond (nat_lt b a) (b ∷ a ∷ l) (a ∷ residents_with b l)) ≡ cond (eqb k b) true (cond (eqb k a) true (has k l))) [
+    elim (cases_Bool (nat_lt b a)) as (λ _. has_key k (cond (nat_lt b a) (b ∷ a ∷ l) (a ∷ residents_with b l)) ≡ cond (eqb k b) true (cond (eqb k a) true (has_key k l))) [
       | inl e ↦ rw e refl
-      | inr e ↦ rw (e, has-put k b l) (swap (eqb k a) (eqb k b) (has k l))
+      | inr e ↦ rw (e, has-put k b l) (swap (eqb k a) (eqb k b) (has_key k l))
     ]
 
-pub has-without : (k b : ℕ) (l : List ℕ) → has k (without b l) ≡ cond (eqb k b) false (has k l)
+pub has-without : (k b : ℕ) (l : List ℕ) → has_key k (without b l) ≡ cond (eqb k b) false (has_key k l)
 has-without k b [] = elim (cases_Bool (eqb k b)) as (λ _. false ≡ cond (eqb k b) false false) [ inl e ↦ rw e refl | inr e ↦ rw e refl ]
 has-without k b (a ∷ l) =
-    elim (cases_Bool (eqb b a)) as (λ _. has k (cond (eqb b a) (without b l) (a ∷ without b l)) ≡ cond (eqb k b) false (cond (eqb k a) true (has k l))) [
-      | inl e ↦ let same : b ≡ a = eqb-true b a e in rw (e, has-without k b l, same) (elim (cases_Bool (eqb k a)) as (λ _. cond (eqb k a) false (has k l) ≡ cond (eqb k a) false (cond (eqb k a) true (has k l))) [ inl f ↦ rw f refl | inr f ↦ rw f refl ])
-      | inr e ↦ rw (e, has-without k b l) (elim (cases_Bool (eqb k a)) as (λ _. cond (eqb k a) true (cond (eqb k b) false (has k l)) ≡ cond (eqb k b) false (cond (eqb k a) true (has k l))) [
+    elim (cases_Bool (eqb b a)) as (λ _. has_key k (cond (eqb b a) (without b l) (a ∷ without b l)) ≡ cond (eqb k b) false (cond (eqb k a) true (has_key k l))) [
+      | inl e ↦ let same : b ≡ a = eqb-true b a e in rw (e, has-without k b l, same) (elim (cases_Bool (eqb k a)) as (λ _. cond (eqb k a) false (has_key k l) ≡ cond (eqb k a) false (cond (eqb k a) true (has_key k l))) [ inl f ↦ rw f refl | inr f ↦ rw f refl ])
+      | inr e ↦ rw (e, has-without k b l) (elim (cases_Bool (eqb k a)) as (λ _. cond (eqb k a) true (cond (eqb k b) false (has_key k l)) ≡ cond (eqb k b) false (cond (eqb k a) true (has_key k l))) [
         | inl f ↦ let apart : eqb k b ≡ false = grind (arith, nat_tests) in rw (f, apart) refl
         | inr f ↦ rw f refl
       ])
     ]
 
-pub without-none : (k : ℕ) (l : List ℕ) → has k l ≡ false → without k l ≡ l
+pub without-none : (k : ℕ) (l : List ℕ) → has_key k l ≡ false → without k l ≡ l
 without-none k [] h = refl
 without-none k (a ∷ l) h =
     elim (cases_Bool (eqb k a)) as (λ _. cond (eqb k a) (without k l) (a ∷ without k l) ≡ a ∷ l) [
@@ -38,7 +38,7 @@ without-none k (a ∷ l) h =
       | inr e ↦ rw e (ap (λ t. a ∷ t) (without-none k l (rw e at h)))
     ]
 
-pub without-put : (k : ℕ) (l : List ℕ) → has k l ≡ false → without k (residents_with k l) ≡ l
+pub without-put : (k : ℕ) (l : List ℕ) → has_key k l ≡ false → without k (residents_with k l) ≡ l
 without-put k [] h = let e : eqb k k ≡ true = eq-eqb k k refl in rw e refl
 without-put k (a ∷ l) h =
     elim (cases_Bool (eqb k a)) as (λ _. without k (cond (nat_lt k a) (k ∷ a ∷ l) (a ∷ residents_with k l)) ≡ a ∷ l) [
@@ -68,7 +68,7 @@ pub below-all : (k b : ℕ) (l : List ℕ) → k ≤ b → IsBelowAll b l → Is
 below-all k b [] h w = tt
 below-all k b (a ∷ l) h w = (let n = w.0 in omega (arith, n), below-all k b l h w.1)
 
-pub below-none : (k : ℕ) (l : List ℕ) → IsBelowAll k l → has k l ≡ false
+pub below-none : (k : ℕ) (l : List ℕ) → IsBelowAll k l → has_key k l ≡ false
 below-none k [] w = refl
 below-none k (a ∷ l) w = let n = w.0 in let e : eqb k a ≡ false = ne_eqb k a (λ h. omega (arith, n, h)) in rw e (below-none k l w.1)
 
@@ -80,7 +80,7 @@ below-put a k (x ∷ l) h w =
       | inr e ↦ rw e (w.0, below-put a k l h w.1)
     ]
 
-pub ascending-put : (k : ℕ) (l : List ℕ) → IsAscendingKeys l → has k l ≡ false → IsAscendingKeys (residents_with k l)
+pub ascending-put : (k : ℕ) (l : List ℕ) → IsAscendingKeys l → has_key k l ≡ false → IsAscendingKeys (residents_with k l)
 ascending-put k [] s h = (tt, tt)
 ascending-put k (a ∷ l) s h =
     elim (cases_Bool (eqb k a)) as (λ _. IsAscendingKeys (cond (nat_lt k a) (k ∷ a ∷ l) (a ∷ residents_with k l))) [
@@ -114,7 +114,7 @@ put-below : (k : ℕ) (l : List ℕ) → IsBelowAll k l → residents_with k l �
 put-below k [] w = refl
 put-below k (a ∷ l) w = let n = w.0 in let e : nat_lt k a ≡ true = lt-ltb k a n in rw e refl
 
-pub below-has : (a k : ℕ) (l : List ℕ) → IsBelowAll a l → has k l ≡ true → a < k
+pub below-has : (a k : ℕ) (l : List ℕ) → IsBelowAll a l → has_key k l ≡ true → a < k
 below-has a k [] w h = absurd (cc (h))
 below-has a k (x ∷ l) w h =
     elim (cases_Bool (eqb k x)) [
@@ -123,7 +123,7 @@ below-has a k (x ∷ l) w h =
     ]
 
 -- what was taken out goes back to its place
-pub put-without : (k : ℕ) (l : List ℕ) → IsAscendingKeys l → has k l ≡ true → residents_with k (without k l) ≡ l
+pub put-without : (k : ℕ) (l : List ℕ) → IsAscendingKeys l → has_key k l ≡ true → residents_with k (without k l) ≡ l
 put-without k [] s h = absurd (cc (h))
 put-without k (a ∷ l) s h =
     elim (cases_Bool (eqb k a)) as (λ _. residents_with k (cond (eqb k a) (without k l) (a ∷ without k l)) ≡ a ∷ l) [
@@ -131,7 +131,7 @@ put-without k (a ∷ l) s h =
           let same : k ≡ a = eqb-true k a e in
           rw (e, same, without-none a l (below-none a l s.0)) (put-below a l s.0)
       | inr e ↦
-          let there : has k l ≡ true = rw e at h in
+          let there : has_key k l ≡ true = rw e at h in
           let f : nat_lt k a ≡ false = let n : a < k = below-has a k l s.0 there in le-ltb k a (omega arith) in
           rw (e, f) (ap (λ t. a ∷ t) (put-without k l s.1 there))
     ]
@@ -144,7 +144,7 @@ length-put k (a ∷ l) =
       | inr e ↦ rw e (ap suc (length-put k l))
     ]
 
-pub length-without : (k : ℕ) (l : List ℕ) → IsAscendingKeys l → has k l ≡ true → suc (length (without k l)) ≡ length l
+pub length-without : (k : ℕ) (l : List ℕ) → IsAscendingKeys l → has_key k l ≡ true → suc (length (without k l)) ≡ length l
 length-without k [] s h = absurd (cc (h))
 length-without k (a ∷ l) s h =
     elim (cases_Bool (eqb k a)) as (λ _. suc (length (cond (eqb k a) (without k l) (a ∷ without k l))) ≡ suc (length l)) [

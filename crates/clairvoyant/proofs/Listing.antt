@@ -6,7 +6,7 @@ use Rattle.std.proofs.lemmas.List.Sums.{sum_by-append}
 use Rattle.std.proofs.lemmas.List.Sorted.{sum_by-IsPermutation}
 use Rattle.std.proofs.lemmas.Bool.{cases_Bool, cases_eq, cases_lt, eqb-true, eq-eqb, ne_eqb, lt-ltb, le-ltb}
 use Rattle.step_record.specs.Stats.{one}
-use Rattle.step_record.specs.Keys.{has}
+use Rattle.step_record.specs.Keys.{has_key}
 use Rattle.rank_tree.specs.Bits.{holds}
 use Rattle.clairvoyant.specs.Keys.{IsAscendingKeys}
 use Rattle.clairvoyant.specs.Uses.{rank, key_at}
@@ -32,20 +32,20 @@ times-snoc : (k a : ℕ) (xs : List ℕ) → times k (xs ++ a ∷ []) ≡ times 
 times-snoc k a [] = omega arith
 times-snoc k a (x ∷ xs) = let past : times k (xs ++ a ∷ []) ≡ times k xs + one (eqb k a) = times-snoc k a xs in omega (arith, past)
 
-times-has : (k : ℕ) (rs : List ℕ) → IsAscendingKeys rs → times k rs ≡ one (has k rs)
+times-has : (k : ℕ) (rs : List ℕ) → IsAscendingKeys rs → times k rs ≡ one (has_key k rs)
 times-has k [] s = refl
 times-has k (a ∷ rs) s =
-    let rest : times k rs ≡ one (has k rs) = times-has k rs s.1 in
+    let rest : times k rs ≡ one (has_key k rs) = times-has k rs s.1 in
     elim (cases_Bool (eqb k a)) [
       | inl e ↦
           let same : k ≡ a = eqb-true k a e in
-          let none : times k rs ≡ 0 = rest ∙ ap one (ap (λ x. has x rs) same ∙ below-none a rs s.0) in
+          let none : times k rs ≡ 0 = rest ∙ ap one (ap (λ x. has_key x rs) same ∙ below-none a rs s.0) in
           let here : one (eqb k a) ≡ 1 = ap one e in
-          let is : one (has k (a ∷ rs)) ≡ 1 = ap (λ b. one (cond b true (has k rs))) e in
+          let is : one (has_key k (a ∷ rs)) ≡ 1 = ap (λ b. one (cond b true (has_key k rs))) e in
           omega (arith, none, here, is)
       | inr e ↦
           let here : one (eqb k a) ≡ 0 = ap one e in
-          let is : one (has k (a ∷ rs)) ≡ one (has k rs) = ap (λ b. one (cond b true (has k rs))) e in
+          let is : one (has_key k (a ∷ rs)) ≡ one (has_key k rs) = ap (λ b. one (cond b true (has_key k rs))) e in
           omega (arith, rest, here, is)
     ]
 
@@ -70,7 +70,7 @@ low-ascending : (r : ℕ) (rs : List ℕ) → IsAscendingKeys (r ∷ rs) → (k 
 low-ascending r rs s k h =
     elim (cases_Bool (eqb k r)) [
       | inl e ↦ let same : k ≡ r = eqb-true k r e in omega (arith, same)
-      | inr e ↦ elim (cases_Bool (has k rs)) [
+      | inr e ↦ elim (cases_Bool (has_key k rs)) [
         | inl f ↦ let above : r < k = below-has r k rs s.0 f in omega (arith, above)
         | inr f ↦
             let none : one (eqb k r) ≡ 0 = ap one e in
@@ -105,7 +105,7 @@ and-is a b x e f = rw e f
 
 -- k is a resident whose rank is below q
 abbrev pub is_listed : List ℕ → ℕ → List ℕ → ℕ → ℕ → Bool
-is_listed t i r q k = has k r && nat_lt (rank t i k) q
+is_listed t i r q k = has_key k r && nat_lt (rank t i k) q
 
 same-test : (n q : ℕ) → n ≢ q → nat_lt n (q + 1) ≡ nat_lt n q
 same-test n q ne =
@@ -114,46 +114,46 @@ same-test n q ne =
       | inr g ↦ le-ltb n (q + 1) (omega (arith, g, ne)) ∙ sym (le-ltb n q g)
     ]
 
-module _ (t : List ℕ) (i : ℕ) (r : List ℕ) (le : i ≤ length t) (seen : (x : ℕ) → has x r ≡ true → IsSeen t i x) where
-  unmoved : (q k : ℕ) → (has k r ≡ true → rank t i k ≢ q) → is_listed t i r (q + 1) k ≡ is_listed t i r q k
+module _ (t : List ℕ) (i : ℕ) (r : List ℕ) (le : i ≤ length t) (seen : (x : ℕ) → has_key x r ≡ true → IsSeen t i x) where
+  unmoved : (q k : ℕ) → (has_key k r ≡ true → rank t i k ≢ q) → is_listed t i r (q + 1) k ≡ is_listed t i r q k
   unmoved q k apart =
-      elim (cases_Bool (has k r)) as (λ _. (has k r && nat_lt (rank t i k) (q + 1)) ≡ (has k r && nat_lt (rank t i k) q)) [
-        | inl e ↦ ap (λ b. has k r && b) (same-test (rank t i k) q (apart e))
+      elim (cases_Bool (has_key k r)) as (λ _. (has_key k r && nat_lt (rank t i k) (q + 1)) ≡ (has_key k r && nat_lt (rank t i k) q)) [
+        | inl e ↦ ap (λ b. has_key k r && b) (same-test (rank t i k) q (apart e))
         | inr e ↦ rw e refl
       ]
 
-  keyed : (q k : ℕ) → has k r ≡ true → rank t i k ≡ q → key_at t q ≡ k
+  keyed : (q k : ℕ) → has_key k r ≡ true → rank t i k ≡ q → key_at t q ≡ k
   keyed q k there same = ap (key_at t) (sym same) ∙ (named t i k le (seen k there)).key
 
   pub listed-start : (k : ℕ) → times k [] ≡ one (is_listed t i r 0 k)
   listed-start k =
       let none : nat_lt (rank t i k) 0 ≡ false = le-ltb (rank t i k) 0 (omega arith) in
-      elim (cases_Bool (has k r)) as (λ _. 0 ≡ one (has k r && nat_lt (rank t i k) 0)) [ inl e ↦ rw (e, none) refl | inr e ↦ rw e refl ]
+      elim (cases_Bool (has_key k r)) as (λ _. 0 ≡ one (has_key k r && nat_lt (rank t i k) 0)) [ inl e ↦ rw (e, none) refl | inr e ↦ rw e refl ]
 
-  pub listed-all : (k : ℕ) → is_listed t i r (2 * length t) k ≡ has k r
+  pub listed-all : (k : ℕ) → is_listed t i r (2 * length t) k ≡ has_key k r
   listed-all k =
-      elim (cases_Bool (has k r)) [
-        | inl e ↦ and-is (has k r) _ true e (lt-ltb (rank t i k) (2 * length t) (named t i k le (seen k e)).within) ∙ sym e
+      elim (cases_Bool (has_key k r)) [
+        | inl e ↦ and-is (has_key k r) _ true e (lt-ltb (rank t i k) (2 * length t) (named t i k le (seen k e)).within) ∙ sym e
         | inr e ↦ ap (λ b. b && nat_lt (rank t i k) (2 * length t)) e ∙ sym e
       ]
 
   module _ (h : List Bool) (tied : IsTied t i r h) (q : ℕ) (lt : q < 2 * length t) (keys : List ℕ) (all : (k : ℕ) → times k keys ≡ one (is_listed t i r q k)) where
     pub listed-other : holds h q ≡ false → (k : ℕ) → times k keys ≡ one (is_listed t i r (q + 1) k)
     listed-other none k =
-        let apart : has k r ≡ true → rank t i k ≢ q = λ there same. (
+        let apart : has_key k r ≡ true → rank t i k ≢ q = λ there same. (
         let at : key_at t q ≡ k = keyed q k there same in
-        let is : is_ranked t i r q ≡ true = and-is _ _ true (ap (λ x. has x r) at ∙ there) (eq-eqb (rank t i (key_at t q)) q (ap (rank t i) at ∙ same)) in
+        let is : is_ranked t i r q ≡ true = and-is _ _ true (ap (λ x. has_key x r) at ∙ there) (eq-eqb (rank t i (key_at t q)) q (ap (rank t i) at ∙ same)) in
         let no : true ≡ false = sym is ∙ sym (tied.ranks q lt) ∙ none in cc (no)) in
         all k ∙ ap one (sym (unmoved q k apart))
 
     pub listed-held : (a : ℕ) → a ≡ key_at t q → holds h q ≡ true → (k : ℕ) → times k (keys ++ a ∷ []) ≡ one (is_listed t i r (q + 1) k)
     listed-held a named_at held k =
-        let both : (has (key_at t q) r ≡ true) × (eqb (rank t i (key_at t q)) q ≡ true) = and-true _ _ (sym (tied.ranks q lt) ∙ held) in
+        let both : (has_key (key_at t q) r ≡ true) × (eqb (rank t i (key_at t q)) q ≡ true) = and-true _ _ (sym (tied.ranks q lt) ∙ held) in
         let level : rank t i (key_at t q) ≡ q = eqb-true (rank t i (key_at t q)) q both.1 in
         elim (cases_eq k a) [
           | inl e ↦
               let at : k ≡ key_at t q = e ∙ named_at in
-              let there : has k r ≡ true = ap (λ x. has x r) at ∙ both.0 in
+              let there : has_key k r ≡ true = ap (λ x. has_key x r) at ∙ both.0 in
               let same : rank t i k ≡ q = ap (rank t i) at ∙ level in
               let before : is_listed t i r q k ≡ false = and-is _ _ false there (le-ltb (rank t i k) q (omega (arith, same))) in
               let after : is_listed t i r (q + 1) k ≡ true = and-is _ _ true there (lt-ltb (rank t i k) (q + 1) (omega (arith, same))) in
@@ -162,7 +162,7 @@ module _ (t : List ℕ) (i : ℕ) (r : List ℕ) (le : i ≤ length t) (seen : (
               let sum : times k keys + one (eqb k a) ≡ 1 = omega (arith, x, y) in
               times-snoc k a keys ∙ sum ∙ sym (ap one after)
           | inr n ↦
-              let apart : has k r ≡ true → rank t i k ≢ q = λ there same. n (sym (keyed q k there same) ∙ sym named_at) in
+              let apart : has_key k r ≡ true → rank t i k ≢ q = λ there same. n (sym (keyed q k there same) ∙ sym named_at) in
               let y : one (eqb k a) ≡ 0 = ap one (ne_eqb k a n) in
               let sum : times k keys + one (eqb k a) ≡ times k keys = omega (arith, y) in
               times-snoc k a keys ∙ sum ∙ all k ∙ ap one (sym (unmoved q k apart))

@@ -4,11 +4,11 @@ use Rattle.std.proofs.lemmas.Bool.{cases_Bool, eq-eqb, ne_eqb, lt-ltb, le-ltb}
 use Rattle.step_record.specs.declared.limits.TheConstants.{MAX_ACCESSES, MAX_STEPS}
 use Rattle.step_record.specs.declared.outcome.Outcome.{Outcome}
 use Rattle.step_record.specs.declared.stats.Stats.{Stats}
-use Rattle.step_record.specs.Keys.{has, without}
+use Rattle.step_record.specs.Keys.{has_key, without}
 use Rattle.clairvoyant.specs.Keys.{residents_with, IsAscendingKeys}
 use Rattle.clairvoyant.specs.Belady.{farthest, belady_residents_after, belady_answer, belady_departure, belady_residents, belady_outcome, belady_outcomes}
 use Rattle.step_record.specs.Stats.{is_hit, is_miss, is_eviction, is_rejection, one, counted, uncounted, IsCounted, IsSmall, stats_of}
-use Rattle.clairvoyant.specs.Clairvoyant.{IsReached, clairvoyant_act, is_next, state_after}
+use Rattle.clairvoyant.specs.Clairvoyant.{IsBeladyReached, clairvoyant_act, is_next, clairvoyant_after}
 use Rattle.clairvoyant.specs.Representation.{shown}
 use Rattle.step_record.proofs.Counting.{stats-snoc, stats-small}
 use Rattle.clairvoyant.proofs.Keys.{has-put, length-put, length-without, ascending-put}
@@ -23,7 +23,7 @@ pub stats-next : (c : ℕ) (t : List ℕ) (s : Stats) → s ≡ stats_of (belady
 stats-next c t s e =
     ap (counted (belady_outcome c t s.accesses)) e ∙ sym (stats-snoc (belady_outcomes c t s.accesses) (belady_outcome c t s.accesses)) ∙ ap (λ n. stats_of (belady_outcomes c t n)) (sym (add-one s.accesses))
 
-pub reached-next : (c : ℕ) (t : List ℕ) (s : Stats) → s.accesses < length t → IsReached (shown c t s) → IsReached (shown c t (counted (belady_outcome c t s.accesses) s))
+pub reached-next : (c : ℕ) (t : List ℕ) (s : Stats) → s.accesses < length t → IsBeladyReached (shown c t s) → IsBeladyReached (shown c t (counted (belady_outcome c t s.accesses) s))
 reached-next c t s lt r = record {
   gives = ap (λ x. record { trace = t; capacity = c; residents = belady_residents c t (s.accesses + 1); stats = x }) (stats-next c t s (ap (λ d. d.stats) r.gives));
   within = omega arith;
@@ -31,7 +31,7 @@ reached-next c t s lt r = record {
   room = r.room;
 }
 
-pub reached-small : (c : ℕ) (t : List ℕ) (s : Stats) → IsReached (shown c t s) → IsSmall s
+pub reached-small : (c : ℕ) (t : List ℕ) (s : Stats) → IsBeladyReached (shown c t s) → IsSmall s
 reached-small c t s r =
     let few : length (belady_outcomes c t s.accesses) ≤ MAX_STEPS = let a = r.within in let b = r.short in omega (arith, a, b, outcomes-length c t s.accesses) in
     let e : s ≡ stats_of (belady_outcomes c t s.accesses) = ap (λ d. d.stats) r.gives in
@@ -44,13 +44,13 @@ gone-both k v = elim (cases_Bool (eqb k v)) as (λ _. (is_miss (belady_departure
 
 served-count : (c : ℕ) (t : List ℕ) (i k : ℕ) (r : List ℕ) → IsAscendingKeys r → length (belady_residents_after c t i k r) + one (is_eviction (belady_answer c t i k r)) ≡ length r + one (is_miss (belady_answer c t i k r))
 served-count c t i k r s =
-    elim (cases_Bool (has k r)) as (λ _. length (belady_residents_after c t i k r) + one (is_eviction (belady_answer c t i k r)) ≡ length r + one (is_miss (belady_answer c t i k r))) [
+    elim (cases_Bool (has_key k r)) as (λ _. length (belady_residents_after c t i k r) + one (is_eviction (belady_answer c t i k r)) ≡ length r + one (is_miss (belady_answer c t i k r))) [
       | inl e ↦ rw e refl
       | inr e ↦ elim (cases_Bool (nat_lt (length r) c)) as (λ _. length (belady_residents_after c t i k r) + one (is_eviction (belady_answer c t i k r)) ≡ length r + one (is_miss (belady_answer c t i k r))) [
         | inl f ↦ rw (e, f) (let n : length (residents_with k r) ≡ suc (length r) = length-put k r in omega arith)
         | inr f ↦
             let v : ℕ = farthest t i k r in
-            let in_it : has v (residents_with k r) ≡ true = has-put v k r ∙ soon v k r (farthest-among t i k r) in
+            let in_it : has_key v (residents_with k r) ≡ true = has-put v k r ∙ soon v k r (farthest-among t i k r) in
             let fewer : suc (length (without v (residents_with k r))) ≡ length (residents_with k r) = length-without v (residents_with k r) (ascending-put k r s e) in_it in
             let n : length (residents_with k r) ≡ suc (length r) = length-put k r in
             let both = gone-both k v in
@@ -68,7 +68,7 @@ held-count c t (suc i) =
     let misses : count_by is_miss (belady_outcomes c t (suc i)) ≡ count_by is_miss (belady_outcomes c t i) + one (is_miss (belady_outcome c t i)) = ap (λ x. x.misses) counts in
     omega (arith, past, now, evictions, misses)
 
-pub reached-held : (c : ℕ) (t : List ℕ) (s : Stats) → IsReached (shown c t s) → length (belady_residents c t s.accesses) + s.evictions ≡ s.misses
+pub reached-held : (c : ℕ) (t : List ℕ) (s : Stats) → IsBeladyReached (shown c t s) → length (belady_residents c t s.accesses) + s.evictions ≡ s.misses
 reached-held c t s r =
     let e : s ≡ stats_of (belady_outcomes c t s.accesses) = ap (λ d. d.stats) r.gives in
     ap (λ x. length (belady_residents c t s.accesses) + x.evictions) e ∙ held-count c t s.accesses ∙ sym (ap (λ x. x.misses) e)
@@ -85,8 +85,8 @@ now-holds c t s k lt few e =
 pub act-next : (c : ℕ) (t : List ℕ) (s : Stats) (k : ℕ) (o : Outcome) → s.accesses < length t → length t ≤ MAX_ACCESSES → k ≡ get_or t s.accesses 0 → o ≡ belady_outcome c t s.accesses → clairvoyant_act (shown c t s) k ≡ Some (o, shown c t (counted o s))
 act-next c t s k o lt few e f =
     let yes : is_next (shown c t s) k ≡ true = now-holds c t s k lt few e in
-    ap (λ b. cond b (Some (belady_answer c t s.accesses k (belady_residents c t s.accesses), state_after (shown c t s) k)) None) yes
-    ∙ ap (λ x. Some (belady_answer c t s.accesses x (belady_residents c t s.accesses), state_after (shown c t s) x)) e
+    ap (λ b. cond b (Some (belady_answer c t s.accesses k (belady_residents c t s.accesses), clairvoyant_after (shown c t s) k)) None) yes
+    ∙ ap (λ x. Some (belady_answer c t s.accesses x (belady_residents c t s.accesses), clairvoyant_after (shown c t s) x)) e
     ∙ ap (λ n. Some (belady_outcome c t s.accesses, record { trace = t; capacity = c; residents = belady_residents c t n; stats = counted (belady_outcome c t s.accesses) s })) (sym (add-one s.accesses))
     ∙ ap (λ x. Some (x, shown c t (counted x s))) (sym f)
 

@@ -1,7 +1,7 @@
 -- What the record of an access says of it, and how it leads back.
 use Rattle.std.proofs.Common.{◌≡◌, ℕ, suc, ◌<◌, ◌≤◌, ◌⊎◌, inl, inr, true, false, eqb, nat_lt, List, length, get_or, ap, ◌∙◌, sym, subst, refl}
 use Rattle.std.proofs.lemmas.Bool.{cases_Bool, eqb-true, eqb-false, ltb-true, ltb-false, lt-ltb, le-ltb, eq-eqb}
-use Rattle.step_record.specs.Keys.{has, without}
+use Rattle.step_record.specs.Keys.{has_key, without}
 use Rattle.clairvoyant.specs.declared.use_record.Gone.{Gone}
 use Rattle.clairvoyant.specs.declared.use_record.UseRecord.{UseRecord}
 use Rattle.clairvoyant.specs.declared.use_record.UseRecord.TheVariants.{Hit, Kept, Evicted, Rejected}
@@ -16,48 +16,48 @@ use Rattle.clairvoyant.proofs.Serving.{served-hit, answer-hit, served-kept, answ
 
 -- the four ways of the access at a place
 pub record IsHit (c : ℕ) (t : List ℕ) (i : ℕ) : Type 0 where
-  pub hit : has (get_or t i 0) (belady_residents c t i) ≡ true
+  pub hit : has_key (get_or t i 0) (belady_residents c t i) ≡ true
   pub is : record_at c t i ≡ Hit
 
 pub record IsKept (c : ℕ) (t : List ℕ) (i : ℕ) : Type 0 where
-  pub miss : has (get_or t i 0) (belady_residents c t i) ≡ false
+  pub miss : has_key (get_or t i 0) (belady_residents c t i) ≡ false
   pub room : length (belady_residents c t i) < c
   pub is : record_at c t i ≡ Kept
 
 pub record IsRejected (c : ℕ) (t : List ℕ) (i : ℕ) : Type 0 where
-  pub miss : has (get_or t i 0) (belady_residents c t i) ≡ false
+  pub miss : has_key (get_or t i 0) (belady_residents c t i) ≡ false
   pub full : c ≤ length (belady_residents c t i)
   pub goes : farthest t i (get_or t i 0) (belady_residents c t i) ≡ get_or t i 0
   pub is : record_at c t i ≡ Rejected (get_or t i 0)
 
 pub record IsEvicted (c : ℕ) (t : List ℕ) (i v : ℕ) : Type 0 where
-  pub miss : has (get_or t i 0) (belady_residents c t i) ≡ false
+  pub miss : has_key (get_or t i 0) (belady_residents c t i) ≡ false
   pub full : c ≤ length (belady_residents c t i)
   pub goes : farthest t i (get_or t i 0) (belady_residents c t i) ≡ v
   pub differs : eqb (get_or t i 0) v ≡ false
   pub is : record_at c t i ≡ Evicted record { key = v; rank = rank t (suc i) v }
 
 module _ (c : ℕ) (t : List ℕ) (i : ℕ) where
-  pub record-hit : has (get_or t i 0) (belady_residents c t i) ≡ true → record_at c t i ≡ Hit
+  pub record-hit : has_key (get_or t i 0) (belady_residents c t i) ≡ true → record_at c t i ≡ Hit
   record-hit h = rw h refl
 
-  pub record-kept : has (get_or t i 0) (belady_residents c t i) ≡ false → length (belady_residents c t i) < c → record_at c t i ≡ Kept
+  pub record-kept : has_key (get_or t i 0) (belady_residents c t i) ≡ false → length (belady_residents c t i) < c → record_at c t i ≡ Kept
   record-kept h l = let f : nat_lt (length (belady_residents c t i)) c ≡ true = lt-ltb (length (belady_residents c t i)) c l in rw (h, f) refl
 
-  pub record-rejected : has (get_or t i 0) (belady_residents c t i) ≡ false → c ≤ length (belady_residents c t i) → farthest t i (get_or t i 0) (belady_residents c t i) ≡ get_or t i 0 → record_at c t i ≡ Rejected (get_or t i 0)
+  pub record-rejected : has_key (get_or t i 0) (belady_residents c t i) ≡ false → c ≤ length (belady_residents c t i) → farthest t i (get_or t i 0) (belady_residents c t i) ≡ get_or t i 0 → record_at c t i ≡ Rejected (get_or t i 0)
   record-rejected h l e =
       let f : nat_lt (length (belady_residents c t i)) c ≡ false = le-ltb (length (belady_residents c t i)) c l in
       let g : eqb (get_or t i 0) (farthest t i (get_or t i 0) (belady_residents c t i)) ≡ true = eq-eqb (get_or t i 0) (farthest t i (get_or t i 0) (belady_residents c t i)) (sym e) in
       rw (h, f, g) refl
 
-  pub record-evicted : (v : ℕ) → has (get_or t i 0) (belady_residents c t i) ≡ false → c ≤ length (belady_residents c t i) → farthest t i (get_or t i 0) (belady_residents c t i) ≡ v → eqb (get_or t i 0) v ≡ false → record_at c t i ≡ Evicted record { key = v; rank = rank t (suc i) v }
+  pub record-evicted : (v : ℕ) → has_key (get_or t i 0) (belady_residents c t i) ≡ false → c ≤ length (belady_residents c t i) → farthest t i (get_or t i 0) (belady_residents c t i) ≡ v → eqb (get_or t i 0) v ≡ false → record_at c t i ≡ Evicted record { key = v; rank = rank t (suc i) v }
   record-evicted v h l e d =
       let f : nat_lt (length (belady_residents c t i)) c ≡ false = le-ltb (length (belady_residents c t i)) c l in
       rw (h, f, e, d) refl
 
   ways : IsHit c t i ⊎ (IsKept c t i ⊎ (IsRejected c t i ⊎ IsEvicted c t i (farthest t i (get_or t i 0) (belady_residents c t i))))
   ways =
-      elim (cases_Bool (has (get_or t i 0) (belady_residents c t i))) [
+      elim (cases_Bool (has_key (get_or t i 0) (belady_residents c t i))) [
         | inl h ↦ inl record { hit = h; is = record-hit h }
         | inr h ↦ elim (cases_Bool (nat_lt (length (belady_residents c t i)) c)) [
           | inl f ↦ let l = ltb-true (length (belady_residents c t i)) c f in inr (inl record { miss = h; room = l; is = record-kept h l })
@@ -72,7 +72,7 @@ module _ (c : ℕ) (t : List ℕ) (i : ℕ) where
       ]
 
   -- which way it was, from the record
-  pub told-hit : Hit ≡ record_at c t i → has (get_or t i 0) (belady_residents c t i) ≡ true
+  pub told-hit : Hit ≡ record_at c t i → has_key (get_or t i 0) (belady_residents c t i) ≡ true
   told-hit h =
       elim ways [
         | inl w ↦ w.hit
@@ -85,7 +85,7 @@ module _ (c : ℕ) (t : List ℕ) (i : ℕ) where
         ]
       ]
 
-  pub told-kept : Kept ≡ record_at c t i → (has (get_or t i 0) (belady_residents c t i) ≡ false) × (length (belady_residents c t i) < c)
+  pub told-kept : Kept ≡ record_at c t i → (has_key (get_or t i 0) (belady_residents c t i) ≡ false) × (length (belady_residents c t i) < c)
   told-kept h =
       elim ways [
         | inl w ↦ absurd (let no : Kept ≡ Hit = h ∙ w.is in cc (no))
@@ -98,7 +98,7 @@ module _ (c : ℕ) (t : List ℕ) (i : ℕ) where
         ]
       ]
 
-  pub told-rejected : (j : ℕ) → Rejected j ≡ record_at c t i → (has (get_or t i 0) (belady_residents c t i) ≡ false) × (c ≤ length (belady_residents c t i)) × (farthest t i (get_or t i 0) (belady_residents c t i) ≡ get_or t i 0)
+  pub told-rejected : (j : ℕ) → Rejected j ≡ record_at c t i → (has_key (get_or t i 0) (belady_residents c t i) ≡ false) × (c ≤ length (belady_residents c t i)) × (farthest t i (get_or t i 0) (belady_residents c t i) ≡ get_or t i 0)
   told-rejected j h =
       elim ways [
         | inl w ↦ absurd (let no : Rejected j ≡ Hit = h ∙ w.is in cc (no))
@@ -156,11 +156,11 @@ module _ (c : ℕ) (t : List ℕ) (i : ℕ) where
       gone-other e = rw e refl
 
   -- the one that left was a resident
-  pub was-in : (v : ℕ) → farthest t i (get_or t i 0) (belady_residents c t i) ≡ v → eqb (get_or t i 0) v ≡ false → has v (belady_residents c t i) ≡ true
+  pub was-in : (v : ℕ) → farthest t i (get_or t i 0) (belady_residents c t i) ≡ v → eqb (get_or t i 0) v ≡ false → has_key v (belady_residents c t i) ≡ true
   was-in v e d =
       elim (farthest-among t i (get_or t i 0) (belady_residents c t i)) [
         | inl f ↦ absurd (eqb-false (get_or t i 0) v d (sym f ∙ e))
-        | inr f ↦ sym (ap (λ x. has x (belady_residents c t i)) e) ∙ f
+        | inr f ↦ sym (ap (λ x. has_key x (belady_residents c t i)) e) ∙ f
       ]
 
   -- the residents before it, from those after it

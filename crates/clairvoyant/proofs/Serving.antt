@@ -2,7 +2,7 @@
 use Rattle.std.proofs.Common.{◌≡◌, ℕ, suc, ◌-◌, ◌*◌, ◌<◌, ◌≤◌, Bool, true, false, cond, ◌&&◌, eqb, nat_lt, inl, inr, List, length, get_or, ap, ◌∙◌, sym, refl, arith}
 use Rattle.std.proofs.lemmas.Bool.{cases_lt, and_parts, eqb-true, ne_eqb, le-ltb, lt-ltb}
 use Rattle.step_record.specs.declared.outcome.Outcome.TheVariants.{Hit, Kept}
-use Rattle.step_record.specs.Keys.{has, without}
+use Rattle.step_record.specs.Keys.{has_key, without}
 use Rattle.clairvoyant.specs.Keys.{residents_with, IsAscendingKeys}
 use Rattle.clairvoyant.specs.Uses.{rank, key_at}
 use Rattle.clairvoyant.specs.Belady.{farthest, belady_residents_after, belady_answer, belady_departure}
@@ -14,22 +14,22 @@ use Rattle.clairvoyant.proofs.Belady.{farthest-is}
 use Rattle.clairvoyant.proofs.Steps.{same, in-own, step-hit, step-kept, step-rejected, step-evicted, key-own, is-at}
 
 module _ (c : ℕ) (t : List ℕ) (i k : ℕ) (r : List ℕ) where
-  pub served-hit : has k r ≡ true → belady_residents_after c t i k r ≡ r
+  pub served-hit : has_key k r ≡ true → belady_residents_after c t i k r ≡ r
   served-hit h = rw h refl
 
-  pub answer-hit : has k r ≡ true → belady_answer c t i k r ≡ Hit
+  pub answer-hit : has_key k r ≡ true → belady_answer c t i k r ≡ Hit
   answer-hit h = rw h refl
 
-  pub served-kept : has k r ≡ false → length r < c → belady_residents_after c t i k r ≡ residents_with k r
+  pub served-kept : has_key k r ≡ false → length r < c → belady_residents_after c t i k r ≡ residents_with k r
   served-kept h l = let f : nat_lt (length r) c ≡ true = lt-ltb (length r) c l in rw (h, f) refl
 
-  pub answer-kept : has k r ≡ false → length r < c → belady_answer c t i k r ≡ Kept
+  pub answer-kept : has_key k r ≡ false → length r < c → belady_answer c t i k r ≡ Kept
   answer-kept h l = let f : nat_lt (length r) c ≡ true = lt-ltb (length r) c l in rw (h, f) refl
 
-  pub served-full : (v : ℕ) → has k r ≡ false → c ≤ length r → farthest t i k r ≡ v → belady_residents_after c t i k r ≡ without v (residents_with k r)
+  pub served-full : (v : ℕ) → has_key k r ≡ false → c ≤ length r → farthest t i k r ≡ v → belady_residents_after c t i k r ≡ without v (residents_with k r)
   served-full v h l e = let f : nat_lt (length r) c ≡ false = le-ltb (length r) c l in rw (h, f) (ap (λ x. without x (residents_with k r)) e)
 
-  pub answer-full : (v : ℕ) → has k r ≡ false → c ≤ length r → farthest t i k r ≡ v → belady_answer c t i k r ≡ belady_departure k v
+  pub answer-full : (v : ℕ) → has_key k r ≡ false → c ≤ length r → farthest t i k r ≡ v → belady_answer c t i k r ≡ belady_departure k v
   answer-full v h l e = let f : nat_lt (length r) c ≡ false = le-ltb (length r) c l in rw (h, f) (ap (belady_departure k) e)
 
 and-same : (b : Bool) (n : ℕ) → (b && eqb n n) ≡ b
@@ -40,13 +40,13 @@ and-same false n = refl
 pub edited : (h0 h1 h2 : List Bool) (a b p n q : ℕ) → a ≡ p → b ≡ n → holds h1 q ≡ cond (eqb q a) false (holds h0 q) → holds h2 q ≡ cond (eqb q b) true (holds h1 q) → holds h2 q ≡ cond (eqb q n) true (cond (eqb q p) false (holds h0 q))
 edited h0 h1 h2 a b p n q e f g h = h ∙ ap (λ x. cond (eqb q x) true (holds h1 q)) f ∙ ap (cond (eqb q n) true) (g ∙ ap (λ x. cond (eqb q x) false (holds h0 q)) e)
 
-module _ (t : List ℕ) (i : ℕ) (lt : i < length t) (r : List ℕ) (seen : (a : ℕ) → has a r ≡ true → IsSeen t i a) (h : List Bool) (tied : IsTied t i r h) where
+module _ (t : List ℕ) (i : ℕ) (lt : i < length t) (r : List ℕ) (seen : (a : ℕ) → has_key a r ≡ true → IsSeen t i a) (h : List Bool) (tied : IsTied t i r h) where
   -- the key is a resident where the rank that it has now is held
-  pub own-held : (own : ℕ) → own ≡ 2 * length t - 1 - i → holds h own ≡ has (get_or t i 0) r
+  pub own-held : (own : ℕ) → own ≡ 2 * length t - 1 - i → holds h own ≡ has_key (get_or t i 0) r
   own-held own e =
-      ap (holds h) e ∙ tied.ranks (2 * length t - 1 - i) (omega arith) ∙ in-own t i r (2 * length t - 1 - i) lt (key-own t i lt) ∙ and-same (has (get_or t i 0) r) (2 * length t - 1 - i)
+      ap (holds h) e ∙ tied.ranks (2 * length t - 1 - i) (omega arith) ∙ in-own t i r (2 * length t - 1 - i) lt (key-own t i lt) ∙ and-same (has_key (get_or t i 0) r) (2 * length t - 1 - i)
 
-  pub tied-hit : (h1 h2 : List Bool) (own new : ℕ) → own ≡ 2 * length t - 1 - i → new ≡ rank t (suc i) (get_or t i 0) → has (get_or t i 0) r ≡ true → length h1 ≡ length h → ((q : ℕ) → holds h1 q ≡ cond (eqb q own) false (holds h q)) → length h2 ≡ length h1 → ((q : ℕ) → holds h2 q ≡ cond (eqb q new) true (holds h1 q)) → IsTied t (suc i) r h2
+  pub tied-hit : (h1 h2 : List Bool) (own new : ℕ) → own ≡ 2 * length t - 1 - i → new ≡ rank t (suc i) (get_or t i 0) → has_key (get_or t i 0) r ≡ true → length h1 ≡ length h → ((q : ℕ) → holds h1 q ≡ cond (eqb q own) false (holds h q)) → length h2 ≡ length h1 → ((q : ℕ) → holds h2 q ≡ cond (eqb q new) true (holds h1 q)) → IsTied t (suc i) r h2
   tied-hit h1 h2 own new e f there l1 takes l2 puts = record {
     size = l2 ∙ l1 ∙ tied.size;
     ranks = λ q w. edited h h1 h2 own new (2 * length t - 1 - i) (rank t (suc i) (get_or t i 0)) q e f (takes q) (puts q)
@@ -54,7 +54,7 @@ module _ (t : List ℕ) (i : ℕ) (lt : i < length t) (r : List ℕ) (seen : (a 
         ∙ sym (step-hit t i lt r there q);
   }
 
-  module _ (none : has (get_or t i 0) r ≡ false) where
+  module _ (none : has_key (get_or t i 0) r ≡ false) where
     pub tied-kept : (h1 : List Bool) (new : ℕ) → new ≡ rank t (suc i) (get_or t i 0) → length h1 ≡ length h → ((q : ℕ) → holds h1 q ≡ cond (eqb q new) true (holds h q)) → IsTied t (suc i) (residents_with (get_or t i 0) r) h1
     tied-kept h1 new f l1 puts = record {
       size = l1 ∙ tied.size;
@@ -64,16 +64,16 @@ module _ (t : List ℕ) (i : ℕ) (lt : i < length t) (r : List ℕ) (seen : (a 
     pub tied-rejected : IsTied t (suc i) r h
     tied-rejected = record { size = tied.size; ranks = λ q w. tied.ranks q w ∙ sym (step-rejected t i lt r none q) }
 
-    other : (a : ℕ) → has a r ≡ true → eqb a (get_or t i 0) ≡ false
-    other a g = ne_eqb a (get_or t i 0) (λ e. let no : true ≡ false = sym g ∙ ap (λ x. has x r) e ∙ none in cc (no))
+    other : (a : ℕ) → has_key a r ≡ true → eqb a (get_or t i 0) ≡ false
+    other a g = ne_eqb a (get_or t i 0) (λ e. let no : true ≡ false = sym g ∙ ap (λ x. has_key x r) e ∙ none in cc (no))
 
-    held-rank : (a : ℕ) → has a r ≡ true → holds h (rank t i a) ≡ true
+    held-rank : (a : ℕ) → has_key a r ≡ true → holds h (rank t i a) ≡ true
     held-rank a g =
         let n : IsNamed t i a = named t i a (omega arith) (seen a g) in
-        tied.ranks (rank t i a) n.within ∙ is-at t i r (rank t i a) a n.key ∙ and-same (has a r) (rank t i a) ∙ g
+        tied.ranks (rank t i a) n.within ∙ is-at t i r (rank t i a) a n.key ∙ and-same (has_key a r) (rank t i a) ∙ g
 
     -- no resident ranks below m where nothing below m is held
-    above : (m : ℕ) → ((q : ℕ) → q < m → holds h q ≡ false) → (a : ℕ) → has a r ≡ true → m ≤ rank t (suc i) a
+    above : (m : ℕ) → ((q : ℕ) → q < m → holds h q ≡ false) → (a : ℕ) → has_key a r ≡ true → m ≤ rank t (suc i) a
     above m empty a g =
         let e : rank t (suc i) a ≡ rank t i a = rank-other t i a lt (other a g) in
         elim (cases_lt (rank t i a) m) [
@@ -81,7 +81,7 @@ module _ (t : List ℕ) (i : ℕ) (lt : i < length t) (r : List ℕ) (seen : (a 
           | inr w ↦ omega arith
         ]
 
-    soon-seen : (a : ℕ) → has a r ≡ true → IsSeen t (suc i) a
+    soon-seen : (a : ℕ) → has_key a r ≡ true → IsSeen t (suc i) a
     soon-seen a g = seen-more t i a (seen a g)
 
     pub rejects : (new : ℕ) → new ≡ rank t (suc i) (get_or t i 0) → ((q : ℕ) → q < new → holds h q ≡ false) → farthest t i (get_or t i 0) r ≡ get_or t i 0
@@ -92,10 +92,10 @@ module _ (t : List ℕ) (i : ℕ) (lt : i < length t) (r : List ℕ) (seen : (a 
         }
 
     module _ (m : ℕ) (in_it : m < 2 * length t) (held : holds h m ≡ true) where
-      parts : (has (key_at t m) r ≡ true) × (eqb (rank t i (key_at t m)) m ≡ true)
-      parts = and_parts (has (key_at t m) r) (eqb (rank t i (key_at t m)) m) (sym (tied.ranks m in_it) ∙ held)
+      parts : (has_key (key_at t m) r ≡ true) × (eqb (rank t i (key_at t m)) m ≡ true)
+      parts = and_parts (has_key (key_at t m) r) (eqb (rank t i (key_at t m)) m) (sym (tied.ranks m in_it) ∙ held)
 
-      pub there : has (key_at t m) r ≡ true
+      pub there : has_key (key_at t m) r ≡ true
       there = parts.0
 
       ranked : rank t i (key_at t m) ≡ m
@@ -105,7 +105,7 @@ module _ (t : List ℕ) (i : ℕ) (lt : i < length t) (r : List ℕ) (seen : (a 
       ranked-next = rank-other t i (key_at t m) lt (other (key_at t m) there) ∙ ranked
 
       pub differs : eqb (get_or t i 0) (key_at t m) ≡ false
-      differs = ne_eqb (get_or t i 0) (key_at t m) (λ e. let no : true ≡ false = sym there ∙ ap (λ x. has x r) (sym e) ∙ none in cc (no))
+      differs = ne_eqb (get_or t i 0) (key_at t m) (λ e. let no : true ≡ false = sym there ∙ ap (λ x. has_key x r) (sym e) ∙ none in cc (no))
 
       pub evicts : (new : ℕ) → new ≡ rank t (suc i) (get_or t i 0) → m < new → ((q : ℕ) → q < m → holds h q ≡ false) → farthest t i (get_or t i 0) r ≡ key_at t m
       evicts new e less empty =
@@ -124,5 +124,5 @@ module _ (t : List ℕ) (i : ℕ) (lt : i < length t) (r : List ℕ) (seen : (a 
       }
 
 -- what left goes back, and what came goes out
-pub evicted-back : (k v : ℕ) (r : List ℕ) → IsAscendingKeys r → has k r ≡ false → has v r ≡ true → residents_with v (without k (without v (residents_with k r))) ≡ r
+pub evicted-back : (k v : ℕ) (r : List ℕ) → IsAscendingKeys r → has_key k r ≡ false → has_key v r ≡ true → residents_with v (without k (without v (residents_with k r))) ≡ r
 evicted-back k v r s none there = ap (residents_with v) (without-swap k v (residents_with k r) ∙ ap (without v) (without-put k r none)) ∙ put-without v r s there

@@ -2,7 +2,7 @@
 use Rattle.std.proofs.Common.{◌≡◌, ℕ, suc, ◌-◌, ◌*◌, ◌<◌, Bool, true, false, cond, ◌&&◌, eqb, nat_lt, inl, inr, List, length, get_or, ap, ◌∙◌, sym, refl, arith}
 use Rattle.std.proofs.lemmas.Bool.{cases_Bool, eqb-true, eqb-false, eq-eqb, ne_eqb, le-ltb}
 use Rattle.std.proofs.lemmas.Bool.Decides.{nat_tests}
-use Rattle.step_record.specs.Keys.{has, without}
+use Rattle.step_record.specs.Keys.{has_key, without}
 use Rattle.clairvoyant.specs.Keys.{residents_with}
 use Rattle.clairvoyant.specs.Uses.{rank, key_at}
 use Rattle.clairvoyant.specs.RankSet.{is_ranked}
@@ -21,20 +21,20 @@ key-own t i lt =
 pub key-new : (t : List ℕ) (i : ℕ) → i < length t → key_at t (rank t (suc i) (get_or t i 0)) ≡ get_or t i 0
 key-new t i lt = (named t (suc i) (get_or t i 0) (omega arith) (seen-own t i)).key
 
-pub is-at : (t : List ℕ) (j : ℕ) (r : List ℕ) (q x : ℕ) → key_at t q ≡ x → is_ranked t j r q ≡ (has x r && eqb (rank t j x) q)
-is-at t j r q x e = ap (λ y. has y r && eqb (rank t j y) q) e
+pub is-at : (t : List ℕ) (j : ℕ) (r : List ℕ) (q x : ℕ) → key_at t q ≡ x → is_ranked t j r q ≡ (has_key x r && eqb (rank t j x) q)
+is-at t j r q x e = ap (λ y. has_key y r && eqb (rank t j y) q) e
 
-pub in-own : (t : List ℕ) (i : ℕ) (r : List ℕ) (q : ℕ) → i < length t → key_at t q ≡ get_or t i 0 → is_ranked t i r q ≡ (has (get_or t i 0) r && eqb (2 * length t - 1 - i) q)
-in-own t i r q lt e = is-at t i r q (get_or t i 0) e ∙ ap (λ n. has (get_or t i 0) r && eqb n q) (rank-own t i lt)
+pub in-own : (t : List ℕ) (i : ℕ) (r : List ℕ) (q : ℕ) → i < length t → key_at t q ≡ get_or t i 0 → is_ranked t i r q ≡ (has_key (get_or t i 0) r && eqb (2 * length t - 1 - i) q)
+in-own t i r q lt e = is-at t i r q (get_or t i 0) e ∙ ap (λ n. has_key (get_or t i 0) r && eqb n q) (rank-own t i lt)
 
-pub in-new : (t : List ℕ) (i : ℕ) (r : List ℕ) (q : ℕ) → key_at t q ≡ get_or t i 0 → is_ranked t (suc i) r q ≡ (has (get_or t i 0) r && eqb (rank t (suc i) (get_or t i 0)) q)
+pub in-new : (t : List ℕ) (i : ℕ) (r : List ℕ) (q : ℕ) → key_at t q ≡ get_or t i 0 → is_ranked t (suc i) r q ≡ (has_key (get_or t i 0) r && eqb (rank t (suc i) (get_or t i 0)) q)
 in-new t i r q e = is-at t (suc i) r q (get_or t i 0) e
 
 pub and-of : (a b c : Bool) → a ≡ c → (a && b) ≡ (c && b)
 and-of a b c e = ap (λ x. x && b) e
 
-pub in-other : (t : List ℕ) (i : ℕ) (r s : List ℕ) (q : ℕ) → i < length t → eqb (key_at t q) (get_or t i 0) ≡ false → has (key_at t q) s ≡ has (key_at t q) r → is_ranked t (suc i) s q ≡ is_ranked t i r q
-in-other t i r s q lt e h = ap (λ n. has (key_at t q) s && eqb n q) (rank-other t i (key_at t q) lt e) ∙ and-of (has (key_at t q) s) (eqb (rank t i (key_at t q)) q) (has (key_at t q) r) h
+pub in-other : (t : List ℕ) (i : ℕ) (r s : List ℕ) (q : ℕ) → i < length t → eqb (key_at t q) (get_or t i 0) ≡ false → has_key (key_at t q) s ≡ has_key (key_at t q) r → is_ranked t (suc i) s q ≡ is_ranked t i r q
+in-other t i r s q lt e h = ap (λ n. has_key (key_at t q) s && eqb n q) (rank-other t i (key_at t q) lt e) ∙ and-of (has_key (key_at t q) s) (eqb (rank t i (key_at t q)) q) (has_key (key_at t q) r) h
 
 -- two ranks of two keys are two
 apart : (t : List ℕ) (q p x : ℕ) → eqb (key_at t q) x ≡ false → key_at t p ≡ x → eqb q p ≡ false
@@ -56,38 +56,38 @@ left-plain : (q m : ℕ) → false ≡ cond (eqb q m) false (eqb m q)
 left-plain q m = grind (arith, nat_tests)
 
 module _ (t : List ℕ) (i : ℕ) (lt : i < length t) (r : List ℕ) where
-  pub step-hit : has (get_or t i 0) r ≡ true → (q : ℕ) → is_ranked t (suc i) r q ≡ cond (eqb q (rank t (suc i) (get_or t i 0))) true (cond (eqb q (2 * length t - 1 - i)) false (is_ranked t i r q))
+  pub step-hit : has_key (get_or t i 0) r ≡ true → (q : ℕ) → is_ranked t (suc i) r q ≡ cond (eqb q (rank t (suc i) (get_or t i 0))) true (cond (eqb q (2 * length t - 1 - i)) false (is_ranked t i r q))
   step-hit h q =
       elim (cases_Bool (eqb (key_at t q) (get_or t i 0))) [
         | inl e ↦
             let k : key_at t q ≡ get_or t i 0 = eqb-true (key_at t q) (get_or t i 0) e in
-            in-new t i r q k ∙ and-of (has (get_or t i 0) r) (eqb (rank t (suc i) (get_or t i 0)) q) true h
+            in-new t i r q k ∙ and-of (has_key (get_or t i 0) r) (eqb (rank t (suc i) (get_or t i 0)) q) true h
             ∙ hit-plain q (rank t (suc i) (get_or t i 0)) (2 * length t - 1 - i)
             ∙ ap (λ z. cond (eqb q (rank t (suc i) (get_or t i 0))) true (cond (eqb q (2 * length t - 1 - i)) false z))
-            (sym (in-own t i r q lt k ∙ and-of (has (get_or t i 0) r) (eqb (2 * length t - 1 - i) q) true h))
+            (sym (in-own t i r q lt k ∙ and-of (has_key (get_or t i 0) r) (eqb (2 * length t - 1 - i) q) true h))
         | inr e ↦
             in-other t i r r q lt e refl
             ∙ skip (eqb q (rank t (suc i) (get_or t i 0))) (eqb q (2 * length t - 1 - i)) (is_ranked t i r q) (apart t q (rank t (suc i) (get_or t i 0)) (get_or t i 0) e (key-new t i lt)) (apart t q (2 * length t - 1 - i) (get_or t i 0) e (key-own t i lt))
       ]
 
-  module _ (none : has (get_or t i 0) r ≡ false) where
-    put-own : has (get_or t i 0) (residents_with (get_or t i 0) r) ≡ true
-    put-own = has-put (get_or t i 0) (get_or t i 0) r ∙ ap (λ b. cond b true (has (get_or t i 0) r)) (same (get_or t i 0))
+  module _ (none : has_key (get_or t i 0) r ≡ false) where
+    put-own : has_key (get_or t i 0) (residents_with (get_or t i 0) r) ≡ true
+    put-own = has-put (get_or t i 0) (get_or t i 0) r ∙ ap (λ b. cond b true (has_key (get_or t i 0) r)) (same (get_or t i 0))
 
     -- the key was no resident, so no rank of its is held
     pub not-in : (q : ℕ) → key_at t q ≡ get_or t i 0 → is_ranked t i r q ≡ false
-    not-in q k = in-own t i r q lt k ∙ and-of (has (get_or t i 0) r) (eqb (2 * length t - 1 - i) q) false none
+    not-in q k = in-own t i r q lt k ∙ and-of (has_key (get_or t i 0) r) (eqb (2 * length t - 1 - i) q) false none
 
     pub step-kept : (q : ℕ) → is_ranked t (suc i) (residents_with (get_or t i 0) r) q ≡ cond (eqb q (rank t (suc i) (get_or t i 0))) true (is_ranked t i r q)
     step-kept q =
         elim (cases_Bool (eqb (key_at t q) (get_or t i 0))) [
           | inl e ↦
               let k : key_at t q ≡ get_or t i 0 = eqb-true (key_at t q) (get_or t i 0) e in
-              in-new t i (residents_with (get_or t i 0) r) q k ∙ and-of (has (get_or t i 0) (residents_with (get_or t i 0) r)) (eqb (rank t (suc i) (get_or t i 0)) q) true put-own
+              in-new t i (residents_with (get_or t i 0) r) q k ∙ and-of (has_key (get_or t i 0) (residents_with (get_or t i 0) r)) (eqb (rank t (suc i) (get_or t i 0)) q) true put-own
               ∙ kept-plain q (rank t (suc i) (get_or t i 0))
               ∙ ap (λ z. cond (eqb q (rank t (suc i) (get_or t i 0))) true z) (sym (not-in q k))
           | inr e ↦
-              in-other t i r (residents_with (get_or t i 0) r) q lt e (has-put (key_at t q) (get_or t i 0) r ∙ ap (λ b. cond b true (has (key_at t q) r)) e)
+              in-other t i r (residents_with (get_or t i 0) r) q lt e (has-put (key_at t q) (get_or t i 0) r ∙ ap (λ b. cond b true (has_key (key_at t q) r)) e)
               ∙ sym (ap (λ b. cond b true (is_ranked t i r q)) (apart t q (rank t (suc i) (get_or t i 0)) (get_or t i 0) e (key-new t i lt)))
         ]
 
@@ -96,26 +96,26 @@ module _ (t : List ℕ) (i : ℕ) (lt : i < length t) (r : List ℕ) where
         elim (cases_Bool (eqb (key_at t q) (get_or t i 0))) [
           | inl e ↦
               let k : key_at t q ≡ get_or t i 0 = eqb-true (key_at t q) (get_or t i 0) e in
-              in-new t i r q k ∙ and-of (has (get_or t i 0) r) (eqb (rank t (suc i) (get_or t i 0)) q) false none ∙ sym (not-in q k)
+              in-new t i r q k ∙ and-of (has_key (get_or t i 0) r) (eqb (rank t (suc i) (get_or t i 0)) q) false none ∙ sym (not-in q k)
           | inr e ↦ in-other t i r r q lt e refl
         ]
 
-    module _ (v m : ℕ) (there : has v r ≡ true) (key : key_at t m ≡ v) (ranked : rank t i v ≡ m) where
+    module _ (v m : ℕ) (there : has_key v r ≡ true) (key : key_at t m ≡ v) (ranked : rank t i v ≡ m) where
       vk : eqb (get_or t i 0) v ≡ false
-      vk = ne_eqb (get_or t i 0) v (λ h. let no : true ≡ false = sym there ∙ ap (λ x. has x r) (sym h) ∙ none in cc (no))
+      vk = ne_eqb (get_or t i 0) v (λ h. let no : true ≡ false = sym there ∙ ap (λ x. has_key x r) (sym h) ∙ none in cc (no))
 
-      came : has (get_or t i 0) (without v (residents_with (get_or t i 0) r)) ≡ true
-      came = has-without (get_or t i 0) v (residents_with (get_or t i 0) r) ∙ ap (λ b. cond b false (has (get_or t i 0) (residents_with (get_or t i 0) r))) vk ∙ put-own
+      came : has_key (get_or t i 0) (without v (residents_with (get_or t i 0) r)) ≡ true
+      came = has-without (get_or t i 0) v (residents_with (get_or t i 0) r) ∙ ap (λ b. cond b false (has_key (get_or t i 0) (residents_with (get_or t i 0) r))) vk ∙ put-own
 
-      left : has v (without v (residents_with (get_or t i 0) r)) ≡ false
-      left = has-without v v (residents_with (get_or t i 0) r) ∙ ap (λ b. cond b false (has v (residents_with (get_or t i 0) r))) (same v)
+      left : has_key v (without v (residents_with (get_or t i 0) r)) ≡ false
+      left = has-without v v (residents_with (get_or t i 0) r) ∙ ap (λ b. cond b false (has_key v (residents_with (get_or t i 0) r))) (same v)
 
       pub step-evicted : (q : ℕ) → is_ranked t (suc i) (without v (residents_with (get_or t i 0) r)) q ≡ cond (eqb q (rank t (suc i) (get_or t i 0))) true (cond (eqb q m) false (is_ranked t i r q))
       step-evicted q =
           elim (cases_Bool (eqb (key_at t q) (get_or t i 0))) [
             | inl e ↦
                 let k : key_at t q ≡ get_or t i 0 = eqb-true (key_at t q) (get_or t i 0) e in
-                in-new t i (without v (residents_with (get_or t i 0) r)) q k ∙ and-of (has (get_or t i 0) (without v (residents_with (get_or t i 0) r))) (eqb (rank t (suc i) (get_or t i 0)) q) true came
+                in-new t i (without v (residents_with (get_or t i 0) r)) q k ∙ and-of (has_key (get_or t i 0) (without v (residents_with (get_or t i 0) r))) (eqb (rank t (suc i) (get_or t i 0)) q) true came
                 ∙ came-plain q (rank t (suc i) (get_or t i 0)) m
                 ∙ ap (λ z. cond (eqb q (rank t (suc i) (get_or t i 0))) true (cond (eqb q m) false z)) (sym (not-in q k))
             | inr e ↦
@@ -123,13 +123,13 @@ module _ (t : List ℕ) (i : ℕ) (lt : i < length t) (r : List ℕ) where
                 elim (cases_Bool (eqb (key_at t q) v)) [
                   | inl f ↦
                       let g : key_at t q ≡ v = eqb-true (key_at t q) v f in
-                      is-at t (suc i) (without v (residents_with (get_or t i 0) r)) q v g ∙ and-of (has v (without v (residents_with (get_or t i 0) r))) (eqb (rank t (suc i) v) q) false left
+                      is-at t (suc i) (without v (residents_with (get_or t i 0) r)) q v g ∙ and-of (has_key v (without v (residents_with (get_or t i 0) r))) (eqb (rank t (suc i) v) q) false left
                       ∙ left-plain q m
-                      ∙ ap (λ z. cond (eqb q m) false z) (sym (is-at t i r q v g ∙ and-of (has v r) (eqb (rank t i v) q) true there ∙ ap (λ n. eqb n q) ranked))
+                      ∙ ap (λ z. cond (eqb q m) false z) (sym (is-at t i r q v g ∙ and-of (has_key v r) (eqb (rank t i v) q) true there ∙ ap (λ n. eqb n q) ranked))
                       ∙ sym (ap (λ b. cond b true (cond (eqb q m) false (is_ranked t i r q))) new)
                   | inr f ↦
                       in-other t i r (without v (residents_with (get_or t i 0) r)) q lt e
-                      (has-without (key_at t q) v (residents_with (get_or t i 0) r) ∙ ap (λ b. cond b false (has (key_at t q) (residents_with (get_or t i 0) r))) f ∙ has-put (key_at t q) (get_or t i 0) r ∙ ap (λ b. cond b true (has (key_at t q) r)) e)
+                      (has-without (key_at t q) v (residents_with (get_or t i 0) r) ∙ ap (λ b. cond b false (has_key (key_at t q) (residents_with (get_or t i 0) r))) f ∙ has-put (key_at t q) (get_or t i 0) r ∙ ap (λ b. cond b true (has_key (key_at t q) r)) e)
                       ∙ skip (eqb q (rank t (suc i) (get_or t i 0))) (eqb q m) (is_ranked t i r q) new (apart t q m v f key)
                 ]
           ]

@@ -6,7 +6,7 @@ use Rattle.step_record.proofs.Counting.{stats-snoc}
 use Rattle.clairvoyant.specs.declared.use_record.UseRecord.{UseRecord}
 use Rattle.clairvoyant.specs.Belady.{belady_residents, belady_outcome, belady_outcomes}
 use Rattle.clairvoyant.specs.RankSet.{IsTied}
-use Rattle.clairvoyant.specs.Clairvoyant.{ClairvoyantState, IsReached}
+use Rattle.clairvoyant.specs.Clairvoyant.{ClairvoyantState, IsBeladyReached}
 use Rattle.clairvoyant.specs.UseRecord.{outcome_of, undone_keys, clairvoyant_undone, ClairvoyantFits}
 use Rattle.clairvoyant.specs.Representation.{shown, IsRepresented}
 use Rattle.clairvoyant.proofs.Records.{outcome-is, keys-back}
@@ -15,7 +15,7 @@ use Rattle.clairvoyant.proofs.Reached.{uncount-by, is-counted}
 pub fits-shown : (c : ℕ) (t : List ℕ) (s : Stats) (r : UseRecord) (d : ClairvoyantState) → shown c t s ≡ d → ClairvoyantFits r d → ClairvoyantFits r (shown c t s)
 fits-shown c t s r d e fits = let P : ClairvoyantState → Type 0 = ClairvoyantFits r in subst P (sym e) fits
 
-module _ (c : ℕ) (t : List ℕ) (s : Stats) (r : UseRecord) (reached : IsReached (shown c t s)) (fits : ClairvoyantFits r (shown c t s)) where
+module _ (c : ℕ) (t : List ℕ) (s : Stats) (r : UseRecord) (reached : IsBeladyReached (shown c t s)) (fits : ClairvoyantFits r (shown c t s)) where
   up : s.accesses ≡ suc (s.accesses - 1)
   up = let n : 1 ≤ s.accesses = fits.applied in omega arith
 
@@ -40,7 +40,7 @@ module _ (c : ℕ) (t : List ℕ) (s : Stats) (r : UseRecord) (reached : IsReach
       (ap (λ n. undone_keys r (get_or t (s.accesses - 1) 0) (belady_residents c t n)) up
       ∙ ap (λ x. undone_keys x (get_or t (s.accesses - 1) 0) (belady_residents c t (suc (s.accesses - 1)))) fits.last ∙ keys-back c t (s.accesses - 1)))
 
-  back-reached : IsReached (shown c t (uncounted (outcome_of r) s))
+  back-reached : IsBeladyReached (shown c t (uncounted (outcome_of r) s))
   back-reached = record {
     gives = ap (λ x. record { trace = t; capacity = c; residents = belady_residents c t (s.accesses - 1); stats = x }) past;
     within = let w = reached.within in omega (arith, w);

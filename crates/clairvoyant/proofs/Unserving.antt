@@ -2,7 +2,7 @@
 use Rattle.std.proofs.Common.{◌≡◌, ℕ, suc, ◌-◌, ◌*◌, ◌<◌, ◌≤◌, Bool, true, false, cond, eqb, List, length, get_or, ap, ◌∙◌, sym, refl, arith}
 use Rattle.std.proofs.lemmas.Bool.{eqb-true}
 use Rattle.std.proofs.lemmas.Bool.Decides.{nat_tests}
-use Rattle.step_record.specs.Keys.{has, without}
+use Rattle.step_record.specs.Keys.{has_key, without}
 use Rattle.clairvoyant.specs.Keys.{residents_with}
 use Rattle.clairvoyant.specs.Uses.{rank, key_at}
 use Rattle.clairvoyant.specs.Belady.{farthest, belady_residents}
@@ -27,17 +27,17 @@ module _ (c : ℕ) (t : List ℕ) (i : ℕ) (lt : i < length t) (h : List Bool) 
   key-if : (q p x : ℕ) → key_at t p ≡ x → eqb q p ≡ true → key_at t q ≡ x
   key-if q p x e f = ap (key_at t) (eqb-true q p f) ∙ e
 
-  pub hit-back : has (get_or t i 0) (belady_residents c t i) ≡ true → (h1 h2 : List Bool) (own new : ℕ) → own ≡ 2 * length t - 1 - i → new ≡ rank t (suc i) (get_or t i 0) → length h1 ≡ length h → ((q : ℕ) → holds h1 q ≡ cond (eqb q new) false (holds h q)) → length h2 ≡ length h1 → ((q : ℕ) → holds h2 q ≡ cond (eqb q own) true (holds h1 q)) → IsTied t i (belady_residents c t i) h2
+  pub hit-back : has_key (get_or t i 0) (belady_residents c t i) ≡ true → (h1 h2 : List Bool) (own new : ℕ) → own ≡ 2 * length t - 1 - i → new ≡ rank t (suc i) (get_or t i 0) → length h1 ≡ length h → ((q : ℕ) → holds h1 q ≡ cond (eqb q new) false (holds h q)) → length h2 ≡ length h1 → ((q : ℕ) → holds h2 q ≡ cond (eqb q own) true (holds h1 q)) → IsTied t i (belady_residents c t i) h2
   hit-back hit h1 h2 own new e f l1 takes l2 puts = record {
     size = l2 ∙ l1 ∙ tied.size;
     ranks = λ q w. edited h h1 h2 new own (rank t (suc i) (get_or t i 0)) (2 * length t - 1 - i) q f e (takes q) (puts q)
         ∙ ap (λ z. cond (eqb q (2 * length t - 1 - i)) true (cond (eqb q (rank t (suc i) (get_or t i 0))) false z)) (from (belady_residents c t i) (served-hit c t i (get_or t i 0) (belady_residents c t i) hit) q w ∙ step-hit t i lt (belady_residents c t i) hit q)
         ∙ restore (is_ranked t i (belady_residents c t i) q) (eqb q (2 * length t - 1 - i)) (eqb q (rank t (suc i) (get_or t i 0)))
-        (λ y. in-own t i (belady_residents c t i) q lt (key-if q (2 * length t - 1 - i) (get_or t i 0) (key-own t i lt) y) ∙ and-of (has (get_or t i 0) (belady_residents c t i)) (eqb (2 * length t - 1 - i) q) true hit ∙ eqb-flip (2 * length t - 1 - i) q ∙ y)
-        (λ n y. in-own t i (belady_residents c t i) q lt (key-if q (rank t (suc i) (get_or t i 0)) (get_or t i 0) (key-new t i lt) y) ∙ and-of (has (get_or t i 0) (belady_residents c t i)) (eqb (2 * length t - 1 - i) q) true hit ∙ eqb-flip (2 * length t - 1 - i) q ∙ n);
+        (λ y. in-own t i (belady_residents c t i) q lt (key-if q (2 * length t - 1 - i) (get_or t i 0) (key-own t i lt) y) ∙ and-of (has_key (get_or t i 0) (belady_residents c t i)) (eqb (2 * length t - 1 - i) q) true hit ∙ eqb-flip (2 * length t - 1 - i) q ∙ y)
+        (λ n y. in-own t i (belady_residents c t i) q lt (key-if q (rank t (suc i) (get_or t i 0)) (get_or t i 0) (key-new t i lt) y) ∙ and-of (has_key (get_or t i 0) (belady_residents c t i)) (eqb (2 * length t - 1 - i) q) true hit ∙ eqb-flip (2 * length t - 1 - i) q ∙ n);
   }
 
-  module _ (miss : has (get_or t i 0) (belady_residents c t i) ≡ false) where
+  module _ (miss : has_key (get_or t i 0) (belady_residents c t i) ≡ false) where
     pub kept-back : length (belady_residents c t i) < c → (h1 : List Bool) (new : ℕ) → new ≡ rank t (suc i) (get_or t i 0) → length h1 ≡ length h → ((q : ℕ) → holds h1 q ≡ cond (eqb q new) false (holds h q)) → IsTied t i (belady_residents c t i) h1
     kept-back room h1 new f l1 takes = record {
       size = l1 ∙ tied.size;
@@ -54,7 +54,7 @@ module _ (c : ℕ) (t : List ℕ) (i : ℕ) (lt : i < length t) (h : List Bool) 
       }
 
       module _ (differs : eqb (get_or t i 0) v ≡ false) where
-        there : has v (belady_residents c t i) ≡ true
+        there : has_key v (belady_residents c t i) ≡ true
         there = was-in c t i v goes differs
 
         same-rank : rank t (suc i) v ≡ rank t i v
@@ -71,6 +71,6 @@ module _ (c : ℕ) (t : List ℕ) (i : ℕ) (lt : i < length t) (h : List Bool) 
               (from (without v (residents_with (get_or t i 0) (belady_residents c t i))) (served-full c t i (get_or t i 0) (belady_residents c t i) v miss full goes) q w
               ∙ step-evicted t i lt (belady_residents c t i) miss v m there (ap (key_at t) e ∙ left-named.key) (sym same-rank ∙ sym e) q)
               ∙ restore (is_ranked t i (belady_residents c t i) q) (eqb q m) (eqb q (rank t (suc i) (get_or t i 0)))
-              (λ y. is-at t i (belady_residents c t i) q v (key-if q m v (ap (key_at t) e ∙ left-named.key) y) ∙ and-of (has v (belady_residents c t i)) (eqb (rank t i v) q) true there ∙ ap (λ n. eqb n q) (sym same-rank ∙ sym e) ∙ eqb-flip m q ∙ y)
+              (λ y. is-at t i (belady_residents c t i) q v (key-if q m v (ap (key_at t) e ∙ left-named.key) y) ∙ and-of (has_key v (belady_residents c t i)) (eqb (rank t i v) q) true there ∙ ap (λ n. eqb n q) (sym same-rank ∙ sym e) ∙ eqb-flip m q ∙ y)
               (λ n y. not-in t i lt (belady_residents c t i) miss q (key-if q (rank t (suc i) (get_or t i 0)) (get_or t i 0) (key-new t i lt) y));
         }

@@ -3,7 +3,7 @@ use Rattle.std.specs.Prelude.{ℕ, zero, suc, nat_lt, Bool, true, false, cond, e
 use Rattle.std.specs.Prelude.{List, [], ◌∷◌, ◌++◌, length, slice_index}
 use Rattle.step_record.specs.declared.outcome.Outcome.{Outcome}
 use Rattle.step_record.specs.declared.outcome.Outcome.TheVariants.{Hit, Kept, Evicted, Rejected}
-use Rattle.step_record.specs.Keys.{has, without}
+use Rattle.step_record.specs.Keys.{has_key, without}
 use Rattle.clairvoyant.specs.Keys.{residents_with}
 use Rattle.clairvoyant.specs.Uses.{next, last_use}
 
@@ -26,7 +26,8 @@ farthest t i b (a ∷ xs) = farthest t i (cond (leaves_first t i a b) a b) xs
 -- the residents after an access to k at place i, from those before it
 abbrev pub belady_residents_after : ℕ → List ℕ → ℕ → ℕ → List ℕ → List ℕ
 belady_residents_after c t i k r =
-    cond (has k r) r (cond (nat_lt (length r) c) (residents_with k r) (without (farthest t i k r) (residents_with k r)))
+    cond (has_key k r) r
+    (cond (nat_lt (length r) c) (residents_with k r) (without (farthest t i k r) (residents_with k r)))
 
 -- the outcome where k came and v left
 abbrev pub belady_departure : ℕ → ℕ → Outcome
@@ -34,7 +35,8 @@ belady_departure k v = cond (eqb k v) (Rejected k) (Evicted v)
 
 -- the outcome of an access to k at place i, from the residents before it
 abbrev pub belady_answer : ℕ → List ℕ → ℕ → ℕ → List ℕ → Outcome
-belady_answer c t i k r = cond (has k r) Hit (cond (nat_lt (length r) c) Kept (belady_departure k (farthest t i k r)))
+belady_answer c t i k r =
+    cond (has_key k r) Hit (cond (nat_lt (length r) c) Kept (belady_departure k (farthest t i k r)))
 
 -- the residents of a cache of capacity c once the accesses below place i of the trace are made
 abbrev pub belady_residents : ℕ → List ℕ → ℕ → List ℕ

@@ -19,7 +19,7 @@ clairvoyant_at c t i =
     record { trace = t; capacity = c; residents = belady_residents c t i; stats = stats_of (belady_outcomes c t i) }
 
 -- the first accesses of the trace give it
-pub record IsReached (d : ClairvoyantState) : Type 0 where
+pub record IsBeladyReached (d : ClairvoyantState) : Type 0 where
   pub gives : d ≡ clairvoyant_at d.capacity d.trace d.stats.accesses
   pub within : d.stats.accesses ≤ length d.trace
   pub short : length d.trace ≤ MAX_ACCESSES
@@ -31,8 +31,8 @@ is_next d k =
     nat_lt d.stats.accesses MAX_STEPS
     && (nat_lt d.stats.accesses (length d.trace) && eqb k (slice_index d.trace d.stats.accesses))
 
-abbrev pub state_after : ClairvoyantState → ℕ → ClairvoyantState
-state_after d k = record {
+abbrev pub clairvoyant_after : ClairvoyantState → ℕ → ClairvoyantState
+clairvoyant_after d k = record {
   trace = d.trace;
   capacity = d.capacity;
   residents = belady_residents_after d.capacity d.trace d.stats.accesses k d.residents;
@@ -41,4 +41,5 @@ state_after d k = record {
 
 abbrev pub clairvoyant_act : ClairvoyantState → ℕ → Option (Outcome × ClairvoyantState)
 clairvoyant_act d k =
-    cond (is_next d k) (Some (belady_answer d.capacity d.trace d.stats.accesses k d.residents, state_after d k)) None
+    cond (is_next d k)
+    (Some (belady_answer d.capacity d.trace d.stats.accesses k d.residents, clairvoyant_after d k)) None

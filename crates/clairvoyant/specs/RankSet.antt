@@ -1,12 +1,12 @@
 -- The residents as the set of their ranks.
 use Rattle.std.specs.Prelude.{◌≡◌, ℕ, ◌*◌, ◌<◌, Bool, eqb, ◌&&◌, List, length}
 use Rattle.rank_tree.specs.Bits.{holds}
-use Rattle.step_record.specs.Keys.{has}
+use Rattle.step_record.specs.Keys.{has_key}
 use Rattle.clairvoyant.specs.Uses.{rank, key_at}
 
 -- q is the rank of one of the keys r, once the accesses below place i are made
 abbrev pub is_ranked : List ℕ → ℕ → List ℕ → ℕ → Bool
-is_ranked t i r q = has (key_at t q) r && eqb (rank t i (key_at t q)) q
+is_ranked t i r q = has_key (key_at t q) r && eqb (rank t i (key_at t q)) q
 
 -- the numbers held are the ranks of the keys r
 pub record IsTied (t : List ℕ) (i : ℕ) (r : List ℕ) (h : List Bool) : Type 0 where

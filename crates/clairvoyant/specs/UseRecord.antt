@@ -3,7 +3,7 @@ use Rattle.std.specs.Prelude.{◌≡◌, ℕ, suc, ◌-◌, ◌≤◌, nat_lt, c
 use Rattle.step_record.specs.declared.outcome.Outcome.{Outcome}
 use Rattle.step_record.specs.declared.outcome.Outcome.TheVariants as outcome
 use Rattle.step_record.specs.Stats.{uncounted}
-use Rattle.step_record.specs.Keys.{has, without}
+use Rattle.step_record.specs.Keys.{has_key, without}
 use Rattle.clairvoyant.specs.declared.use_record.UseRecord.{UseRecord}
 use Rattle.clairvoyant.specs.declared.use_record.UseRecord.TheVariants.{Hit, Kept, Evicted, Rejected}
 use Rattle.clairvoyant.specs.Keys.{residents_with}
@@ -17,7 +17,8 @@ record_full t i k v = cond (eqb k v) (Rejected k) (Evicted record { key = v; ran
 
 -- the record of an access to k at place i, from the residents before it
 abbrev pub use_record_of : ℕ → List ℕ → ℕ → ℕ → List ℕ → UseRecord
-use_record_of c t i k r = cond (has k r) Hit (cond (nat_lt (length r) c) Kept (record_full t i k (farthest t i k r)))
+use_record_of c t i k r =
+    cond (has_key k r) Hit (cond (nat_lt (length r) c) Kept (record_full t i k (farthest t i k r)))
 
 -- the record of the access at place i of the trace, in a cache of capacity c
 abbrev pub record_at : ℕ → List ℕ → ℕ → UseRecord

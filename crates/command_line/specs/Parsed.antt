@@ -18,7 +18,7 @@ use Rattle.command_line.specs.declared.fault.ParseFault.{ParseFault}
 use Rattle.command_line.specs.declared.fault.ParseFault.TheVariants as fault
 
 -- the arguments of `run` are those that its matches name, and are accepted
-pub record IsRun (rows : List Row) (run : RunArguments) : Type 0 where
+pub record IsRunCalled (rows : List Row) (run : RunArguments) : Type 0 where
   pub config : config_in rows ≡ Some run.config
   pub policies : policies_in rows ≡ Some run.policies.items
   pub batch : batch_in rows ≡ Some run.batch
@@ -66,7 +66,7 @@ IsNotCalled name subcommand = (rows : List Row) → subcommand ≡ Some (name, r
 
 -- the arguments are those of the subcommand that was called
 abbrev pub IsAsked : Option (Text × List Row) → Arguments → Type 0
-IsAsked subcommand (Run run) = (rows : List Row) × (subcommand ≡ Some (codes "run", rows)) × IsRun rows run
+IsAsked subcommand (Run run) = (rows : List Row) × (subcommand ≡ Some (codes "run", rows)) × IsRunCalled rows run
 IsAsked subcommand (Sweep sweep) =
     (rows : List Row) × (subcommand ≡ Some (codes "sweep", rows)) × IsSweep rows sweep
 IsAsked subcommand (Part part) =

@@ -234,13 +234,13 @@ config_of capacity main_percent spread = record {
 }
 
 -- the number up to `most` that a text writes in decimal digits: a plus may stand before them
-abbrev pub number_of : ℕ → Text → Option ℕ
-number_of most text = if is_unsigned_in 0 most text
+abbrev pub number_up_to : ℕ → Text → Option ℕ
+number_up_to most text = if is_unsigned_in 0 most text
     then Some (digits_value 10 (without_leading_plus text)) else None
 
 -- the number that an option names
 abbrev pub number_in : ℕ → Text → List Row → Option ℕ
-number_in most id rows = option_and_then (number_of most) (one_of id rows)
+number_in most id rows = option_and_then (number_up_to most) (one_of id rows)
 
 abbrev pub accepted : Config → Result (Unit {0}) ConfigFault → Option Config
 accepted config (Ok u) = Some config
@@ -298,7 +298,7 @@ batch_in rows = option_and_then (up_to MAX_BATCH) (number_in 4294967295 (codes "
 
 -- the capacity that a word names
 abbrev pub capacity_named : Text → Option ℕ
-capacity_named word = option_and_then (up_to MAX_CAPACITY) (number_of 4294967295 word)
+capacity_named word = option_and_then (up_to MAX_CAPACITY) (number_up_to 4294967295 word)
 
 -- the capacities of a sweep
 abbrev pub capacities_in : List Row → Option (List ℕ)

@@ -3,7 +3,7 @@ ghost use Rattle.std.specs.Prelude.{◌≡◌, Ok, Some, IfOk, IfSome, MatchOpti
 ghost use Rattle.clap.specs.Words.{first_of, found_of, rows_of};
 ghost use Rattle.step_record.specs.Config.{config_fault};
 ghost use Rattle.command_line.specs.Choices.{policies_named as policies_by};
-ghost use Rattle.command_line.specs.Parsed.{IsRun, LacksRun};
+ghost use Rattle.command_line.specs.Parsed.{IsRunCalled, LacksRun};
 ghost use Rattle.command_line.specs.Program.{batch_in, checked, config_at, config_in, config_of, format_in, number_in};
 ghost use Rattle.command_line.specs.Program.{policies_in, policy_in, spread_in, up_to as within};
 
@@ -196,7 +196,7 @@ pub(crate) fn run_arguments(
 ) -> Result<Option<RunArguments>, AllocError>
     ensures { IfOk result (λ named. MatchOption named
         (LacksRun (rows_of (found_of matches.now)))
-        (IsRun (rows_of (found_of matches.now)))) }
+        (IsRunCalled (rows_of (found_of matches.now)))) }
 {
     let Some(config) = config_named(matches) else {
         return Ok(None);

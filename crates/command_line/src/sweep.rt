@@ -3,7 +3,7 @@ ghost use Rattle.std.specs.Prelude.{◌≡◌, Ok, Some, IfOk, MatchOption, map,
 ghost use Rattle.clap.specs.Words.{found_of, rows_of};
 ghost use Rattle.command_line.specs.Choices.{all_named};
 ghost use Rattle.command_line.specs.Parsed.{IsSweep, LacksSweep};
-ghost use Rattle.command_line.specs.Program.{capacities_in, capacity_named as capacity_by, number_of};
+ghost use Rattle.command_line.specs.Program.{capacities_in, capacity_named as capacity_by, number_up_to};
 
 use crate::arguments::{config_with, format, policy, up_to};
 use clap::ArgMatches;
@@ -24,7 +24,7 @@ pub struct SweepArguments {
 
 // The number that a word writes in decimal digits.
 fn number_named(word: &str) -> Option<u32>
-    ensures { result ≡ number_of 4294967295 word.now }
+    ensures { result ≡ number_up_to 4294967295 word.now }
 {
     match word.parse::<u32>() {
         Ok(number) => Some(number),

@@ -9,9 +9,9 @@ use Rattle.std.specs.Io.KnownBytes.{Appends, Consumes, IsAtEnd}
 use Rattle.std.specs.List.{onto_first}
 use Rattle.std.specs.Prelude.{IfSome}
 use Rattle.debug_commands.specs.Answering.{IsAnswer}
-use Rattle.debug_commands.specs.Answers.{Place, Response, answer_to, response_to}
+use Rattle.debug_commands.specs.Answers.{Place, CommandResponse, answer_to, response_to}
 use Rattle.debug_commands.specs.Commands.{command_line_of}
-use Rattle.debug_commands.specs.Dialogue.{Dialogue, answers, dialogue_from, dialogue_of, ends, is_quit, IsHeld}
+use Rattle.debug_commands.specs.Dialogue.{Dialogue, answers, dialogue_from, dialogue_of, ends, is_quit, IsLineHeld}
 use Rattle.debug_commands.specs.Reading.{feed, IsTooLarge}
 use Rattle.text_lines.proofs.Feeds.{has_lines, lines_fed, one_unfed}
 use Rattle.text_lines.specs.Feeds.{lines_of, HasNoFeed}
@@ -152,7 +152,7 @@ goes_on {t} {first} {p} {room} {less} {given} {left} {rest} {had} {has} {more} {
 over : (t : TimelineData) (first : ℕ) (p : Place) (room : ℕ) (given left rest had has more : Option (List ℕ)) (used : List ℕ) (d : Dialogue)
     → IsAhead t first p room given left had has → Consumes left rest used → Appends has more d.text
     → IfSome rest (λ bytes. dialogue_from t room (lines_of (used ++ bytes)) p ≡ d)
-    → IfSome given (λ bytes. IsHeld (dialogue_of t first bytes) d.fits had more d.at)
+    → IfSome given (λ bytes. IsLineHeld (dialogue_of t first bytes) d.fits had more d.at)
 over t first p room None left rest had has more used d a c w e = tt
 over t first p room (Some xs) None rest had has more used d a c w e = absurd a.consumed
 over t first p room (Some xs) (Some ys) None had has more used d a c w e = absurd c
@@ -176,7 +176,7 @@ at_the_end (Some xs) P e h = subst P (sym e) h
 -- the last line was answered, which had no line feed
 pub ends_at_last : {t : TimelineData} {first : ℕ} {p : Place} {room less : ℕ} {given left rest had has more : Option (List ℕ)} {fed : Bool} {l text : List ℕ}
     {at : ℕ} {breaks : List Breakpoint} → Round t first p room less given left rest had has more fed l text at breaks → fed ≡ false → IsAtEnd rest
-    → IfSome given (λ bytes. IsHeld (dialogue_of t first bytes) true had more at)
+    → IfSome given (λ bytes. IsLineHeld (dialogue_of t first bytes) true had more at)
 ends_at_last {t} {first} {p} {room} {less} {given} {left} {rest} {had} {has} {more} {fed} {l} {text} {at} {breaks} round no_feed end =
     let d : Dialogue = record { text = text; at = at; fits = true } in
     let r = answer_to t p (command_line_of t.dialect l) in
@@ -211,7 +211,7 @@ quit_answer t p l h = quit_line t p (command_line_of t.dialect l) h
 -- a `quit` was read
 pub ends_at_quit : {t : TimelineData} {first : ℕ} {p : Place} {room less : ℕ} {given left rest had has more : Option (List ℕ)} {fed : Bool} {l text : List ℕ}
     {at : ℕ} {breaks : List Breakpoint} → Round t first p room less given left rest had has more fed l text at breaks → fed ≡ true
-    → is_quit (command_line_of t.dialect l) ≡ true → IfSome given (λ bytes. IsHeld (dialogue_of t first bytes) true had more at)
+    → is_quit (command_line_of t.dialect l) ≡ true → IfSome given (λ bytes. IsLineHeld (dialogue_of t first bytes) true had more at)
 ends_at_quit {t} {first} {p} {room} {less} {given} {left} {rest} {had} {has} {more} {fed} {l} {text} {at} {breaks} round has_feed quits =
     let d : Dialogue = record { text = text; at = at; fits = true } in
     let e : less + length l + 1 ≡ room = fed_room fed less (length l) room has_feed round.spent in
@@ -219,8 +219,8 @@ ends_at_quit {t} {first} {p} {room} {less} {given} {left} {rest} {had} {has} {mo
     let is : (bytes : List ℕ) → dialogue_from t room (lines_of ((l ++ 10 ∷ []) ++ bytes)) p ≡ d = λ bytes.
     ap (λ ls. dialogue_from t room ls p) (lines_fed l bytes round.feeds)
     ∙ quit_step t room l (lines_of bytes) p (has_lines bytes) (omega (arith, e)) quits
-    ∙ ap (λ x. record { text = x; at = p.at; fits = true }) (sym (round.answer.text ∙ ap (λ (x : Response). x.text) none))
-    ∙ ap (λ x. record { text = text; at = x; fits = true }) (sym (round.answer.at ∙ ap (λ (x : Response). x.place.at) none)) in
+    ∙ ap (λ x. record { text = x; at = p.at; fits = true }) (sym (round.answer.text ∙ ap (λ (x : CommandResponse). x.text) none))
+    ∙ ap (λ x. record { text = text; at = x; fits = true }) (sym (round.answer.at ∙ ap (λ (x : CommandResponse). x.place.at) none)) in
     over t first p room given left rest had has more (l ++ 10 ∷ []) d round.ahead (fed_read fed left rest l has_feed round.read) round.sent
     (always rest (λ bytes. dialogue_from t room (lines_of ((l ++ 10 ∷ []) ++ bytes)) p ≡ d) is)
 
@@ -262,7 +262,7 @@ large_by t p room byte front rest false is h full =
 -- a line was too large, and the lines before it were answered
 pub ends_at_large : {t : TimelineData} {first : ℕ} {p : Place} {room : ℕ} {given left rest had has : Option (List ℕ)}
     → IsAhead t first p room given left had has → IsTooLarge room left rest
-    → IfSome given (λ bytes. IsHeld (dialogue_of t first bytes) false had has p.at)
+    → IfSome given (λ bytes. IsLineHeld (dialogue_of t first bytes) false had has p.at)
 ends_at_large {t} {first} {p} {room} {given} {left} {rest} {had} {has} a large =
     over t first p room given left rest had has has (large.front ++ large.byte ∷ []) (ends p false) a large.consumed (Appends-none has)
     (always rest (λ bytes. dialogue_from t room (lines_of ((large.front ++ large.byte ∷ []) ++ bytes)) p ≡ ends p false)

@@ -16,9 +16,9 @@ use Rattle.debug_commands.specs.declared.command.Line.TheVariants.{Empty, Unknow
 use Rattle.debug_commands.specs.declared.name.Name.{Name}
 use Rattle.debug_commands.specs.declared.name.Name.TheVariants as name
 
-unfoldable pub name_at : Reads Name
-name_at [] = None
-name_at (w ∷ ws) = with_rest ws (name_of w)
+unfoldable pub command_name_at : Reads Name
+command_name_at [] = None
+command_name_at (w ∷ ws) = with_rest ws (name_of w)
 
 unfoldable pub number_at : Reads ℕ
 number_at [] = None
@@ -34,7 +34,7 @@ point_named Journal name.Drop ws = Some (point.Drop, ws)
 point_named d _ ws = None
 
 unfoldable pub point_at : Dialect → Reads Breakpoint
-point_at d ws = name_at ws >>= λ n. point_named d n.0 n.1
+point_at d ws = command_name_at ws >>= λ n. point_named d n.0 n.1
 
 -- a command; `part` is of the policies' debugger, `save` of the journal's
 abbrev pub command_named : Dialect → Name → Reads Command
@@ -51,7 +51,7 @@ command_named d name.Quit ws = Some (command.Quit, ws)
 command_named d _ ws = None
 
 unfoldable pub command_at : Dialect → Reads Command
-command_at d ws = name_at ws >>= λ n. command_named d n.0 n.1
+command_at d ws = command_name_at ws >>= λ n. command_named d n.0 n.1
 
 unfoldable pub command_in : Dialect → List (List ℕ) → Option Command
 command_in d ws = command_at d ws >>= at_end

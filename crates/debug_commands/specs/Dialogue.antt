@@ -3,7 +3,7 @@ use Rattle.std.specs.Prelude.{◌≡◌, ℕ, ◌+◌, ◌-◌, nat_lt, Bool, tr
 use Rattle.std.specs.Prelude.{◌++◌, length}
 use Rattle.std.specs.Io.KnownBytes.{Appends}
 use Rattle.text_lines.specs.Feeds.{lines_of}
-use Rattle.debug_commands.specs.Answers.{Place, Response, answer_to}
+use Rattle.debug_commands.specs.Answers.{Place, CommandResponse, answer_to}
 use Rattle.debug_commands.specs.Commands.{command_line_of}
 use Rattle.debug_commands.specs.Timeline.{TimelineData}
 use Rattle.debug_commands.specs.declared.command.Command.TheVariants.{Quit}
@@ -26,7 +26,7 @@ abbrev pub ends : Place → Bool → Dialogue
 ends p fits = record { text = []; at = p.at; fits = fits }
 
 -- the answer, and then what follows from the place that it leaves
-abbrev pub answers : Response → (Place → Dialogue) → Dialogue
+abbrev pub answers : CommandResponse → (Place → Dialogue) → Dialogue
 answers r later = record { text = r.text ++ (later r.place).text; at = (later r.place).at; fits = (later r.place).fits }
 
 -- the lines in order, where there is room for so many bytes more; a line feed stands behind each line but the last
@@ -44,7 +44,7 @@ abbrev pub dialogue_of : TimelineData → ℕ → List ℕ → Dialogue
 dialogue_of t at bytes = dialogue_from t MAX_COMMAND_BYTES (lines_of bytes) (record { at = at; breaks = [] })
 
 -- the output got the text, the position is its last, and it came to its end, or to a line that was too large
-pub record IsHeld (d : Dialogue) (whole : Bool) (old new : Option (List ℕ)) (position : ℕ) : Type 0 where
+pub record IsLineHeld (d : Dialogue) (whole : Bool) (old new : Option (List ℕ)) (position : ℕ) : Type 0 where
   pub fits : d.fits ≡ whole
   pub text : Appends old new d.text
   pub at : position ≡ d.at

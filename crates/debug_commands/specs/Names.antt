@@ -6,22 +6,22 @@ use Rattle.debug_commands.specs.declared.name.Name.TheVariants.{Quit, Hit, Evict
 use Rattle.debug_commands.specs.declared.name.TheConstants.{NAMES}
 use Rattle.text_lines.specs.Reads.{first_named}
 
-abbrev pub spelling : Name → List ℕ
-spelling Step = codes "step"
-spelling Back = codes "back"
-spelling Goto = codes "goto"
-spelling Run = codes "run"
-spelling Break = codes "break"
-spelling Clear = codes "clear"
-spelling Show = codes "show"
-spelling Part = codes "part"
-spelling Save = codes "save"
-spelling Quit = codes "quit"
-spelling Hit = codes "hit"
-spelling Evict = codes "evict"
-spelling Halve = codes "halve"
-spelling Drop = codes "drop"
+abbrev pub command_spelling : Name → List ℕ
+command_spelling Step = codes "step"
+command_spelling Back = codes "back"
+command_spelling Goto = codes "goto"
+command_spelling Run = codes "run"
+command_spelling Break = codes "break"
+command_spelling Clear = codes "clear"
+command_spelling Show = codes "show"
+command_spelling Part = codes "part"
+command_spelling Save = codes "save"
+command_spelling Quit = codes "quit"
+command_spelling Hit = codes "hit"
+command_spelling Evict = codes "evict"
+command_spelling Halve = codes "halve"
+command_spelling Drop = codes "drop"
 
 -- the name that is spelled so
 unfoldable pub name_of : List ℕ → Option Name
-name_of word = first_named spelling NAMES word
+name_of word = first_named command_spelling NAMES word

@@ -1,7 +1,7 @@
 //! The reading and answering of commands.
 ghost use Rattle.std.specs.Prelude.{◌≡◌, ℕ, Err, IfSome, OnOk, true, false};
 ghost use Rattle.std.specs.Io.KnownBytes.{Appends};
-ghost use Rattle.debug_commands.specs.Dialogue.{dialogue_of, is_quit, IsHeld};
+ghost use Rattle.debug_commands.specs.Dialogue.{dialogue_of, is_quit, IsLineHeld};
 
 use crate::answers::answer;
 use crate::breakpoint::Breakpoint;
@@ -28,11 +28,11 @@ pub fn answer_commands<T: Timeline, R: Read, W: Write>(
     requires { T.IsWhole timeline.old }
     // With its end it has written what the definition gives for the bytes of the input.
     ensures done { OnOk result (IfSome (R.remaining input.old) (λ bytes.
-        IsHeld (dialogue_of (T.timeline timeline.old) (T.position timeline.old) bytes) true
+        IsLineHeld (dialogue_of (T.timeline timeline.old) (T.position timeline.old) bytes) true
         (W.contents out.old) (W.contents out.new) (T.position timeline.new))) }
     // So it has where a line was too large, for the lines before that.
     ensures large { result ≡ Err DebugFault.TooLarge → IfSome (R.remaining input.old) (λ bytes.
-        IsHeld (dialogue_of (T.timeline timeline.old) (T.position timeline.old) bytes) false
+        IsLineHeld (dialogue_of (T.timeline timeline.old) (T.position timeline.old) bytes) false
         (W.contents out.old) (W.contents out.new) (T.position timeline.new)) }
     // What is walked stays, whatever comes.
     ensures source { T.source timeline.new ≡ T.source timeline.old }

@@ -1,6 +1,6 @@
 //! The words of a command that are no numbers.
 ghost use Rattle.std.specs.Prelude.{◌≡◌};
-ghost use Rattle.debug_commands.specs.Names.{name_of, spelling};
+ghost use Rattle.debug_commands.specs.Names.{name_of, command_spelling};
 ghost use Rattle.text_lines.specs.Reads.{first_named};
 
 /// A word of a command that is no number.
@@ -43,7 +43,7 @@ pub const NAMES: [Name; 14] = [
 impl Name {
     /// How the name is spelled.
     pub fn text(self) -> &'static [u8]
-        ensures { result.now ≡ spelling self }
+        ensures { result.now ≡ command_spelling self }
     {
         match self {
             Name::Step => b"step",
@@ -74,7 +74,7 @@ impl Name {
 
 // The first of the names that is spelled so.
 fn first_named(names: &[Name], word: &[u8]) -> Option<Name>
-    ensures { result ≡ first_named spelling names.now word.now }
+    ensures { result ≡ first_named command_spelling names.now word.now }
 {
     for name in names {
         if name.text() == word {

@@ -2,7 +2,7 @@
 ghost use Rattle.std.specs.Prelude.{◌≡◌, ℕ, List, [], ◌∷◌, MatchOption};
 ghost use Rattle.std.specs.Option.{option_map_or};
 ghost use Rattle.debug_commands.specs.Words.{words_in};
-ghost use Rattle.debug_commands.specs.Commands.{name_at, number_at};
+ghost use Rattle.debug_commands.specs.Commands.{command_name_at, number_at};
 ghost use Rattle.text_lines.specs.Reads.{with_rest};
 
 use crate::name::Name;
@@ -46,7 +46,7 @@ impl<'a> Words<'a> {
     /// The name that stands next.
     #[tactic(auto, unfolding(crate::specs::Commands::name_at))]
     pub fn name(&mut self) -> Option<Name>
-        ensures { with_rest self.new result ≡ name_at self.old }
+        ensures { with_rest self.new result ≡ command_name_at self.old }
     {
         Name::of(self.next()?)
     }

@@ -13,7 +13,7 @@ use Rattle.journal.specs.Session.{SessionState}
 use Rattle.debug_commands.specs.Timeline.{TimelineData}
 use Rattle.debug_commands.specs.declared.breakpoint.StepFacts.{StepFacts}
 use Rattle.debug_commands.specs.declared.command.Dialect.TheVariants.{Journal}
-use Rattle.journal_text.specs.Journal.{journal_of, Entries}
+use Rattle.journal_text.specs.Journal.{journal_of, JournalEntries}
 use Rattle.journal_text.specs.declared.version.Version.TheVariants.{Two}
 use Rattle.shell_model.specs.Shell.{Shell, act}
 use Rattle.debug_replay.specs.Shown.{shown_text}
@@ -46,11 +46,11 @@ step_facts a r halved = record {
 }
 
 -- the state after the first n steps
-abbrev pub state_at : Shell → Entries → ℕ → Shell
+abbrev pub state_at : Shell → JournalEntries → ℕ → Shell
 state_at opening steps n = after act opening (take n steps)
 
 -- the age of the sketch falls at step n
-abbrev pub halves_on_step : Shell → Entries → ℕ → Bool
+abbrev pub halves_on_step : Shell → JournalEntries → ℕ → Bool
 halves_on_step opening steps n =
     nat_lt (state_at opening steps n).frequency.age (state_at opening steps (n - 1)).frequency.age
 
@@ -59,7 +59,7 @@ entry_facts None halved =
     record { hit = None; left = None; also_left = None; halved = halved; parted = false; dropped = false }
 entry_facts (Some e) halved = step_facts e.step.act e.reply halved
 
-abbrev pub replay_timeline : Shell → Entries → TimelineData
+abbrev pub replay_timeline : Shell → JournalEntries → TimelineData
 replay_timeline opening steps = record {
   dialect = Journal;
   end = length steps;
@@ -74,7 +74,7 @@ pub record Walked : Type 0 where
   pub name : GName
   pub opening : Shell
   pub limit : ℕ
-  pub steps : Entries
+  pub steps : JournalEntries
 
 abbrev pub walked_in : MutBor (SessionState Shell Shell Step Reply) → Walked
 walked_in s = record {

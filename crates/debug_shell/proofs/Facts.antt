@@ -6,7 +6,7 @@ use Rattle.step_record.specs.declared.job.Job.{Job}
 use Rattle.step_record.specs.declared.outcome.Outcome.{Outcome}
 use Rattle.step_record.specs.declared.outcome.Outcome.TheVariants.{Kept}
 use Rattle.step_record.specs.Stats.{is_hit}
-use Rattle.debug_commands.specs.Dialogue.{dialogue_of, IsHeld}
+use Rattle.debug_commands.specs.Dialogue.{dialogue_of, IsLineHeld}
 use Rattle.debug_commands.specs.Timeline.{TimelineData}
 use Rattle.debug_commands.specs.declared.fault.DebugFault.{DebugFault}
 use Rattle.debug_commands.specs.declared.fault.DebugFault.TheVariants as debug
@@ -14,7 +14,7 @@ use Rattle.policy_actors.specs.Faults.{config_or}
 use Rattle.debug_shell.specs.Debugging.{ReturnsConfig, UntouchedAtConfig}
 use Rattle.debug_shell.specs.OnePolicy.{OnePolicyState}
 use Rattle.debug_shell.specs.Part.{IsPart}
-use Rattle.debug_shell.specs.TwoPolicies.{first_part, just_one}
+use Rattle.debug_shell.specs.TwoPolicies.{first_parting, just_one}
 
 -- ---- the facts of an access
 
@@ -41,13 +41,13 @@ agrees false false h = refl
 abbrev hit_at : List Outcome → ℕ → Bool
 hit_at os i = is_hit (get_or os i Kept)
 
-never : (n : ℕ) (os ps : List Outcome) → ((i : ℕ) → hit_at os i ≡ hit_at ps i) → first_part n os ps ≡ None
+never : (n : ℕ) (os ps : List Outcome) → ((i : ℕ) → hit_at os i ≡ hit_at ps i) → first_parting n os ps ≡ None
 never n [] ps h = refl
 never n (o ∷ os) [] h = refl
 never n (o ∷ os) (p ∷ ps) h = rw (agrees (is_hit o) (is_hit p) (h 0)) (never (n + 1) os ps (λ i. h (suc i)))
 
 found : (n i : ℕ) (os ps : List Outcome) → length os ≡ length ps → hit_at os i ≢ hit_at ps i → ((m : ℕ) → m < i → hit_at os m ≡ hit_at ps m)
-    → first_part n os ps ≡ Some (n + i)
+    → first_parting n os ps ≡ Some (n + i)
 found n i [] [] long here below = absurd (here refl)
 found n i [] (p ∷ ps) long here below = absurd (omega (arith, long))
 found n i (o ∷ os) [] long here below = absurd (omega (arith, long))
@@ -59,7 +59,7 @@ found n (suc i) (o ∷ os) (p ∷ ps) long here below =
     rw (agrees (is_hit o) (is_hit p) (below 0 (omega arith)))
     (found (n + 1) i os ps (omega (arith, long)) here (λ m lt. below (suc m) (omega (arith, lt))) ∙ ap Some next)
 
-pub part_is : (os ps : List Outcome) (r : Option ℕ) → length os ≡ length ps → IsPart os ps r → r ≡ first_part 1 os ps
+pub part_is : (os ps : List Outcome) (r : Option ℕ) → length os ≡ length ps → IsPart os ps r → r ≡ first_parting 1 os ps
 part_is os ps None long h = sym (never 1 os ps (λ i. h (suc i)))
 part_is os ps (Some zero) long h = absurd (h.0 refl)
 part_is os ps (Some (suc i)) long h =
@@ -69,20 +69,20 @@ part_is os ps (Some (suc i)) long h =
 -- ---- the debugger
 
 some_held : (known : Option (List ℕ)) (t u : TimelineData) (n : ℕ) (fits : Bool) (had has : Option (List ℕ)) (at : ℕ) → t ≡ u → n ≡ 0
-    → IfSome known (λ bytes. IsHeld (dialogue_of t n bytes) fits had has at)
-    → IfSome known (λ bytes. (x : ℕ) × IsHeld (dialogue_of u 0 bytes) fits had has x)
+    → IfSome known (λ bytes. IsLineHeld (dialogue_of t n bytes) fits had has at)
+    → IfSome known (λ bytes. (x : ℕ) × IsLineHeld (dialogue_of u 0 bytes) fits had has x)
 some_held None t u n fits had has at same start h = tt
 some_held (Some xs) t u n fits had has at same start h =
-    (at, subst (λ k. IsHeld (dialogue_of u k xs) fits had has at) start (subst (λ x. IsHeld (dialogue_of x n xs) fits had has at) same h))
+    (at, subst (λ k. IsLineHeld (dialogue_of u k xs) fits had has at) start (subst (λ x. IsLineHeld (dialogue_of x n xs) fits had has at) same h))
 
 pub large_held : (known : Option (List ℕ)) (t u : TimelineData) (n : ℕ) (fits : Bool) (had has : Option (List ℕ)) (at : ℕ) → t ≡ u → n ≡ 0
-    → IfSome known (λ bytes. IsHeld (dialogue_of t n bytes) fits had has at)
-    → IfSome known (λ bytes. (x : ℕ) × IsHeld (dialogue_of u 0 bytes) fits had has x)
+    → IfSome known (λ bytes. IsLineHeld (dialogue_of t n bytes) fits had has at)
+    → IfSome known (λ bytes. (x : ℕ) × IsLineHeld (dialogue_of u 0 bytes) fits had has x)
 large_held known t u n fits had has at same start h = some_held known t u n fits had has at same start h
 
 pub done_held : (r : Result (Unit {0}) DebugFault) (known : Option (List ℕ)) (t u : TimelineData) (n : ℕ) (fits : Bool) (had has : Option (List ℕ)) (at : ℕ) → t ≡ u
-    → n ≡ 0 → OnOk r (IfSome known (λ bytes. IsHeld (dialogue_of t n bytes) fits had has at))
-    → OnOk r (IfSome known (λ bytes. (x : ℕ) × IsHeld (dialogue_of u 0 bytes) fits had has x))
+    → n ≡ 0 → OnOk r (IfSome known (λ bytes. IsLineHeld (dialogue_of t n bytes) fits had has at))
+    → OnOk r (IfSome known (λ bytes. (x : ℕ) × IsLineHeld (dialogue_of u 0 bytes) fits had has x))
 done_held (Ok x) known t u n fits had has at same start h = some_held known t u n fits had has at same start h
 done_held (Err e) known t u n fits had has at same start h = tt
 

@@ -13,7 +13,7 @@ use Rattle.policies.specs.declared.any_policy.AnyPolicy.{AnyPolicy}
 use Rattle.policies.specs.AnyPolicy.{outcomes_on, Stands}
 use Rattle.policies.specs.AnyStep.{any_act}
 use Rattle.policies.specs.Theorems.{AnyAnswers, AnyStands}
-use Rattle.debug_shell.specs.OnePolicy.{outcome_at, steps_of, IsAt}
+use Rattle.debug_shell.specs.OnePolicy.{outcome_at, steps_of, IsPolicyAt}
 use Rattle.debug_shell.proofs.Walked.{moves, next-of}
 
 abbrev State : Type 0
@@ -29,8 +29,8 @@ steps_take (suc n) [] = refl
 steps_take (suc n) (e ∷ es) = ap (λ t. e.step ∷ t) (steps_take n es)
 
 -- nothing that the trace goes by differs
-pub unmoved : (j : Job) (trace : List ℕ) (old new : State) → IsAt j trace old → new.kept ≡ old.kept → new.engine ≡ old.engine
-    → new.opening ≡ old.opening → new.limit ≡ old.limit → IsAt j trace new
+pub unmoved : (j : Job) (trace : List ℕ) (old new : State) → IsPolicyAt j trace old → new.kept ≡ old.kept → new.engine ≡ old.engine
+    → new.opening ≡ old.opening → new.limit ≡ old.limit → IsPolicyAt j trace new
 unmoved j trace old new is kept engine opening limit = record {
   opening = subst (Stands j trace []) (sym opening) is.opening;
   limit = limit ∙ is.limit;
@@ -42,9 +42,9 @@ unmoved j trace old new is kept engine opening limit = record {
 }
 
 -- the next access was made
-pub one_more : AnyStands → (j : Job) (trace keys : List ℕ) (old new : State) (key : ℕ) (o : Outcome) → IsAt j trace old → keys ≡ trace
+pub one_more : AnyStands → (j : Job) (trace keys : List ℕ) (old new : State) (key : ℕ) (o : Outcome) → IsPolicyAt j trace old → keys ≡ trace
     → length old.kept < length keys → key ≡ slice_index keys (length old.kept) → any_act old.engine key ≡ Some (o, new.engine)
-    → new.kept ≡ old.kept ++ record { step = key; reply = o } ∷ [] → new.opening ≡ old.opening → new.limit ≡ old.limit → IsAt j trace new
+    → new.kept ≡ old.kept ++ record { step = key; reply = o } ∷ [] → new.opening ≡ old.opening → new.limit ≡ old.limit → IsPolicyAt j trace new
 one_more law j trace keys old new key o is same lt key_is made kept opening limit =
     let n : ℕ = length old.kept in
     let long : length new.kept ≡ n + 1 = ap length kept ∙ length-append old.kept (record { step = key; reply = o } ∷ []) in
@@ -64,10 +64,10 @@ one_more law j trace keys old new key o is same lt key_is made kept opening limi
     }
 
 -- the next access was made, or nothing was done
-pub after_step : AnyStands → (r : Result Outcome AllocError) (j : Job) (trace keys : List ℕ) (old new : State) (key : ℕ) → IsAt j trace old → keys ≡ trace
+pub after_step : AnyStands → (r : Result Outcome AllocError) (j : Job) (trace keys : List ℕ) (old new : State) (key : ℕ) → IsPolicyAt j trace old → keys ≡ trace
     → length old.kept < length keys → key ≡ slice_index keys (length old.kept) → IfOk r (λ o. any_act old.engine key ≡ Some (o, new.engine))
     → IfOk r (λ o. new.kept ≡ old.kept ++ record { step = key; reply = o } ∷ [])
-    → OnErr r ((new.kept ≡ old.kept) × (new.engine ≡ old.engine)) → new.opening ≡ old.opening → new.limit ≡ old.limit → IsAt j trace new
+    → OnErr r ((new.kept ≡ old.kept) × (new.engine ≡ old.engine)) → new.opening ≡ old.opening → new.limit ≡ old.limit → IsPolicyAt j trace new
 after_step law (Ok o) j trace keys old new key is same lt key_is made kept err opening limit =
     one_more law j trace keys old new key o is same lt key_is made kept opening limit
 after_step law (Err e) j trace keys old new key is same lt key_is made kept err opening limit =
@@ -108,8 +108,8 @@ take_take (suc n) zero xs le = absurd (omega arith)
 take_take (suc n) (suc m) [] le = refl
 take_take (suc n) (suc m) (x ∷ xs) le = ap (λ t. x ∷ t) (take_take n m xs (omega arith))
 
-pub moved : AnyStands → (j : Job) (trace : List ℕ) (n : ℕ) (old new : State) → IsAt j trace old → IsMovedTo n old new → n ≤ length old.kept
-    → IsLegal any_act new.opening new.kept → new.engine ≡ after any_act new.opening new.kept → IsAt j trace new
+pub moved : AnyStands → (j : Job) (trace : List ℕ) (n : ℕ) (old new : State) → IsPolicyAt j trace old → IsMovedTo n old new → n ≤ length old.kept
+    → IsLegal any_act new.opening new.kept → new.engine ≡ after any_act new.opening new.kept → IsPolicyAt j trace new
 moved law j trace n old new is to le legal shows =
     let kept : new.kept ≡ take n old.kept = to.kept ∙ take_front n old.kept old.tail le in
     let opening : Stands j trace [] new.opening = subst (Stands j trace []) (sym to.opening) is.opening in

@@ -11,7 +11,7 @@ use Rattle.clairvoyant.specs.Clairvoyant.{ClairvoyantState}
 use Rattle.policies.specs.declared.any_policy.AnyPolicy.{AnyPolicy}
 use Rattle.policies.specs.declared.any_policy.AnyPolicy.TheVariants.{Queues, Optimal}
 use Rattle.policies.specs.AnyPolicy.{frequency_in, any_residents, knows_trace, stats_in, Stands}
-use Rattle.policies.specs.QueueCache.{QueueState, accessed, frequency_after, frequency_by, is_counting, empty_queue_state, outcomes_after, outcomes_from, residents_in, response_to}
+use Rattle.policies.specs.QueueCache.{QueueState, accessed, frequency_after, frequency_by, is_counting, empty_queue_state, outcomes_after, outcomes_from, residents_in, access_response}
 use Rattle.policies.proofs.Answered.{outcomes-length}
 use Rattle.policies.proofs.Counting.{after-counts}
 use Rattle.policies.proofs.Reached.{after-frequency}
@@ -53,7 +53,7 @@ from_first : (j : Job) (past : List ℕ) (d : QueueState) (n : ℕ) (keys : List
 from_first j past d zero keys = refl
 from_first j past d (suc n) [] = refl
 from_first j past d (suc n) (k ∷ keys) =
-    ap (λ t. (response_to (frequency_after j (past ++ k ∷ [])) k d).outcome ∷ t) (from_first j (past ++ k ∷ []) (accessed (frequency_after j (past ++ k ∷ [])) k d) n keys)
+    ap (λ t. (access_response (frequency_after j (past ++ k ∷ [])) k d).outcome ∷ t) (from_first j (past ++ k ∷ []) (accessed (frequency_after j (past ++ k ∷ [])) k d) n keys)
 
 queues_first : (j : Job) (n : ℕ) (keys : List ℕ) → outcomes_after j (take n keys) ≡ take n (outcomes_after j keys)
 unfolding outcomes_after

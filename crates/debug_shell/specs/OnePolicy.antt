@@ -72,7 +72,7 @@ abbrev pub steps_of : List (Entry ℕ Outcome) → List ℕ
 steps_of es = map (λ e. e.step) es
 
 -- the session began with no access made, and its applied steps are the first accesses of the trace
-pub record IsAt (j : Job) (trace : List ℕ) (s : SessionState AnyPolicy AnyPolicy ℕ Outcome) : Type 0 where
+pub record IsPolicyAt (j : Job) (trace : List ℕ) (s : SessionState AnyPolicy AnyPolicy ℕ Outcome) : Type 0 where
   pub opening : Stands j trace [] s.opening
   pub limit : s.limit ≡ 16777216
   pub steps : steps_of s.kept ≡ take (length s.kept) trace

@@ -46,10 +46,10 @@ facts_at trace first second n =
 -- ---- what is printed
 
 -- the first access, counted from n, at which just one of the two hits
-abbrev pub first_part : ℕ → List Outcome → List Outcome → Option ℕ
-first_part n [] ps = None
-first_part n (a ∷ os) [] = None
-first_part n (a ∷ os) (b ∷ ps) = if just_one (is_hit a) (is_hit b) then Some n else first_part (n + 1) os ps
+abbrev pub first_parting : ℕ → List Outcome → List Outcome → Option ℕ
+first_parting n [] ps = None
+first_parting n (a ∷ os) [] = None
+first_parting n (a ∷ os) (b ∷ ps) = if just_one (is_hit a) (is_hit b) then Some n else first_parting (n + 1) os ps
 
 -- ---- the timeline: its steps are the accesses of the trace
 
@@ -59,11 +59,11 @@ policies_timeline trace first second = record {
   end = length trace;
   facts = facts_at trace first second;
   shown = λ n. policy_lines (codes "a") first trace n ++ policy_lines (codes "b") second trace n;
-  own = λ n. part_line (first_part 1 (outcomes_on first trace) (outcomes_on second trace));
+  own = λ n. part_line (first_parting 1 (outcomes_on first trace) (outcomes_on second trace));
 }
 
 -- both policies are at the same place of the trace
-pub record IsWalk (trace : List ℕ) (first second : Job) (one other : OnePolicyState) : Type 0 where
+pub record IsPartWalk (trace : List ℕ) (first second : Job) (one other : OnePolicyState) : Type 0 where
   pub one_job : one.job ≡ first
   pub one_trace : one.trace ≡ trace
   pub other_job : other.job ≡ second

@@ -1,6 +1,6 @@
 //! The debugger of two policies over one trace.
 ghost use Rattle.std.specs.Prelude.{◌≡◌, Some, Ok, Err, IfErr, IfSome, OnOk, [], ◌∷◌, ℕ, true, false};
-ghost use Rattle.debug_commands.specs.Dialogue.{dialogue_of, IsHeld};
+ghost use Rattle.debug_commands.specs.Dialogue.{dialogue_of, IsLineHeld};
 ghost use Rattle.policy_actors.specs.Faults.{faulty_in};
 ghost use Rattle.debug_shell.specs.Debugging.{ReturnsConfig, UntouchedAtConfig};
 ghost use Rattle.debug_shell.specs.TwoPolicies.{policies_timeline};
@@ -27,11 +27,11 @@ pub fn run_debug<R: Read, W: Write>(
 ) -> Result<(), DebugFault>
     // With its end it has written what the definition gives for the bytes of the commands.
     ensures done { OnOk result (IfSome (R.remaining commands.old) (λ bytes. (position : ℕ) ×
-        IsHeld (dialogue_of (policies_timeline trace.now first.now second.now) 0 bytes) true
+        IsLineHeld (dialogue_of (policies_timeline trace.now first.now second.now) 0 bytes) true
         (W.contents out.old) (W.contents out.new) position)) }
     // So it has where a line was too large, for the lines before that.
     ensures large { result ≡ Err DebugFault.TooLarge → IfSome (R.remaining commands.old) (λ bytes. (position : ℕ) ×
-        IsHeld (dialogue_of (policies_timeline trace.now first.now second.now) 0 bytes) false
+        IsLineHeld (dialogue_of (policies_timeline trace.now first.now second.now) 0 bytes) false
         (W.contents out.old) (W.contents out.new) position) }
     // A refused configuration is reported, and no other; nothing is read or written then.
     ensures config { ReturnsConfig (faulty_in (first.now ∷ second.now ∷ [])) result }

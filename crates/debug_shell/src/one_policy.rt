@@ -24,13 +24,13 @@ pub struct OnePolicy<'a> {
 
 impl<'a> Model for OnePolicy<'a> {
     ghost use Rattle.std.specs.Prelude.{length};
-    ghost use Rattle.debug_shell.specs.OnePolicy.{IsAt, OnePolicyState};
+    ghost use Rattle.debug_shell.specs.OnePolicy.{IsPolicyAt, OnePolicyState};
 
     ghost Value = { OnePolicyState };
 
     ghost view = { λ w. record { job = w.job; trace = w.trace.now; at = length w.session.kept } };
 
-    ghost invariant = { λ w. IsAt w.job w.trace.now w.session };
+    ghost invariant = { λ w. IsPolicyAt w.job w.trace.now w.session };
 }
 
 impl<'a> OnePolicy<'a> {

@@ -1,7 +1,7 @@
 //! Two policies over one trace, as the debugger walks them.
 ghost use Rattle.std.specs.Prelude.{◌≡◌, ◌++◌, nat_lt, Ok, IfOk, OnOk};
 ghost use Rattle.step_record.specs.Config.{config_fault};
-ghost use Rattle.debug_shell.specs.TwoPolicies.{access_facts, just_one, left_on_access, policies_timeline, IsWalk};
+ghost use Rattle.debug_shell.specs.TwoPolicies.{access_facts, just_one, left_on_access, policies_timeline, IsPartWalk};
 
 use crate::one_policy::OnePolicy;
 use crate::parting::{hits, part, push_part};
@@ -34,7 +34,7 @@ pub fn both_at_start<'a>(
     ensures first { IfOk result (λ w. w.first_job ≡ first.now) }
     ensures second { IfOk result (λ w. w.second_job ≡ second.now) }
     ensures at { IfOk result (λ w. w.first.at ≡ 0) }
-    ensures walk { IfOk result (λ w. IsWalk w.trace.now w.first_job w.second_job w.first w.second) }
+    ensures walk { IfOk result (λ w. IsPartWalk w.trace.now w.first_job w.second_job w.first w.second) }
 {
     Ok(TwoPolicies {
         trace,
@@ -48,7 +48,7 @@ pub fn both_at_start<'a>(
 impl<'a> Timeline for TwoPolicies<'a> {
     ghost use Rattle.std.specs.Prelude.{ℕ, List};
     ghost use Rattle.step_record.specs.declared.job.Job.{Job};
-    ghost use Rattle.debug_shell.specs.TwoPolicies.{policies_timeline, IsWalk};
+    ghost use Rattle.debug_shell.specs.TwoPolicies.{policies_timeline, IsPartWalk};
 
     ghost Source = { List ℕ × Job × Job };
 
@@ -58,7 +58,7 @@ impl<'a> Timeline for TwoPolicies<'a> {
 
     ghost position = { λ w. w.first.at };
 
-    ghost IsWhole = { λ w. IsWalk w.trace.now w.first_job w.second_job w.first w.second };
+    ghost IsWhole = { λ w. IsPartWalk w.trace.now w.first_job w.second_job w.first w.second };
 
     fn dialect(&self) -> Dialect {
         Dialect::Policies

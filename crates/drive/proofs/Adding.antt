@@ -14,9 +14,9 @@ use Rattle.drive.specs.declared.place.Place.{Place}
 use Rattle.drive.specs.Places.{Ahead}
 use Rattle.drive.specs.Walks.{Entries}
 use Rattle.drive.specs.Outcomes.{told, outcome_from}
-use Rattle.drive.specs.Settle.{ShellSession, tail_after, Adds, IsRestOfRound, IsRest, place_in}
+use Rattle.drive.specs.Settle.{ShellSession, tail_after, AddsSteps, IsRestOfRound, IsRest, phase_place}
 
-pub adds_none : (P : Entries → Type 0) (old new : ShellSession) → new.kept ≡ old.kept → new.tail ≡ old.tail → P [] → Adds P old new
+pub adds_none : (P : Entries → Type 0) (old new : ShellSession) → new.kept ≡ old.kept → new.tail ≡ old.tail → P [] → AddsSteps P old new
 adds_none P old new k t h = record { made = []; entered = k ∙ sym (append-nil old.kept); tail = t; holds = h }
 
 no-tail : (es : Entries) (e : Entry Step Reply) (t : Entries) → tail_after (es ++ e ∷ []) t ≡ []
@@ -24,8 +24,8 @@ no-tail [] e t = refl
 no-tail (f ∷ es) e t = refl
 
 -- one entry more
-pub adds_more : (P Q : Entries → Type 0) (old now new : ShellSession) (e : Entry Step Reply) → Adds P old now → new.kept ≡ now.kept ++ e ∷ [] → new.tail ≡ []
-    → ((es : Entries) → P es → Q (es ++ e ∷ [])) → Adds Q old new
+pub adds_more : (P Q : Entries → Type 0) (old now new : ShellSession) (e : Entry Step Reply) → AddsSteps P old now → new.kept ≡ now.kept ++ e ∷ [] → new.tail ≡ []
+    → ((es : Entries) → P es → Q (es ++ e ∷ [])) → AddsSteps Q old new
 adds_more P Q old now new e m k t f = record {
   made = m.made ++ e ∷ [];
   entered = k ∙ ap (λ l. l ++ e ∷ []) m.entered ∙ append_assoc old.kept m.made (e ∷ []);
@@ -34,7 +34,7 @@ adds_more P Q old now new e m k t f = record {
 }
 
 -- the same entries, of which something else is said
-pub adds_same : (P Q : Entries → Type 0) (old now new : ShellSession) → Adds P old now → new.kept ≡ now.kept → new.tail ≡ now.tail → ((es : Entries) → P es → Q es) → Adds Q old new
+pub adds_same : (P Q : Entries → Type 0) (old now new : ShellSession) → AddsSteps P old now → new.kept ≡ now.kept → new.tail ≡ now.tail → ((es : Entries) → P es → Q es) → AddsSteps Q old new
 adds_same P Q old now new m k t f = record { made = m.made; entered = k ∙ m.entered; tail = t ∙ m.tail; holds = f m.made m.holds }
 
 pub told_last : (o : Outcome) (es : Entries) (e : Entry Step Reply) → outcome_from o (es ++ e ∷ []) ≡ told (outcome_from o es) e.reply
@@ -42,17 +42,17 @@ told_last o [] e = refl
 told_last o (f ∷ es) e = told_last (told o f.reply) es e
 
 -- how many they are
-pub adds_counted : (P Q : Entries → Type 0) (n : ℕ) (old new : ShellSession) → Adds P old new → n ≡ length new.kept - length old.kept → ((es : Entries) → P es → Q es) → Adds (λ es. Q es × (n ≡ length es)) old new
+pub adds_counted : (P Q : Entries → Type 0) (n : ℕ) (old new : ShellSession) → AddsSteps P old new → n ≡ length new.kept - length old.kept → ((es : Entries) → P es → Q es) → AddsSteps (λ es. Q es × (n ≡ length es)) old new
 adds_counted P Q n old new m c f =
     let many : length new.kept ≡ length old.kept + length m.made = ap length m.entered ∙ length-append old.kept m.made in
     record { made = m.made; entered = m.entered; tail = m.tail; holds = (f m.made m.holds, omega (arith, c, many)) }
 
-rest-in : (w n : ℕ) (p : Phase) (es : Entries) → Ahead w n (place_in p) es → IsRestOfRound w n p es
+rest-in : (w n : ℕ) (p : Phase) (es : Entries) → Ahead w n (phase_place p) es → IsRestOfRound w n p es
 rest-in w n Reads es h = h
 rest-in w n Writes es h = h
 rest-in w n Evictions es h = h
 
-held-rest : (n : ℕ) (o : Option Holder) (w : ℕ) (p : Phase) (left : ℕ) (es : Entries) → option_map triple o ≡ Some (w, p, left) → Ahead w n (place_in p) es → IsRest n o es
+held-rest : (n : ℕ) (o : Option Holder) (w : ℕ) (p : Phase) (left : ℕ) (es : Entries) → option_map triple o ≡ Some (w, p, left) → Ahead w n (phase_place p) es → IsRest n o es
 held-rest n None w p left es e h = absurd (cc (e))
 held-rest n (Some g) w p left es e h =
     let all : triple g ≡ (w, p, left) = cc (e) in
@@ -61,7 +61,7 @@ held-rest n (Some g) w p left es e h =
     subst (λ (q : Phase). IsRestOfRound g.worker n q es) phase (subst (λ (v : ℕ). IsRestOfRound v n p es) worker (rest-in w n p es h))
 
 -- what is ahead of one that stands where the holder stands is the rest of the holder's round
-pub held_rest : (l : Local) (n : ℕ) (o : Option Holder) (w : ℕ) (p : Phase) (left : ℕ) → option_map triple o ≡ Some (w, p, left) → l.worker ≡ w → l.stripes ≡ n → l.place ≡ place_in p
+pub held_rest : (l : Local) (n : ℕ) (o : Option Holder) (w : ℕ) (p : Phase) (left : ℕ) → option_map triple o ≡ Some (w, p, left) → l.worker ≡ w → l.stripes ≡ n → l.place ≡ phase_place p
     → (es : Entries) → Ahead l.worker l.stripes l.place es → IsRest n o es
 held_rest l n o w p left e a b c es h =
     held-rest n o w p left es e
@@ -73,7 +73,7 @@ tail-joined [] b t = refl
 tail-joined (e ∷ a) [] t = refl
 tail-joined (e ∷ a) (f ∷ b) t = refl
 
-pub adds_joined : (P Q R : Entries → Type 0) (old now new : ShellSession) → Adds P old now → Adds Q now new → ((a b : Entries) → P a → Q b → R (a ++ b)) → Adds R old new
+pub adds_joined : (P Q R : Entries → Type 0) (old now new : ShellSession) → AddsSteps P old now → AddsSteps Q now new → ((a b : Entries) → P a → Q b → R (a ++ b)) → AddsSteps R old new
 adds_joined P Q R old now new m n f = record {
   made = m.made ++ n.made;
   entered = n.entered ∙ ap (λ l. l ++ n.made) m.entered ∙ append_assoc old.kept m.made n.made;
@@ -81,11 +81,11 @@ adds_joined P Q R old now new m n f = record {
   holds = f m.made n.made m.holds n.holds;
 }
 
-pub adds_known : (P Q : Entries → Type 0) (old new : ShellSession) → Adds P old new → ((es : Entries) → P es → Q es) → Adds Q old new
+pub adds_known : (P Q : Entries → Type 0) (old new : ShellSession) → AddsSteps P old new → ((es : Entries) → P es → Q es) → AddsSteps Q old new
 adds_known P Q old new m f = record { made = m.made; entered = m.entered; tail = m.tail; holds = f m.made m.holds }
 
 -- one entry
-pub adds_one : (old new : ShellSession) (e : Entry Step Reply) → new.kept ≡ old.kept ++ e ∷ [] → new.tail ≡ [] → Adds (λ es. es ≡ e ∷ []) old new
+pub adds_one : (old new : ShellSession) (e : Entry Step Reply) → new.kept ≡ old.kept ++ e ∷ [] → new.tail ≡ [] → AddsSteps (λ es. es ≡ e ∷ []) old new
 adds_one old new e k t = record { made = e ∷ []; entered = k; tail = t; holds = refl }
 
 pub told_joined : (o : Outcome) (a b : Entries) → outcome_from o (a ++ b) ≡ outcome_from (outcome_from o a) b

@@ -18,7 +18,7 @@ use Rattle.shell_model.specs.Shell.{may_write}
 use Rattle.drive.specs.declared.place.Place.{Place}
 use Rattle.drive.specs.declared.place.Place.TheVariants as at
 use Rattle.drive.specs.Walks.{Entries, step_of, IsWalk, AreWalks, IsReading, IsWriting}
-use Rattle.drive.specs.Places.{Ahead, act_at}
+use Rattle.drive.specs.Places.{Ahead, act_of_place}
 use Rattle.drive.proofs.Standing.{Standing, next_of, standing, ActFits}
 
 abbrev said : ℕ → Act → Reply → Entry Step Reply
@@ -35,7 +35,7 @@ PlaceFits n p s = s.at ≡ None
 remainder : (w n : ℕ) → 1 ≤ n → w % n < n
 remainder w n h = omega arith
 
-act_fits : (w n : ℕ) → 1 ≤ n → (p : Place) (s : Standing) → PlaceFits n p s → ActFits n (act_at w n p) s
+act_fits : (w n : ℕ) → 1 ≤ n → (p : Place) (s : Standing) → PlaceFits n p s → ActFits n (act_of_place w n p) s
 act_fits w n h (at.Offer i) s f = (remainder w n h, f.0)
 act_fits w n h (at.DrainRead st j) s f = f
 act_fits w n h at.DrainWrite s f = f
@@ -54,7 +54,7 @@ next_stripe w n st es s e lt h =
       | inr t ↦ (let g : IsReading w n (st + 1) 0 es = rw t at h in inr (at.DrainRead (st + 1) 0, g, (e, grind (arith, nat_tests, t, lt))))
     ]
 
-follow : (w n : ℕ) → 1 ≤ n → (p : Place) (r : Reply) (es : Entries) (s : Standing) → PlaceFits n p s → Ahead w n p (said w (act_at w n p) r ∷ es) → Goes w n es (next_of s (act_at w n p) r)
+follow : (w n : ℕ) → 1 ≤ n → (p : Place) (r : Reply) (es : Entries) (s : Standing) → PlaceFits n p s → Ahead w n p (said w (act_of_place w n p) r ∷ es) → Goes w n es (next_of s (act_of_place w n p) r)
 follow w n o (at.Look k) (reply.Hit m) es s f h = inr (at.Offer record { key = k; node = m }, h.1, (refl, f))
 follow w n o (at.Look k) reply.Miss es s f h = inr (at.Put k, h.1, f)
 follow w n o (at.Offer i) reply.Kept es s f h = inr (at.AfterRead answer.Kept, h.1, f.1)
@@ -91,7 +91,7 @@ follow w n o at.End reply.NotYet es s f h = inl (h.1, ap (λ (b : Bool). cond b 
 follow w n o p r es s f h = absurd h.1
 
 -- a walk begins with the act of its place
-pub first_step : (w n : ℕ) (p : Place) (y : Entry Step Reply) (es : Entries) → Ahead w n p (y ∷ es) → y.step ≡ step_of w (act_at w n p)
+pub first_step : (w n : ℕ) (p : Place) (y : Entry Step Reply) (es : Entries) → Ahead w n p (y ∷ es) → y.step ≡ step_of w (act_of_place w n p)
 first_step w n (at.Look k) y es h = h.0
 first_step w n (at.Offer i) y es h = h.0
 first_step w n (at.AfterRead a) y es h = h.0
@@ -139,9 +139,9 @@ advance_at w n o x es s p [] later cs f is h more ne = absurd (not_over w n p h)
 advance_at w n o x es s p (y ∷ walk) later cs f is h more ne =
     let same : x ≡ y = cc in
     let rest : es ≡ walk ++ later = cc in
-    let step : x.step ≡ step_of w (act_at w n p) = ap (λ (e : Entry Step Reply). e.step) same ∙ first_step w n p y walk h in
-    let whole : y ≡ said w (act_at w n p) x.reply = sym same ∙ ap (λ (t : Step). let e : Entry Step Reply = record { step = t; reply = x.reply } in e) step in
-    let goes : Goes w n walk (next_of s (act_at w n p) x.reply) = follow w n o p x.reply walk s f (subst (λ (e : Entry Step Reply). Ahead w n p (e ∷ walk)) whole h) in
+    let step : x.step ≡ step_of w (act_of_place w n p) = ap (λ (e : Entry Step Reply). e.step) same ∙ first_step w n p y walk h in
+    let whole : y ≡ said w (act_of_place w n p) x.reply = sym same ∙ ap (λ (t : Step). let e : Entry Step Reply = record { step = t; reply = x.reply } in e) step in
+    let goes : Goes w n walk (next_of s (act_of_place w n p) x.reply) = follow w n o p x.reply walk s f (subst (λ (e : Entry Step Reply). Ahead w n p (e ∷ walk)) whole h) in
     let here : Goes w n walk (next_of s x.step.act x.reply) = subst (λ (t : Step). Goes w n walk (next_of s t.act x.reply)) (sym step) goes in
     elim here [
       | inl over ↦ open_calls w n cs es (next_of s x.step.act x.reply) over.1 (subst (AreWalks w n cs) (sym (rest ∙ ap (λ l. l ++ later) over.0)) more) ne
@@ -156,7 +156,7 @@ first_fits : (w n : ℕ) → 1 ≤ n → (e : Entry Step Reply) (rest : Entries)
 first_fits w n o e rest s p [] later f is h = absurd (not_over w n p h)
 first_fits w n o e rest s p (y ∷ walk) later f is h =
     let same : e ≡ y = cc in
-    let step : e.step ≡ step_of w (act_at w n p) = ap (λ (e : Entry Step Reply). e.step) same ∙ first_step w n p y walk h in
+    let step : e.step ≡ step_of w (act_of_place w n p) = ap (λ (e : Entry Step Reply). e.step) same ∙ first_step w n p y walk h in
     subst (λ (t : Step). ActFits n t.act s) (sym step) (act_fits w n o p s f)
 
 -- the act after these entries fits where they led their worker
@@ -172,8 +172,8 @@ walks_fit w n o cs own e rest s free h = next_fits w n o own e rest s (open_call
 walk_free : (w n : ℕ) → 1 ≤ n → (p : Place) (es : Entries) (s : Standing) → PlaceFits n p s → Ahead w n p es → (standing s es).at ≡ None
 walk_free w n o p [] s f h = absurd (not_over w n p h)
 walk_free w n o p (y ∷ es) s f h =
-    let step : y.step ≡ step_of w (act_at w n p) = first_step w n p y es h in
-    let goes : Goes w n es (next_of s (act_at w n p) y.reply) = follow w n o p y.reply es s f (subst (λ (t : Step). Ahead w n p (record { step = t; reply = y.reply } ∷ es)) step h) in
+    let step : y.step ≡ step_of w (act_of_place w n p) = first_step w n p y es h in
+    let goes : Goes w n es (next_of s (act_of_place w n p) y.reply) = follow w n o p y.reply es s f (subst (λ (t : Step). Ahead w n p (record { step = t; reply = y.reply } ∷ es)) step h) in
     let here : Goes w n es (next_of s y.step.act y.reply) = subst (λ (t : Step). Goes w n es (next_of s t.act y.reply)) (sym step) goes in
     elim here [
       | inl over ↦ subst (λ (l : Entries). (standing (next_of s y.step.act y.reply) l).at ≡ None) (sym over.0) over.1

@@ -29,10 +29,10 @@ use Rattle.shell_model.proofs.Making.{Makes}
 use Rattle.drive.specs.declared.local.Local.{Local}
 use Rattle.drive.specs.declared.place.Place.{Place}
 use Rattle.drive.specs.declared.place.Place.TheVariants as at
-use Rattle.drive.specs.Places.{Ahead, act_at}
+use Rattle.drive.specs.Places.{Ahead, act_of_place}
 use Rattle.drive.specs.Walks.{Entries, step_of, IsReading, IsRound}
 use Rattle.drive.specs.Outcomes.{told, outcome_from}
-use Rattle.drive.specs.Settle.{ShellSession, Adds, IsReady}
+use Rattle.drive.specs.Settle.{ShellSession, AddsSteps, IsReady}
 use Rattle.drive.specs.QuietWalks.{IsCallers, FollowsQuietReport, IsQuietReport, FollowsQuietOffer, IsQuietOffer, FollowsQuietPut, IsQuietPut, FollowsQuietLook, IsQuietWalk}
 use Rattle.drive.proofs.Adding.{adds_known, adds_joined, told_joined}
 use Rattle.drive.proofs.Holding.{Performs, performs, made-by, stripes_stay}
@@ -160,15 +160,15 @@ after-write n r rest h g = absurd (cc (h))
 
 -- ---- cut off
 
-pub cut_first : (P : Entries → Type 0) (old new : ShellSession) → Adds (λ es. es ≡ []) old new → (rest : Entries) → P rest → Adds (λ es. (rest : Entries) × P (es ++ rest)) old new
+pub cut_first : (P : Entries → Type 0) (old new : ShellSession) → AddsSteps (λ es. es ≡ []) old new → (rest : Entries) → P rest → AddsSteps (λ es. (rest : Entries) × P (es ++ rest)) old new
 cut_first P old new m rest h = adds_known (λ es. es ≡ []) (λ es. (rest : Entries) × P (es ++ rest)) old new m (λ es e. (rest, subst (λ (x : Entries). P (x ++ rest)) (sym e) h))
 
-pub cut_next : (P : Entries → Type 0) (old now new : ShellSession) (e : Entry Step Reply) → Adds (λ es. es ≡ e ∷ []) old now → Adds (λ es. es ≡ []) now new → (rest : Entries) → P (e ∷ rest) → Adds (λ es. (rest : Entries) × P (es ++ rest)) old new
+pub cut_next : (P : Entries → Type 0) (old now new : ShellSession) (e : Entry Step Reply) → AddsSteps (λ es. es ≡ e ∷ []) old now → AddsSteps (λ es. es ≡ []) now new → (rest : Entries) → P (e ∷ rest) → AddsSteps (λ es. (rest : Entries) × P (es ++ rest)) old new
 cut_next P old now new e m n rest h =
     adds_joined (λ es. es ≡ e ∷ []) (λ es. es ≡ []) (λ es. (rest : Entries) × P (es ++ rest)) old now new m n
     (λ a b f g. (rest, subst (λ (x : Entries). P ((x ++ b) ++ rest)) (sym f) (subst (λ (x : Entries). P ((e ∷ x) ++ rest)) (sym g) h)))
 
-pub both : (R : Entries → Type 0) (old now new : ShellSession) (d e : Entry Step Reply) → Adds (λ es. es ≡ d ∷ []) old now → Adds (λ es. es ≡ e ∷ []) now new → R (d ∷ e ∷ []) → Adds R old new
+pub both : (R : Entries → Type 0) (old now new : ShellSession) (d e : Entry Step Reply) → AddsSteps (λ es. es ≡ d ∷ []) old now → AddsSteps (λ es. es ≡ e ∷ []) now new → R (d ∷ e ∷ []) → AddsSteps R old new
 both R old now new d e m n h =
     adds_joined (λ es. es ≡ d ∷ []) (λ es. es ≡ e ∷ []) R old now new m n (λ a b f g. subst (λ (x : Entries). R (x ++ b)) (sym f) (subst (λ (x : Entries). R (d ∷ x)) (sym g) h))
 
@@ -187,11 +187,11 @@ offer_made n w i q r s z f a b = (
   (λ o. silent-read q s b (told o r) ∙ silent-offer i r a o),
 )
 
-pub offer_cut : (n : ℕ) (i : Item) (old new : ShellSession) → Adds (λ es. es ≡ []) old new → Adds (λ es. (rest : Entries) × IsQuietOffer n i (es ++ rest)) old new
+pub offer_cut : (n : ℕ) (i : Item) (old new : ShellSession) → AddsSteps (λ es. es ≡ []) old new → AddsSteps (λ es. (rest : Entries) × IsQuietOffer n i (es ++ rest)) old new
 offer_cut n i old new m = cut_first (IsQuietOffer n i) old new m (said (act.Offer 0 i) reply.Kept ∷ said (act.AfterRead answer.Kept) reply.Go ∷ the_round) (refl, (refl, is-round n))
 
 pub offer_cut_next : (n w : ℕ) (i : Item) (q : Answer) (r : Reply) (old now new : ShellSession) → w ≡ 0 → ((m : ℕ) (es : Entries) → IsQuietReport m (act.AfterRead q) es → FollowsQuietOffer m r es)
-    → Adds (λ es. es ≡ record { step = step_of w (act.Offer 0 i); reply = r } ∷ []) old now → Adds (λ es. es ≡ []) now new → Adds (λ es. (rest : Entries) × IsQuietOffer n i (es ++ rest)) old new
+    → AddsSteps (λ es. es ≡ record { step = step_of w (act.Offer 0 i); reply = r } ∷ []) old now → AddsSteps (λ es. es ≡ []) now new → AddsSteps (λ es. (rest : Entries) × IsQuietOffer n i (es ++ rest)) old new
 offer_cut_next n w i q r old now new z f m k =
     cut_next (IsQuietOffer n i) old now new (record { step = step_of w (act.Offer 0 i); reply = r }) m k (said (act.AfterRead q) reply.Go ∷ the_round) (as-zero w (act.Offer 0 i) z, f n (said (act.AfterRead q) reply.Go ∷ the_round) (refl, is-round n))
 
@@ -208,17 +208,17 @@ put_made n w key r s z f a b = (
 )
 
 pub put_full : (n w key : ℕ) (r : Reply) (old new : ShellSession) → w ≡ 0 → ((m : ℕ) (es : Entries) → IsRound 0 m es → FollowsQuietPut m r es) → is_answer (act.Put key) r ≡ true
-    → Adds (λ es. es ≡ record { step = step_of w (act.Put key); reply = r } ∷ []) old new → Adds (Puts n key) old new
+    → AddsSteps (λ es. es ≡ record { step = step_of w (act.Put key); reply = r } ∷ []) old new → AddsSteps (Puts n key) old new
 put_full n w key r old new z f a m =
     let e : Entry Step Reply = record { step = step_of w (act.Put key); reply = r } in
     let h : Puts n key (record { step = step_of w (act.Put key); reply = r } ∷ []) = ((λ rest g. (as-zero w (act.Put key) z, f n rest g)), (λ o. silent-put key r a o)) in
     adds_known (λ es. es ≡ record { step = step_of w (act.Put key); reply = r } ∷ []) (Puts n key) old new m (λ es g. subst (λ (x : Entries). Puts n key x) (sym g) h)
 
-pub put_cut : (n key : ℕ) (old new : ShellSession) → Adds (λ es. es ≡ []) old new → Adds (λ es. (rest : Entries) × IsQuietPut n key (es ++ rest)) old new
+pub put_cut : (n key : ℕ) (old new : ShellSession) → AddsSteps (λ es. es ≡ []) old new → AddsSteps (λ es. (rest : Entries) × IsQuietPut n key (es ++ rest)) old new
 put_cut n key old new m = cut_first (IsQuietPut n key) old new m (said (act.Put key) reply.WritesFull ∷ the_round) (refl, is-round n)
 
 pub put_cut_next : (n w key : ℕ) (r : Reply) (old now new : ShellSession) → w ≡ 0 → ((m : ℕ) (es : Entries) → IsQuietReport m act.AfterWrite es → FollowsQuietPut m r es)
-    → Adds (λ es. es ≡ record { step = step_of w (act.Put key); reply = r } ∷ []) old now → Adds (λ es. es ≡ []) now new → Adds (λ es. (rest : Entries) × IsQuietPut n key (es ++ rest)) old new
+    → AddsSteps (λ es. es ≡ record { step = step_of w (act.Put key); reply = r } ∷ []) old now → AddsSteps (λ es. es ≡ []) now new → AddsSteps (λ es. (rest : Entries) × IsQuietPut n key (es ++ rest)) old new
 put_cut_next n w key r old now new z f m k =
     cut_next (IsQuietPut n key) old now new (record { step = step_of w (act.Put key); reply = r }) m k (said act.AfterWrite reply.Go ∷ the_round) (as-zero w (act.Put key) z, f n (said act.AfterWrite reply.Go ∷ the_round) (refl, is-round n))
 
@@ -227,43 +227,43 @@ put_cut_next n w key r old now new z f m k =
 abbrev pub Announces : ℕ → ℕ → Outcome → Entries → Type 0
 Announces n key o es = ((rest : Entries) → IsRound 0 n rest → IsQuietWalk n key (es ++ rest)) × (o ≡ outcome_from outcome.Kept es)
 
-pub hit_made : (n w key node : ℕ) (r : Reply) (old now new : ShellSession) → w ≡ 0 → r ≡ reply.Hit node → Adds (λ es. es ≡ record { step = step_of w (act.Look key); reply = r } ∷ []) old now
-    → Adds (Offers n (record { key = key; node = node })) now new → Adds (Announces n key outcome.Hit) old new
+pub hit_made : (n w key node : ℕ) (r : Reply) (old now new : ShellSession) → w ≡ 0 → r ≡ reply.Hit node → AddsSteps (λ es. es ≡ record { step = step_of w (act.Look key); reply = r } ∷ []) old now
+    → AddsSteps (Offers n (record { key = key; node = node })) now new → AddsSteps (Announces n key outcome.Hit) old new
 hit_made n w key node r old now new z h m k =
     adds_joined (λ es. es ≡ record { step = step_of w (act.Look key); reply = r } ∷ []) (Offers n (record { key = key; node = node })) (Announces n key outcome.Hit) old now new m k
     (λ a b f g. subst (λ (x : Entries). Announces n key outcome.Hit (x ++ b)) (sym f)
     (subst (λ (s : Reply). Announces n key outcome.Hit (record { step = step_of w (act.Look key); reply = s } ∷ b)) (sym h)
     ((λ rest i. (as-zero w (act.Look key) z, g.0 rest i)), sym (g.1 outcome.Hit))))
 
-pub miss_made : (n w key : ℕ) (r : Reply) (old now new : ShellSession) → w ≡ 0 → r ≡ reply.Miss → Adds (λ es. es ≡ record { step = step_of w (act.Look key); reply = r } ∷ []) old now
-    → Adds (Puts n key) now new → Adds (Announces n key outcome.Kept) old new
+pub miss_made : (n w key : ℕ) (r : Reply) (old now new : ShellSession) → w ≡ 0 → r ≡ reply.Miss → AddsSteps (λ es. es ≡ record { step = step_of w (act.Look key); reply = r } ∷ []) old now
+    → AddsSteps (Puts n key) now new → AddsSteps (Announces n key outcome.Kept) old new
 miss_made n w key r old now new z h m k =
     adds_joined (λ es. es ≡ record { step = step_of w (act.Look key); reply = r } ∷ []) (Puts n key) (Announces n key outcome.Kept) old now new m k
     (λ a b f g. subst (λ (x : Entries). Announces n key outcome.Kept (x ++ b)) (sym f)
     (subst (λ (s : Reply). Announces n key outcome.Kept (record { step = step_of w (act.Look key); reply = s } ∷ b)) (sym h)
     ((λ rest i. (as-zero w (act.Look key) z, g.0 rest i)), sym (g.1 outcome.Kept))))
 
-pub look_cut : (n key : ℕ) (old new : ShellSession) → Adds (λ es. es ≡ []) old new → Adds (λ es. (rest : Entries) × IsQuietWalk n key (es ++ rest)) old new
+pub look_cut : (n key : ℕ) (old new : ShellSession) → AddsSteps (λ es. es ≡ []) old new → AddsSteps (λ es. (rest : Entries) × IsQuietWalk n key (es ++ rest)) old new
 look_cut n key old new m = cut_first (IsQuietWalk n key) old new m (said (act.Look key) reply.Miss ∷ said (act.Put key) reply.WritesFull ∷ the_round) (refl, (refl, is-round n))
 
 -- cut off behind the look
 after-look : (n w key : ℕ) (r : Reply) (P : Entries → Type 0) (old now new : ShellSession) → w ≡ 0 → ((es : Entries) → P es → FollowsQuietLook n key r es)
-    → Adds (λ es. es ≡ record { step = step_of w (act.Look key); reply = r } ∷ []) old now → Adds (λ es. (rest : Entries) × P (es ++ rest)) now new → Adds (λ es. (rest : Entries) × IsQuietWalk n key (es ++ rest)) old new
+    → AddsSteps (λ es. es ≡ record { step = step_of w (act.Look key); reply = r } ∷ []) old now → AddsSteps (λ es. (rest : Entries) × P (es ++ rest)) now new → AddsSteps (λ es. (rest : Entries) × IsQuietWalk n key (es ++ rest)) old new
 after-look n w key r P old now new z f m k =
     adds_joined (λ es. es ≡ record { step = step_of w (act.Look key); reply = r } ∷ []) (λ es. (rest : Entries) × P (es ++ rest)) (λ es. (rest : Entries) × IsQuietWalk n key (es ++ rest)) old now new m k
     (λ a b g h. (h.0, subst (λ (x : Entries). IsQuietWalk n key ((x ++ b) ++ h.0)) (sym g) (as-zero w (act.Look key) z, f (b ++ h.0) h.1)))
 
-pub hit_cut : (n w key node : ℕ) (r : Reply) (old now new : ShellSession) → w ≡ 0 → r ≡ reply.Hit node → Adds (λ es. es ≡ record { step = step_of w (act.Look key); reply = r } ∷ []) old now
-    → Adds (λ es. (rest : Entries) × IsQuietOffer n (record { key = key; node = node }) (es ++ rest)) now new → Adds (λ es. (rest : Entries) × IsQuietWalk n key (es ++ rest)) old new
+pub hit_cut : (n w key node : ℕ) (r : Reply) (old now new : ShellSession) → w ≡ 0 → r ≡ reply.Hit node → AddsSteps (λ es. es ≡ record { step = step_of w (act.Look key); reply = r } ∷ []) old now
+    → AddsSteps (λ es. (rest : Entries) × IsQuietOffer n (record { key = key; node = node }) (es ++ rest)) now new → AddsSteps (λ es. (rest : Entries) × IsQuietWalk n key (es ++ rest)) old new
 hit_cut n w key node r old now new z h m k = after-look n w key r (IsQuietOffer n (record { key = key; node = node })) old now new z (λ es p. subst (λ (s : Reply). FollowsQuietLook n key s es) (sym h) p) m k
 
-pub miss_cut : (n w key : ℕ) (r : Reply) (old now new : ShellSession) → w ≡ 0 → r ≡ reply.Miss → Adds (λ es. es ≡ record { step = step_of w (act.Look key); reply = r } ∷ []) old now
-    → Adds (λ es. (rest : Entries) × IsQuietPut n key (es ++ rest)) now new → Adds (λ es. (rest : Entries) × IsQuietWalk n key (es ++ rest)) old new
+pub miss_cut : (n w key : ℕ) (r : Reply) (old now new : ShellSession) → w ≡ 0 → r ≡ reply.Miss → AddsSteps (λ es. es ≡ record { step = step_of w (act.Look key); reply = r } ∷ []) old now
+    → AddsSteps (λ es. (rest : Entries) × IsQuietPut n key (es ++ rest)) now new → AddsSteps (λ es. (rest : Entries) × IsQuietWalk n key (es ++ rest)) old new
 miss_cut n w key r old now new z h m k = after-look n w key r (IsQuietPut n key) old now new z (λ es p. subst (λ (s : Reply). FollowsQuietLook n key s es) (sym h) p) m k
 
 -- ---- a key
 
-pub key_cut : (n key : ℕ) (o : Outcome) (old now new : ShellSession) → Adds (Announces n key o) old now → Adds (λ es. es ≡ []) now new → Adds (λ es. (rest : Entries) × IsQuietWalk n key (es ++ rest)) old new
+pub key_cut : (n key : ℕ) (o : Outcome) (old now new : ShellSession) → AddsSteps (Announces n key o) old now → AddsSteps (λ es. es ≡ []) now new → AddsSteps (λ es. (rest : Entries) × IsQuietWalk n key (es ++ rest)) old new
 key_cut n key o old now new m k =
     adds_joined (Announces n key o) (λ es. es ≡ []) (λ es. (rest : Entries) × IsQuietWalk n key (es ++ rest)) old now new m k
     (λ a b f g. (the_round, subst (λ (x : Entries). IsQuietWalk n key (x ++ the_round)) (sym (ap (λ (x : Entries). a ++ x) g ∙ append-nil a)) (f.0 the_round (is-round n))))
@@ -275,19 +275,19 @@ is-begun : (n w : ℕ) (es : Entries) → w ≡ 0 → IsReading 0 n 0 0 es → I
 is-begun n w es z h = (as-zero w act.Begin z, h)
 
 -- a round behind a key's own steps
-pub round_cut : (n w key : ℕ) (o : Outcome) (r : Reply) (old now mid new : ShellSession) → w ≡ 0 → r ≡ reply.Began → Adds (Announces n key o) old now
-    → Adds (λ es. es ≡ record { step = step_of w act.Begin; reply = r } ∷ []) now mid → Adds (λ es. (rest : Entries) × IsReading 0 n 0 0 (es ++ rest)) mid new → Adds (λ es. (rest : Entries) × IsQuietWalk n key (es ++ rest)) old new
+pub round_cut : (n w key : ℕ) (o : Outcome) (r : Reply) (old now mid new : ShellSession) → w ≡ 0 → r ≡ reply.Began → AddsSteps (Announces n key o) old now
+    → AddsSteps (λ es. es ≡ record { step = step_of w act.Begin; reply = r } ∷ []) now mid → AddsSteps (λ es. (rest : Entries) × IsReading 0 n 0 0 (es ++ rest)) mid new → AddsSteps (λ es. (rest : Entries) × IsQuietWalk n key (es ++ rest)) old new
 round_cut n w key o r old now mid new z h m k j =
-    let both : Adds (λ es. (rest : Entries) × IsRound 0 n (es ++ rest)) now new =
+    let both : AddsSteps (λ es. (rest : Entries) × IsRound 0 n (es ++ rest)) now new =
     adds_joined (λ es. es ≡ record { step = step_of w act.Begin; reply = r } ∷ []) (λ es. (rest : Entries) × IsReading 0 n 0 0 (es ++ rest)) (λ es. (rest : Entries) × IsRound 0 n (es ++ rest)) now mid new k j
     (λ a b f g. (g.0, subst (λ (x : Entries). IsRound 0 n ((x ++ b) ++ g.0)) (sym f) (subst (λ (s : Reply). IsRound 0 n (record { step = step_of w act.Begin; reply = s } ∷ b ++ g.0)) (sym h) (is-begun n w (b ++ g.0) z g.1)))) in
     adds_joined (Announces n key o) (λ es. (rest : Entries) × IsRound 0 n (es ++ rest)) (λ es. (rest : Entries) × IsQuietWalk n key (es ++ rest)) old now new m both
     (λ a b f g. (g.0, subst (λ (x : Entries). IsQuietWalk n key x) (sym (append_assoc a b g.0)) (f.0 (b ++ g.0) g.1)))
 
-pub round_made : (n w key : ℕ) (o p : Outcome) (r : Reply) (old now mid new : ShellSession) → w ≡ 0 → r ≡ reply.Began → Adds (Announces n key o) old now
-    → Adds (λ es. es ≡ record { step = step_of w act.Begin; reply = r } ∷ []) now mid → Adds (λ es. IsReading 0 n 0 0 es × (p ≡ outcome_from o es)) mid new → Adds (λ es. IsQuietWalk n key es × (p ≡ outcome_from outcome.Kept es)) old new
+pub round_made : (n w key : ℕ) (o p : Outcome) (r : Reply) (old now mid new : ShellSession) → w ≡ 0 → r ≡ reply.Began → AddsSteps (Announces n key o) old now
+    → AddsSteps (λ es. es ≡ record { step = step_of w act.Begin; reply = r } ∷ []) now mid → AddsSteps (λ es. IsReading 0 n 0 0 es × (p ≡ outcome_from o es)) mid new → AddsSteps (λ es. IsQuietWalk n key es × (p ≡ outcome_from outcome.Kept es)) old new
 round_made n w key o p r old now mid new z h m k j =
-    let both : Adds (λ es. IsRound 0 n es × (p ≡ outcome_from o es)) now new =
+    let both : AddsSteps (λ es. IsRound 0 n es × (p ≡ outcome_from o es)) now new =
     adds_joined (λ es. es ≡ record { step = step_of w act.Begin; reply = r } ∷ []) (λ es. IsReading 0 n 0 0 es × (p ≡ outcome_from o es)) (λ es. IsRound 0 n es × (p ≡ outcome_from o es)) now mid new k j
     (λ a b f g. subst (λ (x : Entries). IsRound 0 n (x ++ b) × (p ≡ outcome_from o (x ++ b))) (sym f)
     (subst (λ (s : Reply). IsRound 0 n (record { step = step_of w act.Begin; reply = s } ∷ b) × (p ≡ outcome_from o (record { step = step_of w act.Begin; reply = s } ∷ b))) (sym h) (is-begun n w b z g.0, g.1))) in
@@ -312,5 +312,5 @@ reads_ahead l w n a b c z es h =
     subst (λ (v : ℕ). IsReading v n 0 0 es) z
     (subst (λ (m : ℕ). IsReading w m 0 0 es) b (subst (λ (v : ℕ). IsReading v l.stripes 0 0 es) a (subst (λ (p : Place). Ahead l.worker l.stripes p es) c h)))
 
-pub ready_reads : (l : Local) (w : ℕ) (y : Shell) → l.worker ≡ w → l.place ≡ at.DrainRead 0 0 → IsReady w (act.DrainRead 0) y → IsReady l.worker (act_at l.worker l.stripes l.place) y
-ready_reads l w y a c h = subst (λ (p : Place). IsReady l.worker (act_at l.worker l.stripes p) y) (sym c) (subst (λ (v : ℕ). IsReady v (act.DrainRead 0) y) (sym a) h)
+pub ready_reads : (l : Local) (w : ℕ) (y : Shell) → l.worker ≡ w → l.place ≡ at.DrainRead 0 0 → IsReady w (act.DrainRead 0) y → IsReady l.worker (act_of_place l.worker l.stripes l.place) y
+ready_reads l w y a c h = subst (λ (p : Place). IsReady l.worker (act_of_place l.worker l.stripes p) y) (sym c) (subst (λ (v : ℕ). IsReady v (act.DrainRead 0) y) (sym a) h)

@@ -11,7 +11,7 @@ use Rattle.drive.specs.declared.next.Next.{Next}
 use Rattle.drive.specs.declared.next.Next.TheVariants as told
 use Rattle.drive.specs.declared.place.Place.{Place}
 use Rattle.drive.specs.Walks.{Entries, step_of, IsWalk, AreWalks}
-use Rattle.drive.specs.Places.{Ahead, act_at, is_place}
+use Rattle.drive.specs.Places.{Ahead, act_of_place, is_place}
 use Rattle.drive.specs.Nexts.{Asks}
 use Rattle.drive.specs.Made.{Made}
 use Rattle.drive.specs.Admits.{MayMake}
@@ -22,7 +22,7 @@ use Rattle.drive.proofs.Asking.{first_step, not_over, walks_more}
 entry_of : Step → Reply → Entry Step Reply
 entry_of t r = record { step = t; reply = r }
 
-starts : (w n : ℕ) (p : Place) (es : Entries) → Ahead w n p es → (r : Reply) × (rest : Entries) × (es ≡ entry_of (step_of w (act_at w n p)) r ∷ rest)
+starts : (w n : ℕ) (p : Place) (es : Entries) → Ahead w n p es → (r : Reply) × (rest : Entries) × (es ≡ entry_of (step_of w (act_of_place w n p)) r ∷ rest)
 unfolding entry_of
 starts w n p [] h = absurd (not_over w n p h)
 starts w n p (y ∷ es) h = (y.reply, es, ap (λ t. entry_of t y.reply ∷ es) (first_step w n p y es h))

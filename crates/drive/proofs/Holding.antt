@@ -12,10 +12,10 @@ use Rattle.step_record.specs.declared.step.Reply.TheVariants as reply
 use Rattle.step_record.specs.declared.step.Step.{Step}
 use Rattle.step_record.specs.declared.drain.Phase.TheVariants.{Reads, Writes, Evictions}
 use Rattle.segments.specs.Items.{same, first}
-use Rattle.segments.specs.Queues.{total}
+use Rattle.segments.specs.Queues.{total_items}
 use Rattle.shell_model.specs.declared.holder.Holder.{Holder}
 use Rattle.shell_model.specs.Frequency.{admits}
-use Rattle.shell_model.specs.Shell.{Shell, window_size, is_over, may_read, may_write, held_by, is_stripe, in_phase, contest, shift, leave, evict_from, evict_oldest, evict, end, ended, drain_write, apply_task, perform, tallied, act as acted}
+use Rattle.shell_model.specs.Shell.{Shell, window_size, is_over, may_read, may_write, held_by, is_stripe, in_phase, shell_contest, shift, leave, evict_from, evict_oldest, evict, end, drain_at_end, drain_write, apply_task, perform, tallied, act as acted}
 use Rattle.shell_model.proofs.Making as k
 use Rattle.shell_model.proofs.Making.{Makes, MakesTo, perform-makes}
 use Rattle.shell_model.proofs.Histories.{counted_up}
@@ -25,7 +25,7 @@ use Rattle.drive.specs.declared.next.Next.TheVariants as told
 use Rattle.drive.specs.declared.place.Place.{Place}
 use Rattle.drive.specs.declared.place.Place.TheVariants as at
 use Rattle.drive.specs.Walks.{Entries, step_of, IsReading, IsWriting, IsEvicting, IsEnding, FollowsDrainRead, FollowsDrainWrite, FollowsEvict, FollowsEnd}
-use Rattle.drive.specs.Places.{Ahead, AheadAfter, act_at, is_place}
+use Rattle.drive.specs.Places.{Ahead, AheadAfter, act_of_place, is_place}
 use Rattle.drive.specs.Nexts.{Left, Asks}
 use Rattle.drive.specs.Settle.{Suits, IsReady, IsReadyFor}
 use Rattle.drive.proofs.Finishing.{finish}
@@ -93,7 +93,7 @@ stripes-after w x b r z made = refl
 
 -- a Fits comes where the window fits
 
-contest-fits : (c : Item) (o : Option Item) (x : Shell) → (contest c o x).0 ≡ reply.Fits → ⊥
+contest-fits : (c : Item) (o : Option Item) (x : Shell) → (shell_contest c o x).0 ≡ reply.Fits → ⊥
 contest-fits c None x h = absurd (cc (h))
 contest-fits c (Some v) x h =
     elim (cases_Bool (same c v)) [
@@ -106,7 +106,7 @@ contest-fits c (Some v) x h =
 
 from-fits : (c : Item) (x : Shell) → (evict_from c x).0 ≡ reply.Fits → ⊥
 from-fits c x h =
-    elim (cases_Bool (nat_lt x.config.capacity (total x.queues))) [
+    elim (cases_Bool (nat_lt x.config.capacity (total_items x.queues))) [
       | inl e ↦ contest-fits c (first x.queues.probation) x (rw e at h)
       | inr e ↦ absurd (let no : reply.Shifted c ≡ reply.Fits = rw e at h in cc (no))
     ]
@@ -154,7 +154,7 @@ abbrev Leads : ℕ → Act → Entries → Type 0
 Leads w b [] = ⊥
 Leads w b (e ∷ es) = e.step ≡ step_of w b
 
-leads : (w n : ℕ) (p : Place) (es : Entries) → Ahead w n p es → Leads w (act_at w n p) es
+leads : (w n : ℕ) (p : Place) (es : Entries) → Ahead w n p es → Leads w (act_of_place w n p) es
 leads w n (at.Look key) [] h = h
 leads w n (at.Look key) (e ∷ es) h = h.0
 leads w n (at.Offer i) [] h = h
@@ -182,7 +182,7 @@ one-act : (w : ℕ) (a b : Act) (es : Entries) → Leads w a es → Leads w b es
 one-act w a b [] h g = absurd h
 one-act w a b (e ∷ es) h g = ap (λ (s : Step). s.act) (sym h ∙ g)
 
-below : (w n : ℕ) (p : Place) (s : ℕ) → act_at w n p ≡ act.DrainRead s → is_place n p ≡ true → s < n
+below : (w n : ℕ) (p : Place) (s : ℕ) → act_of_place w n p ≡ act.DrainRead s → is_place n p ≡ true → s < n
 below w n (at.DrainRead t j) s e h = let q : act.DrainRead t ≡ act.DrainRead s = e in let same : t ≡ s = cc (q) in rw (← same) (ltb-true t n (and_parts (nat_lt t n) (nat_lt j 16) h).0)
 below w n (at.Look key) s e h = absurd (cc (e))
 below w n (at.Offer i) s e h = absurd (cc (e))
@@ -199,7 +199,7 @@ below w n at.End s e h = absurd (cc (e))
 comes : (w n : ℕ) (a : Act) (l : Local) → Asks w n (told.Do a l) → (rest : Entries) × Ahead l.worker l.stripes l.place rest × Leads w a rest × ((s : ℕ) → a ≡ act.DrainRead s → s < n)
 comes w n a l asks =
     let f = finish l.worker l.stripes l.place l.placed in
-    let one : Leads l.worker (act_at l.worker l.stripes l.place) f.0 = leads l.worker l.stripes l.place f.0 f.1 in
+    let one : Leads l.worker (act_of_place l.worker l.stripes l.place) f.0 = leads l.worker l.stripes l.place f.0 f.1 in
     let two : Leads w a f.0 = subst (λ (v : ℕ). Leads v a f.0) asks.1 (subst (λ (b : Act). Leads l.worker b f.0) asks.0 one) in
     (f.0, f.1, two, λ s e. subst (λ (m : ℕ). s < m) asks.2 (below l.worker l.stripes l.place s (asks.0 ∙ e) l.placed))
 
@@ -345,8 +345,8 @@ end-on : (w n : ℕ) (x y : Shell) (r : Reply) (next : Next) → IsReady w act.E
 end-on w n x y r told.Done v e asks back =
     let t : Performs x w act.End r y = performs x w act.End r y e in
     let over : is_over x ≡ false = v.suits in
-    let g : Some ((ended x.drain).0, record x { drain = (ended x.drain).1; holder = None }) ≡ Some (r, t.left) = rw (mine w x v.holder v.holds v.worker, over) at t.is in
-    let one : ((ended x.drain).0, record x { drain = (ended x.drain).1; holder = None }) ≡ (r, t.left) = cc (g) in
+    let g : Some ((drain_at_end x.drain).0, record x { drain = (drain_at_end x.drain).1; holder = None }) ≡ Some (r, t.left) = rw (mine w x v.holder v.holds v.worker, over) at t.is in
+    let one : ((drain_at_end x.drain).0, record x { drain = (drain_at_end x.drain).1; holder = None }) ≡ (r, t.left) = cc (g) in
     ap (λ (z : Shell). z.holder) t.counts ∙ sym (ap (λ (p : Reply × Shell). p.1.holder) one)
 end-on w n x y r (told.Do a m) v e asks back =
     let c = comes w n a m asks in
@@ -355,7 +355,7 @@ end-on w n x y r (told.Do a m) v e asks back =
     absurd no
 
 -- after a step that was ready, the next is ready too
-pub steps_on : (w n : ℕ) (p : Place) (x y : Shell) (r : Reply) (next : Next) → IsReady w (act_at w n p) x → length x.stripes ≡ n → acted x (step_of w (act_at w n p)) ≡ Some (r, y) → Asks w n next
+pub steps_on : (w n : ℕ) (p : Place) (x y : Shell) (r : Reply) (next : Next) → IsReady w (act_of_place w n p) x → length x.stripes ≡ n → acted x (step_of w (act_of_place w n p)) ≡ Some (r, y) → Asks w n next
     → ((es : Entries) → Left next es → AheadAfter w n p (Some r) es) → IsReadyFor w next y
 steps_on w n (at.DrainRead s j) x y r next v l e asks back = read-on w n s j x y r next v l e asks back
 steps_on w n at.DrainWrite x y r next v l e asks back = write-on w n x y r next v e asks back
@@ -376,8 +376,8 @@ asked w n next a l e h = subst (λ (x : Next). Asks w n x) e h
 pub ready_now : (w : ℕ) (next : Next) (a : Act) (l : Local) (x : Shell) → next ≡ told.Do a l → IsReadyFor w next x → IsReady w a x
 ready_now w next a l x e h = let v : IsReadyFor w (told.Do a l) x = subst (λ (m : Next). IsReadyFor w m x) e h in v
 
-step-same : (w n : ℕ) (a : Act) (l : Local) → Asks w n (told.Do a l) → step_of w a ≡ step_of l.worker (act_at l.worker l.stripes l.place)
-step-same w n a l h = ap (λ (b : Act). step_of w b) (sym h.0) ∙ ap (λ (v : ℕ). step_of v (act_at l.worker l.stripes l.place)) (sym h.1)
+step-same : (w n : ℕ) (a : Act) (l : Local) → Asks w n (told.Do a l) → step_of w a ≡ step_of l.worker (act_of_place l.worker l.stripes l.place)
+step-same w n a l h = ap (λ (b : Act). step_of w b) (sym h.0) ∙ ap (λ (v : ℕ). step_of v (act_of_place l.worker l.stripes l.place)) (sym h.1)
 
 -- a loop over the rest of a round keeps that its next act is ready
 pub round_on : (w n : ℕ) (next after : Next) (a : Act) (l : Local) (x y : Shell) (r : Reply) → next ≡ told.Do a l → Asks w n next → IsReadyFor w next x → length x.stripes ≡ n
@@ -386,8 +386,8 @@ round_on w n next after a l x y r d asks ready many e more back =
     let h : Asks w n (told.Do a l) = asked w n next a l d asks in
     let v : IsReady w a x = ready_now w next a l x d ready in
     let u : IsReady l.worker a x = subst (λ (m : ℕ). IsReady m a x) (sym h.1) v in
-    let t : IsReady l.worker (act_at l.worker l.stripes l.place) x = subst (λ (b : Act). IsReady l.worker b x) (sym h.0) u in
-    let f : acted x (step_of l.worker (act_at l.worker l.stripes l.place)) ≡ Some (r, y) = ap (acted x) (sym (step-same w n a l h)) ∙ e in
+    let t : IsReady l.worker (act_of_place l.worker l.stripes l.place) x = subst (λ (b : Act). IsReady l.worker b x) (sym h.0) u in
+    let f : acted x (step_of l.worker (act_of_place l.worker l.stripes l.place)) ≡ Some (r, y) = ap (acted x) (sym (step-same w n a l h)) ∙ e in
     subst (λ (m : ℕ). IsReadyFor m after y) h.1 (steps_on l.worker l.stripes l.place x y r after t (many ∙ sym h.2) f more back)
 
 pub asks_on : (w n : ℕ) (next after : Next) (a : Act) (l : Local) → next ≡ told.Do a l → Asks w n next → Asks l.worker l.stripes after → Asks w n after
@@ -419,14 +419,14 @@ module _ (w n : ℕ) (p : Place) where
       let now : Goes w n p (told.Do a l) es = subst (λ (x : Next). Goes w n p x es) d all in
       (f.0, now f.0 f.1)
 
-pub act_asked : (w n : ℕ) (next : Next) (a : Act) (l : Local) → next ≡ told.Do a l → Asks w n next → act_at l.worker l.stripes l.place ≡ a
+pub act_asked : (w n : ℕ) (next : Next) (a : Act) (l : Local) → next ≡ told.Do a l → Asks w n next → act_of_place l.worker l.stripes l.place ≡ a
 act_asked w n next a l d h = (asked w n next a l d h).0
 
 -- the first act of the rest is the one at which the holder stands
-pub ready_start : (l : Local) (next : Next) (x : Shell) → IsReady l.worker (act_at l.worker l.stripes l.place) x → Asks l.worker l.stripes next
+pub ready_start : (l : Local) (next : Next) (x : Shell) → IsReady l.worker (act_of_place l.worker l.stripes l.place) x → Asks l.worker l.stripes next
     → ((es : Entries) → Left next es → Ahead l.worker l.stripes l.place es) → IsReadyFor l.worker next x
 ready_start l told.Done x v asks back = absurd (leads l.worker l.stripes l.place [] (back [] refl))
 ready_start l (told.Do a m) x v asks back =
     let c = comes l.worker l.stripes a m asks in
-    let same : a ≡ act_at l.worker l.stripes l.place = one-act l.worker a (act_at l.worker l.stripes l.place) c.0 c.2 (leads l.worker l.stripes l.place c.0 (back c.0 c.1)) in
+    let same : a ≡ act_of_place l.worker l.stripes l.place = one-act l.worker a (act_of_place l.worker l.stripes l.place) c.0 c.2 (leads l.worker l.stripes l.place c.0 (back c.0 c.1)) in
     subst (λ (b : Act). IsReady l.worker b x) (sym same) v

@@ -7,7 +7,7 @@ use Rattle.step_record.specs.declared.step.Act.TheVariants as act
 use Rattle.step_record.specs.declared.step.Reply.TheVariants as reply
 use Rattle.drive.specs.Walks.{Entries, step_of}
 use Rattle.drive.specs.Outcomes.{outcome_from}
-use Rattle.drive.specs.Settle.{ShellSession, Adds}
+use Rattle.drive.specs.Settle.{ShellSession, AddsSteps}
 use Rattle.drive.specs.QuietWalks.{IsQuietWalk, AreQuietWalks, BeginQuietWalks}
 
 pub drop_key : (ks : List ℕ) (i d : ℕ) → i < length ks → drop i ks ≡ get_or ks i d ∷ drop (i + 1) ks

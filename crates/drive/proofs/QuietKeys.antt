@@ -16,10 +16,10 @@ use Rattle.segments.specs.Queues.{Queues, pushed}
 use Rattle.shell_buffers.specs.declared.task.Task.TheVariants.{Add}
 use Rattle.shell_buffers.specs.Buffers.{stripe_at}
 use Rattle.shell_model.specs.declared.stats.ShellStats.{ShellStats}
-use Rattle.shell_model.specs.Frequency.{recorded}
-use Rattle.shell_model.specs.ShellStats.{counted}
+use Rattle.shell_model.specs.Frequency.{frequency_recorded}
+use Rattle.shell_model.specs.ShellStats.{shell_stats_after}
 use Rattle.replacement.specs.Table.{after_hit}
-use Rattle.shell_model.specs.Shell.{Shell, window_size, protected_size, node_of, placed}
+use Rattle.shell_model.specs.Shell.{Shell, window_size, shell_protected_size, node_of, placed}
 use Rattle.drive.specs.Walks.{IsRound, FollowsBegin, IsWriting, FollowsDrainWrite}
 use Rattle.drive.specs.QuietWalks.{FollowsQuietReport, FollowsQuietOffer, FollowsQuietPut, FollowsQuietLook, IsQuietWalk}
 use Rattle.shell_model.specs.Evicting.{unlisted_by}
@@ -29,16 +29,16 @@ use Rattle.drive.proofs.QuietRounds.{fits, evicted, evicts, writing-opens, write
 -- an item at the first stripe, and nothing else, is drained
 hit-round : (c : Config) (t : List Item) (n : ℕ) (q : Queues) (rest : List (List Item)) (f : FrequencyData) (s : ShellStats) (m k nd : ℕ) (o : Outcome) (Q : Shell → Type 0)
     → length rest + 1 ≡ c.stripes → ((i : ℕ) → stripe_at i ([] ∷ rest) ≡ [])
-    → length (after_hit (protected_size c) record { key = k; node = nd } q).window ≤ window_size c
-    → Leaves Q c t n (after_hit (protected_size c) record { key = k; node = nd } q) ([] ∷ rest) (recorded f k)
+    → length (after_hit (shell_protected_size c) record { key = k; node = nd } q).window ≤ window_size c
+    → Leaves Q c t n (after_hit (shell_protected_size c) record { key = k; node = nd } q) ([] ∷ rest) (frequency_recorded f k)
     → Leads (IsRound 0 c.stripes) (state c t n q ((record { key = k; node = nd } ∷ []) ∷ rest) [] f drain.Idle None s m) o o Q
 hit-round c t n q rest f s m k nd o Q r u v g =
     let i : Item = record { key = k; node = nd } in
     let there : nat_lt 0 (length ((i ∷ []) ∷ rest)) ≡ true = grind (arith, nat_tests) in
-    let s1 : ShellStats = counted reply.Began s in
-    let s2 : ShellStats = counted (reply.Drained i) s1 in
-    let q2 : Queues = after_hit (protected_size c) i q in
-    let f2 : FrequencyData = recorded f k in
+    let s1 : ShellStats = shell_stats_after reply.Began s in
+    let s2 : ShellStats = shell_stats_after (reply.Drained i) s1 in
+    let q2 : Queues = after_hit (shell_protected_size c) i q in
+    let f2 : FrequencyData = frequency_recorded f k in
     opens c.stripes a.Begin (FollowsBegin 0 c.stripes) (state c t n q ((i ∷ []) ∷ rest) [] f drain.Idle None s m) o o Q reply.Began (state c t n q ((i ∷ []) ∷ rest) [] f drain.ToIdle (held Reads 128) s m)
     refl
     (reading-opens c.stripes 0 0 (state c t n q ((i ∷ []) ∷ rest) [] f drain.ToIdle (held Reads 128) s1 (m + 1)) o o Q
@@ -46,20 +46,20 @@ hit-round c t n q rest f s m k nd o Q r u v g =
     (rw there refl)
     (reads (length rest) 0 1 c t n q2 ([] ∷ rest) [] f2 s2 (m + 1 + 1) o o Q (omega (arith, r)) (omega (arith, r)) u
     (λ s3 m3. write-empty c t n q2 ([] ∷ rest) f2 Reads 128 s3 m3 o o Q refl
-    (fits c t n q2 ([] ∷ rest) f2 Writes 128 (counted reply.Empty s3) (m3 + 1) o Q v g)))))
+    (fits c t n q2 ([] ∷ rest) f2 Writes 128 (shell_stats_after reply.Empty s3) (m3 + 1) o Q v g)))))
 
 pub hits : (c : Config) (t : List Item) (n : ℕ) (q : Queues) (rest : List (List Item)) (f : FrequencyData) (s : ShellStats) (m k nd : ℕ) (Q : Shell → Type 0)
     → node_of k t ≡ Some nd → nd < n → length rest + 1 ≡ c.stripes → ((i : ℕ) → stripe_at i ([] ∷ rest) ≡ [])
-    → length (after_hit (protected_size c) record { key = k; node = nd } q).window ≤ window_size c
-    → Leaves Q c t n (after_hit (protected_size c) record { key = k; node = nd } q) ([] ∷ rest) (recorded f k)
+    → length (after_hit (shell_protected_size c) record { key = k; node = nd } q).window ≤ window_size c
+    → Leaves Q c t n (after_hit (shell_protected_size c) record { key = k; node = nd } q) ([] ∷ rest) (frequency_recorded f k)
     → Leads (IsQuietWalk c.stripes k) (state c t n q ([] ∷ rest) [] f drain.Idle None s m) outcome.Kept outcome.Hit Q
 hits c t n q rest f s m k nd Q e b r u v g =
     let i : Item = record { key = k; node = nd } in
     let below : nat_lt nd n ≡ true = grind (arith, nat_tests) in
     let there : nat_lt 0 (length ([] ∷ rest)) ≡ true = grind (arith, nat_tests) in
-    let s1 : ShellStats = counted (reply.Hit nd) s in
-    let s2 : ShellStats = counted reply.Kept s1 in
-    let s3 : ShellStats = counted reply.Go s2 in
+    let s1 : ShellStats = shell_stats_after (reply.Hit nd) s in
+    let s2 : ShellStats = shell_stats_after reply.Kept s1 in
+    let s3 : ShellStats = shell_stats_after reply.Go s2 in
     opens c.stripes (a.Look k) (FollowsQuietLook c.stripes k) (state c t n q ([] ∷ rest) [] f drain.Idle None s m) outcome.Kept outcome.Hit Q (reply.Hit nd) (state c t n q ([] ∷ rest) [] f drain.Idle None s m)
     (rw e refl)
     (opens c.stripes (a.Offer 0 i) (FollowsQuietOffer c.stripes) (state c t n q ([] ∷ rest) [] f drain.Idle None s1 (m + 1)) outcome.Hit outcome.Hit Q reply.Kept (state c t n q ((i ∷ []) ∷ rest) [] f drain.Idle None s1 (m + 1))
@@ -72,35 +72,35 @@ hits c t n q rest f s m k nd Q e b r u v g =
 miss-round : (j : ℕ) (c : Config) (t : List Item) (n : ℕ) (q : Queues) (l : List (List Item)) (i : Item) (f : FrequencyData) (s : ShellStats) (m : ℕ) (Q : Shell → Type 0)
     → suc j ≡ c.stripes → length l ≡ c.stripes → ((k : ℕ) → stripe_at k l ≡ [])
     → length (pushed Window i q).window ≤ window_size c + 1
-    → Leaves Q c (unlisted_by (evicted c (pushed Window i q) (recorded f i.key)).left t) n (evicted c (pushed Window i q) (recorded f i.key)).queues l (recorded f i.key)
-    → Leads (IsRound 0 c.stripes) (state c t n q l (Add i ∷ []) f drain.Required None s m) outcome.Kept (evicted c (pushed Window i q) (recorded f i.key)).outcome Q
+    → Leaves Q c (unlisted_by (evicted c (pushed Window i q) (frequency_recorded f i.key)).left t) n (evicted c (pushed Window i q) (frequency_recorded f i.key)).queues l (frequency_recorded f i.key)
+    → Leads (IsRound 0 c.stripes) (state c t n q l (Add i ∷ []) f drain.Required None s m) outcome.Kept (evicted c (pushed Window i q) (frequency_recorded f i.key)).outcome Q
 miss-round j c t n q l i f s m Q z r u v g =
-    let goal : Outcome = (evicted c (pushed Window i q) (recorded f i.key)).outcome in
-    let s1 : ShellStats = counted reply.Began s in
+    let goal : Outcome = (evicted c (pushed Window i q) (frequency_recorded f i.key)).outcome in
+    let s1 : ShellStats = shell_stats_after reply.Began s in
     let q2 : Queues = pushed Window i q in
-    let f2 : FrequencyData = recorded f i.key in
+    let f2 : FrequencyData = frequency_recorded f i.key in
     opens c.stripes a.Begin (FollowsBegin 0 c.stripes) (state c t n q l (Add i ∷ []) f drain.Required None s m) outcome.Kept goal Q reply.Began (state c t n q l (Add i ∷ []) f drain.ToIdle (held Reads 128) s m)
     refl
     (reads j 0 0 c t n q l (Add i ∷ []) f s1 (m + 1) outcome.Kept goal Q (omega (arith, z)) r u
     (λ s2 m2. writing-opens c.stripes (state c t n q l (Add i ∷ []) f drain.ToIdle (held Reads 128) s2 m2) outcome.Kept goal Q
     (opens c.stripes a.DrainWrite (λ r es. FollowsDrainWrite 0 c.stripes (IsWriting 0 c.stripes es) r es) (state c t n q l (Add i ∷ []) f drain.ToIdle (held Reads 128) s2 m2) outcome.Kept goal Q (reply.Applied i) (state c t n q2 l [] f2 drain.ToIdle (held Writes 127) s2 m2)
     refl
-    (write-empty c t n q2 l f2 Writes 127 (counted (reply.Applied i) s2) (m2 + 1) outcome.Kept goal Q refl
-    (evicts c t n q2 l f2 Writes 127 (counted reply.Empty (counted (reply.Applied i) s2)) (m2 + 1 + 1) Q v g)))))
+    (write-empty c t n q2 l f2 Writes 127 (shell_stats_after (reply.Applied i) s2) (m2 + 1) outcome.Kept goal Q refl
+    (evicts c t n q2 l f2 Writes 127 (shell_stats_after reply.Empty (shell_stats_after (reply.Applied i) s2)) (m2 + 1 + 1) Q v g)))))
 
 pub misses : (j : ℕ) (c : Config) (t : List Item) (n : ℕ) (q : Queues) (l : List (List Item)) (f : FrequencyData) (s : ShellStats) (m k : ℕ) (Q : Shell → Type 0)
     → node_of k t ≡ None → suc j ≡ c.stripes → length l ≡ c.stripes → ((i : ℕ) → stripe_at i l ≡ [])
     → length (pushed Window record { key = k; node = n } q).window ≤ window_size c + 1
-    → Leaves Q c (unlisted_by (evicted c (pushed Window record { key = k; node = n } q) (recorded f k)).left (placed record { key = k; node = n } t)) (n + 1)
-    (evicted c (pushed Window record { key = k; node = n } q) (recorded f k)).queues l (recorded f k)
-    → Leads (IsQuietWalk c.stripes k) (state c t n q l [] f drain.Idle None s m) outcome.Kept (evicted c (pushed Window record { key = k; node = n } q) (recorded f k)).outcome Q
+    → Leaves Q c (unlisted_by (evicted c (pushed Window record { key = k; node = n } q) (frequency_recorded f k)).left (placed record { key = k; node = n } t)) (n + 1)
+    (evicted c (pushed Window record { key = k; node = n } q) (frequency_recorded f k)).queues l (frequency_recorded f k)
+    → Leads (IsQuietWalk c.stripes k) (state c t n q l [] f drain.Idle None s m) outcome.Kept (evicted c (pushed Window record { key = k; node = n } q) (frequency_recorded f k)).outcome Q
 misses j c t n q l f s m k Q e z r u v g =
     let i : Item = record { key = k; node = n } in
-    let goal : Outcome = (evicted c (pushed Window i q) (recorded f k)).outcome in
+    let goal : Outcome = (evicted c (pushed Window i q) (frequency_recorded f k)).outcome in
     let t2 : List Item = placed record { key = k; node = n } t in
-    let s1 : ShellStats = counted reply.Miss s in
-    let s2 : ShellStats = counted (reply.Added n) s1 in
-    let s3 : ShellStats = counted reply.Drain s2 in
+    let s1 : ShellStats = shell_stats_after reply.Miss s in
+    let s2 : ShellStats = shell_stats_after (reply.Added n) s1 in
+    let s3 : ShellStats = shell_stats_after reply.Drain s2 in
     opens c.stripes (a.Look k) (FollowsQuietLook c.stripes k) (state c t n q l [] f drain.Idle None s m) outcome.Kept goal Q reply.Miss (state c t n q l [] f drain.Idle None s m)
     (rw e refl)
     (opens c.stripes (a.Put k) (FollowsQuietPut c.stripes) (state c t n q l [] f drain.Idle None s1 (m + 1)) outcome.Kept goal Q (reply.Added n) (state c t2 (n + 1) q l (Add i ∷ []) f drain.Idle None s1 (m + 1))

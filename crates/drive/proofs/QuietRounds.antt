@@ -15,8 +15,8 @@ use Rattle.step_record.specs.declared.drain.Phase.{Phase}
 use Rattle.step_record.specs.declared.drain.Phase.TheVariants.{Reads, Writes, Evictions}
 use Rattle.admission.specs.Frequency.{FrequencyData}
 use Rattle.segments.specs.declared.records.Queue.TheVariants.{Probation}
-use Rattle.segments.specs.Items.{same, times, without, first}
-use Rattle.segments.specs.Queues.{Queues, moved, total}
+use Rattle.segments.specs.Items.{same, times, items_without, first}
+use Rattle.segments.specs.Queues.{Queues, moved, total_items}
 use Rattle.segments.proofs.ItemLists.{length-without}
 use Rattle.replacement.specs.Admission.{admits_in}
 use Rattle.replacement.specs.Rules.{three_queues}
@@ -24,7 +24,7 @@ use Rattle.replacement.specs.Table.{Response, contest, trial, eviction}
 use Rattle.shell_buffers.specs.declared.task.Task.{Task}
 use Rattle.shell_buffers.specs.Buffers.{stripe_at}
 use Rattle.shell_model.specs.declared.stats.ShellStats.{ShellStats}
-use Rattle.shell_model.specs.ShellStats.{counted}
+use Rattle.shell_model.specs.ShellStats.{shell_stats_after}
 use Rattle.shell_model.specs.Shell.{Shell, window_size, may_write}
 use Rattle.shell_model.proofs.Undoing.{first-queued}
 use Rattle.drive.specs.Walks.{Entries, Opens, IsEnding, FollowsEnd, IsEvicting, FollowsEvict, IsWriting, FollowsDrainWrite, IsReading, FollowsDrainRead}
@@ -44,7 +44,7 @@ ends : (c : Config) (t : List Item) (n : ℕ) (q : Queues) (l : List (List Item)
 ends c t n q l f p left s m o Q v k =
     opens c.stripes a.End (FollowsEnd 0 c.stripes) (state c t n q l [] f drain.ToIdle (held p left) s m) o o Q reply.Idle (state c t n q l [] f drain.Idle None s m)
     (rw (not-over c q v) refl)
-    (over (state c t n q l [] f drain.Idle None (counted reply.Idle s) (m + 1)) o Q (k (counted reply.Idle s) (m + 1)))
+    (over (state c t n q l [] f drain.Idle None (shell_stats_after reply.Idle s) (m + 1)) o Q (k (shell_stats_after reply.Idle s) (m + 1)))
 
 -- ---- evictions
 
@@ -60,7 +60,7 @@ fits c t n q l f p left s m o Q v k =
     evicting-opens c.stripes (state c t n q l [] f drain.ToIdle (held p left) s m) o o Q
     (opens c.stripes a.Evict (λ r es. FollowsEvict 0 c.stripes (IsEvicting 0 c.stripes es) r es) (state c t n q l [] f drain.ToIdle (held p left) s m) o o Q reply.Fits (state c t n q l [] f drain.ToIdle (held Evictions left) s m)
     (rw (not-over c q v) refl)
-    (ends c t n q l f Evictions left (counted reply.Fits s) (m + 1) o Q v k))
+    (ends c t n q l f Evictions left (shell_stats_after reply.Fits s) (m + 1) o Q v k))
 
 -- one eviction that takes the candidate out of the window
 record IsTried (n : ℕ) (c : Item) (q : Queues) (r : Response) : Type 1 where
@@ -69,10 +69,10 @@ record IsTried (n : ℕ) (c : Item) (q : Queues) (r : Response) : Type 1 where
   shorter : length r.queues.window + 1 ≤ length q.window
 
 contest-tried : (n : ℕ) (admits : ℕ → ℕ → Bool) (c : Item) (o : Option Item) (q : Queues) → 1 ≤ times c q.window → IsTried n c q (contest admits c o (moved c Probation q))
-contest-tried n admits c None q h = record { more = λ M es w. w; tells = refl; shorter = omega (arith, h, length-without c q.window, length-without c (without c q.window)) }
+contest-tried n admits c None q h = record { more = λ M es w. w; tells = refl; shorter = omega (arith, h, length-without c q.window, length-without c (items_without c q.window)) }
 contest-tried n admits c (Some v) q h =
-    let rejects : length (without c (without c q.window)) + 1 ≤ length q.window = omega (arith, h, length-without c q.window, length-without c (without c q.window)) in
-    let evicts : length (without v (without c q.window)) + 1 ≤ length q.window = omega (arith, h, length-without c q.window, length-without v (without c q.window)) in
+    let rejects : length (items_without c (items_without c q.window)) + 1 ≤ length q.window = omega (arith, h, length-without c q.window, length-without c (items_without c q.window)) in
+    let evicts : length (items_without v (items_without c q.window)) + 1 ≤ length q.window = omega (arith, h, length-without c q.window, length-without v (items_without c q.window)) in
     elim (cases_Bool (same c v)) as (λ _. IsTried n c q (contest admits c (Some v) (moved c Probation q))) [
       | inl e ↦ rw e record { more = λ M es w. w; tells = refl; shorter = rejects }
       | inr e ↦ rw e (elim (cases_Bool (admits c.key v.key)) [
@@ -83,7 +83,7 @@ contest-tried n admits c (Some v) q h =
 
 trial-tried : (n : ℕ) (c : Config) (admits : ℕ → ℕ → Bool) (i : Item) (q : Queues) → 1 ≤ times i q.window → IsTried n i q (trial (three_queues c) admits i (moved i Probation q))
 trial-tried n c admits i q h =
-    elim (cases_Bool (nat_lt c.capacity (total (moved i Probation q)))) as (λ _. IsTried n i q (trial (three_queues c) admits i (moved i Probation q))) [
+    elim (cases_Bool (nat_lt c.capacity (total_items (moved i Probation q)))) as (λ _. IsTried n i q (trial (three_queues c) admits i (moved i Probation q))) [
       | inl e ↦ rw e (contest-tried n admits i (first (moved i Probation q).probation) q h)
       | inr e ↦ rw e record { more = λ M es w. w; tells = refl; shorter = omega (arith, h, length-without i q.window) }
     ]
@@ -122,8 +122,8 @@ evicts c t n q l f p left s m Q v k =
           let g : IsTried c.stripes o.0 q r = trial-tried c.stripes c (admits_in (Some f)) o.0 q (first-queued o.0 q.window o.1) in
           let k2 : Leaves Q c (unlisted_by r.left t) n r.queues l f = rw is at k in
           let b : Reply = reply_by r.outcome r.left o.0 in
-          let next : Leads (IsEvicting 0 c.stripes) (state c (unlisted_by r.left t) n r.queues l [] f drain.ToIdle (held Evictions left) (counted b s) (m + 1)) r.outcome r.outcome Q =
-          fits c (unlisted_by r.left t) n r.queues l f Evictions left (counted b s) (m + 1) r.outcome Q (let d = g.shorter in omega (arith, d, v)) k2 in
+          let next : Leads (IsEvicting 0 c.stripes) (state c (unlisted_by r.left t) n r.queues l [] f drain.ToIdle (held Evictions left) (shell_stats_after b s) (m + 1)) r.outcome r.outcome Q =
+          fits c (unlisted_by r.left t) n r.queues l f Evictions left (shell_stats_after b s) (m + 1) r.outcome Q (let d = g.shorter in omega (arith, d, v)) k2 in
           rw is (evicting-opens c.stripes (state c t n q l [] f drain.ToIdle (held p left) s m) outcome.Kept r.outcome Q
           (opens c.stripes a.Evict (λ r es. FollowsEvict 0 c.stripes (IsEvicting 0 c.stripes es) r es) (state c t n q l [] f drain.ToIdle (held p left) s m) outcome.Kept r.outcome Q b (state c (unlisted_by r.left t) n r.queues l [] f drain.ToIdle (held Evictions left) s m)
           (rw (evictions-law (state c t n q l [] f drain.ToIdle (held Evictions left) s m), e, o.1) refl)
@@ -144,7 +144,7 @@ writing-opens n x o goal Q k (e ∷ es) w l = k (e ∷ es) w l
 -- nothing waits there
 pub write-empty : (c : Config) (t : List Item) (n : ℕ) (q : Queues) (l : List (List Item)) (f : FrequencyData) (p : Phase) (left : ℕ) (s : ShellStats) (m : ℕ) (o goal : Outcome) (Q : Shell → Type 0)
     → may_write p ≡ true
-    → Leads (IsEvicting 0 c.stripes) (state c t n q l [] f drain.ToIdle (held Writes left) (counted reply.Empty s) (m + 1)) o goal Q
+    → Leads (IsEvicting 0 c.stripes) (state c t n q l [] f drain.ToIdle (held Writes left) (shell_stats_after reply.Empty s) (m + 1)) o goal Q
     → Leads (IsWriting 0 c.stripes) (state c t n q l [] f drain.ToIdle (held p left) s m) o goal Q
 write-empty c t n q l f p left s m o goal Q w g =
     writing-opens c.stripes (state c t n q l [] f drain.ToIdle (held p left) s m) o goal Q
@@ -169,7 +169,7 @@ reading-opens n s j x o goal Q k (e ∷ es) w l = k (e ∷ es) w l
 -- an empty stripe is left at once
 pub read-empty : (r j : ℕ) (c : Config) (t : List Item) (n : ℕ) (q : Queues) (l : List (List Item)) (ws : List Task) (f : FrequencyData) (s : ShellStats) (m : ℕ) (o goal : Outcome) (Q : Shell → Type 0)
     → r < length l → stripe_at r l ≡ []
-    → Leads (Next c.stripes r) (state c t n q l ws f drain.ToIdle (held Reads 128) (counted reply.Empty s) (m + 1)) o goal Q
+    → Leads (Next c.stripes r) (state c t n q l ws f drain.ToIdle (held Reads 128) (shell_stats_after reply.Empty s) (m + 1)) o goal Q
     → Leads (IsReading 0 c.stripes r j) (state c t n q l ws f drain.ToIdle (held Reads 128) s m) o goal Q
 read-empty r j c t n q l ws f s m o goal Q b h g =
     let z : nat_lt r (length l) ≡ true = grind (arith, nat_tests) in
@@ -184,8 +184,8 @@ pub reads : (i r j : ℕ) (c : Config) (t : List Item) (n : ℕ) (q : Queues) (l
     → Leads (IsReading 0 c.stripes r j) (state c t n q l ws f drain.ToIdle (held Reads 128) s m) o goal Q
 reads zero r j c t n q l ws f s m o goal Q e u h g =
     let last : (r + 1 == c.stripes) ≡ true = eq-eqb (r + 1) c.stripes (omega (arith, e)) in
-    read-empty r j c t n q l ws f s m o goal Q (omega (arith, e, u)) (h r) (rw last (g (counted reply.Empty s) (m + 1)))
+    read-empty r j c t n q l ws f s m o goal Q (omega (arith, e, u)) (h r) (rw last (g (shell_stats_after reply.Empty s) (m + 1)))
 reads (suc i) r j c t n q l ws f s m o goal Q e u h g =
     let more : (r + 1 == c.stripes) ≡ false = grind (arith, nat_tests) in
     read-empty r j c t n q l ws f s m o goal Q (omega (arith, e, u)) (h r)
-    (rw more (reads i (r + 1) 0 c t n q l ws f (counted reply.Empty s) (m + 1) o goal Q (omega (arith, e)) u h g))
+    (rw more (reads i (r + 1) 0 c t n q l ws f (shell_stats_after reply.Empty s) (m + 1) o goal Q (omega (arith, e)) u h g))

@@ -11,13 +11,13 @@ use Rattle.admission.specs.Frequency.{FrequencyData, frequency_of, pace_of}
 use Rattle.admission.proofs.Recording.{recorded_freq}
 use Rattle.replacement.specs.Shape.{shape_of}
 use Rattle.replacement.proofs.Shape.{shape-is, own-shape}
-use Rattle.policies.specs.QueueCache.{QueueState, response_to, accessed, frequency_after, empty_queue_state as opened_policy, outcomes_from, outcomes_after, state_from, state_after}
+use Rattle.policies.specs.QueueCache.{QueueState, access_response, accessed, frequency_after, empty_queue_state as opened_policy, outcomes_from, outcomes_after, state_from, state_after}
 use Rattle.policies.specs.QueueStep.{recorded_in}
 use Rattle.policies.proofs.Reached.{has-room, after-frequency, after-job}
 use Rattle.shell_model.specs.Shell.{Shell, act}
 use Rattle.shell_model.specs.Consistent.{IsConsistent}
 use Rattle.shell_model.specs.Reached.{IsReachable}
-use Rattle.shell_model.specs.Laws.{Made, IsShapeOf, opened}
+use Rattle.shell_model.specs.Laws.{MadeStep, IsShapeOf, opened}
 use Rattle.shell_model.proofs.Reached.{reached-sound}
 use Rattle.shell_model.proofs.Striped.{stripes_checked}
 use Rattle.maintenance.specs.Opened.{IsOpened}
@@ -25,15 +25,15 @@ use Rattle.journal.specs.Session.{IsSoundSession}
 use Rattle.drive.specs.Walks.{Entries}
 use Rattle.drive.specs.QuietWalks.{IsQuietWalk, AreQuietWalks}
 use Rattle.quiet_shell.specs.Quiet.{IsQuiet, window_tiny_lfu}
-use Rattle.drive.specs.Settle.{ShellSession, Adds}
-use Rattle.drive.specs.QuietRuns.{IsPolicysRun, GoesOn}
+use Rattle.drive.specs.Settle.{ShellSession, AddsSteps}
+use Rattle.drive.specs.QuietRuns.{IsPolicysRun, QuietGoesOn}
 use Rattle.drive.proofs.QuietServing.{key-served}
 
-after-append : (x : Shell) (es fs : List Made) → after act x (es ++ fs) ≡ after act (after act x es) fs
+after-append : (x : Shell) (es fs : List MadeStep) → after act x (es ++ fs) ≡ after act (after act x es) fs
 after-append x [] fs = refl
 after-append x (e ∷ es) fs = after-append (went (act x e.step) x) es fs
 
-legal-split : (x : Shell) (es fs : List Made) → IsLegal act x (es ++ fs) → IsLegal act x es × IsLegal act (after act x es) fs
+legal-split : (x : Shell) (es fs : List MadeStep) → IsLegal act x (es ++ fs) → IsLegal act x es × IsLegal act (after act x es) fs
 legal-split x [] fs l = (tt, l)
 legal-split x (e ∷ es) fs l = let p = legal-split (went (act x e.step) x) es fs l.1 in ((l.0, p.0), p.1)
 
@@ -57,11 +57,11 @@ runs c h (k ∷ ks) past x d (o ∷ os) es b v q f (walk, rest, cut, walks, tell
     let m = key-served x d k walk v q n (subst (λ (y : Config). IsQuietWalk y.stripes k walk) (sym b) walks) p.0 in
     let g : recorded_in k d.frequency ≡ frequency_after (window_tiny_lfu c) (past ++ k ∷ []) = frequency-next c h past d k f in
     let d2 : QueueState = accessed (frequency_after (window_tiny_lfu c) (past ++ k ∷ [])) k d in
-    let first : o ≡ (response_to (frequency_after (window_tiny_lfu c) (past ++ k ∷ [])) k d).outcome = tells ∙ m.0 ∙ ap (λ (y : Option FrequencyData). (response_to y k d).outcome) g in
+    let first : o ≡ (access_response (frequency_after (window_tiny_lfu c) (past ++ k ∷ [])) k d).outcome = tells ∙ m.0 ∙ ap (λ (y : Option FrequencyData). (access_response y k d).outcome) g in
     let quiet : IsQuiet (after act x walk) d2 = subst (λ (y : Option FrequencyData). IsQuiet (after act x walk) (accessed y k d)) g m.1.quiet in
     let r = runs c h ks (past ++ k ∷ []) (after act x walk) d2 os rest (m.1.config ∙ b) m.1.consistent quiet refl more p.1 in
     let all = outcomes_from (window_tiny_lfu c) (past ++ k ∷ []) d2 ks in (
-      ap (λ (y : Outcome). y ∷ os) first ∙ ap (λ (y : List Outcome). (response_to (frequency_after (window_tiny_lfu c) (past ++ k ∷ [])) k d).outcome ∷ y) r.0,
+      ap (λ (y : Outcome). y ∷ os) first ∙ ap (λ (y : List Outcome). (access_response (frequency_after (window_tiny_lfu c) (past ++ k ∷ [])) k d).outcome ∷ y) r.0,
       subst (λ (y : Shell). IsQuiet y (state_from (window_tiny_lfu c) (past ++ k ∷ []) d2 ks)) (sym (after-append x walk rest) ∙ ap (after act x) (sym cut)) r.1,
     )
 
@@ -101,7 +101,7 @@ outcomes-append : (j : Job) (past : List ℕ) (d : QueueState) (ks more : List �
 outcomes-append j past d [] more = ap (λ (y : List ℕ). outcomes_from j y d more) (sym (append-nil past))
 outcomes-append j past d (k ∷ ks) more =
     let e : QueueState = accessed (frequency_after j (past ++ k ∷ [])) k d in
-    let o : Outcome = (response_to (frequency_after j (past ++ k ∷ [])) k d).outcome in
+    let o : Outcome = (access_response (frequency_after j (past ++ k ∷ [])) k d).outcome in
     ap (λ (y : List Outcome). o ∷ y)
     (outcomes-append j (past ++ k ∷ []) e ks more
     ∙ ap (λ (y : List ℕ). outcomes_from j (past ++ k ∷ []) e ks ++ outcomes_from j y (state_from j (past ++ k ∷ []) e ks) more) (append_assoc past (k ∷ []) ks))
@@ -116,7 +116,7 @@ states-append j past d (k ∷ ks) more =
 
 goes-by : (c : Config) (past ks : List ℕ) (os : List Outcome) (z : Shell)
     → (os ≡ outcomes_from (window_tiny_lfu c) past (state_after (window_tiny_lfu c) past) ks) × IsQuiet z (state_from (window_tiny_lfu c) past (state_after (window_tiny_lfu c) past) ks)
-    → GoesOn c past ks os z
+    → QuietGoesOn c past ks os z
 unfolding outcomes_after state_after
 goes-by c past ks os z m =
     let j : Job = window_tiny_lfu c in (
@@ -125,7 +125,7 @@ goes-by c past ks os z m =
     )
 
 pub later-run : (x : Shell) (c : Config) (past ks : List ℕ) (os : List Outcome) (es : Entries) → IsReachable x → IsQuiet x (state_after (window_tiny_lfu c) past)
-    → AreQuietWalks x.config.stripes ks os es → IsLegal act x es → GoesOn c past ks os (after act x es)
+    → AreQuietWalks x.config.stripes ks os es → IsLegal act x es → QuietGoesOn c past ks os (after act x es)
 later-run x c past ks os es r q w l =
     let j : Job = window_tiny_lfu c in
     let same : x.config ≡ c = ap (λ (y : Job). y.config) (sym q.job ∙ after-job (window_tiny_lfu c) past) in
@@ -146,7 +146,7 @@ pub record Leads (P : Entries → Type 0) (x z : Shell) : Type 0 where
   pub legal : IsLegal act x made
   pub gives : z ≡ after act x made
 
-pub adds-lead : (P : Entries → Type 0) (old new : ShellSession) → IsSound old → IsSound new → new.opening ≡ old.opening → Adds P old new → Leads P old.engine new.engine
+pub adds-lead : (P : Entries → Type 0) (old new : ShellSession) → IsSound old → IsSound new → new.opening ≡ old.opening → AddsSteps P old new → Leads P old.engine new.engine
 adds-lead P old new s t o m =
     let kept : IsLegal act old.opening (old.kept ++ m.made) = subst (λ (y : Shell). IsLegal act y (old.kept ++ m.made)) o (subst (IsLegal act new.opening) m.entered t.legal) in
     let there : old.engine ≡ after act old.opening old.kept = s.stands in
@@ -163,14 +163,14 @@ at-opening : (s : ShellSession) → IsSound s → s.kept ≡ [] → s.engine ≡
 at-opening s h k = h.stands ∙ ap (after act s.opening) k
 
 pub new-session : (ks : List ℕ) (os : List Outcome) (old new : ShellSession) → IsSound old → IsSound new → IsReachable old.engine → new.opening ≡ old.opening
-    → Adds (AreQuietWalks old.engine.config.stripes ks os) old new → (c : Config) → IsOpened c old.opening → old.kept ≡ [] → IsPolicysRun c ks os new.engine
+    → AddsSteps (AreQuietWalks old.engine.config.stripes ks os) old new → (c : Config) → IsOpened c old.opening → old.kept ≡ [] → IsPolicysRun c ks os new.engine
 new-session ks os old new s t r o m c n k =
     let l = adds-lead (AreQuietWalks old.engine.config.stripes ks os) old new s t o m in
     let start : IsOpened c old.engine = subst (IsOpened c) (sym (at-opening old s k)) n in
     subst (IsPolicysRun c ks os) (sym l.gives) (new-run old.engine c ks os l.made r start l.holds l.legal)
 
 pub later-session : (ks : List ℕ) (os : List Outcome) (old new : ShellSession) → IsSound old → IsSound new → IsReachable old.engine → new.opening ≡ old.opening
-    → Adds (AreQuietWalks old.engine.config.stripes ks os) old new → (c : Config) (past : List ℕ) → IsQuiet old.engine (state_after (window_tiny_lfu c) past) → GoesOn c past ks os new.engine
+    → AddsSteps (AreQuietWalks old.engine.config.stripes ks os) old new → (c : Config) (past : List ℕ) → IsQuiet old.engine (state_after (window_tiny_lfu c) past) → QuietGoesOn c past ks os new.engine
 later-session ks os old new s t r o m c past q =
     let l = adds-lead (AreQuietWalks old.engine.config.stripes ks os) old new s t o m in
-    subst (GoesOn c past ks os) (sym l.gives) (later-run old.engine c past ks os l.made r q l.holds l.legal)
+    subst (QuietGoesOn c past ks os) (sym l.gives) (later-run old.engine c past ks os l.made r q l.holds l.legal)

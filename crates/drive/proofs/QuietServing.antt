@@ -15,14 +15,14 @@ use Rattle.segments.specs.Items.{times}
 use Rattle.segments.specs.Queues.{Queues, pushed, IsDistinct}
 use Rattle.replacement.specs.Admission.{admits_in}
 use Rattle.replacement.specs.Table.{Response, after_hit}
-use Rattle.policies.specs.QueueCache.{QueueState, response_to, accessed}
+use Rattle.policies.specs.QueueCache.{QueueState, access_response, accessed}
 use Rattle.policies.specs.QueueStep.{recorded_in, queue_act}
 use Rattle.shell_buffers.specs.declared.task.Task.{Task}
 use Rattle.shell_buffers.specs.Buffers.{stripe_at}
 use Rattle.shell_model.specs.declared.holder.Holder.{Holder}
 use Rattle.shell_model.specs.declared.stats.ShellStats.{ShellStats}
-use Rattle.shell_model.specs.Frequency.{recorded}
-use Rattle.shell_model.specs.Shell.{Shell, window_size, protected_size, node_of, act}
+use Rattle.shell_model.specs.Frequency.{frequency_recorded}
+use Rattle.shell_model.specs.Shell.{Shell, window_size, shell_protected_size, node_of, act}
 use Rattle.shell_model.specs.Consistent.{IsConsistent, IsPlaced, queued}
 use Rattle.shell_model.proofs.Counting.{listed-times, node-listed}
 use Rattle.shell_model.proofs.Histories.{after-sound}
@@ -53,7 +53,7 @@ record IsLeft (c : Config) (z : Shell) (d : QueueState) : Type 0 where
   holder : z.holder ≡ None
 
 abbrev outcome_at : QueueState → ℕ → Outcome
-outcome_at d k = (response_to (recorded_in k d.frequency) k d).outcome
+outcome_at d k = (access_response (recorded_in k d.frequency) k d).outcome
 
 abbrev accessed_at : QueueState → ℕ → QueueState
 accessed_at d k = accessed (recorded_in k d.frequency) k d
@@ -89,9 +89,9 @@ key-hit j c t n q f s m d k nd p e b v w g r =
     let one : queued i q ≡ 1 = omega (arith, there, few, resident t n q p i) in
     let below : nd < n = p.below i (omega (arith, there)) in
     let place = place-some i q apart one in
-    let fits : length (after_hit (protected_size c) i q).window ≤ window_size c = (let y = hit-window (protected_size c) i q apart in omega (arith, y, v)) in
+    let fits : length (after_hit (shell_protected_size c) i q).window ≤ window_size c = (let y = hit-window (shell_protected_size c) i q apart in omega (arith, y, v)) in
     let once = keys-once t n q p in
-    let same = responses c i q f d w g r apart once (once i (omega (arith, one))) ∙ ap nodeless_response (hit-response c (admits_in (Some (recorded f k))) i place.0 q place.1) in
+    let same = responses c i q f d w g r apart once (once i (omega (arith, one))) ∙ ap nodeless_response (hit-response c (admits_in (Some (frequency_recorded f k))) i place.0 q place.1) in
     subst (λ (o : Outcome). Leads (IsQuietWalk c.stripes k) (state c t n q ([] ∷ nones j) [] f drain.Idle None s m) outcome.Kept o (λ z. IsLeft c z (accessed_at d k)))
     (sym (ap (λ (y : Response). y.outcome) same))
     (hits c t n q (nones j) f s m k nd (λ z. IsLeft c z (accessed_at d k)) e below (omega (arith, b, length-nones j)) (all-empty (suc j)) fits
@@ -119,7 +119,7 @@ key-miss j c t n q f s m d k p e b v w g r =
     let none : queued i q ≡ 0 = not-queued i q new in
     let apart : IsDistinct q = distinct-in t n q p in
     let longer : length (pushed Window i q).window ≤ window_size c + 1 = omega (arith, v, length-append q.window (i ∷ [])) in
-    let same = responses c i q f d w g r apart (keys-once t n q p) (λ y h z. absurd (new y h z)) ∙ ap nodeless_response (miss-response c (admits_in (Some (recorded f k))) i q (place-none i q apart none)) in
+    let same = responses c i q f d w g r apart (keys-once t n q p) (λ y h z. absurd (new y h z)) ∙ ap nodeless_response (miss-response c (admits_in (Some (frequency_recorded f k))) i q (place-none i q apart none)) in
     subst (λ (o : Outcome). Leads (IsQuietWalk c.stripes k) (state c t n q ([] ∷ nones j) [] f drain.Idle None s m) outcome.Kept o (λ z. IsLeft c z (accessed_at d k)))
     (sym (ap (λ (y : Response). y.outcome) same))
     (misses j c t n q ([] ∷ nones j) f s m k (λ z. IsLeft c z (accessed_at d k)) e (sym b) (omega (arith, b, length-nones j)) (all-empty (suc j)) longer
@@ -128,7 +128,7 @@ key-miss j c t n q f s m d k p e b v w g r =
       job = w;
       queues = ap (λ (y : Response). y.queues) same;
       frequency = frequencies k f d r;
-      window = window-after c (pushed Window i q) (recorded f k) longer;
+      window = window-after c (pushed Window i q) (frequency_recorded f k) longer;
       stripes = ap nones (sym b);
       writes = refl;
       drain = refl;

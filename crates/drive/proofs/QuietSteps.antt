@@ -16,7 +16,7 @@ use Rattle.shell_buffers.specs.declared.task.Task.{Task}
 use Rattle.shell_model.specs.declared.holder.Holder.{Holder}
 use Rattle.shell_model.specs.declared.stats.ShellStats.{ShellStats}
 use Rattle.shell_model.specs.Shell.{Shell, perform, act}
-use Rattle.shell_model.specs.Laws.{Made}
+use Rattle.shell_model.specs.Laws.{MadeStep}
 use Rattle.shell_model.proofs.Histories.{counted_up}
 use Rattle.drive.specs.Walks.{Entries, Opens, step_of}
 use Rattle.drive.specs.Outcomes.{told, outcome_from}
@@ -30,11 +30,11 @@ reply_in r None = r
 reply_in r (Some p) = p.0
 
 -- an accepted step has the reply and leaves the state that the definition gives
-record IsStep (e : Made) (z : Shell) (r : Reply) (y : Shell) : Type 0 where
+record IsStep (e : MadeStep) (z : Shell) (r : Reply) (y : Shell) : Type 0 where
   reply : e.reply ≡ r
   leaves : z ≡ y
 
-accepted : (x : Shell) (e : Made) (b : Act) (r : Reply) (y : Shell) → e.step ≡ step_of 0 b → act x e.step ≡ Some (e.reply, went (act x e.step) x)
+accepted : (x : Shell) (e : MadeStep) (b : Act) (r : Reply) (y : Shell) → e.step ≡ step_of 0 b → act x e.step ≡ Some (e.reply, went (act x e.step) x)
     → perform 0 b x ≡ Some (r, y) → IsStep e (went (act x e.step) x) r (counted_up r y)
 unfolding reply_in
 accepted x e b r y s l h =

@@ -16,7 +16,7 @@ use Rattle.step_record.specs.declared.drain.Phase.TheVariants.{Reads, Writes, Ev
 use Rattle.step_record.specs.History.{went, after, IsLegal}
 use Rattle.shell_model.specs.declared.holder.Holder.{Holder}
 use Rattle.shell_model.specs.Shell.{Shell, act, perform, held_by, hold_read, hold_write, hold_evict, hold_end, may_read, may_write, node_of, look, tallied}
-use Rattle.shell_model.specs.Shell.{is_over, end, ended}
+use Rattle.shell_model.specs.Shell.{is_over, end, drain_at_end}
 use Rattle.shell_model.specs.Consistent.{IsConsistent}
 use Rattle.shell_model.proofs.Counting.{listed-times, node-listed}
 use Rattle.shell_model.proofs.Histories.{Steps, stepped, after-sound}
@@ -286,7 +286,7 @@ fits_told w x z b r h q t =
     let o : Own w x = own_of_act w x a.Evict refl (some_not_none (perform w a.Evict x) (r, p.left) e) in
     ap is_over p.counts ∙ fits-end w x p.left o.by r (mine w x o.by o.is (sym o.mine)) e t
 
-ended_at_last : (d : Drain) → (ended d).0 ≡ reply.NotYet → ⊥
+ended_at_last : (d : Drain) → (drain_at_end d).0 ≡ reply.NotYet → ⊥
 ended_at_last drain.ToRequired e = cc (e)
 ended_at_last drain.Required e = cc (e)
 ended_at_last drain.ToIdle e = cc (e)

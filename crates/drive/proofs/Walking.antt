@@ -11,7 +11,7 @@ use Rattle.drive.specs.declared.local.Local.{Local}
 use Rattle.drive.specs.declared.next.Next.{Next}
 use Rattle.drive.specs.declared.next.Next.TheVariants as told
 use Rattle.drive.specs.Walks.{Entries, step_of, IsWalk}
-use Rattle.drive.specs.Places.{Ahead, AheadAfter, act_at, is_place}
+use Rattle.drive.specs.Places.{Ahead, AheadAfter, act_of_place, is_place}
 use Rattle.drive.specs.Nexts.{Left, Asks}
 use Rattle.drive.specs.Made.{Made, BeginsWalk}
 use Rattle.drive.proofs.Finishing.{finish}
@@ -39,8 +39,8 @@ module _ (w : ℕ) (n : ℕ) (c : Call) where
   abbrev pub Completes : Next → Entries → Type 0
   Completes next es = (rest : Entries) → Left next rest → IsWalk w n c (es ++ rest)
 
-  pub same_step : (a : Act) (l : Local) → act_at l.worker l.stripes l.place ≡ a → l.worker ≡ w → step_of l.worker (act_at l.worker l.stripes l.place) ≡ step_of w a
-  same_step a l h e = ap (λ x. step_of x (act_at l.worker l.stripes l.place)) e ∙ ap (λ x. step_of w x) h
+  pub same_step : (a : Act) (l : Local) → act_of_place l.worker l.stripes l.place ≡ a → l.worker ≡ w → step_of l.worker (act_of_place l.worker l.stripes l.place) ≡ step_of w a
+  same_step a l h e = ap (λ x. step_of x (act_of_place l.worker l.stripes l.place)) e ∙ ap (λ x. step_of w x) h
 
   -- what is asked of the one whose next act is a
   pub asked_of : (next : Next) (a : Act) (l : Local) → next ≡ told.Do a l → Asks w n next → Asks w n (told.Do a l)

@@ -3,7 +3,7 @@ use Rattle.std.specs.Prelude.{◌≡◌, ℕ, []}
 use Rattle.drive.specs.declared.next.Next.{Next}
 use Rattle.drive.specs.declared.next.Next.TheVariants as next
 use Rattle.drive.specs.Walks.{Entries}
-use Rattle.drive.specs.Places.{act_at, Ahead}
+use Rattle.drive.specs.Places.{act_of_place, Ahead}
 
 -- the entries that complete the walk
 abbrev pub Left : Next → Entries → Type 0
@@ -13,4 +13,4 @@ Left (next.Do a l) es = Ahead l.worker l.stripes l.place es
 -- the act is the one at which the worker then stands, and it is still that worker
 abbrev pub Asks : ℕ → ℕ → Next → Type 0
 Asks w n next.Done = Unit {0}
-Asks w n (next.Do a l) = (act_at l.worker l.stripes l.place ≡ a) × (l.worker ≡ w) × (l.stripes ≡ n)
+Asks w n (next.Do a l) = (act_of_place l.worker l.stripes l.place ≡ a) × (l.worker ≡ w) × (l.stripes ≡ n)

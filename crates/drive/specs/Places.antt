@@ -10,18 +10,18 @@ use Rattle.drive.specs.Walks.{Entries, step_of, Opens, IsOffer, IsReport, IsPut,
 use Rattle.drive.specs.Walks.{IsReading, IsWriting, IsEvicting, IsEnding}
 
 -- the act that a worker who stands there was told to make
-abbrev pub act_at : ℕ → ℕ → Place → Act
-act_at w n (at.Look k) = act.Look k
-act_at w n (at.Offer i) = act.Offer (w % n) i
-act_at w n (at.AfterRead a) = act.AfterRead a
-act_at w n (at.Put k) = act.Put k
-act_at w n (at.Remove k) = act.Remove k
-act_at w n at.AfterWrite = act.AfterWrite
-act_at w n at.Begin = act.Begin
-act_at w n (at.DrainRead s j) = act.DrainRead s
-act_at w n at.DrainWrite = act.DrainWrite
-act_at w n at.Evict = act.Evict
-act_at w n at.End = act.End
+abbrev pub act_of_place : ℕ → ℕ → Place → Act
+act_of_place w n (at.Look k) = act.Look k
+act_of_place w n (at.Offer i) = act.Offer (w % n) i
+act_of_place w n (at.AfterRead a) = act.AfterRead a
+act_of_place w n (at.Put k) = act.Put k
+act_of_place w n (at.Remove k) = act.Remove k
+act_of_place w n at.AfterWrite = act.AfterWrite
+act_of_place w n at.Begin = act.Begin
+act_of_place w n (at.DrainRead s j) = act.DrainRead s
+act_of_place w n at.DrainWrite = act.DrainWrite
+act_of_place w n at.Evict = act.Evict
+act_of_place w n at.End = act.End
 
 -- the entries that complete the walk, from that act on
 abbrev pub Ahead : ℕ → ℕ → Place → Entries → Type 0
@@ -45,7 +45,7 @@ AheadIf w n (Some p) es = Ahead w n p es
 -- what may still come, after the reply where there is one
 abbrev pub AheadAfter : ℕ → ℕ → Place → Option Reply → Entries → Type 0
 AheadAfter w n p None es = Ahead w n p es
-AheadAfter w n p (Some r) es = Ahead w n p (record { step = step_of w (act_at w n p); reply = r } ∷ es)
+AheadAfter w n p (Some r) es = Ahead w n p (record { step = step_of w (act_of_place w n p); reply = r } ∷ es)
 
 -- a reply, where there is one, belongs to the act
 abbrev pub IsReplyTo : Act → Option Reply → Type 0

@@ -19,8 +19,8 @@ IsPolicysRun c keys os x =
     (os ≡ outcomes_after (window_tiny_lfu c) keys) × IsQuiet x (state_after (window_tiny_lfu c) keys)
 
 -- the same of keys that came after those of the past
-abbrev pub GoesOn : Config → List ℕ → List ℕ → List Outcome → Shell → Type 0
-GoesOn c past keys os x =
+abbrev pub QuietGoesOn : Config → List ℕ → List ℕ → List Outcome → Shell → Type 0
+QuietGoesOn c past keys os x =
     (outcomes_after (window_tiny_lfu c) (past ++ keys) ≡ outcomes_after (window_tiny_lfu c) past ++ os)
     × IsQuiet x (state_after (window_tiny_lfu c) (past ++ keys))
 

@@ -13,7 +13,7 @@ use Rattle.drive.specs.declared.quiet.QuietFault.{QuietFault}
 use Rattle.drive.specs.declared.quiet.QuietFault.TheVariants as fault
 use Rattle.drive.specs.Walks.{Entries, Opens, IsRound}
 use Rattle.drive.specs.Outcomes.{outcome_from}
-use Rattle.drive.specs.Settle.{ShellSession, Adds}
+use Rattle.drive.specs.Settle.{ShellSession, AddsSteps}
 
 -- n is the number of stripes
 module _ (n : ℕ) where
@@ -69,10 +69,10 @@ BeginQuietWalks n ks es = (rest : Entries) × (os : List Outcome) × AreQuietWal
 -- the first steps of the walks, of which the fault says how many they are; none where the maintenance was held
 abbrev pub Stopped : ℕ → List ℕ → ShellSession → ShellSession → QuietFault → Type 0
 Stopped n ks old new (fault.OutOfMemory done) =
-    Adds (λ es. BeginQuietWalks n ks es × (done ≡ length es)) old new
+    AddsSteps (λ es. BeginQuietWalks n ks es × (done ≡ length es)) old new
 Stopped n ks old new (fault.JournalFull done) =
-    Adds (λ es. BeginQuietWalks n ks es × (done ≡ length es)) old new × (length new.kept ≡ new.limit)
-Stopped n ks old new fault.Held = Adds (λ es. es ≡ []) old new
+    AddsSteps (λ es. BeginQuietWalks n ks es × (done ≡ length es)) old new × (length new.kept ≡ new.limit)
+Stopped n ks old new fault.Held = AddsSteps (λ es. es ≡ []) old new
 
 -- callers' acts leave the maintenance alone
 abbrev pub IsCallers : Act → Type 0

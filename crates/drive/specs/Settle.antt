@@ -28,7 +28,7 @@ tail_after [] tail = tail
 tail_after (e ∷ es) tail = []
 
 -- the entries came to the end of the journal
-pub record Adds (IsMade : Entries → Type 0) (old new : ShellSession) : Type 0 where
+pub record AddsSteps (IsMade : Entries → Type 0) (old new : ShellSession) : Type 0 where
   pub made : Entries
   pub entered : new.kept ≡ old.kept ++ made
   pub tail : new.tail ≡ tail_after made old.tail
@@ -55,19 +55,19 @@ steps_before (fault.OutOfMemory n) = n
 steps_before (fault.JournalFull n) = n
 
 -- a full journal is what is named where the journal is full, and only there
-abbrev pub IsCause : Refusal → ShellSession → Type 0
-IsCause refusal.OutOfMemory s = length s.kept < s.limit
-IsCause refusal.JournalFull s = length s.kept ≡ s.limit
+abbrev pub IsRefusalCause : Refusal → ShellSession → Type 0
+IsRefusalCause refusal.OutOfMemory s = length s.kept < s.limit
+IsRefusalCause refusal.JournalFull s = length s.kept ≡ s.limit
 
 abbrev pub IsFullAt : SettleFault → ShellSession → Type 0
 IsFullAt (fault.OutOfMemory n) s = length s.kept < s.limit
 IsFullAt (fault.JournalFull n) s = length s.kept ≡ s.limit
 
 -- the place at which a holder stands in its phase
-abbrev pub place_in : Phase → Place
-place_in Reads = at.DrainRead 0 0
-place_in Writes = at.DrainWrite
-place_in Evictions = at.Evict
+abbrev pub phase_place : Phase → Place
+phase_place Reads = at.DrainRead 0 0
+phase_place Writes = at.DrainWrite
+phase_place Evictions = at.Evict
 
 -- the holder's phase admits the act, what it drains is there, and it ends only where the window fits
 abbrev pub Suits : Act → Holder → Shell → Type 0

@@ -1,7 +1,7 @@
 //! What a worker does next.
 ghost use Rattle.std.specs.Prelude.{◌≡◌, ◌≤◌, ◌↔◌, Option, Some, None};
 ghost use Rattle.drive.specs.Walks.{Entries, step_of};
-ghost use Rattle.drive.specs.Places.{AheadAfter, IsReplyTo, act_at};
+ghost use Rattle.drive.specs.Places.{AheadAfter, IsReplyTo, act_of_place};
 ghost use Rattle.drive.specs.Nexts.{Left, Asks};
 
 use super::local::Local;
@@ -20,7 +20,7 @@ pub enum Next {
 /// What a worker does after the reply to its last act; with no reply, that act, which at first is
 /// the first one of its walk.
 pub fn next_step(local: Local, reply: Option<Reply>) -> Next
-    requires { IsReplyTo (act_at local.worker local.stripes local.place) reply }
+    requires { IsReplyTo (act_of_place local.worker local.stripes local.place) reply }
     ensures left { (es : Entries) → AheadAfter local.worker local.stripes local.place reply es ↔ Left result es }
     ensures asks { Asks local.worker local.stripes result }
 {

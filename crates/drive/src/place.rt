@@ -4,7 +4,7 @@ ghost use Rattle.step_record.specs.Answers.{is_answer};
 ghost use Rattle.drive.specs.Walks.{Entries, IsWriting, IsReading, FollowsLook, FollowsOffer, FollowsPut};
 ghost use Rattle.drive.specs.Walks.{FollowsRemove, FollowsReport, FollowsBegin, FollowsDrainRead, FollowsDrainWrite};
 ghost use Rattle.drive.specs.Walks.{FollowsEvict, FollowsEnd, IsEvicting};
-ghost use Rattle.drive.specs.Places.{Ahead, AheadIf, AheadAfter, IsReplyTo, act_at, is_place, is_place_if};
+ghost use Rattle.drive.specs.Places.{Ahead, AheadIf, AheadAfter, IsReplyTo, act_of_place, is_place, is_place_if};
 
 use step_record::{Act, Answer, Item, Key, Reply, Worker};
 
@@ -220,7 +220,7 @@ fn after_end(reply: Reply) -> Option<Place>
 /// The act of a worker that stands there.
 pub(crate) fn act_of(worker: Worker, stripes: u8, place: Place) -> Act
     requires { 1 ≤ stripes }
-    ensures { result ≡ act_at worker stripes place }
+    ensures { result ≡ act_of_place worker stripes place }
 {
     match place {
         Place::Look { key } => Act::Look { key },
@@ -242,7 +242,7 @@ pub(crate) fn act_of(worker: Worker, stripes: u8, place: Place) -> Act
 
 /// Where the worker stands after a reply; nowhere where its walk is over.
 pub(crate) fn after(worker: Worker, stripes: u8, place: Place, reply: Reply) -> Option<Place>
-    requires answer { is_answer (act_at worker stripes place) reply ≡ true }
+    requires answer { is_answer (act_of_place worker stripes place) reply ≡ true }
     requires some { 1 ≤ stripes }
     requires place { is_place stripes place ≡ true }
     ensures ahead { (es : Entries) → AheadAfter worker stripes place (Some reply) es

@@ -12,10 +12,10 @@ ghost use Rattle.quiet_shell.specs.Quiet.{IsQuiet, window_tiny_lfu};
 ghost use Rattle.maintenance.specs.Opened.{IsOpened};
 ghost use Rattle.drive.specs.Walks.{Entries, IsRound, step_of};
 ghost use Rattle.drive.specs.Outcomes.{outcome_from};
-ghost use Rattle.drive.specs.Settle.{Adds, IsCause};
+ghost use Rattle.drive.specs.Settle.{AddsSteps, IsRefusalCause};
 ghost use Rattle.drive.specs.QuietWalks.{AreQuietWalks, BeginQuietWalks, FollowsQuietOffer, FollowsQuietPut, IsCallers};
 ghost use Rattle.drive.specs.QuietWalks.{IsQuietOffer, IsQuietPut, IsQuietReport, IsQuietWalk, Stopped};
-ghost use Rattle.drive.specs.QuietRuns.{GoesOn, IsPolicysRun};
+ghost use Rattle.drive.specs.QuietRuns.{QuietGoesOn, IsPolicysRun};
 
 use super::local::Local;
 use super::settling::{Refusal, finish_round, make};
@@ -52,8 +52,8 @@ pub fn run_quiet(
     ensures opening { session.new.opening ≡ session.old.opening }
     ensures limit { session.new.limit ≡ session.old.limit }
     // One walk for each key, in order, whose replies come to the outcomes; and no holder is left.
-    ensures ok { IfOk result (λ os. Adds (AreQuietWalks session.old.engine.config.stripes keys.now os.items) session.old
-        session.new) }
+    ensures ok { IfOk result (λ os. AddsSteps (AreQuietWalks session.old.engine.config.stripes keys.now os.items)
+        session.old session.new) }
     ensures none { OnOk result (session.new.engine.holder ≡ None) }
     // From a new cache the outcomes are those of W-TinyLFU, and the cache holds then what that
     // holds: the same keys in the same order in the three queues, and the same frequency.
@@ -61,7 +61,7 @@ pub fn run_quiet(
         IfOk result (λ os. IsPolicysRun c keys.now os.items session.new.engine) }
     // So it goes on from a cache that holds what W-TinyLFU holds after the accesses of the past.
     ensures later { (c : Config) (past : List ℕ) → IsQuiet session.old.engine (state_after (window_tiny_lfu c) past) →
-        IfOk result (λ os. GoesOn c past keys.now os.items session.new.engine) }
+        IfOk result (λ os. QuietGoesOn c past keys.now os.items session.new.engine) }
     // The first steps of these walks.
     ensures err { IfErr result (Stopped session.old.engine.config.stripes keys.now session.old session.new) }
     ensures held { result ≡ Err QuietFault.Held ↔ IsSome session.old.engine.holder }
@@ -99,9 +99,9 @@ fn access_all(
     requires empty { outcomes.old.items ≡ [] }
     ensures opening { session.new.opening ≡ session.old.opening }
     ensures limit { session.new.limit ≡ session.old.limit }
-    ensures ok { OnOk result (Adds (AreQuietWalks stripes keys.now outcomes.new.items) session.old session.new) }
+    ensures ok { OnOk result (AddsSteps (AreQuietWalks stripes keys.now outcomes.new.items) session.old session.new) }
     ensures none { OnOk result (session.new.engine.holder ≡ None) }
-    ensures err { OnErr result (Adds (BeginQuietWalks stripes keys.now) session.old session.new) }
+    ensures err { OnErr result (AddsSteps (BeginQuietWalks stripes keys.now) session.old session.new) }
     ensures full { result ≡ Err Refusal.JournalFull → length session.new.kept ≡ session.new.limit }
 {
     for key in keys {
@@ -127,13 +127,13 @@ fn quiet_key(
     requires none { session.old.engine.holder ≡ None }
     ensures opening { session.new.opening ≡ session.old.opening }
     ensures limit { session.new.limit ≡ session.old.limit }
-    ensures ok { IfOk result (λ o. Adds (λ es. IsQuietWalk stripes key es
+    ensures ok { IfOk result (λ o. AddsSteps (λ es. IsQuietWalk stripes key es
         × (o ≡ outcome_from Kept es)) session.old session.new) }
     ensures none { OnOk result (session.new.engine.holder ≡ None) }
     ensures stripes { length session.new.engine.stripes ≡ stripes }
-    ensures err { OnErr result (Adds (λ es. (rest : Entries)
+    ensures err { OnErr result (AddsSteps (λ es. (rest : Entries)
         × IsQuietWalk stripes key (es ++ rest)) session.old session.new) }
-    ensures cause { IfErr result (λ f. IsCause f session.new) }
+    ensures cause { IfErr result (λ f. IsRefusalCause f session.new) }
 {
     let outcome = announce(session, worker, stripes, key)?;
     make(session, worker, Act::Begin)?;
@@ -156,13 +156,13 @@ fn announce(
     requires some { 1 ≤ stripes }
     ensures opening { session.new.opening ≡ session.old.opening }
     ensures limit { session.new.limit ≡ session.old.limit }
-    ensures ok { IfOk result (λ o. Adds (λ es. ((rest : Entries) → IsRound 0 stripes rest
+    ensures ok { IfOk result (λ o. AddsSteps (λ es. ((rest : Entries) → IsRound 0 stripes rest
         → IsQuietWalk stripes key (es ++ rest)) × (o ≡ outcome_from Kept es)) session.old session.new) }
     ensures holder { session.new.engine.holder ≡ session.old.engine.holder }
     ensures stripes { length session.new.engine.stripes ≡ stripes }
-    ensures err { OnErr result (Adds (λ es. (rest : Entries)
+    ensures err { OnErr result (AddsSteps (λ es. (rest : Entries)
         × IsQuietWalk stripes key (es ++ rest)) session.old session.new) }
-    ensures cause { IfErr result (λ f. IsCause f session.new) }
+    ensures cause { IfErr result (λ f. IsRefusalCause f session.new) }
 {
     match make_own(session, worker, Act::Look { key })? {
         Reply::Hit { node } => {
@@ -189,13 +189,13 @@ fn offer(
     requires accepted { IsSome (perform worker (Act.Offer 0 item) session.old.engine) }
     ensures opening { session.new.opening ≡ session.old.opening }
     ensures limit { session.new.limit ≡ session.old.limit }
-    ensures ok { OnOk result (Adds (λ es. ((rest : Entries) → IsRound 0 stripes rest
+    ensures ok { OnOk result (AddsSteps (λ es. ((rest : Entries) → IsRound 0 stripes rest
         → IsQuietOffer stripes item (es ++ rest)) × ((o : Outcome) → outcome_from o es ≡ o)) session.old session.new) }
     ensures holder { session.new.engine.holder ≡ session.old.engine.holder }
     ensures stripes { length session.new.engine.stripes ≡ length session.old.engine.stripes }
-    ensures err { OnErr result (Adds (λ es. (rest : Entries)
+    ensures err { OnErr result (AddsSteps (λ es. (rest : Entries)
         × IsQuietOffer stripes item (es ++ rest)) session.old session.new) }
-    ensures cause { IfErr result (λ f. IsCause f session.new) }
+    ensures cause { IfErr result (λ f. IsRefusalCause f session.new) }
 {
     let reply = make_own(session, worker, Act::Offer { stripe: 0, item })?;
     let answer = answer_in(item, reply);
@@ -220,13 +220,13 @@ fn put(session: &mut Session<Shell>, worker: Worker, stripes: u8, key: Key) -> R
     requires worker { worker ≡ 0 }
     ensures opening { session.new.opening ≡ session.old.opening }
     ensures limit { session.new.limit ≡ session.old.limit }
-    ensures ok { OnOk result (Adds (λ es. ((rest : Entries) → IsRound 0 stripes rest
+    ensures ok { OnOk result (AddsSteps (λ es. ((rest : Entries) → IsRound 0 stripes rest
         → IsQuietPut stripes key (es ++ rest)) × ((o : Outcome) → outcome_from o es ≡ o)) session.old session.new) }
     ensures holder { session.new.engine.holder ≡ session.old.engine.holder }
     ensures stripes { length session.new.engine.stripes ≡ length session.old.engine.stripes }
-    ensures err { OnErr result (Adds (λ es. (rest : Entries)
+    ensures err { OnErr result (AddsSteps (λ es. (rest : Entries)
         × IsQuietPut stripes key (es ++ rest)) session.old session.new) }
-    ensures cause { IfErr result (λ f. IsCause f session.new) }
+    ensures cause { IfErr result (λ f. IsRefusalCause f session.new) }
 {
     let reply = make_own(session, worker, Act::Put { key })?;
     if !is_queued(key, reply) {
@@ -257,14 +257,14 @@ fn make_own(session: &mut Session<Shell>, worker: Worker, act: Act) -> Result<Re
     requires own { IsCallers act }
     ensures opening { session.new.opening ≡ session.old.opening }
     ensures limit { session.new.limit ≡ session.old.limit }
-    ensures ok { IfOk result (λ r. Adds (λ es. es ≡ record { step = step_of worker act; reply = r } ∷ []) session.old
-        session.new) }
+    ensures ok { IfOk result (λ r. AddsSteps (λ es. es ≡ record { step = step_of worker act; reply = r } ∷ [])
+        session.old session.new) }
     ensures answer { IfOk result (λ r. is_answer act r ≡ true) }
     ensures accepted { IfOk result (λ r. acted session.old.engine (step_of worker act) ≡ Some (r, session.new.engine)) }
     ensures holder { session.new.engine.holder ≡ session.old.engine.holder }
     ensures stripes { length session.new.engine.stripes ≡ length session.old.engine.stripes }
-    ensures err { OnErr result (Adds (λ es. es ≡ []) session.old session.new) }
-    ensures cause { IfErr result (λ f. IsCause f session.new) }
+    ensures err { OnErr result (AddsSteps (λ es. es ≡ []) session.old session.new) }
+    ensures cause { IfErr result (λ f. IsRefusalCause f session.new) }
 {
     make(session, worker, act)
 }

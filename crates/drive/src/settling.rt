@@ -5,9 +5,10 @@ ghost use Rattle.step_record.specs.declared.limits.TheConstants.{MAX_STRIPES};
 ghost use Rattle.journal.specs.Session.{IsSameSession};
 ghost use Rattle.shell_model.specs.Shell.{perform, act as acted};
 ghost use Rattle.drive.specs.Walks.{Entries, step_of};
-ghost use Rattle.drive.specs.Places.{Ahead, act_at};
+ghost use Rattle.drive.specs.Places.{Ahead, act_of_place};
 ghost use Rattle.drive.specs.Outcomes.{told, outcome_from};
-ghost use Rattle.drive.specs.Settle.{Adds, IsRest, BeginsRest, IsReady, IsCause, IsFullAt, place_in, steps_before};
+ghost use Rattle.drive.specs.Settle.{AddsSteps, IsRest, BeginsRest, IsReady, IsRefusalCause, IsFullAt, phase_place};
+ghost use Rattle.drive.specs.Settle.{steps_before};
 
 use super::local::Local;
 use super::next::{Next, next_step};
@@ -35,11 +36,12 @@ pub fn settle(session: &mut Session<Shell>) -> Result<u64, SettleFault>
     ensures opening { session.new.opening ≡ session.old.opening }
     ensures limit { session.new.limit ≡ session.old.limit }
     // The holder's steps of a round from its phase on, or none, and no holder is left.
-    ensures ok { IfOk result (λ n. Adds (λ es. IsRest session.old.engine.config.stripes session.old.engine.holder es
-        × (n ≡ length es)) session.old session.new) }
+    ensures ok { IfOk result (λ n. AddsSteps
+        (λ es. IsRest session.old.engine.config.stripes session.old.engine.holder es × (n ≡ length es))
+        session.old session.new) }
     ensures none { OnOk result (session.new.engine.holder ≡ None) }
     // The first of these steps.
-    ensures err { IfErr result (λ f. Adds (λ es.
+    ensures err { IfErr result (λ f. AddsSteps (λ es.
         BeginsRest session.old.engine.config.stripes session.old.engine.holder es × (steps_before f ≡ length es))
         session.old session.new) }
     ensures cause { IfErr result (λ f. IsFullAt f session.new) }
@@ -75,7 +77,7 @@ impl Local {
     /// [`MAX_STRIPES`]: step_record::MAX_STRIPES
     pub fn resume(worker: Worker, stripes: u8, phase: Phase) -> Local
         requires { (1 ≤ stripes) × (stripes ≤ MAX_STRIPES) }
-        ensures place { result.place ≡ place_in phase }
+        ensures place { result.place ≡ phase_place phase }
         ensures same { (result.worker ≡ worker) × (result.stripes ≡ stripes) }
     {
         let place = match phase {
@@ -101,16 +103,16 @@ pub(crate) fn finish_round(
     start: Outcome,
 ) -> Result<Outcome, Refusal>
     requires stripes { length session.old.engine.stripes ≡ local.stripes }
-    requires ready { IsReady local.worker (act_at local.worker local.stripes local.place) session.old.engine }
+    requires ready { IsReady local.worker (act_of_place local.worker local.stripes local.place) session.old.engine }
     ensures opening { session.new.opening ≡ session.old.opening }
     ensures limit { session.new.limit ≡ session.old.limit }
-    ensures ok { IfOk result (λ o. Adds (λ es. Ahead local.worker local.stripes local.place es
+    ensures ok { IfOk result (λ o. AddsSteps (λ es. Ahead local.worker local.stripes local.place es
         × (o ≡ outcome_from start es)) session.old session.new) }
     ensures none { OnOk result (session.new.engine.holder ≡ None) }
     ensures stripes { length session.new.engine.stripes ≡ local.stripes }
-    ensures err { OnErr result (Adds (λ es. (rest : Entries)
+    ensures err { OnErr result (AddsSteps (λ es. (rest : Entries)
         × Ahead local.worker local.stripes local.place (es ++ rest)) session.old session.new) }
-    ensures cause { IfErr result (λ f. IsCause f session.new) }
+    ensures cause { IfErr result (λ f. IsRefusalCause f session.new) }
 {
     let worker = local.worker;
     let mut outcome = start;
@@ -134,7 +136,7 @@ pub(crate) fn make(session: &mut Session<Shell>, worker: Worker, act: Act) -> Re
     ensures accepted { IfOk result (λ r. acted session.old.engine (step_of worker act) ≡ Some (r, session.new.engine)) }
     ensures err { OnErr result (IsSameSession (λ x. x) session.old session.new) }
     ensures same { OnErr result (session.new.engine ≡ session.old.engine) }
-    ensures cause { IfErr result (λ f. IsCause f session.new) }
+    ensures cause { IfErr result (λ f. IsRefusalCause f session.new) }
     ensures room { length session.new.kept ≤ session.new.limit }
 {
     match session.step(Step { worker, act }) {

@@ -12,7 +12,7 @@ use Rattle.std.specs.Fmt.{decimal}
 use Rattle.std.specs.List.{All, join_with_byte, list_any}
 use Rattle.std.specs.Str.Parse.{AllDigits}
 use Rattle.journal_text.specs.Names.{spelling}
-use Rattle.journal_text.specs.Reading.{numeral_of, name_at, wide_at, small_at, act_at, reply_at, only_equals, only_steps, entry_in, count_in, made_in, or_count, line_in, words_of}
+use Rattle.journal_text.specs.Reading.{numeral_of, name_at, wide_at, small_at, act_at, reply_at, only_equals, only_steps, entry_in, count_in, made_in, or_count, journal_line_in, words_of}
 use Rattle.journal_text.specs.declared.word.Word.{Word}
 use Rattle.journal_text.specs.declared.word.Word.TheVariants.{Named, Worker, Stripe, Wide}
 use Rattle.journal_text.specs.Table.{word_text, spelled, FitsWord, Fit, act_words, reply_words, entry_words, count_words, text_of, is_answer_in, IsLine}
@@ -224,8 +224,8 @@ none_made n h =
     rw none refl
 
 -- Each line of the table is read.
-pub line_again : (v : Version) (l : Line) → IsLine v l → line_in v (text_of l) ≡ Some l
-unfolding line_in IsLine text_of
+pub line_again : (v : Version) (l : Line) → IsLine v l → journal_line_in v (text_of l) ≡ Some l
+unfolding journal_line_in IsLine text_of
 line_again One (Made e) h = made_back One e h.0 h.1
 line_again Two (Made e) h =
     ap (λ o. or_count o (count_in (words_of (spelled (entry_words e))))) (made_back Two e h.0 h.1)
@@ -267,7 +267,7 @@ line_of_two text l None e h = count_line text l _ refl h
 line_of_two text l (Some m) e h = made_taken Two text l (e ∙ h)
 
 -- What is read is a line of the table.
-pub line_taken : (v : Version) (text : List ℕ) (l : Line) → line_in v text ≡ Some l → IsLine v l × (text_of l ≡ text)
-unfolding line_in
+pub line_taken : (v : Version) (text : List ℕ) (l : Line) → journal_line_in v text ≡ Some l → IsLine v l × (text_of l ≡ text)
+unfolding journal_line_in
 line_taken One text l h = made_taken One text l h
 line_taken Two text l h = line_of_two text l _ refl h

@@ -4,7 +4,7 @@ use Rattle.std.proofs.lemmas.Bool.{cond-true, lt-ltb}
 use Rattle.std.proofs.lemmas.Bool.Decides.{nat_tests}
 use Rattle.std.specs.Fmt.{decimal}
 use Rattle.std.specs.Prelude.{nat_lt}
-use Rattle.journal_text.specs.Names.{name_of, spelling}
+use Rattle.journal_text.specs.Names.{journal_name_of, spelling}
 use Rattle.journal_text.specs.Reading.{numeral_of, name_at, wide_at, small_at, item_at, answer_at, answer_named, act_at, act_named, reply_at, reply_named}
 use Rattle.journal_text.specs.declared.word.Word.{Word}
 use Rattle.journal_text.specs.Table.{word_text, Fit, answer_name, act_words, reply_words}
@@ -118,7 +118,7 @@ pub name_taken : (ws : List (List ℕ)) (k : Name × List (List ℕ)) → name_a
 unfolding name_at
 name_taken [] k h = absurd (cc)
 name_taken (w ∷ ws) k h =
-    let r = rest_taken ws (name_of w) k h in
+    let r = rest_taken ws (journal_name_of w) k h in
     let word : w ≡ spelling k.0 = sym (name_takes w k.0 r.0) in
     let rest : ws ≡ k.1 = r.1 in
     cc

@@ -2,7 +2,7 @@
 use Rattle.std.proofs.Common.{◌≡◌, ◌∙◌, ℕ, List, [], ◌∷◌, ◌++◌, ap, sym, refl, append_assoc}
 use Rattle.std.proofs.lemmas.List.{append-nil}
 use Rattle.std.specs.Fmt.{decimal}
-use Rattle.journal_text.specs.Journal.{ended}
+use Rattle.journal_text.specs.Journal.{ended_line}
 use Rattle.journal_text.specs.Table.{word_text, spelled, spaced, act_words, reply_name, reply_numbers, entry_words}
 use Rattle.journal_text.specs.declared.name.Name.TheVariants as name
 use Rattle.journal_text.specs.declared.word.Word.{Word}
@@ -54,5 +54,5 @@ entry_more text a b d e entry ha hb hd he =
     words_more text a e (Worker entry.step.worker) (acts ++ (equals ++ numbers)) ha behind
 
 -- a text and a line feed
-pub line_ended : (text line all : List ℕ) (b : List ℕ) → b ≡ text ++ line → all ≡ b ++ 10 ∷ [] → all ≡ text ++ ended line
+pub line_ended : (text line all : List ℕ) (b : List ℕ) → b ≡ text ++ line → all ≡ b ++ 10 ∷ [] → all ≡ text ++ ended_line line
 line_ended text line all b h e = e ∙ ap (λ t. t ++ 10 ∷ []) h ∙ append_assoc text line (10 ∷ [])

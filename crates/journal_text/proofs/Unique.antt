@@ -3,8 +3,8 @@ use Rattle.std.proofs.Common.{◌≡◌, ◌≢◌, ◌∙◌, ◌<◌, ◌^◌,
 use Rattle.std.proofs.lemmas.List.{append-nil, append_cancel_left}
 use Rattle.std.proofs.lemmas.List.Elements.{All-head, All-tail}
 use Rattle.std.specs.List.{flat_map}
-use Rattle.journal_text.specs.Journal.{begun, closing, ended, entry_line, header, journal_of, AreLines, Entries}
-use Rattle.journal_text.specs.Reading.{line_in}
+use Rattle.journal_text.specs.Journal.{begun, closing_line, ended_line, entry_line, header, journal_of, AreLines, JournalEntries}
+use Rattle.journal_text.specs.Reading.{journal_line_in}
 use Rattle.journal_text.specs.Table.{text_of, IsLine}
 use Rattle.journal_text.specs.declared.line.Line.{Line}
 use Rattle.journal_text.specs.declared.line.Line.TheVariants.{Made, Steps}
@@ -24,7 +24,7 @@ same_some h = cc
 
 -- one line has one spelling, and one text is the spelling of one line
 pub one_line : (v : Version) (l m : Line) → IsLine v l → IsLine v m → text_of l ≡ text_of m → l ≡ m
-one_line v l m h k e = same_some (sym (line_again v l h) ∙ ap (line_in v) e ∙ line_again v m k)
+one_line v l m h k e = same_some (sym (line_again v l h) ∙ ap (journal_line_in v) e ∙ line_again v m k)
 
 pub line_lacks : (v : Version) (l : Line) → IsLine v l → HasNoFeed (text_of l)
 unfolding IsLine text_of
@@ -33,10 +33,10 @@ line_lacks One (Steps n) h = absurd h
 line_lacks Two (Steps n) h = spelled_lacks (Named name.Steps) (Wide n ∷ []) (tt, (h, tt))
 
 -- the first of two lines that end is one line, and what is behind it is one rest
-pub front_line : (v : Version) (l m : Line) (x y : List ℕ) → IsLine v l → IsLine v m → ended (text_of l) ++ x ≡ ended (text_of m) ++ y → (l ≡ m) × (x ≡ y)
+pub front_line : (v : Version) (l m : Line) (x y : List ℕ) → IsLine v l → IsLine v m → ended_line (text_of l) ++ x ≡ ended_line (text_of m) ++ y → (l ≡ m) × (x ≡ y)
 front_line v l m x y h k e =
     let text = (same_line (text_of l) (text_of m) x y (line_lacks v l h) (line_lacks v m k) e).0 in
-    (one_line v l m h k text, append_cancel_left (ended (text_of l)) x y (e ∙ ap (λ t. ended t ++ y) (sym text)))
+    (one_line v l m h k text, append_cancel_left (ended_line (text_of l)) x y (e ∙ ap (λ t. ended_line t ++ y) (sym text)))
 
 pub made_same : {e f : Entry Step Reply} → Made e ≡ Made f → e ≡ f
 made_same h = cc
@@ -45,30 +45,30 @@ pub count_line : (n : ℕ) → n < 2 ^ 64 → IsLine Two (Steps n)
 unfolding IsLine
 count_line n h = h
 
-pub nothing_ended : (t x : List ℕ) → [] ≢ ended t ++ x
+pub nothing_ended : (t x : List ℕ) → [] ≢ ended_line t ++ x
 nothing_ended t x e =
-    let count : 0 ≡ length (ended t ++ x) = ap length e in
-    omega (arith, length-append (ended t) x, length-append t (10 ∷ []))
+    let count : 0 ≡ length (ended_line t ++ x) = ap length e in
+    omega (arith, length-append (ended_line t) x, length-append t (10 ∷ []))
 
 -- what closes a journal is no line of an entry
-pub no_entry : (v : Version) (n : ℕ) (f : Entry Step Reply) (y : List ℕ) → n < 2 ^ 64 → IsLine v (Made f) → closing v n ≢ entry_line f ++ y
+pub no_entry : (v : Version) (n : ℕ) (f : Entry Step Reply) (y : List ℕ) → n < 2 ^ 64 → IsLine v (Made f) → closing_line v n ≢ entry_line f ++ y
 no_entry One n f y h k e = nothing_ended (text_of (Made f)) y e
 no_entry Two n f y h k e =
-    let both = front_line Two (Steps n) (Made f) [] y (count_line n h) k (append-nil (ended (text_of (Steps n))) ∙ e) in
+    let both = front_line Two (Steps n) (Made f) [] y (count_line n h) k (append-nil (ended_line (text_of (Steps n))) ∙ e) in
     let line : Steps n ≡ Made f = both.0 in
     absurd (cc)
 
-rest_same : (v : Version) (m n : ℕ) (es fs : Entries) → m < 2 ^ 64 → n < 2 ^ 64 → AreLines v es → AreLines v fs
-    → flat_map entry_line es ++ closing v m ≡ flat_map entry_line fs ++ closing v n → es ≡ fs
+rest_same : (v : Version) (m n : ℕ) (es fs : JournalEntries) → m < 2 ^ 64 → n < 2 ^ 64 → AreLines v es → AreLines v fs
+    → flat_map entry_line es ++ closing_line v m ≡ flat_map entry_line fs ++ closing_line v n → es ≡ fs
 rest_same v m n [] [] hm hn he hf e = refl
 rest_same v m n [] (f ∷ fs) hm hn he hf e =
-    absurd (no_entry v m f (flat_map entry_line fs ++ closing v n) hm (All-head (λ x. IsLine v (Made x)) f fs hf) (e ∙ append_assoc (entry_line f) (flat_map entry_line fs) (closing v n)))
+    absurd (no_entry v m f (flat_map entry_line fs ++ closing_line v n) hm (All-head (λ x. IsLine v (Made x)) f fs hf) (e ∙ append_assoc (entry_line f) (flat_map entry_line fs) (closing_line v n)))
 rest_same v m n (f ∷ es) [] hm hn he hf e =
-    absurd (no_entry v n f (flat_map entry_line es ++ closing v m) hn (All-head (λ x. IsLine v (Made x)) f es he) (sym e ∙ append_assoc (entry_line f) (flat_map entry_line es) (closing v m)))
+    absurd (no_entry v n f (flat_map entry_line es ++ closing_line v m) hn (All-head (λ x. IsLine v (Made x)) f es he) (sym e ∙ append_assoc (entry_line f) (flat_map entry_line es) (closing_line v m)))
 rest_same v m n (x ∷ es) (y ∷ fs) hm hn he hf e =
-    let both = front_line v (Made x) (Made y) (flat_map entry_line es ++ closing v m) (flat_map entry_line fs ++ closing v n)
+    let both = front_line v (Made x) (Made y) (flat_map entry_line es ++ closing_line v m) (flat_map entry_line fs ++ closing_line v n)
     (All-head (λ z. IsLine v (Made z)) x es he) (All-head (λ z. IsLine v (Made z)) y fs hf)
-    (sym (append_assoc (entry_line x) (flat_map entry_line es) (closing v m)) ∙ e ∙ append_assoc (entry_line y) (flat_map entry_line fs) (closing v n)) in
+    (sym (append_assoc (entry_line x) (flat_map entry_line es) (closing_line v m)) ∙ e ∙ append_assoc (entry_line y) (flat_map entry_line fs) (closing_line v n)) in
     let first : x ≡ y = made_same both.0 in
     let later : es ≡ fs = rest_same v m n es fs hm hn (All-tail (λ z. IsLine v (Made z)) x es he) (All-tail (λ z. IsLine v (Made z)) y fs hf) both.1 in
     cc
@@ -83,14 +83,14 @@ one_header Two One e = absurd (digits_apart (ap (λ (h : List ℕ). get_or h 17 
 one_header Two Two e = refl
 
 -- So a text that was written and is read gives the entries that were written.
-pub one_journal : (v w : Version) (es fs : Entries) → length es < 2 ^ 64 → length fs < 2 ^ 64 → AreLines v es → AreLines w fs
+pub one_journal : (v w : Version) (es fs : JournalEntries) → length es < 2 ^ 64 → length fs < 2 ^ 64 → AreLines v es → AreLines w fs
     → journal_of v es ≡ journal_of w fs → (v ≡ w) × (es ≡ fs)
 unfolding begun
 one_journal v w es fs m n he hf e =
-    let left = append_assoc (ended (header v)) (flat_map entry_line es) (closing v (length es)) in
-    let right = append_assoc (ended (header w)) (flat_map entry_line fs) (closing w (length fs)) in
+    let left = append_assoc (ended_line (header v)) (flat_map entry_line es) (closing_line v (length es)) in
+    let right = append_assoc (ended_line (header w)) (flat_map entry_line fs) (closing_line w (length fs)) in
     let whole = sym left ∙ e ∙ right in
     let heads = (same_line (header v) (header w) _ _ (header_lacks v) (header_lacks w) whole).0 in
     let version = one_header v w heads in
-    let rest = append_cancel_left (ended (header v)) _ _ (whole ∙ ap (λ h. ended h ++ (flat_map entry_line fs ++ closing w (length fs))) (sym heads)) in
-    (version, rest_same v (length es) (length fs) es fs m n he (subst (λ u. AreLines u fs) (sym version) hf) (rest ∙ ap (λ u. flat_map entry_line fs ++ closing u (length fs)) (sym version)))
+    let rest = append_cancel_left (ended_line (header v)) _ _ (whole ∙ ap (λ h. ended_line h ++ (flat_map entry_line fs ++ closing_line w (length fs))) (sym heads)) in
+    (version, rest_same v (length es) (length fs) es fs m n he (subst (λ u. AreLines u fs) (sym version) hf) (rest ∙ ap (λ u. flat_map entry_line fs ++ closing_line u (length fs)) (sym version)))

@@ -3,9 +3,9 @@ use Rattle.std.proofs.Common.{◌≡◌, ◌∙◌, ◌++◌, List, [], ◌∷�
 use Rattle.std.proofs.lemmas.List.{append-nil}
 use Rattle.std.proofs.lemmas.List.Elements.{All-cons, All-head, All-nil, All-tail}
 use Rattle.std.specs.Io.KnownBytes.{append_known, Appends, Keeps}
-use Rattle.journal_text.specs.Journal.{AreLines, Entries}
+use Rattle.journal_text.specs.Journal.{AreLines, JournalEntries}
 use Rattle.journal_text.specs.Table.{entry_words, is_answer_in, Fit, IsLine}
-use Rattle.journal_text.specs.Writing.{AreFit, IsWritten}
+use Rattle.journal_text.specs.Writing.{AreFit, IsTextWritten}
 use Rattle.journal_text.specs.declared.line.Line.TheVariants.{Made}
 use Rattle.journal_text.specs.declared.version.Version.TheVariants.{Two}
 use Rattle.step_record.specs.Answers.{is_answer, AnswersItsActs}
@@ -16,15 +16,15 @@ use Rattle.step_record.specs.declared.step.Step.{Step}
 
 -- more was gathered
 pub gathered : (old new : Option (List ℕ)) (waiting now more bytes all : List ℕ) → now ≡ waiting ++ more → all ≡ bytes ++ more
-    → IsWritten old new waiting bytes → IsWritten old new now all
+    → IsTextWritten old new waiting bytes → IsTextWritten old new now all
 gathered None new waiting now more bytes all n a h = tt
 gathered (Some xs) None waiting now more bytes all n a h = absurd h
 gathered (Some xs) (Some ys) waiting now more bytes all n a h =
     ap (λ w. ys ++ w) n ∙ sym (append_assoc ys waiting more) ∙ ap (λ t. t ++ more) h ∙ append_assoc xs bytes more ∙ ap (λ b. xs ++ b) (sym a)
 
 -- what waits was written, or not
-pub passed : (old mid new : Option (List ℕ)) (waiting now bytes : List ℕ) → IsWritten old mid waiting bytes
-    → Keeps (append_known mid waiting) (append_known new now) → IsWritten old new now bytes
+pub passed : (old mid new : Option (List ℕ)) (waiting now bytes : List ℕ) → IsTextWritten old mid waiting bytes
+    → Keeps (append_known mid waiting) (append_known new now) → IsTextWritten old new now bytes
 passed None mid new waiting now bytes h k = tt
 passed (Some xs) None new waiting now bytes h k = absurd h
 passed (Some xs) (Some ys) None waiting now bytes h k = absurd k
@@ -41,12 +41,12 @@ kept_waiting None = tt
 kept_waiting (Some xs) = refl
 
 -- at the start nothing waits
-pub started : (known : Option (List ℕ)) (now : List ℕ) (bytes : List ℕ) → now ≡ bytes → IsWritten known known now bytes
+pub started : (known : Option (List ℕ)) (now : List ℕ) (bytes : List ℕ) → now ≡ bytes → IsTextWritten known known now bytes
 started None now bytes e = tt
 started (Some xs) now bytes e = ap (λ t. xs ++ t) e
 
 -- all is written and flushed
-pub finished : (old mid new last : Option (List ℕ)) (waiting bytes : List ℕ) → IsWritten old mid waiting bytes → Appends mid new waiting → Keeps new last
+pub finished : (old mid new last : Option (List ℕ)) (waiting bytes : List ℕ) → IsTextWritten old mid waiting bytes → Appends mid new waiting → Keeps new last
     → Appends old last bytes
 finished None mid new last waiting bytes h a k = tt
 finished (Some xs) None new last waiting bytes h a k = absurd h
@@ -60,7 +60,7 @@ unfolding IsLine is_answer_in
 line_of_two e fit answer = (fit, answer)
 
 module _ {D : Type 0} (act : D → Step → Option (Reply × D)) where
-  pub lines_of_two : (x : D) (es : Entries) → AnswersItsActs act → IsLegal act x es → AreFit es → AreLines Two es
+  pub lines_of_two : (x : D) (es : JournalEntries) → AnswersItsActs act → IsLegal act x es → AreFit es → AreLines Two es
   lines_of_two x [] answers legal fit = All-nil (λ e. IsLine Two (Made e))
   lines_of_two x (e ∷ es) answers legal fit =
       All-cons (λ e. IsLine Two (Made e)) e es

@@ -12,47 +12,47 @@ use Rattle.step_record.specs.declared.entry.Entry.{Entry}
 use Rattle.step_record.specs.declared.step.Reply.{Reply}
 use Rattle.step_record.specs.declared.step.Step.{Step}
 
-abbrev pub Entries : Type 0
-Entries = List (Entry Step Reply)
+abbrev pub JournalEntries : Type 0
+JournalEntries = List (Entry Step Reply)
 
 abbrev pub header : Version → List ℕ
 header One = codes "cachesim journal 1"
 header Two = codes "cachesim journal 2"
 
 -- a line with its line feed
-abbrev pub ended : List ℕ → List ℕ
-ended text = text ++ codes "\n"
+abbrev pub ended_line : List ℕ → List ℕ
+ended_line text = text ++ codes "\n"
 
 abbrev pub entry_line : Entry Step Reply → List ℕ
-entry_line e = ended (text_of (Made e))
+entry_line e = ended_line (text_of (Made e))
 
 -- the header and the lines of the entries
-unfoldable pub begun : Version → Entries → List ℕ
-begun v es = ended (header v) ++ flat_map entry_line es
+unfoldable pub begun : Version → JournalEntries → List ℕ
+begun v es = ended_line (header v) ++ flat_map entry_line es
 
 -- behind the entries of version 2, their count
-abbrev pub closing : Version → ℕ → List ℕ
-closing One n = []
-closing Two n = ended (text_of (Steps n))
+abbrev pub closing_line : Version → ℕ → List ℕ
+closing_line One n = []
+closing_line Two n = ended_line (text_of (Steps n))
 
 -- the text of a journal of these entries
-abbrev pub journal_of : Version → Entries → List ℕ
-journal_of v es = begun v es ++ closing v (length es)
+abbrev pub journal_of : Version → JournalEntries → List ℕ
+journal_of v es = begun v es ++ closing_line v (length es)
 
 -- each entry is a line of the table
-abbrev pub AreLines : Version → Entries → Type 0
+abbrev pub AreLines : Version → JournalEntries → Type 0
 AreLines v es = All (λ e. IsLine v (Made e)) es
 
 -- the bytes are the text of these entries, in either version
-pub record IsTextOf (bytes : List ℕ) (es : Entries) : Type 0 where
+pub record IsTextOf (bytes : List ℕ) (es : JournalEntries) : Type 0 where
   pub version : Version
   pub lines : AreLines version es
   pub text : bytes ≡ journal_of version es
 
 -- The journals that a session takes which was opened on x: the text of entries that are legal from
 -- there and for which it has room, of at most as many bytes as a journal may have.
-pub record IsJournal {D : Type 0} (act : D → Step → Option (Reply × D)) (x : D) (limit : ℕ)
-    (bytes : List ℕ) (es : Entries) : Type 0 where
+pub record IsJournalText {D : Type 0} (act : D → Step → Option (Reply × D)) (x : D) (limit : ℕ)
+    (bytes : List ℕ) (es : JournalEntries) : Type 0 where
   pub whole : IsTextOf bytes es
   pub legal : IsLegal act x es
   pub room : length es ≤ limit

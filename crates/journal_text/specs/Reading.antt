@@ -2,7 +2,7 @@
 use Rattle.std.specs.Prelude.{◌&&◌, ◌==◌, ℕ, List, [], ◌∷◌, Option, Some, None, length, nat_lt, slice_index}
 use Rattle.std.specs.Prelude.{if◌then◌else◌}
 use Rattle.std.specs.List.{slice_split}
-use Rattle.journal_text.specs.Names.{name_of}
+use Rattle.journal_text.specs.Names.{journal_name_of}
 use Rattle.journal_text.specs.Table.{is_answer_in}
 use Rattle.journal_text.specs.declared.line.Line.{Line}
 use Rattle.journal_text.specs.declared.line.Line.TheVariants as line
@@ -32,7 +32,7 @@ words_of text = slice_split (λ b. b == 32) text
 
 unfoldable pub name_at : Reads Name
 name_at [] = None
-name_at (w ∷ ws) = with_rest ws (name_of w)
+name_at (w ∷ ws) = with_rest ws (journal_name_of w)
 
 unfoldable pub wide_at : Reads ℕ
 wide_at [] = None
@@ -130,6 +130,6 @@ or_count (Some l) other = Some l
 or_count None (Some n) = Some (line.Steps n)
 or_count None None = None
 
-unfoldable pub line_in : Version → List ℕ → Option Line
-line_in One text = made_in One text
-line_in Two text = or_count (made_in Two text) (count_in (words_of text))
+unfoldable pub journal_line_in : Version → List ℕ → Option Line
+journal_line_in One text = made_in One text
+journal_line_in Two text = or_count (made_in Two text) (count_in (words_of text))

@@ -92,14 +92,14 @@ reply_numbers (reply.Rejected item) = item_words item
 reply_numbers _ = []
 
 -- whether a version has such an entry: version 1 is from before keys could be removed
-abbrev pub is_known : Version → Act → Reply → Bool
-is_known One (act.Remove key) r = false
-is_known One a (reply.Cleared item) = false
-is_known v a r = true
+abbrev pub is_in_version : Version → Act → Reply → Bool
+is_in_version One (act.Remove key) r = false
+is_in_version One a (reply.Cleared item) = false
+is_in_version v a r = true
 
 -- the version has the entry, and the reply belongs to the act
 unfoldable pub is_answer_in : Version → Act → Reply → Bool
-is_answer_in v a r = is_known v a r && is_answer a r
+is_answer_in v a r = is_in_version v a r && is_answer a r
 
 abbrev pub reply_words : Reply → List Word
 reply_words r = Named (reply_name r) ∷ reply_numbers r

@@ -2,13 +2,13 @@
 use Rattle.std.specs.Prelude.{ℕ, List, Option}
 use Rattle.std.specs.Io.KnownBytes.{append_known, Appends}
 use Rattle.std.specs.List.{All}
-use Rattle.journal_text.specs.Journal.{Entries}
+use Rattle.journal_text.specs.Journal.{JournalEntries}
 use Rattle.journal_text.specs.Table.{entry_words, Fit}
 
 -- what the writer got since old, and what waits in the buffer, are these bytes
-abbrev pub IsWritten : Option (List ℕ) → Option (List ℕ) → List ℕ → List ℕ → Type 0
-IsWritten old new waiting bytes = Appends old (append_known new waiting) bytes
+abbrev pub IsTextWritten : Option (List ℕ) → Option (List ℕ) → List ℕ → List ℕ → Type 0
+IsTextWritten old new waiting bytes = Appends old (append_known new waiting) bytes
 
 -- the numbers of each entry are in their ranges
-abbrev pub AreFit : Entries → Type 0
+abbrev pub AreFit : JournalEntries → Type 0
 AreFit es = All (λ e. Fit (entry_words e)) es

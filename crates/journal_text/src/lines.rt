@@ -2,7 +2,7 @@
 ghost use Rattle.std.specs.Prelude.{◌≡◌, ◌≢◌, ◌≤◌, ◌<◌, ◌+◌, ◌++◌, ℕ, List, [], IfErr, OnOk, MatchOption, length};
 ghost use Rattle.journal_text.specs.Faults.{IsFault, IsUnread};
 ghost use Rattle.text_lines.specs.Feeds.{HasNoFeed};
-ghost use Rattle.journal_text.specs.Journal.{begun, ended, header, journal_of, AreLines, IsTextOf};
+ghost use Rattle.journal_text.specs.Journal.{begun, ended_line, header, journal_of, AreLines, IsTextOf};
 ghost use Rattle.journal_text.specs.declared.version.Version.{Version};
 ghost use Rattle.journal_text.specs.declared.version.Version.TheVariants.{One};
 ghost use Rattle.journal.specs.Session.{IsSameSession};
@@ -44,9 +44,9 @@ fn read_lines<E: Engine<Step = Step, Reply = Reply>>(
     session: &mut Session<E>,
 ) -> Result<(), JournalFault>
     requires { session.old.kept ≡ [] }
-    ensures ok { OnOk result (IsTextOf (ended (header version) ++ lines.now) session.new.kept) }
+    ensures ok { OnOk result (IsTextOf (ended_line (header version) ++ lines.now) session.new.kept) }
     ensures err { IfErr result (λ f. IsFault E.act session.old.opening session.old.limit f
-        (ended (header version) ++ lines.now) session.new.kept) }
+        (ended_line (header version) ++ lines.now) session.new.kept) }
     ensures late { IfErr result (λ f. IsUnread f → ⊥) }
     ensures opening { session.new.opening ≡ session.old.opening }
     ensures limit { session.new.limit ≡ session.old.limit }
@@ -100,8 +100,8 @@ fn end<E: Engine<Step = Step, Reply = Reply>>(
 // The version that the header names, and the bytes behind the header.
 fn header_of(bytes: &[u8]) -> Option<(Version, &[u8])>
     ensures { MatchOption result
-        ((v : Version) (more : List ℕ) → bytes.now ≢ ended (header v) ++ more)
-        (λ h. bytes.now ≡ ended (header h.0) ++ h.1.now) }
+        ((v : Version) (more : List ℕ) → bytes.now ≢ ended_line (header v) ++ more)
+        (λ h. bytes.now ≡ ended_line (header h.0) ++ h.1.now) }
 {
     let (text, behind) = first_line(bytes)?;
     Some((version_of(text)?, behind))
@@ -123,7 +123,7 @@ fn version_of(text: &[u8]) -> Option<Version>
 // The first line without its line feed, and the bytes behind that.
 fn first_line(bytes: &[u8]) -> Option<(&[u8], &[u8])>
     ensures { MatchOption result (HasNoFeed bytes.now)
-        (λ l. HasNoFeed l.0.now × (bytes.now ≡ ended l.0.now ++ l.1.now)) }
+        (λ l. HasNoFeed l.0.now × (bytes.now ≡ ended_line l.0.now ++ l.1.now)) }
 {
     match cut(bytes, b'\n') {
         (line, Some(behind)) => Some((line, behind)),

@@ -1,7 +1,7 @@
 //! A session's journal from a reader.
 ghost use Rattle.std.specs.Prelude.{◌≡◌, ◌<◌, List, [], OnOk, IfErr, IfSome, length};
 ghost use Rattle.journal_text.specs.Faults.{Accepts, IsFault, IsRefusedAsLarge, IsUnread};
-ghost use Rattle.journal_text.specs.Journal.{Entries, IsJournal};
+ghost use Rattle.journal_text.specs.Journal.{JournalEntries, IsJournalText};
 ghost use Rattle.journal.specs.Session.{IsSameSession};
 
 use super::JournalFault;
@@ -30,10 +30,10 @@ pub fn read_journal<R: Read, E: Engine<Step = Step, Reply = Reply>>(
     requires tail { session.old.tail ≡ [] }
     // The bytes are a journal that the session takes, and it holds the entries of that.
     ensures ok { OnOk result (IfSome (R.remaining reader.old) (λ bytes.
-        IsJournal E.act session.old.opening session.old.limit bytes session.new.kept)) }
+        IsJournalText E.act session.old.opening session.old.limit bytes session.new.kept)) }
     // Each journal that the session takes is accepted, unless memory or the reader failed.
-    ensures accepts { IfSome (R.remaining reader.old) (λ bytes. (es : Entries) →
-        IsJournal E.act session.old.opening session.old.limit bytes es → Accepts result session.new.kept es) }
+    ensures accepts { IfSome (R.remaining reader.old) (λ bytes. (es : JournalEntries) →
+        IsJournalText E.act session.old.opening session.old.limit bytes es → Accepts result session.new.kept es) }
     // What a fault says is so.
     ensures err { IfErr result (λ f. IfSome (R.remaining reader.old) (λ bytes.
         IsFault E.act session.old.opening session.old.limit f bytes session.new.kept)) }

@@ -2,7 +2,7 @@
 ghost use Rattle.std.specs.Prelude.{◌≡◌, Some, IfSome};
 ghost use Rattle.journal_text.specs.Table.{text_of, IsLine};
 ghost use Rattle.journal_text.specs.declared.line.Line.{Line};
-ghost use Rattle.journal_text.specs.Reading.{act_at, count_in, entry_in, line_in, made_in};
+ghost use Rattle.journal_text.specs.Reading.{act_at, count_in, entry_in, journal_line_in, made_in};
 ghost use Rattle.journal_text.specs.Reading.{reply_at, words_of};
 ghost use Rattle.text_lines.specs.Reads.{with_rest};
 
@@ -152,7 +152,7 @@ fn made(version: Version, text: &[u8]) -> Option<Line>
 // The line that the text is, as it is read.
 #[tactic(auto, unfolding(crate::specs::Reading::line_in))]
 fn line_read(version: Version, text: &[u8]) -> Option<Line>
-    ensures { result ≡ line_in version text.now }
+    ensures { result ≡ journal_line_in version text.now }
 {
     match version {
         Version::One => made(version, text),

@@ -1,6 +1,6 @@
 //! Which entries a version has, and how a reply is named.
 ghost use Rattle.std.specs.Prelude.{◌≡◌};
-ghost use Rattle.journal_text.specs.Table.{is_answer_in, is_known, reply_name};
+ghost use Rattle.journal_text.specs.Table.{is_answer_in, is_in_version, reply_name};
 
 use super::Version;
 use super::name::Name;
@@ -42,7 +42,7 @@ pub fn reply_name(reply: &Reply) -> Name
 
 // Whether the version has such an entry.
 fn is_known(version: Version, act: &Act, reply: &Reply) -> bool
-    ensures { result ≡ is_known version act.now reply.now }
+    ensures { result ≡ is_in_version version act.now reply.now }
 {
     match (version, act, reply) {
         (Version::One, Act::Remove { .. }, _) => false,

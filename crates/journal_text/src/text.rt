@@ -3,7 +3,7 @@ ghost use Rattle.std.specs.Prelude.{◌≡◌, ◌≤◌, ◌+◌, ◌*◌, ◌+
 ghost use Rattle.std.specs.Fmt.{decimal};
 ghost use Rattle.journal_text.specs.Table.{act_words, answer_name, entry_words, item_words, offer_words};
 ghost use Rattle.journal_text.specs.Table.{reply_numbers, spaced, spelled, text_of, word_text, Fit};
-ghost use Rattle.journal_text.specs.Journal.{begun, ended};
+ghost use Rattle.journal_text.specs.Journal.{begun, ended_line};
 ghost use Rattle.journal_text.specs.declared.line.Line.TheVariants.{Made, Steps};
 ghost use Rattle.journal_text.specs.declared.version.Version.TheVariants.{Two};
 ghost use Rattle.journal_text.specs.declared.text.TheConstants.{MAX_LINE};
@@ -183,7 +183,7 @@ fn push_entry(text: &mut Vec<u8>, entry: &Entry<Step, Reply>)
 /// Adds an entry with its line feed. Its words fit, since its numbers are of their types.
 pub fn push_entry_line(text: &mut Vec<u8>, entry: &Entry<Step, Reply>)
     requires { vec_len text.old + MAX_LINE ≤ vec_capacity text.old }
-    ensures items { text.new.items ≡ text.old.items ++ ended (text_of (Made entry.now)) }
+    ensures items { text.new.items ≡ text.old.items ++ ended_line (text_of (Made entry.now)) }
     ensures capacity { vec_capacity text.old ≤ vec_capacity text.new }
     ensures fit { Fit (entry_words entry.now) }
 {
@@ -194,7 +194,7 @@ pub fn push_entry_line(text: &mut Vec<u8>, entry: &Entry<Step, Reply>)
 /// Adds the count of the steps with its line feed.
 pub fn push_count_line(text: &mut Vec<u8>, count: u64)
     requires { vec_len text.old + MAX_LINE ≤ vec_capacity text.old }
-    ensures items { text.new.items ≡ text.old.items ++ ended (text_of (Steps count)) }
+    ensures items { text.new.items ≡ text.old.items ++ ended_line (text_of (Steps count)) }
 {
     push_word(text, Word::Named(Name::Steps));
     push_words(text, &[Word::Wide(count)]);

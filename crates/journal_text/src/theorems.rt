@@ -1,7 +1,7 @@
 //! Theorems on the text of journals, on public functions with empty bodies.
 ghost use Rattle.std.specs.Prelude.{◌≡◌, ◌<◌, ◌≤◌, ◌^◌, ℕ, length};
 ghost use Rattle.journal.specs.Session.{IsSoundSession, SessionState};
-ghost use Rattle.journal_text.specs.Journal.{journal_of, AreLines, Entries, IsJournal};
+ghost use Rattle.journal_text.specs.Journal.{journal_of, AreLines, JournalEntries, IsJournalText};
 ghost use Rattle.journal_text.specs.Table.{text_of, IsLine};
 ghost use Rattle.journal_text.specs.declared.line.Line.{Line};
 ghost use Rattle.journal_text.specs.declared.reader.TheConstants.{MAX_JOURNAL_BYTES};
@@ -19,7 +19,7 @@ pub fn one_line()
 
 /// No text is the journal of two lists of entries.
 pub fn one_journal()
-    ensures { (v w : Version) (es fs : Entries) → length es < 2 ^ 64 → length fs < 2 ^ 64
+    ensures { (v w : Version) (es fs : JournalEntries) → length es < 2 ^ 64 → length fs < 2 ^ 64
         → AreLines v es → AreLines w fs → journal_of v es ≡ journal_of w fs → (v ≡ w) × (es ≡ fs) }
 {}
 
@@ -28,7 +28,7 @@ pub fn read_back<E: Engine<Step = Step, Reply = Reply>>()
     // The text is a journal that a session takes which was opened on the same state and has the room.
     ensures taken { (s : SessionState E E.Data Step Reply) (limit : ℕ) → IsSoundSession E.act E.count E.pace E.seen s
         → AreLines Two s.kept → length s.kept ≤ limit → length (journal_of Two s.kept) ≤ MAX_JOURNAL_BYTES
-        → IsJournal E.act s.opening limit (journal_of Two s.kept) s.kept }
+        → IsJournalText E.act s.opening limit (journal_of Two s.kept) s.kept }
     // A session opened alike that holds the same entries shows the same.
     ensures state { (s t : SessionState E E.Data Step Reply) → IsSoundSession E.act E.count E.pace E.seen s
         → IsSoundSession E.act E.count E.pace E.seen t → t.opening ≡ s.opening → t.kept ≡ s.kept

@@ -3,7 +3,7 @@ ghost use Rattle.std.specs.Prelude.{◌≡◌, ◌≤◌, ◌+◌, Err, OnOk, []
 ghost use Rattle.std.specs.Io.KnownBytes.{append_known, Appends, Keeps};
 ghost use Rattle.step_record.specs.Answers.{AnswersItsActs};
 ghost use Rattle.journal_text.specs.Journal.{begun, journal_of, AreLines};
-ghost use Rattle.journal_text.specs.Writing.{AreFit, IsWritten};
+ghost use Rattle.journal_text.specs.Writing.{AreFit, IsTextWritten};
 ghost use Rattle.journal_text.specs.declared.text.TheConstants.{MAX_LINE};
 ghost use Rattle.journal_text.specs.declared.writer.TheConstants.{BUFFER};
 ghost use Rattle.journal_text.specs.declared.version.Version.TheVariants.{Two};
@@ -67,7 +67,7 @@ fn write_entries<E: Engine<Step = Step, Reply = Reply>, W: Write>(
 ) -> Result<(), WriteAllFault>
     requires empty { text.old.items ≡ [] }
     requires room { BUFFER ≤ vec_capacity text.old }
-    ensures written { OnOk result (IsWritten (W.contents writer.old) (W.contents writer.new) text.new.items
+    ensures written { OnOk result (IsTextWritten (W.contents writer.old) (W.contents writer.new) text.new.items
         (begun Two session.now.kept)) }
     ensures room { OnOk result (BUFFER ≤ vec_capacity text.new) }
     ensures fit { OnOk result (AreFit session.now.kept) }

@@ -1,7 +1,8 @@
 //! The frequency, in the words of the shell's definition.
 ghost use Rattle.std.specs.Prelude.{◌≡◌, ◌≤◌, IfOk, OnOk, OnErr};
 ghost use Rattle.step_record.specs.declared.limits.TheConstants.{MAX_STEPS};
-ghost use Rattle.shell_model.specs.Frequency.{recorded, record_of, unrecorded, FitsFrequency};
+ghost use Rattle.shell_model.specs.Frequency.{frequency_recorded, shell_frequency_record, frequency_unrecorded};
+ghost use Rattle.shell_model.specs.Frequency.{FitsFrequency};
 
 use admission::{FreqRecord, Frequency};
 use std::alloc::AllocError;
@@ -10,8 +11,8 @@ use step_record::Key;
 // Records a key. The only error is that the allocation of a halving failed; nothing is changed then.
 pub(crate) fn record_key(frequency: &mut Frequency, key: Key) -> Result<FreqRecord, AllocError>
     requires { frequency.old.halvings ≤ MAX_STEPS }
-    ensures state { OnOk result (frequency.new ≡ recorded frequency.old key) }
-    ensures made { IfOk result (λ r. r ≡ record_of frequency.old key) }
+    ensures state { OnOk result (frequency.new ≡ frequency_recorded frequency.old key) }
+    ensures made { IfOk result (λ r. r ≡ shell_frequency_record frequency.old key) }
     ensures err { OnErr result (frequency.new ≡ frequency.old) }
 {
     frequency.record(key)
@@ -20,7 +21,7 @@ pub(crate) fn record_key(frequency: &mut Frequency, key: Key) -> Result<FreqReco
 // Undoes the recording of a key.
 pub(crate) fn unrecord_key(frequency: &mut Frequency, made: FreqRecord)
     requires { FitsFrequency made frequency.old }
-    ensures { frequency.new ≡ unrecorded made frequency.old }
+    ensures { frequency.new ≡ frequency_unrecorded made frequency.old }
 {
     frequency.unrecord(made);
 }

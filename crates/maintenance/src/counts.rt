@@ -1,87 +1,90 @@
 //! The statistics: how often each kind of reply was given.
 ghost use Rattle.std.specs.Prelude.{◌≡◌, ◌+◌, ◌-◌, ◌≤◌};
 ghost use Rattle.step_record.specs.declared.limits.TheConstants.{MAX_STEPS};
-ghost use Rattle.shell_model.specs.ShellStats.{one, counted, uncounted, IsCounted, AreAtMost, is_hit, is_miss, is_kept};
-ghost use Rattle.shell_model.specs.ShellStats.{is_full, is_lost, is_added, is_updated, is_refused, is_eviction};
-ghost use Rattle.shell_model.specs.ShellStats.{is_rejection, is_begun, is_busy, is_removed};
+ghost use Rattle.shell_model.specs.ShellStats.{shell_stats_after, shell_stats_before, IsReplyCounted, AreAtMost};
+ghost use Rattle.shell_model.specs.ShellStats.{is_hit_reply, is_miss_reply, is_kept_reply};
+ghost use Rattle.step_record.specs.Stats.{one};
+ghost use Rattle.shell_model.specs.ShellStats.{is_full_reply, is_lost_reply, is_added_reply, is_updated_reply};
+ghost use Rattle.shell_model.specs.ShellStats.{is_refused_reply, is_eviction_reply};
+ghost use Rattle.shell_model.specs.ShellStats.{is_rejection_reply, is_begun_reply, is_busy_reply, is_removed_reply};
 
 use shell_model::ShellStats;
 use step_record::Reply;
 
 fn is_hit(reply: Reply) -> bool
-    ensures { result ≡ is_hit reply }
+    ensures { result ≡ is_hit_reply reply }
 {
     matches!(reply, Reply::Hit { .. })
 }
 
 fn is_miss(reply: Reply) -> bool
-    ensures { result ≡ is_miss reply }
+    ensures { result ≡ is_miss_reply reply }
 {
     matches!(reply, Reply::Miss)
 }
 
 fn is_kept(reply: Reply) -> bool
-    ensures { result ≡ is_kept reply }
+    ensures { result ≡ is_kept_reply reply }
 {
     matches!(reply, Reply::Kept)
 }
 
 fn is_full(reply: Reply) -> bool
-    ensures { result ≡ is_full reply }
+    ensures { result ≡ is_full_reply reply }
 {
     matches!(reply, Reply::Full)
 }
 
 fn is_lost(reply: Reply) -> bool
-    ensures { result ≡ is_lost reply }
+    ensures { result ≡ is_lost_reply reply }
 {
     matches!(reply, Reply::Lost)
 }
 
 fn is_added(reply: Reply) -> bool
-    ensures { result ≡ is_added reply }
+    ensures { result ≡ is_added_reply reply }
 {
     matches!(reply, Reply::Added { .. })
 }
 
 fn is_updated(reply: Reply) -> bool
-    ensures { result ≡ is_updated reply }
+    ensures { result ≡ is_updated_reply reply }
 {
     matches!(reply, Reply::Present { .. })
 }
 
 fn is_refused(reply: Reply) -> bool
-    ensures { result ≡ is_refused reply }
+    ensures { result ≡ is_refused_reply reply }
 {
     matches!(reply, Reply::WritesFull)
 }
 
 fn is_eviction(reply: Reply) -> bool
-    ensures { result ≡ is_eviction reply }
+    ensures { result ≡ is_eviction_reply reply }
 {
     matches!(reply, Reply::Evicted { .. } | Reply::Rejected { .. })
 }
 
 fn is_rejection(reply: Reply) -> bool
-    ensures { result ≡ is_rejection reply }
+    ensures { result ≡ is_rejection_reply reply }
 {
     matches!(reply, Reply::Rejected { .. })
 }
 
 fn is_begun(reply: Reply) -> bool
-    ensures { result ≡ is_begun reply }
+    ensures { result ≡ is_begun_reply reply }
 {
     matches!(reply, Reply::Began)
 }
 
 fn is_busy(reply: Reply) -> bool
-    ensures { result ≡ is_busy reply }
+    ensures { result ≡ is_busy_reply reply }
 {
     matches!(reply, Reply::Busy)
 }
 
 fn is_removed(reply: Reply) -> bool
-    ensures { result ≡ is_removed reply }
+    ensures { result ≡ is_removed_reply reply }
 {
     matches!(reply, Reply::Removed { .. })
 }
@@ -103,7 +106,7 @@ fn lowered(count: u64, is: bool) -> u64
 // The statistics with the reply counted.
 pub(crate) fn counted(reply: Reply, stats: ShellStats) -> ShellStats
     requires { AreAtMost MAX_STEPS stats }
-    ensures { result ≡ counted reply stats }
+    ensures { result ≡ shell_stats_after reply stats }
 {
     ShellStats {
         hits: raised(stats.hits, is_hit(reply)),
@@ -124,8 +127,8 @@ pub(crate) fn counted(reply: Reply, stats: ShellStats) -> ShellStats
 
 // The statistics without the reply.
 pub(crate) fn uncounted(reply: Reply, stats: ShellStats) -> ShellStats
-    requires { IsCounted reply stats }
-    ensures { result ≡ uncounted reply stats }
+    requires { IsReplyCounted reply stats }
+    ensures { result ≡ shell_stats_before reply stats }
 {
     ShellStats {
         hits: lowered(stats.hits, is_hit(reply)),

@@ -3,7 +3,8 @@ ghost use Rattle.std.specs.Prelude.{◌≡◌, ◌<◌, ◌≤◌, length, cond,
 ghost use Rattle.step_record.specs.declared.limits.TheConstants.{MAX_STEPS};
 ghost use Rattle.shell_buffers.specs.declared.write_tasks.TheConstants.{MAX_TASKS};
 ghost use Rattle.shell_buffers.specs.Buffers.{stripe_at};
-ghost use Rattle.shell_model.specs.Shell.{touching, apply_task, drain_read, drain_write, in_phase, end, ended, is_over};
+ghost use Rattle.shell_model.specs.Shell.{touching, apply_task, drain_read, drain_write, in_phase, end, drain_at_end};
+ghost use Rattle.shell_model.specs.Shell.{is_over};
 ghost use Rattle.shell_model.specs.Records.{touched_of, added_of, task_change, read_change, write_change};
 ghost use Rattle.shell_model.specs.Consistent.{IsConsistent};
 ghost use Rattle.shell_model.specs.declared.record.Change.TheVariants.{Nothing, Ended};
@@ -164,7 +165,7 @@ impl Core {
         ensures reply { result.0 ≡ (end self.old).0 }
         ensures state { self.new ≡ (end self.old).1 }
         ensures change { result.1
-            ≡ cond (is_over self.old) Nothing (Ended holder self.old.drain (ended self.old.drain).1) }
+            ≡ cond (is_over self.old) Nothing (Ended holder self.old.drain (drain_at_end self.old.drain).1) }
     {
         if self.is_over() {
             return (Reply::NotYet, Change::Nothing);

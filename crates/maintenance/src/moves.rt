@@ -2,7 +2,7 @@
 ghost use Rattle.std.specs.Prelude.{◌≡◌};
 ghost use Rattle.segments.specs.Queues.{place_of};
 ghost use Rattle.replacement.specs.Table.{after_hit};
-ghost use Rattle.shell_model.specs.Shell.{cleared};
+ghost use Rattle.shell_model.specs.Shell.{queues_cleared};
 ghost use Rattle.shell_model.specs.Records.{hit_moves, cleared_of};
 
 use replacement::Moves;
@@ -22,7 +22,7 @@ pub(crate) fn hit(queues: &mut Segments, size: usize, item: Item) -> Moves
 
 // Takes an item out, where it is queued.
 pub(crate) fn clear(queues: &mut Segments, item: Item) -> Option<MoveRecord>
-    ensures lists { queues.new.lists ≡ cleared item queues.old.lists }
+    ensures lists { queues.new.lists ≡ queues_cleared item queues.old.lists }
     ensures made { result ≡ cleared_of item (place_of item queues.old.lists) queues.old.lists }
 {
     queues.take_out(item)

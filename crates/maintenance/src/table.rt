@@ -1,8 +1,8 @@
 //! The table from keys to nodes.
 ghost use Rattle.std.specs.Prelude.{◌≡◌, [], ◌∷◌, true, Some, None, IfOk, OnOk, OnErr};
-ghost use Rattle.segments.specs.Items.{without};
+ghost use Rattle.segments.specs.Items.{items_without};
 ghost use Rattle.shell_model.specs.Shell.{node_of, placed, is_listed};
-ghost use Rattle.maintenance.specs.Table.{items_of};
+ghost use Rattle.maintenance.specs.Table.{table_items};
 
 use std::alloc::{AllocError, Global};
 use std::collections::BTreeMap;
@@ -18,14 +18,14 @@ pub(crate) struct Table {
 impl Model for Table {
     ghost use Rattle.std.specs.Prelude.{List};
     ghost use Rattle.step_record.specs.declared.item.Item.{Item as ItemValue};
-    ghost use Rattle.maintenance.specs.Table.{items_of};
+    ghost use Rattle.maintenance.specs.Table.{table_items};
     ghost use Rattle.shell_model.specs.Consistent.{IsAscending};
 
     ghost Value = { List ItemValue };
 
-    ghost view = { λ t. items_of t.nodes.entries };
+    ghost view = { λ t. table_items t.nodes.entries };
 
-    ghost invariant = { λ t. IsAscending (items_of t.nodes.entries) };
+    ghost invariant = { λ t. IsAscending (table_items t.nodes.entries) };
 }
 
 impl Table {
@@ -68,7 +68,7 @@ impl Table {
     /// Takes out an item that is there.
     pub(crate) fn remove(&mut self, item: Item)
         requires { is_listed item self.old ≡ true }
-        ensures { self.new ≡ without item self.old }
+        ensures { self.new ≡ items_without item self.old }
     {
         let _ = self.nodes.remove(&item.key);
     }
@@ -83,7 +83,7 @@ impl Table {
 
 // The entries as items.
 fn items_in(alloc: Global, nodes: &BTreeMap<Key, Node>) -> Result<Vec<Item>, AllocError>
-    ensures { IfOk result (λ items. items.items ≡ items_of nodes.now.entries) }
+    ensures { IfOk result (λ items. items.items ≡ table_items nodes.now.entries) }
 {
     let mut items = Vec::with_capacity(alloc, nodes.len())?;
     for (key, node) in nodes.iter() {

@@ -1,6 +1,6 @@
 //! Undoing one step.
 ghost use Rattle.std.specs.Prelude.{◌≡◌, ◌<◌, ◌≤◌, length, Some, None, IfErr, OnOk, OnErr};
-ghost use Rattle.shell_model.specs.Records.{back, FitsMove, untouched, FitsTouched, rephased, refilled, HasLeft};
+ghost use Rattle.shell_model.specs.Records.{back, FitsMoveIfAny, before_use, FitsTouched, rephased, refilled, HasLeft};
 ghost use Rattle.shell_model.specs.Records.{unchanged, FitsChange, undone_step, FitsStep};
 ghost use Rattle.shell_model.specs.Consistent.{IsLeft};
 ghost use Rattle.shell_model.specs.declared.record.Change.TheVariants.{Nothing, Offered, Updated, Added, Removed, Read};
@@ -18,7 +18,7 @@ use step_record::{Item, Phase};
 impl Core {
     fn untouch(&mut self, used: UseRecord)
         requires { FitsTouched used self.old }
-        ensures { self.new ≡ untouched used self.old }
+        ensures { self.new ≡ before_use used self.old }
     {
         let UseRecord { frequency, moves } = used;
         replacement::undo(&mut self.queues, moves);
@@ -56,7 +56,7 @@ impl Core {
 
     // An item that went out comes back.
     fn unclear(&mut self, out: Option<MoveRecord>) -> Result<(), AllocError>
-        requires { FitsMove out self.old.queues }
+        requires { FitsMoveIfAny out self.old.queues }
         ensures ok { OnOk result (self.new ≡ record self.old { queues = back out self.old.queues }) }
         ensures err { OnErr result (self.new ≡ self.old) }
     {

@@ -6,13 +6,13 @@ use Rattle.std.proofs.Math.Seq.{get_or-append_seam}
 use Rattle.step_record.specs.declared.job.Job.{Job}
 use Rattle.step_record.specs.declared.outcome.Outcome.{Outcome}
 use Rattle.clairvoyant.specs.Belady.{belady_outcomes, belady_outcome as outcome_at}
-use Rattle.policies.specs.QueueCache.{QueueState, response_to, accessed, frequency_after, state_from, empty_queue_state, state_after, outcomes_from, outcomes_after, outcome_after}
+use Rattle.policies.specs.QueueCache.{QueueState, access_response, accessed, frequency_after, state_from, empty_queue_state, state_after, outcomes_from, outcomes_after, outcome_after}
 
 -- ---- of a policy of queues
 
 from-answers : (j : Job) (past : List ℕ) (d : QueueState) (keys rest : List ℕ) (k : ℕ) (x : Outcome)
     → get_or (outcomes_from j past d (keys ++ k ∷ rest)) (length keys) x
-    ≡ (response_to (frequency_after j ((past ++ keys) ++ k ∷ [])) k (state_from j past d keys)).outcome
+    ≡ (access_response (frequency_after j ((past ++ keys) ++ k ∷ [])) k (state_from j past d keys)).outcome
 from-answers j past d [] rest k x = rw (append-nil past) refl
 from-answers j past d (a ∷ keys) rest k x =
     from-answers j (past ++ a ∷ []) (accessed (frequency_after j (past ++ a ∷ [])) a d) keys rest k x

@@ -13,7 +13,7 @@ use Rattle.clairvoyant.specs.Clairvoyant.{ClairvoyantState, clairvoyant_at, clai
 use Rattle.policies.specs.declared.any_policy.AnyPolicy.TheVariants.{Queues, Optimal}
 use Rattle.policies.specs.QueueCache.{QueueState, outcomes_after}
 use Rattle.policies.specs.QueueStep.{queue_act}
-use Rattle.policies.specs.AnyPolicy.{knows_trace, stats_on, StandsAt}
+use Rattle.policies.specs.AnyPolicy.{knows_trace, stats_on, IsBeladyAt}
 use Rattle.policies.specs.AnyStep.{as_queues, as_optimal}
 use Rattle.policies.specs.AnyCounts.{IsQueueStep, IsOptimalStep, queue_step, optimal_step}
 use Rattle.policies.specs.Theorems.{AnyStands, AnyAccepts, AnyIsOne, AnyReports, AnyAnswers, AnyCoversTrace}
@@ -28,7 +28,7 @@ record IsAtPlace (j : Job) (trace keys : List ℕ) (d : ClairvoyantState) : Type
   capacity : d.capacity ≡ j.config.capacity
   here : d ≡ clairvoyant_at d.capacity d.trace d.stats.accesses
 
-at_place : (j : Job) (trace keys : List ℕ) (d : ClairvoyantState) → StandsAt j trace keys d → IsAtPlace j trace keys d
+at_place : (j : Job) (trace keys : List ℕ) (d : ClairvoyantState) → IsBeladyAt j trace keys d → IsAtPlace j trace keys d
 at_place j trace keys d s =
     let n : d.stats.accesses ≡ length keys = ap (λ (x : ClairvoyantState). x.stats.accesses) s.gives ∙ outcomes-length j.config.capacity trace (length keys) in
     let t : d.trace ≡ trace = ap (λ (x : ClairvoyantState). x.trace) s.gives in
@@ -41,7 +41,7 @@ at_place j trace keys d s =
     }
 
 optimal_stands : ClairvoyantStands → (j : Job) (trace keys : List ℕ) (d : ClairvoyantState) (k : ℕ) (o : Outcome) (e : ClairvoyantState)
-    → StandsAt j trace keys d → clairvoyant_act d k ≡ Some (o, e) → StandsAt j trace (keys ++ k ∷ []) e
+    → IsBeladyAt j trace keys d → clairvoyant_act d k ≡ Some (o, e) → IsBeladyAt j trace (keys ++ k ∷ []) e
 optimal_stands law j trace keys d k o e s h =
     let p : IsAtPlace j trace keys d = at_place j trace keys d s in
     let l = law d k o e p.here h in

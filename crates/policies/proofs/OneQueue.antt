@@ -6,10 +6,10 @@ use Rattle.std.proofs.lemmas.Bool.Decides.{nat_tests}
 use Rattle.step_record.specs.declared.job.Job.{Job}
 use Rattle.step_record.specs.declared.job.Policy.TheVariants.{Lru}
 use Rattle.step_record.specs.declared.outcome.Outcome.TheVariants.{Hit}
-use Rattle.step_record.specs.Keys.{has as has_key, without as without_key}
+use Rattle.step_record.specs.Keys.{has_key, without as without_key}
 use Rattle.segments.specs.declared.records.Queue.TheVariants.{Window}
-use Rattle.segments.specs.Items.{has, times, without, first}
-use Rattle.segments.specs.Queues.{Queues, place_of, pushed, total}
+use Rattle.segments.specs.Items.{has_item, times, items_without, first}
+use Rattle.segments.specs.Queues.{Queues, place_of, pushed, total_items}
 use Rattle.admission.specs.Frequency.{FrequencyData}
 use Rattle.replacement.specs.declared.rules.Rules.{Rules}
 use Rattle.replacement.specs.Admission.{admits_in}
@@ -24,18 +24,18 @@ use Rattle.policies.proofs.Recency.{IsDistinct, moved, answer, two, without-none
 pos : (n : ℕ) → nat_lt 0 (1 + n) ≡ true
 pos n = grind (arith, nat_tests)
 
-has-map : (k : ℕ) (l : List ℕ) → has (nodeless_item k) (map nodeless_item l) ≡ has_key k l
+has-map : (k : ℕ) (l : List ℕ) → has_item (nodeless_item k) (map nodeless_item l) ≡ has_key k l
 has-map k [] = refl
 has-map k (a ∷ l) =
-    elim (two (eqb k a)) as (λ _. has (nodeless_item k) (nodeless_item a ∷ map nodeless_item l) ≡ cond (eqb k a) true (has_key k l)) [
+    elim (two (eqb k a)) as (λ _. has_item (nodeless_item k) (nodeless_item a ∷ map nodeless_item l) ≡ cond (eqb k a) true (has_key k l)) [
       | inl e ↦ rw e (pos (times (nodeless_item k) (map nodeless_item l)))
       | inr e ↦ let z : 0 + times (nodeless_item k) (map nodeless_item l) ≡ times (nodeless_item k) (map nodeless_item l) = omega arith in rw (e, z) (has-map k l)
     ]
 
-without-map : (k : ℕ) (l : List ℕ) → without (nodeless_item k) (map nodeless_item l) ≡ map nodeless_item (without_key k l)
+without-map : (k : ℕ) (l : List ℕ) → items_without (nodeless_item k) (map nodeless_item l) ≡ map nodeless_item (without_key k l)
 without-map k [] = refl
 without-map k (a ∷ l) =
-    elim (two (eqb k a)) as (λ _. without (nodeless_item k) (nodeless_item a ∷ map nodeless_item l) ≡ map nodeless_item (cond (eqb k a) (without_key k l) (a ∷ without_key k l))) [
+    elim (two (eqb k a)) as (λ _. items_without (nodeless_item k) (nodeless_item a ∷ map nodeless_item l) ≡ map nodeless_item (cond (eqb k a) (without_key k l) (a ∷ without_key k l))) [
       | inl e ↦ rw e (without-map k l)
       | inr e ↦ rw e (ap (λ t. nodeless_item a ∷ t) (without-map k l))
     ]
@@ -48,7 +48,7 @@ length-keys : (l : List ℕ) → length (map nodeless_item l) ≡ length l
 length-keys [] = refl
 length-keys (a ∷ l) = ap suc (length-keys l)
 
-total-in : (l : List ℕ) → total (in_window l) ≡ length l
+total-in : (l : List ℕ) → total_items (in_window l) ≡ length l
 total-in l = omega (arith, length-keys l)
 
 abbrev one : ℕ → Rules

@@ -23,7 +23,7 @@ use Rattle.replacement.specs.Admission.{admits_in}
 use Rattle.replacement.specs.Shape.{shape_of}
 use Rattle.replacement.specs.Table.{Response, access}
 use Rattle.replacement.proofs.Shape.{shape-is}
-use Rattle.policies.specs.QueueCache.{QueueState, is_counting, rules_of, nodeless_item, response_to, accessed, frequency_by, frequency_after, state_from, empty_queue_state, state_after, outcome_after, StandsFor}
+use Rattle.policies.specs.QueueCache.{QueueState, is_counting, rules_of, nodeless_item, access_response, accessed, frequency_by, frequency_after, state_from, empty_queue_state, state_after, outcome_after, StandsFor}
 use Rattle.policies.specs.QueueStep.{IsReached, recorded_in, queue_act, FitsCounting, unrecorded, counting_words, pace_by}
 use Rattle.policies.specs.QueueFields.{FewHalvings}
 
@@ -70,7 +70,7 @@ one-few false = omega arith
 
 steady-step : (f : Option FrequencyData) (k : ℕ) (d : QueueState) (n : ℕ) → IsSteady d n → IsSteady (accessed f k d) (n + 1)
 steady-step f k d n h =
-    let o : Outcome = (response_to f k d).outcome in
+    let o : Outcome = (access_response f k d).outcome in
     record {
       accesses = (let e = h.accesses in omega arith);
       hits = (let a = h.hits in let b = one-few (is_hit o) in omega arith);
@@ -143,10 +143,10 @@ stands-step j keys k d s =
     ap (λ f. accessed f k d) (stands-frequency j keys k d s)
     ∙ (ap (accessed (frequency_after j (keys ++ k ∷ [])) k) s.gives ∙ sym (after-snoc j keys k))
 
-stands-outcome : (j : Job) (keys : List ℕ) (k : ℕ) (d : QueueState) → StandsFor j keys d → (response_to (recorded_in k d.frequency) k d).outcome ≡ outcome_after j keys k
+stands-outcome : (j : Job) (keys : List ℕ) (k : ℕ) (d : QueueState) → StandsFor j keys d → (access_response (recorded_in k d.frequency) k d).outcome ≡ outcome_after j keys k
 stands-outcome j keys k d s =
-    ap (λ f. (response_to f k d).outcome) (stands-frequency j keys k d s)
-    ∙ ap (λ x. (response_to (frequency_after j (keys ++ k ∷ [])) k x).outcome) s.gives
+    ap (λ f. (access_response f k d).outcome) (stands-frequency j keys k d s)
+    ∙ ap (λ x. (access_response (frequency_after j (keys ++ k ∷ [])) k x).outcome) s.gives
 
 reached-step : (d : QueueState) (k : ℕ) → IsReached d → d.stats.accesses ≢ 4294967296 → IsReached (accessed (recorded_in k d.frequency) k d)
 reached-step d k r below =
@@ -203,7 +203,7 @@ act_stands j keys d k o e s a =
     elim (cases_Bool (d.stats.accesses == 4294967296)) [
       | inl f ↦ absurd (let no : None ≡ Some (o, e) = rw f at a in cc (no))
       | inr f ↦
-          let b : Some ((response_to (recorded_in k d.frequency) k d).outcome, accessed (recorded_in k d.frequency) k d) ≡ Some (o, e) = rw f at a in (
+          let b : Some ((access_response (recorded_in k d.frequency) k d).outcome, accessed (recorded_in k d.frequency) k d) ≡ Some (o, e) = rw f at a in (
             sym (ap answer_in b) ∙ stands-outcome j keys k d s,
             record {
               checked = s.checked;
@@ -217,7 +217,7 @@ pub act_accepts : (d : QueueState) (k : ℕ) → queue_act d k ≡ None → d.st
 act_accepts d k h =
     elim (cases_Bool (d.stats.accesses == 4294967296)) [
       | inl f ↦ eqb-true d.stats.accesses 4294967296 f
-      | inr f ↦ absurd (let no : Some ((response_to (recorded_in k d.frequency) k d).outcome, accessed (recorded_in k d.frequency) k d) ≡ None = rw f at h in cc (no))
+      | inr f ↦ absurd (let no : Some ((access_response (recorded_in k d.frequency) k d).outcome, accessed (recorded_in k d.frequency) k d) ≡ None = rw f at h in cc (no))
     ]
 
 pub stands-accesses : (j : Job) (keys : List ℕ) (d : QueueState) → StandsFor j keys d → d.stats.accesses ≡ length keys

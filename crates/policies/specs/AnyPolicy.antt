@@ -50,7 +50,7 @@ frequency_in (Queues d) = d.frequency
 frequency_in (Optimal d) = None
 
 -- a cache of Belady's optimal policy made the first accesses of its trace
-pub record StandsAt (j : Job) (trace keys : List ℕ) (d : ClairvoyantState) : Type 0 where
+pub record IsBeladyAt (j : Job) (trace keys : List ℕ) (d : ClairvoyantState) : Type 0 where
   pub policy : j.policy ≡ Clairvoyant
   pub first : keys ≡ take (length keys) trace
   pub within : length keys ≤ length trace
@@ -59,4 +59,4 @@ pub record StandsAt (j : Job) (trace keys : List ℕ) (d : ClairvoyantState) : T
 -- the cache runs the job over the trace, and the keys are the accesses that it made
 abbrev pub Stands : Job → List ℕ → List ℕ → AnyPolicy → Type 0
 Stands j trace keys (Queues d) = (j.policy ≢ Clairvoyant) × StandsFor j keys d
-Stands j trace keys (Optimal d) = StandsAt j trace keys d
+Stands j trace keys (Optimal d) = IsBeladyAt j trace keys d

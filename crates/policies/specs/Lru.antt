@@ -2,7 +2,7 @@
 -- access. (The textbook definition of Lru.)
 use Rattle.std.specs.Prelude.{ℕ, ◌-◌, nat_lt, Bool, false, ◌&&◌, if◌then◌else◌, List, [], ◌∷◌, length, drop}
 use Rattle.step_record.specs.declared.config.Config.{Config}
-use Rattle.step_record.specs.Keys.{has}
+use Rattle.step_record.specs.Keys.{has_key}
 use Rattle.step_record.specs.declared.outcome.Outcome.{Outcome}
 use Rattle.step_record.specs.declared.outcome.Outcome.TheVariants.{Hit, Kept, Evicted}
 use Rattle.replacement.specs.declared.rules.Rules.{Rules}
@@ -13,12 +13,12 @@ use Rattle.replacement.specs.Rules.{one_queue}
 -- the distinct keys, in order of last access
 abbrev pub distinct : List ℕ → List ℕ
 distinct [] = []
-distinct (a ∷ xs) = if has a xs then distinct xs else a ∷ distinct xs
+distinct (a ∷ xs) = if has_key a xs then distinct xs else a ∷ distinct xs
 
 -- what came after the last access to k, which is among the accesses
 abbrev pub since : ℕ → List ℕ → List ℕ
 since k [] = []
-since k (a ∷ xs) = if has k xs then since k xs else xs
+since k (a ∷ xs) = if has_key k xs then since k xs else xs
 
 -- the last c of the distinct keys
 abbrev pub lru_residents : ℕ → List ℕ → List ℕ
@@ -26,7 +26,7 @@ lru_residents c xs = drop (length (distinct xs) - c) (distinct xs)
 
 -- k came before, and fewer than c distinct other keys came since
 abbrev pub hits : ℕ → List ℕ → ℕ → Bool
-hits c xs k = has k xs && nat_lt (length (distinct (since k xs))) c
+hits c xs k = has_key k xs && nat_lt (length (distinct (since k xs))) c
 
 abbrev pub first_or : ℕ → List ℕ → ℕ
 first_or d [] = d

@@ -65,15 +65,15 @@ residents_in q = map (λ i. i.key) q.window ++ map (λ i. i.key) q.probation ++ 
 
 -- ---- one access, where the frequency f has the key already
 
-abbrev pub response_to : Option FrequencyData → ℕ → QueueState → Response
-response_to f k d = access (rules_of d.job) (admits_in f) (nodeless_item k) d.queues
+abbrev pub access_response : Option FrequencyData → ℕ → QueueState → Response
+access_response f k d = access (rules_of d.job) (admits_in f) (nodeless_item k) d.queues
 
 abbrev pub accessed : Option FrequencyData → ℕ → QueueState → QueueState
 accessed f k d = record {
   job = d.job;
-  queues = (response_to f k d).queues;
+  queues = (access_response f k d).queues;
   frequency = f;
-  stats = counted (response_to f k d).outcome d.stats;
+  stats = counted (access_response f k d).outcome d.stats;
 }
 
 -- ---- a list of accesses
@@ -102,7 +102,7 @@ state_after j keys = state_from j [] (empty_queue_state j) keys
 abbrev pub outcomes_from : Job → List ℕ → QueueState → List ℕ → List Outcome
 outcomes_from j past d [] = []
 outcomes_from j past d (k ∷ ks) =
-    (response_to (frequency_after j (past ++ k ∷ [])) k d).outcome
+    (access_response (frequency_after j (past ++ k ∷ [])) k d).outcome
     ∷ outcomes_from j (past ++ k ∷ []) (accessed (frequency_after j (past ++ k ∷ [])) k d) ks
 
 -- the outcomes of the accesses, in order
@@ -111,7 +111,7 @@ outcomes_after j keys = outcomes_from j [] (empty_queue_state j) keys
 
 -- the outcome of an access to k after the accesses
 abbrev pub outcome_after : Job → List ℕ → ℕ → Outcome
-outcome_after j keys k = (response_to (frequency_after j (keys ++ k ∷ [])) k (state_after j keys)).outcome
+outcome_after j keys k = (access_response (frequency_after j (keys ++ k ∷ [])) k (state_after j keys)).outcome
 
 -- the cache runs the job, whose configuration is accepted, and the accesses are those that it made
 pub record StandsFor (j : Job) (keys : List ℕ) (d : QueueState) : Type 0 where

@@ -5,11 +5,11 @@ use Rattle.step_record.specs.Stats.{uncounted, IsCounted}
 use Rattle.step_record.specs.Pace.{Pace, still}
 use Rattle.admission.specs.declared.freq_record.FreqRecord.{FreqRecord}
 use Rattle.admission.specs.Frequency.{FrequencyData, recorded, pace_of as frequency_pace}
-use Rattle.admission.specs.FreqRecord.{record_of as freq_record_of, undone as freq_undone, FitsRecord}
+use Rattle.admission.specs.FreqRecord.{frequency_record as freq_record_of, frequency_before as freq_undone, FitsRecord}
 use Rattle.admission.specs.FreqRecord.{size_of as freq_words}
 use Rattle.replacement.specs.Moving.{undone_moves, FitsMoves}
 use Rattle.policies.specs.declared.record.AccessRecord.{AccessRecord}
-use Rattle.policies.specs.QueueCache.{QueueState, response_to, accessed, StandsFor}
+use Rattle.policies.specs.QueueCache.{QueueState, access_response, accessed, StandsFor}
 
 -- ---- an access
 
@@ -23,7 +23,7 @@ abbrev pub queue_act : QueueState → ℕ → Option (Outcome × QueueState)
 queue_act d k =
     if d.stats.accesses == 4294967296
     then None
-    else Some ((response_to (recorded_in k d.frequency) k d).outcome, accessed (recorded_in k d.frequency) k d)
+    else Some ((access_response (recorded_in k d.frequency) k d).outcome, accessed (recorded_in k d.frequency) k d)
 
 -- ---- its record
 

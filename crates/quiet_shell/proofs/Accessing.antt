@@ -7,7 +7,7 @@ use Rattle.step_record.specs.declared.outcome.Outcome.TheVariants.{Hit, Evicted,
 use Rattle.segments.specs.declared.records.Queue.{Queue}
 use Rattle.segments.specs.declared.records.Queue.TheVariants.{Window, Probation, Protected}
 use Rattle.segments.specs.Items.{same, times, first}
-use Rattle.segments.specs.Queues.{Queues, queue_of, place_of, pushed, taken, moved, total, IsDistinct}
+use Rattle.segments.specs.Queues.{Queues, queue_of, place_of, pushed, taken, moved, total_items, IsDistinct}
 use Rattle.segments.proofs.MoveLaws.{Stands, in_window, in_probation, in_protected, nowhere, stands}
 use Rattle.replacement.specs.declared.rules.Rules.{Rules}
 use Rattle.replacement.specs.Table.{Response, kept_in, with_recent, demoted, hit_in, contest, trial, trial_of, eviction, replacing, direct, miss, access_in, access}
@@ -73,10 +73,10 @@ contests-nodeless admits c (Some v) q u h k =
 trials-nodeless : (r : Rules) (admits : ℕ → ℕ → Bool) (c : Item) (q : Queues) → HasKeysOnce q → 1 ≤ queued c q
     → trial r admits (nodeless c) (nodeless_queues q) ≡ nodeless_response (trial r admits c q)
 trials-nodeless r admits c q u h =
-    let all : total (nodeless_queues q) ≡ total q = total-nodeless q in
+    let all : total_items (nodeless_queues q) ≡ total_items q = total-nodeless q in
     let oldest : first (nodeless_queues q).probation ≡ nodeless_option (first q.probation) = first-nodeless q.probation in
     let one = contests-nodeless admits c (first q.probation) q u h (λ v f. let n : 1 ≤ times v q.probation = first-queued v q.probation f in omega (arith, n)) in
-    elim (cases_Bool (nat_lt r.capacity (total q))) as (λ _. trial r admits (nodeless c) (nodeless_queues q) ≡ nodeless_response (trial r admits c q)) [
+    elim (cases_Bool (nat_lt r.capacity (total_items q))) as (λ _. trial r admits (nodeless c) (nodeless_queues q) ≡ nodeless_response (trial r admits c q)) [
       | inl e ↦ rw (all, e, oldest) one
       | inr e ↦ rw (all, e) refl
     ]
@@ -125,10 +125,10 @@ replacing-nodeless admits to i (Some v) q u k =
 direct-nodeless : (r : Rules) (admits : ℕ → ℕ → Bool) (i : Item) (q : Queues) → HasKeysOnce q
     → direct r admits (nodeless i) (nodeless_queues q) ≡ nodeless_response (direct r admits i q)
 direct-nodeless r admits i q u =
-    let all : total (nodeless_queues q) ≡ total q = total-nodeless q in
+    let all : total_items (nodeless_queues q) ≡ total_items q = total-nodeless q in
     let oldest : first (queue_of r.home (nodeless_queues q)) ≡ nodeless_option (first (queue_of r.home q)) = oldest-nodeless r.home q in
     let one = replacing-nodeless admits r.home i (first (queue_of r.home q)) q u (λ v f. oldest-queued r.home q v f) in
-    elim (cases_Bool (nat_lt (total q) r.capacity)) as (λ _. direct r admits (nodeless i) (nodeless_queues q) ≡ nodeless_response (direct r admits i q)) [
+    elim (cases_Bool (nat_lt (total_items q) r.capacity)) as (λ _. direct r admits (nodeless i) (nodeless_queues q) ≡ nodeless_response (direct r admits i q)) [
       | inl e ↦ rw (all, e) (ap kept_in (sym (pushed-nodeless r.home i q)))
       | inr e ↦ rw (all, e, oldest) one
     ]

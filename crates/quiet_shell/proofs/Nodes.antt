@@ -4,8 +4,8 @@ use Rattle.std.proofs.lemmas.Bool.{eq-eqb, eqb-true, cases_Bool}
 use Rattle.step_record.specs.declared.item.Item.{Item}
 use Rattle.segments.specs.declared.records.Queue.{Queue}
 use Rattle.segments.specs.declared.records.Queue.TheVariants.{Window, Probation, Protected}
-use Rattle.segments.specs.Items.{same, times, without, first}
-use Rattle.segments.specs.Queues.{Queues, queue_of, place_of, pushed, taken, moved, total, IsDistinct}
+use Rattle.segments.specs.Items.{same, times, items_without, first}
+use Rattle.segments.specs.Queues.{Queues, queue_of, place_of, pushed, taken, moved, total_items, IsDistinct}
 use Rattle.segments.proofs.ItemLists.{same-true, same-refl}
 use Rattle.shell_model.specs.Consistent.{queued}
 use Rattle.shell_model.proofs.Counting.{queued-pushed}
@@ -33,10 +33,10 @@ pub first-nodeless : (l : List Item) → first (nodeless_list l) ≡ nodeless_op
 first-nodeless [] = refl
 first-nodeless (x ∷ l) = refl
 
-without-nodeless : (i : Item) (l : List Item) → IsAlike i l → nodeless_list (without i l) ≡ without (nodeless i) (nodeless_list l)
+without-nodeless : (i : Item) (l : List Item) → IsAlike i l → nodeless_list (items_without i l) ≡ items_without (nodeless i) (nodeless_list l)
 without-nodeless i [] a = refl
 without-nodeless i (x ∷ l) a =
-    elim (cases_Bool (same i x)) as (λ _. nodeless_list (cond (same i x) (without i l) (x ∷ without i l)) ≡ cond (same (nodeless i) (nodeless x)) (without (nodeless i) (nodeless_list l)) (nodeless x ∷ without (nodeless i) (nodeless_list l))) [
+    elim (cases_Bool (same i x)) as (λ _. nodeless_list (cond (same i x) (items_without i l) (x ∷ items_without i l)) ≡ cond (same (nodeless i) (nodeless x)) (items_without (nodeless i) (nodeless_list l)) (nodeless x ∷ items_without (nodeless i) (nodeless_list l))) [
       | inl e ↦ rw (a.0, e) (without-nodeless i l a.1)
       | inr e ↦ rw (a.0, e) (ap (λ t. nodeless x ∷ t) (without-nodeless i l a.1))
     ]
@@ -45,10 +45,10 @@ times-nodeless : (i : Item) (l : List Item) → IsAlike i l → times (nodeless 
 times-nodeless i [] a = refl
 times-nodeless i (x ∷ l) a = rw (a.0, times-nodeless i l a.1) refl
 
-alike-without : (i j : Item) (l : List Item) → IsAlike i l → IsAlike i (without j l)
+alike-without : (i j : Item) (l : List Item) → IsAlike i l → IsAlike i (items_without j l)
 alike-without i j [] a = tt
 alike-without i j (x ∷ l) a =
-    elim (cases_Bool (same j x)) as (λ _. IsAlike i (cond (same j x) (without j l) (x ∷ without j l))) [
+    elim (cases_Bool (same j x)) as (λ _. IsAlike i (cond (same j x) (items_without j l) (x ∷ items_without j l))) [
       | inl e ↦ rw e (alike-without i j l a.1)
       | inr e ↦ rw e (a.0, alike-without i j l a.1)
     ]
@@ -59,7 +59,7 @@ alike-taken i j q a = record { window = alike-without i j q.window a.window; pro
 pub place-nodeless : (i : Item) (q : Queues) → AreAlike i q → place_of (nodeless i) (nodeless_queues q) ≡ place_of i q
 place-nodeless i q a = rw (times-nodeless i q.window a.window, times-nodeless i q.probation a.probation, times-nodeless i q.protected a.protected) refl
 
-pub total-nodeless : (q : Queues) → total (nodeless_queues q) ≡ total q
+pub total-nodeless : (q : Queues) → total_items (nodeless_queues q) ≡ total_items q
 total-nodeless q = rw (length-nodeless q.window, length-nodeless q.probation, length-nodeless q.protected) refl
 
 pub taken-nodeless : (i : Item) (q : Queues) → AreAlike i q → nodeless_queues (taken i q) ≡ taken (nodeless i) (nodeless_queues q)

@@ -5,7 +5,7 @@ use Rattle.std.proofs.lemmas.Bool.Decides.{nat_tests}
 use Rattle.step_record.specs.declared.item.Item.{Item}
 use Rattle.segments.specs.declared.records.Queue.{Queue}
 use Rattle.segments.specs.declared.records.Queue.TheVariants.{Window, Probation, Protected}
-use Rattle.segments.specs.Items.{same, times, without, first}
+use Rattle.segments.specs.Items.{same, times, items_without, first}
 use Rattle.segments.specs.Queues.{Queues, place_of, moved, IsDistinct}
 use Rattle.segments.proofs.ItemLists.{same-true, length-without}
 use Rattle.segments.proofs.MoveLaws.{Stands, in_window, in_probation, in_protected, nowhere, stands}
@@ -100,7 +100,7 @@ demoted-window size q =
 
 hit-from-window : (size : ℕ) (i : Item) (q : Queues) (p : Option Queue) → Stands i q p → length (hit_in size i p q).window ≤ length q.window
 hit-from-window size i q p (nowhere e f g) = omega arith
-hit-from-window size i q p (in_window e f g) = omega (arith, e, length-without i q.window, length-append (without i q.window) (i ∷ []))
+hit-from-window size i q p (in_window e f g) = omega (arith, e, length-without i q.window, length-append (items_without i q.window) (i ∷ []))
 hit-from-window size i q p (in_protected e f g) = omega (arith, length-without i q.window)
 hit-from-window size i q p (in_probation e f g) = omega (arith, length-without i q.window, demoted-window size (moved i Protected q))
 

@@ -4,8 +4,8 @@ use Rattle.step_record.specs.declared.item.Item.{Item}
 use Rattle.segments.specs.declared.records.Queue.{Queue}
 use Rattle.segments.specs.declared.records.Queue.TheVariants.{Window, Probation, Protected}
 use Rattle.segments.specs.declared.records.MoveRecord.{MoveRecord}
-use Rattle.segments.specs.Items.{first, without}
-use Rattle.segments.specs.Queues.{Queues, queue_of, place_of, pushed, taken, moved, popped, total, IsDistinct}
+use Rattle.segments.specs.Items.{first, items_without}
+use Rattle.segments.specs.Queues.{Queues, queue_of, place_of, pushed, taken, moved, popped, total_items, IsDistinct}
 use Rattle.segments.specs.Moves.{move_record}
 use Rattle.segments.proofs.ItemLists.{length-without, times-without}
 use Rattle.std.proofs.Common.{length-append}
@@ -75,26 +75,26 @@ carries p s d =
     record { fits = all.0; back = all.1; distinct = l.distinct }
 
 -- each move adds one item at most
-without-few : (i : Item) (l : List Item) → length (without i l) ≤ length l
+without-few : (i : Item) (l : List Item) → length (items_without i l) ≤ length l
 without-few i l = omega (arith, length-without i l)
 
-taken-few : (i : Item) (s : Queues) → total (taken i s) ≤ total s
+taken-few : (i : Item) (s : Queues) → total_items (taken i s) ≤ total_items s
 taken-few i s = omega (arith, without-few i s.window, without-few i s.probation, without-few i s.protected)
 
-pub moved-few : (i : Item) (q : Queue) (s : Queues) → total (moved i q s) ≤ total s + 1
+pub moved-few : (i : Item) (q : Queue) (s : Queues) → total_items (moved i q s) ≤ total_items s + 1
 moved-few i Window s = simp length-append (omega (arith, taken-few i s))
 moved-few i Probation s = simp length-append (omega (arith, taken-few i s))
 moved-few i Protected s = simp length-append (omega (arith, taken-few i s))
 
-transferred-few : (t : Option Transfer) (s : Queues) → total (transferred t s) ≤ total s + 1
+transferred-few : (t : Option Transfer) (s : Queues) → total_items (transferred t s) ≤ total_items s + 1
 transferred-few None s = omega arith
 transferred-few (Some t) s = moved-few t.item t.to s
 
-removed-few : (i : Option Item) (s : Queues) → total (removed i s) ≤ total s
+removed-few : (i : Option Item) (s : Queues) → total_items (removed i s) ≤ total_items s
 removed-few None s = omega arith
 removed-few (Some i) s = taken-few i s
 
-pub plan-few : (p : Plan) (s : Queues) → total (queues_after p s) ≤ total s + 2
+pub plan-few : (p : Plan) (s : Queues) → total_items (queues_after p s) ≤ total_items s + 2
 plan-few p s =
     omega (arith, transferred-few p.first s, removed-few p.leaves (transferred p.first s), transferred-few p.last (removed p.leaves (transferred p.first s)))
 

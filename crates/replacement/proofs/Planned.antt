@@ -6,8 +6,8 @@ use Rattle.step_record.specs.declared.item.Item.{Item}
 use Rattle.step_record.specs.declared.outcome.Outcome.TheVariants.{Evicted}
 use Rattle.segments.specs.declared.records.Queue.{Queue}
 use Rattle.segments.specs.declared.records.Queue.TheVariants.{Window, Probation, Protected}
-use Rattle.segments.specs.Items.{same, times, without, first}
-use Rattle.segments.specs.Queues.{Queues, queue_of, place_of, pushed, taken, moved, total, IsDistinct}
+use Rattle.segments.specs.Items.{same, times, items_without, first}
+use Rattle.segments.specs.Queues.{Queues, queue_of, place_of, pushed, taken, moved, total_items, IsDistinct}
 use Rattle.segments.proofs.ItemLists.{same-refl, same-sym, length-without, without-none, without-append}
 use Rattle.segments.proofs.MoveLaws.{taken-moved}
 use Rattle.segments.proofs.QueueLists.{first-stands}
@@ -39,16 +39,16 @@ hits-planned size i Protected s = refl
 -- ---- evictions
 
 -- two items taken out, in either order
-swapped : (v c : Item) (l : List Item) → without v (without c l) ≡ without c (without v l)
+swapped : (v c : Item) (l : List Item) → items_without v (items_without c l) ≡ items_without c (items_without v l)
 swapped v c [] = refl
 swapped v c (x ∷ l) =
-    let h : without v (without c l) ≡ without c (without v l) = swapped v c l in
-    elim (cases_Bool (same c x)) as (λ _. without v (cond (same c x) (without c l) (x ∷ without c l)) ≡ without c (cond (same v x) (without v l) (x ∷ without v l))) [
-      | inl e ↦ rw e (elim (cases_Bool (same v x)) as (λ _. without v (without c l) ≡ without c (cond (same v x) (without v l) (x ∷ without v l))) [
+    let h : items_without v (items_without c l) ≡ items_without c (items_without v l) = swapped v c l in
+    elim (cases_Bool (same c x)) as (λ _. items_without v (cond (same c x) (items_without c l) (x ∷ items_without c l)) ≡ items_without c (cond (same v x) (items_without v l) (x ∷ items_without v l))) [
+      | inl e ↦ rw e (elim (cases_Bool (same v x)) as (λ _. items_without v (items_without c l) ≡ items_without c (cond (same v x) (items_without v l) (x ∷ items_without v l))) [
         | inl f ↦ rw f h
         | inr f ↦ rw (f, e) h
       ])
-      | inr e ↦ rw e (elim (cases_Bool (same v x)) as (λ _. cond (same v x) (without v (without c l)) (x ∷ without v (without c l)) ≡ without c (cond (same v x) (without v l) (x ∷ without v l))) [
+      | inr e ↦ rw e (elim (cases_Bool (same v x)) as (λ _. cond (same v x) (items_without v (items_without c l)) (x ∷ items_without v (items_without c l)) ≡ items_without c (cond (same v x) (items_without v l) (x ∷ items_without v l))) [
         | inl f ↦ rw f h
         | inr f ↦ rw (f, e) (ap (λ t. x ∷ t) h)
       ])
@@ -57,14 +57,14 @@ swapped v c (x ∷ l) =
 -- another item is taken out before or after the candidate goes to probation
 taken-past : (v c : Item) (q : Queues) → same v c ≡ false → taken v (moved c Probation q) ≡ moved c Probation (taken v q)
 taken-past v c q h =
-    rw (without-append v (without c q.probation) (c ∷ []), h, swapped v c q.window, swapped v c q.probation, swapped v c q.protected) refl
+    rw (without-append v (items_without c q.probation) (c ∷ []), h, swapped v c q.window, swapped v c q.probation, swapped v c q.protected) refl
 
 first_or : Item → Option Item → Option Item
 first_or c None = Some c
 first_or c (Some v) = Some v
 
 -- the victim, once the candidate stands behind it
-first-shifted : (c : Item) (l : List Item) → times c l ≡ 0 → first (without c l ++ c ∷ []) ≡ first_or c (first l)
+first-shifted : (c : Item) (l : List Item) → times c l ≡ 0 → first (items_without c l ++ c ∷ []) ≡ first_or c (first l)
 unfolding first_or
 first-shifted c l h = rw (without-none c l h) (by l)
   where
@@ -103,8 +103,8 @@ contest-planned a c (Some v) s f h =
     ])
 
 -- the candidate's way to probation adds no item
-total-shifted : (c : Item) (q : Queues) → IsDistinct q → 1 ≤ times c q.window → total (moved c Probation q) ≡ total q
-total-shifted c q d h = omega (arith, d c, h, length-without c q.window, length-without c q.probation, length-without c q.protected, length-append (without c q.probation) (c ∷ []))
+total-shifted : (c : Item) (q : Queues) → IsDistinct q → 1 ≤ times c q.window → total_items (moved c Probation q) ≡ total_items q
+total-shifted c q d h = omega (arith, d c, h, length-without c q.window, length-without c q.probation, length-without c q.protected, length-append (items_without c q.probation) (c ∷ []))
 
 trial-planned : (r : Rules) (a : ℕ → ℕ → Bool) (o : Option Item) (s : Queues) → first s.window ≡ o → IsDistinct s
     → trial_of r a o s ≡ response (eviction_of r a o s) s
@@ -112,8 +112,8 @@ trial-planned r a None s f d = refl
 trial-planned r a (Some c) s f d =
     let n : 1 ≤ times c s.window = first-stands c s.window f in
     let z : times c s.probation ≡ 0 = omega (arith, d c, n) in
-    rw (total-shifted c s d n) (elim (cases_Bool (nat_lt r.capacity (total s))) as (λ _. cond {A = Response} (nat_lt r.capacity (total s)) (contest a c (first (moved c Probation s).probation) (moved c Probation s)) (kept_in (moved c Probation s))
-    ≡ response (cond (nat_lt r.capacity (total s)) (contest_plan Probation a c (Some c) (first s.probation)) (stay_plan Probation c)) s) [
+    rw (total-shifted c s d n) (elim (cases_Bool (nat_lt r.capacity (total_items s))) as (λ _. cond {A = Response} (nat_lt r.capacity (total_items s)) (contest a c (first (moved c Probation s).probation) (moved c Probation s)) (kept_in (moved c Probation s))
+    ≡ response (cond (nat_lt r.capacity (total_items s)) (contest_plan Probation a c (Some c) (first s.probation)) (stay_plan Probation c)) s) [
       | inl e ↦ rw e (ap (λ (o : Option Item). contest a c o (moved c Probation s)) (first-shifted c s.probation z) ∙ contest-planned a c (first s.probation) s refl z)
       | inr e ↦ rw e refl
     ])
@@ -131,7 +131,7 @@ evictions-planned r a s d =
 first-none : (r : Rules) (a : ℕ → ℕ → Bool) (o : Option Item) (s : Queues) → (eviction_of r a o s).first ≡ None
 first-none r a None s = refl
 first-none r a (Some c) s =
-    elim (cases_Bool (nat_lt r.capacity (total s))) as (λ _. (eviction_of r a (Some c) s).first ≡ None) [
+    elim (cases_Bool (nat_lt r.capacity (total_items s))) as (λ _. (eviction_of r a (Some c) s).first ≡ None) [
       | inl e ↦ rw e (by (first s.probation))
       | inr e ↦ rw e refl
     ]
@@ -161,7 +161,7 @@ replacing-planned a q i (Some v) s h =
 
 direct-planned : (r : Rules) (a : ℕ → ℕ → Bool) (i : Item) (s : Queues) → place_of i s ≡ None → direct r a i s ≡ response (direct_plan r a i s) s
 direct-planned r a i s h =
-    elim (cases_Bool (nat_lt (total s) r.capacity)) as (λ _. direct r a i s ≡ response (direct_plan r a i s) s) [
+    elim (cases_Bool (nat_lt (total_items s) r.capacity)) as (λ _. direct r a i s ≡ response (direct_plan r a i s) s) [
       | inl e ↦ rw (e, pushed-moved i r.home s h) refl
       | inr e ↦ rw e (replacing-planned a r.home i (first (queue_of r.home s)) s h)
     ]
@@ -199,5 +199,5 @@ accesses-planned r a i s d =
 pub access-distinct : (r : Rules) (a : ℕ → ℕ → Bool) (i : Item) (s : Queues) → IsDistinct s → IsDistinct (access r a i s).queues
 access-distinct r a i s d = subst (λ (x : Response). IsDistinct x.queues) (sym (accesses-planned r a i s d)) (carries (plan r a i s) s d).distinct
 
-pub access-few : (r : Rules) (a : ℕ → ℕ → Bool) (i : Item) (s : Queues) → IsDistinct s → total (access r a i s).queues ≤ total s + 2
-access-few r a i s d = subst (λ (x : Response). total x.queues ≤ total s + 2) (sym (accesses-planned r a i s d)) (plan-few (plan r a i s) s)
+pub access-few : (r : Rules) (a : ℕ → ℕ → Bool) (i : Item) (s : Queues) → IsDistinct s → total_items (access r a i s).queues ≤ total_items s + 2
+access-few r a i s d = subst (λ (x : Response). total_items x.queues ≤ total_items s + 2) (sym (accesses-planned r a i s d)) (plan-few (plan r a i s) s)

@@ -6,7 +6,7 @@ use Rattle.std.specs.Int.{IsPowerOfTwo, IsNextPowerOfTwo}
 use Rattle.step_record.specs.declared.config.Config.{Config}
 use Rattle.step_record.specs.declared.config.Spread.{Spread}
 use Rattle.admission.specs.Shape.{Shape, IsShape}
-use Rattle.admission.specs.Frequency.{FrequencyData, frequency_of, StandsFor}
+use Rattle.admission.specs.Frequency.{FrequencyData, frequency_of, IsFrequencyOf}
 use Rattle.admission.proofs.Recording.{next_within}
 use Rattle.replacement.specs.Shape.{doubled, least_power, shape_of}
 
@@ -49,5 +49,5 @@ shape-one c s is cap spread =
     ap (λ x. shape_by x s.spread s.width s.size) cap
     ∙ (ap (λ x. shape_by c.capacity x s.width s.size) spread ∙ (ap (λ x. shape_by c.capacity c.spread x s.size) w ∙ ap (λ x. shape_by c.capacity c.spread (least_power (max 16 c.capacity)) x) d))
 
-pub own-shape : (c : Config) (keys : List ℕ) (f : FrequencyData) → StandsFor c.capacity c.spread keys f → f ≡ frequency_of (shape_of c) keys
+pub own-shape : (c : Config) (keys : List ℕ) (f : FrequencyData) → IsFrequencyOf c.capacity c.spread keys f → f ≡ frequency_of (shape_of c) keys
 own-shape c keys f h = h.stands ∙ ap (λ s. frequency_of s keys) (shape-one c h.shape h.is h.capacity_is h.spread_is)

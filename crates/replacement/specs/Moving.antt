@@ -3,7 +3,7 @@ use Rattle.std.specs.Prelude.{◌≡◌, ℕ, Option, Some, None}
 use Rattle.step_record.specs.declared.item.Item.{Item}
 use Rattle.segments.specs.declared.records.MoveRecord.{MoveRecord}
 use Rattle.segments.specs.Queues.{Queues, taken, moved}
-use Rattle.segments.specs.Moves.{move_record, undone, Fits, needed}
+use Rattle.segments.specs.Moves.{move_record, queues_before_move, FitsMove, needed}
 use Rattle.replacement.specs.declared.record.Moves.{Moves}
 use Rattle.replacement.specs.Table.{Response}
 use Rattle.replacement.specs.Plan.{Transfer, Plan}
@@ -46,7 +46,7 @@ moves_of p s = record {
 
 abbrev pub undone_by : Option MoveRecord → Queues → Queues
 undone_by None s = s
-undone_by (Some r) s = undone r s
+undone_by (Some r) s = queues_before_move r s
 
 -- the last move is undone first
 abbrev pub undone_moves : Moves → Queues → Queues
@@ -54,7 +54,7 @@ undone_moves m s = undone_by m.first (undone_by m.out (undone_by m.last s))
 
 abbrev pub FitsBy : Option MoveRecord → Queues → Type 0
 FitsBy None s = Unit {0}
-FitsBy (Some r) s = Fits r s
+FitsBy (Some r) s = FitsMove r s
 
 abbrev pub needed_by : Option MoveRecord → ℕ
 needed_by None = 0

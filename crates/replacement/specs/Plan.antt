@@ -7,7 +7,7 @@ use Rattle.step_record.specs.declared.outcome.Outcome.TheVariants.{Hit, Kept, Ev
 use Rattle.segments.specs.declared.records.Queue.{Queue}
 use Rattle.segments.specs.declared.records.Queue.TheVariants.{Window, Probation, Protected}
 use Rattle.segments.specs.Items.{first}
-use Rattle.segments.specs.Queues.{Queues, queue_of, place_of, moved, refreshed_to, total}
+use Rattle.segments.specs.Queues.{Queues, queue_of, place_of, moved, refreshed_to, total_items}
 use Rattle.replacement.specs.declared.rules.Rules.{Rules}
 
 -- an item goes to the recent end of a queue
@@ -66,7 +66,7 @@ contest_plan q admits c loser (Some v) =
 -- a new item joins its queue, against the oldest there where the cache is full
 abbrev pub direct_plan : Rules → (ℕ → ℕ → Bool) → Item → Queues → Plan
 direct_plan r admits i s =
-    if nat_lt (total s) r.capacity
+    if nat_lt (total_items s) r.capacity
     then stay_plan r.home i
     else contest_plan r.home admits i None (first (queue_of r.home s))
 
@@ -77,7 +77,7 @@ candidate_of r s = if nat_lt r.window (length s.window) then first s.window else
 abbrev pub eviction_of : Rules → (ℕ → ℕ → Bool) → Option Item → Queues → Plan
 eviction_of r admits None s = record { first = None; leaves = None; last = None; outcome = Kept }
 eviction_of r admits (Some c) s =
-    if nat_lt r.capacity (total s)
+    if nat_lt r.capacity (total_items s)
     then contest_plan Probation admits c (Some c) (first s.probation)
     else stay_plan Probation c
 

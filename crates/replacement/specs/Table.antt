@@ -7,7 +7,7 @@ use Rattle.step_record.specs.declared.outcome.Outcome.TheVariants.{Hit, Kept, Ev
 use Rattle.segments.specs.declared.records.Queue.{Queue}
 use Rattle.segments.specs.declared.records.Queue.TheVariants.{Window, Probation, Protected}
 use Rattle.segments.specs.Items.{same, first}
-use Rattle.segments.specs.Queues.{Queues, queue_of, place_of, pushed, taken, moved, total}
+use Rattle.segments.specs.Queues.{Queues, queue_of, place_of, pushed, taken, moved, total_items}
 use Rattle.replacement.specs.declared.rules.Rules.{Rules}
 
 -- what an access or an eviction comes to: its outcome, the item that left the queues, and the queues that it leaves
@@ -59,7 +59,7 @@ contest admits c (Some v) s =
 
 -- the candidate stands at probation's recent end: where the queues hold too much, probation's oldest is the victim
 abbrev pub trial : Rules → (ℕ → ℕ → Bool) → Item → Queues → Response
-trial r admits c s = if nat_lt r.capacity (total s) then contest admits c (first s.probation) s else kept_in s
+trial r admits c s = if nat_lt r.capacity (total_items s) then contest admits c (first s.probation) s else kept_in s
 
 abbrev pub trial_of : Rules → (ℕ → ℕ → Bool) → Option Item → Queues → Response
 trial_of r admits None s = kept_in s
@@ -83,7 +83,7 @@ replacing admits q i (Some v) s =
 -- capacity.)
 abbrev pub direct : Rules → (ℕ → ℕ → Bool) → Item → Queues → Response
 direct r admits i s =
-    if nat_lt (total s) r.capacity
+    if nat_lt (total_items s) r.capacity
     then kept_in (pushed r.home i s)
     else replacing admits r.home i (first (queue_of r.home s)) s
 

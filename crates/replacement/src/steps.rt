@@ -1,7 +1,7 @@
 //! Single moves in the queues, each of which knows beforehand where its item stands.
 ghost use Rattle.std.specs.Prelude.{◌≡◌, ◌≤◌, ◌+◌, Option, Some, None};
 ghost use Rattle.segments.specs.Items.{first};
-ghost use Rattle.segments.specs.Queues.{queue_of, place_of, taken, moved, popped, total, IsDistinct};
+ghost use Rattle.segments.specs.Queues.{queue_of, place_of, taken, moved, popped, total_items, IsDistinct};
 ghost use Rattle.segments.specs.Moves.{move_record};
 
 use segments::{MoveRecord, Queue, Segments};
@@ -10,7 +10,7 @@ use step_record::Item;
 /// How many items stand in the queues.
 #[inline(always)]
 pub(crate) fn count(segments: &Segments) -> u128
-    ensures { result ≡ total segments.now.lists }
+    ensures { result ≡ total_items segments.now.lists }
 {
     segments.len(Queue::Window) as u128
         + segments.len(Queue::Probation) as u128

@@ -42,5 +42,5 @@ report_fields r = word_of r.policy ∷ decimal r.capacity ∷ decimal r.accesses
 abbrev pub report_line : Report → List ℕ
 report_line r = line_text (report_fields r)
 
-unfoldable pub text_of : List Report → List ℕ
-text_of reports = line_text header_fields ++ flat_map report_line reports
+unfoldable pub reports_text : List Report → List ℕ
+reports_text reports = line_text header_fields ++ flat_map report_line reports

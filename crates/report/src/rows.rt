@@ -3,8 +3,8 @@ ghost use Rattle.std.specs.Prelude.{◌≡◌, Err, IfOk, OnOk, map, string_byte
 ghost use Rattle.std.specs.Fmt.{decimal};
 ghost use Rattle.std.specs.Io.KnownBytes.{Appends};
 ghost use Rattle.csv.specs.Writing.{default_writer, row_text, text_written};
-ghost use Rattle.report.specs.Ready.{IsReady};
-ghost use Rattle.report.specs.Text.{header_fields, line_text, rate_text_of, report_line, text_of};
+ghost use Rattle.report.specs.Ready.{IsWriterReady};
+ghost use Rattle.report.specs.Text.{header_fields, line_text, rate_text_of, report_line, reports_text};
 
 use super::{Report, WriteFault};
 use csv::{Writer, WriterBuilder};
@@ -29,8 +29,8 @@ fn number_text(alloc: Global, n: u64) -> Result<String, AllocError>
 
 // Writes a record. Into memory that fails only where the allocation failed.
 fn write_row<W: Write + Drop>(writer: &mut Writer<W>, fields: &[&[u8]]) -> Result<(), WriteFault>
-    ensures ready { IsReady writer.old → OnOk result (IsReady writer.new) }
-    ensures text { IsReady writer.old → OnOk result (Appends (text_written W.contents writer.old)
+    ensures ready { IsWriterReady writer.old → OnOk result (IsWriterReady writer.new) }
+    ensures text { IsWriterReady writer.old → OnOk result (Appends (text_written W.contents writer.old)
         (text_written W.contents writer.new) (row_text default_writer (map (λ f. f.now) fields.now))) }
 {
     match writer.write_fields(fields) {
@@ -41,8 +41,8 @@ fn write_row<W: Write + Drop>(writer: &mut Writer<W>, fields: &[&[u8]]) -> Resul
 
 // Writes the names of the fields.
 fn write_header<W: Write + Drop>(writer: &mut Writer<W>) -> Result<(), WriteFault>
-    ensures ready { IsReady writer.old → OnOk result (IsReady writer.new) }
-    ensures text { IsReady writer.old → OnOk result (Appends (text_written W.contents writer.old)
+    ensures ready { IsWriterReady writer.old → OnOk result (IsWriterReady writer.new) }
+    ensures text { IsWriterReady writer.old → OnOk result (Appends (text_written W.contents writer.old)
         (text_written W.contents writer.new) (line_text header_fields)) }
 {
     let fields = [
@@ -64,8 +64,8 @@ fn write_report<W: Write + Drop>(
     writer: &mut Writer<W>,
     report: &Report,
 ) -> Result<(), WriteFault>
-    ensures ready { IsReady writer.old → OnOk result (IsReady writer.new) }
-    ensures text { IsReady writer.old → OnOk result (Appends (text_written W.contents writer.old)
+    ensures ready { IsWriterReady writer.old → OnOk result (IsWriterReady writer.new) }
+    ensures text { IsWriterReady writer.old → OnOk result (Appends (text_written W.contents writer.old)
         (text_written W.contents writer.new) (report_line report.now)) }
 {
     let capacity = number_text(alloc, u64::from(report.capacity))?;
@@ -90,7 +90,7 @@ fn write_report<W: Write + Drop>(
 
 // The header and a row for each report.
 fn reports_text(alloc: Global, reports: &[Report]) -> Result<Vec<u8>, WriteFault>
-    ensures { IfOk result (λ v. v.items ≡ text_of reports.now) }
+    ensures { IfOk result (λ v. v.items ≡ reports_text reports.now) }
 {
     let mut writer = WriterBuilder::new().from_writer(Vec::new(alloc));
     write_header(&mut writer)?;
@@ -111,7 +111,7 @@ pub fn write_reports<W: Write>(
     reports: &[Report],
     writer: &mut W,
 ) -> Result<(), WriteFault>
-    ensures text { OnOk result (Appends (W.contents writer.old) (W.contents writer.new) (text_of reports.now)) }
+    ensures text { OnOk result (Appends (W.contents writer.old) (W.contents writer.new) (reports_text reports.now)) }
     ensures none { result ≡ Err WriteFault.OutOfMemory → writer.new ≡ writer.old }
 {
     let text = reports_text(alloc, reports)?;

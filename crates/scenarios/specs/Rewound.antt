@@ -33,9 +33,9 @@ undone_of k (Err back.PastStart) = 0
 undone_of k (Err (back.OutOfMemory undone)) = undone
 
 -- The run is one list of steps behind the old ones. Of these, those of each worker are its own list, in order, which
--- are the walks of its calls, and nobody else made any. A full journal is the cause only where it is full. Each reply is
--- the definition's on the steps before it. And once the last steps are undone, the state is the one that the definition
--- gives on the others.
+-- are the walks of its calls, and nobody else made any. A full journal is the cause only where it is full. Each reply
+-- is the definition's on the steps before it. And once the last steps are undone, the state is the one that the
+-- definition gives on the others.
 pub record IsRewound (n k : ℕ) (pieces : List (List Call)) (cause : Option Cause) (undone : Result (Unit {0}) BackFault)
     (old new : ShellSession) (lists : List Entries) : Type 0 where
   pub run : Entries

@@ -45,6 +45,8 @@ pub fn words_held(session: &Session<WindowTinyLfu>) -> u64
 #[cfg(test)]
 mod clairvoyant_tests;
 #[cfg(test)]
+mod headline_tests;
+#[cfg(test)]
 mod policy_tests;
 #[cfg(test)]
 mod quiet_tests;

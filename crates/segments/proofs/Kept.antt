@@ -8,7 +8,7 @@ use Rattle.segments.specs.declared.slot.Slot.{Slot}
 use Rattle.segments.specs.Queues.{IsDistinct}
 use Rattle.segments.specs.Ring.{count, used, order_of, lists}
 use Rattle.segments.specs.Index.{IsLoaded}
-use Rattle.segments.specs.Table.{spare_in, lengths_of, raised, lowered, IsHeld, IsKept}
+use Rattle.segments.specs.Table.{spare_in, lengths_of, raised, lowered, IsInSlots, IsKept}
 use Rattle.segments.proofs.Growing.{still_loaded}
 use Rattle.segments.proofs.Calls.{some-slots}
 
@@ -16,15 +16,15 @@ pub some-used : (slots : List Slot) (k : ℕ) → 1 ≤ count k (used (order_of 
 some-used [] k n = absurd (omega (arith, n))
 some-used (x ∷ slots) k n = omega arith
 
-pub held-room : (mid slots : List Slot) (heads : List ℕ) (bits : ℕ) (n : Lengths) → IsKept slots heads bits n → mid ≡ slots → 1 ≤ spare_in mid → IsHeld mid heads bits (order_of mid)
+pub held-room : (mid slots : List Slot) (heads : List ℕ) (bits : ℕ) (n : Lengths) → IsKept slots heads bits n → mid ≡ slots → 1 ≤ spare_in mid → IsInSlots mid heads bits (order_of mid)
 held-room mid slots heads bits n k e r =
-    subst (λ (s : List Slot). IsHeld s heads bits (order_of s)) (sym e) (k.held (some-slots slots (subst (λ (s : List Slot). 1 ≤ spare_in s) e r)))
+    subst (λ (s : List Slot). IsInSlots s heads bits (order_of s)) (sym e) (k.held (some-slots slots (subst (λ (s : List Slot). 1 ≤ spare_in s) e r)))
 
-pub held-used : (mid slots : List Slot) (heads : List ℕ) (bits : ℕ) (n : Lengths) → IsKept slots heads bits n → mid ≡ slots → (k : ℕ) → 1 ≤ count k (used (order_of mid)) → IsHeld mid heads bits (order_of mid)
+pub held-used : (mid slots : List Slot) (heads : List ℕ) (bits : ℕ) (n : Lengths) → IsKept slots heads bits n → mid ≡ slots → (k : ℕ) → 1 ≤ count k (used (order_of mid)) → IsInSlots mid heads bits (order_of mid)
 held-used mid slots heads bits n k e at u =
-    subst (λ (s : List Slot). IsHeld s heads bits (order_of s)) (sym e) (k.held (some-used slots at (subst (λ (s : List Slot). 1 ≤ count at (used (order_of s))) e u)))
+    subst (λ (s : List Slot). IsInSlots s heads bits (order_of s)) (sym e) (k.held (some-used slots at (subst (λ (s : List Slot). 1 ≤ count at (used (order_of s))) e u)))
 
-pub kept-on : (slots slots2 : List Slot) (heads heads2 : List ℕ) (bits bits2 : ℕ) (n n2 : Lengths) → IsKept slots heads bits n → IsHeld slots2 heads2 bits2 (order_of slots2) → n2 ≡ lengths_of (order_of slots2) → length slots2 ≡ length slots → bits2 ≡ bits → IsKept slots2 heads2 bits2 n2
+pub kept-on : (slots slots2 : List Slot) (heads heads2 : List ℕ) (bits bits2 : ℕ) (n n2 : Lengths) → IsKept slots heads bits n → IsInSlots slots2 heads2 bits2 (order_of slots2) → n2 ≡ lengths_of (order_of slots2) → length slots2 ≡ length slots → bits2 ≡ bits → IsKept slots2 heads2 bits2 n2
 kept-on slots slots2 heads heads2 bits bits2 n n2 k h c l b = record {
   held = λ _. h;
   counted = c;

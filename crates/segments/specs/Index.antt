@@ -5,7 +5,8 @@ use Rattle.step_record.specs.declared.item.Item.{Item}
 use Rattle.segments.specs.Items.{same}
 use Rattle.segments.specs.declared.index.Index.{Index}
 use Rattle.segments.specs.declared.slot.Slot.{Slot}
-use Rattle.segments.specs.Ring.{items, chains, count, without, item_at}
+use Rattle.segments.specs.Ring.{items, chains, count, slot_item}
+use Rattle.step_record.specs.Keys.{without}
 
 -- the list is the whole chain that begins at the slot
 abbrev pub IsChain : List ℕ → ℕ → List ℕ → Type 0
@@ -24,7 +25,7 @@ chain_from at slots = trail (chains slots) at (length slots)
 -- the slot of the list that holds the item, 0 where none does
 abbrev pub found_in : Item → List Item → List ℕ → ℕ
 found_in item items [] = 0
-found_in item items (i ∷ l) = cond (same item (item_at items i)) i (found_in item items l)
+found_in item items (i ∷ l) = cond (same item (slot_item items i)) i (found_in item items l)
 
 -- the slot before another one in the chain, which goes past that one once the slot leads on to what stands behind it
 pub record IsBefore (next : List ℕ) (start at : ℕ) (whole : List ℕ) (before : ℕ) : Type 0 where
@@ -47,12 +48,12 @@ pub record IsIndexed (heads next : List ℕ) (items : List Item) (bits : ℕ) (u
   pub lists : ℕ → List ℕ
   pub chained : (b : ℕ) → b < length heads → IsChain next (slice_index heads b) (lists b)
   pub placed : (b k : ℕ) → b < length heads →
-      count k (lists b) ≡ cond (eqb (bucket bits (item_at items k)) b) (count k used) 0
+      count k (lists b) ≡ cond (eqb (bucket bits (slot_item items k)) b) (count k used) 0
 
 -- a slot comes into use besides others: nothing but what it holds changes
 pub record IsJoining (at : ℕ) (old new : List Item) (used more : List ℕ) : Type 0 where
   pub fresh : count at used ≡ 0
-  pub others : (j : ℕ) → (j ≡ at → ⊥) → item_at new j ≡ item_at old j
+  pub others : (j : ℕ) → (j ≡ at → ⊥) → slot_item new j ≡ slot_item old j
   pub counted : (j : ℕ) → count j more ≡ cond (eqb j at) 1 0 + count j used
 
 -- the index takes in the slot that comes into use

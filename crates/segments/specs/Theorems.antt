@@ -5,7 +5,7 @@ use Rattle.segments.specs.declared.records.Queue.{Queue}
 use Rattle.segments.specs.declared.records.MoveRecord.{MoveRecord}
 use Rattle.segments.specs.Items.{first}
 use Rattle.segments.specs.Queues.{Queues, queue_of, place_of, pushed, taken, moved, popped, IsDistinct}
-use Rattle.segments.specs.Moves.{move_record, undone, Fits}
+use Rattle.segments.specs.Moves.{move_record, queues_before_move, FitsMove}
 
 -- an item that stands in no queue is pushed as it would be moved
 abbrev pub PushMoves : Type 0
@@ -17,8 +17,8 @@ PopTakes = (q : Queue) (i : Item) (s : Queues) → IsDistinct s → first (queue
 
 -- the record fits the queues after the move, and undoes it there; each item still stands at most once
 pub record IsUndoable (r : MoveRecord) (before after : Queues) : Type 0 where
-  pub fits : Fits r after
-  pub back : undone r after ≡ before
+  pub fits : FitsMove r after
+  pub back : queues_before_move r after ≡ before
   pub distinct : IsDistinct after
 
 -- a move to a recent end is undone from its record

@@ -3,7 +3,7 @@ ghost use Rattle.std.specs.Prelude.{◌≡◌, ◌<◌, ◌≤◌, ◌*◌, ◌^
 ghost use Rattle.segments.specs.Ring.{items, chains, olders, newers, tags, IsRing, ring, order_of, no_slots, more_free};
 ghost use Rattle.segments.specs.Ring.{lists, bare_slot, IsQueued};
 ghost use Rattle.segments.specs.Index.{IsLoaded};
-ghost use Rattle.segments.specs.Table.{IsHeld, lengths_of, one_more, IsSound, IsSame};
+ghost use Rattle.segments.specs.Table.{IsInSlots, lengths_of, one_longer, IsSound, IsSame};
 ghost use Rattle.segments.specs.declared.records.Queue.TheVariants.{Window};
 
 use crate::index::Index;
@@ -59,7 +59,7 @@ fn begin(alloc: Global, slots: &mut Vec<Slot>, index: &mut Index) -> Result<(), 
     requires sound { IsSound slots.old.items index.old.heads.items index.old.bits }
     requires few { length slots.old.items < 2 ^ 32 }
     requires load { IsLoaded (length slots.old.items) index.old.bits }
-    ensures held { OnOk result (IsHeld slots.new.items index.new.heads.items index.new.bits
+    ensures held { OnOk result (IsInSlots slots.new.items index.new.heads.items index.new.bits
         (order_of slots.new.items)) }
     ensures same { IsSame slots.old.items slots.new.items }
     ensures load { IsLoaded (length slots.new.items) index.new.bits }
@@ -95,11 +95,11 @@ fn add_slot(slots: &mut Vec<Slot>) -> Result<(), AllocError>
 
 /// Spreads the items over twice as many chains where there are fewer than two chains a slot; all slots are in use.
 fn widen(alloc: Global, slots: &mut [Slot], index: &mut Index) -> Result<(), AllocError>
-    requires held { IsHeld slots.old index.old.heads.items index.old.bits (order_of slots.old) }
+    requires held { IsInSlots slots.old index.old.heads.items index.old.bits (order_of slots.old) }
     requires free { (order_of slots.old).free ≡ [] }
     requires few { length slots.old ≤ 2 ^ 32 }
     requires load { IsLoaded (length slots.old) index.old.bits }
-    ensures held { IsHeld slots.new index.new.heads.items index.new.bits (order_of slots.old) }
+    ensures held { IsInSlots slots.new index.new.heads.items index.new.bits (order_of slots.old) }
     ensures items { items slots.new ≡ items slots.old }
     ensures load { IsLoaded (length slots.new) index.new.bits }
     ensures roomy { OnOk result (index.new.bits < 31 → 2 * length slots.new ≤ 2 ^ index.new.bits) }
@@ -129,7 +129,7 @@ pub(crate) fn grow(
     ensures lists { lists slots.new.items ≡ lists slots.old.items }
     ensures few { length slots.new.items < 2 ^ 32 }
     ensures ok { OnOk result (lengths_of (order_of slots.new.items)
-        ≡ one_more (lengths_of (order_of slots.old.items))) }
+        ≡ one_longer (lengths_of (order_of slots.old.items))) }
     ensures err { OnErr result (lengths_of (order_of slots.new.items) ≡ lengths_of (order_of slots.old.items)) }
     ensures load { IsLoaded (length slots.new.items) index.new.bits }
 {

@@ -4,7 +4,7 @@ ghost use Rattle.std.specs.Prelude.{IfOk, OnOk, IfSome, IfNone, OnSome};
 ghost use Rattle.segments.specs.Items.{first};
 ghost use Rattle.segments.specs.Queues.{empty, queue_of, place_of, IsDistinct, pushed, taken, moved, popped};
 ghost use Rattle.segments.specs.Queues.{refreshed_to};
-ghost use Rattle.segments.specs.Moves.{move_record, undone, Fits, needed};
+ghost use Rattle.segments.specs.Moves.{move_record, queues_before_move, FitsMove, needed};
 
 use crate::links::slot_behind;
 use crate::records::{MoveRecord, Queue};
@@ -99,8 +99,8 @@ impl Segments {
         requires absent { place_of item self.old.lists ≡ None }
         ensures lists { self.new.lists ≡ pushed queue item self.old.lists }
         ensures record { result ≡ move_record item (Some queue) self.old.lists }
-        ensures fits { Fits result self.new.lists }
-        ensures undone { undone result self.new.lists ≡ self.old.lists }
+        ensures fits { FitsMove result self.new.lists }
+        ensures undone { queues_before_move result self.new.lists ≡ self.old.lists }
         ensures spare { self.old.spare ≤ self.new.spare + 1 }
     {
         self.table.insert(item, queue, slot_behind(queue));
@@ -118,8 +118,8 @@ impl Segments {
         ensures lists { IfSome result (λ _. self.new.lists ≡ moved item queue self.old.lists) }
         ensures none { IfNone result (self.new.lists ≡ self.old.lists) }
         ensures record { IfSome result (λ r. r ≡ move_record item (Some queue) self.old.lists) }
-        ensures fits { IfSome result (λ r. Fits r self.new.lists) }
-        ensures undone { IfSome result (λ r. undone r self.new.lists ≡ self.old.lists) }
+        ensures fits { IfSome result (λ r. FitsMove r self.new.lists) }
+        ensures undone { IfSome result (λ r. queues_before_move r self.new.lists ≡ self.old.lists) }
         ensures spare { self.old.spare ≤ self.new.spare }
     {
         let Some(at) = self.table.find_slot(item) else {
@@ -143,8 +143,8 @@ impl Segments {
         ensures lists { IfSome result (λ r. self.new.lists ≡ moved item (refreshed_to r.0) self.old.lists) }
         ensures none { IfNone result (self.new.lists ≡ self.old.lists) }
         ensures record { IfSome result (λ r. r.1 ≡ move_record item (Some (refreshed_to r.0)) self.old.lists) }
-        ensures fits { IfSome result (λ r. Fits r.1 self.new.lists) }
-        ensures undone { IfSome result (λ r. undone r.1 self.new.lists ≡ self.old.lists) }
+        ensures fits { IfSome result (λ r. FitsMove r.1 self.new.lists) }
+        ensures undone { IfSome result (λ r. queues_before_move r.1 self.new.lists ≡ self.old.lists) }
         ensures spare { self.old.spare ≤ self.new.spare }
         // Of every `Segments`: no item stands twice.
         ensures distinct { IsDistinct self.old.lists }
@@ -170,8 +170,8 @@ impl Segments {
         ensures lists { self.new.lists ≡ popped queue self.old.lists }
         ensures none { IfNone result (self.new.lists ≡ self.old.lists) }
         ensures record { IfSome result (λ r. r.1 ≡ move_record r.0 None self.old.lists) }
-        ensures fits { IfSome result (λ r. Fits r.1 self.new.lists) }
-        ensures undone { IfSome result (λ r. undone r.1 self.new.lists ≡ self.old.lists) }
+        ensures fits { IfSome result (λ r. FitsMove r.1 self.new.lists) }
+        ensures undone { IfSome result (λ r. queues_before_move r.1 self.new.lists ≡ self.old.lists) }
         ensures spare { self.old.spare ≤ self.new.spare }
         ensures gained { IfSome result (λ _. self.old.spare + 1 ≤ self.new.spare) }
     {
@@ -205,8 +205,8 @@ impl Segments {
         ensures lists { IfSome result (λ r. self.new.lists ≡ moved r.item to self.old.lists) }
         ensures none { IfNone result (self.new.lists ≡ self.old.lists) }
         ensures record { IfSome result (λ r. r ≡ move_record r.item (Some to) self.old.lists) }
-        ensures fits { IfSome result (λ r. Fits r self.new.lists) }
-        ensures undone { IfSome result (λ r. undone r self.new.lists ≡ self.old.lists) }
+        ensures fits { IfSome result (λ r. FitsMove r self.new.lists) }
+        ensures undone { IfSome result (λ r. queues_before_move r self.new.lists ≡ self.old.lists) }
         ensures spare { self.old.spare ≤ self.new.spare }
     {
         let Some((at, item)) = self.table.oldest(from) else {
@@ -226,8 +226,8 @@ impl Segments {
         ensures lists { self.new.lists ≡ taken item self.old.lists }
         ensures none { IfNone result (self.new.lists ≡ self.old.lists) }
         ensures record { IfSome result (λ r. r ≡ move_record item None self.old.lists) }
-        ensures fits { IfSome result (λ r. Fits r self.new.lists) }
-        ensures undone { IfSome result (λ r. undone r self.new.lists ≡ self.old.lists) }
+        ensures fits { IfSome result (λ r. FitsMove r self.new.lists) }
+        ensures undone { IfSome result (λ r. queues_before_move r self.new.lists ≡ self.old.lists) }
         ensures spare { self.old.spare ≤ self.new.spare }
         ensures gained { IfSome result (λ _. self.old.spare + 1 ≤ self.new.spare) }
     {
@@ -243,9 +243,9 @@ impl Segments {
     /// Undoes a move from its record, which must fit the queues as they stand. If the item went out, it requires
     /// room for it.
     pub fn put_back(&mut self, done: MoveRecord)
-        requires fits { Fits done self.old.lists }
+        requires fits { FitsMove done self.old.lists }
         requires room { needed done.to ≤ self.old.spare }
-        ensures lists { self.new.lists ≡ undone done self.old.lists }
+        ensures lists { self.new.lists ≡ queues_before_move done self.old.lists }
         ensures spare { self.old.spare ≤ self.new.spare + needed done.to }
     {
         let Some(place) = done.from else {

@@ -8,7 +8,8 @@ use Rattle.shell_model.specs.declared.record.ShellRecord.{ShellRecord}
 use Rattle.shell_model.specs.declared.record.Change.{Change}
 use Rattle.shell_model.specs.declared.record.Change.TheVariants.{Nothing, Offered, Updated, Added, Removed, Requested, Began, Read, Passed, Applied, Cleared, Evicted, Ended}
 use Rattle.shell_model.specs.Shell.{Shell, perform, tallied, act}
-use Rattle.shell_model.specs.ShellStats.{one, counted, uncounted, IsCounted, is_hit, is_miss, is_kept, is_full, is_lost, is_added, is_updated, is_refused, is_eviction, is_rejection, is_begun, is_busy, is_removed}
+use Rattle.shell_model.specs.ShellStats.{shell_stats_after, shell_stats_before, IsReplyCounted, is_hit_reply, is_miss_reply, is_kept_reply, is_full_reply, is_lost_reply, is_added_reply, is_updated_reply, is_refused_reply, is_eviction_reply, is_rejection_reply, is_begun_reply, is_busy_reply, is_removed_reply}
+use Rattle.step_record.specs.Stats.{one}
 use Rattle.shell_model.specs.Records.{unchanged, FitsChange, undone_step, FitsStep, change_of}
 use Rattle.shell_model.specs.Consistent.{IsConsistent}
 use Rattle.shell_model.proofs.Undoing.{GoesTo, perform-goes}
@@ -16,28 +17,28 @@ use Rattle.shell_model.proofs.Undoing.{GoesTo, perform-goes}
 plus-less : (a b : ℕ) → a + b - b ≡ a
 plus-less a b = omega arith
 
-pub uncounted-counted : (r : Reply) (s : ShellStats) → uncounted r (counted r s) ≡ s
+pub uncounted-counted : (r : Reply) (s : ShellStats) → shell_stats_before r (shell_stats_after r s) ≡ s
 uncounted-counted r s =
     rw (
-      plus-less s.hits (one (is_hit r)),
-      plus-less s.misses (one (is_miss r)),
-      plus-less s.kept (one (is_kept r)),
-      plus-less s.full (one (is_full r)),
-      plus-less s.lost (one (is_lost r)),
-      plus-less s.added (one (is_added r)),
-      plus-less s.updated (one (is_updated r)),
-      plus-less s.refused (one (is_refused r)),
-      plus-less s.evictions (one (is_eviction r)),
-      plus-less s.rejections (one (is_rejection r)),
-      plus-less s.begun (one (is_begun r)),
-      plus-less s.busy (one (is_busy r)),
-      plus-less s.removed (one (is_removed r)),
+      plus-less s.hits (one (is_hit_reply r)),
+      plus-less s.misses (one (is_miss_reply r)),
+      plus-less s.kept (one (is_kept_reply r)),
+      plus-less s.full (one (is_full_reply r)),
+      plus-less s.lost (one (is_lost_reply r)),
+      plus-less s.added (one (is_added_reply r)),
+      plus-less s.updated (one (is_updated_reply r)),
+      plus-less s.refused (one (is_refused_reply r)),
+      plus-less s.evictions (one (is_eviction_reply r)),
+      plus-less s.rejections (one (is_rejection_reply r)),
+      plus-less s.begun (one (is_begun_reply r)),
+      plus-less s.busy (one (is_busy_reply r)),
+      plus-less s.removed (one (is_removed_reply r)),
     ) refl
 
 more : (a b : ℕ) → b ≤ a + b
 more a b = omega arith
 
-pub counted-fits : (r : Reply) (s : ShellStats) → IsCounted r (counted r s)
+pub counted-fits : (r : Reply) (s : ShellStats) → IsReplyCounted r (shell_stats_after r s)
 counted-fits r s = record {
   hits = more _ _;
   misses = more _ _;
@@ -110,9 +111,9 @@ tallied-undone c x (Some p) g =
       record {
         stats = counted-fits p.0 y.stats;
         applied = omega arith;
-        change = tallied-fits c p.1 (counted p.0 y.stats) (y.applied + 1) g.fits;
+        change = tallied-fits c p.1 (shell_stats_after p.0 y.stats) (y.applied + 1) g.fits;
       },
-      rw (tallied-back c p.1 (counted p.0 y.stats) (y.applied + 1), uncounted-counted p.0 y.stats, plus-less y.applied 1) (same-tally c p.1 ∙ g.back),
+      rw (tallied-back c p.1 (shell_stats_after p.0 y.stats) (y.applied + 1), uncounted-counted p.0 y.stats, plus-less y.applied 1) (same-tally c p.1 ∙ g.back),
     )
 
 -- the record of a step of the shell leads back from what the step left

@@ -9,11 +9,12 @@ use Rattle.step_record.specs.declared.step.Reply.{Reply}
 use Rattle.step_record.specs.History.{went, after, IsLegal}
 use Rattle.admission.specs.Shape.{Shape, IsShape}
 use Rattle.admission.specs.Frequency.{FrequencyData, frequency_of, recorded as recorded_key}
-use Rattle.shell_model.specs.Frequency.{recorded}
+use Rattle.shell_model.specs.Frequency.{frequency_recorded}
 use Rattle.shell_model.specs.declared.stats.ShellStats.{ShellStats}
-use Rattle.shell_model.specs.ShellStats.{one, counted, AreAtMost, is_hit, is_miss, is_kept, is_full, is_lost, is_added, is_updated, is_refused, is_eviction, is_rejection, is_begun, is_busy, is_removed}
+use Rattle.shell_model.specs.ShellStats.{shell_stats_after, AreAtMost, is_hit_reply, is_miss_reply, is_kept_reply, is_full_reply, is_lost_reply, is_added_reply, is_updated_reply, is_refused_reply, is_eviction_reply, is_rejection_reply, is_begun_reply, is_busy_reply, is_removed_reply}
+use Rattle.step_record.specs.Stats.{one}
 use Rattle.shell_model.specs.Shell.{Shell, act}
-use Rattle.shell_model.specs.Laws.{Made, IsShapeOf, opened}
+use Rattle.shell_model.specs.Laws.{MadeStep, IsShapeOf, opened}
 use Rattle.shell_model.specs.Reached.{IsBounded, BoundLaw}
 use Rattle.shell_model.proofs.Making as k
 use Rattle.shell_model.proofs.Making.{Makes}
@@ -28,8 +29,8 @@ next-step x w b r y k.busy = omega arith
 next-step x w b r y made = omega arith
 
 -- a key more brings one halving at most
-halvings-recorded : (f : FrequencyData) (k : ℕ) → (recorded f k).halvings ≤ f.halvings + 1
-unfolding recorded
+halvings-recorded : (f : FrequencyData) (k : ℕ) → (frequency_recorded f k).halvings ≤ f.halvings + 1
+unfolding frequency_recorded
 halvings-recorded f k =
     elim (cases_Bool (eqb (f.age + 1) (10 * f.capacity))) as (λ _. (recorded_key k f).halvings ≤ f.halvings + 1) [
       | inl e ↦ rw e (omega arith)
@@ -50,21 +51,21 @@ up : (b : Bool) (m n : ℕ) → m ≤ n → m + one b ≤ n + 1
 up true m n h = omega (arith, h)
 up false m n h = omega (arith, h)
 
-counted-most : (r : Reply) (s : ShellStats) (n : ℕ) → AreAtMost n s → AreAtMost (n + 1) (counted r s)
+counted-most : (r : Reply) (s : ShellStats) (n : ℕ) → AreAtMost n s → AreAtMost (n + 1) (shell_stats_after r s)
 counted-most r s n h = record {
-  hits = up (is_hit r) s.hits n h.hits;
-  misses = up (is_miss r) s.misses n h.misses;
-  kept = up (is_kept r) s.kept n h.kept;
-  full = up (is_full r) s.full n h.full;
-  lost = up (is_lost r) s.lost n h.lost;
-  added = up (is_added r) s.added n h.added;
-  updated = up (is_updated r) s.updated n h.updated;
-  refused = up (is_refused r) s.refused n h.refused;
-  evictions = up (is_eviction r) s.evictions n h.evictions;
-  rejections = up (is_rejection r) s.rejections n h.rejections;
-  begun = up (is_begun r) s.begun n h.begun;
-  busy = up (is_busy r) s.busy n h.busy;
-  removed = up (is_removed r) s.removed n h.removed;
+  hits = up (is_hit_reply r) s.hits n h.hits;
+  misses = up (is_miss_reply r) s.misses n h.misses;
+  kept = up (is_kept_reply r) s.kept n h.kept;
+  full = up (is_full_reply r) s.full n h.full;
+  lost = up (is_lost_reply r) s.lost n h.lost;
+  added = up (is_added_reply r) s.added n h.added;
+  updated = up (is_updated_reply r) s.updated n h.updated;
+  refused = up (is_refused_reply r) s.refused n h.refused;
+  evictions = up (is_eviction_reply r) s.evictions n h.evictions;
+  rejections = up (is_rejection_reply r) s.rejections n h.rejections;
+  begun = up (is_begun_reply r) s.begun n h.begun;
+  busy = up (is_busy_reply r) s.busy n h.busy;
+  removed = up (is_removed_reply r) s.removed n h.removed;
 }
 
 pub most-more : (m n : ℕ) (s : ShellStats) → m ≤ n → AreAtMost m s → AreAtMost n s
@@ -91,7 +92,7 @@ accepted x s p h =
       | inr t ↦ absurd (let no : None ≡ Some p = rw t at h in cc (no))
     ]
 
-bound-next : (x : Shell) (e : Made) (z : Shell) → IsBounded x → act x e.step ≡ Some (e.reply, z) → IsBounded z
+bound-next : (x : Shell) (e : MadeStep) (z : Shell) → IsBounded x → act x e.step ≡ Some (e.reply, z) → IsBounded z
 bound-next x e z v h =
     let s : Steps x e z = stepped x e z h in
     let n : z.next ≡ s.left.next = ap (λ (y : Shell). y.next) s.is in
@@ -99,8 +100,8 @@ bound-next x e z v h =
     let t : z.applied ≡ s.left.applied + 1 = ap (λ (y : Shell). y.applied) s.is in
     let u : s.left.applied ≡ x.applied = applied-step x e.step.worker e.step.act e.reply s.left s.made in
     let w : z.applied ≡ x.applied + 1 = t ∙ ap (λ i. i + 1) u in
-    let c : z.stats ≡ counted e.reply s.left.stats = ap (λ (y : Shell). y.stats) s.is in
-    let d : z.stats ≡ counted e.reply x.stats = c ∙ ap (counted e.reply) (stats-step x e.step.worker e.step.act e.reply s.left s.made) in
+    let c : z.stats ≡ shell_stats_after e.reply s.left.stats = ap (λ (y : Shell). y.stats) s.is in
+    let d : z.stats ≡ shell_stats_after e.reply x.stats = c ∙ ap (shell_stats_after e.reply) (stats-step x e.step.worker e.step.act e.reply s.left s.made) in
     let few : x.applied < 4294967296 = accepted x e.step (e.reply, z) h in
     let g : z.frequency.halvings ≡ s.left.frequency.halvings = ap (λ (y : Shell). y.frequency.halvings) s.is in
     let j : s.left.frequency.halvings ≤ x.frequency.halvings + 1 = halvings-step x e.step.worker e.step.act e.reply s.left s.made in
@@ -111,7 +112,7 @@ bound-next x e z v h =
       applied = omega (arith, w, few);
     }
 
-pub after-bound : (x : Shell) (es : List Made) → IsBounded x → IsLegal act x es → IsBounded (after act x es)
+pub after-bound : (x : Shell) (es : List MadeStep) → IsBounded x → IsLegal act x es → IsBounded (after act x es)
 after-bound x [] v l = v
 after-bound x (e ∷ es) v l = after-bound (went (act x e.step) x) es (bound-next x e (went (act x e.step) x) v l.0) l.1
 

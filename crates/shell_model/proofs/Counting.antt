@@ -5,21 +5,21 @@ use Rattle.std.proofs.lemmas.Bool.Decides.{nat_tests}
 use Rattle.step_record.specs.declared.item.Item.{Item}
 use Rattle.segments.specs.declared.records.Queue.{Queue}
 use Rattle.segments.specs.declared.records.Queue.TheVariants.{Window, Probation, Protected}
-use Rattle.segments.specs.Items.{same, times, without}
+use Rattle.segments.specs.Items.{same, times, items_without}
 use Rattle.segments.specs.Queues.{Queues, place_of, pushed, taken, moved, IsDistinct}
 use Rattle.segments.proofs.ItemLists.{same-true, same-refl, times-append, without-none}
 use Rattle.segments.proofs.MoveLaws.{Stands, in_window, in_probation, in_protected, nowhere, stands, taken-none}
-use Rattle.shell_model.specs.Shell.{placed, node_of, is_listed, unlisted, cleared, cleared_from}
+use Rattle.shell_model.specs.Shell.{placed, node_of, is_listed, unlisted, queues_cleared, cleared_from}
 use Rattle.shell_model.specs.Consistent.{queued, AreAbove, IsAscending}
 
 abbrev pub once : Item → Item → ℕ
 once i j = cond (same i j) 1 0
 
-pub unless-same : (j i : Item) (l : List Item) → times j (without i l) ≡ cond (same j i) 0 (times j l)
+pub unless-same : (j i : Item) (l : List Item) → times j (items_without i l) ≡ cond (same j i) 0 (times j l)
 unless-same j i [] = elim (cases_Bool (same j i)) as (λ _. times j [] ≡ cond (same j i) 0 (times j [])) [ inl e ↦ rw e refl | inr e ↦ rw e refl ]
 unless-same j i (x ∷ l) =
-    let h : times j (without i l) ≡ cond (same j i) 0 (times j l) = unless-same j i l in
-    elim (cases_Bool (same i x)) as (λ _. times j (cond (same i x) (without i l) (x ∷ without i l)) ≡ cond (same j i) 0 (cond (same j x) 1 0 + times j l)) [
+    let h : times j (items_without i l) ≡ cond (same j i) 0 (times j l) = unless-same j i l in
+    elim (cases_Bool (same i x)) as (λ _. times j (cond (same i x) (items_without i l) (x ∷ items_without i l)) ≡ cond (same j i) 0 (cond (same j x) 1 0 + times j l)) [
       | inl e ↦ let s : i ≡ x = same-true i x e in rw (e, h) (elim (cases_Bool (same j i)) as (λ _. cond (same j i) 0 (times j l) ≡ cond (same j i) 0 (cond (same j x) 1 0 + times j l)) [
         | inl f ↦ rw f refl
         | inr f ↦ let g : same j x ≡ false = rw s at f in rw (f, g) (omega arith)
@@ -76,13 +76,13 @@ times-placed j i (x ∷ t) =
       | inr e ↦ rw (e, h) (omega arith)
     ]
 
-pub without-placed : (i : Item) (t : List Item) → times i t ≡ 0 → without i (placed i t) ≡ t
+pub without-placed : (i : Item) (t : List Item) → times i t ≡ 0 → items_without i (placed i t) ≡ t
 without-placed i [] h = let e = same-refl i in rw e refl
 without-placed i (x ∷ t) h =
     let apart : same i x ≡ false = elim (cases_Bool (same i x)) [ inl f ↦ absurd (let no : 1 + times i t ≡ 0 = rw f at h in omega arith) | inr f ↦ f ] in
     let rest : times i t ≡ 0 = omega (arith, h) in
     let e = same-refl i in
-    elim (cases_Bool (nat_lt i.key x.key)) as (λ _. without i (cond (nat_lt i.key x.key) (i ∷ x ∷ t) (x ∷ placed i t)) ≡ x ∷ t) [
+    elim (cases_Bool (nat_lt i.key x.key)) as (λ _. items_without i (cond (nat_lt i.key x.key) (i ∷ x ∷ t) (x ∷ placed i t)) ≡ x ∷ t) [
       | inl f ↦ rw (f, e, apart, without-none i t rest) refl
       | inr f ↦ rw (f, apart, without-placed i t rest) refl
     ]
@@ -118,10 +118,10 @@ placed-front : (v : Item) (t : List Item) → AreAbove v.key t → placed v t �
 placed-front v [] a = refl
 placed-front v (y ∷ t) a = let e : nat_lt v.key y.key ≡ true = grind (arith, nat_tests, a.0) in rw e refl
 
-pub placed-without : (v : Item) (t : List Item) → IsAscending t → 1 ≤ times v t → placed v (without v t) ≡ t
+pub placed-without : (v : Item) (t : List Item) → IsAscending t → 1 ≤ times v t → placed v (items_without v t) ≡ t
 placed-without v [] a h = absurd (omega arith)
 placed-without v (x ∷ t) a h =
-    elim (cases_Bool (same v x)) as (λ _. placed v (cond (same v x) (without v t) (x ∷ without v t)) ≡ x ∷ t) [
+    elim (cases_Bool (same v x)) as (λ _. placed v (cond (same v x) (items_without v t) (x ∷ items_without v t)) ≡ x ∷ t) [
       | inl e ↦
           let s : v ≡ x = same-true v x e in
           let up : AreAbove v.key t = rw s a.0 in
@@ -140,10 +140,10 @@ node_of-above k (x ∷ t) a = let e : eqb k x.key ≡ false = grind (arith, nat_
     later : (m : ℕ) (t : List Item) → AreAbove k (x ∷ t) → AreAbove k t
     later m t a = a.1
 
-pub node_of-without : (v : Item) (t : List Item) → IsAscending t → 1 ≤ times v t → node_of v.key (without v t) ≡ None
+pub node_of-without : (v : Item) (t : List Item) → IsAscending t → 1 ≤ times v t → node_of v.key (items_without v t) ≡ None
 node_of-without v [] a h = absurd (omega arith)
 node_of-without v (x ∷ t) a h =
-    elim (cases_Bool (same v x)) as (λ _. node_of v.key (cond (same v x) (without v t) (x ∷ without v t)) ≡ None) [
+    elim (cases_Bool (same v x)) as (λ _. node_of v.key (cond (same v x) (items_without v t) (x ∷ items_without v t)) ≡ None) [
       | inl e ↦
           let s : v ≡ x = same-true v x e in
           let up : AreAbove v.key t = rw s a.0 in
@@ -187,9 +187,9 @@ unlisted-times i (x ∷ t) a h =
       ])
     ]
 
-pub unlisted-is : (i : Item) (t : List Item) → IsAscending t → unlisted i t ≡ without i t
+pub unlisted-is : (i : Item) (t : List Item) → IsAscending t → unlisted i t ≡ items_without i t
 unlisted-is i t a =
-    elim (cases_Bool (is_listed i t)) as (λ _. cond (is_listed i t) (without i t) t ≡ without i t) [
+    elim (cases_Bool (is_listed i t)) as (λ _. cond (is_listed i t) (items_without i t) t ≡ items_without i t) [
       | inl e ↦ rw e refl
       | inr e ↦ rw e (sym (without-none i t (unlisted-times i t a e)))
     ]
@@ -201,5 +201,5 @@ cleared-at i q p (in_window e f g) = refl
 cleared-at i q p (in_probation e f g) = refl
 cleared-at i q p (in_protected e f g) = refl
 
-pub cleared-is : (i : Item) (q : Queues) → IsDistinct q → cleared i q ≡ taken i q
+pub cleared-is : (i : Item) (q : Queues) → IsDistinct q → queues_cleared i q ≡ taken i q
 cleared-is i q d = cleared-at i q (place_of i q) (stands i q d)

@@ -18,17 +18,17 @@ use Rattle.shell_model.specs.declared.holder.Holder.{Holder}
 use Rattle.shell_model.specs.declared.record.ShellRecord.{ShellRecord}
 use Rattle.shell_model.specs.declared.record.Change.{Change}
 use Rattle.shell_model.specs.declared.record.Change.TheVariants.{Nothing, Read, Applied}
-use Rattle.shell_model.specs.Frequency.{recorded, unrecorded, FitsFrequency}
+use Rattle.shell_model.specs.Frequency.{frequency_recorded, frequency_unrecorded, FitsFrequency}
 use Rattle.shell_model.specs.Shell.{Shell, perform, act, held_by, hold_end}
 use Rattle.shell_model.specs.Records.{unchanged, undone_step, FitsChange, FitsStep, change_size, record_size}
-use Rattle.shell_model.specs.Laws.{Made, is_ending}
+use Rattle.shell_model.specs.Laws.{MadeStep, is_ending}
 use Rattle.shell_model.specs.Reached.{worker_of, HoldLaws}
 use Rattle.shell_model.proofs.Making as k
 use Rattle.shell_model.proofs.Making.{Makes}
 use Rattle.shell_model.proofs.Histories.{Steps, stepped}
 use Rattle.shell_model.proofs.Bounding.{applied-step}
 
-abbrev made_of : Step → Reply → Made
+abbrev made_of : Step → Reply → MadeStep
 made_of s r = record { step = s; reply = r }
 
 -- replies
@@ -56,8 +56,8 @@ act_ends x s h = rw h refl
 same-paced : (p : Pace) → IsPaced p p
 same-paced p = record { period = refl; words = refl; moves = inl record { halvings = refl; older = omega arith; by_one = omega arith; below = λ h. h } }
 
-key-paced : (f : FrequencyData) (n : ℕ) → IsPaced (pace_of f) (pace_of (recorded f n))
-unfolding recorded
+key-paced : (f : FrequencyData) (n : ℕ) → IsPaced (pace_of f) (pace_of (frequency_recorded f n))
+unfolding frequency_recorded
 key-paced f n = recorded_paced f n
 
 made-paced : (x : Shell) (w : ℕ) (b : Act) (r : Reply) (y : Shell) → Makes w x b r y → IsPaced (pace_of x.frequency) (pace_of y.frequency)
@@ -74,8 +74,8 @@ act_paced x s r y h =
 
 -- words
 
-key-weighs : (f : FrequencyData) (r : FreqRecord) → FitsFrequency r f → words_of_halvings (pace_of f) ≡ words_of_halvings (pace_of (unrecorded r f)) + size_of r
-unfolding FitsFrequency unrecorded
+key-weighs : (f : FrequencyData) (r : FreqRecord) → FitsFrequency r f → words_of_halvings (pace_of f) ≡ words_of_halvings (pace_of (frequency_unrecorded r f)) + size_of r
+unfolding FitsFrequency frequency_unrecorded
 key-weighs f r h = weight_falls f r h
 
 change-weighs : (c : Change) (x : Shell) → FitsChange c x → words_of_halvings (pace_of x.frequency) ≡ words_of_halvings (pace_of (unchanged c x).frequency) + change_size c

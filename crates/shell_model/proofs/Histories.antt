@@ -8,18 +8,19 @@ use Rattle.step_record.specs.declared.step.Act.TheVariants as a
 use Rattle.step_record.specs.declared.step.Reply.{Reply}
 use Rattle.step_record.specs.declared.step.Reply.TheVariants as reply
 use Rattle.step_record.specs.History.{went, after, IsLegal}
-use Rattle.segments.specs.Items.{same, times, without}
+use Rattle.segments.specs.Items.{same, times, items_without}
 use Rattle.segments.proofs.ItemLists.{same-true, times-append}
 use Rattle.admission.specs.Shape.{Shape, IsShape}
 use Rattle.admission.specs.Frequency.{FrequencyData, frequency_of}
 use Rattle.admission.proofs.Recording.{recorded_freq}
 use Rattle.shell_model.specs.declared.stats.ShellStats.{ShellStats}
-use Rattle.shell_model.specs.Frequency.{recorded}
-use Rattle.shell_model.specs.ShellStats.{one, counted}
+use Rattle.shell_model.specs.Frequency.{frequency_recorded}
+use Rattle.shell_model.specs.ShellStats.{shell_stats_after}
+use Rattle.step_record.specs.Stats.{one}
 use Rattle.shell_buffers.specs.Buffers.{stripe_at}
 use Rattle.shell_model.specs.Shell.{Shell, touching, perform, tallied, act}
 use Rattle.shell_model.specs.Consistent.{IsConsistent, queued}
-use Rattle.shell_model.specs.Laws.{Made, collect, tally, offered, drained, asked, done, added, gone, removed, keyed}
+use Rattle.shell_model.specs.Laws.{MadeStep, collect, tally, offered, drained, asked, done, added, evicted_items, removed_items, keyed}
 use Rattle.shell_model.proofs.Counting.{once, unless-same, times-placed, listed-times, node-listed, unlisted-is}
 use Rattle.shell_model.proofs.Undoing.{first-queued, shifted-queued}
 use Rattle.shell_model.proofs.Preserving.{SoundTo, act-sound, queued-below}
@@ -27,10 +28,10 @@ use Rattle.shell_model.proofs.Making as k
 use Rattle.shell_model.proofs.Making.{Makes, MakesTo, perform-makes}
 
 abbrev pub counted_up : Reply → Shell → Shell
-counted_up r y = record y { stats = counted r y.stats; applied = y.applied + 1 }
+counted_up r y = record y { stats = shell_stats_after r y.stats; applied = y.applied + 1 }
 
 -- one accepted step
-pub record Steps (x : Shell) (e : Made) (z : Shell) : Type 0 where
+pub record Steps (x : Shell) (e : MadeStep) (z : Shell) : Type 0 where
   pub left : Shell
   pub made : Makes e.step.worker x e.step.act e.reply left
   pub is : z ≡ counted_up e.reply left
@@ -43,7 +44,7 @@ shell_in : Shell → Option (Reply × Shell) → Shell
 shell_in x None = x
 shell_in x (Some p) = p.1
 
-acted : (x : Shell) (e : Made) (z : Shell) (p : Option (Reply × Shell)) → MakesTo e.step.worker x e.step.act p → tallied p ≡ Some (e.reply, z) → Steps x e z
+acted : (x : Shell) (e : MadeStep) (z : Shell) (p : Option (Reply × Shell)) → MakesTo e.step.worker x e.step.act p → tallied p ≡ Some (e.reply, z) → Steps x e z
 unfolding reply_in shell_in
 acted x e z None h i = absurd (cc (i))
 acted x e z (Some p) h i =
@@ -51,17 +52,17 @@ acted x e z (Some p) h i =
     let y : counted_up p.0 p.1 ≡ z = ap (shell_in x) i in
     record { left = p.1; made = rw r at h; is = sym (rw r at y) }
 
-pub stepped : (x : Shell) (e : Made) (z : Shell) → act x e.step ≡ Some (e.reply, z) → Steps x e z
+pub stepped : (x : Shell) (e : MadeStep) (z : Shell) → act x e.step ≡ Some (e.reply, z) → Steps x e z
 stepped x e z h =
     elim (cases_Bool (nat_lt x.applied 4294967296)) [
       | inl t ↦ acted x e z (perform e.step.worker e.step.act x) (perform-makes e.step.worker x e.step.act) (rw t at h)
       | inr t ↦ absurd (let no : None ≡ Some (e.reply, z) = rw t at h in cc (no))
     ]
 
-sound-next : (x : Shell) (e : Made) (z : Shell) → IsConsistent x → act x e.step ≡ Some (e.reply, z) → IsConsistent z
+sound-next : (x : Shell) (e : MadeStep) (z : Shell) → IsConsistent x → act x e.step ≡ Some (e.reply, z) → IsConsistent z
 sound-next x e z v h = let s : SoundTo (act x e.step) = act-sound x e.step v in let t : SoundTo (Some (e.reply, z)) = rw h at s in t
 
-pub after-sound : (x : Shell) (es : List Made) → IsConsistent x → IsLegal act x es → IsConsistent (after act x es)
+pub after-sound : (x : Shell) (es : List MadeStep) → IsConsistent x → IsLegal act x es → IsConsistent (after act x es)
 after-sound x [] v l = v
 after-sound x (e ∷ es) v l = after-sound (went (act x e.step) x) es (sound-next x e (went (act x e.step) x) v l.0) l.1
 
@@ -75,8 +76,8 @@ drop-more : {A : Type 0} → (n p : ℕ) (l k : List A) → p ≤ length l → d
 drop-more n p l k h = rw (← drop-append-le p l k h) (drop-drop n p (l ++ k))
 
 fifo : {A : Type 0} (view : Shell → List A) (ins : Act → Reply → List A) (outs : Act → Reply → ℕ)
-    → ((x : Shell) (e : Made) (z : Shell) → Steps x e z → IsFifo view ins outs x e.step.act e.reply z)
-    → (x : Shell) (es : List Made) → IsLegal act x es → view (after act x es) ≡ drop (tally outs es) (view x ++ collect ins es)
+    → ((x : Shell) (e : MadeStep) (z : Shell) → Steps x e z → IsFifo view ins outs x e.step.act e.reply z)
+    → (x : Shell) (es : List MadeStep) → IsLegal act x es → view (after act x es) ≡ drop (tally outs es) (view x ++ collect ins es)
 fifo view ins outs step x [] l = rw append-nil refl
 fifo view ins outs step x (e ∷ es) l =
     let z : Shell = went (act x e.step) x in
@@ -97,10 +98,10 @@ writes-step x w b r y (k.applied_update h f g i rest e n) = rw e record { within
 writes-step x w b r y (k.applied_remove h f g i rest e n) = rw e record { within = omega arith; gives = sym (append-nil rest) }
 writes-step x w b r y made = same-fifo (λ z. z.writes) asked done x b r y refl refl refl
 
-writes-next : (x : Shell) (e : Made) (z : Shell) → Steps x e z → IsFifo (λ z. z.writes) asked done x e.step.act e.reply z
+writes-next : (x : Shell) (e : MadeStep) (z : Shell) → Steps x e z → IsFifo (λ z. z.writes) asked done x e.step.act e.reply z
 writes-next x e z s = let f = writes-step x e.step.worker e.step.act e.reply s.left s.made in record { within = f.within; gives = rw s.is f.gives }
 
-pub writes-law : (x : Shell) (es : List Made) → IsLegal act x es → (after act x es).writes ≡ drop (tally done es) (x.writes ++ collect asked es)
+pub writes-law : (x : Shell) (es : List MadeStep) → IsLegal act x es → (after act x es).writes ≡ drop (tally done es) (x.writes ++ collect asked es)
 writes-law x es l = fifo (λ z. z.writes) asked done writes-next x es l
 
 -- stripes
@@ -127,10 +128,10 @@ stripes-step j x w b r y (k.drained s i rest h e) =
     ]
 stripes-step j x w b r y made = same-fifo (λ z. stripe_at j z.stripes) (offered j) (drained j) x b r y refl refl refl
 
-stripes-next : (j : ℕ) (x : Shell) (e : Made) (z : Shell) → Steps x e z → IsFifo (λ z. stripe_at j z.stripes) (offered j) (drained j) x e.step.act e.reply z
+stripes-next : (j : ℕ) (x : Shell) (e : MadeStep) (z : Shell) → Steps x e z → IsFifo (λ z. stripe_at j z.stripes) (offered j) (drained j) x e.step.act e.reply z
 stripes-next j x e z s = let f = stripes-step j x e.step.worker e.step.act e.reply s.left s.made in record { within = f.within; gives = rw s.is f.gives }
 
-pub stripes-law : (j : ℕ) (x : Shell) (es : List Made) → IsLegal act x es → stripe_at j (after act x es).stripes ≡ drop (tally (drained j) es) (stripe_at j x.stripes ++ collect (offered j) es)
+pub stripes-law : (j : ℕ) (x : Shell) (es : List MadeStep) → IsLegal act x es → stripe_at j (after act x es).stripes ≡ drop (tally (drained j) es) (stripe_at j x.stripes ++ collect (offered j) es)
 stripes-law j x es l = fifo (λ z. stripe_at j z.stripes) (offered j) (drained j) (stripes-next j) x es l
 
 -- statistics: f is one of them, which p counts
@@ -139,15 +140,15 @@ pub stats-step : (x : Shell) (w : ℕ) (b : Act) (r : Reply) (y : Shell) → Mak
 stats-step x w b r y k.busy = refl
 stats-step x w b r y made = refl
 
-pub stats-law : (f : ShellStats → ℕ) (p : Reply → Bool) → ((r : Reply) (s : ShellStats) → f (counted r s) ≡ f s + one (p r)) → (x : Shell) (es : List Made) → IsLegal act x es → f (after act x es).stats ≡ f x.stats + tally (λ b r. one (p r)) es
+pub stats-law : (f : ShellStats → ℕ) (p : Reply → Bool) → ((r : Reply) (s : ShellStats) → f (shell_stats_after r s) ≡ f s + one (p r)) → (x : Shell) (es : List MadeStep) → IsLegal act x es → f (after act x es).stats ≡ f x.stats + tally (λ b r. one (p r)) es
 stats-law f p q x [] l = omega arith
 stats-law f p q x (e ∷ es) l =
     let z : Shell = went (act x e.step) x in
     let s : Steps x e (went (act x e.step) x) = stepped x e (went (act x e.step) x) l.0 in
     let i : f (after act (went (act x e.step) x) es).stats ≡ f (went (act x e.step) x).stats + tally (λ b r. one (p r)) es = stats-law f p q (went (act x e.step) x) es l.1 in
-    let g : (went (act x e.step) x).stats ≡ counted e.reply s.left.stats = ap (λ (y : Shell). y.stats) s.is in
+    let g : (went (act x e.step) x).stats ≡ shell_stats_after e.reply s.left.stats = ap (λ (y : Shell). y.stats) s.is in
     let h : s.left.stats ≡ x.stats = stats-step x e.step.worker e.step.act e.reply s.left s.made in
-    let n : f (went (act x e.step) x).stats ≡ f x.stats + one (p e.reply) = ap f (g ∙ ap (counted e.reply) h) ∙ q e.reply x.stats in
+    let n : f (went (act x e.step) x).stats ≡ f x.stats + one (p e.reply) = ap f (g ∙ ap (shell_stats_after e.reply) h) ∙ q e.reply x.stats in
     omega (arith, i, n)
 
 -- the recorded keys
@@ -155,7 +156,7 @@ stats-law f p q x (e ∷ es) l =
 -- what an act's keys make of the frequency of a list of keys
 recorded_all : FrequencyData → List ℕ → FrequencyData
 recorded_all f [] = f
-recorded_all f (k ∷ ks) = recorded_all (recorded f k) ks
+recorded_all f (k ∷ ks) = recorded_all (frequency_recorded f k) ks
 
 frequency-step : (x : Shell) (w : ℕ) (b : Act) (r : Reply) (y : Shell) → Makes w x b r y → y.frequency ≡ recorded_all x.frequency (keyed b r)
 unfolding recorded_all
@@ -163,12 +164,12 @@ frequency-step x w b r y k.busy = refl
 frequency-step x w b r y made = refl
 
 recorded-keys : (s : Shape) → IsShape s → (past keys : List ℕ) → recorded_all (frequency_of s past) keys ≡ frequency_of s (past ++ keys)
-unfolding recorded_all recorded
+unfolding recorded_all frequency_recorded
 recorded-keys s h past [] = rw append-nil refl
 recorded-keys s h past (k ∷ ks) =
     ap (λ f. recorded_all f ks) (recorded_freq s h.some (omega (arith, h.width.1)) (omega (arith, h.size.1)) past k) ∙ recorded-keys s h (past ++ k ∷ []) ks ∙ ap (frequency_of s) (append_assoc past (k ∷ []) ks)
 
-pub frequency-law : (s : Shape) → IsShape s → (past : List ℕ) (x : Shell) (es : List Made) → x.frequency ≡ frequency_of s past → IsLegal act x es → (after act x es).frequency ≡ frequency_of s (past ++ collect keyed es)
+pub frequency-law : (s : Shape) → IsShape s → (past : List ℕ) (x : Shell) (es : List MadeStep) → x.frequency ≡ frequency_of s past → IsLegal act x es → (after act x es).frequency ≡ frequency_of s (past ++ collect keyed es)
 frequency-law sh k past x [] f l = rw append-nil f
 frequency-law sh k past x (e ∷ es) f l =
     let s : Steps x e (went (act x e.step) x) = stepped x e (went (act x e.step) x) l.0 in
@@ -194,7 +195,7 @@ given-step i x w b r y (k.added j) = (omega arith, λ h. node j x.next (times-on
 given-step i x w b r y made = (omega arith, λ h. absurd (omega arith))
 
 -- an addition to come has a node that is not below the next one
-pub given-law : (i : Item) (x : Shell) (es : List Made) → IsLegal act x es → 1 ≤ times i (collect added es) → x.next ≤ i.node
+pub given-law : (i : Item) (x : Shell) (es : List MadeStep) → IsLegal act x es → 1 ≤ times i (collect added es) → x.next ≤ i.node
 given-law i x [] l h = absurd (omega arith)
 given-law i x (e ∷ es) l h =
     let s : Steps x e (went (act x e.step) x) = stepped x e (went (act x e.step) x) l.0 in
@@ -215,7 +216,7 @@ pub record Comes (i : Item) (before now lost come next : ℕ) : Type 0 where
   pub kept : lost ≡ 0 → now ≡ before + come
   pub left : 1 ≤ lost → (now ≡ 0) × (i.node < next)
 
-comes-out : (i u : Item) (t : List Item) (lost come next : ℕ) → u.node < next → lost ≡ once i u → come ≡ 0 → Comes i (times i t) (times i (without u t)) lost come next
+comes-out : (i u : Item) (t : List Item) (lost come next : ℕ) → u.node < next → lost ≡ once i u → come ≡ 0 → Comes i (times i t) (times i (items_without u t)) lost come next
 comes-out i u t lost come next below l c =
     elim (cases_Bool (same i u)) [
       | inl e ↦
@@ -227,11 +228,11 @@ comes-out i u t lost come next below l c =
           }
       | inr e ↦
           let none : lost ≡ 0 = rw e at l in
-          let k : times i (without u t) ≡ times i t = unless-same i u t ∙ rw e refl in
+          let k : times i (items_without u t) ≡ times i t = unless-same i u t ∙ rw e refl in
           record { kept = λ h. omega (arith, k, c); left = λ h. absurd (omega (arith, h, none)) }
     ]
 
-table-step : (i : Item) (x : Shell) → IsConsistent x → (w : ℕ) (b : Act) (r : Reply) (y : Shell) → Makes w x b r y → Comes i (times i x.table) (times i y.table) (times i (gone b r) + times i (removed b r)) (times i (added b r)) y.next
+table-step : (i : Item) (x : Shell) → IsConsistent x → (w : ℕ) (b : Act) (r : Reply) (y : Shell) → Makes w x b r y → Comes i (times i x.table) (times i y.table) (times i (evicted_items b r) + times i (removed_items b r)) (times i (added b r)) y.next
 table-step i x v w b r y (k.added j) = record {
   kept = λ h. rw (times-placed i record { key = j; node = x.next } x.table) (omega arith);
   left = λ h. absurd (omega arith);
@@ -251,7 +252,7 @@ table-step i x v w b r y made = record { kept = λ h. omega arith; left = λ h. 
 -- what stands at the end, from what stood at first (before) and after one step (now): g and r name it as leaving in that step, gs and rs later
 joined : (node next before now last n ns g gs r rs : ℕ) → (g + r ≡ 0 → now ≡ before + n) → (1 ≤ g + r → (now ≡ 0) × (node < next)) → (1 ≤ ns → next ≤ node)
     → ((1 ≤ last) ↔ ((1 ≤ now + ns) × (gs ≡ 0) × (rs ≡ 0))) → (1 ≤ last) ↔ ((1 ≤ before + (n + ns)) × (g + gs ≡ 0) × (r + rs ≡ 0))
-joined node next before now last n ns g gs r rs kept left given h = either (g + r) same gone
+joined node next before now last n ns g gs r rs kept left given h = either (g + r) same evicted_items
   where
     either : (m : ℕ) {A : Type 0} → (m ≡ 0 → A) → (1 ≤ m → A) → A
     either zero f g = f refl
@@ -264,8 +265,8 @@ joined node next before now last n ns g gs r rs kept left given h = either (g + 
           (λ p. (let p1 : 1 ≤ before + (n + ns) = p.0 in let p2 : g + gs ≡ 0 = p.1 in let p3 : r + rs ≡ 0 = p.2 in h.1 (omega arith, omega arith, omega arith))),
         )
 
-    gone : 1 ≤ g + r → (1 ≤ last) ↔ ((1 ≤ before + (n + ns)) × (g + gs ≡ 0) × (r + rs ≡ 0))
-    gone e =
+    evicted_items : 1 ≤ g + r → (1 ≤ last) ↔ ((1 ≤ before + (n + ns)) × (g + gs ≡ 0) × (r + rs ≡ 0))
+    evicted_items e =
         let k = left e in
         let none : now ≡ 0 = k.0 in
         let below : node < next = k.1 in (
@@ -273,8 +274,8 @@ joined node next before now last n ns g gs r rs kept left given h = either (g + 
           (λ p. absurd (let p2 : g + gs ≡ 0 = p.1 in let p3 : r + rs ≡ 0 = p.2 in omega arith)),
         )
 
-pub table-law : (i : Item) (x : Shell) (es : List Made) → IsConsistent x → IsLegal act x es
-    → (1 ≤ times i (after act x es).table) ↔ ((1 ≤ times i x.table + times i (collect added es)) × (times i (collect gone es) ≡ 0) × (times i (collect removed es) ≡ 0))
+pub table-law : (i : Item) (x : Shell) (es : List MadeStep) → IsConsistent x → IsLegal act x es
+    → (1 ≤ times i (after act x es).table) ↔ ((1 ≤ times i x.table + times i (collect added es)) × (times i (collect evicted_items es) ≡ 0) × (times i (collect removed_items es) ≡ 0))
 table-law i x [] v l = ((λ u. (omega (arith, u), refl, refl)), (λ p. (let q : 1 ≤ times i x.table + 0 = p.0 in omega arith)))
 table-law i x (e ∷ es) v l =
     let s : Steps x e (went (act x e.step) x) = stepped x e (went (act x e.step) x) l.0 in
@@ -282,6 +283,6 @@ table-law i x (e ∷ es) v l =
     let c = table-step i x v e.step.worker e.step.act e.reply s.left s.made in
     let t : times i (went (act x e.step) x).table ≡ times i s.left.table = ap (λ (y : Shell). times i y.table) s.is in
     let g : (went (act x e.step) x).next ≡ s.left.next = ap (λ (y : Shell). y.next) s.is in
-    let j = joined i.node s.left.next (times i x.table) (times i s.left.table) (times i (after act (went (act x e.step) x) es).table) (times i (added e.step.act e.reply)) (times i (collect added es)) (times i (gone e.step.act e.reply)) (times i (collect gone es)) (times i (removed e.step.act e.reply)) (times i (collect removed es))
+    let j = joined i.node s.left.next (times i x.table) (times i s.left.table) (times i (after act (went (act x e.step) x) es).table) (times i (added e.step.act e.reply)) (times i (collect added es)) (times i (evicted_items e.step.act e.reply)) (times i (collect evicted_items es)) (times i (removed_items e.step.act e.reply)) (times i (collect removed_items es))
     c.kept c.left (rw g at (given-law i (went (act x e.step) x) es l.1)) (rw t at h) in
-    rw (times-append i (added e.step.act e.reply) (collect added es), times-append i (gone e.step.act e.reply) (collect gone es), times-append i (removed e.step.act e.reply) (collect removed es)) j
+    rw (times-append i (added e.step.act e.reply) (collect added es), times-append i (evicted_items e.step.act e.reply) (collect evicted_items es), times-append i (removed_items e.step.act e.reply) (collect removed_items es)) j

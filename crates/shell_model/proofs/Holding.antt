@@ -13,12 +13,12 @@ use Rattle.admission.specs.Shape.{Shape, IsShape}
 use Rattle.admission.proofs.Doors.{part_16}
 use Rattle.admission.proofs.Weighing.{frequency_is}
 use Rattle.shell_model.specs.declared.holder.Holder.{Holder}
-use Rattle.shell_model.specs.ShellStats.{is_hit, is_miss, is_kept, is_full, is_lost, is_added, is_updated, is_refused, is_eviction, is_rejection, is_begun, is_busy, is_removed}
+use Rattle.shell_model.specs.ShellStats.{is_hit_reply, is_miss_reply, is_kept_reply, is_full_reply, is_lost_reply, is_added_reply, is_updated_reply, is_refused_reply, is_eviction_reply, is_rejection_reply, is_begun_reply, is_busy_reply, is_removed_reply}
 use Rattle.shell_buffers.specs.Buffers.{stripe_at}
 use Rattle.replacement.specs.Rules.{main_size}
 use Rattle.shell_model.specs.Shell.{Shell, may_write, act}
 use Rattle.shell_model.specs.Consistent.{IsConsistent, main_length}
-use Rattle.shell_model.specs.Laws.{Made, collect, IsShapeOf, opened, added, is_ending, is_drain_write, is_evict, some_end, some_act, phase_after, open_from, open_began, seat_of, seat_from, AreReplies, HistoryLaws}
+use Rattle.shell_model.specs.Laws.{MadeStep, collect, IsShapeOf, opened, added, is_ending, is_drain_write, is_evict, some_end, some_act, phase_after, open_from, open_began, seat_of, seat_from, AreReplies, HistoryLaws}
 use Rattle.shell_model.proofs.Making as k
 use Rattle.shell_model.proofs.Making.{Makes}
 use Rattle.shell_model.proofs.Histories.{Steps, stepped, after-sound, writes-law, stripes-law, stats-law, frequency-law, table-law}
@@ -30,11 +30,11 @@ at_least Reads b = cond b Writes Reads
 at_least Writes b = Writes
 at_least Evictions b = Evictions
 
-abbrev phase_from : Phase → List Made → Phase
+abbrev phase_from : Phase → List MadeStep → Phase
 phase_from p es = cond (some_act is_evict es) Evictions (at_least p (some_act is_drain_write es))
 
 -- who holds after the entries, where o held before
-abbrev later : Option (ℕ × List Made) → Bool → Option (ℕ × Phase) → List Made → Option (ℕ × Phase)
+abbrev later : Option (ℕ × List MadeStep) → Bool → Option (ℕ × Phase) → List MadeStep → Option (ℕ × Phase)
 later (Some p) b o es = Some (p.0, phase_after Reads p.1)
 later None true o es = None
 later None false None es = None
@@ -49,21 +49,21 @@ from-evictions : (p q : Phase) (c : Bool) → cond c Evictions Evictions ≡ Evi
 from-evictions p q true = refl
 from-evictions p q false = refl
 
-abbrev made_of : ℕ → Act → Reply → Made
+abbrev made_of : ℕ → Act → Reply → MadeStep
 made_of w b r = record { step = record { worker = w; act = b }; reply = r }
 
-same-seat : (o : Option (ℕ × Phase)) (w : ℕ) (b : Act) (r : Reply) (es : List Made) → is_evict b ≡ false → is_drain_write b ≡ false → later None false o es ≡ later None false o (made_of w b r ∷ es)
+same-seat : (o : Option (ℕ × Phase)) (w : ℕ) (b : Act) (r : Reply) (es : List MadeStep) → is_evict b ≡ false → is_drain_write b ≡ false → later None false o es ≡ later None false o (made_of w b r ∷ es)
 same-seat None w b r es e f = refl
 same-seat (Some s) w b r es e f = rw (e, f) refl
 
-write-seat : (w : ℕ) (r : Reply) (h : Holder) (o : Option Holder) (es : List Made) → o ≡ Some h → may_write h.phase ≡ true → later None false (Some (h.worker, Writes)) es ≡ later None false (seat_of o) (made_of w a.DrainWrite r ∷ es)
+write-seat : (w : ℕ) (r : Reply) (h : Holder) (o : Option Holder) (es : List MadeStep) → o ≡ Some h → may_write h.phase ≡ true → later None false (Some (h.worker, Writes)) es ≡ later None false (seat_of o) (made_of w a.DrainWrite r ∷ es)
 write-seat w r h o es f g = rw f (ap (λ (p : Phase). Some (h.worker, p)) (from-writes h.phase (some_act is_evict es) (some_act is_drain_write es) g))
 
-evict-seat : (w : ℕ) (r : Reply) (h : Holder) (o : Option Holder) (es : List Made) → o ≡ Some h → later None false (Some (h.worker, Evictions)) es ≡ later None false (seat_of o) (made_of w a.Evict r ∷ es)
+evict-seat : (w : ℕ) (r : Reply) (h : Holder) (o : Option Holder) (es : List MadeStep) → o ≡ Some h → later None false (Some (h.worker, Evictions)) es ≡ later None false (seat_of o) (made_of w a.Evict r ∷ es)
 evict-seat w r h o es f = rw f (ap (λ (p : Phase). Some (h.worker, p)) (from-evictions Reads Reads (some_act is_evict es)))
 
-holder-step : (x : Shell) (w : ℕ) (b : Act) (r : Reply) (y : Shell) → Makes w x b r y → (es : List Made)
-    → later None false (seat_of y.holder) es ≡ later (cond (is_begun r) (Some (w, es)) None) (is_ending r) (seat_of x.holder) (made_of w b r ∷ es)
+holder-step : (x : Shell) (w : ℕ) (b : Act) (r : Reply) (y : Shell) → Makes w x b r y → (es : List MadeStep)
+    → later None false (seat_of y.holder) es ≡ later (cond (is_begun_reply r) (Some (w, es)) None) (is_ending r) (seat_of x.holder) (made_of w b r ∷ es)
 holder-step x w b r y (k.began e) es = ap (λ (p : Phase). Some (w, p)) refl
 holder-step x w b r y (k.write_empty h f g) es = write-seat w reply.Empty h x.holder es f g
 holder-step x w b r y (k.enough h f g) es = write-seat w reply.Enough h x.holder es f g
@@ -79,18 +79,18 @@ holder-step x w b r y (k.again h f d e) es = refl
 holder-step x w b r y made es = same-seat (seat_of x.holder) w b r es refl refl
 
 -- what came before the entries is told by what they say of a holder
-join : (e : Made) (es : List Made) (q : Option (ℕ × List Made)) (t : Bool) (o u : Option (ℕ × Phase)) → t ≡ some_end es
-    → (later None false u es ≡ later (cond (is_begun e.reply) (Some (e.step.worker, es)) None) (is_ending e.reply) o (e ∷ es))
+join : (e : MadeStep) (es : List MadeStep) (q : Option (ℕ × List MadeStep)) (t : Bool) (o u : Option (ℕ × Phase)) → t ≡ some_end es
+    → (later None false u es ≡ later (cond (is_begun_reply e.reply) (Some (e.step.worker, es)) None) (is_ending e.reply) o (e ∷ es))
     → later q t u es ≡ later (open_from e es q) (cond (is_ending e.reply) true t) o (e ∷ es)
 join e es (Some p) t o u h i = refl
-join e es None true o u h i = rw (← h) (over (is_begun e.reply) (is_ending e.reply))
+join e es None true o u h i = rw (← h) (over (is_begun_reply e.reply) (is_ending e.reply))
   where
     over : (c d : Bool) → None ≡ later (cond c (cond true None (Some (e.step.worker, es))) None) (cond d true true) o (e ∷ es)
     over true true = refl
     over true false = refl
     over false true = refl
     over false false = refl
-join e es None false o u h i = i ∙ rw (← h) (over (is_begun e.reply) (is_ending e.reply))
+join e es None false o u h i = i ∙ rw (← h) (over (is_begun_reply e.reply) (is_ending e.reply))
   where
     over : (c d : Bool) → later (cond c (Some (e.step.worker, es)) None) d o (e ∷ es) ≡ later (cond c (cond false None (Some (e.step.worker, es))) None) (cond d true false) o (e ∷ es)
     over true true = refl
@@ -98,7 +98,7 @@ join e es None false o u h i = i ∙ rw (← h) (over (is_begun e.reply) (is_end
     over false true = refl
     over false false = refl
 
-pub holder-law : (x : Shell) (es : List Made) → IsLegal act x es → seat_of (after act x es).holder ≡ later (open_began es) (some_end es) (seat_of x.holder) es
+pub holder-law : (x : Shell) (es : List MadeStep) → IsLegal act x es → seat_of (after act x es).holder ≡ later (open_began es) (some_end es) (seat_of x.holder) es
 holder-law x [] l = begin x.holder
   where
     begin : (o : Option Holder) → seat_of o ≡ later None false (seat_of o) []
@@ -116,7 +116,7 @@ holder-law x (e ∷ es) l =
     let h = holder-step x e.step.worker e.step.act e.reply s.left s.made es in
     i ∙ ap (λ u. later (open_began es) (some_end es) u es) g ∙ join e es (open_began es) (some_end es) (seat_of x.holder) (seat_of s.left.holder) refl h
 
-pub from-none : (q : Option (ℕ × List Made)) (t : Bool) (es : List Made) → later q t None es ≡ seat_from q
+pub from-none : (q : Option (ℕ × List MadeStep)) (t : Bool) (es : List MadeStep) → later q t None es ≡ seat_from q
 from-none (Some p) t es = refl
 from-none None true es = refl
 from-none None false es = refl
@@ -144,21 +144,21 @@ opened-sound c sh k = record {
   frequency = frequency_is sh [] (omega (arith, k.is.width.1)) (sixteenths sh k.is) (omega (arith, k.is.size.1));
 }
 
-pub replies-law : (c : Config) (sh : Shape) (es : List Made) → IsLegal act (opened c sh) es → AreReplies (after act (opened c sh) es).stats es
+pub replies-law : (c : Config) (sh : Shape) (es : List MadeStep) → IsLegal act (opened c sh) es → AreReplies (after act (opened c sh) es).stats es
 replies-law c sh es l = record {
-  hits = stats-law (λ s. s.hits) is_hit (λ r s. refl) (opened c sh) es l ∙ zero-plus _;
-  misses = stats-law (λ s. s.misses) is_miss (λ r s. refl) (opened c sh) es l ∙ zero-plus _;
-  kept = stats-law (λ s. s.kept) is_kept (λ r s. refl) (opened c sh) es l ∙ zero-plus _;
-  full = stats-law (λ s. s.full) is_full (λ r s. refl) (opened c sh) es l ∙ zero-plus _;
-  lost = stats-law (λ s. s.lost) is_lost (λ r s. refl) (opened c sh) es l ∙ zero-plus _;
-  added = stats-law (λ s. s.added) is_added (λ r s. refl) (opened c sh) es l ∙ zero-plus _;
-  updated = stats-law (λ s. s.updated) is_updated (λ r s. refl) (opened c sh) es l ∙ zero-plus _;
-  refused = stats-law (λ s. s.refused) is_refused (λ r s. refl) (opened c sh) es l ∙ zero-plus _;
-  evictions = stats-law (λ s. s.evictions) is_eviction (λ r s. refl) (opened c sh) es l ∙ zero-plus _;
-  rejections = stats-law (λ s. s.rejections) is_rejection (λ r s. refl) (opened c sh) es l ∙ zero-plus _;
-  begun = stats-law (λ s. s.begun) is_begun (λ r s. refl) (opened c sh) es l ∙ zero-plus _;
-  busy = stats-law (λ s. s.busy) is_busy (λ r s. refl) (opened c sh) es l ∙ zero-plus _;
-  removed = stats-law (λ s. s.removed) is_removed (λ r s. refl) (opened c sh) es l ∙ zero-plus _;
+  hits = stats-law (λ s. s.hits) is_hit_reply (λ r s. refl) (opened c sh) es l ∙ zero-plus _;
+  misses = stats-law (λ s. s.misses) is_miss_reply (λ r s. refl) (opened c sh) es l ∙ zero-plus _;
+  kept = stats-law (λ s. s.kept) is_kept_reply (λ r s. refl) (opened c sh) es l ∙ zero-plus _;
+  full = stats-law (λ s. s.full) is_full_reply (λ r s. refl) (opened c sh) es l ∙ zero-plus _;
+  lost = stats-law (λ s. s.lost) is_lost_reply (λ r s. refl) (opened c sh) es l ∙ zero-plus _;
+  added = stats-law (λ s. s.added) is_added_reply (λ r s. refl) (opened c sh) es l ∙ zero-plus _;
+  updated = stats-law (λ s. s.updated) is_updated_reply (λ r s. refl) (opened c sh) es l ∙ zero-plus _;
+  refused = stats-law (λ s. s.refused) is_refused_reply (λ r s. refl) (opened c sh) es l ∙ zero-plus _;
+  evictions = stats-law (λ s. s.evictions) is_eviction_reply (λ r s. refl) (opened c sh) es l ∙ zero-plus _;
+  rejections = stats-law (λ s. s.rejections) is_rejection_reply (λ r s. refl) (opened c sh) es l ∙ zero-plus _;
+  begun = stats-law (λ s. s.begun) is_begun_reply (λ r s. refl) (opened c sh) es l ∙ zero-plus _;
+  busy = stats-law (λ s. s.busy) is_busy_reply (λ r s. refl) (opened c sh) es l ∙ zero-plus _;
+  removed = stats-law (λ s. s.removed) is_removed_reply (λ r s. refl) (opened c sh) es l ∙ zero-plus _;
 }
   where
     zero-plus : (n : ℕ) → 0 + n ≡ n

@@ -14,13 +14,13 @@ use Rattle.step_record.specs.declared.step.Reply.{Reply}
 use Rattle.step_record.specs.declared.step.Reply.TheVariants as reply
 use Rattle.segments.specs.declared.records.Queue.TheVariants.{Window}
 use Rattle.segments.specs.Items.{same, first}
-use Rattle.segments.specs.Queues.{pushed, total}
+use Rattle.segments.specs.Queues.{pushed, total_items}
 use Rattle.shell_buffers.specs.declared.task.Task.{Task}
 use Rattle.shell_buffers.specs.declared.task.Task.TheVariants.{Add, Update, Remove}
 use Rattle.shell_model.specs.declared.holder.Holder.{Holder}
-use Rattle.shell_model.specs.Frequency.{admits, recorded}
+use Rattle.shell_model.specs.Frequency.{admits, frequency_recorded}
 use Rattle.shell_buffers.specs.Buffers.{stripe_at}
-use Rattle.shell_model.specs.Shell.{Shell, node_of, placed, cleared, look, offer, put, put_at, removing, remove_at, after_read, after_write, begin, is_over, held_by, shift, in_phase, touching, drain_read, drain_write, contest, leave, evict_from, evict_oldest, evict, ended, end, when, may_read, may_write, is_stripe, hold_read, hold_write, hold_evict, hold_end, perform}
+use Rattle.shell_model.specs.Shell.{Shell, node_of, placed, queues_cleared, look, offer, put, put_at, removing, remove_at, after_read, after_write, begin, is_over, held_by, shift, in_phase, touching, drain_read, drain_write, shell_contest, leave, evict_from, evict_oldest, evict, drain_at_end, end, when, may_read, may_write, is_stripe, hold_read, hold_write, hold_evict, hold_end, perform}
 
 pub data Makes (w : ℕ) (x : Shell) : Act → Reply → Shell → Type 0 where
   hit : (k n : ℕ) → Makes w x (a.Look k) (reply.Hit n) x
@@ -45,18 +45,18 @@ pub data Makes (w : ℕ) (x : Shell) : Act → Reply → Shell → Type 0 where
   write_empty : (h : Holder) → x.holder ≡ Some h → may_write h.phase ≡ true → Makes w x a.DrainWrite reply.Empty (in_phase Writes h x)
   enough : (h : Holder) → x.holder ≡ Some h → may_write h.phase ≡ true → Makes w x a.DrainWrite reply.Enough (in_phase Writes h x)
   applied_add : (h : Holder) → x.holder ≡ Some h → may_write h.phase ≡ true → (i : Item) (rest : List Task) → x.writes ≡ Add i ∷ rest → (n : ℕ)
-      → Makes w x a.DrainWrite (reply.Applied i) record x { writes = rest; holder = Some record { worker = h.worker; phase = Writes; left = n }; frequency = recorded x.frequency i.key; queues = pushed Window i x.queues }
+      → Makes w x a.DrainWrite (reply.Applied i) record x { writes = rest; holder = Some record { worker = h.worker; phase = Writes; left = n }; frequency = frequency_recorded x.frequency i.key; queues = pushed Window i x.queues }
   applied_update : (h : Holder) → x.holder ≡ Some h → may_write h.phase ≡ true → (i : Item) (rest : List Task) → x.writes ≡ Update i ∷ rest → (n : ℕ)
       → Makes w x a.DrainWrite (reply.Applied i) (touching i record x { writes = rest; holder = Some record { worker = h.worker; phase = Writes; left = n } })
   applied_remove : (h : Holder) → x.holder ≡ Some h → may_write h.phase ≡ true → (i : Item) (rest : List Task) → x.writes ≡ Remove i ∷ rest → (n : ℕ)
-      → Makes w x a.DrainWrite (reply.Cleared i) record x { writes = rest; holder = Some record { worker = h.worker; phase = Writes; left = n }; queues = cleared i x.queues }
+      → Makes w x a.DrainWrite (reply.Cleared i) record x { writes = rest; holder = Some record { worker = h.worker; phase = Writes; left = n }; queues = queues_cleared i x.queues }
   fits : (h : Holder) → x.holder ≡ Some h → Makes w x a.Evict reply.Fits (in_phase Evictions h x)
   shifted : (h : Holder) → x.holder ≡ Some h → (c : Item) → first x.queues.window ≡ Some c → Makes w x a.Evict (reply.Shifted c) (shift c (in_phase Evictions h x))
   evicted : (h : Holder) → x.holder ≡ Some h → (c v : Item) → first x.queues.window ≡ Some c → first (shift c x).queues.probation ≡ Some v → Makes w x a.Evict (reply.Evicted v) (leave v (shift c (in_phase Evictions h x)))
   rejected : (h : Holder) → x.holder ≡ Some h → (c : Item) → first x.queues.window ≡ Some c → Makes w x a.Evict (reply.Rejected c) (leave c (shift c (in_phase Evictions h x)))
   not_yet : Makes w x a.End reply.NotYet x
-  idle : (h : Holder) → x.holder ≡ Some h → (d : Drain) → d ≡ (ended x.drain).1 → Makes w x a.End reply.Idle record x { drain = d; holder = None }
-  again : (h : Holder) → x.holder ≡ Some h → (d : Drain) → d ≡ (ended x.drain).1 → Makes w x a.End reply.Again record x { drain = d; holder = None }
+  idle : (h : Holder) → x.holder ≡ Some h → (d : Drain) → d ≡ (drain_at_end x.drain).1 → Makes w x a.End reply.Idle record x { drain = d; holder = None }
+  again : (h : Holder) → x.holder ≡ Some h → (d : Drain) → d ≡ (drain_at_end x.drain).1 → Makes w x a.End reply.Again record x { drain = d; holder = None }
 
 abbrev pub MakesTo : ℕ → Shell → Act → Option (Reply × Shell) → Type 0
 MakesTo w x b None = Unit {0}
@@ -144,11 +144,11 @@ write-makes w x h f m (Remove i ∷ rest) e =
       | inr g ↦ rw g (applied_remove h f m i rest e (h.left - 1))
     ]
 
-contest-makes : (w : ℕ) (x : Shell) (h : Holder) → x.holder ≡ Some h → (c : Item) → first x.queues.window ≡ Some c → (o : Option Item) → first (shift c x).queues.probation ≡ o → Makes w x a.Evict (contest c o (shift c (in_phase Evictions h x))).0 (contest c o (shift c (in_phase Evictions h x))).1
+contest-makes : (w : ℕ) (x : Shell) (h : Holder) → x.holder ≡ Some h → (c : Item) → first x.queues.window ≡ Some c → (o : Option Item) → first (shift c x).queues.probation ≡ o → Makes w x a.Evict (shell_contest c o (shift c (in_phase Evictions h x))).0 (shell_contest c o (shift c (in_phase Evictions h x))).1
 contest-makes w x h f c i None j = shifted h f c i
 contest-makes w x h f c i (Some v) j =
     let y : Shell = shift c (in_phase Evictions h x) in
-    elim (cases_Bool (same c v)) as (λ _. Makes w x a.Evict (contest c (Some v) (shift c (in_phase Evictions h x))).0 (contest c (Some v) (shift c (in_phase Evictions h x))).1) [
+    elim (cases_Bool (same c v)) as (λ _. Makes w x a.Evict (shell_contest c (Some v) (shift c (in_phase Evictions h x))).0 (shell_contest c (Some v) (shift c (in_phase Evictions h x))).1) [
       | inl e ↦ rw e (rejected h f c i)
       | inr e ↦ rw e (elim (cases_Bool (admits x.frequency c.key v.key)) as (λ _. Makes w x a.Evict (cond {A = Reply × Shell} (admits x.frequency c.key v.key) (reply.Evicted v, leave v (shift c (in_phase Evictions h x))) (reply.Rejected c, leave c (shift c (in_phase Evictions h x)))).0 (cond {A = Reply × Shell} (admits x.frequency c.key v.key) (reply.Evicted v, leave v (shift c (in_phase Evictions h x))) (reply.Rejected c, leave c (shift c (in_phase Evictions h x)))).1) [
         | inl g ↦ rw g (evicted h f c v i j)
@@ -159,7 +159,7 @@ contest-makes w x h f c i (Some v) j =
 oldest-makes : (w : ℕ) (x : Shell) (h : Holder) → x.holder ≡ Some h → (o : Option Item) → first x.queues.window ≡ o → Makes w x a.Evict (evict_oldest o (in_phase Evictions h x)).0 (evict_oldest o (in_phase Evictions h x)).1
 oldest-makes w x h f None i = fits h f
 oldest-makes w x h f (Some c) i =
-    elim (cases_Bool (nat_lt x.config.capacity (total (shift c x).queues))) as (λ _. Makes w x a.Evict (evict_from c (shift c (in_phase Evictions h x))).0 (evict_from c (shift c (in_phase Evictions h x))).1) [
+    elim (cases_Bool (nat_lt x.config.capacity (total_items (shift c x).queues))) as (λ _. Makes w x a.Evict (evict_from c (shift c (in_phase Evictions h x))).0 (evict_from c (shift c (in_phase Evictions h x))).1) [
       | inl e ↦ rw e (contest-makes w x h f c i (first (shift c x).queues.probation) refl)
       | inr e ↦ rw e (shifted h f c i)
     ]
@@ -171,7 +171,7 @@ evict-makes w x h f =
       | inr e ↦ rw e (fits h f)
     ]
 
-ended-makes : (w : ℕ) (x : Shell) (h : Holder) → x.holder ≡ Some h → (d : Drain) → x.drain ≡ d → Makes w x a.End (ended d).0 record x { drain = (ended d).1; holder = None }
+ended-makes : (w : ℕ) (x : Shell) (h : Holder) → x.holder ≡ Some h → (d : Drain) → x.drain ≡ d → Makes w x a.End (drain_at_end d).0 record x { drain = (drain_at_end d).1; holder = None }
 ended-makes w x h f drain.ToRequired e = again h f drain.Required (rw e refl)
 ended-makes w x h f drain.Required e = idle h f drain.Idle (rw e refl)
 ended-makes w x h f drain.ToIdle e = idle h f drain.Idle (rw e refl)

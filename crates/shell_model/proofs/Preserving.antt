@@ -13,8 +13,8 @@ use Rattle.step_record.specs.declared.step.Reply.{Reply}
 use Rattle.step_record.specs.declared.step.Reply.TheVariants as reply
 use Rattle.segments.specs.declared.records.Queue.{Queue}
 use Rattle.segments.specs.declared.records.Queue.TheVariants.{Window, Probation, Protected}
-use Rattle.segments.specs.Items.{same, times, without, first}
-use Rattle.segments.specs.Queues.{Queues, place_of, pushed, moved, taken, total, IsDistinct}
+use Rattle.segments.specs.Items.{same, times, items_without, first}
+use Rattle.segments.specs.Queues.{Queues, place_of, pushed, moved, taken, total_items, IsDistinct}
 use Rattle.segments.proofs.ItemLists.{same-refl, same-true, times-append, times-one, length-without, times-without}
 use Rattle.segments.proofs.MoveLaws.{Stands, in_window, in_probation, in_protected, nowhere, stands}
 use Rattle.replacement.specs.Rules.{main_size}
@@ -24,8 +24,8 @@ use Rattle.shell_buffers.specs.declared.task.Task.TheVariants.{Add, Update, Remo
 use Rattle.shell_model.specs.declared.holder.Holder.{Holder}
 use Rattle.shell_model.specs.Frequency.{admits}
 use Rattle.shell_buffers.specs.Buffers.{stripe_at}
-use Rattle.shell_model.specs.Shell.{Shell, node_of, placed, cleared, window_size, protected_size, offer, put, put_at, removing, remove_at, begin, is_over, held_by, shift, in_phase, drain_read, drain_write, apply_task, contest, leave, evict_from, evict_oldest, evict, end, when, may_read, may_write, is_stripe, hold_read, hold_write, hold_evict, hold_end, perform, tallied, act}
-use Rattle.shell_model.specs.Consistent.{IsConsistent, IsPlaced, main_length, queued, waiting, leaving, IsOrdered, AreAbove, IsAscending, IsLeft}
+use Rattle.shell_model.specs.Shell.{Shell, node_of, placed, queues_cleared, window_size, shell_protected_size, offer, put, put_at, removing, remove_at, begin, is_over, held_by, shift, in_phase, drain_read, drain_write, apply_task, shell_contest, leave, evict_from, evict_oldest, evict, end, when, may_read, may_write, is_stripe, hold_read, hold_write, hold_evict, hold_end, perform, tallied, act}
+use Rattle.shell_model.specs.Consistent.{IsConsistent, IsPlaced, main_length, queued, waiting_tasks, leaving, IsOrdered, AreAbove, IsAscending, IsLeft}
 use Rattle.admission.specs.Frequency.{IsFrequency}
 use Rattle.shell_model.proofs.Frequency.{recorded-whole}
 use Rattle.shell_model.proofs.Counting.{once, unless-same, queued-kept, queued-taken, queued-pushed, distinct-moved, times-placed, listed-times, node-listed, unlisted-is, cleared-is}
@@ -54,10 +54,10 @@ moved-window : (i : Item) (q : Queues) → main_length (moved i Window q) ≤ ma
 moved-window i q = omega (arith, length-without i q.probation, length-without i q.protected)
 
 moved-protected : (i : Item) (q : Queues) → 1 ≤ times i q.probation + times i q.protected → main_length (moved i Protected q) ≤ main_length q
-moved-protected i q h = omega (arith, length-without i q.probation, length-without i q.protected, length-append (without i q.protected) (i ∷ []))
+moved-protected i q h = omega (arith, length-without i q.probation, length-without i q.protected, length-append (items_without i q.protected) (i ∷ []))
 
 moved-probation : (i : Item) (q : Queues) → 1 ≤ times i q.probation + times i q.protected → main_length (moved i Probation q) ≤ main_length q
-moved-probation i q h = omega (arith, length-without i q.probation, length-without i q.protected, length-append (without i q.probation) (i ∷ []))
+moved-probation i q h = omega (arith, length-without i q.probation, length-without i q.protected, length-append (items_without i q.probation) (i ∷ []))
 
 -- what a hit keeps
 pub record IsKept (q r : Queues) : Type 0 where
@@ -117,27 +117,27 @@ ascending-placed i (x ∷ t) n h =
           ]
     ]
 
-above-without : (k : ℕ) (v : Item) (t : List Item) → AreAbove k t → AreAbove k (without v t)
+above-without : (k : ℕ) (v : Item) (t : List Item) → AreAbove k t → AreAbove k (items_without v t)
 above-without k v [] b = tt
 above-without k v (x ∷ t) b =
-    elim (cases_Bool (same v x)) as (λ _. AreAbove k (cond (same v x) (without v t) (x ∷ without v t))) [
+    elim (cases_Bool (same v x)) as (λ _. AreAbove k (cond (same v x) (items_without v t) (x ∷ items_without v t))) [
       | inl e ↦ rw e (above-without k v t b.1)
       | inr e ↦ rw e (b.0, above-without k v t b.1)
     ]
 
-pub ascending-without : (v : Item) (t : List Item) → IsAscending t → IsAscending (without v t)
+pub ascending-without : (v : Item) (t : List Item) → IsAscending t → IsAscending (items_without v t)
 ascending-without v [] h = tt
 ascending-without v (x ∷ t) h =
-    elim (cases_Bool (same v x)) as (λ _. IsAscending (cond (same v x) (without v t) (x ∷ without v t))) [
+    elim (cases_Bool (same v x)) as (λ _. IsAscending (cond (same v x) (items_without v t) (x ∷ items_without v t))) [
       | inl e ↦ rw e (ascending-without v t h.1)
       | inr e ↦ rw e (above-without x.key v t h.0, ascending-without v t h.1)
     ]
 
 -- the write queue
 
-pub waiting-append : (j : Item) (l m : List Task) → waiting j (l ++ m) ≡ waiting j l + waiting j m
+pub waiting-append : (j : Item) (l m : List Task) → waiting_tasks j (l ++ m) ≡ waiting_tasks j l + waiting_tasks j m
 waiting-append j [] m = omega arith
-waiting-append j (Add i ∷ l) m = let h : waiting j (l ++ m) ≡ waiting j l + waiting j m = waiting-append j l m in omega (arith, h)
+waiting-append j (Add i ∷ l) m = let h : waiting_tasks j (l ++ m) ≡ waiting_tasks j l + waiting_tasks j m = waiting-append j l m in omega (arith, h)
 waiting-append j (Update i ∷ l) m = waiting-append j l m
 waiting-append j (Remove i ∷ l) m = waiting-append j l m
 
@@ -148,13 +148,13 @@ leaving-append j (Update i ∷ l) m = leaving-append j l m
 leaving-append j (Remove i ∷ l) m = let h : leaving j (l ++ m) ≡ leaving j l + leaving j m = leaving-append j l m in omega (arith, h)
 
 -- a task comes in behind: no Add whose item's Remove waits
-pub ordered-push : (l : List Task) (t : Task) → IsOrdered (t ∷ []) → ((j : Item) → 1 ≤ leaving j l → waiting j (t ∷ []) ≡ 0) → IsOrdered l → IsOrdered (l ++ t ∷ [])
+pub ordered-push : (l : List Task) (t : Task) → IsOrdered (t ∷ []) → ((j : Item) → 1 ≤ leaving j l → waiting_tasks j (t ∷ []) ≡ 0) → IsOrdered l → IsOrdered (l ++ t ∷ [])
 ordered-push [] t s f o = s
 ordered-push (Add k ∷ l) t s f o = ordered-push l t s f o
 ordered-push (Update k ∷ l) t s f o = ordered-push l t s f o
 ordered-push (Remove k ∷ l) t s f o =
     let one : 1 ≤ cond (same k k) 1 0 + leaving k l = (let e = same-refl k in rw e (omega arith)) in
-    let none : waiting k (t ∷ []) ≡ 0 = f k one in
+    let none : waiting_tasks k (t ∷ []) ≡ 0 = f k one in
     (rw (waiting-append k l (t ∷ [])) (omega (arith, o.0, none)), ordered-push l t s (λ j h. f j (omega (arith, h))) o.1)
 
 -- where an Add stands, no Remove of its item stands before it
@@ -167,9 +167,9 @@ ordered-behind i (Remove j ∷ l) m o =
     elim (cases_Bool (same i j)) as (λ _. cond (same i j) 1 0 + leaving i l ≡ 0) [
       | inl e ↦
           let s : i ≡ j = same-true i j e in
-          let none : waiting i (l ++ Add i ∷ m) ≡ 0 = ap (λ (y : Item). waiting y (l ++ Add i ∷ m)) s ∙ o.0 in
-          let sum : waiting i (l ++ Add i ∷ m) ≡ waiting i l + (cond (same i i) 1 0 + waiting i m) = waiting-append i l (Add i ∷ m) in
-          let sum2 : waiting i (l ++ Add i ∷ m) ≡ waiting i l + (1 + waiting i m) = rw (same-refl i) at sum in
+          let none : waiting_tasks i (l ++ Add i ∷ m) ≡ 0 = ap (λ (y : Item). waiting_tasks y (l ++ Add i ∷ m)) s ∙ o.0 in
+          let sum : waiting_tasks i (l ++ Add i ∷ m) ≡ waiting_tasks i l + (cond (same i i) 1 0 + waiting_tasks i m) = waiting-append i l (Add i ∷ m) in
+          let sum2 : waiting_tasks i (l ++ Add i ∷ m) ≡ waiting_tasks i l + (1 + waiting_tasks i m) = rw (same-refl i) at sum in
           absurd (omega (arith, none, sum2))
       | inr e ↦ rw e (omega (arith, rest))
     ]
@@ -177,7 +177,7 @@ ordered-behind i (Remove j ∷ l) m o =
 -- the parts that place items
 
 -- nothing comes or goes
-placed-same : (t : List Item) (n : ℕ) (q r : Queues) (l m : List Task) → ((j : Item) → queued j r + waiting j m ≡ queued j q + waiting j l) → ((j : Item) → leaving j m ≡ leaving j l) → IsOrdered m → IsPlaced t n q l → IsPlaced t n r m
+placed-same : (t : List Item) (n : ℕ) (q r : Queues) (l m : List Task) → ((j : Item) → queued j r + waiting_tasks j m ≡ queued j q + waiting_tasks j l) → ((j : Item) → leaving j m ≡ leaving j l) → IsOrdered m → IsPlaced t n q l → IsPlaced t n r m
 placed-same t n q r l m f g o p = record {
   stands = λ j. omega (arith, p.stands j, f j);
   known = λ j. omega (arith, p.known j, f j, g j);
@@ -224,10 +224,10 @@ placed-add t n k q l none p i e =
     zero_or zero f e = refl
     zero_or (suc m) f e = absurd (let no = f (omega arith) in omega (arith, no))
 
-placed-remove : (t : List Item) (n : ℕ) (q : Queues) (l : List Task) (i : Item) → 1 ≤ times i t → IsPlaced t n q l → IsPlaced (without i t) n q (l ++ Remove i ∷ [])
+placed-remove : (t : List Item) (n : ℕ) (q : Queues) (l : List Task) (i : Item) → 1 ≤ times i t → IsPlaced t n q l → IsPlaced (items_without i t) n q (l ++ Remove i ∷ [])
 placed-remove t n q l i h p = record {
   stands = λ j. rw (waiting-append j l (Remove i ∷ [])) (omega (arith, times-without i j t, p.stands j));
-  known = λ j. rw (waiting-append j l (Remove i ∷ []), leaving-append j l (Remove i ∷ []), unless-same j i t) (elim (cases_Bool (same j i)) as (λ _. queued j q + (waiting j l + 0) ≤ cond (same j i) 0 (times j t) + (leaving j l + (cond (same j i) 1 0 + 0))) [
+  known = λ j. rw (waiting-append j l (Remove i ∷ []), leaving-append j l (Remove i ∷ []), unless-same j i t) (elim (cases_Bool (same j i)) as (λ _. queued j q + (waiting_tasks j l + 0) ≤ cond (same j i) 0 (times j t) + (leaving j l + (cond (same j i) 1 0 + 0))) [
     | inl e ↦ rw e (omega (arith, p.known j, p.once j))
     | inr e ↦ rw e (omega (arith, p.known j))
   ]);
@@ -238,8 +238,8 @@ placed-remove t n q l i h p = record {
   below = λ j g. p.below j (elim (cases_Bool (same j i)) as (λ _. 1 ≤ times j t + leaving j l) [
     | inl e ↦ let s : j ≡ i = same-true j i e in let a : 1 ≤ times j t = rw s h in omega (arith, a)
     | inr e ↦
-        let b : 1 ≤ times j (without i t) + (leaving j l + (cond (same j i) 1 0 + 0)) = rw (leaving-append j l (Remove i ∷ [])) at g in
-        let c : 1 ≤ times j (without i t) + (leaving j l + (0 + 0)) = rw e at b in
+        let b : 1 ≤ times j (items_without i t) + (leaving j l + (cond (same j i) 1 0 + 0)) = rw (leaving-append j l (Remove i ∷ [])) at g in
+        let c : 1 ≤ times j (items_without i t) + (leaving j l + (0 + 0)) = rw e at b in
         omega (arith, c, times-without i j t)
   ]);
   ascending = ascending-without i t p.ascending;
@@ -257,18 +257,18 @@ placed-add-done t n q l i p = placed-same t n q (pushed Window i q) (Add i ∷ l
 
 placed-clear : (t : List Item) (n : ℕ) (q : Queues) (l : List Task) (i : Item) → IsPlaced t n q (Remove i ∷ l) → IsPlaced t n (taken i q) l
 placed-clear t n q l i p = record {
-  stands = λ j. rw (queued-taken j i q) (elim (cases_Bool (same j i)) as (λ _. times j t ≤ cond (same j i) 0 (queued j q) + waiting j l) [
+  stands = λ j. rw (queued-taken j i q) (elim (cases_Bool (same j i)) as (λ _. times j t ≤ cond (same j i) 0 (queued j q) + waiting_tasks j l) [
     | inl e ↦
         let a : times j t + (cond (same j i) 1 0 + leaving j l) ≤ 1 = p.once j in
         let b : times j t + (1 + leaving j l) ≤ 1 = rw e at a in
         omega (arith, b)
     | inr e ↦ rw e (p.stands j)
   ]);
-  known = λ j. rw (queued-taken j i q) (elim (cases_Bool (same j i)) as (λ _. cond (same j i) 0 (queued j q) + waiting j l ≤ times j t + leaving j l) [
-    | inl e ↦ let s : j ≡ i = same-true j i e in let none : waiting j l ≡ 0 = rw s p.ordered.0 in rw e (omega (arith, none))
+  known = λ j. rw (queued-taken j i q) (elim (cases_Bool (same j i)) as (λ _. cond (same j i) 0 (queued j q) + waiting_tasks j l ≤ times j t + leaving j l) [
+    | inl e ↦ let s : j ≡ i = same-true j i e in let none : waiting_tasks j l ≡ 0 = rw s p.ordered.0 in rw e (omega (arith, none))
     | inr e ↦
-        let a : queued j q + waiting j l ≤ times j t + (cond (same j i) 1 0 + leaving j l) = p.known j in
-        let b : queued j q + waiting j l ≤ times j t + (0 + leaving j l) = rw e at a in
+        let a : queued j q + waiting_tasks j l ≤ times j t + (cond (same j i) 1 0 + leaving j l) = p.known j in
+        let b : queued j q + waiting_tasks j l ≤ times j t + (0 + leaving j l) = rw e at a in
         rw e (omega (arith, b))
   ]);
   once = λ j. omega (arith, p.once j);
@@ -277,13 +277,13 @@ placed-clear t n q l i p = record {
   ordered = p.ordered.1;
 }
 
-placed-leave : (t : List Item) (n : ℕ) (q : Queues) (l : List Task) (v : Item) → 1 ≤ queued v q → IsPlaced t n q l → IsPlaced (without v t) n (taken v q) l
+placed-leave : (t : List Item) (n : ℕ) (q : Queues) (l : List Task) (v : Item) → 1 ≤ queued v q → IsPlaced t n q l → IsPlaced (items_without v t) n (taken v q) l
 placed-leave t n q l v h p = record {
-  stands = λ j. rw (queued-taken j v q, unless-same j v t) (elim (cases_Bool (same j v)) as (λ _. cond (same j v) 0 (times j t) ≤ cond (same j v) 0 (queued j q) + waiting j l) [
+  stands = λ j. rw (queued-taken j v q, unless-same j v t) (elim (cases_Bool (same j v)) as (λ _. cond (same j v) 0 (times j t) ≤ cond (same j v) 0 (queued j q) + waiting_tasks j l) [
     | inl e ↦ rw e (omega arith)
     | inr e ↦ rw e (p.stands j)
   ]);
-  known = λ j. rw (queued-taken j v q, unless-same j v t) (elim (cases_Bool (same j v)) as (λ _. cond (same j v) 0 (queued j q) + waiting j l ≤ cond (same j v) 0 (times j t) + leaving j l) [
+  known = λ j. rw (queued-taken j v q, unless-same j v t) (elim (cases_Bool (same j v)) as (λ _. cond (same j v) 0 (queued j q) + waiting_tasks j l ≤ cond (same j v) 0 (times j t) + leaving j l) [
     | inl e ↦ let s : j ≡ v = same-true j v e in let a : 1 ≤ queued j q = rw s h in rw e (omega (arith, a, p.known j, p.once j))
     | inr e ↦ rw e (p.known j)
   ]);
@@ -361,10 +361,10 @@ begin-sound w None x v = record { placed = v.placed; stripes = v.stripes; writes
 read-sound : (s : ℕ) (l : List Item) (x : Shell) → stripe_at s x.stripes ≡ l → s < length x.stripes → IsConsistent x → IsConsistent (drain_read s l x).1
 read-sound s [] x e h v = v
 read-sound s (i ∷ rest) x e h v =
-    let k = hit-is-kept (protected_size x.config) i x.queues (sound-distinct x v) in
+    let k = hit-is-kept (shell_protected_size x.config) i x.queues (sound-distinct x v) in
     let few : suc (length rest) ≤ 16 = rw e at (v.stripes s) in
     record {
-      placed = placed-hit x.table x.next x.queues (after_hit (protected_size x.config) i x.queues) x.writes k v.placed;
+      placed = placed-hit x.table x.next x.queues (after_hit (shell_protected_size x.config) i x.queues) x.writes k v.placed;
       stripes = set-short x.stripes s rest h (omega (arith, few)) v.stripes;
       writes = v.writes;
       left = v.left;
@@ -407,9 +407,9 @@ applied-sound (Add i) rest h x e n v =
 applied-sound (Update i) rest h x e n v =
     let few : suc (length rest) ≤ 128 = rw e at v.writes in
     let p : IsPlaced x.table x.next x.queues (Update i ∷ rest) = rw e at v.placed in
-    let k = hit-is-kept (protected_size x.config) i x.queues (sound-distinct x v) in
+    let k = hit-is-kept (shell_protected_size x.config) i x.queues (sound-distinct x v) in
     record {
-      placed = placed-hit x.table x.next x.queues (after_hit (protected_size x.config) i x.queues) rest k (placed-update-done x.table x.next x.queues rest i p);
+      placed = placed-hit x.table x.next x.queues (after_hit (shell_protected_size x.config) i x.queues) rest k (placed-update-done x.table x.next x.queues rest i p);
       writes = omega (arith, few);
       stripes = v.stripes;
       left = n;
@@ -419,7 +419,7 @@ applied-sound (Update i) rest h x e n v =
 applied-sound (Remove i) rest h x e n v =
     let few : suc (length rest) ≤ 128 = rw e at v.writes in
     let p : IsPlaced x.table x.next x.queues (Remove i ∷ rest) = rw e at v.placed in
-    let c : cleared i x.queues ≡ taken i x.queues = cleared-is i x.queues (sound-distinct x v) in
+    let c : queues_cleared i x.queues ≡ taken i x.queues = cleared-is i x.queues (sound-distinct x v) in
     record {
       placed = rw c (placed-clear x.table x.next x.queues rest i p);
       writes = omega (arith, few);
@@ -456,14 +456,14 @@ leave-sound v x s h m = record {
   frequency = s.frequency;
 }
 
-contest-sound : (c : Item) (o : Option Item) (x : Shell) → IsLoose x → first x.queues.probation ≡ o → 1 ≤ times c x.queues.probation → main_length x.queues ≤ main_size x.config + 1 → IsConsistent (contest c o x).1
+contest-sound : (c : Item) (o : Option Item) (x : Shell) → IsLoose x → first x.queues.probation ≡ o → 1 ≤ times c x.queues.probation → main_length x.queues ≤ main_size x.config + 1 → IsConsistent (shell_contest c o x).1
 contest-sound c None x s e h m = absurd (none x.queues.probation e h)
   where
     none : (l : List Item) → first l ≡ None → 1 ≤ times c l → ⊥
     none [] e h = omega arith
     none (y ∷ l) e h = cc (e)
 contest-sound c (Some v) x s e h m =
-    elim (cases_Bool (same c v)) as (λ _. IsConsistent (contest c (Some v) x).1) [
+    elim (cases_Bool (same c v)) as (λ _. IsConsistent (shell_contest c (Some v) x).1) [
       | inl f ↦ rw f (leave-sound c x s h m)
       | inr f ↦ rw f (elim (cases_Bool (admits x.frequency c.key v.key)) as (λ _. IsConsistent (cond {A = Reply × Shell} (admits x.frequency c.key v.key) (reply.Evicted v, leave v x) (reply.Rejected c, leave c x)).1) [
         | inl g ↦ rw g (leave-sound v x s (first-queued v x.queues.probation e) m)
@@ -473,10 +473,10 @@ contest-sound c (Some v) x s e h m =
 
 from-sound : (c : Item) (x : Shell) → IsLoose x → 1 ≤ times c x.queues.probation → main_length x.queues ≤ main_size x.config + 1 → window_size x.config ≤ length x.queues.window → IsConsistent (evict_from c x).1
 from-sound c x s h m n =
-    elim (cases_Bool (nat_lt x.config.capacity (total x.queues))) as (λ _. IsConsistent (evict_from c x).1) [
+    elim (cases_Bool (nat_lt x.config.capacity (total_items x.queues))) as (λ _. IsConsistent (evict_from c x).1) [
       | inl e ↦ rw e (contest-sound c (first x.queues.probation) x s refl h m)
       | inr e ↦
-          let few : total x.queues ≤ x.config.capacity = grind (arith, nat_tests) in
+          let few : total_items x.queues ≤ x.config.capacity = grind (arith, nat_tests) in
           rw e record { placed = s.placed; stripes = s.stripes; writes = s.writes; left = s.left; main = omega (arith, few, n); frequency = s.frequency }
     ]
 
@@ -488,8 +488,8 @@ oldest-sound (Some c) x e h v =
     let one : queued c x.queues ≡ 1 = omega (arith, n, d) in
     let k : IsPlaced x.table x.next (moved c Probation x.queues) x.writes = placed-same x.table x.next x.queues (moved c Probation x.queues) x.writes x.writes (λ j. rw (queued-kept j c Probation x.queues one) refl) (λ j. refl) v.placed.ordered v.placed in
     from-sound c (shift c x) record { placed = k; stripes = v.stripes; writes = v.writes; left = v.left; frequency = v.frequency }
-    (omega (arith, times-append c (without c x.queues.probation) (c ∷ []), times-one c))
-    (omega (arith, v.main, length-without c x.queues.probation, length-without c x.queues.protected, length-append (without c x.queues.probation) (c ∷ [])))
+    (omega (arith, times-append c (items_without c x.queues.probation) (c ∷ []), times-one c))
+    (omega (arith, v.main, length-without c x.queues.probation, length-without c x.queues.protected, length-append (items_without c x.queues.probation) (c ∷ [])))
     (omega (arith, h, n, d, length-without c x.queues.window))
 
 evict-sound : (x : Shell) → IsConsistent x → IsConsistent (evict x).1

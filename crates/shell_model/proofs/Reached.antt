@@ -10,7 +10,7 @@ use Rattle.shell_model.specs.declared.record.ShellRecord.{ShellRecord}
 use Rattle.shell_model.specs.Shell.{Shell, act}
 use Rattle.shell_model.specs.Consistent.{IsConsistent}
 use Rattle.shell_model.specs.Records.{change_of}
-use Rattle.shell_model.specs.Laws.{Made, IsShapeOf, opened, some_end, open_began}
+use Rattle.shell_model.specs.Laws.{MadeStep, IsShapeOf, opened, some_end, open_began}
 use Rattle.shell_model.specs.Reached.{IsReachable, RecordLaw, LaterLaws}
 use Rattle.shell_model.proofs.Acting.{IsUndone, act-undone}
 use Rattle.shell_model.proofs.Making as k
@@ -36,11 +36,11 @@ later-laws x es h n l = record {
 
 -- a step leads from a reached state to a reached one
 
-after-append : (x : Shell) (es fs : List Made) → after act x (es ++ fs) ≡ after act (after act x es) fs
+after-append : (x : Shell) (es fs : List MadeStep) → after act x (es ++ fs) ≡ after act (after act x es) fs
 after-append x [] fs = refl
 after-append x (e ∷ es) fs = after-append (went (act x e.step) x) es fs
 
-legal-append : (x : Shell) (es fs : List Made) → IsLegal act x es → IsLegal act (after act x es) fs → IsLegal act x (es ++ fs)
+legal-append : (x : Shell) (es fs : List MadeStep) → IsLegal act x es → IsLegal act (after act x es) fs → IsLegal act x (es ++ fs)
 legal-append x [] fs l m = m
 legal-append x (e ∷ es) fs l m = (l.0, legal-append (went (act x e.step) x) es fs l.1 m)
 
@@ -48,7 +48,7 @@ config-step : (x : Shell) (w : ℕ) (b : Act) (r : Reply) (y : Shell) → Makes 
 config-step x w b r y k.busy = refl
 config-step x w b r y made = refl
 
-abbrev made_of : Step → Reply → Made
+abbrev made_of : Step → Reply → MadeStep
 made_of s r = record { step = s; reply = r }
 
 config-kept : (x y : Shell) (s : Step) (r : Reply) → act x s ≡ Some (r, y) → y.config ≡ x.config

@@ -7,8 +7,8 @@ use Rattle.step_record.specs.declared.step.Reply.{Reply}
 use Rattle.step_record.specs.declared.drain.Phase.TheVariants.{Writes, Evictions}
 use Rattle.step_record.specs.History.{went, after, IsLegal}
 use Rattle.shell_model.specs.declared.holder.Holder.{Holder}
-use Rattle.shell_model.specs.Shell.{Shell, act, after_write, ended}
-use Rattle.shell_model.specs.Laws.{Made}
+use Rattle.shell_model.specs.Shell.{Shell, act, after_write, drain_at_end}
+use Rattle.shell_model.specs.Laws.{MadeStep}
 use Rattle.shell_model.proofs.Making as k
 use Rattle.shell_model.proofs.Making.{Makes}
 use Rattle.shell_model.proofs.Histories.{Steps, stepped}
@@ -33,7 +33,7 @@ same-side (Some h) Required v = v
 same-side (Some h) ToIdle v = tt
 same-side (Some h) ToRequired v = tt
 
-left-side : (d : Drain) → IsSeated None (ended d).1
+left-side : (d : Drain) → IsSeated None (drain_at_end d).1
 left-side Idle = tt
 left-side Required = tt
 left-side ToIdle = tt
@@ -62,7 +62,7 @@ seat-step x w b r y (k.idle h f d e) v = rw e (left-side x.drain)
 seat-step x w b r y (k.again h f d e) v = rw e (left-side x.drain)
 seat-step x w b r y made v = v
 
-pub seat-law : (x : Shell) (es : List Made) → IsSeated x.holder x.drain → IsLegal act x es → IsSeated (after act x es).holder (after act x es).drain
+pub seat-law : (x : Shell) (es : List MadeStep) → IsSeated x.holder x.drain → IsLegal act x es → IsSeated (after act x es).holder (after act x es).drain
 seat-law x [] v l = v
 seat-law x (e ∷ es) v l =
     let s : Steps x e (went (act x e.step) x) = stepped x e (went (act x e.step) x) l.0 in

@@ -11,7 +11,7 @@ use Rattle.step_record.specs.declared.step.Reply.{Reply}
 use Rattle.step_record.specs.Config.{is_from_one, config_fault}
 use Rattle.step_record.specs.History.{went, after, IsLegal}
 use Rattle.shell_model.specs.Shell.{Shell, act}
-use Rattle.shell_model.specs.Laws.{Made, opened}
+use Rattle.shell_model.specs.Laws.{MadeStep, opened}
 use Rattle.shell_model.specs.Reached.{IsReachable}
 use Rattle.shell_model.proofs.Making as k
 use Rattle.shell_model.proofs.Making.{Makes}
@@ -26,7 +26,7 @@ striped-step x w b r y (k.kept s i h) v = length-set x.stripes s _ ∙ v
 striped-step x w b r y (k.drained s i rest h e) v = length-set x.stripes s rest ∙ v
 striped-step x w b r y made v = v
 
-after-striped : (x : Shell) (es : List Made) → IsStriped x → IsLegal act x es → IsStriped (after act x es)
+after-striped : (x : Shell) (es : List MadeStep) → IsStriped x → IsLegal act x es → IsStriped (after act x es)
 after-striped x [] v l = v
 after-striped x (e ∷ es) v l =
     let t : Steps x e (went (act x e.step) x) = stepped x e (went (act x e.step) x) l.0 in

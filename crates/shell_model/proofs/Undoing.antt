@@ -13,7 +13,7 @@ use Rattle.segments.specs.declared.records.Queue.{Queue}
 use Rattle.segments.specs.declared.records.Queue.TheVariants.{Window, Probation}
 use Rattle.segments.specs.declared.records.MoveRecord.{MoveRecord}
 use Rattle.segments.specs.Items.{same, times, first}
-use Rattle.segments.specs.Queues.{Queues, place_of, pushed, moved, taken, total, IsDistinct}
+use Rattle.segments.specs.Queues.{Queues, place_of, pushed, moved, taken, total_items, IsDistinct}
 use Rattle.segments.proofs.ItemLists.{same-refl, same-true}
 use Rattle.segments.proofs.MoveLaws.{out_leads, taken-none}
 use Rattle.replacement.specs.declared.record.Moves.{Moves}
@@ -29,12 +29,12 @@ use Rattle.shell_model.specs.declared.holder.Holder.{Holder}
 use Rattle.shell_model.specs.declared.record.UseRecord.{UseRecord}
 use Rattle.shell_model.specs.declared.record.Change.{Change}
 use Rattle.shell_model.specs.declared.record.Change.TheVariants.{Nothing, Offered, Removed, Passed, Evicted, Ended}
-use Rattle.shell_model.specs.Frequency.{unrecorded, admits}
+use Rattle.shell_model.specs.Frequency.{frequency_unrecorded, admits}
 use Rattle.shell_buffers.specs.Buffers.{stripe_at, but_newest}
-use Rattle.shell_model.specs.Shell.{Shell, node_of, is_listed, unlisted, protected_size, cleared_from, offer, put, put_at, removing, remove_at, begin, is_over, held_by, in_phase, ended, touching, drain_read, drain_write, apply_task, evict, end, when, may_read, may_write, is_stripe, hold_read, hold_write, hold_evict, hold_end, perform}
+use Rattle.shell_model.specs.Shell.{Shell, node_of, is_listed, unlisted, shell_protected_size, cleared_from, offer, put, put_at, removing, remove_at, begin, is_over, held_by, in_phase, drain_at_end, touching, drain_read, drain_write, apply_task, evict, end, when, may_read, may_write, is_stripe, hold_read, hold_write, hold_evict, hold_end, perform}
 use Rattle.shell_model.specs.Evicting.{unlisted_by, evicted_by}
-use Rattle.shell_model.specs.Records.{IsNewest, back, FitsMove, FitsTouched, entered, IsOut, unchanged, FitsChange, hit_moves, touched_of, added_of, cleared_of, task_change, put_change, remove_change, begin_change, read_change, write_change, leaves_table, planned_change, evict_change, if_held, change_of}
-use Rattle.shell_model.specs.Consistent.{IsConsistent, queued, waiting, leaving, IsAscending}
+use Rattle.shell_model.specs.Records.{IsNewest, back, FitsMoveIfAny, FitsTouched, entered, IsOut, unchanged, FitsChange, hit_moves, touched_of, added_of, cleared_of, task_change, put_change, remove_change, begin_change, read_change, write_change, leaves_table, planned_change, evict_change, if_held, change_of}
+use Rattle.shell_model.specs.Consistent.{IsConsistent, queued, waiting_tasks, leaving, IsAscending}
 use Rattle.shell_model.proofs.Counting.{queued-moved, distinct-moved, without-placed, node_of-placed, placed-without, node_of-without, listed-times, node-listed}
 use Rattle.shell_model.proofs.Evicting.{evictions-by-plan}
 use Rattle.shell_model.proofs.Frequency.{fits_recorded, unrecorded-recorded}
@@ -146,16 +146,16 @@ sound-distinct x w j = omega (arith, w.placed.known j, w.placed.once j)
 pub record TouchBack (t : UseRecord) (x y : Shell) : Type 0 where
   pub fits : FitsTouched t y
   pub queues : undone_moves t.moves y.queues ≡ x.queues
-  pub frequency : unrecorded t.frequency y.frequency ≡ x.frequency
+  pub frequency : frequency_unrecorded t.frequency y.frequency ≡ x.frequency
 
 touch-back : (i : Item) (x : Shell) → IsConsistent x → TouchBack (touched_of i x) x (touching i x)
 touch-back i x w =
-    let b = hit-back (protected_size x.config) i x.queues (place_of i x.queues) (sound-distinct x w) in
+    let b = hit-back (shell_protected_size x.config) i x.queues (place_of i x.queues) (sound-distinct x w) in
     record {
       fits = record {
         moves = b.fits;
         frequency = fits_recorded x.frequency i.key w.frequency;
-        stays = hit-stays (protected_size x.config) i x.queues (place_of i x.queues);
+        stays = hit-stays (shell_protected_size x.config) i x.queues (place_of i x.queues);
       };
       queues = b.back;
       frequency = unrecorded-recorded x.frequency i.key w.frequency;
@@ -188,9 +188,9 @@ hold_read-goes s w (Some h) x v =
 
 pub queued-waits : (i : Item) (rest : List Task) (x : Shell) → x.writes ≡ Add i ∷ rest → IsConsistent x → queued i x.queues ≡ 0
 queued-waits i rest x e w =
-    let a : queued i x.queues + waiting i x.writes ≤ 1 = omega (arith, w.placed.known i, w.placed.once i) in
-    let b : queued i x.queues + (cond (same i i) 1 0 + waiting i rest) ≤ 1 = rw e at a in
-    let c : queued i x.queues + (1 + waiting i rest) ≤ 1 = rw (same-refl i) at b in
+    let a : queued i x.queues + waiting_tasks i x.writes ≤ 1 = omega (arith, w.placed.known i, w.placed.once i) in
+    let b : queued i x.queues + (cond (same i i) 1 0 + waiting_tasks i rest) ≤ 1 = rw e at a in
+    let c : queued i x.queues + (1 + waiting_tasks i rest) ≤ 1 = rw (same-refl i) at b in
     omega (arith, c)
 
 added-back : (i : Item) (rest : List Task) (x : Shell) → x.writes ≡ Add i ∷ rest → IsConsistent x → TouchBack (added_of i x) x (apply_task (Add i) x).1
@@ -207,7 +207,7 @@ added-back i rest x e w =
 
 -- an item is taken out, where it is queued
 pub record ClearedBack (r : Option MoveRecord) (q s : Queues) : Type 0 where
-  pub fits : FitsMove r s
+  pub fits : FitsMoveIfAny r s
   pub back : back r s ≡ q
 
 pub cleared-back : (i : Item) (q : Queues) (p : Option Queue) → IsDistinct q → ClearedBack (cleared_of i p q) q (cleared_from i p q)
@@ -324,11 +324,11 @@ evict-goes h x f w =
     (eviction_plan (three_queues x.config) (admits x.frequency) x.queues)
     x f w)
 
-end-goes : (w : ℕ) (x : Shell) → GoesTo (cond (is_over x) Nothing (if_held (λ h. Ended h x.drain (ended x.drain).1) x.holder)) x (hold_end (held_by w x.holder) x)
+end-goes : (w : ℕ) (x : Shell) → GoesTo (cond (is_over x) Nothing (if_held (λ h. Ended h x.drain (drain_at_end x.drain).1) x.holder)) x (hold_end (held_by w x.holder) x)
 end-goes w x =
-    elim (cases_Bool (is_over x)) as (λ _. GoesTo (cond (is_over x) Nothing (if_held (λ h. Ended h x.drain (ended x.drain).1) x.holder)) x (hold_end (held_by w x.holder) x)) [
+    elim (cases_Bool (is_over x)) as (λ _. GoesTo (cond (is_over x) Nothing (if_held (λ h. Ended h x.drain (drain_at_end x.drain).1) x.holder)) x (hold_end (held_by w x.holder) x)) [
       | inl e ↦ rw e (over (held_by w x.holder) e)
-      | inr e ↦ rw e (if_held-goes (λ h. Ended h x.drain (ended x.drain).1) (λ h. Some (end x)) w x.holder x (λ o. hold_end o x) refl (λ h. refl) (λ h f. rw e record { fits = (refl, refl); back = rw (← f) refl }))
+      | inr e ↦ rw e (if_held-goes (λ h. Ended h x.drain (drain_at_end x.drain).1) (λ h. Some (end x)) w x.holder x (λ o. hold_end o x) refl (λ h. refl) (λ h f. rw e record { fits = (refl, refl); back = rw (← f) refl }))
     ]
   where
     over : (o : Option Holder) → is_over x ≡ true → GoesTo Nothing x (hold_end o x)

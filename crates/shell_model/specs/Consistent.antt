@@ -14,11 +14,11 @@ use Rattle.shell_model.specs.Shell.{Shell}
 use Rattle.shell_model.specs.declared.holder.Holder.{Holder}
 
 -- how often an Add of the item waits
-abbrev pub waiting : Item → List Task → ℕ
-waiting i [] = 0
-waiting i (Add j ∷ ts) = cond (same i j) 1 0 + waiting i ts
-waiting i (Update j ∷ ts) = waiting i ts
-waiting i (Remove j ∷ ts) = waiting i ts
+abbrev pub waiting_tasks : Item → List Task → ℕ
+waiting_tasks i [] = 0
+waiting_tasks i (Add j ∷ ts) = cond (same i j) 1 0 + waiting_tasks i ts
+waiting_tasks i (Update j ∷ ts) = waiting_tasks i ts
+waiting_tasks i (Remove j ∷ ts) = waiting_tasks i ts
 
 -- how often a Remove of the item waits
 abbrev pub leaving : Item → List Task → ℕ
@@ -32,7 +32,7 @@ abbrev pub IsOrdered : List Task → Type 0
 IsOrdered [] = Unit {0}
 IsOrdered (Add j ∷ ts) = IsOrdered ts
 IsOrdered (Update j ∷ ts) = IsOrdered ts
-IsOrdered (Remove j ∷ ts) = (waiting j ts ≡ 0) × IsOrdered ts
+IsOrdered (Remove j ∷ ts) = (waiting_tasks j ts ≡ 0) × IsOrdered ts
 
 abbrev pub queued : Item → Queues → ℕ
 queued i q = times i q.window + times i q.probation + times i q.protected
@@ -52,8 +52,8 @@ IsLeft (Some h) = h.left ≤ MAX_TASKS
 -- an item of the table is queued or waits for it, and what is queued or waits is in the table or is to be removed: each
 -- once
 pub record IsPlaced (table : List Item) (next : ℕ) (queues : Queues) (writes : List Task) : Type 0 where
-  pub stands : (i : Item) → times i table ≤ queued i queues + waiting i writes
-  pub known : (i : Item) → queued i queues + waiting i writes ≤ times i table + leaving i writes
+  pub stands : (i : Item) → times i table ≤ queued i queues + waiting_tasks i writes
+  pub known : (i : Item) → queued i queues + waiting_tasks i writes ≤ times i table + leaving i writes
   pub once : (i : Item) → times i table + leaving i writes ≤ 1
   pub below : (i : Item) → 1 ≤ times i table + leaving i writes → i.node < next
   pub ascending : IsAscending table

@@ -37,8 +37,8 @@ EvictionsAgree = (x : Shell) → evict x ≡ evicted_by
     x
 
 -- the same by the plan, in which a candidate goes straight to its place, or out
-abbrev pub EvictionsPlanned : Type 0
-EvictionsPlanned = (x : Shell) → IsDistinct x.queues → evict x ≡ evicted_by
+abbrev pub ShellEvictionsPlanned : Type 0
+ShellEvictionsPlanned = (x : Shell) → IsDistinct x.queues → evict x ≡ evicted_by
     (candidate_of (three_queues x.config) x.queues)
     (response (eviction_plan (three_queues x.config) (admits x.frequency) x.queues) x.queues)
     x

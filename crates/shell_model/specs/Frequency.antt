@@ -3,20 +3,20 @@
 use Rattle.std.specs.Prelude.{ℕ, nat_lt, Bool}
 use Rattle.admission.specs.declared.freq_record.FreqRecord.{FreqRecord}
 use Rattle.admission.specs.Frequency.{FrequencyData, estimate, recorded as recorded_key}
-use Rattle.admission.specs.FreqRecord.{record_of as key_record, undone, FitsRecord}
+use Rattle.admission.specs.FreqRecord.{frequency_record as key_record, frequency_before, FitsRecord}
 
-unfoldable pub recorded : FrequencyData → ℕ → FrequencyData
-recorded f k = recorded_key k f
+unfoldable pub frequency_recorded : FrequencyData → ℕ → FrequencyData
+frequency_recorded f k = recorded_key k f
 
 -- the candidate came more often than the victim; a tie rejects (TinyLFU, 2017)
 unfoldable pub admits : FrequencyData → ℕ → ℕ → Bool
 admits f candidate victim = nat_lt (estimate victim f) (estimate candidate f)
 
-unfoldable pub record_of : FrequencyData → ℕ → FreqRecord
-record_of f k = key_record k f
+unfoldable pub shell_frequency_record : FrequencyData → ℕ → FreqRecord
+shell_frequency_record f k = key_record k f
 
-unfoldable pub unrecorded : FreqRecord → FrequencyData → FrequencyData
-unrecorded r f = undone r f
+unfoldable pub frequency_unrecorded : FreqRecord → FrequencyData → FrequencyData
+frequency_unrecorded r f = frequency_before r f
 
 unfoldable pub FitsFrequency : FreqRecord → FrequencyData → Type 0
 FitsFrequency r f = FitsRecord r f

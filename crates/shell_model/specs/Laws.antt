@@ -23,24 +23,27 @@ use Rattle.shell_model.specs.declared.stats.ShellStats.{ShellStats}
 use Rattle.shell_buffers.specs.declared.task.Task.{Task}
 use Rattle.shell_buffers.specs.declared.task.Task.TheVariants.{Add, Update, Remove}
 use Rattle.shell_model.specs.declared.holder.Holder.{Holder}
-use Rattle.shell_model.specs.ShellStats.{one, is_hit, is_miss, is_kept, is_full, is_lost, is_added, is_updated}
-use Rattle.shell_model.specs.ShellStats.{is_refused, is_eviction, is_rejection, is_begun, is_busy, is_removed}
+use Rattle.shell_model.specs.ShellStats.{is_hit_reply, is_miss_reply, is_kept_reply, is_full_reply, is_lost_reply}
+use Rattle.shell_model.specs.ShellStats.{is_added_reply, is_updated_reply}
+use Rattle.step_record.specs.Stats.{one}
+use Rattle.shell_model.specs.ShellStats.{is_refused_reply, is_eviction_reply, is_rejection_reply, is_begun_reply}
+use Rattle.shell_model.specs.ShellStats.{is_busy_reply, is_removed_reply}
 use Rattle.shell_buffers.specs.Buffers.{stripe_at}
 use Rattle.replacement.specs.Rules.{main_size}
 use Rattle.shell_model.specs.Shell.{Shell, act}
-use Rattle.shell_model.specs.Consistent.{queued, waiting, leaving, main_length}
+use Rattle.shell_model.specs.Consistent.{queued, waiting_tasks, leaving, main_length}
 
 -- a step with its reply
-abbrev pub Made : Type 0
-Made = Entry Step Reply
+abbrev pub MadeStep : Type 0
+MadeStep = Entry Step Reply
 
 -- what each step gives, in order
-abbrev pub collect : {A : Type 0} → (Act → Reply → List A) → List Made → List A
+abbrev pub collect : {A : Type 0} → (Act → Reply → List A) → List MadeStep → List A
 collect f [] = []
 collect f (e ∷ es) = f e.step.act e.reply ++ collect f es
 
 -- how much the steps give together
-abbrev pub tally : (Act → Reply → ℕ) → List Made → ℕ
+abbrev pub tally : (Act → Reply → ℕ) → List MadeStep → ℕ
 tally f [] = 0
 tally f (e ∷ es) = f e.step.act e.reply + tally f es
 
@@ -109,14 +112,14 @@ abbrev pub added : Act → Reply → List Item
 added (Put k) (Added n) = record { key = k; node = n } ∷ []
 added b r = []
 
-abbrev pub gone : Act → Reply → List Item
-gone b (Evicted i) = i ∷ []
-gone b (Rejected i) = i ∷ []
-gone b r = []
+abbrev pub evicted_items : Act → Reply → List Item
+evicted_items b (Evicted i) = i ∷ []
+evicted_items b (Rejected i) = i ∷ []
+evicted_items b r = []
 
-abbrev pub removed : Act → Reply → List Item
-removed (RemoveKey k) (Removed n) = record { key = k; node = n } ∷ []
-removed b r = []
+abbrev pub removed_items : Act → Reply → List Item
+removed_items (RemoveKey k) (Removed n) = record { key = k; node = n } ∷ []
+removed_items b r = []
 
 -- the keys that steps counted in the frequency
 
@@ -140,24 +143,24 @@ abbrev pub is_evict : Act → Bool
 is_evict Evict = true
 is_evict b = false
 
-abbrev pub some_end : List Made → Bool
+abbrev pub some_end : List MadeStep → Bool
 some_end [] = false
 some_end (e ∷ es) = cond (is_ending e.reply) true (some_end es)
 
-abbrev pub some_act : (Act → Bool) → List Made → Bool
+abbrev pub some_act : (Act → Bool) → List MadeStep → Bool
 some_act p [] = false
 some_act p (e ∷ es) = cond (p e.step.act) true (some_act p es)
 
 -- the phase, from those that came since
-abbrev pub phase_after : Phase → List Made → Phase
+abbrev pub phase_after : Phase → List MadeStep → Phase
 phase_after p es = cond (some_act is_evict es) Evictions (cond (some_act is_drain_write es) Writes p)
 
 -- the worker whose Began is the last that no Idle or Again follows, and what came since
-abbrev pub open_from : Made → List Made → Option (ℕ × List Made) → Option (ℕ × List Made)
+abbrev pub open_from : MadeStep → List MadeStep → Option (ℕ × List MadeStep) → Option (ℕ × List MadeStep)
 open_from e es (Some p) = Some p
-open_from e es None = cond (is_begun e.reply) (cond (some_end es) None (Some (e.step.worker, es))) None
+open_from e es None = cond (is_begun_reply e.reply) (cond (some_end es) None (Some (e.step.worker, es))) None
 
-abbrev pub open_began : List Made → Option (ℕ × List Made)
+abbrev pub open_began : List MadeStep → Option (ℕ × List MadeStep)
 open_began [] = None
 open_began (e ∷ es) = open_from e es (open_began es)
 
@@ -168,38 +171,40 @@ abbrev pub seat_of : Option Holder → Option (ℕ × Phase)
 seat_of None = None
 seat_of (Some h) = Some (seat h)
 
-abbrev pub seat_from : Option (ℕ × List Made) → Option (ℕ × Phase)
+abbrev pub seat_from : Option (ℕ × List MadeStep) → Option (ℕ × Phase)
 seat_from None = None
 seat_from (Some p) = Some (p.0, phase_after Reads p.1)
 
 -- the laws
 
 -- each statistic is the number of the replies that it counts
-pub record AreReplies (s : ShellStats) (es : List Made) : Type 0 where
-  pub hits : s.hits ≡ tally (λ b r. one (is_hit r)) es
-  pub misses : s.misses ≡ tally (λ b r. one (is_miss r)) es
-  pub kept : s.kept ≡ tally (λ b r. one (is_kept r)) es
-  pub full : s.full ≡ tally (λ b r. one (is_full r)) es
-  pub lost : s.lost ≡ tally (λ b r. one (is_lost r)) es
-  pub added : s.added ≡ tally (λ b r. one (is_added r)) es
-  pub updated : s.updated ≡ tally (λ b r. one (is_updated r)) es
-  pub refused : s.refused ≡ tally (λ b r. one (is_refused r)) es
-  pub evictions : s.evictions ≡ tally (λ b r. one (is_eviction r)) es
-  pub rejections : s.rejections ≡ tally (λ b r. one (is_rejection r)) es
-  pub begun : s.begun ≡ tally (λ b r. one (is_begun r)) es
-  pub busy : s.busy ≡ tally (λ b r. one (is_busy r)) es
-  pub removed : s.removed ≡ tally (λ b r. one (is_removed r)) es
+pub record AreReplies (s : ShellStats) (es : List MadeStep) : Type 0 where
+  pub hits : s.hits ≡ tally (λ b r. one (is_hit_reply r)) es
+  pub misses : s.misses ≡ tally (λ b r. one (is_miss_reply r)) es
+  pub kept : s.kept ≡ tally (λ b r. one (is_kept_reply r)) es
+  pub full : s.full ≡ tally (λ b r. one (is_full_reply r)) es
+  pub lost : s.lost ≡ tally (λ b r. one (is_lost_reply r)) es
+  pub added : s.added ≡ tally (λ b r. one (is_added_reply r)) es
+  pub updated : s.updated ≡ tally (λ b r. one (is_updated_reply r)) es
+  pub refused : s.refused ≡ tally (λ b r. one (is_refused_reply r)) es
+  pub evictions : s.evictions ≡ tally (λ b r. one (is_eviction_reply r)) es
+  pub rejections : s.rejections ≡ tally (λ b r. one (is_rejection_reply r)) es
+  pub begun : s.begun ≡ tally (λ b r. one (is_begun_reply r)) es
+  pub busy : s.busy ≡ tally (λ b r. one (is_busy_reply r)) es
+  pub removed : s.removed ≡ tally (λ b r. one (is_removed_reply r)) es
 
 -- after the entries, from the empty state, the state is x
-pub record IsHistory (s : Shape) (es : List Made) (x : Shell) : Type 0 where
+pub record IsHistory (s : Shape) (es : List MadeStep) (x : Shell) : Type 0 where
   pub stripes : (k : ℕ) → stripe_at k x.stripes ≡ drop (tally (drained k) es) (collect (offered k) es)
   pub writes : x.writes ≡ drop (tally done es) (collect asked es)
   pub stats : AreReplies x.stats es
   pub table : (i : Item) → (1 ≤ times i x.table)
-      ↔ ((1 ≤ times i (collect added es)) × (times i (collect gone es) ≡ 0) × (times i (collect removed es) ≡ 0))
+      ↔ ((1 ≤ times i (collect added es)) × (times i (collect evicted_items es) ≡ 0)
+      × (times i (collect removed_items es) ≡ 0))
   pub stands : (i : Item) → 1 ≤ times i x.table
-      → (queued i x.queues + waiting i x.writes ≡ 1) × (leaving i x.writes ≡ 0)
-  pub others : (i : Item) → times i x.table ≡ 0 → 1 ≤ queued i x.queues + waiting i x.writes → leaving i x.writes ≡ 1
+      → (queued i x.queues + waiting_tasks i x.writes ≡ 1) × (leaving i x.writes ≡ 0)
+  pub others : (i : Item) → times i x.table ≡ 0 → 1 ≤ queued i x.queues + waiting_tasks i x.writes
+      → leaving i x.writes ≡ 1
   pub behind : (i : Item) (before rest : List Task) → x.writes ≡ before ++ Add i ∷ rest → leaving i before ≡ 0
   pub main : main_length x.queues ≤ main_size x.config
   pub frequency : x.frequency ≡ frequency_of s (collect keyed es)
@@ -207,5 +212,5 @@ pub record IsHistory (s : Shape) (es : List Made) (x : Shell) : Type 0 where
   pub holder : seat_of x.holder ≡ seat_from (open_began es)
 
 abbrev pub HistoryLaws : Type 0
-HistoryLaws = (c : Config) (s : Shape) (es : List Made) → IsShapeOf c s
+HistoryLaws = (c : Config) (s : Shape) (es : List MadeStep) → IsShapeOf c s
     → IsLegal act (opened c s) es → IsHistory s es (after act (opened c s) es)

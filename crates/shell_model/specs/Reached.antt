@@ -12,7 +12,7 @@ use Rattle.shell_model.specs.declared.record.ShellRecord.{ShellRecord}
 use Rattle.shell_model.specs.ShellStats.{AreAtMost}
 use Rattle.shell_model.specs.Shell.{Shell, act}
 use Rattle.shell_model.specs.Records.{undone_step, FitsStep, change_of}
-use Rattle.shell_model.specs.Laws.{Made, IsShapeOf, opened, is_ending, seat_of, seat_from, open_began}
+use Rattle.shell_model.specs.Laws.{MadeStep, IsShapeOf, opened, is_ending, seat_of, seat_from, open_began}
 use Rattle.step_record.specs.declared.item.Item.{Item}
 use Rattle.segments.specs.Items.{times}
 
@@ -20,7 +20,7 @@ pub record IsReachable (x : Shell) : Type 0 where
   pub checked : config_fault x.config ≡ Ok tt
   pub shape : Shape
   pub shape_is : IsShapeOf x.config shape
-  pub entries : List Made
+  pub entries : List MadeStep
   pub legal : IsLegal act (opened x.config shape) entries
   pub gives : x ≡ after act (opened x.config shape) entries
 
@@ -35,12 +35,12 @@ RecordLaw = (x y : Shell) (s : Step) (r : Reply) → IsReachable x → act x s �
     ShellFits c y × (undone_step c y ≡ x)
 
 -- from any state that a shell stands for and that no one holds
-pub record IsLaterHistory (es : List Made) (y : Shell) : Type 0 where
+pub record IsLaterHistory (es : List MadeStep) (y : Shell) : Type 0 where
   pub below : (i : Item) → 1 ≤ times i y.table → i.node < y.next
   pub holder : seat_of y.holder ≡ seat_from (open_began es)
 
 abbrev pub LaterLaws : Type 0
-LaterLaws = (x : Shell) (es : List Made) → IsReachable x → x.holder ≡ None
+LaterLaws = (x : Shell) (es : List MadeStep) → IsReachable x → x.holder ≡ None
     → IsLegal act x es → IsLaterHistory es (after act x es)
 
 -- no count passes the number of applied steps, which has a limit

@@ -12,9 +12,9 @@ use Rattle.step_record.specs.declared.drain.Phase.TheVariants.{Reads, Writes, Ev
 use Rattle.segments.specs.declared.records.Queue.{Queue}
 use Rattle.segments.specs.declared.records.Queue.TheVariants.{Window}
 use Rattle.segments.specs.declared.records.MoveRecord.{MoveRecord}
-use Rattle.segments.specs.Items.{without}
+use Rattle.segments.specs.Items.{items_without}
 use Rattle.segments.specs.Queues.{Queues, place_of}
-use Rattle.segments.specs.Moves.{move_record, undone, Fits}
+use Rattle.segments.specs.Moves.{move_record, queues_before_move, FitsMove}
 use Rattle.replacement.specs.declared.record.Moves.{Moves}
 use Rattle.replacement.specs.Rules.{three_queues}
 use Rattle.replacement.specs.Plan.{Plan, hit_plan, stay_plan, candidate_of, eviction_plan}
@@ -29,10 +29,11 @@ use Rattle.shell_model.specs.declared.record.ShellRecord.{ShellRecord}
 use Rattle.shell_model.specs.declared.record.Change.{Change}
 use Rattle.shell_model.specs.declared.record.Change.TheVariants.{Nothing, Offered, Updated, Added, Removed, Requested}
 use Rattle.shell_model.specs.declared.record.Change.TheVariants.{Began, Read, Passed, Applied, Cleared, Evicted, Ended}
-use Rattle.shell_model.specs.Frequency.{record_of, unrecorded, FitsFrequency, admits}
-use Rattle.shell_model.specs.ShellStats.{uncounted, IsCounted}
+use Rattle.shell_model.specs.Frequency.{shell_frequency_record, frequency_unrecorded, FitsFrequency, admits}
+use Rattle.shell_model.specs.ShellStats.{shell_stats_before, IsReplyCounted}
 use Rattle.shell_buffers.specs.Buffers.{stripe_at, but_newest}
-use Rattle.shell_model.specs.Shell.{Shell, node_of, placed, is_listed, protected_size, after_write, is_over, ended}
+use Rattle.shell_model.specs.Shell.{Shell, node_of, placed, is_listed, shell_protected_size, after_write, is_over}
+use Rattle.shell_model.specs.Shell.{drain_at_end}
 
 -- newest in l: what stands last
 abbrev pub IsNewest : {A : Type 0} → A → List A → Type 0
@@ -42,16 +43,16 @@ IsNewest a l = l ≡ but_newest l ++ a ∷ []
 
 abbrev pub back : Option MoveRecord → Queues → Queues
 back None q = q
-back (Some r) q = undone r q
+back (Some r) q = queues_before_move r q
 
-abbrev pub FitsMove : Option MoveRecord → Queues → Type 0
-FitsMove None q = Unit {0}
-FitsMove (Some r) q = Fits r q
+abbrev pub FitsMoveIfAny : Option MoveRecord → Queues → Type 0
+FitsMoveIfAny None q = Unit {0}
+FitsMoveIfAny (Some r) q = FitsMove r q
 
-abbrev pub untouched : UseRecord → Shell → Shell
-untouched t x = record x {
+abbrev pub before_use : UseRecord → Shell → Shell
+before_use t x = record x {
   queues = undone_moves t.moves x.queues;
-  frequency = unrecorded t.frequency x.frequency;
+  frequency = frequency_unrecorded t.frequency x.frequency;
 }
 
 -- no item went out, so that undoing takes no room
@@ -109,14 +110,14 @@ abbrev pub unchanged : Change → Shell → Shell
 unchanged Nothing x = x
 unchanged (Offered s i) x = record x { stripes = set x.stripes s (but_newest (stripe_at s x.stripes)) }
 unchanged (Updated i) x = record x { writes = but_newest x.writes }
-unchanged (Added i) x = record x { writes = but_newest x.writes; table = without i x.table; next = x.next - 1 }
+unchanged (Added i) x = record x { writes = but_newest x.writes; table = items_without i x.table; next = x.next - 1 }
 unchanged (Removed i) x = record x { writes = but_newest x.writes; table = placed i x.table }
 unchanged (Requested before now) x = record x { drain = before }
 unchanged (Began w before) x = record x { drain = before; holder = None }
-unchanged (Read s i t) x = let y = untouched t x in record y { stripes = set x.stripes s (i ∷ stripe_at s x.stripes) }
+unchanged (Read s i t) x = let y = before_use t x in record y { stripes = set x.stripes s (i ∷ stripe_at s x.stripes) }
 unchanged (Passed before now) x = record x { holder = rephased before x.holder }
 unchanged (Applied before task t) x =
-    let y = untouched t x in record y { writes = task ∷ x.writes; holder = refilled before x.holder }
+    let y = before_use t x in record y { writes = task ∷ x.writes; holder = refilled before x.holder }
 unchanged (Cleared before i r) x =
     record x { queues = back r x.queues; writes = Remove i ∷ x.writes; holder = refilled before x.holder }
 unchanged (Evicted before g) x = let y = unevicted g x in record y { holder = rephased before x.holder }
@@ -136,16 +137,16 @@ FitsChange (Passed before now) x = IsInPhase now x.holder
 FitsChange (Applied before task t) x =
     FitsTouched t x × (length x.writes < MAX_TASKS) × IsInPhase Writes x.holder × HasLeft x.holder
 FitsChange (Cleared before i r) x =
-    FitsMove r x.queues × (length x.writes < MAX_TASKS) × IsInPhase Writes x.holder × HasLeft x.holder
+    FitsMoveIfAny r x.queues × (length x.writes < MAX_TASKS) × IsInPhase Writes x.holder × HasLeft x.holder
 FitsChange (Evicted before g) x = FitsEviction g x × IsInPhase Evictions x.holder
 FitsChange (Ended h before now) x = (x.drain ≡ now) × (x.holder ≡ None)
 
 abbrev pub undone_step : ShellRecord → Shell → Shell
 undone_step r x =
-    let y = unchanged r.change x in record y { stats = uncounted r.reply x.stats; applied = x.applied - 1 }
+    let y = unchanged r.change x in record y { stats = shell_stats_before r.reply x.stats; applied = x.applied - 1 }
 
 pub record FitsStep (r : ShellRecord) (x : Shell) : Type 0 where
-  pub stats : IsCounted r.reply x.stats
+  pub stats : IsReplyCounted r.reply x.stats
   pub applied : 1 ≤ x.applied
   pub change : FitsChange r.change x
 
@@ -158,12 +159,13 @@ hit_moves size i (Some p) q = moves_of (hit_plan size i p q) q
 
 abbrev pub touched_of : Item → Shell → UseRecord
 touched_of i x = record {
-  frequency = record_of x.frequency i.key;
-  moves = hit_moves (protected_size x.config) i (place_of i x.queues) x.queues;
+  frequency = shell_frequency_record x.frequency i.key;
+  moves = hit_moves (shell_protected_size x.config) i (place_of i x.queues) x.queues;
 }
 
 abbrev pub added_of : Item → Shell → UseRecord
-added_of i x = record { frequency = record_of x.frequency i.key; moves = moves_of (stay_plan Window i) x.queues }
+added_of i x =
+    record { frequency = shell_frequency_record x.frequency i.key; moves = moves_of (stay_plan Window i) x.queues }
 
 abbrev pub cleared_of : Item → Option Queue → Queues → Option MoveRecord
 cleared_of i None q = None
@@ -229,7 +231,7 @@ change_of w a.Begin x = begin_change w x.holder x
 change_of w (a.DrainRead s) x = read_change s (stripe_at s x.stripes) x
 change_of w a.DrainWrite x = if_held (λ h. write_change h x.writes x) x.holder
 change_of w a.Evict x = if_held (λ h. evict_change h x) x.holder
-change_of w a.End x = cond (is_over x) Nothing (if_held (λ h. Ended h x.drain (ended x.drain).1) x.holder)
+change_of w a.End x = cond (is_over x) Nothing (if_held (λ h. Ended h x.drain (drain_at_end x.drain).1) x.holder)
 
 -- the words that the record holds in lists: those of a halving of the frequency, if any
 

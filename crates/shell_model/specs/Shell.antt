@@ -23,8 +23,8 @@ use Rattle.step_record.specs.declared.drain.Phase.{Phase}
 use Rattle.step_record.specs.declared.drain.Phase.TheVariants.{Reads, Writes, Evictions}
 use Rattle.segments.specs.declared.records.Queue.TheVariants.{Window, Probation, Protected}
 use Rattle.segments.specs.declared.records.Queue.{Queue}
-use Rattle.segments.specs.Items.{same, without, first}
-use Rattle.segments.specs.Queues.{Queues, place_of, pushed, taken, moved, total}
+use Rattle.segments.specs.Items.{same, items_without, first}
+use Rattle.segments.specs.Queues.{Queues, place_of, pushed, taken, moved, total_items}
 use Rattle.admission.specs.Frequency.{FrequencyData}
 use Rattle.replacement.specs.Rules.{three_queues}
 use Rattle.replacement.specs.Table.{after_hit}
@@ -32,9 +32,9 @@ use Rattle.shell_buffers.specs.declared.task.Task.{Task}
 use Rattle.shell_buffers.specs.declared.task.Task.TheVariants.{Add, Update, Remove}
 use Rattle.shell_model.specs.declared.holder.Holder.{Holder}
 use Rattle.shell_model.specs.declared.stats.ShellStats.{ShellStats}
-use Rattle.shell_model.specs.Frequency.{recorded, admits}
+use Rattle.shell_model.specs.Frequency.{frequency_recorded, admits}
 use Rattle.shell_buffers.specs.Buffers.{stripe_at}
-use Rattle.shell_model.specs.ShellStats.{counted}
+use Rattle.shell_model.specs.ShellStats.{shell_stats_after}
 
 pub record Shell : Type 0 where
   pub config : Config
@@ -54,8 +54,8 @@ pub record Shell : Type 0 where
 abbrev pub window_size : Config → ℕ
 window_size c = (three_queues c).window
 
-abbrev pub protected_size : Config → ℕ
-protected_size c = (three_queues c).protected
+abbrev pub shell_protected_size : Config → ℕ
+shell_protected_size c = (three_queues c).protected
 
 -- the table
 
@@ -77,7 +77,7 @@ is_listed i t = is_node i.node (node_of i.key t)
 
 -- the item leaves the table where it is listed there: a newer node of its key stays
 abbrev pub unlisted : Item → List Item → List Item
-unlisted i t = cond (is_listed i t) (without i t) t
+unlisted i t = cond (is_listed i t) (items_without i t) t
 
 -- queues: an item is taken out, where it is queued
 
@@ -85,8 +85,8 @@ abbrev pub cleared_from : Item → Option Queue → Queues → Queues
 cleared_from i None q = q
 cleared_from i (Some p) q = taken i q
 
-abbrev pub cleared : Item → Queues → Queues
-cleared i q = cleared_from i (place_of i q) q
+abbrev pub queues_cleared : Item → Queues → Queues
+queues_cleared i q = cleared_from i (place_of i q) q
 
 -- each act's reply and effect, statistics aside
 
@@ -115,7 +115,7 @@ abbrev pub put : ℕ → Shell → Reply × Shell
 put k x = cond (nat_lt (length x.writes) MAX_TASKS) (put_at k (node_of k x.table) x) (WritesFull, x)
 
 abbrev pub removing : Item → Shell → Shell
-removing i x = record x { table = without i x.table; writes = x.writes ++ Remove i ∷ [] }
+removing i x = record x { table = items_without i x.table; writes = x.writes ++ Remove i ∷ [] }
 
 abbrev pub remove_at : ℕ → Option ℕ → Shell → Reply × Shell
 remove_at k None x = (Absent, x)
@@ -145,11 +145,14 @@ begin w None x =
     (Began, record x { drain = drain.ToIdle; holder = Some record { worker = w; phase = Reads; left = MAX_TASKS } })
 
 abbrev pub recording : ℕ → Shell → Shell
-recording k x = record x { frequency = recorded x.frequency k }
+recording k x = record x { frequency = frequency_recorded x.frequency k }
 
 abbrev pub touching : Item → Shell → Shell
 touching i x =
-    record x { frequency = recorded x.frequency i.key; queues = after_hit (protected_size x.config) i x.queues }
+    record x {
+      frequency = frequency_recorded x.frequency i.key;
+      queues = after_hit (shell_protected_size x.config) i x.queues;
+    }
 
 abbrev pub drain_read : ℕ → List Item → Shell → Reply × Shell
 drain_read s [] x = (Empty, x)
@@ -160,9 +163,9 @@ in_phase p h x = record x { holder = Some record { worker = h.worker; phase = p;
 
 abbrev pub apply_task : Task → Shell → Reply × Shell
 apply_task (Add i) x =
-    (Applied i, record x { frequency = recorded x.frequency i.key; queues = pushed Window i x.queues })
+    (Applied i, record x { frequency = frequency_recorded x.frequency i.key; queues = pushed Window i x.queues })
 apply_task (Update i) x = (Applied i, touching i x)
-apply_task (Remove i) x = (Cleared i, record x { queues = cleared i x.queues })
+apply_task (Remove i) x = (Cleared i, record x { queues = queues_cleared i x.queues })
 
 abbrev pub drain_write : Holder → List Task → Shell → Reply × Shell
 drain_write h [] x = (Empty, in_phase Writes h x)
@@ -179,9 +182,9 @@ abbrev pub leave : Item → Shell → Shell
 leave i x = record x { queues = taken i x.queues; table = unlisted i x.table }
 
 -- the candidate stands in probation already, whose oldest is the victim
-abbrev pub contest : Item → Option Item → Shell → Reply × Shell
-contest candidate None x = (Shifted candidate, x)
-contest candidate (Some victim) x =
+abbrev pub shell_contest : Item → Option Item → Shell → Reply × Shell
+shell_contest candidate None x = (Shifted candidate, x)
+shell_contest candidate (Some victim) x =
     cond (same candidate victim)
     (Rejected candidate, leave candidate x)
     (cond (admits x.frequency candidate.key victim.key)
@@ -193,8 +196,8 @@ shift i x = record x { queues = moved i Probation x.queues }
 
 abbrev pub evict_from : Item → Shell → Reply × Shell
 evict_from candidate x =
-    cond (nat_lt x.config.capacity (total x.queues))
-    (contest candidate (first x.queues.probation) x)
+    cond (nat_lt x.config.capacity (total_items x.queues))
+    (shell_contest candidate (first x.queues.probation) x)
     (Shifted candidate, x)
 
 abbrev pub evict_oldest : Option Item → Shell → Reply × Shell
@@ -208,14 +211,17 @@ abbrev pub evict : Shell → Reply × Shell
 evict x = cond (is_over x) (evict_oldest (first x.queues.window) x) (Fits, x)
 
 -- ToRequired: an AfterWrite came meanwhile
-abbrev pub ended : DrainState → Reply × DrainState
-ended drain.ToRequired = (Again, drain.Required)
-ended drain.Required = (Idle, drain.Idle)
-ended drain.ToIdle = (Idle, drain.Idle)
-ended drain.Idle = (Idle, drain.Idle)
+abbrev pub drain_at_end : DrainState → Reply × DrainState
+drain_at_end drain.ToRequired = (Again, drain.Required)
+drain_at_end drain.Required = (Idle, drain.Idle)
+drain_at_end drain.ToIdle = (Idle, drain.Idle)
+drain_at_end drain.Idle = (Idle, drain.Idle)
 
 abbrev pub end : Shell → Reply × Shell
-end x = cond (is_over x) (NotYet, x) ((ended x.drain).0, record x { drain = (ended x.drain).1; holder = None })
+end x =
+    cond (is_over x)
+    (NotYet, x)
+    ((drain_at_end x.drain).0, record x { drain = (drain_at_end x.drain).1; holder = None })
 
 -- whether a phase may still come: it does not go back
 abbrev pub may_read : Phase → Bool
@@ -273,7 +279,8 @@ perform w End x = hold_end (held_by w x.holder) x
 -- each reply is counted, and each step stands
 abbrev pub tallied : Option (Reply × Shell) → Option (Reply × Shell)
 tallied None = None
-tallied (Some p) = let x = p.1 in Some (p.0, record x { stats = counted p.0 x.stats; applied = x.applied + 1 })
+tallied (Some p) =
+    let x = p.1 in Some (p.0, record x { stats = shell_stats_after p.0 x.stats; applied = x.applied + 1 })
 
 abbrev pub act : Shell → Step → Option (Reply × Shell)
 act x s = cond (nat_lt x.applied MAX_STEPS) (tallied (perform s.worker s.act x)) None

@@ -1,5 +1,5 @@
 //! What holds of every list of steps. Each of these functions does nothing: its contract is the theorem.
-ghost use Rattle.shell_model.specs.Evicting.{EvictionsAgree, EvictionsPlanned};
+ghost use Rattle.shell_model.specs.Evicting.{EvictionsAgree, ShellEvictionsPlanned};
 ghost use Rattle.shell_model.specs.Laws.{HistoryLaws};
 ghost use Rattle.shell_model.specs.Reached.{RecordLaw, LaterLaws, BoundLaw, HoldLaws};
 ghost use Rattle.shell_model.specs.Shell.{act};
@@ -48,5 +48,5 @@ pub fn evictions_agree()
 /// An eviction comes to what its plan comes to, in which a candidate goes straight to its place, or out. Bodies and
 /// undo records go by the plan.
 pub fn evictions_planned()
-    ensures { EvictionsPlanned }
+    ensures { ShellEvictionsPlanned }
 {}

@@ -19,7 +19,7 @@ pub record IsScan (s : Scan) : Type 0 where
   pub cut : HasNoFeed s.cut.items
 
 -- the scan that took a piece comes to what the piece and the rest came to before
-pub record IsTaken (old : Scan) (piece : List ℕ) (new : Scan) : Type 0 where
+pub record IsPieceTaken (old : Scan) (piece : List ℕ) (new : Scan) : Type 0 where
   pub fault : (rest : List ℕ) → fault_ahead new rest ≡ fault_ahead old (piece ++ rest)
   pub keys : (rest : List ℕ) → keys_ahead new rest ≡ keys_ahead old (piece ++ rest)
 

@@ -3,8 +3,8 @@ ghost use Rattle.std.specs.Prelude.{◌≡◌, ◌≤◌, ◌<◌, ◌+◌, ◌-
 ghost use Rattle.std.specs.Prelude.{IfOk, IfErr, IfSome, MatchOption, length, take, vec_len};
 ghost use Rattle.trace_read.specs.Lines.{line_of};
 ghost use Rattle.step_record.specs.declared.limits.TheConstants.{MAX_ACCESSES};
-ghost use Rattle.trace_read.specs.Reading.{fault_in, keys_in, IsOfLine, IsRead, IsRefused, IsStopped};
-ghost use Rattle.trace_read.specs.Scanned.{fault_ahead, keys_ahead, IsEnded, IsScan, IsTaken};
+ghost use Rattle.trace_read.specs.Reading.{fault_in, keys_in, IsOfLine, IsRead, IsTraceRefused, IsStopped};
+ghost use Rattle.trace_read.specs.Scanned.{fault_ahead, keys_ahead, IsEnded, IsScan, IsPieceTaken};
 ghost use Rattle.text_lines.specs.Feeds.{feed_in};
 
 use super::arc::add_arc;
@@ -21,7 +21,7 @@ fn add_line(format: Format, text: &[u8], line: u64, keys: &mut Vec<Key>) -> Resu
     requires { vec_len keys.old ≤ MAX_ACCESSES }
     ensures ok { OnOk result (IsRead format line keys.old.items text.now keys.new.items) }
     ensures within { OnOk result (vec_len keys.new ≤ MAX_ACCESSES) }
-    ensures err { IfErr result (IsRefused format line keys.old.items text.now) }
+    ensures err { IfErr result (IsTraceRefused format line keys.old.items text.now) }
 {
     match format {
         Format::Lirs => add_lirs(text, line, keys),
@@ -67,7 +67,7 @@ impl Scan {
         requires scan { IsScan self.old }
         requires lines { self.old.line + length piece.now < 2 ^ 64 }
         ensures scan { OnOk result (IsScan self.new) }
-        ensures taken { OnOk result (IsTaken self.old piece.now self.new) }
+        ensures taken { OnOk result (IsPieceTaken self.old piece.now self.new) }
         ensures lines { OnOk result (self.new.line ≤ self.old.line + length piece.now) }
         ensures err { IfErr result (λ e. (e ≡ TraceFault.OutOfMemory)
             ⊎ (IsOfLine e
@@ -150,7 +150,7 @@ impl Scan {
         ensures err { IfErr result (IsStopped self.old.format self.old.line self.old.keys.items
             (self.old.cut.items ++ text.now)) }
         // A line that no piece cut takes no memory but for its accesses.
-        ensures whole { self.old.cut.items ≡ [] → IfErr result (IsRefused self.old.format
+        ensures whole { self.old.cut.items ≡ [] → IfErr result (IsTraceRefused self.old.format
             self.old.line self.old.keys.items text.now) }
     {
         if self.cut.is_empty() {

@@ -11,7 +11,7 @@ value_in (Workers x) = x
 value_in (Turns x) = x
 
 -- the number of workers is looked at first, and memory last
-abbrev pub IsCause : {T : Type 0} → OpenFault T → ℕ → ℕ → Type 0
-IsCause (Workers x) workers turns = 1 ≤ workers → MAX_WORKERS < workers
-IsCause (Turns x) workers turns = (1 ≤ workers) × (workers ≤ MAX_WORKERS) × (1 ≤ turns → MAX_TURNS < turns)
-IsCause (OutOfMemory x) workers turns = (1 ≤ workers) × (workers ≤ MAX_WORKERS) × (1 ≤ turns) × (turns ≤ MAX_TURNS)
+abbrev pub IsOpenCause : {T : Type 0} → OpenFault T → ℕ → ℕ → Type 0
+IsOpenCause (Workers x) workers turns = 1 ≤ workers → MAX_WORKERS < workers
+IsOpenCause (Turns x) workers turns = (1 ≤ workers) × (workers ≤ MAX_WORKERS) × (1 ≤ turns → MAX_TURNS < turns)
+IsOpenCause (OutOfMemory x) workers turns = (1 ≤ workers) × (workers ≤ MAX_WORKERS) × (1 ≤ turns) × (turns ≤ MAX_TURNS)

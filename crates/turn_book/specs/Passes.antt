@@ -1,7 +1,7 @@
 -- What callers see of a book, of a pass and of a turn, and what a book promises of them.
 use Rattle.std.specs.Prelude.{◌≡◌, ℕ, suc, ◌+◌, ◌≤◌, List, [], ◌∷◌, ◌++◌, length, Option, Some}
 use Rattle.atomic_table.specs.Seated.{TableId}
-use Rattle.turn_book.specs.Turns.{Begins, Every, Adds, made_by}
+use Rattle.turn_book.specs.Turns.{Begins, Every, AddsInTurn, made_by}
 
 -- Which book it is: no two have one table, and it was opened with one value.
 pub record BookId (T : Type 0) : Type 0 where
@@ -76,7 +76,7 @@ module _ {T E O : Type 0} (origin : T → O) (entries : T → List E) (by : E �
   -- list
   pub record Gives (t : TurnState T E) (p : PassState T E) : Type 0 where
     pub made : List E
-    pub adds : Adds origin entries by t.pass.worker t.taken t.value made
+    pub adds : AddsInTurn origin entries by t.pass.worker t.taken t.value made
     pub pass : p ≡ having_made made (entries t.value) t.pass
 
   -- of each worker from lo on, the entries among these are the own list of its pass

@@ -4,7 +4,7 @@ use Rattle.atomic_table.specs.Table.{Me}
 use Rattle.atomic_table.specs.Seated.{TableId}
 use Rattle.turn_book.specs.declared.view.Part.{Part}
 use Rattle.turn_book.specs.declared.view.View.{View}
-use Rattle.turn_book.specs.Turns.{number_of, own_of}
+use Rattle.turn_book.specs.Turns.{seat_number, own_of}
 use Rattle.turn_book.specs.Passes.{PassState, TurnState}
 
 -- a table of two words and one slot, for at most 64 workers
@@ -33,7 +33,7 @@ module _ {T E : Type 0} where
   abbrev pub pass_in : TableId → View T E → ℕ → PassState T E
   pass_in id v drawn = record {
     book = record { table = id; opening = v.opening };
-    worker = number_of v;
+    worker = seat_number v;
     own = own_of v;
     last = v.last;
     draws = drawn;

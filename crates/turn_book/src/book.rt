@@ -5,10 +5,10 @@ ghost use Rattle.std.specs.Prelude.{IfErr, OnOk};
 ghost use Rattle.atomic_table.specs.Table.{Me};
 ghost use Rattle.step_record.specs.declared.worker.TheConstants.{MAX_WORKERS};
 ghost use Rattle.turn_book.specs.declared.book.TheConstants.{MAX_TURNS};
-ghost use Rattle.turn_book.specs.Faults.{value_in, IsCause};
+ghost use Rattle.turn_book.specs.Faults.{value_in, IsOpenCause};
 ghost use Rattle.turn_book.specs.Passes.{book_id, id_of, InOrder, Takes, Gives, Ends};
 ghost use Rattle.turn_book.specs.Seats.{IsBoard, part_of, pass_view, pass_in, IsPassAt};
-ghost use Rattle.turn_book.specs.Turns.{Adds, Every, IsPass, Draws, Waits, Comes, Rests, Cuts, left_of, right_of};
+ghost use Rattle.turn_book.specs.Turns.{AddsInTurn, Every, IsPass, Draws, Waits, Comes, Rests, Cuts, left_of, right_of};
 ghost use Rattle.turn_book.specs.Turns.{parts_from, beginner};
 
 use crate::fault::OpenFault;
@@ -72,7 +72,7 @@ impl<T: Kept> TurnBook<T> {
         ensures fresh { IfOk result (λ r. Every (λ p. (p.own ≡ []) × (p.last ≡ T.entries value)
             × (p.draws ≡ 0)) r.1.items) }
         ensures accepted { OnOk result ((1 ≤ workers) × (workers ≤ MAX_WORKERS) × (1 ≤ turns) × (turns ≤ MAX_TURNS)) }
-        ensures cause { IfErr result (λ f. IsCause f workers turns) }
+        ensures cause { IfErr result (λ f. IsOpenCause f workers turns) }
         ensures returned { IfErr result (λ f. value_in f ≡ value) }
     {
         if workers == 0 || workers > MAX_WORKERS {
@@ -125,7 +125,7 @@ impl<T: Kept> TurnBook<T> {
     /// taken, and the same entries or one more, of this worker, at their end; the pass's own list gains just that.
     pub fn give(&self, turn: Turn<T>) -> Pass<T>
         requires own { turn.pass.book ≡ id_of self.now }
-        requires leaves { (made : List T.Entry) × Adds T.origin T.entries T.worker_of turn.pass.worker turn.taken
+        requires leaves { (made : List T.Entry) × AddsInTurn T.origin T.entries T.worker_of turn.pass.worker turn.taken
             turn.value made }
         ensures gave { Gives T.origin T.entries T.worker_of turn result }
     {

@@ -7,7 +7,7 @@ use Rattle.turn_book.specs.Turns.{Every}
 use Rattle.turn_book.specs.Passes.{BookId, PassState, InOrder, OwnAll, Ends}
 use Rattle.turn_scenarios.specs.declared.log.Line.{Line}
 use Rattle.turn_scenarios.specs.declared.log.Log.{Log}
-use Rattle.turn_scenarios.specs.Written.{IsWritten, Wrote, WroteAll, lines_of, numbered}
+use Rattle.turn_scenarios.specs.Written.{IsWritten, Wrote, WroteAll, lines_by, numbered}
 
 abbrev LogPass : Type 0
 LogPass = PassState Log Line
@@ -56,17 +56,17 @@ module _ (b : BookId Log) (n : ℕ) where
   whole_at lo (p ∷ ps) (l ∷ ls) h (suc w) lt = whole_at (suc lo) ps ls h.1 w (omega arith) ∙ ap (λ k. numbered k n) (omega arith)
 
   own_at : (lo : ℕ) (ps : List LogPass) (ls : List (Vec Line)) (news : List Line) → WroteAll b n lo ps ls → OwnAll name_of lines_in worker_of lo ps news
-      → (w : ℕ) → w < length ps → lines_of (lo + w) news ≡ numbered (lo + w) n
+      → (w : ℕ) → w < length ps → lines_by (lo + w) news ≡ numbered (lo + w) n
   own_at lo [] ls news h o w lt = absurd (omega arith)
   own_at lo (p ∷ ps) [] news h o w lt = absurd h
-  own_at lo (p ∷ ps) (l ∷ ls) news h o zero lt = subst (λ k. lines_of k news ≡ numbered k n) (let e : lo ≡ lo + 0 = omega arith in e) (o.0 ∙ h.0.own)
-  own_at lo (p ∷ ps) (l ∷ ls) news h o (suc w) lt = subst (λ k. lines_of k news ≡ numbered k n) (let e : suc lo + w ≡ lo + suc w = omega arith in e) (own_at (suc lo) ps ls news h.1 o.1 w (omega arith))
+  own_at lo (p ∷ ps) (l ∷ ls) news h o zero lt = subst (λ k. lines_by k news ≡ numbered k n) (let e : lo ≡ lo + 0 = omega arith in e) (o.0 ∙ h.0.own)
+  own_at lo (p ∷ ps) (l ∷ ls) news h o (suc w) lt = subst (λ k. lines_by k news ≡ numbered k n) (let e : suc lo + w ≡ lo + suc w = omega arith in e) (own_at (suc lo) ps ls news h.1 o.1 w (omega arith))
 
   whole_from : (ps : List LogPass) (ls : List (Vec Line)) → WroteAll b n 0 ps ls → (w : ℕ) → w < length ps → get_or (map (λ l. vec_items l) ls) w [] ≡ numbered w n
   whole_from ps ls h w lt = whole_at 0 ps ls h w lt ∙ ap (λ k. numbered k n) (omega arith)
 
-  own_from : (ps : List LogPass) (ls : List (Vec Line)) (news : List Line) → WroteAll b n 0 ps ls → OwnAll name_of lines_in worker_of 0 ps news → (w : ℕ) → w < length ps → lines_of w news ≡ numbered w n
-  own_from ps ls news h o w lt = subst (λ k. lines_of k news ≡ numbered k n) (let e : 0 + w ≡ w = omega arith in e) (own_at 0 ps ls news h o w lt)
+  own_from : (ps : List LogPass) (ls : List (Vec Line)) (news : List Line) → WroteAll b n 0 ps ls → OwnAll name_of lines_in worker_of 0 ps news → (w : ℕ) → w < length ps → lines_by w news ≡ numbered w n
+  own_from ps ls news h o w lt = subst (λ k. lines_by k news ≡ numbered k n) (let e : 0 + w ≡ w = omega arith in e) (own_at 0 ps ls news h o w lt)
 
   pub written_of : (workers : ℕ) (ps : List LogPass) (ls : List (Vec Line)) (o t : Log) → length ps ≡ workers → WroteAll b n 0 ps ls → Ends name_of lines_in worker_of o ps t → IsWritten workers n o t (map (λ l. vec_items l) ls)
   written_of workers ps ls o t same h ends =

@@ -15,6 +15,6 @@ pub record Appends (lines : List Line) (p q : PassState Log Line) : Type 0 where
   pub after : q ≡ having_made lines (found ++ lines) (drawn_once p)
 
 -- out of memory a turn was drawn that wrote nothing; a spent pass drew none
-abbrev pub IsRefused : AppendFault → BookState Log → PassState Log Line → Type 0
-IsRefused (OutOfMemory q) b p = (p.draws < b.turns) × Appends [] p q
-IsRefused (Spent q) b p = (b.turns ≤ p.draws) × (q ≡ p)
+abbrev pub IsAppendRefused : AppendFault → BookState Log → PassState Log Line → Type 0
+IsAppendRefused (OutOfMemory q) b p = (p.draws < b.turns) × Appends [] p q
+IsAppendRefused (Spent q) b p = (b.turns ≤ p.draws) × (q ≡ p)

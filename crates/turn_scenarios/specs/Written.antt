@@ -12,8 +12,8 @@ numbered w zero = []
 numbered w (suc n) = numbered w n ++ record { worker = w; number = n } ∷ []
 
 -- the lines of worker w, in order
-abbrev pub lines_of : ℕ → List Line → List Line
-lines_of w ls = made_by (λ l. l.worker) w ls
+abbrev pub lines_by : ℕ → List Line → List Line
+lines_by w ls = made_by (λ l. l.worker) w ls
 
 -- The log keeps its name. Past the old lines, those of worker w are the list at place w, in order, and that is all of
 -- its lines numbered below n; and nobody else wrote any.
@@ -22,9 +22,9 @@ pub record IsWritten (workers n : ℕ) (old new : Log) (lists : List (List Line)
   pub news : List Line
   pub written : new.lines.items ≡ old.lines.items ++ news
   pub as_many : length lists ≡ workers
-  pub own : (w : ℕ) → w < workers → lines_of w news ≡ get_or lists w []
+  pub own : (w : ℕ) → w < workers → lines_by w news ≡ get_or lists w []
   pub whole : (w : ℕ) → w < workers → get_or lists w [] ≡ numbered w n
-  pub no_other : (w : ℕ) → workers ≤ w → lines_of w news ≡ []
+  pub no_other : (w : ℕ) → workers ≤ w → lines_by w news ≡ []
 
 -- a pass of the book that has drawn nothing yet
 pub record IsFresh (b : BookId Log) (p : PassState Log Line) : Type 0 where

@@ -1,7 +1,7 @@
 //! One turn.
 ghost use Rattle.std.specs.Prelude.{◌≡◌, [], ◌∷◌, IfOk, IfErr};
 ghost use Rattle.turn_book.specs.Passes.{id_of};
-ghost use Rattle.turn_scenarios.specs.Appending.{Appends, IsRefused};
+ghost use Rattle.turn_scenarios.specs.Appending.{Appends, IsAppendRefused};
 
 use crate::log::{Line, Log};
 use std::sync::Wait;
@@ -26,7 +26,7 @@ pub fn append<R: Wait>(
     requires own { pass.book ≡ id_of book.now }
     requires worker { pass.worker ≡ line.worker }
     ensures appended { IfOk result (λ p. Appends (line ∷ []) pass p) }
-    ensures fault { IfErr result (λ f. IsRefused f book.now pass) }
+    ensures fault { IfErr result (λ f. IsAppendRefused f book.now pass) }
 {
     let mut turn = match book.take(rt, pass) {
         Ok(turn) => turn,

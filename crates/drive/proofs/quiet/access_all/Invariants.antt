@@ -1,5 +1,5 @@
 use Rattle.std.proofs.Common.{◌≡◌, None, drop, length}
-use Rattle.drive.specs.Settle.{Adds}
+use Rattle.drive.specs.Settle.{AddsSteps}
 use Rattle.drive.proofs.Keying.{Lacks}
 use Rattle.drive.proofs.quiet.access_all.Given as goal
 
@@ -7,7 +7,7 @@ abbrev pub invariant-loop-key : goal.invariant-loop-key
 invariant-loop-key l = record {
   opening : l.session.opening ≡ l.fn.session.opening;
   limit : l.session.limit ≡ l.fn.session.limit;
-  adds : Adds (Lacks l.fn.stripes l.keys (drop l.key-index l.keys) l.outcomes.items) l.fn.session l.session;
+  adds : AddsSteps (Lacks l.fn.stripes l.keys (drop l.key-index l.keys) l.outcomes.items) l.fn.session l.session;
   stripes : length l.session.engine.stripes ≡ l.fn.stripes;
   none : l.session.engine.holder ≡ None;
 }

@@ -3,14 +3,14 @@ use Rattle.drive.specs.Walks.{Entries}
 use Rattle.drive.specs.Nexts.{Left, Asks}
 use Rattle.drive.specs.Outcomes.{outcome_from}
 use Rattle.drive.specs.Places.{Ahead}
-use Rattle.drive.specs.Settle.{Adds, IsReadyFor}
+use Rattle.drive.specs.Settle.{AddsSteps, IsReadyFor}
 use Rattle.drive.proofs.settling.finish_round.Given as goal
 
 abbrev pub invariant-loop-next : goal.invariant-loop-next
 invariant-loop-next l = record {
   opening : l.session.opening ≡ l.fn.session.opening;
   limit : l.session.limit ≡ l.fn.session.limit;
-  adds : Adds (λ es. ((rest : Entries) → Left l.next rest → Ahead l.fn.local.worker l.fn.local.stripes l.fn.local.place (es ++ rest)) × (l.outcome ≡ outcome_from l.fn.start es)) l.fn.session l.session;
+  adds : AddsSteps (λ es. ((rest : Entries) → Left l.next rest → Ahead l.fn.local.worker l.fn.local.stripes l.fn.local.place (es ++ rest)) × (l.outcome ≡ outcome_from l.fn.start es)) l.fn.session l.session;
   asks : Asks l.fn.local.worker l.fn.local.stripes l.next;
   worker : l.worker ≡ l.fn.local.worker;
   stripes : length l.session.engine.stripes ≡ l.fn.local.stripes;

@@ -1,12 +1,12 @@
 use Rattle.std.proofs.Common.{◌≡◌, ◌≤◌, ◌++◌, [], length}
 use Rattle.step_record.specs.History.{IsLegal}
-use Rattle.journal_text.specs.Journal.{begun, ended, header, AreLines}
+use Rattle.journal_text.specs.Journal.{begun, ended_line, header, AreLines}
 use Rattle.journal_text.proofs.lines.read_lines.Given as goal
 
 abbrev pub invariant-lines : goal.invariant-lines
 invariant-lines g l = record {
   lines : AreLines l.version l.session.kept;
-  read : begun l.version l.session.kept ++ l.rest ≡ ended (header l.version) ++ l.lines;
+  read : begun l.version l.session.kept ++ l.rest ≡ ended_line (header l.version) ++ l.lines;
   opening : l.session.opening ≡ l.initial.session.opening;
   limit : l.session.limit ≡ l.initial.session.limit;
   tail : l.initial.session.tail ≡ [] → l.session.tail ≡ [];

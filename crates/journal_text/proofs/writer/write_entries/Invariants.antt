@@ -1,13 +1,13 @@
 use Rattle.std.proofs.Common.{◌≤◌, take, vec_capacity}
 use Rattle.journal_text.specs.Journal.{begun}
-use Rattle.journal_text.specs.Writing.{AreFit, IsWritten}
+use Rattle.journal_text.specs.Writing.{AreFit, IsTextWritten}
 use Rattle.journal_text.specs.declared.version.Version.TheVariants.{Two}
 use Rattle.journal_text.specs.declared.writer.TheConstants.{BUFFER}
 use Rattle.journal_text.proofs.writer.write_entries.Given as goal
 
 abbrev pub invariant-loop-n : goal.invariant-loop-n
 invariant-loop-n g l = record {
-  written : IsWritten (g.W.Write.contents l.fn.writer) (g.W.Write.contents l.writer) l.text.items (begun Two (take l.n l.session.kept));
+  written : IsTextWritten (g.W.Write.contents l.fn.writer) (g.W.Write.contents l.writer) l.text.items (begun Two (take l.n l.session.kept));
   room : BUFFER ≤ vec_capacity l.text;
   fit : AreFit (take l.n l.session.kept);
 }

@@ -1,16 +1,16 @@
 use Rattle.std.proofs.Common.{◌≡◌, ◌∙◌, ◌++◌, length, ap, refl, subst, Option, List, ℕ, Result, Ok, Err}
 use Rattle.std.specs.Io.KnownBytes.{Appends, Keeps}
 use Rattle.std.specs.Prelude.{OnOk}
-use Rattle.journal_text.specs.Journal.{begun, ended, journal_of, AreLines}
+use Rattle.journal_text.specs.Journal.{begun, ended_line, journal_of, AreLines}
 use Rattle.journal_text.specs.Table.{text_of}
-use Rattle.journal_text.specs.Writing.{IsWritten}
+use Rattle.journal_text.specs.Writing.{IsTextWritten}
 use Rattle.journal_text.specs.declared.line.Line.TheVariants.{Steps}
 use Rattle.journal_text.specs.declared.version.Version.TheVariants.{Two}
 use Rattle.step_record.specs.Answers.{AnswersItsActs}
 use Rattle.journal_text.proofs.Written.{finished, gathered, lines_of_two, passed}
 use Rattle.journal_text.proofs.writer.write_text.Goals as goal
 
-flushed : {T E : Type 0} (r : Result T E) (old mid new last : Option (List ℕ)) (waiting bytes : List ℕ) → IsWritten old mid waiting bytes → Appends mid new waiting
+flushed : {T E : Type 0} (r : Result T E) (old mid new last : Option (List ℕ)) (waiting bytes : List ℕ) → IsTextWritten old mid waiting bytes → Appends mid new waiting
     → OnOk r (Keeps new last) → OnOk r (Appends old last bytes)
 flushed (Ok u) old mid new last waiting bytes h a k = finished old mid new last waiting bytes h a k
 flushed (Err e) old mid new last waiting bytes h a k = tt
@@ -24,9 +24,9 @@ returns-clause-text g c =
     let new = g.W.Write.contents c.write_some.new.writer in
     let last = g.W.Write.contents c.flush.new.writer in
     let before = passed old first mid c.write_entries.new.text.items c.make_room.new.text.items (begun Two kept) c.in_ok-write_entries.ensures.written c.in_ok-make_room.ensures.written in
-    let count : c.push_count_line.new.text.items ≡ c.make_room.new.text.items ++ ended (text_of (Steps (length kept))) =
-    c.push_count_line.ensures.items ∙ ap (λ n. c.make_room.new.text.items ++ ended (text_of (Steps n))) c.len.ensures.len in
-    let all = gathered old mid c.make_room.new.text.items c.push_count_line.new.text.items (ended (text_of (Steps (length kept)))) (begun Two kept) (journal_of Two kept)
+    let count : c.push_count_line.new.text.items ≡ c.make_room.new.text.items ++ ended_line (text_of (Steps (length kept))) =
+    c.push_count_line.ensures.items ∙ ap (λ n. c.make_room.new.text.items ++ ended_line (text_of (Steps n))) c.len.ensures.len in
+    let all = gathered old mid c.make_room.new.text.items c.push_count_line.new.text.items (ended_line (text_of (Steps (length kept)))) (begun Two kept) (journal_of Two kept)
     count refl before in
     flushed c.flush.result old mid new last c.push_count_line.new.text.items (journal_of Two kept) all
     (subst (Appends mid new) c.as_slice.ensures.value c.in_ok-write_some.ensures.bytes) c.flush.ensures.bytes

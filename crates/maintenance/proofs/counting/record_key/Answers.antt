@@ -1,10 +1,10 @@
-use Rattle.shell_model.specs.Frequency.{recorded, record_of}
+use Rattle.shell_model.specs.Frequency.{frequency_recorded, shell_frequency_record}
 use Rattle.maintenance.proofs.counting.record_key.Goals as goal
 
 pub returns-clause-state : goal.returns-clause-state
-unfolding recorded
+unfolding frequency_recorded
 returns-clause-state c = c.record.ensures.after
 
 pub returns-clause-made : goal.returns-clause-made
-unfolding record_of
+unfolding shell_frequency_record
 returns-clause-made c = c.record.ensures.record_is

@@ -1,4 +1,4 @@
-use Rattle.shell_model.specs.Frequency.{unrecorded, FitsFrequency}
+use Rattle.shell_model.specs.Frequency.{frequency_unrecorded, FitsFrequency}
 use Rattle.maintenance.proofs.counting.unrecord_key.Goals as goal
 
 pub unrecord-requires : goal.unrecord-requires
@@ -6,5 +6,5 @@ unfolding FitsFrequency
 unrecord-requires c = c.requires
 
 pub returns : goal.returns
-unfolding unrecorded
+unfolding frequency_unrecorded
 returns c = c.unrecord.ensures

@@ -1,5 +1,5 @@
 use Rattle.std.proofs.Common.{◌∙◌, ap}
-use Rattle.maintenance.specs.Table.{items_of}
+use Rattle.maintenance.specs.Table.{table_items}
 use Rattle.maintenance.proofs.Tables.{entry-placed, ascending}
 use Rattle.maintenance.proofs.table.Table.place.Goals as goal
 
@@ -7,4 +7,4 @@ pub invariant_of-self-2 : goal.invariant_of-self-2
 invariant_of-self-2 c = ascending _ c.insert.ensures.ordered
 
 pub returns-clause-ok : goal.returns-clause-ok
-returns-clause-ok c = rw (← c.self.view_is) (ap items_of c.in_ok-insert.ensures.entries ∙ entry-placed c.args.item.key c.args.item.node _ (rw (← c.self.view_is) at c.requires))
+returns-clause-ok c = rw (← c.self.view_is) (ap table_items c.in_ok-insert.ensures.entries ∙ entry-placed c.args.item.key c.args.item.node _ (rw (← c.self.view_is) at c.requires))

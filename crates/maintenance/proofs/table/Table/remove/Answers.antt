@@ -1,5 +1,5 @@
 use Rattle.std.proofs.Common.{◌∙◌, ap}
-use Rattle.maintenance.specs.Table.{items_of}
+use Rattle.maintenance.specs.Table.{table_items}
 use Rattle.maintenance.proofs.Tables.{entry-removed, ascending}
 use Rattle.maintenance.proofs.table.Table.remove.Goals as goal
 
@@ -7,4 +7,4 @@ pub invariant_of-self : goal.invariant_of-self
 invariant_of-self c = ascending _ c.remove.ensures.ordered
 
 pub returns : goal.returns
-returns c = rw (← c.self.view_is) (ap items_of c.remove.ensures.entries ∙ entry-removed c.args.item _ c.self.invariant (rw (← c.self.view_is) at c.requires))
+returns c = rw (← c.self.view_is) (ap table_items c.remove.ensures.entries ∙ entry-removed c.args.item _ c.self.invariant (rw (← c.self.view_is) at c.requires))

@@ -4,7 +4,7 @@ use Rattle.segments.specs.declared.slot.Slot.{Slot}
 use Rattle.segments.specs.Queues.{place_of}
 use Rattle.segments.specs.Ring.{items, chains, newers, olders, ring_of, IsRing, Order, ring, used, order_in, order_of, sent, lists}
 use Rattle.segments.specs.Index.{IsIndexed}
-use Rattle.segments.specs.Table.{IsHeld, spare_in, raised, one_less, lengths_of}
+use Rattle.segments.specs.Table.{IsInSlots, spare_in, raised, one_less, lengths_of}
 use Rattle.segments.proofs.Orders.{used-more, order-is}
 use Rattle.segments.proofs.Calls.{lengths-taken, lengths-sent, insert-recent, insert-back}
 use Rattle.segments.proofs.Tables.{free-real, free-unused, free-within, place-free, held-inserted, take-front}
@@ -70,7 +70,7 @@ invariant_of-self c =
       counted = λ j. used-more j c.newest_free-at.result c.args.before c.args.queue (order_of c.deref_mut-slots.result.now) (free-unused c.deref_mut-slots.result.now (order_of c.deref_mut-slots.result.now) h.queued c.newest_free-at.result n);
     } in
     let absent : place_of c.args.item (lists c.deref_mut-slots.result.now) ≡ None = rw e c.requires.absent in
-    let held = subst (IsHeld c.send.new.slots c.add.new.self.heads.items c.add.new.self.bits) (sym eo)
+    let held = subst (IsInSlots c.send.new.slots c.add.new.self.heads.items c.add.new.self.bits) (sym eo)
     (held-inserted c.deref_mut-slots.result.now c.send.new.slots c.add.new.self.heads.items c.add.new.self.bits (order_of c.deref_mut-slots.result.now) h.queued c.newest_free-at.result n c.args.queue c.args.before c.args.item
     r
     (rw (c.send.ensures.chains, c.send.ensures.items) y)

@@ -2,7 +2,7 @@ use Rattle.std.proofs.Common.{◌≡◌, ◌∙◌, ◌≤◌, ◌++◌, sym, ap
 use Rattle.segments.specs.declared.lengths.Lengths.{Lengths}
 use Rattle.segments.specs.declared.slot.Slot.{Slot}
 use Rattle.segments.specs.Ring.{count, newers, olders, ring_of, IsRing, Order, ring, order_in, used, order_of, freed}
-use Rattle.segments.specs.Table.{IsHeld, lowered, one_more, lengths_of}
+use Rattle.segments.specs.Table.{IsInSlots, lowered, one_longer, lengths_of}
 use Rattle.segments.proofs.Finding.{slots-length}
 use Rattle.segments.proofs.Orders.{order-is}
 use Rattle.segments.proofs.Holding.{used-real, used-within, held-freed}
@@ -44,10 +44,10 @@ invariant_of-self c =
     let r = subst (λ (o : Order). IsRing (newers c.release.new.slots) (olders c.release.new.slots) (ring (freed c.args.at o))) order c.release.ensures.ring in
     let eo = order-is (newers c.release.new.slots) (olders c.release.new.slots) (freed c.args.at (order_of c.deref_mut-slots.result.now)) r in
     let out = lengths-out c.place_of_slot-from.result.queue c.args.at (order_of c.deref_mut-slots.result.now) h.queued.linked.once c.place_of_slot-from.ensures.queue in
-    let counted = ap one_more (c.lower.ensures ∙ (ap (lowered c.place_of_slot-from.result.queue) (c.self.invariant.counted ∙ ap (λ (s : List Slot). lengths_of (order_of s)) (sym c.deref_mut-slots.ensures.value)) ∙ sym out))
+    let counted = ap one_longer (c.lower.ensures ∙ (ap (lowered c.place_of_slot-from.result.queue) (c.self.invariant.counted ∙ ap (λ (s : List Slot). lengths_of (order_of s)) (sym c.deref_mut-slots.ensures.value)) ∙ sym out))
     ∙ (sym (lengths-freed c.args.at (order_of c.deref_mut-slots.result.now)) ∙ ap lengths_of (sym eo)) in
     let whole : take c.self.inside.slots.len (c.release.new.slots ++ drop (length c.release.new.slots) c.self.inside.slots.items) ≡ c.release.new.slots = take-front _ _ _ (omega arith) in
-    let held = subst (IsHeld c.release.new.slots c.remove.new.self.heads.items c.remove.new.self.bits) (sym eo)
+    let held = subst (IsInSlots c.release.new.slots c.remove.new.self.heads.items c.remove.new.self.bits) (sym eo)
     (held-freed c.deref_mut-slots.result.now c.release.new.slots c.remove.new.self.heads.items c.remove.new.self.bits (order_of c.deref_mut-slots.result.now) h.queued c.args.at r
     (rw (c.release.ensures.only.chains, c.release.ensures.only.items) c.remove.ensures.indexed)
     (c.release.ensures.only.tags ∙ c.remove.ensures.only.tags)
@@ -64,7 +64,7 @@ returns-clause-spare c =
     let r = subst (λ (o : Order). IsRing (newers c.release.new.slots) (olders c.release.new.slots) (ring (freed c.args.at o))) order c.release.ensures.ring in
     let eo = order-is (newers c.release.new.slots) (olders c.release.new.slots) (freed c.args.at (order_of c.deref_mut-slots.result.now)) r in
     let out = lengths-out c.place_of_slot-from.result.queue c.args.at (order_of c.deref_mut-slots.result.now) h.queued.linked.once c.place_of_slot-from.ensures.queue in
-    let counted = ap one_more (c.lower.ensures ∙ (ap (lowered c.place_of_slot-from.result.queue) (c.self.invariant.counted ∙ ap (λ (s : List Slot). lengths_of (order_of s)) (sym c.deref_mut-slots.ensures.value)) ∙ sym out))
+    let counted = ap one_longer (c.lower.ensures ∙ (ap (lowered c.place_of_slot-from.result.queue) (c.self.invariant.counted ∙ ap (λ (s : List Slot). lengths_of (order_of s)) (sym c.deref_mut-slots.ensures.value)) ∙ sym out))
     ∙ (sym (lengths-freed c.args.at (order_of c.deref_mut-slots.result.now)) ∙ ap lengths_of (sym eo)) in
     let whole : take c.self.inside.slots.len (c.release.new.slots ++ drop (length c.release.new.slots) c.self.inside.slots.items) ≡ c.release.new.slots = take-front _ _ _ (omega arith) in
     let f = ap (λ (l : Lengths). l.free) counted in

@@ -4,7 +4,7 @@ use Rattle.segments.specs.declared.slot.Slot.{Slot}
 use Rattle.segments.specs.Items.{IsGap}
 use Rattle.segments.specs.Queues.{Queues, queue_of}
 use Rattle.segments.specs.Ring.{count, newers, olders, used, order_of, sent}
-use Rattle.segments.specs.Table.{IsHeld, raised, lowered, lengths_of}
+use Rattle.segments.specs.Table.{IsInSlots, raised, lowered, lengths_of}
 use Rattle.segments.proofs.Finding.{slots-length}
 use Rattle.segments.proofs.Orders.{order-is}
 use Rattle.segments.proofs.Holding.{used-real, used-within}
@@ -41,7 +41,7 @@ invariant_of-self c =
     ∙ (ap (raised c.args.queue) (c.lower.ensures ∙ (ap (lowered c.place_of_slot-from.result.queue) (c.self.invariant.counted ∙ ap (λ (s : List Slot). lengths_of (order_of s)) (sym c.deref_mut-slots.ensures.value)) ∙ sym out))
     ∙ (sym (lengths-sent c.args.queue c.args.at c.args.before (order_of c.deref_mut-slots.result.now)) ∙ ap lengths_of (sym eo))) in
     let whole : take c.self.inside.slots.len (c.send.new.slots ++ drop (length c.send.new.slots) c.self.inside.slots.items) ≡ c.send.new.slots = take-front _ _ _ (omega arith) in
-    let held = subst (IsHeld c.send.new.slots c.self.inside.index.heads.items c.self.inside.index.bits) (sym eo)
+    let held = subst (IsInSlots c.send.new.slots c.self.inside.index.heads.items c.self.inside.index.bits) (sym eo)
     (held-shifted c.deref_mut-slots.result.now c.send.new.slots c.self.inside.index.heads.items c.self.inside.index.bits (order_of c.deref_mut-slots.result.now) h c.args.at u c.args.queue c.args.before c.send.ensures.ring c.send.ensures.chains c.send.ensures.items c.send.ensures.tags) in
     rw whole (kept-on c.self.inside.slots.items c.send.new.slots _ _ _ _ _ _ c.self.invariant held counted (omega arith) refl)
 
