@@ -44,7 +44,7 @@ impl<'a> Words<'a> {
     }
 
     /// The name that stands next.
-    #[tactic(auto, unfolding(crate::specs::Commands::name_at))]
+    #[tactic(auto, unfolding(crate::specs::Commands::command_name_at))]
     pub fn name(&mut self) -> Option<Name>
         ensures { with_rest self.new result ≡ command_name_at self.old }
     {

@@ -13,7 +13,7 @@ use step_record::{Act, Answer, Call, Config, Entry, Item, Key, OpenGate, Reply, 
 const WORKERS: u8 = 64;
 
 // So many calls has each worker: of eight, seven are reads, and the last removes a key.
-const CALLS: u64 = 32;
+const CALLS: u64 = 256;
 
 fn call_of(worker: u8, n: u64) -> Call {
     let key = u64::from(worker)
@@ -203,7 +203,7 @@ fn assert_crowd<R: Threads + Wait + Sync + Abort>(
         journal_limit: 1,
     };
     assert!(rt; config.check() == Ok(()));
-    let session = Session::open(alloc, Shell::new(alloc, &config)?, 1_000_000);
+    let session = Session::open(alloc, Shell::new(alloc, &config)?, 8_000_000);
     let driven = match drive(rt, alloc, session, pieces(alloc)?, &OpenGate) {
         Ok(driven) => driven,
         Err(fault) => return Err(failed(fault)),
@@ -223,8 +223,8 @@ fn assert_crowd<R: Threads + Wait + Sync + Abort>(
     let shell = driven.session.engine();
     assert!(rt; shell.holder().is_none());
     let stats = shell.stats();
-    // Each of the 64 workers makes 28 reads.
-    assert_eq!(rt; stats.hits.wrapping_add(stats.misses), 1792);
+    // Each of the 64 workers makes 224 reads.
+    assert_eq!(rt; stats.hits.wrapping_add(stats.misses), 14_336);
     Ok(())
 }
 

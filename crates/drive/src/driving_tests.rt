@@ -72,18 +72,18 @@ pub(crate) fn assert_own_lists(
     session: &Session<Shell>,
     lists: &[Vec<Entry<Step, Reply>>],
 ) {
+    let mut read: [usize; 64] = [0; 64];
+    for n in 1..=session.len() {
+        let entry = session.entry(n).expect(rt, "an entry");
+        let worker = usize::from(entry.step.worker.number());
+        let list = lists.get(worker).expect(rt, "a list of the worker");
+        let at = read.get_mut(worker).expect(rt, "a worker below the limit");
+        assert!(rt; list.get(*at) == Some(entry));
+        *at = at.wrapping_add(1);
+    }
     let mut total: usize = 0;
-    for (worker, list) in lists.iter().enumerate() {
-        let mut own: usize = 0;
-        for n in 1..=session.len() {
-            let entry = session.entry(n).expect(rt, "an entry");
-            if usize::from(entry.step.worker.number()) == worker {
-                assert!(rt; list.get(own) == Some(entry));
-                own = own.wrapping_add(1);
-            }
-        }
-        assert_eq!(rt; own, list.len());
-        total = total.wrapping_add(own);
+    for list in lists {
+        total = total.wrapping_add(list.len());
     }
     assert_eq!(rt; total, session.len());
 }
@@ -104,7 +104,11 @@ fn assert_held_run<R: Threads + Wait + Sync + Abort>(
         Ok(driven) => driven,
         Err(fault) => return Err(failed(fault)),
     };
-    assert_eq!(rt; gate.late.load(SeqCst), 0);
+    if gate.late.load(SeqCst) > 0 {
+        return Err(
+            Fail::from("workers one after the other, or out of memory for a thread"),
+        );
+    }
     assert_own_lists(rt, &driven.session, driven.lists.as_slice());
     let shell = driven.session.engine();
     let stats = shell.stats();
@@ -156,13 +160,16 @@ fn a_full_journal_stops_a_worker_at_its_maintenance(rt: HostRuntime) -> Result<(
                 cause,
             },
         ) => {
-            assert_eq!(rt; cause, Cause::JournalFull);
+            if cause == Cause::Memory {
+                return Err(Fail::from("out of memory"));
+            }
             assert_eq!(rt; session.len(), 4);
             assert_own_lists(&rt, &session, lists.as_slice());
             assert_eq!(rt; session.engine().drain(), Drain::ToIdle);
             session
         }
-        _ => return Err(Fail::from("not stopped")),
+        Err(fault) => return Err(failed(fault)),
+        Ok(_) => return Err(Fail::from("not stopped")),
     };
     match drive(
         &rt,
@@ -172,7 +179,8 @@ fn a_full_journal_stops_a_worker_at_its_maintenance(rt: HostRuntime) -> Result<(
         &OpenGate,
     ) {
         Err(DriveFault::Held { session, .. }) => assert_eq!(rt; session.len(), 4),
-        _ => return Err(Fail::from("not held")),
+        Err(fault) => return Err(failed(fault)),
+        Ok(_) => return Err(Fail::from("not held")),
     }
     Ok(())
 }
@@ -203,8 +211,11 @@ fn a_stopped_maintenance_is_settled(rt: HostRuntime) -> Result<(), Fail> {
     let calls = vec![in alloc; Call::Read(1), Call::Remove(1), Call::Read(1)]?;
     let pieces = vec![in alloc; calls]?;
     let mut session = left_by(&rt, alloc, pieces)?;
-    assert!(rt; settle(&mut session).is_ok());
-    assert!(rt; session.engine().holder().is_none());
+    match settle(&mut session) {
+        Ok(_) => assert!(rt; session.engine().holder().is_none()),
+        Err(SettleFault::OutOfMemory { done: _ }) => return Err(Fail::from("out of memory")),
+        Err(_) => return Err(Fail::from("not settled")),
+    }
     Ok(())
 }
 

@@ -1,8 +1,9 @@
 use super::*;
-use journal::{Session, SessionFault};
+use journal::{BackFault, Session, SessionFault};
 use maintenance::Shell;
 use std::alloc::Global;
 use std::process::Abort;
+use std::test::Fail;
 use step_record::{Act, Config, Drain, Entry, Item, Key, Outcome, Reply, Spread, Step, Worker};
 
 const CONFIG: Config = Config {
@@ -14,25 +15,38 @@ const CONFIG: Config = Config {
 };
 
 // A session in which worker 3 put key 1 and began the maintenance: four steps.
-fn begun(rt: &impl Abort, alloc: Global, limit: usize) -> Session<Shell> {
-    let mut session = fresh(rt, alloc, &CONFIG, limit);
+fn begun(rt: &impl Abort, alloc: Global, limit: usize) -> Result<Session<Shell>, Fail> {
+    let mut session = fresh(rt, alloc, &CONFIG, limit)?;
     for act in [
         Act::Look { key: 1 },
         Act::Put { key: 1 },
         Act::AfterWrite,
         Act::Begin,
     ] {
-        let made = session.step(step(rt, act));
-        assert!(rt; made.is_ok());
+        make(rt, &mut session, act)?;
     }
-    session
+    Ok(session)
 }
 
-fn fresh(rt: &impl Abort, alloc: Global, config: &Config, limit: usize) -> Session<Shell> {
+// Makes a step by hand, which memory alone may refuse.
+fn make(rt: &impl Abort, session: &mut Session<Shell>, act: Act) -> Result<Reply, Fail> {
+    match session.step(step(rt, act)) {
+        Ok(reply) => Ok(reply),
+        Err(SessionFault::OutOfMemory) => Err(Fail::from("out of memory")),
+        Err(_) => Err(Fail::from("a step by hand is refused")),
+    }
+}
+
+fn fresh(
+    rt: &impl Abort,
+    alloc: Global,
+    config: &Config,
+    limit: usize,
+) -> Result<Session<Shell>, Fail> {
     assert!(rt; config.check().is_ok());
     assert!(rt; 1 <= limit && limit <= 1024);
-    let shell = Shell::new(alloc, config).expect(rt, "memory for a shell");
-    Session::open(alloc, shell, limit)
+    let shell = Shell::new(alloc, config)?;
+    Ok(Session::open(alloc, shell, limit))
 }
 
 fn step(rt: &impl Abort, act: Act) -> Step {
@@ -41,7 +55,7 @@ fn step(rt: &impl Abort, act: Act) -> Step {
 }
 
 #[test]
-fn settling_ends_the_round_or_names_its_steps(rt: HostRuntime) {
+fn settling_ends_the_round_or_names_its_steps(rt: HostRuntime) -> Result<(), Fail> {
     let item = Item { key: 1, node: 0 };
     let round = [
         (Act::DrainRead { stripe: 0 }, Reply::Empty),
@@ -52,57 +66,69 @@ fn settling_ends_the_round_or_names_its_steps(rt: HostRuntime) {
     ];
     // After so many steps of the round by hand, its phase begins again at this one.
     for (by_hand, again) in [(0, 0), (1, 0), (2, 2), (3, 2), (4, 3)] {
-        assert_settles(&rt, rt.alloc(), &round, by_hand, again);
+        for room in 0..6 - again {
+            assert_settles(&rt, rt.alloc(), &round, (by_hand, again), room)?;
+        }
     }
+    Ok(())
 }
 
-// Settles a session with some steps of a round made by hand, at each limit that leaves the steps
-// that are left too little room, and at one that is enough.
+// Settles a session with some steps of a round made by hand, where the journal has room for so many more: too few for
+// the steps that are left, or as many.
 fn assert_settles(
     rt: &impl Abort,
     alloc: Global,
     round: &[(Act, Reply); 5],
-    by_hand: usize,
-    again: usize,
-) {
+    (by_hand, again): (usize, usize),
+    room: usize,
+) -> Result<(), Fail> {
     assert!(rt; by_hand < 5 && again <= by_hand);
     let left = 5 - again;
-    for room in 0..left + 1 {
-        let start = 4 + by_hand;
-        let mut session = begun(rt, alloc, start + room);
-        for (act, reply) in &round[..by_hand] {
-            assert_eq!(rt; session.step(step(rt, *act)), Ok(*reply));
-        }
-        let answer = settle(&mut session);
-        if room < left {
-            assert_eq!(rt; answer, Err(SettleFault::JournalFull { done: room as u64 }));
-        } else {
-            assert_eq!(rt; answer, Ok(left as u64));
-        }
-        assert_eq!(rt; session.len(), start + room);
-        assert_eq!(rt; session.engine().holder().is_some(), room < left);
-        for n in 0..room {
-            let (act, reply) = round[again + n];
-            let entry = Entry {
-                step: step(rt, act),
-                reply,
-            };
-            assert_eq!(rt; session.entry(start + n + 1).copied(), Some(entry));
-        }
+    assert!(rt; room <= left);
+    let start = 4 + by_hand;
+    let mut session = begun(rt, alloc, start + room)?;
+    for (act, reply) in &round[..by_hand] {
+        assert_eq!(rt; make(rt, &mut session, *act)?, *reply);
     }
+    let answer = settle(&mut session);
+    if let Err(SettleFault::OutOfMemory { done }) = answer {
+        assert_eq!(rt; session.len() as u64, start as u64 + done);
+        return Err(Fail::from("out of memory"));
+    }
+    let wanted = if room < left {
+        Err(SettleFault::JournalFull { done: room as u64 })
+    } else {
+        Ok(left as u64)
+    };
+    assert_eq!(rt; answer, wanted);
+    assert_eq!(rt; session.len(), start + room);
+    assert_eq!(rt; session.engine().holder().is_some(), room < left);
+    for n in 0..room {
+        let (act, reply) = round[again + n];
+        let entry = Entry {
+            step: step(rt, act),
+            reply,
+        };
+        assert_eq!(rt; session.entry(start + n + 1).copied(), Some(entry));
+    }
+    Ok(())
 }
 
 #[test]
-fn settling_without_a_holder_makes_no_step(rt: HostRuntime) {
-    let mut session = begun(&rt, rt.alloc(), 4);
+fn settling_without_a_holder_makes_no_step(rt: HostRuntime) -> Result<(), Fail> {
+    let mut session = begun(&rt, rt.alloc(), 4)?;
     assert_eq!(rt;
         session.step(step(&rt, Act::End)),
         Err(SessionFault::JournalFull)
     );
-    assert_eq!(rt; session.back(1), Ok(()));
+    match session.back(1) {
+        Err(BackFault::OutOfMemory { undone: _ }) => return Err(Fail::from("out of memory")),
+        answer => assert_eq!(rt; answer, Ok(())),
+    }
     assert_eq!(rt; session.engine().drain(), Drain::Required);
     assert_eq!(rt; settle(&mut session), Ok(0));
     assert_eq!(rt; (session.len(), session.ahead()), (3, 1));
+    Ok(())
 }
 
 // The keys of the quiet runs, at capacity 2. Misses take nine steps, and one more where the window
@@ -114,39 +140,61 @@ const SMALL: Config = Config {
     ..CONFIG
 };
 
+// Why a quiet run was cut off.
+fn cut_off(alloc: Global, session: &mut Session<Shell>) -> Result<QuietFault, Fail> {
+    match run_quiet(alloc, session, &KEYS) {
+        Err(QuietFault::OutOfMemory { done: _ }) => Err(Fail::from("out of memory")),
+        Err(fault) => Ok(fault),
+        Ok(_) => Err(Fail::from("not cut off")),
+    }
+}
+
 // Sees that a run is cut off at a limit, and what a second one answers then.
-fn assert_cut_off(rt: &impl Abort, alloc: Global, limit: usize, second: QuietFault) {
-    let mut session = fresh(rt, alloc, &SMALL, limit);
+fn assert_cut_off(
+    rt: &impl Abort,
+    alloc: Global,
+    limit: usize,
+    second: QuietFault,
+) -> Result<(), Fail> {
+    let mut session = fresh(rt, alloc, &SMALL, limit)?;
     let done = limit as u64;
-    let first = run_quiet(alloc, &mut session, &KEYS).err();
-    assert_eq!(rt; first, Some(QuietFault::JournalFull { done }));
-    let again = run_quiet(alloc, &mut session, &KEYS).err();
-    assert_eq!(rt; again, Some(second));
+    let first = cut_off(alloc, &mut session)?;
+    assert_eq!(rt; first, QuietFault::JournalFull { done });
+    assert_eq!(rt; cut_off(alloc, &mut session)?, second);
     assert_eq!(rt; session.len(), limit);
+    Ok(())
 }
 
 #[test]
-fn a_quiet_run_names_the_steps_that_had_room(rt: HostRuntime) {
+fn a_quiet_run_names_the_steps_that_had_room(rt: HostRuntime) -> Result<(), Fail> {
     let full = QuietFault::JournalFull { done: 0 };
     for limit in [1, 3, 9, 28] {
-        assert_cut_off(&rt, rt.alloc(), limit, full);
+        assert_cut_off(&rt, rt.alloc(), limit, full)?;
     }
     for limit in [4, 27, 46] {
-        assert_cut_off(&rt, rt.alloc(), limit, QuietFault::Held);
+        assert_cut_off(&rt, rt.alloc(), limit, QuietFault::Held)?;
     }
+    Ok(())
 }
 
 #[test]
-fn a_quiet_run_answers_the_outcomes(rt: HostRuntime) {
-    let outcomes = [
+fn a_quiet_run_answers_the_outcomes(rt: HostRuntime) -> Result<(), Fail> {
+    let wanted = [
         Outcome::Kept,
         Outcome::Kept,
         Outcome::Hit,
         Outcome::Rejected(2),
         Outcome::Hit,
     ];
-    let mut session = fresh(&rt, rt.alloc(), &SMALL, 47);
-    let answer = run_quiet(rt.alloc(), &mut session, &KEYS).expect(&rt, "a run with enough room");
-    assert_eq!(rt; answer.as_slice(), outcomes.as_slice());
+    let mut session = fresh(&rt, rt.alloc(), &SMALL, 47)?;
+    match run_quiet(rt.alloc(), &mut session, &KEYS) {
+        Ok(outcomes) => assert_eq!(rt; outcomes.as_slice(), wanted.as_slice()),
+        Err(QuietFault::OutOfMemory { done }) => {
+            assert_eq!(rt; session.len() as u64, done);
+            return Err(Fail::from("out of memory"));
+        }
+        Err(_) => return Err(Fail::from("a run with enough room")),
+    }
     assert_eq!(rt; session.len(), 47);
+    Ok(())
 }

@@ -150,7 +150,7 @@ fn made(version: Version, text: &[u8]) -> Option<Line>
 }
 
 // The line that the text is, as it is read.
-#[tactic(auto, unfolding(crate::specs::Reading::line_in))]
+#[tactic(auto, unfolding(crate::specs::Reading::journal_line_in))]
 fn line_read(version: Version, text: &[u8]) -> Option<Line>
     ensures { result ≡ journal_line_in version text.now }
 {
