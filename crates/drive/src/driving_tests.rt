@@ -105,9 +105,7 @@ fn assert_held_run<R: Threads + Wait + Sync + Abort>(
         Err(fault) => return Err(failed(fault)),
     };
     if gate.late.load(SeqCst) > 0 {
-        return Err(
-            Fail::from("workers one after the other, or out of memory for a thread"),
-        );
+        return Err(Fail::from("workers one after the other, or out of memory for a thread"));
     }
     assert_own_lists(rt, &driven.session, driven.lists.as_slice());
     let shell = driven.session.engine();

@@ -63,7 +63,7 @@ module _ {D : Type 0} (act : D → Step → Option (Reply × D)) (x : D) (limit 
   IsFault fault.OutOfMemory bytes kept = StandsIn bytes kept
   -- the first line is no header, or has no line feed
   IsFault fault.Header bytes kept = (kept ≡ [])
-    × ((v : Version) (more : List ℕ) → bytes ≢ ended_line (header v) ++ more)
+      × ((v : Version) (more : List ℕ) → bytes ≢ ended_line (header v) ++ more)
   -- a line is wrong, or there is a line more behind the count, which is itself the line behind those of the entries
   IsFault (fault.Line n) bytes kept = IsAtLine (fault.Line n) bytes kept
       ⊎ ((n ≡ length kept + 2)

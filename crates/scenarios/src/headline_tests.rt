@@ -33,12 +33,14 @@ fn rewound<R: Threads + Wait + Sync>(
     k: usize,
 ) -> Result<Rewound, Fail> {
     match drive_and_undo(rt, alloc, opened(alloc)?, pieces, &OpenGate, k) {
-        Ok(Rewound {
-            session: _,
-            lists: _,
-            cause: Some(Cause::Memory),
-            undone: _,
-        }) => Err(Fail::from("out of memory")),
+        Ok(
+            Rewound {
+                session: _,
+                lists: _,
+                cause: Some(Cause::Memory),
+                undone: _,
+            },
+        ) => Err(Fail::from("out of memory")),
         Ok(rewound) => Ok(rewound),
         Err(DriveFault::OutOfMemory { session: _ }) => Err(Fail::from("out of memory")),
         Err(_) => Err(Fail::from("not driven")),
@@ -57,7 +59,10 @@ fn assert_made_anew(rt: &impl Abort, alloc: Global, session: &Session<Shell>) ->
         }
     }
     let (found, wanted) = (session.engine(), other.engine());
-    assert_eq!(rt; found.table(alloc)?.as_slice(), wanted.table(alloc)?.as_slice());
+    assert_eq!(rt;
+        found.table(alloc)?.as_slice(),
+        wanted.table(alloc)?.as_slice()
+    );
     assert!(rt; found.stats() == wanted.stats());
     assert!(rt; found.drain() == wanted.drain());
     assert!(rt; found.tasks() == wanted.tasks());
