@@ -21,18 +21,19 @@ const CONFIG: Config = Config {
     journal_limit: 100,
 };
 
-fn opened(alloc: Global) -> Result<Session<Shell>, Fail> {
+fn opened(rt: &impl Abort, alloc: Global) -> Result<Session<Shell>, Fail> {
+    assert!(rt; CONFIG.check() == Ok(()));
     Ok(Session::open(alloc, Shell::new(alloc, &CONFIG)?, 100))
 }
 
 // A run from a new cache, and its last steps undone.
-fn rewound<R: Threads + Wait + Sync>(
+fn rewound<R: Threads + Wait + Sync + Abort>(
     rt: &R,
     alloc: Global,
     pieces: Vec<Vec<Call>>,
     k: usize,
 ) -> Result<Rewound, Fail> {
-    match drive_and_undo(rt, alloc, opened(alloc)?, pieces, &OpenGate, k) {
+    match drive_and_undo(rt, alloc, opened(rt, alloc)?, pieces, &OpenGate, k) {
         Ok(
             Rewound {
                 session: _,
@@ -49,7 +50,7 @@ fn rewound<R: Threads + Wait + Sync>(
 
 // Makes the steps of the session in a new cache: the replies are the same, and so is what both caches show.
 fn assert_made_anew(rt: &impl Abort, alloc: Global, session: &Session<Shell>) -> Result<(), Fail> {
-    let mut other = opened(alloc)?;
+    let mut other = opened(rt, alloc)?;
     for n in 1..=session.len() {
         let entry = session.entry(n).expect(rt, "an entry");
         match other.step(entry.step) {
