@@ -5,10 +5,9 @@ use Rattle.segments.specs.declared.records.Queue.{Queue}
 use Rattle.segments.specs.declared.records.Queue.TheVariants.{Window, Probation, Protected}
 use Rattle.segments.specs.declared.records.MoveRecord.{MoveRecord}
 use Rattle.segments.specs.Items.{first, items_without}
-use Rattle.segments.specs.Queues.{Queues, queue_of, place_of, pushed, taken, moved, popped, total_items, IsDistinct}
+use Rattle.segments.specs.Queues.{Queues, queue_of, place_of, pushed, taken, moved, popped, IsDistinct}
 use Rattle.segments.specs.Moves.{move_record}
-use Rattle.segments.proofs.ItemLists.{length-without, times-without}
-use Rattle.std.proofs.Common.{length-append}
+use Rattle.segments.proofs.ItemLists.{times-without}
 use Rattle.segments.proofs.MoveLaws.{Leads, move_leads, out_leads}
 use Rattle.segments.proofs.QueueLists.{absent, is_absent, absent-taken, taken-absent, distinct-taken, distinct-put, put-last, taken-first}
 use Rattle.replacement.specs.declared.record.Moves.{Moves}
@@ -73,30 +72,6 @@ carries p s d =
     let l = transfer-part p.last (removed p.leaves (transferred p.first s)) o.distinct in
     let all = parts (moves_of p s) s (transferred p.first s) (removed p.leaves (transferred p.first s)) (queues_after p s) f o l (transfer-stays p.last (removed p.leaves (transferred p.first s))) (transfer-stays p.first s) in
     record { fits = all.0; back = all.1; distinct = l.distinct }
-
--- each move adds one item at most
-without-few : (i : Item) (l : List Item) → length (items_without i l) ≤ length l
-without-few i l = omega (arith, length-without i l)
-
-taken-few : (i : Item) (s : Queues) → total_items (taken i s) ≤ total_items s
-taken-few i s = omega (arith, without-few i s.window, without-few i s.probation, without-few i s.protected)
-
-pub moved-few : (i : Item) (q : Queue) (s : Queues) → total_items (moved i q s) ≤ total_items s + 1
-moved-few i Window s = simp length-append (omega (arith, taken-few i s))
-moved-few i Probation s = simp length-append (omega (arith, taken-few i s))
-moved-few i Protected s = simp length-append (omega (arith, taken-few i s))
-
-transferred-few : (t : Option Transfer) (s : Queues) → total_items (transferred t s) ≤ total_items s + 1
-transferred-few None s = omega arith
-transferred-few (Some t) s = moved-few t.item t.to s
-
-removed-few : (i : Option Item) (s : Queues) → total_items (removed i s) ≤ total_items s
-removed-few None s = omega arith
-removed-few (Some i) s = taken-few i s
-
-pub plan-few : (p : Plan) (s : Queues) → total_items (queues_after p s) ≤ total_items s + 2
-plan-few p s =
-    omega (arith, transferred-few p.first s, removed-few p.leaves (transferred p.first s), transferred-few p.last (removed p.leaves (transferred p.first s)))
 
 -- an item that stands nowhere still stands nowhere once another is out
 pub still-absent : (i v : Item) (s : Queues) → place_of i s ≡ None → place_of i (taken v s) ≡ None

@@ -16,7 +16,7 @@ use Rattle.replacement.specs.Table.{Response, kept_in, with_recent, demoted, rej
 use Rattle.replacement.specs.Plan.{Plan, Transfer, transfer, demotion, stay_plan, contest_plan, direct_plan, candidate_of, eviction_of, eviction_plan, joining_first, miss_plan, plan_in, plan}
 use Rattle.replacement.specs.Moving.{transferred, removed, response}
 use Rattle.replacement.specs.Theorems.{HitsPlanned, EvictionsPlanned, AccessesPlanned}
-use Rattle.replacement.proofs.Carrying.{moved-distinct, pushed-moved, still-absent, carries, plan-few}
+use Rattle.replacement.proofs.Carrying.{moved-distinct, pushed-moved, still-absent}
 
 -- ---- hits
 
@@ -194,10 +194,3 @@ pub accesses-planned : AccessesPlanned
 accesses-planned r a i s d =
     access-at r a i s (place_of i s) refl ∙ (access-planned-in r a i (place_of i s) s d refl
     ∙ ap (λ (p : Plan). response p s) (sym (plan-at r a i s (place_of i s) refl)))
-
--- an access leaves distinct items, and two more at most
-pub access-distinct : (r : Rules) (a : ℕ → ℕ → Bool) (i : Item) (s : Queues) → IsDistinct s → IsDistinct (access r a i s).queues
-access-distinct r a i s d = subst (λ (x : Response). IsDistinct x.queues) (sym (accesses-planned r a i s d)) (carries (plan r a i s) s d).distinct
-
-pub access-few : (r : Rules) (a : ℕ → ℕ → Bool) (i : Item) (s : Queues) → IsDistinct s → total_items (access r a i s).queues ≤ total_items s + 2
-access-few r a i s d = subst (λ (x : Response). total_items x.queues ≤ total_items s + 2) (sym (accesses-planned r a i s d)) (plan-few (plan r a i s) s)
