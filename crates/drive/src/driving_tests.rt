@@ -4,7 +4,7 @@ ghost use Rattle.std.specs.Prelude.{◌≤◌, ◌^◌};
 use super::*;
 use journal::Session;
 use maintenance::Shell;
-use std::alloc::Global;
+use std::alloc::{AllocError, Global};
 use std::process::Abort;
 use std::sync::Wait;
 use std::sync::atomic::AtomicU64;
@@ -12,7 +12,7 @@ use std::sync::atomic::Ordering::SeqCst;
 use std::test::Fail;
 use std::thread;
 use std::thread::Threads;
-use step_record::{Call, Config, Drain, Entry, Gate, OpenGate, Reply, Spread, Step};
+use step_record::{Call, Config, Drain, Entry, Gate, Key, OpenGate, Reply, Spread, Step};
 
 const CONFIG: Config = Config {
     capacity: 8,
@@ -116,25 +116,45 @@ fn assert_held_run<R: Threads + Wait + Sync + Abort>(
     Ok(())
 }
 
-#[test]
-fn workers_run_side_by_side(rt: HostRuntime) -> Result<(), Fail> {
-    let alloc = rt.alloc();
-    let two = vec![in alloc;
-        vec![in alloc; Call::Read(1), Call::Read(1)]?,
-        vec![in alloc; Call::Read(2), Call::Read(2)]?,
-    ]?;
-    assert_held_run(&rt, alloc, two, (2, 2, 0))?;
-    let mut eight = Vec::new(alloc);
-    for key in 1..9 {
-        eight.push(vec![in alloc; Call::Read(key)]?)?;
+// A piece for each worker, with its calls in order.
+fn pieces_of(alloc: Global, pieces: &[&[Call]]) -> Result<Vec<Vec<Call>>, AllocError> {
+    let mut owned = Vec::new(alloc);
+    for calls in pieces {
+        let mut piece = Vec::new(alloc);
+        piece.extend_from_slice(calls)?;
+        owned.push(piece)?;
     }
-    assert_held_run(&rt, alloc, eight, (0, 8, 0))
+    Ok(owned)
+}
+
+// A read of one of so many keys for each worker.
+fn one_read_each(alloc: Global, keys: Key) -> Result<Vec<Vec<Call>>, AllocError> {
+    let mut pieces = Vec::new(alloc);
+    for key in 0..keys {
+        let mut piece = Vec::new(alloc);
+        piece.push(Call::Read(key))?;
+        pieces.push(piece)?;
+    }
+    Ok(pieces)
+}
+
+#[test]
+fn two_workers_run_side_by_side(rt: HostRuntime) -> Result<(), Fail> {
+    let two = pieces_of(rt.alloc(), &[&[Call::Read(1); 2], &[Call::Read(2); 2]])?;
+    assert_held_run(&rt, rt.alloc(), two, (2, 2, 0))
+}
+
+#[test]
+fn eight_workers_run_side_by_side(rt: HostRuntime) -> Result<(), Fail> {
+    let eight = one_read_each(rt.alloc(), 8)?;
+    assert_held_run(&rt, rt.alloc(), eight, (0, 8, 0))
 }
 
 #[test]
 fn a_removed_key_is_added_anew(rt: HostRuntime) -> Result<(), Fail> {
     let alloc = rt.alloc();
-    let pieces = vec![in alloc; vec![in alloc; Call::Read(1), Call::Remove(1), Call::Read(1)]?]?;
+    let calls = [Call::Read(1), Call::Remove(1), Call::Read(1)];
+    let pieces = pieces_of(alloc, &[&calls])?;
     let driven = match drive(&rt, alloc, new_session(alloc, 100)?, pieces, &OpenGate) {
         Ok(driven) => driven,
         Err(fault) => return Err(failed(fault)),
@@ -146,36 +166,41 @@ fn a_removed_key_is_added_anew(rt: HostRuntime) -> Result<(), Fail> {
     Ok(())
 }
 
-#[test]
-fn a_full_journal_stops_a_worker_at_its_maintenance(rt: HostRuntime) -> Result<(), Fail> {
-    let alloc = rt.alloc();
-    let pieces = vec![in alloc; vec![in alloc; Call::Read(1)]?]?;
-    let held = match drive(&rt, alloc, new_session(alloc, 4)?, pieces, &OpenGate) {
+// What a run leaves whose journal is full once its worker has begun the maintenance.
+fn stopped<R: Threads + Wait + Sync + Abort>(
+    rt: &R,
+    alloc: Global,
+) -> Result<Session<Shell>, Fail> {
+    let pieces = one_read_each(alloc, 1)?;
+    match drive(rt, alloc, new_session(alloc, 4)?, pieces, &OpenGate) {
         Err(
             DriveFault::Stopped {
                 session,
                 lists,
-                cause,
+                cause: Cause::JournalFull,
             },
         ) => {
-            if cause == Cause::Memory {
-                return Err(Fail::from("out of memory"));
-            }
-            assert_eq!(rt; session.len(), 4);
-            assert_own_lists(&rt, &session, lists.as_slice());
-            assert_eq!(rt; session.engine().drain(), Drain::ToIdle);
-            session
+            assert_own_lists(rt, &session, lists.as_slice());
+            Ok(session)
         }
-        Err(fault) => return Err(failed(fault)),
-        Ok(_) => return Err(Fail::from("not stopped")),
-    };
-    match drive(
-        &rt,
-        alloc,
-        held,
-        vec![in alloc; Vec::new(alloc)]?,
-        &OpenGate,
-    ) {
+        Err(fault) => Err(failed(fault)),
+        Ok(_) => Err(Fail::from("not stopped")),
+    }
+}
+
+#[test]
+fn a_full_journal_stops_a_worker_at_its_maintenance(rt: HostRuntime) -> Result<(), Fail> {
+    let session = stopped(&rt, rt.alloc())?;
+    assert_eq!(rt; session.len(), 4);
+    assert_eq!(rt; session.engine().drain(), Drain::ToIdle);
+    Ok(())
+}
+
+#[test]
+fn a_maintenance_under_way_is_settled_first(rt: HostRuntime) -> Result<(), Fail> {
+    let session = stopped(&rt, rt.alloc())?;
+    let idle = pieces_of(rt.alloc(), &[&[]])?;
+    match drive(&rt, rt.alloc(), session, idle, &OpenGate) {
         Err(DriveFault::Held { session, .. }) => assert_eq!(rt; session.len(), 4),
         Err(fault) => return Err(failed(fault)),
         Ok(_) => return Err(Fail::from("not held")),
@@ -206,8 +231,8 @@ fn left_by<R: Threads + Wait + Sync>(
 #[test]
 fn a_stopped_maintenance_is_settled(rt: HostRuntime) -> Result<(), Fail> {
     let alloc = rt.alloc();
-    let calls = vec![in alloc; Call::Read(1), Call::Remove(1), Call::Read(1)]?;
-    let pieces = vec![in alloc; calls]?;
+    let calls = [Call::Read(1), Call::Remove(1), Call::Read(1)];
+    let pieces = pieces_of(alloc, &[&calls])?;
     let mut session = left_by(&rt, alloc, pieces)?;
     match settle(&mut session) {
         Ok(_) => assert!(rt; session.engine().holder().is_none()),

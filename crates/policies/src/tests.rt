@@ -1,5 +1,6 @@
 //! Worked examples: the outcomes, what is counted and the keys that stay, by hand from the table of moves.
-ghost use Rattle.std.specs.Prelude.{◌≡◌, OnOk};
+ghost use Rattle.std.specs.Prelude.{◌≡◌, Ok};
+ghost use Rattle.step_record.specs.Config.{config_fault};
 
 use super::*;
 use Outcome::{Evicted, Hit, Kept, Rejected};
@@ -215,8 +216,10 @@ fn once<E: Engine<Step = Key, Reply = Outcome>>(
     Ok(())
 }
 
-#[test]
-fn each_policy_makes_an_access_and_takes_it_back(rt: HostRuntime) -> Result<(), Fail> {
+// A small cache's configuration, which is in order.
+fn small(rt: &impl Abort) -> Config
+    ensures { config_fault result ≡ Ok tt }
+{
     let config = Config {
         capacity: 2,
         main_percent: 99,
@@ -225,18 +228,38 @@ fn each_policy_makes_an_access_and_takes_it_back(rt: HostRuntime) -> Result<(), 
         journal_limit: 1,
     };
     assert!(rt; config.check().is_ok());
-    let mut lru = Lru::open(rt.alloc(), &config)?;
-    once(&rt, &mut lru)?;
-    assert!(rt; lru.frequency().is_none());
-    assert!(rt; lru.residents(rt.alloc())?.is_empty());
-    let mut segmented = SegmentedLru::open(rt.alloc(), &config)?;
-    once(&rt, &mut segmented)?;
-    assert!(rt; segmented.residents(rt.alloc())?.is_empty());
-    let mut filtered = TinyLfu::open(rt.alloc(), &config, true)?;
-    once(&rt, &mut filtered)?;
-    assert_eq!(rt; filtered.stats(), Stats::NONE);
-    let mut windowed = WindowTinyLfu::open(rt.alloc(), &config)?;
-    once(&rt, &mut windowed)?;
-    assert!(rt; windowed.frequency().is_some());
+    config
+}
+
+#[test]
+fn lru_makes_an_access_and_takes_it_back(rt: HostRuntime) -> Result<(), Fail> {
+    let mut cache = Lru::open(rt.alloc(), &small(&rt))?;
+    once(&rt, &mut cache)?;
+    assert!(rt; cache.frequency().is_none());
+    assert!(rt; cache.residents(rt.alloc())?.is_empty());
+    Ok(())
+}
+
+#[test]
+fn segmented_lru_makes_an_access_and_takes_it_back(rt: HostRuntime) -> Result<(), Fail> {
+    let mut cache = SegmentedLru::open(rt.alloc(), &small(&rt))?;
+    once(&rt, &mut cache)?;
+    assert!(rt; cache.residents(rt.alloc())?.is_empty());
+    Ok(())
+}
+
+#[test]
+fn a_filter_makes_an_access_and_takes_it_back(rt: HostRuntime) -> Result<(), Fail> {
+    let mut cache = TinyLfu::open(rt.alloc(), &small(&rt), true)?;
+    once(&rt, &mut cache)?;
+    assert_eq!(rt; cache.stats(), Stats::NONE);
+    Ok(())
+}
+
+#[test]
+fn a_window_makes_an_access_and_takes_it_back(rt: HostRuntime) -> Result<(), Fail> {
+    let mut cache = WindowTinyLfu::open(rt.alloc(), &small(&rt))?;
+    once(&rt, &mut cache)?;
+    assert!(rt; cache.frequency().is_some());
     Ok(())
 }

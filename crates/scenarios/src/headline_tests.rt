@@ -1,12 +1,11 @@
 //! A run on threads of which more steps are to be undone than there are.
-ghost use Rattle.std.specs.Prelude.{◌≡◌, Ok};
-ghost use Rattle.step_record.specs.Config.{config_fault};
+ghost use Rattle.std.specs.Prelude.{Ok};
 
 use super::*;
 use drive::{Cause, DriveFault};
 use journal::BackFault;
 use maintenance::Shell;
-use std::alloc::Global;
+use std::alloc::{AllocError, Global};
 use std::process::Abort;
 use std::sync::Wait;
 use std::test::Fail;
@@ -48,11 +47,18 @@ fn rewound<R: Threads + Wait + Sync + Abort>(
     }
 }
 
+// One worker, which reads one key.
+fn one_read(alloc: Global) -> Result<Vec<Vec<Call>>, AllocError> {
+    let mut piece = Vec::new(alloc);
+    piece.push(Call::Read(1))?;
+    let mut pieces = Vec::new(alloc);
+    pieces.push(piece)?;
+    Ok(pieces)
+}
+
 #[test]
 fn more_steps_than_there_are_undo_none(rt: HostRuntime) -> Result<(), Fail> {
-    let alloc = rt.alloc();
-    let pieces = vec![in alloc; vec![in alloc; Call::Read(1)]?]?;
-    let run = rewound(&rt, alloc, pieces, 10)?;
+    let run = rewound(&rt, rt.alloc(), one_read(rt.alloc())?, 10)?;
     assert!(rt; run.undone == Err(BackFault::PastStart));
     assert_eq!(rt; run.session.len(), 9);
     Ok(())
