@@ -1,11 +1,12 @@
 //! A packed list of bits.
 ghost use Rattle.std.specs.Prelude.{◌≡◌, ◌≤◌, ◌/◌, length};
+ghost use Rattle.bits_and_lists.specs.declared.bit_list.TheConstants.{MAX_WORDS};
 ghost use Rattle.bits_and_lists.specs.Bits.{bits_of};
 
 use std::marker::Model;
 
 /// The most words that a [`BitList`] holds: 2^23 bits.
-pub const MAX_WORDS: usize = 131072;
+pub const MAX_WORDS: usize = 1 << 17;
 
 /// A list of bits, 64 to a word, that does not change. Contracts see the list of the bits.
 #[derive(Drop)]
@@ -15,19 +16,20 @@ pub struct BitList {
 
 impl Model for BitList {
     ghost use Rattle.std.specs.Prelude.{List, Bool, length, ◌≤◌};
+    ghost use Rattle.bits_and_lists.specs.declared.bit_list.TheConstants.{MAX_WORDS};
     ghost use Rattle.bits_and_lists.specs.Bits.{bits_of};
 
     ghost Value = { List Bool };
 
     ghost view = { λ l. bits_of l.words.items };
 
-    ghost invariant = { λ l. length l.words.items ≤ 131072 };
+    ghost invariant = { λ l. length l.words.items ≤ MAX_WORDS };
 }
 
 impl BitList {
     /// The bits of the words. Takes the words over and allocates nothing.
     pub fn of_words(words: Vec<u64>) -> BitList
-        requires { length words.items ≤ 131072 }
+        requires { length words.items ≤ MAX_WORDS }
         ensures { result ≡ bits_of words.items }
     {
         BitList { words }
@@ -50,7 +52,7 @@ impl BitList {
     /// How many words it holds.
     pub fn words(&self) -> u64
         ensures words { result ≡ length self.now / 64 }
-        ensures few { result ≤ 131072 }
+        ensures few { result ≤ MAX_WORDS }
     {
         self.words.len() as u64
     }

@@ -7,8 +7,9 @@ use Rattle.step_record.specs.declared.step.Call.{Call}
 use Rattle.step_record.specs.declared.step.Call.TheVariants.{Read}
 use Rattle.step_record.specs.declared.step.Reply.{Reply}
 use Rattle.step_record.specs.declared.step.Step.{Step}
+use Rattle.step_record.specs.History.{Entries}
 use Rattle.journal.specs.Session.{SessionState}
-use Rattle.drive.specs.Walks.{Entries, AreWalks}
+use Rattle.drive.specs.Walks.{AreWalks}
 use Rattle.drive.specs.Driven.{IsRun, entries_of}
 use Rattle.cachesim.specs.Dealt.{reads_of, IsDealt, AreOfReads}
 

@@ -1,5 +1,5 @@
 -- From what a parse gives to what the program promises of its end.
-use Rattle.std.proofs.Common.{◌≡◌, ◌≢◌, subst, inl, inr, List, ℕ, Option, Result, Ok, Err}
+use Rattle.std.proofs.Common.{◌≢◌, subst, inl, inr, List, ℕ, Option, Ok, Err}
 use Rattle.clap.specs.Words.{HasKind, IsAmong, Kinds, Text, kind_of}
 use Rattle.clap.specs.declared.Error.{Error}
 use Rattle.clap.specs.declared.error.ErrorKind.TheVariants.{OutOfMemory}

@@ -5,10 +5,11 @@ use Rattle.std.proofs.lemmas.List.{append-nil}
 use Rattle.step_record.specs.declared.config.Config.{Config}
 use Rattle.step_record.specs.declared.step.Reply.{Reply}
 use Rattle.step_record.specs.declared.step.Step.{Step}
+use Rattle.step_record.specs.History.{Entries}
 use Rattle.shell_model.specs.Shell.{Shell, act}
 use Rattle.maintenance.specs.Opened.{IsOpened}
 use Rattle.journal.specs.Session.{SessionState}
-use Rattle.journal_text.specs.Journal.{JournalEntries, IsJournalText}
+use Rattle.journal_text.specs.Journal.{IsJournalText}
 use Rattle.debug_commands.specs.Dialogue.{dialogue_of, IsLineHeld}
 use Rattle.debug_replay.specs.Replay.{replay_timeline}
 use Rattle.cachesim.specs.Debugged.{Answering, KnownFiles, Replaying}
@@ -16,7 +17,7 @@ use Rattle.cachesim.specs.Debugged.{Answering, KnownFiles, Replaying}
 abbrev State : Type 0
 State = SessionState Shell Shell Step Reply
 
-answering : (opening : Shell) (steps more : JournalEntries) (at position : ℕ) (input before after : Option (List ℕ)) → more ≡ steps
+answering : (opening : Shell) (steps more : Entries) (at position : ℕ) (input before after : Option (List ℕ)) → more ≡ steps
     → IfSome input (λ commands. IsLineHeld (dialogue_of (replay_timeline opening more) at commands) true before after position)
     → Answering (replay_timeline opening steps) at input before after
 answering opening steps more at position None before after e h = tt

@@ -2,7 +2,8 @@
 use Rattle.std.specs.Prelude.{◌≡◌, ℕ, ◌+◌, ◌<◌, ◌≤◌, ◌%◌, ◌==◌, List, [], ◌∷◌, length, get_or, if◌then◌else◌}
 use Rattle.step_record.specs.declared.step.Call.{Call}
 use Rattle.step_record.specs.declared.step.Call.TheVariants.{Read}
-use Rattle.drive.specs.Walks.{Entries, AreWalks}
+use Rattle.step_record.specs.History.{Entries}
+use Rattle.drive.specs.Walks.{AreWalks}
 use Rattle.drive.specs.Driven.{entries_of}
 
 -- The reads of worker w among these accesses, of which the first is number i: each access is read by the worker whose

@@ -2,11 +2,12 @@
 use Rattle.std.specs.Prelude.{◌≡◌, ℕ, true, List, Option, None, IfSome, length}
 use Rattle.step_record.specs.declared.config.Config.{Config}
 use Rattle.step_record.specs.declared.job.Job.{Job}
+use Rattle.step_record.specs.History.{Entries}
 use Rattle.trace_read.specs.Reading.{fault_in, keys_in}
 use Rattle.trace_read.specs.declared.format.Format.{Format}
 use Rattle.shell_model.specs.Shell.{Shell, act}
 use Rattle.maintenance.specs.Opened.{IsOpened}
-use Rattle.journal_text.specs.Journal.{JournalEntries, IsJournalText}
+use Rattle.journal_text.specs.Journal.{IsJournalText}
 use Rattle.debug_commands.specs.Dialogue.{dialogue_of, IsLineHeld}
 use Rattle.debug_commands.specs.Timeline.{TimelineData}
 use Rattle.debug_shell.specs.TwoPolicies.{policies_timeline}
@@ -33,7 +34,7 @@ Debugging format first second file input before after = IfSome file (λ bytes. (
 pub record IsReplayed (config : Config) (bytes : List ℕ) (input before after : Option (List ℕ)) : Type 0 where
   pub opening : Shell
   pub opened : IsOpened config opening
-  pub steps : JournalEntries
+  pub steps : Entries
   pub journal : IsJournalText act opening config.journal_limit bytes steps
   pub answers : Answering (replay_timeline opening steps) (length steps) input before after
 

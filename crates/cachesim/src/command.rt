@@ -1,5 +1,5 @@
 //! The whole program, over readers and writers.
-ghost use Rattle.std.specs.Prelude.{◌≡◌, ◌≢◌, ◌≤◌, ◌⊎◌, map};
+ghost use Rattle.std.specs.Prelude.{◌≡◌, ◌≢◌, ◌≤◌, map};
 ghost use Rattle.clap.specs.Words.{kind_of};
 ghost use Rattle.cachesim.specs.Run.{DoneBy, is_help, RefusedBy};
 

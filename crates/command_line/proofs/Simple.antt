@@ -1,6 +1,5 @@
 -- The program's command is one whose matches clap gives as a function of the words.
-use Rattle.std.proofs.Common.{◌≡◌, true, refl, List, ℕ}
-use Rattle.std.specs.Borrow.{Bor}
+use Rattle.std.proofs.Common.{◌≡◌, true, refl}
 use Rattle.clap.specs.Words.{is_simple, is_simple_and_free}
 use Rattle.clap.proofs.OnLiterals.{clap_on_literals}
 use Rattle.command_line.specs.Program.{Lists, program_app}

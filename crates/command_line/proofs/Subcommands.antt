@@ -4,12 +4,12 @@ use Rattle.std.specs.Prelude.{Box, option_map, IsSome, IfSome, MatchOption, â—Œâ
 use Rattle.std.specs.Box.{box_value}
 use Rattle.std.specs.Option.{option_map_or}
 use Rattle.std.specs.Borrow.{Bor}
-use Rattle.clap.specs.Words.{Row, Text, found_of, rows_of, subcommand_name_of, subcommand_rows_of}
+use Rattle.clap.specs.Words.{Row, Text, found_of, rows_of}
 use Rattle.clap.specs.Simple.{subcommand_rows}
 use Rattle.clap.specs.declared.parser.matches.ArgMatches.{ArgMatches}
 use Rattle.clap.specs.declared.parser.matches.ArgMatches.TheViews.{out-SubCommand}
 use Rattle.clap.specs.declared.parser.matches.SubCommand.{SubCommand}
-use Rattle.command_line.specs.Parsed.{HasOddStripes, IsIncomplete, IsLacking, IsNotCalled, LacksDebug, LacksDrive, LacksDriven, LacksPart, LacksReplay, LacksReplayed, LacksRun, LacksSweep}
+use Rattle.command_line.specs.Parsed.{IsIncomplete, IsLacking, IsNotCalled, LacksDebug, LacksDrive, LacksDriven, LacksPart, LacksReplay, LacksReplayed, LacksRun, LacksSweep}
 use Rattle.command_line.specs.Program.{stripes_in}
 use Rattle.command_line.specs.declared.fault.ParseFault.{ParseFault}
 use Rattle.command_line.specs.declared.fault.ParseFault.TheVariants.{Incomplete, OutOfMemory, Refused, Stripes}

@@ -7,20 +7,15 @@ use Rattle.std.specs.Str.{bytes_eq}
 use Rattle.clap.specs.Words.{Text}
 use Rattle.step_record.specs.Job.{word_of}
 use Rattle.step_record.specs.declared.job.Policy.{Policy}
-use Rattle.step_record.specs.declared.job.Policy.TheVariants.{Lru, SegmentedLru, TinyLfuLru, TinyLfuSegmented}
-use Rattle.step_record.specs.declared.job.Policy.TheVariants.{WindowTinyLfu, Clairvoyant}
+use Rattle.step_record.specs.declared.job.TheConstants.{POLICIES}
 use Rattle.step_record.specs.declared.config.Spread.{Spread}
 use Rattle.step_record.specs.declared.config.Spread.TheVariants.{Mixed, Plain}
 use Rattle.trace_read.specs.Format.{format_word}
 use Rattle.trace_read.specs.declared.format.Format.{Format}
 use Rattle.trace_read.specs.declared.format.Format.TheVariants.{Lirs, Arc}
 
--- the policies that can be named
-abbrev pub policies : List Policy
-policies = Lru ∷ SegmentedLru ∷ TinyLfuLru ∷ TinyLfuSegmented ∷ WindowTinyLfu ∷ Clairvoyant ∷ []
-
 abbrev pub policy_words : List Text
-policy_words = map word_of policies
+policy_words = map word_of POLICIES
 
 abbrev pub format_words : List Text
 format_words = format_word Lirs ∷ format_word Arc ∷ []
@@ -34,7 +29,7 @@ AreWords words names = map (λ s. s.now) names ≡ words
 
 -- the policy that a word names
 abbrev pub policy_named : Text → Option Policy
-policy_named word = find (λ policy. bytes_eq (word_of policy) word) policies
+policy_named word = find (λ policy. bytes_eq (word_of policy) word) POLICIES
 
 abbrev pub and_more : {A : Type 0} → Option A → Option (List A) → Option (List A)
 and_more None more = None

@@ -1,5 +1,5 @@
 -- The program's commands, as clap reads them, and what their matches name.
-use Rattle.std.specs.Prelude.{◌≡◌, ℕ, pos, true, List, [], ◌∷◌, Option, Some, None, codes}
+use Rattle.std.specs.Prelude.{ℕ, pos, true, List, [], ◌∷◌, Option, Some, None, codes}
 use Rattle.std.specs.Prelude.{Result, Ok, Err, option_and_then, if◌then◌else◌, ◌&&◌, nat_le}
 use Rattle.std.specs.Int.{is_power_of_two}
 use Rattle.std.specs.Borrow.{Bor}
@@ -11,8 +11,8 @@ use Rattle.clap.specs.Words.{with_rule, with_subcommand}
 use Rattle.clap.specs.declared.builder.ArgAction.TheVariants.{Append}
 use Rattle.clap.specs.declared.builder.ValueParser.TheVariants as parser
 use Rattle.step_record.specs.Config.{config_fault, is_from_one}
-use Rattle.step_record.specs.declared.limits.TheConstants.{MAX_CAPACITY, MAX_JOURNAL_LIMIT, MAX_MAIN_PERCENT}
-use Rattle.step_record.specs.declared.limits.TheConstants.{MAX_STRIPES}
+use Rattle.step_record.specs.declared.limits.TheConstants.{MAX_BATCH, MAX_CAPACITY, MAX_JOURNAL_LIMIT}
+use Rattle.step_record.specs.declared.limits.TheConstants.{MAX_MAIN_PERCENT, MAX_STRIPES}
 use Rattle.step_record.specs.declared.worker.TheConstants.{MAX_WORKERS}
 use Rattle.step_record.specs.declared.config.Config.{Config}
 use Rattle.step_record.specs.declared.config.ConfigFault.{ConfigFault}
@@ -23,7 +23,6 @@ use Rattle.trace_read.specs.declared.format.Format.TheVariants.{Lirs}
 use Rattle.trace_read.specs.Format.{format_word}
 use Rattle.command_line.specs.Choices.{AreWords, all_named, format_named, format_words, policies_named, policy_named}
 use Rattle.command_line.specs.Choices.{policy_words, spread_named, spread_words}
-use Rattle.command_line.specs.declared.commands.TheConstants.{MAX_BATCH}
 
 -- ---- the commands
 

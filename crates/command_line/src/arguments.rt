@@ -8,7 +8,6 @@ ghost use Rattle.command_line.specs.Program.{batch_in, checked, config_at, confi
 ghost use Rattle.command_line.specs.Program.{policies_in, policy_in, spread_in, up_to as within};
 
 use crate::choices::{format_named, policy_named, spread_named};
-use crate::commands::MAX_BATCH;
 use crate::debug::DebugArguments;
 use crate::drive::DriveArguments;
 use crate::part::PartArguments;
@@ -16,7 +15,7 @@ use crate::replay::ReplayArguments;
 use crate::sweep::SweepArguments;
 use clap::ArgMatches;
 use std::alloc::{AllocError, Global};
-use step_record::{Config, Policy, Spread};
+use step_record::{Config, MAX_BATCH, Policy, Spread};
 use trace_read::Format;
 
 /// What a call asks for: its subcommand, with its arguments.

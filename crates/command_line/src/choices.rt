@@ -6,11 +6,8 @@ ghost use Rattle.command_line.specs.Choices.{AreWords, format_named as format_by
 ghost use Rattle.command_line.specs.Choices.{policy_named as policy_by, policy_words, spread_named as spread_by};
 ghost use Rattle.command_line.specs.Choices.{spread_words};
 
-use step_record::{Policy, Spread};
+use step_record::{POLICIES, Policy, Spread};
 use trace_read::Format;
-
-/// How many policies can be named.
-pub(crate) const POLICY_COUNT: usize = 6;
 
 /// The word of `Spread::Mixed`.
 pub(crate) const MIXED: &str = "mixed";
@@ -18,28 +15,11 @@ pub(crate) const MIXED: &str = "mixed";
 // The word of `Spread::Plain`.
 const PLAIN: &str = "plain";
 
-// The policies that can be named, in the order in which help lists them.
-const POLICIES: [Policy; POLICY_COUNT] = [
-    Policy::Lru,
-    Policy::SegmentedLru,
-    Policy::TinyLfuLru,
-    Policy::TinyLfuSegmented,
-    Policy::WindowTinyLfu,
-    Policy::Clairvoyant,
-];
-
 /// The words that name the policies.
-pub(crate) fn policy_words() -> [&'static str; POLICY_COUNT]
+pub(crate) fn policy_words() -> [&'static str; 6]
     ensures { AreWords policy_words result }
 {
-    [
-        Policy::Lru.word(),
-        Policy::SegmentedLru.word(),
-        Policy::TinyLfuLru.word(),
-        Policy::TinyLfuSegmented.word(),
-        Policy::WindowTinyLfu.word(),
-        Policy::Clairvoyant.word(),
-    ]
+    POLICIES.map(Policy::word)
 }
 
 /// The words that name the formats.

@@ -13,11 +13,8 @@ ghost use Rattle.command_line.specs.Program.{stripes_rule, sweep_app, workers_ru
 use crate::choices::MIXED;
 use clap::{Arg, ArgAction, Command};
 use std::alloc::{AllocError, Global};
-use step_record::{MAX_CAPACITY, MAX_JOURNAL_LIMIT, MAX_MAIN_PERCENT, MAX_WORKERS};
+use step_record::{MAX_BATCH, MAX_CAPACITY, MAX_JOURNAL_LIMIT, MAX_MAIN_PERCENT, MAX_WORKERS};
 use trace_read::Format;
-
-/// The most accesses of a batch.
-pub const MAX_BATCH: u32 = 65_536;
 
 /// `--capacity N`
 fn capacity_arg<'a>(alloc: Global) -> Arg<'a>

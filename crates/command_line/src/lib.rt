@@ -20,7 +20,6 @@ mod replay;
 mod sweep;
 
 pub use arguments::{Arguments, RunArguments};
-pub use commands::MAX_BATCH;
 pub use debug::DebugArguments;
 pub use drive::DriveArguments;
 pub use fault::ParseFault;

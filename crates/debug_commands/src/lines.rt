@@ -1,5 +1,5 @@
 //! The lines of the input, read one at a time.
-ghost use Rattle.std.specs.Prelude.{◌≡◌, ◌≤◌, ◌+◌, ◌++◌, ℕ, [], Ok, Err, IfOk, OnOk, length, vec_len, false};
+ghost use Rattle.std.specs.Prelude.{◌≡◌, ◌+◌, ◌++◌, ℕ, [], Ok, Err, IfOk, OnOk, length, false};
 ghost use Rattle.std.specs.Io.KnownBytes.{Consumes, IsAtEnd};
 ghost use Rattle.debug_commands.specs.Reading.{feed, IsTooLarge};
 ghost use Rattle.text_lines.specs.Feeds.{HasNoFeed};

@@ -1,33 +1,31 @@
 -- A session at a place of its steps.
-use Rattle.std.proofs.Common.{◌≡◌, ◌∙◌, ◌+◌, ◌-◌, ℕ, zero, suc, Bool, false, Option, Some, None, Result, Ok, Err, List, [], ◌∷◌, ◌++◌, length, take, refl, ap, sym, subst, arith}
+use Rattle.std.proofs.Common.{◌≡◌, ◌∙◌, ◌+◌, ◌-◌, ℕ, zero, suc, Bool, false, Some, Result, Ok, Err, [], ◌∷◌, ◌++◌, length, take, refl, ap, sym, arith}
 use Rattle.std.specs.Prelude.{is_err, nat_lt, slice_get, OnOk}
-use Rattle.std.proofs.lemmas.List.{take_all}
 use Rattle.step_record.specs.declared.entry.Entry.{Entry}
 use Rattle.step_record.specs.declared.step.Reply.{Reply}
 use Rattle.step_record.specs.declared.step.Step.{Step}
-use Rattle.step_record.specs.History.{after}
-use Rattle.journal_text.specs.Journal.{JournalEntries}
+use Rattle.step_record.specs.History.{after, Entries}
 use Rattle.shell_model.specs.Shell.{Shell, act}
 use Rattle.debug_replay.specs.Replay.{entry_facts, step_facts, halves_on_step, state_at}
 
-get_take : (n : ℕ) (steps : JournalEntries) (e : Entry Step Reply) → slice_get (take (suc n) steps) n ≡ Some e → slice_get steps n ≡ Some e
+get_take : (n : ℕ) (steps : Entries) (e : Entry Step Reply) → slice_get (take (suc n) steps) n ≡ Some e → slice_get steps n ≡ Some e
 get_take n [] e h = absurd (cc h)
 get_take zero (x ∷ steps) e h = h
 get_take (suc n) (x ∷ steps) e h = get_take n steps e h
 
-front : (kept tail : JournalEntries) → take (length kept) (kept ++ tail) ≡ kept
+front : (kept tail : Entries) → take (length kept) (kept ++ tail) ≡ kept
 front [] tail = refl
 front (e ∷ es) tail = ap (λ t. e ∷ t) (front es tail)
 
 -- where the first entries are applied, the state is what they lead to
-pub stands_here : (opening x : Shell) (kept tail : JournalEntries) → x ≡ after act opening kept → x ≡ state_at opening (kept ++ tail) (length kept)
+pub stands_here : (opening x : Shell) (kept tail : Entries) → x ≡ after act opening kept → x ≡ state_at opening (kept ++ tail) (length kept)
 stands_here opening x kept tail e = e ∙ ap (after act opening) (sym (front kept tail))
 
-pub stands_there : (opening from x : Shell) (kept steps : JournalEntries) (n : ℕ) → from ≡ opening → kept ≡ take (n + 1) steps → x ≡ after act from kept
+pub stands_there : (opening from x : Shell) (kept steps : Entries) (n : ℕ) → from ≡ opening → kept ≡ take (n + 1) steps → x ≡ after act from kept
     → x ≡ state_at opening steps (n + 1)
 stands_there opening from x kept steps n same k e = e ∙ ap (λ o. after act o kept) same ∙ ap (after act opening) k
 
-pub facts_are : (opening before now : Shell) (kept steps : JournalEntries) (n place : ℕ) (e : Entry Step Reply) (halved : Bool) → before ≡ state_at opening steps n
+pub facts_are : (opening before now : Shell) (kept steps : Entries) (n place : ℕ) (e : Entry Step Reply) (halved : Bool) → before ≡ state_at opening steps n
     → now ≡ state_at opening steps (n + 1) → halved ≡ nat_lt now.frequency.age before.frequency.age → kept ≡ take (n + 1) steps → place ≡ n
     → slice_get kept place ≡ Some e → step_facts e.step.act e.reply halved ≡ entry_facts (slice_get steps (n + 1 - 1)) (halves_on_step opening steps (n + 1))
 facts_are opening before now kept steps n place e halved b a h k at got =

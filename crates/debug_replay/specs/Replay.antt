@@ -1,5 +1,5 @@
 -- The session of a concurrent cache as the debugger walks it: its steps are the applied and the undone ones together.
-use Rattle.std.specs.Prelude.{ℕ, ◌-◌, Bool, true, false, nat_lt, Option, Some, None, List, ◌++◌, length, take}
+use Rattle.std.specs.Prelude.{ℕ, ◌-◌, Bool, true, false, nat_lt, Option, Some, None, ◌++◌, length, take}
 use Rattle.std.specs.Prelude.{slice_get}
 use Rattle.std.specs.Borrow.{GName, MutBor}
 use Rattle.step_record.specs.declared.entry.Entry.{Entry}
@@ -8,12 +8,12 @@ use Rattle.step_record.specs.declared.step.Act.TheVariants.{Look}
 use Rattle.step_record.specs.declared.step.Reply.{Reply}
 use Rattle.step_record.specs.declared.step.Reply.TheVariants.{Hit, Full, Lost, Evicted, Rejected}
 use Rattle.step_record.specs.declared.step.Step.{Step}
-use Rattle.step_record.specs.History.{after}
+use Rattle.step_record.specs.History.{after, Entries}
 use Rattle.journal.specs.Session.{SessionState}
 use Rattle.debug_commands.specs.Timeline.{TimelineData}
 use Rattle.debug_commands.specs.declared.breakpoint.StepFacts.{StepFacts}
 use Rattle.debug_commands.specs.declared.command.Dialect.TheVariants.{Journal}
-use Rattle.journal_text.specs.Journal.{journal_of, JournalEntries}
+use Rattle.journal_text.specs.Journal.{journal_of}
 use Rattle.journal_text.specs.declared.version.Version.TheVariants.{Two}
 use Rattle.shell_model.specs.Shell.{Shell, act}
 use Rattle.debug_replay.specs.Shown.{shown_text}
@@ -46,11 +46,11 @@ step_facts a r halved = record {
 }
 
 -- the state after the first n steps
-abbrev pub state_at : Shell → JournalEntries → ℕ → Shell
+abbrev pub state_at : Shell → Entries → ℕ → Shell
 state_at opening steps n = after act opening (take n steps)
 
 -- the age of the sketch falls at step n
-abbrev pub halves_on_step : Shell → JournalEntries → ℕ → Bool
+abbrev pub halves_on_step : Shell → Entries → ℕ → Bool
 halves_on_step opening steps n =
     nat_lt (state_at opening steps n).frequency.age (state_at opening steps (n - 1)).frequency.age
 
@@ -59,7 +59,7 @@ entry_facts None halved =
     record { hit = None; left = None; also_left = None; halved = halved; parted = false; dropped = false }
 entry_facts (Some e) halved = step_facts e.step.act e.reply halved
 
-abbrev pub replay_timeline : Shell → JournalEntries → TimelineData
+abbrev pub replay_timeline : Shell → Entries → TimelineData
 replay_timeline opening steps = record {
   dialect = Journal;
   end = length steps;
@@ -74,7 +74,7 @@ pub record Walked : Type 0 where
   pub name : GName
   pub opening : Shell
   pub limit : ℕ
-  pub steps : JournalEntries
+  pub steps : Entries
 
 abbrev pub walked_in : MutBor (SessionState Shell Shell Step Reply) → Walked
 walked_in s = record {

@@ -1,7 +1,5 @@
 //! What is shown of a concurrent cache.
-ghost use Rattle.std.specs.Prelude.{◌≡◌, ◌≤◌, ◌++◌, OnOk, option_map, length};
-ghost use Rattle.shell_buffers.specs.Buffers.{stripe_at};
-ghost use Rattle.maintenance.specs.Opened.{triple};
+ghost use Rattle.std.specs.Prelude.{◌≡◌, ◌++◌, OnOk};
 ghost use Rattle.debug_replay.specs.Shown.{age_line, drain_line, evictions_text, holder_line, lists_text, looks_text};
 ghost use Rattle.debug_replay.specs.Shown.{maintenance_text, offers_text, queues_text, shown_text, state_text};
 ghost use Rattle.debug_replay.specs.Shown.{stats_line, stripe_line, stripe_lines, writes_text};

@@ -1,10 +1,11 @@
 -- What the debugger sees of a policy over a trace once the first accesses are made: by the policy's definition.
-use Rattle.std.specs.Prelude.{◌≡◌, ℕ, zero, suc, ◌≤◌, ◌^◌, if◌then◌else◌, Option, Some, None, List, ◌++◌, codes}
+use Rattle.std.specs.Prelude.{◌≡◌, ℕ, zero, suc, ◌≤◌, if◌then◌else◌, Option, Some, None, List, ◌++◌, codes}
 use Rattle.std.specs.Prelude.{length, map, slice_index_or, take, []}
 use Rattle.std.specs.Fmt.{decimal}
 use Rattle.std.specs.List.{flat_map}
 use Rattle.step_record.specs.declared.entry.Entry.{Entry}
 use Rattle.step_record.specs.declared.job.Job.{Job}
+use Rattle.step_record.specs.declared.limits.TheConstants.{MAX_ACCESSES, MAX_JOURNAL_LIMIT}
 use Rattle.step_record.specs.declared.outcome.Outcome.{Outcome}
 use Rattle.step_record.specs.declared.outcome.Outcome.TheVariants.{Kept}
 use Rattle.step_record.specs.declared.stats.Stats.{Stats}
@@ -74,8 +75,8 @@ steps_of es = map (λ e. e.step) es
 -- the session began with no access made, and its applied steps are the first accesses of the trace
 pub record IsPolicyAt (j : Job) (trace : List ℕ) (s : SessionState AnyPolicy AnyPolicy ℕ Outcome) : Type 0 where
   pub opening : Stands j trace [] s.opening
-  pub limit : s.limit ≡ 16777216
+  pub limit : s.limit ≡ MAX_JOURNAL_LIMIT
   pub steps : steps_of s.kept ≡ take (length s.kept) trace
   pub within : length s.kept ≤ length trace
-  pub few : length trace ≤ 2 ^ 24
+  pub few : length trace ≤ MAX_ACCESSES
   pub stands : Stands j trace (take (length s.kept) trace) s.engine

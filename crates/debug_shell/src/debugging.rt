@@ -1,5 +1,5 @@
 //! The debugger of two policies over one trace.
-ghost use Rattle.std.specs.Prelude.{◌≡◌, Some, Ok, Err, IfErr, IfSome, OnOk, [], ◌∷◌, ℕ, true, false};
+ghost use Rattle.std.specs.Prelude.{◌≡◌, Err, IfErr, IfSome, OnOk, [], ◌∷◌, ℕ, true, false};
 ghost use Rattle.debug_commands.specs.Dialogue.{dialogue_of, IsLineHeld};
 ghost use Rattle.policy_actors.specs.Faults.{faulty_in};
 ghost use Rattle.debug_shell.specs.Debugging.{ReturnsConfig, UntouchedAtConfig};

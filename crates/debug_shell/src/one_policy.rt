@@ -1,5 +1,5 @@
 //! One policy over a trace, in a session that goes back and forth.
-ghost use Rattle.std.specs.Prelude.{◌≡◌, ◌≢◌, ◌≤◌, ◌<◌, ◌+◌, ◌-◌, ◌++◌, Ok, Some, None, IfOk, OnOk, OnErr, List, []};
+ghost use Rattle.std.specs.Prelude.{◌≡◌, ◌≢◌, ◌≤◌, ◌<◌, ◌+◌, ◌-◌, ◌++◌, Ok, Some, None, IfOk, OnOk, OnErr, []};
 ghost use Rattle.std.specs.Prelude.{◌∷◌, length};
 ghost use Rattle.std.specs.List.{flat_map};
 ghost use Rattle.step_record.specs.Config.{config_fault};

@@ -1,5 +1,5 @@
 //! Two policies over one trace, as the debugger walks them.
-ghost use Rattle.std.specs.Prelude.{◌≡◌, ◌++◌, nat_lt, Ok, IfOk, OnOk};
+ghost use Rattle.std.specs.Prelude.{◌≡◌, nat_lt, Ok, IfOk};
 ghost use Rattle.step_record.specs.Config.{config_fault};
 ghost use Rattle.debug_shell.specs.TwoPolicies.{access_facts, just_one, left_on_access, policies_timeline, IsPartWalk};
 

@@ -7,12 +7,12 @@ use Rattle.step_record.specs.declared.step.Reply.{Reply}
 use Rattle.step_record.specs.declared.step.Step.{Step}
 use Rattle.step_record.specs.declared.drain.Phase.{Phase}
 use Rattle.step_record.specs.declared.drain.Phase.TheVariants.{Reads, Writes, Evictions}
+use Rattle.step_record.specs.History.{Entries}
 use Rattle.shell_model.specs.declared.holder.Holder.{Holder}
 use Rattle.maintenance.specs.Opened.{triple}
 use Rattle.drive.specs.declared.local.Local.{Local}
 use Rattle.drive.specs.declared.place.Place.{Place}
 use Rattle.drive.specs.Places.{Ahead}
-use Rattle.drive.specs.Walks.{Entries}
 use Rattle.drive.specs.Outcomes.{told, outcome_from}
 use Rattle.drive.specs.Settle.{ShellSession, tail_after, AddsSteps, IsRestOfRound, IsRest, phase_place}
 

@@ -3,12 +3,12 @@ use Rattle.std.proofs.Common.{◌≡◌, ℕ, ◌<◌, ◌≤◌, true, false, e
 use Rattle.std.proofs.lemmas.Bool.{cases_Bool, eq-eqb}
 use Rattle.std.proofs.lemmas.Bool.Decides.{nat_tests}
 use Rattle.step_record.specs.declared.step.Call.{Call}
-use Rattle.step_record.specs.History.{after, IsLegal}
+use Rattle.step_record.specs.History.{after, IsLegal, Entries}
 use Rattle.shell_model.specs.declared.holder.Holder.{Holder}
 use Rattle.shell_model.specs.Shell.{Shell, act, held_by}
 use Rattle.shell_model.specs.Reached.{IsReachable}
 use Rattle.shell_model.proofs.Reached.{reached-sound}
-use Rattle.drive.specs.Walks.{Entries, step_of, AreWalks}
+use Rattle.drive.specs.Walks.{step_of, AreWalks}
 use Rattle.drive.specs.Driven.{entries_of, IsRun}
 use Rattle.drive.specs.Desks.{ShellSession}
 use Rattle.drive.specs.Admits.{AdmitsWalks}

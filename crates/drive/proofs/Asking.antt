@@ -14,10 +14,11 @@ use Rattle.step_record.specs.declared.step.Answer.TheVariants as answer
 use Rattle.step_record.specs.declared.step.Step.{Step}
 use Rattle.step_record.specs.declared.drain.Phase.{Phase}
 use Rattle.step_record.specs.declared.drain.Phase.TheVariants.{Reads, Writes, Evictions}
+use Rattle.step_record.specs.History.{Entries}
 use Rattle.shell_model.specs.Shell.{may_write}
 use Rattle.drive.specs.declared.place.Place.{Place}
 use Rattle.drive.specs.declared.place.Place.TheVariants as at
-use Rattle.drive.specs.Walks.{Entries, step_of, IsWalk, AreWalks, IsReading, IsWriting}
+use Rattle.drive.specs.Walks.{step_of, IsWalk, AreWalks, IsReading, IsWriting}
 use Rattle.drive.specs.Places.{Ahead, act_of_place}
 use Rattle.drive.proofs.Standing.{Standing, next_of, standing, ActFits}
 

@@ -1,6 +1,5 @@
 -- A caller's own steps.
-use Rattle.std.proofs.Common.{◌≡◌, ℕ, ◌+◌, ◌<◌, ◌≤◌, Bool, true, false, ◌&&◌, nat_lt, Option, Some, None, IsSome, List, [], ◌∷◌, ◌++◌, length, Result, Ok, Err, IfOk, OnErr, refl, sym, ap, ◌∙◌, subst, inl, inr, arith}
-use Rattle.std.proofs.lemmas.Bool.{cases_Bool}
+use Rattle.std.proofs.Common.{◌≡◌, ℕ, ◌+◌, ◌<◌, ◌≤◌, true, nat_lt, Option, Some, None, IsSome, [], ◌∷◌, ◌++◌, length, Result, Ok, Err, IfOk, OnErr, refl, sym, ap, ◌∙◌, subst, arith}
 use Rattle.std.proofs.lemmas.Bool.Decides.{nat_tests}
 use Rattle.std.proofs.lemmas.List.{append_assoc, append-nil}
 use Rattle.step_record.specs.declared.entry.Entry.{Entry}
@@ -16,10 +15,11 @@ use Rattle.step_record.specs.declared.step.Reply.TheVariants as reply
 use Rattle.step_record.specs.declared.step.Step.{Step}
 use Rattle.step_record.specs.declared.drain.Phase.TheVariants.{Reads}
 use Rattle.step_record.specs.Answers.{is_answer}
+use Rattle.step_record.specs.History.{Entries}
 use Rattle.segments.specs.Items.{times}
 use Rattle.shell_model.specs.declared.holder.Holder.{Holder}
 use Rattle.shell_model.specs.Reached.{IsReachable}
-use Rattle.shell_model.specs.Shell.{Shell, node_of, look, begin, is_stripe, perform, act as acted}
+use Rattle.shell_model.specs.Shell.{Shell, node_of, look, begin, perform, act as acted}
 use Rattle.shell_model.specs.Consistent.{IsConsistent}
 use Rattle.shell_model.proofs.Counting.{node-listed, listed-times}
 use Rattle.shell_model.proofs.Engines.{answers_law}
@@ -30,7 +30,7 @@ use Rattle.drive.specs.declared.local.Local.{Local}
 use Rattle.drive.specs.declared.place.Place.{Place}
 use Rattle.drive.specs.declared.place.Place.TheVariants as at
 use Rattle.drive.specs.Places.{Ahead, act_of_place}
-use Rattle.drive.specs.Walks.{Entries, step_of, IsReading, IsRound}
+use Rattle.drive.specs.Walks.{step_of, IsReading, IsRound}
 use Rattle.drive.specs.Outcomes.{told, outcome_from}
 use Rattle.drive.specs.Settle.{ShellSession, AddsSteps, IsReady}
 use Rattle.drive.specs.QuietWalks.{IsCallers, FollowsQuietReport, IsQuietReport, FollowsQuietOffer, IsQuietOffer, FollowsQuietPut, IsQuietPut, FollowsQuietLook, IsQuietWalk}

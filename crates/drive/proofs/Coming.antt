@@ -6,11 +6,12 @@ use Rattle.step_record.specs.declared.step.Act.{Act}
 use Rattle.step_record.specs.declared.step.Call.{Call}
 use Rattle.step_record.specs.declared.step.Reply.{Reply}
 use Rattle.step_record.specs.declared.step.Step.{Step}
+use Rattle.step_record.specs.History.{Entries}
 use Rattle.drive.specs.declared.local.Local.{Local}
 use Rattle.drive.specs.declared.next.Next.{Next}
 use Rattle.drive.specs.declared.next.Next.TheVariants as told
 use Rattle.drive.specs.declared.place.Place.{Place}
-use Rattle.drive.specs.Walks.{Entries, step_of, IsWalk, AreWalks}
+use Rattle.drive.specs.Walks.{step_of, IsWalk, AreWalks}
 use Rattle.drive.specs.Places.{Ahead, act_of_place, is_place}
 use Rattle.drive.specs.Nexts.{Asks}
 use Rattle.drive.specs.Made.{Made}

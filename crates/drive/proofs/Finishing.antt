@@ -11,9 +11,10 @@ use Rattle.step_record.specs.declared.step.Call.TheVariants as call
 use Rattle.step_record.specs.declared.step.Reply.{Reply}
 use Rattle.step_record.specs.declared.step.Reply.TheVariants as reply
 use Rattle.step_record.specs.declared.step.Step.{Step}
+use Rattle.step_record.specs.History.{Entries}
 use Rattle.drive.specs.declared.place.Place.{Place}
 use Rattle.drive.specs.declared.place.Place.TheVariants as at
-use Rattle.drive.specs.Walks.{Entries, step_of, IsWalk, AreWalks, IsReading, IsWriting, IsEvicting, IsEnding}
+use Rattle.drive.specs.Walks.{step_of, IsWalk, AreWalks, IsReading, IsWriting, IsEvicting, IsEnding}
 use Rattle.drive.specs.Places.{Ahead, is_place}
 
 module _ (w : ℕ) (n : ℕ) where

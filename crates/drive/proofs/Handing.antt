@@ -4,13 +4,13 @@ use Rattle.std.specs.Prelude.{IfOk, IfErr, option_map}
 use Rattle.step_record.specs.declared.step.Call.{Call}
 use Rattle.step_record.specs.declared.step.Reply.{Reply}
 use Rattle.step_record.specs.declared.step.Step.{Step}
+use Rattle.step_record.specs.History.{Entries}
 use Rattle.journal.specs.Session.{SessionState}
 use Rattle.journal.specs.declared.fault.SessionFault.{SessionFault}
 use Rattle.journal.specs.declared.fault.SessionFault.TheVariants as fault
 use Rattle.shell_model.specs.declared.holder.Holder.{Holder}
 use Rattle.drive.specs.DriveFaults.{the_cause}
 use Rattle.drive.specs.declared.driving.Cause.TheVariants as cause
-use Rattle.drive.specs.Walks.{Entries}
 use Rattle.drive.specs.Driven.{IsRun}
 
 pub moved_run : {E D : Type 0} (Is : ℕ → ℕ → List Call → Entries → Type 0) (n n' : ℕ) (ps ps' : List (List Call)) (o o' t : SessionState E D Step Reply) (ls : List Entries)

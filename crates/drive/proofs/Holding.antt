@@ -1,5 +1,5 @@
 -- A holder's steps: each act of the rest of its round is one that it may make.
-use Rattle.std.proofs.Common.{◌≡◌, ℕ, suc, zero, ◌+◌, ◌<◌, ◌≤◌, ◌==◌, Bool, true, false, cond, eqb, nat_lt, ◌&&◌, Option, Some, None, List, [], ◌∷◌, ◌++◌, length, set, MatchBool, IsSome, OnErr, Ok, Err, Result, refl, sym, ap, ◌∙◌, subst, inl, inr, arith, length-set}
+use Rattle.std.proofs.Common.{◌≡◌, ℕ, ◌+◌, ◌<◌, ◌==◌, Bool, true, false, eqb, nat_lt, Option, Some, None, List, [], ◌∷◌, ◌++◌, length, set, MatchBool, IsSome, refl, sym, ap, ◌∙◌, subst, inl, inr, arith, length-set}
 use Rattle.std.proofs.lemmas.Bool.{cases_Bool, eq-eqb, ltb-true, and_parts}
 use Rattle.std.proofs.lemmas.Bool.Decides.{nat_tests}
 use Rattle.std.proofs.lemmas.List.{append_assoc, append-nil}
@@ -11,11 +11,12 @@ use Rattle.step_record.specs.declared.step.Reply.{Reply}
 use Rattle.step_record.specs.declared.step.Reply.TheVariants as reply
 use Rattle.step_record.specs.declared.step.Step.{Step}
 use Rattle.step_record.specs.declared.drain.Phase.TheVariants.{Reads, Writes, Evictions}
+use Rattle.step_record.specs.History.{Entries}
 use Rattle.segments.specs.Items.{same, first}
 use Rattle.segments.specs.Queues.{total_items}
 use Rattle.shell_model.specs.declared.holder.Holder.{Holder}
 use Rattle.shell_model.specs.Frequency.{admits}
-use Rattle.shell_model.specs.Shell.{Shell, window_size, is_over, may_read, may_write, held_by, is_stripe, in_phase, shell_contest, shift, leave, evict_from, evict_oldest, evict, end, drain_at_end, drain_write, apply_task, perform, tallied, act as acted}
+use Rattle.shell_model.specs.Shell.{Shell, window_size, is_over, held_by, in_phase, shell_contest, shift, evict_from, evict_oldest, evict, end, drain_at_end, perform, tallied, act as acted}
 use Rattle.shell_model.proofs.Making as k
 use Rattle.shell_model.proofs.Making.{Makes, MakesTo, perform-makes}
 use Rattle.shell_model.proofs.Histories.{counted_up}
@@ -24,7 +25,7 @@ use Rattle.drive.specs.declared.next.Next.{Next}
 use Rattle.drive.specs.declared.next.Next.TheVariants as told
 use Rattle.drive.specs.declared.place.Place.{Place}
 use Rattle.drive.specs.declared.place.Place.TheVariants as at
-use Rattle.drive.specs.Walks.{Entries, step_of, IsReading, IsWriting, IsEvicting, IsEnding, FollowsDrainRead, FollowsDrainWrite, FollowsEvict, FollowsEnd}
+use Rattle.drive.specs.Walks.{step_of, IsReading, IsWriting, IsEvicting, FollowsDrainRead, FollowsDrainWrite, FollowsEvict, FollowsEnd}
 use Rattle.drive.specs.Places.{Ahead, AheadAfter, act_of_place, is_place}
 use Rattle.drive.specs.Nexts.{Left, Asks}
 use Rattle.drive.specs.Settle.{Suits, IsReady, IsReadyFor}

@@ -2,7 +2,8 @@
 use Rattle.std.proofs.Common.{◌≡◌, ℕ, ◌+◌, ◌<◌, List, [], ◌∷◌, ◌++◌, length, get_or, drop, refl, sym, ap, ◌∙◌, subst, add-one, drop-cons}
 use Rattle.std.proofs.lemmas.List.{append_assoc, append-nil}
 use Rattle.step_record.specs.declared.step.Call.{Call}
-use Rattle.drive.specs.Walks.{Entries, IsWalk, AreWalks}
+use Rattle.step_record.specs.History.{Entries}
+use Rattle.drive.specs.Walks.{IsWalk, AreWalks}
 use Rattle.drive.specs.Made.{Made, BeginsWalk, BeginWalks}
 use Rattle.drive.proofs.Finishing.{finish_calls}
 

@@ -13,6 +13,7 @@ use Rattle.step_record.specs.declared.step.Reply.TheVariants as reply
 use Rattle.step_record.specs.declared.drain.Drain.TheVariants as drain
 use Rattle.step_record.specs.declared.drain.Phase.{Phase}
 use Rattle.step_record.specs.declared.drain.Phase.TheVariants.{Reads, Writes, Evictions}
+use Rattle.step_record.specs.History.{Entries}
 use Rattle.admission.specs.Frequency.{FrequencyData}
 use Rattle.segments.specs.declared.records.Queue.TheVariants.{Probation}
 use Rattle.segments.specs.Items.{same, times, items_without, first}
@@ -27,7 +28,7 @@ use Rattle.shell_model.specs.declared.stats.ShellStats.{ShellStats}
 use Rattle.shell_model.specs.ShellStats.{shell_stats_after}
 use Rattle.shell_model.specs.Shell.{Shell, window_size, may_write}
 use Rattle.shell_model.proofs.Undoing.{first-queued}
-use Rattle.drive.specs.Walks.{Entries, Opens, IsEnding, FollowsEnd, IsEvicting, FollowsEvict, IsWriting, FollowsDrainWrite, IsReading, FollowsDrainRead}
+use Rattle.drive.specs.Walks.{Opens, IsEnding, FollowsEnd, IsEvicting, FollowsEvict, IsWriting, FollowsDrainWrite, IsReading, FollowsDrainRead}
 use Rattle.drive.specs.Outcomes.{told}
 use Rattle.shell_model.specs.Evicting.{reply_by, unlisted_by}
 use Rattle.quiet_shell.proofs.Agreeing.{evictions-law}

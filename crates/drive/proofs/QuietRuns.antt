@@ -5,7 +5,7 @@ use Rattle.step_record.specs.declared.config.Config.{Config}
 use Rattle.step_record.specs.declared.outcome.Outcome.{Outcome}
 use Rattle.step_record.specs.declared.job.Job.{Job}
 use Rattle.step_record.specs.Config.{config_fault}
-use Rattle.step_record.specs.History.{went, after, IsLegal}
+use Rattle.step_record.specs.History.{went, after, IsLegal, Entries}
 use Rattle.admission.specs.Shape.{Shape, IsShape}
 use Rattle.admission.specs.Frequency.{FrequencyData, frequency_of, pace_of}
 use Rattle.admission.proofs.Recording.{recorded_freq}
@@ -22,7 +22,6 @@ use Rattle.shell_model.proofs.Reached.{reached-sound}
 use Rattle.shell_model.proofs.Striped.{stripes_checked}
 use Rattle.maintenance.specs.Opened.{IsOpened}
 use Rattle.journal.specs.Session.{IsSoundSession}
-use Rattle.drive.specs.Walks.{Entries}
 use Rattle.drive.specs.QuietWalks.{IsQuietWalk, AreQuietWalks}
 use Rattle.quiet_shell.specs.Quiet.{IsQuiet, window_tiny_lfu}
 use Rattle.drive.specs.Settle.{ShellSession, AddsSteps}

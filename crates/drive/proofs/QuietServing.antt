@@ -8,7 +8,7 @@ use Rattle.step_record.specs.declared.outcome.Outcome.{Outcome}
 use Rattle.step_record.specs.declared.outcome.Outcome.TheVariants as outcome
 use Rattle.step_record.specs.declared.drain.Drain.{Drain}
 use Rattle.step_record.specs.declared.drain.Drain.TheVariants as drain
-use Rattle.step_record.specs.History.{after, IsLegal}
+use Rattle.step_record.specs.History.{after, IsLegal, Entries}
 use Rattle.admission.specs.Frequency.{FrequencyData}
 use Rattle.segments.specs.declared.records.Queue.TheVariants.{Window}
 use Rattle.segments.specs.Items.{times}
@@ -28,7 +28,6 @@ use Rattle.shell_model.proofs.Counting.{listed-times, node-listed}
 use Rattle.shell_model.proofs.Histories.{after-sound}
 use Rattle.shell_model.proofs.Reached.{reached-sound}
 use Rattle.shell_model.proofs.Striped.{stripes_checked}
-use Rattle.drive.specs.Walks.{Entries}
 use Rattle.drive.specs.Outcomes.{outcome_from}
 use Rattle.drive.specs.QuietWalks.{IsQuietWalk}
 use Rattle.quiet_shell.specs.Nodes.{nodeless_queues, nodeless_response}

@@ -9,7 +9,7 @@ use Rattle.step_record.specs.declared.step.Reply.{Reply}
 use Rattle.step_record.specs.declared.drain.Drain.{Drain}
 use Rattle.step_record.specs.declared.drain.Drain.TheVariants as drain
 use Rattle.step_record.specs.declared.drain.Phase.{Phase}
-use Rattle.step_record.specs.History.{went, after, IsLegal}
+use Rattle.step_record.specs.History.{went, after, IsLegal, Entries}
 use Rattle.admission.specs.Frequency.{FrequencyData}
 use Rattle.segments.specs.Queues.{Queues}
 use Rattle.shell_buffers.specs.declared.task.Task.{Task}
@@ -18,7 +18,7 @@ use Rattle.shell_model.specs.declared.stats.ShellStats.{ShellStats}
 use Rattle.shell_model.specs.Shell.{Shell, perform, act}
 use Rattle.shell_model.specs.Laws.{MadeStep}
 use Rattle.shell_model.proofs.Histories.{counted_up}
-use Rattle.drive.specs.Walks.{Entries, Opens, step_of}
+use Rattle.drive.specs.Walks.{Opens, step_of}
 use Rattle.drive.specs.Outcomes.{told, outcome_from}
 
 -- entries of the walk that are legal from x come to the outcome, where o was found so far, and Q holds of what they leave

@@ -6,13 +6,14 @@ use Rattle.step_record.specs.declared.entry.Entry.{Entry}
 use Rattle.step_record.specs.declared.step.Call.{Call}
 use Rattle.step_record.specs.declared.step.Reply.{Reply}
 use Rattle.step_record.specs.declared.step.Step.{Step}
+use Rattle.step_record.specs.History.{Entries}
 use Rattle.shell_model.specs.Shell.{Shell}
 use Rattle.journal.specs.declared.fault.SessionFault.{SessionFault}
 use Rattle.journal.specs.declared.fault.SessionFault.TheVariants.{JournalFull, NotNow}
 use Rattle.turn_book.specs.Turns.{Every, Begins}
 use Rattle.turn_book.specs.Passes.{BookId, PassState, InOrder, OwnAll, Ends}
 use Rattle.drive.specs.declared.desk.Desk.{Desk}
-use Rattle.drive.specs.Walks.{Entries, AreWalks}
+use Rattle.drive.specs.Walks.{AreWalks}
 use Rattle.drive.specs.Made.{BeginWalks}
 use Rattle.drive.specs.Desks.{ShellSession, Sits, Counts, HasWorked}
 use Rattle.drive.specs.Driven.{IsRun, entries_of}

@@ -13,7 +13,7 @@ use Rattle.step_record.specs.declared.drain.Drain.{Drain}
 use Rattle.step_record.specs.declared.drain.Drain.TheVariants as drain
 use Rattle.step_record.specs.declared.drain.Phase.{Phase}
 use Rattle.step_record.specs.declared.drain.Phase.TheVariants.{Reads, Writes, Evictions}
-use Rattle.step_record.specs.History.{went, after, IsLegal}
+use Rattle.step_record.specs.History.{went, after, IsLegal, Entries}
 use Rattle.shell_model.specs.declared.holder.Holder.{Holder}
 use Rattle.shell_model.specs.Shell.{Shell, act, perform, held_by, hold_read, hold_write, hold_evict, hold_end, may_read, may_write, node_of, look, tallied}
 use Rattle.shell_model.specs.Shell.{is_over, end, drain_at_end}
@@ -22,7 +22,7 @@ use Rattle.shell_model.proofs.Counting.{listed-times, node-listed}
 use Rattle.shell_model.proofs.Histories.{Steps, stepped, after-sound}
 use Rattle.shell_model.proofs.Making as k
 use Rattle.shell_model.proofs.Making.{Makes}
-use Rattle.drive.specs.Walks.{Entries, step_of}
+use Rattle.drive.specs.Walks.{step_of}
 use Rattle.drive.specs.Driven.{entries_of}
 use Rattle.drive.proofs.Holding.{Performs, performs, fits-end, mine}
 

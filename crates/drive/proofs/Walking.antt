@@ -7,10 +7,11 @@ use Rattle.step_record.specs.declared.step.Call.{Call}
 use Rattle.step_record.specs.declared.step.Reply.{Reply}
 use Rattle.step_record.specs.declared.step.Step.{Step}
 use Rattle.step_record.specs.Answers.{is_answer}
+use Rattle.step_record.specs.History.{Entries}
 use Rattle.drive.specs.declared.local.Local.{Local}
 use Rattle.drive.specs.declared.next.Next.{Next}
 use Rattle.drive.specs.declared.next.Next.TheVariants as told
-use Rattle.drive.specs.Walks.{Entries, step_of, IsWalk}
+use Rattle.drive.specs.Walks.{step_of, IsWalk}
 use Rattle.drive.specs.Places.{Ahead, AheadAfter, act_of_place, is_place}
 use Rattle.drive.specs.Nexts.{Left, Asks}
 use Rattle.drive.specs.Made.{Made, BeginsWalk}

@@ -1,11 +1,12 @@
 -- When a machine takes each step that walks ask of it.
-use Rattle.std.specs.Prelude.{◌≡◌, ◌≢◌, ℕ, ◌<◌, ◌^◌, List, ◌∷◌, ◌++◌, Option, None}
+use Rattle.std.specs.Prelude.{◌≡◌, ◌≢◌, ℕ, ◌<◌, List, ◌∷◌, ◌++◌, Option, None}
+use Rattle.step_record.specs.declared.limits.TheConstants.{MAX_STEPS}
 use Rattle.step_record.specs.declared.step.Act.{Act}
 use Rattle.step_record.specs.declared.step.Call.{Call}
 use Rattle.step_record.specs.declared.step.Reply.{Reply}
 use Rattle.step_record.specs.declared.step.Step.{Step}
-use Rattle.step_record.specs.History.{after, IsLegal}
-use Rattle.drive.specs.Walks.{Entries, step_of, AreWalks}
+use Rattle.step_record.specs.History.{after, IsLegal, Entries}
+use Rattle.drive.specs.Walks.{step_of, AreWalks}
 use Rattle.drive.specs.Driven.{entries_of}
 
 -- after its entries so far, the act may be the next of walks of worker w
@@ -20,10 +21,10 @@ pub record MayMake (w n : ℕ) (own : Entries) (a : Act) : Type 0 where
 abbrev pub AdmitsWalks : {D : Type 0} → (D → Step → Option (Reply × D)) → (D → ℕ) → ℕ → ℕ → D → Type 0
 AdmitsWalks perform count w n x =
     (es : Entries) → IsLegal perform x es → (a : Act) → MayMake w n (entries_of w es) a
-    → count (after perform x es) < 2 ^ 32 → perform (after perform x es) (step_of w a) ≢ None
+    → count (after perform x es) < MAX_STEPS → perform (after perform x es) (step_of w a) ≢ None
 
 -- From x on, after any legal entries of which those of the step's worker are its own, the machine takes the step.
 abbrev pub IsTaken : {D : Type 0} → (D → Step → Option (Reply × D)) → (D → ℕ) → D → Entries → Step → Type 0
 IsTaken perform count x own step =
-    (es : Entries) → IsLegal perform x es → entries_of step.worker es ≡ own → count (after perform x es) < 2 ^ 32
+    (es : Entries) → IsLegal perform x es → entries_of step.worker es ≡ own → count (after perform x es) < MAX_STEPS
     → perform (after perform x es) step ≢ None

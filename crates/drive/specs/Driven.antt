@@ -4,8 +4,8 @@ use Rattle.std.specs.List.{filter}
 use Rattle.step_record.specs.declared.step.Call.{Call}
 use Rattle.step_record.specs.declared.step.Reply.{Reply}
 use Rattle.step_record.specs.declared.step.Step.{Step}
+use Rattle.step_record.specs.History.{Entries}
 use Rattle.journal.specs.Session.{SessionState}
-use Rattle.drive.specs.Walks.{Entries}
 
 -- the entries of worker w, in order
 abbrev pub entries_of : ℕ → Entries → Entries

@@ -1,7 +1,8 @@
 -- What a worker made, and how it stands in its own list and in the journal.
 use Rattle.std.specs.Prelude.{◌≡◌, ℕ, List, ◌++◌}
 use Rattle.step_record.specs.declared.step.Call.{Call}
-use Rattle.drive.specs.Walks.{Entries, IsWalk, AreWalks}
+use Rattle.step_record.specs.History.{Entries}
+use Rattle.drive.specs.Walks.{IsWalk, AreWalks}
 
 -- the same entries came to the end of the journal and of the worker's own list
 pub record Made (IsMade : Entries → Type 0) (kept kept' own own' : Entries) : Type 0 where

@@ -1,8 +1,8 @@
 -- What a worker is told.
 use Rattle.std.specs.Prelude.{◌≡◌, ℕ, []}
+use Rattle.step_record.specs.History.{Entries}
 use Rattle.drive.specs.declared.next.Next.{Next}
 use Rattle.drive.specs.declared.next.Next.TheVariants as next
-use Rattle.drive.specs.Walks.{Entries}
 use Rattle.drive.specs.Places.{act_of_place, Ahead}
 
 -- the entries that complete the walk

@@ -4,9 +4,11 @@ use Rattle.step_record.specs.declared.step.Act.{Act}
 use Rattle.step_record.specs.declared.step.Act.TheVariants as act
 use Rattle.step_record.specs.declared.step.Reply.{Reply}
 use Rattle.step_record.specs.Answers.{is_answer}
+use Rattle.step_record.specs.History.{Entries}
+use Rattle.shell_buffers.specs.declared.stripes.TheConstants.{MAX_ITEMS}
 use Rattle.drive.specs.declared.place.Place.{Place}
 use Rattle.drive.specs.declared.place.Place.TheVariants as at
-use Rattle.drive.specs.Walks.{Entries, step_of, Opens, IsOffer, IsReport, IsPut, FollowsLook, FollowsRemove, IsRound}
+use Rattle.drive.specs.Walks.{step_of, Opens, IsOffer, IsReport, IsPut, FollowsLook, FollowsRemove, IsRound}
 use Rattle.drive.specs.Walks.{IsReading, IsWriting, IsEvicting, IsEnding}
 
 -- the act that a worker who stands there was told to make
@@ -52,9 +54,9 @@ abbrev pub IsReplyTo : Act → Option Reply → Type 0
 IsReplyTo a None = Unit {0}
 IsReplyTo a (Some r) = is_answer a r ≡ true
 
--- the stripe is one of n, and fewer than sixteen of its items were drained
+-- the stripe is one of n, and fewer than MAX_ITEMS of its items were drained
 abbrev pub is_place : ℕ → Place → Bool
-is_place n (at.DrainRead s j) = nat_lt s n && nat_lt j 16
+is_place n (at.DrainRead s j) = nat_lt s n && nat_lt j MAX_ITEMS
 is_place n _ = true
 
 abbrev pub is_place_if : ℕ → Option Place → Bool

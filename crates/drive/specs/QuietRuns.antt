@@ -3,13 +3,12 @@ use Rattle.std.specs.Prelude.{◌≡◌, ℕ, Some, List, ◌++◌}
 use Rattle.step_record.specs.declared.config.Config.{Config}
 use Rattle.step_record.specs.declared.outcome.Outcome.{Outcome}
 use Rattle.step_record.specs.declared.outcome.Outcome.TheVariants.{Kept}
-use Rattle.step_record.specs.History.{after, IsLegal}
+use Rattle.step_record.specs.History.{after, IsLegal, Entries}
 use Rattle.policies.specs.QueueCache.{QueueState, outcomes_after, state_after}
 use Rattle.policies.specs.QueueStep.{queue_act}
 use Rattle.shell_model.specs.Shell.{Shell, act}
 use Rattle.shell_model.specs.Reached.{IsReachable}
 use Rattle.quiet_shell.specs.Quiet.{IsQuiet, window_tiny_lfu}
-use Rattle.drive.specs.Walks.{Entries}
 use Rattle.drive.specs.Outcomes.{outcome_from}
 use Rattle.drive.specs.QuietWalks.{IsQuietWalk}
 

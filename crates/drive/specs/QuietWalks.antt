@@ -1,6 +1,6 @@
 -- The walk of worker 0 over one key where a round of maintenance comes after each, whatever the reports were answered.
 -- (This project's own: with it the concurrent cache is W-TinyLFU.)
-use Rattle.std.specs.Prelude.{◌≡◌, ℕ, Option, Some, List, [], ◌∷◌, ◌++◌, length}
+use Rattle.std.specs.Prelude.{◌≡◌, ℕ, List, [], ◌∷◌, ◌++◌, length}
 use Rattle.step_record.specs.declared.item.Item.{Item}
 use Rattle.step_record.specs.declared.outcome.Outcome.{Outcome}
 use Rattle.step_record.specs.declared.outcome.Outcome.TheVariants.{Kept}
@@ -9,9 +9,10 @@ use Rattle.step_record.specs.declared.step.Act.TheVariants as act
 use Rattle.step_record.specs.declared.step.Answer.TheVariants as answer
 use Rattle.step_record.specs.declared.step.Reply.{Reply}
 use Rattle.step_record.specs.declared.step.Reply.TheVariants as reply
+use Rattle.step_record.specs.History.{Entries}
 use Rattle.drive.specs.declared.quiet.QuietFault.{QuietFault}
 use Rattle.drive.specs.declared.quiet.QuietFault.TheVariants as fault
-use Rattle.drive.specs.Walks.{Entries, Opens, IsRound}
+use Rattle.drive.specs.Walks.{Opens, IsRound}
 use Rattle.drive.specs.Outcomes.{outcome_from}
 use Rattle.drive.specs.Settle.{ShellSession, AddsSteps}
 

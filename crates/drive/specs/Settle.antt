@@ -6,6 +6,7 @@ use Rattle.step_record.specs.declared.step.Reply.{Reply}
 use Rattle.step_record.specs.declared.step.Step.{Step}
 use Rattle.step_record.specs.declared.drain.Phase.{Phase}
 use Rattle.step_record.specs.declared.drain.Phase.TheVariants.{Reads, Writes, Evictions}
+use Rattle.step_record.specs.History.{Entries}
 use Rattle.journal.specs.Session.{SessionState}
 use Rattle.shell_model.specs.declared.holder.Holder.{Holder}
 use Rattle.shell_model.specs.Shell.{Shell, may_write, is_over}
@@ -17,7 +18,7 @@ use Rattle.drive.specs.declared.settling.Refusal.{Refusal}
 use Rattle.drive.specs.declared.settling.Refusal.TheVariants as refusal
 use Rattle.drive.specs.declared.settling.SettleFault.{SettleFault}
 use Rattle.drive.specs.declared.settling.SettleFault.TheVariants as fault
-use Rattle.drive.specs.Walks.{Entries, IsReading, IsWriting, IsEvicting}
+use Rattle.drive.specs.Walks.{IsReading, IsWriting, IsEvicting}
 
 abbrev pub ShellSession : Type 0
 ShellSession = SessionState Shell Shell Step Reply

@@ -1,6 +1,5 @@
 -- The walk of one worker over one call, as a grammar of the entries that it makes. (This project's own.)
 use Rattle.std.specs.Prelude.{◌≡◌, ℕ, ◌+◌, ◌%◌, ◌==◌, List, [], ◌∷◌, ◌++◌, MatchBool}
-use Rattle.step_record.specs.declared.entry.Entry.{Entry}
 use Rattle.step_record.specs.declared.item.Item.{Item}
 use Rattle.step_record.specs.declared.step.Act.{Act}
 use Rattle.step_record.specs.declared.step.Act.TheVariants as act
@@ -10,9 +9,8 @@ use Rattle.step_record.specs.declared.step.Call.TheVariants as call
 use Rattle.step_record.specs.declared.step.Reply.{Reply}
 use Rattle.step_record.specs.declared.step.Reply.TheVariants as reply
 use Rattle.step_record.specs.declared.step.Step.{Step}
-
-abbrev pub Entries : Type 0
-Entries = List (Entry Step Reply)
+use Rattle.step_record.specs.History.{Entries}
+use Rattle.shell_buffers.specs.declared.stripes.TheConstants.{MAX_ITEMS}
 
 -- the worker w makes the act a
 abbrev pub step_of : ℕ → Act → Step
@@ -66,13 +64,13 @@ module _ (w : ℕ) (n : ℕ) where
   FollowsDrainRead More Next reply.Empty = Next
   FollowsDrainRead More Next _ = ⊥
 
-  -- DrainReads of the stripe s, of which j were Drained already, up to sixteen Drained or one
+  -- DrainReads of the stripe s, of which j were Drained already, up to MAX_ITEMS Drained or one
   -- Empty; then those of the stripes after it; and what follows
   abbrev pub IsReading : ℕ → ℕ → Entries → Type 0
   IsReading s j [] = ⊥
   IsReading s j (e ∷ es) = (e.step ≡ step_of w (act.DrainRead s))
       × FollowsDrainRead
-      (MatchBool (j + 1 == 16) (MatchBool (s + 1 == n) (IsWriting es) (IsReading (s + 1) 0 es))
+      (MatchBool (j + 1 == MAX_ITEMS) (MatchBool (s + 1 == n) (IsWriting es) (IsReading (s + 1) 0 es))
       (IsReading s (j + 1) es))
       (MatchBool (s + 1 == n) (IsWriting es) (IsReading (s + 1) 0 es))
       e.reply

@@ -1,9 +1,8 @@
 //! What each worker has at its own place, and how all of them work side by side.
-ghost use Rattle.std.specs.Prelude.{◌≡◌, ℕ, ◌<◌, ◌≤◌, None, Some, [], ◌∷◌, ◌++◌, All, Option, IfSome, IsSome, length};
-ghost use Rattle.std.specs.Prelude.{map, slice_index_or, vec_len, vec_capacity};
+ghost use Rattle.std.specs.Prelude.{◌≡◌, ℕ, ◌<◌, ◌≤◌, None, Some, [], All, Option, IfSome, IsSome, length};
+ghost use Rattle.std.specs.Prelude.{map, slice_index_or, vec_capacity};
 ghost use Rattle.step_record.specs.declared.limits.TheConstants.{MAX_STRIPES};
 ghost use Rattle.step_record.specs.declared.worker.TheConstants.{MAX_WORKERS};
-ghost use Rattle.journal.specs.declared.fault.SessionFault.TheVariants.{JournalFull};
 ghost use Rattle.turn_book.specs.Turns.{Every};
 ghost use Rattle.turn_book.specs.Passes.{InOrder, id_of};
 ghost use Rattle.drive.specs.Draws.{IsWithin};

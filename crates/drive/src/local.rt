@@ -1,6 +1,7 @@
 //! A worker in the walk of one call.
 ghost use Rattle.std.specs.Prelude.{◌≡◌, ◌≤◌, true};
 ghost use Rattle.step_record.specs.declared.limits.TheConstants.{MAX_STRIPES};
+ghost use Rattle.step_record.specs.History.{Entries};
 ghost use Rattle.drive.specs.Places.{is_place};
 
 use super::place::Place;
@@ -19,7 +20,7 @@ pub struct Local {
 
 impl Local {
     ghost use Rattle.std.specs.Prelude.{◌↔◌};
-    ghost use Rattle.drive.specs.Walks.{Entries, IsWalk};
+    ghost use Rattle.drive.specs.Walks.{IsWalk};
     ghost use Rattle.drive.specs.Places.{Ahead};
 
     /// At the beginning of the walk of a call, of a cache with so many read buffers: 1 to [`MAX_STRIPES`].

@@ -1,6 +1,7 @@
 //! What a worker does next.
-ghost use Rattle.std.specs.Prelude.{◌≡◌, ◌≤◌, ◌↔◌, Option, Some, None};
-ghost use Rattle.drive.specs.Walks.{Entries, step_of};
+ghost use Rattle.std.specs.Prelude.{◌≡◌, ◌↔◌, Option, Some, None};
+ghost use Rattle.step_record.specs.History.{Entries};
+ghost use Rattle.drive.specs.Walks.{step_of};
 ghost use Rattle.drive.specs.Places.{AheadAfter, IsReplyTo, act_of_place};
 ghost use Rattle.drive.specs.Nexts.{Left, Asks};
 

@@ -1,11 +1,13 @@
 //! Where a worker stands in a walk, and where it stands after a reply.
-ghost use Rattle.std.specs.Prelude.{◌≡◌, ◌≤◌, ◌<◌, ℕ, true, Option, Some, None, ◌↔◌, ◌+◌, ◌==◌, MatchBool, List, []};
+ghost use Rattle.std.specs.Prelude.{◌≡◌, ◌≤◌, ◌<◌, ℕ, true, Option, Some, None, ◌↔◌, ◌+◌, ◌==◌, MatchBool};
 ghost use Rattle.step_record.specs.Answers.{is_answer};
-ghost use Rattle.drive.specs.Walks.{Entries, IsWriting, IsReading, FollowsLook, FollowsOffer, FollowsPut};
+ghost use Rattle.step_record.specs.History.{Entries};
+ghost use Rattle.drive.specs.Walks.{IsWriting, IsReading, FollowsLook, FollowsOffer, FollowsPut};
 ghost use Rattle.drive.specs.Walks.{FollowsRemove, FollowsReport, FollowsBegin, FollowsDrainRead, FollowsDrainWrite};
 ghost use Rattle.drive.specs.Walks.{FollowsEvict, FollowsEnd, IsEvicting};
-ghost use Rattle.drive.specs.Places.{Ahead, AheadIf, AheadAfter, IsReplyTo, act_of_place, is_place, is_place_if};
+ghost use Rattle.drive.specs.Places.{Ahead, AheadIf, AheadAfter, act_of_place, is_place, is_place_if};
 
+use shell_buffers::MAX_ITEMS;
 use step_record::{Act, Answer, Item, Key, Reply, Worker};
 
 /// Where a worker stands in the walk of one call: the act that it was asked to make last.
@@ -140,13 +142,13 @@ fn after_stripe(stripes: u8, stripe: u8) -> Place
 // Past one more item of a stripe.
 fn after_drained(stripes: u8, stripe: u8, drained: u8) -> Place
     requires stripe { stripe < stripes }
-    requires drained { drained < 16 }
-    ensures ahead { (w : ℕ) (es : Entries) → MatchBool (drained + 1 == 16)
+    requires drained { drained < MAX_ITEMS }
+    ensures ahead { (w : ℕ) (es : Entries) → MatchBool (drained + 1 == MAX_ITEMS)
         (MatchBool (stripe + 1 == stripes) (IsWriting w stripes es) (IsReading w stripes (stripe + 1) 0 es))
         (IsReading w stripes stripe (drained + 1) es) ↔ Ahead w stripes result es }
     ensures place { is_place stripes result ≡ true }
 {
-    if drained + 1 == 16 {
+    if usize::from(drained) + 1 == MAX_ITEMS {
         after_stripe(stripes, stripe)
     } else {
         Place::DrainRead {
@@ -159,9 +161,9 @@ fn after_drained(stripes: u8, stripe: u8, drained: u8) -> Place
 fn after_drain_read(stripes: u8, stripe: u8, drained: u8, reply: Reply) -> Place
     requires answer { is_answer (Act.DrainRead stripe) reply ≡ true }
     requires stripe { stripe < stripes }
-    requires drained { drained < 16 }
+    requires drained { drained < MAX_ITEMS }
     ensures ahead { (w : ℕ) (es : Entries) → FollowsDrainRead w stripes
-        (MatchBool (drained + 1 == 16) (MatchBool (stripe + 1 == stripes) (IsWriting w stripes es)
+        (MatchBool (drained + 1 == MAX_ITEMS) (MatchBool (stripe + 1 == stripes) (IsWriting w stripes es)
         (IsReading w stripes (stripe + 1) 0 es)) (IsReading w stripes stripe (drained + 1) es))
         (MatchBool (stripe + 1 == stripes) (IsWriting w stripes es) (IsReading w stripes (stripe + 1) 0 es)) reply
         ↔ Ahead w stripes result es }

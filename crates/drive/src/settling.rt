@@ -1,10 +1,11 @@
 //! Finishing the maintenance that a worker holds.
-ghost use Rattle.std.specs.Prelude.{◌≡◌, ◌≤◌, ℕ, None, Some, Err, IsSome, IfOk, IfErr, OnOk, OnErr, length};
+ghost use Rattle.std.specs.Prelude.{◌≡◌, ◌≤◌, None, Some, Err, IsSome, IfOk, IfErr, OnOk, OnErr, length};
 ghost use Rattle.std.specs.Prelude.{◌∷◌, ◌++◌, []};
 ghost use Rattle.step_record.specs.declared.limits.TheConstants.{MAX_STRIPES};
+ghost use Rattle.step_record.specs.History.{Entries};
 ghost use Rattle.journal.specs.Session.{IsSameSession};
 ghost use Rattle.shell_model.specs.Shell.{perform, act as acted};
-ghost use Rattle.drive.specs.Walks.{Entries, step_of};
+ghost use Rattle.drive.specs.Walks.{step_of};
 ghost use Rattle.drive.specs.Places.{Ahead, act_of_place};
 ghost use Rattle.drive.specs.Outcomes.{told, outcome_from};
 ghost use Rattle.drive.specs.Settle.{AddsSteps, IsRest, BeginsRest, IsReady, IsRefusalCause, IsFullAt, phase_place};

@@ -1,5 +1,5 @@
 //! What one worker does over a session that workers take in turns.
-ghost use Rattle.std.specs.Prelude.{◌≡◌, ◌≢◌, ◌≤◌, ℕ, List, ◌∷◌, ◌++◌, [], true, length, OnOk, OnErr, IfOk};
+ghost use Rattle.std.specs.Prelude.{◌≡◌, ◌≢◌, ◌≤◌, List, ◌∷◌, ◌++◌, [], true, length, OnOk, OnErr, IfOk};
 ghost use Rattle.std.specs.Prelude.{MatchResult, Some, Err};
 ghost use Rattle.step_record.specs.declared.limits.TheConstants.{MAX_STRIPES};
 ghost use Rattle.step_record.specs.Answers.{AnswersItsActs, is_answer};

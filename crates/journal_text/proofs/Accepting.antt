@@ -5,7 +5,7 @@ use Rattle.std.proofs.lemmas.List.Elements.{All-head, All-tail}
 use Rattle.std.specs.List.{flat_map}
 use Rattle.std.specs.Prelude.{IfErr, OnOk}
 use Rattle.journal_text.specs.Faults.{Accepts, IsAtLine, IsFault, IsWrong}
-use Rattle.journal_text.specs.Journal.{begun, closing_line, ended_line, entry_line, header, journal_of, AreLines, JournalEntries, IsJournalText, IsTextOf}
+use Rattle.journal_text.specs.Journal.{begun, closing_line, ended_line, entry_line, header, journal_of, AreLines, IsJournalText, IsTextOf}
 use Rattle.journal_text.specs.declared.reader.TheConstants.{MAX_JOURNAL_BYTES}
 use Rattle.journal_text.specs.Table.{text_of, IsLine}
 use Rattle.journal_text.specs.declared.fault.JournalFault.{JournalFault}
@@ -15,20 +15,20 @@ use Rattle.journal_text.specs.declared.version.Version.{Version}
 use Rattle.journal_text.specs.declared.version.Version.TheVariants.{One, Two}
 use Rattle.journal_text.proofs.Fronts.{header_lacks, no_line, same_line}
 use Rattle.journal_text.proofs.Unique.{count_line, front_line, line_lacks, made_same, no_entry, nothing_ended, one_header, one_journal, one_line}
-use Rattle.step_record.specs.History.{after, went, IsLegal}
+use Rattle.step_record.specs.History.{after, went, IsLegal, Entries}
 use Rattle.step_record.specs.declared.entry.Entry.{Entry}
 use Rattle.step_record.specs.declared.step.Reply.{Reply}
 use Rattle.step_record.specs.declared.step.Step.{Step}
 use Rattle.text_lines.specs.Feeds.{HasNoFeed}
 
 -- what stands behind the lines of the first entries
-record Rest (v : Version) (n : ℕ) (es fs : JournalEntries) (z : List ℕ) : Type 0 where
-  gs : JournalEntries
+record Rest (v : Version) (n : ℕ) (es fs : Entries) (z : List ℕ) : Type 0 where
+  gs : Entries
   whole : es ≡ fs ++ gs
   text : z ≡ flat_map entry_line gs ++ closing_line v n
   lines : AreLines v gs
 
-rest_of : (v : Version) (n : ℕ) (es fs : JournalEntries) (z : List ℕ) → n < 2 ^ 64 → AreLines v es → AreLines v fs
+rest_of : (v : Version) (n : ℕ) (es fs : Entries) (z : List ℕ) → n < 2 ^ 64 → AreLines v es → AreLines v fs
     → flat_map entry_line es ++ closing_line v n ≡ flat_map entry_line fs ++ z → Rest v n es fs z
 rest_of v n es [] z h he hf e = record { gs = es; whole = refl; text = sym e; lines = he }
 rest_of v n [] (f ∷ fs) z h he hf e =
@@ -41,7 +41,7 @@ rest_of v n (x ∷ es) (y ∷ fs) z h he hf e =
     let first : x ≡ y = made_same both.0 in
     record { gs = later.gs; whole = ap (λ t. x ∷ t) later.whole ∙ ap (λ t. t ∷ (fs ++ later.gs)) first; text = later.text; lines = later.lines }
 
-journal_rest : (v w : Version) (es fs : JournalEntries) (z : List ℕ) → length es < 2 ^ 64 → AreLines v es → AreLines w fs
+journal_rest : (v w : Version) (es fs : Entries) (z : List ℕ) → length es < 2 ^ 64 → AreLines v es → AreLines w fs
     → journal_of v es ≡ begun w fs ++ z → (v ≡ w) × Rest v (length es) es fs z
 unfolding begun
 journal_rest v w es fs z h he hf e =
@@ -54,16 +54,16 @@ journal_rest v w es fs z h he hf e =
     (version, rest_of v (length es) es fs z h he (subst (λ u. AreLines u fs) (sym version) hf) rest)
 
 -- the line that stands there: the count, or an entry
-data Next (v : Version) (n : ℕ) (es fs : JournalEntries) (text : List ℕ) : Type 0 where
+data Next (v : Version) (n : ℕ) (es fs : Entries) (text : List ℕ) : Type 0 where
   Closes : v ≡ Two → es ≡ fs → text ≡ text_of (Steps n) → Next v n es fs text
-  Goes : (g : Entry Step Reply) (gs : JournalEntries) → es ≡ fs ++ g ∷ gs → IsLine v (Made g) → text ≡ text_of (Made g) → Next v n es fs text
+  Goes : (g : Entry Step Reply) (gs : Entries) → es ≡ fs ++ g ∷ gs → IsLine v (Made g) → text ≡ text_of (Made g) → Next v n es fs text
 
-next_none : (v : Version) (n : ℕ) (es fs : JournalEntries) (text more : List ℕ) → n < 2 ^ 64 → HasNoFeed text → es ≡ fs → ended_line text ++ more ≡ closing_line v n → Next v n es fs text
+next_none : (v : Version) (n : ℕ) (es fs : Entries) (text more : List ℕ) → n < 2 ^ 64 → HasNoFeed text → es ≡ fs → ended_line text ++ more ≡ closing_line v n → Next v n es fs text
 next_none One n es fs text more h k same e = absurd (nothing_ended text more (sym e))
 next_none Two n es fs text more h k same e =
     Closes refl same (same_line text (text_of (Steps n)) more [] k (line_lacks Two (Steps n) (count_line n h)) (e ∙ sym (append-nil (ended_line (text_of (Steps n)))))).0
 
-next_of : (v : Version) (n : ℕ) (es fs : JournalEntries) (text more : List ℕ) (gs : JournalEntries) → n < 2 ^ 64 → HasNoFeed text → AreLines v gs → es ≡ fs ++ gs
+next_of : (v : Version) (n : ℕ) (es fs : Entries) (text more : List ℕ) (gs : Entries) → n < 2 ^ 64 → HasNoFeed text → AreLines v gs → es ≡ fs ++ gs
     → ended_line text ++ more ≡ flat_map entry_line gs ++ closing_line v n → Next v n es fs text
 next_of v n es fs text more [] h k l w e = next_none v n es fs text more h k (w ∙ append-nil fs) e
 next_of v n es fs text more (g ∷ gs) h k l w e =
@@ -77,7 +77,7 @@ count_apart v n e two h k t =
     absurd (cc)
 
 module _ {D : Type 0} (act : D → Step → Option (Reply × D)) where
-  legal_at : (x : D) (fs : JournalEntries) (g : Entry Step Reply) (gs : JournalEntries) → IsLegal act x (fs ++ g ∷ gs)
+  legal_at : (x : D) (fs : Entries) (g : Entry Step Reply) (gs : Entries) → IsLegal act x (fs ++ g ∷ gs)
       → act (after act x fs) g.step ≡ Some (g.reply, went (act (after act x fs) g.step) (after act x fs))
   legal_at x [] g gs h = h.0
   legal_at x (f ∷ fs) g gs h = legal_at (went (act x f.step) x) fs g gs h.1
@@ -85,7 +85,7 @@ module _ {D : Type 0} (act : D → Step → Option (Reply × D)) where
 pair_same : {A B : Type 0} (p q : A × B) → Some p ≡ Some q → p.0 ≡ q.0
 pair_same p q h = let same : p ≡ q = cc in ap (λ r. r.0) same
 
-past_count : (m n : ℕ) (gs : JournalEntries) (more : List ℕ) → m < 2 ^ 64 → n < 2 ^ 64 → AreLines Two gs
+past_count : (m n : ℕ) (gs : Entries) (more : List ℕ) → m < 2 ^ 64 → n < 2 ^ 64 → AreLines Two gs
     → ended_line (text_of (Steps m)) ++ more ≡ flat_map entry_line gs ++ closing_line Two n → more ≡ []
 past_count m n [] more hm hn l e =
     (front_line Two (Steps m) (Steps n) more [] (count_line m hm) (count_line n hn) (e ∙ sym (append-nil (ended_line (text_of (Steps n)))))).1
@@ -94,7 +94,7 @@ past_count m n (g ∷ gs) more hm hn l e =
     (e ∙ append_assoc (entry_line g) (flat_map entry_line gs) (closing_line Two n))).0 in
     absurd (cc)
 
-cut_short : (v : Version) (n : ℕ) (gs : JournalEntries) (rest : List ℕ) → n < 2 ^ 64 → AreLines v gs → HasNoFeed rest → (v ≡ One → 0 < length rest)
+cut_short : (v : Version) (n : ℕ) (gs : Entries) (rest : List ℕ) → n < 2 ^ 64 → AreLines v gs → HasNoFeed rest → (v ≡ One → 0 < length rest)
     → rest ≡ flat_map entry_line gs ++ closing_line v n → ⊥
 cut_short One n [] rest h l k some e =
     let none : length rest ≡ 0 = ap length e in
@@ -104,12 +104,12 @@ cut_short v n (g ∷ gs) rest h l k some e =
     no_line rest (text_of (Made g)) (flat_map entry_line gs ++ closing_line v n) k (line_lacks v (Made g) (All-head (λ y. IsLine v (Made y)) g gs l))
     (e ∙ append_assoc (entry_line g) (flat_map entry_line gs) (closing_line v n))
 
-header_front : (v : Version) (es : JournalEntries) → journal_of v es ≡ ended_line (header v) ++ (flat_map entry_line es ++ closing_line v (length es))
+header_front : (v : Version) (es : Entries) → journal_of v es ≡ ended_line (header v) ++ (flat_map entry_line es ++ closing_line v (length es))
 unfolding begun
 header_front v es = append_assoc (ended_line (header v)) (flat_map entry_line es) (closing_line v (length es))
 
 -- what is known of a text that the session takes
-record Fine {D : Type 0} (act : D → Step → Option (Reply × D)) (x : D) (limit : ℕ) (es : JournalEntries) : Type 0 where
+record Fine {D : Type 0} (act : D → Step → Option (Reply × D)) (x : D) (limit : ℕ) (es : Entries) : Type 0 where
   legal : IsLegal act x es
   room : length es ≤ limit
   few : length es < 2 ^ 64
@@ -119,18 +119,18 @@ abbrev IsOutside : JournalFault → Type 0
 IsOutside f = (f ≡ fault.OutOfMemory) ⊎ (f ≡ fault.Read)
 
 -- a journal has a byte for each entry
-lines_enough : (es : JournalEntries) → length es ≤ length (flat_map entry_line es)
+lines_enough : (es : Entries) → length es ≤ length (flat_map entry_line es)
 lines_enough [] = omega arith
 lines_enough (e ∷ es) =
     omega (arith, lines_enough es, length-append (entry_line e) (flat_map entry_line es), length-append (text_of (Made e)) (10 ∷ []))
 
-enough : (v : Version) (es : JournalEntries) → length es ≤ length (journal_of v es)
+enough : (v : Version) (es : Entries) → length es ≤ length (journal_of v es)
 unfolding begun
 enough v es =
     omega (arith, lines_enough es, length-append (begun v es) (closing_line v (length es)), length-append (ended_line (header v)) (flat_map entry_line es))
 
-module _ {D : Type 0} (act : D → Step → Option (Reply × D)) (x : D) (limit : ℕ) (v : Version) (es kept : JournalEntries) where
-  never : (f : JournalFault) (fs : JournalEntries) (text : List ℕ) → Fine act x limit es → Next v (length es) es fs text → IsWrong act x limit f v fs text kept → IsOutside f
+module _ {D : Type 0} (act : D → Step → Option (Reply × D)) (x : D) (limit : ℕ) (v : Version) (es kept : Entries) where
+  never : (f : JournalFault) (fs : Entries) (text : List ℕ) → Fine act x limit es → Next v (length es) es fs text → IsWrong act x limit f v fs text kept → IsOutside f
   never fault.OutOfMemory fs text ok next h = inl refl
   never (fault.Line n) fs text ok (Closes two same t) h = absurd (h.2 (Steps (length es)) (subst (λ u. IsLine u (Steps (length es))) (sym two) (count_line (length es) ok.few)) (sym t))
   never (fault.Line n) fs text ok (Goes g gs w line t) h = absurd (h.2 (Made g) line (sym t))
@@ -202,8 +202,8 @@ module _ {D : Type 0} (act : D → Step → Option (Reply × D)) (x : D) (limit 
   no_fault fault.TooLarge ok lines size h = absurd (omega (arith, size, h.1))
 
 -- So a journal that the session takes is accepted.
-module _ {D : Type 0} (act : D → Step → Option (Reply × D)) (x : D) (limit : ℕ) (bytes : List ℕ) (es kept : JournalEntries) where
-  few_of : (fs : JournalEntries) → IsTextOf bytes fs → length bytes ≤ MAX_JOURNAL_BYTES → length fs < 2 ^ 64
+module _ {D : Type 0} (act : D → Step → Option (Reply × D)) (x : D) (limit : ℕ) (bytes : List ℕ) (es kept : Entries) where
+  few_of : (fs : Entries) → IsTextOf bytes fs → length bytes ≤ MAX_JOURNAL_BYTES → length fs < 2 ^ 64
   few_of fs whole size = omega (arith, size, ap length whole.text, enough whole.version fs)
 
   pub accepts : {T : Type 0} (r : Result T JournalFault) → IsJournalText act x limit bytes es

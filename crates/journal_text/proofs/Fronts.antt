@@ -4,7 +4,7 @@ use Rattle.std.proofs.lemmas.List.Elements.{All-from_recursion, All-push}
 use Rattle.std.proofs.lemmas.List.{append-nil, flat_map_more}
 use Rattle.std.specs.Prelude.{IfErr, IsErrAnd, OnOk}
 use Rattle.journal_text.specs.Faults.{IsFault, IsUnread, IsWrong, Took}
-use Rattle.journal_text.specs.Journal.{begun, ended_line, entry_line, header, journal_of, AreLines, JournalEntries, IsTextOf}
+use Rattle.journal_text.specs.Journal.{begun, ended_line, entry_line, header, journal_of, AreLines, IsTextOf}
 use Rattle.journal_text.specs.Table.{text_of, IsLine}
 use Rattle.journal_text.specs.declared.fault.JournalFault.{JournalFault}
 use Rattle.journal_text.specs.declared.fault.JournalFault.TheVariants as fault
@@ -14,6 +14,7 @@ use Rattle.journal_text.specs.declared.version.Version.TheVariants.{One, Two}
 use Rattle.step_record.specs.declared.entry.Entry.{Entry}
 use Rattle.step_record.specs.declared.step.Reply.{Reply}
 use Rattle.step_record.specs.declared.step.Step.{Step}
+use Rattle.step_record.specs.History.{Entries}
 use Rattle.text_lines.proofs.Feeds.{has_lines, lines_fed, one_unfed}
 use Rattle.text_lines.specs.Feeds.{lines_of, HasNoFeed}
 
@@ -21,7 +22,7 @@ pub begun_none : (v : Version) → begun v [] ≡ ended_line (header v)
 unfolding begun
 begun_none v = append-nil (ended_line (header v))
 
-pub begun_more : (v : Version) (es : JournalEntries) (e : Entry Step Reply) → begun v (es ++ e ∷ []) ≡ begun v es ++ entry_line e
+pub begun_more : (v : Version) (es : Entries) (e : Entry Step Reply) → begun v (es ++ e ∷ []) ≡ begun v es ++ entry_line e
 unfolding begun
 begun_more v es e = sym (flat_map_more entry_line (ended_line (header v)) es e)
 
@@ -45,7 +46,7 @@ header_lacks Two = All-from_recursion (λ b. (b == 10) ≡ false) (header Two) (
 -- ---- the lines behind the header
 
 -- an entry more was taken, and its line is gone
-pub line_gone : (v : Version) (old new : JournalEntries) (text rest behind whole : List ℕ) (closed : Bool) → closed ≡ false → Took closed v text old new
+pub line_gone : (v : Version) (old new : Entries) (text rest behind whole : List ℕ) (closed : Bool) → closed ≡ false → Took closed v text old new
     → begun v old ++ rest ≡ whole → rest ≡ ended_line text ++ behind → begun v new ++ behind ≡ whole
 line_gone v old new text rest behind whole closed more took before line =
     let t = subst (λ b. Took b v text old new) more took in
@@ -53,13 +54,13 @@ line_gone v old new text rest behind whole closed more took before line =
     ∙ ap (λ x. begun v old ++ (ended_line x ++ behind)) t.2 ∙ ap (λ r. begun v old ++ r) (sym line) ∙ before
 
 -- and it is a line of the table too
-pub line_more : (v : Version) (old new : JournalEntries) (text : List ℕ) (closed : Bool) → closed ≡ false → Took closed v text old new → AreLines v old → AreLines v new
+pub line_more : (v : Version) (old new : Entries) (text : List ℕ) (closed : Bool) → closed ≡ false → Took closed v text old new → AreLines v old → AreLines v new
 line_more v old new text closed more took lines =
     let t = subst (λ b. Took b v text old new) more took in
     subst (AreLines v) (sym t.3) (All-push (λ e. IsLine v (Made e)) old t.0 lines t.1)
 
 -- the count was taken: what came are the entries of version 2 and their count
-pub closed_text : (v : Version) (old new : JournalEntries) (text rest behind whole : List ℕ) (closed : Bool) → closed ≡ true → Took closed v text old new
+pub closed_text : (v : Version) (old new : Entries) (text rest behind whole : List ℕ) (closed : Bool) → closed ≡ true → Took closed v text old new
     → begun v old ++ rest ≡ whole → rest ≡ ended_line text ++ behind → whole ≡ journal_of Two new ++ behind
 closed_text v old new text rest behind whole closed done took before line =
     let t = subst (λ b. Took b v text old new) done took in
@@ -68,7 +69,7 @@ closed_text v old new text rest behind whole closed done took before line =
     sym before ∙ ap (λ f. f ++ rest) front ∙ ap (λ r. begun Two new ++ r) (line ∙ ap (λ x. ended_line x ++ behind) count)
     ∙ sym (append_assoc (begun Two new) (ended_line (text_of (Steps (length new)))) behind)
 
-pub closed_lines : (v : Version) (old new : JournalEntries) (text : List ℕ) (closed : Bool) → closed ≡ true → Took closed v text old new → AreLines v old → AreLines Two new
+pub closed_lines : (v : Version) (old new : Entries) (text : List ℕ) (closed : Bool) → closed ≡ true → Took closed v text old new → AreLines v old → AreLines Two new
 closed_lines v old new text closed done took lines =
     let t = subst (λ b. Took b v text old new) done took in
     subst (AreLines Two) (sym t.2) (subst (λ w. AreLines w old) t.0 lines)
@@ -82,7 +83,7 @@ errs (Err y) e P h p = subst P (sym h) p
 
 module _ {D : Type 0} (act : D → Step → Option (Reply × D)) (x : D) (limit : ℕ) where
   -- a line that is wrong is the fault of the text
-  pub wrong_line : (f : JournalFault) (v : Version) (es : JournalEntries) (text rest behind whole : List ℕ) (kept : JournalEntries) → AreLines v es
+  pub wrong_line : (f : JournalFault) (v : Version) (es : Entries) (text rest behind whole : List ℕ) (kept : Entries) → AreLines v es
       → begun v es ++ rest ≡ whole → rest ≡ ended_line text ++ behind → HasNoFeed text → IsWrong act x limit f v es text kept → IsFault act x limit f whole kept
   wrong_line fault.OutOfMemory v es text rest behind whole kept lines before line lacks wrong =
       inr (v, rest, sym before ∙ ap (λ k. begun v k ++ rest) (sym wrong))
@@ -102,7 +103,7 @@ module _ {D : Type 0} (act : D → Step → Option (Reply × D)) (x : D) (limit 
   wrong_line fault.TooLarge v es text rest behind whole kept lines before line lacks wrong = absurd wrong
 
   -- and it is found at a line
-  pub late : (f : JournalFault) (v : Version) (es : JournalEntries) (text : List ℕ) (kept : JournalEntries) → IsWrong act x limit f v es text kept → IsUnread f → ⊥
+  pub late : (f : JournalFault) (v : Version) (es : Entries) (text : List ℕ) (kept : Entries) → IsWrong act x limit f v es text kept → IsUnread f → ⊥
   late fault.OutOfMemory v es text kept wrong u = u
   late (fault.Line n) v es text kept wrong u = u
   late (fault.FalseReply n) v es text kept wrong u = u
@@ -119,13 +120,13 @@ module _ {D : Type 0} (act : D → Step → Option (Reply × D)) (x : D) (limit 
   some_left (y ∷ ys) other = omega arith
 
   -- behind the count
-  pub closed_ok : {T : Type 0} (r : Result T JournalFault) (whole behind : List ℕ) (kept : JournalEntries) → AreLines Two kept → whole ≡ journal_of Two kept ++ behind
+  pub closed_ok : {T : Type 0} (r : Result T JournalFault) (whole behind : List ℕ) (kept : Entries) → AreLines Two kept → whole ≡ journal_of Two kept ++ behind
       → OnOk r (behind ≡ []) → OnOk r (IsTextOf whole kept)
   closed_ok (Ok u) whole behind kept lines text none =
       record { version = Two; lines = lines; text = text ∙ ap (λ b. journal_of Two kept ++ b) none ∙ append-nil (journal_of Two kept) }
   closed_ok (Err f) whole behind kept lines text none = tt
 
-  pub closed_err : {T : Type 0} (r : Result T JournalFault) (whole behind : List ℕ) (kept : JournalEntries) → AreLines Two kept → whole ≡ journal_of Two kept ++ behind
+  pub closed_err : {T : Type 0} (r : Result T JournalFault) (whole behind : List ℕ) (kept : Entries) → AreLines Two kept → whole ≡ journal_of Two kept ++ behind
       → IfErr r (λ f. (f ≡ fault.Line (length kept + 2)) × (behind ≢ [])) → IfErr r (λ f. IsFault act x limit f whole kept)
   closed_err (Ok u) whole behind kept lines text h = tt
   closed_err (Err f) whole behind kept lines text h =
@@ -136,13 +137,13 @@ module _ {D : Type 0} (act : D → Step → Option (Reply × D)) (x : D) (limit 
   closed_late (Err f) n behind h = subst (λ g. IsUnread g → ⊥) (sym h.0) (λ u. u)
 
   -- where no line more has its line feed
-  pub stopped_ok : {T : Type 0} (r : Result T JournalFault) (v : Version) (whole rest : List ℕ) (kept : JournalEntries) → AreLines v kept → begun v kept ++ rest ≡ whole
+  pub stopped_ok : {T : Type 0} (r : Result T JournalFault) (v : Version) (whole rest : List ℕ) (kept : Entries) → AreLines v kept → begun v kept ++ rest ≡ whole
       → OnOk r ((v ≡ One) × (rest ≡ [])) → OnOk r (IsTextOf whole kept)
   stopped_ok (Ok u) v whole rest kept lines text h =
       record { version = One; lines = subst (λ w. AreLines w kept) h.0 lines; text = sym text ∙ ap (λ b. begun v kept ++ b) h.1 ∙ ap (λ w. begun w kept ++ []) h.0 }
   stopped_ok (Err f) v whole rest kept lines text h = tt
 
-  pub stopped_err : {T : Type 0} (r : Result T JournalFault) (v : Version) (whole rest : List ℕ) (kept : JournalEntries) → AreLines v kept → begun v kept ++ rest ≡ whole → HasNoFeed rest
+  pub stopped_err : {T : Type 0} (r : Result T JournalFault) (v : Version) (whole rest : List ℕ) (kept : Entries) → AreLines v kept → begun v kept ++ rest ≡ whole → HasNoFeed rest
       → IfErr r (λ f. (f ≡ fault.Unended) × (v ≡ One → 0 < length rest)) → IfErr r (λ f. IsFault act x limit f whole kept)
   stopped_err (Ok u) v whole rest kept lines text lacks h = tt
   stopped_err (Err f) v whole rest kept lines text lacks h =

@@ -3,7 +3,7 @@ use Rattle.std.proofs.Common.{◌≡◌, ◌≢◌, ◌∙◌, ◌<◌, ◌^◌,
 use Rattle.std.proofs.lemmas.List.{append-nil, append_cancel_left}
 use Rattle.std.proofs.lemmas.List.Elements.{All-head, All-tail}
 use Rattle.std.specs.List.{flat_map}
-use Rattle.journal_text.specs.Journal.{begun, closing_line, ended_line, entry_line, header, journal_of, AreLines, JournalEntries}
+use Rattle.journal_text.specs.Journal.{begun, closing_line, ended_line, entry_line, header, journal_of, AreLines}
 use Rattle.journal_text.specs.Reading.{journal_line_in}
 use Rattle.journal_text.specs.Table.{text_of, IsLine}
 use Rattle.journal_text.specs.declared.line.Line.{Line}
@@ -17,6 +17,7 @@ use Rattle.journal_text.proofs.LineLaws.{line_again, spelled_lacks}
 use Rattle.step_record.specs.declared.entry.Entry.{Entry}
 use Rattle.step_record.specs.declared.step.Reply.{Reply}
 use Rattle.step_record.specs.declared.step.Step.{Step}
+use Rattle.step_record.specs.History.{Entries}
 use Rattle.text_lines.specs.Feeds.{HasNoFeed}
 
 same_some : {A : Type 0} {x y : A} → Some x ≡ Some y → x ≡ y
@@ -58,7 +59,7 @@ no_entry Two n f y h k e =
     let line : Steps n ≡ Made f = both.0 in
     absurd (cc)
 
-rest_same : (v : Version) (m n : ℕ) (es fs : JournalEntries) → m < 2 ^ 64 → n < 2 ^ 64 → AreLines v es → AreLines v fs
+rest_same : (v : Version) (m n : ℕ) (es fs : Entries) → m < 2 ^ 64 → n < 2 ^ 64 → AreLines v es → AreLines v fs
     → flat_map entry_line es ++ closing_line v m ≡ flat_map entry_line fs ++ closing_line v n → es ≡ fs
 rest_same v m n [] [] hm hn he hf e = refl
 rest_same v m n [] (f ∷ fs) hm hn he hf e =
@@ -83,7 +84,7 @@ one_header Two One e = absurd (digits_apart (ap (λ (h : List ℕ). get_or h 17 
 one_header Two Two e = refl
 
 -- So a text that was written and is read gives the entries that were written.
-pub one_journal : (v w : Version) (es fs : JournalEntries) → length es < 2 ^ 64 → length fs < 2 ^ 64 → AreLines v es → AreLines w fs
+pub one_journal : (v w : Version) (es fs : Entries) → length es < 2 ^ 64 → length fs < 2 ^ 64 → AreLines v es → AreLines w fs
     → journal_of v es ≡ journal_of w fs → (v ≡ w) × (es ≡ fs)
 unfolding begun
 one_journal v w es fs m n he hf e =

@@ -3,13 +3,13 @@ use Rattle.std.proofs.Common.{◌≡◌, ◌∙◌, ◌++◌, List, [], ◌∷�
 use Rattle.std.proofs.lemmas.List.{append-nil}
 use Rattle.std.proofs.lemmas.List.Elements.{All-cons, All-head, All-nil, All-tail}
 use Rattle.std.specs.Io.KnownBytes.{append_known, Appends, Keeps}
-use Rattle.journal_text.specs.Journal.{AreLines, JournalEntries}
+use Rattle.journal_text.specs.Journal.{AreLines}
 use Rattle.journal_text.specs.Table.{entry_words, is_answer_in, Fit, IsLine}
 use Rattle.journal_text.specs.Writing.{AreFit, IsTextWritten}
 use Rattle.journal_text.specs.declared.line.Line.TheVariants.{Made}
 use Rattle.journal_text.specs.declared.version.Version.TheVariants.{Two}
 use Rattle.step_record.specs.Answers.{is_answer, AnswersItsActs}
-use Rattle.step_record.specs.History.{went, IsLegal}
+use Rattle.step_record.specs.History.{went, IsLegal, Entries}
 use Rattle.step_record.specs.declared.entry.Entry.{Entry}
 use Rattle.step_record.specs.declared.step.Reply.{Reply}
 use Rattle.step_record.specs.declared.step.Step.{Step}
@@ -60,7 +60,7 @@ unfolding IsLine is_answer_in
 line_of_two e fit answer = (fit, answer)
 
 module _ {D : Type 0} (act : D → Step → Option (Reply × D)) where
-  pub lines_of_two : (x : D) (es : JournalEntries) → AnswersItsActs act → IsLegal act x es → AreFit es → AreLines Two es
+  pub lines_of_two : (x : D) (es : Entries) → AnswersItsActs act → IsLegal act x es → AreFit es → AreLines Two es
   lines_of_two x [] answers legal fit = All-nil (λ e. IsLine Two (Made e))
   lines_of_two x (e ∷ es) answers legal fit =
       All-cons (λ e. IsLine Two (Made e)) e es

@@ -1,7 +1,7 @@
 -- Why a text is not a journal that a session takes, and which entries the session then holds.
-use Rattle.std.specs.Prelude.{◌≡◌, ◌≢◌, ◌<◌, ◌+◌, ◌⊎◌, ◌==◌, ℕ, Bool, true, false, Option, Some, None, Result, Ok, Err}
+use Rattle.std.specs.Prelude.{◌≡◌, ◌≢◌, ◌<◌, ◌+◌, ◌⊎◌, ℕ, Bool, true, false, Option, Some, None, Result, Ok, Err}
 use Rattle.std.specs.Prelude.{List, [], ◌∷◌, ◌++◌, length}
-use Rattle.journal_text.specs.Journal.{begun, ended_line, header, journal_of, AreLines, JournalEntries}
+use Rattle.journal_text.specs.Journal.{begun, ended_line, header, journal_of, AreLines}
 use Rattle.journal_text.specs.Table.{text_of, IsLine}
 use Rattle.journal_text.specs.declared.fault.JournalFault.{JournalFault}
 use Rattle.journal_text.specs.declared.fault.JournalFault.TheVariants as fault
@@ -10,7 +10,7 @@ use Rattle.journal_text.specs.declared.line.Line.TheVariants.{Made, Steps}
 use Rattle.journal_text.specs.declared.reader.TheConstants.{MAX_JOURNAL_BYTES}
 use Rattle.journal_text.specs.declared.version.Version.{Version}
 use Rattle.journal_text.specs.declared.version.Version.TheVariants.{One, Two}
-use Rattle.step_record.specs.History.{after}
+use Rattle.step_record.specs.History.{after, Entries}
 use Rattle.step_record.specs.declared.entry.Entry.{Entry}
 use Rattle.step_record.specs.declared.step.Reply.{Reply}
 use Rattle.step_record.specs.declared.step.Step.{Step}
@@ -21,13 +21,13 @@ abbrev pub IsLineOf : Version → Entry Step Reply → List ℕ → Type 0
 IsLineOf v e text = IsLine v (Made e) × (text_of (Made e) ≡ text)
 
 -- the bytes begin with the lines of the entries, if there are any
-abbrev pub StandsIn : List ℕ → JournalEntries → Type 0
+abbrev pub StandsIn : List ℕ → Entries → Type 0
 StandsIn bytes kept = (kept ≡ []) ⊎ ((v : Version) × (more : List ℕ) × (bytes ≡ begun v kept ++ more))
 
 -- a session that was opened on x
 module _ {D : Type 0} (act : D → Step → Option (Reply × D)) (x : D) (limit : ℕ) where
   -- What is wrong with the line that stands behind the lines of the entries es, and what is kept then.
-  abbrev pub IsWrong : JournalFault → Version → JournalEntries → List ℕ → JournalEntries → Type 0
+  abbrev pub IsWrong : JournalFault → Version → Entries → List ℕ → Entries → Type 0
   -- it is no line of the table
   IsWrong (fault.Line n) v es text kept =
       (n ≡ length es + 1) × (kept ≡ es) × ((l : Line) → IsLine v l → text_of l ≡ text → ⊥)
@@ -54,12 +54,12 @@ module _ {D : Type 0} (act : D → Step → Option (Reply × D)) (x : D) (limit 
   IsWrong fault.TooLarge v es text kept = ⊥
 
   -- Behind the lines of some entries stands a line that is wrong: the first that is, since the session made those.
-  abbrev pub IsAtLine : JournalFault → List ℕ → JournalEntries → Type 0
-  IsAtLine f bytes kept = (v : Version) × (es : JournalEntries) × (text : List ℕ) × (more : List ℕ)
+  abbrev pub IsAtLine : JournalFault → List ℕ → Entries → Type 0
+  IsAtLine f bytes kept = (v : Version) × (es : Entries) × (text : List ℕ) × (more : List ℕ)
       × AreLines v es × (bytes ≡ begun v es ++ (ended_line text ++ more)) × HasNoFeed text × IsWrong f v es text kept
 
   -- What a fault says of the bytes, and of the entries that are kept then.
-  abbrev pub IsFault : JournalFault → List ℕ → JournalEntries → Type 0
+  abbrev pub IsFault : JournalFault → List ℕ → Entries → Type 0
   IsFault fault.OutOfMemory bytes kept = StandsIn bytes kept
   -- the first line is no header, or has no line feed
   IsFault fault.Header bytes kept = (kept ≡ [])
@@ -79,7 +79,7 @@ module _ {D : Type 0} (act : D → Step → Option (Reply × D)) (x : D) (limit 
   IsFault fault.TooLarge bytes kept = (kept ≡ []) × (MAX_JOURNAL_BYTES < length bytes)
 
 -- A line was taken: its entry is added, or it is the right count.
-abbrev pub Took : Bool → Version → List ℕ → JournalEntries → JournalEntries → Type 0
+abbrev pub Took : Bool → Version → List ℕ → Entries → Entries → Type 0
 Took false v text old new =
     (e : Entry Step Reply) × IsLine v (Made e) × (text_of (Made e) ≡ text) × (new ≡ old ++ e ∷ [])
 Took true v text old new = (v ≡ Two) × (text_of (Steps (length old)) ≡ text) × (new ≡ old)
@@ -92,7 +92,7 @@ IsUnread fault.TooLarge = Unit {0}
 IsUnread _ = ⊥
 
 -- The entries of a journal were taken, unless memory or the reader failed.
-abbrev pub Accepts : {T : Type 0} → Result T JournalFault → JournalEntries → JournalEntries → Type 0
+abbrev pub Accepts : {T : Type 0} → Result T JournalFault → Entries → Entries → Type 0
 Accepts (Ok u) kept es = kept ≡ es
 Accepts (Err f) kept es = (f ≡ fault.OutOfMemory) ⊎ (f ≡ fault.Read)
 

@@ -7,13 +7,10 @@ use Rattle.journal_text.specs.declared.line.Line.TheVariants.{Made, Steps}
 use Rattle.journal_text.specs.declared.reader.TheConstants.{MAX_JOURNAL_BYTES}
 use Rattle.journal_text.specs.declared.version.Version.{Version}
 use Rattle.journal_text.specs.declared.version.Version.TheVariants.{One, Two}
-use Rattle.step_record.specs.History.{IsLegal}
+use Rattle.step_record.specs.History.{IsLegal, Entries}
 use Rattle.step_record.specs.declared.entry.Entry.{Entry}
 use Rattle.step_record.specs.declared.step.Reply.{Reply}
 use Rattle.step_record.specs.declared.step.Step.{Step}
-
-abbrev pub JournalEntries : Type 0
-JournalEntries = List (Entry Step Reply)
 
 abbrev pub header : Version → List ℕ
 header One = codes "cachesim journal 1"
@@ -27,7 +24,7 @@ abbrev pub entry_line : Entry Step Reply → List ℕ
 entry_line e = ended_line (text_of (Made e))
 
 -- the header and the lines of the entries
-unfoldable pub begun : Version → JournalEntries → List ℕ
+unfoldable pub begun : Version → Entries → List ℕ
 begun v es = ended_line (header v) ++ flat_map entry_line es
 
 -- behind the entries of version 2, their count
@@ -36,15 +33,15 @@ closing_line One n = []
 closing_line Two n = ended_line (text_of (Steps n))
 
 -- the text of a journal of these entries
-abbrev pub journal_of : Version → JournalEntries → List ℕ
+abbrev pub journal_of : Version → Entries → List ℕ
 journal_of v es = begun v es ++ closing_line v (length es)
 
 -- each entry is a line of the table
-abbrev pub AreLines : Version → JournalEntries → Type 0
+abbrev pub AreLines : Version → Entries → Type 0
 AreLines v es = All (λ e. IsLine v (Made e)) es
 
 -- the bytes are the text of these entries, in either version
-pub record IsTextOf (bytes : List ℕ) (es : JournalEntries) : Type 0 where
+pub record IsTextOf (bytes : List ℕ) (es : Entries) : Type 0 where
   pub version : Version
   pub lines : AreLines version es
   pub text : bytes ≡ journal_of version es
@@ -52,7 +49,7 @@ pub record IsTextOf (bytes : List ℕ) (es : JournalEntries) : Type 0 where
 -- The journals that a session takes which was opened on x: the text of entries that are legal from
 -- there and for which it has room, of at most as many bytes as a journal may have.
 pub record IsJournalText {D : Type 0} (act : D → Step → Option (Reply × D)) (x : D) (limit : ℕ)
-    (bytes : List ℕ) (es : JournalEntries) : Type 0 where
+    (bytes : List ℕ) (es : Entries) : Type 0 where
   pub whole : IsTextOf bytes es
   pub legal : IsLegal act x es
   pub room : length es ≤ limit

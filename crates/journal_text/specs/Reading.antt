@@ -19,6 +19,7 @@ use Rattle.step_record.specs.declared.step.Answer.TheVariants as answer
 use Rattle.step_record.specs.declared.step.Reply.{Reply}
 use Rattle.step_record.specs.declared.step.Reply.TheVariants as reply
 use Rattle.step_record.specs.declared.step.Step.{Step}
+use Rattle.step_record.specs.declared.worker.TheConstants.{MAX_WORKERS}
 use Rattle.text_lines.specs.Numbers.{number_of}
 use Rattle.text_lines.specs.Reads.{◌>>=◌, with_rest, Reads, at_end}
 
@@ -114,7 +115,7 @@ only_steps name.Steps = Some tt
 only_steps _ = None
 
 unfoldable pub entry_in : List (List ℕ) → Option (Entry Step Reply)
-entry_in ws = small_at 64 ws >>= λ w. (act_at w.1 >>= λ a. (name_at a.1 >>= λ n. (only_equals n.0 >>= λ _.
+entry_in ws = small_at MAX_WORKERS ws >>= λ w. (act_at w.1 >>= λ a. (name_at a.1 >>= λ n. (only_equals n.0 >>= λ _.
     (reply_at n.1 >>= λ r. at_end (record { step = record { worker = w.0; act = a.0 }; reply = r.0 }, r.1)))))
 
 unfoldable pub count_in : List (List ℕ) → Option ℕ

@@ -21,6 +21,7 @@ use Rattle.step_record.specs.declared.step.Answer.TheVariants as answer
 use Rattle.step_record.specs.declared.step.Reply.{Reply}
 use Rattle.step_record.specs.declared.step.Reply.TheVariants as reply
 use Rattle.step_record.specs.declared.step.Step.{Step}
+use Rattle.step_record.specs.declared.worker.TheConstants.{MAX_WORKERS}
 
 abbrev pub item_words : Item → List Word
 item_words i = Wide i.key ∷ Wide i.node ∷ []
@@ -128,7 +129,7 @@ spaced (w ∷ ws) = 32 ∷ (word_text w ++ spaced ws)
 
 abbrev pub FitsWord : Word → Type 0
 FitsWord (Named n) = Unit {0}
-FitsWord (Worker n) = n < 64
+FitsWord (Worker n) = n < MAX_WORKERS
 FitsWord (Stripe n) = n < 256
 FitsWord (Wide n) = n < 2 ^ 64
 

@@ -2,7 +2,7 @@
 use Rattle.std.specs.Prelude.{ℕ, List, Option}
 use Rattle.std.specs.Io.KnownBytes.{append_known, Appends}
 use Rattle.std.specs.List.{All}
-use Rattle.journal_text.specs.Journal.{JournalEntries}
+use Rattle.step_record.specs.History.{Entries}
 use Rattle.journal_text.specs.Table.{entry_words, Fit}
 
 -- what the writer got since old, and what waits in the buffer, are these bytes
@@ -10,5 +10,5 @@ abbrev pub IsTextWritten : Option (List ℕ) → Option (List ℕ) → List ℕ 
 IsTextWritten old new waiting bytes = Appends old (append_known new waiting) bytes
 
 -- the numbers of each entry are in their ranges
-abbrev pub AreFit : JournalEntries → Type 0
+abbrev pub AreFit : Entries → Type 0
 AreFit es = All (λ e. Fit (entry_words e)) es

@@ -2,7 +2,7 @@
 ghost use Rattle.std.specs.Prelude.{◌≡◌, ◌≢◌, ◌≤◌, ◌<◌, ◌+◌, ◌++◌, ℕ, List, [], IfErr, OnOk, MatchOption, length};
 ghost use Rattle.journal_text.specs.Faults.{IsFault, IsUnread};
 ghost use Rattle.text_lines.specs.Feeds.{HasNoFeed};
-ghost use Rattle.journal_text.specs.Journal.{begun, ended_line, header, journal_of, AreLines, IsTextOf};
+ghost use Rattle.journal_text.specs.Journal.{ended_line, header, IsTextOf};
 ghost use Rattle.journal_text.specs.declared.version.Version.{Version};
 ghost use Rattle.journal_text.specs.declared.version.Version.TheVariants.{One};
 ghost use Rattle.journal.specs.Session.{IsSameSession};

@@ -1,7 +1,8 @@
 //! A session's journal from a reader.
-ghost use Rattle.std.specs.Prelude.{◌≡◌, ◌<◌, List, [], OnOk, IfErr, IfSome, length};
+ghost use Rattle.std.specs.Prelude.{◌≡◌, ◌<◌, [], OnOk, IfErr, IfSome, length};
+ghost use Rattle.step_record.specs.History.{Entries};
 ghost use Rattle.journal_text.specs.Faults.{Accepts, IsFault, IsRefusedAsLarge, IsUnread};
-ghost use Rattle.journal_text.specs.Journal.{JournalEntries, IsJournalText};
+ghost use Rattle.journal_text.specs.Journal.{IsJournalText};
 ghost use Rattle.journal.specs.Session.{IsSameSession};
 
 use super::JournalFault;
@@ -32,7 +33,7 @@ pub fn read_journal<R: Read, E: Engine<Step = Step, Reply = Reply>>(
     ensures ok { OnOk result (IfSome (R.remaining reader.old) (λ bytes.
         IsJournalText E.act session.old.opening session.old.limit bytes session.new.kept)) }
     // Each journal that the session takes is accepted, unless memory or the reader failed.
-    ensures accepts { IfSome (R.remaining reader.old) (λ bytes. (es : JournalEntries) →
+    ensures accepts { IfSome (R.remaining reader.old) (λ bytes. (es : Entries) →
         IsJournalText E.act session.old.opening session.old.limit bytes es → Accepts result session.new.kept es) }
     // What a fault says is so.
     ensures err { IfErr result (λ f. IfSome (R.remaining reader.old) (λ bytes.

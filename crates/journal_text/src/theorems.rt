@@ -1,7 +1,7 @@
 //! Theorems on the text of journals, on public functions with empty bodies.
 ghost use Rattle.std.specs.Prelude.{◌≡◌, ◌<◌, ◌≤◌, ◌^◌, ℕ, length};
 ghost use Rattle.journal.specs.Session.{IsSoundSession, SessionState};
-ghost use Rattle.journal_text.specs.Journal.{journal_of, AreLines, JournalEntries, IsJournalText};
+ghost use Rattle.journal_text.specs.Journal.{journal_of, AreLines, IsJournalText};
 ghost use Rattle.journal_text.specs.Table.{text_of, IsLine};
 ghost use Rattle.journal_text.specs.declared.line.Line.{Line};
 ghost use Rattle.journal_text.specs.declared.reader.TheConstants.{MAX_JOURNAL_BYTES};
@@ -9,6 +9,7 @@ ghost use Rattle.journal_text.specs.declared.version.Version.{Version};
 ghost use Rattle.journal_text.specs.declared.version.Version.TheVariants.{Two};
 ghost use Rattle.step_record.specs.declared.step.Reply.{Reply};
 ghost use Rattle.step_record.specs.declared.step.Step.{Step};
+ghost use Rattle.step_record.specs.History.{Entries};
 
 use step_record::{Engine, Reply, Step};
 
@@ -19,7 +20,7 @@ pub fn one_line()
 
 /// No text is the journal of two lists of entries.
 pub fn one_journal()
-    ensures { (v w : Version) (es fs : JournalEntries) → length es < 2 ^ 64 → length fs < 2 ^ 64
+    ensures { (v w : Version) (es fs : Entries) → length es < 2 ^ 64 → length fs < 2 ^ 64
         → AreLines v es → AreLines w fs → journal_of v es ≡ journal_of w fs → (v ≡ w) × (es ≡ fs) }
 {}
 

@@ -1,8 +1,7 @@
 -- The entries of a map from keys to nodes are the table's items, in the order of their keys.
-use Rattle.std.proofs.Common.{◌≡◌, ℕ, ◌<◌, true, false, cond, eqb, nat_lt, Some, None, List, [], ◌∷◌, ◌∙◌, sym, refl, ap, inl, inr}
+use Rattle.std.proofs.Common.{◌≡◌, ℕ, ◌<◌, true, cond, eqb, nat_lt, Some, None, List, [], ◌∷◌, sym, refl, ap, inl, inr}
 use Rattle.std.proofs.lemmas.Bool.{cases_Bool, and_from, eqb-true}
-use Rattle.std.proofs.Common.{Ordering}
-use Rattle.std.specs.declared.cmp.Ordering.TheVariants.{Less, Equal, Greater}
+use Rattle.std.specs.declared.cmp.Ordering.TheVariants.{Less}
 use Rattle.std.specs.Ordering.{MatchOrdering, match_ordering, nat_cmp, is_eq, eq_by_cmp}
 use Rattle.std.specs.Cmp.{ranks, unsigned_tied}
 use Rattle.std.specs.List.{AllByRecursion}

@@ -1,7 +1,6 @@
 //! What readers and writers do.
-ghost use Rattle.std.specs.Prelude.{◌≡◌, ◌<◌, ◌≤◌, length, Some, None, IfOk, OnOk, OnErr};
+ghost use Rattle.std.specs.Prelude.{◌≡◌, ◌<◌, length, Some, None, IfOk, OnOk, OnErr};
 ghost use Rattle.step_record.specs.declared.limits.TheConstants.{MAX_STEPS};
-ghost use Rattle.shell_buffers.specs.Buffers.{stripe_at};
 ghost use Rattle.shell_model.specs.Shell.{put, remove, begin, offer, after_write, after_read, held_by};
 ghost use Rattle.shell_model.specs.Records.{change_of};
 ghost use Rattle.step_record.specs.declared.step.Act.TheVariants as act;

@@ -1,11 +1,8 @@
 //! The parts of the shell together.
-ghost use Rattle.std.specs.Prelude.{◌≡◌, ◌≤◌, IfOk, Ok, [], replicate};
-ghost use Rattle.step_record.specs.Config.{config_fault};
-ghost use Rattle.admission.specs.Frequency.{IsFrequencyOf};
+ghost use Rattle.std.specs.Prelude.{◌≡◌, ◌≤◌};
 ghost use Rattle.replacement.specs.Rules.{three_queues};
 ghost use Rattle.replacement.specs.Plan.{candidate_of};
 ghost use Rattle.shell_model.specs.Shell.{is_over};
-ghost use Rattle.shell_model.specs.Laws.{opened};
 
 use crate::table::Table;
 use admission::Frequency;

@@ -1,12 +1,11 @@
 //! The shell as an engine.
-ghost use Rattle.std.specs.Prelude.{◌≡◌, ◌<◌, ◌≤◌, ◌^◌, ◌↔◌, Ok, Some, None, IfOk, OnOk, OnErr, List, [], map, length};
+ghost use Rattle.std.specs.Prelude.{◌≡◌, ◌<◌, ◌≤◌, Ok, Some, None, IfOk, length};
 ghost use Rattle.std.specs.Prelude.{option_map};
 ghost use Rattle.step_record.specs.declared.limits.TheConstants.{MAX_STRIPES};
 ghost use Rattle.step_record.specs.Config.{config_fault};
 ghost use Rattle.segments.specs.Queues.{queue_of};
 ghost use Rattle.shell_buffers.specs.Buffers.{stripe_at};
 ghost use Rattle.shell_model.specs.Shell.{node_of};
-ghost use Rattle.shell_model.specs.Laws.{opened, IsShapeOf};
 ghost use Rattle.shell_model.specs.Reached.{IsReachable};
 ghost use Rattle.maintenance.specs.Opened.{IsOpened, triple};
 

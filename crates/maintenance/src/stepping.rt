@@ -1,5 +1,5 @@
 //! One step.
-ghost use Rattle.std.specs.Prelude.{◌≡◌, ◌<◌, ◌≤◌, ◌↔◌, Some, None, IfOk, OnOk, OnErr, Err, IsSome, IfSome, IfNone};
+ghost use Rattle.std.specs.Prelude.{◌≡◌, ◌<◌, ◌≤◌, ◌↔◌, Some, None, IfOk, OnErr, Err, IsSome, IfSome, IfNone};
 ghost use Rattle.step_record.specs.declared.limits.TheConstants.{MAX_STEPS};
 ghost use Rattle.shell_model.specs.Shell.{perform, act as acted};
 ghost use Rattle.shell_model.specs.Records.{change_of};

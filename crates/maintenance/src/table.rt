@@ -1,5 +1,5 @@
 //! The table from keys to nodes.
-ghost use Rattle.std.specs.Prelude.{◌≡◌, [], ◌∷◌, true, Some, None, IfOk, OnOk, OnErr};
+ghost use Rattle.std.specs.Prelude.{◌≡◌, [], true, Some, None, IfOk, OnOk, OnErr};
 ghost use Rattle.segments.specs.Items.{items_without};
 ghost use Rattle.shell_model.specs.Shell.{node_of, placed, is_listed};
 ghost use Rattle.maintenance.specs.Table.{table_items};

@@ -1,5 +1,5 @@
 //! Undoing one step.
-ghost use Rattle.std.specs.Prelude.{◌≡◌, ◌<◌, ◌≤◌, length, Some, None, IfErr, OnOk, OnErr};
+ghost use Rattle.std.specs.Prelude.{◌≡◌, ◌<◌, Some, None, IfErr, OnOk, OnErr};
 ghost use Rattle.shell_model.specs.Records.{back, FitsMoveIfAny, before_use, FitsTouched, rephased, refilled, HasLeft};
 ghost use Rattle.shell_model.specs.Records.{unchanged, FitsChange, undone_step, FitsStep};
 ghost use Rattle.shell_model.specs.Consistent.{IsLeft};

@@ -1,6 +1,7 @@
 -- How the count of accesses and the age of the frequency go on in a cache of any policy.
-use Rattle.std.specs.Prelude.{◌≡◌, ℕ, ◌+◌, ◌^◌, Option, Some, None}
+use Rattle.std.specs.Prelude.{◌≡◌, ℕ, ◌+◌, Option, Some, None}
 use Rattle.std.proofs.Common.{ap, sym}
+use Rattle.step_record.specs.declared.limits.TheConstants.{MAX_STEPS}
 use Rattle.step_record.specs.declared.outcome.Outcome.{Outcome}
 use Rattle.step_record.specs.declared.outcome.Outcome.TheVariants.{Hit}
 use Rattle.step_record.specs.Pace.{IsPaced, still-paced}
@@ -60,7 +61,7 @@ any_counts (Optimal d) k o e h =
     let s : IsOptimalStep (clairvoyant_act d k) o e = optimal_step (clairvoyant_act d k) o e h in
     rw s.is (optimal_counts d k o s.next s.steps)
 
-pub any_ends : (d : AnyPolicy) (k : ℕ) → (stats_in d).accesses ≡ 2 ^ 32 → any_act d k ≡ None
+pub any_ends : (d : AnyPolicy) (k : ℕ) → (stats_in d).accesses ≡ MAX_STEPS → any_act d k ≡ None
 any_ends (Queues d) k h = ap as_queues (queue_ends d k h)
 any_ends (Optimal d) k h = ap as_optimal (optimal_ends d k h)
 

@@ -37,10 +37,10 @@ AnyFits (done.Optimal r) (Optimal d) = ClairvoyantFits r d
 AnyFits (done.Queues r) (Optimal d) = ⊥
 AnyFits (done.Optimal r) (Queues d) = ⊥
 
--- no item left queues in the step of the record
-abbrev pub NothingLeftQueues : AnyRecord → Type 0
-NothingLeftQueues (done.Queues r) = r.moves.out ≡ None
-NothingLeftQueues (done.Optimal r) = Unit {0}
+-- undoing the step asks for no room, since no item left the queues in it
+abbrev pub NeedsNoRoom : AnyRecord → Type 0
+NeedsNoRoom (done.Queues r) = r.moves.out ≡ None
+NeedsNoRoom (done.Optimal r) = Unit {0}
 
 abbrev pub any_words : AnyRecord → ℕ
 any_words (done.Queues r) = queue_words r

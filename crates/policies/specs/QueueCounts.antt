@@ -1,7 +1,8 @@
 -- How the count of accesses and the age of the frequency go on, as every engine promises.
-use Rattle.std.specs.Prelude.{◌≡◌, ℕ, ◌+◌, ◌^◌, ◌==◌, true, Option, Some, None}
+use Rattle.std.specs.Prelude.{◌≡◌, ℕ, ◌+◌, ◌==◌, true, Option, Some, None}
 use Rattle.std.proofs.Common.{sym, ap, inl, inr, refl, subst}
 use Rattle.std.proofs.lemmas.Bool.{cases_Bool, eq-eqb}
+use Rattle.step_record.specs.declared.limits.TheConstants.{MAX_STEPS}
 use Rattle.step_record.specs.declared.outcome.Outcome.{Outcome}
 use Rattle.step_record.specs.Pace.{IsPaced, still-paced}
 use Rattle.admission.specs.Frequency.{FrequencyData}
@@ -20,13 +21,13 @@ state_in d (Some p) = p.1
 pub act_counts : (d : QueueState) (k : ℕ) (o : Outcome) (e : QueueState) → queue_act d k ≡ Some (o, e)
     → e.stats.accesses ≡ d.stats.accesses + 1
 act_counts d k o e h =
-    elim (cases_Bool (d.stats.accesses == 4294967296)) [
+    elim (cases_Bool (d.stats.accesses == MAX_STEPS)) [
       | inl f ↦ absurd (let no : None ≡ Some (o, e) = rw f at h in cc (no))
       | inr f ↦ sym (ap accesses_after_step (rw f at h))
     ]
 
-pub act_ends : (d : QueueState) (k : ℕ) → d.stats.accesses ≡ 2 ^ 32 → queue_act d k ≡ None
-act_ends d k h = let f : (d.stats.accesses == 4294967296) ≡ true = eq-eqb d.stats.accesses 4294967296 h in rw f refl
+pub act_ends : (d : QueueState) (k : ℕ) → d.stats.accesses ≡ MAX_STEPS → queue_act d k ≡ None
+act_ends d k h = let f : (d.stats.accesses == MAX_STEPS) ≡ true = eq-eqb d.stats.accesses MAX_STEPS h in rw f refl
 
 paced-by : (k : ℕ) (f : Option FrequencyData) → IsPaced (pace_by f) (pace_by (recorded_in k f))
 paced-by k None = still-paced
@@ -35,7 +36,7 @@ paced-by k (Some f) = recorded_paced f k
 pub act_paced : (d : QueueState) (k : ℕ) (o : Outcome) (e : QueueState) → queue_act d k ≡ Some (o, e)
     → IsPaced (queue_pace d) (queue_pace e)
 act_paced d k o e h =
-    elim (cases_Bool (d.stats.accesses == 4294967296)) [
+    elim (cases_Bool (d.stats.accesses == MAX_STEPS)) [
       | inl f ↦ absurd (let no : None ≡ Some (o, e) = rw f at h in cc (no))
       | inr f ↦
           let same : accessed (recorded_in k d.frequency) k d ≡ e = ap (state_in d) (rw f at h) in

@@ -1,6 +1,7 @@
 -- What ties the fields of a cache of queues to what it shows.
-use Rattle.std.specs.Prelude.{◌≡◌, ◌≤◌, Option, Some, None}
+use Rattle.std.specs.Prelude.{◌≡◌, ◌+◌, ◌≤◌, Option, Some, None}
 use Rattle.step_record.specs.declared.job.Job.{Job}
+use Rattle.step_record.specs.declared.limits.TheConstants.{MAX_STEPS}
 use Rattle.step_record.specs.declared.stats.Stats.{Stats}
 use Rattle.segments.specs.Queues.{Queues}
 use Rattle.admission.specs.Frequency.{FrequencyData}
@@ -16,4 +17,4 @@ pub record IsHolding (j : Job) (r : Rules) (q : Queues) (f : Option FrequencyDat
 -- as few halvings as a recording requires
 abbrev pub FewHalvings : Option FrequencyData → Type 0
 FewHalvings None = Unit {0}
-FewHalvings (Some f) = f.halvings ≤ 4294967297
+FewHalvings (Some f) = f.halvings ≤ MAX_STEPS + 1

@@ -1,5 +1,6 @@
 -- How one access changes what a cache of queues shows, its undo record, and how the record undoes it.
 use Rattle.std.specs.Prelude.{ℕ, ◌≤◌, ◌==◌, if◌then◌else◌, Option, Some, None, List, length}
+use Rattle.step_record.specs.declared.limits.TheConstants.{MAX_STEPS}
 use Rattle.step_record.specs.declared.outcome.Outcome.{Outcome}
 use Rattle.step_record.specs.Stats.{uncounted, IsCounted}
 use Rattle.step_record.specs.Pace.{Pace, still}
@@ -18,10 +19,10 @@ abbrev pub recorded_in : ℕ → Option FrequencyData → Option FrequencyData
 recorded_in k None = None
 recorded_in k (Some f) = Some (recorded k f)
 
--- An access records its key, then moves. None is accepted after 2^32.
+-- An access records its key, then moves. None is accepted after MAX_STEPS.
 abbrev pub queue_act : QueueState → ℕ → Option (Outcome × QueueState)
 queue_act d k =
-    if d.stats.accesses == 4294967296
+    if d.stats.accesses == MAX_STEPS
     then None
     else Some ((access_response (recorded_in k d.frequency) k d).outcome, accessed (recorded_in k d.frequency) k d)
 
@@ -54,7 +55,7 @@ queue_undone r d = record {
 pub record IsReached (d : QueueState) : Type 0 where
   pub keys : List ℕ
   pub stands : StandsFor d.job keys d
-  pub few : length keys ≤ 4294967296
+  pub few : length keys ≤ MAX_STEPS
 
 -- each part of the record fits in its turn, and some list of accesses gives what undoing it leaves
 pub record QueueFits (r : AccessRecord) (d : QueueState) : Type 0 where

@@ -1,5 +1,6 @@
 -- What the definitions of the policies promise to callers that see a cache by its steps alone.
-use Rattle.std.specs.Prelude.{◌≡◌, ℕ, ◌≤◌, ◌^◌, Some, None, List, [], ◌∷◌, ◌++◌, length, slice_index_or}
+use Rattle.std.specs.Prelude.{◌≡◌, ℕ, ◌≤◌, Some, None, List, [], ◌∷◌, ◌++◌, length, slice_index_or}
+use Rattle.step_record.specs.declared.limits.TheConstants.{MAX_ACCESSES, MAX_STEPS}
 use Rattle.step_record.specs.declared.job.Job.{Job}
 use Rattle.step_record.specs.declared.job.Policy.TheVariants.{Lru}
 use Rattle.step_record.specs.declared.outcome.Outcome.{Outcome}
@@ -18,9 +19,9 @@ abbrev pub QueuesStand : Type 0
 QueuesStand = (j : Job) (keys : List ℕ) (d : QueueState) (k : ℕ) (o : Outcome) (e : QueueState) → StandsFor j keys d
     → queue_act d k ≡ Some (o, e) → (o ≡ outcome_after j keys k) × StandsFor j (keys ++ k ∷ []) e
 
--- It refuses a key only after 2^32 accesses.
+-- It refuses a key only after MAX_STEPS accesses.
 abbrev pub QueuesAccept : Type 0
-QueuesAccept = (d : QueueState) (k : ℕ) → queue_act d k ≡ None → d.stats.accesses ≡ 2 ^ 32
+QueuesAccept = (d : QueueState) (k : ℕ) → queue_act d k ≡ None → d.stats.accesses ≡ MAX_STEPS
 
 -- Its statistics are the counts of the outcomes.
 abbrev pub QueuesCount : Type 0
@@ -41,7 +42,7 @@ AnyStands = (j : Job) (trace keys : List ℕ) (d : AnyPolicy) (k : ℕ) (o : Out
 -- One that made the first accesses of a trace, fewer than all, accepts the next of them.
 abbrev pub AnyAccepts : Type 0
 AnyAccepts = (j : Job) (trace keys rest : List ℕ) (k : ℕ) (d : AnyPolicy)
-    → trace ≡ keys ++ k ∷ rest → length trace ≤ 2 ^ 24 → Stands j trace keys d → any_act d k ≡ None → ⊥
+    → trace ≡ keys ++ k ∷ rest → length trace ≤ MAX_ACCESSES → Stands j trace keys d → any_act d k ≡ None → ⊥
 
 -- What a cache shows after some accesses is determined by the job, the trace and the accesses.
 abbrev pub AnyIsOne : Type 0

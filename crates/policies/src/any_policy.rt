@@ -1,6 +1,7 @@
 //! All six policies as one engine.
-ghost use Rattle.std.specs.Prelude.{◌≡◌, ◌≤◌, ◌^◌, ◌↔◌, IfOk, IfErr, IfSome, OnOk, OnErr};
+ghost use Rattle.std.specs.Prelude.{◌≡◌, ◌≤◌, ◌↔◌, IfOk, IfErr, IfSome, OnOk, OnErr};
 ghost use Rattle.std.specs.Prelude.{Ok, Err, Some, None, [], option_map};
+ghost use Rattle.step_record.specs.declared.limits.TheConstants.{MAX_STEPS};
 
 use crate::queue_cache::QueueCache;
 use crate::record::AccessRecord;
@@ -137,7 +138,7 @@ impl AnyPolicy {
 
 impl Engine for AnyPolicy {
     ghost use Rattle.policies.specs.AnyPolicy.{stats_in};
-    ghost use Rattle.policies.specs.AnyStep.{any_act, any_undone, AnyFits, NothingLeftQueues, any_words, any_pace};
+    ghost use Rattle.policies.specs.AnyStep.{any_act, any_undone, AnyFits, NeedsNoRoom, any_words, any_pace};
     ghost use Rattle.policies.specs.AnyCounts.{any_counts, any_ends, any_paced};
 
     type Step = Key;
@@ -182,7 +183,7 @@ impl Engine for AnyPolicy {
         ensures err { OnErr result (self.new ≡ self.old) }
         ensures returned { IfErr result (λ r. r ≡ done) }
         // Only an item that left queues asks for room to come back.
-        ensures not_refused { NothingLeftQueues done → result ≡ Ok tt }
+        ensures not_refused { NeedsNoRoom done → result ≡ Ok tt }
     {
         match self {
             AnyPolicy::Queues(cache) => match done {
@@ -211,7 +212,7 @@ impl Engine for AnyPolicy {
 
     fn words(done: &AnyRecord) -> u64
         ensures words { result ≡ any_words done.now }
-        ensures bounded { result ≤ 2 ^ 32 }
+        ensures bounded { result ≤ MAX_STEPS }
     {
         match done {
             AnyRecord::Queues(done) => QueueCache::words(done),

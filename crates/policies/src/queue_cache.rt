@@ -1,6 +1,7 @@
 //! The five policies of queues, as one engine.
-ghost use Rattle.std.specs.Prelude.{◌≡◌, ◌≢◌, ◌+◌, ◌≤◌, ◌<◌, ◌^◌, ◌↔◌, ℕ, List, [], ◌∷◌, ◌++◌, option_map, map};
-ghost use Rattle.std.specs.Prelude.{IfOk, IfErr, OnOk, OnErr, IsTrue, Ok, Option, Some, None};
+ghost use Rattle.std.specs.Prelude.{◌≡◌, ◌≢◌, ◌+◌, ◌≤◌, ◌<◌, ◌↔◌, [], ◌++◌, option_map, map};
+ghost use Rattle.std.specs.Prelude.{IfOk, IfErr, OnOk, OnErr, Ok, Option, Some, None};
+ghost use Rattle.step_record.specs.declared.limits.TheConstants.{MAX_STEPS};
 ghost use Rattle.step_record.specs.Config.{config_fault};
 ghost use Rattle.step_record.specs.Pace.{words_of_halvings};
 ghost use Rattle.replacement.specs.Admission.{admits_in};
@@ -317,7 +318,7 @@ impl Engine for QueueCache {
 
     fn words(done: &AccessRecord) -> u64
         ensures words { result ≡ queue_words done.now }
-        ensures bounded { result ≤ 2 ^ 32 }
+        ensures bounded { result ≤ MAX_STEPS }
     {
         match &done.counting {
             Some(counting) => counting.words(),

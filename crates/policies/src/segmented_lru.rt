@@ -1,5 +1,6 @@
 //! Segmented Lru: a key has to be hit once to be protected.
-ghost use Rattle.std.specs.Prelude.{◌≡◌, ◌≤◌, ◌^◌, IfOk, IfErr, OnOk, OnErr, Ok, [], option_map, None};
+ghost use Rattle.std.specs.Prelude.{◌≡◌, ◌≤◌, IfOk, IfErr, OnOk, OnErr, Ok, [], option_map, None};
+ghost use Rattle.step_record.specs.declared.limits.TheConstants.{MAX_STEPS};
 
 use crate::queue_cache::QueueCache;
 use crate::record::AccessRecord;
@@ -115,7 +116,7 @@ impl Engine for SegmentedLru {
 
     fn words(done: &AccessRecord) -> u64
         ensures words { result ≡ queue_words done.now }
-        ensures bounded { result ≤ 2 ^ 32 }
+        ensures bounded { result ≤ MAX_STEPS }
     {
         QueueCache::words(done)
     }

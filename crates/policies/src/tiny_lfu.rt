@@ -1,5 +1,6 @@
 //! Lru or segmented Lru behind an admission filter (TinyLFU, 2017).
-ghost use Rattle.std.specs.Prelude.{◌≡◌, ◌≤◌, ◌^◌, IfOk, IfErr, OnOk, OnErr, Ok, [], cond, option_map, None};
+ghost use Rattle.std.specs.Prelude.{◌≡◌, ◌≤◌, IfOk, IfErr, OnOk, OnErr, Ok, [], cond, option_map, None};
+ghost use Rattle.step_record.specs.declared.limits.TheConstants.{MAX_STEPS};
 
 use crate::queue_cache::QueueCache;
 use crate::record::AccessRecord;
@@ -118,7 +119,7 @@ impl Engine for TinyLfu {
 
     fn words(done: &AccessRecord) -> u64
         ensures words { result ≡ queue_words done.now }
-        ensures bounded { result ≤ 2 ^ 32 }
+        ensures bounded { result ≤ MAX_STEPS }
     {
         QueueCache::words(done)
     }

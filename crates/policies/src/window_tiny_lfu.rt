@@ -1,5 +1,6 @@
 //! W-TinyLFU: a window before a filtered segmented Lru (TinyLFU, 2017; Caffeine's Design page).
-ghost use Rattle.std.specs.Prelude.{◌≡◌, ◌≤◌, ◌^◌, IfOk, IfErr, OnOk, OnErr, Ok, [], option_map, None};
+ghost use Rattle.std.specs.Prelude.{◌≡◌, ◌≤◌, IfOk, IfErr, OnOk, OnErr, Ok, [], option_map, None};
+ghost use Rattle.step_record.specs.declared.limits.TheConstants.{MAX_STEPS};
 
 use crate::queue_cache::QueueCache;
 use crate::record::AccessRecord;
@@ -115,7 +116,7 @@ impl Engine for WindowTinyLfu {
 
     fn words(done: &AccessRecord) -> u64
         ensures words { result ≡ queue_words done.now }
-        ensures bounded { result ≤ 2 ^ 32 }
+        ensures bounded { result ≤ MAX_STEPS }
     {
         QueueCache::words(done)
     }

@@ -2,7 +2,8 @@
 use Rattle.std.specs.Prelude.{◌≡◌, ℕ, ◌+◌, cond, nat_le, Option, Some, None, Result, Ok, Err, IfErr}
 use Rattle.std.specs.Prelude.{List, [], ◌∷◌, length}
 use Rattle.step_record.specs.Config.{config_fault, is_from_one}
-use Rattle.policy_actors.specs.declared.run.TheConstants.{MAX_ACTORS, MAX_BATCH}
+use Rattle.step_record.specs.declared.limits.TheConstants.{MAX_BATCH}
+use Rattle.policy_actors.specs.declared.run.TheConstants.{MAX_ACTORS}
 use Rattle.step_record.specs.declared.config.ConfigFault.{ConfigFault}
 use Rattle.step_record.specs.declared.job.Job.{Job}
 use Rattle.policy_actors.specs.declared.fault.ActorFault.{ActorFault}

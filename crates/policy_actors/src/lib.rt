@@ -16,7 +16,7 @@ mod several;
 mod single;
 
 pub use fault::ActorFault;
-pub use run::{MAX_ACTORS, MAX_BATCH, run_actors};
+pub use run::{MAX_ACTORS, run_actors};
 pub use several::sweep;
 pub use single::run_one;
 

@@ -3,6 +3,7 @@ ghost use Rattle.std.specs.Prelude.{◌≡◌, ◌<◌, ◌≤◌, ◌+◌, ◌*
 ghost use Rattle.std.specs.Prelude.{Ok, None, IfOk, OnOk, IfSome, IsTrue};
 ghost use denote.Param.Send.{IsSync};
 ghost use Rattle.step_record.specs.Config.{config_fault};
+ghost use Rattle.policy_actors.specs.declared.run.TheConstants.{MAX_ACTORS};
 ghost use Rattle.policy_actors.specs.Actors.{jobs_of, AllSent};
 ghost use Rattle.policy_actors.specs.Faults.{actor_fault, faulty_in, ReturnsFault};
 ghost use Rattle.policy_actors.specs.Reports.{report_on};
@@ -18,10 +19,7 @@ use std::marker::{Brand, PhantomData};
 use std::sync::Wait;
 use std::thread;
 use std::thread::{Promise, Threads};
-use step_record::{Gate, Job, Trace};
-
-/// The largest number of accesses in a batch.
-pub const MAX_BATCH: u32 = 65_536;
+use step_record::{Gate, Job, MAX_BATCH, Trace};
 
 /// The largest number of jobs that are run at once.
 pub const MAX_ACTORS: usize = 64;
@@ -81,7 +79,7 @@ fn run_with<S: Source + Send + Sync + 'static, R: Threads + Wait + Sync, G: Gate
 ) -> Result<Vec<Report>, AllocError>
     requires trace { trace.now ≡ S.keys }
     requires size { (size ≡ S.size) × (0 < size) }
-    requires few { length jobs.now ≤ 64 }
+    requires few { length jobs.now ≤ MAX_ACTORS }
     requires checked { faulty_in jobs.now ≡ None }
     ensures { IfOk result (λ v. v.items ≡ map (λ j. report_on j S.keys) jobs.now) }
 {
@@ -99,7 +97,7 @@ fn run_as<S: Source + Send + Sync + 'static, R: Threads + Wait + Sync, G: Gate>(
     gate: &G,
 ) -> Result<Vec<Report>, AllocError>
     requires rounds { (0 < rounds) × (length S.keys ≤ rounds * S.size) }
-    requires few { length jobs.now ≤ 64 }
+    requires few { length jobs.now ≤ MAX_ACTORS }
     requires checked { faulty_in jobs.now ≡ None }
     ensures { IfOk result (λ v. v.items ≡ map (λ j. report_on j S.keys) jobs.now) }
 {
@@ -107,7 +105,7 @@ fn run_as<S: Source + Send + Sync + 'static, R: Threads + Wait + Sync, G: Gate>(
         thread::scope_env(),
         rt,
         move |scope| -> Result<Vec<Report>, AllocError>
-            requires { IsSync R.row × IsSync G.row × (length jobs.now ≤ 64) × (faulty_in jobs.now ≡ None) }
+            requires { IsSync R.row × IsSync G.row × (length jobs.now ≤ MAX_ACTORS) × (faulty_in jobs.now ≡ None) }
             ensures { IfOk result (λ v. v.items ≡ map (λ j. report_on j S.keys) jobs.entry.now) }
         {
             let mut handles = Vec::new(alloc);

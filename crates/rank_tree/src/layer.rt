@@ -1,5 +1,5 @@
 //! A set as bits in words, over a smaller set.
-ghost use Rattle.std.specs.Prelude.{◌≡◌, ℕ, ◌*◌, ◌≤◌, length};
+ghost use Rattle.std.specs.Prelude.{◌≡◌, ◌*◌, ◌≤◌, length};
 ghost use Rattle.bits_and_lists.specs.Bits.{bit_of};
 ghost use Rattle.rank_tree.specs.declared.limits.TheConstants.{WORD_BITS, MAX_WORDS};
 ghost use Rattle.rank_tree.specs.Bits.{IsAbove};

@@ -1,10 +1,9 @@
 -- Carrying a plan out is undone by its record.
-use Rattle.std.proofs.Common.{◌≡◌, ◌+◌, ◌≤◌, Option, Some, None, List, length, ap, sym, refl, arith, subst}
+use Rattle.std.proofs.Common.{◌≡◌, Option, Some, None, ap, sym, refl, arith, subst}
 use Rattle.step_record.specs.declared.item.Item.{Item}
 use Rattle.segments.specs.declared.records.Queue.{Queue}
-use Rattle.segments.specs.declared.records.Queue.TheVariants.{Window, Probation, Protected}
 use Rattle.segments.specs.declared.records.MoveRecord.{MoveRecord}
-use Rattle.segments.specs.Items.{first, items_without}
+use Rattle.segments.specs.Items.{first}
 use Rattle.segments.specs.Queues.{Queues, queue_of, place_of, pushed, taken, moved, popped, IsDistinct}
 use Rattle.segments.specs.Moves.{move_record}
 use Rattle.segments.proofs.ItemLists.{times-without}

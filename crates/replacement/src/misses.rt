@@ -1,5 +1,5 @@
 //! A miss, and one eviction.
-ghost use Rattle.std.specs.Prelude.{◌≡◌, ◌≤◌, ◌+◌, Option, Some, None, option_map};
+ghost use Rattle.std.specs.Prelude.{◌≡◌, ◌≤◌, Option, Some, None, option_map};
 ghost use Rattle.segments.specs.Queues.{place_of, moved, IsDistinct};
 ghost use Rattle.replacement.specs.Admission.{admits_in};
 ghost use Rattle.replacement.specs.Table.{eviction};

@@ -1,7 +1,7 @@
 //! What a policy of queues goes by.
 ghost use Rattle.std.specs.Prelude.{◌≡◌, ◌≤◌, Ok};
 ghost use Rattle.step_record.specs.Config.{config_fault};
-ghost use Rattle.replacement.specs.Rules.{main_size, protected_size, one_queue, two_queues, three_queues};
+ghost use Rattle.replacement.specs.Rules.{main_size, one_queue, two_queues, three_queues};
 
 use segments::Queue;
 use step_record::Config;

@@ -1,5 +1,5 @@
 //! Single moves in the queues, each of which knows beforehand where its item stands.
-ghost use Rattle.std.specs.Prelude.{◌≡◌, ◌≤◌, ◌+◌, Option, Some, None};
+ghost use Rattle.std.specs.Prelude.{◌≡◌, ◌≤◌, ◌+◌, Some, None};
 ghost use Rattle.segments.specs.Items.{first};
 ghost use Rattle.segments.specs.Queues.{queue_of, place_of, taken, moved, popped, total_items, IsDistinct};
 ghost use Rattle.segments.specs.Moves.{move_record};

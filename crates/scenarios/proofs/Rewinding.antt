@@ -1,22 +1,18 @@
 -- A run, and its last steps undone.
-use Rattle.std.proofs.Common.{◌≡◌, ◌↔◌, ℕ, ◌-◌, ◌<◌, ◌≤◌, List, [], ◌∷◌, ◌++◌, Option, Some, Result, Ok, Err, OnOk, get_or, length, take, sym, ap, ◌∙◌, subst, arith}
+use Rattle.std.proofs.Common.{◌≡◌, ◌↔◌, ℕ, ◌-◌, ◌<◌, List, [], ◌∷◌, ◌++◌, Option, Some, Result, Ok, Err, OnOk, get_or, length, take, sym, ap, ◌∙◌, subst, arith}
 use Rattle.std.specs.Prelude.{IfErr}
 use Rattle.std.proofs.Math.Seq.{take-length}
 use Rattle.std.proofs.lemmas.List.{take-append-le}
-use Rattle.step_record.specs.declared.entry.Entry.{Entry}
 use Rattle.step_record.specs.declared.step.Call.{Call}
-use Rattle.step_record.specs.declared.step.Reply.{Reply}
-use Rattle.step_record.specs.declared.step.Step.{Step}
-use Rattle.step_record.specs.History.{went, after, IsLegal}
+use Rattle.step_record.specs.History.{after, IsLegal, Entries}
 use Rattle.shell_model.specs.Shell.{Shell, act}
-use Rattle.journal.specs.Session.{IsMovedTo, IsSameSession}
+use Rattle.journal.specs.Session.{IsMovedTo}
 use Rattle.journal.specs.Faults.{StandsBack}
 use Rattle.journal.specs.declared.fault.BackFault.{BackFault}
 use Rattle.journal.specs.declared.fault.BackFault.TheVariants as back
 use Rattle.drive.specs.declared.driving.Cause.{Cause}
 use Rattle.drive.specs.declared.driving.Cause.TheVariants.{JournalFull}
-use Rattle.drive.specs.Walks.{Entries}
-use Rattle.drive.specs.Driven.{IsRun, entries_of}
+use Rattle.drive.specs.Driven.{IsRun}
 use Rattle.drive.specs.Desks.{ShellSession}
 use Rattle.drive.proofs.Turning.{legal_split, after_append}
 use Rattle.scenarios.specs.Rewound.{IsAnswered, AreMade, IsRewound, undone_of}

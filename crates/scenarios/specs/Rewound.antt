@@ -5,13 +5,13 @@ use Rattle.step_record.specs.declared.entry.Entry.{Entry}
 use Rattle.step_record.specs.declared.step.Call.{Call}
 use Rattle.step_record.specs.declared.step.Reply.{Reply}
 use Rattle.step_record.specs.declared.step.Step.{Step}
-use Rattle.step_record.specs.History.{after}
+use Rattle.step_record.specs.History.{after, Entries}
 use Rattle.shell_model.specs.Shell.{Shell, act}
 use Rattle.journal.specs.declared.fault.BackFault.{BackFault}
 use Rattle.journal.specs.declared.fault.BackFault.TheVariants as back
 use Rattle.drive.specs.declared.driving.Cause.{Cause}
 use Rattle.drive.specs.declared.driving.Cause.TheVariants.{JournalFull}
-use Rattle.drive.specs.Walks.{Entries, AreWalks}
+use Rattle.drive.specs.Walks.{AreWalks}
 use Rattle.drive.specs.Made.{BeginWalks}
 use Rattle.drive.specs.Driven.{entries_of}
 use Rattle.drive.specs.Desks.{ShellSession}

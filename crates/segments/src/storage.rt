@@ -1,6 +1,6 @@
 //! The queues, in linked slots.
-ghost use Rattle.std.specs.Prelude.{◌≡◌, ◌↔◌, ◌+◌, ◌≤◌, ◌∷◌, ℕ, Ok, List, [], length, Option, Some, None, MatchOption};
-ghost use Rattle.std.specs.Prelude.{IfOk, OnOk, IfSome, IfNone, OnSome};
+ghost use Rattle.std.specs.Prelude.{◌≡◌, ◌↔◌, ◌+◌, ◌≤◌, Ok, [], length, Option, Some, None, MatchOption};
+ghost use Rattle.std.specs.Prelude.{IfOk, OnOk, IfSome, IfNone};
 ghost use Rattle.segments.specs.Items.{first};
 ghost use Rattle.segments.specs.Queues.{empty, queue_of, place_of, IsDistinct, pushed, taken, moved, popped};
 ghost use Rattle.segments.specs.Queues.{refreshed_to};

@@ -1,15 +1,14 @@
 -- What the shell keeps as an engine: its replies belong to their acts, it counts its steps, its frequency ages as a
 -- sketch does, and a record's words are those of its halving.
-use Rattle.std.proofs.Common.{◌≡◌, ℕ, ◌+◌, ◌*◌, ◌^◌, ◌≤◌, true, false, cond, eqb, nat_lt, Option, Some, None, ap, subst, sym, ◌∙◌, refl, arith, inl, inr}
+use Rattle.std.proofs.Common.{◌≡◌, ℕ, ◌+◌, ◌^◌, true, false, eqb, nat_lt, Option, Some, None, ap, subst, sym, ◌∙◌, refl, arith, inl, inr}
 use Rattle.std.proofs.lemmas.Bool.{cases_Bool, eqb-true}
 use Rattle.step_record.specs.declared.step.Act.{Act}
 use Rattle.step_record.specs.declared.step.Act.TheVariants as a
 use Rattle.step_record.specs.declared.step.Step.{Step}
 use Rattle.step_record.specs.declared.step.Reply.{Reply}
-use Rattle.step_record.specs.declared.drain.Phase.TheVariants.{Writes, Evictions}
 use Rattle.step_record.specs.declared.step.Reply.TheVariants as reply
 use Rattle.step_record.specs.Answers.{is_answer, AnswersItsActs}
-use Rattle.step_record.specs.Pace.{Pace, IsPaced, GoesOn, words_of_halvings}
+use Rattle.step_record.specs.Pace.{Pace, IsPaced, words_of_halvings}
 use Rattle.admission.specs.declared.freq_record.FreqRecord.{FreqRecord}
 use Rattle.admission.specs.FreqRecord.{size_of}
 use Rattle.admission.specs.Frequency.{FrequencyData, pace_of}

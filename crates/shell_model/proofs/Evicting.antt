@@ -4,7 +4,7 @@ use Rattle.std.proofs.lemmas.Bool.{cases_Bool}
 use Rattle.step_record.specs.declared.item.Item.{Item}
 use Rattle.segments.specs.declared.records.Queue.TheVariants.{Probation}
 use Rattle.segments.specs.Items.{same, items_without, first}
-use Rattle.segments.specs.Queues.{moved, total_items, IsDistinct}
+use Rattle.segments.specs.Queues.{moved, total_items}
 use Rattle.replacement.specs.Rules.{three_queues}
 use Rattle.replacement.specs.Plan.{candidate_of}
 use Rattle.replacement.specs.Table.{Response, contest as contest_in, trial, trial_of, eviction}

@@ -1,5 +1,5 @@
 -- Who holds the maintenance, and in which phase.
-use Rattle.std.proofs.Common.{◌≡◌, ℕ, suc, zero, ◌+◌, ◌*◌, ◌/◌, ◌^◌, ◌≤◌, Bool, true, false, cond, Option, Some, None, List, [], ◌∷◌, replicate, ap, ◌∙◌, refl, arith}
+use Rattle.std.proofs.Common.{◌≡◌, ℕ, suc, zero, ◌+◌, ◌*◌, ◌/◌, ◌≤◌, Bool, true, false, cond, Option, Some, None, List, [], ◌∷◌, replicate, ap, ◌∙◌, refl, arith}
 use Rattle.step_record.specs.declared.config.Config.{Config}
 use Rattle.step_record.specs.declared.step.Act.{Act}
 use Rattle.step_record.specs.declared.step.Act.TheVariants as a
@@ -15,9 +15,8 @@ use Rattle.admission.proofs.Weighing.{frequency_is}
 use Rattle.shell_model.specs.declared.holder.Holder.{Holder}
 use Rattle.shell_model.specs.ShellStats.{is_hit_reply, is_miss_reply, is_kept_reply, is_full_reply, is_lost_reply, is_added_reply, is_updated_reply, is_refused_reply, is_eviction_reply, is_rejection_reply, is_begun_reply, is_busy_reply, is_removed_reply}
 use Rattle.shell_buffers.specs.Buffers.{stripe_at}
-use Rattle.replacement.specs.Rules.{main_size}
 use Rattle.shell_model.specs.Shell.{Shell, may_write, act}
-use Rattle.shell_model.specs.Consistent.{IsConsistent, main_length}
+use Rattle.shell_model.specs.Consistent.{IsConsistent}
 use Rattle.shell_model.specs.Laws.{MadeStep, collect, IsShapeOf, opened, added, is_ending, is_drain_write, is_evict, some_end, some_act, phase_after, open_from, open_began, seat_of, seat_from, AreReplies, HistoryLaws}
 use Rattle.shell_model.proofs.Making as k
 use Rattle.shell_model.proofs.Making.{Makes}

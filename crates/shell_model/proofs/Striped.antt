@@ -1,11 +1,11 @@
 -- A reachable shell has as many read buffers as its configuration says, and these are 1 to 64.
-use Rattle.std.proofs.Common.{◌≡◌, ℕ, suc, zero, ◌≤◌, ◌==◌, nat_le, Bool, true, false, ◌&&◌, if◌then◌else◌, Ok, Err, List, [], ◌∷◌, length, replicate, set, ap, ◌∙◌, sym, refl, arith, inl, inr, length-set}
+use Rattle.std.proofs.Common.{◌≡◌, ℕ, suc, zero, ◌≤◌, nat_le, true, false, ◌&&◌, Ok, List, [], ◌∷◌, length, replicate, set, ap, ◌∙◌, sym, refl, arith, inl, inr, length-set}
 use Rattle.std.specs.Int.{is_power_of_two}
 use Rattle.std.proofs.lemmas.Bool.{cases_Bool, and_parts}
 use Rattle.std.proofs.lemmas.Bool.Decides.{nat_tests}
 use Rattle.step_record.specs.declared.config.Config.{Config}
 use Rattle.step_record.specs.declared.item.Item.{Item}
-use Rattle.step_record.specs.declared.limits.TheConstants.{MAX_CAPACITY, MAX_JOURNAL_LIMIT, MAX_MAIN_PERCENT, MAX_STRIPES}
+use Rattle.step_record.specs.declared.limits.TheConstants.{MAX_CAPACITY, MAX_MAIN_PERCENT, MAX_STRIPES}
 use Rattle.step_record.specs.declared.step.Act.{Act}
 use Rattle.step_record.specs.declared.step.Reply.{Reply}
 use Rattle.step_record.specs.Config.{is_from_one, config_fault}

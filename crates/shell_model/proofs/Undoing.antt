@@ -1,5 +1,5 @@
 -- Each step's change fits what the step left, and undoes it.
-use Rattle.std.proofs.Common.{◌≡◌, ℕ, suc, zero, ◌+◌, ◌-◌, ◌<◌, ◌≤◌, Bool, true, false, cond, ◌&&◌, eqb, nat_lt, Option, Some, None, List, [], ◌∷◌, ◌++◌, length, set, ap, sym, subst, ◌∙◌, refl, arith, inl, inr, length-append}
+use Rattle.std.proofs.Common.{◌≡◌, ℕ, suc, zero, ◌+◌, ◌-◌, ◌<◌, ◌≤◌, Bool, true, false, cond, ◌&&◌, eqb, nat_lt, Option, Some, None, List, [], ◌∷◌, ◌++◌, length, set, ap, sym, subst, refl, arith, inl, inr, length-append}
 use Rattle.std.proofs.lemmas.Bool.{and_parts, cases_Bool}
 use Rattle.std.proofs.lemmas.Bool.Decides.{nat_tests}
 use Rattle.std.proofs.lemmas.List.{take_at, get_or-set_same, set-set, set-get_or, length-set}
@@ -13,7 +13,7 @@ use Rattle.segments.specs.declared.records.Queue.{Queue}
 use Rattle.segments.specs.declared.records.Queue.TheVariants.{Window, Probation}
 use Rattle.segments.specs.declared.records.MoveRecord.{MoveRecord}
 use Rattle.segments.specs.Items.{same, times, first}
-use Rattle.segments.specs.Queues.{Queues, place_of, pushed, moved, taken, total_items, IsDistinct}
+use Rattle.segments.specs.Queues.{Queues, place_of, pushed, moved, taken, IsDistinct}
 use Rattle.segments.proofs.ItemLists.{same-refl, same-true}
 use Rattle.segments.proofs.MoveLaws.{out_leads, taken-none}
 use Rattle.replacement.specs.declared.record.Moves.{Moves}
@@ -28,14 +28,14 @@ use Rattle.shell_buffers.specs.declared.task.Task.TheVariants.{Add, Update, Remo
 use Rattle.shell_model.specs.declared.holder.Holder.{Holder}
 use Rattle.shell_model.specs.declared.record.UseRecord.{UseRecord}
 use Rattle.shell_model.specs.declared.record.Change.{Change}
-use Rattle.shell_model.specs.declared.record.Change.TheVariants.{Nothing, Offered, Removed, Passed, Evicted, Ended}
+use Rattle.shell_model.specs.declared.record.Change.TheVariants.{Nothing, Offered, Removed, Passed, Ended}
 use Rattle.shell_model.specs.Frequency.{frequency_unrecorded, admits}
 use Rattle.shell_buffers.specs.Buffers.{stripe_at, but_newest}
 use Rattle.shell_model.specs.Shell.{Shell, node_of, is_listed, unlisted, shell_protected_size, cleared_from, offer, put, put_at, removing, remove_at, begin, is_over, held_by, in_phase, drain_at_end, touching, drain_read, drain_write, apply_task, evict, end, when, may_read, may_write, is_stripe, hold_read, hold_write, hold_evict, hold_end, perform}
 use Rattle.shell_model.specs.Evicting.{unlisted_by, evicted_by}
 use Rattle.shell_model.specs.Records.{IsNewest, back, FitsMoveIfAny, FitsTouched, entered, IsOut, unchanged, FitsChange, hit_moves, touched_of, added_of, cleared_of, task_change, put_change, remove_change, begin_change, read_change, write_change, leaves_table, planned_change, evict_change, if_held, change_of}
 use Rattle.shell_model.specs.Consistent.{IsConsistent, queued, waiting_tasks, leaving, IsAscending}
-use Rattle.shell_model.proofs.Counting.{queued-moved, distinct-moved, without-placed, node_of-placed, placed-without, node_of-without, listed-times, node-listed}
+use Rattle.shell_model.proofs.Counting.{queued-moved, without-placed, node_of-placed, placed-without, node_of-without, listed-times, node-listed}
 use Rattle.shell_model.proofs.Evicting.{evictions-by-plan}
 use Rattle.shell_model.proofs.Frequency.{fits_recorded, unrecorded-recorded}
 

@@ -1,6 +1,6 @@
 -- The shell's state, and what each step makes of it.
-use Rattle.std.specs.Prelude.{ℕ, ◌+◌, ◌-◌, ◌*◌, ◌/◌, nat_lt, Bool, true, false, cond, ◌&&◌, eqb, Option, Some, None}
-use Rattle.std.specs.Prelude.{List, [], ◌∷◌, ◌++◌, length, set, get_or}
+use Rattle.std.specs.Prelude.{ℕ, ◌+◌, ◌-◌, nat_lt, Bool, true, false, cond, ◌&&◌, eqb, Option, Some, None}
+use Rattle.std.specs.Prelude.{List, [], ◌∷◌, ◌++◌, length, set}
 use Rattle.step_record.specs.declared.limits.TheConstants.{MAX_STEPS}
 use Rattle.shell_buffers.specs.declared.stripes.TheConstants.{MAX_ITEMS}
 use Rattle.shell_buffers.specs.declared.write_tasks.TheConstants.{MAX_TASKS}
@@ -21,7 +21,7 @@ use Rattle.step_record.specs.declared.drain.Drain.{Drain as DrainState}
 use Rattle.step_record.specs.declared.drain.Drain.TheVariants as drain
 use Rattle.step_record.specs.declared.drain.Phase.{Phase}
 use Rattle.step_record.specs.declared.drain.Phase.TheVariants.{Reads, Writes, Evictions}
-use Rattle.segments.specs.declared.records.Queue.TheVariants.{Window, Probation, Protected}
+use Rattle.segments.specs.declared.records.Queue.TheVariants.{Window, Probation}
 use Rattle.segments.specs.declared.records.Queue.{Queue}
 use Rattle.segments.specs.Items.{same, items_without, first}
 use Rattle.segments.specs.Queues.{Queues, place_of, pushed, taken, moved, total_items}

@@ -1,4 +1,5 @@
 ghost use Rattle.std.specs.Prelude.{◌≡◌, ◌≤◌, []};
+ghost use Rattle.step_record.specs.declared.limits.TheConstants.{MAX_JOURNAL_LIMIT};
 
 use super::showing::{assert_shows, shown};
 use super::walking::{CONFIG, opened, read};
@@ -87,7 +88,7 @@ fn reading(
     text: &[u8],
     limit: usize,
 ) -> Result<(Result<(), JournalFault>, usize), Fail>
-    requires { (1 ≤ limit) × (limit ≤ 16777216) }
+    requires { (1 ≤ limit) × (limit ≤ MAX_JOURNAL_LIMIT) }
 {
     let mut session = opened(rt, alloc, CONFIG, limit)?;
     let mut reader = text;

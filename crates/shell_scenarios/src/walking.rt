@@ -1,5 +1,6 @@
 //! Sessions to test, and steps with the replies that they are to get.
 ghost use Rattle.std.specs.Prelude.{◌≡◌, ◌≤◌, [], IfOk};
+ghost use Rattle.step_record.specs.declared.limits.TheConstants.{MAX_JOURNAL_LIMIT};
 
 use super::showing::assert_shows;
 use journal::{Session, SessionFault};
@@ -26,7 +27,7 @@ pub fn opened(
     config: Config,
     limit: usize,
 ) -> Result<Session<Shell>, Fail>
-    requires { (1 ≤ limit) × (limit ≤ 16777216) }
+    requires { (1 ≤ limit) × (limit ≤ MAX_JOURNAL_LIMIT) }
     ensures kept { IfOk result (λ s. s.kept ≡ []) }
     ensures tail { IfOk result (λ s. s.tail ≡ []) }
 {

@@ -1,5 +1,5 @@
 //! Sixteen counters in a word.
-ghost use Rattle.std.specs.Prelude.{◌≡◌, ◌≢◌, ◌<◌, ◌≤◌, ◌+◌, ◌-◌, ◌^◌, ◌*◌, ◌/◌, length, ℕ, min, cond, true};
+ghost use Rattle.std.specs.Prelude.{◌≡◌, ◌≢◌, ◌<◌, ◌≤◌, ◌+◌, ◌-◌, ◌*◌, ◌/◌, length, ℕ, min, cond, true};
 ghost use Rattle.sketch.specs.Counters.{counter_at};
 
 /// The counter at a place.

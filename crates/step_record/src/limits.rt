@@ -15,6 +15,9 @@ pub const MAX_JOURNAL_LIMIT: u32 = 1 << 24;
 /// The largest number of steps that an engine has applied at one time: 2^32.
 pub const MAX_STEPS: u64 = 1 << 32;
 
+/// The largest number of accesses of a trace that a policy is given at once: 2^16.
+pub const MAX_BATCH: u32 = 1 << 16;
+
 /// The largest number of accesses of a trace: 2^24.
 pub const MAX_ACCESSES: usize = 1 << 24;
 

@@ -1,5 +1,5 @@
 //! What the concurrent cache is asked, one step at a time, and what it answers.
-ghost use Rattle.std.specs.Prelude.{◌≡◌, ℕ};
+ghost use Rattle.std.specs.Prelude.{◌≡◌};
 ghost use Rattle.step_record.specs.Answers.{is_answer};
 
 use super::item::{Item, Key, Node};

@@ -2,14 +2,15 @@
 use Rattle.std.specs.Prelude.{◌≡◌, ℕ, ◌≤◌, [], ◌∷◌, Some, None, Option}
 use Rattle.atomic_table.specs.Table.{Me}
 use Rattle.atomic_table.specs.Seated.{TableId}
+use Rattle.step_record.specs.declared.worker.TheConstants.{MAX_WORKERS}
 use Rattle.turn_book.specs.declared.view.Part.{Part}
 use Rattle.turn_book.specs.declared.view.View.{View}
 use Rattle.turn_book.specs.Turns.{seat_number, own_of}
 use Rattle.turn_book.specs.Passes.{PassState, TurnState}
 
--- a table of two words and one slot, for at most 64 workers
+-- a table of two words and one slot, for at most MAX_WORKERS workers
 abbrev pub IsBoard : TableId → ℕ → Type 0
-IsBoard id workers = (id.words ≡ 2) × (id.slots ≡ 1) × (workers ≤ 64)
+IsBoard id workers = (id.words ≡ 2) × (id.slots ≡ 1) × (workers ≤ MAX_WORKERS)
 
 module _ {T E : Type 0} where
   abbrev pub part_of : PassState T E → Part E

@@ -2,7 +2,6 @@
 //! the slot has the value between two turns.
 ghost use Rattle.std.specs.Prelude.{◌≡◌, ◌≤◌, ◌<◌, ◌+◌, ◌∷◌, ◌++◌, List, map, length, vec_len, vec_capacity, [], IfOk};
 ghost use Rattle.std.specs.Prelude.{IfErr, OnOk};
-ghost use Rattle.atomic_table.specs.Table.{Me};
 ghost use Rattle.step_record.specs.declared.worker.TheConstants.{MAX_WORKERS};
 ghost use Rattle.turn_book.specs.declared.book.TheConstants.{MAX_TURNS};
 ghost use Rattle.turn_book.specs.Faults.{value_in, IsOpenCause};
@@ -39,6 +38,7 @@ pub struct TurnBook<T: Kept> {
 
 impl<T: Kept> Model for TurnBook<T> {
     ghost use Rattle.std.specs.Prelude.{◌≤◌};
+    ghost use Rattle.turn_book.specs.declared.book.TheConstants.{MAX_TURNS};
     ghost use Rattle.turn_book.specs.Passes.{BookState};
     ghost use Rattle.turn_book.specs.Seats.{IsBoard};
 
@@ -51,7 +51,7 @@ impl<T: Kept> Model for TurnBook<T> {
       turns = b.turns;
     } };
 
-    ghost invariant = { λ b. IsBoard b.table.shared.table_id b.table.shared.key.workers × (b.turns ≤ 4294967296) };
+    ghost invariant = { λ b. IsBoard b.table.shared.table_id b.table.shared.key.workers × (b.turns ≤ MAX_TURNS) };
 }
 
 impl<T: Kept> TurnBook<T> {
@@ -191,7 +191,7 @@ fn draw<T: Kept>(board: &Board<T>, seat: &mut Place<T>, drawn: u64) -> u64
     requires board { IsBoard board.now.shared.table_id board.now.shared.key.workers }
     requires own { seat.old.table_id ≡ board.now.shared.table_id }
     requires pass { IsPass seat.old.me drawn }
-    requires left { drawn < 4294967296 }
+    requires left { drawn < MAX_TURNS }
     ensures same { seat.new.table_id ≡ seat.old.table_id }
     ensures drew { Draws seat.old.me result seat.new.me }
 {

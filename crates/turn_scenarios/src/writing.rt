@@ -1,5 +1,5 @@
 //! Workers side by side.
-ghost use Rattle.std.specs.Prelude.{◌≡◌, ◌≤◌, ◌+◌, ◌∷◌, ◌++◌, [], IfOk, IfSome, IfNone, length, map, vec_len};
+ghost use Rattle.std.specs.Prelude.{◌≡◌, ◌≤◌, ◌+◌, [], IfOk, IfSome, IfNone, map, vec_len};
 ghost use denote.Param.Send.{IsSync};
 ghost use Rattle.step_record.specs.declared.worker.TheConstants.{MAX_WORKERS};
 ghost use Rattle.turn_book.specs.declared.book.TheConstants.{MAX_TURNS};

@@ -1,8 +1,6 @@
 use Rattle.std.proofs.Common.{◌≡◌, ◌∙◌, ap, subst, rules, arith, length, map, Option, Some, None}
 use Rattle.std.specs.Prelude.{IfSome}
-use Rattle.std.proofs.lemmas.List.{length-map}
 use Rattle.step_record.specs.History.{IsLegal}
-use Rattle.trace_read.specs.Reading.{fault_in}
 use Rattle.shell_model.specs.Shell.{act}
 use Rattle.drive.specs.DriveFaults.{LeavesFault}
 use Rattle.cachesim.specs.Dealt.{AreOfReads}

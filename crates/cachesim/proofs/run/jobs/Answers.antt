@@ -1,5 +1,4 @@
 use Rattle.std.proofs.Common.{◌≡◌, ◌<◌, ◌+◌, ℕ, zero, suc, ap, sym, refl, arith, List, [], ◌∷◌, ◌++◌, length, map, take, slice_index_or}
-use Rattle.step_record.specs.declared.job.Policy.{Policy}
 use Rattle.cachesim.proofs.run.jobs.Goals as goal
 
 -- one element more, one image more

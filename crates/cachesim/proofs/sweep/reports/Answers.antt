@@ -1,4 +1,4 @@
-use Rattle.std.proofs.Common.{◌≡◌, ◌∙◌, sym, refl, ap, List, [], ◌∷◌, map}
+use Rattle.std.proofs.Common.{◌≡◌, ◌∙◌, refl, ap, List, [], ◌∷◌, map}
 use Rattle.std.proofs.lemmas.Result.{IfOk-weaker}
 use Rattle.policy_actors.specs.Faults.{at_capacity}
 use Rattle.policy_actors.specs.Reports.{report_on}

@@ -1,7 +1,7 @@
-use Rattle.std.proofs.Common.{◌≡◌, ◌∙◌, ap, sym, rules, Some, None, codes}
+use Rattle.std.proofs.Common.{◌∙◌, ap, rules, Some, codes}
 use Rattle.std.proofs.lemmas.Result.{IfOk-weaker}
-use Rattle.std.specs.Prelude.{option_map, option_and_then, map}
-use Rattle.clap.specs.Words.{found_of, rows_of, all_of}
+use Rattle.std.specs.Prelude.{option_and_then}
+use Rattle.clap.specs.Words.{found_of}
 use Rattle.clap.proofs.WalkLemmas.{raw_values-rows}
 use Rattle.command_line.specs.Choices.{policies_named}
 use Rattle.command_line.proofs.arguments.policies.Goals as goal

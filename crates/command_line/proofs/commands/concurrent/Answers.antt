@@ -1,7 +1,7 @@
 use Rattle.std.proofs.Common.{ap, ap₂, ◌≡◌, ◌∙◌}
 use Rattle.std.proofs.lemmas.Result.{IfOk-weaker}
 use Rattle.clap.specs.Words.{app_of, with_rule}
-use Rattle.command_line.specs.Program.{limit_rule, stripes_rule}
+use Rattle.command_line.specs.Program.{stripes_rule}
 use Rattle.command_line.proofs.commands.concurrent.Goals as goal
 
 pub returns-clause-shape : goal.returns-clause-shape

@@ -1,7 +1,6 @@
-use Rattle.std.proofs.Common.{ap, ap₂, ◌≡◌, ◌∙◌, codes}
+use Rattle.std.proofs.Common.{ap, ◌≡◌, ◌∙◌, codes}
 use Rattle.std.proofs.lemmas.Result.{IfOk-weaker}
-use Rattle.std.specs.Borrow.{Bor}
-use Rattle.clap.specs.Words.{App, Text, app_of, new_app, with_rule}
+use Rattle.clap.specs.Words.{app_of, new_app}
 use Rattle.clap.specs.Simple.{app_of_fields}
 use Rattle.command_line.specs.Program.{Lists, paired_app}
 use Rattle.command_line.proofs.commands.part_command.Goals as goal

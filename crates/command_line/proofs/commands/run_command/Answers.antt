@@ -1,6 +1,6 @@
 use Rattle.std.proofs.Common.{ap, ap₂, ◌≡◌, ◌∙◌, codes}
 use Rattle.std.proofs.lemmas.Result.{IfOk-weaker}
-use Rattle.clap.specs.Words.{App, app_of, new_app, with_rule}
+use Rattle.clap.specs.Words.{app_of, new_app, with_rule}
 use Rattle.clap.specs.Simple.{app_of_fields}
 use Rattle.command_line.specs.Program.{batch_rule, configured_app, format_rule}
 use Rattle.command_line.proofs.commands.run_command.Goals as goal

@@ -1,5 +1,4 @@
-use Rattle.std.proofs.Common.{◌≡◌, rules}
-use Rattle.clap.specs.Words.{subcommand_rows_of}
+use Rattle.std.proofs.Common.{rules}
 use Rattle.command_line.proofs.Subcommands.{lacks_all, lacks_debug, lacks_drive, lacks_part, lacks_replay, lacks_run, lacks_sweep}
 use Rattle.command_line.proofs.parsing.arguments.Goals as goal
 

@@ -1,5 +1,5 @@
 use Rattle.drive.proofs.Walking.{on_err}
-use Rattle.drive.proofs.Calling.{offers_at, hit_made, miss_made, look_cut, hit_cut, miss_cut}
+use Rattle.drive.proofs.Calling.{offers_at, look_cut, hit_cut, miss_cut}
 use Rattle.drive.proofs.quiet.announce.Goals as goal
 
 pub returns-in_err-node-clause-err : goal.returns-in_err-node-clause-err

@@ -1,5 +1,5 @@
 use Rattle.drive.proofs.Walking.{on_err}
-use Rattle.drive.proofs.Calling.{both, put_made, put_full, put_cut, put_cut_next, Puts}
+use Rattle.drive.proofs.Calling.{put_cut, put_cut_next}
 use Rattle.drive.proofs.quiet.put.Goals as goal
 
 pub returns-in_err-reply-clause-err : goal.returns-in_err-reply-clause-err

@@ -1,5 +1,6 @@
 use Rattle.std.proofs.Common.{◌≡◌, ◌∙◌, refl, sym, subst, ◌≤◌, ℕ, [], ◌++◌}
-use Rattle.drive.specs.Walks.{Entries, IsReading}
+use Rattle.step_record.specs.History.{Entries}
+use Rattle.drive.specs.Walks.{IsReading}
 use Rattle.drive.specs.Outcomes.{outcome_from}
 use Rattle.drive.proofs.Walking.{on_err}
 use Rattle.drive.proofs.Adding.{adds_none, adds_one, adds_known}

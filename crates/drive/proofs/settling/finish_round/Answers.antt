@@ -2,8 +2,8 @@ use Rattle.std.proofs.Common.{refl, sym, ap, ◌∙◌}
 use Rattle.shell_model.proofs.Engines.{answers_law}
 use Rattle.drive.specs.Walks.{step_of}
 use Rattle.drive.specs.Outcomes.{told}
-use Rattle.drive.proofs.Walking.{on_err, answered, asks_same}
-use Rattle.drive.proofs.Holding.{ready_start, ready_now, round_on, asks_on, act_asked, goes_on, goes_over, goes_begun, stripes_stay}
+use Rattle.drive.proofs.Walking.{on_err, answered}
+use Rattle.drive.proofs.Holding.{ready_start, round_on, asks_on, act_asked, goes_on, goes_over, goes_begun, stripes_stay}
 use Rattle.drive.proofs.Adding.{adds_none, adds_more, adds_same, told_last}
 use Rattle.drive.proofs.settling.finish_round.Goals as goal
 

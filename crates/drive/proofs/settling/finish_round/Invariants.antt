@@ -1,5 +1,5 @@
 use Rattle.std.proofs.Common.{◌≡◌, ◌-◌, ◌++◌, length}
-use Rattle.drive.specs.Walks.{Entries}
+use Rattle.step_record.specs.History.{Entries}
 use Rattle.drive.specs.Nexts.{Left, Asks}
 use Rattle.drive.specs.Outcomes.{outcome_from}
 use Rattle.drive.specs.Places.{Ahead}

@@ -1,7 +1,6 @@
-use Rattle.std.proofs.Common.{◌≡◌, ◌-◌, length, Some, option_map, refl, sym, ap, ◌∙◌}
+use Rattle.std.proofs.Common.{◌-◌, length, Some, option_map, sym, ap, ◌∙◌}
 use Rattle.shell_model.specs.Shell.{Shell}
 use Rattle.maintenance.specs.Opened.{triple}
-use Rattle.drive.specs.Walks.{Entries}
 use Rattle.drive.proofs.Adding.{adds_counted, held_rest}
 use Rattle.drive.proofs.settling.settle.Goals as goal
 

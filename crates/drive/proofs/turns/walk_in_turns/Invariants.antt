@@ -1,5 +1,6 @@
 use Rattle.std.proofs.Common.{◌≡◌, ◌++◌}
-use Rattle.drive.specs.Walks.{Entries, IsWalk}
+use Rattle.step_record.specs.History.{Entries}
+use Rattle.drive.specs.Walks.{IsWalk}
 use Rattle.drive.specs.Made.{Made}
 use Rattle.drive.specs.Draws.{IsWithin}
 use Rattle.drive.specs.Nexts.{Left, Asks}

@@ -1,6 +1,7 @@
 use Rattle.std.proofs.Common.{◌≡◌, ◌++◌, List, drop}
 use Rattle.step_record.specs.declared.step.Call.{Call}
-use Rattle.drive.specs.Walks.{Entries, AreWalks}
+use Rattle.step_record.specs.History.{Entries}
+use Rattle.drive.specs.Walks.{AreWalks}
 use Rattle.drive.specs.Made.{Made}
 use Rattle.drive.specs.Draws.{IsWithin}
 use Rattle.drive.proofs.turns.work_in_turns.Given as goal

@@ -1,7 +1,8 @@
 use Rattle.std.proofs.Common.{◌≡◌, ℕ, List, Option, Some, None, sym, subst}
 use Rattle.std.specs.Prelude.{IfSome}
+use Rattle.step_record.specs.History.{Entries}
 use Rattle.journal_text.specs.Faults.{Accepts}
-use Rattle.journal_text.specs.Journal.{JournalEntries, IsJournalText}
+use Rattle.journal_text.specs.Journal.{IsJournalText}
 use Rattle.journal_text.proofs.Accepting.{accepts}
 use Rattle.journal_text.proofs.reader.read_journal.Goals as goal
 
@@ -17,6 +18,6 @@ returns-clause-accepts g c =
     let kept = c.read_text.new.session.kept in
     let known = g.R.Read.remaining c.args.reader.now in
     let bytes = c.as_slice.result.now in
-    some_is (λ b. (es : JournalEntries) → IsJournalText act opening limit b es → Accepts c.read_text.result kept es) known bytes
+    some_is (λ b. (es : Entries) → IsJournalText act opening limit b es → Accepts c.read_text.result kept es) known bytes
     (subst (λ i. IfSome known (λ xs. i ≡ xs)) (sym c.as_slice.ensures.value) c.in_ok-bytes.ensures.bytes)
     (λ es journal. accepts act opening limit bytes es kept c.read_text.result journal c.read_text.ensures.ok c.read_text.ensures.err)

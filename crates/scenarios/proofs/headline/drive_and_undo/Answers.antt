@@ -1,7 +1,7 @@
 use Rattle.std.proofs.Common.{List, Option, Some, None, ap, map, subst, sym, vec_items}
+use Rattle.step_record.specs.History.{Entries}
 use Rattle.drive.specs.declared.driving.Cause.{Cause}
 use Rattle.drive.specs.DriveFaults.{LeavesFault}
-use Rattle.drive.specs.Walks.{Entries}
 use Rattle.scenarios.specs.Rewound.{IsRewound}
 use Rattle.scenarios.proofs.Rewinding.{rewound}
 use Rattle.scenarios.proofs.headline.drive_and_undo.Goals as goal

@@ -1,4 +1,3 @@
-use Rattle.std.proofs.Common.{◌∙◌}
 use Rattle.scenarios.proofs.Rewinding.{left_by}
 use Rattle.scenarios.proofs.headline.undo.Goals as goal
 

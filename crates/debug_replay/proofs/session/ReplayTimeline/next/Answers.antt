@@ -1,7 +1,7 @@
-use Rattle.std.proofs.Common.{◌≡◌, ◌∙◌, ◌+◌, ◌-◌, ◌++◌, ap, sym, ℕ, length, arith, take}
-use Rattle.std.specs.Prelude.{nat_lt, slice_get}
+use Rattle.std.proofs.Common.{◌≡◌, ◌∙◌, ◌+◌, ◌-◌, ◌++◌, ap, sym, ℕ, length, arith}
+use Rattle.std.specs.Prelude.{nat_lt}
+use Rattle.step_record.specs.History.{Entries}
 use Rattle.journal.specs.Session.{IsMovedTo}
-use Rattle.journal_text.specs.Journal.{JournalEntries}
 use Rattle.admission.specs.Frequency.{FrequencyData}
 use Rattle.shell_model.specs.Shell.{Shell}
 use Rattle.debug_replay.proofs.Walks.{facts_are, ok_on, stands_here, stands_there}
@@ -11,7 +11,7 @@ pub returns-clause-facts : goal.returns-clause-facts
 returns-clause-facts c =
     let old = c.args.self.now.session.now in
     let new = c.forward.new.self in
-    let steps : JournalEntries = old.kept ++ old.tail in
+    let steps : Entries = old.kept ++ old.tail in
     let n : ℕ = length old.kept in
     let to : IsMovedTo (n + 1) old new = ok_on c.forward.result (IsMovedTo (n + 1) old new) (sym c.is_err.ensures.value ∙ c.if-is_err.false) c.forward.ensures.ok in
     let age : c.age-age.result ≡ old.engine.frequency.age =

@@ -1,4 +1,3 @@
-use Rattle.shell_model.specs.Reached.{IsReachable}
 use Rattle.maintenance.proofs.shell.Shell.reachable.Goals as goal
 
 pub returns : goal.returns
