@@ -13,7 +13,7 @@ use step_record::{Act, Answer, Call, Config, Entry, Item, Key, OpenGate, Reply, 
 const WORKERS: u8 = 64;
 
 // So many calls has each worker: of eight, seven are reads, and the last removes a key.
-const CALLS: u64 = 256;
+const CALLS: u64 = 2_000;
 
 fn call_of(worker: u8, n: u64) -> Call {
     let key = u64::from(worker)
@@ -223,8 +223,8 @@ fn assert_crowd<R: Threads + Wait + Sync + Abort>(
     let shell = driven.session.engine();
     assert!(rt; shell.holder().is_none());
     let stats = shell.stats();
-    // Each of the 64 workers makes 224 reads.
-    assert_eq!(rt; stats.hits.wrapping_add(stats.misses), 14_336);
+    // Each of the 64 workers makes 1,750 reads.
+    assert_eq!(rt; stats.hits.wrapping_add(stats.misses), 112_000);
     Ok(())
 }
 

@@ -14,6 +14,7 @@ use crate::fault::OpenFault;
 use crate::pass::{Pass, Turn};
 use crate::rule::{ByWorker, Draw, Look, PassOn, Turns};
 use crate::view::{Terms, View};
+use crate::waiting::WaitingArray;
 use atomic_table::{Seat, Table};
 use std::alloc::Global;
 use std::marker::Model;
@@ -34,6 +35,7 @@ pub(crate) type Place<T> = Seat<Option<T>, View<T, <T as Kept>::Entry>>;
 pub struct TurnBook<T: Kept> {
     table: Board<T>,
     turns: u64,
+    waiting: WaitingArray,
 }
 
 impl<T: Kept> Model for TurnBook<T> {
@@ -87,7 +89,15 @@ impl<T: Kept> TurnBook<T> {
         match lay(alloc, value, workers) {
             Ok((table, seat)) => {
                 let passes = deal(&table, seat, passes, workers);
-                Ok((TurnBook { table, turns }, passes))
+                let waiting = WaitingArray::new();
+                Ok((
+                    TurnBook {
+                        table,
+                        turns,
+                        waiting,
+                    },
+                    passes,
+                ))
             }
             Err(value) => Err(OpenFault::OutOfMemory(value)),
         }
@@ -109,7 +119,7 @@ impl<T: Kept> TurnBook<T> {
         }
         let Pass { mut seat, drawn } = pass;
         let ticket = draw(&self.table, &mut seat, drawn);
-        wait(&self.table, rt, &mut seat, ticket);
+        wait(&self.table, rt, &self.waiting, &mut seat, ticket);
         let Some(value) = self.table.shared.exchange(&mut seat, 0, None) else {
             unreachable!()
         };
@@ -138,7 +148,8 @@ impl<T: Kept> TurnBook<T> {
         let None = self.table.shared.exchange(&mut seat, 0, Some(value)) else {
             unreachable!()
         };
-        self.table.shared.fetch_add::<PassOn>(&mut seat, 1, 1);
+        let served = self.table.shared.fetch_add::<PassOn>(&mut seat, 1, 1);
+        self.waiting.wake(served.wrapping_add(1));
         Pass { seat, drawn }
     }
 
@@ -151,7 +162,11 @@ impl<T: Kept> TurnBook<T> {
         requires some { 0 < vec_len passes }
         ensures { Ends T.origin T.entries T.worker_of self.opening passes.items result }
     {
-        let TurnBook { table, turns: _ } = self;
+        let TurnBook {
+            table,
+            turns: _,
+            waiting: _,
+        } = self;
         let seat = gather(&table, passes);
         let mut closed = table.close_with(seat);
         let slot = closed.take(0);
@@ -198,20 +213,28 @@ fn draw<T: Kept>(board: &Board<T>, seat: &mut Place<T>, drawn: u64) -> u64
     board.shared.fetch_add::<Draw>(seat, 0, 1)
 }
 
-// Waits until the ticket's turn has come, and yields the processor in between.
-fn wait<T: Kept, R: Wait>(board: &Board<T>, rt: &R, seat: &mut Place<T>, ticket: u64)
+// Waits until the ticket's turn has come.
+fn wait<T: Kept, R: Wait>(
+    board: &Board<T>,
+    rt: &R,
+    waiting: &WaitingArray,
+    seat: &mut Place<T>,
+    ticket: u64,
+)
     requires board { IsBoard board.now.shared.table_id board.now.shared.key.workers }
     requires own { seat.old.table_id ≡ board.now.shared.table_id }
     requires waits { Waits seat.old.me ticket }
     ensures same { seat.new.table_id ≡ seat.old.table_id }
     ensures came { Comes T.origin T.entries T.worker_of seat.old.me ticket seat.new.me }
 {
+    let mut looks: u32 = 0;
     for _ in rt.forever() {
         let serving = board.shared.load::<Look>(seat, 1);
         if serving == ticket {
             return;
         }
-        std::thread::yield_now();
+        waiting.rest(rt, ticket, serving, looks);
+        looks = looks.wrapping_add(1);
     }
     unreachable!()
 }

@@ -12,6 +12,7 @@ mod lends;
 mod pass;
 mod rule;
 mod view;
+mod waiting;
 
 pub use book::{MAX_TURNS, TurnBook};
 pub use fault::OpenFault;
