@@ -1,5 +1,5 @@
 //! Sixty-four workers side by side, whose entries are read by the rule of walks alone.
-use super::driving_tests::{assert_own_lists, failed};
+use super::driving_tests::{assert_own_lists, driven};
 use super::*;
 use journal::Session;
 use maintenance::Shell;
@@ -204,10 +204,7 @@ fn assert_crowd<R: Threads + Wait + Sync + Abort>(
     };
     assert!(rt; config.check() == Ok(()));
     let session = Session::open(alloc, Shell::new(alloc, &config)?, 8_000_000);
-    let driven = match drive(rt, alloc, session, pieces(alloc)?, &OpenGate) {
-        Ok(driven) => driven,
-        Err(fault) => return Err(failed(fault)),
-    };
+    let driven = driven(rt, alloc, session, pieces(alloc)?, &OpenGate)?;
     let mut number = 0;
     for list in driven.lists.as_slice() {
         let who = Walker {

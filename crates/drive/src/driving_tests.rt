@@ -66,6 +66,20 @@ pub(crate) fn failed(fault: DriveFault) -> Fail {
     }
 }
 
+// A run that makes all walks.
+pub(crate) fn driven<G: Gate, R: Threads + Wait + Sync>(
+    rt: &R,
+    alloc: Global,
+    session: Session<Shell>,
+    pieces: Vec<Vec<Call>>,
+    gate: &G,
+) -> Result<Driven, Fail> {
+    match drive(rt, alloc, session, pieces, gate) {
+        Ok(driven) => Ok(driven),
+        Err(fault) => Err(failed(fault)),
+    }
+}
+
 // Each list has the session's entries of its worker, in order.
 pub(crate) fn assert_own_lists(
     rt: &impl Abort,
@@ -100,10 +114,7 @@ fn assert_held_run<R: Threads + Wait + Sync + Abort>(
         begun: AtomicU64::new(0),
         late: AtomicU64::new(0),
     };
-    let driven = match drive(rt, alloc, new_session(alloc, 1000)?, pieces, &gate) {
-        Ok(driven) => driven,
-        Err(fault) => return Err(failed(fault)),
-    };
+    let driven = driven(rt, alloc, new_session(alloc, 1000)?, pieces, &gate)?;
     if gate.late.load(SeqCst) > 0 {
         return Err(Fail::from("workers one after the other, or out of memory for a thread"));
     }
@@ -155,10 +166,7 @@ fn a_removed_key_is_added_anew(rt: HostRuntime) -> Result<(), Fail> {
     let alloc = rt.alloc();
     let calls = [Call::Read(1), Call::Remove(1), Call::Read(1)];
     let pieces = pieces_of(alloc, &[&calls])?;
-    let driven = match drive(&rt, alloc, new_session(alloc, 100)?, pieces, &OpenGate) {
-        Ok(driven) => driven,
-        Err(fault) => return Err(failed(fault)),
-    };
+    let driven = driven(&rt, alloc, new_session(alloc, 100)?, pieces, &OpenGate)?;
     assert_eq!(rt; driven.session.len(), 26);
     assert_own_lists(&rt, &driven.session, driven.lists.as_slice());
     let stats = driven.session.engine().stats();
