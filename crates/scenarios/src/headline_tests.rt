@@ -25,23 +25,24 @@ fn opened(rt: &impl Abort, alloc: Global) -> Result<Session<Shell>, Fail> {
     Ok(Session::open(alloc, Shell::new(alloc, &CONFIG)?, 100))
 }
 
+// What undoing the last steps of a run said, and how many steps are left.
+fn left(run: Rewound) -> Result<(Result<(), BackFault>, usize), Fail> {
+    let kept = run.session.len();
+    match run.cause {
+        Some(Cause::Memory) => Err(Fail::from("out of memory")),
+        _ => Ok((run.undone, kept)),
+    }
+}
+
 // A run from a new cache, and its last steps undone.
 fn rewound<R: Threads + Wait + Sync + Abort>(
     rt: &R,
     alloc: Global,
     pieces: Vec<Vec<Call>>,
     k: usize,
-) -> Result<Rewound, Fail> {
+) -> Result<(Result<(), BackFault>, usize), Fail> {
     match drive_and_undo(rt, alloc, opened(rt, alloc)?, pieces, &OpenGate, k) {
-        Ok(
-            Rewound {
-                session: _,
-                lists: _,
-                cause: Some(Cause::Memory),
-                undone: _,
-            },
-        ) => Err(Fail::from("out of memory")),
-        Ok(rewound) => Ok(rewound),
+        Ok(run) => left(run),
         Err(DriveFault::OutOfMemory { session: _ }) => Err(Fail::from("out of memory")),
         Err(_) => Err(Fail::from("not driven")),
     }
@@ -58,8 +59,8 @@ fn one_read(alloc: Global) -> Result<Vec<Vec<Call>>, AllocError> {
 
 #[test]
 fn more_steps_than_there_are_undo_none(rt: HostRuntime) -> Result<(), Fail> {
-    let run = rewound(&rt, rt.alloc(), one_read(rt.alloc())?, 10)?;
-    assert!(rt; run.undone == Err(BackFault::PastStart));
-    assert_eq!(rt; run.session.len(), 9);
+    let (undone, kept) = rewound(&rt, rt.alloc(), one_read(rt.alloc())?, 10)?;
+    assert!(rt; undone == Err(BackFault::PastStart));
+    assert_eq!(rt; kept, 9);
     Ok(())
 }
