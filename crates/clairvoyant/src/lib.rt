@@ -10,6 +10,7 @@
 
 mod clairvoyant;
 mod next_use;
+mod places;
 mod theorems;
 mod use_record;
 

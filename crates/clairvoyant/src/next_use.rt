@@ -3,8 +3,8 @@ ghost use Rattle.std.specs.Prelude.{◌≡◌, ℕ, suc, ◌-◌, ◌*◌, ◌<�
 ghost use Rattle.step_record.specs.declared.limits.TheConstants.{MAX_ACCESSES};
 ghost use Rattle.clairvoyant.specs.Uses.{next, rank, rank_by, key_at};
 
+use crate::places::Places;
 use std::alloc::{AllocError, Global};
-use std::collections::HashMap;
 use std::marker::Model;
 use std::sync::Arc;
 use step_record::{Key, Trace};
@@ -64,10 +64,10 @@ impl NextUse {
         let keys = Vec::from_slice(alloc, trace.keys())?;
         let len = keys.len();
         let mut ranks: Vec<u32> = vec![in alloc; 0; len]?;
-        let mut following: HashMap<Key, u32> = HashMap::new(alloc);
+        let mut following = Places::new(alloc, trace.keys())?;
         for back in 0..len {
             let place = len - 1 - back;
-            let next = following.insert(keys[place], place as u32)?;
+            let next = following.put(keys[place], place as u32)?;
             ranks[place] = rank_by(len, next, place);
         }
         let found = Arc::new(alloc, Found { keys, ranks })?;

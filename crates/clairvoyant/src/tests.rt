@@ -64,9 +64,10 @@ fn of_keys_never_used_again_the_one_accessed_first_leaves(rt: HostRuntime) -> Re
     Ok(())
 }
 
+// A key that is less than the number of accesses, and one that is not.
 #[test]
 fn each_next_use_is_told(rt: HostRuntime) -> Result<(), Fail> {
-    let keys = Vec::from_slice(rt.alloc(), &[1, 2, 3, 1, 2])?;
+    let keys = Vec::from_slice(rt.alloc(), &[1, 900, 3, 1, 900])?;
     assert!(rt; keys.len() == 5);
     let trace = Trace::new(keys);
     let uses = NextUse::build(rt.alloc(), &trace)?;
@@ -325,17 +326,17 @@ fn held_by(
 // An access and its undoing ask for no memory, and one refused allocation changes no answer.
 #[test]
 fn a_refusal_of_memory_changes_no_answer(rt: HostRuntime) -> Result<(), Fail> {
-    let keys = Vec::from_slice(rt.alloc(), &[1, 2, 3, 1, 2])?;
+    let keys = Vec::from_slice(rt.alloc(), &[1, 900, 3, 1, 900])?;
     assert!(rt; keys.len() == 5);
     let trace = Trace::new(keys);
     let mut refused = 0;
     let mut cache = opened_again(&rt, &mut refused, rt.alloc(), &trace)?;
     for (key, outcome, after) in [
         (1, Outcome::Kept, &[1][..]),
-        (2, Outcome::Kept, &[1, 2][..]),
-        (3, Outcome::Rejected(3), &[1, 2][..]),
-        (1, Outcome::Hit, &[1, 2][..]),
-        (2, Outcome::Hit, &[1, 2][..]),
+        (900, Outcome::Kept, &[1, 900][..]),
+        (3, Outcome::Rejected(3), &[1, 900][..]),
+        (1, Outcome::Hit, &[1, 900][..]),
+        (900, Outcome::Hit, &[1, 900][..]),
     ] {
         let step = cache.apply(&key);
         assert_eq!(rt; step.ok().map(|step| step.0), Some(outcome));
