@@ -1,12 +1,11 @@
 -- Carrying a plan out is undone by its record.
-use Rattle.std.proofs.Common.{◌≡◌, Option, Some, None, ap, sym, refl, arith, subst}
+use Rattle.std.proofs.Common.{◌≡◌, Option, Some, None, ap, sym, refl, subst}
 use Rattle.step_record.specs.declared.item.Item.{Item}
 use Rattle.segments.specs.declared.records.Queue.{Queue}
 use Rattle.segments.specs.declared.records.MoveRecord.{MoveRecord}
 use Rattle.segments.specs.Items.{first}
 use Rattle.segments.specs.Queues.{Queues, queue_of, place_of, pushed, taken, moved, popped, IsDistinct}
 use Rattle.segments.specs.Moves.{move_record}
-use Rattle.segments.proofs.ItemLists.{times-without}
 use Rattle.segments.proofs.MoveLaws.{Leads, move_leads, out_leads}
 use Rattle.segments.proofs.QueueLists.{absent, is_absent, absent-taken, taken-absent, distinct-taken, distinct-put, put-last, taken-first}
 use Rattle.replacement.specs.declared.record.Moves.{Moves}
@@ -71,19 +70,6 @@ carries p s d =
     let l = transfer-part p.last (removed p.leaves (transferred p.first s)) o.distinct in
     let all = parts (moves_of p s) s (transferred p.first s) (removed p.leaves (transferred p.first s)) (queues_after p s) f o l (transfer-stays p.last (removed p.leaves (transferred p.first s))) (transfer-stays p.first s) in
     record { fits = all.0; back = all.1; distinct = l.distinct }
-
--- an item that stands nowhere still stands nowhere once another is out
-pub still-absent : (i v : Item) (s : Queues) → place_of i s ≡ None → place_of i (taken v s) ≡ None
-still-absent i v s h =
-    let a = absent i s h in
-    let w = a.window in
-    let p = a.probation in
-    let r = a.protected in
-    is_absent i (taken v s) record {
-      window = (let l = times-without v i s.window in omega arith);
-      probation = (let l = times-without v i s.probation in omega arith);
-      protected = (let l = times-without v i s.protected in omega arith);
-    }
 
 -- an effect of a plan fits what the plan left, and is undone
 pub record IsUndone (s t : Queues) (m : Moves) : Type 0 where

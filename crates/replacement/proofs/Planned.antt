@@ -16,7 +16,8 @@ use Rattle.replacement.specs.Table.{Response, kept_in, with_recent, demoted, rej
 use Rattle.replacement.specs.Plan.{Plan, Transfer, transfer, demotion, stay_plan, contest_plan, direct_plan, candidate_of, eviction_of, eviction_plan, joining_first, miss_plan, plan_in, plan}
 use Rattle.replacement.specs.Moving.{transferred, removed, response}
 use Rattle.replacement.specs.Theorems.{HitsPlanned, EvictionsPlanned, AccessesPlanned}
-use Rattle.replacement.proofs.Carrying.{moved-distinct, pushed-moved, still-absent}
+use Rattle.segments.proofs.QueueLists.{still-absent}
+use Rattle.replacement.proofs.Carrying.{moved-distinct, pushed-moved}
 
 -- ---- hits
 

@@ -10,7 +10,7 @@ ghost use Rattle.replacement.specs.Effects.{IsEffect};
 use crate::admitting::admits;
 use crate::record::{Effect, Moves};
 use crate::rules::Rules;
-use crate::steps::{count, drop_oldest, join, send_oldest};
+use crate::steps::{drop_oldest, join, renew_oldest, send_oldest};
 use admission::Frequency;
 use segments::{Queue, Segments};
 use step_record::{Item, Outcome};
@@ -30,7 +30,7 @@ pub(crate) fn direct(
         (option_map (λ f. f.now) frequency.entry)) item segments.old.lists)
         segments.old.lists segments.new.lists result }
 {
-    if count(segments) < rules.capacity as u128 {
+    if segments.count() < rules.capacity {
         let last = join(segments, rules.home, item);
         return Effect {
             outcome: Outcome::Kept,
@@ -50,8 +50,7 @@ pub(crate) fn direct(
     if !admits(frequency, item.key, victim.key) {
         return rejected;
     }
-    let out = drop_oldest(segments, rules.home, victim);
-    let last = join(segments, rules.home, item);
+    let (out, last) = renew_oldest(segments, rules.home, victim, item);
     Effect {
         outcome: Outcome::Evicted(victim.key),
         moves: Moves {
@@ -84,7 +83,7 @@ pub(crate) fn evict_planned(
     let Some(candidate) = segments.oldest(Queue::Window) else {
         return effect;
     };
-    if count(segments) <= rules.capacity as u128 {
+    if segments.count() <= rules.capacity {
         effect.moves.last = Some(send_oldest(segments, Queue::Window, candidate, Queue::Probation));
         return effect;
     }

@@ -1,21 +1,11 @@
 //! Single moves in the queues, each of which knows beforehand where its item stands.
 ghost use Rattle.std.specs.Prelude.{◌≡◌, ◌≤◌, ◌+◌, Some, None};
 ghost use Rattle.segments.specs.Items.{first};
-ghost use Rattle.segments.specs.Queues.{queue_of, place_of, taken, moved, popped, total_items, IsDistinct};
+ghost use Rattle.segments.specs.Queues.{queue_of, place_of, taken, moved, popped, IsDistinct};
 ghost use Rattle.segments.specs.Moves.{move_record};
 
 use segments::{MoveRecord, Queue, Segments};
 use step_record::Item;
-
-/// How many items stand in the queues.
-#[inline(always)]
-pub(crate) fn count(segments: &Segments) -> u128
-    ensures { result ≡ total_items segments.now.lists }
-{
-    segments.len(Queue::Window) as u128
-        + segments.len(Queue::Probation) as u128
-        + segments.len(Queue::Protected) as u128
-}
 
 /// Puts an item that stands in no queue at the recent end of one.
 #[inline(always)]
@@ -44,6 +34,29 @@ pub(crate) fn drop_oldest(segments: &mut Segments, queue: Queue, _item: Item) ->
 {
     match segments.pop_oldest(queue) {
         Some((_, done)) => done,
+        None => unreachable!(),
+    }
+}
+
+/// Takes out the oldest item of a queue, which is known, and puts one that stands in no queue at its recent end. The
+/// records of both, in this order.
+#[inline(always)]
+pub(crate) fn renew_oldest(
+    segments: &mut Segments,
+    queue: Queue,
+    _oldest: Item,
+    item: Item,
+) -> (MoveRecord, MoveRecord)
+    requires oldest { first (queue_of queue segments.old.lists) ≡ Some _oldest }
+    requires absent { place_of item segments.old.lists ≡ None }
+    requires distinct { IsDistinct segments.old.lists }
+    ensures lists { segments.new.lists ≡ moved item queue (taken _oldest segments.old.lists) }
+    ensures out { result.0 ≡ move_record _oldest None segments.old.lists }
+    ensures put { result.1 ≡ move_record item (Some queue) (taken _oldest segments.old.lists) }
+    ensures spare { segments.old.spare ≤ segments.new.spare }
+{
+    match segments.renew_oldest(queue, item) {
+        Some(done) => done,
         None => unreachable!(),
     }
 }

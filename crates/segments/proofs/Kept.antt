@@ -1,15 +1,16 @@
 -- What holds of a table while one of its calls works on the slots.
-use Rattle.std.proofs.Common.{◌≡◌, ℕ, ◌<◌, ◌≤◌, List, [], ◌∷◌, length, sym, subst, arith, refl}
+use Rattle.std.proofs.Common.{◌≡◌, ℕ, ◌<◌, ◌≤◌, ◌+◌, ◌^◌, List, [], ◌∷◌, ◌++◌, length, length-append, sym, subst, arith, refl}
 use Rattle.step_record.specs.declared.item.Item.{Item}
 use Rattle.segments.specs.declared.records.Queue.{Queue}
 use Rattle.segments.specs.declared.records.Queue.TheVariants.{Window, Probation, Protected}
 use Rattle.segments.specs.declared.lengths.Lengths.{Lengths}
 use Rattle.segments.specs.declared.slot.Slot.{Slot}
 use Rattle.segments.specs.Queues.{IsDistinct}
-use Rattle.segments.specs.Ring.{count, used, order_of, lists}
+use Rattle.segments.specs.Ring.{count, used, Order, ring, order_of, lists}
 use Rattle.segments.specs.Index.{IsLoaded}
 use Rattle.segments.specs.Table.{spare_in, lengths_of, raised, lowered, IsInSlots, IsKept}
 use Rattle.segments.proofs.Growing.{still_loaded}
+use Rattle.segments.proofs.Finding.{slots-length}
 use Rattle.segments.proofs.Calls.{some-slots}
 
 pub some-used : (slots : List Slot) (k : ℕ) → 1 ≤ count k (used (order_of slots)) → 0 < length slots
@@ -45,3 +46,19 @@ pub free-lowered : (q : Queue) (n : Lengths) → (lowered q n).free ≡ n.free
 free-lowered Window n = refl
 free-lowered Probation n = refl
 free-lowered Protected n = refl
+
+ring-length : (o : Order) → length (ring o) ≡ length o.window + length o.probation + length o.protected + length o.free + 3
+ring-length o =
+    rw (length-append o.window (1 ∷ (o.probation ++ 2 ∷ (o.protected ++ 3 ∷ o.free))), length-append o.probation (2 ∷ (o.protected ++ 3 ∷ o.free)), length-append o.protected (3 ∷ o.free))
+    (omega arith)
+
+-- all items are fewer than the slots
+pub items-few : (slots : List Slot) (heads : List ℕ) (bits : ℕ) (n : Lengths) → IsKept slots heads bits n → n.window + n.probation + n.protected < 2 ^ 64
+items-few [] heads bits n k = rw k.counted (omega arith)
+items-few (x ∷ slots) heads bits n k =
+    let all : List Slot = x ∷ slots in
+    let long = (k.held (omega arith)).queued.linked.long in
+    let size = slots-length all in
+    let ring = ring-length (order_of all) in
+    let few = k.few in
+    rw k.counted (omega (arith, long, size, ring, few))

@@ -3,7 +3,7 @@ ghost use Rattle.std.specs.Prelude.{◌≡◌, ◌↔◌, ◌+◌, ◌≤◌, Ok
 ghost use Rattle.std.specs.Prelude.{IfOk, OnOk, IfSome, IfNone};
 ghost use Rattle.segments.specs.Items.{first};
 ghost use Rattle.segments.specs.Queues.{empty, queue_of, place_of, IsDistinct, pushed, taken, moved, popped};
-ghost use Rattle.segments.specs.Queues.{refreshed_to};
+ghost use Rattle.segments.specs.Queues.{refreshed_to, total_items};
 ghost use Rattle.segments.specs.Moves.{move_record, queues_before_move, FitsMove, needed};
 
 use crate::links::slot_behind;
@@ -187,6 +187,41 @@ impl Segments {
         Some((item, record))
     }
 
+    /// Takes the oldest item of the queue out, and puts one that stands in no queue at its recent end. Returns the
+    /// records of both moves, in this order; `None`, and nothing moved, where the queue is empty. Takes no room.
+    #[inline(always)]
+    pub fn renew_oldest(&mut self, queue: Queue, item: Item) -> Option<(MoveRecord, MoveRecord)>
+        requires absent { place_of item self.old.lists ≡ None }
+        ensures item { MatchOption result (queue_of queue self.old.lists ≡ [])
+            (λ r. first (queue_of queue self.old.lists) ≡ Some r.0.item) }
+        ensures lists { IfSome result (λ _. self.new.lists ≡ pushed queue item (popped queue self.old.lists)) }
+        ensures none { IfNone result (self.new.lists ≡ self.old.lists) }
+        ensures out { IfSome result (λ r. r.0 ≡ move_record r.0.item None self.old.lists) }
+        ensures put { IfSome result (λ r. r.1 ≡ move_record item (Some queue) (popped queue self.old.lists)) }
+        ensures fits { IfSome result (λ r. FitsMove r.1 self.new.lists) }
+        ensures undone { IfSome result (λ r. queues_before_move r.1 self.new.lists ≡ popped queue self.old.lists) }
+        ensures fits_before { IfSome result (λ r. FitsMove r.0 (popped queue self.old.lists)) }
+        ensures undone_both { IfSome result (λ r. queues_before_move r.0 (popped queue self.old.lists)
+            ≡ self.old.lists) }
+        ensures spare { self.old.spare ≤ self.new.spare }
+    {
+        let Some((at, oldest)) = self.table.oldest(queue) else {
+            return None;
+        };
+        let place = self.table.renew(at, queue, item);
+        let out = MoveRecord {
+            item: oldest,
+            from: Some(place),
+            to: None,
+        };
+        let put = MoveRecord {
+            item,
+            from: None,
+            to: Some(queue),
+        };
+        Some((out, put))
+    }
+
     /// The oldest item of the queue, `None` if it is empty.
     #[inline(always)]
     pub fn oldest(&self, queue: Queue) -> Option<Item>
@@ -271,6 +306,14 @@ impl Segments {
         ensures { result ≡ length (queue_of queue self.now.lists) }
     {
         self.table.len(queue)
+    }
+
+    /// How many items stand in the queues.
+    #[inline(always)]
+    pub fn count(&self) -> usize
+        ensures { result ≡ total_items self.now.lists }
+    {
+        self.table.count()
     }
 
     /// The queue in which the item stands.

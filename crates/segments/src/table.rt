@@ -3,8 +3,8 @@ ghost use Rattle.std.specs.Prelude.{◌≡◌, ◌≢◌, ◌<◌, ◌≤◌, �
 ghost use Rattle.std.specs.Prelude.{length};
 ghost use Rattle.step_record.specs.declared.item.Item.{Item};
 ghost use Rattle.segments.specs.Items.{first, IsGap};
-ghost use Rattle.segments.specs.Queues.{queue_of, place_of, pushed, taken, moved, IsDistinct};
-ghost use Rattle.segments.specs.Ring.{count, used, closing, order_of, order_without, lists, IsPlace, IsQueued};
+ghost use Rattle.segments.specs.Queues.{queue_of, place_of, pushed, taken, moved, total_items, IsDistinct};
+ghost use Rattle.segments.specs.Ring.{count, used, section, closing, order_of, order_without, lists, IsPlace, IsQueued};
 ghost use Rattle.segments.specs.Table.{spare_in, item_in, place_at, put_in_place, IsBehind, IsSlotOf};
 
 use crate::growth::grow;
@@ -104,6 +104,14 @@ impl Table {
         self.lengths.of(queue)
     }
 
+    /// How many items stand in the queues.
+    #[inline(always)]
+    pub(crate) fn count(&self) -> usize
+        ensures { result ≡ total_items (lists self.now) }
+    {
+        self.lengths.items()
+    }
+
     /// A copy of the queue's items, oldest first.
     pub(crate) fn list(&self, alloc: Global, queue: Queue) -> Result<Vec<Item>, AllocError>
         ensures { IfOk result (λ v. v.items ≡ queue_of queue (lists self.now)) }
@@ -145,6 +153,7 @@ impl Table {
     #[inline(always)]
     pub(crate) fn oldest(&self, queue: Queue) -> Option<(u32, Item)>
         ensures there { IfSome result (λ r. IsSlotOf r.0 r.1 self.now) }
+        ensures stands { IfSome result (λ r. 1 ≤ count r.0 (section queue (order_of self.now))) }
         ensures first { IfSome result (λ r. first (queue_of queue (lists self.now)) ≡ Some r.1) }
         ensures missing { IfNone result (queue_of queue (lists self.now) ≡ []) }
     {
@@ -209,6 +218,24 @@ impl Table {
         send(slots, at, queue, before);
         self.lengths.lower(from.queue);
         self.lengths.raise(queue);
+        from
+    }
+
+    /// Gives a slot of a queue an item that is not there, and moves it to the queue's recent end. Says where it stood.
+    #[inline(always)]
+    pub(crate) fn renew(&mut self, at: u32, queue: Queue, item: Item) -> Place
+        requires stands { 1 ≤ count at (section queue (order_of self.old)) }
+        requires absent { place_of item (lists self.old) ≡ None }
+        ensures spare { spare_in self.new ≡ spare_in self.old }
+        ensures place { Some result ≡ place_at (item_in at self.old) (lists self.old) }
+        ensures lists { lists self.new ≡ pushed queue item (taken (item_in at self.old) (lists self.old)) }
+    {
+        let slots: &mut [Slot] = &mut self.slots;
+        let from = place_of_slot(slots, at);
+        self.index.remove(slots, at);
+        set_item(slots, at as usize, item);
+        self.index.add(slots, at);
+        send(slots, at, queue, slot_behind(queue));
         from
     }
 
