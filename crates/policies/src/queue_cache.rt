@@ -110,6 +110,19 @@ fn record_in(frequency: &mut Option<Frequency>, key: Key) -> Result<Option<FreqR
     }
 }
 
+// Records a key where keys are counted, for an access that is not to be undone.
+#[inline(always)]
+fn count_in(frequency: &mut Option<Frequency>, key: Key) -> Result<(), AllocError>
+    requires { FewHalvings frequency.old }
+    ensures after { OnOk result (frequency.new ≡ recorded_in key frequency.old) }
+    ensures err { OnErr result (frequency.new ≡ frequency.old) }
+{
+    if let Some(frequency) = frequency {
+        frequency.record(key)?;
+    }
+    Ok(())
+}
+
 // Undoes the recording of a key, if there was one.
 fn unrecord_in(frequency: &mut Option<Frequency>, done: Option<FreqRecord>)
     requires { FitsCounting done frequency.old }
@@ -120,6 +133,23 @@ fn unrecord_in(frequency: &mut Option<Frequency>, done: Option<FreqRecord>)
             frequency.unrecord(done);
         }
     }
+}
+
+// Makes the room that one more access takes, before a key is counted: what follows takes none.
+#[inline(always)]
+fn make_room(stats: &Stats, segments: &mut Segments) -> Result<(), StepFault>
+    ensures below { OnOk result (stats.now.accesses ≢ MAX_STEPS) }
+    ensures room { OnOk result (1 ≤ segments.new.spare) }
+    ensures lists { segments.new.lists ≡ segments.old.lists }
+    ensures not_now { result ≡ Err StepFault.NotNow ↔ stats.now.accesses ≡ MAX_STEPS }
+{
+    if stats.accesses == MAX_STEPS {
+        return Err(StepFault::NotNow);
+    }
+    if segments.reserve().is_err() {
+        return Err(StepFault::OutOfMemory);
+    }
+    Ok(())
 }
 
 // Accesses a key in the queues.
@@ -188,15 +218,18 @@ impl QueueCache {
         ensures not_now { result ≡ Err StepFault.NotNow ↔ queue_act self.old key ≡ None }
         ensures err { OnErr result (self.new ≡ self.old) }
     {
-        match self.step::<C>(key) {
-            Ok((outcome, _)) => Ok(outcome),
-            Err(fault) => Err(fault),
-        }
+        make_room(&self.stats, &mut self.segments)?;
+        let Ok(()) = count_in(&mut self.frequency, key) else {
+            return Err(StepFault::OutOfMemory);
+        };
+        let effect = access_key::<C>(&mut self.segments, &self.frequency, &self.rules, key);
+        self.stats.count(effect.outcome);
+        Ok(effect.outcome)
     }
 
-    // Makes an access. `C` says whose code this is.
+    // Makes an access, and records what it takes to undo it.
     #[inline(always)]
-    fn step<C>(&mut self, key: Key) -> Result<(Outcome, AccessRecord), StepFault>
+    fn step(&mut self, key: Key) -> Result<(Outcome, AccessRecord), StepFault>
         ensures accepted { IfOk result (λ r. queue_act self.old key ≡ Some (r.0, self.new)) }
         ensures fits { IfOk result (λ r. QueueFits r.1 self.new) }
         ensures undone { IfOk result (λ r. queue_undone r.1 self.new ≡ self.old) }
@@ -205,17 +238,11 @@ impl QueueCache {
         ensures not_now { result ≡ Err StepFault.NotNow ↔ queue_act self.old key ≡ None }
         ensures err { OnErr result (self.new ≡ self.old) }
     {
-        if self.stats.accesses == MAX_STEPS {
-            return Err(StepFault::NotNow);
-        }
-        // All room is made first: what follows the recording takes none.
-        if self.segments.reserve().is_err() {
-            return Err(StepFault::OutOfMemory);
-        }
+        make_room(&self.stats, &mut self.segments)?;
         let Ok(counting) = record_in(&mut self.frequency, key) else {
             return Err(StepFault::OutOfMemory);
         };
-        let effect = access_key::<C>(&mut self.segments, &self.frequency, &self.rules, key);
+        let effect = access_key::<Recorder>(&mut self.segments, &self.frequency, &self.rules, key);
         self.stats.count(effect.outcome);
         let record = AccessRecord {
             counting,
@@ -287,7 +314,7 @@ impl Engine for QueueCache {
 
     #[inline(always)]
     fn apply(&mut self, step: &Key) -> Result<(Outcome, AccessRecord), StepFault> {
-        self.step::<Recorder>(*step)
+        self.step(*step)
     }
 
     fn undo(&mut self, done: AccessRecord) -> Result<(), AccessRecord>
