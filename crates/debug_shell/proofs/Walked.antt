@@ -1,6 +1,6 @@
 -- Two caches side by side, access by access.
-use Rattle.std.proofs.Common.{◌≡◌, ◌≢◌, ℕ, zero, suc, ◌+◌, ◌<◌, ◌≤◌, Bool, true, false, true≢false, inl, inr, Some, None, List, [], ◌∷◌, ◌++◌, length, take, drop, get_or, ap, ◌∙◌, sym, refl, arith, subst, append-nil}
-use Rattle.std.specs.Prelude.{slice_index}
+use Rattle.std.proofs.Common.{◌≡◌, ◌≢◌, ℕ, zero, suc, ◌+◌, ◌<◌, ◌≤◌, Bool, true, false, true≢false, inl, inr, Some, None, List, [], ◌∷◌, ◌++◌, length, take, drop, get_or, set, get_or-set_same, get_or-set_other, ◌-◌, ap, ◌∙◌, sym, refl, arith, subst, append-nil}
+use Rattle.std.specs.Prelude.{slice_index, slice_index_or}
 use Rattle.std.proofs.lemmas.Bool.{cases_lt}
 use Rattle.std.proofs.lemmas.List.{length-take-le, get_or_past}
 use mathlib.Core.Bool.{not, beq}
@@ -14,7 +14,7 @@ use Rattle.policies.specs.AnyPolicy.{Stands, outcomes_on}
 use Rattle.policies.specs.AnyStep.{any_act}
 use Rattle.policies.specs.Theorems.{AnyStands, AnyAccepts, AnyAnswers}
 use Rattle.policy_actors.proofs.Stretches.{next-ahead, added-next}
-use Rattle.debug_shell.specs.Part.{is_hit_at, AgreeBelow}
+use Rattle.debug_shell.specs.Part.{is_hit_at, AgreeBelow, IsPart, IsNoted, IsFirstOther}
 
 -- ---- one access of one cache
 
@@ -64,15 +64,39 @@ agrees true false h = absurd (true≢false h)
 agrees false true h = absurd (true≢false h)
 agrees false false h = refl
 
-pub one-more : (os ps : List Outcome) (i : ℕ) → AgreeBelow (i + 1) os ps → is_hit_at os (i + 1) ≡ is_hit_at ps (i + 1)
-    → AgreeBelow (i + 1 + 1) os ps
-one-more os ps i below here m lt =
-    elim (cases_lt m (i + 1)) [
-      | inl less ↦ below m less
-      | inr more ↦
-          let same : i + 1 ≡ m = omega arith in
-          subst (λ (n : ℕ). is_hit_at os n ≡ is_hit_at ps n) same here
+pub noted-on : (noted : List Bool) (os : List Outcome) (start i : ℕ) → slice_index_or noted (i - start) false ≡ is_hit_at os (i + 1)
+    → IsNoted noted os start i → IsNoted noted os start (i + 1)
+noted-on noted os start i here before j from below =
+    elim (cases_lt j i) [
+      | inl less ↦ before j from less
+      | inr more ↦ (let same : i ≡ j = omega arith in subst (λ (n : ℕ). slice_index_or noted (n - start) false ≡ is_hit_at os (n + 1)) same here)
     ]
+
+pub noted-more : (noted : List Bool) (os : List Outcome) (start i : ℕ) (b : Bool) → start ≤ i → i - start < length noted
+    → b ≡ is_hit_at os (i + 1) → IsNoted noted os start i → IsNoted (set noted (i - start) b) os start (i + 1)
+noted-more noted os start i b order room e before =
+    noted-on (set noted (i - start) b) os start i (get_or-set_same noted (i - start) b false room ∙ e)
+    (λ j from below. get_or-set_other noted (i - start) (j - start) b false (λ same. omega (arith, same, from, below, order)) ∙ before j from below)
+
+pub agree-more : (noted : List Bool) (os ps : List Outcome) (start end : ℕ) → AgreeBelow (start + 1) os ps → IsNoted noted os start end
+    → IsNoted noted ps start end → AgreeBelow (end + 1) os ps
+agree-more noted os ps start end below one other zero lt = below zero (omega arith)
+agree-more noted os ps start end below one other (suc m) lt =
+    elim (cases_lt m start) [
+      | inl less ↦ below (suc m) (omega arith)
+      | inr more ↦ (
+          let on : m + 1 ≡ suc m = omega arith in
+          subst (λ (n : ℕ). is_hit_at os n ≡ is_hit_at ps n) on (sym (one m (omega arith) (omega arith)) ∙ other m (omega arith) (omega arith)))
+    ]
+
+pub parts-first : (noted : List Bool) (os ps : List Outcome) (start end place : ℕ) → AgreeBelow (start + 1) os ps → IsNoted noted os start end
+    → IsFirstOther noted ps start end place → IsPart os ps (Some (place + 1))
+parts-first noted os ps start end place below one p =
+    let from = p.from in
+    let to = p.below in (
+      (λ same. p.other (one place from to ∙ same)),
+      agree-more noted os ps start place below (λ j f t. one j f (omega (arith, t, to))) p.agree,
+    )
 
 pub agree-everywhere : (os ps : List Outcome) (n : ℕ) → length os ≡ n → length ps ≡ n → AgreeBelow (n + 1) os ps
     → (m : ℕ) → is_hit_at os m ≡ is_hit_at ps m
