@@ -10,6 +10,8 @@ use Rattle.trace_read.specs.declared.format.Format.{Format}
 use Rattle.shell_model.specs.Shell.{Shell, act}
 use Rattle.maintenance.specs.Opened.{IsOpened}
 use Rattle.journal.specs.Session.{SessionState}
+use Rattle.drive.specs.declared.driving.DriveFault.{DriveFault}
+use Rattle.drive.specs.declared.driving.DriveFault.TheVariants.{Workers, Held, OutOfMemory, Stopped}
 use Rattle.cachesim.specs.Dealt.{AreOfReads}
 use Rattle.journal_text.specs.Journal.{journal_of}
 use Rattle.journal_text.specs.declared.version.Version.TheVariants.{Two}
@@ -32,3 +34,10 @@ pub record IsDriven (config : Config) (workers : ℕ) (format : Format)
   pub legal : IsLegal act opening steps
   pub walks : IfSome input (λ bytes. AreOfReads workers config.stripes (keys_in format bytes) steps)
   pub written : Appends before after (journal_of Two steps)
+
+-- a fault of a run that could begin
+abbrev pub IsOfRun : DriveFault → Type 0
+IsOfRun (Workers session) = ⊥
+IsOfRun (Held worker session) = ⊥
+IsOfRun (OutOfMemory session) = Unit {0}
+IsOfRun (Stopped session lists cause) = Unit {0}

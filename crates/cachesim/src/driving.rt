@@ -3,7 +3,7 @@ ghost use Rattle.std.specs.Prelude.{◌≡◌, ◌≤◌, ℕ, Ok, [], IfOk, OnO
 ghost use Rattle.step_record.specs.Config.{config_fault};
 ghost use Rattle.step_record.specs.declared.worker.TheConstants.{MAX_WORKERS};
 ghost use Rattle.cachesim.specs.Dealt.{IsDealt};
-ghost use Rattle.cachesim.specs.Drove.{IsDriven, IsFirst};
+ghost use Rattle.cachesim.specs.Drove.{IsDriven, IsFirst, IsOfRun};
 
 use crate::fault::Fault;
 use command_line::DriveArguments;
@@ -53,6 +53,36 @@ pub fn open(alloc: Global, config: &Config) -> Result<Session<Shell>, AllocError
     Ok(Session::open(alloc, shell, config.journal_limit as usize))
 }
 
+// Writes the journal of a run that was stopped, and tells why it did not make all walks.
+fn tell<W: Write>(alloc: Global, fault: &DriveFault, out: &mut W) -> Fault
+    requires { IsOfRun fault.now }
+{
+    match fault {
+        DriveFault::Stopped {
+            session,
+            lists: _,
+            cause,
+        } => match write_journal(alloc, session, out) {
+            Ok(()) => Fault::from(*cause),
+            Err(unwritten) => Fault::from(unwritten),
+        },
+        DriveFault::OutOfMemory { session: _ } => Fault::OutOfMemory,
+        DriveFault::Workers { session: _ } => unreachable!(),
+        DriveFault::Held {
+            worker: _,
+            session: _,
+        } => unreachable!(),
+    }
+}
+
+fn failed<W: Write>(alloc: Global, fault: DriveFault, out: &mut W) -> Fault
+    requires { IsOfRun fault }
+{
+    let told = tell(alloc, &fault, out);
+    drop(fault);
+    told
+}
+
 /// Reads the trace, lets the workers read its keys in a concurrent cache, each on a thread of its
 /// own, and writes the journal of their steps. Where a worker was refused a step, the journal is
 /// written too, and the fault is the cause. Any other fault but `Write` has written nothing.
@@ -77,23 +107,6 @@ pub fn drive<T: Threads + Wait + Sync, R: Read, W: Write>(
             write_journal(alloc, &driven.session, out)?;
             Ok(())
         }
-        Err(
-            DriveFault::Stopped {
-                session,
-                lists: _,
-                cause,
-            },
-        ) => {
-            write_journal(alloc, &session, out)?;
-            Err(Fault::from(cause))
-        }
-        Err(DriveFault::OutOfMemory { session: _ }) => Err(Fault::OutOfMemory),
-        Err(DriveFault::Workers { session: _ }) => unreachable!(),
-        Err(
-            DriveFault::Held {
-                worker: _,
-                session: _,
-            },
-        ) => unreachable!(),
+        Err(fault) => Err(failed(alloc, fault, out)),
     }
 }

@@ -197,8 +197,8 @@ fn divided<'a>(
     ensures local { IfOk result (λ c. (out-Command c).has_globals ≡ false) }
 {
     let main_percent = main_arg(alloc);
-    let spread = spread_arg(alloc, spreads);
     let divided = command.arg(main_percent)?;
+    let spread = spread_arg(alloc, spreads);
     divided.arg(spread)
 }
 
@@ -224,8 +224,8 @@ fn concurrent<'a>(alloc: Global, command: Command<'a>) -> Result<Command<'a>, Al
     ensures local { IfOk result (λ c. (out-Command c).has_globals ≡ false) }
 {
     let stripes = stripes_arg(alloc);
-    let limit = limit_arg(alloc);
     let striped = command.arg(stripes)?;
+    let limit = limit_arg(alloc);
     striped.arg(limit)
 }
 
@@ -243,16 +243,16 @@ fn run_command<'a>(
     })) }
     ensures local { IfOk result (λ c. (out-Command c).has_globals ≡ false) }
 {
-    let format = format_arg(alloc, formats);
-    let batch = batch_arg(alloc);
-    let policy = policy_arg(alloc, policies);
     let named = Command::new(alloc, "run");
     let run = named.about(
         "Runs policies over the trace on standard input and prints a report of each",
     );
     let configured = configured(alloc, run, spreads)?;
+    let format = format_arg(alloc, formats);
     let formed = configured.arg(format)?;
+    let batch = batch_arg(alloc);
     let batched = formed.arg(batch)?;
+    let policy = policy_arg(alloc, policies);
     batched.arg(policy)
 }
 
@@ -270,16 +270,16 @@ fn sweep_command<'a>(
     })) }
     ensures local { IfOk result (λ c. (out-Command c).has_globals ≡ false) }
 {
-    let format = format_arg(alloc, formats);
-    let policy = one_policy_arg(alloc, "policy", "The policy to run", policies);
-    let capacities = capacities_arg(alloc);
     let named = Command::new(alloc, "sweep");
     let sweep = named.about(
         "Runs a policy over the trace on standard input and prints a report for each capacity",
     );
     let divided = divided(alloc, sweep, spreads)?;
+    let format = format_arg(alloc, formats);
     let formed = divided.arg(format)?;
+    let policy = one_policy_arg(alloc, "policy", "The policy to run", policies);
     let chosen = formed.arg(policy)?;
+    let capacities = capacities_arg(alloc);
     chosen.arg(capacities)
 }
 
@@ -300,12 +300,12 @@ fn paired<'a>(
     }) (app_of command.entry)) }
     ensures local { IfOk result (λ c. (out-Command c).has_globals ≡ false) }
 {
-    let format = format_arg(alloc, formats);
-    let first = one_policy_arg(alloc, "first", "The one policy", policies);
-    let second = one_policy_arg(alloc, "second", "The other policy", policies);
     let configured = configured(alloc, command, spreads)?;
+    let format = format_arg(alloc, formats);
     let formed = configured.arg(format)?;
+    let first = one_policy_arg(alloc, "first", "The one policy", policies);
     let one = formed.arg(first)?;
+    let second = one_policy_arg(alloc, "second", "The other policy", policies);
     one.arg(second)
 }
 
@@ -344,12 +344,12 @@ fn debug_command<'a>(
     })) }
     ensures local { IfOk result (λ c. (out-Command c).has_globals ≡ false) }
 {
-    let trace = file_arg(alloc, "trace", "The file of the trace");
     let named = Command::new(alloc, "debug");
     let debug = named.about(
         "Answers commands on standard input about two policies over the trace of a file",
     );
     let paired = paired(alloc, debug, policies, formats, spreads)?;
+    let trace = file_arg(alloc, "trace", "The file of the trace");
     paired.arg(trace)
 }
 
@@ -358,12 +358,12 @@ fn replay_command<'a>(alloc: Global, spreads: &'a [&'a str]) -> Result<Command<'
     ensures shape { IfOk result (λ c. app_of c ≡ replay_app spreads.entry) }
     ensures local { IfOk result (λ c. (out-Command c).has_globals ≡ false) }
 {
-    let journal = file_arg(alloc, "journal", "The file of the journal");
     let named = Command::new(alloc, "replay");
     let replay = named.about(
         "Answers commands on standard input about the concurrent run whose journal is in a file",
     );
     let configured = configured(alloc, replay, spreads)?;
+    let journal = file_arg(alloc, "journal", "The file of the journal");
     let recorded = configured.arg(journal)?;
     concurrent(alloc, recorded)
 }
@@ -377,14 +377,14 @@ fn drive_command<'a>(
     ensures shape { IfOk result (λ c. app_of c ≡ drive_app formats.entry spreads.entry) }
     ensures local { IfOk result (λ c. (out-Command c).has_globals ≡ false) }
 {
-    let format = format_arg(alloc, formats);
-    let workers = workers_arg(alloc);
     let named = Command::new(alloc, "drive");
     let drive = named.about(
         "Runs the concurrent cache on threads over the trace on standard input and prints its journal",
     );
     let configured = configured(alloc, drive, spreads)?;
+    let format = format_arg(alloc, formats);
     let formed = configured.arg(format)?;
+    let workers = workers_arg(alloc);
     let manned = formed.arg(workers)?;
     concurrent(alloc, manned)
 }
@@ -402,20 +402,20 @@ pub(crate) fn program<'a>(
       spreads = spreads.entry;
     })) }
 {
-    let run = run_command(alloc, policies, formats, spreads)?;
-    let sweep = sweep_command(alloc, policies, formats, spreads)?;
-    let part = part_command(alloc, policies, formats, spreads)?;
-    let drive = drive_command(alloc, formats, spreads)?;
-    let debug = debug_command(alloc, policies, formats, spreads)?;
-    let replay = replay_command(alloc, spreads)?;
     let named = Command::new(alloc, "cachesim");
     let top = named.about("Simulates cache policies over recorded block traces");
     let versioned = top.version("0.1.0");
     let empty = versioned.subcommand_required(true);
+    let run = run_command(alloc, policies, formats, spreads)?;
     let running = empty.subcommand(run)?;
+    let sweep = sweep_command(alloc, policies, formats, spreads)?;
     let sweeping = running.subcommand(sweep)?;
+    let part = part_command(alloc, policies, formats, spreads)?;
     let parting = sweeping.subcommand(part)?;
+    let drive = drive_command(alloc, formats, spreads)?;
     let driving = parting.subcommand(drive)?;
+    let debug = debug_command(alloc, policies, formats, spreads)?;
     let debugging = driving.subcommand(debug)?;
+    let replay = replay_command(alloc, spreads)?;
     debugging.subcommand(replay)
 }

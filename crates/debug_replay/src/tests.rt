@@ -5,6 +5,7 @@ use journal_text::read_journal;
 use maintenance::Shell;
 use std::alloc::Global;
 use std::io::{Error, ErrorKind, Read, Write};
+use std::process::Abort;
 use std::test::Fail;
 use step_record::{Config, Spread};
 
@@ -41,13 +42,18 @@ fn session_of(alloc: Global, capacity: u32, text: &str) -> Result<Session<Shell>
     Ok(session)
 }
 
+// What the debugger writes of a session.
+fn said_of(alloc: Global, session: &mut Session<Shell>, commands: &[u8]) -> Result<Vec<u8>, Fail> {
+    let mut out = Vec::with_capacity(alloc, ROOM)?;
+    let mut rest = commands;
+    run_replay(alloc, session, &mut rest, &mut out)?;
+    Ok(out)
+}
+
 // What the debugger writes of the journal.
 fn said(alloc: Global, capacity: u32, text: &str, commands: &[u8]) -> Result<Vec<u8>, Fail> {
     let mut session = session_of(alloc, capacity, text)?;
-    let mut out = Vec::with_capacity(alloc, ROOM)?;
-    let mut rest = commands;
-    run_replay(alloc, &mut session, &mut rest, &mut out)?;
-    Ok(out)
+    said_of(alloc, &mut session, commands)
 }
 
 #[test]
@@ -191,26 +197,41 @@ fn pipe_of(alloc: Global, text: &[u8], passes: usize) -> Result<Pipe<'_>, Fail> 
     Ok(Pipe::of(text, Vec::with_capacity(alloc, ROOM)?, passes))
 }
 
+// Has a session answer these commands, through ends that bear so many calls, and sees what is written.
+fn walk(
+    rt: &impl Abort,
+    alloc: Global,
+    session: &mut Session<Shell>,
+    (commands, reads): (&[u8], usize),
+    (text, writes): (&[u8], usize),
+) -> Result<Result<(), DebugFault>, Fail> {
+    let mut input = pipe_of(alloc, commands, reads)?;
+    let mut output = pipe_of(alloc, b"", writes)?;
+    let answer = run_replay(alloc, session, &mut input, &mut output);
+    assert_eq!(rt; output.taken.as_slice(), text);
+    Ok(answer)
+}
+
 // The session stands where the commands left it, also behind a fault, and no step is lost.
-#[test]
-fn a_session_is_left_at_its_position(rt: HostRuntime) -> Result<(), Fail> {
-    let alloc = rt.alloc();
-    let mut session = session_of(alloc, 8, JOURNAL)?;
-    let mut out = Vec::with_capacity(alloc, ROOM)?;
-    let mut done = b"back 3\nquit\nback 1\n".as_slice();
-    run_replay(alloc, &mut session, &mut done, &mut out)?;
+fn walk_about(rt: &impl Abort, alloc: Global, session: &mut Session<Shell>) -> Result<(), Fail> {
+    let done: (&[u8], usize) = (b"back 3\nquit\nback 1\n", ROOM);
+    assert_eq!(rt; walk(rt, alloc, session, done, (b"at 6\n", ROOM))?, Ok(()));
     assert_eq!(rt; (session.len(), session.ahead()), (6, 3));
-    let mut cut = pipe_of(alloc, b"step 1\nback", 11)?;
-    let answer = run_replay(alloc, &mut session, &mut cut, &mut out);
+    let cut: (&[u8], usize) = (b"step 1\nback", 11);
+    let answer = walk(rt, alloc, session, cut, (b"at 7\n", ROOM))?;
     assert_eq!(rt; answer, Err(DebugFault::Read));
     assert_eq!(rt; (session.len(), session.ahead()), (7, 2));
-    let mut commands = b"back 5\n".as_slice();
-    let mut full = pipe_of(alloc, b"", 0)?;
-    let answer = run_replay(alloc, &mut session, &mut commands, &mut full);
+    let unanswered: (&[u8], usize) = (b"back 5\n", ROOM);
+    let answer = walk(rt, alloc, session, unanswered, (b"", 0))?;
     assert_eq!(rt; answer, Err(DebugFault::Write));
     assert_eq!(rt; (session.len(), session.ahead()), (2, 7));
-    assert_eq!(rt; out.as_slice(), b"at 6\nat 7\n".as_slice());
     Ok(())
+}
+
+#[test]
+fn a_session_is_left_at_its_position(rt: HostRuntime) -> Result<(), Fail> {
+    let mut session = session_of(rt.alloc(), 8, JOURNAL)?;
+    walk_about(&rt, rt.alloc(), &mut session)
 }
 
 // Two commands, of which the second ends the run, and what lies behind it.
@@ -237,70 +258,114 @@ fn answer_through(
     }
 }
 
+// How often each call of the input, and of the output, is interrupted before it goes through.
+#[derive(Clone, Copy, Debug)]
+struct Interruptions {
+    reads: u32,
+    writes: u32,
+}
+
+const NONE: Interruptions = Interruptions {
+    reads: 0,
+    writes: 0,
+};
+
+// Sees what the commands are answered through ends that bear so many calls, and that the front of the answers is
+// written, all of them where there is no fault.
+fn assert_through(
+    rt: &impl Abort,
+    alloc: Global,
+    (reads, writes): (usize, usize),
+    interruptions: Interruptions,
+    wanted: Result<(), DebugFault>,
+) -> Result<(), Fail> {
+    let mut input = pipe_of(alloc, COMMANDS, reads)?;
+    let mut output = pipe_of(alloc, b"", writes)?;
+    input.interruptions = interruptions.reads;
+    output.interruptions = interruptions.writes;
+    let answer = answer_through(alloc, &mut input, &mut output)?;
+    assert_eq!(rt;
+        answer,
+        wanted,
+        "{reads} reads, {writes} writes, {interruptions:?}"
+    );
+    assert!(rt; ANSWERS.starts_with(output.taken.as_slice()));
+    assert!(rt; answer.is_err() || output.taken.len() == ANSWERS.len());
+    Ok(())
+}
+
 #[test]
 fn each_read_that_fails_is_reported(rt: HostRuntime) -> Result<(), Fail> {
-    let alloc = rt.alloc();
-    for passes in 0..READS {
-        let mut output = pipe_of(alloc, b"", ROOM)?;
-        let answer = answer_through(alloc, &mut pipe_of(alloc, COMMANDS, passes)?, &mut output)?;
-        assert_eq!(rt; answer, Err(DebugFault::Read), "after {passes} reads");
-        assert!(rt; ANSWERS.starts_with(output.taken.as_slice()));
+    for reads in 0..READS {
+        assert_through(&rt, rt.alloc(), (reads, ROOM), NONE, Err(DebugFault::Read))?;
     }
-    let mut output = pipe_of(alloc, b"", ROOM)?;
-    let answer = answer_through(alloc, &mut pipe_of(alloc, COMMANDS, READS)?, &mut output)?;
-    assert_eq!(rt; answer, Ok(()));
-    assert_eq!(rt; output.taken.as_slice(), ANSWERS);
-    Ok(())
+    assert_through(&rt, rt.alloc(), (READS, ROOM), NONE, Ok(()))
 }
 
 #[test]
 fn each_write_or_flush_that_fails_is_reported(rt: HostRuntime) -> Result<(), Fail> {
-    let alloc = rt.alloc();
-    for passes in 0..WRITES {
-        let mut output = pipe_of(alloc, b"", passes)?;
-        let answer = answer_through(alloc, &mut pipe_of(alloc, COMMANDS, READS)?, &mut output)?;
-        assert_eq!(rt; answer, Err(DebugFault::Write), "after {passes} calls");
-        assert!(rt; ANSWERS.starts_with(output.taken.as_slice()));
+    for writes in 0..WRITES {
+        assert_through(
+            &rt,
+            rt.alloc(),
+            (READS, writes),
+            NONE,
+            Err(DebugFault::Write),
+        )?;
     }
-    let mut output = pipe_of(alloc, b"", WRITES)?;
-    let answer = answer_through(alloc, &mut pipe_of(alloc, COMMANDS, READS)?, &mut output)?;
-    assert_eq!(rt; answer, Ok(()));
-    Ok(())
+    assert_through(&rt, rt.alloc(), (READS, WRITES), NONE, Ok(()))
 }
 
 #[test]
 fn the_millionth_interruption_is_a_failure(rt: HostRuntime) -> Result<(), Fail> {
-    let alloc = rt.alloc();
     for (reads, writes, answer) in [
         (999_999, 999_999, Ok(())),
         (1_000_000, 0, Err(DebugFault::Read)),
         (0, 1_000_000, Err(DebugFault::Write)),
     ] {
-        let mut input = pipe_of(alloc, COMMANDS, READS)?;
-        let mut output = pipe_of(alloc, b"", WRITES)?;
-        input.interruptions = reads;
-        output.interruptions = writes;
-        assert_eq!(rt; answer_through(alloc, &mut input, &mut output)?, answer);
+        let interruptions = Interruptions { reads, writes };
+        assert_through(&rt, rt.alloc(), (READS, WRITES), interruptions, answer)?;
     }
     Ok(())
 }
 
-// The limit is 2^20 bytes; the lines before the one that passes it are answered, and the session stands where they led.
+// A command, and a line of blanks behind it.
+fn long_commands(alloc: Global, blanks: usize) -> Result<Vec<u8>, Fail> {
+    let mut commands = Vec::with_capacity(alloc, blanks)?;
+    commands.extend_from_slice(b"goto 2\n")?;
+    for _ in 0..blanks {
+        commands.push(b' ')?;
+    }
+    Ok(commands)
+}
+
+// Sees what long commands are answered: the lines before the one that is too large are, and the session stands where
+// they led.
+fn assert_long(
+    rt: &impl Abort,
+    alloc: Global,
+    session: &mut Session<Shell>,
+    commands: &[u8],
+    wanted: Result<(), DebugFault>,
+) -> Result<(), Fail> {
+    let mut out = Vec::with_capacity(alloc, ROOM)?;
+    let mut rest = commands;
+    match run_replay(alloc, session, &mut rest, &mut out) {
+        Err(DebugFault::OutOfMemory) => return Err(Fail::from("out of memory")),
+        answer => assert_eq!(rt; answer, wanted),
+    }
+    assert_eq!(rt; out.as_slice(), b"at 2\n".as_slice());
+    assert_eq!(rt; (session.len(), session.ahead()), (2, 7));
+    Ok(())
+}
+
+// The limit is 2^20 bytes.
 #[test]
 fn a_line_past_the_limit_is_too_large(rt: HostRuntime) -> Result<(), Fail> {
-    let alloc = rt.alloc();
     for (blanks, answer) in [(1_048_569, Ok(())), (1_048_570, Err(DebugFault::TooLarge))] {
-        let mut session = session_of(alloc, 8, JOURNAL)?;
-        let mut commands = Vec::new(alloc);
-        commands.extend_from_slice(b"goto 2\n")?;
-        commands.extend_from_slice(vec![in alloc; b' '; blanks]?.as_slice())?;
-        let mut out = Vec::with_capacity(alloc, ROOM)?;
-        match run_replay(alloc, &mut session, &mut commands.as_slice(), &mut out) {
-            Err(DebugFault::OutOfMemory) => return Err(Fail::from("out of memory")),
-            said => assert_eq!(rt; said, answer, "with {blanks} blanks"),
-        }
-        assert_eq!(rt; out.as_slice(), b"at 2\n".as_slice());
-        assert_eq!(rt; (session.len(), session.ahead()), (2, 7));
+        let commands = long_commands(rt.alloc(), blanks)?;
+        let mut session = session_of(rt.alloc(), 8, JOURNAL)?;
+        assert_long(&rt, rt.alloc(), &mut session, commands.as_slice(), answer)?;
     }
     Ok(())
 }

@@ -189,24 +189,10 @@ fn assert_walks(rt: &impl Abort, list: &[Entry<Step, Reply>], who: Walker) {
     assert_eq!(rt; at, list.len());
 }
 
-// Runs all workers in a cache with one read buffer, or with one for each of them.
-fn assert_crowd<R: Threads + Wait + Sync + Abort>(
-    rt: &R,
-    alloc: Global,
-    stripes: u8,
-) -> Result<(), Fail> {
-    let config = Config {
-        capacity: 50,
-        main_percent: 99,
-        spread: Spread::Mixed,
-        stripes,
-        journal_limit: 1,
-    };
-    assert!(rt; config.check() == Ok(()));
-    let session = Session::open(alloc, Shell::new(alloc, &config)?, 8_000_000);
-    let driven = driven(rt, alloc, session, pieces(alloc)?, &OpenGate)?;
+// The lists are the walks of all workers.
+fn assert_all_walks(rt: &impl Abort, lists: &[Vec<Entry<Step, Reply>>], stripes: u8) {
     let mut number = 0;
-    for list in driven.lists.as_slice() {
+    for list in lists {
         let who = Walker {
             worker: number,
             stripe: if stripes == 1 { 0 } else { number },
@@ -216,12 +202,41 @@ fn assert_crowd<R: Threads + Wait + Sync + Abort>(
         number = number.wrapping_add(1);
     }
     assert_eq!(rt; number, WORKERS);
-    assert_own_lists(rt, &driven.session, driven.lists.as_slice());
-    let shell = driven.session.engine();
+}
+
+// The cache that is left: nobody holds the maintenance, and each read was counted.
+fn assert_left(rt: &impl Abort, shell: &Shell) {
     assert!(rt; shell.holder().is_none());
     let stats = shell.stats();
     // Each of the 64 workers makes 1,750 reads.
     assert_eq!(rt; stats.hits.wrapping_add(stats.misses), 112_000);
+}
+
+// A new cache with so many read buffers.
+fn opened(rt: &impl Abort, alloc: Global, stripes: u8) -> Result<Session<Shell>, Fail> {
+    let config = Config {
+        capacity: 50,
+        main_percent: 99,
+        spread: Spread::Mixed,
+        stripes,
+        journal_limit: 1,
+    };
+    assert!(rt; config.check() == Ok(()));
+    Ok(Session::open(alloc, Shell::new(alloc, &config)?, 8_000_000))
+}
+
+// Runs all workers in a cache with one read buffer, or with one for each of them.
+fn assert_crowd<R: Threads + Wait + Sync + Abort>(
+    rt: &R,
+    alloc: Global,
+    stripes: u8,
+) -> Result<(), Fail> {
+    let pieces = pieces(alloc)?;
+    let session = opened(rt, alloc, stripes)?;
+    let driven = driven(rt, alloc, session, pieces, &OpenGate)?;
+    assert_all_walks(rt, driven.lists.as_slice(), stripes);
+    assert_own_lists(rt, &driven.session, driven.lists.as_slice());
+    assert_left(rt, driven.session.engine());
     Ok(())
 }
 

@@ -53,17 +53,23 @@ fn new_session(alloc: Global, limit: usize) -> Result<Session<Shell>, Fail>
     Ok(Session::open(alloc, shell, limit))
 }
 
-// What a run that did not make all walks is to a test.
-pub(crate) fn failed(fault: DriveFault) -> Fail {
+fn told(fault: &DriveFault) -> &'static str {
     match fault {
-        DriveFault::OutOfMemory { session: _ } => Fail::from("out of memory"),
+        DriveFault::OutOfMemory { session: _ } => "out of memory",
         DriveFault::Stopped {
             session: _,
             lists: _,
             cause: Cause::Memory,
-        } => Fail::from("out of memory"),
-        _ => Fail::from("not driven"),
+        } => "out of memory",
+        _ => "not driven",
     }
+}
+
+// What a run that did not make all walks is to a test.
+fn failed(fault: DriveFault) -> Fail {
+    let text = told(&fault);
+    drop(fault);
+    Fail::from(text)
 }
 
 // A run that makes all walks.
@@ -74,10 +80,7 @@ pub(crate) fn driven<G: Gate, R: Threads + Wait + Sync>(
     pieces: Vec<Vec<Call>>,
     gate: &G,
 ) -> Result<Driven, Fail> {
-    match drive(rt, alloc, session, pieces, gate) {
-        Ok(driven) => Ok(driven),
-        Err(fault) => Err(failed(fault)),
-    }
+    drive(rt, alloc, session, pieces, gate).map_err(failed)
 }
 
 // Each list has the session's entries of its worker, in order.
@@ -102,28 +105,45 @@ pub(crate) fn assert_own_lists(
     assert_eq!(rt; total, session.len());
 }
 
-// Runs the pieces, each call held until all workers have begun theirs: with so many hits, misses and removals.
-fn assert_held_run<R: Threads + Wait + Sync + Abort>(
+// Runs the pieces, each call held until all workers have begun theirs.
+fn held_run<R: Threads + Wait + Sync + Abort>(
     rt: &R,
     alloc: Global,
+    session: Session<Shell>,
     pieces: Vec<Vec<Call>>,
-    counts: (u64, u64, u64),
-) -> Result<(), Fail> {
+) -> Result<Driven, Fail> {
     let gate = Hold {
         workers: pieces.len() as u64,
         begun: AtomicU64::new(0),
         late: AtomicU64::new(0),
     };
-    let driven = driven(rt, alloc, new_session(alloc, 1000)?, pieces, &gate)?;
+    let driven = driven(rt, alloc, session, pieces, &gate)?;
     if gate.late.load(SeqCst) > 0 {
         return Err(Fail::from("workers one after the other, or out of memory for a thread"));
     }
+    Ok(driven)
+}
+
+// A run's lists are the session's, and the cache counted so many hits, misses and removals.
+fn assert_counts(rt: &impl Abort, driven: &Driven, counts: (u64, u64, u64)) {
     assert_own_lists(rt, &driven.session, driven.lists.as_slice());
     let shell = driven.session.engine();
     let stats = shell.stats();
     assert_eq!(rt; (stats.hits, stats.misses, stats.removed), counts);
     assert_eq!(rt; stats.evictions, 0);
     assert!(rt; shell.holder().is_none());
+}
+
+// Runs the pieces side by side: with so many hits, misses and removals.
+fn assert_held_run<R: Threads + Wait + Sync + Abort>(
+    rt: &R,
+    alloc: Global,
+    pieces: Vec<Vec<Call>>,
+    counts: (u64, u64, u64),
+) -> Result<(), Fail> {
+    let session = new_session(alloc, 1000)?;
+    let driven = held_run(rt, alloc, session, pieces)?;
+    assert_counts(rt, &driven, counts);
     Ok(())
 }
 
@@ -161,17 +181,36 @@ fn eight_workers_run_side_by_side(rt: HostRuntime) -> Result<(), Fail> {
     assert_held_run(&rt, rt.alloc(), eight, (0, 8, 0))
 }
 
+fn assert_added_anew(rt: &impl Abort, driven: &Driven) {
+    assert_eq!(rt; driven.session.len(), 26);
+    assert_own_lists(rt, &driven.session, driven.lists.as_slice());
+    let stats = driven.session.engine().stats();
+    assert_eq!(rt; (stats.misses, stats.removed), (2, 1));
+}
+
 #[test]
 fn a_removed_key_is_added_anew(rt: HostRuntime) -> Result<(), Fail> {
     let alloc = rt.alloc();
-    let calls = [Call::Read(1), Call::Remove(1), Call::Read(1)];
-    let pieces = pieces_of(alloc, &[&calls])?;
-    let driven = driven(&rt, alloc, new_session(alloc, 100)?, pieces, &OpenGate)?;
-    assert_eq!(rt; driven.session.len(), 26);
-    assert_own_lists(&rt, &driven.session, driven.lists.as_slice());
-    let stats = driven.session.engine().stats();
-    assert_eq!(rt; (stats.misses, stats.removed), (2, 1));
+    let pieces = pieces_of(alloc, &[&[Call::Read(1), Call::Remove(1), Call::Read(1)]])?;
+    let session = new_session(alloc, 100)?;
+    let driven = driven(&rt, alloc, session, pieces, &OpenGate)?;
+    assert_added_anew(&rt, &driven);
     Ok(())
+}
+
+// What a run leaves that was stopped at a full journal.
+fn stopped_at_the_limit(rt: &impl Abort, fault: DriveFault) -> Result<Session<Shell>, Fail> {
+    match fault {
+        DriveFault::Stopped {
+            session,
+            lists,
+            cause: Cause::JournalFull,
+        } => {
+            assert_own_lists(rt, &session, lists.as_slice());
+            Ok(session)
+        }
+        fault => Err(failed(fault)),
+    }
 }
 
 // What a run leaves whose journal is full once its worker has begun the maintenance.
@@ -180,20 +219,11 @@ fn stopped<R: Threads + Wait + Sync + Abort>(
     alloc: Global,
 ) -> Result<Session<Shell>, Fail> {
     let pieces = one_read_each(alloc, 1)?;
-    match drive(rt, alloc, new_session(alloc, 4)?, pieces, &OpenGate) {
-        Err(
-            DriveFault::Stopped {
-                session,
-                lists,
-                cause: Cause::JournalFull,
-            },
-        ) => {
-            assert_own_lists(rt, &session, lists.as_slice());
-            Ok(session)
-        }
-        Err(fault) => Err(failed(fault)),
-        Ok(_) => Err(Fail::from("not stopped")),
-    }
+    let session = new_session(alloc, 4)?;
+    let Err(fault) = drive(rt, alloc, session, pieces, &OpenGate) else {
+        return Err(Fail::from("not stopped"));
+    };
+    stopped_at_the_limit(rt, fault)
 }
 
 #[test]
@@ -204,25 +234,40 @@ fn a_full_journal_stops_a_worker_at_its_maintenance(rt: HostRuntime) -> Result<(
     Ok(())
 }
 
+// How a run was refused, and how many steps its session has.
+#[derive(Clone, Copy, Debug, PartialEq, Eq)]
+enum Refusal {
+    Held(usize),
+    Workers(usize),
+}
+
+fn refusal_of(answer: &Result<Driven, DriveFault>) -> Result<Refusal, Fail> {
+    match answer {
+        Err(DriveFault::Held { session, .. }) => Ok(Refusal::Held(session.len())),
+        Err(DriveFault::Workers { session }) => Ok(Refusal::Workers(session.len())),
+        Err(fault) => Err(Fail::from(told(fault))),
+        Ok(_) => Err(Fail::from("not refused")),
+    }
+}
+
+fn refused(answer: Result<Driven, DriveFault>) -> Result<Refusal, Fail> {
+    let refusal = refusal_of(&answer);
+    drop(answer);
+    refusal
+}
+
 #[test]
 fn a_maintenance_under_way_is_settled_first(rt: HostRuntime) -> Result<(), Fail> {
-    let session = stopped(&rt, rt.alloc())?;
     let idle = pieces_of(rt.alloc(), &[&[]])?;
-    match drive(&rt, rt.alloc(), session, idle, &OpenGate) {
-        Err(DriveFault::Held { session, .. }) => assert_eq!(rt; session.len(), 4),
-        Err(fault) => return Err(failed(fault)),
-        Ok(_) => return Err(Fail::from("not held")),
-    }
+    let session = stopped(&rt, rt.alloc())?;
+    let refusal = refused(drive(&rt, rt.alloc(), session, idle, &OpenGate))?;
+    assert_eq!(rt; refusal, Refusal::Held(4));
     Ok(())
 }
 
 // What a run leaves that makes all walks, or is stopped for memory.
-fn left_by<R: Threads + Wait + Sync>(
-    rt: &R,
-    alloc: Global,
-    pieces: Vec<Vec<Call>>,
-) -> Result<Session<Shell>, Fail> {
-    match drive(rt, alloc, new_session(alloc, 100)?, pieces, &OpenGate) {
+fn left_by(answer: Result<Driven, DriveFault>) -> Result<Session<Shell>, Fail> {
+    match answer {
         Ok(driven) => Ok(driven.session),
         Err(
             DriveFault::Stopped {
@@ -235,14 +280,9 @@ fn left_by<R: Threads + Wait + Sync>(
     }
 }
 
-// Where memory is refused once, what the run left is settled.
-#[test]
-fn a_stopped_maintenance_is_settled(rt: HostRuntime) -> Result<(), Fail> {
-    let alloc = rt.alloc();
-    let calls = [Call::Read(1), Call::Remove(1), Call::Read(1)];
-    let pieces = pieces_of(alloc, &[&calls])?;
-    let mut session = left_by(&rt, alloc, pieces)?;
-    match settle(&mut session) {
+// Settles what a run left.
+fn assert_settles(rt: &impl Abort, session: &mut Session<Shell>) -> Result<(), Fail> {
+    match settle(session) {
         Ok(_) => assert!(rt; session.engine().holder().is_none()),
         Err(SettleFault::OutOfMemory { done: _ }) => return Err(Fail::from("out of memory")),
         Err(_) => return Err(Fail::from("not settled")),
@@ -250,19 +290,32 @@ fn a_stopped_maintenance_is_settled(rt: HostRuntime) -> Result<(), Fail> {
     Ok(())
 }
 
+// Where memory is refused once, what the run left is settled.
+#[test]
+fn a_stopped_maintenance_is_settled(rt: HostRuntime) -> Result<(), Fail> {
+    let alloc = rt.alloc();
+    let pieces = pieces_of(alloc, &[&[Call::Read(1), Call::Remove(1), Call::Read(1)]])?;
+    let session = new_session(alloc, 100)?;
+    let mut session = left_by(drive(&rt, alloc, session, pieces, &OpenGate))?;
+    assert_settles(&rt, &mut session)
+}
+
+// So many workers without calls.
+fn idle_workers(alloc: Global, workers: usize) -> Result<Vec<Vec<Call>>, AllocError> {
+    let mut pieces = Vec::new(alloc);
+    for _ in 0..workers {
+        pieces.push(Vec::new(alloc))?;
+    }
+    Ok(pieces)
+}
+
 #[test]
 fn no_worker_or_too_many_is_a_fault(rt: HostRuntime) -> Result<(), Fail> {
-    let alloc = rt.alloc();
     for workers in [0, 65] {
-        let mut pieces = Vec::new(alloc);
-        for _ in 0..workers {
-            pieces.push(Vec::new(alloc))?;
-        }
-        match drive(&rt, alloc, new_session(alloc, 9)?, pieces, &OpenGate) {
-            Err(DriveFault::Workers { session }) => assert_eq!(rt; session.len(), 0),
-            Err(fault) => return Err(failed(fault)),
-            Ok(_) => return Err(Fail::from("not refused")),
-        }
+        let pieces = idle_workers(rt.alloc(), workers)?;
+        let session = new_session(rt.alloc(), 9)?;
+        let refusal = refused(drive(&rt, rt.alloc(), session, pieces, &OpenGate))?;
+        assert_eq!(rt; refusal, Refusal::Workers(0));
     }
     Ok(())
 }

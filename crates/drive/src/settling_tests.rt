@@ -73,6 +73,66 @@ fn settling_ends_the_round_or_names_its_steps(rt: HostRuntime) -> Result<(), Fai
     Ok(())
 }
 
+// Makes some steps of a round by hand.
+fn make_all(
+    rt: &impl Abort,
+    session: &mut Session<Shell>,
+    steps: &[(Act, Reply)],
+) -> Result<(), Fail> {
+    for (act, reply) in steps {
+        assert_eq!(rt; make(rt, session, *act)?, *reply);
+    }
+    Ok(())
+}
+
+// Settles a session: the answer, where it was not memory that was wanting.
+fn settled(
+    rt: &impl Abort,
+    session: &mut Session<Shell>,
+) -> Result<Result<u64, SettleFault>, Fail> {
+    let start = session.len() as u64;
+    let answer = settle(session);
+    if let Err(SettleFault::OutOfMemory { done }) = answer {
+        assert_eq!(rt; session.len() as u64, start.wrapping_add(done));
+        return Err(Fail::from("out of memory"));
+    }
+    Ok(answer)
+}
+
+// Sees that the last entries of a session are these steps.
+fn assert_ends(rt: &impl Abort, session: &Session<Shell>, start: usize, steps: &[(Act, Reply)]) {
+    assert_eq!(rt; session.len(), start.wrapping_add(steps.len()));
+    let mut at = start;
+    for (act, reply) in steps {
+        at = at.wrapping_add(1);
+        let entry = Entry {
+            step: step(rt, *act),
+            reply: *reply,
+        };
+        assert_eq!(rt; session.entry(at).copied(), Some(entry));
+    }
+}
+
+// Settles a session whose round has these steps left, of which so many have room.
+fn assert_settled(
+    rt: &impl Abort,
+    session: &mut Session<Shell>,
+    left: &[(Act, Reply)],
+    room: usize,
+) -> Result<(), Fail> {
+    assert!(rt; room <= left.len());
+    let start = session.len();
+    let wanted = if room < left.len() {
+        Err(SettleFault::JournalFull { done: room as u64 })
+    } else {
+        Ok(left.len() as u64)
+    };
+    assert_eq!(rt; settled(rt, session)?, wanted);
+    assert_eq!(rt; session.engine().holder().is_some(), room < left.len());
+    assert_ends(rt, session, start, &left[..room]);
+    Ok(())
+}
+
 // Settles a session with some steps of a round made by hand, where the journal has room for so many more: too few for
 // the steps that are left, or as many.
 fn assert_settles(
@@ -82,53 +142,30 @@ fn assert_settles(
     (by_hand, again): (usize, usize),
     room: usize,
 ) -> Result<(), Fail> {
-    assert!(rt; by_hand < 5 && again <= by_hand);
-    let left = 5 - again;
-    assert!(rt; room <= left);
-    let start = 4 + by_hand;
-    let mut session = begun(rt, alloc, start + room)?;
-    for (act, reply) in &round[..by_hand] {
-        assert_eq!(rt; make(rt, &mut session, *act)?, *reply);
+    assert!(rt; by_hand < 5 && again <= by_hand && room <= 5);
+    let mut session = begun(rt, alloc, 4 + by_hand + room)?;
+    make_all(rt, &mut session, &round[..by_hand])?;
+    assert_settled(rt, &mut session, &round[again..], room)
+}
+
+// Sees that nothing is settled of a session one step before its maintenance.
+fn assert_nothing_settled(rt: &impl Abort, session: &mut Session<Shell>) -> Result<(), Fail> {
+    match session.back(1) {
+        Err(BackFault::OutOfMemory { undone: _ }) => return Err(Fail::from("out of memory")),
+        answer => assert_eq!(rt; answer, Ok(())),
     }
-    let answer = settle(&mut session);
-    if let Err(SettleFault::OutOfMemory { done }) = answer {
-        assert_eq!(rt; session.len() as u64, start as u64 + done);
-        return Err(Fail::from("out of memory"));
-    }
-    let wanted = if room < left {
-        Err(SettleFault::JournalFull { done: room as u64 })
-    } else {
-        Ok(left as u64)
-    };
-    assert_eq!(rt; answer, wanted);
-    assert_eq!(rt; session.len(), start + room);
-    assert_eq!(rt; session.engine().holder().is_some(), room < left);
-    for n in 0..room {
-        let (act, reply) = round[again + n];
-        let entry = Entry {
-            step: step(rt, act),
-            reply,
-        };
-        assert_eq!(rt; session.entry(start + n + 1).copied(), Some(entry));
-    }
+    assert_eq!(rt; session.engine().drain(), Drain::Required);
+    assert_eq!(rt; settle(session), Ok(0));
+    assert_eq!(rt; (session.len(), session.ahead()), (3, 1));
     Ok(())
 }
 
 #[test]
 fn settling_without_a_holder_makes_no_step(rt: HostRuntime) -> Result<(), Fail> {
     let mut session = begun(&rt, rt.alloc(), 4)?;
-    assert_eq!(rt;
-        session.step(step(&rt, Act::End)),
-        Err(SessionFault::JournalFull)
-    );
-    match session.back(1) {
-        Err(BackFault::OutOfMemory { undone: _ }) => return Err(Fail::from("out of memory")),
-        answer => assert_eq!(rt; answer, Ok(())),
-    }
-    assert_eq!(rt; session.engine().drain(), Drain::Required);
-    assert_eq!(rt; settle(&mut session), Ok(0));
-    assert_eq!(rt; (session.len(), session.ahead()), (3, 1));
-    Ok(())
+    let answer = session.step(step(&rt, Act::End));
+    assert_eq!(rt; answer, Err(SessionFault::JournalFull));
+    assert_nothing_settled(&rt, &mut session)
 }
 
 // The keys of the quiet runs, at capacity 2. Misses take nine steps, and one more where the window
@@ -149,7 +186,21 @@ fn cut_off(alloc: Global, session: &mut Session<Shell>) -> Result<QuietFault, Fa
     }
 }
 
-// Sees that a run is cut off at a limit, and what a second one answers then.
+// Sees that a run is cut off after so many steps, and what a second one answers then.
+fn assert_cut_twice(
+    rt: &impl Abort,
+    alloc: Global,
+    session: &mut Session<Shell>,
+    limit: usize,
+    second: QuietFault,
+) -> Result<(), Fail> {
+    let done = limit as u64;
+    assert_eq!(rt; cut_off(alloc, session)?, QuietFault::JournalFull { done });
+    assert_eq!(rt; cut_off(alloc, session)?, second);
+    assert_eq!(rt; session.len(), limit);
+    Ok(())
+}
+
 fn assert_cut_off(
     rt: &impl Abort,
     alloc: Global,
@@ -157,12 +208,7 @@ fn assert_cut_off(
     second: QuietFault,
 ) -> Result<(), Fail> {
     let mut session = fresh(rt, alloc, &SMALL, limit)?;
-    let done = limit as u64;
-    let first = cut_off(alloc, &mut session)?;
-    assert_eq!(rt; first, QuietFault::JournalFull { done });
-    assert_eq!(rt; cut_off(alloc, &mut session)?, second);
-    assert_eq!(rt; session.len(), limit);
-    Ok(())
+    assert_cut_twice(rt, alloc, &mut session, limit, second)
 }
 
 #[test]
@@ -177,6 +223,25 @@ fn a_quiet_run_names_the_steps_that_had_room(rt: HostRuntime) -> Result<(), Fail
     Ok(())
 }
 
+// Sees the outcomes of a quiet run of 47 steps.
+fn assert_outcomes(
+    rt: &impl Abort,
+    alloc: Global,
+    session: &mut Session<Shell>,
+    wanted: &[Outcome],
+) -> Result<(), Fail> {
+    match run_quiet(alloc, session, &KEYS) {
+        Ok(outcomes) => assert_eq!(rt; outcomes.as_slice(), wanted),
+        Err(QuietFault::OutOfMemory { done }) => {
+            assert_eq!(rt; session.len() as u64, done);
+            return Err(Fail::from("out of memory"));
+        }
+        Err(_) => return Err(Fail::from("a run with enough room")),
+    }
+    assert_eq!(rt; session.len(), 47);
+    Ok(())
+}
+
 #[test]
 fn a_quiet_run_answers_the_outcomes(rt: HostRuntime) -> Result<(), Fail> {
     let wanted = [
@@ -187,14 +252,5 @@ fn a_quiet_run_answers_the_outcomes(rt: HostRuntime) -> Result<(), Fail> {
         Outcome::Hit,
     ];
     let mut session = fresh(&rt, rt.alloc(), &SMALL, 47)?;
-    match run_quiet(rt.alloc(), &mut session, &KEYS) {
-        Ok(outcomes) => assert_eq!(rt; outcomes.as_slice(), wanted.as_slice()),
-        Err(QuietFault::OutOfMemory { done }) => {
-            assert_eq!(rt; session.len() as u64, done);
-            return Err(Fail::from("out of memory"));
-        }
-        Err(_) => return Err(Fail::from("a run with enough room")),
-    }
-    assert_eq!(rt; session.len(), 47);
-    Ok(())
+    assert_outcomes(&rt, rt.alloc(), &mut session, &wanted)
 }

@@ -4,6 +4,7 @@ use clairvoyant::{Clairvoyant, NextUse};
 use journal::{Session, SessionFault};
 use policies::Lru;
 use std::alloc::Global;
+use std::process::Abort;
 use std::test::Fail;
 use step_record::{Config, Engine, Key, Outcome, Spread};
 use trace_read::Trace;
@@ -30,10 +31,12 @@ fn opened(alloc: Global, keys: &[Key], capacity: u32) -> Result<Clairvoyant, Fai
     Ok(cache)
 }
 
-#[test]
-fn a_session_takes_the_accesses_of_the_trace_alone(rt: HostRuntime) -> Result<(), Fail> {
-    let cache = opened(rt.alloc(), &[1, 2, 3, 1, 2], 2)?;
-    let mut session = Session::open(rt.alloc(), cache, 5);
+fn assert_hits(rt: &impl Abort, session: &Session<Clairvoyant>, hits: u64) {
+    assert_eq!(rt; session.engine().stats().hits, hits);
+}
+
+// Takes the accesses of the trace, goes back, and forward.
+fn walk(rt: &impl Abort, session: &mut Session<Clairvoyant>) {
     assert_eq!(rt; session.step(2), Err(SessionFault::NotNow));
     assert_eq!(rt; session.len(), 0);
     for (key, outcome) in [
@@ -46,9 +49,16 @@ fn a_session_takes_the_accesses_of_the_trace_alone(rt: HostRuntime) -> Result<()
         assert_eq!(rt; session.step(key), Ok(outcome));
     }
     assert_eq!(rt; session.back(3), Ok(()));
-    assert_eq!(rt; session.engine().stats().hits, 0);
+    assert_hits(rt, session, 0);
     assert_eq!(rt; session.forward(3), Ok(()));
-    assert_eq!(rt; session.engine().stats().hits, 2);
+    assert_hits(rt, session, 2);
+}
+
+#[test]
+fn a_session_takes_the_accesses_of_the_trace_alone(rt: HostRuntime) -> Result<(), Fail> {
+    let cache = opened(rt.alloc(), &[1, 2, 3, 1, 2], 2)?;
+    let mut session = Session::open(rt.alloc(), cache, 5);
+    walk(&rt, &mut session);
     Ok(())
 }
 
@@ -68,23 +78,36 @@ fn small_trace(seed: u64) -> [Key; 14] {
     keys
 }
 
+// How often the optimal policy hits.
+fn optimal_hits(rt: &impl Abort, alloc: Global, keys: &[Key], capacity: u32) -> Result<u64, Fail>
+    requires { (1 ≤ capacity) × (capacity ≤ 1048576) }
+{
+    let mut cache = opened(alloc, keys, capacity)?;
+    for key in keys {
+        assert!(rt; cache.apply(key).is_ok());
+    }
+    Ok(cache.stats().hits)
+}
+
+// How often LRU hits.
+fn lru_hits(rt: &impl Abort, alloc: Global, keys: &[Key], capacity: u32) -> Result<u64, Fail> {
+    let config = Config { capacity, ..CONFIG };
+    assert!(rt; config.check() == Ok(()));
+    let mut lru = Lru::open(alloc, &config)?;
+    for key in keys {
+        lru.apply(key)?;
+    }
+    Ok(lru.stats().hits)
+}
+
 #[test]
 fn lru_never_hits_more_often(rt: HostRuntime) -> Result<(), Fail> {
     for seed in 0..300_u64 {
         let keys = small_trace(seed);
         for capacity in 1..6_u32 {
-            let config = Config { capacity, ..CONFIG };
-            assert!(rt; config.check() == Ok(()));
-            let mut cache = opened(rt.alloc(), &keys, capacity)?;
-            let mut lru = Lru::open(rt.alloc(), &config)?;
-            for key in &keys {
-                assert!(rt; cache.apply(key).is_ok());
-                lru.apply(key)?;
-            }
-            assert!(rt;
-                lru.stats().hits <= cache.stats().hits,
-                "{keys:?} at capacity {capacity}"
-            );
+            let optimal = optimal_hits(&rt, rt.alloc(), &keys, capacity)?;
+            let lru = lru_hits(&rt, rt.alloc(), &keys, capacity)?;
+            assert!(rt; lru <= optimal, "{keys:?} at capacity {capacity}");
         }
     }
     Ok(())

@@ -25,27 +25,29 @@ fn opened(rt: &impl Abort, alloc: Global) -> Result<Session<Shell>, Fail> {
     Ok(Session::open(alloc, Shell::new(alloc, &CONFIG)?, 100))
 }
 
-// What undoing the last steps of a run said, and how many steps are left.
-fn left(run: Rewound) -> Result<(Result<(), BackFault>, usize), Fail> {
-    let kept = run.session.len();
-    match run.cause {
-        Some(Cause::Memory) => Err(Fail::from("out of memory")),
-        _ => Ok((run.undone, kept)),
+fn told(fault: &DriveFault) -> &'static str {
+    match fault {
+        DriveFault::OutOfMemory { session: _ } => "out of memory",
+        _ => "not driven",
     }
+}
+
+// What a run that was not made is to a test.
+fn failed(fault: DriveFault) -> Fail {
+    let text = told(&fault);
+    drop(fault);
+    Fail::from(text)
 }
 
 // A run from a new cache, and its last steps undone.
 fn rewound<R: Threads + Wait + Sync + Abort>(
     rt: &R,
     alloc: Global,
+    session: Session<Shell>,
     pieces: Vec<Vec<Call>>,
     k: usize,
-) -> Result<(Result<(), BackFault>, usize), Fail> {
-    match drive_and_undo(rt, alloc, opened(rt, alloc)?, pieces, &OpenGate, k) {
-        Ok(run) => left(run),
-        Err(DriveFault::OutOfMemory { session: _ }) => Err(Fail::from("out of memory")),
-        Err(_) => Err(Fail::from("not driven")),
-    }
+) -> Result<Rewound, Fail> {
+    drive_and_undo(rt, alloc, session, pieces, &OpenGate, k).map_err(failed)
 }
 
 // One worker, which reads one key.
@@ -57,10 +59,20 @@ fn one_read(alloc: Global) -> Result<Vec<Vec<Call>>, AllocError> {
     Ok(pieces)
 }
 
+// Sees that no step of the run was undone.
+fn assert_whole(rt: &impl Abort, run: &Rewound) -> Result<(), Fail> {
+    if run.cause == Some(Cause::Memory) {
+        return Err(Fail::from("out of memory"));
+    }
+    assert!(rt; run.undone == Err(BackFault::PastStart));
+    assert_eq!(rt; run.session.len(), 9);
+    Ok(())
+}
+
 #[test]
 fn more_steps_than_there_are_undo_none(rt: HostRuntime) -> Result<(), Fail> {
-    let (undone, kept) = rewound(&rt, rt.alloc(), one_read(rt.alloc())?, 10)?;
-    assert!(rt; undone == Err(BackFault::PastStart));
-    assert_eq!(rt; kept, 9);
-    Ok(())
+    let pieces = one_read(rt.alloc())?;
+    let session = opened(&rt, rt.alloc())?;
+    let run = rewound(&rt, rt.alloc(), session, pieces, 10)?;
+    assert_whole(&rt, &run)
 }

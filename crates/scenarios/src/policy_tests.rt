@@ -28,34 +28,43 @@ fn shown(session: &Session<WindowTinyLfu>) -> Option<(u8, u32, u8, bool)> {
     ))
 }
 
+// What a session shows of key 5, and how many words its records hold.
+fn assert_holds(
+    rt: &impl Abort,
+    session: &Session<WindowTinyLfu>,
+    of_key_5: (u8, u32, u8, bool),
+    words: u64,
+) {
+    assert_eq!(rt; (shown(session), session.held()), (Some(of_key_5), words));
+}
+
+fn step_often(session: &mut Session<WindowTinyLfu>, times: u32) -> Result<(), Fail> {
+    for _ in 0..times {
+        session.step(5)?;
+    }
+    Ok(())
+}
+
+// Goes over a halving, back across it, and forward again.
+fn walk_across(rt: &impl Abort, session: &mut Session<WindowTinyLfu>) -> Result<(), Fail> {
+    step_often(session, 20)?;
+    assert_holds(rt, session, (7, 10, 7, false), 2);
+    session.back(1)?;
+    assert_holds(rt, session, (15, 19, 16, true), 0);
+    session.back(5)?;
+    assert_holds(rt, session, (13, 14, 14, true), 0);
+    session.forward(6)?;
+    step_often(session, 10)?;
+    assert_eq!(rt; session.held(), 4);
+    Ok(())
+}
+
 #[test]
 fn a_session_goes_back_across_a_halving(rt: HostRuntime) -> Result<(), Fail> {
     assert!(rt; CONFIG.check() == Ok(()));
     let cache = WindowTinyLfu::open(rt.alloc(), &CONFIG)?;
     let mut session = Session::open(rt.alloc(), cache, 40);
-    for _ in 0..20 {
-        session.step(5)?;
-    }
-    assert_eq!(rt;
-        (shown(&session), session.held()),
-        (Some((7, 10, 7, false)), 2)
-    );
-    session.back(1)?;
-    assert_eq!(rt;
-        (shown(&session), session.held()),
-        (Some((15, 19, 16, true)), 0)
-    );
-    session.back(5)?;
-    assert_eq!(rt;
-        (shown(&session), session.held()),
-        (Some((13, 14, 14, true)), 0)
-    );
-    session.forward(6)?;
-    for _ in 0..10 {
-        session.step(5)?;
-    }
-    assert_eq!(rt; session.held(), 4);
-    Ok(())
+    walk_across(&rt, &mut session)
 }
 
 fn next(seed: u64) -> u64 {
@@ -86,6 +95,41 @@ fn opened(rt: &impl Abort, alloc: Global, job: &Job, trace: &Trace) -> Result<An
     Ok(cache)
 }
 
+// A cache that made the accesses of these keys.
+fn made(
+    rt: &impl Abort,
+    alloc: Global,
+    (job, trace): (&Job, &Trace),
+    keys: &[Key],
+) -> Result<AnyPolicy, Fail> {
+    let mut cache = opened(rt, alloc, job, trace)?;
+    for key in keys {
+        cache.apply(key)?;
+    }
+    Ok(cache)
+}
+
+fn assert_same_residents(
+    rt: &impl Abort,
+    alloc: Global,
+    cache: &AnyPolicy,
+    fresh: &AnyPolicy,
+) -> Result<(), Fail> {
+    let shown = cache.residents(alloc)?;
+    let wanted = fresh.residents(alloc)?;
+    assert_eq!(rt; shown.as_slice(), wanted.as_slice());
+    Ok(())
+}
+
+fn assert_same_frequency(rt: &impl Abort, cache: &AnyPolicy, fresh: &AnyPolicy) {
+    for key in 0..80_u64 {
+        assert_eq!(rt;
+            cache.frequency().map(|f| f.estimate(key)),
+            fresh.frequency().map(|f| f.estimate(key))
+        );
+    }
+}
+
 // Sees that a cache shows what one shows that made only the accesses of these keys.
 fn compare(
     rt: &impl Abort,
@@ -94,20 +138,10 @@ fn compare(
     cache: &AnyPolicy,
     kept: &[Key],
 ) -> Result<(), Fail> {
-    let mut fresh = opened(rt, alloc, job, trace)?;
-    for key in kept {
-        fresh.apply(key)?;
-    }
+    let fresh = made(rt, alloc, (job, trace), kept)?;
     assert_eq!(rt; cache.stats(), fresh.stats());
-    let shown = cache.residents(alloc)?;
-    let wanted = fresh.residents(alloc)?;
-    assert_eq!(rt; shown.as_slice(), wanted.as_slice());
-    for key in 0..80_u64 {
-        assert_eq!(rt;
-            cache.frequency().map(|f| f.estimate(key)),
-            fresh.frequency().map(|f| f.estimate(key))
-        );
-    }
+    assert_same_residents(rt, alloc, cache, &fresh)?;
+    assert_same_frequency(rt, cache, &fresh);
     Ok(())
 }
 
@@ -139,7 +173,44 @@ fn wander(walk: &mut Walk, policy: Policy, trace: &Trace, number: u64) -> Result
     Ok(())
 }
 
-// Wanders for 1200 turns, and compares after each hundred of them.
+// Sees that a walk's cache shows what one shows that made only the steps which are kept.
+fn compare_kept(
+    rt: &impl Abort,
+    alloc: Global,
+    (job, trace): (&Job, &Trace),
+    walk: &Walk,
+) -> Result<(), Fail> {
+    let made = walk.session.len().min(walk.keys.len());
+    assert_eq!(rt; made, walk.session.len());
+    compare(
+        rt,
+        alloc,
+        (job, trace),
+        walk.session.engine(),
+        &walk.keys[..made],
+    )
+}
+
+// Takes 1200 turns, and compares after each hundred of them.
+fn take_turns(
+    rt: &impl Abort,
+    alloc: Global,
+    (job, trace): (&Job, &Trace),
+    walk: &mut Walk,
+    seed: u64,
+) -> Result<(), Fail> {
+    let mut drawn = seed;
+    for turn in 1..=MOST {
+        drawn = next(drawn);
+        wander(walk, job.policy, trace, drawn >> 33)?;
+        if turn % 100 == 0 {
+            compare_kept(rt, alloc, (job, trace), walk)?;
+        }
+    }
+    Ok(())
+}
+
+// Wanders about from a new cache.
 fn wander_about(
     rt: &impl Abort,
     alloc: Global,
@@ -152,22 +223,7 @@ fn wander_about(
         session: Session::open(alloc, cache, MOST),
         keys: Vec::new(alloc),
     };
-    let mut drawn = seed;
-    for turn in 1..=MOST {
-        drawn = next(drawn);
-        wander(&mut walk, job.policy, trace, drawn >> 33)?;
-        if turn % 100 == 0 {
-            let made = walk.session.len().min(walk.keys.len());
-            assert_eq!(rt; made, walk.session.len());
-            compare(
-                rt,
-                alloc,
-                (job, trace),
-                walk.session.engine(),
-                &walk.keys[..made],
-            )?;
-        }
-    }
+    take_turns(rt, alloc, (job, trace), &mut walk, seed)?;
     assert!(rt; walk.session.len() > 500);
     Ok(())
 }

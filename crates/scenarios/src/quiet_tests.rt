@@ -69,6 +69,22 @@ fn cache_estimates(
     Ok(estimates)
 }
 
+// What a session shows whose quiet run had these outcomes.
+fn shown_by_shell(
+    shell: &Shell,
+    alloc: Global,
+    keys: &[Key],
+    outcomes: Vec<Outcome>,
+) -> Result<Shown, Fail> {
+    let held = held_by(shell, alloc)?;
+    let estimates = shell_estimates(shell, alloc, keys)?;
+    Ok(Shown {
+        outcomes,
+        held,
+        estimates,
+    })
+}
+
 // A quiet run over a new session.
 fn run_of_shell(alloc: Global, config: &Config, keys: &[Key]) -> Result<Shown, Fail>
     requires { config_fault config.now ≡ Ok tt }
@@ -78,13 +94,7 @@ fn run_of_shell(alloc: Global, config: &Config, keys: &[Key]) -> Result<Shown, F
     let Ok(outcomes) = run_quiet(alloc, &mut session, keys) else {
         return Err(Fail::from("a quiet run that was cut off"));
     };
-    let held = held_by(session.engine(), alloc)?;
-    let estimates = shell_estimates(session.engine(), alloc, keys)?;
-    Ok(Shown {
-        outcomes,
-        held,
-        estimates,
-    })
+    shown_by_shell(session.engine(), alloc, keys, outcomes)
 }
 
 // The outcomes of the policy for the keys.
@@ -103,19 +113,29 @@ fn outcomes_of(
     Ok(outcomes)
 }
 
+// What a cache shows that had these outcomes.
+fn shown_by_cache(
+    cache: &WindowTinyLfu,
+    alloc: Global,
+    keys: &[Key],
+    outcomes: Vec<Outcome>,
+) -> Result<Shown, Fail> {
+    let held = cache.residents(alloc)?;
+    let estimates = cache_estimates(cache, alloc, keys)?;
+    Ok(Shown {
+        outcomes,
+        held,
+        estimates,
+    })
+}
+
 // The same keys by the policy.
 fn run_of_policy(alloc: Global, config: &Config, keys: &[Key]) -> Result<Shown, Fail>
     requires { config_fault config.now ≡ Ok tt }
 {
     let mut cache = WindowTinyLfu::open(alloc, config)?;
     let outcomes = outcomes_of(&mut cache, alloc, keys)?;
-    let held = cache.residents(alloc)?;
-    let estimates = cache_estimates(&cache, alloc, keys)?;
-    Ok(Shown {
-        outcomes,
-        held,
-        estimates,
-    })
+    shown_by_cache(&cache, alloc, keys, outcomes)
 }
 
 fn assert_same(rt: &impl Abort, one: &Shown, other: &Shown) {

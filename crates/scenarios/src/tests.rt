@@ -1,7 +1,9 @@
 use journal::Session;
 use policies::Lru;
+use std::alloc::Global;
+use std::process::Abort;
 use std::test::Fail;
-use step_record::{Config, Engine, Spread};
+use step_record::{Config, Engine, Key, Spread};
 
 const CONFIG: Config = Config {
     capacity: 2,
@@ -13,30 +15,48 @@ const CONFIG: Config = Config {
 
 const KEYS: [u64; 12] = [1, 2, 1, 3, 2, 2, 4, 1, 1, 3, 2, 4];
 
+// A cache that made these accesses.
+fn made(rt: &impl Abort, alloc: Global, keys: &[Key]) -> Result<Lru, Fail> {
+    assert!(rt; CONFIG.check() == Ok(()));
+    let mut lru = Lru::open(alloc, &CONFIG)?;
+    for key in keys {
+        lru.apply(key)?;
+    }
+    Ok(lru)
+}
+
+fn assert_same(rt: &impl Abort, alloc: Global, one: &Lru, other: &Lru) -> Result<(), Fail> {
+    let residents = one.residents(alloc)?;
+    let expected = other.residents(alloc)?;
+    assert_eq!(rt; residents.as_slice(), expected.as_slice());
+    assert_eq!(rt; one.stats(), other.stats());
+    Ok(())
+}
+
+// Goes back step by step, and sees at each that the state is the one of the shorter list.
+fn go_back(rt: &impl Abort, alloc: Global, session: &mut Session<Lru>) -> Result<(), Fail> {
+    for left in (0..13).rev() {
+        session.goto(left)?;
+        let shorter = made(rt, alloc, &KEYS[..left])?;
+        assert_same(rt, alloc, session.engine(), &shorter)?;
+    }
+    session.forward(12)?;
+    assert_eq!(rt; session.engine().stats().accesses, 12);
+    Ok(())
+}
+
+fn step_all(session: &mut Session<Lru>) -> Result<(), Fail> {
+    for key in KEYS {
+        session.step(key)?;
+    }
+    Ok(())
+}
+
 #[test]
 fn stepping_back_gives_the_state_of_the_shorter_list(rt: HostRuntime) -> Result<(), Fail> {
     assert!(rt; CONFIG.check() == Ok(()));
     let lru = Lru::open(rt.alloc(), &CONFIG)?;
     let mut session = Session::open(rt.alloc(), lru, 12);
-    for key in KEYS {
-        session.step(key)?;
-    }
-    for undone in 0..13 {
-        let mut shorter = Lru::open(rt.alloc(), &CONFIG)?;
-        for key in &KEYS[..12 - undone] {
-            shorter.apply(key)?;
-        }
-        session.goto(12 - undone)?;
-        let residents = session.engine().residents(rt.alloc())?;
-        let expected = shorter.residents(rt.alloc())?;
-        assert_eq!(rt;
-            residents.as_slice(),
-            expected.as_slice(),
-            "after {undone} undone steps"
-        );
-        assert_eq!(rt; session.engine().stats(), shorter.stats());
-    }
-    session.forward(12)?;
-    assert_eq!(rt; session.engine().stats().accesses, 12);
-    Ok(())
+    step_all(&mut session)?;
+    go_back(&rt, rt.alloc(), &mut session)
 }

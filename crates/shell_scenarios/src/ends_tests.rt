@@ -77,26 +77,42 @@ fn sink(alloc: Global, room: usize, size: usize, mishaps: Mishaps) -> Result<Sin
     })
 }
 
+// Has a write of single bytes fail, or the flush, or nothing.
+fn fail_write(
+    rt: &impl Abort,
+    alloc: Global,
+    session: &Session<Shell>,
+    failing: usize,
+) -> Result<(), Fail> {
+    let mut sink = sink(alloc, WRITTEN_LENGTH, 1, Mishaps::failing_at(failing))?;
+    let answer = write_journal(alloc, session, &mut sink);
+    let whole = failing > WRITTEN_LENGTH;
+    let wanted = if whole {
+        Ok(())
+    } else {
+        Err(WriteFault::Write)
+    };
+    assert_eq!(rt; answer, wanted, "at call {failing}");
+    let taken = failing.min(WRITTEN_LENGTH);
+    assert_eq!(rt; sink.taken.as_slice(), &WRITTEN.as_bytes()[..taken]);
+    Ok(())
+}
+
+// Writes a session into a sink that takes nothing.
+fn write_nothing(rt: &impl Abort, alloc: Global, session: &Session<Shell>) -> Result<(), Fail> {
+    let mut shut = sink(alloc, 0, 0, Mishaps::interrupted(0))?;
+    let answer = write_journal(alloc, session, &mut shut);
+    assert_eq!(rt; answer, Err(WriteFault::Write));
+    Ok(())
+}
+
 #[test]
 fn each_failing_write_is_reported(rt: HostRuntime) -> Result<(), Fail> {
     let session = read(&rt, rt.alloc(), CONFIG, WRITTEN)?;
     for failing in 0..WRITTEN_LENGTH + 2 {
-        let mut sink = sink(rt.alloc(), WRITTEN_LENGTH, 1, Mishaps::failing_at(failing))?;
-        let answer = write_journal(rt.alloc(), &session, &mut sink);
-        let whole = failing > WRITTEN_LENGTH;
-        let wanted = if whole {
-            Ok(())
-        } else {
-            Err(WriteFault::Write)
-        };
-        assert_eq!(rt; answer, wanted, "at call {failing}");
-        let taken = failing.min(WRITTEN_LENGTH);
-        assert_eq!(rt; sink.taken.as_slice(), &WRITTEN.as_bytes()[..taken]);
+        fail_write(&rt, rt.alloc(), &session, failing)?;
     }
-    let mut shut = sink(rt.alloc(), 0, 0, Mishaps::interrupted(0))?;
-    let answer = write_journal(rt.alloc(), &session, &mut shut);
-    assert_eq!(rt; answer, Err(WriteFault::Write));
-    Ok(())
+    write_nothing(&rt, rt.alloc(), &session)
 }
 
 // A step of the greatest key, and the bytes of its line.
@@ -143,12 +159,14 @@ fn assert_writes(
     Ok(answer)
 }
 
-#[test]
-fn a_long_journal_is_written_buffer_by_buffer(rt: HostRuntime) -> Result<(), Fail> {
-    let mut session = opened(&rt, rt.alloc(), CONFIG, LINES)?;
-    look(&rt, &mut session)?;
-    let text = long_text(rt.alloc())?;
-    // Three writes and the flush, which share their interruptions.
+// Writes a session again and again, each time with another mishap. There are three writes and the flush, which share
+// their interruptions.
+fn write_each(
+    rt: &impl Abort,
+    alloc: Global,
+    session: &Session<Shell>,
+    text: &[u8],
+) -> Result<(), Fail> {
     for (mishaps, wanted) in [
         (Mishaps::failing_at(0), Err(WriteFault::Write)),
         (Mishaps::failing_at(1), Err(WriteFault::Write)),
@@ -158,8 +176,22 @@ fn a_long_journal_is_written_buffer_by_buffer(rt: HostRuntime) -> Result<(), Fai
         (Mishaps::interrupted(249_999), Ok(())),
         (Mishaps::interrupted(250_000), Err(WriteFault::Write)),
     ] {
-        let answer = assert_writes(&rt, rt.alloc(), &session, text.as_slice(), mishaps)?;
+        let answer = assert_writes(rt, alloc, session, text, mishaps)?;
         assert_eq!(rt; answer, wanted);
     }
     Ok(())
+}
+
+// A session that looked up the greatest key so often.
+fn looked(rt: &impl Abort, alloc: Global) -> Result<Session<Shell>, Fail> {
+    let mut session = opened(rt, alloc, CONFIG, LINES)?;
+    look(rt, &mut session)?;
+    Ok(session)
+}
+
+#[test]
+fn a_long_journal_is_written_buffer_by_buffer(rt: HostRuntime) -> Result<(), Fail> {
+    let text = long_text(rt.alloc())?;
+    let session = looked(&rt, rt.alloc())?;
+    write_each(&rt, rt.alloc(), &session, text.as_slice())
 }

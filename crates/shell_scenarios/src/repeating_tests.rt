@@ -176,11 +176,33 @@ fn list(alloc: Global, shell: &Shell, queue: Queue) -> Result<Vec<Item>, AllocEr
     }
 }
 
+fn assert_table(
+    rt: &impl Abort,
+    alloc: Global,
+    shell: &Shell,
+    wanted: &[Item],
+) -> Result<(), Fail> {
+    let items = table(alloc, shell)?;
+    assert_eq!(rt; items.as_slice(), wanted);
+    Ok(())
+}
+
+fn assert_queue(
+    rt: &impl Abort,
+    alloc: Global,
+    (shell, queue): (&Shell, Queue),
+    wanted: &[Item],
+) -> Result<(), Fail> {
+    let items = list(alloc, shell, queue)?;
+    assert_eq!(rt; items.as_slice(), wanted);
+    Ok(())
+}
+
 // Sees that a shell shows just this, and nothing in probation.
 fn assert_shown(rt: &impl Abort, alloc: Global, shell: &Shell, shown: &Shown) -> Result<(), Fail> {
-    assert_eq!(rt; table(alloc, shell)?.as_slice(), shown.table);
-    assert_eq!(rt; list(alloc, shell, Queue::Window)?.as_slice(), shown.window);
-    assert_eq!(rt; list(alloc, shell, Queue::Probation)?.len(), 0);
+    assert_table(rt, alloc, shell, shown.table)?;
+    assert_queue(rt, alloc, (shell, Queue::Window), shown.window)?;
+    assert_queue(rt, alloc, (shell, Queue::Probation), &[])?;
     assert_eq!(rt; shell.frequency().age() as usize, shown.age);
     Ok(())
 }
@@ -206,17 +228,26 @@ fn there_and_back(
     Ok(())
 }
 
-#[test]
-fn a_call_made_again_answers_as_if_it_was_never_refused(rt: HostRuntime) -> Result<(), Fail> {
+// A new shell, asked for once more where an allocation failed.
+fn new_shell(rt: &impl Abort, alloc: Global) -> Result<Shell, AllocError> {
     assert!(rt; TINY.check() == Ok(()));
-    let mut shell = match Shell::new(rt.alloc(), &TINY) {
-        Ok(shell) => shell,
-        Err(AllocError) => Shell::new(rt.alloc(), &TINY)?,
-    };
+    match Shell::new(alloc, &TINY) {
+        Ok(shell) => Ok(shell),
+        Err(AllocError) => Shell::new(alloc, &TINY),
+    }
+}
+
+fn go_there_and_back(rt: &impl Abort, alloc: Global, shell: &mut Shell) -> Result<(), Fail> {
     let worker = Worker::new(0).ok_or("no worker")?;
     for (steps, shown) in [(&STEPS[..], &AT_LAST), (&REMOVALS[..], &LEFT)] {
-        there_and_back(&rt, rt.alloc(), &mut shell, worker, steps, shown)?;
-        assert_shown(&rt, rt.alloc(), &shell, &NOTHING)?;
+        there_and_back(rt, alloc, shell, worker, steps, shown)?;
+        assert_shown(rt, alloc, shell, &NOTHING)?;
     }
     Ok(())
+}
+
+#[test]
+fn a_call_made_again_answers_as_if_it_was_never_refused(rt: HostRuntime) -> Result<(), Fail> {
+    let mut shell = new_shell(&rt, rt.alloc())?;
+    go_there_and_back(&rt, rt.alloc(), &mut shell)
 }

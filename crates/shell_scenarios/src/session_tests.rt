@@ -1,5 +1,8 @@
 use super::walking::{CONFIG, ask, opened, read, visit};
-use journal::SessionFault;
+use journal::{Session, SessionFault};
+use maintenance::Shell;
+use std::alloc::Global;
+use std::process::Abort;
 use std::test::Fail;
 use step_record::{Act, Config, Item, Reply};
 
@@ -52,12 +55,23 @@ const ROUND_SHOWN: [(usize, &str); 10] = [
     (0, "Idle next 0 age 0"),
 ];
 
+// Has worker 0 make steps, and sees their replies.
+fn assert_replies(rt: &impl Abort, session: &mut Session<Shell>, steps: &[(Act, Reply)]) {
+    for (act, reply) in steps {
+        assert_eq!(rt; ask(rt, session, 0, *act), Ok(*reply), "{act:?}");
+    }
+}
+
+// Sees that a worker may not make a step now.
+fn assert_not_now(rt: &impl Abort, session: &mut Session<Shell>, worker: u8, act: Act) {
+    let answer = ask(rt, session, worker, act);
+    assert_eq!(rt; answer, Err(SessionFault::NotNow), "{act:?}");
+}
+
 #[test]
 fn each_step_of_a_round_shows_and_is_undone(rt: HostRuntime) -> Result<(), Fail> {
     let mut session = opened(&rt, rt.alloc(), CONFIG, 9)?;
-    for (act, reply) in ROUND {
-        assert_eq!(rt; ask(&rt, &mut session, 0, act), Ok(reply), "{act:?}");
-    }
+    assert_replies(&rt, &mut session, &ROUND);
     visit(&rt, rt.alloc(), &mut session, &ROUND_SHOWN)
 }
 
@@ -111,22 +125,23 @@ const LATE_WRITE: &str = "cachesim journal 2
 steps 3
 ";
 
+// What the shell shows after the write during maintenance, and before it.
+const LATE_SHOWN: [(usize, &str); 3] = [
+    (3, "Required next 0 age 0 begun 1"),
+    (2, "ToRequired holder 0 Reads 128 next 0 age 0 begun 1"),
+    (0, "Idle next 0 age 0"),
+];
+
+fn visit_late(rt: &impl Abort, alloc: Global, session: &mut Session<Shell>) -> Result<(), Fail> {
+    visit(rt, alloc, session, &LATE_SHOWN)?;
+    assert_eq!(rt; (session.len(), session.ahead()), (0, 3));
+    visit(rt, alloc, session, &LATE_SHOWN[..1])
+}
+
 #[test]
 fn a_write_during_maintenance_requires_another(rt: HostRuntime) -> Result<(), Fail> {
     let mut session = read(&rt, rt.alloc(), CONFIG, LATE_WRITE)?;
-    let lines = [
-        (3, "Required next 0 age 0 begun 1"),
-        (2, "ToRequired holder 0 Reads 128 next 0 age 0 begun 1"),
-        (0, "Idle next 0 age 0"),
-    ];
-    visit(&rt, rt.alloc(), &mut session, &lines)?;
-    assert_eq!(rt; (session.len(), session.ahead()), (0, 3));
-    visit(
-        &rt,
-        rt.alloc(),
-        &mut session,
-        &[(3, "Required next 0 age 0 begun 1")],
-    )
+    visit_late(&rt, rt.alloc(), &mut session)
 }
 
 const HELD: &str = "cachesim journal 2
@@ -135,49 +150,55 @@ const HELD: &str = "cachesim journal 2
 steps 2
 ";
 
+// Steps that may not come while worker 0 holds the maintenance, each with its worker.
+const REFUSED: [(u8, Act); 7] = [
+    (1, Act::DrainRead { stripe: 0 }),
+    (1, Act::DrainWrite),
+    (1, Act::Evict),
+    (1, Act::End),
+    (0, Act::DrainRead { stripe: 1 }),
+    (
+        0,
+        Act::Offer {
+            stripe: 0,
+            item: ONE,
+        },
+    ),
+    (
+        0,
+        Act::Lose {
+            stripe: 0,
+            item: ONE,
+        },
+    ),
+];
+
+fn assert_all_refused(rt: &impl Abort, session: &mut Session<Shell>) {
+    for (worker, act) in REFUSED {
+        assert_not_now(rt, session, worker, act);
+    }
+}
+
 #[test]
 fn a_step_that_may_not_come_changes_nothing(rt: HostRuntime) -> Result<(), Fail> {
     let mut session = read(&rt, rt.alloc(), CONFIG, HELD)?;
-    for (worker, act) in [
-        (1, Act::DrainRead { stripe: 0 }),
-        (1, Act::DrainWrite),
-        (1, Act::Evict),
-        (1, Act::End),
-        (0, Act::DrainRead { stripe: 1 }),
-        (
-            0,
-            Act::Offer {
-                stripe: 0,
-                item: ONE,
-            },
-        ),
-        (
-            0,
-            Act::Lose {
-                stripe: 0,
-                item: ONE,
-            },
-        ),
-    ] {
-        let answer = ask(&rt, &mut session, worker, act);
-        assert_eq!(rt; answer, Err(SessionFault::NotNow), "{act:?}");
-    }
+    assert_all_refused(&rt, &mut session);
     let line = "ToIdle holder 0 Reads 128 next 0 age 0 begun 1 busy 1";
     visit(&rt, rt.alloc(), &mut session, &[(2, line)])
+}
+
+fn assert_phases(rt: &impl Abort, session: &mut Session<Shell>) {
+    assert_replies(rt, session, &[(Act::DrainWrite, Reply::Empty)]);
+    assert_not_now(rt, session, 0, Act::DrainRead { stripe: 0 });
+    assert_replies(rt, session, &[(Act::Evict, Reply::Fits)]);
+    assert_not_now(rt, session, 0, Act::DrainRead { stripe: 0 });
+    assert_not_now(rt, session, 0, Act::DrainWrite);
 }
 
 #[test]
 fn a_phase_does_not_go_back(rt: HostRuntime) -> Result<(), Fail> {
     let mut session = read(&rt, rt.alloc(), CONFIG, HELD)?;
-    for (act, answer) in [
-        (Act::DrainWrite, Ok(Reply::Empty)),
-        (Act::DrainRead { stripe: 0 }, Err(SessionFault::NotNow)),
-        (Act::Evict, Ok(Reply::Fits)),
-        (Act::DrainRead { stripe: 0 }, Err(SessionFault::NotNow)),
-        (Act::DrainWrite, Err(SessionFault::NotNow)),
-    ] {
-        assert_eq!(rt; ask(&rt, &mut session, 0, act), answer, "{act:?}");
-    }
+    assert_phases(&rt, &mut session);
     Ok(())
 }
 
@@ -193,19 +214,17 @@ const REMOVED: &str = "cachesim journal 2
 steps 8
 ";
 
+const DRAINED: &str =
+    "ToIdle holder 0 Writes 125 next 2 table 1:1 window 1:1 age 2 added 2 begun 1 removed 1";
+
+const UNDRAINED: &str =
+    "ToIdle holder 0 Writes 127 next 2 table 1:1 window 1:0 remove 1:0 add 1:1 age 1 added 2 begun 1 removed 1";
+
 #[test]
 fn a_removed_key_comes_back_under_a_new_node(rt: HostRuntime) -> Result<(), Fail> {
     let mut session = read(&rt, rt.alloc(), CONFIG, REMOVED)?;
-    let drained =
-        "ToIdle holder 0 Writes 125 next 2 table 1:1 window 1:1 age 2 added 2 begun 1 removed 1";
-    let before =
-        "ToIdle holder 0 Writes 127 next 2 table 1:1 window 1:0 remove 1:0 add 1:1 age 1 added 2 begun 1 removed 1";
-    visit(
-        &rt,
-        rt.alloc(),
-        &mut session,
-        &[(8, drained), (6, before), (8, drained)],
-    )
+    let lines = [(8, DRAINED), (6, UNDRAINED), (8, DRAINED)];
+    visit(&rt, rt.alloc(), &mut session, &lines)
 }
 
 const REJECTED: &str = "cachesim journal 2
@@ -254,18 +273,28 @@ fn an_eviction_of_a_removed_item_leaves_the_newer_node(rt: HostRuntime) -> Resul
     visit(&rt, rt.alloc(), &mut session, &REJECTED_SHOWN)
 }
 
+fn fill_the_write_queue(rt: &impl Abort, session: &mut Session<Shell>) {
+    for key in 1..129 {
+        let reply = ask(rt, session, 0, Act::Put { key });
+        assert_eq!(rt; reply, Ok(Reply::Added { node: key - 1 }));
+    }
+}
+
+fn assert_full(rt: &impl Abort, shell: &Shell) {
+    assert_eq!(rt; shell.node_of(1), Some(0));
+    assert_eq!(rt; shell.tasks().len(), 128);
+    assert_eq!(rt; shell.stats().refused, 1);
+}
+
 #[test]
 fn a_full_write_queue_refuses_a_removal(rt: HostRuntime) -> Result<(), Fail> {
     let mut session = opened(&rt, rt.alloc(), CONFIG, 200)?;
-    for key in 1..129 {
-        let reply = ask(&rt, &mut session, 0, Act::Put { key });
-        assert_eq!(rt; reply, Ok(Reply::Added { node: key - 1 }));
-    }
-    for (key, reply) in [(1, Reply::WritesFull), (999, Reply::Absent)] {
-        assert_eq!(rt; ask(&rt, &mut session, 0, Act::Remove { key }), Ok(reply));
-    }
-    assert_eq!(rt; session.engine().node_of(1), Some(0));
-    assert_eq!(rt; session.engine().tasks().len(), 128);
-    assert_eq!(rt; session.engine().stats().refused, 1);
+    fill_the_write_queue(&rt, &mut session);
+    let replies = [
+        (Act::Remove { key: 1 }, Reply::WritesFull),
+        (Act::Remove { key: 999 }, Reply::Absent),
+    ];
+    assert_replies(&rt, &mut session, &replies);
+    assert_full(&rt, session.engine());
     Ok(())
 }

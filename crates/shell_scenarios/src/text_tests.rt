@@ -96,8 +96,7 @@ fn reading(
     Ok((answer, session.len()))
 }
 
-// Sees that a session is written so, and that reading the text gives what the session shows.
-fn assert_written(
+fn assert_text(
     rt: &impl Abort,
     alloc: Global,
     session: &Session<Shell>,
@@ -105,17 +104,38 @@ fn assert_written(
 ) -> Result<(), Fail> {
     let text = written(alloc, session)?;
     assert_eq!(rt; text.as_slice(), wanted.as_bytes());
-    let again = read(rt, alloc, CONFIG, wanted)?;
-    let line = shown(alloc, again.engine())?;
+    Ok(())
+}
+
+// What a session shows that read a text.
+fn shown_by(rt: &impl Abort, alloc: Global, text: &str) -> Result<String, Fail> {
+    let session = read(rt, alloc, CONFIG, text)?;
+    shown(alloc, session.engine())
+}
+
+// Sees that a session is written so, and that reading the text gives what the session shows.
+fn assert_written(
+    rt: &impl Abort,
+    alloc: Global,
+    session: &Session<Shell>,
+    wanted: &str,
+) -> Result<(), Fail> {
+    assert_text(rt, alloc, session, wanted)?;
+    let line = shown_by(rt, alloc, wanted)?;
     assert_shows(rt, alloc, session.engine(), line.as_str())
+}
+
+// Sees how a round is written, whole and up to its sixth step.
+fn assert_round(rt: &impl Abort, alloc: Global, session: &mut Session<Shell>) -> Result<(), Fail> {
+    assert_written(rt, alloc, session, WRITTEN)?;
+    session.goto(6)?;
+    assert_written(rt, alloc, session, SIX)
 }
 
 #[test]
 fn the_applied_steps_are_written_and_read_back(rt: HostRuntime) -> Result<(), Fail> {
     let mut session = read(&rt, rt.alloc(), CONFIG, UNCOUNTED)?;
-    assert_written(&rt, rt.alloc(), &session, WRITTEN)?;
-    session.goto(6)?;
-    assert_written(&rt, rt.alloc(), &session, SIX)
+    assert_round(&rt, rt.alloc(), &mut session)
 }
 
 // A key is read, removed and read again, each with a round.

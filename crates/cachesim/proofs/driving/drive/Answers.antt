@@ -1,11 +1,27 @@
-use Rattle.std.proofs.Common.{◌≡◌, ◌∙◌, ap, subst, rules, arith, length, map, Option, Some, None}
+use Rattle.std.proofs.Common.{◌≡◌, ◌≤◌, ◌∙◌, ap, subst, sym, arith, List, length, map, Option, Some, None}
 use Rattle.std.specs.Prelude.{IfSome}
 use Rattle.step_record.specs.History.{IsLegal}
-use Rattle.shell_model.specs.Shell.{act}
+use Rattle.shell_model.specs.Shell.{Shell, act}
+use Rattle.shell_model.specs.Reached.{worker_of}
+use Rattle.step_record.specs.declared.step.Call.{Call}
+use Rattle.step_record.specs.declared.step.Reply.{Reply}
+use Rattle.step_record.specs.declared.step.Step.{Step}
+use Rattle.step_record.specs.declared.worker.TheConstants.{MAX_WORKERS}
+use Rattle.journal.specs.Session.{SessionState}
 use Rattle.drive.specs.DriveFaults.{LeavesFault}
+use Rattle.drive.specs.declared.driving.DriveFault.{DriveFault}
+use Rattle.drive.specs.declared.driving.DriveFault.TheVariants.{Workers, Held, OutOfMemory, Stopped}
+use Rattle.cachesim.specs.Drove.{IsOfRun}
 use Rattle.cachesim.specs.Dealt.{AreOfReads}
 use Rattle.cachesim.proofs.Dealing.{reads_walked}
 use Rattle.cachesim.proofs.driving.drive.Goals as goal
+
+could_begin : (fault : DriveFault) (pieces : List (List Call)) (session : SessionState Shell Shell Step Reply)
+    → LeavesFault fault pieces session → 1 ≤ length pieces → length pieces ≤ MAX_WORKERS → session.engine.holder ≡ None → IsOfRun fault
+could_begin (Workers s) pieces session left some few free = let many = left.1 some in absurd (omega (many, few, arith))
+could_begin (Held w s) pieces session left some few free = absurd (cc (sym (ap worker_of free) ∙ left.3))
+could_begin (OutOfMemory s) pieces session left some few free = tt
+could_begin (Stopped s lists cause) pieces session left some few free = tt
 
 weaker : {A : Type 0} (o : Option A) (P Q : A → Type 0) → ((a : A) → P a → Q a) → IfSome o P → IfSome o Q
 weaker None P Q f h = tt
@@ -30,10 +46,10 @@ returns-in-Ok g c =
       written = c.in_ok-write_journal-in-Ok.ensures.text;
     }
 
-pub unreachable-requires : goal.unreachable-requires
-unreachable-requires g c =
+pub failed-requires : goal.failed-requires
+failed-requires g c =
+    let first = c.in_ok-session.ensures.first in
     let pieces = map (λ p. p.items) c.in_ok-pieces.pieces.items in
-    let f = subst (λ fault. LeavesFault fault pieces c.in_ok-session.session) c.in-Err-Workers.field-0-is c.in-Err-Workers.ensures.fault in
     let n : length pieces ≡ c.args.arguments.now.workers = c.in_ok-pieces.ensures.many in
-    let many = f.1 (omega (n, c.requires.some, arith)) in
-    absurd (omega (many, n, c.requires.few, arith))
+    could_begin c.in-Err.fault pieces c.in_ok-session.session c.in-Err.ensures.fault (omega (n, c.requires.some, arith))
+    (omega (n, c.requires.few, arith)) (ap (λ x. x.holder) (first.same ∙ first.opened.is))
