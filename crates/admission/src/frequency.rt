@@ -345,33 +345,92 @@ mod tests {
         Ok(())
     }
 
+    // Records the keys for good.
+    fn record_all(
+        rt: &impl Abort,
+        refused: &mut u32,
+        frequency: &mut Frequency,
+        keys: &[Key],
+    ) -> Result<(), AllocError> {
+        for key in keys {
+            let _done = record(rt, refused, frequency, *key)?;
+        }
+        Ok(())
+    }
+
+    // Records so many keys for good, which are 0, 1, and so on below the modulus, again and again.
+    fn record_in_turn(
+        rt: &impl Abort,
+        refused: &mut u32,
+        frequency: &mut Frequency,
+        count: u64,
+        modulus: u64,
+    ) -> Result<(), AllocError>
+        requires { 1 ≤ modulus }
+    {
+        for key in 0..count {
+            record_all(rt, refused, frequency, &[key % modulus])?;
+        }
+        Ok(())
+    }
+
     // A key that comes twenty times: its counters stand at 15 when they are halved.
+    fn assert_undone(
+        rt: &impl Abort,
+        refused: &mut u32,
+        frequency: &mut Frequency,
+    ) -> Result<(), AllocError> {
+        record_all(rt, refused, frequency, &[5; 14])?;
+        let wanted = [
+            (14, 15, 15),
+            (15, 16, 16),
+            (15, 17, 16),
+            (15, 18, 16),
+            (15, 19, 16),
+            (7, 10, 7),
+        ];
+        go_and_come_back(rt, refused, frequency, &wanted)?;
+        assert_eq!(rt;
+            (
+                frequency.sketch().least(5),
+                frequency.age(),
+                frequency.estimate(5)
+            ),
+            (13, 14, 14)
+        );
+        Ok(())
+    }
+
     #[test]
     fn undoes_a_touch_and_a_halving_in_one(rt: HostRuntime) -> Result<(), Fail> {
         let mut refused = 0;
         for spread in [Spread::Plain, Spread::Mixed] {
             let mut frequency = open(&rt, &mut refused, rt.alloc(), 2, spread)?;
-            for _ in 0..14 {
-                let _ = record(&rt, &mut refused, &mut frequency, 5)?;
-            }
-            let wanted = [
-                (14, 15, 15),
-                (15, 16, 16),
-                (15, 17, 16),
-                (15, 18, 16),
-                (15, 19, 16),
-                (7, 10, 7),
-            ];
-            go_and_come_back(&rt, &mut refused, &mut frequency, &wanted)?;
-            assert_eq!(rt;
-                (
-                    frequency.sketch().least(5),
-                    frequency.age(),
-                    frequency.estimate(5)
-                ),
-                (13, 14, 14)
-            );
+            assert_undone(&rt, &mut refused, &mut frequency)?;
         }
+        Ok(())
+    }
+
+    fn assert_leasts(rt: &impl Abort, frequency: &Frequency, wanted: (u8, u8)) {
+        assert_eq!(rt;
+            (frequency.sketch().least(3), frequency.sketch().least(5)),
+            wanted
+        );
+    }
+
+    fn assert_given_back(
+        rt: &impl Abort,
+        refused: &mut u32,
+        frequency: &mut Frequency,
+    ) -> Result<(), AllocError> {
+        record_all(rt, refused, frequency, &[3; 4])?;
+        record_all(rt, refused, frequency, &[5; 15])?;
+        assert_leasts(rt, frequency, (3, 14));
+        let last = record(rt, refused, frequency, 5)?;
+        assert_leasts(rt, frequency, (1, 7));
+        assert!(rt; !frequency.doorkeeper().has(5) && last.words() == 2);
+        frequency.unrecord(last);
+        assert_leasts(rt, frequency, (3, 14));
         Ok(())
     }
 
@@ -380,29 +439,49 @@ mod tests {
         let mut refused = 0;
         for spread in [Spread::Plain, Spread::Mixed] {
             let mut frequency = open(&rt, &mut refused, rt.alloc(), 2, spread)?;
-            for i in 0..19u64 {
-                let _ = record(&rt, &mut refused, &mut frequency, if i < 4 { 3 } else { 5 })?;
-            }
+            assert_given_back(&rt, &mut refused, &mut frequency)?;
+        }
+        Ok(())
+    }
+
+    // The squares modulo 7.
+    const SQUARES: [Key; 7] = [0, 1, 4, 2, 2, 4, 1];
+
+    // What a frequency is after so many keys.
+    #[derive(Drop)]
+    struct Aged {
+        count: usize,
+        age: u32,
+        halvings: u64,
+        estimates: [u8; 7],
+    }
+
+    fn assert_aged(
+        rt: &impl Abort,
+        refused: &mut u32,
+        frequency: &mut Frequency,
+        wanted: &Aged,
+    ) -> Result<(), AllocError> {
+        for i in 0..wanted.count {
+            record_all(rt, refused, frequency, &[SQUARES[i % 7]])?;
+        }
+        let count = wanted.count;
+        assert_eq!(rt;
+            (frequency.age(), frequency.halvings()),
+            (wanted.age, wanted.halvings),
+            "after {count} keys"
+        );
+        for (key, estimate) in wanted.estimates.iter().enumerate() {
             assert_eq!(rt;
-                (frequency.sketch().least(3), frequency.sketch().least(5)),
-                (3, 14)
-            );
-            let last = record(&rt, &mut refused, &mut frequency, 5)?;
-            assert_eq!(rt;
-                (frequency.sketch().least(3), frequency.sketch().least(5)),
-                (1, 7)
-            );
-            assert!(rt; !frequency.doorkeeper().has(5) && last.words() == 2);
-            frequency.unrecord(last);
-            assert_eq!(rt;
-                (frequency.sketch().least(3), frequency.sketch().least(5)),
-                (3, 14)
+                frequency.estimate(key as u64),
+                *estimate,
+                "of {key} after {count} keys"
             );
         }
         Ok(())
     }
 
-    // The squares modulo 7, of which the definition was worked out by a calculator of its own, over lists of keys.
+    // Here the definition was worked out by a calculator of its own, over lists of keys.
     #[test]
     fn estimates_by_the_definition(rt: HostRuntime) -> Result<(), Fail> {
         let mut refused = 0;
@@ -415,28 +494,38 @@ mod tests {
                 (49, 19, 3, [1, 4, 4, 0, 4, 0, 0]),
             ] {
                 let mut frequency = open(&rt, &mut refused, rt.alloc(), 2, spread)?;
-                for i in 0..count {
-                    let _ = record(
-                        &rt,
-                        &mut refused,
-                        &mut frequency,
-                        u64::wrapping_mul(i, i) % 7,
-                    )?;
-                }
-                assert_eq!(rt;
-                    (frequency.age(), frequency.halvings()),
-                    (age, halvings),
-                    "after {count} keys"
-                );
-                for key in 0..7u64 {
-                    assert_eq!(rt;
-                        frequency.estimate(key),
-                        estimates[key as usize],
-                        "of {key} after {count} keys"
-                    );
-                }
+                let wanted = Aged {
+                    count,
+                    age,
+                    halvings,
+                    estimates,
+                };
+                assert_aged(&rt, &mut refused, &mut frequency, &wanted)?;
             }
         }
+        Ok(())
+    }
+
+    fn assert_admitted(rt: &impl Abort, frequency: &Frequency, wanted: (u8, u8, bool)) {
+        assert_eq!(rt;
+            (
+                frequency.estimate(1),
+                frequency.estimate(2),
+                frequency.admits(2, 1)
+            ),
+            wanted
+        );
+    }
+
+    fn assert_no_tie_admitted(
+        rt: &impl Abort,
+        refused: &mut u32,
+        frequency: &mut Frequency,
+    ) -> Result<(), AllocError> {
+        record_all(rt, refused, frequency, &[1, 2])?;
+        assert_admitted(rt, frequency, (1, 1, false));
+        record_all(rt, refused, frequency, &[2])?;
+        assert_admitted(rt, frequency, (1, 2, true));
         Ok(())
     }
 
@@ -445,26 +534,21 @@ mod tests {
         let mut refused = 0;
         for spread in [Spread::Plain, Spread::Mixed] {
             let mut frequency = open(&rt, &mut refused, rt.alloc(), 1, spread)?;
-            let _ = record(&rt, &mut refused, &mut frequency, 1)?;
-            let _ = record(&rt, &mut refused, &mut frequency, 2)?;
-            assert_eq!(rt;
-                (
-                    frequency.estimate(1),
-                    frequency.estimate(2),
-                    frequency.admits(2, 1)
-                ),
-                (1, 1, false)
-            );
-            let _ = record(&rt, &mut refused, &mut frequency, 2)?;
-            assert_eq!(rt;
-                (
-                    frequency.estimate(1),
-                    frequency.estimate(2),
-                    frequency.admits(2, 1)
-                ),
-                (1, 2, true)
-            );
+            assert_no_tie_admitted(&rt, &mut refused, &mut frequency)?;
         }
+        Ok(())
+    }
+
+    fn assert_words(
+        rt: &impl Abort,
+        refused: &mut u32,
+        frequency: &mut Frequency,
+    ) -> Result<(), AllocError> {
+        record_in_turn(rt, refused, frequency, 9999, 1500)?;
+        assert_eq!(rt; frequency.halvings(), 0);
+        let last = record(rt, refused, frequency, 7)?;
+        assert_eq!(rt; last.words(), 192);
+        assert_eq!(rt; (frequency.halvings(), frequency.age()), (1, 5000));
         Ok(())
     }
 
@@ -473,12 +557,7 @@ mod tests {
     fn counts_the_words_of_a_halving(rt: HostRuntime) -> Result<(), Fail> {
         let mut refused = 0;
         let mut frequency = open(&rt, &mut refused, rt.alloc(), 1000, Spread::Mixed)?;
-        for key in 0..9999u64 {
-            let _ = record(&rt, &mut refused, &mut frequency, key % 1500)?;
-        }
-        assert_eq!(rt; frequency.halvings(), 0);
-        assert_eq!(rt; record(&rt, &mut refused, &mut frequency, 7)?.words(), 192);
-        assert_eq!(rt; (frequency.halvings(), frequency.age()), (1, 5000));
+        assert_words(&rt, &mut refused, &mut frequency)?;
         Ok(())
     }
 
@@ -487,9 +566,7 @@ mod tests {
     fn halves_again_and_again(rt: HostRuntime) -> Result<(), Fail> {
         let mut refused = 0;
         let mut frequency = open(&rt, &mut refused, rt.alloc(), 1, Spread::Mixed)?;
-        for key in 0..100u64 {
-            let _ = record(&rt, &mut refused, &mut frequency, key % 3)?;
-        }
+        record_in_turn(&rt, &mut refused, &mut frequency, 100, 3)?;
         assert_eq!(rt; (frequency.halvings(), frequency.age()), (19, 5));
         Ok(())
     }
@@ -499,9 +576,7 @@ mod tests {
         for spread in [Spread::Plain, Spread::Mixed] {
             let mut refused = 0;
             let mut frequency = open(&rt, &mut refused, rt.alloc(), 1 << 20, spread)?;
-            for _ in 0..3 {
-                let _ = record(&rt, &mut refused, &mut frequency, u64::MAX)?;
-            }
+            record_all(&rt, &mut refused, &mut frequency, &[u64::MAX; 3])?;
             assert_eq!(rt; (frequency.estimate(u64::MAX), frequency.age()), (3, 3));
         }
         Ok(())
