@@ -1,6 +1,6 @@
 //! The program's commands, as `clap` builds them.
-ghost use Rattle.std.specs.Prelude.{◌≡◌, false, IfOk};
-ghost use Rattle.clap.specs.Words.{app_of, rule_of};
+ghost use Rattle.std.specs.Prelude.{◌≡◌, false, IfOk, IsOkAnd};
+ghost use Rattle.clap.specs.Words.{app_of, rule_of, with_subcommand};
 ghost use Rattle.clap.specs.declared.builder.command.Command.TheViews.{out-Command};
 ghost use Rattle.command_line.specs.Program.{batch_rule, capacities_rule, capacity_rule, concurrent_app};
 ghost use Rattle.command_line.specs.Program.{configured_app, divided_app};
@@ -389,6 +389,23 @@ fn drive_command<'a>(
     concurrent(alloc, manned)
 }
 
+// The command with a subcommand more, where memory sufficed for that.
+fn added<'a>(
+    command: Command<'a>,
+    made: Result<Command<'a>, AllocError>,
+) -> Result<Command<'a>, AllocError>
+    ensures { IfOk result (λ c. IsOkAnd made.entry (λ m. (out-Command m).has_globals ≡ false →
+        app_of c ≡ with_subcommand (app_of command.entry) (app_of m).top)) }
+{
+    match made {
+        Ok(subcommand) => command.subcommand(subcommand),
+        Err(error) => {
+            drop(command);
+            Err(error)
+        }
+    }
+}
+
 /// The program's commands, over the words that name policies, formats and spreads.
 pub(crate) fn program<'a>(
     alloc: Global,
@@ -406,16 +423,10 @@ pub(crate) fn program<'a>(
     let top = named.about("Simulates cache policies over recorded block traces");
     let versioned = top.version("0.1.0");
     let empty = versioned.subcommand_required(true);
-    let run = run_command(alloc, policies, formats, spreads)?;
-    let running = empty.subcommand(run)?;
-    let sweep = sweep_command(alloc, policies, formats, spreads)?;
-    let sweeping = running.subcommand(sweep)?;
-    let part = part_command(alloc, policies, formats, spreads)?;
-    let parting = sweeping.subcommand(part)?;
-    let drive = drive_command(alloc, formats, spreads)?;
-    let driving = parting.subcommand(drive)?;
-    let debug = debug_command(alloc, policies, formats, spreads)?;
-    let debugging = driving.subcommand(debug)?;
-    let replay = replay_command(alloc, spreads)?;
-    debugging.subcommand(replay)
+    let running = added(empty, run_command(alloc, policies, formats, spreads))?;
+    let sweeping = added(running, sweep_command(alloc, policies, formats, spreads))?;
+    let parting = added(sweeping, part_command(alloc, policies, formats, spreads))?;
+    let driving = added(parting, drive_command(alloc, formats, spreads))?;
+    let debugging = added(driving, debug_command(alloc, policies, formats, spreads))?;
+    added(debugging, replay_command(alloc, spreads))
 }

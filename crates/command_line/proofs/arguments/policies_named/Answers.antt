@@ -1,4 +1,4 @@
-use Rattle.std.proofs.Common.{◌∙◌, sym, rules, arith, Some}
+use Rattle.std.proofs.Common.{◌∙◌, sym, arith}
 use Rattle.command_line.specs.Choices.{policy_named}
 use Rattle.command_line.proofs.Naming.{named-next, named-none}
 use Rattle.command_line.proofs.arguments.policies_named.Goals as goal

@@ -1,4 +1,4 @@
-use Rattle.std.proofs.Common.{ap, ap₂, ◌≡◌, ◌∙◌, codes}
+use Rattle.std.proofs.Common.{ap, ap₂, ◌≡◌, ◌∙◌, ◌||◌, codes}
 use Rattle.std.proofs.lemmas.Result.{IfOk-weaker}
 use Rattle.clap.specs.Words.{app_of, new_app, with_rule}
 use Rattle.clap.specs.Simple.{app_of_fields}
@@ -16,3 +16,9 @@ returns-clause-shape c =
     let formed : app_of c.in_ok-formed.formed ≡ with_rule (spreads (new_app (codes "run"))) (format_rule c.args.formats) = c.in_ok-formed.ensures.shape format.local ∙ ap₂ with_rule set format.rule in
     let batched : app_of c.in_ok-batched.batched ≡ with_rule (with_rule (spreads (new_app (codes "run"))) (format_rule c.args.formats)) batch_rule = c.in_ok-batched.ensures.shape batch.local ∙ ap₂ with_rule formed batch.rule in
     IfOk-weaker c.arg-3.result _ _ (λ r h. h.shape policy.local ∙ ap₂ with_rule batched policy.rule) c.arg-3.ensures
+
+pub returns-clause-local : goal.returns-clause-local
+returns-clause-local c =
+    let formed = c.in_ok-formed.ensures.globals ∙ ap₂ (λ a b. a || b) c.in_ok-configured.ensures.local c.format_arg-format.ensures.local in
+    let batched = c.in_ok-batched.ensures.globals ∙ ap₂ (λ a b. a || b) formed c.batch_arg-batch.ensures.local in
+    IfOk-weaker c.arg-3.result _ _ (λ r h. h.globals ∙ ap₂ (λ a b. a || b) batched c.policy_arg-policy.ensures.local) c.arg-3.ensures

@@ -2,7 +2,7 @@ use Rattle.std.proofs.Common.{◌≡◌, ◌∙◌, ap, rules, refl, List, ℕ, 
 use Rattle.std.specs.Borrow.{Bor}
 use Rattle.clap.specs.Words.{app_of, is_simple, is_simple_and_free}
 use Rattle.command_line.specs.Choices.{format_words, policy_words, spread_words}
-use Rattle.command_line.specs.Program.{AreLists, Lists, called, program_app}
+use Rattle.command_line.specs.Program.{AreLists, Lists, program_app}
 use Rattle.command_line.proofs.Outcomes.{ended, out_of_memory, refused}
 use Rattle.command_line.proofs.Simple.{program-free, program-simple}
 use Rattle.command_line.proofs.parsing.parse.Goals as goal
