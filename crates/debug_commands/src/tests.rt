@@ -2,7 +2,12 @@
 use super::*;
 use std::alloc::{AllocError, Global};
 use std::io::{Error, ErrorKind, Read, Result, Write};
+use std::process::Abort;
 use std::test::Fail;
+
+fn assert_line(rt: &impl Abort, dialect: Dialect, text: &str, said: Line) {
+    assert_eq!(rt; line(dialect, text.as_bytes()), said, "{text}");
+}
 
 #[test]
 fn a_line_is_one_command_or_none(rt: HostRuntime) {
@@ -41,15 +46,37 @@ fn a_line_is_one_command_or_none(rt: HostRuntime) {
         ("Run", Line::Unknown),
         ("7", Line::Unknown),
     ] {
-        assert_eq!(rt; line(Dialect::Policies, text.as_bytes()), said, "{text}");
+        assert_line(&rt, Dialect::Policies, text, said);
     }
-    assert_eq!(rt; line(Dialect::Journal, b"save"), Line::Known(Command::Own));
-    assert_eq!(rt;
-        line(Dialect::Journal, b"break drop"),
-        Line::Known(Command::Break(Breakpoint::Drop))
-    );
-    assert_eq!(rt; line(Dialect::Journal, b"part"), Line::Unknown);
-    assert_eq!(rt; line(Dialect::Journal, b"break part"), Line::Unknown);
+}
+
+#[test]
+fn each_dialect_has_words_of_its_own(rt: HostRuntime) {
+    let drop = Line::Known(Command::Break(Breakpoint::Drop));
+    for (text, said) in [
+        ("save", Line::Known(Command::Own)),
+        ("break drop", drop),
+        ("part", Line::Unknown),
+        ("break part", Line::Unknown),
+    ] {
+        assert_line(&rt, Dialect::Journal, text, said);
+    }
+}
+
+// Each of the words with each of the tails is no command.
+fn assert_unknown(
+    rt: &impl Abort,
+    alloc: Global,
+    words: &[&str],
+    tails: &[&str],
+) -> std::result::Result<(), AllocError> {
+    for word in words {
+        for tail in tails {
+            let text = format!(in alloc; "{word}{tail}")?;
+            assert_line(rt, Dialect::Policies, text.as_str(), Line::Unknown);
+        }
+    }
+    Ok(())
 }
 
 // Each word that takes a number, with something else behind it; each that takes none, with something behind it.
@@ -69,16 +96,7 @@ fn malformed_commands_are_unknown(rt: HostRuntime) -> std::result::Result<(), Fa
         " 1\t2",
         " 18446744073709551616",
     ];
-    for word in numbered {
-        for tail in bad {
-            let text = format!(in rt.alloc(); "{word}{tail}")?;
-            assert_eq!(rt;
-                line(Dialect::Policies, text.as_bytes()),
-                Line::Unknown,
-                "{text}"
-            );
-        }
-    }
+    assert_unknown(&rt, rt.alloc(), &numbered, &bad)?;
     let bare = [
         "run",
         "clear",
@@ -88,22 +106,10 @@ fn malformed_commands_are_unknown(rt: HostRuntime) -> std::result::Result<(), Fa
         "break halve",
         "break part",
     ];
-    for word in bare {
-        for tail in ["s", " 1", " now", "\tnow", " ."] {
-            let text = format!(in rt.alloc(); "{word}{tail}")?;
-            assert_eq!(rt;
-                line(Dialect::Policies, text.as_bytes()),
-                Line::Unknown,
-                "{text}"
-            );
-        }
-    }
+    let behind = ["s", " 1", " now", "\tnow", " ."];
+    assert_unknown(&rt, rt.alloc(), &bare, &behind)?;
     for text in ["save 1", "save now", "break drop 1"] {
-        assert_eq!(rt;
-            line(Dialect::Journal, text.as_bytes()),
-            Line::Unknown,
-            "{text}"
-        );
+        assert_line(&rt, Dialect::Journal, text, Line::Unknown);
     }
     Ok(())
 }
@@ -302,71 +308,64 @@ const ANSWERS: &[u8] = b"at 1\nat 3\nfault: PastStart\n";
 // Each byte of the answers is a write, and each of the five lines a flush.
 const WRITES: usize = 27 + 5;
 
+fn passing(passes: usize) -> Turns {
+    Turns {
+        interruptions: 0,
+        passes,
+    }
+}
+
+fn interrupted(interruptions: u32) -> Turns {
+    Turns {
+        interruptions,
+        passes: NEVER,
+    }
+}
+
+// The dialogue ends so; where it fails, the beginning of its answers went out.
+fn assert_ended(
+    rt: &impl Abort,
+    alloc: Global,
+    reads: Turns,
+    writes: Turns,
+    wanted: std::result::Result<(), DebugFault>,
+) {
+    let mut source = source_of(COMMANDS, 1, reads);
+    let mut sink = sink_of(writes);
+    let (answer, at) = ended(alloc, &mut source, &mut sink);
+    let (sent, passes) = (sink.sent(), (reads.passes, writes.passes));
+    assert_eq!(rt; answer, wanted, "after {passes:?} calls");
+    assert!(rt; ANSWERS.starts_with(sent));
+    assert!(rt; wanted.is_err() || (at == 3 && sent == ANSWERS));
+}
+
 #[test]
 fn each_failing_read_is_reported(rt: HostRuntime) {
     for passes in 0..READ {
-        let mut sink = sink_of(STEADY);
-        let turns = Turns {
-            interruptions: 0,
-            passes,
-        };
-        let (answer, _) = ended(rt.alloc(), &mut source_of(COMMANDS, 1, turns), &mut sink);
-        assert_eq!(rt; answer, Err(DebugFault::Read), "after {passes} reads");
-        assert!(rt; ANSWERS.starts_with(sink.sent()));
+        let fault = Err(DebugFault::Read);
+        assert_ended(&rt, rt.alloc(), passing(passes), STEADY, fault);
     }
-    let turns = Turns {
-        interruptions: 0,
-        passes: READ,
-    };
-    let mut sink = sink_of(STEADY);
-    let (answer, at) = ended(rt.alloc(), &mut source_of(COMMANDS, 1, turns), &mut sink);
-    assert_eq!(rt; answer, Ok(()));
-    assert_eq!(rt; at, 3);
-    assert_eq!(rt; sink.sent(), ANSWERS);
+    assert_ended(&rt, rt.alloc(), passing(READ), STEADY, Ok(()));
 }
 
 #[test]
 fn each_failing_write_and_flush_is_reported(rt: HostRuntime) {
     for passes in 0..WRITES {
-        let mut sink = sink_of(Turns {
-            interruptions: 0,
-            passes,
-        });
-        let (answer, _) = ended(rt.alloc(), &mut source_of(COMMANDS, 1, STEADY), &mut sink);
-        assert_eq!(rt; answer, Err(DebugFault::Write), "after {passes} calls");
-        assert!(rt; ANSWERS.starts_with(sink.sent()));
+        let fault = Err(DebugFault::Write);
+        assert_ended(&rt, rt.alloc(), STEADY, passing(passes), fault);
     }
-    let mut sink = sink_of(Turns {
-        interruptions: 0,
-        passes: WRITES,
-    });
-    let (answer, at) = ended(rt.alloc(), &mut source_of(COMMANDS, 1, STEADY), &mut sink);
-    assert_eq!(rt; answer, Ok(()));
-    assert_eq!(rt; at, 3);
-    assert_eq!(rt; sink.sent(), ANSWERS);
+    assert_ended(&rt, rt.alloc(), STEADY, passing(WRITES), Ok(()));
 }
 
 #[test]
 fn the_millionth_interruption_is_a_failure(rt: HostRuntime) {
-    for (reads, writes, result) in [
+    for (reads, writes, wanted) in [
         (999_999, 999_999, Ok(())),
         (1_000_000, 0, Err(DebugFault::Read)),
         (0, 1_000_000, Err(DebugFault::Write)),
     ] {
-        let mut source = source_of(
-            COMMANDS,
-            1,
-            Turns {
-                interruptions: reads,
-                passes: NEVER,
-            },
-        );
-        let mut sink = sink_of(Turns {
-            interruptions: writes,
-            passes: NEVER,
-        });
-        let (answer, _) = ended(rt.alloc(), &mut source, &mut sink);
-        assert_eq!(rt; answer, result, "of {reads} and {writes}");
+        let (reads, writes) = (interrupted(reads), interrupted(writes));
+        assert_ended(&rt, rt.alloc(), reads, writes, wanted);
     }
 }
 
