@@ -12,7 +12,7 @@ use Rattle.journal.specs.Session.{SessionState}
 use Rattle.journal_text.specs.Journal.{IsJournalText}
 use Rattle.debug_commands.specs.Dialogue.{dialogue_of, IsLineHeld}
 use Rattle.debug_replay.specs.Replay.{replay_timeline}
-use Rattle.cachesim.specs.Debugged.{Answering, KnownFiles, Replaying}
+use Rattle.cachesim.specs.Debugged.{Answering, IsReplayedFrom, KnownFiles, Replaying}
 
 abbrev State : Type 0
 State = SessionState Shell Shell Step Reply
@@ -24,27 +24,32 @@ answering opening steps more at position None before after e h = tt
 answering opening steps more at position (Some commands) before after e h =
     (position, subst (λ es. IsLineHeld (dialogue_of (replay_timeline opening es) at commands) true before after position) e h)
 
-replaying : (config : Config) (file : Option (List ℕ)) (bytes text : List ℕ) (input before after : Option (List ℕ)) (first now : State) (position : ℕ)
-    → IfSome file (λ xs. bytes ≡ xs) → text ≡ bytes → IsOpened config first.opening → first.limit ≡ config.journal_limit
-    → IsJournalText act first.opening first.limit text now.kept → now.opening ≡ first.opening → now.tail ≡ []
+-- what a session holds that read the journal and answered the commands
+pub replayed_from : (journal : List ℕ) (input before after : Option (List ℕ)) (first now : State) (position : ℕ)
+    → IsJournalText act first.opening first.limit journal now.kept → now.opening ≡ first.opening → now.tail ≡ []
     → IfSome input (λ commands. IsLineHeld (dialogue_of (replay_timeline now.opening (now.kept ++ now.tail)) (length now.kept) commands) true before after position)
-    → Replaying config file input before after
-replaying config None bytes text input before after first now position has is opened limit journal same none h = tt
-replaying config (Some xs) bytes text input before after first now position has is opened limit journal same none h = record {
-  opening = now.opening;
-  opened = subst (IsOpened config) (sym same) opened;
+    → IsReplayedFrom first.opening first.limit journal input before after
+replayed_from journal input before after first now position read same none h = record {
   steps = now.kept;
-  journal = subst (λ x. IsJournalText act x config.journal_limit xs now.kept) (sym same)
-      (subst (λ l. IsJournalText act first.opening l xs now.kept) limit (subst (λ b. IsJournalText act first.opening first.limit b now.kept) (is ∙ has) journal));
-  answers = answering now.opening now.kept (now.kept ++ now.tail) (length now.kept) position input before after
-      (ap (λ t. now.kept ++ t) none ∙ append-nil now.kept) h;
+  journal = read;
+  answers = subst (λ o. Answering (replay_timeline o now.kept) (length now.kept) input before after) same
+      (answering now.opening now.kept (now.kept ++ now.tail) (length now.kept) position input before after
+      (ap (λ t. now.kept ++ t) none ∙ append-nil now.kept) h);
 }
 
-pub replayed : (config : Config) (known : KnownFiles) (path journal bytes text : List ℕ) (input before after : Option (List ℕ)) (first now : State) (position : ℕ)
+replaying : (config : Config) (file : Option (List ℕ)) (bytes text : List ℕ) (input before after : Option (List ℕ)) (first : State)
+    → IfSome file (λ xs. bytes ≡ xs) → text ≡ bytes → IsOpened config first.opening → first.limit ≡ config.journal_limit
+    → IsReplayedFrom first.opening first.limit text input before after → Replaying config file input before after
+replaying config None bytes text input before after first has is opened limit h = tt
+replaying config (Some xs) bytes text input before after first has is opened limit h = record {
+  opening = first.opening;
+  opened = opened;
+  replayed = subst (λ l. IsReplayedFrom first.opening l xs input before after) limit
+      (subst (λ b. IsReplayedFrom first.opening first.limit b input before after) (is ∙ has) h);
+}
+
+pub replayed : (config : Config) (known : KnownFiles) (path journal bytes text : List ℕ) (input before after : Option (List ℕ)) (first : State)
     → path ≡ journal → IfSome (known path) (λ xs. bytes ≡ xs) → text ≡ bytes → IsOpened config first.opening → first.limit ≡ config.journal_limit
-    → IsJournalText act first.opening first.limit text now.kept → now.opening ≡ first.opening → now.tail ≡ []
-    → IfSome input (λ commands. IsLineHeld (dialogue_of (replay_timeline now.opening (now.kept ++ now.tail)) (length now.kept) commands) true before after position)
-    → Replaying config (known journal) input before after
-replayed config known path journal bytes text input before after first now position named has is opened limit read same none h =
-    replaying config (known journal) bytes text input before after first now position
-    (subst (λ p. IfSome (known p) (λ xs. bytes ≡ xs)) named has) is opened limit read same none h
+    → IsReplayedFrom first.opening first.limit text input before after → Replaying config (known journal) input before after
+replayed config known path journal bytes text input before after first named has is opened limit h =
+    replaying config (known journal) bytes text input before after first (subst (λ p. IfSome (known p) (λ xs. bytes ≡ xs)) named has) is opened limit h

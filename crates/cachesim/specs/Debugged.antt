@@ -29,14 +29,17 @@ abbrev pub Debugging : Format → Job → Job → Option (List ℕ) → Option (
 Debugging format first second file input before after = IfSome file (λ bytes. (fault_in format bytes ≡ None)
     × Answering (policies_timeline (keys_in format bytes) first second) 0 input before after)
 
--- a journal in the file, and answers about its steps from the empty cache of the configuration on, all of them made at
--- first
+-- the bytes are a journal of steps from the opening state on, and the answers are about them, all of them made at first
+pub record IsReplayedFrom (opening : Shell) (limit : ℕ) (bytes : List ℕ) (input before after : Option (List ℕ)) : Type 0 where
+  pub steps : Entries
+  pub journal : IsJournalText act opening limit bytes steps
+  pub answers : Answering (replay_timeline opening steps) (length steps) input before after
+
+-- so it is for the bytes of the file, from the empty cache of the configuration on
 pub record IsReplayed (config : Config) (bytes : List ℕ) (input before after : Option (List ℕ)) : Type 0 where
   pub opening : Shell
   pub opened : IsOpened config opening
-  pub steps : Entries
-  pub journal : IsJournalText act opening config.journal_limit bytes steps
-  pub answers : Answering (replay_timeline opening steps) (length steps) input before after
+  pub replayed : IsReplayedFrom opening config.journal_limit bytes input before after
 
 abbrev pub Replaying : Config → Option (List ℕ) → Option (List ℕ) → Option (List ℕ) → Option (List ℕ) → Type 0
 Replaying config file input before after = IfSome file (λ bytes. IsReplayed config bytes input before after)

@@ -1,7 +1,7 @@
 //! The subcommands `debug` and `replay`: commands on the input, about what a file has.
-ghost use Rattle.std.specs.Prelude.{◌≡◌, Ok, OnOk, string_bytes};
+ghost use Rattle.std.specs.Prelude.{◌≡◌, [], Ok, OnOk, string_bytes};
 ghost use Rattle.step_record.specs.Config.{config_fault};
-ghost use Rattle.cachesim.specs.Debugged.{Debugging, Replaying};
+ghost use Rattle.cachesim.specs.Debugged.{Debugging, IsReplayedFrom, Replaying};
 
 use crate::driving::open;
 use crate::fault::Fault;
@@ -9,7 +9,9 @@ use crate::files::Files;
 use command_line::{DebugArguments, ReplayArguments};
 use debug_replay::run_replay;
 use debug_shell::run_debug;
+use journal::Session;
 use journal_text::read_journal;
+use maintenance::Shell;
 use std::alloc::Global;
 use std::io::{Read, Write};
 use trace_read::read_trace;
@@ -34,6 +36,24 @@ pub fn debug<R: Read, W: Write, F: Files>(
     Ok(())
 }
 
+// Reads the journal into a session of no step, and answers the commands of the input about it.
+fn replay_in<R: Read, W: Write>(
+    alloc: Global,
+    session: &mut Session<Shell>,
+    mut journal: &[u8],
+    input: &mut R,
+    out: &mut W,
+) -> Result<(), Fault>
+    requires kept { session.old.kept ≡ [] }
+    requires tail { session.old.tail ≡ [] }
+    ensures { OnOk result (IsReplayedFrom session.old.opening session.old.limit journal.entry.now
+        (R.remaining input.old) (W.contents out.old) (W.contents out.new)) }
+{
+    read_journal(alloc, &mut journal, session)?;
+    run_replay(alloc, session, input, out)?;
+    Ok(())
+}
+
 /// Reads the journal of the file into a session of an empty cache, and answers the commands of the
 /// input about it, each at once.
 pub fn replay<R: Read, W: Write, F: Files>(
@@ -49,7 +69,5 @@ pub fn replay<R: Read, W: Write, F: Files>(
 {
     let bytes = files.bytes(alloc, arguments.journal.as_str())?;
     let mut session = open(alloc, &arguments.config)?;
-    read_journal(alloc, &mut bytes.as_slice(), &mut session)?;
-    run_replay(alloc, &mut session, input, out)?;
-    Ok(())
+    replay_in(alloc, &mut session, bytes.as_slice(), input, out)
 }

@@ -1,13 +1,17 @@
 //! The subcommand `drive`: a trace to the journal of workers on threads.
-ghost use Rattle.std.specs.Prelude.{◌≡◌, ◌≤◌, ℕ, Ok, [], IfOk, OnOk, get_or, length, map};
+ghost use Rattle.std.specs.Prelude.{◌≡◌, ◌≤◌, ℕ, Ok, [], IfErr, IfOk, IfSome, IsOkAnd, None, OnOk, get_or, length, map};
+ghost use Rattle.std.specs.Io.KnownBytes.{Appends};
 ghost use Rattle.step_record.specs.Config.{config_fault};
 ghost use Rattle.step_record.specs.declared.worker.TheConstants.{MAX_WORKERS};
+ghost use Rattle.trace_read.specs.Reading.{fault_in, keys_in};
+ghost use Rattle.journal_text.specs.Journal.{journal_of};
+ghost use Rattle.journal_text.specs.declared.version.Version.TheVariants.{Two};
 ghost use Rattle.cachesim.specs.Dealt.{IsDealt};
 ghost use Rattle.cachesim.specs.Drove.{IsDriven, IsFirst, IsOfRun};
 
 use crate::fault::Fault;
 use command_line::DriveArguments;
-use drive::DriveFault;
+use drive::{DriveFault, Driven};
 use journal::Session;
 use journal_text::write_journal;
 use maintenance::Shell;
@@ -16,7 +20,7 @@ use std::io::{Read, Write};
 use std::sync::Wait;
 use std::thread::Threads;
 use step_record::{Call, Config, Key, OpenGate};
-use trace_read::read_trace;
+use trace_read::{Format, read_trace};
 
 // A list of no call for each worker.
 fn empty_pieces(alloc: Global, workers: u8) -> Result<Vec<Vec<Call>>, AllocError>
@@ -53,33 +57,60 @@ pub fn open(alloc: Global, config: &Config) -> Result<Session<Shell>, AllocError
     Ok(Session::open(alloc, shell, config.journal_limit as usize))
 }
 
-// Writes the journal of a run that was stopped, and tells why it did not make all walks.
-fn tell<W: Write>(alloc: Global, fault: &DriveFault, out: &mut W) -> Fault
-    requires { IsOfRun fault.now }
+// The calls of each worker for the accesses of the trace.
+fn pieces_of<R: Read>(
+    alloc: Global,
+    input: &mut R,
+    format: Format,
+    workers: u8,
+) -> Result<Vec<Vec<Call>>, Fault>
+    requires { 1 ≤ workers }
+    ensures many { IfOk result (λ pieces. length (map (λ p. p.items) pieces.items) ≡ workers) }
+    ensures dealt { IfOk result (λ pieces. IfSome (R.remaining input.old) (λ bytes. (fault_in format bytes ≡ None)
+        × IsDealt workers (keys_in format bytes) (map (λ p. p.items) pieces.items))) }
 {
-    match fault {
-        DriveFault::Stopped {
-            session,
-            lists: _,
-            cause,
-        } => match write_journal(alloc, session, out) {
-            Ok(()) => Fault::from(*cause),
-            Err(unwritten) => Fault::from(unwritten),
-        },
-        DriveFault::OutOfMemory { session: _ } => Fault::OutOfMemory,
-        DriveFault::Workers { session: _ } => unreachable!(),
-        DriveFault::Held {
-            worker: _,
-            session: _,
-        } => unreachable!(),
+    let trace = read_trace(alloc, input, format)?;
+    let pieces = deal(alloc, trace.keys(), workers)?;
+    Ok(pieces)
+}
+
+// Writes the journal of a run, also of one that was stopped, and tells why it did not make all walks.
+fn tell<W: Write>(alloc: Global, run: &Result<Driven, DriveFault>, out: &mut W) -> Result<(), Fault>
+    requires { IfErr run.now IsOfRun }
+    ensures { OnOk result (IsOkAnd run.now (λ driven.
+        Appends (W.contents out.old) (W.contents out.new) (journal_of Two driven.session.kept))) }
+{
+    match run {
+        Ok(driven) => Ok(write_journal(alloc, &driven.session, out)?),
+        Err(
+            DriveFault::Stopped {
+                session,
+                lists: _,
+                cause,
+            },
+        ) => {
+            write_journal(alloc, session, out)?;
+            Err(Fault::from(*cause))
+        }
+        Err(DriveFault::OutOfMemory { session: _ }) => Err(Fault::OutOfMemory),
+        Err(DriveFault::Workers { session: _ }) => unreachable!(),
+        Err(
+            DriveFault::Held {
+                worker: _,
+                session: _,
+            },
+        ) => unreachable!(),
     }
 }
 
-fn failed<W: Write>(alloc: Global, fault: DriveFault, out: &mut W) -> Fault
-    requires { IsOfRun fault }
+// Ends a run so.
+fn end<W: Write>(alloc: Global, run: Result<Driven, DriveFault>, out: &mut W) -> Result<(), Fault>
+    requires { IfErr run IsOfRun }
+    ensures { OnOk result (IsOkAnd run (λ driven.
+        Appends (W.contents out.old) (W.contents out.new) (journal_of Two driven.session.kept))) }
 {
-    let told = tell(alloc, &fault, out);
-    drop(fault);
+    let told = tell(alloc, &run, out);
+    drop(run);
     told
 }
 
@@ -99,14 +130,8 @@ pub fn drive<T: Threads + Wait + Sync, R: Read, W: Write>(
     ensures { OnOk result (IsDriven arguments.now.config arguments.now.workers arguments.now.format
         (R.remaining input.old) (W.contents out.old) (W.contents out.new)) }
 {
-    let trace = read_trace(alloc, input, arguments.format)?;
-    let pieces = deal(alloc, trace.keys(), arguments.workers)?;
+    let pieces = pieces_of(alloc, input, arguments.format, arguments.workers)?;
     let session = open(alloc, &arguments.config)?;
-    match drive::drive(rt, alloc, session, pieces, &OpenGate) {
-        Ok(driven) => {
-            write_journal(alloc, &driven.session, out)?;
-            Ok(())
-        }
-        Err(fault) => Err(failed(alloc, fault, out)),
-    }
+    let run = drive::drive(rt, alloc, session, pieces, &OpenGate);
+    end(alloc, run, out)
 }

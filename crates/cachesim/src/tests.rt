@@ -2,6 +2,7 @@ use super::command::command;
 use super::files::{FileFault, Files};
 use std::alloc::{AllocError, Global};
 use std::io::{Error, ErrorKind, Read, Write};
+use std::process::Abort;
 use std::sync::Wait;
 use std::test::Fail;
 use std::thread::Threads;
@@ -42,6 +43,44 @@ impl Write for Broken {
     }
 }
 
+// Room for all that a call writes, so that no output asks for memory.
+const ROOM: usize = 4096;
+
+/// What a call of the program is to do: the status, and the bytes on the output and on the fault output.
+#[derive(Drop)]
+struct Wanted<'a> {
+    status: u8,
+    out: &'a [u8],
+    fault: &'a [u8],
+}
+
+/// A call that does what it was asked to.
+fn done(out: &str) -> Wanted<'_> {
+    Wanted {
+        status: 0,
+        out: out.as_bytes(),
+        fault: b"".as_slice(),
+    }
+}
+
+/// A call that ends in a fault, of which it writes this line.
+fn fault(line: &str) -> Wanted<'_> {
+    Wanted {
+        status: 1,
+        out: b"".as_slice(),
+        fault: line.as_bytes(),
+    }
+}
+
+/// A usage error that is reported so.
+fn usage_error(text: &str) -> Wanted<'_> {
+    Wanted {
+        status: 2,
+        out: b"".as_slice(),
+        fault: text.as_bytes(),
+    }
+}
+
 /// What a call of the program did.
 #[derive(Drop)]
 struct Run {
@@ -50,41 +89,76 @@ struct Run {
     fault: Vec<u8>,
 }
 
-// Room for all that a call writes, so that no output asks for memory.
-const ROOM: usize = 4096;
-
 impl Run {
-    /// The run, unless memory was refused: the program says so, for which it needs none, and wrote
-    /// no report.
-    fn told(self) -> Result<Run, AllocError> {
-        let refused = self.fault.as_slice() == b"fault: OutOfMemory\n".as_slice();
-        if self.status == 1 && self.out.is_empty() && refused {
-            return Err(AllocError);
-        }
-        Ok(self)
+    // The program says so where memory was refused, for which it needs none.
+    fn is_out_of_memory(&self) -> bool {
+        self.fault.as_slice() == b"fault: OutOfMemory\n".as_slice()
     }
 }
 
-// The program over an input and memory.
-fn called_on<T: Threads + Wait + Sync, R: Read>(
+// The program over an input, files and memory.
+fn call<T: Threads + Wait + Sync, R: Read, F: Files>(
     rt: &T,
     alloc: Global,
     words: &[&str],
     input: &mut R,
+    files: &F,
 ) -> Result<Run, AllocError> {
     let mut out = Vec::with_capacity(alloc, ROOM)?;
     let mut fault = Vec::with_capacity(alloc, ROOM)?;
-    let status = command(rt, alloc, words, input, &mut out, &mut fault, &Nowhere);
-    Run { status, out, fault }.told()
+    let status = command(rt, alloc, words, input, &mut out, &mut fault, files);
+    Ok(Run { status, out, fault })
 }
 
-fn called<T: Threads + Wait + Sync>(
+// Compares, unless memory was refused: what it had written by then is the beginning of what is wanted.
+fn compare(rt: &impl Abort, run: &Run, wanted: &Wanted) -> Result<(), AllocError> {
+    if run.is_out_of_memory() {
+        assert_eq!(rt; run.status, 1);
+        assert!(rt; wanted.out.starts_with(run.out.as_slice()));
+        return Err(AllocError);
+    }
+    assert_eq!(rt; run.out.as_slice(), wanted.out);
+    assert_eq!(rt; run.fault.as_slice(), wanted.fault);
+    assert_eq!(rt; run.status, wanted.status);
+    Ok(())
+}
+
+// The program over an input and files does what is wanted.
+fn assert_call<T: Threads + Wait + Sync + Abort, R: Read, F: Files>(
+    rt: &T,
+    alloc: Global,
+    words: &[&str],
+    input: &mut R,
+    files: &F,
+    wanted: &Wanted,
+) -> Result<(), AllocError> {
+    let run = call(rt, alloc, words, input, files)?;
+    compare(rt, &run, wanted)
+}
+
+// So it does over an input alone, and where memory was refused it has written nothing.
+fn assert_run<T: Threads + Wait + Sync + Abort>(
     rt: &T,
     alloc: Global,
     words: &[&str],
     input: &str,
-) -> Result<Run, AllocError> {
-    called_on(rt, alloc, words, &mut input.as_bytes())
+    wanted: &Wanted,
+) -> Result<(), AllocError> {
+    let run = call(rt, alloc, words, &mut input.as_bytes(), &Nowhere)?;
+    assert!(rt; run.out.is_empty() || !run.is_out_of_memory());
+    compare(rt, &run, wanted)
+}
+
+// It writes a report of these rows.
+fn assert_report<T: Threads + Wait + Sync + Abort>(
+    rt: &T,
+    alloc: Global,
+    words: &[&str],
+    input: &str,
+    rows: &str,
+) -> Result<(), AllocError> {
+    let text = format!(in alloc; "{HEADER}{rows}")?;
+    assert_run(rt, alloc, words, input, &done(text.as_str()))
 }
 
 #[test]
@@ -122,11 +196,7 @@ fn a_trace_becomes_a_report_for_each_policy(rt: HostRuntime) -> Result<(), Fail>
         ),
     ];
     for (words, input, rows) in table {
-        let run = called(&rt, rt.alloc(), words, input)?;
-        let text = format!(in rt.alloc(); "{HEADER}{rows}")?;
-        assert_eq!(rt; run.out.as_slice(), text.as_bytes(), "of {input:?}");
-        assert_eq!(rt; run.status, 0);
-        assert!(rt; run.fault.is_empty());
+        assert_report(&rt, rt.alloc(), words, input, rows)?;
     }
     Ok(())
 }
@@ -134,12 +204,10 @@ fn a_trace_becomes_a_report_for_each_policy(rt: HostRuntime) -> Result<(), Fail>
 // Six accesses, run in batches that end before, at and past their end.
 #[test]
 fn any_batch_gives_the_same_reports(rt: HostRuntime) -> Result<(), Fail> {
-    let text = format!(in rt.alloc(); "{HEADER}lru,3,6,1,5,2,0,16.66\nlru,3,6,1,5,2,0,16.66\n")?;
+    let rows = "lru,3,6,1,5,2,0,16.66\nlru,3,6,1,5,2,0,16.66\n";
     for batch in ["1", "3", "6", "65536"] {
         let words = ["run", "--capacity", "3", "--batch", batch, "lru", "lru"];
-        let run = called(&rt, rt.alloc(), &words, "1\n2\n3\n1\n4\n2\n")?;
-        assert_eq!(rt; run.out.as_slice(), text.as_bytes(), "of {batch}");
-        assert_eq!(rt; run.status, 0);
+        assert_report(&rt, rt.alloc(), &words, "1\n2\n3\n1\n4\n2\n", rows)?;
     }
     Ok(())
 }
@@ -147,19 +215,10 @@ fn any_batch_gives_the_same_reports(rt: HostRuntime) -> Result<(), Fail> {
 #[test]
 fn a_sweep_reports_each_capacity(rt: HostRuntime) -> Result<(), Fail> {
     let words = ["sweep", "--policy", "lru", "3", "1", "4"];
-    let run = called(&rt, rt.alloc(), &words, "1\n2\n3\n1\n4\n2\n")?;
     let rows = "lru,3,6,1,5,2,0,16.66\nlru,1,6,0,6,5,0,0.00\nlru,4,6,2,4,0,0,33.33\n";
-    let text = format!(in rt.alloc(); "{HEADER}{rows}")?;
-    assert_eq!(rt; run.out.as_slice(), text.as_bytes());
-    assert_eq!(rt; run.status, 0);
-    assert!(rt; run.fault.is_empty());
-    let faulty = called(&rt, rt.alloc(), &words, "1\nx\n")?;
-    assert_eq!(rt;
-        faulty.fault.as_slice(),
-        b"fault: BadNumber line 2\n".as_slice()
-    );
-    assert_eq!(rt; faulty.status, 1);
-    assert!(rt; faulty.out.is_empty());
+    assert_report(&rt, rt.alloc(), &words, "1\n2\n3\n1\n4\n2\n", rows)?;
+    let faulty = fault("fault: BadNumber line 2\n");
+    assert_run(&rt, rt.alloc(), &words, "1\nx\n", &faulty)?;
     Ok(())
 }
 
@@ -195,13 +254,8 @@ fn two_policies_part(rt: HostRuntime) -> Result<(), Fail> {
         ),
     ];
     for (words, input, line) in table {
-        let run = called(&rt, rt.alloc(), words, input)?;
-        assert_eq!(rt; run.out.as_slice(), line.as_bytes());
-        assert_eq!(rt; run.status, 0);
+        assert_run(&rt, rt.alloc(), words, input, &done(line))?;
     }
-    let missing: &[&str] = &["part", "--capacity", "2", "--first", "lru"];
-    let run = called(&rt, rt.alloc(), missing, "1\n")?;
-    assert_eq!(rt; run.status, 2);
     Ok(())
 }
 
@@ -246,17 +300,15 @@ fn driven(limit: &str) -> [&str; 11] {
 
 #[test]
 fn a_worker_leaves_a_journal(rt: HostRuntime) -> Result<(), Fail> {
-    let whole = called(&rt, rt.alloc(), &driven("9"), "1\n")?;
-    assert_eq!(rt; whole.out.as_slice(), ROUND.as_bytes());
-    assert_eq!(rt; whole.status, 0);
-    let cut = called(&rt, rt.alloc(), &driven("4"), "1\n")?;
-    assert_eq!(rt; cut.out.as_slice(), CUT_ROUND.as_bytes());
-    assert_eq!(rt; cut.fault.as_slice(), b"fault: JournalFull\n".as_slice());
-    assert_eq!(rt; cut.status, 1);
-    let odd: &[&str] = &["drive", "--capacity", "8", "--stripes", "3"];
-    let refused = called(&rt, rt.alloc(), odd, "1\n")?;
-    assert_eq!(rt; refused.fault.as_slice(), b"fault: Stripes\n".as_slice());
-    assert_eq!(rt; refused.status, 2);
+    assert_run(&rt, rt.alloc(), &driven("9"), "1\n", &done(ROUND))?;
+    let cut = Wanted {
+        out: CUT_ROUND.as_bytes(),
+        ..fault("fault: JournalFull\n")
+    };
+    assert_run(&rt, rt.alloc(), &driven("4"), "1\n", &cut)?;
+    let odd = ["drive", "--capacity", "8", "--stripes", "3"];
+    let refused = usage_error("fault: Stripes\n");
+    assert_run(&rt, rt.alloc(), &odd, "1\n", &refused)?;
     Ok(())
 }
 
@@ -273,10 +325,7 @@ fn a_faulty_trace_is_told_in_one_line(rt: HostRuntime) -> Result<(), Fail> {
         (arc, "0 16777217", "fault: TooLong line 1\n"),
     ];
     for (words, input, line) in table {
-        let run = called(&rt, rt.alloc(), words, input)?;
-        assert_eq!(rt; run.fault.as_slice(), line.as_bytes(), "of {input:?}");
-        assert_eq!(rt; run.status, 1);
-        assert!(rt; run.out.is_empty());
+        assert_run(&rt, rt.alloc(), words, input, &fault(line))?;
     }
     Ok(())
 }
@@ -287,24 +336,39 @@ fn over_sixty_four_policies_are_too_many(rt: HostRuntime) -> Result<(), Fail> {
     for _ in 0..64 {
         words.push("lru")?;
     }
-    let run = called(&rt, rt.alloc(), words.as_slice(), "1\n")?;
-    assert_eq!(rt; run.status, 0);
+    let mut text = String::new(rt.alloc());
+    for _ in 0..64 {
+        text.push_str("lru,3,1,0,1,0,0,0.00\n")?;
+    }
+    assert_report(&rt, rt.alloc(), words.as_slice(), "1\n", text.as_str())?;
     words.push("lru")?;
-    let run = called(&rt, rt.alloc(), words.as_slice(), "1\n")?;
-    assert_eq!(rt; run.fault.as_slice(), b"fault: Actors\n".as_slice());
-    assert_eq!(rt; run.status, 1);
-    assert!(rt; run.out.is_empty());
-    let faulty = called(&rt, rt.alloc(), words.as_slice(), "x\n")?;
-    assert_eq!(rt;
-        faulty.fault.as_slice(),
-        b"fault: BadNumber line 1\n".as_slice()
-    );
+    let many = fault("fault: Actors\n");
+    assert_run(&rt, rt.alloc(), words.as_slice(), "1\n", &many)?;
+    let faulty = fault("fault: BadNumber line 1\n");
+    assert_run(&rt, rt.alloc(), words.as_slice(), "x\n", &faulty)?;
     Ok(())
+}
+
+// A usage error, with something on the fault output alone.
+fn assert_refused<T: Threads + Wait + Sync + Abort>(
+    rt: &T,
+    alloc: Global,
+    words: &[&str],
+) -> Result<(), AllocError> {
+    let run = call(rt, alloc, words, &mut b"1\n".as_slice(), &Nowhere)?;
+    let told = run.fault.as_slice();
+    let wanted = Wanted {
+        status: 2,
+        out: b"".as_slice(),
+        fault: told,
+    };
+    assert!(rt; !told.is_empty());
+    compare(rt, &run, &wanted)
 }
 
 #[test]
 fn a_usage_error_has_written_nothing(rt: HostRuntime) -> Result<(), Fail> {
-    let table: [&[&str]; 15] = [
+    let table: [&[&str]; 16] = [
         &[],
         &["walk"],
         &["run", "lru"],
@@ -320,12 +384,10 @@ fn a_usage_error_has_written_nothing(rt: HostRuntime) -> Result<(), Fail> {
         &["sweep", "3"],
         &["sweep", "--policy", "lru", "3", "0"],
         &["sweep", "--policy", "lru", "--capacity", "3", "4"],
+        &["part", "--capacity", "2", "--first", "lru"],
     ];
     for words in table {
-        let run = called(&rt, rt.alloc(), words, "1\n")?;
-        assert_eq!(rt; run.status, 2);
-        assert!(rt; run.out.is_empty());
-        assert!(rt; !run.fault.is_empty());
+        assert_refused(&rt, rt.alloc(), words)?;
     }
     Ok(())
 }
@@ -358,35 +420,41 @@ Options:
 
 #[test]
 fn texts_of_usage_errors_and_help(rt: HostRuntime) -> Result<(), Fail> {
-    let refused = called(&rt, rt.alloc(), &CSV, "1\n")?;
-    assert_eq!(rt; refused.fault.as_slice(), CSV_TEXT.as_bytes());
-    assert_eq!(rt; refused.status, 2);
+    assert_run(&rt, rt.alloc(), &CSV, "1\n", &usage_error(CSV_TEXT))?;
     for (word, text) in [("--help", HELP_TEXT), ("--version", "cachesim 0.1.0\n")] {
-        let shown = called(&rt, rt.alloc(), &[word], "")?;
-        assert_eq!(rt; shown.out.as_slice(), text.as_bytes());
-        assert_eq!(rt; shown.status, 0);
-        assert!(rt; shown.fault.is_empty());
+        assert_run(&rt, rt.alloc(), &[word], "", &done(text))?;
     }
     Ok(())
 }
 
-#[test]
-fn help_to_an_output_that_fails(rt: HostRuntime) -> Result<(), Fail> {
-    let mut fault = Vec::with_capacity(rt.alloc(), ROOM)?;
-    let mut input = b"".as_slice();
+// The program over an output that fails tells that.
+fn assert_unwritten<T: Threads + Wait + Sync + Abort>(
+    rt: &T,
+    alloc: Global,
+    words: &[&str],
+    mut input: &[u8],
+) -> Result<(), AllocError> {
+    let mut told = Vec::with_capacity(alloc, ROOM)?;
     let status = command(
-        &rt,
-        rt.alloc(),
-        &["--help"],
+        rt,
+        alloc,
+        words,
         &mut input,
         &mut Broken,
-        &mut fault,
+        &mut told,
         &Nowhere,
     );
-    let out = Vec::new(rt.alloc());
-    let run = Run { status, out, fault }.told()?;
-    assert_eq!(rt; run.status, 1);
-    assert_eq!(rt; run.fault.as_slice(), b"fault: Write\n".as_slice());
+    let run = Run {
+        status,
+        out: Vec::new(alloc),
+        fault: told,
+    };
+    compare(rt, &run, &fault("fault: Write\n"))
+}
+
+#[test]
+fn help_to_an_output_that_fails(rt: HostRuntime) -> Result<(), Fail> {
+    assert_unwritten(&rt, rt.alloc(), &["--help"], b"".as_slice())?;
     Ok(())
 }
 
@@ -458,10 +526,7 @@ fn small_traces_of_each_policy(rt: HostRuntime) -> Result<(), Fail> {
         ),
     ];
     for (words, input, rows) in table {
-        let run = called(&rt, rt.alloc(), words, input)?;
-        let text = format!(in rt.alloc(); "{HEADER}{rows}")?;
-        assert_eq!(rt; run.out.as_slice(), text.as_bytes(), "of {input:?}");
-        assert_eq!(rt; run.status, 0);
+        assert_report(&rt, rt.alloc(), words, input, rows)?;
     }
     Ok(())
 }
@@ -470,30 +535,14 @@ const WORDS: [&str; 4] = ["run", "--capacity", "3", "lru"];
 
 #[test]
 fn a_broken_input_is_told(rt: HostRuntime) -> Result<(), Fail> {
-    let run = called_on(&rt, rt.alloc(), &WORDS, &mut Broken)?;
-    assert_eq!(rt; run.status, 1);
-    assert!(rt; run.out.is_empty());
-    assert_eq!(rt; run.fault.as_slice(), b"fault: Read\n".as_slice());
+    let told = fault("fault: Read\n");
+    assert_call(&rt, rt.alloc(), &WORDS, &mut Broken, &Nowhere, &told)?;
     Ok(())
 }
 
 #[test]
 fn a_broken_output_is_told(rt: HostRuntime) -> Result<(), Fail> {
-    let mut fault = Vec::with_capacity(rt.alloc(), ROOM)?;
-    let mut input = b"1\n".as_slice();
-    let status = command(
-        &rt,
-        rt.alloc(),
-        &WORDS,
-        &mut input,
-        &mut Broken,
-        &mut fault,
-        &Nowhere,
-    );
-    let out = Vec::new(rt.alloc());
-    let run = Run { status, out, fault }.told()?;
-    assert_eq!(rt; run.status, 1);
-    assert_eq!(rt; run.fault.as_slice(), b"fault: Write\n".as_slice());
+    assert_unwritten(&rt, rt.alloc(), &WORDS, b"1\n".as_slice())?;
     Ok(())
 }
 

@@ -1,13 +1,9 @@
 //! The subcommands `debug` and `replay`, over a file in memory and files of this machine.
-use super::{Broken, ROOM, ROUND, Run};
+use super::{Broken, ROUND, assert_call, done, fault};
 use crate::HostFiles;
-use crate::command::command;
 use crate::files::{FileFault, Files};
-use std::alloc::{AllocError, Global};
-use std::io::Read;
-use std::sync::Wait;
+use std::alloc::Global;
 use std::test::Fail;
-use std::thread::Threads;
 
 /// One file, at the path `file`.
 #[derive(Drop)]
@@ -29,23 +25,6 @@ impl<'a> Files for Shelf<'a> {
             Err(_) => Err(FileFault::OutOfMemory),
         }
     }
-}
-
-// The program over files and commands. What it answered before an allocation failed does not count.
-fn answered<T: Threads + Wait + Sync, R: Read, F: Files>(
-    rt: &T,
-    alloc: Global,
-    words: &[&str],
-    files: &F,
-    commands: &mut R,
-) -> Result<Run, AllocError> {
-    let mut out = Vec::with_capacity(alloc, ROOM)?;
-    let mut fault = Vec::with_capacity(alloc, ROOM)?;
-    let status = command(rt, alloc, words, commands, &mut out, &mut fault, files);
-    if fault.as_slice() == b"fault: OutOfMemory\n".as_slice() {
-        return Err(AllocError);
-    }
-    Ok(Run { status, out, fault })
 }
 
 const DEBUG: [&str; 9] = [
@@ -122,10 +101,8 @@ fn commands_about_a_file_are_answered(rt: HostRuntime) -> Result<(), Fail> {
     ];
     for (words, text, commands, answers) in table {
         let files = Shelf { text };
-        let run = answered(&rt, rt.alloc(), words, &files, &mut commands.as_bytes())?;
-        assert_eq!(rt; run.out.as_slice(), answers.as_bytes());
-        assert_eq!(rt; run.status, 0);
-        assert!(rt; run.fault.is_empty());
+        let mut input = commands.as_bytes();
+        assert_call(&rt, rt.alloc(), words, &mut input, &files, &done(answers))?;
     }
     Ok(())
 }
@@ -176,10 +153,8 @@ fn a_faulty_file_is_told_in_one_line(rt: HostRuntime) -> Result<(), Fail> {
     ];
     for (words, text, line) in table {
         let files = Shelf { text };
-        let run = answered(&rt, rt.alloc(), words, &files, &mut b"show\n".as_slice())?;
-        assert_eq!(rt; run.fault.as_slice(), line.as_bytes());
-        assert_eq!(rt; run.status, 1);
-        assert!(rt; run.out.is_empty());
+        let mut input = b"show\n".as_slice();
+        assert_call(&rt, rt.alloc(), words, &mut input, &files, &fault(line))?;
     }
     Ok(())
 }
@@ -196,22 +171,13 @@ fn files_of_this_machine(rt: HostRuntime) -> Result<(), Fail> {
     let files = HostFiles { rt: &rt };
     let mut commands = b"part\nrun\n".as_slice();
     let empty = debug_of("/dev/null");
-    let run = answered(&rt, rt.alloc(), &empty, &files, &mut commands)?;
-    assert_eq!(rt;
-        run.out.as_slice(),
-        b"part none\nfault: PastEnd\n".as_slice()
-    );
-    assert_eq!(rt; run.status, 0);
+    let answers = done("part none\nfault: PastEnd\n");
+    assert_call(&rt, rt.alloc(), &empty, &mut commands, &files, &answers)?;
+    let no_file = fault("fault: NoFile\n");
     for path in ["/nowhere/at/all", "/"] {
         let words = debug_of(path);
-        let run = answered(&rt, rt.alloc(), &words, &files, &mut b"part\n".as_slice())?;
-        assert_eq!(rt;
-            run.fault.as_slice(),
-            b"fault: NoFile\n".as_slice(),
-            "{path}"
-        );
-        assert_eq!(rt; run.status, 1);
-        assert!(rt; run.out.is_empty());
+        let mut input = b"part\n".as_slice();
+        assert_call(&rt, rt.alloc(), &words, &mut input, &files, &no_file)?;
     }
     Ok(())
 }
@@ -219,13 +185,12 @@ fn files_of_this_machine(rt: HostRuntime) -> Result<(), Fail> {
 #[test]
 fn commands_that_cannot_be_read(rt: HostRuntime) -> Result<(), Fail> {
     let files = Shelf { text: "1\n2\n" };
-    let run = answered(&rt, rt.alloc(), &DEBUG, &files, &mut Broken)?;
-    assert_eq!(rt; run.fault.as_slice(), b"fault: Read\n".as_slice());
-    assert_eq!(rt; run.status, 1);
+    let unread = fault("fault: Read\n");
+    assert_call(&rt, rt.alloc(), &DEBUG, &mut Broken, &files, &unread)?;
     let mut blank = vec![in rt.alloc(); b' '; 1_048_577]?;
     blank[0] = b'\n';
-    let run = answered(&rt, rt.alloc(), &DEBUG, &files, &mut blank.as_slice())?;
-    assert_eq!(rt; run.fault.as_slice(), b"fault: TooLarge\n".as_slice());
-    assert_eq!(rt; run.status, 1);
+    let mut input = blank.as_slice();
+    let large = fault("fault: TooLarge\n");
+    assert_call(&rt, rt.alloc(), &DEBUG, &mut input, &files, &large)?;
     Ok(())
 }

@@ -1,5 +1,7 @@
-use Rattle.std.proofs.Common.{◌≡◌, ◌≤◌, ◌∙◌, ap, subst, sym, arith, List, length, map, Option, Some, None}
-use Rattle.std.specs.Prelude.{IfSome}
+use Rattle.std.proofs.Common.{◌≡◌, ◌≤◌, ◌∙◌, ap, subst, sym, arith, List, length, map, None, Result, Ok, Err}
+use Rattle.std.specs.Prelude.{IfOk, IsOkAnd}
+use Rattle.std.proofs.lemmas.Option.{IfSome_then}
+use Rattle.std.proofs.lemmas.Result.{IfErr-weaker, on_ok_weaker}
 use Rattle.step_record.specs.History.{IsLegal}
 use Rattle.shell_model.specs.Shell.{Shell, act}
 use Rattle.shell_model.specs.Reached.{worker_of}
@@ -7,6 +9,7 @@ use Rattle.step_record.specs.declared.step.Call.{Call}
 use Rattle.step_record.specs.declared.step.Reply.{Reply}
 use Rattle.step_record.specs.declared.step.Step.{Step}
 use Rattle.step_record.specs.declared.worker.TheConstants.{MAX_WORKERS}
+use Rattle.trace_read.specs.Reading.{keys_in}
 use Rattle.journal.specs.Session.{SessionState}
 use Rattle.drive.specs.DriveFaults.{LeavesFault}
 use Rattle.drive.specs.declared.driving.DriveFault.{DriveFault}
@@ -23,33 +26,32 @@ could_begin (Held w s) pieces session left some few free = absurd (cc (sym (ap w
 could_begin (OutOfMemory s) pieces session left some few free = tt
 could_begin (Stopped s lists cause) pieces session left some few free = tt
 
-weaker : {A : Type 0} (o : Option A) (P Q : A → Type 0) → ((a : A) → P a → Q a) → IfSome o P → IfSome o Q
-weaker None P Q f h = tt
-weaker (Some a) P Q f h = f a h
+-- what follows from what is said of the value in an `Ok`
+held : {X Y G : Type 0} (r : Result X Y) {P Q R : X → Type 0} → IsOkAnd r P → IfOk r Q → IfOk r R → ((x : X) → P x → Q x → R x → G) → G
+held (Ok x) p q r then = then x p q r
+held (Err e) p q r then = absurd p
 
-pub returns-in-Ok : goal.returns-in-Ok
-returns-in-Ok g c =
+pub returns : goal.returns
+returns g c =
     let first = c.in_ok-session.ensures.first in
     let workers = c.args.arguments.now.workers in
-    let kept = c.in-Ok.driven.session.kept in
     let stripes = ap (λ x. x.config.stripes) (first.same ∙ first.opened.is) in
-    let walked = reads_walked workers c.in_ok-session.session.engine.config.stripes c.keys.result.now _ c.in_ok-session.session c.in-Ok.driven.session _ c.in_ok-pieces.ensures first.none c.in-Ok.ensures.run in
-    let walks = subst (λ n. AreOfReads workers n c.keys.result.now kept) stripes walked in
-    record {
-      faultless = weaker (g.R.Read.remaining c.args.input.now) _ _ (λ bytes h. h.1) c.in_ok-trace.ensures.ok;
+    let input = g.R.Read.remaining c.args.input.now in
+    on_ok_weaker c.end.result (λ done. held c.drive-run.result done c.drive-run.ensures.run c.drive-run.ensures.legal (λ driven written run legal. record {
+      faultless = IfSome_then input c.in_ok-pieces.ensures.dealt (λ bytes h. h.0);
       opening = c.in_ok-session.session.opening;
-      opened = c.in_ok-session.ensures.first.opened;
-      steps = c.in-Ok.driven.session.kept;
-      legal = subst (λ o. IsLegal act o c.in-Ok.driven.session.kept) c.in-Ok.ensures.run.opening c.in-Ok.ensures.legal;
-      walks = weaker (g.R.Read.remaining c.args.input.now) _ _
-          (λ bytes h. subst (λ keys. AreOfReads workers c.args.arguments.now.config.stripes keys kept) (c.keys.ensures.keys ∙ h.2) walks) c.in_ok-trace.ensures.ok;
-      written = c.in_ok-write_journal-in-Ok.ensures.text;
-    }
+      opened = first.opened;
+      steps = driven.session.kept;
+      legal = subst (λ o. IsLegal act o driven.session.kept) run.opening legal;
+      walks = IfSome_then input c.in_ok-pieces.ensures.dealt
+          (λ bytes h. subst (λ n. AreOfReads workers n (keys_in c.args.arguments.now.format bytes) driven.session.kept) stripes (reads_walked workers c.in_ok-session.session.engine.config.stripes (keys_in c.args.arguments.now.format bytes) _ c.in_ok-session.session driven.session _ h.1 first.none run));
+      written = written;
+    })) c.end.ensures
 
-pub failed-requires : goal.failed-requires
-failed-requires g c =
+pub end-requires : goal.end-requires
+end-requires g c =
     let first = c.in_ok-session.ensures.first in
     let pieces = map (λ p. p.items) c.in_ok-pieces.pieces.items in
     let n : length pieces ≡ c.args.arguments.now.workers = c.in_ok-pieces.ensures.many in
-    could_begin c.in-Err.fault pieces c.in_ok-session.session c.in-Err.ensures.fault (omega (n, c.requires.some, arith))
-    (omega (n, c.requires.few, arith)) (ap (λ x. x.holder) (first.same ∙ first.opened.is))
+    IfErr-weaker c.drive-run.result _ _ (λ fault left. could_begin fault pieces c.in_ok-session.session left (omega (n, c.requires.some, arith))
+    (omega (n, c.requires.few, arith)) (ap (λ x. x.holder) (first.same ∙ first.opened.is))) c.drive-run.ensures.fault
