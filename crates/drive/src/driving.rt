@@ -112,7 +112,8 @@ pub fn drive<G: Gate, R: Threads + Wait + Sync>(
             handed(session, lists, fault)
         }
         Err(OpenFault::OutOfMemory(session)) => Err(DriveFault::OutOfMemory { session }),
-        Err(_) => unreachable!(),
+        Err(OpenFault::Workers(_)) => unreachable!(),
+        Err(OpenFault::Turns(_)) => unreachable!(),
     }
 }
 

@@ -1,6 +1,8 @@
-use Rattle.std.proofs.Common.{rules, arith, ◌≤◌, map, vec_items, length, refl, sym, ap, subst, ◌∙◌}
+use Rattle.std.proofs.Common.{rules, arith, ◌≤◌, ◌<◌, map, vec_items, length, refl, sym, ap, subst, ◌∙◌}
 use Rattle.std.proofs.lemmas.List.{length-map}
 use Rattle.step_record.specs.declared.worker.TheConstants.{MAX_WORKERS}
+use Rattle.turn_book.specs.Faults.{IsOpenCause}
+use Rattle.turn_book.specs.declared.book.TheConstants.{MAX_TURNS}
 use Rattle.drive.specs.Walks.{AreWalks}
 use Rattle.drive.specs.Made.{BeginWalks}
 use Rattle.drive.specs.Driven.{IsRun}
@@ -91,3 +93,16 @@ run_book-session-requires-clause-admits g c κs within = λ w.
     let stood = c.engine-shell.ensures.engine ∙ c.engine-shell.ensures.sound.stands ∙ ap (λ s. after act s.opening s.kept) (sym c.in-Ok-open.ensures.opens.0) in
     subst (λ y. AdmitsWalks act (λ z. z.applied) w c.stripes-stripes.result y) stood
     (shell_admits c.engine-shell.result.now w c.stripes-stripes.result c.stripes-stripes.ensures.range.0 c.stripes-stripes.ensures.reached free c.stripes-stripes.ensures.count)
+
+pub unreachable-requires : goal.unreachable-requires
+unreachable-requires g c =
+    let some : 1 ≤ c.len-workers.result = search rules in
+    let few : c.len-workers.result ≤ MAX_WORKERS = search rules in
+    let cause = subst (λ f. IsOpenCause f c.len-workers.result MAX_TURNS) c.in-Err-Workers.field-0-is c.in-Err-Workers.ensures.cause in
+    absurd (omega (cause some, few, arith))
+
+pub unreachable-requires-in-Err-Turns : goal.unreachable-requires-in-Err-Turns
+unreachable-requires-in-Err-Turns g c =
+    let cause = subst (λ f. IsOpenCause f c.len-workers.result MAX_TURNS) c.in-Err-Turns.field-0-is c.in-Err-Turns.ensures.cause in
+    let much : MAX_TURNS < MAX_TURNS = cause.2 (omega arith) in
+    absurd (omega (much, arith))
