@@ -50,10 +50,23 @@ fn said_of(alloc: Global, session: &mut Session<Shell>, commands: &[u8]) -> Resu
     Ok(out)
 }
 
-// What the debugger writes of the journal.
+// What the debugger writes of a journal.
 fn said(alloc: Global, capacity: u32, text: &str, commands: &[u8]) -> Result<Vec<u8>, Fail> {
     let mut session = session_of(alloc, capacity, text)?;
     said_of(alloc, &mut session, commands)
+}
+
+// Sees that it writes this text.
+fn assert_said(
+    rt: &impl Abort,
+    alloc: Global,
+    (capacity, journal): (u32, &str),
+    commands: &[u8],
+    text: &str,
+) -> Result<(), Fail> {
+    let out = said(alloc, capacity, journal, commands)?;
+    assert_eq!(rt; out.as_slice(), text.as_bytes());
+    Ok(())
 }
 
 #[test]
@@ -76,9 +89,7 @@ end
 at 9
 fault: PastEnd
 ";
-    let out = said(rt.alloc(), 8, JOURNAL, commands.as_slice())?;
-    assert_eq!(rt; out.as_slice(), text.as_bytes());
-    Ok(())
+    assert_said(&rt, rt.alloc(), (8, JOURNAL), commands.as_slice(), text)
 }
 
 const LOSSES: &str = "cachesim journal 1
@@ -106,18 +117,14 @@ steps 8
 fn breakpoints_of_a_journal(rt: HostRuntime) -> Result<(), Fail> {
     let commands = b"goto 0\nbreak drop\nbreak hit 1\nrun\nrun\nrun\nrun\n";
     let text = "at 0\nok\nok\nstop drop\nat 3\nstop hit\nat 4\nstop hit\nat 5\nfault: PastEnd\n";
-    let out = said(rt.alloc(), 8, LOSSES, commands.as_slice())?;
-    assert_eq!(rt; out.as_slice(), text.as_bytes());
-    Ok(())
+    assert_said(&rt, rt.alloc(), (8, LOSSES), commands.as_slice(), text)
 }
 
 #[test]
 fn an_evicted_key_is_named_whatever_the_table_has(rt: HostRuntime) -> Result<(), Fail> {
     let commands = b"goto 0\nbreak evict 2\nbreak evict 1\nrun\nrun\n";
     let text = "at 0\nok\nok\nstop evict\nat 8\nfault: PastEnd\n";
-    let out = said(rt.alloc(), 1, EVICTION, commands.as_slice())?;
-    assert_eq!(rt; out.as_slice(), text.as_bytes());
-    Ok(())
+    assert_said(&rt, rt.alloc(), (1, EVICTION), commands.as_slice(), text)
 }
 
 #[test]
@@ -132,9 +139,7 @@ at 0
 cachesim journal 2
 steps 0
 ";
-    let out = said(rt.alloc(), 8, LOSSES, commands.as_slice())?;
-    assert_eq!(rt; out.as_slice(), text.as_bytes());
-    Ok(())
+    assert_said(&rt, rt.alloc(), (8, LOSSES), commands.as_slice(), text)
 }
 
 // An input or an output of one byte at a call: it is interrupted so often first, and fails once so many calls passed.
@@ -212,20 +217,31 @@ fn walk(
     Ok(answer)
 }
 
+// Sees what such a walk is answered, and how many steps are applied and undone where it leaves the session.
+fn assert_walk(
+    rt: &impl Abort,
+    alloc: Global,
+    session: &mut Session<Shell>,
+    (commands, answers): ((&[u8], usize), (&[u8], usize)),
+    (wanted, place): (Result<(), DebugFault>, (usize, usize)),
+) -> Result<(), Fail> {
+    let answer = walk(rt, alloc, session, commands, answers)?;
+    assert_eq!(rt; answer, wanted);
+    assert_eq!(rt; (session.len(), session.ahead()), place);
+    Ok(())
+}
+
 // The session stands where the commands left it, also behind a fault, and no step is lost.
 fn walk_about(rt: &impl Abort, alloc: Global, session: &mut Session<Shell>) -> Result<(), Fail> {
     let done: (&[u8], usize) = (b"back 3\nquit\nback 1\n", ROOM);
-    assert_eq!(rt; walk(rt, alloc, session, done, (b"at 6\n", ROOM))?, Ok(()));
-    assert_eq!(rt; (session.len(), session.ahead()), (6, 3));
+    let ends = (done, (b"at 6\n".as_slice(), ROOM));
+    assert_walk(rt, alloc, session, ends, (Ok(()), (6, 3)))?;
     let cut: (&[u8], usize) = (b"step 1\nback", 11);
-    let answer = walk(rt, alloc, session, cut, (b"at 7\n", ROOM))?;
-    assert_eq!(rt; answer, Err(DebugFault::Read));
-    assert_eq!(rt; (session.len(), session.ahead()), (7, 2));
+    let ends = (cut, (b"at 7\n".as_slice(), ROOM));
+    assert_walk(rt, alloc, session, ends, (Err(DebugFault::Read), (7, 2)))?;
     let unanswered: (&[u8], usize) = (b"back 5\n", ROOM);
-    let answer = walk(rt, alloc, session, unanswered, (b"", 0))?;
-    assert_eq!(rt; answer, Err(DebugFault::Write));
-    assert_eq!(rt; (session.len(), session.ahead()), (2, 7));
-    Ok(())
+    let ends = (unanswered, (b"".as_slice(), 0));
+    assert_walk(rt, alloc, session, ends, (Err(DebugFault::Write), (2, 7)))
 }
 
 #[test]
@@ -359,13 +375,21 @@ fn assert_long(
     Ok(())
 }
 
+// Sees it of a session of its own, with so many blanks.
+fn assert_blanks(
+    rt: &impl Abort,
+    alloc: Global,
+    blanks: usize,
+    wanted: Result<(), DebugFault>,
+) -> Result<(), Fail> {
+    let commands = long_commands(alloc, blanks)?;
+    let mut session = session_of(alloc, 8, JOURNAL)?;
+    assert_long(rt, alloc, &mut session, commands.as_slice(), wanted)
+}
+
 // The limit is 2^20 bytes.
 #[test]
 fn a_line_past_the_limit_is_too_large(rt: HostRuntime) -> Result<(), Fail> {
-    for (blanks, answer) in [(1_048_569, Ok(())), (1_048_570, Err(DebugFault::TooLarge))] {
-        let commands = long_commands(rt.alloc(), blanks)?;
-        let mut session = session_of(rt.alloc(), 8, JOURNAL)?;
-        assert_long(&rt, rt.alloc(), &mut session, commands.as_slice(), answer)?;
-    }
-    Ok(())
+    assert_blanks(&rt, rt.alloc(), 1_048_569, Ok(()))?;
+    assert_blanks(&rt, rt.alloc(), 1_048_570, Err(DebugFault::TooLarge))
 }

@@ -3,6 +3,7 @@ use super::*;
 use policy_actors::ActorFault;
 use std::alloc::Global;
 use std::io::{Error, ErrorKind, Read, Write};
+use std::process::Abort;
 use std::test::Fail;
 use step_record::{Config, Job, Key, Policy, Spread, Trace};
 
@@ -35,6 +36,18 @@ fn part_of(alloc: Global, keys: &[Key], first: &Job, second: &Job) -> Result<Opt
     }
 }
 
+fn assert_part(
+    rt: &impl Abort,
+    alloc: Global,
+    keys: &[Key],
+    (first, second): (&Job, &Job),
+    wanted: Option<u64>,
+) -> Result<(), Fail> {
+    let found = part_of(alloc, keys, first, second)?;
+    assert_eq!(rt; found, wanted, "over {keys:?}");
+    Ok(())
+}
+
 #[test]
 fn the_first_access_at_which_just_one_hits(rt: HostRuntime) -> Result<(), Fail> {
     let alloc = rt.alloc();
@@ -42,22 +55,14 @@ fn the_first_access_at_which_just_one_hits(rt: HostRuntime) -> Result<(), Fail> 
     let segmented = job(Policy::SegmentedLru, 2);
     let optimal = job(Policy::Clairvoyant, 2);
     // At the fifth access Lru holds 2 and 3; SegmentedLru protected 1 at the second, and holds 3 and 1.
-    assert_eq!(rt;
-        part_of(alloc, &[1, 1, 2, 3, 1], &lru, &segmented)?,
-        Some(5)
-    );
-    assert_eq!(rt;
-        part_of(alloc, &[1, 1, 2, 3, 1], &segmented, &lru)?,
-        Some(5)
-    );
+    let keys = [1, 1, 2, 3, 1];
+    assert_part(&rt, alloc, &keys, (&lru, &segmented), Some(5))?;
+    assert_part(&rt, alloc, &keys, (&segmented, &lru), Some(5))?;
     // The optimal policy rejects 3 and hits 1 and 2, of which Lru evicts 1 for 3 and 2 for 1.
-    assert_eq!(rt; part_of(alloc, &[1, 2, 3, 1, 2], &lru, &optimal)?, Some(4));
+    assert_part(&rt, alloc, &[1, 2, 3, 1, 2], (&lru, &optimal), Some(4))?;
     // Two capacities of one policy: 2 evicts 1 where there is room for one key.
-    assert_eq!(rt;
-        part_of(alloc, &[1, 2, 1], &job(Policy::Lru, 1), &lru)?,
-        Some(3)
-    );
-    Ok(())
+    let small = job(Policy::Lru, 1);
+    assert_part(&rt, alloc, &[1, 2, 1], (&small, &lru), Some(3))
 }
 
 #[test]
@@ -66,12 +71,11 @@ fn policies_that_never_part(rt: HostRuntime) -> Result<(), Fail> {
     let lru = job(Policy::Lru, 2);
     let optimal = job(Policy::Clairvoyant, 2);
     // No key comes twice, so that neither hits; the two evict other keys.
-    assert_eq!(rt; part_of(alloc, &[1, 2, 3, 4], &lru, &optimal)?, None);
+    assert_part(&rt, alloc, &[1, 2, 3, 4], (&lru, &optimal), None)?;
     // Both hit at the second access and miss at all others.
-    assert_eq!(rt; part_of(alloc, &[1, 1, 2, 3], &lru, &optimal)?, None);
-    assert_eq!(rt; part_of(alloc, &[], &lru, &optimal)?, None);
-    assert_eq!(rt; part_of(alloc, &[1, 1, 2, 3, 1], &lru, &lru)?, None);
-    Ok(())
+    assert_part(&rt, alloc, &[1, 1, 2, 3], (&lru, &optimal), None)?;
+    assert_part(&rt, alloc, &[], (&lru, &optimal), None)?;
+    assert_part(&rt, alloc, &[1, 1, 2, 3, 1], (&lru, &lru), None)
 }
 
 #[test]
@@ -110,11 +114,24 @@ fn said_of(
     }
 }
 
-// What it writes of the trace 1 1 2 3 1 at capacity 2, with lru as `a` and slru as `b`.
-fn said(alloc: Global, commands: &[u8]) -> Result<Vec<u8>, Fail> {
-    let lru = job(Policy::Lru, 2);
-    let segmented = job(Policy::SegmentedLru, 2);
-    said_of(alloc, &[1, 1, 2, 3, 1], &lru, &segmented, commands)
+// Sees that it writes this text.
+fn assert_said_of(
+    rt: &impl Abort,
+    alloc: Global,
+    keys: &[Key],
+    (first, second): (&Job, &Job),
+    (commands, text): (&[u8], &[u8]),
+) -> Result<(), Fail> {
+    let out = said_of(alloc, keys, first, second, commands)?;
+    assert_eq!(rt; out.as_slice(), text);
+    Ok(())
+}
+
+// Sees what it writes of the trace 1 1 2 3 1 at capacity 2, with lru as `a` and slru as `b`.
+fn assert_said(rt: &impl Abort, alloc: Global, commands: &[u8], text: &[u8]) -> Result<(), Fail> {
+    let (lru, segmented) = (job(Policy::Lru, 2), job(Policy::SegmentedLru, 2));
+    let dialogue = (commands, text);
+    assert_said_of(rt, alloc, &[1, 1, 2, 3, 1], (&lru, &segmented), dialogue)
 }
 
 #[test]
@@ -135,9 +152,7 @@ at 5
 fault: PastEnd
 fault: Command
 ";
-    let out = said(rt.alloc(), commands.as_slice())?;
-    assert_eq!(rt; out.as_slice(), text.as_bytes());
-    Ok(())
+    assert_said(&rt, rt.alloc(), commands.as_slice(), text.as_bytes())
 }
 
 // Lru hits at 2, and evicts 1 at 4 and 2 at 5; SegmentedLru hits at 2 and 5, and evicts 2 at 4. At 5 two breakpoints
@@ -158,9 +173,7 @@ at 0
 end
 at 5
 ";
-    let out = said(rt.alloc(), commands.as_slice())?;
-    assert_eq!(rt; out.as_slice(), text.as_bytes());
-    Ok(())
+    assert_said(&rt, rt.alloc(), commands.as_slice(), text.as_bytes())
 }
 
 // A sketch for one entry is halved at the tenth record. The position before it is the tenth step's start.
@@ -169,27 +182,29 @@ fn a_breakpoint_at_a_halving(rt: HostRuntime) -> Result<(), Fail> {
     let commands = b"break halve\nrun\nback 1\nrun\nrun\n";
     let text = "ok\nstop halve\nat 10\nat 9\nstop halve\nat 10\nend\nat 12\n";
     let (lru, window) = (job(Policy::Lru, 1), job(Policy::WindowTinyLfu, 1));
-    let out = said_of(rt.alloc(), &[1; 12], &lru, &window, commands.as_slice())?;
-    assert_eq!(rt; out.as_slice(), text.as_bytes());
-    let out = said_of(rt.alloc(), &[1; 12], &window, &lru, commands.as_slice())?;
-    assert_eq!(rt; out.as_slice(), text.as_bytes());
-    Ok(())
+    let dialogue = (commands.as_slice(), text.as_bytes());
+    assert_said_of(&rt, rt.alloc(), &[1; 12], (&lru, &window), dialogue)?;
+    assert_said_of(&rt, rt.alloc(), &[1; 12], (&window, &lru), dialogue)
+}
+
+// A line 64 times, and what lies behind it.
+fn sixty_four(alloc: Global, line: &[u8], rest: &[u8]) -> Result<Vec<u8>, Fail> {
+    let mut text = Vec::new(alloc);
+    for _ in 0..64 {
+        text.extend_from_slice(line)?;
+    }
+    text.extend_from_slice(rest)?;
+    Ok(text)
 }
 
 // Behind a 65th breakpoint that was not kept there is room for 64 again.
 #[test]
 fn sixty_four_breakpoints(rt: HostRuntime) -> Result<(), Fail> {
-    let mut commands = Vec::new(rt.alloc());
-    let mut text = Vec::new(rt.alloc());
-    for _ in 0..64 {
-        commands.extend_from_slice(b"break hit 7\n")?;
-        text.extend_from_slice(b"ok\n")?;
-    }
-    commands.extend_from_slice(b"break hit 1\nrun\nclear\nbreak hit 1\ngoto 0\nrun")?;
-    text.extend_from_slice(b"fault: Breaks\nend\nat 5\nok\nok\nat 0\nstop hit\nat 2\n")?;
-    let out = said(rt.alloc(), commands.as_slice())?;
-    assert_eq!(rt; out.as_slice(), text.as_slice());
-    Ok(())
+    let rest = b"break hit 1\nrun\nclear\nbreak hit 1\ngoto 0\nrun";
+    let commands = sixty_four(rt.alloc(), b"break hit 7\n", rest)?;
+    let rest = b"fault: Breaks\nend\nat 5\nok\nok\nat 0\nstop hit\nat 2\n";
+    let text = sixty_four(rt.alloc(), b"ok\n", rest)?;
+    assert_said(&rt, rt.alloc(), commands.as_slice(), text.as_slice())
 }
 
 // An input or an output of one byte at a call: it is interrupted so often first, and fails once so many calls passed.
@@ -276,75 +291,129 @@ fn pipe_of(alloc: Global, passes: usize) -> Result<Pipe<'static>, Fail> {
     Ok(Pipe::of(COMMANDS, Vec::with_capacity(alloc, ROOM)?, passes))
 }
 
+// How often the input, and the output, is interrupted before its first call goes through.
+#[derive(Clone, Copy, Debug)]
+struct Interruptions {
+    reads: u32,
+    writes: u32,
+}
+
+const NONE: Interruptions = Interruptions {
+    reads: 0,
+    writes: 0,
+};
+
+// Sees what the commands are answered through ends that bear so many calls, and that the front of the answers is
+// written, all of them where there is no fault.
+fn assert_through(
+    rt: &impl Abort,
+    alloc: Global,
+    (reads, writes): (usize, usize),
+    interruptions: Interruptions,
+    wanted: Result<(), DebugFault>,
+) -> Result<(), Fail> {
+    let mut input = pipe_of(alloc, reads)?;
+    let mut output = pipe_of(alloc, writes)?;
+    input.interruptions = interruptions.reads;
+    output.interruptions = interruptions.writes;
+    let answer = answer_through(alloc, &mut input, &mut output)?;
+    assert_eq!(rt;
+        answer,
+        wanted,
+        "{reads} reads, {writes} writes, {interruptions:?}"
+    );
+    assert!(rt; ANSWERS.starts_with(output.taken.as_slice()));
+    assert!(rt; answer.is_err() || output.taken.len() == ANSWERS.len());
+    Ok(())
+}
+
 #[test]
 fn each_read_that_fails_is_reported(rt: HostRuntime) -> Result<(), Fail> {
-    let alloc = rt.alloc();
-    for passes in 0..READS {
-        let mut output = pipe_of(alloc, ROOM)?;
-        let answer = answer_through(alloc, &mut pipe_of(alloc, passes)?, &mut output)?;
-        assert_eq!(rt; answer, Err(DebugFault::Read), "after {passes} reads");
-        assert!(rt; ANSWERS.starts_with(output.taken.as_slice()));
+    for reads in 0..READS {
+        assert_through(&rt, rt.alloc(), (reads, ROOM), NONE, Err(DebugFault::Read))?;
     }
-    let mut output = pipe_of(alloc, ROOM)?;
-    let answer = answer_through(alloc, &mut pipe_of(alloc, READS)?, &mut output)?;
-    assert_eq!(rt; answer, Ok(()));
-    assert_eq!(rt; output.taken.as_slice(), ANSWERS);
-    Ok(())
+    assert_through(&rt, rt.alloc(), (READS, ROOM), NONE, Ok(()))
 }
 
 #[test]
 fn each_write_or_flush_that_fails_is_reported(rt: HostRuntime) -> Result<(), Fail> {
-    let alloc = rt.alloc();
-    for passes in 0..WRITES {
-        let mut output = pipe_of(alloc, passes)?;
-        let answer = answer_through(alloc, &mut pipe_of(alloc, READS)?, &mut output)?;
-        assert_eq!(rt; answer, Err(DebugFault::Write), "after {passes} calls");
-        assert!(rt; ANSWERS.starts_with(output.taken.as_slice()));
+    for writes in 0..WRITES {
+        assert_through(
+            &rt,
+            rt.alloc(),
+            (READS, writes),
+            NONE,
+            Err(DebugFault::Write),
+        )?;
     }
-    let answer = answer_through(
-        alloc,
-        &mut pipe_of(alloc, READS)?,
-        &mut pipe_of(alloc, WRITES)?,
-    )?;
-    assert_eq!(rt; answer, Ok(()));
-    Ok(())
+    assert_through(&rt, rt.alloc(), (READS, WRITES), NONE, Ok(()))
 }
 
 #[test]
 fn the_millionth_interruption_is_a_failure(rt: HostRuntime) -> Result<(), Fail> {
-    let alloc = rt.alloc();
     for (reads, writes, answer) in [
         (999_999, 999_999, Ok(())),
         (1_000_000, 0, Err(DebugFault::Read)),
         (0, 1_000_000, Err(DebugFault::Write)),
     ] {
-        let mut input = pipe_of(alloc, READS)?;
-        let mut output = pipe_of(alloc, WRITES)?;
-        input.interruptions = reads;
-        output.interruptions = writes;
-        assert_eq!(rt; answer_through(alloc, &mut input, &mut output)?, answer);
+        let interruptions = Interruptions { reads, writes };
+        assert_through(&rt, rt.alloc(), (READS, WRITES), interruptions, answer)?;
     }
+    Ok(())
+}
+
+// A command, and a line of blanks behind it.
+fn long_commands(alloc: Global, blanks: usize) -> Result<Vec<u8>, Fail> {
+    let mut commands = Vec::with_capacity(alloc, blanks)?;
+    commands.extend_from_slice(b"goto 2\n")?;
+    for _ in 0..blanks {
+        commands.push(b' ')?;
+    }
+    Ok(commands)
+}
+
+// Sees what long commands are answered, and that the lines before the one that is too large are answered.
+fn assert_long(
+    rt: &impl Abort,
+    alloc: Global,
+    trace: &Trace,
+    commands: &[u8],
+    wanted: Result<(), DebugFault>,
+) -> Result<(), Fail> {
+    let lru = job(Policy::Lru, 2);
+    let mut out = Vec::with_capacity(alloc, ROOM)?;
+    let mut rest = commands;
+    match run_debug(alloc, trace, &lru, &lru, &mut rest, &mut out) {
+        Err(DebugFault::OutOfMemory) => return Err(Fail::from("out of memory")),
+        answer => assert_eq!(rt; answer, wanted),
+    }
+    assert_eq!(rt; out.as_slice(), b"at 2\n".as_slice());
     Ok(())
 }
 
 // The limit is 2^20 bytes; the lines before the one that passes it are answered.
 #[test]
 fn a_line_past_the_limit_is_too_large(rt: HostRuntime) -> Result<(), Fail> {
-    let alloc = rt.alloc();
-    let trace = trace_of(alloc, &[1, 1, 2, 3, 1])?;
-    let lru = job(Policy::Lru, 2);
     for (blanks, answer) in [(1_048_569, Ok(())), (1_048_570, Err(DebugFault::TooLarge))] {
-        let mut commands = Vec::new(alloc);
-        commands.extend_from_slice(b"goto 2\n")?;
-        commands.extend_from_slice(vec![in alloc; b' '; blanks]?.as_slice())?;
-        let mut out = Vec::with_capacity(alloc, ROOM)?;
-        let mut rest = commands.as_slice();
-        match run_debug(alloc, &trace, &lru, &lru, &mut rest, &mut out) {
-            Err(DebugFault::OutOfMemory) => return Err(Fail::from("out of memory")),
-            said => assert_eq!(rt; said, answer, "with {blanks} blanks"),
-        }
-        assert_eq!(rt; out.as_slice(), b"at 2\n".as_slice());
+        let commands = long_commands(rt.alloc(), blanks)?;
+        let trace = trace_of(rt.alloc(), &[1, 1, 2, 3, 1])?;
+        assert_long(&rt, rt.alloc(), &trace, commands.as_slice(), answer)?;
     }
+    Ok(())
+}
+
+// Sees that a configuration is refused, by ends of which each call would fail.
+fn assert_refused(
+    rt: &impl Abort,
+    alloc: Global,
+    trace: &Trace,
+    (first, second): (&Job, &Job),
+    index: usize,
+) -> Result<(), Fail> {
+    let mut input = pipe_of(alloc, 0)?;
+    let mut output = pipe_of(alloc, 0)?;
+    let refused = run_debug(alloc, trace, first, second, &mut input, &mut output);
+    assert_eq!(rt; refused, Err(DebugFault::Config { index }));
     Ok(())
 }
 
@@ -352,19 +421,10 @@ fn a_line_past_the_limit_is_too_large(rt: HostRuntime) -> Result<(), Fail> {
 fn a_refused_configuration_is_reported_before_anything_is_read(
     rt: HostRuntime,
 ) -> Result<(), Fail> {
-    let alloc = rt.alloc();
-    let trace = trace_of(alloc, &[1, 2])?;
+    let trace = trace_of(rt.alloc(), &[1, 2])?;
     let (good, bad) = (job(Policy::Lru, 2), job(Policy::Lru, 0));
     for (first, second, index) in [(bad, bad, 0), (bad, good, 0), (good, bad, 1)] {
-        let refused = run_debug(
-            alloc,
-            &trace,
-            &first,
-            &second,
-            &mut pipe_of(alloc, 0)?,
-            &mut pipe_of(alloc, 0)?,
-        );
-        assert_eq!(rt; refused, Err(DebugFault::Config { index }));
+        assert_refused(&rt, rt.alloc(), &trace, (&first, &second), index)?;
     }
     Ok(())
 }

@@ -1,8 +1,8 @@
 use super::ends::{Mishaps, Sink, Source};
-use super::text_tests::WRITTEN;
+use super::text_tests::{WRITTEN, assert_reading};
 use super::walking::{CONFIG, ask, opened, read};
 use journal::Session;
-use journal_text::{JournalFault, WriteFault, read_journal, write_journal};
+use journal_text::{JournalFault, WriteFault, write_journal};
 use maintenance::Shell;
 use std::alloc::Global;
 use std::process::Abort;
@@ -12,23 +12,11 @@ use step_record::{Act, Reply};
 // The bytes of the text of a round.
 const WRITTEN_LENGTH: usize = 196;
 
-// Reads a source into a session just opened: the answer, and how many steps are applied then.
-fn reading(
-    rt: &impl Abort,
-    alloc: Global,
-    mut source: Source,
-) -> Result<(Result<(), JournalFault>, usize), Fail> {
-    let mut session = opened(rt, alloc, CONFIG, 9)?;
-    let answer = read_journal(alloc, &mut source, &mut session);
-    Ok((answer, session.len()))
-}
-
 #[test]
 fn the_size_of_the_pieces_read_changes_nothing(rt: HostRuntime) -> Result<(), Fail> {
     for size in [1, 2, 7, 100, 1000] {
-        let source = Source::of(WRITTEN, size, Mishaps::interrupted(3));
-        let read = reading(&rt, rt.alloc(), source)?;
-        assert_eq!(rt; read, (Ok(()), 9), "in pieces of {size}");
+        let mut source = Source::of(WRITTEN, size, Mishaps::interrupted(3));
+        assert_reading(&rt, rt.alloc(), &mut source, (Ok(()), 9), size)?;
     }
     Ok(())
 }
@@ -36,9 +24,9 @@ fn the_size_of_the_pieces_read_changes_nothing(rt: HostRuntime) -> Result<(), Fa
 // Has each read of single bytes fail in turn, the one that would find the end too.
 fn fail_each_read(rt: &impl Abort, alloc: Global, text: &str) -> Result<(), Fail> {
     for failing in 0..text.len() + 1 {
-        let source = Source::of(text, 1, Mishaps::failing_at(failing));
-        let read = reading(rt, alloc, source)?;
-        assert_eq!(rt; read, (Err(JournalFault::Read), 0), "at call {failing}");
+        let mut source = Source::of(text, 1, Mishaps::failing_at(failing));
+        let wanted = (Err(JournalFault::Read), 0);
+        assert_reading(rt, alloc, &mut source, wanted, failing)?;
     }
     Ok(())
 }
@@ -47,24 +35,19 @@ fn fail_each_read(rt: &impl Abort, alloc: Global, text: &str) -> Result<(), Fail
 fn each_failing_read_is_reported_before_any_step(rt: HostRuntime) -> Result<(), Fail> {
     fail_each_read(&rt, rt.alloc(), WRITTEN)?;
     fail_each_read(&rt, rt.alloc(), "no journal\n")?;
-    let past_the_end = Mishaps::failing_at(WRITTEN_LENGTH + 1);
-    let read = reading(&rt, rt.alloc(), Source::of(WRITTEN, 1, past_the_end))?;
-    assert_eq!(rt; read, (Ok(()), 9));
-    Ok(())
+    let past_the_end = WRITTEN_LENGTH + 1;
+    let mut source = Source::of(WRITTEN, 1, Mishaps::failing_at(past_the_end));
+    assert_reading(&rt, rt.alloc(), &mut source, (Ok(()), 9), past_the_end)
 }
 
 #[test]
 fn the_reads_of_a_journal_share_their_interruptions(rt: HostRuntime) -> Result<(), Fail> {
     // Two pieces and the end, each after as many interruptions.
-    for (interruptions, answer, steps) in [
-        (333_333, Ok(()), 9),
-        (333_334, Err(JournalFault::Read), 0),
-    ] {
-        let source = Source::of(WRITTEN, 100, Mishaps::interrupted(interruptions));
-        let read = reading(&rt, rt.alloc(), source)?;
-        assert_eq!(rt; read, (answer, steps), "after {interruptions} each");
-    }
-    Ok(())
+    let mut source = Source::of(WRITTEN, 100, Mishaps::interrupted(333_333));
+    assert_reading(&rt, rt.alloc(), &mut source, (Ok(()), 9), 333_333)?;
+    let mut source = Source::of(WRITTEN, 100, Mishaps::interrupted(333_334));
+    let wanted = (Err(JournalFault::Read), 0);
+    assert_reading(&rt, rt.alloc(), &mut source, wanted, 333_334)
 }
 
 // A writer with room for so many bytes.
@@ -106,13 +89,18 @@ fn write_nothing(rt: &impl Abort, alloc: Global, session: &Session<Shell>) -> Re
     Ok(())
 }
 
+// Has each write fail in turn, the flush, and nothing, and then writes into a sink that takes nothing.
+fn fail_each_write(rt: &impl Abort, alloc: Global, session: &Session<Shell>) -> Result<(), Fail> {
+    for failing in 0..WRITTEN_LENGTH + 2 {
+        fail_write(rt, alloc, session, failing)?;
+    }
+    write_nothing(rt, alloc, session)
+}
+
 #[test]
 fn each_failing_write_is_reported(rt: HostRuntime) -> Result<(), Fail> {
     let session = read(&rt, rt.alloc(), CONFIG, WRITTEN)?;
-    for failing in 0..WRITTEN_LENGTH + 2 {
-        fail_write(&rt, rt.alloc(), &session, failing)?;
-    }
-    write_nothing(&rt, rt.alloc(), &session)
+    fail_each_write(&rt, rt.alloc(), &session)
 }
 
 // A step of the greatest key, and the bytes of its line.
@@ -182,16 +170,15 @@ fn write_each(
     Ok(())
 }
 
-// A session that looked up the greatest key so often.
-fn looked(rt: &impl Abort, alloc: Global) -> Result<Session<Shell>, Fail> {
-    let mut session = opened(rt, alloc, CONFIG, LINES)?;
-    look(rt, &mut session)?;
-    Ok(session)
+// Looks up the greatest key so often, and writes the session.
+fn write_long(rt: &impl Abort, alloc: Global, session: &mut Session<Shell>) -> Result<(), Fail> {
+    look(rt, session)?;
+    let text = long_text(alloc)?;
+    write_each(rt, alloc, session, text.as_slice())
 }
 
 #[test]
 fn a_long_journal_is_written_buffer_by_buffer(rt: HostRuntime) -> Result<(), Fail> {
-    let text = long_text(rt.alloc())?;
-    let session = looked(&rt, rt.alloc())?;
-    write_each(&rt, rt.alloc(), &session, text.as_slice())
+    let mut session = opened(&rt, rt.alloc(), CONFIG, LINES)?;
+    write_long(&rt, rt.alloc(), &mut session)
 }

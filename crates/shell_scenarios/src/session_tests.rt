@@ -75,6 +75,19 @@ fn each_step_of_a_round_shows_and_is_undone(rt: HostRuntime) -> Result<(), Fail>
     visit(&rt, rt.alloc(), &mut session, &ROUND_SHOWN)
 }
 
+// Reads a journal of so many steps, and sees what the shell shows after these numbers of them.
+fn assert_visits(
+    rt: &impl Abort,
+    alloc: Global,
+    config: Config,
+    (journal, steps): (&str, usize),
+    lines: &[(usize, &str)],
+) -> Result<(), Fail> {
+    let mut session = read(rt, alloc, config, journal)?;
+    assert_eq!(rt; session.len(), steps);
+    visit(rt, alloc, &mut session, lines)
+}
+
 const READS: &str = "cachesim journal 2
 0 put 1 = added 0
 0 offer 0 1 0 = kept
@@ -108,14 +121,8 @@ const DROPPED: &str = "Idle next 1 table 1:0 \
 
 #[test]
 fn a_seventeenth_read_is_dropped(rt: HostRuntime) -> Result<(), Fail> {
-    let mut session = read(&rt, rt.alloc(), CONFIG, READS)?;
-    assert_eq!(rt; session.len(), 19);
-    visit(
-        &rt,
-        rt.alloc(),
-        &mut session,
-        &[(19, DROPPED), (17, KEPT), (19, DROPPED)],
-    )
+    let lines = [(19, DROPPED), (17, KEPT), (19, DROPPED)];
+    assert_visits(&rt, rt.alloc(), CONFIG, (READS, 19), &lines)
 }
 
 const LATE_WRITE: &str = "cachesim journal 2
@@ -222,9 +229,8 @@ const UNDRAINED: &str =
 
 #[test]
 fn a_removed_key_comes_back_under_a_new_node(rt: HostRuntime) -> Result<(), Fail> {
-    let mut session = read(&rt, rt.alloc(), CONFIG, REMOVED)?;
     let lines = [(8, DRAINED), (6, UNDRAINED), (8, DRAINED)];
-    visit(&rt, rt.alloc(), &mut session, &lines)
+    assert_visits(&rt, rt.alloc(), CONFIG, (REMOVED, 8), &lines)
 }
 
 const REJECTED: &str = "cachesim journal 2
@@ -269,8 +275,7 @@ fn an_eviction_of_a_removed_item_leaves_the_newer_node(rt: HostRuntime) -> Resul
         capacity: 1,
         ..CONFIG
     };
-    let mut session = read(&rt, rt.alloc(), config, REJECTED)?;
-    visit(&rt, rt.alloc(), &mut session, &REJECTED_SHOWN)
+    assert_visits(&rt, rt.alloc(), config, (REJECTED, 13), &REJECTED_SHOWN)
 }
 
 fn fill_the_write_queue(rt: &impl Abort, session: &mut Session<Shell>) {

@@ -8,9 +8,9 @@ use std::process::Abort;
 use std::test::Fail;
 use step_record::Item;
 
-/// What the readers of a shell show: the state of the maintenance, the next node, each list that
-/// is not empty, the age of the sketch, and each statistic that is not 0.
-pub fn shown(alloc: Global, shell: &Shell) -> Result<String, Fail> {
+// What the readers of a shell show: the state of the maintenance, the next node, each list that is not empty, the age of
+// the sketch, and each statistic that is not 0.
+fn shown(alloc: Global, shell: &Shell) -> Result<String, Fail> {
     let mut text = format!(in alloc; "{:?}", shell.drain())?;
     push_holder(alloc, &mut text, shell)?;
     let table = shell.table(alloc)?;
@@ -28,6 +28,17 @@ pub fn assert_shows(rt: &impl Abort, alloc: Global, shell: &Shell, line: &str) -
     let text = shown(alloc, shell)?;
     assert_eq!(rt; text.as_str(), line);
     Ok(())
+}
+
+/// Sees that two shells show the same.
+pub fn assert_shows_as(
+    rt: &impl Abort,
+    alloc: Global,
+    shell: &Shell,
+    other: &Shell,
+) -> Result<(), Fail> {
+    let line = shown(alloc, other)?;
+    assert_shows(rt, alloc, shell, line.as_str())
 }
 
 // Adds a word and a number.

@@ -1,12 +1,13 @@
 ghost use Rattle.std.specs.Prelude.{◌≡◌, ◌≤◌, []};
 ghost use Rattle.step_record.specs.declared.limits.TheConstants.{MAX_JOURNAL_LIMIT};
 
-use super::showing::{assert_shows, shown};
+use super::showing::{assert_shows, assert_shows_as};
 use super::walking::{CONFIG, opened, read};
 use journal::Session;
 use journal_text::{JournalFault, read_journal, write_journal};
 use maintenance::Shell;
 use std::alloc::Global;
+use std::io::Read;
 use std::process::Abort;
 use std::test::Fail;
 
@@ -52,8 +53,8 @@ steps 6
 // it is written to would answer `Write` where it is out of memory.
 const ROOM: usize = 1 << 19;
 
-/// The journal of a session as text.
-pub fn written(alloc: Global, session: &Session<Shell>) -> Result<Vec<u8>, Fail> {
+// The journal of a session as text.
+fn written(alloc: Global, session: &Session<Shell>) -> Result<Vec<u8>, Fail> {
     let mut text = Vec::with_capacity(alloc, ROOM)?;
     write_journal(alloc, session, &mut text)?;
     Ok(text)
@@ -73,44 +74,47 @@ pub fn assert_read_back(
     let text = written(alloc, session)?;
     let mut reader = text.as_slice();
     read_journal(alloc, &mut reader, fresh)?;
-    let again = written(alloc, fresh)?;
-    assert_eq!(rt; again.as_slice(), text.as_slice());
-    let line = shown(alloc, session.engine())?;
-    let same = shown(alloc, fresh.engine())?;
-    assert_eq!(rt; same.as_str(), line.as_str());
-    Ok(())
+    assert_text(rt, alloc, fresh, text.as_slice())?;
+    assert_shows_as(rt, alloc, fresh.engine(), session.engine())
 }
 
-// Reads a text into a session of this limit: the answer, and how many steps are applied then.
-fn reading(
+// Reads a journal into a session of this limit: the answer, and how many steps are applied then.
+fn reading<R: Read>(
     rt: &impl Abort,
     alloc: Global,
-    text: &[u8],
+    reader: &mut R,
     limit: usize,
 ) -> Result<(Result<(), JournalFault>, usize), Fail>
     requires { (1 ≤ limit) × (limit ≤ MAX_JOURNAL_LIMIT) }
 {
     let mut session = opened(rt, alloc, CONFIG, limit)?;
-    let mut reader = text;
-    let answer = read_journal(alloc, &mut reader, &mut session);
+    let answer = read_journal(alloc, reader, &mut session);
     Ok((answer, session.len()))
+}
+
+/// Reads a journal into a session of at most nine steps, and sees the answer, and how many steps are applied then. A
+/// failure names the case by its number.
+pub fn assert_reading<R: Read>(
+    rt: &impl Abort,
+    alloc: Global,
+    reader: &mut R,
+    wanted: (Result<(), JournalFault>, usize),
+    case: usize,
+) -> Result<(), Fail> {
+    let read = reading(rt, alloc, reader, 9)?;
+    assert_eq!(rt; read, wanted, "case {case}");
+    Ok(())
 }
 
 fn assert_text(
     rt: &impl Abort,
     alloc: Global,
     session: &Session<Shell>,
-    wanted: &str,
+    wanted: &[u8],
 ) -> Result<(), Fail> {
     let text = written(alloc, session)?;
-    assert_eq!(rt; text.as_slice(), wanted.as_bytes());
+    assert_eq!(rt; text.as_slice(), wanted);
     Ok(())
-}
-
-// What a session shows that read a text.
-fn shown_by(rt: &impl Abort, alloc: Global, text: &str) -> Result<String, Fail> {
-    let session = read(rt, alloc, CONFIG, text)?;
-    shown(alloc, session.engine())
 }
 
 // Sees that a session is written so, and that reading the text gives what the session shows.
@@ -120,9 +124,9 @@ fn assert_written(
     session: &Session<Shell>,
     wanted: &str,
 ) -> Result<(), Fail> {
-    assert_text(rt, alloc, session, wanted)?;
-    let line = shown_by(rt, alloc, wanted)?;
-    assert_shows(rt, alloc, session.engine(), line.as_str())
+    assert_text(rt, alloc, session, wanted.as_bytes())?;
+    let again = read(rt, alloc, CONFIG, wanted)?;
+    assert_shows_as(rt, alloc, session.engine(), again.engine())
 }
 
 // Sees how a round is written, whole and up to its sixth step.
@@ -169,12 +173,20 @@ const THREE_ROUNDS: &str = "cachesim journal 2
 steps 26
 ";
 
+fn assert_three_rounds(
+    rt: &impl Abort,
+    alloc: Global,
+    session: &Session<Shell>,
+) -> Result<(), Fail> {
+    assert_written(rt, alloc, session, THREE_ROUNDS)?;
+    let line = "Idle next 2 table 1:1 window 1:1 age 2 misses 2 added 2 begun 3 removed 1";
+    assert_shows(rt, alloc, session.engine(), line)
+}
+
 #[test]
 fn a_key_read_removed_and_read_again_is_read_back(rt: HostRuntime) -> Result<(), Fail> {
     let session = read(&rt, rt.alloc(), CONFIG, THREE_ROUNDS)?;
-    assert_written(&rt, rt.alloc(), &session, THREE_ROUNDS)?;
-    let line = "Idle next 2 table 1:1 window 1:1 age 2 misses 2 added 2 begun 3 removed 1";
-    assert_shows(&rt, rt.alloc(), session.engine(), line)
+    assert_three_rounds(&rt, rt.alloc(), &session)
 }
 
 // Texts, the line that is not one, and how many steps are applied then.
@@ -196,9 +208,9 @@ const NO_LINES: [(&str, usize, usize); 13] = [
 
 #[test]
 fn the_first_line_that_is_none_is_named(rt: HostRuntime) -> Result<(), Fail> {
-    for (text, step, steps) in NO_LINES {
-        let read = reading(&rt, rt.alloc(), text.as_bytes(), 9)?;
-        assert_eq!(rt; read, (Err(JournalFault::Line { step }), steps), "{text:?}");
+    for (case, (text, step, steps)) in NO_LINES.iter().enumerate() {
+        let wanted = (Err(JournalFault::Line { step: *step }), *steps);
+        assert_reading(&rt, rt.alloc(), &mut text.as_bytes(), wanted, case)?;
     }
     Ok(())
 }
@@ -277,9 +289,9 @@ const ANSWERS: [(&str, Result<(), JournalFault>, usize); 20] = [
 
 #[test]
 fn a_text_is_read_or_its_first_fault_is_named(rt: HostRuntime) -> Result<(), Fail> {
-    for (text, answer, steps) in ANSWERS {
-        let read = reading(&rt, rt.alloc(), text.as_bytes(), 9)?;
-        assert_eq!(rt; read, (answer, steps), "{text:?}");
+    for (case, (text, answer, steps)) in ANSWERS.iter().enumerate() {
+        let wanted = (*answer, *steps);
+        assert_reading(&rt, rt.alloc(), &mut text.as_bytes(), wanted, case)?;
     }
     Ok(())
 }
@@ -287,7 +299,7 @@ fn a_text_is_read_or_its_first_fault_is_named(rt: HostRuntime) -> Result<(), Fai
 #[test]
 fn a_full_session_names_the_line_past_its_limit(rt: HostRuntime) -> Result<(), Fail> {
     for text in [UNCOUNTED, WRITTEN] {
-        let read = reading(&rt, rt.alloc(), text.as_bytes(), 3)?;
+        let read = reading(&rt, rt.alloc(), &mut text.as_bytes(), 3)?;
         assert_eq!(rt; read, (Err(JournalFault::JournalFull { step: 4 }), 3));
     }
     Ok(())
@@ -305,17 +317,24 @@ fn cut(prefix: &[u8], is_counted: bool) -> (Result<(), JournalFault>, usize) {
     (Err(JournalFault::Unended), lines - 1)
 }
 
+// Cuts a text behind each of its bytes, and not at all.
+fn cut_everywhere(
+    rt: &impl Abort,
+    alloc: Global,
+    text: &[u8],
+    is_counted: bool,
+) -> Result<(), Fail> {
+    for length in 0..text.len() {
+        let mut prefix = &text[..length];
+        let wanted = cut(prefix, is_counted);
+        assert_reading(rt, alloc, &mut prefix, wanted, length)?;
+    }
+    let mut whole = text;
+    assert_reading(rt, alloc, &mut whole, (Ok(()), 9), text.len())
+}
+
 #[test]
 fn a_text_that_is_cut_leaves_the_steps_of_its_whole_lines(rt: HostRuntime) -> Result<(), Fail> {
-    for (text, is_counted) in [(UNCOUNTED, false), (WRITTEN, true)] {
-        let bytes = text.as_bytes();
-        for length in 0..bytes.len() {
-            let prefix = &bytes[..length];
-            let read = reading(&rt, rt.alloc(), prefix, 9)?;
-            assert_eq!(rt; read, cut(prefix, is_counted), "{length} bytes");
-        }
-        let whole = reading(&rt, rt.alloc(), bytes, 9)?;
-        assert_eq!(rt; whole, (Ok(()), 9));
-    }
-    Ok(())
+    cut_everywhere(&rt, rt.alloc(), UNCOUNTED.as_bytes(), false)?;
+    cut_everywhere(&rt, rt.alloc(), WRITTEN.as_bytes(), true)
 }
