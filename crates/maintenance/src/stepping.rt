@@ -1,6 +1,7 @@
 //! One step.
 ghost use Rattle.std.specs.Prelude.{◌≡◌, ◌<◌, ◌≤◌, ◌↔◌, Some, None, IfOk, OnErr, Err, IsSome, IfSome, IfNone};
 ghost use Rattle.step_record.specs.declared.limits.TheConstants.{MAX_STEPS};
+ghost use Rattle.step_record.specs.declared.step.Act.TheVariants.{DrainRead, DrainWrite};
 ghost use Rattle.shell_model.specs.Shell.{perform, act as acted};
 ghost use Rattle.shell_model.specs.Records.{change_of};
 ghost use Rattle.shell_model.specs.ShellStats.{AreAtMost};
@@ -45,19 +46,8 @@ impl Core {
             Act::AfterRead { answer } => Ok(Some((self.after_read(answer), Change::Nothing))),
             Act::AfterWrite => Ok(Some(self.after_write(worker))),
             Act::Begin => Ok(Some(self.begin(worker))),
-            Act::DrainRead { stripe } => match self.held_by(worker) {
-                Some(holder)
-                    if (stripe as usize) < self.stripes.count() && holder.phase == Phase::Reads => {
-                    Ok(Some(self.drain_read(stripe)?))
-                }
-                _ => Ok(None),
-            },
-            Act::DrainWrite => match self.held_by(worker) {
-                Some(holder) if holder.phase != Phase::Evictions => {
-                    Ok(Some(self.drain_write(holder)?))
-                }
-                _ => Ok(None),
-            },
+            Act::DrainRead { stripe } => self.perform_drain_read(worker, stripe),
+            Act::DrainWrite => self.perform_drain_write(worker),
             Act::Evict => match self.held_by(worker) {
                 None => Ok(None),
                 Some(holder) => Ok(Some(self.evict(holder))),
@@ -66,6 +56,46 @@ impl Core {
                 None => Ok(None),
                 Some(holder) => Ok(Some(self.end(holder))),
             },
+        }
+    }
+
+    // The act of draining a read buffer, or `None` where it may not come now.
+    fn perform_drain_read(
+        &mut self,
+        worker: Worker,
+        stripe: u8,
+    ) -> Result<Option<(Reply, Change)>, AllocError>
+        requires few { self.old.frequency.halvings ≤ MAX_STEPS }
+        ensures some { IfOk result (λ o. IfSome o (λ r. perform worker (DrainRead stripe) self.old ≡ Some (r.0, self.new))) }
+        ensures change { IfOk result (λ o. IfSome o (λ r. r.1 ≡ change_of worker (DrainRead stripe) self.old)) }
+        ensures none { IfOk result (λ o. IfNone o ((perform worker (DrainRead stripe) self.old ≡ None) × (self.new ≡ self.old))) }
+        ensures accepted { OnErr result (IsSome (perform worker (DrainRead stripe) self.old)) }
+        ensures err { OnErr result (self.new ≡ self.old) }
+    {
+        match self.held_by(worker) {
+            Some(holder)
+                if (stripe as usize) < self.stripes.count() && holder.phase == Phase::Reads => {
+                Ok(Some(self.drain_read(stripe)?))
+            }
+            _ => Ok(None),
+        }
+    }
+
+    // The act of draining the write queue, or `None` where it may not come now.
+    fn perform_drain_write(&mut self, worker: Worker) -> Result<Option<(Reply, Change)>, AllocError>
+        requires sound { IsConsistent self.old }
+        requires few { self.old.frequency.halvings ≤ MAX_STEPS }
+        ensures some { IfOk result (λ o. IfSome o (λ r. perform worker DrainWrite self.old ≡ Some (r.0, self.new))) }
+        ensures change { IfOk result (λ o. IfSome o (λ r. r.1 ≡ change_of worker DrainWrite self.old)) }
+        ensures none { IfOk result (λ o. IfNone o ((perform worker DrainWrite self.old ≡ None) × (self.new ≡ self.old))) }
+        ensures accepted { OnErr result (IsSome (perform worker DrainWrite self.old)) }
+        ensures err { OnErr result (self.new ≡ self.old) }
+    {
+        match self.held_by(worker) {
+            Some(holder) if holder.phase != Phase::Evictions => {
+                Ok(Some(self.drain_write(holder)?))
+            }
+            _ => Ok(None),
         }
     }
 
