@@ -60,23 +60,53 @@ struct Noting;
 
 struct Comparing;
 
-// Makes the accesses of the trace in both caches, up to the first at which just one of them hits.
+// Opens the caches of both jobs, and walks.
 fn walk(alloc: Global, trace: &Trace, first: &Job, second: &Job) -> Result<Option<u64>, AllocError>
     requires first { config_fault first.now.config ≡ Ok tt }
     requires second { config_fault second.now.config ≡ Ok tt }
     ensures { IfOk result (IsPart (outcomes_on first.now trace.now) (outcomes_on second.now trace.now)) }
 {
+    let mut one = AnyPolicy::open(alloc, first, trace)?;
+    walk_beside(alloc, trace, first, second, &mut one)
+}
+
+// Opens the cache of the second job, beside that of the first, and walks.
+fn walk_beside(
+    alloc: Global,
+    trace: &Trace,
+    first: &Job,
+    second: &Job,
+    one: &mut AnyPolicy,
+) -> Result<Option<u64>, AllocError>
+    requires one { Stands first.now trace.now [] one.old }
+    requires second { config_fault second.now.config ≡ Ok tt }
+    ensures { IfOk result (IsPart (outcomes_on first.now trace.now) (outcomes_on second.now trace.now)) }
+{
+    let mut other = AnyPolicy::open(alloc, second, trace)?;
+    walk_both(trace, first, second, one, &mut other)
+}
+
+// Makes the accesses of the trace in both caches, up to the first at which just one of them hits.
+fn walk_both(
+    trace: &Trace,
+    first: &Job,
+    second: &Job,
+    one: &mut AnyPolicy,
+    other: &mut AnyPolicy,
+) -> Result<Option<u64>, AllocError>
+    requires one { Stands first.now trace.now [] one.old }
+    requires other { Stands second.now trace.now [] other.old }
+    ensures { IfOk result (IsPart (outcomes_on first.now trace.now) (outcomes_on second.now trace.now)) }
+{
     any_stands();
     any_covers_trace();
-    let mut one = AnyPolicy::open(alloc, first, trace)?;
-    let mut other = AnyPolicy::open(alloc, second, trace)?;
     let mut noted = [false; BLOCK];
     let len = trace.keys().len();
     let mut start = 0;
     'stretches: while start < len {
         let end = len.min(start + BLOCK);
-        note_hits(&mut one, first, trace, start, end, &mut noted)?;
-        match compare_hits(&mut other, second, trace, start, end, &noted)? {
+        note_hits(one, first, trace, start, end, &mut noted)?;
+        match compare_hits(other, second, trace, start, end, &noted)? {
             Some(place) => return Ok(Some(place as u64 + 1)),
             None => start = end,
         }

@@ -2,7 +2,7 @@ use Rattle.std.proofs.Common.{◌≡◌, ◌∙◌, length, take, IfSome, IfNone
 use Rattle.policies.specs.AnyPolicy.{Stands, outcomes_on}
 use Rattle.debug_shell.specs.Part.{IsNoted, IsFirstOther}
 use Rattle.debug_shell.proofs.Walked.{agree-more, parts-first, agree-everywhere}
-use Rattle.debug_shell.proofs.parting.walk.Goals as goal
+use Rattle.debug_shell.proofs.parting.walk_both.Goals as goal
 
 pub returns-in-Some : goal.returns-in-Some
 returns-in-Some c =

@@ -1,7 +1,7 @@
 use Rattle.std.proofs.Common.{◌≡◌, ◌≤◌, ◌-◌, ◌+◌, take, length}
 use Rattle.policies.specs.AnyPolicy.{Stands, outcomes_on}
 use Rattle.debug_shell.specs.Part.{AgreeBelow}
-use Rattle.debug_shell.proofs.parting.walk.Given as goal
+use Rattle.debug_shell.proofs.parting.walk_both.Given as goal
 
 abbrev pub invariant-stretches : goal.invariant-stretches
 invariant-stretches l =
