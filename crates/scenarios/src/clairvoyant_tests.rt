@@ -35,9 +35,25 @@ fn assert_hits(rt: &impl Abort, session: &Session<Clairvoyant>, hits: u64) {
     assert_eq!(rt; session.engine().stats().hits, hits);
 }
 
+fn assert_step(
+    rt: &impl Abort,
+    session: &mut Session<Clairvoyant>,
+    key: Key,
+    wanted: Result<Outcome, SessionFault>,
+) {
+    assert_eq!(rt; session.step(key), wanted);
+}
+
+fn go_back_and_forward(rt: &impl Abort, session: &mut Session<Clairvoyant>) {
+    assert_eq!(rt; session.back(3), Ok(()));
+    assert_hits(rt, session, 0);
+    assert_eq!(rt; session.forward(3), Ok(()));
+    assert_hits(rt, session, 2);
+}
+
 // Takes the accesses of the trace, goes back, and forward.
 fn walk(rt: &impl Abort, session: &mut Session<Clairvoyant>) {
-    assert_eq!(rt; session.step(2), Err(SessionFault::NotNow));
+    assert_step(rt, session, 2, Err(SessionFault::NotNow));
     assert_eq!(rt; session.len(), 0);
     for (key, outcome) in [
         (1, Outcome::Kept),
@@ -46,12 +62,9 @@ fn walk(rt: &impl Abort, session: &mut Session<Clairvoyant>) {
         (1, Outcome::Hit),
         (2, Outcome::Hit),
     ] {
-        assert_eq!(rt; session.step(key), Ok(outcome));
+        assert_step(rt, session, key, Ok(outcome));
     }
-    assert_eq!(rt; session.back(3), Ok(()));
-    assert_hits(rt, session, 0);
-    assert_eq!(rt; session.forward(3), Ok(()));
-    assert_hits(rt, session, 2);
+    go_back_and_forward(rt, session);
 }
 
 #[test]
@@ -89,14 +102,19 @@ fn optimal_hits(rt: &impl Abort, alloc: Global, keys: &[Key], capacity: u32) -> 
     Ok(cache.stats().hits)
 }
 
+fn apply_all(lru: &mut Lru, keys: &[Key]) -> Result<(), Fail> {
+    for key in keys {
+        lru.apply(key)?;
+    }
+    Ok(())
+}
+
 // How often LRU hits.
 fn lru_hits(rt: &impl Abort, alloc: Global, keys: &[Key], capacity: u32) -> Result<u64, Fail> {
     let config = Config { capacity, ..CONFIG };
     assert!(rt; config.check() == Ok(()));
     let mut lru = Lru::open(alloc, &config)?;
-    for key in keys {
-        lru.apply(key)?;
-    }
+    apply_all(&mut lru, keys)?;
     Ok(lru.stats().hits)
 }
 

@@ -95,6 +95,13 @@ fn opened(rt: &impl Abort, alloc: Global, job: &Job, trace: &Trace) -> Result<An
     Ok(cache)
 }
 
+fn apply_all(cache: &mut AnyPolicy, keys: &[Key]) -> Result<(), Fail> {
+    for key in keys {
+        cache.apply(key)?;
+    }
+    Ok(())
+}
+
 // A cache that made the accesses of these keys.
 fn made(
     rt: &impl Abort,
@@ -103,9 +110,7 @@ fn made(
     keys: &[Key],
 ) -> Result<AnyPolicy, Fail> {
     let mut cache = opened(rt, alloc, job, trace)?;
-    for key in keys {
-        cache.apply(key)?;
-    }
+    apply_all(&mut cache, keys)?;
     Ok(cache)
 }
 
@@ -130,6 +135,18 @@ fn assert_same_frequency(rt: &impl Abort, cache: &AnyPolicy, fresh: &AnyPolicy) 
     }
 }
 
+fn assert_alike(
+    rt: &impl Abort,
+    alloc: Global,
+    cache: &AnyPolicy,
+    fresh: &AnyPolicy,
+) -> Result<(), Fail> {
+    assert_eq!(rt; cache.stats(), fresh.stats());
+    assert_same_residents(rt, alloc, cache, fresh)?;
+    assert_same_frequency(rt, cache, fresh);
+    Ok(())
+}
+
 // Sees that a cache shows what one shows that made only the accesses of these keys.
 fn compare(
     rt: &impl Abort,
@@ -139,10 +156,7 @@ fn compare(
     kept: &[Key],
 ) -> Result<(), Fail> {
     let fresh = made(rt, alloc, (job, trace), kept)?;
-    assert_eq!(rt; cache.stats(), fresh.stats());
-    assert_same_residents(rt, alloc, cache, &fresh)?;
-    assert_same_frequency(rt, cache, &fresh);
-    Ok(())
+    assert_alike(rt, alloc, cache, &fresh)
 }
 
 /// A session, and the keys of its steps, those of the undone ones at the end.
@@ -191,7 +205,7 @@ fn compare_kept(
     )
 }
 
-// Takes 1200 turns, and compares after each hundred of them.
+// Takes 1200 turns, compares after each hundred of them, and sees that many steps are left.
 fn take_turns(
     rt: &impl Abort,
     alloc: Global,
@@ -207,6 +221,7 @@ fn take_turns(
             compare_kept(rt, alloc, (job, trace), walk)?;
         }
     }
+    assert!(rt; walk.session.len() > 500);
     Ok(())
 }
 
@@ -223,9 +238,7 @@ fn wander_about(
         session: Session::open(alloc, cache, MOST),
         keys: Vec::new(alloc),
     };
-    take_turns(rt, alloc, (job, trace), &mut walk, seed)?;
-    assert!(rt; walk.session.len() > 500);
-    Ok(())
+    take_turns(rt, alloc, (job, trace), &mut walk, seed)
 }
 
 #[test]
