@@ -8,22 +8,22 @@ use std::marker::Model;
 /// The most words that a [`BitList`] holds: 2^23 bits.
 pub const MAX_WORDS: usize = 1 << 17;
 
-/// A list of bits, 64 to a word, that does not change. Contracts see the list of the bits.
+/// A list of bits, 64 to a word, that does not change. Contracts see the list of the bits, and its invariant says that
+/// it holds nothing beside the words: an undo record that holds one holds no more than its bits.
 #[derive(Drop)]
 pub struct BitList {
     words: Vec<u64>,
 }
 
 impl Model for BitList {
-    ghost use Rattle.std.specs.Prelude.{List, Bool, length, ◌≤◌};
-    ghost use Rattle.bits_and_lists.specs.declared.bit_list.TheConstants.{MAX_WORDS};
-    ghost use Rattle.bits_and_lists.specs.Bits.{bits_of};
+    ghost use Rattle.std.specs.Prelude.{List, Bool};
+    ghost use Rattle.bits_and_lists.specs.BitList.{bits_in, IsWordsAlone};
 
     ghost Value = { List Bool };
 
-    ghost view = { λ l. bits_of l.words.items };
+    ghost view = { bits_in };
 
-    ghost invariant = { λ l. length l.words.items ≤ MAX_WORDS };
+    ghost invariant = { IsWordsAlone };
 }
 
 impl BitList {

@@ -9,8 +9,9 @@ use Rattle.step_record.specs.declared.step.Reply.{Reply}
 use Rattle.step_record.specs.declared.step.Step.{Step}
 use Rattle.step_record.specs.History.{Entries}
 use Rattle.journal.specs.Session.{SessionState}
-use Rattle.drive.specs.Walks.{AreWalks}
-use Rattle.drive.specs.Driven.{IsRun, entries_of}
+use Rattle.walks.specs.Walks.{AreWalks}
+use Rattle.walks.specs.Made.{entries_of}
+use Rattle.workers.specs.Runs.{IsRun}
 use Rattle.cachesim.specs.Dealt.{reads_of, IsDealt, AreOfReads}
 
 -- the reads of one access

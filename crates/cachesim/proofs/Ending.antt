@@ -17,7 +17,8 @@ use Rattle.command_line.specs.declared.replay.ReplayArguments.{ReplayArguments}
 use Rattle.std.specs.Prelude.{string_bytes}
 use Rattle.cachesim.specs.Debugged.{Debugging, KnownFiles, Replaying}
 use Rattle.cachesim.specs.Drove.{IsDriven}
-use Rattle.cachesim.specs.Jobs.{jobs_at, jobs_by_policy}
+use Rattle.policy_actors.specs.Sweep.{jobs_over}
+use Rattle.cachesim.specs.Jobs.{jobs_by_policy}
 use Rattle.cachesim.specs.Part.{Parting}
 use Rattle.cachesim.specs.Run.{DoneBy, RefusedBy, Reports, is_help}
 
@@ -61,7 +62,7 @@ run_done words run p files input before after h =
     }
 
 pub sweep_done : (words : List Text) (sweep : SweepArguments) → ParsedBy words (Ok (Sweep sweep)) → (files : KnownFiles) (input before after : Option (List ℕ))
-    → Reports sweep.format (jobs_at sweep.job sweep.capacities.items) input before after → DoneBy words files input before after
+    → Reports sweep.format (jobs_over (jobs_by_policy sweep.config sweep.policies.items) sweep.capacities.items) input before after → DoneBy words files input before after
 sweep_done words sweep p files input before after h =
     let is = p.gives.1.2 in
     record {
@@ -72,12 +73,13 @@ sweep_done words sweep p files input before after h =
         inr (inl (record {
           rows = p.gives.1.0;
           is_sweep = p.gives.1.1;
-          job = sweep.job;
+          config = sweep.config;
           config_is = is.config;
-          policy_is = is.policy;
+          policies = sweep.policies.items;
+          policies_are = is.policies;
           capacities = sweep.capacities.items;
           capacities_are = is.capacities;
-          reports = subst (λ f. Reports f (jobs_at sweep.job sweep.capacities.items) input before after) is.format h;
+          reports = subst (λ f. Reports f (jobs_over (jobs_by_policy sweep.config sweep.policies.items) sweep.capacities.items) input before after) is.format h;
         })),
       );
     }

@@ -3,8 +3,8 @@ use Rattle.std.specs.Prelude.{◌≡◌, ℕ, ◌+◌, ◌<◌, ◌≤◌, ◌%�
 use Rattle.step_record.specs.declared.step.Call.{Call}
 use Rattle.step_record.specs.declared.step.Call.TheVariants.{Read}
 use Rattle.step_record.specs.History.{Entries}
-use Rattle.drive.specs.Walks.{AreWalks}
-use Rattle.drive.specs.Driven.{entries_of}
+use Rattle.walks.specs.Walks.{AreWalks}
+use Rattle.walks.specs.Made.{entries_of}
 
 -- The reads of worker w among these accesses, of which the first is number i: each access is read by the worker whose
 -- number is its own modulo how many workers there are.

@@ -10,7 +10,7 @@ use Rattle.maintenance.specs.Opened.{IsOpened}
 use Rattle.journal_text.specs.Journal.{IsJournalText}
 use Rattle.debug_commands.specs.Dialogue.{dialogue_of, IsLineHeld}
 use Rattle.debug_commands.specs.Timeline.{TimelineData}
-use Rattle.debug_shell.specs.TwoPolicies.{policies_timeline}
+use Rattle.debug_policies.specs.TwoPolicies.{policies_timeline}
 use Rattle.debug_replay.specs.Replay.{replay_timeline}
 
 -- what is known of the bytes of the file at a path

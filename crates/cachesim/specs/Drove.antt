@@ -10,8 +10,8 @@ use Rattle.trace_read.specs.declared.format.Format.{Format}
 use Rattle.shell_model.specs.Shell.{Shell, act}
 use Rattle.maintenance.specs.Opened.{IsOpened}
 use Rattle.journal.specs.Session.{SessionState}
-use Rattle.drive.specs.declared.driving.DriveFault.{DriveFault}
-use Rattle.drive.specs.declared.driving.DriveFault.TheVariants.{Workers, Held, OutOfMemory, Stopped}
+use Rattle.workers.specs.declared.run.DriveFault.{DriveFault}
+use Rattle.workers.specs.declared.run.DriveFault.TheVariants.{Workers, Held, OutOfMemory, Stopped}
 use Rattle.cachesim.specs.Dealt.{AreOfReads}
 use Rattle.journal_text.specs.Journal.{journal_of}
 use Rattle.journal_text.specs.declared.version.Version.TheVariants.{Two}

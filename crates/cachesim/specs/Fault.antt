@@ -5,8 +5,8 @@ use Rattle.journal_text.specs.declared.fault.WriteFault.{WriteFault as JournalWr
 use Rattle.journal_text.specs.declared.fault.WriteFault.TheVariants as journal
 use Rattle.journal_text.specs.declared.fault.JournalFault.{JournalFault}
 use Rattle.journal_text.specs.declared.fault.JournalFault.TheVariants as reading
-use Rattle.drive.specs.declared.driving.Cause.{Cause}
-use Rattle.drive.specs.declared.driving.Cause.TheVariants as cause
+use Rattle.workers.specs.declared.run.Cause.{Cause}
+use Rattle.workers.specs.declared.run.Cause.TheVariants as cause
 use Rattle.debug_commands.specs.declared.fault.DebugFault.{DebugFault}
 use Rattle.debug_commands.specs.declared.fault.DebugFault.TheVariants as debug
 use Rattle.cachesim.specs.declared.files.FileFault.{FileFault}

@@ -4,16 +4,11 @@ use Rattle.step_record.specs.declared.config.Config.{Config}
 use Rattle.step_record.specs.declared.job.Job.{Job}
 use Rattle.step_record.specs.declared.job.Policy.{Policy}
 use Rattle.report.specs.declared.summary.Report.{Report}
-use Rattle.policy_actors.specs.Faults.{at_capacity}
 use Rattle.policy_actors.specs.Reports.{report_on}
 
 -- one job for each policy, all on one configuration
 abbrev pub jobs_by_policy : Config → List Policy → List Job
 jobs_by_policy config policies = map (λ policy. record { policy = policy; config = config }) policies
-
--- the job at each of the capacities
-abbrev pub jobs_at : Job → List ℕ → List Job
-jobs_at job capacities = map (at_capacity job) capacities
 
 -- the report of each job over the accesses: it counts the outcomes of its policy's definition
 abbrev pub reports_on : List Job → List ℕ → List Report

@@ -5,7 +5,7 @@ use Rattle.step_record.specs.declared.job.Job.{Job}
 use Rattle.trace_read.specs.Reading.{fault_in, keys_in}
 use Rattle.trace_read.specs.declared.format.Format.{Format}
 use Rattle.policies.specs.AnyPolicy.{outcomes_on}
-use Rattle.debug_shell.specs.Part.{part_line, IsPart}
+use Rattle.debug_policies.specs.Part.{part_line, IsPart}
 
 -- the bytes read have no fault, and those written are the line of the access at which the two jobs part
 abbrev pub Parting : Format → Job → Job → Option (List ℕ) → Option (List ℕ) → Option (List ℕ) → Type 0

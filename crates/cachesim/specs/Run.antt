@@ -16,7 +16,8 @@ use Rattle.command_line.specs.Program.{capacities_in, concurrent_in, config_at, 
 use Rattle.command_line.specs.Program.{policies_in, policy_in, stripes_in, workers_in}
 use Rattle.cachesim.specs.Debugged.{Debugging, KnownFiles, Replaying}
 use Rattle.cachesim.specs.Drove.{IsDriven}
-use Rattle.cachesim.specs.Jobs.{jobs_at, jobs_by_policy, reports_on}
+use Rattle.policy_actors.specs.Sweep.{jobs_over}
+use Rattle.cachesim.specs.Jobs.{jobs_by_policy, reports_on}
 use Rattle.cachesim.specs.Part.{Parting}
 
 -- the bytes read have no fault, and those written are the text of the jobs' reports
@@ -34,16 +35,17 @@ pub record Ran (subcommand : Option (Text × List Row)) (input before after : Op
   pub policies_are : policies_in rows ≡ Some policies
   pub reports : Reports (format_in rows) (jobs_by_policy config policies) input before after
 
--- `sweep` was called, and has written the reports of what its matches name
+-- `sweep` was called, and has written the reports of each policy that its matches name at each of the capacities
 pub record Swept (subcommand : Option (Text × List Row)) (input before after : Option (List ℕ)) : Type 0 where
   pub rows : List Row
   pub is_sweep : subcommand ≡ Some (codes "sweep", rows)
-  pub job : Job
-  pub config_is : config_at (Some 1) rows ≡ Some job.config
-  pub policy_is : policy_in (codes "policy") rows ≡ Some job.policy
+  pub config : Config
+  pub config_is : config_at (Some 1) rows ≡ Some config
+  pub policies : List Policy
+  pub policies_are : policies_in rows ≡ Some policies
   pub capacities : List ℕ
   pub capacities_are : capacities_in rows ≡ Some capacities
-  pub reports : Reports (format_in rows) (jobs_at job capacities) input before after
+  pub reports : Reports (format_in rows) (jobs_over (jobs_by_policy config policies) capacities) input before after
 
 -- `part` was called, and has written where the two policies that its matches name part
 pub record Parted (subcommand : Option (Text × List Row)) (input before after : Option (List ℕ)) : Type 0 where

@@ -14,8 +14,8 @@ use std::thread::Threads;
 use step_record::{Config, Job, OpenGate, Policy, Trace};
 use trace_read::read_trace;
 
-// A job for each policy, in order, all on one configuration.
-fn jobs(alloc: Global, config: Config, policies: &[Policy]) -> Result<Vec<Job>, AllocError>
+/// A job for each policy, in order, all on one configuration. The one error is out of memory.
+pub fn jobs(alloc: Global, config: Config, policies: &[Policy]) -> Result<Vec<Job>, AllocError>
     ensures { IfOk result (λ jobs. jobs.items ≡ jobs_by_policy config policies.now) }
 {
     let mut jobs = Vec::new(alloc);

@@ -1,33 +1,39 @@
-//! The subcommand `sweep`: a trace to the reports of a policy at several capacities.
+//! The subcommand `sweep`: a trace to the reports of policies at several capacities.
 ghost use Rattle.std.specs.Prelude.{◌≡◌, ◌≢◌, IfErr, IfOk, OnOk};
-ghost use Rattle.cachesim.specs.Jobs.{jobs_at, reports_on};
+ghost use Rattle.policy_actors.specs.Sweep.{jobs_over};
+ghost use Rattle.cachesim.specs.Jobs.{jobs_by_policy, reports_on};
 ghost use Rattle.cachesim.specs.Run.{Reports};
 
 use crate::fault::Fault;
+use crate::run::jobs;
 use command_line::SweepArguments;
-use policy_actors::ActorFault;
+use policy_actors::{ActorFault, sweep_each};
 use report::{Report, write_reports};
 use std::alloc::Global;
 use std::io::{Read, Write};
 use std::thread::Threads;
-use step_record::{Job, Trace};
+use step_record::Trace;
 use trace_read::read_trace;
 
-// The reports of the job at each capacity.
+// The reports of the policies that the arguments name at each of the capacities.
 fn reports<T: Threads + Sync>(
     rt: &T,
     alloc: Global,
     trace: &Trace,
-    job: &Job,
-    capacities: &[u32],
+    arguments: &SweepArguments,
 ) -> Result<Vec<Report>, ActorFault>
-    ensures { IfOk result (λ reports. reports.items ≡ reports_on (jobs_at job.now capacities.now) trace.now) }
+    ensures { IfOk result (λ reports. reports.items ≡ reports_on
+        (jobs_over (jobs_by_policy arguments.now.config arguments.now.policies.items) arguments.now.capacities.items)
+        trace.now) }
 {
-    policy_actors::sweep(rt, alloc, trace, job, capacities)
+    let jobs = jobs(alloc, arguments.config, arguments.policies.as_slice())?;
+    let capacities = arguments.capacities.as_slice();
+    sweep_each(rt, alloc, trace, jobs.as_slice(), capacities)
 }
 
-/// Reads the trace and writes the report of the policy at each capacity that the arguments name.
-/// A fault has written nothing, but for `Write`, after which the output may be partial.
+/// Reads the trace and writes the reports of the policies that the arguments name at each of the capacities: those of
+/// the first policy in the order of the capacities, then those of the second, and so on. A fault has written nothing, but
+/// for `Write`, after which the output may be partial.
 pub fn sweep<T: Threads + Sync, R: Read, W: Write>(
     rt: &T,
     alloc: Global,
@@ -36,13 +42,12 @@ pub fn sweep<T: Threads + Sync, R: Read, W: Write>(
     out: &mut W,
 ) -> Result<(), Fault>
     ensures ok { OnOk result (Reports arguments.now.format
-        (jobs_at arguments.now.job arguments.now.capacities.items) (R.remaining input.old)
-        (W.contents out.old) (W.contents out.new)) }
+        (jobs_over (jobs_by_policy arguments.now.config arguments.now.policies.items) arguments.now.capacities.items)
+        (R.remaining input.old) (W.contents out.old) (W.contents out.new)) }
     ensures kept { IfErr result (λ fault. fault ≢ Fault.Write → out.new ≡ out.old) }
 {
     let trace = read_trace(alloc, input, arguments.format)?;
-    let capacities = arguments.capacities.as_slice();
-    let reports = reports(rt, alloc, &trace, &arguments.job, capacities)?;
+    let reports = reports(rt, alloc, &trace, arguments)?;
     write_reports(alloc, reports.as_slice(), out)?;
     Ok(())
 }

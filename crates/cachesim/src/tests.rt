@@ -149,6 +149,32 @@ fn assert_run<T: Threads + Wait + Sync + Abort>(
     compare(rt, &run, wanted)
 }
 
+// The journal of the first steps: the beginning of a whole one, and a count.
+fn is_cut(out: &[u8], whole: &[u8]) -> bool {
+    for kept in 0..out.len() {
+        if whole.starts_with(&out[..kept]) && out[kept..].starts_with(b"steps ".as_slice()) {
+            return true;
+        }
+    }
+    false
+}
+
+// `drive` does what is wanted, and where memory was refused it has written the journal of the steps it made, if any.
+fn assert_driven<T: Threads + Wait + Sync + Abort>(
+    rt: &T,
+    alloc: Global,
+    words: &[&str],
+    wanted: &Wanted,
+) -> Result<(), AllocError> {
+    let run = call(rt, alloc, words, &mut "1\n".as_bytes(), &Nowhere)?;
+    if run.is_out_of_memory() {
+        assert_eq!(rt; run.status, 1);
+        assert!(rt; run.out.is_empty() || is_cut(run.out.as_slice(), wanted.out));
+        return Err(AllocError);
+    }
+    compare(rt, &run, wanted)
+}
+
 // It writes a report of these rows.
 fn assert_report<T: Threads + Wait + Sync + Abort>(
     rt: &T,
@@ -219,6 +245,46 @@ fn a_sweep_reports_each_capacity(rt: HostRuntime) -> Result<(), Fail> {
     assert_report(&rt, rt.alloc(), &words, "1\n2\n3\n1\n4\n2\n", rows)?;
     let faulty = fault("fault: BadNumber line 2\n");
     assert_run(&rt, rt.alloc(), &words, "1\nx\n", &faulty)?;
+    Ok(())
+}
+
+// Each policy at every capacity before the next policy; Lru twice, and capacities that fall and come again.
+#[test]
+fn a_sweep_of_several_policies_reports_one_after_another(rt: HostRuntime) -> Result<(), Fail> {
+    let words = [
+        "sweep",
+        "--policy",
+        "lru",
+        "--policy",
+        "clairvoyant",
+        "--policy",
+        "lru",
+        "3",
+        "1",
+        "3",
+    ];
+    let lru = "lru,3,5,2,3,0,0,40.00\nlru,1,5,0,5,4,0,0.00\nlru,3,5,2,3,0,0,40.00\n";
+    let belady =
+        "clairvoyant,3,5,2,3,0,0,40.00\nclairvoyant,1,5,1,4,3,2,20.00\nclairvoyant,3,5,2,3,0,0,40.00\n";
+    let rows = format!(in rt.alloc(); "{lru}{belady}{lru}")?;
+    assert_report(&rt, rt.alloc(), &words, "1\n2\n3\n1\n2\n", rows.as_str())?;
+    Ok(())
+}
+
+#[test]
+fn over_sixty_four_policies_are_too_many_for_a_sweep(rt: HostRuntime) -> Result<(), Fail> {
+    let mut words = vec![in rt.alloc(); "sweep", "3"]?;
+    let mut text = String::new(rt.alloc());
+    for _ in 0..64 {
+        words.push("--policy")?;
+        words.push("lru")?;
+        text.push_str("lru,3,1,0,1,0,0,0.00\n")?;
+    }
+    assert_report(&rt, rt.alloc(), words.as_slice(), "1\n", text.as_str())?;
+    words.push("--policy")?;
+    words.push("lru")?;
+    let many = fault("fault: Actors\n");
+    assert_run(&rt, rt.alloc(), words.as_slice(), "1\n", &many)?;
     Ok(())
 }
 
@@ -300,15 +366,15 @@ fn driven(limit: &str) -> [&str; 11] {
 
 #[test]
 fn a_worker_leaves_a_journal(rt: HostRuntime) -> Result<(), Fail> {
-    assert_run(&rt, rt.alloc(), &driven("9"), "1\n", &done(ROUND))?;
+    assert_driven(&rt, rt.alloc(), &driven("9"), &done(ROUND))?;
     let cut = Wanted {
         out: CUT_ROUND.as_bytes(),
         ..fault("fault: JournalFull\n")
     };
-    assert_run(&rt, rt.alloc(), &driven("4"), "1\n", &cut)?;
+    assert_driven(&rt, rt.alloc(), &driven("4"), &cut)?;
     let odd = ["drive", "--capacity", "8", "--stripes", "3"];
     let refused = usage_error("fault: Stripes\n");
-    assert_run(&rt, rt.alloc(), &odd, "1\n", &refused)?;
+    assert_driven(&rt, rt.alloc(), &odd, &refused)?;
     Ok(())
 }
 
@@ -406,7 +472,7 @@ Usage: cachesim <COMMAND>
 
 Commands:
   run     Runs policies over the trace on standard input and prints a report of each
-  sweep   Runs a policy over the trace on standard input and prints a report for each capacity
+  sweep   Runs policies over the trace on standard input and prints a report of each at each capacity
   part    Prints the first access of the trace on standard input at which just one of two policies hits
   drive   Runs the concurrent cache on threads over the trace on standard input and prints its journal
   debug   Answers commands on standard input about two policies over the trace of a file

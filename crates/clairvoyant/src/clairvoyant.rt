@@ -146,7 +146,7 @@ impl Engine for Clairvoyant {
     ghost use Rattle.clairvoyant.specs.Clairvoyant.{clairvoyant_at, clairvoyant_act};
     ghost use Rattle.clairvoyant.specs.UseRecord.{clairvoyant_undone, ClairvoyantFits};
     ghost use Rattle.clairvoyant.specs.StepCount.{act_counts, act_ends};
-    ghost use Rattle.step_record.specs.Pace.{still, still-paced, words_of_halvings};
+    ghost use Rattle.step_record.specs.Pace.{still, still-paced};
 
     type Step = Key;
 
@@ -174,7 +174,9 @@ impl Engine for Clairvoyant {
         ensures accepted { IfOk result (λ r. clairvoyant_act self.old step.now ≡ Some (r.0, self.new)) }
         ensures fits { IfOk result (λ r. ClairvoyantFits r.1 self.new) }
         ensures undone { IfOk result (λ r. clairvoyant_undone r.1 self.new ≡ self.old) }
-        ensures words { IfOk result (λ r. words_of_halvings still ≡ words_of_halvings still + 0) }
+        // The record is that of the access at this place of the trace, and holds no list.
+        ensures record_is { IfOk result (λ r. r.1
+            ≡ record_at self.old.capacity self.old.trace self.old.stats.accesses) }
         ensures not_now { result ≡ Err StepFault.NotNow ↔ clairvoyant_act self.old step.now ≡ None }
         ensures err { OnErr result (self.new ≡ self.old) }
         // The outcome is the definition's at this place of the trace, and the cache goes on to the next.

@@ -10,7 +10,6 @@
 
 mod clairvoyant;
 mod next_use;
-mod places;
 mod theorems;
 mod use_record;
 

@@ -3,7 +3,7 @@ ghost use Rattle.std.specs.Prelude.{◌≡◌, ℕ, suc, ◌-◌, ◌*◌, ◌<�
 ghost use Rattle.step_record.specs.declared.limits.TheConstants.{MAX_ACCESSES};
 ghost use Rattle.clairvoyant.specs.Uses.{next, rank, rank_by, key_at};
 
-use crate::places::Places;
+use key_places::KeyPlaces;
 use std::alloc::{AllocError, Global};
 use std::marker::Model;
 use std::sync::Arc;
@@ -64,7 +64,7 @@ impl NextUse {
         let keys = Vec::from_slice(alloc, trace.keys())?;
         let len = keys.len();
         let mut ranks: Vec<u32> = vec![in alloc; 0; len]?;
-        let mut following = Places::new(alloc, trace.keys())?;
+        let mut following = KeyPlaces::new(alloc, trace.keys())?;
         for back in 0..len {
             let place = len - 1 - back;
             let next = following.put(keys[place], place as u32)?;

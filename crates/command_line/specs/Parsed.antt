@@ -25,10 +25,10 @@ pub record IsRunCalled (rows : List Row) (run : RunArguments) : Type 0 where
   pub format : run.format ≡ format_in rows
   pub checked : config_fault run.config ≡ Ok tt
 
--- the arguments of `sweep` are those that its matches name; each capacity replaces the job's
+-- the arguments of `sweep` are those that its matches name; each capacity replaces that of the configuration
 pub record IsSweep (rows : List Row) (sweep : SweepArguments) : Type 0 where
-  pub config : config_at (Some 1) rows ≡ Some sweep.job.config
-  pub policy : policy_in (codes "policy") rows ≡ Some sweep.job.policy
+  pub config : config_at (Some 1) rows ≡ Some sweep.config
+  pub policies : policies_in rows ≡ Some sweep.policies.items
   pub capacities : capacities_in rows ≡ Some sweep.capacities.items
   pub format : sweep.format ≡ format_in rows
 
@@ -85,7 +85,7 @@ LacksRun rows = (config_in rows ≡ None) ⊎ (batch_in rows ≡ None) ⊎ (poli
 -- the matches of `sweep` lack an accepted configuration, a known policy, or capacities in their range
 abbrev pub LacksSweep : List Row → Type 0
 LacksSweep rows =
-    (config_at (Some 1) rows ≡ None) ⊎ (policy_in (codes "policy") rows ≡ None) ⊎ (capacities_in rows ≡ None)
+    (config_at (Some 1) rows ≡ None) ⊎ (policies_in rows ≡ None) ⊎ (capacities_in rows ≡ None)
 
 -- the matches of `part` lack an accepted configuration or a known policy
 abbrev pub LacksPart : List Row → Type 0

@@ -128,7 +128,7 @@ policy_rule names = record (new_rule (codes "policy")) {
   parser = Some (parser.Names names);
 }
 
--- `--policy P`, or another option that names one policy, of the words given
+-- an option that names one policy, of the words given
 abbrev pub one_policy_rule : Text → Bor (List (Bor Text)) → Rule
 one_policy_rule option names = record (new_rule option) {
   long = Some option;
@@ -136,6 +136,10 @@ one_policy_rule option names = record (new_rule option) {
   required = true;
   parser = Some (parser.Names names);
 }
+
+-- `--policy P` once or more, of the words given
+abbrev pub policies_rule : Bor (List (Bor Text)) → Rule
+policies_rule names = record (one_policy_rule (codes "policy") names) { action = Some Append }
 
 -- `--format lirs|arc`
 abbrev pub format_rule : Bor (List (Bor Text)) → Rule
@@ -169,7 +173,7 @@ abbrev pub sweep_app : Lists → App
 sweep_app lists = with_rule
     (with_rule
     (with_rule (divided_app lists.spreads (new_app (codes "sweep"))) (format_rule lists.formats))
-    (one_policy_rule (codes "policy") lists.policies))
+    (policies_rule lists.policies))
     capacities_rule
 
 -- the options that name two policies, how both are set up, and the format of a trace

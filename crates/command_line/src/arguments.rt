@@ -177,7 +177,10 @@ pub(crate) fn path(
 }
 
 // The policies that the matches name.
-fn policies(alloc: Global, matches: &ArgMatches<'_>) -> Result<Option<Vec<Policy>>, AllocError>
+pub(crate) fn policies(
+    alloc: Global,
+    matches: &ArgMatches<'_>,
+) -> Result<Option<Vec<Policy>>, AllocError>
     ensures { IfOk result (λ named. option_map (λ v. v.items) named
         ≡ policies_in (rows_of (found_of matches.now))) }
 {

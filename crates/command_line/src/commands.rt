@@ -1,16 +1,18 @@
 //! The program's commands, as `clap` builds them.
 ghost use Rattle.std.specs.Prelude.{◌≡◌, false, IfOk, IsOkAnd};
-ghost use Rattle.clap.specs.Words.{app_of, rule_of, with_subcommand};
+ghost use Rattle.clap.specs.Words.{app_of, new_app, rule_of, with_subcommand};
 ghost use Rattle.clap.specs.declared.builder.command.Command.TheViews.{out-Command};
 ghost use Rattle.command_line.specs.Program.{batch_rule, capacities_rule, capacity_rule, concurrent_app};
 ghost use Rattle.command_line.specs.Program.{configured_app, divided_app};
 ghost use Rattle.command_line.specs.Program.{debug_app, drive_app, file_rule, format_rule, limit_rule, paired_app};
 ghost use Rattle.command_line.specs.Program.{replay_app};
-ghost use Rattle.command_line.specs.Program.{main_rule, one_policy_rule, part_app, policy_rule, program_app, run_app};
+ghost use Rattle.command_line.specs.Program.{main_rule, one_policy_rule, part_app, policies_rule, policy_rule};
+ghost use Rattle.command_line.specs.Program.{program_app, run_app};
 ghost use Rattle.command_line.specs.Program.{spread_rule};
 ghost use Rattle.command_line.specs.Program.{stripes_rule, sweep_app, workers_rule};
 
 use crate::choices::MIXED;
+use crate::help::{DEBUG, DRIVE, Help, PART, REPLAY, RUN, SWEEP};
 use clap::{Arg, ArgAction, Command};
 use std::alloc::{AllocError, Global};
 use step_record::{MAX_BATCH, MAX_CAPACITY, MAX_JOURNAL_LIMIT, MAX_MAIN_PERCENT, MAX_WORKERS};
@@ -25,7 +27,7 @@ fn capacity_arg<'a>(alloc: Global) -> Arg<'a>
     Arg::new(alloc, "capacity")
         .long("capacity")
         .value_name("N")
-        .help("How many entries the cache holds")
+        .help("How many entries the cache holds, from 1 to 1048576")
         .required(true)
         .value_parser(number)
 }
@@ -39,7 +41,9 @@ fn batch_arg<'a>(alloc: Global) -> Arg<'a>
     Arg::new(alloc, "batch")
         .long("batch")
         .value_name("N")
-        .help("How many accesses a policy is given at once")
+        .help(
+            "How many accesses a policy is given at once, from 1 to 65536; no report depends on it",
+        )
         .default_value("1024")
         .value_parser(number)
 }
@@ -52,7 +56,9 @@ fn capacities_arg<'a>(alloc: Global) -> Arg<'a>
     let number = clap::value_parser!(u32).range(1..=i64::from(MAX_CAPACITY));
     Arg::new(alloc, "capacities")
         .value_name("CAPACITY")
-        .help("How many entries the caches hold, in the order of their reports")
+        .help(
+            "How many entries the caches hold, from 1 to 1048576 each, in the order of their reports",
+        )
         .required(true)
         .num_args(1..)
         .action(ArgAction::Append)
@@ -69,7 +75,7 @@ fn main_arg<'a>(alloc: Global) -> Arg<'a>
         .long("main")
         .value_name("N")
         .help(
-            "How much of the capacity of wtinylfu is the main part, in percent; the rest is the window",
+            "How much of the capacity of wtinylfu is the main part, in percent, from 0 to 99; the rest is the window",
         )
         .default_value("99")
         .value_parser(number)
@@ -84,7 +90,9 @@ fn workers_arg<'a>(alloc: Global) -> Arg<'a>
     Arg::new(alloc, "workers")
         .long("workers")
         .value_name("N")
-        .help("How many threads read the keys of the trace, one access each in turn")
+        .help(
+            "How many threads read the keys of the trace, from 1 to 64; access i is made by thread i modulo their number",
+        )
         .default_value("2")
         .value_parser(number)
 }
@@ -97,7 +105,7 @@ fn stripes_arg<'a>(alloc: Global) -> Arg<'a>
     Arg::new(alloc, "stripes")
         .long("stripes")
         .value_name("N")
-        .help("How many read buffers the cache has, a power of two up to 64")
+        .help("How many read buffers the cache has, a power of two from 1 to 64")
         .default_value("4")
         .value_parser(clap::value_parser!(u64))
 }
@@ -111,7 +119,7 @@ fn limit_arg<'a>(alloc: Global) -> Arg<'a>
     Arg::new(alloc, "limit")
         .long("limit")
         .value_name("N")
-        .help("How many steps the journal holds")
+        .help("How many steps the journal holds, from 1 to 16777216")
         .default_value("1048576")
         .value_parser(number)
 }
@@ -136,7 +144,9 @@ fn spread_arg<'a>(alloc: Global, words: &'a [&'a str]) -> Arg<'a>
     Arg::new(alloc, "spread")
         .long("spread")
         .value_name("SPREAD")
-        .help("How keys are spread over the columns of a sketch")
+        .help(
+            "How keys are spread over the columns of a sketch: mixed by a mixing function, plain by remainders",
+        )
         .default_value(MIXED)
         .value_parser(words)
 }
@@ -148,14 +158,14 @@ fn policy_arg<'a>(alloc: Global, words: &'a [&'a str]) -> Arg<'a>
 {
     Arg::new(alloc, "policy")
         .value_name("POLICY")
-        .help("The policies to run, in the order of their reports")
+        .help("The policies to run, in the order of their reports; no file is named here")
         .required(true)
         .num_args(1..)
         .action(ArgAction::Append)
         .value_parser(words)
 }
 
-/// `--policy P`, or another option that names one policy
+/// An option that names one policy
 fn one_policy_arg<'a>(
     alloc: Global,
     option: &'a str,
@@ -173,6 +183,20 @@ fn one_policy_arg<'a>(
         .value_parser(words)
 }
 
+/// `--policy P`, once for each policy
+fn policies_arg<'a>(alloc: Global, words: &'a [&'a str]) -> Arg<'a>
+    ensures rule { rule_of result ≡ policies_rule words.entry }
+    ensures local { result.global ≡ false }
+{
+    Arg::new(alloc, "policy")
+        .long("policy")
+        .value_name("POLICY")
+        .help("A policy to run; given more than once, the reports of the first come first")
+        .required(true)
+        .action(ArgAction::Append)
+        .value_parser(words)
+}
+
 /// `--format lirs|arc`
 fn format_arg<'a>(alloc: Global, words: &'a [&'a str]) -> Arg<'a>
     ensures rule { rule_of result ≡ format_rule words.entry }
@@ -181,7 +205,9 @@ fn format_arg<'a>(alloc: Global, words: &'a [&'a str]) -> Arg<'a>
     Arg::new(alloc, "format")
         .long("format")
         .value_name("FORMAT")
-        .help("The format of the trace")
+        .help(
+            "The format of the trace: lirs has a block number a line, arc a first block and how many blocks",
+        )
         .default_value(Format::Lirs.word())
         .value_parser(words)
 }
@@ -229,6 +255,17 @@ fn concurrent<'a>(alloc: Global, command: Command<'a>) -> Result<Command<'a>, Al
     striped.arg(limit)
 }
 
+// A subcommand of this name, whose help has these texts.
+fn described<'a>(alloc: Global, name: &'a str, help: Help) -> Command<'a>
+    ensures shape { app_of result ≡ new_app name.entry.now }
+    ensures local { (out-Command result).has_globals ≡ false }
+{
+    let named = Command::new(alloc, name);
+    let listed = named.about(help.about);
+    let explained = listed.long_about(help.whole);
+    explained.after_help(help.example)
+}
+
 /// `run`, which prints a report for each policy that is named.
 fn run_command<'a>(
     alloc: Global,
@@ -243,10 +280,7 @@ fn run_command<'a>(
     })) }
     ensures local { IfOk result (λ c. (out-Command c).has_globals ≡ false) }
 {
-    let named = Command::new(alloc, "run");
-    let run = named.about(
-        "Runs policies over the trace on standard input and prints a report of each",
-    );
+    let run = described(alloc, "run", RUN);
     let configured = configured(alloc, run, spreads)?;
     let format = format_arg(alloc, formats);
     let formed = configured.arg(format)?;
@@ -256,7 +290,7 @@ fn run_command<'a>(
     batched.arg(policy)
 }
 
-/// `sweep`, which prints a report of one policy for each capacity that is named.
+/// `sweep`, which prints a report of each policy that is named at each capacity.
 fn sweep_command<'a>(
     alloc: Global,
     policies: &'a [&'a str],
@@ -270,14 +304,11 @@ fn sweep_command<'a>(
     })) }
     ensures local { IfOk result (λ c. (out-Command c).has_globals ≡ false) }
 {
-    let named = Command::new(alloc, "sweep");
-    let sweep = named.about(
-        "Runs a policy over the trace on standard input and prints a report for each capacity",
-    );
+    let sweep = described(alloc, "sweep", SWEEP);
     let divided = divided(alloc, sweep, spreads)?;
     let format = format_arg(alloc, formats);
     let formed = divided.arg(format)?;
-    let policy = one_policy_arg(alloc, "policy", "The policy to run", policies);
+    let policy = policies_arg(alloc, policies);
     let chosen = formed.arg(policy)?;
     let capacities = capacities_arg(alloc);
     chosen.arg(capacities)
@@ -323,10 +354,7 @@ fn part_command<'a>(
     })) }
     ensures local { IfOk result (λ c. (out-Command c).has_globals ≡ false) }
 {
-    let named = Command::new(alloc, "part");
-    let part = named.about(
-        "Prints the first access of the trace on standard input at which just one of two policies hits",
-    );
+    let part = described(alloc, "part", PART);
     paired(alloc, part, policies, formats, spreads)
 }
 
@@ -344,12 +372,13 @@ fn debug_command<'a>(
     })) }
     ensures local { IfOk result (λ c. (out-Command c).has_globals ≡ false) }
 {
-    let named = Command::new(alloc, "debug");
-    let debug = named.about(
-        "Answers commands on standard input about two policies over the trace of a file",
-    );
+    let debug = described(alloc, "debug", DEBUG);
     let paired = paired(alloc, debug, policies, formats, spreads)?;
-    let trace = file_arg(alloc, "trace", "The file of the trace");
+    let trace = file_arg(
+        alloc,
+        "trace",
+        "The file of the trace, of at most 2^30 bytes",
+    );
     paired.arg(trace)
 }
 
@@ -358,12 +387,13 @@ fn replay_command<'a>(alloc: Global, spreads: &'a [&'a str]) -> Result<Command<'
     ensures shape { IfOk result (λ c. app_of c ≡ replay_app spreads.entry) }
     ensures local { IfOk result (λ c. (out-Command c).has_globals ≡ false) }
 {
-    let named = Command::new(alloc, "replay");
-    let replay = named.about(
-        "Answers commands on standard input about the concurrent run whose journal is in a file",
-    );
+    let replay = described(alloc, "replay", REPLAY);
     let configured = configured(alloc, replay, spreads)?;
-    let journal = file_arg(alloc, "journal", "The file of the journal");
+    let journal = file_arg(
+        alloc,
+        "journal",
+        "The file of the journal, of at most 2^30 bytes",
+    );
     let recorded = configured.arg(journal)?;
     concurrent(alloc, recorded)
 }
@@ -377,10 +407,7 @@ fn drive_command<'a>(
     ensures shape { IfOk result (λ c. app_of c ≡ drive_app formats.entry spreads.entry) }
     ensures local { IfOk result (λ c. (out-Command c).has_globals ≡ false) }
 {
-    let named = Command::new(alloc, "drive");
-    let drive = named.about(
-        "Runs the concurrent cache on threads over the trace on standard input and prints its journal",
-    );
+    let drive = described(alloc, "drive", DRIVE);
     let configured = configured(alloc, drive, spreads)?;
     let format = format_arg(alloc, formats);
     let formed = configured.arg(format)?;

@@ -14,6 +14,7 @@ mod commands;
 mod debug;
 mod drive;
 mod fault;
+mod help;
 mod parsing;
 mod part;
 mod replay;

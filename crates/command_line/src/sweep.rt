@@ -5,18 +5,20 @@ ghost use Rattle.command_line.specs.Choices.{all_named};
 ghost use Rattle.command_line.specs.Parsed.{IsSweep, LacksSweep};
 ghost use Rattle.command_line.specs.Program.{capacities_in, capacity_named as capacity_by, number_up_to};
 
-use crate::arguments::{config_with, format, policy, up_to};
+use crate::arguments::{config_with, format, policies, up_to};
 use clap::ArgMatches;
 use std::alloc::{AllocError, Global};
-use step_record::{Job, MAX_CAPACITY};
+use step_record::{Config, MAX_CAPACITY, Policy};
 use trace_read::Format;
 
 /// The arguments of `sweep`.
 #[derive(Debug, Drop)]
 pub struct SweepArguments {
-    /// The policy and its configuration at capacity 1, which each of `capacities` replaces.
-    pub job: Job,
-    /// The capacities, in the order of their reports: each is 1 to `MAX_CAPACITY`.
+    /// The configuration of each policy at capacity 1, which each of `capacities` replaces.
+    pub config: Config,
+    /// The policies, in the order of their reports: those of the first at each capacity come first.
+    pub policies: Vec<Policy>,
+    /// The capacities, in the order of a policy's reports: each is 1 to `MAX_CAPACITY`.
     pub capacities: Vec<u32>,
     /// The format of the trace.
     pub format: Format,
@@ -81,14 +83,15 @@ pub(crate) fn sweep_arguments(
     let Some(config) = config_with(matches, 1) else {
         return Ok(None);
     };
-    let Some(policy) = policy(matches, "policy") else {
+    let Some(policies) = policies(alloc, matches)? else {
         return Ok(None);
     };
     let Some(capacities) = capacities(alloc, matches)? else {
         return Ok(None);
     };
     Ok(Some(SweepArguments {
-        job: Job { policy, config },
+        config,
+        policies,
         capacities,
         format: format(matches),
     }))

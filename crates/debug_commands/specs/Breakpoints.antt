@@ -1,8 +1,10 @@
 -- Breakpoints: what each asks of a step. (Defined by this project.)
-use Rattle.std.specs.Prelude.{ℕ, Bool, false, ◌==◌, ◌||◌, Option, Some, None, List, [], ◌∷◌, codes, if◌then◌else◌}
+use Rattle.std.specs.Prelude.{ℕ, Bool, false, ◌==◌, ◌||◌, Option, Some, None, List, [], ◌∷◌, if◌then◌else◌}
+use Rattle.debug_commands.specs.Names.{command_spelling}
 use Rattle.debug_commands.specs.declared.breakpoint.Breakpoint.{Breakpoint}
 use Rattle.debug_commands.specs.declared.breakpoint.Breakpoint.TheVariants.{Hit, Evict, Halve, Part, Drop}
 use Rattle.debug_commands.specs.declared.breakpoint.StepFacts.{StepFacts}
+use Rattle.debug_commands.specs.declared.name.Name.TheVariants as name
 
 abbrev pub is_key : Option ℕ → ℕ → Bool
 is_key None key = false
@@ -21,9 +23,10 @@ abbrev pub first_holding : StepFacts → List Breakpoint → Option Breakpoint
 first_holding f [] = None
 first_holding f (b ∷ bs) = if holds_after f b then Some b else first_holding f bs
 
+-- the word that names it in a command
 abbrev pub breakpoint_word : Breakpoint → List ℕ
-breakpoint_word (Hit key) = codes "hit"
-breakpoint_word (Evict key) = codes "evict"
-breakpoint_word Halve = codes "halve"
-breakpoint_word Part = codes "part"
-breakpoint_word Drop = codes "drop"
+breakpoint_word (Hit key) = command_spelling name.Hit
+breakpoint_word (Evict key) = command_spelling name.Evict
+breakpoint_word Halve = command_spelling name.Halve
+breakpoint_word Part = command_spelling name.Part
+breakpoint_word Drop = command_spelling name.Drop

@@ -2,6 +2,7 @@
 ghost use Rattle.std.specs.Prelude.{◌≡◌};
 ghost use Rattle.debug_commands.specs.Breakpoints.{first_holding, holds_after, breakpoint_word};
 
+use crate::name::Name;
 use step_record::Key;
 
 /// Where `run` stops: behind a step at which the breakpoint holds.
@@ -41,13 +42,14 @@ impl Breakpoint {
     pub fn word(self) -> &'static [u8]
         ensures { result.now ≡ breakpoint_word self }
     {
-        match self {
-            Breakpoint::Hit(_) => b"hit",
-            Breakpoint::Evict(_) => b"evict",
-            Breakpoint::Halve => b"halve",
-            Breakpoint::Part => b"part",
-            Breakpoint::Drop => b"drop",
-        }
+        let name = match self {
+            Breakpoint::Hit(_) => Name::Hit,
+            Breakpoint::Evict(_) => Name::Evict,
+            Breakpoint::Halve => Name::Halve,
+            Breakpoint::Part => Name::Part,
+            Breakpoint::Drop => Name::Drop,
+        };
+        name.text()
     }
 
     /// Whether it holds after the step.

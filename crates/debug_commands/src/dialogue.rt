@@ -3,9 +3,9 @@ ghost use Rattle.std.specs.Prelude.{◌≡◌, ℕ, Err, IfSome, OnOk, true, fal
 ghost use Rattle.std.specs.Io.KnownBytes.{Appends};
 ghost use Rattle.debug_commands.specs.Dialogue.{dialogue_of, is_quit, IsLineHeld};
 
-use crate::answers::answer;
 use crate::breakpoint::Breakpoint;
 use crate::command::{Command, Line};
+use crate::execute::answer;
 use crate::fault::DebugFault;
 use crate::grammar;
 use crate::lines::{MAX_COMMAND_BYTES, read_line};

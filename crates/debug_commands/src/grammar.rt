@@ -1,6 +1,6 @@
 //! The grammar of a line.
-ghost use Rattle.std.specs.Prelude.{◌≡◌};
-ghost use Rattle.debug_commands.specs.Commands.{command_at, command_in, line_in, command_line_of, point_at};
+ghost use Rattle.std.specs.Prelude.{◌≡◌, ◌∷◌};
+ghost use Rattle.debug_commands.specs.Commands.{command_in, command_line_of, command_named, line_in, point_at};
 ghost use Rattle.text_lines.specs.Reads.{with_rest};
 ghost use Rattle.debug_commands.specs.Words.{words_in};
 
@@ -22,35 +22,34 @@ pub fn line(dialect: Dialect, text: &[u8]) -> Line
 fn line_read(dialect: Dialect, text: &[u8]) -> Line
     ensures { result ≡ line_in dialect (words_in text.now) }
 {
-    let mut ahead = Words::of(text);
-    if ahead.next().is_none() {
+    let mut words = Words::of(text);
+    let Some(first) = words.next() else {
         return Line::Empty;
-    }
-    match command(dialect, text) {
+    };
+    match command(dialect, first, &mut words) {
         Some(command) => Line::Known(command),
         None => Line::Unknown,
     }
 }
 
-// The command that the words of a text are.
-#[tactic(auto, unfolding(crate::specs::Commands::command_in))]
-fn command(dialect: Dialect, text: &[u8]) -> Option<Command>
-    ensures { result ≡ command_in dialect (words_in text.now) }
+// The command that a first word and those behind it are.
+#[tactic(auto, unfolding(crate::specs::Commands::command_in, crate::specs::Commands::command_at, crate::specs::Commands::command_name_at))]
+fn command(dialect: Dialect, first: &[u8], words: &mut Words) -> Option<Command>
+    ensures { result ≡ command_in dialect (first.now ∷ words.old) }
 {
-    let mut words = Words::of(text);
-    let command = next_command(dialect, &mut words)?;
+    let name = Name::of(first)?;
+    let command = named_command(dialect, name, words)?;
     match words.next() {
         None => Some(command),
         Some(_) => None,
     }
 }
 
-// The command that stands next.
-#[tactic(auto, unfolding(crate::specs::Commands::command_at))]
-fn next_command(dialect: Dialect, words: &mut Words) -> Option<Command>
-    ensures { with_rest words.new result ≡ command_at dialect words.old }
+// The command of this name, with what stands next.
+fn named_command(dialect: Dialect, name: Name, words: &mut Words) -> Option<Command>
+    ensures { with_rest words.new result ≡ command_named dialect name words.old }
 {
-    match words.name()? {
+    match name {
         Name::Step => Some(Command::Step(words.number()?)),
         Name::Back => Some(Command::Back(words.number()?)),
         Name::Goto => Some(Command::Goto(words.number()?)),

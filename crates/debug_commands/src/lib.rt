@@ -7,10 +7,10 @@
 //! it read.
 #![tactic(auto)]
 
-mod answers;
 mod breakpoint;
 mod command;
 mod dialogue;
+mod execute;
 mod fault;
 mod grammar;
 mod lines;

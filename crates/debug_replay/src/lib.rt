@@ -5,13 +5,13 @@
 //! the concurrent cache gives after the first steps of the session.
 #![tactic(auto)]
 
-mod replaying;
+mod debugger;
 mod session;
-mod showing;
+mod shell_text;
 mod texts;
 
 pub use debug_commands::DebugFault;
-pub use replaying::run_replay;
+pub use debugger::run_replay;
 
 #[cfg(test)]
 mod tests;

@@ -2,7 +2,7 @@
 ghost use Rattle.std.specs.Prelude.{◌≡◌, nat_lt};
 ghost use Rattle.debug_replay.specs.Replay.{step_facts, hit_key, is_dropped, left_on_step};
 
-use crate::showing::push_shell;
+use crate::shell_text::push_shell;
 use debug_commands::{Dialect, StepFacts, Timeline, push_bytes};
 use journal::Session;
 use journal_text::write_journal;

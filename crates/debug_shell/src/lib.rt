@@ -1,19 +1,6 @@
-//! Where two policies part over one trace, and a debugger that walks there and back.
-//!
-//! `part` runs both policies side by side, once, and promises by their definitions over the whole trace: the access
-//! that it returns is the first at which just one of the two hits, and with `None` there is no such access. `run_debug`
-//! reads commands and answers them: it promises that with `Ok` it has written just the lines that the definition of its
-//! answers gives for the commands it read, in which what is shown is the policies' definitions over the first accesses.
+//! The debuggers, under one name: of two policies over one trace, and of a concurrent cache's journal. Each is a crate
+//! of its own, with the promises of its functions.
 #![tactic(auto)]
 
-mod debugging;
-mod one_policy;
-mod parting;
-mod two_policies;
-
-pub use debug_commands::DebugFault;
-pub use debugging::run_debug;
-pub use parting::{part, push_part};
-
-#[cfg(test)]
-mod tests;
+pub use debug_policies::{DebugFault, part, push_part, run_debug};
+pub use debug_replay::run_replay;

@@ -1,111 +1,80 @@
+//! A run on threads, and what settles it.
+ghost use Rattle.std.specs.Prelude.{◌≤◌, ◌^◌};
+
 use super::*;
+use journal::Session;
+use maintenance::Shell;
+use std::alloc::{AllocError, Global};
 use std::process::Abort;
-use step_record::{Act, Answer, Call, Item, Reply, Worker};
+use std::test::Fail;
+use step_record::{Call, Config, OpenGate, Spread};
 
-const ITEM: Item = Item { key: 1, node: 0 };
+const CONFIG: Config = Config {
+    capacity: 8,
+    main_percent: 99,
+    spread: Spread::Plain,
+    stripes: 1,
+    journal_limit: 1,
+};
 
-// Asks for each act of a walk in its turn, and gives it its reply.
-fn assert_walk(rt: &impl Abort, worker: u8, call: Call, walk: &[(Act, Reply)]) {
-    let worker = Worker::new(worker).expect(rt, "a worker below the limit");
-    let mut local = Some(Local::start(worker, 2, call));
-    for (act, reply) in walk {
-        let place = local.expect(rt, "a walk that is not over");
-        match next_step(place, None) {
-            Next::Do(asked, place) => {
-                assert_eq!(rt; asked, *act);
-                assert!(rt; asked.is_answered_by(reply));
-                local = match next_step(place, Some(*reply)) {
-                    Next::Do(_, place) => Some(place),
-                    Next::Done => None,
-                };
-            }
-            Next::Done => panic!(rt; "the walk is over"),
+fn new_session(alloc: Global, limit: usize) -> Result<Session<Shell>, Fail>
+    requires { (1 ≤ limit) × (limit ≤ 2 ^ 24) }
+{
+    let shell = Shell::new(alloc, &CONFIG)?;
+    Ok(Session::open(alloc, shell, limit))
+}
+
+// One worker that reads a key, removes it and reads it again.
+fn pieces(alloc: Global) -> Result<Vec<Vec<Call>>, AllocError> {
+    let mut calls = Vec::new(alloc);
+    calls.extend_from_slice(&[Call::Read(1), Call::Remove(1), Call::Read(1)])?;
+    let mut pieces = Vec::new(alloc);
+    pieces.push(calls)?;
+    Ok(pieces)
+}
+
+// What a run leaves that makes all walks, or is stopped for memory.
+fn left_by(answer: Result<Driven, DriveFault>) -> Result<Session<Shell>, Fail> {
+    match answer {
+        Ok(driven) => Ok(driven.session),
+        Err(
+            DriveFault::Stopped {
+                session,
+                lists: _,
+                cause: Cause::Memory,
+            },
+        ) => Ok(session),
+        Err(fault) => {
+            let text = fault_text(&fault);
+            drop(fault);
+            Err(Fail::from(text))
         }
     }
-    assert!(rt; local.is_none());
 }
 
-#[test]
-fn a_miss_adds_the_key_and_makes_a_round(rt: HostRuntime) {
-    assert_walk(
-        &rt,
-        0,
-        Call::Read(1),
-        &[
-            (Act::Look { key: 1 }, Reply::Miss),
-            (Act::Put { key: 1 }, Reply::Added { node: 0 }),
-            (Act::AfterWrite, Reply::Drain),
-            (Act::Begin, Reply::Began),
-            (Act::DrainRead { stripe: 0 }, Reply::Drained { item: ITEM }),
-            (Act::DrainRead { stripe: 0 }, Reply::Empty),
-            (Act::DrainRead { stripe: 1 }, Reply::Empty),
-            (Act::DrainWrite, Reply::Applied { item: ITEM }),
-            (Act::DrainWrite, Reply::Enough),
-            (Act::Evict, Reply::Shifted { item: ITEM }),
-            (Act::Evict, Reply::Rejected { item: ITEM }),
-            (Act::Evict, Reply::Fits),
-            (Act::End, Reply::Idle),
-        ],
-    );
-}
-
-#[test]
-fn a_hit_offers_its_item_to_the_stripe_of_the_worker(rt: HostRuntime) {
-    for (worker, stripe) in [(0, 0), (1, 1), (2, 0), (63, 1)] {
-        assert_walk(
-            &rt,
-            worker,
-            Call::Read(1),
-            &[
-                (Act::Look { key: 1 }, Reply::Hit { node: 0 }),
-                (Act::Offer { stripe, item: ITEM }, Reply::Kept),
-                (
-                    Act::AfterRead {
-                        answer: Answer::Kept,
-                    },
-                    Reply::Go,
-                ),
-            ],
-        );
+fn fault_text(fault: &DriveFault) -> &'static str {
+    match fault {
+        DriveFault::OutOfMemory { session: _ } => "out of memory",
+        _ => "not driven",
     }
 }
 
-#[test]
-fn a_worker_that_finds_another_at_the_maintenance_goes_on(rt: HostRuntime) {
-    assert_walk(
-        &rt,
-        0,
-        Call::Read(1),
-        &[
-            (Act::Look { key: 1 }, Reply::Miss),
-            (Act::Put { key: 1 }, Reply::WritesFull),
-            (Act::Begin, Reply::Busy),
-        ],
-    );
+// Settles what a run left.
+fn assert_settles(rt: &impl Abort, session: &mut Session<Shell>) -> Result<(), Fail> {
+    match settle(session) {
+        Ok(_) => assert!(rt; session.engine().holder().is_none()),
+        Err(SettleFault::OutOfMemory { done: _ }) => return Err(Fail::from("out of memory")),
+        Err(_) => return Err(Fail::from("not settled")),
+    }
+    Ok(())
 }
 
+// Where memory is refused once, what the run left is settled.
 #[test]
-fn a_removal_makes_a_round_where_the_key_left(rt: HostRuntime) {
-    assert_walk(
-        &rt,
-        0,
-        Call::Remove(1),
-        &[
-            (Act::Remove { key: 1 }, Reply::Removed { node: 0 }),
-            (Act::AfterWrite, Reply::Drain),
-            (Act::Begin, Reply::Began),
-            (Act::DrainRead { stripe: 0 }, Reply::Empty),
-            (Act::DrainRead { stripe: 1 }, Reply::Empty),
-            (Act::DrainWrite, Reply::Cleared { item: ITEM }),
-            (Act::DrainWrite, Reply::Empty),
-            (Act::Evict, Reply::Fits),
-            (Act::End, Reply::Again),
-        ],
-    );
-    assert_walk(
-        &rt,
-        0,
-        Call::Remove(1),
-        &[(Act::Remove { key: 1 }, Reply::Absent)],
-    );
+fn a_stopped_maintenance_is_settled(rt: HostRuntime) -> Result<(), Fail> {
+    let alloc = rt.alloc();
+    let pieces = pieces(alloc)?;
+    let session = new_session(alloc, 100)?;
+    let mut session = left_by(drive(&rt, alloc, session, pieces, &OpenGate))?;
+    assert_settles(&rt, &mut session)
 }

@@ -5,7 +5,7 @@ use Rattle.step_record.specs.declared.step.Reply.{Reply}
 use Rattle.shell_model.specs.declared.record.Change.{Change}
 use Rattle.shell_model.specs.declared.record.Change.TheVariants.{Nothing}
 use Rattle.shell_model.specs.Shell.{Shell, perform}
-use Rattle.shell_model.specs.Records.{unchanged}
+use Rattle.shell_model.specs.Records.{before_change}
 use Rattle.shell_model.proofs.Making.{MakesTo, perform-makes}
 use Rattle.shell_model.proofs.Histories.{stats-step}
 use Rattle.shell_model.proofs.Bounding.{applied-step}
@@ -16,10 +16,10 @@ perform-stats w b x p e = let m : MakesTo w x b (Some p) = rw e at (perform-make
 pub perform-applied : (w : ℕ) (b : Act) (x : Shell) (p : Reply × Shell) → perform w b x ≡ Some p → p.1.applied ≡ x.applied
 perform-applied w b x p e = let m : MakesTo w x b (Some p) = rw e at (perform-makes w x b) in applied-step x w b p.0 p.1 m
 
-pub unchanged-stats : (c : Change) (x : Shell) → (unchanged c x).stats ≡ x.stats
-unchanged-stats Nothing x = refl
-unchanged-stats c x = refl
+pub before_change-stats : (c : Change) (x : Shell) → (before_change c x).stats ≡ x.stats
+before_change-stats Nothing x = refl
+before_change-stats c x = refl
 
-pub unchanged-applied : (c : Change) (x : Shell) → (unchanged c x).applied ≡ x.applied
-unchanged-applied Nothing x = refl
-unchanged-applied c x = refl
+pub before_change-applied : (c : Change) (x : Shell) → (before_change c x).applied ≡ x.applied
+before_change-applied Nothing x = refl
+before_change-applied c x = refl

@@ -3,16 +3,15 @@
 //! reply and state are those of the definition in `shell_model`, and every step is undone from its record.
 #![tactic(auto)]
 
-mod callers;
-mod counting;
-mod counts;
-mod draining;
-mod evicting;
+mod client_acts;
+mod drains;
+mod evictions;
+mod key_records;
 mod moves;
-mod parts;
 mod shell;
-mod stepping;
+mod shell_core;
+mod step;
 mod table;
-mod undoing;
+mod undo;
 
 pub use shell::Shell;

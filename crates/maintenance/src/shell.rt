@@ -9,7 +9,7 @@ ghost use Rattle.shell_model.specs.Shell.{node_of};
 ghost use Rattle.shell_model.specs.Reached.{IsReachable};
 ghost use Rattle.maintenance.specs.Opened.{IsOpened, triple};
 
-use crate::parts::Core;
+use crate::shell_core::Core;
 use crate::table::Table;
 use admission::Frequency;
 use replacement::Rules;
@@ -63,21 +63,7 @@ impl Shell {
                 frequency,
                 drain: Drain::Idle,
                 holder: None,
-                stats: ShellStats {
-                    hits: 0,
-                    misses: 0,
-                    kept: 0,
-                    full: 0,
-                    lost: 0,
-                    added: 0,
-                    updated: 0,
-                    refused: 0,
-                    evictions: 0,
-                    rejections: 0,
-                    begun: 0,
-                    busy: 0,
-                    removed: 0,
-                },
+                stats: ShellStats::NONE,
                 applied: 0,
             },
         })

@@ -6,6 +6,7 @@ use Rattle.step_record.specs.declared.job.Job.{Job}
 use Rattle.step_record.specs.declared.job.Policy.{Policy}
 use Rattle.step_record.specs.declared.job.Policy.TheVariants.{Lru, SegmentedLru, TinyLfuLru, TinyLfuSegmented, WindowTinyLfu, Clairvoyant}
 use Rattle.step_record.specs.declared.outcome.Outcome.{Outcome}
+use Rattle.step_record.specs.declared.outcome.Outcome.TheVariants.{Hit}
 use Rattle.step_record.specs.Stats.{stats_of}
 use Rattle.clairvoyant.specs.Belady.{belady_outcomes, belady_outcome as outcome_at}
 use Rattle.clairvoyant.specs.Theorems.{ClairvoyantStands, ClairvoyantAccepts}
@@ -16,7 +17,8 @@ use Rattle.policies.specs.QueueStep.{queue_act}
 use Rattle.policies.specs.AnyPolicy.{knows_trace, stats_on, IsBeladyAt}
 use Rattle.policies.specs.AnyStep.{as_queues, as_optimal}
 use Rattle.policies.specs.AnyCounts.{IsQueueStep, IsOptimalStep, queue_step, optimal_step}
-use Rattle.policies.specs.Theorems.{AnyStands, AnyAccepts, AnyIsOne, AnyReports, AnyAnswers, AnyCoversTrace}
+use Rattle.policies.specs.Theorems.{AnyStands, AnyAccepts, AnyIsOne, AnyReports, AnyAnswers, AnyCoversTrace, AnyHitsKeepAll}
+use Rattle.policies.proofs.Leaving.{hits_keep_all}
 use Rattle.policies.proofs.Counting.{after-counts}
 use Rattle.policies.proofs.Answered.{after-answers, after-length, at-answers, outcomes-length}
 use Rattle.policies.proofs.Reached.{act_stands, act_accepts, stands-accesses}
@@ -144,3 +146,11 @@ any_answers law j trace keys rest k (Optimal d) o e x t s h =
     let place : o ≡ outcome_at j.config.capacity trace (length keys) = here ∙ (ap (λ c. outcome_at c d.trace d.stats.accesses) p.capacity
     ∙ (ap (λ y. outcome_at j.config.capacity y d.stats.accesses) p.trace_is ∙ ap (λ i. outcome_at j.config.capacity trace i) p.place)) in
     rw s.policy (place ∙ sym (at-answers j.config.capacity trace (length trace) (length keys) x (omega (arith, l))))
+
+-- undoing a hit asks for no room
+
+pub any_hits_keep_all : AnyHitsKeepAll
+any_hits_keep_all (Queues d) k e h =
+    let q : IsQueueStep (queue_act d k) Hit e = queue_step (queue_act d k) Hit e h in
+    hits_keep_all d k q.next q.steps
+any_hits_keep_all (Optimal d) k e h = tt

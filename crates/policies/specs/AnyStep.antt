@@ -4,13 +4,13 @@ use Rattle.std.specs.Prelude.{◌≡◌, ℕ, Option, Some, None}
 use Rattle.step_record.specs.declared.outcome.Outcome.{Outcome}
 use Rattle.step_record.specs.Pace.{Pace, still}
 use Rattle.clairvoyant.specs.Clairvoyant.{ClairvoyantState, clairvoyant_act}
-use Rattle.clairvoyant.specs.UseRecord.{clairvoyant_undone, ClairvoyantFits}
+use Rattle.clairvoyant.specs.UseRecord.{record_at, clairvoyant_undone, ClairvoyantFits}
 use Rattle.policies.specs.declared.any_policy.AnyPolicy.{AnyPolicy}
 use Rattle.policies.specs.declared.any_policy.AnyPolicy.TheVariants.{Queues, Optimal}
 use Rattle.policies.specs.declared.any_policy.AnyRecord.{AnyRecord}
 use Rattle.policies.specs.declared.any_policy.AnyRecord.TheVariants as done
 use Rattle.policies.specs.QueueCache.{QueueState}
-use Rattle.policies.specs.QueueStep.{queue_act, queue_undone, QueueFits, queue_words, queue_pace}
+use Rattle.policies.specs.QueueStep.{queue_act, queue_record_of, queue_undone, QueueFits, queue_words, queue_pace}
 
 abbrev pub as_queues : Option (Outcome × QueueState) → Option (Outcome × AnyPolicy)
 as_queues None = None
@@ -23,6 +23,16 @@ as_optimal (Some p) = Some (p.0, Optimal p.1)
 abbrev pub any_act : AnyPolicy → ℕ → Option (Outcome × AnyPolicy)
 any_act (Queues d) k = as_queues (queue_act d k)
 any_act (Optimal d) k = as_optimal (clairvoyant_act d k)
+
+-- the record of an access to k, from the cache before it
+abbrev pub any_record_of : ℕ → AnyPolicy → AnyRecord
+any_record_of k (Queues d) = done.Queues (queue_record_of k d)
+any_record_of k (Optimal d) = done.Optimal (record_at d.capacity d.trace d.stats.accesses)
+
+-- an access may be out of memory: the optimal policy has all that it needs once it is open
+abbrev pub MayAllocate : AnyPolicy → Type 0
+MayAllocate (Queues d) = Unit {0}
+MayAllocate (Optimal d) = ⊥
 
 -- a record of the other kind fits nowhere
 abbrev pub any_undone : AnyRecord → AnyPolicy → AnyPolicy

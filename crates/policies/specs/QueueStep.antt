@@ -8,9 +8,12 @@ use Rattle.admission.specs.declared.freq_record.FreqRecord.{FreqRecord}
 use Rattle.admission.specs.Frequency.{FrequencyData, recorded, pace_of as frequency_pace}
 use Rattle.admission.specs.FreqRecord.{frequency_record as freq_record_of, frequency_before as freq_undone, FitsRecord}
 use Rattle.admission.specs.FreqRecord.{size_of as freq_words}
-use Rattle.replacement.specs.Moving.{undone_moves, FitsMoves}
+use Rattle.replacement.specs.declared.record.Moves.{Moves}
+use Rattle.replacement.specs.Admission.{admits_in}
+use Rattle.replacement.specs.Plan.{plan}
+use Rattle.replacement.specs.Moving.{moves_of, undone_moves, FitsMoves}
 use Rattle.policies.specs.declared.record.AccessRecord.{AccessRecord}
-use Rattle.policies.specs.QueueCache.{QueueState, access_response, accessed, StandsFor}
+use Rattle.policies.specs.QueueCache.{QueueState, rules_of, nodeless_item, access_response, accessed, StandsFor}
 
 -- ---- an access
 
@@ -28,9 +31,25 @@ queue_act d k =
 
 -- ---- its record
 
+-- that of the recording of the key, where keys are counted
 abbrev pub counting_record : ℕ → Option FrequencyData → Option FreqRecord
 counting_record k None = None
 counting_record k (Some f) = Some (freq_record_of k f)
+
+-- what the access moves, planned from the queues before it
+abbrev pub access_moves : Option FrequencyData → ℕ → QueueState → Moves
+access_moves f k d = moves_of (plan (rules_of d.job) (admits_in f) (nodeless_item k) d.queues) d.queues
+
+-- The record of an access to k, from the cache before it. It is this and nothing beside: its only lists are those of a
+-- halving that the recording of the key brought.
+abbrev pub queue_record_of : ℕ → QueueState → AccessRecord
+queue_record_of k d = record {
+  counting = counting_record k d.frequency;
+  moves = access_moves (recorded_in k d.frequency) k d;
+  outcome = (access_response (recorded_in k d.frequency) k d).outcome;
+}
+
+-- ---- undoing it
 
 abbrev pub unrecorded : Option FreqRecord → Option FrequencyData → Option FrequencyData
 unrecorded None f = f

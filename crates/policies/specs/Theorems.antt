@@ -1,17 +1,19 @@
 -- What the definitions of the policies promise to callers that see a cache by its steps alone.
-use Rattle.std.specs.Prelude.{◌≡◌, ℕ, ◌≤◌, Some, None, List, [], ◌∷◌, ◌++◌, length, slice_index_or}
+use Rattle.std.specs.Prelude.{◌≡◌, ℕ, ◌≤◌, Some, None, option_map, List, [], ◌∷◌, ◌++◌, length, slice_index_or}
 use Rattle.step_record.specs.declared.limits.TheConstants.{MAX_ACCESSES, MAX_STEPS}
 use Rattle.step_record.specs.declared.job.Job.{Job}
 use Rattle.step_record.specs.declared.job.Policy.TheVariants.{Lru}
 use Rattle.step_record.specs.declared.outcome.Outcome.{Outcome}
+use Rattle.step_record.specs.declared.outcome.Outcome.TheVariants.{Hit}
 use Rattle.step_record.specs.Stats.{stats_of}
 use Rattle.policies.specs.declared.any_policy.AnyPolicy.{AnyPolicy}
 use Rattle.policies.specs.Lru.{lru_residents, lru_outcome}
 use Rattle.policies.specs.InWindow.{in_window}
-use Rattle.policies.specs.QueueCache.{QueueState, state_after, outcome_after, outcomes_after, StandsFor}
-use Rattle.policies.specs.QueueStep.{queue_act}
+use Rattle.policies.specs.QueueCache.{QueueState, access_response, state_after, outcome_after, outcomes_after}
+use Rattle.policies.specs.QueueCache.{StandsFor}
+use Rattle.policies.specs.QueueStep.{recorded_in, queue_act, queue_record_of, IsReached}
 use Rattle.policies.specs.AnyPolicy.{Stands, stats_in, stats_on, outcomes_on}
-use Rattle.policies.specs.AnyStep.{any_act}
+use Rattle.policies.specs.AnyStep.{any_act, any_record_of, NeedsNoRoom}
 
 -- For a cache of queues that made some accesses, an accepted step answers the outcome that the definition gives after
 -- all of them, and leaves a cache that made one access more.
@@ -26,6 +28,18 @@ QueuesAccept = (d : QueueState) (k : ℕ) → queue_act d k ≡ None → d.stats
 -- Its statistics are the counts of the outcomes.
 abbrev pub QueuesCount : Type 0
 QueuesCount = (j : Job) (keys : List ℕ) → (state_after j keys).stats ≡ stats_of (outcomes_after j keys)
+
+-- The record of a hit moves nothing out of the queues, so undoing a hit is never refused.
+abbrev pub HitsKeepAll : Type 0
+HitsKeepAll = (d : QueueState) (k : ℕ) (e : QueueState) → queue_act d k ≡ Some (Hit, e)
+    → (queue_record_of k d).moves.out ≡ None
+
+-- The item that the record of an access moves out is the one that left by the table of moves, and no other: where none
+-- left, undoing the access is never refused.
+abbrev pub RecordsShowLeaver : Type 0
+RecordsShowLeaver = (d : QueueState) (k : ℕ) → IsReached d
+    → option_map (λ m. m.item) (queue_record_of k d).moves.out
+    ≡ (access_response (recorded_in k d.frequency) k d).left
 
 -- For every list of accesses, a cache of Lru holds the last distinct keys, and the outcome of an access is the one that
 -- the whole list gives.
@@ -62,3 +76,7 @@ AnyAnswers = (j : Job) (trace keys rest : List ℕ) (k : ℕ) (d : AnyPolicy) (o
 -- A job over a trace has one outcome for each access.
 abbrev pub AnyCoversTrace : Type 0
 AnyCoversTrace = (j : Job) (trace : List ℕ) → length (outcomes_on j trace) ≡ length trace
+
+-- Undoing a hit of a cache of any policy asks for no room.
+abbrev pub AnyHitsKeepAll : Type 0
+AnyHitsKeepAll = (d : AnyPolicy) (k : ℕ) (e : AnyPolicy) → any_act d k ≡ Some (Hit, e) → NeedsNoRoom (any_record_of k d)

@@ -1,5 +1,5 @@
 //! All six policies as one engine.
-ghost use Rattle.std.specs.Prelude.{◌≡◌, ◌≤◌, ◌↔◌, IfOk, IfErr, IfSome, OnOk, OnErr};
+ghost use Rattle.std.specs.Prelude.{◌≡◌, ◌+◌, ◌≤◌, ◌↔◌, IfOk, IfErr, IfSome, OnOk, OnErr};
 ghost use Rattle.std.specs.Prelude.{Ok, Err, Some, None, [], option_map};
 ghost use Rattle.step_record.specs.declared.limits.TheConstants.{MAX_STEPS};
 
@@ -31,7 +31,7 @@ pub enum AnyRecord {
 impl AnyPolicy {
     ghost use Rattle.step_record.specs.Config.{config_fault};
     ghost use Rattle.policies.specs.AnyPolicy.{Stands, stats_in, any_residents, frequency_in};
-    ghost use Rattle.policies.specs.AnyStep.{any_act};
+    ghost use Rattle.policies.specs.AnyStep.{any_act, MayAllocate};
 
     /// An empty cache for a job over a trace. It requires a configuration that `Config::check` accepts. The one error
     /// is that an allocation failed.
@@ -85,7 +85,8 @@ impl AnyPolicy {
 
     /// Makes an access that is not to be undone: that of `apply`, without its undo record.
     ///
-    /// Errors: `NotNow` exactly where `apply` gives it, and `OutOfMemory`; each leaves the cache as it was.
+    /// Errors: `NotNow` exactly where `apply` gives it, and `OutOfMemory`, which the optimal policy never gives; each
+    /// leaves the cache as it was.
     ///
     /// `C` is a type of the caller's choice, of which nothing is asked: each has code of its own, so that code which is
     /// called at one place is part of the loop there.
@@ -94,6 +95,8 @@ impl AnyPolicy {
         ensures accepted { IfOk result (λ o. any_act self.old key ≡ Some (o, self.new)) }
         ensures not_now { result ≡ Err StepFault.NotNow ↔ any_act self.old key ≡ None }
         ensures err { OnErr result (self.new ≡ self.old) }
+        // The optimal policy is never out of memory.
+        ensures memory { result ≡ Err StepFault.OutOfMemory → MayAllocate self.old }
     {
         match self {
             AnyPolicy::Queues(cache) => cache.access::<C>(key),
@@ -138,7 +141,9 @@ impl AnyPolicy {
 
 impl Engine for AnyPolicy {
     ghost use Rattle.policies.specs.AnyPolicy.{stats_in};
-    ghost use Rattle.policies.specs.AnyStep.{any_act, any_undone, AnyFits, NeedsNoRoom, any_words, any_pace};
+    ghost use Rattle.policies.specs.AnyStep.{any_act, any_record_of, MayAllocate, any_undone, AnyFits, NeedsNoRoom};
+    ghost use Rattle.policies.specs.AnyStep.{any_words, any_pace};
+    ghost use Rattle.step_record.specs.Pace.{words_of_halvings};
     ghost use Rattle.policies.specs.AnyCounts.{any_counts, any_ends, any_paced};
 
     type Step = Key;
@@ -164,7 +169,19 @@ impl Engine for AnyPolicy {
     ghost pace = { any_pace };
 
     #[inline(always)]
-    fn apply(&mut self, step: &Key) -> Result<(Outcome, AnyRecord), StepFault> {
+    fn apply(&mut self, step: &Key) -> Result<(Outcome, AnyRecord), StepFault>
+        ensures accepted { IfOk result (λ r. any_act self.old step.now ≡ Some (r.0, self.new)) }
+        ensures fits { IfOk result (λ r. AnyFits r.1 self.new) }
+        ensures undone { IfOk result (λ r. any_undone r.1 self.new ≡ self.old) }
+        ensures words { IfOk result (λ r. words_of_halvings (any_pace self.new)
+            ≡ words_of_halvings (any_pace (any_undone r.1 self.new)) + any_words r.1) }
+        ensures not_now { result ≡ Err StepFault.NotNow ↔ any_act self.old step.now ≡ None }
+        ensures err { OnErr result (self.new ≡ self.old) }
+        // The record is that of an access to this key, from the cache before it, and nothing beside.
+        ensures record_is { IfOk result (λ r. r.1 ≡ any_record_of step.now self.old) }
+        // The optimal policy is never out of memory.
+        ensures memory { result ≡ Err StepFault.OutOfMemory → MayAllocate self.old }
+    {
         match self {
             AnyPolicy::Queues(cache) => match cache.apply(step) {
                 Ok((outcome, done)) => Ok((outcome, AnyRecord::Queues(done))),

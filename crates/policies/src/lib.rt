@@ -26,8 +26,9 @@ pub use queue_cache::QueueCache;
 pub use record::AccessRecord;
 pub use segmented_lru::SegmentedLru;
 pub use theorems::{
-    any_accepts, any_answers, any_covers_trace, any_is_one, any_reports, any_stands, lru_stands,
-    queues_accept, queues_count, queues_stand,
+    any_accepts, any_answers, any_covers_trace, any_hits_keep_all, any_is_one, any_reports,
+    any_stands, hits_keep_all, lru_stands, queues_accept, queues_count, queues_stand,
+    records_show_leaver,
 };
 pub use tiny_lfu::TinyLfu;
 pub use window_tiny_lfu::WindowTinyLfu;

@@ -6,7 +6,8 @@ ghost use Rattle.step_record.specs.Config.{config_fault};
 ghost use Rattle.step_record.specs.Pace.{words_of_halvings};
 ghost use Rattle.replacement.specs.Admission.{admits_in};
 ghost use Rattle.replacement.specs.Table.{access};
-ghost use Rattle.replacement.specs.Moving.{undone_moves, FitsMoves};
+ghost use Rattle.replacement.specs.Plan.{plan};
+ghost use Rattle.replacement.specs.Moving.{moves_of, undone_moves, FitsMoves};
 ghost use Rattle.policies.specs.QueueCache.{rules_of, is_counting, nodeless_item, frequency_after};
 ghost use Rattle.policies.specs.QueueStep.{recorded_in, counting_record, unrecorded, FitsCounting};
 ghost use Rattle.policies.specs.QueueFields.{FewHalvings};
@@ -165,6 +166,8 @@ fn access_key<C>(
         ≡ (access rules.now (admits_in frequency.now) (nodeless_item key) segments.old.lists).outcome }
     ensures lists { segments.new.lists
         ≡ (access rules.now (admits_in frequency.now) (nodeless_item key) segments.old.lists).queues }
+    ensures record { result.moves ≡ moves_of
+        (plan rules.now (admits_in frequency.now) (nodeless_item key) segments.old.lists) segments.old.lists }
     ensures fits { FitsMoves result.moves segments.new.lists }
     ensures undone { undone_moves result.moves segments.new.lists ≡ segments.old.lists }
 {
@@ -173,7 +176,8 @@ fn access_key<C>(
 
 impl QueueCache {
     ghost use Rattle.policies.specs.QueueCache.{StandsFor, residents_in};
-    ghost use Rattle.policies.specs.QueueStep.{queue_act, queue_undone, QueueFits, queue_words, queue_pace};
+    ghost use Rattle.policies.specs.QueueStep.{queue_act, queue_record_of, queue_undone, QueueFits};
+    ghost use Rattle.policies.specs.QueueStep.{queue_words, queue_pace};
 
     /// An empty cache for a job. It requires a configuration that `Config::check` accepts, and one of the five policies
     /// of queues. The one error is that an allocation failed.
@@ -237,6 +241,7 @@ impl QueueCache {
             ≡ words_of_halvings (queue_pace (queue_undone r.1 self.new)) + queue_words r.1) }
         ensures not_now { result ≡ Err StepFault.NotNow ↔ queue_act self.old key ≡ None }
         ensures err { OnErr result (self.new ≡ self.old) }
+        ensures record_is { IfOk result (λ r. r.1 ≡ queue_record_of key self.old) }
     {
         make_room(&self.stats, &mut self.segments)?;
         let Ok(counting) = record_in(&mut self.frequency, key) else {
@@ -287,7 +292,8 @@ impl QueueCache {
 }
 
 impl Engine for QueueCache {
-    ghost use Rattle.policies.specs.QueueStep.{queue_act, queue_undone, QueueFits, queue_words, queue_pace};
+    ghost use Rattle.policies.specs.QueueStep.{queue_act, queue_record_of, queue_undone, QueueFits};
+    ghost use Rattle.policies.specs.QueueStep.{queue_words, queue_pace};
     ghost use Rattle.policies.specs.QueueCounts.{act_counts, act_ends, act_paced};
 
     type Step = Key;
@@ -313,7 +319,17 @@ impl Engine for QueueCache {
     ghost pace = { queue_pace };
 
     #[inline(always)]
-    fn apply(&mut self, step: &Key) -> Result<(Outcome, AccessRecord), StepFault> {
+    fn apply(&mut self, step: &Key) -> Result<(Outcome, AccessRecord), StepFault>
+        ensures accepted { IfOk result (λ r. queue_act self.old step.now ≡ Some (r.0, self.new)) }
+        ensures fits { IfOk result (λ r. QueueFits r.1 self.new) }
+        ensures undone { IfOk result (λ r. queue_undone r.1 self.new ≡ self.old) }
+        ensures words { IfOk result (λ r. words_of_halvings (queue_pace self.new)
+            ≡ words_of_halvings (queue_pace (queue_undone r.1 self.new)) + queue_words r.1) }
+        ensures not_now { result ≡ Err StepFault.NotNow ↔ queue_act self.old step.now ≡ None }
+        ensures err { OnErr result (self.new ≡ self.old) }
+        // The record is that of an access to this key, from the cache before it, and nothing beside.
+        ensures record_is { IfOk result (λ r. r.1 ≡ queue_record_of step.now self.old) }
+    {
         self.step(*step)
     }
 

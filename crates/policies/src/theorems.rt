@@ -1,6 +1,7 @@
 //! Theorems on the policies' definitions, for callers that see a cache by its steps alone. Each of these functions does
 //! nothing: its contract is the theorem.
-ghost use Rattle.policies.specs.Theorems.{QueuesStand, QueuesAccept, QueuesCount, LruStands};
+ghost use Rattle.policies.specs.Theorems.{QueuesStand, QueuesAccept, QueuesCount, HitsKeepAll, RecordsShowLeaver};
+ghost use Rattle.policies.specs.Theorems.{LruStands, AnyHitsKeepAll};
 ghost use Rattle.policies.specs.Theorems.{AnyStands, AnyAccepts, AnyIsOne, AnyReports, AnyAnswers, AnyCoversTrace};
 
 use clairvoyant::{clairvoyant_accepts, clairvoyant_stands};
@@ -19,6 +20,17 @@ pub fn queues_accept()
 /// The statistics of a cache of queues are the counts of its outcomes.
 pub fn queues_count()
     ensures { QueuesCount }
+{}
+
+/// The undo record of a hit moves nothing out of the queues, so undoing a hit is never refused.
+pub fn hits_keep_all()
+    ensures { HitsKeepAll }
+{}
+
+/// The item that an undo record moves out is the one that left in the access, and no other: undoing an access by which
+/// none left is never refused.
+pub fn records_show_leaver()
+    ensures { RecordsShowLeaver }
 {}
 
 /// What the table of moves gives for Lru is what the last distinct keys give, over the whole list of accesses.
@@ -60,4 +72,9 @@ pub fn any_answers()
 /// A job over a trace has one outcome for each access.
 pub fn any_covers_trace()
     ensures { AnyCoversTrace }
+{}
+
+/// Undoing a hit of a cache of any policy asks for no room, so it is never refused.
+pub fn any_hits_keep_all()
+    ensures { AnyHitsKeepAll }
 {}

@@ -1,5 +1,5 @@
 //! W-TinyLFU: a window before a filtered segmented Lru (TinyLFU, 2017; Caffeine's Design page).
-ghost use Rattle.std.specs.Prelude.{◌≡◌, ◌≤◌, IfOk, IfErr, OnOk, OnErr, Ok, [], option_map, None};
+ghost use Rattle.std.specs.Prelude.{◌≡◌, ◌+◌, ◌≤◌, ◌↔◌, IfOk, IfErr, OnOk, OnErr, Ok, [], option_map, None};
 ghost use Rattle.step_record.specs.declared.limits.TheConstants.{MAX_STEPS};
 
 use crate::queue_cache::QueueCache;
@@ -69,7 +69,9 @@ impl WindowTinyLfu {
 }
 
 impl Engine for WindowTinyLfu {
-    ghost use Rattle.policies.specs.QueueStep.{queue_act, queue_undone, QueueFits, queue_words, queue_pace};
+    ghost use Rattle.policies.specs.QueueStep.{queue_act, queue_record_of, queue_undone, QueueFits};
+    ghost use Rattle.policies.specs.QueueStep.{queue_words, queue_pace};
+    ghost use Rattle.step_record.specs.Pace.{words_of_halvings};
     ghost use Rattle.policies.specs.QueueCounts.{act_counts, act_ends, act_paced};
 
     type Step = Key;
@@ -95,7 +97,17 @@ impl Engine for WindowTinyLfu {
     ghost pace = { queue_pace };
 
     #[inline(always)]
-    fn apply(&mut self, step: &Key) -> Result<(Outcome, AccessRecord), StepFault> {
+    fn apply(&mut self, step: &Key) -> Result<(Outcome, AccessRecord), StepFault>
+        ensures accepted { IfOk result (λ r. queue_act self.old step.now ≡ Some (r.0, self.new)) }
+        ensures fits { IfOk result (λ r. QueueFits r.1 self.new) }
+        ensures undone { IfOk result (λ r. queue_undone r.1 self.new ≡ self.old) }
+        ensures words { IfOk result (λ r. words_of_halvings (queue_pace self.new)
+            ≡ words_of_halvings (queue_pace (queue_undone r.1 self.new)) + queue_words r.1) }
+        ensures not_now { result ≡ Err StepFault.NotNow ↔ queue_act self.old step.now ≡ None }
+        ensures err { OnErr result (self.new ≡ self.old) }
+        // The record is that of an access to this key, from the cache before it, and nothing beside.
+        ensures record_is { IfOk result (λ r. r.1 ≡ queue_record_of step.now self.old) }
+    {
         self.cache.apply(step)
     }
 

@@ -5,3 +5,4 @@ pub mod Pieces
 pub mod Rounds
 pub mod Swept
 pub mod Accepted
+pub mod Sweeps

@@ -3,3 +3,4 @@ pub mod Faults
 pub mod Accesses
 pub mod Rule
 pub mod Actors
+pub mod Sweep

@@ -1,17 +1,19 @@
 //! One job over a trace, on this thread.
-ghost use Rattle.std.specs.Prelude.{◌≡◌, Ok, IfOk, IfSome, [], ◌∷◌};
+ghost use Rattle.std.specs.Prelude.{◌≡◌, ℕ, List, Ok, IfOk, IfSome, [], ◌∷◌};
 ghost use Rattle.std.proofs.Props.{props};
 ghost use Rattle.step_record.specs.Config.{config_fault};
 ghost use Rattle.policy_actors.specs.Faults.{faulty_in, ReturnsFault};
 ghost use Rattle.policy_actors.specs.Reports.{report_on};
+ghost use Rattle.stack_distances.specs.Curve.{curve_of};
 
 use crate::accesses::{access_all, report_by};
 use crate::fault::ActorFault;
 use clairvoyant::NextUse;
 use policies::AnyPolicy;
 use report::Report;
+use stack_distances::Curve;
 use std::alloc::{AllocError, Global};
-use step_record::{Job, Trace};
+use step_record::{Job, Policy, Trace};
 
 /// The report of a job over the trace, made on this thread.
 ///
@@ -20,24 +22,27 @@ pub fn run_one(alloc: Global, trace: &Trace, job: &Job) -> Result<Report, ActorF
     ensures report { IfOk result (λ r. r ≡ report_on job.now trace.now) }
     ensures fault { ReturnsFault (faulty_in (job.now ∷ [])) result }
 {
-    let input = Input::new(trace, None);
+    let input = Input::new(trace, None, None);
     run_over(alloc, &input, job)
 }
 
-/// A trace, with its next uses where they were found beforehand.
+/// A trace, with what was found of it beforehand: the next uses of its keys, and the curve of Lru.
 #[derive(Drop)]
 pub struct Input<'a> {
     pub trace: &'a Trace,
     pub uses: Option<&'a NextUse>,
+    pub curve: Option<&'a Curve>,
     pub ghost known: { IfSome uses (λ u. u.now ≡ trace.now) } by { Prim.hlevel props },
+    pub ghost found: { IfSome curve (λ c. c.now ≡ curve_of trace.now) } by { Prim.hlevel props },
 }
 
 impl<'a> Input<'a> {
-    pub fn new(trace: &'a Trace, uses: Option<&'a NextUse>) -> Input<'a>
-        requires { IfSome uses (λ u. u.now ≡ trace.now) }
+    pub fn new(trace: &'a Trace, uses: Option<&'a NextUse>, curve: Option<&'a Curve>) -> Input<'a>
+        requires known { IfSome uses (λ u. u.now ≡ trace.now) }
+        requires found { IfSome curve (λ c. c.now ≡ curve_of trace.now) }
         ensures { result.trace.now ≡ trace.now }
     {
-        Input { trace, uses }
+        Input { trace, uses, curve }
     }
 }
 
@@ -58,8 +63,22 @@ fn run_checked(alloc: Global, input: &Input<'_>, job: &Job) -> Result<Report, Al
     requires { config_fault job.now.config ≡ Ok tt }
     ensures { IfOk result (λ r. r ≡ report_on job.now input.now.trace.now) }
 {
+    if job.policy == Policy::Lru
+        && let Some(curve) = input.curve
+    {
+        return Ok(read_report(curve, job));
+    }
     let trace = input.trace;
     let cache = AnyPolicy::open_with(alloc, job, trace, input.uses)?;
     let cache = access_all(cache, trace.keys())?;
     Ok(report_by(&cache, job))
+}
+
+// The report of a job of Lru, read off the curve of the trace.
+fn read_report(curve: &Curve, job: &Job) -> Report
+    requires lru { job.now.policy ≡ Policy.Lru }
+    requires checked { config_fault job.now.config ≡ Ok tt }
+    ensures { (trace : List ℕ) → curve.now ≡ curve_of trace → result ≡ report_on job.now trace }
+{
+    Report::of(job, curve.stats(job.config.capacity))
 }

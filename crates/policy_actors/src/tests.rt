@@ -278,6 +278,98 @@ fn sweeps(rt: HostRuntime) -> Result<(), Fail> {
     compare_sweep(&rt, alloc, &other, Policy::Clairvoyant, &want)
 }
 
+// What Lru counts over the accesses 1, 2, 3, 1, 4, 2: the distances are none, none, none, 3, none, 4.
+fn lru_counted(capacity: u32) -> Report {
+    let hits = match capacity {
+        1 | 2 => 0,
+        3 => 1,
+        _ => 2,
+    };
+    let misses = 6u64.wrapping_sub(hits);
+    let evictions = misses.wrapping_sub(u64::from(capacity.min(4)));
+    counted(Policy::Lru, capacity, [6, hits, misses, evictions, 0])
+}
+
+// Capacities that rise, fall and come again: so many that the reports are read off the curve.
+#[test]
+fn many_capacities_of_lru(rt: HostRuntime) -> Result<(), Fail> {
+    let alloc = rt.alloc();
+    let some = Trace::new(vec![in alloc; 1, 2, 3, 1, 4, 2]?);
+    let capacities = [
+        1,
+        1 << 20,
+        3,
+        2,
+        1,
+        3,
+        3,
+        4,
+        5,
+        6,
+        7,
+        64,
+        63,
+        4,
+        2,
+        1,
+        1 << 20,
+    ];
+    let reports = match sweep(&rt, alloc, &some, &job(Policy::Lru, 7), &capacities) {
+        Ok(reports) => reports,
+        Err(fault) => return Err(failed(fault)),
+    };
+    assert_eq!(rt; reports.len(), capacities.len());
+    for (report, capacity) in reports.iter().zip(capacities.iter()) {
+        assert_eq!(rt; *report, lru_counted(*capacity));
+    }
+    Ok(())
+}
+
+// Each policy at each capacity before the next policy, one of them twice.
+#[test]
+fn sweeps_of_several_policies(rt: HostRuntime) -> Result<(), Fail> {
+    let alloc = rt.alloc();
+    let some = Trace::new(vec![in alloc; 1, 2, 3, 1, 2]?);
+    let jobs = [
+        job(Policy::Lru, 7),
+        job(Policy::Clairvoyant, 7),
+        job(Policy::Lru, 7),
+    ];
+    let want = [
+        counted(Policy::Lru, 3, [5, 2, 3, 0, 0]),
+        counted(Policy::Lru, 1, [5, 0, 5, 4, 0]),
+        counted(Policy::Clairvoyant, 3, [5, 2, 3, 0, 0]),
+        counted(Policy::Clairvoyant, 1, [5, 1, 4, 3, 2]),
+        counted(Policy::Lru, 3, [5, 2, 3, 0, 0]),
+        counted(Policy::Lru, 1, [5, 0, 5, 4, 0]),
+    ];
+    match sweep_each(&rt, alloc, &some, &jobs, &[3, 1]) {
+        Ok(reports) => assert_eq!(rt; reports.as_slice(), want.as_slice()),
+        Err(fault) => return Err(failed(fault)),
+    }
+    Ok(())
+}
+
+#[test]
+fn faults_of_a_sweep_come_in_their_order(rt: HostRuntime) -> Result<(), Fail> {
+    let alloc = rt.alloc();
+    let some = trace(alloc)?;
+    let good = job(Policy::Lru, 2);
+    assert!(rt;
+        matches!(
+            sweep_each(&rt, alloc, &some, &[good; 65], &[0]),
+            Err(ActorFault::Actors)
+        )
+    );
+    assert!(rt;
+        matches!(
+            sweep_each(&rt, alloc, &some, &[good, good], &[1, 2, 0, 0]),
+            Err(ActorFault::Config { index: 2 })
+        )
+    );
+    Ok(())
+}
+
 #[test]
 fn a_fault_is_shown_by_its_name(rt: HostRuntime) -> Result<(), Fail> {
     for (fault, text) in [

@@ -36,7 +36,7 @@ lengths-renewed q k b o u n =
     lengths-sent q k b o ∙ (ap (raised q) (lengths-out q k o u n) ∙ raised-lowered q (lengths_of o) (some-length q k o n))
 
 module _ (slots : List Slot) (o : Order) (h : IsQueued slots o) (k : ℕ) (n : 1 ≤ count k (used o)) where
-  unused : count k (used (freed k o)) ≡ 0
+  pub unused : count k (used (freed k o)) ≡ 0
   unused = let s = eq-eqb k k refl in used-freed k k o ∙ rw s refl
 
   -- the slot goes out of the index and comes in again

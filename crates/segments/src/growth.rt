@@ -1,4 +1,4 @@
-//! How a table gets room for one more item: its first slots and chains, a free slot more, and wider chains.
+//! How a table gets room for one more item: its first slots and buckets, a free slot more, and more buckets.
 ghost use Rattle.std.specs.Prelude.{◌≡◌, ◌<◌, ◌≤◌, ◌*◌, ◌^◌, ◌++◌, ◌∷◌, [], OnOk, OnErr, IfOk, length};
 ghost use Rattle.segments.specs.Ring.{items, chains, olders, newers, tags, IsRing, ring, order_of, no_slots, more_free};
 ghost use Rattle.segments.specs.Ring.{lists, bare_slot, IsQueued};
@@ -13,13 +13,13 @@ use crate::slot::Slot;
 use std::alloc::{AllocError, Global};
 use step_record::Item;
 
-/// Slots are numbered by 32 bits.
-const MAX_SLOTS: usize = (1 << 32) - 1;
+/// An index of 2^31 buckets has right branches for so many slots.
+const MAX_SLOTS: usize = 1 << 30;
 
-/// The first index has at least 2^3 chains.
+/// The first index has at least 2^3 buckets.
 const MIN_FIRST_BITS: u32 = 3;
 
-/// The first index has at most 2^24 chains.
+/// The first index has at most 2^24 buckets.
 const MAX_FIRST_BITS: u32 = 24;
 
 /// A slot of the ring that holds no item.
@@ -44,7 +44,7 @@ fn first_slots(alloc: Global) -> Result<Vec<Slot>, AllocError>
     Ok(slots)
 }
 
-/// By how many bits the chains of the first index are numbered, if so many are wished for.
+/// By how many bits the buckets of the first index are numbered, if so many are wished for.
 fn first_bits(wished: u32) -> u32
     ensures { (3 ≤ result) × (result < 32) }
 {
@@ -54,7 +54,7 @@ fn first_bits(wished: u32) -> u32
     wished
 }
 
-/// Makes the first slots and chains where there are none.
+/// Makes the first slots and buckets where there are none.
 fn begin(alloc: Global, slots: &mut Vec<Slot>, index: &mut Index) -> Result<(), AllocError>
     requires sound { IsSound slots.old.items index.old.heads.items index.old.bits }
     requires few { length slots.old.items < 2 ^ 32 }
@@ -93,18 +93,19 @@ fn add_slot(slots: &mut Vec<Slot>) -> Result<(), AllocError>
     Ok(())
 }
 
-/// Spreads the items over twice as many chains where there are fewer than two chains a slot; all slots are in use.
+/// Spreads the items over twice as many buckets where there are fewer than two for a slot; all slots are in use.
 fn widen(alloc: Global, slots: &mut [Slot], index: &mut Index) -> Result<(), AllocError>
     requires held { IsInSlots slots.old index.old.heads.items index.old.bits (order_of slots.old) }
     requires free { (order_of slots.old).free ≡ [] }
-    requires few { length slots.old ≤ 2 ^ 32 }
+    requires few { length slots.old ≤ 2 ^ 30 }
     requires load { IsLoaded (length slots.old) index.old.bits }
     ensures held { IsInSlots slots.new index.new.heads.items index.new.bits (order_of slots.old) }
     ensures items { items slots.new ≡ items slots.old }
     ensures load { IsLoaded (length slots.new) index.new.bits }
-    ensures roomy { OnOk result (index.new.bits < 31 → 2 * length slots.new ≤ 2 ^ index.new.bits) }
+    ensures roomy { OnOk result (2 * length slots.new ≤ 2 ^ index.new.bits) }
 {
-    if slots.len() <= index.heads.len() / 2 || index.bits >= 31 {
+    let buckets = 1usize << index.bits;
+    if slots.len() <= buckets / 2 || index.bits >= 31 {
         return Ok(());
     }
     let mut wider = Index::new(alloc, index.bits + 1)?;
@@ -113,7 +114,7 @@ fn widen(alloc: Global, slots: &mut [Slot], index: &mut Index) -> Result<(), All
     Ok(())
 }
 
-/// Adds a free slot where there is none, and chains where there are too few. All room is made first.
+/// Adds a free slot where there is none, and buckets where there are too few. All room is made first.
 #[cold]
 #[inline(never)]
 pub(crate) fn grow(

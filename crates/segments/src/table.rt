@@ -37,7 +37,7 @@ impl Model for Table {
     ghost invariant = { λ t. IsKept t.slots.items t.index.heads.items t.index.bits t.lengths };
 }
 
-// How many bits number two chains for each of so many items.
+// How many bits number two buckets for each of so many items.
 fn bits_for(items: u32) -> u32 {
     u32::wrapping_sub(33, items.wrapping_sub(1).leading_zeros())
 }

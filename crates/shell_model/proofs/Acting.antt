@@ -10,7 +10,7 @@ use Rattle.shell_model.specs.declared.record.Change.TheVariants.{Nothing, Offere
 use Rattle.shell_model.specs.Shell.{Shell, perform, tallied, act}
 use Rattle.shell_model.specs.ShellStats.{shell_stats_after, shell_stats_before, IsReplyCounted, is_hit_reply, is_miss_reply, is_kept_reply, is_full_reply, is_lost_reply, is_added_reply, is_updated_reply, is_refused_reply, is_eviction_reply, is_rejection_reply, is_begun_reply, is_busy_reply, is_removed_reply}
 use Rattle.step_record.specs.Stats.{one}
-use Rattle.shell_model.specs.Records.{unchanged, FitsChange, undone_step, FitsStep, change_of}
+use Rattle.shell_model.specs.Records.{before_change, FitsChange, undone_step, FitsStep, change_of}
 use Rattle.shell_model.specs.Consistent.{IsConsistent}
 use Rattle.shell_model.proofs.Undoing.{GoesTo, perform-goes}
 
@@ -70,7 +70,7 @@ tallied-fits (Cleared b i r) y s n h = h
 tallied-fits (Evicted b g) y s n h = (record { moves = h.0.moves; table = h.0.table }, h.1)
 tallied-fits (Ended k b c) y s n h = h
 
-tallied-back : (c : Change) (y : Shell) (s : ShellStats) (n : ℕ) → unchanged c record y { stats = s; applied = n } ≡ record (unchanged c y) { stats = s; applied = n }
+tallied-back : (c : Change) (y : Shell) (s : ShellStats) (n : ℕ) → before_change c record y { stats = s; applied = n } ≡ record (before_change c y) { stats = s; applied = n }
 tallied-back Nothing y s n = refl
 tallied-back (Offered k i) y s n = refl
 tallied-back (Updated i) y s n = refl
@@ -85,7 +85,7 @@ tallied-back (Cleared b i r) y s n = refl
 tallied-back (Evicted b g) y s n = refl
 tallied-back (Ended k b c) y s n = refl
 
-pub same-tally : (c : Change) (y : Shell) → record (unchanged c y) { stats = y.stats; applied = y.applied } ≡ unchanged c y
+pub same-tally : (c : Change) (y : Shell) → record (before_change c y) { stats = y.stats; applied = y.applied } ≡ before_change c y
 same-tally Nothing y = refl
 same-tally (Offered k i) y = refl
 same-tally (Updated i) y = refl

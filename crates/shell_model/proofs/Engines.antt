@@ -19,7 +19,7 @@ use Rattle.shell_model.specs.declared.record.Change.{Change}
 use Rattle.shell_model.specs.declared.record.Change.TheVariants.{Nothing, Read, Applied}
 use Rattle.shell_model.specs.Frequency.{frequency_recorded, frequency_unrecorded, FitsFrequency}
 use Rattle.shell_model.specs.Shell.{Shell, perform, act, held_by, hold_end}
-use Rattle.shell_model.specs.Records.{unchanged, undone_step, FitsChange, FitsStep, change_size, record_size}
+use Rattle.shell_model.specs.Records.{before_change, undone_step, FitsChange, FitsStep, change_size, record_size}
 use Rattle.shell_model.specs.Laws.{MadeStep, is_ending}
 use Rattle.shell_model.specs.Reached.{worker_of, HoldLaws}
 use Rattle.shell_model.proofs.Making as k
@@ -77,7 +77,7 @@ key-weighs : (f : FrequencyData) (r : FreqRecord) → FitsFrequency r f → word
 unfolding FitsFrequency frequency_unrecorded
 key-weighs f r h = weight_falls f r h
 
-change-weighs : (c : Change) (x : Shell) → FitsChange c x → words_of_halvings (pace_of x.frequency) ≡ words_of_halvings (pace_of (unchanged c x).frequency) + change_size c
+change-weighs : (c : Change) (x : Shell) → FitsChange c x → words_of_halvings (pace_of x.frequency) ≡ words_of_halvings (pace_of (before_change c x).frequency) + change_size c
 change-weighs (Read s i u) x h = key-weighs x.frequency u.frequency h.0.frequency
 change-weighs (Applied p t u) x h = key-weighs x.frequency u.frequency h.0.frequency
 change-weighs Nothing x h = omega arith

@@ -1,5 +1,5 @@
 -- A reachable shell has as many read buffers as its configuration says, and these are 1 to 64.
-use Rattle.std.proofs.Common.{◌≡◌, ℕ, suc, zero, ◌≤◌, nat_le, true, false, ◌&&◌, Ok, List, [], ◌∷◌, length, replicate, set, ap, ◌∙◌, sym, refl, arith, inl, inr, length-set}
+use Rattle.std.proofs.Common.{◌≡◌, ℕ, suc, zero, ◌≤◌, nat_le, true, false, ◌&&◌, Ok, List, [], ◌∷◌, length, replicate, ap, ◌∙◌, sym, refl, arith, inl, inr, length-set}
 use Rattle.std.specs.Int.{is_power_of_two}
 use Rattle.std.proofs.lemmas.Bool.{cases_Bool, and_parts}
 use Rattle.std.proofs.lemmas.Bool.Decides.{nat_tests}

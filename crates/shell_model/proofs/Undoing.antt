@@ -20,7 +20,7 @@ use Rattle.replacement.specs.declared.record.Moves.{Moves}
 use Rattle.replacement.specs.Rules.{three_queues}
 use Rattle.replacement.specs.Table.{hit_in}
 use Rattle.replacement.specs.Plan.{Plan, hit_plan, stay_plan, candidate_of, eviction_plan}
-use Rattle.replacement.specs.Moving.{transferred, queues_after, response, removal_record, moves_of, undone_moves, FitsMoves}
+use Rattle.replacement.specs.Moving.{transferred, queues_after, response, removal_record, moves_of, undone_by, undone_moves, FitsBy, FitsMoves}
 use Rattle.replacement.proofs.Carrying.{carries}
 use Rattle.replacement.proofs.Planned.{hits-planned}
 use Rattle.shell_buffers.specs.declared.task.Task.{Task}
@@ -33,7 +33,7 @@ use Rattle.shell_model.specs.Frequency.{frequency_unrecorded, admits}
 use Rattle.shell_buffers.specs.Buffers.{stripe_at, but_newest}
 use Rattle.shell_model.specs.Shell.{Shell, node_of, is_listed, unlisted, shell_protected_size, cleared_from, offer, put, put_at, removing, remove_at, begin, is_over, held_by, in_phase, drain_at_end, touching, drain_read, drain_write, apply_task, evict, end, when, may_read, may_write, is_stripe, hold_read, hold_write, hold_evict, hold_end, perform}
 use Rattle.shell_model.specs.Evicting.{unlisted_by, evicted_by}
-use Rattle.shell_model.specs.Records.{IsNewest, back, FitsMoveIfAny, FitsTouched, entered, IsOut, unchanged, FitsChange, hit_moves, touched_of, added_of, cleared_of, task_change, put_change, remove_change, begin_change, read_change, write_change, leaves_table, planned_change, evict_change, if_held, change_of}
+use Rattle.shell_model.specs.Records.{IsNewest, FitsTouched, entered, IsOut, before_change, FitsChange, hit_moves, touched_of, added_of, cleared_of, task_change, put_change, remove_change, begin_change, read_change, write_change, leaves_table, planned_change, evict_change, if_held, change_of}
 use Rattle.shell_model.specs.Consistent.{IsConsistent, queued, waiting_tasks, leaving, IsAscending}
 use Rattle.shell_model.proofs.Counting.{queued-moved, without-placed, node_of-placed, placed-without, node_of-without, listed-times, node-listed}
 use Rattle.shell_model.proofs.Evicting.{evictions-by-plan}
@@ -42,7 +42,7 @@ use Rattle.shell_model.proofs.Frequency.{fits_recorded, unrecorded-recorded}
 -- the change leads from x to y
 pub record Goes (c : Change) (x y : Shell) : Type 0 where
   pub fits : FitsChange c y
-  pub back : unchanged c y ≡ x
+  pub back : before_change c y ≡ x
 
 abbrev pub GoesTo : Change → Shell → Option (Reply × Shell) → Type 0
 GoesTo c x None = Unit {0}
@@ -207,8 +207,8 @@ added-back i rest x e w =
 
 -- an item is taken out, where it is queued
 pub record ClearedBack (r : Option MoveRecord) (q s : Queues) : Type 0 where
-  pub fits : FitsMoveIfAny r s
-  pub back : back r s ≡ q
+  pub fits : FitsBy r s
+  pub back : undone_by r s ≡ q
 
 pub cleared-back : (i : Item) (q : Queues) (p : Option Queue) → IsDistinct q → ClearedBack (cleared_of i p q) q (cleared_from i p q)
 cleared-back i q None d = record { fits = tt; back = refl }

@@ -14,11 +14,11 @@ use Rattle.segments.specs.declared.records.Queue.TheVariants.{Window}
 use Rattle.segments.specs.declared.records.MoveRecord.{MoveRecord}
 use Rattle.segments.specs.Items.{items_without}
 use Rattle.segments.specs.Queues.{Queues, place_of}
-use Rattle.segments.specs.Moves.{move_record, queues_before_move, FitsMove}
+use Rattle.segments.specs.Moves.{move_record}
 use Rattle.replacement.specs.declared.record.Moves.{Moves}
 use Rattle.replacement.specs.Rules.{three_queues}
 use Rattle.replacement.specs.Plan.{Plan, hit_plan, stay_plan, candidate_of, eviction_plan}
-use Rattle.replacement.specs.Moving.{moves_of, undone_moves, FitsMoves}
+use Rattle.replacement.specs.Moving.{moves_of, undone_by, undone_moves, FitsBy, FitsMoves}
 use Rattle.shell_buffers.specs.declared.task.Task.{Task}
 use Rattle.shell_buffers.specs.declared.task.Task.TheVariants.{Add, Update, Remove}
 use Rattle.admission.specs.FreqRecord.{size_of}
@@ -40,14 +40,6 @@ abbrev pub IsNewest : {A : Type 0} → A → List A → Type 0
 IsNewest a l = l ≡ but_newest l ++ a ∷ []
 
 -- parts
-
-abbrev pub back : Option MoveRecord → Queues → Queues
-back None q = q
-back (Some r) q = queues_before_move r q
-
-abbrev pub FitsMoveIfAny : Option MoveRecord → Queues → Type 0
-FitsMoveIfAny None q = Unit {0}
-FitsMoveIfAny (Some r) q = FitsMove r q
 
 abbrev pub before_use : UseRecord → Shell → Shell
 before_use t x = record x {
@@ -106,22 +98,22 @@ pub record FitsEviction (g : EvictionRecord) (x : Shell) : Type 0 where
 
 -- changes
 
-abbrev pub unchanged : Change → Shell → Shell
-unchanged Nothing x = x
-unchanged (Offered s i) x = record x { stripes = set x.stripes s (but_newest (stripe_at s x.stripes)) }
-unchanged (Updated i) x = record x { writes = but_newest x.writes }
-unchanged (Added i) x = record x { writes = but_newest x.writes; table = items_without i x.table; next = x.next - 1 }
-unchanged (Removed i) x = record x { writes = but_newest x.writes; table = placed i x.table }
-unchanged (Requested before now) x = record x { drain = before }
-unchanged (Began w before) x = record x { drain = before; holder = None }
-unchanged (Read s i t) x = let y = before_use t x in record y { stripes = set x.stripes s (i ∷ stripe_at s x.stripes) }
-unchanged (Passed before now) x = record x { holder = rephased before x.holder }
-unchanged (Applied before task t) x =
+abbrev pub before_change : Change → Shell → Shell
+before_change Nothing x = x
+before_change (Offered s i) x = record x { stripes = set x.stripes s (but_newest (stripe_at s x.stripes)) }
+before_change (Updated i) x = record x { writes = but_newest x.writes }
+before_change (Added i) x = record x { writes = but_newest x.writes; table = items_without i x.table; next = x.next - 1 }
+before_change (Removed i) x = record x { writes = but_newest x.writes; table = placed i x.table }
+before_change (Requested before now) x = record x { drain = before }
+before_change (Began w before) x = record x { drain = before; holder = None }
+before_change (Read s i t) x = let y = before_use t x in record y { stripes = set x.stripes s (i ∷ stripe_at s x.stripes) }
+before_change (Passed before now) x = record x { holder = rephased before x.holder }
+before_change (Applied before task t) x =
     let y = before_use t x in record y { writes = task ∷ x.writes; holder = refilled before x.holder }
-unchanged (Cleared before i r) x =
-    record x { queues = back r x.queues; writes = Remove i ∷ x.writes; holder = refilled before x.holder }
-unchanged (Evicted before g) x = let y = unevicted g x in record y { holder = rephased before x.holder }
-unchanged (Ended h before now) x = record x { drain = before; holder = Some h }
+before_change (Cleared before i r) x =
+    record x { queues = undone_by r x.queues; writes = Remove i ∷ x.writes; holder = refilled before x.holder }
+before_change (Evicted before g) x = let y = unevicted g x in record y { holder = rephased before x.holder }
+before_change (Ended h before now) x = record x { drain = before; holder = Some h }
 
 abbrev pub FitsChange : Change → Shell → Type 0
 FitsChange Nothing x = Unit {0}
@@ -137,13 +129,13 @@ FitsChange (Passed before now) x = IsInPhase now x.holder
 FitsChange (Applied before task t) x =
     FitsTouched t x × (length x.writes < MAX_TASKS) × IsInPhase Writes x.holder × HasLeft x.holder
 FitsChange (Cleared before i r) x =
-    FitsMoveIfAny r x.queues × (length x.writes < MAX_TASKS) × IsInPhase Writes x.holder × HasLeft x.holder
+    FitsBy r x.queues × (length x.writes < MAX_TASKS) × IsInPhase Writes x.holder × HasLeft x.holder
 FitsChange (Evicted before g) x = FitsEviction g x × IsInPhase Evictions x.holder
 FitsChange (Ended h before now) x = (x.drain ≡ now) × (x.holder ≡ None)
 
 abbrev pub undone_step : ShellRecord → Shell → Shell
 undone_step r x =
-    let y = unchanged r.change x in record y { stats = shell_stats_before r.reply x.stats; applied = x.applied - 1 }
+    let y = before_change r.change x in record y { stats = shell_stats_before r.reply x.stats; applied = x.applied - 1 }
 
 pub record FitsStep (r : ShellRecord) (x : Shell) : Type 0 where
   pub stats : IsReplyCounted r.reply x.stats

@@ -1,4 +1,9 @@
 //! What a shell counts.
+ghost use Rattle.std.specs.Prelude.{◌≡◌};
+ghost use Rattle.step_record.specs.declared.limits.TheConstants.{MAX_STEPS};
+ghost use Rattle.shell_model.specs.ShellStats.{shell_stats_after, shell_stats_before, IsReplyCounted, AreAtMost};
+
+use step_record::Reply;
 
 /// How often each kind of reply was given by the applied steps.
 #[derive(Clone, Copy, Debug, PartialEq, Eq)]
@@ -29,4 +34,81 @@ pub struct ShellStats {
     pub busy: u64,
     /// Keys removed.
     pub removed: u64,
+}
+
+impl ShellStats {
+    /// Before any step.
+    pub const NONE: ShellStats = ShellStats {
+        hits: 0,
+        misses: 0,
+        kept: 0,
+        full: 0,
+        lost: 0,
+        added: 0,
+        updated: 0,
+        refused: 0,
+        evictions: 0,
+        rejections: 0,
+        begun: 0,
+        busy: 0,
+        removed: 0,
+    };
+
+    /// Counts one reply more.
+    pub fn count(&mut self, reply: Reply)
+        requires { AreAtMost MAX_STEPS self.old }
+        ensures { self.new ≡ shell_stats_after reply self.old }
+    {
+        match reply {
+            Reply::Hit { .. } => self.hits += 1,
+            Reply::Miss => self.misses += 1,
+            Reply::Kept => self.kept += 1,
+            Reply::Full => self.full += 1,
+            Reply::Lost => self.lost += 1,
+            Reply::Added { .. } => self.added += 1,
+            Reply::Present { .. } => self.updated += 1,
+            Reply::WritesFull => self.refused += 1,
+            Reply::Removed { .. } => self.removed += 1,
+            Reply::Evicted { .. } => self.evictions += 1,
+            Reply::Rejected { .. } => {
+                self.evictions += 1;
+                self.rejections += 1;
+            }
+            Reply::Began => self.begun += 1,
+            Reply::Busy => self.busy += 1,
+            Reply::Absent | Reply::Go | Reply::Drain | Reply::Empty | Reply::Enough => {}
+            Reply::Drained { .. } | Reply::Applied { .. } | Reply::Cleared { .. } => {}
+            Reply::Shifted { .. } | Reply::Fits => {}
+            Reply::Idle | Reply::Again | Reply::NotYet => {}
+        }
+    }
+
+    /// Takes the last reply back, which was counted.
+    pub fn uncount(&mut self, reply: Reply)
+        requires { IsReplyCounted reply self.old }
+        ensures { self.new ≡ shell_stats_before reply self.old }
+    {
+        match reply {
+            Reply::Hit { .. } => self.hits -= 1,
+            Reply::Miss => self.misses -= 1,
+            Reply::Kept => self.kept -= 1,
+            Reply::Full => self.full -= 1,
+            Reply::Lost => self.lost -= 1,
+            Reply::Added { .. } => self.added -= 1,
+            Reply::Present { .. } => self.updated -= 1,
+            Reply::WritesFull => self.refused -= 1,
+            Reply::Removed { .. } => self.removed -= 1,
+            Reply::Evicted { .. } => self.evictions -= 1,
+            Reply::Rejected { .. } => {
+                self.evictions -= 1;
+                self.rejections -= 1;
+            }
+            Reply::Began => self.begun -= 1,
+            Reply::Busy => self.busy -= 1,
+            Reply::Absent | Reply::Go | Reply::Drain | Reply::Empty | Reply::Enough => {}
+            Reply::Drained { .. } | Reply::Applied { .. } | Reply::Cleared { .. } => {}
+            Reply::Shifted { .. } | Reply::Fits => {}
+            Reply::Idle | Reply::Again | Reply::NotYet => {}
+        }
+    }
 }

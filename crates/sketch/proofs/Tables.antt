@@ -5,6 +5,7 @@ use Rattle.std.proofs.lemmas.Bool.{cases_Bool, eqb-true, eq-eqb, ltb-true, ltb-f
 use Rattle.std.proofs.lemmas.Bool.Decides.{nat_tests}
 use Rattle.step_record.specs.declared.config.Spread.{Spread}
 use Rattle.sketch.specs.declared.touch_record.TouchRecord.{TouchRecord}
+use Rattle.sketch.specs.declared.touch_record.RaisedRows.{RaisedRows}
 use Rattle.sketch.specs.Columns.{column, column_below}
 use Rattle.bits_and_lists.specs.Places.{by_place}
 use Rattle.sketch.specs.Sketch.{Table, counter_of, is_of, at_key, touched, least}
@@ -92,7 +93,12 @@ module _ (w : ℕ) (s : Spread) (some : 0 < w) where
       met = were_are ∙ by_place_same 4 (λ row. f (row * w + get_or cs row 0)) (counter_of key (table f)) 0
           (λ row h. ap (λ n. f (row * w + n)) (column_is key cs columns_are row h) ∙ sym (own_before row h))
 
-      pub flags_are : nat_lt (get_or were 0 0) 15 ∷ nat_lt (get_or were 1 0) 15 ∷ nat_lt (get_or were 2 0) 15 ∷ nat_lt (get_or were 3 0) 15 ∷ [] ≡ (touch_record_of key (table f)).rose
+      pub flags_are : ◌≡◌ {A = RaisedRows} record {
+        row_0 = nat_lt (get_or were 0 0) 15;
+        row_1 = nat_lt (get_or were 1 0) 15;
+        row_2 = nat_lt (get_or were 2 0) 15;
+        row_3 = nat_lt (get_or were 3 0) 15;
+      } (touch_record_of key (table f)).rose
       flags_are = rw met refl
 
       least_before : min (min (get_or were 0 0) (get_or were 1 0)) (min (get_or were 2 0) (get_or were 3 0)) ≡ least key (table f)

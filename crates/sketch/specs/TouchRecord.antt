@@ -1,15 +1,17 @@
 -- A touch's record: what it is, when it fits a table, and what undoing it leaves.
-use Rattle.std.specs.Prelude.{◌≡◌, ℕ, ◌-◌, ◌<◌, nat_lt, Bool, true, false, cond, slice_index_or}
+use Rattle.std.specs.Prelude.{◌≡◌, ℕ, ◌-◌, ◌<◌, nat_lt, Bool, true, false, cond, [], ◌∷◌, slice_index_or}
 use Rattle.sketch.specs.declared.touch_record.TouchRecord.{TouchRecord}
-use Rattle.bits_and_lists.specs.Places.{by_place}
 use Rattle.sketch.specs.Sketch.{Table, counter_of, at_key}
 
 -- the record of a touch, from the table before it: the key, and its rows whose counter has room to rise
 abbrev pub touch_record_of : ℕ → Table → TouchRecord
-touch_record_of key t = record { key = key; rose = by_place 4 (λ row. nat_lt (counter_of key t row) 15) }
+touch_record_of key t =
+    let rises = λ (row : ℕ). nat_lt (counter_of key t row) 15 in
+    record { key = key; rose = record { row_0 = rises 0; row_1 = rises 1; row_2 = rises 2; row_3 = rises 3 } }
 
+-- whether the counter in a row rose
 abbrev pub rose : TouchRecord → ℕ → Bool
-rose r row = slice_index_or r.rose row false
+rose r row = slice_index_or (r.rose.row_0 ∷ r.rose.row_1 ∷ r.rose.row_2 ∷ r.rose.row_3 ∷ []) row false
 
 -- the counters that rose fall by 1, and no other
 abbrev pub untouched : TouchRecord → Table → Table

@@ -46,7 +46,7 @@ pub fn lower_rows(words: &mut [u64], width: u32, spread: Spread, done: &TouchRec
 {
     for row in 0..4u32 {
         let at = row * width + column(spread, done.key, row, width);
-        let rose = done.rose[row as usize];
+        let rose = done.rose_in(row);
         lower(words, at as usize, rose);
     }
 }

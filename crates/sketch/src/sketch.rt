@@ -12,7 +12,7 @@ use crate::counters::get;
 use crate::halve_record::HalveRecord;
 use crate::laws::{halve_words, unhalve_words};
 use crate::rows::{lower_rows, raise_rows};
-use crate::touch_record::TouchRecord;
+use crate::touch_record::{RaisedRows, TouchRecord};
 use bits_and_lists::BitList;
 use std::alloc::{AllocError, Global};
 use std::marker::Model;
@@ -114,7 +114,12 @@ impl Sketch {
         let least = least_of_four(were).min(14) + 1;
         self.last = key;
         self.last_least = Some(least as u8);
-        let rose = [were[0] < 15, were[1] < 15, were[2] < 15, were[3] < 15];
+        let rose = RaisedRows {
+            row_0: were[0] < 15,
+            row_1: were[1] < 15,
+            row_2: were[2] < 15,
+            row_3: were[3] < 15,
+        };
         TouchRecord { key, rose }
     }
 

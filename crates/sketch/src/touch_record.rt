@@ -1,9 +1,38 @@
 //! The undo record of a touch.
+ghost use Rattle.std.specs.Prelude.{◌≡◌, ◌<◌};
+ghost use Rattle.sketch.specs.TouchRecord.{rose};
+
 use step_record::Key;
 
 /// Which of a key's four counters a touch raised: all that it takes to undo it. It holds no list.
 #[derive(Clone, Copy, Debug, PartialEq, Eq)]
 pub struct TouchRecord {
     pub(crate) key: Key,
-    pub(crate) rose: [bool; 4],
+    pub(crate) rose: RaisedRows,
+}
+
+/// A flag for each row of a sketch: whether the key's counter there rose.
+#[derive(Clone, Copy, Debug, PartialEq, Eq)]
+pub struct RaisedRows {
+    pub(crate) row_0: bool,
+    pub(crate) row_1: bool,
+    pub(crate) row_2: bool,
+    pub(crate) row_3: bool,
+}
+
+impl TouchRecord {
+    // Whether the key's counter in a row rose.
+    #[inline(always)]
+    pub(crate) fn rose_in(&self, row: u32) -> bool
+        requires { row < 4 }
+        ensures { result ≡ rose self.now row }
+    {
+        let rows = [
+            self.rose.row_0,
+            self.rose.row_1,
+            self.rose.row_2,
+            self.rose.row_3,
+        ];
+        rows[row as usize]
+    }
 }

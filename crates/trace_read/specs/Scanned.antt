@@ -1,5 +1,5 @@
 -- What a scan of the lines comes to, whatever bytes still follow.
-use Rattle.std.specs.Prelude.{◌≡◌, ℕ, ◌+◌, ◌≤◌, List, [], ◌++◌, Option, length}
+use Rattle.std.specs.Prelude.{◌≡◌, ℕ, ◌+◌, ◌*◌, ◌≤◌, List, [], ◌++◌, Option, length, drop}
 use Rattle.step_record.specs.declared.limits.TheConstants.{MAX_ACCESSES}
 use Rattle.text_lines.specs.Feeds.{lines_of, HasNoFeed}
 use Rattle.trace_read.specs.Reading.{all_keys, first_fault, IsRead}
@@ -29,3 +29,15 @@ pub record IsEnded (old : Scan) (text : List ℕ) (new : Scan) : Type 0 where
   pub cut : new.cut.items ≡ []
   pub line : new.line ≡ old.line + 1
   pub format : new.format ≡ old.format
+
+-- the scan took the lines before a place of these bytes, and comes with the rest to what all of them came to before
+pub record IsTakenTo (old : Scan) (bytes : List ℕ) (place : ℕ) (new : Scan) : Type 0 where
+  pub scan : IsScan new
+  pub cut : new.cut.items ≡ []
+  pub lines : new.line + length (drop place bytes) ≤ old.line + length bytes
+  pub fault : (more : List ℕ) → fault_ahead new (drop place bytes ++ more) ≡ fault_ahead old (bytes ++ more)
+  pub keys : (more : List ℕ) → keys_ahead new (drop place bytes ++ more) ≡ keys_ahead old (bytes ++ more)
+
+-- there is room for the accesses of lines of so many bytes, by the limit and in memory: each has two bytes of its own
+abbrev pub HasRoom : ℕ → ℕ → ℕ → Type 0
+HasRoom bytes len capacity = (len * 2 + bytes ≤ 2 * MAX_ACCESSES) × (len * 2 + bytes ≤ 2 * capacity)

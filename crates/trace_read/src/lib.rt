@@ -10,8 +10,10 @@
 #![tactic(auto)]
 
 mod arc;
+mod digits;
 mod fault;
 mod format;
+mod line_ends;
 mod lirs;
 mod pieces;
 mod plain;

@@ -7,7 +7,8 @@ use Rattle.command_line.specs.declared.fault.ParseFault.TheVariants.{Stripes}
 use Rattle.std.specs.Prelude.{OnOk}
 use Rattle.std.specs.Prelude.{string_bytes}
 use Rattle.cachesim.specs.Debugged.{Debugging, KnownFiles, Replaying}
-use Rattle.cachesim.specs.Jobs.{jobs_at, jobs_by_policy}
+use Rattle.policy_actors.specs.Sweep.{jobs_over}
+use Rattle.cachesim.specs.Jobs.{jobs_by_policy}
 use Rattle.cachesim.specs.Drove.{IsDriven}
 use Rattle.cachesim.specs.Part.{Parting}
 use Rattle.cachesim.specs.Run.{Reports}
@@ -47,7 +48,7 @@ returns-in-Ok-done-clause-done g c zero =
           let sweep = w.in-Sweep.arguments in
           let q = subst (λ (a : Arguments). ParsedBy words (Ok a)) w.in-Sweep.is p in
           let ok = w.sweep-done.ensures.ok in
-          let Wrote = Reports sweep.format (jobs_at sweep.job sweep.capacities.items) (g.R.Read.remaining c.args.input.now) (g.W.Write.contents c.args.out.now) (g.W.Write.contents w.sweep-done.new.out) in
+          let Wrote = Reports sweep.format (jobs_over (jobs_by_policy sweep.config sweep.policies.items) sweep.capacities.items) (g.R.Read.remaining c.args.input.now) (g.W.Write.contents c.args.out.now) (g.W.Write.contents w.sweep-done.new.out) in
           let h : Wrote = subst (λ (r : Result (Unit {0}) Fault). OnOk r Wrote) (sym w.done-is ∙ c.in-Ok-done.is) ok in
           rw w.out-is (sweep_done words sweep q known _ _ _ h)
       | in-Part w ↦

@@ -11,9 +11,9 @@ use Rattle.step_record.specs.declared.step.Step.{Step}
 use Rattle.step_record.specs.declared.worker.TheConstants.{MAX_WORKERS}
 use Rattle.trace_read.specs.Reading.{keys_in}
 use Rattle.journal.specs.Session.{SessionState}
-use Rattle.drive.specs.DriveFaults.{LeavesFault}
-use Rattle.drive.specs.declared.driving.DriveFault.{DriveFault}
-use Rattle.drive.specs.declared.driving.DriveFault.TheVariants.{Workers, Held, OutOfMemory, Stopped}
+use Rattle.workers.specs.DriveFaults.{LeavesFault}
+use Rattle.workers.specs.declared.run.DriveFault.{DriveFault}
+use Rattle.workers.specs.declared.run.DriveFault.TheVariants.{Workers, Held, OutOfMemory, Stopped}
 use Rattle.cachesim.specs.Drove.{IsOfRun}
 use Rattle.cachesim.specs.Dealt.{AreOfReads}
 use Rattle.cachesim.proofs.Dealing.{reads_walked}

@@ -1,13 +1,13 @@
-use Rattle.std.proofs.Common.{◌≡◌, ◌∙◌, refl, ap, List, [], ◌∷◌, map}
+use Rattle.std.proofs.Common.{◌∙◌, ap, ap₂, ℕ, List, map}
 use Rattle.std.proofs.lemmas.Result.{IfOk-weaker}
-use Rattle.policy_actors.specs.Faults.{at_capacity}
+use Rattle.step_record.specs.declared.job.Job.{Job}
 use Rattle.policy_actors.specs.Reports.{report_on}
+use Rattle.policy_actors.specs.Sweep.{jobs_over}
+use Rattle.cachesim.specs.Jobs.{jobs_by_policy}
 use Rattle.cachesim.proofs.sweep.reports.Goals as goal
-
-twice : {A B C : Type 0} (f : A → B) (g : B → C) (xs : List A) → map (λ x. g (f x)) xs ≡ map g (map f xs)
-twice f g [] = refl
-twice f g (x ∷ xs) = ap (λ t. g (f x) ∷ t) (twice f g xs)
 
 pub returns : goal.returns
 returns g c =
-    IfOk-weaker c.sweep.result _ _ (λ v h. h ∙ twice (at_capacity c.args.job.now) (λ job. report_on job c.args.trace.now) c.args.capacities.now) c.sweep.ensures.reports
+    let jobs = c.as_slice-2.ensures.value ∙ c.in_ok-jobs.ensures ∙ ap (jobs_by_policy c.args.arguments.now.config) c.as_slice.ensures.value in
+    let rows = ap₂ jobs_over jobs c.as_slice-capacities.ensures.value in
+    IfOk-weaker c.sweep_each.result _ _ (λ v h. h ∙ ap (λ (l : List Job). map (λ job. report_on job c.args.trace.now) l) rows) c.sweep_each.ensures.reports

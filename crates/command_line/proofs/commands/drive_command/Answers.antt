@@ -1,7 +1,6 @@
 use Rattle.std.proofs.Common.{ap, ap₂, ◌≡◌, ◌∙◌, codes}
 use Rattle.std.proofs.lemmas.Result.{IfOk-weaker}
 use Rattle.clap.specs.Words.{app_of, new_app, with_rule}
-use Rattle.clap.specs.Simple.{app_of_fields}
 use Rattle.command_line.specs.Program.{concurrent_app, configured_app, format_rule, workers_rule}
 use Rattle.command_line.proofs.commands.drive_command.Goals as goal
 
@@ -9,7 +8,7 @@ pub returns-clause-shape : goal.returns-clause-shape
 returns-clause-shape c =
     let format = c.format_arg-format.ensures in
     let workers = c.workers_arg-workers.ensures in
-    let named : app_of c.about-drive.result ≡ new_app (codes "drive") = ap app_of_fields c.about-drive.ensures ∙ c.new-named.ensures.app in
+    let named : app_of c.described-drive.result ≡ new_app (codes "drive") = c.described-drive.ensures.shape in
     let spreads = configured_app c.args.spreads in
     let set : app_of c.in_ok-configured.configured ≡ spreads (new_app (codes "drive")) = c.in_ok-configured.ensures.shape ∙ ap spreads named in
     let formed_app = with_rule (spreads (new_app (codes "drive"))) (format_rule c.args.formats) in

@@ -1,7 +1,6 @@
 use Rattle.std.proofs.Common.{ap, ap₂, ◌≡◌, ◌∙◌, ◌||◌, codes}
 use Rattle.std.proofs.lemmas.Result.{IfOk-weaker}
 use Rattle.clap.specs.Words.{app_of, new_app, with_rule}
-use Rattle.clap.specs.Simple.{app_of_fields}
 use Rattle.command_line.specs.Program.{batch_rule, configured_app, format_rule}
 use Rattle.command_line.proofs.commands.run_command.Goals as goal
 
@@ -10,7 +9,7 @@ returns-clause-shape c =
     let format = c.format_arg-format.ensures in
     let batch = c.batch_arg-batch.ensures in
     let policy = c.policy_arg-policy.ensures in
-    let named : app_of c.about-run.result ≡ new_app (codes "run") = ap app_of_fields c.about-run.ensures ∙ c.new-named.ensures.app in
+    let named : app_of c.described-run.result ≡ new_app (codes "run") = c.described-run.ensures.shape in
     let spreads = configured_app c.args.spreads in
     let set : app_of c.in_ok-configured.configured ≡ spreads (new_app (codes "run")) = c.in_ok-configured.ensures.shape ∙ ap spreads named in
     let formed : app_of c.in_ok-formed.formed ≡ with_rule (spreads (new_app (codes "run"))) (format_rule c.args.formats) = c.in_ok-formed.ensures.shape format.local ∙ ap₂ with_rule set format.rule in

@@ -1,6 +1,12 @@
-use Rattle.std.proofs.Common.{[], ◌∙◌, sym, append-nil, subst}
+use Rattle.std.proofs.Common.{◌≡◌, [], ◌∙◌, sym, append-nil, subst, IfSome}
 use Rattle.policies.specs.AnyPolicy.{Stands}
+use Rattle.stack_distances.specs.Curve.{curve_of}
 use Rattle.policy_actors.proofs.single.run_checked.Goals as goal
+
+pub returns : goal.returns
+returns c =
+    let input = c.args.input.now in
+    c.read_report.ensures input.trace.now (subst (λ o. IfSome o (λ curve. curve.now ≡ curve_of input.trace.now)) c.in-Some.is input.found)
 
 pub access_all-requires : goal.access_all-requires
 access_all-requires c = record {
@@ -13,8 +19,8 @@ access_all-requires c = record {
   few = c.keys.ensures.few;
 }
 
-pub returns : goal.returns
-returns c =
+pub returns-2 : goal.returns-2
+returns-2 c =
     let trace = c.args.input.now.trace.now in
     let e = c.in_ok-cache-2.ensures c.args.job.now trace [] c.in_ok-cache.ensures.stands in
     c.report_by.ensures trace (subst (λ l. Stands c.args.job.now trace l c.in_ok-cache-2.cache) c.keys.ensures.keys e)

@@ -11,7 +11,7 @@ lower-requires-clause-some c = λ e.
     let down : ℕ → ℕ → ℕ = λ row x. cond (rose c.args.done.now row) (x - 1) x in
     let below : cols c.loop-row.row < c.args.width = column_below c.args.spread c.args.done.now.key c.loop-row.row c.args.width c.requires.low in
     let old = row_same c.args.width cols down (counter_at c.args.words.now) (counter_at c.loop-row.words) (counter_at c.loop-row.words) c.loop-row.row below c.loop-row.invariant in
-    rw (c.column.ensures.value, old) (c.requires.some c.loop-row.row c.loop-row-test.true e)
+    rw (c.column.ensures.value, old) (c.requires.some c.loop-row.row c.loop-row-test.true (rw (← c.rose_in-rose.ensures) e))
 
 pub loop-row-preserved : goal.loop-row-preserved
 loop-row-preserved c =
@@ -19,5 +19,5 @@ loop-row-preserved c =
     let down : ℕ → ℕ → ℕ = λ row x. cond (rose c.args.done.now row) (x - 1) x in
     let below : cols c.loop-row.row < c.args.width = column_below c.args.spread c.args.done.now.key c.loop-row.row c.args.width c.requires.low in
     let same = rw c.column.ensures.value at c.lower.ensures.same in
-    let here = rw c.column.ensures.value at c.lower.ensures.here in
+    let here = rw (c.column.ensures.value, c.rose_in-rose.ensures) at c.lower.ensures.here in
     row_more c.args.width cols down (counter_at c.args.words.now) (counter_at c.loop-row.words) (counter_at c.lower.new.words) c.loop-row.row below c.loop-row.invariant same here

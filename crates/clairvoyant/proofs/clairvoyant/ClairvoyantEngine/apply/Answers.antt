@@ -1,5 +1,6 @@
 use Rattle.std.proofs.Common.{◌∙◌, sym, ap, arith}
-use Rattle.clairvoyant.specs.UseRecord.{outcome_of}
+use Rattle.clairvoyant.specs.Clairvoyant.{ClairvoyantState}
+use Rattle.clairvoyant.specs.UseRecord.{outcome_of, record_at}
 use Rattle.clairvoyant.proofs.Records.{outcome-is}
 use Rattle.clairvoyant.proofs.Reached.{reached-held}
 use Rattle.clairvoyant.proofs.Applying.{next-keeping, next-accepted, next-stands, next-undone, next-fits}
@@ -35,3 +36,8 @@ pub returns-clause-stands : goal.returns-clause-stands
 returns-clause-stands c =
     let s = c.self.inside in
     next-stands s.core.capacity s.core.uses s.stats c.count.new.self c.outcome-outcome.result (omega (arith, c.if-place-len.false, c.len.ensures.len)) c.self.invariant.reached (c.outcome-outcome.ensures ∙ ap outcome_of c.serve-record.ensures.record ∙ outcome-is s.core.capacity s.core.uses s.stats.accesses) c.count.ensures c.args.self.now c.self.view_is
+
+pub returns-clause-record_is : goal.returns-clause-record_is
+returns-clause-record_is c =
+    c.serve-record.ensures.record
+    ∙ ap (λ (x : ClairvoyantState). record_at x.capacity x.trace x.stats.accesses) c.self.view_is

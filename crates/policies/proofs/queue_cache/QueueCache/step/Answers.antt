@@ -1,4 +1,7 @@
 use Rattle.policies.proofs.Reached.{reached-halvings, reached-small, access-reached, counting-weighs}
+use Rattle.std.proofs.Common.{◌∙◌, ap}
+use Rattle.policies.specs.QueueStep.{queue_record_of}
+use Rattle.policies.proofs.Recorded.{access-recorded}
 use Rattle.policies.proofs.queue_cache.QueueCache.step.Goals as goal
 
 pub record_in-requires : goal.record_in-requires
@@ -18,3 +21,11 @@ invariant_of-self-2 c = record {
 
 pub returns-clause-words : goal.returns-clause-words
 returns-clause-words c = counting-weighs c.in-Ok.counting c.record_in.new.frequency c.in-Ok.ensures.fits
+
+pub returns-clause-record_is : goal.returns-clause-record_is
+returns-clause-record_is c =
+    access-recorded c.self.inside.job c.self.inside.rules c.self.inside.segments.lists c.make_room.new.segments.lists
+    c.self.inside.frequency c.record_in.new.frequency c.self.inside.stats c.args.key c.in-Ok.counting c.access_key-effect.result
+    c.self.invariant.rules c.make_room.ensures.lists c.in-Ok.ensures.after c.in-Ok.ensures.record
+    c.access_key-effect.ensures.outcome c.access_key-effect.ensures.record
+    ∙ ap (queue_record_of c.args.key) c.self.view_is

@@ -4,7 +4,7 @@ use Rattle.segments.specs.declared.records.Queue.TheVariants.{Window}
 use Rattle.segments.specs.Queues.{place_of}
 use Rattle.segments.specs.declared.slot.Slot.{Slot}
 use Rattle.segments.specs.Ring.{items, tags, order_of, lists, tag_at}
-use Rattle.segments.proofs.Hashing.{field_at}
+use Rattle.segments.proofs.Trees.{field_at}
 use Rattle.segments.proofs.Contents.{placed-at}
 use Rattle.segments.proofs.Holding.{tag-stands}
 use Rattle.segments.proofs.Calls.{slot-within, read_slot}

@@ -34,6 +34,18 @@ add-requires-clause-at c =
     let r = free-real c.deref_mut-slots.result.now (order_of c.deref_mut-slots.result.now) h.queued c.newest_free-at.result c.newest_free-at.ensures in
     (omega (arith, r), omega (arith, w))
 
+pub add-requires-clause-held : goal.add-requires-clause-held
+add-requires-clause-held c =
+    let e : c.deref_mut-slots.result.now ≡ c.args.self.now = c.deref_mut-slots.ensures.value ∙ c.self.view_is in
+    let room : 1 ≤ spare_in c.deref_mut-slots.result.now = subst (λ (s : List Slot). 1 ≤ spare_in s) (sym e) c.requires.room in
+    let h = held-room c.deref_mut-slots.result.now c.self.inside.slots.items _ _ _ c.self.invariant c.deref_mut-slots.ensures.value room in
+    record {
+      its = items c.deref_mut-slots.result.now;
+      used = used (order_of c.deref_mut-slots.result.now);
+      indexed = rw c.set_item.ensures.chains h.index;
+      fresh = free-unused c.deref_mut-slots.result.now (order_of c.deref_mut-slots.result.now) h.queued c.newest_free-at.result c.newest_free-at.ensures;
+    }
+
 pub send-requires-clause-at : goal.send-requires-clause-at
 send-requires-clause-at c =
     let e : c.deref_mut-slots.result.now ≡ c.args.self.now = c.deref_mut-slots.ensures.value ∙ c.self.view_is in

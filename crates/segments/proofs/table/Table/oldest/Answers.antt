@@ -3,7 +3,7 @@ use Rattle.segments.specs.declared.records.Queue.TheVariants.{Window}
 use Rattle.segments.specs.declared.slot.Slot.{Slot}
 use Rattle.segments.specs.Ring.{items, order_of, section, IsQueued}
 use Rattle.segments.specs.Table.{item_in, IsSlotOf}
-use Rattle.segments.proofs.Hashing.{field_at}
+use Rattle.segments.proofs.Trees.{field_at}
 use Rattle.segments.proofs.Contents.{section-used}
 use Rattle.segments.proofs.Calls.{slot-within, some-length, first-stands, first-item, read_slot}
 use Rattle.segments.proofs.table.Table.oldest.Goals as goal

@@ -12,7 +12,7 @@ use Rattle.segments.proofs.Contents.{section-used}
 use Rattle.segments.proofs.Holding.{used-real, used-within}
 use Rattle.segments.proofs.Tables.{take-front}
 use Rattle.segments.proofs.Kept.{held-used, kept-on}
-use Rattle.segments.proofs.Renewing.{lengths-renewed, joins, held-renewed, renew-lists}
+use Rattle.segments.proofs.Renewing.{unused, lengths-renewed, joins, held-renewed, renew-lists}
 use Rattle.segments.proofs.table.Table.renew.Goals as goal
 
 pub place_of_slot-from-requires-clause-queued : goal.place_of_slot-from-requires-clause-queued
@@ -122,6 +122,22 @@ send-requires-clause-at c =
     let k = slots-length c.add.new.slots in
     let m = ap (λ (l : List ℕ). length l) (c.add.ensures.only.newers ∙ (c.set_item.ensures.newers ∙ c.remove.ensures.only.newers)) in
     (omega (arith, r), omega (arith, w, l, k, m))
+
+pub add-requires-clause-held : goal.add-requires-clause-held
+add-requires-clause-held c =
+    let slots = c.deref_mut-slots.result.now in
+    let o = order_of slots in
+    let at = c.args.at in
+    let e : slots ≡ c.args.self.now = c.deref_mut-slots.ensures.value ∙ c.self.view_is in
+    let s : 1 ≤ count at (section c.args.queue o) = rw e c.requires.stands in
+    let u : 1 ≤ count at (used o) = section-used c.args.queue at o s in
+    let h = held-used slots c.self.inside.slots.items _ _ _ c.self.invariant c.deref_mut-slots.ensures.value at u in
+    record {
+      its = items c.remove.new.slots;
+      used = used (freed at o);
+      indexed = rw c.set_item.ensures.chains c.remove.ensures.indexed;
+      fresh = unused slots o h.queued at u;
+    }
 
 pub invariant_of-self : goal.invariant_of-self
 invariant_of-self c =

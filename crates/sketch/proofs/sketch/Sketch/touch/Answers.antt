@@ -1,7 +1,8 @@
-use Rattle.std.proofs.Common.{◌≡◌, List, Bool, arith, ◌∙◌, ap, sym, cond, ◌+◌, ◌<◌, min, length}
+use Rattle.std.proofs.Common.{◌≡◌, arith, ◌∙◌, ap, sym, cond, ◌+◌, ◌<◌, min, length}
 use Rattle.std.specs.Vec.{with_items}
 use Rattle.std.proofs.lemmas.List.{with_items_is}
 use Rattle.sketch.specs.declared.touch_record.TouchRecord.{TouchRecord}
+use Rattle.sketch.specs.declared.touch_record.RaisedRows.{RaisedRows}
 use Rattle.sketch.specs.Counters.{counter_at}
 use Rattle.sketch.specs.Sketch.{touched, IsTable}
 use Rattle.sketch.proofs.Halves.{table_is}
@@ -23,7 +24,7 @@ pub returns-clause-record_is : goal.returns-clause-record_is
 returns-clause-record_is c =
     let some : 0 < c.self.inside.width = omega (arith, c.self.invariant.0) in
     let were = rw c.deref_mut.ensures.value at c.raise_rows-were.ensures.were in
-    rw (← c.self.view_is) (ap (λ (bs : List Bool). let r : TouchRecord = record { key = c.args.key; rose = bs } in r)
+    rw (← c.self.view_is) (ap (λ (rows : RaisedRows). let r : TouchRecord = record { key = c.args.key; rose = rows } in r)
     (flags_are c.self.inside.width c.self.inside.spread some c.args.key (counter_at c.self.inside.words.items) c.columns-columns.result c.columns-columns.ensures.value c.raise_rows-were.result were))
 
 pub invariant_of-self : goal.invariant_of-self

@@ -1,0 +1,106 @@
+-- What two policies show together.
+use Rattle.std.proofs.Common.{◌≡◌, ◌≢◌, ◌∙◌, ◌<◌, ◌+◌, ℕ, zero, suc, Bool, true, false, Option, Some, None, Result, Ok, Err, List, [], ◌∷◌, length, get_or, refl, ap, sym, subst, arith}
+use Rattle.std.specs.Prelude.{is_err, OnOk, IfSome, IfErr}
+use Rattle.step_record.specs.declared.config.ConfigFault.{ConfigFault}
+use Rattle.step_record.specs.declared.job.Job.{Job}
+use Rattle.step_record.specs.declared.outcome.Outcome.{Outcome}
+use Rattle.step_record.specs.declared.outcome.Outcome.TheVariants.{Kept}
+use Rattle.step_record.specs.Stats.{is_hit}
+use Rattle.debug_commands.specs.Dialogue.{dialogue_of, IsLineHeld}
+use Rattle.debug_commands.specs.Timeline.{TimelineData}
+use Rattle.debug_commands.specs.declared.fault.DebugFault.{DebugFault}
+use Rattle.debug_commands.specs.declared.fault.DebugFault.TheVariants as debug
+use Rattle.policy_actors.specs.Faults.{config_or}
+use Rattle.debug_policies.specs.Refused.{ReturnsConfig, UntouchedAtConfig}
+use Rattle.debug_policies.specs.OnePolicy.{OnePolicyState}
+use Rattle.debug_policies.specs.Part.{IsPart}
+use Rattle.debug_policies.specs.TwoPolicies.{first_parting, just_one}
+
+-- ---- the facts of an access
+
+-- what holds of a policy at its place holds at this one
+pub at_place : {A : Type 0} (f : Job → List ℕ → ℕ → A) (w : OnePolicyState) (j : Job) (trace : List ℕ) (n : ℕ) → w.job ≡ j → w.trace ≡ trace → w.at ≡ n
+    → f w.job w.trace w.at ≡ f j trace n
+at_place f w j trace n job same at =
+    ap (λ x. f x w.trace w.at) job ∙ ap (λ x. f j x w.at) same ∙ ap (f j trace) at
+
+-- ---- where they part
+
+differs : (a b : Bool) → a ≢ b → just_one a b ≡ true
+differs true true h = absurd (h refl)
+differs true false h = refl
+differs false true h = refl
+differs false false h = absurd (h refl)
+
+agrees : (a b : Bool) → a ≡ b → just_one a b ≡ false
+agrees true true h = refl
+agrees true false h = absurd (cc h)
+agrees false true h = absurd (cc h)
+agrees false false h = refl
+
+abbrev hit_at : List Outcome → ℕ → Bool
+hit_at os i = is_hit (get_or os i Kept)
+
+never : (n : ℕ) (os ps : List Outcome) → ((i : ℕ) → hit_at os i ≡ hit_at ps i) → first_parting n os ps ≡ None
+never n [] ps h = refl
+never n (o ∷ os) [] h = refl
+never n (o ∷ os) (p ∷ ps) h = rw (agrees (is_hit o) (is_hit p) (h 0)) (never (n + 1) os ps (λ i. h (suc i)))
+
+found : (n i : ℕ) (os ps : List Outcome) → length os ≡ length ps → hit_at os i ≢ hit_at ps i → ((m : ℕ) → m < i → hit_at os m ≡ hit_at ps m)
+    → first_parting n os ps ≡ Some (n + i)
+found n i [] [] long here below = absurd (here refl)
+found n i [] (p ∷ ps) long here below = absurd (omega (arith, long))
+found n i (o ∷ os) [] long here below = absurd (omega (arith, long))
+found n zero (o ∷ os) (p ∷ ps) long here below =
+    let none : n ≡ n + 0 = omega arith in
+    rw (differs (is_hit o) (is_hit p) here) (ap Some none)
+found n (suc i) (o ∷ os) (p ∷ ps) long here below =
+    let next : n + 1 + i ≡ n + suc i = omega arith in
+    rw (agrees (is_hit o) (is_hit p) (below 0 (omega arith)))
+    (found (n + 1) i os ps (omega (arith, long)) here (λ m lt. below (suc m) (omega (arith, lt))) ∙ ap Some next)
+
+pub part_is : (os ps : List Outcome) (r : Option ℕ) → length os ≡ length ps → IsPart os ps r → r ≡ first_parting 1 os ps
+part_is os ps None long h = sym (never 1 os ps (λ i. h (suc i)))
+part_is os ps (Some zero) long h = absurd (h.0 refl)
+part_is os ps (Some (suc i)) long h =
+    let next : 1 + i ≡ suc i = omega arith in
+    sym (found 1 i os ps long h.0 (λ m lt. h.1 (suc m) (omega (arith, lt))) ∙ ap Some next)
+
+-- ---- the debugger
+
+some_held : (known : Option (List ℕ)) (t u : TimelineData) (n : ℕ) (fits : Bool) (had has : Option (List ℕ)) (at : ℕ) → t ≡ u → n ≡ 0
+    → IfSome known (λ bytes. IsLineHeld (dialogue_of t n bytes) fits had has at)
+    → IfSome known (λ bytes. (x : ℕ) × IsLineHeld (dialogue_of u 0 bytes) fits had has x)
+some_held None t u n fits had has at same start h = tt
+some_held (Some xs) t u n fits had has at same start h =
+    (at, subst (λ k. IsLineHeld (dialogue_of u k xs) fits had has at) start (subst (λ x. IsLineHeld (dialogue_of x n xs) fits had has at) same h))
+
+pub large_held : (known : Option (List ℕ)) (t u : TimelineData) (n : ℕ) (fits : Bool) (had has : Option (List ℕ)) (at : ℕ) → t ≡ u → n ≡ 0
+    → IfSome known (λ bytes. IsLineHeld (dialogue_of t n bytes) fits had has at)
+    → IfSome known (λ bytes. (x : ℕ) × IsLineHeld (dialogue_of u 0 bytes) fits had has x)
+large_held known t u n fits had has at same start h = some_held known t u n fits had has at same start h
+
+pub done_held : (r : Result (Unit {0}) DebugFault) (known : Option (List ℕ)) (t u : TimelineData) (n : ℕ) (fits : Bool) (had has : Option (List ℕ)) (at : ℕ) → t ≡ u
+    → n ≡ 0 → OnOk r (IfSome known (λ bytes. IsLineHeld (dialogue_of t n bytes) fits had has at))
+    → OnOk r (IfSome known (λ bytes. (x : ℕ) × IsLineHeld (dialogue_of u 0 bytes) fits had has x))
+done_held (Ok x) known t u n fits had has at same start h = some_held known t u n fits had has at same start h
+done_held (Err e) known t u n fits had has at same start h = tt
+
+-- a configuration that is not refused
+pub no_fault : (r : Result (Unit {0}) ConfigFault) → is_err r ≡ false → r ≡ Ok tt
+no_fault (Ok u) h = refl
+no_fault (Err e) h = absurd (cc h)
+
+pub accepted : (a b : Result (Unit {0}) ConfigFault) (r : Result (Unit {0}) DebugFault) → a ≡ Ok tt → b ≡ Ok tt
+    → ((i : ℕ) → r ≡ Err (debug.Config i) → ⊥) → ReturnsConfig (config_or a 0 (config_or b 1 None)) r
+accepted (Ok u) (Ok v) r e h none = none
+accepted (Err x) b r e h none = absurd (cc e)
+accepted (Ok u) (Err x) r e h none = absurd (cc h)
+
+pub untouched : (A B : Type 0) (r : Result (Unit {0}) DebugFault) → ((i : ℕ) → r ≡ Err (debug.Config i) → ⊥) → IfErr r (UntouchedAtConfig A B)
+untouched A B (Ok u) none = tt
+untouched A B (Err debug.OutOfMemory) none = tt
+untouched A B (Err debug.Read) none = tt
+untouched A B (Err debug.Write) none = tt
+untouched A B (Err debug.TooLarge) none = tt
+untouched A B (Err (debug.Config i)) none = absurd (none i refl)

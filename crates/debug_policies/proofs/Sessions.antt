@@ -1,0 +1,128 @@
+-- A session over a policy, whose applied steps are the first accesses of a trace.
+use Rattle.std.proofs.Common.{◌≡◌, ◌∙◌, ◌≤◌, ◌<◌, ◌+◌, ℕ, zero, suc, Some, List, [], ◌∷◌, ◌++◌, Result, Ok, Err, length, take, drop, get_or, refl, ap, sym, subst, arith, length-append, append-nil, append_assoc}
+use Rattle.std.specs.Prelude.{slice_index, IfOk, OnErr}
+use Rattle.std.specs.declared.alloc.AllocError.{AllocError}
+use Rattle.std.proofs.lemmas.List.{take_more, length-take-le}
+use Rattle.step_record.specs.declared.entry.Entry.{Entry}
+use Rattle.step_record.specs.declared.job.Job.{Job}
+use Rattle.step_record.specs.declared.outcome.Outcome.{Outcome}
+use Rattle.step_record.specs.declared.outcome.Outcome.TheVariants.{Kept}
+use Rattle.step_record.specs.History.{after, went, IsLegal}
+use Rattle.journal.specs.Session.{SessionState, IsMovedTo}
+use Rattle.policies.specs.declared.any_policy.AnyPolicy.{AnyPolicy}
+use Rattle.policies.specs.AnyPolicy.{outcomes_on, Stands}
+use Rattle.policies.specs.AnyStep.{any_act}
+use Rattle.policies.specs.Theorems.{AnyAnswers, AnyStands}
+use Rattle.debug_policies.specs.OnePolicy.{outcome_at, steps_of, IsPolicyAt}
+use Rattle.debug_policies.proofs.Walked.{moves, next-of}
+
+abbrev State : Type 0
+State = SessionState AnyPolicy AnyPolicy ℕ Outcome
+
+steps_append : (es fs : List (Entry ℕ Outcome)) → steps_of (es ++ fs) ≡ steps_of es ++ steps_of fs
+steps_append [] fs = refl
+steps_append (e ∷ es) fs = ap (λ t. e.step ∷ t) (steps_append es fs)
+
+steps_take : (n : ℕ) (es : List (Entry ℕ Outcome)) → steps_of (take n es) ≡ take n (steps_of es)
+steps_take zero es = refl
+steps_take (suc n) [] = refl
+steps_take (suc n) (e ∷ es) = ap (λ t. e.step ∷ t) (steps_take n es)
+
+-- nothing that the trace goes by differs
+pub unmoved : (j : Job) (trace : List ℕ) (old new : State) → IsPolicyAt j trace old → new.kept ≡ old.kept → new.engine ≡ old.engine
+    → new.opening ≡ old.opening → new.limit ≡ old.limit → IsPolicyAt j trace new
+unmoved j trace old new is kept engine opening limit = record {
+  opening = subst (Stands j trace []) (sym opening) is.opening;
+  limit = limit ∙ is.limit;
+  steps = subst (λ es. steps_of es ≡ take (length es) trace) (sym kept) is.steps;
+  within = subst (λ (es : List (Entry ℕ Outcome)). length es ≤ length trace) (sym kept) is.within;
+  few = is.few;
+  stands = subst (λ (es : List (Entry ℕ Outcome)). Stands j trace (take (length es) trace) new.engine) (sym kept)
+      (subst (Stands j trace (take (length old.kept) trace)) (sym engine) is.stands);
+}
+
+-- the next access was made
+pub one_more : AnyStands → (j : Job) (trace keys : List ℕ) (old new : State) (key : ℕ) (o : Outcome) → IsPolicyAt j trace old → keys ≡ trace
+    → length old.kept < length keys → key ≡ slice_index keys (length old.kept) → any_act old.engine key ≡ Some (o, new.engine)
+    → new.kept ≡ old.kept ++ record { step = key; reply = o } ∷ [] → new.opening ≡ old.opening → new.limit ≡ old.limit → IsPolicyAt j trace new
+one_more law j trace keys old new key o is same lt key_is made kept opening limit =
+    let n : ℕ = length old.kept in
+    let long : length new.kept ≡ n + 1 = ap length kept ∙ length-append old.kept (record { step = key; reply = o } ∷ []) in
+    let below : n < length trace = subst (λ (l : List ℕ). n < length l) same lt in
+    let at : key ≡ get_or trace n 0 = key_is ∙ ap (λ l. slice_index l n) same in
+    let next : steps_of new.kept ≡ take (n + 1) trace =
+    ap steps_of kept ∙ steps_append old.kept (record { step = key; reply = o } ∷ []) ∙ ap (λ l. l ++ key ∷ []) is.steps
+    ∙ ap (λ k. take n trace ++ k ∷ []) at ∙ sym (take_more trace n 0 below) in
+    let step : any_act old.engine (slice_index keys n) ≡ Some (o, new.engine) = subst (λ k. any_act old.engine k ≡ Some (o, new.engine)) key_is made in
+    record {
+      opening = subst (Stands j trace []) (sym opening) is.opening;
+      limit = limit ∙ is.limit;
+      steps = next ∙ ap (λ k. take k trace) (sym long);
+      within = omega (arith, long, below);
+      few = is.few;
+      stands = subst (λ k. Stands j trace (take k trace) new.engine) (sym long) (moves law j trace keys n old.engine o new.engine same lt is.stands step);
+    }
+
+-- the next access was made, or nothing was done
+pub after_step : AnyStands → (r : Result Outcome AllocError) (j : Job) (trace keys : List ℕ) (old new : State) (key : ℕ) → IsPolicyAt j trace old → keys ≡ trace
+    → length old.kept < length keys → key ≡ slice_index keys (length old.kept) → IfOk r (λ o. any_act old.engine key ≡ Some (o, new.engine))
+    → IfOk r (λ o. new.kept ≡ old.kept ++ record { step = key; reply = o } ∷ [])
+    → OnErr r ((new.kept ≡ old.kept) × (new.engine ≡ old.engine)) → new.opening ≡ old.opening → new.limit ≡ old.limit → IsPolicyAt j trace new
+after_step law (Ok o) j trace keys old new key is same lt key_is made kept err opening limit =
+    one_more law j trace keys old new key o is same lt key_is made kept opening limit
+after_step law (Err e) j trace keys old new key is same lt key_is made kept err opening limit =
+    unmoved j trace old new is err.0 err.1 opening limit
+
+-- its outcome is that of the trace
+pub answered : AnyAnswers → (r : Result Outcome AllocError) (j : Job) (trace keys : List ℕ) (i : ℕ) (d e : AnyPolicy) (key : ℕ) → keys ≡ trace
+    → i < length keys → Stands j trace (take i trace) d → key ≡ slice_index keys i → IfOk r (λ o. any_act d key ≡ Some (o, e))
+    → IfOk r (λ o. o ≡ outcome_at j trace (i + 1))
+answered law (Err x) j trace keys i d e key same lt s key_is h = tt
+answered law (Ok o) j trace keys i d e key same lt s key_is h =
+    let below : i < length trace = subst (λ (l : List ℕ). i < length l) same lt in
+    let at : key ≡ slice_index trace i = key_is ∙ ap (λ l. slice_index l i) same in
+    let step : any_act d (slice_index trace i) ≡ Some (o, e) = subst (λ k. any_act d k ≡ Some (o, e)) at h in
+    let on : suc i ≡ i + 1 = omega arith in
+    law j trace (take i trace) (drop (suc i) trace ++ []) (slice_index trace i) d o e Kept (next-of trace i below) s step
+    ∙ ap (λ (n : ℕ). get_or (outcomes_on j trace) n Kept) (length-take-le i trace (omega arith))
+    ∙ ap (outcome_at j trace) on
+
+-- ---- going back
+
+stands_after : AnyStands → (j : Job) (trace keys : List ℕ) (x : AnyPolicy) (es : List (Entry ℕ Outcome)) → Stands j trace keys x → IsLegal any_act x es
+    → Stands j trace (keys ++ steps_of es) (after any_act x es)
+stands_after law j trace keys x [] s legal = subst (λ l. Stands j trace l x) (sym (append-nil keys)) s
+stands_after law j trace keys x (e ∷ es) s legal =
+    let y : AnyPolicy = went (any_act x e.step) x in
+    subst (λ l. Stands j trace l (after any_act y es)) (append_assoc keys (e.step ∷ []) (steps_of es))
+    (stands_after law j trace (keys ++ e.step ∷ []) y es (law j trace keys x e.step e.reply y s legal.0) legal.1)
+
+pub take_front : {A : Type 0} (n : ℕ) (xs ys : List A) → n ≤ length xs → take n (xs ++ ys) ≡ take n xs
+take_front zero xs ys le = refl
+take_front (suc n) [] ys le = absurd (omega arith)
+take_front (suc n) (x ∷ xs) ys le = ap (λ t. x ∷ t) (take_front n xs ys (omega arith))
+
+take_take : {A : Type 0} (n m : ℕ) (xs : List A) → n ≤ m → take n (take m xs) ≡ take n xs
+take_take zero m xs le = refl
+take_take (suc n) zero xs le = absurd (omega arith)
+take_take (suc n) (suc m) [] le = refl
+take_take (suc n) (suc m) (x ∷ xs) le = ap (λ t. x ∷ t) (take_take n m xs (omega arith))
+
+pub moved : AnyStands → (j : Job) (trace : List ℕ) (n : ℕ) (old new : State) → IsPolicyAt j trace old → IsMovedTo n old new → n ≤ length old.kept
+    → IsLegal any_act new.opening new.kept → new.engine ≡ after any_act new.opening new.kept → IsPolicyAt j trace new
+moved law j trace n old new is to le legal shows =
+    let kept : new.kept ≡ take n old.kept = to.kept ∙ take_front n old.kept old.tail le in
+    let opening : Stands j trace [] new.opening = subst (Stands j trace []) (sym to.opening) is.opening in
+    let steps : steps_of new.kept ≡ take n trace =
+    ap steps_of kept ∙ steps_take n old.kept ∙ ap (take n) is.steps ∙ take_take n (length old.kept) trace le in
+    let after_them : Stands j trace (steps_of new.kept) (after any_act new.opening new.kept) =
+    stands_after law j trace [] new.opening new.kept opening legal in
+    record {
+      opening = opening;
+      limit = to.limit ∙ is.limit;
+      steps = steps ∙ ap (λ k. take k trace) (sym to.applied);
+      within = omega (arith, to.applied, le, is.within);
+      few = is.few;
+      stands = subst (λ k. Stands j trace (take k trace) new.engine) (sym to.applied)
+          (subst (λ l. Stands j trace l new.engine) steps (subst (Stands j trace (steps_of new.kept)) (sym shows) after_them));
+    }

@@ -1,0 +1,108 @@
+-- Two caches side by side, access by access.
+use Rattle.std.proofs.Common.{◌≡◌, ◌≢◌, ℕ, zero, suc, ◌+◌, ◌<◌, ◌≤◌, Bool, true, false, true≢false, inl, inr, Some, None, List, [], ◌∷◌, ◌++◌, length, take, drop, get_or, set, get_or-set_same, get_or-set_other, ◌-◌, ap, ◌∙◌, sym, refl, arith, subst, append-nil}
+use Rattle.std.specs.Prelude.{slice_index, slice_index_or}
+use Rattle.std.proofs.lemmas.Bool.{cases_lt}
+use Rattle.std.proofs.lemmas.List.{length-take-le, get_or_past}
+use mathlib.Core.Bool.{not, beq}
+use Rattle.step_record.specs.declared.job.Job.{Job}
+use Rattle.step_record.specs.declared.limits.TheConstants.{MAX_ACCESSES}
+use Rattle.step_record.specs.declared.outcome.Outcome.{Outcome}
+use Rattle.step_record.specs.declared.outcome.Outcome.TheVariants.{Kept}
+use Rattle.step_record.specs.Stats.{is_hit}
+use Rattle.policies.specs.declared.any_policy.AnyPolicy.{AnyPolicy}
+use Rattle.policies.specs.AnyPolicy.{Stands, outcomes_on}
+use Rattle.policies.specs.AnyStep.{any_act}
+use Rattle.policies.specs.Theorems.{AnyStands, AnyAccepts, AnyAnswers}
+use Rattle.policy_actors.proofs.Stretches.{next-ahead, added-next}
+use Rattle.debug_policies.specs.Part.{is_hit_at, AgreeBelow, IsPart, IsNoted, IsFirstOther}
+
+-- ---- one access of one cache
+
+-- behind the first i accesses of the trace stands the next one
+pub next-of : (trace : List ℕ) (i : ℕ) → i < length trace
+    → trace ≡ take i trace ++ slice_index trace i ∷ (drop (suc i) trace ++ [])
+next-of trace i lt = next-ahead trace [] trace [] i lt (sym (append-nil trace))
+
+pub ready : AnyAccepts → (j : Job) (trace keys : List ℕ) (i : ℕ) (d : AnyPolicy) → keys ≡ trace → i < length keys
+    → length trace ≤ MAX_ACCESSES → Stands j trace (take i trace) d → any_act d (slice_index keys i) ≢ None
+ready law j trace keys i d same lt few s none =
+    let below : i < length trace = subst (λ (l : List ℕ). i < length l) same lt in
+    law j trace (take i trace) (drop (suc i) trace ++ []) (slice_index trace i) d (next-of trace i below) few s
+    (subst (λ (l : List ℕ). any_act d (slice_index l i) ≡ None) same none)
+
+pub moves : AnyStands → (j : Job) (trace keys : List ℕ) (i : ℕ) (d : AnyPolicy) (o : Outcome) (e : AnyPolicy) → keys ≡ trace
+    → i < length keys → Stands j trace (take i trace) d → any_act d (slice_index keys i) ≡ Some (o, e)
+    → Stands j trace (take (i + 1) trace) e
+moves law j trace keys i d o e same lt s h =
+    let below : i < length trace = subst (λ (l : List ℕ). i < length l) same lt in
+    let step : any_act d (slice_index trace i) ≡ Some (o, e) = subst (λ (l : List ℕ). any_act d (slice_index l i) ≡ Some (o, e)) same h in
+    subst (λ (l : List ℕ). Stands j trace l e) (added-next [] trace i below) (law j trace (take i trace) d (slice_index trace i) o e s step)
+
+pub answers : AnyAnswers → (j : Job) (trace keys : List ℕ) (i : ℕ) (d : AnyPolicy) (o : Outcome) (e : AnyPolicy) → keys ≡ trace
+    → i < length keys → Stands j trace (take i trace) d → any_act d (slice_index keys i) ≡ Some (o, e)
+    → is_hit o ≡ is_hit_at (outcomes_on j trace) (i + 1)
+answers law j trace keys i d o e same lt s h =
+    let below : i < length trace = subst (λ (l : List ℕ). i < length l) same lt in
+    let step : any_act d (slice_index trace i) ≡ Some (o, e) = subst (λ (l : List ℕ). any_act d (slice_index l i) ≡ Some (o, e)) same h in
+    let on : suc i ≡ i + 1 = omega arith in
+    ap is_hit
+    (law j trace (take i trace) (drop (suc i) trace ++ []) (slice_index trace i) d o e Kept (next-of trace i below) s step
+    ∙ ap (λ (n : ℕ). get_or (outcomes_on j trace) n Kept) (length-take-le i trace (omega arith)))
+    ∙ ap (is_hit_at (outcomes_on j trace)) on
+
+-- ---- the accesses at which both hit or neither does
+
+pub differs : (a b : Bool) → not (beq a b) ≡ true → a ≢ b
+differs true true h e = true≢false (sym h)
+differs true false h e = true≢false e
+differs false true h e = true≢false (sym e)
+differs false false h e = true≢false (sym h)
+
+pub agrees : (a b : Bool) → not (beq a b) ≡ false → a ≡ b
+agrees true true h = refl
+agrees true false h = absurd (true≢false h)
+agrees false true h = absurd (true≢false h)
+agrees false false h = refl
+
+pub noted-on : (noted : List Bool) (os : List Outcome) (start i : ℕ) → slice_index_or noted (i - start) false ≡ is_hit_at os (i + 1)
+    → IsNoted noted os start i → IsNoted noted os start (i + 1)
+noted-on noted os start i here before j from below =
+    elim (cases_lt j i) [
+      | inl less ↦ before j from less
+      | inr more ↦ (let same : i ≡ j = omega arith in subst (λ (n : ℕ). slice_index_or noted (n - start) false ≡ is_hit_at os (n + 1)) same here)
+    ]
+
+pub noted-more : (noted : List Bool) (os : List Outcome) (start i : ℕ) (b : Bool) → start ≤ i → i - start < length noted
+    → b ≡ is_hit_at os (i + 1) → IsNoted noted os start i → IsNoted (set noted (i - start) b) os start (i + 1)
+noted-more noted os start i b order room e before =
+    noted-on (set noted (i - start) b) os start i (get_or-set_same noted (i - start) b false room ∙ e)
+    (λ j from below. get_or-set_other noted (i - start) (j - start) b false (λ same. omega (arith, same, from, below, order)) ∙ before j from below)
+
+pub agree-more : (noted : List Bool) (os ps : List Outcome) (start end : ℕ) → AgreeBelow (start + 1) os ps → IsNoted noted os start end
+    → IsNoted noted ps start end → AgreeBelow (end + 1) os ps
+agree-more noted os ps start end below one other zero lt = below zero (omega arith)
+agree-more noted os ps start end below one other (suc m) lt =
+    elim (cases_lt m start) [
+      | inl less ↦ below (suc m) (omega arith)
+      | inr more ↦ (
+          let on : m + 1 ≡ suc m = omega arith in
+          subst (λ (n : ℕ). is_hit_at os n ≡ is_hit_at ps n) on (sym (one m (omega arith) (omega arith)) ∙ other m (omega arith) (omega arith)))
+    ]
+
+pub parts-first : (noted : List Bool) (os ps : List Outcome) (start end place : ℕ) → AgreeBelow (start + 1) os ps → IsNoted noted os start end
+    → IsFirstOther noted ps start end place → IsPart os ps (Some (place + 1))
+parts-first noted os ps start end place below one p =
+    let from = p.from in
+    let to = p.below in (
+      (λ same. p.other (one place from to ∙ same)),
+      agree-more noted os ps start place below (λ j f t. one j f (omega (arith, t, to))) p.agree,
+    )
+
+pub agree-everywhere : (os ps : List Outcome) (n : ℕ) → length os ≡ n → length ps ≡ n → AgreeBelow (n + 1) os ps
+    → (m : ℕ) → is_hit_at os m ≡ is_hit_at ps m
+agree-everywhere os ps n l k below zero = refl
+agree-everywhere os ps n l k below (suc m) =
+    elim (cases_lt m n) [
+      | inl less ↦ below (suc m) (omega arith)
+      | inr more ↦ ap is_hit (get_or_past os m Kept (omega (arith, l)) ∙ sym (get_or_past ps m Kept (omega (arith, k))))
+    ]

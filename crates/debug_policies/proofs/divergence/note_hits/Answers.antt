@@ -1,0 +1,37 @@
+use Rattle.std.proofs.Common.{◌≡◌, ◌∙◌, ◌+◌, ◌-◌, ◌<◌, ◌≤◌, length, set, ap, arith}
+use Rattle.std.proofs.Math.ListN.{length-set}
+use Rattle.policies.specs.AnyPolicy.{outcomes_on}
+use Rattle.debug_policies.specs.Part.{is_hit_at}
+use Rattle.debug_policies.proofs.Walked.{ready, moves, answers, noted-more}
+use Rattle.debug_policies.proofs.divergence.note_hits.Goals as goal
+
+pub access-requires : goal.access-requires
+access-requires c =
+    let trace = c.args.trace.now in
+    let keys = c.keys-keys.result.now in
+    let i = c.loop-i.i in
+    let long = ap length c.keys-keys.ensures.keys in
+    let below : i < length keys = omega (arith, long, c.requires.within, c.loop-i-test.true) in
+    ready c.any_accepts.ensures c.args._job.now trace keys i c.loop-i.cache c.keys-keys.ensures.keys below c.keys-keys.ensures.few
+    c.loop-i.invariant.0
+
+pub loop-i-preserved : goal.loop-i-preserved
+loop-i-preserved c =
+    let trace = c.args.trace.now in
+    let keys = c.keys-keys.result.now in
+    let i = c.loop-i.i in
+    let long = ap length c.keys-keys.ensures.keys in
+    let below : i < length keys = omega (arith, long, c.requires.within, c.loop-i-test.true) in
+    let here : c.hits.result ≡ is_hit_at (outcomes_on c.args._job.now trace) (i + 1) =
+    c.hits.ensures ∙ answers c.any_answers.ensures c.args._job.now trace keys i c.loop-i.cache c.in_ok-outcome.outcome c.access.new.cache
+    c.keys-keys.ensures.keys below c.loop-i.invariant.0 c.in_ok-outcome.ensures in
+    let on = moves c.any_stands.ensures c.args._job.now trace keys i c.loop-i.cache c.in_ok-outcome.outcome c.access.new.cache
+    c.keys-keys.ensures.keys below c.loop-i.invariant.0 c.in_ok-outcome.ensures in
+    let from : c.args.start ≤ i = omega (arith, c.loop-i.auto.i) in
+    let size = c.loop-i.invariant.2 in
+    let within : i - c.args.start < length c.loop-i.noted = omega (arith, c.requires.room, size, from, c.loop-i-test.true) in
+    let long2 : length (set c.loop-i.noted (i - c.args.start) c.hits.result) ≡ length c.loop-i.noted = length-set c.loop-i.noted _ _ in (
+      on,
+      noted-more c.loop-i.noted (outcomes_on c.args._job.now trace) c.args.start i c.hits.result from within here c.loop-i.invariant.1,
+      long2 ∙ size,
+    )

@@ -1,0 +1,4 @@
+pub mod Part
+pub mod OnePolicy
+pub mod TwoPolicies
+pub mod Refused

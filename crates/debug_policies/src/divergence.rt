@@ -1,0 +1,194 @@
+//! The first access at which one policy hits and the other does not.
+ghost use Rattle.std.specs.Prelude.{◌≡◌, ◌≢◌, ◌≤◌, ◌-◌, ◌++◌, Ok, Some, None, [], ◌∷◌, length, take};
+ghost use Rattle.std.specs.Prelude.{IfOk, OnOk, IfSome, IfNone};
+ghost use Rattle.step_record.specs.Config.{config_fault};
+ghost use Rattle.step_record.specs.Stats.{is_hit};
+ghost use Rattle.policies.specs.AnyPolicy.{Stands, outcomes_on};
+ghost use Rattle.policies.specs.AnyStep.{any_act};
+ghost use Rattle.policy_actors.specs.Faults.{faulty_in, ReturnsFault};
+ghost use Rattle.debug_policies.specs.Part.{part_line, IsPart, IsNoted, IsFirstOther};
+
+use debug_commands::{push_bytes, push_count};
+use policies::{AnyPolicy, any_accepts, any_answers, any_covers_trace, any_stands};
+use policy_actors::ActorFault;
+use std::alloc::{AllocError, Global};
+use step_record::{Job, Key, Outcome, StepFault, Trace};
+
+/// The first access of the trace, counted from 1, at which the policy of one job hits and that of the other does not;
+/// `None` where there is no such access.
+///
+/// Errors: `Config` with index 0 exactly where `Config::check` refuses the first job's configuration, with index 1
+/// exactly where it refuses the second's and accepts the first's; then `OutOfMemory`.
+pub fn part(
+    alloc: Global,
+    trace: &Trace,
+    first: &Job,
+    second: &Job,
+) -> Result<Option<u64>, ActorFault>
+    ensures part { IfOk result (IsPart (outcomes_on first.now trace.now) (outcomes_on second.now trace.now)) }
+    ensures fault { ReturnsFault (faulty_in (first.now ∷ second.now ∷ [])) result }
+{
+    if first.config.check().is_err() {
+        return Err(ActorFault::Config { index: 0 });
+    }
+    if second.config.check().is_err() {
+        return Err(ActorFault::Config { index: 1 });
+    }
+    let found = walk(alloc, trace, first, second)?;
+    Ok(found)
+}
+
+/// Adds the line of the access that `part` found, or of none. The one error is that an allocation failed.
+pub fn push_part(text: &mut Vec<u8>, found: Option<u64>) -> Result<(), AllocError>
+    ensures { OnOk result (text.new.items ≡ text.old.items ++ part_line found) }
+{
+    match found {
+        Some(access) => {
+            push_count(text, b"part ", access)?;
+            push_bytes(text, b"\n")
+        }
+        None => push_bytes(text, b"part none\n"),
+    }
+}
+
+// So many accesses are made in one cache before the other makes them: each has a loop of its own, of which the code of
+// an access is part.
+const BLOCK: usize = 1024;
+
+// The caller in the first cache's loop, and that in the second's.
+struct Noting;
+
+struct Comparing;
+
+// Opens the caches of both jobs, and walks.
+fn walk(alloc: Global, trace: &Trace, first: &Job, second: &Job) -> Result<Option<u64>, AllocError>
+    requires first { config_fault first.now.config ≡ Ok tt }
+    requires second { config_fault second.now.config ≡ Ok tt }
+    ensures { IfOk result (IsPart (outcomes_on first.now trace.now) (outcomes_on second.now trace.now)) }
+{
+    let mut one = AnyPolicy::open(alloc, first, trace)?;
+    walk_beside(alloc, trace, first, second, &mut one)
+}
+
+// Opens the cache of the second job, beside that of the first, and walks.
+fn walk_beside(
+    alloc: Global,
+    trace: &Trace,
+    first: &Job,
+    second: &Job,
+    one: &mut AnyPolicy,
+) -> Result<Option<u64>, AllocError>
+    requires one { Stands first.now trace.now [] one.old }
+    requires second { config_fault second.now.config ≡ Ok tt }
+    ensures { IfOk result (IsPart (outcomes_on first.now trace.now) (outcomes_on second.now trace.now)) }
+{
+    let mut other = AnyPolicy::open(alloc, second, trace)?;
+    walk_both(trace, first, second, one, &mut other)
+}
+
+// Makes the accesses of the trace in both caches, up to the first at which just one of them hits.
+fn walk_both(
+    trace: &Trace,
+    first: &Job,
+    second: &Job,
+    one: &mut AnyPolicy,
+    other: &mut AnyPolicy,
+) -> Result<Option<u64>, AllocError>
+    requires one { Stands first.now trace.now [] one.old }
+    requires other { Stands second.now trace.now [] other.old }
+    ensures { IfOk result (IsPart (outcomes_on first.now trace.now) (outcomes_on second.now trace.now)) }
+{
+    any_stands();
+    any_covers_trace();
+    let mut noted = [false; BLOCK];
+    let len = trace.keys().len();
+    let mut start = 0;
+    'stretches: while start < len {
+        let end = len.min(start + BLOCK);
+        note_hits(one, first, trace, start, end, &mut noted)?;
+        match compare_hits(other, second, trace, start, end, &noted)? {
+            Some(place) => return Ok(Some(place as u64 + 1)),
+            None => start = end,
+        }
+    }
+    Ok(None)
+}
+
+// Makes the accesses from one place of the trace up to another, and notes which of them hit.
+fn note_hits(
+    cache: &mut AnyPolicy,
+    _job: &Job,
+    trace: &Trace,
+    start: usize,
+    end: usize,
+    noted: &mut [bool],
+) -> Result<(), AllocError>
+    requires order { start ≤ end }
+    requires within { end ≤ length trace.now }
+    requires room { end - start ≤ length noted.old }
+    requires stands { Stands _job.now trace.now (take start trace.now) cache.old }
+    ensures stands { OnOk result (Stands _job.now trace.now (take end trace.now) cache.new) }
+    ensures noted { OnOk result (IsNoted noted.new (outcomes_on _job.now trace.now) start end) }
+    ensures room { length noted.new ≡ length noted.old }
+{
+    any_accepts();
+    any_stands();
+    any_answers();
+    let keys = trace.keys();
+    for i in start..end {
+        let outcome = access::<Noting>(cache, keys[i])?;
+        noted[i - start] = hits(outcome);
+    }
+    Ok(())
+}
+
+// Makes the same accesses in the other cache, up to the first of which just one hits, whose place it returns.
+fn compare_hits(
+    cache: &mut AnyPolicy,
+    _job: &Job,
+    trace: &Trace,
+    start: usize,
+    end: usize,
+    noted: &[bool],
+) -> Result<Option<usize>, AllocError>
+    requires order { start ≤ end }
+    requires within { end ≤ length trace.now }
+    requires room { end - start ≤ length noted.now }
+    requires stands { Stands _job.now trace.now (take start trace.now) cache.old }
+    ensures stands { IfOk result (λ r. IfNone r (Stands _job.now trace.now (take end trace.now) cache.new)) }
+    ensures agree { IfOk result (λ r. IfNone r (IsNoted noted.now (outcomes_on _job.now trace.now) start end)) }
+    ensures part { IfOk result (λ r. IfSome r (IsFirstOther noted.now (outcomes_on _job.now trace.now) start end)) }
+{
+    any_accepts();
+    any_stands();
+    any_answers();
+    let keys = trace.keys();
+    for i in start..end {
+        let outcome = access::<Comparing>(cache, keys[i])?;
+        if hits(outcome) != noted[i - start] {
+            return Ok(Some(i));
+        }
+    }
+    Ok(None)
+}
+
+// Makes an access that the cache accepts. The one error is out of memory.
+#[inline(always)]
+fn access<C>(cache: &mut AnyPolicy, key: Key) -> Result<Outcome, AllocError>
+    requires { any_act cache.old key ≢ None }
+    ensures { IfOk result (λ o. any_act cache.old key ≡ Some (o, cache.new)) }
+{
+    match cache.access::<C>(key) {
+        Ok(outcome) => Ok(outcome),
+        Err(StepFault::OutOfMemory) => Err(AllocError),
+        Err(StepFault::NotNow) => unreachable!(),
+    }
+}
+
+/// Whether the outcome is a hit.
+#[inline(always)]
+pub fn hits(outcome: Outcome) -> bool
+    ensures { result ≡ is_hit outcome }
+{
+    matches!(outcome, Outcome::Hit)
+}

@@ -1,0 +1,187 @@
+//! One policy over a trace, in a session that goes back and forth.
+ghost use Rattle.std.specs.Prelude.{◌≡◌, ◌≢◌, ◌≤◌, ◌<◌, ◌+◌, ◌-◌, ◌++◌, Ok, Some, None, IfOk, OnOk, OnErr, []};
+ghost use Rattle.std.specs.Prelude.{◌∷◌, length};
+ghost use Rattle.std.specs.List.{flat_map};
+ghost use Rattle.step_record.specs.Config.{config_fault};
+ghost use Rattle.policies.specs.AnyStep.{any_act};
+ghost use Rattle.debug_policies.specs.OnePolicy.{age_at, counts_line, holds_line, outcome_at, policy_lines};
+ghost use Rattle.debug_policies.specs.OnePolicy.{spaced_key};
+
+use debug_commands::{push_bytes, push_count, push_number};
+use journal::{BackFault, Session, SessionFault};
+use policies::{AnyPolicy, any_accepts, any_answers, any_stands};
+use std::alloc::{AllocError, Global};
+use std::marker::Model;
+use step_record::{Job, Key, MAX_JOURNAL_LIMIT, Outcome, Stats, Trace};
+
+/// A policy over a trace, and how many of the accesses are made.
+#[derive(Drop)]
+pub struct OnePolicy<'a> {
+    job: Job,
+    trace: &'a Trace,
+    session: Session<AnyPolicy>,
+}
+
+impl<'a> Model for OnePolicy<'a> {
+    ghost use Rattle.std.specs.Prelude.{length};
+    ghost use Rattle.debug_policies.specs.OnePolicy.{IsPolicyAt, OnePolicyState};
+
+    ghost Value = { OnePolicyState };
+
+    ghost view = { λ w. record { job = w.job; trace = w.trace.now; at = length w.session.kept } };
+
+    ghost invariant = { λ w. IsPolicyAt w.job w.trace.now w.session };
+}
+
+impl<'a> OnePolicy<'a> {
+    /// Before the first access. It requires a configuration that `Config::check` accepts. The one error is that an
+    /// allocation failed.
+    pub fn open(alloc: Global, job: &Job, trace: &'a Trace) -> Result<OnePolicy<'a>, AllocError>
+        requires { config_fault job.now.config ≡ Ok tt }
+        ensures { IfOk result (λ w. w ≡ record { job = job.now; trace = trace.now; at = 0 }) }
+    {
+        let cache = AnyPolicy::open(alloc, job, trace)?;
+        let _few = trace.len();
+        Ok(OnePolicy {
+            job: *job,
+            trace,
+            session: Session::open(alloc, cache, MAX_JOURNAL_LIMIT as usize),
+        })
+    }
+
+    /// How many accesses are made.
+    pub fn position(&self) -> usize
+        ensures at { result ≡ self.now.at }
+        ensures within { result ≤ length self.now.trace }
+    {
+        self.session.len()
+    }
+
+    /// Makes the next access. The one error is that an allocation failed.
+    pub fn next(&mut self) -> Result<Outcome, AllocError>
+        requires { self.old.at < length self.old.trace }
+        ensures job { self.new.job ≡ self.old.job }
+        ensures trace { self.new.trace ≡ self.old.trace }
+        ensures at { OnOk result (self.new.at ≡ self.old.at + 1) }
+        ensures outcome { IfOk result (λ o. o ≡ outcome_at self.old.job self.old.trace (self.old.at + 1)) }
+    {
+        any_stands();
+        any_accepts();
+        any_answers();
+        let key = self.trace.keys()[self.session.len()];
+        make(&mut self.session, key)
+    }
+
+    /// Makes or undoes accesses until `n` are made. The one error is that an allocation failed.
+    pub fn goto(&mut self, n: usize) -> Result<(), AllocError>
+        requires { n ≤ length self.old.trace }
+        ensures job { self.new.job ≡ self.old.job }
+        ensures trace { self.new.trace ≡ self.old.trace }
+        ensures at { OnOk result (self.new.at ≡ n) }
+    {
+        let at = self.position();
+        if n < at {
+            return self.back(at - n);
+        }
+        'accesses: while self.position() < n {
+            self.next()?;
+        }
+        Ok(())
+    }
+
+    // Undoes the last `k` accesses.
+    fn back(&mut self, k: usize) -> Result<(), AllocError>
+        requires { k ≤ self.old.at }
+        ensures job { self.new.job ≡ self.old.job }
+        ensures trace { self.new.trace ≡ self.old.trace }
+        ensures at { OnOk result (self.new.at ≡ self.old.at - k) }
+    {
+        any_stands();
+        match self.session.back(k) {
+            Ok(()) => Ok(()),
+            Err(BackFault::OutOfMemory { .. }) => Err(AllocError),
+            Err(BackFault::PastStart) => unreachable!(),
+        }
+    }
+
+    /// The age of its sketch, 0 where it has none.
+    pub fn age(&self) -> u32
+        ensures { result ≡ age_at self.now.job self.now.trace self.now.at }
+    {
+        match self.session.engine().frequency() {
+            Some(frequency) => frequency.age(),
+            None => 0,
+        }
+    }
+
+    /// Adds the lines that show it. The one error is that an allocation failed.
+    pub fn show(&self, alloc: Global, label: &[u8], text: &mut Vec<u8>) -> Result<(), AllocError>
+        ensures { OnOk result (text.new.items
+            ≡ text.old.items ++ policy_lines label.now self.now.job self.now.trace self.now.at) }
+    {
+        let cache = self.session.engine();
+        let keys = cache.residents(alloc)?;
+        push_counts(text, label, &self.job, &cache.stats())?;
+        push_holds(text, label, keys.as_slice())
+    }
+}
+
+// Makes a step that the cache accepts, where there is room for it.
+fn make(session: &mut Session<AnyPolicy>, key: Key) -> Result<Outcome, AllocError>
+    requires accepted { any_act session.old.engine key ≢ None }
+    requires room { length session.old.kept < session.old.limit }
+    ensures made { IfOk result (λ o. any_act session.old.engine key ≡ Some (o, session.new.engine)) }
+    ensures kept { IfOk result (λ o. session.new.kept ≡ session.old.kept ++ record { step = key; reply = o } ∷ []) }
+    ensures opening { session.new.opening ≡ session.old.opening }
+    ensures limit { session.new.limit ≡ session.old.limit }
+    ensures err { OnErr result ((session.new.kept ≡ session.old.kept) × (session.new.engine ≡ session.old.engine)) }
+{
+    match session.step(key) {
+        Ok(outcome) => Ok(outcome),
+        Err(SessionFault::OutOfMemory) => Err(AllocError),
+        Err(SessionFault::NotNow) => unreachable!(),
+        Err(SessionFault::JournalFull) => unreachable!(),
+    }
+}
+
+// Adds the line of the counts.
+fn push_counts(text: &mut Vec<u8>, label: &[u8], job: &Job, stats: &Stats) -> Result<(), AllocError>
+    ensures { OnOk result (text.new.items ≡ text.old.items ++ counts_line label.now job.now stats.now) }
+{
+    push_bytes(text, label)?;
+    push_bytes(text, b" ")?;
+    push_bytes(text, job.policy.word().as_bytes())?;
+    push_count(text, b" hits ", stats.hits)?;
+    push_count(text, b" misses ", stats.misses)?;
+    push_count(text, b" evictions ", stats.evictions)?;
+    push_count(text, b" rejections ", stats.rejections)?;
+    push_bytes(text, b"\n")
+}
+
+// Adds the line of the residents.
+fn push_holds(text: &mut Vec<u8>, label: &[u8], keys: &[Key]) -> Result<(), AllocError>
+    ensures { OnOk result (text.new.items ≡ text.old.items ++ holds_line label.now keys.now) }
+{
+    push_bytes(text, label)?;
+    push_bytes(text, b" holds")?;
+    push_keys(text, keys)?;
+    push_bytes(text, b"\n")
+}
+
+// Adds keys, each with a space before it.
+fn push_keys(text: &mut Vec<u8>, keys: &[Key]) -> Result<(), AllocError>
+    ensures { OnOk result (text.new.items ≡ text.old.items ++ flat_map spaced_key keys.now) }
+{
+    for key in keys {
+        push_key(text, *key)?;
+    }
+    Ok(())
+}
+
+// Adds a space and a key.
+fn push_key(text: &mut Vec<u8>, key: Key) -> Result<(), AllocError>
+    ensures { OnOk result (text.new.items ≡ text.old.items ++ spaced_key key) }
+{
+    push_bytes(text, b" ")?;
+    push_number(text, key)
+}

@@ -1,9 +1,0 @@
-use Rattle.std.proofs.Common.{take}
-use Rattle.policies.specs.AnyPolicy.{Stands, outcomes_on}
-use Rattle.debug_shell.specs.Part.{IsNoted}
-use Rattle.debug_shell.proofs.parting.compare_hits.Given as goal
-
-abbrev pub invariant-loop-i : goal.invariant-loop-i
-invariant-loop-i l =
-    Stands l._job l.trace (take l.i l.trace) l.cache
-    × IsNoted l.noted (outcomes_on l._job l.trace) l.start l.i

@@ -1,4 +1,0 @@
-pub mod Part
-pub mod OnePolicy
-pub mod TwoPolicies
-pub mod Debugging

@@ -1,0 +1,6 @@
+use Rattle.std.proofs.Common.{◌≡◌, take, map}
+use Rattle.policy_actors.specs.Faults.{at_capacity}
+use Rattle.headline.proofs.reports.at_capacities.Given as goal
+
+abbrev pub invariant-loop-capacity : goal.invariant-loop-capacity
+invariant-loop-capacity l = l.jobs.items ≡ map (at_capacity l.job) (take l.capacity-index l.capacities)

@@ -1,0 +1,8 @@
+use Rattle.headline.proofs.Rewinding.{left_by}
+use Rattle.headline.proofs.undone_run.undo.Goals as goal
+
+pub returns-clause-opening : goal.returns-clause-opening
+returns-clause-opening c = (left_by c.args.k _ _ c.back-undone.result c.back-undone.ensures.ok c.back-undone.ensures.err).0
+
+pub returns-clause-left : goal.returns-clause-left
+returns-clause-left c = (left_by c.args.k _ _ c.back-undone.result c.back-undone.ensures.ok c.back-undone.ensures.err).1

@@ -1,0 +1,49 @@
+-- A run of workers on threads, and what stands once its last steps are undone.
+use Rattle.std.specs.Prelude.{◌≡◌, ◌↔◌, ℕ, ◌-◌, ◌<◌, ◌≤◌, List, [], ◌∷◌, ◌++◌, Option, Some, None, Result, Ok, Err}
+use Rattle.std.specs.Prelude.{get_or, length, take}
+use Rattle.step_record.specs.declared.entry.Entry.{Entry}
+use Rattle.step_record.specs.declared.step.Call.{Call}
+use Rattle.step_record.specs.declared.step.Reply.{Reply}
+use Rattle.step_record.specs.declared.step.Step.{Step}
+use Rattle.step_record.specs.History.{after, Entries}
+use Rattle.shell_model.specs.Shell.{Shell, act}
+use Rattle.journal.specs.declared.fault.BackFault.{BackFault}
+use Rattle.journal.specs.declared.fault.BackFault.TheVariants as back
+use Rattle.workers.specs.declared.run.Cause.{Cause}
+use Rattle.workers.specs.declared.run.Cause.TheVariants.{JournalFull}
+use Rattle.walks.specs.Walks.{AreWalks}
+use Rattle.walks.specs.Made.{BeginWalks}
+use Rattle.walks.specs.Made.{entries_of}
+use Rattle.workers.specs.WorkerStates.{ShellSession}
+
+-- from the state x on, each reply is the one that the definition gives on the steps before it
+abbrev pub IsAnswered : Shell → Entries → Type 0
+IsAnswered x steps = (before later : Entries) (e : Entry Step Reply) → steps ≡ before ++ e ∷ later
+    → act (after act x before) e.step ≡ Some (e.reply, after act x (before ++ e ∷ []))
+
+-- one walk for each call, or the beginning of such walks where a worker was refused a step
+abbrev pub AreMade : ℕ → Option Cause → ℕ → List Call → Entries → Type 0
+AreMade n None w calls es = AreWalks w n calls es
+AreMade n (Some cause) w calls es = BeginWalks w n calls es
+
+-- how many of k steps were undone
+abbrev pub undone_of : ℕ → Result (Unit {0}) BackFault → ℕ
+undone_of k (Ok done) = k
+undone_of k (Err back.PastStart) = 0
+undone_of k (Err (back.OutOfMemory undone)) = undone
+
+-- The run is one list of steps behind the old ones. Of these, those of each worker are its own list, in order, which
+-- are the walks of its calls, and nobody else made any. A full journal is the cause only where it is full. Each reply
+-- is the definition's on the steps before it. And once the last steps are undone, the state is the one that the
+-- definition gives on the others.
+pub record IsRewound (n k : ℕ) (pieces : List (List Call)) (cause : Option Cause) (undone : Result (Unit {0}) BackFault)
+    (old new : ShellSession) (lists : List Entries) : Type 0 where
+  pub run : Entries
+  pub listed : (w : ℕ) → w < length pieces → entries_of w run ≡ get_or lists w []
+  pub made : (w : ℕ) → w < length pieces → AreMade n cause w (get_or pieces w []) (entries_of w run)
+  pub no_other : (w : ℕ) → length pieces ≤ w → entries_of w run ≡ []
+  pub full : cause ≡ Some JournalFull → length (old.kept ++ run) ≡ old.limit
+  pub answered : IsAnswered old.opening (old.kept ++ run)
+  pub left : new.kept ≡ take (length (old.kept ++ run) - undone_of k undone) (old.kept ++ run)
+  pub state : new.engine ≡ after act old.opening new.kept
+  pub past : undone ≡ Err back.PastStart ↔ length (old.kept ++ run) < k

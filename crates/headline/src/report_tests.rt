@@ -1,0 +1,104 @@
+//! The reports of small traces, made in two ways and compared with values that were worked out by hand.
+use super::{BothWays, capacities_both_ways, jobs_both_ways};
+use policy_actors::ActorFault;
+use report::Report;
+use std::process::Abort;
+use std::test::Fail;
+use step_record::{Config, Job, OpenGate, Policy, Spread, Trace};
+
+fn job(policy: Policy, capacity: u32) -> Job {
+    Job {
+        policy,
+        config: Config {
+            capacity,
+            main_percent: 99,
+            spread: Spread::Plain,
+            stripes: 1,
+            journal_limit: 1,
+        },
+    }
+}
+
+// Both lists are the wanted reports.
+fn compare<R: Abort>(
+    rt: &R,
+    made: Result<BothWays, ActorFault>,
+    wanted: &[Report],
+) -> Result<(), Fail> {
+    match made {
+        Ok(reports) => {
+            assert_eq!(rt; reports.alone.as_slice(), wanted);
+            assert_eq!(rt; reports.together.as_slice(), wanted);
+            Ok(())
+        }
+        Err(ActorFault::OutOfMemory) => Err(Fail::from("OutOfMemory")),
+        Err(_) => Err(Fail::from("no reports")),
+    }
+}
+
+fn report(policy: Policy, capacity: u32, counts: [u64; 5]) -> Report {
+    let [accesses, hits, misses, evictions, rejections] = counts;
+    Report {
+        policy,
+        capacity,
+        accesses,
+        hits,
+        misses,
+        evictions,
+        rejections,
+    }
+}
+
+#[test]
+fn jobs_alone_and_together(rt: HostRuntime) -> Result<(), Fail> {
+    let trace = Trace::new(vec![in rt.alloc(); 1, 1, 2, 3, 1]?);
+    let jobs = [
+        job(Policy::WindowTinyLfu, 2),
+        job(Policy::Lru, 2),
+        job(Policy::Clairvoyant, 2),
+        job(Policy::SegmentedLru, 2),
+    ];
+    let wanted = [
+        report(Policy::WindowTinyLfu, 2, [5, 2, 3, 1, 1]),
+        report(Policy::Lru, 2, [5, 1, 4, 2, 0]),
+        report(Policy::Clairvoyant, 2, [5, 2, 3, 1, 0]),
+        report(Policy::SegmentedLru, 2, [5, 2, 3, 1, 0]),
+    ];
+    for batch in [1, 2, 65_536] {
+        let made = jobs_both_ways(&rt, rt.alloc(), &trace, &jobs, batch, &OpenGate);
+        compare(&rt, made, &wanted)?;
+    }
+    Ok(())
+}
+
+#[test]
+fn capacities_alone_and_together(rt: HostRuntime) -> Result<(), Fail> {
+    let trace = Trace::new(vec![in rt.alloc(); 1, 2, 3, 1, 4, 2]?);
+    let made = capacities_both_ways(&rt, rt.alloc(), &trace, &job(Policy::Lru, 9), &[1, 2, 3]);
+    let wanted = [
+        report(Policy::Lru, 1, [6, 0, 6, 5, 0]),
+        report(Policy::Lru, 2, [6, 0, 6, 4, 0]),
+        report(Policy::Lru, 3, [6, 1, 5, 2, 0]),
+    ];
+    compare(&rt, made, &wanted)
+}
+
+#[test]
+fn faults_of_both_ways(rt: HostRuntime) -> Result<(), Fail> {
+    let trace = Trace::new(vec![in rt.alloc(); 1]?);
+    let good = job(Policy::Lru, 1);
+    let bad = job(Policy::Lru, 0);
+    assert!(rt;
+        matches!(
+            jobs_both_ways(&rt, rt.alloc(), &trace, &[bad], 0, &OpenGate),
+            Err(ActorFault::Batch)
+        )
+    );
+    assert!(rt;
+        matches!(
+            capacities_both_ways(&rt, rt.alloc(), &trace, &good, &[1, 0]),
+            Err(ActorFault::Config { index: 1 })
+        )
+    );
+    Ok(())
+}

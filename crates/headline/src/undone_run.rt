@@ -1,0 +1,80 @@
+//! The history of a run on threads, in one statement that cites what `drive`, `Session` and `Shell` promise.
+ghost use Rattle.std.specs.Prelude.{◌≡◌, ◌↔◌, ◌-◌, ◌<◌, Err, IfErr, IfOk, length, map, take};
+ghost use Rattle.step_record.specs.History.{after};
+ghost use Rattle.shell_model.specs.Shell.{act};
+ghost use Rattle.workers.specs.DriveFaults.{LeavesFault};
+ghost use Rattle.headline.specs.Rewound.{IsRewound, undone_of};
+
+use drive::{Cause, DriveFault, drive};
+use journal::{BackFault, Session};
+use maintenance::Shell;
+use std::alloc::Global;
+use std::sync::Wait;
+use std::thread::Threads;
+use step_record::{Call, Entry, Gate, Reply, Step};
+
+/// A run of workers on threads, of which the last steps were undone.
+#[derive(Drop)]
+pub struct Rewound {
+    /// The session, with the steps that are left.
+    pub session: Session<Shell>,
+    /// The entries of each worker in the run, in its order, at its number.
+    pub lists: Vec<Vec<Entry<Step, Reply>>>,
+    /// Why a worker was refused a step, where one was.
+    pub cause: Option<Cause>,
+    /// Why the steps were not undone, or not all of them.
+    pub undone: Result<(), BackFault>,
+}
+
+/// Has workers make their calls on threads, and then undoes the last `k` steps of the session. The run is one list of
+/// steps, in which each worker's are the walks of its calls, in order, and each reply is the one that the definition of
+/// the cache gives on the steps before it; the state is the one that the definition gives on the steps that are left.
+///
+/// The faults are those of [`drive`] but `Stopped`, whose run counts as far as it came.
+pub fn drive_and_undo<G: Gate, R: Threads + Wait + Sync>(
+    rt: &R,
+    alloc: Global,
+    session: Session<Shell>,
+    pieces: Vec<Vec<Call>>,
+    gate: &G,
+    k: usize,
+) -> Result<Rewound, DriveFault>
+    ensures rewound { IfOk result (λ r. IsRewound session.engine.config.stripes k (map (λ p. p.items) pieces.items)
+        r.cause r.undone session r.session (map (λ l. l.items) r.lists.items)) }
+    ensures fault { IfErr result (λ f. LeavesFault f (map (λ p. p.items) pieces.items) session) }
+{
+    match drive(rt, alloc, session, pieces, gate) {
+        Ok(driven) => Ok(undo(driven.session, driven.lists, None, k)),
+        Err(
+            DriveFault::Stopped {
+                session,
+                lists,
+                cause,
+            },
+        ) => Ok(undo(session, lists, Some(cause), k)),
+        Err(fault) => Err(fault),
+    }
+}
+
+// Undoes the last steps of a session in which a run was made.
+fn undo(
+    mut session: Session<Shell>,
+    lists: Vec<Vec<Entry<Step, Reply>>>,
+    cause: Option<Cause>,
+    k: usize,
+) -> Rewound
+    ensures lists { result.lists.items ≡ lists.items }
+    ensures cause { result.cause ≡ cause }
+    ensures opening { result.session.opening ≡ session.opening }
+    ensures left { result.session.kept ≡ take (length session.kept - undone_of k result.undone) session.kept }
+    ensures state { result.session.engine ≡ after act result.session.opening result.session.kept }
+    ensures past { result.undone ≡ Err BackFault.PastStart ↔ length session.kept < k }
+{
+    let undone = session.back(k);
+    Rewound {
+        session,
+        lists,
+        cause,
+        undone,
+    }
+}

@@ -1,0 +1,58 @@
+//! The place of each key.
+ghost use Rattle.std.specs.Prelude.{◌≡◌, ℕ, ◌<◌, cond, nat_eq, Some, None, IfOk, OnOk};
+ghost use Rattle.step_record.specs.declared.limits.TheConstants.{MAX_ACCESSES};
+ghost use Rattle.key_places.specs.KeyPlaces.{place_of};
+
+use std::alloc::{AllocError, Global};
+use std::collections::HashMap;
+use std::mem;
+use step_record::Key;
+
+/// A place of the trace for each key that was put. A key that is less than the number of accesses, as those of blocks
+/// mostly are, has its place in a table, by the key itself, in 4 bytes; every other key has it in a hash map, which on
+/// a long trace misses the processor's caches at nearly each access.
+#[derive(Drop)]
+pub struct KeyPlaces {
+    // One more than the place of each key below the table's length, or 0.
+    low: Vec<u32>,
+    // The places of the other keys.
+    high: HashMap<Key, u32>,
+}
+
+impl KeyPlaces {
+    /// No places yet, with a table for a trace's keys. The only error is out of memory.
+    pub fn new(alloc: Global, keys: &[Key]) -> Result<KeyPlaces, AllocError>
+        ensures { IfOk result (λ p. (k : ℕ) → place_of p k ≡ None) }
+    {
+        let low: Vec<u32> = vec![in alloc; 0; table_len(keys)]?;
+        Ok(KeyPlaces {
+            low,
+            high: HashMap::new(alloc),
+        })
+    }
+
+    /// Puts a key's place, and returns the one that it had. The only error is out of memory.
+    pub fn put(&mut self, key: Key, place: u32) -> Result<Option<u32>, AllocError>
+        requires { place < MAX_ACCESSES }
+        ensures old { IfOk result (λ o. o ≡ place_of self.old key) }
+        ensures updates { OnOk result ((k : ℕ) →
+            place_of self.new k ≡ cond (nat_eq key k) (Some place) (place_of self.old k)) }
+    {
+        if key < self.low.len() as u64 {
+            let before = mem::replace(&mut self.low[key as usize], place + 1);
+            return Ok(before.checked_sub(1));
+        }
+        Ok(self.high.insert(key, place)?)
+    }
+}
+
+// How long the table is: it has a place for each key of the trace that is less than the number of accesses.
+fn table_len(keys: &[Key]) -> usize {
+    let mut len = 0;
+    for key in keys {
+        if *key < keys.len() as u64 {
+            len = len.max(*key as usize + 1);
+        }
+    }
+    len
+}

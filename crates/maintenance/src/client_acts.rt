@@ -1,0 +1,141 @@
+//! What readers and writers do.
+ghost use Rattle.std.specs.Prelude.{◌≡◌, ◌<◌, length, Some, None, IfOk, OnOk, OnErr};
+ghost use Rattle.step_record.specs.declared.limits.TheConstants.{MAX_STEPS};
+ghost use Rattle.shell_model.specs.Shell.{put, remove, begin, offer, after_write, after_read, held_by};
+ghost use Rattle.shell_model.specs.Records.{change_of};
+ghost use Rattle.step_record.specs.declared.step.Act.TheVariants as act;
+
+use crate::shell_core::Core;
+use shell_buffers::{MAX_TASKS, Task};
+use shell_model::{Change, Holder};
+use std::alloc::AllocError;
+use step_record::{Answer, Drain, Item, Key, Phase, Reply, Worker};
+
+impl Core {
+    pub(crate) fn look(&self, key: Key) -> Reply
+        ensures { result ≡ Rattle.shell_model.specs.Shell.look
+            (Rattle.shell_model.specs.Shell.node_of key self.now.table) }
+    {
+        match self.table.node_of(key) {
+            Some(node) => Reply::Hit { node },
+            None => Reply::Miss,
+        }
+    }
+
+    pub(crate) fn offer(&mut self, worker: Worker, stripe: u8, item: Item) -> (Reply, Change)
+        requires { stripe < length self.old.stripes }
+        ensures reply { result.0 ≡ (offer stripe item self.old).0 }
+        ensures state { self.new ≡ (offer stripe item self.old).1 }
+        ensures change { result.1 ≡ change_of worker (act.Offer stripe item) self.old }
+    {
+        if self.stripes.offer(stripe, item) {
+            (Reply::Kept, Change::Offered { stripe, item })
+        } else {
+            (Reply::Full, Change::Nothing)
+        }
+    }
+
+    pub(crate) fn put(&mut self, worker: Worker, key: Key) -> Result<(Reply, Change), AllocError>
+        requires { self.old.next < MAX_STEPS }
+        ensures reply { IfOk result (λ r. r.0 ≡ (put key self.old).0) }
+        ensures state { OnOk result (self.new ≡ (put key self.old).1) }
+        ensures change { IfOk result (λ r. r.1 ≡ change_of worker (act.Put key) self.old) }
+        ensures err { OnErr result (self.new ≡ self.old) }
+    {
+        if self.writes.tasks().len() >= MAX_TASKS {
+            return Ok((Reply::WritesFull, Change::Nothing));
+        }
+        match self.table.node_of(key) {
+            Some(node) => {
+                let item = Item { key, node };
+                let _ = self.writes.push(Task::Update(item));
+                Ok((Reply::Present { node }, Change::Updated { item }))
+            }
+            None => {
+                let node = self.next;
+                let item = Item { key, node };
+                self.table.place(item)?;
+                self.next = node + 1;
+                let _ = self.writes.push(Task::Add(item));
+                Ok((Reply::Added { node }, Change::Added { item }))
+            }
+        }
+    }
+
+    pub(crate) fn remove(&mut self, worker: Worker, key: Key) -> (Reply, Change)
+        ensures reply { result.0 ≡ (remove key self.old).0 }
+        ensures state { self.new ≡ (remove key self.old).1 }
+        ensures change { result.1 ≡ change_of worker (act.Remove key) self.old }
+    {
+        match self.table.node_of(key) {
+            None => (Reply::Absent, Change::Nothing),
+            Some(node) => {
+                if self.writes.tasks().len() >= MAX_TASKS {
+                    return (Reply::WritesFull, Change::Nothing);
+                }
+                let item = Item { key, node };
+                self.table.remove(item);
+                let _ = self.writes.push(Task::Remove(item));
+                (Reply::Removed { node }, Change::Removed { item })
+            }
+        }
+    }
+
+    pub(crate) fn after_read(&self, answer: Answer) -> Reply
+        ensures { result ≡ after_read self.now.drain answer }
+    {
+        match self.drain {
+            Drain::Idle => match answer {
+                Answer::Full => Reply::Drain,
+                _ => Reply::Go,
+            },
+            Drain::Required => Reply::Drain,
+            Drain::ToIdle => Reply::Go,
+            Drain::ToRequired => Reply::Go,
+        }
+    }
+
+    pub(crate) fn after_write(&mut self, worker: Worker) -> (Reply, Change)
+        ensures reply { result.0 ≡ (after_write self.old.drain).0 }
+        ensures state { self.new ≡ record self.old { drain = (after_write self.old.drain).1 } }
+        ensures change { result.1 ≡ change_of worker act.AfterWrite self.old }
+    {
+        let before = self.drain;
+        let (reply, now) = match before {
+            Drain::Idle => (Reply::Drain, Drain::Required),
+            Drain::Required => (Reply::Drain, Drain::Required),
+            Drain::ToIdle => (Reply::Go, Drain::ToRequired),
+            Drain::ToRequired => (Reply::Go, Drain::ToRequired),
+        };
+        self.drain = now;
+        (reply, Change::Requested { before, now })
+    }
+
+    pub(crate) fn begin(&mut self, worker: Worker) -> (Reply, Change)
+        ensures reply { result.0 ≡ (begin worker self.old.holder self.old).0 }
+        ensures state { self.new ≡ (begin worker self.old.holder self.old).1 }
+        ensures change { result.1 ≡ change_of worker act.Begin self.old }
+    {
+        if self.holder.is_some() {
+            return (Reply::Busy, Change::Nothing);
+        }
+        let before = self.drain;
+        self.drain = Drain::ToIdle;
+        self.holder = Some(Holder {
+            worker,
+            phase: Phase::Reads,
+            left: MAX_TASKS as u8,
+        });
+        (Reply::Began, Change::Began { worker, before })
+    }
+
+    // The holder, where the worker is it.
+    pub(crate) fn held_by(&self, worker: Worker) -> Option<Holder>
+        ensures { result ≡ held_by worker self.now.holder }
+    {
+        match self.holder {
+            Some(holder) if holder.worker.number() == worker.number() => Some(holder),
+            _ => None,
+        }
+    }
+}

@@ -1,0 +1,221 @@
+//! Undoing one step.
+ghost use Rattle.std.specs.Prelude.{◌≡◌, ◌<◌, Some, None, IfErr, OnOk, OnErr};
+ghost use Rattle.replacement.specs.Moving.{undone_by, FitsBy};
+ghost use Rattle.shell_model.specs.Records.{before_use, FitsTouched, rephased, refilled, HasLeft};
+ghost use Rattle.shell_model.specs.Records.{before_change, FitsChange, undone_step, FitsStep};
+ghost use Rattle.shell_model.specs.Consistent.{IsLeft};
+ghost use Rattle.shell_model.specs.declared.record.Change.TheVariants.{Nothing, Offered, Updated, Added, Removed, Read};
+ghost use Rattle.shell_model.specs.declared.record.Change.TheVariants.{Applied, Cleared, Evicted, Ended};
+
+use crate::key_records::unrecord_key;
+use crate::shell_core::Core;
+use segments::MoveRecord;
+use shell_buffers::Task;
+use shell_model::{Change, EvictionRecord, Holder, ShellRecord, UseRecord};
+use std::alloc::AllocError;
+use step_record::{Item, Phase};
+
+impl Core {
+    fn untouch(&mut self, used: UseRecord)
+        requires { FitsTouched used self.old }
+        ensures { self.new ≡ before_use used self.old }
+    {
+        let UseRecord { frequency, moves } = used;
+        replacement::undo(&mut self.queues, moves);
+        unrecord_key(&mut self.frequency, frequency);
+    }
+
+    // The phase as before.
+    fn rephase(&mut self, before: Phase)
+        ensures { self.new ≡ record self.old { holder = rephased before self.old.holder } }
+    {
+        match self.holder {
+            None => {}
+            Some(holder) => self.holder = Some(Holder {
+                worker: holder.worker,
+                phase: before,
+                left: holder.left,
+            }),
+        }
+    }
+
+    // The phase as before, and a task more left.
+    fn refill(&mut self, before: Phase)
+        requires { HasLeft self.old.holder }
+        ensures { self.new ≡ record self.old { holder = refilled before self.old.holder } }
+    {
+        match self.holder {
+            None => {}
+            Some(holder) => self.holder = Some(Holder {
+                worker: holder.worker,
+                phase: before,
+                left: holder.left + 1,
+            }),
+        }
+    }
+
+    // An item that went out comes back.
+    fn unclear(&mut self, out: Option<MoveRecord>) -> Result<(), AllocError>
+        requires { FitsBy out self.old.queues }
+        ensures ok { OnOk result (self.new ≡ record self.old { queues = undone_by out self.old.queues }) }
+        ensures err { OnErr result (self.new ≡ self.old) }
+    {
+        let Some(out) = out else {
+            return Ok(());
+        };
+        self.queues.reserve()?;
+        self.queues.put_back(out);
+        Ok(())
+    }
+
+    fn undo_offered(&mut self, stripe: u8, item: Item)
+        requires { FitsChange (Offered stripe item) self.old }
+        ensures { self.new ≡ before_change (Offered stripe item) self.old }
+    {
+        self.stripes.unoffer(stripe);
+    }
+
+    fn undo_updated(&mut self, item: Item)
+        requires { FitsChange (Updated item) self.old }
+        ensures { self.new ≡ before_change (Updated item) self.old }
+    {
+        self.writes.unpush();
+    }
+
+    fn undo_added(&mut self, item: Item)
+        requires { FitsChange (Added item) self.old }
+        ensures { self.new ≡ before_change (Added item) self.old }
+    {
+        self.writes.unpush();
+        self.table.remove(item);
+        self.next -= 1;
+    }
+
+    fn undo_removed(&mut self, item: Item) -> Result<(), AllocError>
+        requires { FitsChange (Removed item) self.old }
+        ensures ok { OnOk result (self.new ≡ before_change (Removed item) self.old) }
+        ensures err { OnErr result (self.new ≡ self.old) }
+    {
+        self.table.place(item)?;
+        self.writes.unpush();
+        Ok(())
+    }
+
+    fn undo_read(&mut self, stripe: u8, item: Item, used: UseRecord)
+        requires { FitsChange (Read stripe item used) self.old }
+        ensures { self.new ≡ before_change (Read stripe item used) self.old }
+    {
+        self.untouch(used);
+        self.stripes.untake(stripe, item);
+    }
+
+    fn undo_applied(&mut self, before: Phase, task: Task, used: UseRecord)
+        requires { FitsChange (Applied before task used) self.old }
+        ensures { self.new ≡ before_change (Applied before task used) self.old }
+    {
+        self.untouch(used);
+        self.writes.untake(task);
+        self.refill(before);
+    }
+
+    fn undo_cleared(
+        &mut self,
+        before: Phase,
+        item: Item,
+        out: Option<MoveRecord>,
+    ) -> Result<(), AllocError>
+        requires { FitsChange (Cleared before item out) self.old }
+        ensures ok { OnOk result (self.new ≡ before_change (Cleared before item out) self.old) }
+        ensures err { OnErr result (self.new ≡ self.old) }
+    {
+        self.unclear(out)?;
+        self.writes.untake(Task::Remove(item));
+        self.refill(before);
+        Ok(())
+    }
+
+    fn undo_evicted(&mut self, before: Phase, eviction: EvictionRecord) -> Result<(), AllocError>
+        requires { FitsChange (Evicted before eviction) self.old }
+        ensures ok { OnOk result (self.new ≡ before_change (Evicted before eviction) self.old) }
+        ensures err { OnErr result (self.new ≡ self.old) }
+    {
+        let EvictionRecord { moves, listed } = eviction;
+        if let Some(out) = moves.out {
+            self.queues.reserve()?;
+            if listed {
+                self.table.place(out.item)?;
+            }
+        }
+        replacement::undo(&mut self.queues, moves);
+        self.rephase(before);
+        Ok(())
+    }
+
+    // What a step changed goes back. Only changes that undoing takes no memory for hold a list; so a change that is
+    // refused can be handed back whole.
+    fn undo_change(&mut self, change: Change) -> Result<(), Change>
+        requires fits { FitsChange change self.old }
+        requires left { IsLeft (before_change change self.old).holder }
+        ensures ok { OnOk result (self.new ≡ before_change change self.old) }
+        ensures err { OnErr result (self.new ≡ self.old) }
+        ensures returned { IfErr result (λ c. c ≡ change) }
+    {
+        match change {
+            Change::Nothing => {}
+            Change::Offered { stripe, item } => self.undo_offered(stripe, item),
+            Change::Updated { item } => self.undo_updated(item),
+            Change::Added { item } => self.undo_added(item),
+            Change::Removed { item } => {
+                if self.undo_removed(item).is_err() {
+                    return Err(Change::Removed { item });
+                }
+            }
+            Change::Requested { before, now: _ } => self.drain = before,
+            Change::Began { worker: _, before } => {
+                self.drain = before;
+                self.holder = None;
+            }
+            Change::Read { stripe, item, used } => self.undo_read(stripe, item, used),
+            Change::Passed { before, now: _ } => self.rephase(before),
+            Change::Applied { before, task, used } => self.undo_applied(before, task, used),
+            Change::Cleared { before, item, out } => {
+                if self.undo_cleared(before, item, out).is_err() {
+                    return Err(Change::Cleared { before, item, out });
+                }
+            }
+            Change::Evicted { before, eviction } => {
+                if self.undo_evicted(before, eviction).is_err() {
+                    return Err(Change::Evicted { before, eviction });
+                }
+            }
+            Change::Ended {
+                holder,
+                before,
+                now: _,
+            } => {
+                self.drain = before;
+                self.holder = Some(holder);
+            }
+        }
+        Ok(())
+    }
+
+    /// Undoes the step that the record is of. Where it finds no memory, it hands the record back.
+    pub(crate) fn undo(&mut self, made: ShellRecord) -> Result<(), ShellRecord>
+        requires fits { FitsStep made self.old }
+        requires left { IsLeft (before_change made.change self.old).holder }
+        ensures ok { OnOk result (self.new ≡ undone_step made self.old) }
+        ensures err { OnErr result (self.new ≡ self.old) }
+        ensures returned { IfErr result (λ r. r ≡ made) }
+    {
+        let ShellRecord { reply, change } = made;
+        match self.undo_change(change) {
+            Err(change) => Err(ShellRecord { reply, change }),
+            Ok(()) => {
+                self.stats.uncount(reply);
+                self.applied -= 1;
+                Ok(())
+            }
+        }
+    }
+}

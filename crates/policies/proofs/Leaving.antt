@@ -1,0 +1,130 @@
+-- Which item the record of an access moves out.
+use Rattle.std.proofs.Common.{◌≡◌, ℕ, Bool, true, false, nat_lt, Option, Some, None, option_map, List, [], ◌∷◌, ◌++◌, length, ◌==◌, ap, ◌∙◌, sym, refl, subst, lit≤, inl, inr}
+use Rattle.std.specs.Prelude.{if◌then◌else◌}
+use Rattle.std.proofs.lemmas.Bool.{cases_Bool}
+use Rattle.step_record.specs.declared.limits.TheConstants.{MAX_STEPS}
+use Rattle.step_record.specs.declared.item.Item.{Item}
+use Rattle.step_record.specs.declared.job.Job.{Job}
+use Rattle.step_record.specs.declared.outcome.Outcome.{Outcome}
+use Rattle.step_record.specs.declared.outcome.Outcome.TheVariants.{Hit, Evicted}
+use Rattle.step_record.specs.Stats.{is_hit}
+use Rattle.segments.specs.declared.records.Queue.{Queue}
+use Rattle.segments.specs.declared.records.Queue.TheVariants.{Window, Probation}
+use Rattle.segments.specs.Items.{same, first}
+use Rattle.segments.specs.Queues.{Queues, queue_of, place_of, pushed, taken, moved, total_items, IsDistinct}
+use Rattle.admission.specs.Frequency.{FrequencyData}
+use Rattle.replacement.specs.declared.rules.Rules.{Rules}
+use Rattle.replacement.specs.Admission.{admits_in}
+use Rattle.replacement.specs.Table.{Response, rejection, kept_in, contest, trial_of, eviction, replacing, direct, miss, access_in, access}
+use Rattle.replacement.specs.Plan.{Plan, plan}
+use Rattle.replacement.specs.Moving.{removal_record, moves_of, transferred}
+use Rattle.replacement.proofs.Carrying.{carries}
+use Rattle.replacement.proofs.Planned.{plan-at, access-at, accesses-planned}
+use Rattle.policies.specs.QueueCache.{QueueState, rules_of, nodeless_item, access_response, accessed, frequency_after, state_from, empty_queue_state, state_after}
+use Rattle.policies.specs.QueueStep.{IsReached, recorded_in, queue_act, queue_record_of}
+
+-- ---- no miss is a hit
+
+contest-misses : (a : ℕ → ℕ → Bool) (c : Item) (v : Option Item) (s : Queues) → is_hit (contest a c v s).outcome ≡ false
+contest-misses a c None s = refl
+contest-misses a c (Some v) s = by (same c v) (a c.key v.key)
+  where
+    by : (b e : Bool) → is_hit (if b then rejection c s else if e then record { outcome = Evicted v.key; left = Some v; queues = taken v s } else rejection c s).outcome ≡ false
+    by true e = refl
+    by false true = refl
+    by false false = refl
+
+trial-misses : (r : Rules) (a : ℕ → ℕ → Bool) (c : Option Item) (s : Queues) → is_hit (trial_of r a c s).outcome ≡ false
+trial-misses r a None s = refl
+trial-misses r a (Some c) s = by (nat_lt r.capacity (total_items t))
+  where
+    t : Queues
+    t = moved c Probation s
+
+    by : (b : Bool) → is_hit (if b then contest a c (first t.probation) t else kept_in t).outcome ≡ false
+    by true = contest-misses a c (first t.probation) t
+    by false = refl
+
+eviction-misses : (r : Rules) (a : ℕ → ℕ → Bool) (s : Queues) → is_hit (eviction r a s).outcome ≡ false
+eviction-misses r a s = by (nat_lt r.window (length s.window))
+  where
+    by : (b : Bool) → is_hit (if b then trial_of r a (first s.window) s else kept_in s).outcome ≡ false
+    by true = trial-misses r a (first s.window) s
+    by false = refl
+
+replacing-misses : (a : ℕ → ℕ → Bool) (q : Queue) (i : Item) (o : Option Item) (s : Queues) → is_hit (replacing a q i o s).outcome ≡ false
+replacing-misses a q i None s = refl
+replacing-misses a q i (Some v) s =
+    elim (cases_Bool (a i.key v.key)) as (λ _. is_hit (replacing a q i (Some v) s).outcome ≡ false) [
+      | inl e ↦ rw e refl
+      | inr e ↦ rw e refl
+    ]
+
+direct-misses : (r : Rules) (a : ℕ → ℕ → Bool) (i : Item) (s : Queues) → is_hit (direct r a i s).outcome ≡ false
+direct-misses r a i s =
+    elim (cases_Bool (nat_lt (total_items s) r.capacity)) as (λ _. is_hit (direct r a i s).outcome ≡ false) [
+      | inl e ↦ rw e refl
+      | inr e ↦ rw e (replacing-misses a r.home i (first (queue_of r.home s)) s)
+    ]
+
+miss-misses : (r : Rules) (a : ℕ → ℕ → Bool) (i : Item) (s : Queues) → is_hit (miss r a i s).outcome ≡ false
+miss-misses r a i s = by r.windowed
+  where
+    by : (b : Bool) → is_hit (if b then eviction r a (pushed Window i s) else direct r a i s).outcome ≡ false
+    by true = eviction-misses r a (pushed Window i s)
+    by false = direct-misses r a i s
+
+-- ---- a hit
+
+hit-keeps : (r : Rules) (a : ℕ → ℕ → Bool) (i : Item) (s : Queues) (p : Option Queue) → place_of i s ≡ p
+    → (access r a i s).outcome ≡ Hit → (moves_of (plan r a i s) s).out ≡ None
+hit-keeps r a i s (Some q) h o = rw (plan-at r a i s (Some q) h) refl
+hit-keeps r a i s None h o =
+    let hits : is_hit (access_in r a i None s).outcome ≡ true = ap (λ (x : Response). is_hit x.outcome) (sym (access-at r a i s None h)) ∙ ap is_hit o in
+    absurd (let no : true ≡ false = sym hits ∙ miss-misses r a i s in cc (no))
+
+answer_in : Option (Outcome × QueueState) → Outcome → Outcome
+answer_in None o = o
+answer_in (Some p) o = p.0
+
+pub hits_keep_all : (d : QueueState) (k : ℕ) (e : QueueState) → queue_act d k ≡ Some (Hit, e) → (queue_record_of k d).moves.out ≡ None
+unfolding answer_in
+hits_keep_all d k e h =
+    elim (cases_Bool (d.stats.accesses == MAX_STEPS)) [
+      | inl f ↦ absurd (let no : None ≡ Some (Hit, e) = rw f at h in cc (no))
+      | inr f ↦
+          let b : Some ((access_response (recorded_in k d.frequency) k d).outcome, accessed (recorded_in k d.frequency) k d) ≡ Some (Hit, e) = rw f at h in
+          hit-keeps (rules_of d.job) (admits_in (recorded_in k d.frequency)) (nodeless_item k) d.queues (place_of (nodeless_item k) d.queues) refl
+          (ap (λ x. answer_in x Hit) b)
+    ]
+
+-- ---- any access
+
+accessed-distinct : (f : Option FrequencyData) (k : ℕ) (d : QueueState) → IsDistinct d.queues → IsDistinct (accessed f k d).queues
+accessed-distinct f k d u =
+    let p : Plan = plan (rules_of d.job) (admits_in f) (nodeless_item k) d.queues in
+    subst IsDistinct (ap (λ (x : Response). x.queues) (sym (accesses-planned (rules_of d.job) (admits_in f) (nodeless_item k) d.queues u)))
+    (carries p d.queues u).distinct
+
+from-distinct : (j : Job) (past : List ℕ) (d : QueueState) (keys : List ℕ) → IsDistinct d.queues → IsDistinct (state_from j past d keys).queues
+from-distinct j past d [] u = u
+from-distinct j past d (k ∷ keys) u =
+    from-distinct j (past ++ k ∷ []) (accessed (frequency_after j (past ++ k ∷ [])) k d) keys
+    (accessed-distinct (frequency_after j (past ++ k ∷ [])) k d u)
+
+after-distinct : (j : Job) (keys : List ℕ) → IsDistinct (state_after j keys).queues
+unfolding state_after
+after-distinct j keys = from-distinct j [] (empty_queue_state j) keys (λ i. lit≤ tt)
+
+removed-item : (o : Option Item) (s : Queues) → option_map (λ m. m.item) (removal_record o s) ≡ o
+removed-item None s = refl
+removed-item (Some i) s = refl
+
+pub records_show_leaver : (d : QueueState) (k : ℕ) → IsReached d
+    → option_map (λ m. m.item) (queue_record_of k d).moves.out ≡ (access_response (recorded_in k d.frequency) k d).left
+records_show_leaver d k r =
+    let u : IsDistinct d.queues = subst (λ (x : QueueState). IsDistinct x.queues) (sym r.stands.gives) (after-distinct d.job r.keys) in
+    let f = recorded_in k d.frequency in
+    let p : Plan = plan (rules_of d.job) (admits_in f) (nodeless_item k) d.queues in
+    removed-item p.leaves (transferred p.first d.queues)
+    ∙ ap (λ (x : Response). x.left) (sym (accesses-planned (rules_of d.job) (admits_in f) (nodeless_item k) d.queues u))

@@ -1,0 +1,5 @@
+use Rattle.policies.proofs.AnyStanding.{any_hits_keep_all}
+use Rattle.policies.proofs.theorems.any_hits_keep_all.Goals as goal
+
+pub returns : goal.returns
+returns c = any_hits_keep_all

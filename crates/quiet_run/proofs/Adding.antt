@@ -1,0 +1,93 @@
+-- Steps that came to the end of a session.
+use Rattle.std.proofs.Common.{◌≡◌, ℕ, ◌+◌, ◌-◌, Option, Some, None, option_map, [], ◌∷◌, ◌++◌, length, length-append, refl, sym, ap, ◌∙◌, subst, arith}
+use Rattle.std.proofs.lemmas.List.{append_assoc, append-nil}
+use Rattle.step_record.specs.declared.entry.Entry.{Entry}
+use Rattle.step_record.specs.declared.outcome.Outcome.{Outcome}
+use Rattle.step_record.specs.declared.step.Reply.{Reply}
+use Rattle.step_record.specs.declared.step.Step.{Step}
+use Rattle.step_record.specs.declared.drain.Phase.{Phase}
+use Rattle.step_record.specs.declared.drain.Phase.TheVariants.{Reads, Writes, Evictions}
+use Rattle.step_record.specs.History.{Entries}
+use Rattle.shell_model.specs.declared.holder.Holder.{Holder}
+use Rattle.maintenance.specs.Opened.{triple}
+use Rattle.walks.specs.declared.local.Local.{Local}
+use Rattle.walks.specs.declared.place.Place.{Place}
+use Rattle.walks.specs.Places.{Ahead, phase_place}
+use Rattle.quiet_run.specs.Outcomes.{outcome_after, outcome_from}
+use Rattle.quiet_run.specs.Settle.{ShellSession, tail_after, AddsSteps, IsRestOfRound, IsRest}
+
+pub adds_none : (P : Entries → Type 0) (old new : ShellSession) → new.kept ≡ old.kept → new.tail ≡ old.tail → P [] → AddsSteps P old new
+adds_none P old new k t h = record { made = []; entered = k ∙ sym (append-nil old.kept); tail = t; holds = h }
+
+no-tail : (es : Entries) (e : Entry Step Reply) (t : Entries) → tail_after (es ++ e ∷ []) t ≡ []
+no-tail [] e t = refl
+no-tail (f ∷ es) e t = refl
+
+-- one entry more
+pub adds_more : (P Q : Entries → Type 0) (old now new : ShellSession) (e : Entry Step Reply) → AddsSteps P old now → new.kept ≡ now.kept ++ e ∷ [] → new.tail ≡ []
+    → ((es : Entries) → P es → Q (es ++ e ∷ [])) → AddsSteps Q old new
+adds_more P Q old now new e m k t f = record {
+  made = m.made ++ e ∷ [];
+  entered = k ∙ ap (λ l. l ++ e ∷ []) m.entered ∙ append_assoc old.kept m.made (e ∷ []);
+  tail = t ∙ sym (no-tail m.made e old.tail);
+  holds = f m.made m.holds;
+}
+
+-- the same entries, of which something else is said
+pub adds_same : (P Q : Entries → Type 0) (old now new : ShellSession) → AddsSteps P old now → new.kept ≡ now.kept → new.tail ≡ now.tail → ((es : Entries) → P es → Q es) → AddsSteps Q old new
+adds_same P Q old now new m k t f = record { made = m.made; entered = k ∙ m.entered; tail = t ∙ m.tail; holds = f m.made m.holds }
+
+pub told_last : (o : Outcome) (es : Entries) (e : Entry Step Reply) → outcome_from o (es ++ e ∷ []) ≡ outcome_after (outcome_from o es) e.reply
+told_last o [] e = refl
+told_last o (f ∷ es) e = told_last (outcome_after o f.reply) es e
+
+-- how many they are
+pub adds_counted : (P Q : Entries → Type 0) (n : ℕ) (old new : ShellSession) → AddsSteps P old new → n ≡ length new.kept - length old.kept → ((es : Entries) → P es → Q es) → AddsSteps (λ es. Q es × (n ≡ length es)) old new
+adds_counted P Q n old new m c f =
+    let many : length new.kept ≡ length old.kept + length m.made = ap length m.entered ∙ length-append old.kept m.made in
+    record { made = m.made; entered = m.entered; tail = m.tail; holds = (f m.made m.holds, omega (arith, c, many)) }
+
+rest-in : (w n : ℕ) (p : Phase) (es : Entries) → Ahead w n (phase_place p) es → IsRestOfRound w n p es
+rest-in w n Reads es h = h
+rest-in w n Writes es h = h
+rest-in w n Evictions es h = h
+
+held-rest : (n : ℕ) (o : Option Holder) (w : ℕ) (p : Phase) (left : ℕ) (es : Entries) → option_map triple o ≡ Some (w, p, left) → Ahead w n (phase_place p) es → IsRest n o es
+held-rest n None w p left es e h = absurd (cc (e))
+held-rest n (Some g) w p left es e h =
+    let all : triple g ≡ (w, p, left) = cc (e) in
+    let worker : w ≡ g.worker = sym (ap (λ (t : ℕ × Phase × ℕ). t.0) all) in
+    let phase : p ≡ g.phase = sym (ap (λ (t : ℕ × Phase × ℕ). t.1) all) in
+    subst (λ (q : Phase). IsRestOfRound g.worker n q es) phase (subst (λ (v : ℕ). IsRestOfRound v n p es) worker (rest-in w n p es h))
+
+-- what is ahead of one that stands where the holder stands is the rest of the holder's round
+pub held_rest : (l : Local) (n : ℕ) (o : Option Holder) (w : ℕ) (p : Phase) (left : ℕ) → option_map triple o ≡ Some (w, p, left) → l.worker ≡ w → l.stripes ≡ n → l.place ≡ phase_place p
+    → (es : Entries) → Ahead l.worker l.stripes l.place es → IsRest n o es
+held_rest l n o w p left e a b c es h =
+    held-rest n o w p left es e
+    (subst (λ (q : Place). Ahead w n q es) c (subst (λ (m : ℕ). Ahead w m l.place es) b (subst (λ (v : ℕ). Ahead v l.stripes l.place es) a h)))
+
+-- entries after entries
+tail-joined : (a b : Entries) (t : Entries) → tail_after b (tail_after a t) ≡ tail_after (a ++ b) t
+tail-joined [] b t = refl
+tail-joined (e ∷ a) [] t = refl
+tail-joined (e ∷ a) (f ∷ b) t = refl
+
+pub adds_joined : (P Q R : Entries → Type 0) (old now new : ShellSession) → AddsSteps P old now → AddsSteps Q now new → ((a b : Entries) → P a → Q b → R (a ++ b)) → AddsSteps R old new
+adds_joined P Q R old now new m n f = record {
+  made = m.made ++ n.made;
+  entered = n.entered ∙ ap (λ l. l ++ n.made) m.entered ∙ append_assoc old.kept m.made n.made;
+  tail = n.tail ∙ ap (tail_after n.made) m.tail ∙ tail-joined m.made n.made old.tail;
+  holds = f m.made n.made m.holds n.holds;
+}
+
+pub adds_known : (P Q : Entries → Type 0) (old new : ShellSession) → AddsSteps P old new → ((es : Entries) → P es → Q es) → AddsSteps Q old new
+adds_known P Q old new m f = record { made = m.made; entered = m.entered; tail = m.tail; holds = f m.made m.holds }
+
+-- one entry
+pub adds_one : (old new : ShellSession) (e : Entry Step Reply) → new.kept ≡ old.kept ++ e ∷ [] → new.tail ≡ [] → AddsSteps (λ es. es ≡ e ∷ []) old new
+adds_one old new e k t = record { made = e ∷ []; entered = k; tail = t; holds = refl }
+
+pub told_joined : (o : Outcome) (a b : Entries) → outcome_from o (a ++ b) ≡ outcome_from (outcome_from o a) b
+told_joined o [] b = refl
+told_joined o (e ∷ a) b = told_joined (outcome_after o e.reply) a b

@@ -1,0 +1,55 @@
+-- Keys one after another.
+use Rattle.std.proofs.Common.{◌≡◌, ℕ, ◌+◌, ◌-◌, ◌<◌, List, [], ◌∷◌, ◌++◌, length, get_or, drop, refl, sym, ap, ◌∙◌, subst, add-one, drop-cons}
+use Rattle.std.proofs.lemmas.List.{append_assoc, append-nil}
+use Rattle.step_record.specs.declared.outcome.Outcome.{Outcome}
+use Rattle.step_record.specs.declared.outcome.Outcome.TheVariants as outcome
+use Rattle.step_record.specs.declared.step.Act.TheVariants as act
+use Rattle.step_record.specs.declared.step.Reply.TheVariants as reply
+use Rattle.step_record.specs.History.{Entries}
+use Rattle.walks.specs.Walks.{step_of}
+use Rattle.quiet_run.specs.Outcomes.{outcome_from}
+use Rattle.quiet_run.specs.QuietWalks.{IsQuietWalk, AreQuietWalks, BeginQuietWalks}
+
+pub drop_key : (ks : List ℕ) (i d : ℕ) → i < length ks → drop i ks ≡ get_or ks i d ∷ drop (i + 1) ks
+drop_key ks i d h = rw (add-one, drop-cons ks i d)
+
+module _ (n : ℕ) where
+  -- walks of keys that miss, and of which the round finds another worker at it
+  pub finish_keys : (ks : List ℕ) → (es : Entries) × (os : List Outcome) × AreQuietWalks n ks os es
+  finish_keys [] = ([], [], refl)
+  finish_keys (k ∷ ks) =
+      let one : Entries = record { step = step_of 0 (act.Look k); reply = reply.Miss } ∷ record { step = step_of 0 (act.Put k); reply = reply.WritesFull } ∷ record { step = step_of 0 act.Begin; reply = reply.Busy } ∷ [] in
+      let more : (es : Entries) × (os : List Outcome) × AreQuietWalks n ks os es = finish_keys ks in
+      (one ++ more.0, outcome_from outcome.Kept one ∷ more.1, (one, more.0, refl, (refl, (refl, (refl, refl))), refl, more.2))
+
+-- what the keys ks still add completes the walks of all
+abbrev pub Lacks : ℕ → List ℕ → List ℕ → List Outcome → Entries → Type 0
+Lacks n all ks os es = (ps : List Outcome) (rest : Entries) → AreQuietWalks n ks ps rest → AreQuietWalks n all (os ++ ps) (es ++ rest)
+
+pub none_yet : (n : ℕ) (all : List ℕ) (os : List Outcome) → os ≡ [] → Lacks n all all os []
+none_yet n all os e ps rest h = subst (λ (x : List Outcome). AreQuietWalks n all (x ++ ps) rest) (sym e) h
+
+pub one_key : (n : ℕ) (all ks more : List ℕ) (k : ℕ) (os : List Outcome) (o : Outcome) → ks ≡ k ∷ more → (a b : Entries) → Lacks n all ks os a → IsQuietWalk n k b → o ≡ outcome_from outcome.Kept b
+    → Lacks n all more (os ++ o ∷ []) (a ++ b)
+one_key n all ks more k os o e a b f h g ps rest m =
+    let next : AreQuietWalks n (k ∷ more) (o ∷ ps) (b ++ rest) = (b, rest, refl, h, g, m) in
+    let whole : AreQuietWalks n all (os ++ o ∷ ps) (a ++ (b ++ rest)) = f (o ∷ ps) (b ++ rest) (subst (λ (x : List ℕ). AreQuietWalks n x (o ∷ ps) (b ++ rest)) (sym e) next) in
+    subst (λ (x : List Outcome). AreQuietWalks n all x ((a ++ b) ++ rest)) (sym (append_assoc os (o ∷ []) ps))
+    (subst (λ (x : Entries). AreQuietWalks n all (os ++ o ∷ ps) x) (sym (append_assoc a b rest)) whole)
+
+pub cut_here : (n : ℕ) (all ks : List ℕ) (os : List Outcome) (a : Entries) → Lacks n all ks os a → BeginQuietWalks n all a
+cut_here n all ks os a f = let g = finish_keys n ks in (g.0, os ++ g.1, f g.1 g.0 g.2)
+
+pub cut_key : (n : ℕ) (all ks more : List ℕ) (k : ℕ) (os : List Outcome) → ks ≡ k ∷ more → (a b : Entries) → Lacks n all ks os a → (rest : Entries) → IsQuietWalk n k (b ++ rest) → BeginQuietWalks n all (a ++ b)
+cut_key n all ks more k os e a b f rest h =
+    let g : BeginQuietWalks n all (a ++ (b ++ rest)) = cut_here n all more (os ++ outcome_from outcome.Kept (b ++ rest) ∷ []) (a ++ (b ++ rest)) (one_key n all ks more k os (outcome_from outcome.Kept (b ++ rest)) e a (b ++ rest) f h refl) in (
+      rest ++ g.0,
+      g.1,
+      subst (λ (x : Entries). AreQuietWalks n all g.1 x)
+          (append_assoc a (b ++ rest) g.0 ∙ ap (λ (x : Entries). a ++ x) (append_assoc b rest g.0) ∙ sym (append_assoc a b (rest ++ g.0))) g.2,
+    )
+
+pub all_keys : (n : ℕ) (all ks : List ℕ) (os : List Outcome) (es : Entries) → ks ≡ [] → Lacks n all ks os es → AreQuietWalks n all os es
+all_keys n all ks os es e f =
+    subst (λ (x : Entries). AreQuietWalks n all os x) (append-nil es)
+    (subst (λ (x : List Outcome). AreQuietWalks n all x (es ++ [])) (append-nil os) (f [] [] (subst (λ (x : List ℕ). AreQuietWalks n x [] []) (sym e) refl)))

@@ -1,0 +1,13 @@
+pub mod Agreeing
+pub mod Nodes
+pub mod Accessing
+pub mod Residents
+pub mod Serving
+pub mod Adding
+pub mod Calling
+pub mod Keying
+pub mod QuietSteps
+pub mod QuietRounds
+pub mod QuietKeys
+pub mod QuietServing
+pub mod QuietRuns

@@ -1,0 +1,22 @@
+-- What the replies of a key's steps come to, as a policy's outcome.
+use Rattle.std.specs.Prelude.{[], ◌∷◌}
+use Rattle.step_record.specs.declared.outcome.Outcome.{Outcome}
+use Rattle.step_record.specs.declared.outcome.Outcome.TheVariants as outcome
+use Rattle.step_record.specs.declared.step.Reply.{Reply}
+use Rattle.step_record.specs.declared.step.Reply.TheVariants as reply
+use Rattle.step_record.specs.History.{Entries}
+
+abbrev pub unless_hit : Outcome → Outcome → Outcome
+unless_hit outcome.Hit p = outcome.Hit
+unless_hit o p = p
+
+-- a Hit stays; else the key that left last counts
+abbrev pub outcome_after : Outcome → Reply → Outcome
+outcome_after o (reply.Hit n) = outcome.Hit
+outcome_after o (reply.Evicted i) = unless_hit o (outcome.Evicted i.key)
+outcome_after o (reply.Rejected i) = unless_hit o (outcome.Rejected i.key)
+outcome_after o r = o
+
+abbrev pub outcome_from : Outcome → Entries → Outcome
+outcome_from o [] = o
+outcome_from o (e ∷ es) = outcome_from (outcome_after o e.reply) es

@@ -1,0 +1,30 @@
+-- The simulation: a concurrent cache at which nothing is under way, beside a cache of W-TinyLFU.
+use Rattle.std.specs.Prelude.{◌≡◌, ◌≤◌, Some, None, [], length, replicate}
+use Rattle.step_record.specs.declared.config.Config.{Config}
+use Rattle.step_record.specs.declared.item.Item.{Item}
+use Rattle.step_record.specs.declared.job.Job.{Job}
+use Rattle.step_record.specs.declared.job.Policy.TheVariants.{WindowTinyLfu}
+use Rattle.step_record.specs.declared.drain.Drain.TheVariants.{Idle}
+use Rattle.segments.specs.Items.{times}
+use Rattle.policies.specs.QueueCache.{QueueState}
+use Rattle.shell_model.specs.Shell.{Shell, window_size}
+use Rattle.shell_model.specs.Consistent.{queued}
+use Rattle.quiet_run.specs.Nodes.{nodeless_queues, HasKeysOnce}
+
+-- the policy of the same configuration
+abbrev pub window_tiny_lfu : Config → Job
+window_tiny_lfu c = record { policy = WindowTinyLfu; config = c }
+
+-- The shell x holds what the policy's cache d holds, and nothing waits in it: the three queues have the same keys in
+-- the same order, the table lists just what is queued, each key once, and the frequency is the same.
+pub record IsQuiet (x : Shell) (d : QueueState) : Type 0 where
+  pub job : d.job ≡ window_tiny_lfu x.config
+  pub queues : d.queues ≡ nodeless_queues x.queues
+  pub frequency : d.frequency ≡ Some x.frequency
+  pub table : (i : Item) → times i x.table ≡ queued i x.queues
+  pub once : HasKeysOnce x.queues
+  pub window : length x.queues.window ≤ window_size x.config
+  pub stripes : x.stripes ≡ replicate x.config.stripes []
+  pub writes : x.writes ≡ []
+  pub drain : x.drain ≡ Idle
+  pub holder : x.holder ≡ None

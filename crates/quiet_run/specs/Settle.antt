@@ -1,0 +1,59 @@
+-- The rest of a round of maintenance, from the phase that its holder is at.
+use Rattle.std.specs.Prelude.{◌≡◌, ℕ, ◌<◌, Option, Some, None, [], ◌∷◌, ◌++◌, length}
+use Rattle.step_record.specs.declared.step.Reply.{Reply}
+use Rattle.step_record.specs.declared.step.Step.{Step}
+use Rattle.step_record.specs.declared.drain.Phase.{Phase}
+use Rattle.step_record.specs.declared.drain.Phase.TheVariants.{Reads, Writes, Evictions}
+use Rattle.step_record.specs.History.{Entries}
+use Rattle.journal.specs.Session.{SessionState}
+use Rattle.shell_model.specs.declared.holder.Holder.{Holder}
+use Rattle.shell_model.specs.Shell.{Shell}
+use Rattle.quiet_run.specs.declared.round.Refusal.{Refusal}
+use Rattle.quiet_run.specs.declared.round.Refusal.TheVariants as refusal
+use Rattle.quiet_run.specs.declared.round.SettleFault.{SettleFault}
+use Rattle.quiet_run.specs.declared.round.SettleFault.TheVariants as fault
+use Rattle.walks.specs.Walks.{IsReading, IsWriting, IsEvicting}
+
+abbrev pub ShellSession : Type 0
+ShellSession = SessionState Shell Shell Step Reply
+
+-- the undone steps are dropped by the first step that is made
+abbrev pub tail_after : Entries → Entries → Entries
+tail_after [] tail = tail
+tail_after (e ∷ es) tail = []
+
+-- the entries came to the end of the journal
+pub record AddsSteps (IsMade : Entries → Type 0) (old new : ShellSession) : Type 0 where
+  pub made : Entries
+  pub entered : new.kept ≡ old.kept ++ made
+  pub tail : new.tail ≡ tail_after made old.tail
+  pub holds : IsMade made
+
+-- the entries of the worker w, from the phase on to the End of its round
+abbrev pub IsRestOfRound : ℕ → ℕ → Phase → Entries → Type 0
+IsRestOfRound w n Reads es = IsReading w n 0 0 es
+IsRestOfRound w n Writes es = IsWriting w n es
+IsRestOfRound w n Evictions es = IsEvicting w n es
+
+-- the rest of a holder's round, and nothing where no one holds
+abbrev pub IsRest : ℕ → Option Holder → Entries → Type 0
+IsRest n None es = es ≡ []
+IsRest n (Some h) es = IsRestOfRound h.worker n h.phase es
+
+-- the first entries of such a rest
+abbrev pub BeginsRest : ℕ → Option Holder → Entries → Type 0
+BeginsRest n o es = (rest : Entries) × IsRest n o (es ++ rest)
+
+-- how many steps were made before the fault
+abbrev pub steps_before : SettleFault → ℕ
+steps_before (fault.OutOfMemory n) = n
+steps_before (fault.JournalFull n) = n
+
+-- a full journal is what is named where the journal is full, and only there
+abbrev pub IsRefusalCause : Refusal → ShellSession → Type 0
+IsRefusalCause refusal.OutOfMemory s = length s.kept < s.limit
+IsRefusalCause refusal.JournalFull s = length s.kept ≡ s.limit
+
+abbrev pub IsFullAt : SettleFault → ShellSession → Type 0
+IsFullAt (fault.OutOfMemory n) s = length s.kept < s.limit
+IsFullAt (fault.JournalFull n) s = length s.kept ≡ s.limit

@@ -1,0 +1,137 @@
+//! Finishing the maintenance that a worker holds.
+ghost use Rattle.std.specs.Prelude.{◌≡◌, ◌≤◌, None, Some, Err, IsSome, IfOk, IfErr, OnOk, OnErr, length};
+ghost use Rattle.std.specs.Prelude.{◌∷◌, ◌++◌, []};
+ghost use Rattle.step_record.specs.History.{Entries};
+ghost use Rattle.journal.specs.Session.{IsSameSession};
+ghost use Rattle.shell_model.specs.Shell.{perform, act as acted};
+ghost use Rattle.walks.specs.Walks.{step_of};
+ghost use Rattle.walks.specs.Places.{Ahead, act_of_place};
+ghost use Rattle.quiet_run.specs.Outcomes.{outcome_after, outcome_from};
+ghost use Rattle.quiet_run.specs.Settle.{AddsSteps, IsRest, BeginsRest, IsRefusalCause, IsFullAt, steps_before};
+ghost use Rattle.walks.specs.Holders.{IsReady};
+
+use journal::{Session, SessionFault};
+use maintenance::Shell;
+use step_record::{Act, Outcome, Reply, Step, Worker};
+use thiserror::Error;
+use walks::{Local, Next, next_step};
+
+/// Why a maintenance was not finished. The steps that were made stay applied.
+#[derive(Clone, Copy, Debug, PartialEq, Eq, Error)]
+pub enum SettleFault {
+    /// Out of memory after this many steps.
+    #[error("OutOfMemory")]
+    OutOfMemory { done: u64 },
+    /// The journal is full after this many steps.
+    #[error("JournalFull")]
+    JournalFull { done: u64 },
+}
+
+/// Finishes the maintenance under way, as its holder and by ordinary steps, from the phase that it
+/// is at, and returns how many steps that took: 0 where no one holds it. After a fault the steps
+/// that were made stay, and the holder still holds.
+pub fn settle(session: &mut Session<Shell>) -> Result<u64, SettleFault>
+    ensures opening { session.new.opening ≡ session.old.opening }
+    ensures limit { session.new.limit ≡ session.old.limit }
+    // The holder's steps of a round from its phase on, or none, and no holder is left.
+    ensures ok { IfOk result (λ n. AddsSteps
+        (λ es. IsRest session.old.engine.config.stripes session.old.engine.holder es × (n ≡ length es))
+        session.old session.new) }
+    ensures none { OnOk result (session.new.engine.holder ≡ None) }
+    // The first of these steps.
+    ensures err { IfErr result (λ f. AddsSteps (λ es.
+        BeginsRest session.old.engine.config.stripes session.old.engine.holder es × (steps_before f ≡ length es))
+        session.old session.new) }
+    ensures cause { IfErr result (λ f. IsFullAt f session.new) }
+{
+    let Some(holder) = session.engine().holder() else {
+        return Ok(0);
+    };
+    let before = session.len();
+    let stripes = session.engine().stripes();
+    let local = Local::resume(holder.0, stripes, holder.1);
+    match finish_round(session, local, Outcome::Kept) {
+        Ok(_) => Ok((session.len() - before) as u64),
+        Err(Refusal::OutOfMemory) => Err(SettleFault::OutOfMemory {
+            done: (session.len() - before) as u64,
+        }),
+        Err(Refusal::JournalFull) => Err(SettleFault::JournalFull {
+            done: (session.len() - before) as u64,
+        }),
+    }
+}
+
+// Why a session refused a step that its shell takes.
+#[derive(Clone, Copy)]
+pub(crate) enum Refusal {
+    OutOfMemory,
+    JournalFull,
+}
+
+// Makes a round from where its holder stands, to its End, and tells the outcome with what left.
+pub(crate) fn finish_round(
+    session: &mut Session<Shell>,
+    local: Local,
+    start: Outcome,
+) -> Result<Outcome, Refusal>
+    requires stripes { length session.old.engine.stripes ≡ local.stripes }
+    requires ready { IsReady local.worker (act_of_place local.worker local.stripes local.place) session.old.engine }
+    ensures opening { session.new.opening ≡ session.old.opening }
+    ensures limit { session.new.limit ≡ session.old.limit }
+    ensures ok { IfOk result (λ o. AddsSteps (λ es. Ahead local.worker local.stripes local.place es
+        × (o ≡ outcome_from start es)) session.old session.new) }
+    ensures none { OnOk result (session.new.engine.holder ≡ None) }
+    ensures stripes { length session.new.engine.stripes ≡ local.stripes }
+    ensures err { OnErr result (AddsSteps (λ es. (rest : Entries)
+        × Ahead local.worker local.stripes local.place (es ++ rest)) session.old session.new) }
+    ensures cause { IfErr result (λ f. IsRefusalCause f session.new) }
+{
+    let worker = local.worker;
+    let mut outcome = start;
+    let mut next = next_step(local, None);
+    while let Next::Do(act, at) = next {
+        let reply = make_step(session, worker, act)?;
+        outcome = outcome_with(outcome, reply);
+        next = next_step(at, Some(reply));
+    }
+    Ok(outcome)
+}
+
+// Makes a step that the shell takes.
+pub(crate) fn make_step(
+    session: &mut Session<Shell>,
+    worker: Worker,
+    act: Act,
+) -> Result<Reply, Refusal>
+    requires { IsSome (perform worker act session.old.engine) }
+    ensures opening { session.new.opening ≡ session.old.opening }
+    ensures limit { session.new.limit ≡ session.old.limit }
+    ensures ok { IfOk result (λ r. session.new.kept
+        ≡ session.old.kept ++ record { step = step_of worker act; reply = r } ∷ []) }
+    ensures tail { OnOk result (session.new.tail ≡ []) }
+    ensures accepted { IfOk result (λ r. acted session.old.engine (step_of worker act) ≡ Some (r, session.new.engine)) }
+    ensures err { OnErr result (IsSameSession (λ x. x) session.old session.new) }
+    ensures same { OnErr result (session.new.engine ≡ session.old.engine) }
+    ensures cause { IfErr result (λ f. IsRefusalCause f session.new) }
+    ensures room { length session.new.kept ≤ session.new.limit }
+{
+    match session.step(Step { worker, act }) {
+        Ok(reply) => Ok(reply),
+        Err(SessionFault::OutOfMemory) => Err(Refusal::OutOfMemory),
+        Err(SessionFault::JournalFull) => Err(Refusal::JournalFull),
+        Err(SessionFault::NotNow) => unreachable!(),
+    }
+}
+
+// The outcome of a key after one more reply: a hit stays, else the key that left last counts.
+pub(crate) fn outcome_with(outcome: Outcome, reply: Reply) -> Outcome
+    ensures { result ≡ outcome_after outcome reply }
+{
+    match (outcome, reply) {
+        (_, Reply::Hit { .. }) => Outcome::Hit,
+        (Outcome::Hit, _) => Outcome::Hit,
+        (_, Reply::Evicted { item }) => Outcome::Evicted(item.key),
+        (_, Reply::Rejected { item }) => Outcome::Rejected(item.key),
+        (outcome, _) => outcome,
+    }
+}

@@ -1,8 +1,0 @@
-use Rattle.std.proofs.Common.{length, ◌∙◌}
-use Rattle.scenarios.proofs.Holding.{held-by-halvings}
-use Rattle.scenarios.proofs.words_held.Goals as goal
-
-pub returns : goal.returns
-returns c = λ f g opening now.
-    let h = held-by-halvings c.args.session.now.opening c.args.session.now.engine (length c.args.session.now.kept) c.args.session.now.held f g c.len-steps.ensures.sound.holds opening now in
-    (c.held.ensures ∙ h.0, h.1)

@@ -1,0 +1,4 @@
+mod NodeBounds
+mod LineLengths
+mod JournalSize
+mod Copies

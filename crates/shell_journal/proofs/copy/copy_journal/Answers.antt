@@ -1,0 +1,23 @@
+use Rattle.std.proofs.Common.{◌≡◌, ◌∙◌, ◌++◌, List, ℕ, ap, sym, subst, false}
+use Rattle.std.specs.Prelude.{is_err}
+use Rattle.step_record.specs.Answers.{AnswersItsActs}
+use Rattle.shell_model.specs.Shell.{Shell, act}
+use Rattle.journal_text.specs.Journal.{journal_of, AreLines, IsJournalText}
+use Rattle.journal_text.specs.declared.version.Version.TheVariants.{Two}
+use Rattle.shell_journal.proofs.Copies.{journal_taken, of_ok}
+use Rattle.shell_journal.proofs.copy.copy_journal.Goals as goal
+
+pub returns-clause-taken : goal.returns-clause-taken
+returns-clause-taken c =
+    let s = c.args.session.now in
+    let good : is_err c.write_journal.result ≡ false = sym c.is_err.ensures.value ∙ c.if-is_err.false in
+    let lines : AreLines Two s.kept =
+    of_ok c.write_journal.result (AnswersItsActs act → AreLines Two s.kept) good c.write_journal.ensures.lines c.replies_belong.ensures in
+    let wrote : c.write_journal.new.writer.items ≡ c.new-text.result.items ++ journal_of Two s.kept =
+    of_ok c.write_journal.result (c.write_journal.new.writer.items ≡ c.new-text.result.items ++ journal_of Two s.kept) good c.write_journal.ensures.text in
+    let text : c.as_slice-reader.result.now ≡ journal_of Two s.kept =
+    c.as_slice-reader.ensures.value ∙ wrote ∙ ap (λ (t : List ℕ). t ++ journal_of Two s.kept) c.new-text.ensures.items in
+    let legal = c.len-steps.ensures.sound.legal in
+    c.read_journal.ensures.accepts s.kept
+    (subst (λ (x : Shell). IsJournalText act x c.args.copy.now.limit c.as_slice-reader.result.now s.kept) (sym c.requires.alike)
+    (journal_taken s.opening c.args.copy.now.limit c.as_slice-reader.result.now s.kept c.text_size.ensures c.requires.reachable legal lines c.requires.few c.requires.room text))

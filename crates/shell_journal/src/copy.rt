@@ -1,0 +1,43 @@
+//! The journal of a concurrent cache, written as text and read back.
+ghost use Rattle.std.specs.Prelude.{◌≡◌, ◌≤◌, [], length};
+ghost use Rattle.step_record.specs.declared.limits.TheConstants.{MAX_JOURNAL_LIMIT};
+ghost use Rattle.journal_text.specs.Faults.{Accepts};
+ghost use Rattle.shell_model.specs.Reached.{IsReachable};
+
+use crate::theorems::text_size;
+use journal::Session;
+use journal_text::{JournalFault, read_journal, write_journal};
+use maintenance::Shell;
+use shell_model::theorems::replies_belong;
+use std::alloc::Global;
+
+/// Writes the applied steps of a session as text, and reads the text into a new session, which was opened alike and
+/// has room for them. Nothing is asked of the text: it is never too long.
+///
+/// It requires that the session was opened on a cache as [`Shell`] is at any time, and has at most as many steps as
+/// `Session::open` allows. The one fault is that an allocation or the reader failed.
+pub fn copy_journal(
+    alloc: Global,
+    session: &Session<Shell>,
+    copy: &mut Session<Shell>,
+) -> Result<(), JournalFault>
+    requires reachable { IsReachable session.now.opening }
+    requires few { length session.now.kept ≤ MAX_JOURNAL_LIMIT }
+    requires alike { copy.old.opening ≡ session.now.opening }
+    requires kept { copy.old.kept ≡ [] }
+    requires tail { copy.old.tail ≡ [] }
+    requires room { length session.now.kept ≤ copy.old.limit }
+    // The new session then holds the same entries, unless memory or the reader failed.
+    ensures taken { Accepts result copy.new.kept session.now.kept }
+    ensures opening { copy.new.opening ≡ copy.old.opening }
+{
+    text_size();
+    replies_belong();
+    let _steps = session.len();
+    let mut text = Vec::new(alloc);
+    if write_journal(alloc, session, &mut text).is_err() {
+        return Err(JournalFault::OutOfMemory);
+    }
+    let mut reader = text.as_slice();
+    read_journal(alloc, &mut reader, copy)
+}

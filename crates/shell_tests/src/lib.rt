@@ -1,0 +1,20 @@
+//! Tests that need the concurrent cache and the crates above it at once: sessions over a `Shell`,
+//! made by hand, undone, redone, written as text and read back.
+#![tactic(auto)]
+
+#[cfg(test)]
+mod ends;
+#[cfg(test)]
+mod ends_tests;
+#[cfg(test)]
+mod random_walks;
+#[cfg(test)]
+mod retry_tests;
+#[cfg(test)]
+mod session_tests;
+#[cfg(test)]
+mod sessions;
+#[cfg(test)]
+mod shell_line;
+#[cfg(test)]
+mod text_tests;

@@ -1,0 +1,173 @@
+-- What Lru counts, by the distances.
+use Rattle.std.proofs.Common.{◌≡◌, ℕ, suc, ◌+◌, ◌-◌, ◌<◌, ◌≤◌, min, Bool, true, false, cond, ◌&&◌, nat_lt, nat_le, Option, Some, None, List, [], ◌∷◌, ◌++◌, length, count_by, ap, ◌∙◌, sym, refl, arith, inl, inr, append_assoc, append-nil}
+use Rattle.std.proofs.lemmas.Bool.Decides.{nat_tests}
+use Rattle.std.proofs.lemmas.List.Sums.{sum_by-cons, sum_by-le-sum_by}
+use Rattle.step_record.specs.Keys.{has_key}
+use Rattle.step_record.specs.declared.job.Job.{Job}
+use Rattle.step_record.specs.declared.job.Policy.TheVariants.{Lru}
+use Rattle.step_record.specs.declared.outcome.Outcome.{Outcome}
+use Rattle.step_record.specs.declared.outcome.Outcome.TheVariants.{Hit, Kept, Evicted, Rejected}
+use Rattle.step_record.specs.Stats.{is_hit, is_miss, is_eviction, is_rejection, stats_of, one}
+use Rattle.policies.specs.Lru.{distinct, since, hits, lru_outcome}
+use Rattle.policies.specs.QueueCache.{QueueState, accessed, frequency_after, state_after, outcomes_from, outcomes_after, outcome_after}
+use Rattle.policies.specs.AnyPolicy.{stats_on, outcomes_on, knows_trace}
+use Rattle.policies.proofs.Reached.{after-snoc, after-job}
+use Rattle.policies.proofs.OneQueue.{outcome-lru}
+use Rattle.stack_distances.specs.Distances.{distance, distances_after, distances, is_within, hits_within, stats_within}
+use Rattle.policies.proofs.Recency.{two}
+use Rattle.stack_distances.proofs.Stack.{grows, since-short}
+
+-- ---- one access
+
+pub within-hits : (c : ℕ) (xs : List ℕ) (k : ℕ) → is_within c (distance xs k) ≡ hits c xs k
+within-hits c xs k =
+    elim (two (has_key k xs)) as (λ _. is_within c (cond (has_key k xs) (Some (suc (length (distinct (since k xs))))) None) ≡ (has_key k xs && nat_lt (length (distinct (since k xs))) c)) [
+      | inl h ↦ rw h refl
+      | inr h ↦ rw h refl
+    ]
+
+outcome-hit : (c : ℕ) (xs : List ℕ) (k : ℕ) → is_hit (lru_outcome c xs k) ≡ hits c xs k
+outcome-hit c xs k =
+    elim (two (hits c xs k)) [
+      | inl h ↦ rw h refl
+      | inr h ↦ rw h (elim (two (nat_lt (length (distinct xs)) c)) [ inl e ↦ rw e refl | inr e ↦ rw e refl ])
+    ]
+
+pub lru-hits : (j : Job) (keys : List ℕ) (k : ℕ) → j.policy ≡ Lru → 1 ≤ j.config.capacity → is_hit (outcome_after j keys k) ≡ is_within j.config.capacity (distance keys k)
+lru-hits j keys k p room = ap is_hit (outcome-lru j p room keys k (after-job j keys)) ∙ (outcome-hit j.config.capacity keys k ∙ sym (within-hits j.config.capacity keys k))
+
+-- ---- a list of accesses
+
+abbrev lru_outcomes : ℕ → List ℕ → List ℕ → List Outcome
+lru_outcomes c past [] = []
+lru_outcomes c past (k ∷ ks) = lru_outcome c past k ∷ lru_outcomes c (past ++ k ∷ []) ks
+
+module _ (j : Job) (is_lru : j.policy ≡ Lru) (room : 1 ≤ j.config.capacity) where
+  from-outcomes : (past keys : List ℕ) → outcomes_from j past (state_after j past) keys ≡ lru_outcomes j.config.capacity past keys
+  from-outcomes past [] = refl
+  from-outcomes past (k ∷ ks) =
+      let head : outcome_after j past k ≡ lru_outcome j.config.capacity past k = outcome-lru j is_lru room past k (after-job j past) in
+      let next : accessed (frequency_after j (past ++ k ∷ [])) k (state_after j past) ≡ state_after j (past ++ k ∷ []) = sym (after-snoc j past k) in
+      ap (λ (o : Outcome). o ∷ outcomes_from j (past ++ k ∷ []) (accessed (frequency_after j (past ++ k ∷ [])) k (state_after j past)) ks) head
+      ∙ (ap (λ (d : QueueState). lru_outcome j.config.capacity past k ∷ outcomes_from j (past ++ k ∷ []) d ks) next
+      ∙ ap (λ (os : List Outcome). lru_outcome j.config.capacity past k ∷ os) (from-outcomes (past ++ k ∷ []) ks))
+
+  all-outcomes : (keys : List ℕ) → outcomes_after j keys ≡ lru_outcomes j.config.capacity [] keys
+  unfolding outcomes_after state_after
+  all-outcomes keys = from-outcomes [] keys
+
+-- ---- counts
+
+count-cons : {A : Type 0} (p : A → Bool) (x : A) (xs : List A) → count_by p (x ∷ xs) ≡ one (p x) + count_by p xs
+count-cons p x xs = sum_by-cons (λ y. cond (p y) 1 0) x xs
+
+count-hits : (c : ℕ) (past keys : List ℕ) → count_by is_hit (lru_outcomes c past keys) ≡ count_by (is_within c) (distances_after past keys)
+count-hits c past [] = refl
+count-hits c past (k ∷ ks) =
+    let head : is_hit (lru_outcome c past k) ≡ is_within c (distance past k) = outcome-hit c past k ∙ sym (within-hits c past k) in
+    count-cons is_hit (lru_outcome c past k) (lru_outcomes c (past ++ k ∷ []) ks)
+    ∙ (ap (λ b. one b + count_by is_hit (lru_outcomes c (past ++ k ∷ []) ks)) head
+    ∙ (ap (λ n. one (is_within c (distance past k)) + n) (count-hits c (past ++ k ∷ []) ks)
+    ∙ sym (count-cons (is_within c) (distance past k) (distances_after (past ++ k ∷ []) ks))))
+
+either : (o : Outcome) → one (is_hit o) + one (is_miss o) ≡ 1
+either Hit = refl
+either Kept = refl
+either (Evicted k) = refl
+either (Rejected k) = refl
+
+hits-misses : (os : List Outcome) → count_by is_hit os + count_by is_miss os ≡ length os
+hits-misses [] = refl
+hits-misses (o ∷ os) = let rest : count_by is_hit os + count_by is_miss os ≡ length os = hits-misses os in omega (arith, count-cons is_hit o os, count-cons is_miss o os, either o)
+
+outcomes-length : (c : ℕ) (past keys : List ℕ) → length (lru_outcomes c past keys) ≡ length keys
+outcomes-length c past [] = refl
+outcomes-length c past (k ∷ ks) = ap suc (outcomes-length c (past ++ k ∷ []) ks)
+
+never-rejects : (c : ℕ) (xs : List ℕ) (k : ℕ) → is_rejection (lru_outcome c xs k) ≡ false
+never-rejects c xs k =
+    elim (two (hits c xs k)) [
+      | inl h ↦ rw h refl
+      | inr h ↦ rw h (elim (two (nat_lt (length (distinct xs)) c)) [ inl e ↦ rw e refl | inr e ↦ rw e refl ])
+    ]
+
+no-rejections : (c : ℕ) (past keys : List ℕ) → count_by is_rejection (lru_outcomes c past keys) ≡ 0
+no-rejections c past [] = refl
+no-rejections c past (k ∷ ks) =
+    count-cons is_rejection (lru_outcome c past k) (lru_outcomes c (past ++ k ∷ []) ks)
+    ∙ (ap (λ b. one b + count_by is_rejection (lru_outcomes c (past ++ k ∷ []) ks)) (never-rejects c past k)
+    ∙ (ap (λ n. 0 + n) (no-rejections c (past ++ k ∷ []) ks)))
+
+-- a miss without an eviction fills one place
+fills : (c : ℕ) (xs : List ℕ) (k : ℕ) → one (is_eviction (lru_outcome c xs k)) + min c (length (distinct (xs ++ k ∷ []))) ≡ one (is_miss (lru_outcome c xs k)) + min c (length (distinct xs))
+fills c xs k = rw (grows k xs) (elim (two (has_key k xs)) [
+  | inl h ↦
+      let short : length (distinct (since k xs)) ≤ length (distinct xs) = since-short k xs in
+      rw h (elim (two (nat_lt (length (distinct (since k xs))) c)) [
+        | inl e ↦ rw e refl
+        | inr e ↦ let full : nat_lt (length (distinct xs)) c ≡ false = grind (arith, nat_tests) in rw (e, full) refl
+      ])
+  | inr h ↦
+      rw h (elim (two (nat_lt (length (distinct xs)) c)) [
+        | inl e ↦ let room : length (distinct xs) < c = grind (arith, nat_tests) in rw e (omega arith)
+        | inr e ↦ let full : c ≤ length (distinct xs) = grind (arith, nat_tests) in rw e (omega arith)
+      ])
+])
+
+evictions-misses : (c : ℕ) (past keys : List ℕ) → count_by is_eviction (lru_outcomes c past keys) + min c (length (distinct (past ++ keys))) ≡ count_by is_miss (lru_outcomes c past keys) + min c (length (distinct past))
+evictions-misses c past [] = rw (append-nil past) refl
+evictions-misses c past (k ∷ ks) =
+    let o : Outcome = lru_outcome c past k in
+    let os : List Outcome = lru_outcomes c (past ++ k ∷ []) ks in
+    let rest : count_by is_eviction os + min c (length (distinct ((past ++ k ∷ []) ++ ks))) ≡ count_by is_miss os + min c (length (distinct (past ++ k ∷ []))) = evictions-misses c (past ++ k ∷ []) ks in
+    let here : one (is_eviction o) + min c (length (distinct (past ++ k ∷ []))) ≡ one (is_miss o) + min c (length (distinct past)) = fills c past k in
+    let whole : length (distinct ((past ++ k ∷ []) ++ ks)) ≡ length (distinct (past ++ k ∷ ks)) = ap (λ l. length (distinct l)) (append_assoc past (k ∷ []) ks) in
+    let ce : count_by is_eviction (o ∷ os) ≡ one (is_eviction o) + count_by is_eviction os = count-cons is_eviction o os in
+    let cm : count_by is_miss (o ∷ os) ≡ one (is_miss o) + count_by is_miss os = count-cons is_miss o os in
+    let n : min c (length (distinct ((past ++ k ∷ []) ++ ks))) ≡ min c (length (distinct (past ++ k ∷ ks))) = ap (min c) whole in
+    omega (arith, rest, here, ce, cm, n)
+
+-- ---- the statistics
+
+stats-by : (c : ℕ) (keys : List ℕ) → stats_of (lru_outcomes c [] keys) ≡ stats_within c keys
+stats-by c keys =
+    let os : List Outcome = lru_outcomes c [] keys in
+    let l : length os ≡ length keys = outcomes-length c [] keys in
+    let h : count_by is_hit os ≡ hits_within c keys = count-hits c [] keys in
+    let hm : count_by is_hit os + count_by is_miss os ≡ length os = hits-misses os in
+    let m : count_by is_miss os ≡ length keys - hits_within c keys = omega (arith, l, h, hm) in
+    let em : count_by is_eviction os + min c (length (distinct keys)) ≡ count_by is_miss os + min c 0 = evictions-misses c [] keys in
+    let z : min c 0 ≡ 0 = omega arith in
+    let e : count_by is_eviction os ≡ length keys - hits_within c keys - min c (length (distinct keys)) = omega (arith, em, z, m) in
+    let r : count_by is_rejection os ≡ 0 = no-rejections c [] keys in
+    rw (l, h, m, e, r) refl
+
+pub lru-counts : (j : Job) (keys : List ℕ) → j.policy ≡ Lru → 1 ≤ j.config.capacity → stats_on j keys ≡ stats_within j.config.capacity keys
+unfolding stats_on
+lru-counts j keys p room =
+    let by_queues : outcomes_on j keys ≡ outcomes_after j keys = rw (ap knows_trace p) refl in
+    ap stats_of by_queues ∙ (ap stats_of (all-outcomes j p room keys) ∙ stats-by j.config.capacity keys)
+
+-- a miss fills a place of the cache, or evicts
+pub hits-and-held : (c : ℕ) (keys : List ℕ) → hits_within c keys + min c (length (distinct keys)) ≤ length keys
+hits-and-held c keys =
+    let os : List Outcome = lru_outcomes c [] keys in
+    let l : length os ≡ length keys = outcomes-length c [] keys in
+    let h : count_by is_hit os ≡ hits_within c keys = count-hits c [] keys in
+    let hm : count_by is_hit os + count_by is_miss os ≡ length os = hits-misses os in
+    let em : count_by is_eviction os + min c (length (distinct keys)) ≡ count_by is_miss os + min c 0 = evictions-misses c [] keys in
+    let z : min c 0 ≡ 0 = omega arith in
+    omega (arith, l, h, hm, em, z)
+
+-- ---- larger capacities
+
+within-more : (c d : ℕ) (x : Option ℕ) → c ≤ d → one (is_within c x) ≤ one (is_within d x)
+within-more c d None h = omega arith
+within-more c d (Some n) h =
+    elim (two (nat_le n c)) [
+      | inl e ↦ let f : nat_le n d ≡ true = grind (arith, nat_tests) in rw (e, f) (omega arith)
+      | inr e ↦ rw e (omega arith)
+    ]
+
+pub hits-grow : (c d : ℕ) (keys : List ℕ) → c ≤ d → hits_within c keys ≤ hits_within d keys
+hits-grow c d keys h = sum_by-le-sum_by (λ x. one (is_within c x)) (λ x. one (is_within d x)) (distances keys) (λ x. within-more c d x h)

@@ -1,0 +1,108 @@
+-- The hits at each capacity, as sums of the counts of distances.
+use Rattle.std.proofs.Common.{◌≡◌, ℕ, suc, ◌+◌, ◌≤◌, min, Bool, true, false, cond, eqb, nat_le, Option, Some, None, List, [], ◌∷◌, ◌++◌, length, count_by, ap, ◌∙◌, sym, refl, arith, inl, inr, append_assoc, append-nil}
+use Rattle.std.proofs.lemmas.Bool.{cases_lt}
+use Rattle.std.proofs.lemmas.Bool.Decides.{nat_tests}
+use Rattle.std.proofs.lemmas.List.Sums.{sum_by-cons}
+use Rattle.step_record.specs.Keys.{has_key}
+use Rattle.policies.specs.Lru.{distinct, since}
+use Rattle.stack_distances.specs.Distances.{distance, distances_after, is_within, hits_within}
+use Rattle.stack_distances.specs.Histogram.{is_at}
+use Rattle.policies.proofs.Recency.{two}
+use Rattle.stack_distances.proofs.Stack.{grows}
+
+count-cons : {A : Type 0} (p : A → Bool) (x : A) (xs : List A) → count_by p (x ∷ xs) ≡ cond (p x) 1 0 + count_by p xs
+count-cons p x xs = sum_by-cons (λ y. cond (p y) 1 0) x xs
+
+-- ---- one distance more
+
+one-more : (d : ℕ) (x : Option ℕ) → cond (is_within (suc d) x) 1 0 ≡ cond (is_within d x) 1 0 + cond (is_at (suc d) x) 1 0
+one-more d None = omega arith
+one-more d (Some e) =
+    elim (two (nat_le e d)) [
+      | inl l ↦
+          let a : nat_le e (suc d) ≡ true = grind (arith, nat_tests) in
+          let b : eqb (suc d) e ≡ false = grind (arith, nat_tests) in
+          rw (a, b, l) (omega arith)
+      | inr g ↦ elim (two (eqb (suc d) e)) [
+        | inl s ↦ let a : nat_le e (suc d) ≡ true = grind (arith, nat_tests) in rw (a, s, g) (omega arith)
+        | inr n ↦ let a : nat_le e (suc d) ≡ false = grind (arith, nat_tests) in rw (a, n, g) (omega arith)
+      ]
+    ]
+
+pub within-more : (d : ℕ) (ds : List (Option ℕ)) → count_by (is_within (suc d)) ds ≡ count_by (is_within d) ds + count_by (is_at (suc d)) ds
+within-more d [] = omega arith
+within-more d (x ∷ ds) = omega (arith, within-more d ds, one-more d x, count-cons (is_within (suc d)) x ds, count-cons (is_within d) x ds, count-cons (is_at (suc d)) x ds)
+
+-- no distance is 0
+none-within : (xs : List ℕ) (k : ℕ) → is_within 0 (distance xs k) ≡ false
+none-within xs k =
+    elim (two (has_key k xs)) [
+      | inl h ↦ rw h (grind (arith, nat_tests))
+      | inr h ↦ rw h refl
+    ]
+
+none-after : (past keys : List ℕ) → count_by (is_within 0) (distances_after past keys) ≡ 0
+none-after past [] = refl
+none-after past (k ∷ ks) =
+    let n : cond {A = ℕ} (is_within 0 (distance past k)) 1 0 ≡ 0 = ap (λ b. cond b 1 0) (none-within past k) in
+    omega (arith, none-after (past ++ k ∷ []) ks, n, count-cons (is_within 0) (distance past k) (distances_after (past ++ k ∷ []) ks))
+
+pub no-hits : (keys : List ℕ) → hits_within 0 keys ≡ 0
+no-hits keys = none-after [] keys
+
+-- ---- no distance is over the number of distinct keys
+
+deep : (k : ℕ) (xs : List ℕ) → has_key k xs ≡ true → suc (length (distinct (since k xs))) ≤ length (distinct xs)
+deep k [] h = absurd (cc h)
+deep k (a ∷ xs) h =
+    elim (two (has_key k xs)) as (λ _. suc (length (distinct (cond (has_key k xs) (since k xs) xs))) ≤ length (distinct (a ∷ xs))) [
+      | inl c ↦
+          let tail : length (distinct xs) ≤ length (distinct (a ∷ xs)) = elim (two (has_key a xs)) as (λ _. length (distinct xs) ≤ length (cond (has_key a xs) (distinct xs) (a ∷ distinct xs))) [ inl e ↦ rw e (omega arith) | inr e ↦ rw e (omega arith) ] in
+          let rest : suc (length (distinct (since k xs))) ≤ length (distinct xs) = deep k xs c in
+          rw c (omega (arith, tail, rest))
+      | inr c ↦
+          let e : eqb k a ≡ true = is-front (eqb k a) (rw c at h) in
+          let same : k ≡ a = grind (arith, nat_tests) in
+          let gone : has_key a xs ≡ false = rw same at c in
+          rw (c, gone) (omega arith)
+    ]
+  where
+    is-front : (b : Bool) → cond b true false ≡ true → b ≡ true
+    is-front true h = refl
+    is-front false h = absurd (cc h)
+
+full : (c : ℕ) (xs : List ℕ) (k : ℕ) → length (distinct xs) ≤ c → is_within c (distance xs k) ≡ has_key k xs
+full c xs k h =
+    elim (two (has_key k xs)) as (λ _. is_within c (distance xs k) ≡ has_key k xs) [
+      | inl e ↦ let d : suc (length (distinct (since k xs))) ≤ length (distinct xs) = deep k xs e in rw e (grind (arith, nat_tests))
+      | inr e ↦ rw e refl
+    ]
+
+one-grows : (past : List ℕ) (k : ℕ) → length (distinct past) ≤ length (distinct (past ++ k ∷ []))
+one-grows past k = rw (grows k past) (elim (two (has_key k past)) as (λ _. length (distinct past) ≤ cond (has_key k past) (length (distinct past)) (suc (length (distinct past)))) [ inl e ↦ rw e (omega arith) | inr e ↦ rw e (omega arith) ])
+
+pub more-distinct : (past keys : List ℕ) → length (distinct past) ≤ length (distinct (past ++ keys))
+more-distinct past [] = rw (append-nil past) (omega arith)
+more-distinct past (k ∷ ks) =
+    let first : length (distinct past) ≤ length (distinct (past ++ k ∷ [])) = one-grows past k in
+    let rest : length (distinct (past ++ k ∷ [])) ≤ length (distinct ((past ++ k ∷ []) ++ ks)) = more-distinct (past ++ k ∷ []) ks in
+    let same : length (distinct ((past ++ k ∷ []) ++ ks)) ≡ length (distinct (past ++ k ∷ ks)) = ap (λ l. length (distinct l)) (append_assoc past (k ∷ []) ks) in
+    omega (arith, first, rest, same)
+
+full-after : (c d : ℕ) (past keys : List ℕ) → length (distinct (past ++ keys)) ≤ c → length (distinct (past ++ keys)) ≤ d → count_by (is_within c) (distances_after past keys) ≡ count_by (is_within d) (distances_after past keys)
+full-after c d past [] h g = refl
+full-after c d past (k ∷ ks) h g =
+    let fewer : length (distinct past) ≤ length (distinct (past ++ k ∷ ks)) = more-distinct past (k ∷ ks) in
+    let same : length (distinct ((past ++ k ∷ []) ++ ks)) ≡ length (distinct (past ++ k ∷ ks)) = ap (λ l. length (distinct l)) (append_assoc past (k ∷ []) ks) in
+    let rest : count_by (is_within c) (distances_after (past ++ k ∷ []) ks) ≡ count_by (is_within d) (distances_after (past ++ k ∷ []) ks) = full-after c d (past ++ k ∷ []) ks (omega (arith, same, h)) (omega (arith, same, g)) in
+    let first : is_within c (distance past k) ≡ is_within d (distance past k) = full c past k (omega (arith, fewer, h)) ∙ sym (full d past k (omega (arith, fewer, g))) in
+    let one : cond {A = ℕ} (is_within c (distance past k)) 1 0 ≡ cond {A = ℕ} (is_within d (distance past k)) 1 0 = ap (λ b. cond b 1 0) first in
+    omega (arith, rest, one, count-cons (is_within c) (distance past k) (distances_after (past ++ k ∷ []) ks), count-cons (is_within d) (distance past k) (distances_after (past ++ k ∷ []) ks))
+
+-- past the number of distinct keys the hits stay
+pub hits-held : (c : ℕ) (keys : List ℕ) → hits_within (min (length (distinct keys)) c) keys ≡ hits_within c keys
+hits-held c keys =
+    elim (cases_lt c (length (distinct keys))) [
+      | inl l ↦ let m : min (length (distinct keys)) c ≡ c = omega arith in ap (λ n. hits_within n keys) m
+      | inr g ↦ let m : min (length (distinct keys)) c ≡ length (distinct keys) = omega arith in ap (λ n. hits_within n keys) m ∙ full-after (length (distinct keys)) c [] keys (omega arith) g
+    ]

@@ -1,0 +1,130 @@
+-- A curve and what is read off it.
+use Rattle.std.proofs.Common.{◌≡◌, ◌≢◌, ℕ, Bool, Option, take, suc, ◌+◌, ◌-◌, ◌<◌, ◌≤◌, min, List, [], length, count_by, get_or, set, ap, ◌∙◌, sym, refl, arith, inl, inr, get_or-set_other, get_or-set_same}
+use Rattle.std.proofs.Math.ListN.{length-set}
+use Rattle.std.proofs.lemmas.Bool.{cases_eq}
+use Rattle.std.proofs.lemmas.List.{take_all}
+use Rattle.std.proofs.lemmas.List.FromFn.{fill_by_all}
+use Rattle.std.proofs.lemmas.List.Sums.{count_by-le-length}
+use Rattle.step_record.specs.declared.job.Job.{Job}
+use Rattle.step_record.specs.declared.job.Policy.TheVariants.{Lru}
+use Rattle.step_record.specs.declared.stats.Stats.{Stats}
+use Rattle.bits_and_lists.specs.Places.{by_place}
+use Rattle.bits_and_lists.proofs.Places.{length-by_place, get_or-by_place}
+use Rattle.policies.specs.Lru.{distinct}
+use Rattle.policies.specs.AnyPolicy.{stats_on}
+use Rattle.stack_distances.specs.Distances.{distances, is_within, hits_within, stats_within}
+use Rattle.stack_distances.specs.Histogram.{is_at, IsHistogram}
+use Rattle.stack_distances.specs.Curve.{CurveData, curve_of}
+use Rattle.stack_distances.proofs.Counting.{lru-counts, hits-and-held}
+use Rattle.stack_distances.proofs.Histories.{distances-long}
+use Rattle.stack_distances.proofs.Prefix.{within-more, no-hits, hits-held}
+
+-- ---- summing up
+
+-- below c the sums stand, and from c on the counts
+pub record IsSummed (keys hits : List ℕ) (sum c : ℕ) : Type 0 where
+  pub long : length hits ≡ length (distinct keys)
+  pub so_far : sum ≡ hits_within c keys
+  pub below : (d : ℕ) → d < c → get_or hits d 0 ≡ hits_within (suc d) keys
+  pub ahead : (d : ℕ) → c ≤ d → get_or hits d 0 ≡ count_by (is_at (suc d)) (distances keys)
+
+pub none-summed : (keys hits : List ℕ) → length hits ≡ length (distinct keys) → ((d : ℕ) → get_or hits d 0 ≡ count_by (is_at (suc d)) (distances keys)) → IsSummed keys hits 0 0
+none-summed keys hits l h = record {
+  long = l;
+  so_far = sym (no-hits keys);
+  below = λ d lt. absurd (omega (arith, lt));
+  ahead = λ d le. h d;
+}
+
+-- at the end of a pass
+pub passed-summed : (keys trace hits counts : List ℕ) (place : ℕ) (places : ℕ → Option ℕ) (marks : ℕ → Bool) → length keys ≤ place → keys ≡ trace → hits ≡ counts → IsHistogram (take place keys) places marks counts → IsSummed trace hits 0 0
+passed-summed keys trace hits counts place places marks all same taken passed =
+    let whole : take place keys ≡ keys = take_all place keys all in
+    let p : IsHistogram trace places marks counts = rw (whole, same) at passed in
+    none-summed trace hits (ap length taken ∙ p.long) (λ d. ap (λ l. get_or l d 0) taken ∙ p.counted d)
+
+pub next-sum : (keys hits : List ℕ) (sum c : ℕ) → IsSummed keys hits sum c → sum + get_or hits c 0 ≡ hits_within (suc c) keys
+next-sum keys hits sum c s =
+    let at : get_or hits c 0 ≡ count_by (is_at (suc c)) (distances keys) = s.ahead c (omega arith) in
+    let so : sum ≡ hits_within c keys = s.so_far in
+    let more : hits_within (suc c) keys ≡ hits_within c keys + count_by (is_at (suc c)) (distances keys) = within-more c (distances keys) in
+    omega (arith, at, so, more)
+
+pub sum-small : (keys : List ℕ) (c : ℕ) → hits_within c keys ≤ length keys
+sum-small keys c =
+    let few : hits_within c keys ≤ length (distances keys) = count_by-le-length (is_within c) (distances keys) in
+    let l : length (distances keys) ≡ length keys = distances-long [] keys in
+    omega (arith, few, l)
+
+pub more-summed : (keys hits : List ℕ) (sum c x : ℕ) → c < length hits → IsSummed keys hits sum c → x ≡ sum + get_or hits c 0 → IsSummed keys (set hits c x) x (suc c)
+more-summed keys hits sum c x in_it s e =
+    let is : x ≡ hits_within (suc c) keys = e ∙ next-sum keys hits sum c s in
+    record {
+      long = length-set hits c x ∙ s.long;
+      so_far = is;
+      below = λ d lt. elim (cases_eq d c) [
+        | inl q ↦ ap (λ n. get_or (set hits c x) n 0) q ∙ ((rw get_or-set_same is) ∙ ap (λ n. hits_within (suc n) keys) (sym q))
+        | inr n ↦ let ne : d ≢ c = n in (rw get_or-set_other refl) ∙ s.below d (omega arith)
+      ];
+      ahead = λ d le. let ne : d ≢ c = (λ q. omega (arith, q, le)) in (rw get_or-set_other refl) ∙ s.ahead d (omega (arith, le));
+    }
+
+pub curve-summed : (keys hits : List ℕ) (n sum c : ℕ) → n ≡ length keys → c ≡ length hits → IsSummed keys hits sum c → ◌≡◌ {A = CurveData} (record { accesses = n; hits = hits }) (curve_of keys)
+curve-summed keys hits n sum c e l s =
+    let same : hits ≡ by_place (length (distinct keys)) (λ d. hits_within (suc d) keys) = fill_by_all (λ d. hits_within (suc d) keys) hits (length (distinct keys)) 0 s.long (λ d lt. s.below d (omega (arith, lt, l, s.long))) in
+    rw (e, same) refl
+
+-- ---- reading
+
+abbrev accesses_of : CurveData → ℕ
+accesses_of d = d.accesses
+
+abbrev hits_of : CurveData → List ℕ
+hits_of d = d.hits
+
+module _ (keys hits : List ℕ) (n c held h : ℕ) (gives : ◌≡◌ {A = CurveData} (record { accesses = n; hits = hits }) (curve_of keys)) (is_held : held ≡ min (length hits) c) (none : held ≡ 0 → h ≡ 0) (some : held ≢ 0 → h ≡ get_or hits (held - 1) 0) where
+  counted : n ≡ length keys
+  counted = ap accesses_of gives
+
+  listed : hits ≡ by_place (length (distinct keys)) (λ d. hits_within (suc d) keys)
+  listed = ap hits_of gives
+
+  hits-long : length hits ≡ length (distinct keys)
+  hits-long = ap length listed ∙ length-by_place (length (distinct keys)) (λ d. hits_within (suc d) keys)
+
+  held-is : held ≡ min (length (distinct keys)) c
+  held-is = is_held ∙ ap (λ m. min m c) hits-long
+
+  at-held : h ≡ hits_within held keys
+  at-held =
+      elim (cases_eq held 0) [
+        | inl e ↦ none e ∙ sym (ap (λ m. hits_within m keys) e ∙ no-hits keys)
+        | inr d ↦
+            let ne : held ≢ 0 = d in
+            let pos : suc (held - 1) ≡ held = omega arith in
+            let low : held - 1 < length (distinct keys) = omega (arith, held-is) in
+            some d ∙ (ap (λ l. get_or l (held - 1) 0) listed ∙ (get_or-by_place (length (distinct keys)) (λ d. hits_within (suc d) keys) (held - 1) 0 low ∙ ap (λ m. hits_within m keys) pos))
+      ]
+
+  pub read-hits : h ≡ hits_within c keys
+  read-hits = at-held ∙ (ap (λ m. hits_within m keys) held-is ∙ hits-held c keys)
+
+  pub room : h + held ≤ n
+  room =
+      let fits : hits_within c keys + min c (length (distinct keys)) ≤ length keys = hits-and-held c keys in
+      let e : h ≡ hits_within c keys = read-hits in
+      let m : held ≡ min (length (distinct keys)) c = held-is in
+      let a : n ≡ length keys = counted in
+      omega (arith, fits, e, m, a)
+
+  stats-read : ◌≡◌ {A = Stats} (record { accesses = n; hits = h; misses = n - h; evictions = n - h - held; rejections = 0 }) (stats_within c keys)
+  stats-read =
+      let e : h ≡ hits_within c keys = read-hits in
+      let m : held ≡ min c (length (distinct keys)) = let k : held ≡ min (length (distinct keys)) c = held-is in omega (arith, k) in
+      let a : n ≡ length keys = counted in
+      rw (a, e, m) refl
+
+  pub stats-right : (j : Job) → j.policy ≡ Lru → j.config.capacity ≡ c → 1 ≤ c → ◌≡◌ {A = Stats} (record { accesses = n; hits = h; misses = n - h; evictions = n - h - held; rejections = 0 }) (stats_on j keys)
+  stats-right j lru cap some_room =
+      let room_of : 1 ≤ j.config.capacity = rw cap some_room in
+      stats-read ∙ (ap (λ m. stats_within m keys) (sym cap) ∙ sym (lru-counts j keys lru room_of))

@@ -1,0 +1,60 @@
+use Rattle.std.proofs.Common.{◌≡◌, ◌+◌, ◌<◌, ◌≤◌, suc, length, get_or, nat_eq, ap, arith}
+use Rattle.std.proofs.lemmas.List.{get_or_read}
+use Rattle.bits_and_lists.specs.Bits.{bit_of}
+use Rattle.key_places.specs.KeyPlaces.{place_of}
+use Rattle.stack_distances.specs.Distances.{hits_within}
+use Rattle.stack_distances.proofs.Reading.{IsSummed, passed-summed, next-sum, sum-small, more-summed, curve-summed}
+use Rattle.stack_distances.proofs.curve.Curve.of_trace.Goals as goal
+
+pub loop-c-init : goal.loop-c-init
+loop-c-init c =
+    let inv = c.loop-place.invariant in
+    let hits = c.into_counts-hits.result.items in
+    let summed : IsSummed c.args.trace.now hits 0 0 = passed-summed c.keys-keys.result.now c.args.trace.now hits c.loop-place.histogram.counts.items c.loop-place.place
+    (place_of c.loop-place.histogram.last) (bit_of c.loop-place.histogram.marks.words.items) (omega arith) inv.same c.into_counts-hits.ensures inv.passed in
+    record {
+      same = inv.same;
+      few = inv.few;
+      end = omega (arith, summed.long, c.len-c-end.ensures);
+      summed = summed;
+    }
+
+pub overflow_add-sum : goal.overflow_add-sum
+overflow_add-sum c =
+    let inv = c.loop-c.invariant in
+    let hits = c.loop-c.hits.items in
+    let in_it : c.loop-c.c < length hits = omega (arith, inv.end, inv.summed.long) in
+    let read : c.index.result.now ≡ get_or hits c.loop-c.c 0 = get_or_read hits _ _ in_it c.index.ensures 0 in
+    let is : c.loop-c.sum + get_or hits c.loop-c.c 0 ≡ hits_within (suc c.loop-c.c) c.args.trace.now = next-sum c.args.trace.now hits c.loop-c.sum c.loop-c.c inv.summed in
+    let small : hits_within (suc c.loop-c.c) c.args.trace.now ≤ length c.args.trace.now = sum-small c.args.trace.now (suc c.loop-c.c) in
+    let same : length c.keys-keys.result.now ≡ length c.args.trace.now = ap length inv.same in
+    omega (arith, read, is, small, same, inv.few)
+
+pub loop-c-preserved : goal.loop-c-preserved
+loop-c-preserved c =
+    let inv = c.loop-c.invariant in
+    let hits = c.loop-c.hits.items in
+    let in_it : c.loop-c.c < length hits = omega (arith, inv.end, inv.summed.long) in
+    let read : c.index.result.now ≡ get_or hits c.loop-c.c 0 = get_or_read hits _ _ in_it c.index.ensures 0 in
+    let next : c.loop-c.c + 1 ≡ suc c.loop-c.c = omega arith in
+    record {
+      same = inv.same;
+      few = inv.few;
+      end = inv.end;
+      summed = rw next (more-summed c.args.trace.now hits c.loop-c.sum c.loop-c.c (c.loop-c.sum + c.index.result.now) in_it inv.summed (ap (λ x. c.loop-c.sum + x) read));
+    }
+
+pub returns : goal.returns
+returns c =
+    let inv = c.loop-c.invariant in
+    curve-summed c.args.trace.now c.loop-c.hits.items (length c.keys-keys.result.now) c.loop-c.sum c.loop-c.c (ap length inv.same) (omega (arith, inv.end, inv.summed.long)) inv.summed
+
+pub invariant_of-result : goal.invariant_of-result
+invariant_of-result c =
+    let inv = c.loop-c.invariant in
+    let same : length c.keys-keys.result.now ≡ length c.args.trace.now = ap length inv.same in
+    record {
+      keys = c.args.trace.now;
+      gives = curve-summed c.args.trace.now c.loop-c.hits.items (length c.keys-keys.result.now) c.loop-c.sum c.loop-c.c (ap length inv.same) (omega (arith, inv.end, inv.summed.long)) inv.summed;
+      few = omega (arith, same, inv.few);
+    }

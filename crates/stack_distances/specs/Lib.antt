@@ -1,0 +1,5 @@
+pub mod Distances
+pub mod Theorems
+pub mod Sums
+pub mod Histogram
+pub mod Curve

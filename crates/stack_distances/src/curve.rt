@@ -1,0 +1,80 @@
+//! The hits of Lru at every capacity.
+ghost use Rattle.std.specs.Prelude.{◌≡◌, ℕ, List, ◌≤◌, IfOk};
+ghost use Rattle.step_record.specs.declared.job.Job.{Job};
+ghost use Rattle.policies.specs.AnyPolicy.{stats_on};
+ghost use Rattle.stack_distances.specs.Curve.{curve_of};
+
+use crate::histogram::Histogram;
+use std::alloc::{AllocError, Global};
+use std::marker::Model;
+use step_record::{Policy, Stats, Trace};
+
+/// How many hits Lru has over a trace at each capacity: its hit ratio curve, in counts (Mattson, Gecsei, Slutz and
+/// Traiger 1970). It takes 4 bytes for each distinct key of the trace.
+#[derive(Drop)]
+pub struct Curve {
+    accesses: u64,
+    // At c - 1, the hits at the capacity c, up to the number of distinct keys.
+    hits: Vec<u32>,
+}
+
+impl Model for Curve {
+    ghost use Rattle.stack_distances.specs.Curve.{CurveData, IsCurve};
+
+    ghost Value = { CurveData };
+
+    ghost view = { λ c. record { accesses = c.accesses; hits = c.hits.items } };
+
+    ghost invariant = { λ c. IsCurve record { accesses = c.accesses; hits = c.hits.items } };
+}
+
+impl Curve {
+    ghost use Rattle.std.specs.Prelude.{count_by, suc, length, get_or, slice_index, ◌<◌};
+    ghost use Rattle.step_record.specs.declared.limits.TheConstants.{MAX_ACCESSES};
+    ghost use Rattle.stack_distances.specs.Distances.{distances, hits_within};
+    ghost use Rattle.stack_distances.specs.Histogram.{is_at};
+
+    /// The curve of a trace, found in one pass over it. The only error is out of memory.
+    pub fn of_trace(alloc: Global, trace: &Trace) -> Result<Curve, AllocError>
+        ensures { IfOk result (λ c. c ≡ curve_of trace.now) }
+    {
+        let keys = trace.keys();
+        let mut histogram = Histogram::new(alloc, keys)?;
+        for place in 0..keys.len() {
+            histogram.access(keys, place)?;
+        }
+        let mut hits = histogram.into_counts();
+        let mut sum = 0;
+        for c in 0..hits.len() {
+            sum += hits[c];
+            hits[c] = sum;
+        }
+        Ok(Curve {
+            accesses: keys.len() as u64,
+            hits,
+        })
+    }
+
+    /// The statistics of Lru at a capacity, those of its definition over the trace that the curve was made of: what a
+    /// cache of Lru of this capacity counts, with any configuration. It takes a look-up.
+    pub fn stats(&self, capacity: u32) -> Stats
+        requires { 1 ≤ capacity }
+        ensures { (j : Job) (keys : List ℕ) → self.now ≡ curve_of keys → j.policy ≡ Policy.Lru
+            → j.config.capacity ≡ capacity → result ≡ stats_on j keys }
+    {
+        let held = self.hits.len().min(capacity as usize);
+        let hits = if held == 0 {
+            0
+        } else {
+            self.hits[held - 1] as u64
+        };
+        let misses = self.accesses - hits;
+        Stats {
+            accesses: self.accesses,
+            hits,
+            misses,
+            evictions: misses - held as u64,
+            rejections: 0,
+        }
+    }
+}

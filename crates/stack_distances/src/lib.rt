@@ -1,0 +1,28 @@
+//! The statistics of Lru at every capacity from one pass over a trace, by stack distances (Mattson, Gecsei, Slutz and
+//! Traiger, "Evaluation techniques for storage hierarchies", 1970).
+//!
+//! Lru has the inclusion property: a cache of capacity c holds the c keys that were accessed last, so a larger cache
+//! holds what a smaller one does. Each access has therefore one number, its stack distance, that decides at every
+//! capacity whether it is a hit: how many distinct keys were accessed since the last access to its key, that key
+//! included. A histogram of the distances, with running sums, has the hits at each capacity; the field calls it, over
+//! the number of accesses, a hit ratio curve, and its complement the miss ratio curve.
+//!
+//! The crate promises that an access is a hit of Lru exactly where its distance is at most the capacity, and that a
+//! [`Curve`] of a trace gives, at each capacity, the statistics that the definition of Lru gives over that trace. Only
+//! making a curve asks for memory.
+#![tactic(auto)]
+
+mod counts;
+mod curve;
+mod histogram;
+mod limits;
+mod marks;
+mod sum_layer;
+mod theorems;
+mod total;
+
+pub use curve::Curve;
+pub use theorems::{hits_grow, lru_counts, lru_hits};
+
+#[cfg(test)]
+mod tests;

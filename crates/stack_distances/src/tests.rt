@@ -1,0 +1,117 @@
+//! Curves beside caches of Lru that make the accesses one by one.
+ghost use Rattle.std.specs.Prelude.{◌≡◌, ◌≤◌, Ok, length};
+ghost use Rattle.step_record.specs.Config.{config_fault};
+
+use super::*;
+use policies::AnyPolicy;
+use std::alloc::{AllocError, Global};
+use std::process::Abort;
+use std::test::Fail;
+use step_record::{Config, Job, Key, Policy, Spread, Stats, Trace};
+
+// What a cache of Lru counts that makes the accesses one by one.
+fn one_by_one(rt: &impl Abort, alloc: Global, capacity: u32, trace: &Trace) -> Result<Stats, Fail> {
+    let job = Job {
+        policy: Policy::Lru,
+        config: Config {
+            capacity,
+            main_percent: 99,
+            spread: Spread::Plain,
+            stripes: 1,
+            journal_limit: 1,
+        },
+    };
+    assert!(rt; job.config.check().is_ok());
+    let mut cache = AnyPolicy::open(alloc, &job, trace)?;
+    for key in trace.keys() {
+        cache.access::<Trace>(*key)?;
+    }
+    Ok(cache.stats())
+}
+
+// Compares the curve of the accesses with the caches at each capacity below `end`.
+fn compare(rt: &impl Abort, alloc: Global, keys: Vec<Key>, end: u32) -> Result<(), Fail> {
+    assert!(rt; keys.len() <= 4_096);
+    let trace = Trace::new(keys);
+    let curve = Curve::of_trace(alloc, &trace)?;
+    for capacity in 1..end {
+        let wanted = one_by_one(rt, alloc, capacity, &trace)?;
+        assert_eq!(rt; curve.stats(capacity), wanted);
+    }
+    Ok(())
+}
+
+// Accesses that a generator of linear congruence draws from some keys.
+fn drawn(alloc: Global, count: u32, keys: u64, step: u64) -> Result<Vec<Key>, AllocError>
+    requires { 1 ≤ keys }
+{
+    let mut state: u64 = 88_172_645_463_325_252;
+    let mut accesses = Vec::new(alloc);
+    for _ in 0..count {
+        state = state
+            .wrapping_mul(6_364_136_223_846_793_005)
+            .wrapping_add(1_442_695_040_888_963_407);
+        accesses.push(((state >> 33) % keys).wrapping_mul(step))?;
+    }
+    Ok(accesses)
+}
+
+#[test]
+fn an_empty_trace_has_no_hits(rt: HostRuntime) -> Result<(), Fail> {
+    let curve = Curve::of_trace(rt.alloc(), &Trace::new(Vec::new(rt.alloc())))?;
+    assert_eq!(rt; curve.stats(1), Stats::NONE);
+    assert_eq!(rt; curve.stats(1 << 20), Stats::NONE);
+    Ok(())
+}
+
+#[test]
+fn the_hits_of_a_short_trace(rt: HostRuntime) -> Result<(), Fail> {
+    // The distances: none, none, none, 3, 2, 3, 1.
+    let mut keys = Vec::new(rt.alloc());
+    for key in [7u64, 8, 9, 7, 9, 8, 8] {
+        keys.push(key)?;
+    }
+    assert!(rt; keys.len() <= 7);
+    let trace = Trace::new(keys);
+    let curve = Curve::of_trace(rt.alloc(), &trace)?;
+    for (capacity, hits, misses, evictions) in [
+        (1u32, 1u64, 6u64, 5u64),
+        (2, 2, 5, 3),
+        (3, 4, 3, 0),
+        (9, 4, 3, 0),
+    ] {
+        assert!(rt; capacity >= 1);
+        let stats = curve.stats(capacity);
+        assert_eq!(rt; (stats.accesses, stats.rejections), (7, 0));
+        assert_eq!(rt;
+            (stats.hits, stats.misses, stats.evictions),
+            (hits, misses, evictions)
+        );
+    }
+    Ok(())
+}
+
+// The keys 0 to `keys` - 1 in turn, `times` times over: a loop, or once over a scan.
+fn in_turn(alloc: Global, keys: u64, times: u32) -> Result<Vec<Key>, AllocError> {
+    let mut accesses = Vec::new(alloc);
+    for _ in 0..times {
+        for key in 0..keys {
+            accesses.push(key)?;
+        }
+    }
+    Ok(accesses)
+}
+
+#[test]
+fn as_caches_of_lru_over_a_loop_and_a_scan(rt: HostRuntime) -> Result<(), Fail> {
+    compare(&rt, rt.alloc(), in_turn(rt.alloc(), 40, 10)?, 44)?;
+    compare(&rt, rt.alloc(), in_turn(rt.alloc(), 4_096, 1)?, 3)
+}
+
+// Few keys, more of them than a word has bits, and keys past the table of places.
+#[test]
+fn as_caches_of_lru_over_drawn_keys(rt: HostRuntime) -> Result<(), Fail> {
+    compare(&rt, rt.alloc(), drawn(rt.alloc(), 500, 12, 1)?, 16)?;
+    compare(&rt, rt.alloc(), drawn(rt.alloc(), 2_000, 300, 1)?, 12)?;
+    compare(&rt, rt.alloc(), drawn(rt.alloc(), 500, 40, 1 << 57)?, 48)
+}

@@ -1,0 +1,51 @@
+-- The act that a worker makes next may be the next of its walks.
+use Rattle.std.proofs.Common.{◌≡◌, ℕ, true, List, [], ◌∷◌, ◌++◌, sym, ap, ◌∙◌, subst}
+use Rattle.std.proofs.lemmas.List.{append_assoc}
+use Rattle.step_record.specs.declared.entry.Entry.{Entry}
+use Rattle.step_record.specs.declared.step.Act.{Act}
+use Rattle.step_record.specs.declared.step.Call.{Call}
+use Rattle.step_record.specs.declared.step.Reply.{Reply}
+use Rattle.step_record.specs.declared.step.Step.{Step}
+use Rattle.step_record.specs.History.{Entries}
+use Rattle.walks.specs.declared.local.Local.{Local}
+use Rattle.walks.specs.declared.next.Next.{Next}
+use Rattle.walks.specs.declared.next.Next.TheVariants as told
+use Rattle.walks.specs.declared.place.Place.{Place}
+use Rattle.walks.specs.Walks.{step_of, IsWalk, AreWalks}
+use Rattle.walks.specs.Places.{Ahead, act_of_place, is_place}
+use Rattle.walks.specs.Nexts.{Asks}
+use Rattle.walks.specs.Made.{Made}
+use Rattle.walks.specs.Admits.{MayMake}
+use Rattle.walks.proofs.Finishing.{finish}
+use Rattle.walks.proofs.Walking.{Completes, same_step, asked_of}
+use Rattle.walks.proofs.Asking.{first_step, not_over, walks_more}
+
+entry_of : Step → Reply → Entry Step Reply
+entry_of t r = record { step = t; reply = r }
+
+starts : (w n : ℕ) (p : Place) (es : Entries) → Ahead w n p es → (r : Reply) × (rest : Entries) × (es ≡ entry_of (step_of w (act_of_place w n p)) r ∷ rest)
+unfolding entry_of
+starts w n p [] h = absurd (not_over w n p h)
+starts w n p (y ∷ es) h = (y.reply, es, ap (λ t. entry_of t y.reply ∷ es) (first_step w n p y es h))
+
+pub may_make : (w n : ℕ) (c : Call) (before : List Call) (own own' list list' : Entries) (next : Next) (a : Act) (l : Local) → AreWalks w n before own → Made (Completes w n c next) own own' list list'
+    → next ≡ told.Do a l → Asks w n next → is_place l.stripes l.place ≡ true → MayMake w n own' a
+unfolding entry_of
+may_make w n c before own own' list list' next a l h m is asks placed =
+    let f = finish l.worker l.stripes l.place placed in
+    let s = starts l.worker l.stripes l.place f.0 f.1 in
+    let asked = asked_of w n c next a l is asks in
+    let first : f.0 ≡ entry_of (step_of w a) s.0 ∷ s.1 = s.2 ∙ ap (λ t. entry_of t s.0 ∷ s.1) (same_step w n c a l asked.0 asked.1) in
+    let all : Completes w n c (told.Do a l) m.made = subst (λ x. Completes w n c x m.made) is m.holds in
+    let walk : IsWalk w n c (m.made ++ entry_of (step_of w a) s.0 ∷ s.1) = subst (λ es. IsWalk w n c (m.made ++ es)) first (all f.0 f.1) in
+    let list : own' ++ entry_of (step_of w a) s.0 ∷ s.1 ≡ own ++ (m.made ++ entry_of (step_of w a) s.0 ∷ s.1) = ap (λ x. x ++ entry_of (step_of w a) s.0 ∷ s.1) m.entered ∙ append_assoc own m.made (entry_of (step_of w a) s.0 ∷ s.1) in
+    record {
+      calls = before ++ c ∷ [];
+      reply = s.0;
+      rest = s.1;
+      walks = subst (AreWalks w n (before ++ c ∷ [])) (sym list) (walks_more w n before c own (m.made ++ entry_of (step_of w a) s.0 ∷ s.1) h walk);
+    }
+
+-- one walk more is made
+pub walked : (w n : ℕ) (c : Call) (before : List Call) (own own' list list' : Entries) → AreWalks w n before own → Made (IsWalk w n c) own own' list list' → (calls : List Call) × AreWalks w n calls own'
+walked w n c before own own' list list' h m = (before ++ c ∷ [], subst (AreWalks w n (before ++ c ∷ [])) (sym m.entered) (walks_more w n before c own m.made h m.holds))

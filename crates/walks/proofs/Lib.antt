@@ -1,0 +1,8 @@
+pub mod Finishing
+pub mod Walking
+pub mod Joining
+pub mod Holding
+pub mod Standing
+pub mod Asking
+pub mod Admitting
+pub mod Coming

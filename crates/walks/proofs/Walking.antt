@@ -1,0 +1,99 @@
+-- One step of a walk, as its worker makes it.
+use Rattle.std.proofs.Common.{◌≡◌, ℕ, true, Some, [], ◌∷◌, ◌++◌, refl, sym, ap, ◌∙◌, subst, Result, Ok, Err, OnErr}
+use Rattle.std.proofs.lemmas.List.{append_assoc, append-nil}
+use Rattle.step_record.specs.declared.entry.Entry.{Entry}
+use Rattle.step_record.specs.declared.step.Act.{Act}
+use Rattle.step_record.specs.declared.step.Call.{Call}
+use Rattle.step_record.specs.declared.step.Reply.{Reply}
+use Rattle.step_record.specs.declared.step.Step.{Step}
+use Rattle.step_record.specs.Answers.{is_answer}
+use Rattle.step_record.specs.History.{Entries}
+use Rattle.walks.specs.declared.local.Local.{Local}
+use Rattle.walks.specs.declared.next.Next.{Next}
+use Rattle.walks.specs.declared.next.Next.TheVariants as told
+use Rattle.walks.specs.Walks.{step_of, IsWalk}
+use Rattle.walks.specs.Places.{Ahead, AheadAfter, act_of_place, is_place}
+use Rattle.walks.specs.Nexts.{Left, Asks}
+use Rattle.walks.specs.Made.{Made, BeginsWalk}
+use Rattle.walks.proofs.Finishing.{finish}
+
+-- with no entry
+pub nothing : (P : Entries → Type 0) (kept own : Entries) → P [] → Made P kept kept own own
+nothing P kept own h = record { made = []; entered = sym (append-nil kept); owned = sym (append-nil own); holds = h }
+
+-- the same entries, of which something else is said
+pub known : (P Q : Entries → Type 0) (kept kept' own own' : Entries) → ((es : Entries) → P es → Q es) → Made P kept kept' own own' → Made Q kept kept' own own'
+known P Q kept kept' own own' f m = record { made = m.made; entered = m.entered; owned = m.owned; holds = f m.made m.holds }
+
+-- one entry more
+pub one_more : (P Q : Entries → Type 0) (kept kept1 kept2 own own1 own2 : Entries) (e : Entry Step Reply)
+    → Made P kept kept1 own own1 → kept2 ≡ kept1 ++ e ∷ [] → own2 ≡ own1 ++ e ∷ [] → ((es : Entries) → P es → Q (es ++ e ∷ [])) → Made Q kept kept2 own own2
+one_more P Q kept kept1 kept2 own own1 own2 e m k o f = record {
+  made = m.made ++ e ∷ [];
+  entered = k ∙ ap (λ l. l ++ e ∷ []) m.entered ∙ append_assoc kept m.made (e ∷ []);
+  owned = o ∙ ap (λ l. l ++ e ∷ []) m.owned ∙ append_assoc own m.made (e ∷ []);
+  holds = f m.made m.holds;
+}
+
+module _ (w : ℕ) (n : ℕ) (c : Call) where
+  -- what completes the walk, behind these entries
+  abbrev pub Completes : Next → Entries → Type 0
+  Completes next es = (rest : Entries) → Left next rest → IsWalk w n c (es ++ rest)
+
+  pub same_step : (a : Act) (l : Local) → act_of_place l.worker l.stripes l.place ≡ a → l.worker ≡ w → step_of l.worker (act_of_place l.worker l.stripes l.place) ≡ step_of w a
+  same_step a l h e = ap (λ x. step_of x (act_of_place l.worker l.stripes l.place)) e ∙ ap (λ x. step_of w x) h
+
+  -- what is asked of the one whose next act is a
+  pub asked_of : (next : Next) (a : Act) (l : Local) → next ≡ told.Do a l → Asks w n next → Asks w n (told.Do a l)
+  asked_of next a l e h = let P : Next → Type 0 = λ x. Asks w n x in subst P e h
+
+  pub goes_on : (a : Act) (l : Local) (r : Reply) (next : Next) → Asks w n (told.Do a l)
+      → ((rest : Entries) → Left next rest → AheadAfter l.worker l.stripes l.place (Some r) rest)
+      → (es : Entries) → Completes (told.Do a l) es → Completes next (es ++ record { step = record { worker = w; act = a }; reply = r } ∷ [])
+  goes_on a l r next asks back es all rest left =
+      let e : Entry Step Reply = record { step = record { worker = w; act = a }; reply = r } in
+      let P : Step → Type 0 = λ s. Ahead l.worker l.stripes l.place (record { step = s; reply = r } ∷ rest) in
+      let Q : Entries → Type 0 = λ x. IsWalk w n c x in
+      subst Q (sym (append_assoc es (e ∷ []) rest)) (all (e ∷ rest) (subst P (same_step a l asks.0 asks.1) (back rest left)))
+
+  pub over : (next : Next) → next ≡ told.Done → (es : Entries) → Completes next es → IsWalk w n c es
+  over next d es all =
+      let Q : Entries → Type 0 = λ x. IsWalk w n c x in
+      let R : Next → Type 0 = λ x. Left x [] in
+      subst Q (append-nil es) (all [] (subst R (sym d) refl))
+
+  begun : (a : Act) (l : Local) → is_place l.stripes l.place ≡ true → (es : Entries) → Completes (told.Do a l) es → BeginsWalk w n c es
+  begun a l h es all = let f : (rest : Entries) × Ahead l.worker l.stripes l.place rest = finish l.worker l.stripes l.place h in (f.0, all f.0 f.1)
+
+  -- a walk that stopped where the act a was to be made
+  pub stopped : (next : Next) (a : Act) (l : Local) → next ≡ told.Do a l → is_place l.stripes l.place ≡ true
+      → (kept kept' kept'' own own' own'' : Entries) → kept'' ≡ kept' → own'' ≡ own' → Made (Completes next) kept kept' own own' → Made (BeginsWalk w n c) kept kept'' own own''
+  stopped next a l e h kept kept' kept'' own own' own'' k o m =
+      let P : Next → Type 0 = λ x. Completes x m.made in
+      record { made = m.made; entered = k ∙ m.entered; owned = o ∙ m.owned; holds = begun a l h m.made (subst P e m.holds) }
+
+  -- a walk with one entry more
+  pub stepped : (next next' : Next) (a : Act) (l : Local) (r : Reply) → next ≡ told.Do a l → Asks w n next
+      → ((rest : Entries) → Left next' rest → AheadAfter l.worker l.stripes l.place (Some r) rest)
+      → (kept kept1 kept2 own own1 own2 : Entries) → kept2 ≡ kept1 ++ record { step = record { worker = w; act = a }; reply = r } ∷ [] → own2 ≡ own1 ++ record { step = record { worker = w; act = a }; reply = r } ∷ []
+      → Made (Completes next) kept kept1 own own1 → Made (Completes next') kept kept2 own own2
+  stepped next next' a l r d asks back kept kept1 kept2 own own1 own2 k o m =
+      one_more (Completes next) (Completes next') kept kept1 kept2 own own1 own2 (record { step = record { worker = w; act = a }; reply = r }) m k o
+      (λ es all. let P : Next → Type 0 = λ x. Completes x es in goes_on a l r next' (asked_of next a l d asks) back es (subst P d all))
+
+  pub asks_same : (lw : ℕ) (ln : ℕ) (next : Next) → lw ≡ w → ln ≡ n → Asks lw ln next → Asks w n next
+  asks_same lw ln next e f h =
+      let P : ℕ → Type 0 = λ x. Asks x ln next in
+      let Q : ℕ → Type 0 = λ x. Asks w x next in
+      subst Q f (subst P e h)
+
+pub on_err : {T F : Type 0} (r : Result T F) (P : Type 0) → P → OnErr r P
+on_err (Ok x) P h = tt
+on_err (Err x) P h = h
+
+pub answered : (a b : Act) (r : Reply) → a ≡ b → is_answer b r ≡ true → is_answer a r ≡ true
+answered a b r e h = let P : Act → Type 0 = λ x. is_answer x r ≡ true in subst P (sym e) h
+
+-- one entry more in the worker's own list
+pub listed : (own own1 own2 : Entries) (e e' : Entry Step Reply) → own2 ≡ own1 ++ e ∷ [] → e ≡ e' → own1 ≡ own → own2 ≡ own ++ e' ∷ []
+listed own own1 own2 e e' added same kept = added ∙ ap (λ x. own1 ++ x ∷ []) same ∙ ap (λ l. l ++ e' ∷ []) kept

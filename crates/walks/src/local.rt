@@ -1,0 +1,69 @@
+//! A worker in the walk of one call.
+ghost use Rattle.std.specs.Prelude.{◌≡◌, ◌≤◌, true};
+ghost use Rattle.step_record.specs.declared.limits.TheConstants.{MAX_STRIPES};
+ghost use Rattle.step_record.specs.History.{Entries};
+ghost use Rattle.walks.specs.Places.{is_place};
+
+use super::place::Place;
+use step_record::{Call, Phase, Worker};
+
+/// A worker in the walk of one call: the act that it was asked to make last, or is to make first.
+#[derive(Clone, Copy)]
+pub struct Local {
+    pub worker: Worker,
+    pub stripes: u8,
+    pub place: Place,
+    pub ghost some: { 1 ≤ stripes },
+    pub ghost few: { stripes ≤ MAX_STRIPES },
+    pub ghost placed: { is_place stripes place ≡ true },
+}
+
+impl Local {
+    ghost use Rattle.std.specs.Prelude.{◌↔◌};
+    ghost use Rattle.walks.specs.Walks.{IsWalk};
+    ghost use Rattle.walks.specs.Places.{Ahead, phase_place};
+
+    /// At the beginning of the walk of a call, of a cache with so many read buffers: 1 to [`MAX_STRIPES`].
+    ///
+    /// [`MAX_STRIPES`]: step_record::MAX_STRIPES
+    pub fn start(worker: Worker, stripes: u8, call: Call) -> Local
+        requires { (1 ≤ stripes) × (stripes ≤ MAX_STRIPES) }
+        ensures ahead { (es : Entries) → IsWalk worker stripes call es
+            ↔ Ahead result.worker result.stripes result.place es }
+        ensures same { (result.worker ≡ worker) × (result.stripes ≡ stripes) }
+    {
+        let place = match call {
+            Call::Read(key) => Place::Look { key },
+            Call::Remove(key) => Place::Remove { key },
+        };
+        Local {
+            worker,
+            stripes,
+            place,
+        }
+    }
+
+    /// At the first act of a worker that holds the maintenance and is at this phase of it, in a
+    /// cache with so many read buffers: 1 to [`MAX_STRIPES`].
+    ///
+    /// [`MAX_STRIPES`]: step_record::MAX_STRIPES
+    pub fn resume(worker: Worker, stripes: u8, phase: Phase) -> Local
+        requires { (1 ≤ stripes) × (stripes ≤ MAX_STRIPES) }
+        ensures place { result.place ≡ phase_place phase }
+        ensures same { (result.worker ≡ worker) × (result.stripes ≡ stripes) }
+    {
+        let place = match phase {
+            Phase::Reads => Place::DrainRead {
+                stripe: 0,
+                drained: 0,
+            },
+            Phase::Writes => Place::DrainWrite,
+            Phase::Evictions => Place::Evict,
+        };
+        Local {
+            worker,
+            stripes,
+            place,
+        }
+    }
+}

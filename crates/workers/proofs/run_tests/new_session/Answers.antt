@@ -1,0 +1,6 @@
+use Rattle.std.proofs.Common.{refl}
+use Rattle.workers.proofs.run_tests.new_session.Goals as goal
+
+pub new-requires : goal.new-requires
+unfolding lib.Count.ones
+new-requires c = refl

@@ -1,0 +1,4 @@
+pub mod WorkerStates
+pub mod Runs
+pub mod DriveFaults
+pub mod Draws

@@ -1,0 +1,46 @@
+-- Workers at their places, and what they made there.
+use Rattle.std.specs.Prelude.{◌≡◌, ◌≢◌, ℕ, suc, List, [], ◌∷◌, map, length, get_or, Some, IfSome, MatchOption}
+use Rattle.std.specs.Option.{IsSome}
+use Rattle.std.specs.Global.{Vec}
+use Rattle.std.specs.Vec.{vec_items}
+use Rattle.step_record.specs.declared.step.Call.{Call}
+use Rattle.step_record.specs.declared.step.Reply.{Reply}
+use Rattle.step_record.specs.declared.step.Step.{Step}
+use Rattle.journal.specs.Session.{SessionState}
+use Rattle.journal.specs.declared.fault.SessionFault.TheVariants.{JournalFull, NotNow}
+use Rattle.turn_book.specs.Passes.{BookId}
+use Rattle.workers.specs.declared.worker_state.WorkerState.{WorkerState}
+use Rattle.walks.specs.Walks.{AreWalks}
+use Rattle.step_record.specs.History.{after}
+use Rattle.shell_model.specs.Shell.{Shell, act}
+use Rattle.walks.specs.Made.{BeginWalks}
+use Rattle.walks.specs.Admits.{AdmitsWalks}
+
+-- the calls of each worker, by its number
+abbrev pub calls_of : List (Vec Call) → ℕ → List Call
+calls_of pieces w = get_or (map (λ p. vec_items p) pieces) w []
+
+abbrev pub ShellSession : Type 0
+ShellSession = SessionState Shell Shell Step Reply
+
+-- the worker has its pass of this book, and in its list what the pass made
+pub record HoldsPass (b : BookId ShellSession) (d : WorkerState) : Type 0 where
+  pub has : IsSome d.pass
+  pub own : IfSome d.pass (λ p. (p.book ≡ b) × (p.worker ≡ d.worker) × (p.own ≡ d.list.items))
+
+-- Its list is one walk for each of its calls, or the beginning of such walks where it was stopped; and where a full
+-- journal did that, it last saw as many entries as the limit. It is not stopped for a step that may not come now.
+pub record HasWorked (n limit : ℕ) (calls : ℕ → List Call) (d : WorkerState) : Type 0 where
+  pub walks : MatchOption d.fault (AreWalks d.worker n (calls d.worker) d.list.items)
+      (λ f. BeginWalks d.worker n (calls d.worker) d.list.items)
+  pub full : d.fault ≡ Some JournalFull → IfSome d.pass (λ p. length p.last ≡ limit)
+  pub now : d.fault ≢ Some NotNow
+
+-- the workers from lo on, in order
+abbrev pub AreNumbered : ℕ → List WorkerState → Type 0
+AreNumbered lo [] = Unit {0}
+AreNumbered lo (d ∷ ds) = (d.worker ≡ lo) × AreNumbered (suc lo) ds
+
+-- the shell takes each step that the walks of any worker ask, from where the session stood
+abbrev pub AdmitsAll : ℕ → ShellSession → Type 0
+AdmitsAll n s = (w : ℕ) → AdmitsWalks act (λ x. x.applied) w n (after act s.opening s.kept)

@@ -1,0 +1,222 @@
+//! Workers on threads, over one session of the concurrent cache.
+ghost use Rattle.std.specs.Prelude.{◌≡◌, ◌≢◌, ◌<◌, ◌≤◌, None, Some, [], Option, IfOk, IfErr, OnOk};
+ghost use Rattle.std.specs.Prelude.{length, map, vec_capacity};
+ghost use Rattle.step_record.specs.declared.limits.TheConstants.{MAX_STRIPES};
+ghost use Rattle.step_record.specs.declared.worker.TheConstants.{MAX_WORKERS};
+ghost use Rattle.turn_book.specs.Turns.{Every};
+ghost use Rattle.turn_book.specs.Passes.{InOrder, id_of};
+ghost use Rattle.walks.specs.Walks.{AreWalks};
+ghost use Rattle.walks.specs.Made.{BeginWalks};
+ghost use Rattle.workers.specs.WorkerStates.{AdmitsAll};
+ghost use Rattle.workers.specs.Draws.{IsWithin};
+ghost use Rattle.workers.specs.Runs.{IsRun};
+ghost use Rattle.step_record.specs.History.{after, IsLegal};
+ghost use Rattle.shell_model.specs.Shell.{act};
+ghost use Rattle.workers.specs.DriveFaults.{CanRun, LeavesFault, the_cause};
+
+use super::worker_state::{WorkerState, assign_passes, collect_passes, first_fault, work_seated};
+use journal::{Session, SessionFault};
+use maintenance::Shell;
+use std::alloc::{AllocError, Global};
+use std::sync::Wait;
+use std::thread::Threads;
+use step_record::{Call, Entry, Gate, MAX_WORKERS, Reply, Step, Worker};
+use turn_book::{MAX_TURNS, OpenFault, Pass, TurnBook};
+
+/// What a run of workers made: the session, and the entries of each worker, in its order, at its number.
+#[derive(Drop)]
+pub struct Driven {
+    pub session: Session<Shell>,
+    pub lists: Vec<Vec<Entry<Step, Reply>>>,
+}
+
+/// Why a worker was refused a step.
+#[derive(Clone, Copy, Debug, PartialEq, Eq)]
+pub enum Cause {
+    /// Out of memory.
+    Memory,
+    /// The journal is full.
+    JournalFull,
+}
+
+/// Why a run did not make all walks. Each fault holds the session.
+#[derive(Drop)]
+pub enum DriveFault {
+    /// There are no pieces, or more than [`MAX_WORKERS`]. The session is as it was.
+    Workers {
+        session: Session<Shell>,
+    },
+    /// This worker holds the maintenance, which is to be settled first. The session is as it was.
+    Held {
+        worker: Worker,
+        session: Session<Shell>,
+    },
+    /// An allocation failed before any step. The session is as it was.
+    OutOfMemory {
+        session: Session<Shell>,
+    },
+    /// A worker was refused a step, and ended there, while the others went on. The lists are those of a run, each of
+    /// which may end early; the cause is that of the refused worker with the lowest number.
+    Stopped {
+        session: Session<Shell>,
+        lists: Vec<Vec<Entry<Step, Reply>>>,
+        cause: Cause,
+    },
+}
+
+/// Workers, each on a thread of its own where one can be made, make the walks of their calls: worker `w` those of piece
+/// `w`, in order. Each step is made in a turn of its own, so the session has one list of steps; the gate is called
+/// around each call of a worker, without a turn.
+///
+/// The faults are looked for in the order in which [`DriveFault`] has them.
+pub fn drive<G: Gate, R: Threads + Wait + Sync>(
+    rt: &R,
+    alloc: Global,
+    session: Session<Shell>,
+    pieces: Vec<Vec<Call>>,
+    gate: &G,
+) -> Result<Driven, DriveFault>
+    // Past the old entries, those of each worker are its list: one walk for each of its calls, in order.
+    ensures run { IfOk result (λ d. IsRun (λ w. AreWalks w session.engine.config.stripes)
+        (map (λ p. p.items) pieces.items) session d.session (map (λ l. l.items) d.lists.items)) }
+    ensures legal { IfOk result (λ d. IsLegal act d.session.opening d.session.kept) }
+    // Nobody holds the maintenance.
+    ensures free { IfOk result (λ d. d.session.engine.holder ≡ None) }
+    ensures accepted { OnOk result (CanRun (map (λ p. p.items) pieces.items) session.engine) }
+    ensures fault { IfErr result (λ f. LeavesFault f (map (λ p. p.items) pieces.items) session) }
+{
+    let workers = pieces.len();
+    if workers == 0 || workers > usize::from(MAX_WORKERS) {
+        return Err(DriveFault::Workers { session });
+    }
+    let shell = session.engine();
+    let stripes = shell.stripes();
+    if let Some((worker, _, _)) = shell.holder() {
+        return Err(DriveFault::Held { worker, session });
+    }
+    let Ok(room) = Room::new(alloc, workers) else {
+        return Err(DriveFault::OutOfMemory { session });
+    };
+    match TurnBook::open(alloc, session, workers as u8, MAX_TURNS) {
+        Ok((book, passes)) => {
+            let (session, lists, fault) = run_book(
+                rt,
+                alloc,
+                gate,
+                book,
+                passes,
+                pieces.as_slice(),
+                stripes,
+                room,
+            );
+            run_result(session, lists, fault)
+        }
+        Err(OpenFault::OutOfMemory(session)) => Err(DriveFault::OutOfMemory { session }),
+        Err(OpenFault::Workers(_)) => unreachable!(),
+        Err(OpenFault::Turns(_)) => unreachable!(),
+    }
+}
+
+// What a run hands back, by whether a worker stopped.
+fn run_result(
+    session: Session<Shell>,
+    lists: Vec<Vec<Entry<Step, Reply>>>,
+    fault: Option<SessionFault>,
+) -> Result<Driven, DriveFault>
+    requires { fault ≢ Some SessionFault.NotNow }
+    ensures ok { IfOk result (λ d. (d.session ≡ session) × (d.lists.items ≡ lists.items) × (fault ≡ None)) }
+    ensures err { IfErr result (λ f. f ≡ DriveFault.Stopped session lists (the_cause fault)) }
+    ensures legal { IsLegal act session.opening session.kept }
+    ensures stands { session.engine ≡ after act session.opening session.kept }
+    ensures room { length session.kept ≤ session.limit }
+{
+    session.len();
+    match fault {
+        None => Ok(Driven { session, lists }),
+        Some(fault) => Err(DriveFault::Stopped {
+            session,
+            lists,
+            cause: cause_of(fault),
+        }),
+    }
+}
+
+// What stopped a worker, whose steps may always come.
+fn cause_of(fault: SessionFault) -> Cause
+    requires { fault ≢ SessionFault.NotNow }
+    ensures { result ≡ the_cause (Some fault) }
+{
+    match fault {
+        SessionFault::OutOfMemory => Cause::Memory,
+        SessionFault::JournalFull => Cause::JournalFull,
+        SessionFault::NotNow => unreachable!(),
+    }
+}
+
+// Memory for all that a run holds beside the session and the lists.
+#[derive(Drop)]
+pub(crate) struct Room {
+    pub(crate) states: Vec<WorkerState>,
+    pub(crate) passes: Vec<Pass<Session<Shell>>>,
+    pub(crate) lists: Vec<Vec<Entry<Step, Reply>>>,
+}
+
+impl Room {
+    // Room for so many workers.
+    fn new(alloc: Global, workers: usize) -> Result<Room, AllocError>
+        ensures empty { IfOk result (λ r. (r.states.items ≡ []) × (r.passes.items ≡ []) × (r.lists.items ≡ [])) }
+        ensures room { IfOk result (λ r. (workers ≤ vec_capacity r.states) × (workers ≤ vec_capacity r.passes)
+            × (workers ≤ vec_capacity r.lists)) }
+    {
+        Ok(Room {
+            states: Vec::with_capacity(alloc, workers)?,
+            passes: Vec::with_capacity(alloc, workers)?,
+            lists: Vec::with_capacity(alloc, workers)?,
+        })
+    }
+}
+
+// Has the workers work, and closes the book: the session, each worker's list, and why the first that stopped did so.
+fn run_book<G: Gate, R: Threads + Wait + Sync>(
+    rt: &R,
+    alloc: Global,
+    gate: &G,
+    book: TurnBook<Session<Shell>>,
+    passes: Vec<Pass<Session<Shell>>>,
+    pieces: &[Vec<Call>],
+    stripes: u8,
+    room: Room,
+) -> (
+    Session<Shell>,
+    Vec<Vec<Entry<Step, Reply>>>,
+    Option<SessionFault>,
+)
+    requires stripes { (1 ≤ stripes) × (stripes ≤ MAX_STRIPES) }
+    requires admits { AdmitsAll stripes book.opening }
+    requires workers { (length pieces.now ≡ book.workers) × (1 ≤ length pieces.now)
+        × (length pieces.now ≤ MAX_WORKERS) }
+    requires order { InOrder 0 passes.items × (length passes.items ≡ length pieces.now) }
+    requires own { Every (λ p. p.book ≡ id_of book) passes.items }
+    requires empty { Every (λ p. (p.own ≡ []) × IsWithin book.opening.limit p) passes.items }
+    requires turns { book.opening.limit ≤ book.turns }
+    requires fresh { (room.states.items ≡ []) × (room.passes.items ≡ []) × (room.lists.items ≡ []) }
+    requires room { (length pieces.now ≤ vec_capacity room.states) × (length pieces.now ≤ vec_capacity room.passes)
+        × (length pieces.now ≤ vec_capacity room.lists) }
+    ensures none { result.2 ≡ None → IsRun (λ w. AreWalks w stripes) (map (λ p. p.items) pieces.now) book.opening
+        result.0 (map (λ l. l.items) result.1.items) }
+    ensures full { result.2 ≡ Some SessionFault.JournalFull → book.opening.limit ≤ length result.0.kept }
+    ensures now { result.2 ≢ Some SessionFault.NotNow }
+    ensures some { IsRun (λ w. BeginWalks w stripes) (map (λ p. p.items) pieces.now) book.opening result.0
+        (map (λ l. l.items) result.1.items) }
+{
+    let Room {
+        states,
+        passes: seats,
+        lists,
+    } = room;
+    let states = assign_passes(alloc, &book, passes, states);
+    let states = work_seated(rt, gate, &book, pieces, stripes, states);
+    let fault = first_fault(states.as_slice());
+    let (passes, lists) = collect_passes(states, seats, lists);
+    (book.close(passes), lists, fault)
+}

@@ -1,0 +1,154 @@
+//! What one worker does over a session that workers take in turns.
+ghost use Rattle.std.specs.Prelude.{◌≡◌, ◌≢◌, ◌≤◌, List, ◌∷◌, ◌++◌, [], true, length, OnOk, OnErr, IfOk};
+ghost use Rattle.std.specs.Prelude.{MatchResult, Some, Err};
+ghost use Rattle.step_record.specs.declared.limits.TheConstants.{MAX_STRIPES};
+ghost use Rattle.step_record.specs.Answers.{AnswersItsActs, is_answer};
+ghost use Rattle.turn_book.specs.Passes.{id_of};
+ghost use Rattle.step_record.specs.History.{after};
+ghost use Rattle.step_record.specs.declared.step.Call.{Call};
+ghost use Rattle.walks.specs.Walks.{IsWalk, AreWalks, step_of};
+ghost use Rattle.walks.specs.Admits.{AdmitsWalks, IsTaken};
+ghost use Rattle.workers.specs.Draws.{IsWithin};
+ghost use Rattle.walks.specs.Made.{Made, BeginsWalk, BeginWalks};
+
+use journal::{Session, SessionFault};
+use std::sync::Wait;
+use step_record::{Act, Call, Engine, Entry, Gate, Reply, Step, Worker};
+use turn_book::{Pass, TurnBook};
+use walks::{Local, Next, next_step};
+
+/// Makes one walk for each call, in order, a turn for each step. The gate is called around each
+/// call, without a turn.
+pub(crate) fn work_in_turns<E: Engine<Step = Step, Reply = Reply> + Drop, G: Gate, R: Wait>(
+    rt: &R,
+    gate: &G,
+    book: &TurnBook<Session<E>>,
+    mut pass: Pass<Session<E>>,
+    list: &mut Vec<Entry<Step, Reply>>,
+    worker: Worker,
+    stripes: u8,
+    calls: &[Call],
+) -> (Pass<Session<E>>, Result<(), SessionFault>)
+    requires own { pass.book ≡ id_of book.now }
+    requires worker { pass.worker ≡ worker }
+    requires answers { AnswersItsActs E.act }
+    requires admits { AdmitsWalks E.act E.count worker stripes
+        (after E.act book.now.opening.opening book.now.opening.kept) }
+    requires walks { (before : List Call) × AreWalks worker stripes before pass.own }
+    requires stripes { (1 ≤ stripes) × (stripes ≤ MAX_STRIPES) }
+    requires within { IsWithin book.now.opening.limit pass }
+    requires turns { book.now.opening.limit ≤ book.now.turns }
+    ensures same { result.0.book ≡ pass.book }
+    ensures worker { result.0.worker ≡ worker }
+    ensures ok { OnOk result.1 (Made (AreWalks worker stripes calls.now) pass.own result.0.own list.old.items
+        list.new.items) }
+    ensures err { OnErr result.1 (Made (BeginWalks worker stripes calls.now) pass.own result.0.own list.old.items
+        list.new.items) }
+    ensures full { result.1 ≡ Err SessionFault.JournalFull → length result.0.last ≡ book.now.opening.limit }
+    ensures now { result.1 ≢ Err SessionFault.NotNow }
+    ensures within { OnOk result.1 (IsWithin book.now.opening.limit result.0) }
+{
+    for (n, call) in calls.iter().enumerate() {
+        gate.before(worker.number(), n as u64);
+        let (given, answer) = walk_in_turns(rt, book, pass, list, worker, stripes, *call);
+        pass = given;
+        if let Err(fault) = answer {
+            return (pass, Err(fault));
+        }
+        gate.after(worker.number(), n as u64);
+    }
+    (pass, Ok(()))
+}
+
+// Makes the walk of one call, a turn for each step.
+fn walk_in_turns<E: Engine<Step = Step, Reply = Reply> + Drop, R: Wait>(
+    rt: &R,
+    book: &TurnBook<Session<E>>,
+    mut pass: Pass<Session<E>>,
+    list: &mut Vec<Entry<Step, Reply>>,
+    worker: Worker,
+    stripes: u8,
+    call: Call,
+) -> (Pass<Session<E>>, Result<(), SessionFault>)
+    requires own { pass.book ≡ id_of book.now }
+    requires worker { pass.worker ≡ worker }
+    requires answers { AnswersItsActs E.act }
+    requires admits { AdmitsWalks E.act E.count worker stripes
+        (after E.act book.now.opening.opening book.now.opening.kept) }
+    requires walks { (before : List Call) × AreWalks worker stripes before pass.own }
+    requires stripes { (1 ≤ stripes) × (stripes ≤ MAX_STRIPES) }
+    requires within { IsWithin book.now.opening.limit pass }
+    requires turns { book.now.opening.limit ≤ book.now.turns }
+    ensures same { result.0.book ≡ pass.book }
+    ensures worker { result.0.worker ≡ worker }
+    ensures ok { OnOk result.1 (Made (IsWalk worker stripes call) pass.own result.0.own list.old.items list.new.items) }
+    ensures err { OnErr result.1 (Made (BeginsWalk worker stripes call) pass.own result.0.own list.old.items
+        list.new.items) }
+    ensures full { result.1 ≡ Err SessionFault.JournalFull → length result.0.last ≡ book.now.opening.limit }
+    ensures now { result.1 ≢ Err SessionFault.NotNow }
+    ensures within { OnOk result.1 (IsWithin book.now.opening.limit result.0) }
+{
+    let mut next = next_step(Local::start(worker, stripes, call), None);
+    for _ in rt.forever() {
+        let Next::Do(act, local) = next else {
+            return (pass, Ok(()));
+        };
+        if list.reserve(1).is_err() {
+            return (pass, Err(SessionFault::OutOfMemory));
+        }
+        let step = Step { worker, act };
+        let (given, answer) = turn(rt, book, pass, step);
+        pass = given;
+        match answer {
+            Ok(reply) => {
+                list.push_reserved(entry_of(worker, act, reply));
+                next = next_step(local, Some(reply));
+            }
+            Err(fault) => return (pass, Err(fault)),
+        }
+    }
+    unreachable!()
+}
+
+// Makes one step in a turn. It is refused where the session refuses it. A pass that has drawn all of its turns made an
+// entry in each of them, and so many fill the journal.
+fn turn<E: Engine<Step = Step, Reply = Reply> + Drop, R: Wait>(
+    rt: &R,
+    book: &TurnBook<Session<E>>,
+    pass: Pass<Session<E>>,
+    step: Step,
+) -> (Pass<Session<E>>, Result<Reply, SessionFault>)
+    requires own { pass.book ≡ id_of book.now }
+    requires worker { pass.worker ≡ step.worker }
+    requires answers { AnswersItsActs E.act }
+    requires takes { IsTaken E.act E.count (after E.act book.now.opening.opening book.now.opening.kept) pass.own step }
+    requires within { IsWithin book.now.opening.limit pass }
+    requires turns { book.now.opening.limit ≤ book.now.turns }
+    ensures same { result.0.book ≡ pass.book }
+    ensures worker { result.0.worker ≡ pass.worker }
+    ensures own { MatchResult result.1 (λ r. result.0.own ≡ pass.own ++ record { step = step; reply = r } ∷ [])
+        (λ _. result.0.own ≡ pass.own) }
+    ensures answer { IfOk result.1 (λ r. is_answer step.act r ≡ true) }
+    // A full journal: what the pass last saw is as long as the limit.
+    ensures full { result.1 ≡ Err SessionFault.JournalFull → length result.0.last ≡ book.now.opening.limit }
+    ensures now { result.1 ≢ Err SessionFault.NotNow }
+    ensures within { OnOk result.1 (IsWithin book.now.opening.limit result.0) }
+{
+    match book.take(rt, pass) {
+        Ok(mut turn) => match turn.value().step(step) {
+            Ok(reply) => (book.give(turn), Ok(reply)),
+            Err(fault) => (book.give(turn), Err(fault)),
+        },
+        Err(pass) => (pass, Err(SessionFault::JournalFull)),
+    }
+}
+
+// The entry of the worker's act with its reply.
+fn entry_of(worker: Worker, act: Act, reply: Reply) -> Entry<Step, Reply>
+    ensures { result ≡ record { step = step_of worker act; reply = reply } }
+{
+    Entry {
+        step: Step { worker, act },
+        reply,
+    }
+}
