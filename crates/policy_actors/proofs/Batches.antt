@@ -1,5 +1,5 @@
 -- The batches of a trace, as accesses of a cache.
-use Rattle.std.proofs.Common.{◌≡◌, ℕ, ◌+◌, ◌*◌, ◌≤◌, List, ◌++◌, length, take, drop, Option, Some, None, IfSome, sym, ap, ◌∙◌, arith, take-append-drop}
+use Rattle.std.proofs.Common.{◌≡◌, ℕ, ◌+◌, ◌*◌, ◌≤◌, List, ◌++◌, length, take, drop, Option, Some, None, IfSome, sym, ap, ◌∙◌, arith, take-append-drop, append_assoc}
 use Rattle.std.proofs.Math.Seq.{take-add}
 use Rattle.std.proofs.lemmas.List.{take_all}
 use Rattle.step_record.specs.declared.job.Job.{Job}
@@ -31,3 +31,15 @@ taken-more size k keys piece is =
 -- after the last batch the keys are all there
 pub all-taken : (size k : ℕ) (keys : List ℕ) → length keys ≤ k * size + size → take ((k + 1) * size) keys ≡ keys
 all-taken size k keys h = let e : length keys ≤ (k + 1) * size = omega arith in take_all ((k + 1) * size) keys e
+
+-- what stands behind the first m of the keys begins with the next piece
+pub next-piece : (trace done keys rest piece : List ℕ) (m size : ℕ) → piece ≡ take size (drop m keys) → trace ≡ done ++ (keys ++ rest)
+    → trace ≡ (done ++ take m keys) ++ (piece ++ (drop size (drop m keys) ++ rest))
+next-piece trace done keys rest piece m size is ahead =
+    let later = drop size (drop m keys) in
+    ahead
+    ∙ ap (λ l. done ++ (l ++ rest)) (sym (take-append-drop m keys))
+    ∙ ap (λ l. done ++ l) (append_assoc (take m keys) (drop m keys) rest)
+    ∙ ap (λ l. done ++ (take m keys ++ (l ++ rest))) (sym (take-append-drop size (drop m keys)) ∙ ap (λ l. l ++ later) (sym is))
+    ∙ ap (λ l. done ++ (take m keys ++ l)) (append_assoc piece later rest)
+    ∙ sym (append_assoc done (take m keys) (piece ++ (later ++ rest)))

@@ -1,5 +1,5 @@
 //! The accesses of a trace, batch by batch, and the report at its end.
-ghost use Rattle.std.specs.Prelude.{◌≡◌, ◌≤◌, [], ◌++◌, ℕ, List, length, Ok, IfOk, IfSome};
+ghost use Rattle.std.specs.Prelude.{◌≡◌, ◌≤◌, [], ◌++◌, ℕ, List, length, take, drop, Ok, IfOk, IfSome};
 ghost use Rattle.step_record.specs.Config.{config_fault};
 ghost use Rattle.step_record.specs.declared.job.Job.{Job};
 ghost use Rattle.policies.specs.AnyPolicy.{Stands};
@@ -9,7 +9,7 @@ ghost use Rattle.policy_actors.specs.Reports.{report_on};
 use policies::{AnyPolicy, any_accepts, any_reports, any_stands};
 use report::Report;
 use std::alloc::{AllocError, Global};
-use step_record::{Job, Key, StepFault, Trace};
+use step_record::{Gate, Job, Key, MAX_BATCH, StepFault, Trace};
 
 // For so many accesses at once what they read first is read ahead.
 const AHEAD: usize = 16;
@@ -43,6 +43,41 @@ fn warm_at(cache: &mut AnyPolicy, keys: &[Key], i: usize)
     if i % AHEAD == 0 {
         let end = keys.len().min(i + AHEAD);
         cache.warm(&keys[i..end]);
+    }
+}
+
+/// The same in batches of `MAX_BATCH` accesses, with the gate called before and after each, as worker 0, with the
+/// batch's number.
+pub fn access_in_batches<G: Gate>(
+    mut cache: AnyPolicy,
+    keys: &[Key],
+    gate: &G,
+) -> Result<AnyPolicy, AllocError>
+    requires { IsNext keys.now cache }
+    ensures { (j : Job) (trace done : List ℕ) → Stands j trace done cache
+        → IfOk result (λ next. Stands j trace (done ++ keys.now) next) }
+{
+    let size = MAX_BATCH as usize;
+    let mut rest = keys;
+    for number in 0..keys.len().div_ceil(size) {
+        let (batch, later) = cut(rest, size);
+        gate.before(0, number as u64);
+        cache = access_all(cache, batch)?;
+        gate.after(0, number as u64);
+        rest = later;
+    }
+    Ok(cache)
+}
+
+/// The first keys of the rest, `size` where there are so many, and what is left.
+pub fn cut(rest: &[Key], size: usize) -> (&[Key], &[Key])
+    ensures front { result.0.now ≡ take size rest.now }
+    ensures back { result.1.now ≡ drop size rest.now }
+{
+    if rest.len() <= size {
+        (rest, &[])
+    } else {
+        rest.split_at(size)
     }
 }
 

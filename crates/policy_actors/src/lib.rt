@@ -17,7 +17,7 @@ mod single;
 
 pub use fault::ActorFault;
 pub use run::{MAX_ACTORS, run_actors};
-pub use several::{sweep, sweep_each};
+pub use several::{sweep, sweep_batches, sweep_each};
 pub use single::run_one;
 
 #[cfg(test)]

@@ -5,6 +5,7 @@ ghost use Rattle.crossbeam_channel.specs.Ends.{sends_on, receives_on};
 ghost use Rattle.step_record.specs.declared.limits.TheConstants.{MAX_ACCESSES};
 ghost use Rattle.policy_actors.specs.Rule.{log, IsBatch};
 
+use crate::accesses::cut;
 use crate::rule::{Batch, BatchesInOrder, Gave, Log, Receiver, Roles, Sender, Source, Token, Took};
 use crossbeam_channel::bounded_with;
 use std::alloc::{AllocError, Global};
@@ -43,18 +44,6 @@ impl<'a, S: Source> Copy for Feed<'a, S> {}
 impl<'a, S: Source> Clone for Feed<'a, S> {
     fn clone(&self) -> Result<Self, AllocError> {
         Ok(*self)
-    }
-}
-
-// The first keys of the rest, `size` where there are so many, and what is left.
-fn cut(rest: &[Key], size: usize) -> (&[Key], &[Key])
-    ensures front { result.0.now ≡ take size rest.now }
-    ensures back { result.1.now ≡ drop size rest.now }
-{
-    if rest.len() <= size {
-        (rest, &[])
-    } else {
-        rest.split_at(size)
     }
 }
 

@@ -6,14 +6,14 @@ ghost use Rattle.policy_actors.specs.Faults.{faulty_in, ReturnsFault};
 ghost use Rattle.policy_actors.specs.Reports.{report_on};
 ghost use Rattle.stack_distances.specs.Curve.{curve_of};
 
-use crate::accesses::{access_all, report_by};
+use crate::accesses::{access_in_batches, report_by};
 use crate::fault::ActorFault;
 use clairvoyant::NextUse;
 use policies::AnyPolicy;
 use report::Report;
 use stack_distances::Curve;
 use std::alloc::{AllocError, Global};
-use step_record::{Job, Policy, Trace};
+use step_record::{Gate, Job, OpenGate, Policy, Trace};
 
 /// The report of a job over the trace, made on this thread.
 ///
@@ -23,7 +23,7 @@ pub fn run_one(alloc: Global, trace: &Trace, job: &Job) -> Result<Report, ActorF
     ensures fault { ReturnsFault (faulty_in (job.now ∷ [])) result }
 {
     let input = Input::new(trace, None, None);
-    run_over(alloc, &input, job)
+    run_over(alloc, &input, job, &OpenGate)
 }
 
 /// A trace, with what was found of it beforehand: the next uses of its keys, and the curve of Lru.
@@ -46,20 +46,31 @@ impl<'a> Input<'a> {
     }
 }
 
-/// The report of a job over the input. Errors: those of `run_one`.
-pub fn run_over(alloc: Global, input: &Input<'_>, job: &Job) -> Result<Report, ActorFault>
+/// The report of a job over the input. The gate is called before and after each batch of `MAX_BATCH` accesses, unless
+/// the report is read off the curve. Errors: those of `run_one`.
+pub fn run_over<G: Gate>(
+    alloc: Global,
+    input: &Input<'_>,
+    job: &Job,
+    gate: &G,
+) -> Result<Report, ActorFault>
     ensures report { IfOk result (λ r. r ≡ report_on job.now input.now.trace.now) }
     ensures fault { ReturnsFault (faulty_in (job.now ∷ [])) result }
 {
     if job.config.check().is_err() {
         return Err(ActorFault::Config { index: 0 });
     }
-    let report = run_checked(alloc, input, job)?;
+    let report = run_checked(alloc, input, job, gate)?;
     Ok(report)
 }
 
 // The report of a job whose configuration `Config::check` accepts. The one error is out of memory.
-fn run_checked(alloc: Global, input: &Input<'_>, job: &Job) -> Result<Report, AllocError>
+fn run_checked<G: Gate>(
+    alloc: Global,
+    input: &Input<'_>,
+    job: &Job,
+    gate: &G,
+) -> Result<Report, AllocError>
     requires { config_fault job.now.config ≡ Ok tt }
     ensures { IfOk result (λ r. r ≡ report_on job.now input.now.trace.now) }
 {
@@ -70,7 +81,7 @@ fn run_checked(alloc: Global, input: &Input<'_>, job: &Job) -> Result<Report, Al
     }
     let trace = input.trace;
     let cache = AnyPolicy::open_with(alloc, job, trace, input.uses)?;
-    let cache = access_all(cache, trace.keys())?;
+    let cache = access_in_batches(cache, trace.keys(), gate)?;
     Ok(report_by(&cache, job))
 }
 

@@ -343,9 +343,27 @@ fn sweeps_of_several_policies(rt: HostRuntime) -> Result<(), Fail> {
         counted(Policy::Lru, 3, [5, 2, 3, 0, 0]),
         counted(Policy::Lru, 1, [5, 0, 5, 4, 0]),
     ];
-    match sweep_each(&rt, alloc, &some, &jobs, &[3, 1]) {
+    match sweep_each(&rt, alloc, &some, &jobs, &[3, 1], &OpenGate) {
         Ok(reports) => assert_eq!(rt; reports.as_slice(), want.as_slice()),
         Err(fault) => return Err(failed(fault)),
+    }
+    Ok(())
+}
+
+// The gate is called for as many batches as are foretold: for none of Lru where its reports are read off the curve.
+#[test]
+fn a_sweep_shows_its_batches(rt: HostRuntime) -> Result<(), Fail> {
+    let alloc = rt.alloc();
+    let some = Trace::new(vec![in alloc; 1; 65_537]?);
+    let jobs = [job(Policy::Lru, 7), job(Policy::SegmentedLru, 7)];
+    let many = [2u32; 16];
+    for (capacities, wanted) in [(&many[..2], 8), (&many[..], 32)] {
+        let gate = gate_for(0);
+        assert_eq!(rt; sweep_batches(&some, &jobs, capacities), wanted);
+        if let Err(fault) = sweep_each(&rt, alloc, &some, &jobs, capacities, &gate) {
+            return Err(failed(fault));
+        }
+        assert_eq!(rt; gate.over.load(SeqCst), wanted);
     }
     Ok(())
 }
@@ -357,13 +375,13 @@ fn faults_of_a_sweep_come_in_their_order(rt: HostRuntime) -> Result<(), Fail> {
     let good = job(Policy::Lru, 2);
     assert!(rt;
         matches!(
-            sweep_each(&rt, alloc, &some, &[good; 65], &[0]),
+            sweep_each(&rt, alloc, &some, &[good; 65], &[0], &OpenGate),
             Err(ActorFault::Actors)
         )
     );
     assert!(rt;
         matches!(
-            sweep_each(&rt, alloc, &some, &[good, good], &[1, 2, 0, 0]),
+            sweep_each(&rt, alloc, &some, &[good, good], &[1, 2, 0, 0], &OpenGate),
             Err(ActorFault::Config { index: 2 })
         )
     );

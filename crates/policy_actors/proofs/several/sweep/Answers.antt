@@ -1,4 +1,4 @@
-use Rattle.std.proofs.Common.{◌≡◌, ◌∙◌, subst, Option}
+use Rattle.std.proofs.Common.{◌∙◌, subst, Option}
 use Rattle.std.proofs.lemmas.Result.{IfOk-weaker}
 use Rattle.policy_actors.specs.declared.fault.ActorFault.{ActorFault}
 use Rattle.policy_actors.specs.Faults.{ReturnsFault}

@@ -4,23 +4,26 @@ use Rattle.stack_distances.specs.Curve.{curve_of}
 use Rattle.policy_actors.proofs.single.run_checked.Goals as goal
 
 pub returns : goal.returns
-returns c =
+returns g c =
     let input = c.args.input.now in
     c.read_report.ensures input.trace.now (subst (λ o. IfSome o (λ curve. curve.now ≡ curve_of input.trace.now)) c.in-Some.is input.found)
 
-pub access_all-requires : goal.access_all-requires
-access_all-requires c = record {
-  job = c.args.job.now;
-  trace = c.args.input.now.trace.now;
-  before = [];
-  rest = [];
-  stands = c.in_ok-cache.ensures.stands;
-  ahead = sym (append-nil _ ∙ c.keys.ensures.keys);
-  few = c.keys.ensures.few;
-}
+pub access_in_batches-requires : goal.access_in_batches-requires
+access_in_batches-requires g c = (
+  c.type_bounds.sync-G,
+  record {
+    job = c.args.job.now;
+    trace = c.args.input.now.trace.now;
+    before = [];
+    rest = [];
+    stands = c.in_ok-cache.ensures.stands;
+    ahead = sym (append-nil _ ∙ c.keys.ensures.keys);
+    few = c.keys.ensures.few;
+  },
+)
 
 pub returns-2 : goal.returns-2
-returns-2 c =
+returns-2 g c =
     let trace = c.args.input.now.trace.now in
     let e = c.in_ok-cache-2.ensures c.args.job.now trace [] c.in_ok-cache.ensures.stands in
     c.report_by.ensures trace (subst (λ l. Stands c.args.job.now trace l c.in_ok-cache-2.cache) c.keys.ensures.keys e)
