@@ -8,6 +8,7 @@ use crate::driving::drive;
 use crate::fault::Fault;
 use crate::files::Files;
 use crate::part::part;
+use crate::progress::Watch;
 use crate::run::run;
 use crate::sweep::sweep;
 use clap::Error;
@@ -78,8 +79,8 @@ fn answer<W: Write, X: Write>(alloc: Global, error: &Error, out: &mut W, fault_o
 
 /// The program, of the words after its name, over an input and two outputs: it returns the
 /// status. 0 is done, 1 a fault with one line on the fault output, 2 a usage error. `debug` and
-/// `replay` read a file too.
-pub fn command<T: Threads + Wait + Sync, R: Read, W: Write, X: Write, F: Files>(
+/// `replay` read a file too; `run` and `sweep` are watched.
+pub fn command<T: Threads + Wait + Sync, R: Read, W: Write, X: Write, F: Files, P: Watch>(
     rt: &T,
     alloc: Global,
     words: &[&str],
@@ -87,6 +88,7 @@ pub fn command<T: Threads + Wait + Sync, R: Read, W: Write, X: Write, F: Files>(
     out: &mut W,
     fault_out: &mut X,
     files: &F,
+    watch: &P,
 ) -> u8
     ensures status { result ≤ 2 }
     // With status 0 the words are taken as `run`, `sweep`, `part` or `drive`, the bytes read have no
@@ -117,8 +119,8 @@ pub fn command<T: Threads + Wait + Sync, R: Read, W: Write, X: Write, F: Files>(
         }
     };
     let done = match arguments {
-        Arguments::Run(arguments) => run(rt, alloc, &arguments, input, out),
-        Arguments::Sweep(arguments) => sweep(rt, alloc, &arguments, input, out),
+        Arguments::Run(arguments) => run(rt, alloc, &arguments, input, out, watch),
+        Arguments::Sweep(arguments) => sweep(rt, alloc, &arguments, input, out, watch),
         Arguments::Part(arguments) => part(alloc, &arguments, input, out),
         Arguments::Drive(arguments) => drive(rt, alloc, &arguments, input, out),
         Arguments::Debug(arguments) => debug(alloc, &arguments, input, out, files),

@@ -11,14 +11,16 @@ mod driving;
 mod fault;
 mod files;
 mod part;
+mod progress;
 mod run;
 mod sweep;
 
 use command::{REFUSED, command, report_fault};
 use fault::Fault;
 use files::{FileFault, Files, MAX_FILE_BYTES};
+use progress::ProgressLine;
 use std::alloc::{AllocError, Global};
-use std::io::{ErrorKind, Write};
+use std::io::{ErrorKind, IsTerminal, Write};
 use std::process::ExitCode;
 use std::{env, fs, io};
 use streams::ReadAllFault;
@@ -81,6 +83,7 @@ fn main(rt: HostRuntime) -> ExitCode {
     let Ok(texts) = texts(alloc, words.as_slice()) else {
         return ExitCode::from(refused(alloc, ErrorKind::OutOfMemory, &mut fault_out));
     };
+    let line = ProgressLine::new(&rt, fault_out.is_terminal());
     let status = command(
         &rt,
         alloc,
@@ -89,6 +92,7 @@ fn main(rt: HostRuntime) -> ExitCode {
         &mut rt.stdout(),
         &mut fault_out,
         &HostFiles { rt: &rt },
+        &line,
     );
     ExitCode::from(status)
 }

@@ -4,6 +4,7 @@ ghost use Rattle.cachesim.specs.Jobs.{jobs_by_policy, reports_on};
 ghost use Rattle.cachesim.specs.Run.{Reports};
 
 use crate::fault::Fault;
+use crate::progress::{Watch, Work};
 use command_line::RunArguments;
 use policy_actors::{ActorFault, run_actors};
 use report::{Report, write_reports};
@@ -11,7 +12,7 @@ use std::alloc::{AllocError, Global};
 use std::io::{Read, Write};
 use std::sync::Wait;
 use std::thread::Threads;
-use step_record::{Config, Job, OpenGate, Policy, Trace};
+use step_record::{Config, Job, Policy, Trace};
 use trace_read::read_trace;
 
 /// A job for each policy, in order, all on one configuration. The one error is out of memory.
@@ -29,29 +30,34 @@ pub fn jobs(alloc: Global, config: Config, policies: &[Policy]) -> Result<Vec<Jo
 }
 
 // The reports of the policies that the arguments name, each run on a thread of its own.
-fn reports<T: Threads + Wait + Sync>(
+fn reports<T: Threads + Wait + Sync, P: Watch>(
     rt: &T,
     alloc: Global,
     trace: &Trace,
     arguments: &RunArguments,
+    watch: &P,
 ) -> Result<Vec<Report>, ActorFault>
     ensures { IfOk result (λ reports. reports.items
         ≡ reports_on (jobs_by_policy arguments.now.config arguments.now.policies.items) trace.now) }
 {
     let jobs = jobs(alloc, arguments.config, arguments.policies.as_slice())?;
     let batch = arguments.batch;
-    run_actors(rt, alloc, trace, jobs.as_slice(), batch, &OpenGate)
+    watch.begin(Work::in_batches("run", jobs.len(), trace.len(), batch));
+    let reports = run_actors(rt, alloc, trace, jobs.as_slice(), batch, watch);
+    watch.end();
+    reports
 }
 
 /// Reads the trace and writes the report of each policy that the arguments name; each policy runs
 /// on a thread of its own. A fault has written nothing, but for `Write`, after which the output may
 /// be partial.
-pub fn run<T: Threads + Wait + Sync, R: Read, W: Write>(
+pub fn run<T: Threads + Wait + Sync, R: Read, W: Write, P: Watch>(
     rt: &T,
     alloc: Global,
     arguments: &RunArguments,
     input: &mut R,
     out: &mut W,
+    watch: &P,
 ) -> Result<(), Fault>
     ensures ok { OnOk result (Reports arguments.now.format
         (jobs_by_policy arguments.now.config arguments.now.policies.items) (R.remaining input.old)
@@ -59,7 +65,7 @@ pub fn run<T: Threads + Wait + Sync, R: Read, W: Write>(
     ensures kept { IfErr result (λ fault. fault ≢ Fault.Write → out.new ≡ out.old) }
 {
     let trace = read_trace(alloc, input, arguments.format)?;
-    let reports = reports(rt, alloc, &trace, arguments)?;
+    let reports = reports(rt, alloc, &trace, arguments, watch)?;
     write_reports(alloc, reports.as_slice(), out)?;
     Ok(())
 }

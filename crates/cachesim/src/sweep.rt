@@ -5,9 +5,10 @@ ghost use Rattle.cachesim.specs.Jobs.{jobs_by_policy, reports_on};
 ghost use Rattle.cachesim.specs.Run.{Reports};
 
 use crate::fault::Fault;
+use crate::progress::{Watch, Work};
 use crate::run::jobs;
 use command_line::SweepArguments;
-use policy_actors::{ActorFault, sweep_each};
+use policy_actors::{ActorFault, sweep_batches, sweep_each};
 use report::{Report, write_reports};
 use std::alloc::Global;
 use std::io::{Read, Write};
@@ -16,11 +17,12 @@ use step_record::Trace;
 use trace_read::read_trace;
 
 // The reports of the policies that the arguments name at each of the capacities.
-fn reports<T: Threads + Sync>(
+fn reports<T: Threads + Sync, P: Watch>(
     rt: &T,
     alloc: Global,
     trace: &Trace,
     arguments: &SweepArguments,
+    watch: &P,
 ) -> Result<Vec<Report>, ActorFault>
     ensures { IfOk result (λ reports. reports.items ≡ reports_on
         (jobs_over (jobs_by_policy arguments.now.config arguments.now.policies.items) arguments.now.capacities.items)
@@ -28,18 +30,25 @@ fn reports<T: Threads + Sync>(
 {
     let jobs = jobs(alloc, arguments.config, arguments.policies.as_slice())?;
     let capacities = arguments.capacities.as_slice();
-    sweep_each(rt, alloc, trace, jobs.as_slice(), capacities)
+    watch.begin(Work {
+        name: "sweep",
+        batches: sweep_batches(trace, jobs.as_slice(), capacities),
+    });
+    let reports = sweep_each(rt, alloc, trace, jobs.as_slice(), capacities, watch);
+    watch.end();
+    reports
 }
 
 /// Reads the trace and writes the reports of the policies that the arguments name at each of the capacities: those of
 /// the first policy in the order of the capacities, then those of the second, and so on. A fault has written nothing, but
 /// for `Write`, after which the output may be partial.
-pub fn sweep<T: Threads + Sync, R: Read, W: Write>(
+pub fn sweep<T: Threads + Sync, R: Read, W: Write, P: Watch>(
     rt: &T,
     alloc: Global,
     arguments: &SweepArguments,
     input: &mut R,
     out: &mut W,
+    watch: &P,
 ) -> Result<(), Fault>
     ensures ok { OnOk result (Reports arguments.now.format
         (jobs_over (jobs_by_policy arguments.now.config arguments.now.policies.items) arguments.now.capacities.items)
@@ -47,7 +56,7 @@ pub fn sweep<T: Threads + Sync, R: Read, W: Write>(
     ensures kept { IfErr result (λ fault. fault ≢ Fault.Write → out.new ≡ out.old) }
 {
     let trace = read_trace(alloc, input, arguments.format)?;
-    let reports = reports(rt, alloc, &trace, arguments)?;
+    let reports = reports(rt, alloc, &trace, arguments, watch)?;
     write_reports(alloc, reports.as_slice(), out)?;
     Ok(())
 }

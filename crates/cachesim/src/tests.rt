@@ -1,13 +1,16 @@
 use super::command::command;
 use super::files::{FileFault, Files};
+use super::progress::{Watch, Work};
 use std::alloc::{AllocError, Global};
 use std::io::{Error, ErrorKind, Read, Write};
 use std::process::Abort;
 use std::sync::Wait;
 use std::test::Fail;
 use std::thread::Threads;
+use step_record::{Gate, OpenGate};
 
 mod debugging;
+mod progress;
 
 const HEADER: &str = "policy,capacity,accesses,hits,misses,evictions,rejections,rate\n";
 
@@ -21,6 +24,12 @@ impl Files for Nowhere {
     fn bytes(&self, _alloc: Global, _path: &str) -> Result<Vec<u8>, FileFault> {
         Err(FileFault::NoFile)
     }
+}
+
+impl Watch for OpenGate {
+    fn begin(&self, _work: Work) {}
+
+    fn end(&self) {}
 }
 
 /// An end that fails at each call.
@@ -106,7 +115,9 @@ fn call<T: Threads + Wait + Sync, R: Read, F: Files>(
 ) -> Result<Run, AllocError> {
     let mut out = Vec::with_capacity(alloc, ROOM)?;
     let mut fault = Vec::with_capacity(alloc, ROOM)?;
-    let status = command(rt, alloc, words, input, &mut out, &mut fault, files);
+    let status = command(
+        rt, alloc, words, input, &mut out, &mut fault, files, &OpenGate,
+    );
     Ok(Run { status, out, fault })
 }
 
@@ -509,6 +520,7 @@ fn assert_unwritten<T: Threads + Wait + Sync + Abort>(
         &mut Broken,
         &mut told,
         &Nowhere,
+        &OpenGate,
     );
     let run = Run {
         status,
@@ -624,6 +636,7 @@ fn a_broken_fault_output_leaves_the_status(rt: HostRuntime) -> Result<(), Fail> 
         &mut out,
         &mut Broken,
         &Nowhere,
+        &OpenGate,
     );
     assert_eq!(rt; status, 1);
     assert!(rt; out.is_empty());

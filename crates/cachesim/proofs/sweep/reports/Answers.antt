@@ -8,6 +8,6 @@ use Rattle.cachesim.proofs.sweep.reports.Goals as goal
 
 pub returns : goal.returns
 returns g c =
-    let jobs = c.as_slice-2.ensures.value ∙ c.in_ok-jobs.ensures ∙ ap (jobs_by_policy c.args.arguments.now.config) c.as_slice.ensures.value in
+    let jobs = c.as_slice-3.ensures.value ∙ c.in_ok-jobs.ensures ∙ ap (jobs_by_policy c.args.arguments.now.config) c.as_slice.ensures.value in
     let rows = ap₂ jobs_over jobs c.as_slice-capacities.ensures.value in
-    IfOk-weaker c.sweep_each.result _ _ (λ v h. h ∙ ap (λ (l : List Job). map (λ job. report_on job c.args.trace.now) l) rows) c.sweep_each.ensures.reports
+    IfOk-weaker c.sweep_each-reports.result _ _ (λ v h. h ∙ ap (λ (l : List Job). map (λ job. report_on job c.args.trace.now) l) rows) c.sweep_each-reports.ensures.reports

@@ -1,0 +1,160 @@
+//! The line on a terminal that shows how far a subcommand is.
+use std::fmt::{Display, Formatter, Result, Write};
+use std::rt::Clock;
+use std::sync::OnceLock;
+use std::sync::atomic::AtomicU64;
+use std::sync::atomic::Ordering::SeqCst;
+use std::time::{Duration, Instant};
+use step_record::Gate;
+
+/// What watches a subcommand at work: the gate is called around each batch.
+pub trait Watch: Gate {
+    /// So many batches begin. It is called once at most.
+    fn begin(&self, work: Work);
+
+    /// They are over, or were given up. Nothing of what was shown is left.
+    fn end(&self);
+}
+
+/// What is under way.
+#[derive(Clone, Copy, Debug, PartialEq, Eq)]
+pub struct Work {
+    /// The name of the subcommand.
+    pub name: &'static str,
+    /// Its batches in all.
+    pub batches: u64,
+}
+
+impl Work {
+    /// The work of so many policies, each of which is given so many accesses in batches of this size.
+    pub fn in_batches(name: &'static str, policies: usize, accesses: usize, size: u32) -> Work {
+        let each = accesses.div_ceil((size as usize).max(1)).max(1);
+        Work {
+            name,
+            batches: policies.saturating_mul(each) as u64,
+        }
+    }
+}
+
+// What erases the line from the cursor on.
+const ERASED: &str = "\x1b[K";
+
+// How long nothing is shown, in milliseconds.
+const FIRST: u64 = 500;
+
+// How long a line stands before it is drawn anew, in milliseconds.
+const PAUSE: u64 = 200;
+
+// The value of `due` while a thread draws.
+const BUSY: u64 = u64::MAX;
+
+// About how often the clock is read in all, whatever the batches are.
+const LOOKS: u64 = 4096;
+
+/// The line, on the standard error of a runtime.
+#[derive(Drop)]
+pub struct ProgressLine<'a, R> {
+    rt: &'a R,
+    // Where it is none, nothing is ever shown.
+    start: Option<Instant>,
+    work: OnceLock<Work>,
+    done: AtomicU64,
+    // When the line is drawn next, in milliseconds after the start.
+    due: AtomicU64,
+}
+
+impl<'a, R: Clock + Eprint> ProgressLine<'a, R> {
+    /// A line that is drawn on standard error from half a second after the start on, or never.
+    pub fn new(rt: &'a R, is_shown: bool) -> ProgressLine<'a, R> {
+        let start = if is_shown {
+            Instant::now(rt).ok()
+        } else {
+            None
+        };
+        ProgressLine {
+            rt,
+            start,
+            work: OnceLock::new(),
+            done: AtomicU64::new(0),
+            due: AtomicU64::new(FIRST),
+        }
+    }
+
+    // Draws the line where it is due and no other thread draws it.
+    fn draw(&self, work: Work, done: u64, gone: Duration) {
+        let seconds = gone.as_secs();
+        let now = seconds
+            .saturating_mul(1000)
+            .saturating_add(u64::from(gone.subsec_millis()));
+        let due = self.due.load(SeqCst);
+        if now < due
+            || self
+                .due
+                .compare_exchange(due, BUSY, SeqCst, SeqCst)
+                .is_err()
+        {
+            return;
+        }
+        let _ = self.rt.eprint(Line {
+            work,
+            done,
+            seconds,
+        });
+        self.due.store(now.saturating_add(PAUSE), SeqCst);
+    }
+}
+
+impl<'a, R: Clock + Eprint + Sync> Gate for ProgressLine<'a, R> {
+    fn before(&self, _who: u8, _n: u64) {}
+
+    fn after(&self, _who: u8, _n: u64) {
+        let Some(start) = self.start else {
+            return;
+        };
+        let Some(work) = self.work.get() else {
+            return;
+        };
+        let done = self.done.fetch_add(1, SeqCst).wrapping_add(1);
+        if done % (work.batches / LOOKS).max(1) == 0
+            && let Ok(gone) = start.elapsed(self.rt)
+        {
+            self.draw(*work, done, gone);
+        }
+    }
+}
+
+impl<'a, R: Clock + Eprint + Sync> Watch for ProgressLine<'a, R> {
+    fn begin(&self, work: Work) {
+        let _ = self.work.try_set(work);
+    }
+
+    fn end(&self) {
+        if self.due.load(SeqCst) != FIRST {
+            let _ = eprint!(self.rt; "\r{ERASED}");
+        }
+    }
+}
+
+/// The text of the line. It is written over the line that stands there, and the rest of that is erased.
+#[derive(Clone, Copy)]
+pub struct Line {
+    pub work: Work,
+    /// How many of its batches are over.
+    pub done: u64,
+    /// The time since the start of the program.
+    pub seconds: u64,
+}
+
+impl Display for Line {
+    fn fmt<W: Write>(&self, f: &mut Formatter<W>) -> Result {
+        let name = self.work.name;
+        let percent = self.done.min(self.work.batches).saturating_mul(100)
+            / self.work.batches.max(1);
+        let minutes = self.seconds / 60;
+        let seconds = self.seconds % 60;
+        write!(
+            f,
+            "\r{name}: {percent} % of accesses, {minutes}:{seconds:02}{ERASED}"
+        )
+    }
+}
