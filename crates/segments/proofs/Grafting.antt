@@ -5,7 +5,8 @@ use Rattle.step_record.specs.declared.item.Item.{Item}
 use Rattle.segments.specs.declared.index.Index.{Index}
 use Rattle.segments.specs.declared.slot.Slot.{Slot}
 use Rattle.segments.specs.Ring.{items, chains, slot_item}
-use Rattle.segments.specs.Index.{Tree, leaf, fork, tally, IsTree, tree_below, turn, IsSorted, HasTree, LeavesTree, ChangesWithin, grafted, lifted, detached}
+use Rattle.std.proofs.lemmas.List.{length-map, set-get_or}
+use Rattle.segments.specs.Index.{Tree, leaf, fork, tally, IsTree, tree_below, turn, IsSorted, HasTree, LeavesTree, ChangesWithin, IsBare, grafted, lifted, detached}
 use Rattle.segments.proofs.Trees.{tally-here, IsOpen, opened, ended, deeper, right-put, left-put}
 use Rattle.segments.proofs.Finding.{any_default}
 use Rattle.segments.proofs.Sorting.{grafted-tally, detached-tally, left-side, right-side}
@@ -75,6 +76,21 @@ module _ (index : Index) (slots : List Slot) (root d : ℕ) (h : HasTree index s
   alone : tally root (tree_below (get_or (chains slots) root 0) (d + 1) index slots) + tally root (tree_below (get_or index.heads.items (2 ^ index.bits + root) 0) (d + 1) index slots) ≡ 0
   alone = let o = once-open root in let c = tally-here root (tree_below (get_or (chains slots) root 0) (d + 1) index slots) (tree_below (get_or index.heads.items (2 ^ index.bits + root) 0) (d + 1) index slots) in omega (arith, o, c)
 
+  -- a branch that begins where it did has its link already
+  right-stays : (heads1 next1 : List ℕ) (g : ℕ) → g ≡ get_or index.heads.items (2 ^ index.bits + root) 0 →
+      ChangesWithin (2 ^ index.bits) index.heads.items heads1 (chains slots) next1 (tree_below g (d + 1) index slots) → set heads1 (2 ^ index.bits + root) g ≡ heads1
+  right-stays heads1 next1 g e w =
+      let n : tally root (tree_below g (d + 1) index slots) ≡ 0 = rw e (let a = alone in omega (arith, a)) in
+      let v : get_or heads1 (2 ^ index.bits + root) 0 ≡ g = w.rights root n ∙ sym e in
+      ap (λ q. set heads1 (2 ^ index.bits + root) q) (sym v) ∙ set-get_or heads1 (2 ^ index.bits + root) 0
+
+  left-stays : (heads1 next1 : List ℕ) (g : ℕ) → g ≡ get_or (chains slots) root 0 →
+      ChangesWithin (2 ^ index.bits) index.heads.items heads1 (chains slots) next1 (tree_below g (d + 1) index slots) → set next1 root g ≡ next1
+  left-stays heads1 next1 g e w =
+      let n : tally root (tree_below g (d + 1) index slots) ≡ 0 = rw e (let a = alone in omega (arith, a)) in
+      let v : get_or next1 root 0 ≡ g = w.lefts root n ∙ sym e in
+      ap (λ q. set next1 root q) (sym v) ∙ set-get_or next1 root 0
+
   module _ (heads1 next1 : List ℕ) (g res : ℕ) (sub2 : Tree) where
     -- another right branch
     right-back : g ≡ get_or index.heads.items (2 ^ index.bits + root) 0 → IsTree heads1 next1 (2 ^ index.bits) res sub2 →
@@ -134,6 +150,23 @@ module _ (index : Index) (slots : List Slot) (root d : ℕ) (h : HasTree index s
         let r = subst (λ (q : ℕ). IsTree heads1 (set next1 root res) (2 ^ index.bits) root (fork root (grafted (d + 1) item at (tree_below q (d + 1) index slots)) (tree_below (get_or index.heads.items (2 ^ index.bits + root) 0) (d + 1) index slots))) e p.0 in
         (rw open-below.is (rw b r), p.1)
 
+    -- the branch begins where it did
+    pub graft-right-below : (heads1 next1 : List ℕ) (g : ℕ) → turn d item ≡ true → g ≡ get_or index.heads.items (2 ^ index.bits + root) 0 → IsTree heads1 next1 (2 ^ index.bits) g (grafted (d + 1) item at (tree_below g (d + 1) index slots)) →
+        ChangesWithin (2 ^ index.bits) index.heads.items heads1 (chains slots) next1 (tree_below g (d + 1) index slots) →
+        IsTree heads1 next1 (2 ^ index.bits) root (grafted d item at (tree_below root d index slots)) ×
+        ChangesWithin (2 ^ index.bits) index.heads.items heads1 (chains slots) next1 (tree_below root d index slots)
+    graft-right-below heads1 next1 g b e y w =
+        subst (λ (h : List ℕ). IsTree h next1 (2 ^ index.bits) root (grafted d item at (tree_below root d index slots)) × ChangesWithin (2 ^ index.bits) index.heads.items h (chains slots) next1 (tree_below root d index slots))
+        (right-stays heads1 next1 g e w) (graft-right heads1 next1 g g b e y w)
+
+    pub graft-left-below : (heads1 next1 : List ℕ) (g : ℕ) → turn d item ≡ false → g ≡ get_or (chains slots) root 0 → IsTree heads1 next1 (2 ^ index.bits) g (grafted (d + 1) item at (tree_below g (d + 1) index slots)) →
+        ChangesWithin (2 ^ index.bits) index.heads.items heads1 (chains slots) next1 (tree_below g (d + 1) index slots) →
+        IsTree heads1 next1 (2 ^ index.bits) root (grafted d item at (tree_below root d index slots)) ×
+        ChangesWithin (2 ^ index.bits) index.heads.items heads1 (chains slots) next1 (tree_below root d index slots)
+    graft-left-below heads1 next1 g b e y w =
+        subst (λ (n : List ℕ). IsTree heads1 n (2 ^ index.bits) root (grafted d item at (tree_below root d index slots)) × ChangesWithin (2 ^ index.bits) index.heads.items heads1 (chains slots) n (tree_below root d index slots))
+        (left-stays heads1 next1 g e w) (graft-left heads1 next1 g g b e y w)
+
   -- a slot below that is taken out
   module _ (item : Item) (at : ℕ) (it : slot_item (items slots) at ≡ item) (sorted : IsSorted (items slots) d (tree_below root d index slots)) (stands : 1 ≤ tally at (tree_below root d index slots)) (other : root ≡ at → ⊥) where
     sorted-open : IsSorted (items slots) d (fork root (tree_below (get_or (chains slots) root 0) (d + 1) index slots) (tree_below (get_or index.heads.items (2 ^ index.bits + root) 0) (d + 1) index slots))
@@ -179,3 +212,29 @@ module _ (index : Index) (slots : List Slot) (root d : ℕ) (h : HasTree index s
         let p = left-back heads1 next1 g res (detached (d + 1) item at (tree_below g (d + 1) index slots)) e y w n in
         let r = subst (λ (q : ℕ). IsTree heads1 (set next1 root res) (2 ^ index.bits) root (fork root (detached (d + 1) item at (tree_below q (d + 1) index slots)) (tree_below (get_or index.heads.items (2 ^ index.bits + root) 0) (d + 1) index slots))) e p.0 in
         (rw open-below.is (rw (past, b) r), p.1)
+
+    -- the branch begins where it did
+    pub detach-right-below : (heads1 next1 : List ℕ) (g : ℕ) → turn d item ≡ true → g ≡ get_or index.heads.items (2 ^ index.bits + root) 0 → IsTree heads1 next1 (2 ^ index.bits) g (detached (d + 1) item at (tree_below g (d + 1) index slots)) →
+        ChangesWithin (2 ^ index.bits) index.heads.items heads1 (chains slots) next1 (tree_below g (d + 1) index slots) →
+        IsTree heads1 next1 (2 ^ index.bits) root (detached d item at (tree_below root d index slots)) ×
+        ChangesWithin (2 ^ index.bits) index.heads.items heads1 (chains slots) next1 (tree_below root d index slots)
+    detach-right-below heads1 next1 g b e y w =
+        subst (λ (h : List ℕ). IsTree h next1 (2 ^ index.bits) root (detached d item at (tree_below root d index slots)) × ChangesWithin (2 ^ index.bits) index.heads.items h (chains slots) next1 (tree_below root d index slots))
+        (right-stays heads1 next1 g e w) (detach-right heads1 next1 g g b e y w)
+
+    pub detach-left-below : (heads1 next1 : List ℕ) (g : ℕ) → turn d item ≡ false → g ≡ get_or (chains slots) root 0 → IsTree heads1 next1 (2 ^ index.bits) g (detached (d + 1) item at (tree_below g (d + 1) index slots)) →
+        ChangesWithin (2 ^ index.bits) index.heads.items heads1 (chains slots) next1 (tree_below g (d + 1) index slots) →
+        IsTree heads1 next1 (2 ^ index.bits) root (detached d item at (tree_below root d index slots)) ×
+        ChangesWithin (2 ^ index.bits) index.heads.items heads1 (chains slots) next1 (tree_below root d index slots)
+    detach-left-below heads1 next1 g b e y w =
+        subst (λ (n : List ℕ). IsTree heads1 n (2 ^ index.bits) root (detached d item at (tree_below root d index slots)) × ChangesWithin (2 ^ index.bits) index.heads.items heads1 (chains slots) n (tree_below root d index slots))
+        (left-stays heads1 next1 g e w) (detach-left heads1 next1 g g b e y w)
+
+-- a slot without branches in the place of an empty tree
+pub one-slot : (index : Index) (slots : List Slot) (at g d : ℕ) (item : Item) → (1 ≤ at) × (at < length slots) → 2 ^ index.bits + length slots ≤ length index.heads.items → IsBare index slots at → g ≡ 0 →
+    IsTree index.heads.items (chains slots) (2 ^ index.bits) at (grafted d item at (tree_below g d index slots))
+one-slot index slots at g d item r room b e =
+    let none : tree_below g d index slots ≡ leaf = rw e (ended index.heads.items (chains slots) (2 ^ index.bits) (length slots - d)) in
+    let n = length-map slots (λ (s : Slot). s.chain) in
+    let w = r.1 in
+    rw none (refl, r.0, omega (arith, n, w), omega (arith, room, w), b.left, b.right)

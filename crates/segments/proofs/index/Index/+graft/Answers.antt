@@ -1,64 +1,74 @@
-use Rattle.std.proofs.Common.{◌≡◌, arith, sym, ◌∙◌}
+use Rattle.std.proofs.Common.{◌≡◌, ◌+◌, ◌^◌, arith, sym, refl, ◌∙◌}
 use Rattle.std.proofs.lemmas.List.{length-map}
 use Rattle.segments.specs.declared.records.Queue.TheVariants.{Window}
 use Rattle.segments.specs.Ring.{chains}
+use Rattle.segments.specs.Index.{tree_below}
 use Rattle.segments.specs.declared.slot.Slot.{Slot}
-use Rattle.segments.proofs.Trees.{field_at}
-use Rattle.segments.proofs.Grafting.{deep, open-below, right-is, right-below, left-below, fresh-right, fresh-left, graft-right, graft-left}
+use Rattle.segments.proofs.Trees.{field_at, within-none}
+use Rattle.segments.proofs.Grafting.{deep, open-below, right-is, right-below, left-below, fresh-right, fresh-left, graft-right, graft-left, graft-right-below, graft-left-below, one-slot}
 use Rattle.segments.proofs.index.Index.+graft.Goals as goal
 
 abbrev nothing : Slot
 nothing = record { item = record { key = 0; node = 0 }; chain = 0; older = 0; newer = 0; queue = Window }
 
-pub graft-new_right-requires : goal.graft-new_right-requires
-graft-new_right-requires t c =
-    let z : c.args.root ≡ 0 → ⊥ = (λ e. omega (arith, e, c.if-root-eq0.false)) in
-    let m = deep c.args.self.now c.args.slots.now c.args.root c.args.depth c.requires.tree z in
-    let e = right-is c.args.self.now c.args.slots.now c.args.root c.args.depth c.requires.tree z c.fork_of-fork.result c.index-right.result.now c.fork_of-fork.ensures c.index-right.ensures in
-    (omega (arith, m, c.decreases), (c.requires.at, (right-below c.args.self.now c.args.slots.now c.args.root c.args.depth c.requires.tree z c.index-right.result.now e, (fresh-right c.args.self.now c.args.slots.now c.args.root c.args.depth c.requires.tree z c.args.item c.args.at c.requires.fresh c.index-right.result.now e, c.requires.bare))))
-
 pub index_mut-requires : goal.index_mut-requires
 index_mut-requires t c =
-    let z : c.args.root ≡ 0 → ⊥ = (λ e. omega (arith, e, c.if-root-eq0.false)) in
+    let z : c.args.root ≡ 0 → ⊥ = (λ e. let r = c.requires.root in omega (arith, e, r)) in
     let r = (open-below c.args.self.now c.args.slots.now c.args.root c.args.depth c.requires.tree z).room in
-    let s = c.graft-new_right.ensures.left.within.size in
     let f = c.fork_of-fork.ensures in
-    omega (arith, r, s, f)
+    omega (arith, r, f)
 
 pub bounds-slots-root : goal.bounds-slots-root
 bounds-slots-root t c =
-    let z : c.args.root ≡ 0 → ⊥ = (λ e. omega (arith, e, c.if-root-eq0.false)) in
+    let z : c.args.root ≡ 0 → ⊥ = (λ e. let r = c.requires.root in omega (arith, e, r)) in
     let w = (open-below c.args.self.now c.args.slots.now c.args.root c.args.depth c.requires.tree z).within in
     let n = length-map c.args.slots.now (λ (s : Slot). s.chain) in
     omega (arith, w, n)
 
-pub graft-new_left-requires : goal.graft-new_left-requires
-graft-new_left-requires t c =
-    let z : c.args.root ≡ 0 → ⊥ = (λ e. omega (arith, e, c.if-root-eq0.false)) in
-    let m = deep c.args.self.now c.args.slots.now c.args.root c.args.depth c.requires.tree z in
-    let e = sym (field_at (λ (s : Slot). s.chain) c.args.slots.now c.args.root nothing) in
-    (omega (arith, m, c.decreases), (c.requires.at, (left-below c.args.self.now c.args.slots.now c.args.root c.args.depth c.requires.tree z _ e, (fresh-left c.args.self.now c.args.slots.now c.args.root c.args.depth c.requires.tree z c.args.item c.args.at c.requires.fresh _ e, c.requires.bare))))
-
-pub set_chain-requires : goal.set_chain-requires
-set_chain-requires t c =
-    let z : c.args.root ≡ 0 → ⊥ = (λ e. omega (arith, e, c.if-root-eq0.false)) in
-    let w = (open-below c.args.self.now c.args.slots.now c.args.root c.args.depth c.requires.tree z).within in
-    let n = length-map c.graft-new_left.new.slots (λ (s : Slot). s.chain) in
-    let l = c.graft-new_left.ensures.left.within.long in
-    omega (arith, w, n, l)
-
-pub returns-then-turns_right-clause-left : goal.returns-then-turns_right-clause-left
-returns-then-turns_right-clause-left t c =
-    let z : c.args.root ≡ 0 → ⊥ = (λ e. omega (arith, e, c.if-root-eq0.false)) in
+pub graft-requires : goal.graft-requires
+graft-requires t c =
+    let z : c.args.root ≡ 0 → ⊥ = (λ e. let r = c.requires.root in omega (arith, e, r)) in
     let e = right-is c.args.self.now c.args.slots.now c.args.root c.args.depth c.requires.tree z c.fork_of-fork.result c.index-right.result.now c.fork_of-fork.ensures c.index-right.ensures in
-    let l = c.graft-new_right.ensures.left in
-    let p = graft-right c.args.self.now c.args.slots.now c.args.root c.args.depth c.requires.tree z c.args.item c.args.at c.requires.fresh c.graft-new_right.new.self.heads.items (chains c.graft-new_right.new.slots) c.index-right.result.now c.graft-new_right.result (sym c.turns_right.ensures ∙ c.if-turns_right.true) e l.tree l.within in
-    rw c.fork_of-fork.ensures record { tree = p.0; within = p.1; bits = l.bits }
+    let m = deep c.args.self.now c.args.slots.now c.args.root c.args.depth c.requires.tree z in
+    (omega (arith, m, c.decreases), (c.requires.at, (omega (arith, c.if-right-eq0.false), (right-below c.args.self.now c.args.slots.now c.args.root c.args.depth c.requires.tree z c.index-right.result.now e, (fresh-right c.args.self.now c.args.slots.now c.args.root c.args.depth c.requires.tree z c.args.item c.args.at c.requires.fresh c.index-right.result.now e, c.requires.bare)))))
 
-pub returns-else-turns_right-clause-left : goal.returns-else-turns_right-clause-left
-returns-else-turns_right-clause-left t c =
-    let z : c.args.root ≡ 0 → ⊥ = (λ e. omega (arith, e, c.if-root-eq0.false)) in
+pub graft-requires-else-turns_right : goal.graft-requires-else-turns_right
+graft-requires-else-turns_right t c =
+    let z : c.args.root ≡ 0 → ⊥ = (λ e. let r = c.requires.root in omega (arith, e, r)) in
     let e = sym (field_at (λ (s : Slot). s.chain) c.args.slots.now c.args.root nothing) in
-    let l = c.graft-new_left.ensures.left in
-    let p = graft-left c.args.self.now c.args.slots.now c.args.root c.args.depth c.requires.tree z c.args.item c.args.at c.requires.fresh c.graft-new_left.new.self.heads.items (chains c.graft-new_left.new.slots) _ c.graft-new_left.result (sym c.turns_right.ensures ∙ c.if-turns_right.false) e l.tree l.within in
-    record { tree = rw c.set_chain.ensures.chains p.0; within = rw c.set_chain.ensures.chains p.1; bits = l.bits }
+    let m = deep c.args.self.now c.args.slots.now c.args.root c.args.depth c.requires.tree z in
+    (omega (arith, m, c.decreases), (c.requires.at, (omega (arith, c.if-left-eq0.false), (left-below c.args.self.now c.args.slots.now c.args.root c.args.depth c.requires.tree z _ e, (fresh-left c.args.self.now c.args.slots.now c.args.root c.args.depth c.requires.tree z c.args.item c.args.at c.requires.fresh _ e, c.requires.bare)))))
+
+pub returns-then-right-eq0-clause-left : goal.returns-then-right-eq0-clause-left
+returns-then-right-eq0-clause-left t c =
+    let z : c.args.root ≡ 0 → ⊥ = (λ e. let r = c.requires.root in omega (arith, e, r)) in
+    let e = right-is c.args.self.now c.args.slots.now c.args.root c.args.depth c.requires.tree z c.fork_of-fork.result c.index-right.result.now c.fork_of-fork.ensures c.index-right.ensures in
+    let y = one-slot c.args.self.now c.args.slots.now c.args.at c.index-right.result.now (c.args.depth + 1) c.args.item c.requires.at c.requires.tree.room c.requires.bare c.if-right-eq0.true in
+    let none = within-none (2 ^ c.args.self.now.bits) c.args.self.now.heads.items (chains c.args.slots.now) (tree_below c.index-right.result.now (c.args.depth + 1) c.args.self.now c.args.slots.now) in
+    let p = graft-right c.args.self.now c.args.slots.now c.args.root c.args.depth c.requires.tree z c.args.item c.args.at c.requires.fresh c.args.self.now.heads.items (chains c.args.slots.now) c.index-right.result.now c.args.at (sym c.turns_right.ensures ∙ c.if-turns_right.true) e y none in
+    rw c.fork_of-fork.ensures record { tree = p.0; within = p.1; bits = refl }
+
+pub returns-then-left-eq0-clause-left : goal.returns-then-left-eq0-clause-left
+returns-then-left-eq0-clause-left t c =
+    let z : c.args.root ≡ 0 → ⊥ = (λ e. let r = c.requires.root in omega (arith, e, r)) in
+    let e = sym (field_at (λ (s : Slot). s.chain) c.args.slots.now c.args.root nothing) in
+    let y = one-slot c.args.self.now c.args.slots.now c.args.at _ (c.args.depth + 1) c.args.item c.requires.at c.requires.tree.room c.requires.bare c.if-left-eq0.true in
+    let none = within-none (2 ^ c.args.self.now.bits) c.args.self.now.heads.items (chains c.args.slots.now) (tree_below _ (c.args.depth + 1) c.args.self.now c.args.slots.now) in
+    let p = graft-left c.args.self.now c.args.slots.now c.args.root c.args.depth c.requires.tree z c.args.item c.args.at c.requires.fresh c.args.self.now.heads.items (chains c.args.slots.now) _ c.args.at (sym c.turns_right.ensures ∙ c.if-turns_right.false) e y none in
+    record { tree = rw c.set_chain.ensures.chains p.0; within = rw c.set_chain.ensures.chains p.1; bits = refl }
+
+pub returns-else-right-eq0-clause-left : goal.returns-else-right-eq0-clause-left
+returns-else-right-eq0-clause-left t c =
+    let z : c.args.root ≡ 0 → ⊥ = (λ e. let r = c.requires.root in omega (arith, e, r)) in
+    let e = right-is c.args.self.now c.args.slots.now c.args.root c.args.depth c.requires.tree z c.fork_of-fork.result c.index-right.result.now c.fork_of-fork.ensures c.index-right.ensures in
+    let l = c.graft.ensures.left in
+    let p = graft-right-below c.args.self.now c.args.slots.now c.args.root c.args.depth c.requires.tree z c.args.item c.args.at c.requires.fresh c.graft.new.self.heads.items (chains c.graft.new.slots) c.index-right.result.now (sym c.turns_right.ensures ∙ c.if-turns_right.true) e l.tree l.within in
+    record { tree = p.0; within = p.1; bits = l.bits }
+
+pub returns-else-left-eq0-clause-left : goal.returns-else-left-eq0-clause-left
+returns-else-left-eq0-clause-left t c =
+    let z : c.args.root ≡ 0 → ⊥ = (λ e. let r = c.requires.root in omega (arith, e, r)) in
+    let e = sym (field_at (λ (s : Slot). s.chain) c.args.slots.now c.args.root nothing) in
+    let l = c.graft-else-turns_right.ensures.left in
+    let p = graft-left-below c.args.self.now c.args.slots.now c.args.root c.args.depth c.requires.tree z c.args.item c.args.at c.requires.fresh c.graft-else-turns_right.new.self.heads.items (chains c.graft-else-turns_right.new.slots) _ (sym c.turns_right.ensures ∙ c.if-turns_right.false) e l.tree l.within in
+    record { tree = p.0; within = p.1; bits = l.bits }
