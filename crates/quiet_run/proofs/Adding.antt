@@ -3,13 +3,19 @@ use Rattle.std.proofs.Common.{◌≡◌, ℕ, ◌+◌, ◌-◌, Option, Some, No
 use Rattle.std.proofs.lemmas.List.{append_assoc, append-nil}
 use Rattle.step_record.specs.declared.entry.Entry.{Entry}
 use Rattle.step_record.specs.declared.outcome.Outcome.{Outcome}
+use Rattle.step_record.specs.declared.step.Act.{Act}
 use Rattle.step_record.specs.declared.step.Reply.{Reply}
 use Rattle.step_record.specs.declared.step.Step.{Step}
 use Rattle.step_record.specs.declared.drain.Phase.{Phase}
 use Rattle.step_record.specs.declared.drain.Phase.TheVariants.{Reads, Writes, Evictions}
 use Rattle.step_record.specs.History.{Entries}
 use Rattle.shell_model.specs.declared.holder.Holder.{Holder}
+use Rattle.shell_model.specs.Reached.{worker_of}
+use Rattle.shell_model.specs.Shell.{Shell}
 use Rattle.maintenance.specs.Opened.{triple}
+use Rattle.walks.specs.Holders.{IsReady, IsReadyFor}
+use Rattle.walks.specs.declared.next.Next.{Next}
+use Rattle.walks.specs.declared.next.Next.TheVariants as told
 use Rattle.walks.specs.declared.local.Local.{Local}
 use Rattle.walks.specs.declared.place.Place.{Place}
 use Rattle.walks.specs.Places.{Ahead, phase_place}
@@ -46,6 +52,17 @@ pub adds_counted : (P Q : Entries → Type 0) (n : ℕ) (old new : ShellSession)
 adds_counted P Q n old new m c f =
     let many : length new.kept ≡ length old.kept + length m.made = ap length m.entered ∙ length-append old.kept m.made in
     record { made = m.made; entered = m.entered; tail = m.tail; holds = (f m.made m.holds, omega (arith, c, many)) }
+
+-- the holder that is told to make another act holds
+pub still_held : (w : ℕ) (next : Next) (a : Act) (l : Local) (x y : Shell) → next ≡ told.Do a l → IsReadyFor w next x → y ≡ x → worker_of y.holder ≡ Some w
+still_held w next a l x y d h same =
+    let r : IsReady w a x = subst (λ (m : Next). IsReadyFor w m x) d h in
+    ap (λ (z : Shell). worker_of z.holder) same ∙ ap worker_of r.holds ∙ ap (λ (v : ℕ). Some v) r.worker
+
+-- the worker of a holder that is shown as a triple
+pub held_worker : (o : Option Holder) (w : ℕ) (p : Phase) (left : ℕ) → option_map triple o ≡ Some (w, p, left) → worker_of o ≡ Some w
+held_worker None w p left e = absurd (cc (e))
+held_worker (Some g) w p left e = ap (λ (v : ℕ). Some v) (ap (λ (t : ℕ × Phase × ℕ). t.0) (let all : triple g ≡ (w, p, left) = cc (e) in all))
 
 rest-in : (w n : ℕ) (p : Phase) (es : Entries) → Ahead w n (phase_place p) es → IsRestOfRound w n p es
 rest-in w n Reads es h = h

@@ -1,5 +1,5 @@
 -- A caller's own steps.
-use Rattle.std.proofs.Common.{◌≡◌, ℕ, ◌+◌, ◌<◌, ◌≤◌, true, nat_lt, Option, Some, None, IsSome, [], ◌∷◌, ◌++◌, length, Result, Ok, Err, IfOk, OnErr, refl, sym, ap, ◌∙◌, subst, arith}
+use Rattle.std.proofs.Common.{◌≡◌, ◌≢◌, ℕ, ◌<◌, ◌≤◌, true, nat_lt, Option, Some, None, IsSome, [], ◌∷◌, ◌++◌, length, Result, Ok, Err, IfOk, OnErr, refl, sym, ap, ◌∙◌, subst, arith}
 use Rattle.std.proofs.lemmas.Bool.Decides.{nat_tests}
 use Rattle.std.proofs.lemmas.List.{append_assoc, append-nil}
 use Rattle.step_record.specs.declared.entry.Entry.{Entry}
@@ -32,7 +32,7 @@ use Rattle.walks.specs.declared.place.Place.TheVariants as at
 use Rattle.walks.specs.Places.{Ahead, act_of_place}
 use Rattle.walks.specs.Walks.{step_of, IsReading, IsRound}
 use Rattle.quiet_run.specs.Outcomes.{outcome_after, outcome_from}
-use Rattle.quiet_run.specs.Settle.{ShellSession, AddsSteps}
+use Rattle.quiet_run.specs.Settle.{ShellSession, AddsSteps, IsUnfinished}
 use Rattle.walks.specs.Holders.{IsReady}
 use Rattle.quiet_run.specs.QuietWalks.{IsCallers, FollowsQuietReport, IsQuietReport, FollowsQuietOffer, IsQuietOffer, FollowsQuietPut, IsQuietPut, FollowsQuietLook, IsQuietWalk}
 use Rattle.quiet_run.proofs.Adding.{adds_known, adds_joined, told_joined}
@@ -161,13 +161,16 @@ after-write n r rest h g = absurd (cc (h))
 
 -- ---- cut off
 
-pub cut_first : (P : Entries → Type 0) (old new : ShellSession) → AddsSteps (λ es. es ≡ []) old new → (rest : Entries) → P rest → AddsSteps (λ es. (rest : Entries) × P (es ++ rest)) old new
-cut_first P old new m rest h = adds_known (λ es. es ≡ []) (λ es. (rest : Entries) × P (es ++ rest)) old new m (λ es e. (rest, subst (λ (x : Entries). P (x ++ rest)) (sym e) h))
+some : (e : Entry Step Reply) (es : Entries) → e ∷ es ≢ []
+some e es h = absurd (cc h)
 
-pub cut_next : (P : Entries → Type 0) (old now new : ShellSession) (e : Entry Step Reply) → AddsSteps (λ es. es ≡ e ∷ []) old now → AddsSteps (λ es. es ≡ []) now new → (rest : Entries) → P (e ∷ rest) → AddsSteps (λ es. (rest : Entries) × P (es ++ rest)) old new
-cut_next P old now new e m n rest h =
-    adds_joined (λ es. es ≡ e ∷ []) (λ es. es ≡ []) (λ es. (rest : Entries) × P (es ++ rest)) old now new m n
-    (λ a b f g. (rest, subst (λ (x : Entries). P ((x ++ b) ++ rest)) (sym f) (subst (λ (x : Entries). P ((e ∷ x) ++ rest)) (sym g) h)))
+pub cut_first : (P : Entries → Type 0) (old new : ShellSession) → AddsSteps (λ es. es ≡ []) old new → (first : Entry Step Reply) (later : Entries) → P (first ∷ later) → AddsSteps (IsUnfinished P) old new
+cut_first P old new m first later h = adds_known (λ es. es ≡ []) (IsUnfinished P) old new m (λ es e. (first ∷ later, some first later, subst (λ (x : Entries). P (x ++ first ∷ later)) (sym e) h))
+
+pub cut_next : (P : Entries → Type 0) (old now new : ShellSession) (e : Entry Step Reply) → AddsSteps (λ es. es ≡ e ∷ []) old now → AddsSteps (λ es. es ≡ []) now new → (first : Entry Step Reply) (later : Entries) → P (e ∷ first ∷ later) → AddsSteps (IsUnfinished P) old new
+cut_next P old now new e m n first later h =
+    adds_joined (λ es. es ≡ e ∷ []) (λ es. es ≡ []) (IsUnfinished P) old now new m n
+    (λ a b f g. (first ∷ later, some first later, subst (λ (x : Entries). P ((x ++ b) ++ first ∷ later)) (sym f) (subst (λ (x : Entries). P ((e ∷ x) ++ first ∷ later)) (sym g) h)))
 
 pub both : (R : Entries → Type 0) (old now new : ShellSession) (d e : Entry Step Reply) → AddsSteps (λ es. es ≡ d ∷ []) old now → AddsSteps (λ es. es ≡ e ∷ []) now new → R (d ∷ e ∷ []) → AddsSteps R old new
 both R old now new d e m n h =
@@ -188,13 +191,13 @@ offer_made n w i q r s z f a b = (
   (λ o. silent-read q s b (outcome_after o r) ∙ silent-offer i r a o),
 )
 
-pub offer_cut : (n : ℕ) (i : Item) (old new : ShellSession) → AddsSteps (λ es. es ≡ []) old new → AddsSteps (λ es. (rest : Entries) × IsQuietOffer n i (es ++ rest)) old new
-offer_cut n i old new m = cut_first (IsQuietOffer n i) old new m (said (act.Offer 0 i) reply.Kept ∷ said (act.AfterRead answer.Kept) reply.Go ∷ the_round) (refl, (refl, is-round n))
+pub offer_cut : (n : ℕ) (i : Item) (old new : ShellSession) → AddsSteps (λ es. es ≡ []) old new → AddsSteps (IsUnfinished (IsQuietOffer n i)) old new
+offer_cut n i old new m = cut_first (IsQuietOffer n i) old new m (said (act.Offer 0 i) reply.Kept) (said (act.AfterRead answer.Kept) reply.Go ∷ the_round) (refl, (refl, is-round n))
 
 pub offer_cut_next : (n w : ℕ) (i : Item) (q : Answer) (r : Reply) (old now new : ShellSession) → w ≡ 0 → ((m : ℕ) (es : Entries) → IsQuietReport m (act.AfterRead q) es → FollowsQuietOffer m r es)
-    → AddsSteps (λ es. es ≡ record { step = step_of w (act.Offer 0 i); reply = r } ∷ []) old now → AddsSteps (λ es. es ≡ []) now new → AddsSteps (λ es. (rest : Entries) × IsQuietOffer n i (es ++ rest)) old new
+    → AddsSteps (λ es. es ≡ record { step = step_of w (act.Offer 0 i); reply = r } ∷ []) old now → AddsSteps (λ es. es ≡ []) now new → AddsSteps (IsUnfinished (IsQuietOffer n i)) old new
 offer_cut_next n w i q r old now new z f m k =
-    cut_next (IsQuietOffer n i) old now new (record { step = step_of w (act.Offer 0 i); reply = r }) m k (said (act.AfterRead q) reply.Go ∷ the_round) (as-zero w (act.Offer 0 i) z, f n (said (act.AfterRead q) reply.Go ∷ the_round) (refl, is-round n))
+    cut_next (IsQuietOffer n i) old now new (record { step = step_of w (act.Offer 0 i); reply = r }) m k (said (act.AfterRead q) reply.Go) the_round (as-zero w (act.Offer 0 i) z, f n (said (act.AfterRead q) reply.Go ∷ the_round) (refl, is-round n))
 
 -- ---- a put
 
@@ -215,13 +218,13 @@ put_full n w key r old new z f a m =
     let h : Puts n key (record { step = step_of w (act.Put key); reply = r } ∷ []) = ((λ rest g. (as-zero w (act.Put key) z, f n rest g)), (λ o. silent-put key r a o)) in
     adds_known (λ es. es ≡ record { step = step_of w (act.Put key); reply = r } ∷ []) (Puts n key) old new m (λ es g. subst (λ (x : Entries). Puts n key x) (sym g) h)
 
-pub put_cut : (n key : ℕ) (old new : ShellSession) → AddsSteps (λ es. es ≡ []) old new → AddsSteps (λ es. (rest : Entries) × IsQuietPut n key (es ++ rest)) old new
-put_cut n key old new m = cut_first (IsQuietPut n key) old new m (said (act.Put key) reply.WritesFull ∷ the_round) (refl, is-round n)
+pub put_cut : (n key : ℕ) (old new : ShellSession) → AddsSteps (λ es. es ≡ []) old new → AddsSteps (IsUnfinished (IsQuietPut n key)) old new
+put_cut n key old new m = cut_first (IsQuietPut n key) old new m (said (act.Put key) reply.WritesFull) the_round (refl, is-round n)
 
 pub put_cut_next : (n w key : ℕ) (r : Reply) (old now new : ShellSession) → w ≡ 0 → ((m : ℕ) (es : Entries) → IsQuietReport m act.AfterWrite es → FollowsQuietPut m r es)
-    → AddsSteps (λ es. es ≡ record { step = step_of w (act.Put key); reply = r } ∷ []) old now → AddsSteps (λ es. es ≡ []) now new → AddsSteps (λ es. (rest : Entries) × IsQuietPut n key (es ++ rest)) old new
+    → AddsSteps (λ es. es ≡ record { step = step_of w (act.Put key); reply = r } ∷ []) old now → AddsSteps (λ es. es ≡ []) now new → AddsSteps (IsUnfinished (IsQuietPut n key)) old new
 put_cut_next n w key r old now new z f m k =
-    cut_next (IsQuietPut n key) old now new (record { step = step_of w (act.Put key); reply = r }) m k (said act.AfterWrite reply.Go ∷ the_round) (as-zero w (act.Put key) z, f n (said act.AfterWrite reply.Go ∷ the_round) (refl, is-round n))
+    cut_next (IsQuietPut n key) old now new (record { step = step_of w (act.Put key); reply = r }) m k (said act.AfterWrite reply.Go) the_round (as-zero w (act.Put key) z, f n (said act.AfterWrite reply.Go ∷ the_round) (refl, is-round n))
 
 -- ---- a key's own steps
 
@@ -244,30 +247,30 @@ miss_made n w key r old now new z h m k =
     (subst (λ (s : Reply). Announces n key outcome.Kept (record { step = step_of w (act.Look key); reply = s } ∷ b)) (sym h)
     ((λ rest i. (as-zero w (act.Look key) z, g.0 rest i)), sym (g.1 outcome.Kept))))
 
-pub look_cut : (n key : ℕ) (old new : ShellSession) → AddsSteps (λ es. es ≡ []) old new → AddsSteps (λ es. (rest : Entries) × IsQuietWalk n key (es ++ rest)) old new
-look_cut n key old new m = cut_first (IsQuietWalk n key) old new m (said (act.Look key) reply.Miss ∷ said (act.Put key) reply.WritesFull ∷ the_round) (refl, (refl, is-round n))
+pub look_cut : (n key : ℕ) (old new : ShellSession) → AddsSteps (λ es. es ≡ []) old new → AddsSteps (IsUnfinished (IsQuietWalk n key)) old new
+look_cut n key old new m = cut_first (IsQuietWalk n key) old new m (said (act.Look key) reply.Miss) (said (act.Put key) reply.WritesFull ∷ the_round) (refl, (refl, is-round n))
 
 -- cut off behind the look
 after-look : (n w key : ℕ) (r : Reply) (P : Entries → Type 0) (old now new : ShellSession) → w ≡ 0 → ((es : Entries) → P es → FollowsQuietLook n key r es)
-    → AddsSteps (λ es. es ≡ record { step = step_of w (act.Look key); reply = r } ∷ []) old now → AddsSteps (λ es. (rest : Entries) × P (es ++ rest)) now new → AddsSteps (λ es. (rest : Entries) × IsQuietWalk n key (es ++ rest)) old new
+    → AddsSteps (λ es. es ≡ record { step = step_of w (act.Look key); reply = r } ∷ []) old now → AddsSteps (IsUnfinished P) now new → AddsSteps (IsUnfinished (IsQuietWalk n key)) old new
 after-look n w key r P old now new z f m k =
-    adds_joined (λ es. es ≡ record { step = step_of w (act.Look key); reply = r } ∷ []) (λ es. (rest : Entries) × P (es ++ rest)) (λ es. (rest : Entries) × IsQuietWalk n key (es ++ rest)) old now new m k
-    (λ a b g h. (h.0, subst (λ (x : Entries). IsQuietWalk n key ((x ++ b) ++ h.0)) (sym g) (as-zero w (act.Look key) z, f (b ++ h.0) h.1)))
+    adds_joined (λ es. es ≡ record { step = step_of w (act.Look key); reply = r } ∷ []) (IsUnfinished P) (IsUnfinished (IsQuietWalk n key)) old now new m k
+    (λ a b g h. (h.0, h.1, subst (λ (x : Entries). IsQuietWalk n key ((x ++ b) ++ h.0)) (sym g) (as-zero w (act.Look key) z, f (b ++ h.0) h.2)))
 
 pub hit_cut : (n w key node : ℕ) (r : Reply) (old now new : ShellSession) → w ≡ 0 → r ≡ reply.Hit node → AddsSteps (λ es. es ≡ record { step = step_of w (act.Look key); reply = r } ∷ []) old now
-    → AddsSteps (λ es. (rest : Entries) × IsQuietOffer n (record { key = key; node = node }) (es ++ rest)) now new → AddsSteps (λ es. (rest : Entries) × IsQuietWalk n key (es ++ rest)) old new
+    → AddsSteps (IsUnfinished (IsQuietOffer n (record { key = key; node = node }))) now new → AddsSteps (IsUnfinished (IsQuietWalk n key)) old new
 hit_cut n w key node r old now new z h m k = after-look n w key r (IsQuietOffer n (record { key = key; node = node })) old now new z (λ es p. subst (λ (s : Reply). FollowsQuietLook n key s es) (sym h) p) m k
 
 pub miss_cut : (n w key : ℕ) (r : Reply) (old now new : ShellSession) → w ≡ 0 → r ≡ reply.Miss → AddsSteps (λ es. es ≡ record { step = step_of w (act.Look key); reply = r } ∷ []) old now
-    → AddsSteps (λ es. (rest : Entries) × IsQuietPut n key (es ++ rest)) now new → AddsSteps (λ es. (rest : Entries) × IsQuietWalk n key (es ++ rest)) old new
+    → AddsSteps (IsUnfinished (IsQuietPut n key)) now new → AddsSteps (IsUnfinished (IsQuietWalk n key)) old new
 miss_cut n w key r old now new z h m k = after-look n w key r (IsQuietPut n key) old now new z (λ es p. subst (λ (s : Reply). FollowsQuietLook n key s es) (sym h) p) m k
 
 -- ---- a key
 
-pub key_cut : (n key : ℕ) (o : Outcome) (old now new : ShellSession) → AddsSteps (Announces n key o) old now → AddsSteps (λ es. es ≡ []) now new → AddsSteps (λ es. (rest : Entries) × IsQuietWalk n key (es ++ rest)) old new
+pub key_cut : (n key : ℕ) (o : Outcome) (old now new : ShellSession) → AddsSteps (Announces n key o) old now → AddsSteps (λ es. es ≡ []) now new → AddsSteps (IsUnfinished (IsQuietWalk n key)) old new
 key_cut n key o old now new m k =
-    adds_joined (Announces n key o) (λ es. es ≡ []) (λ es. (rest : Entries) × IsQuietWalk n key (es ++ rest)) old now new m k
-    (λ a b f g. (the_round, subst (λ (x : Entries). IsQuietWalk n key (x ++ the_round)) (sym (ap (λ (x : Entries). a ++ x) g ∙ append-nil a)) (f.0 the_round (is-round n))))
+    adds_joined (Announces n key o) (λ es. es ≡ []) (IsUnfinished (IsQuietWalk n key)) old now new m k
+    (λ a b f g. (the_round, some (said act.Begin reply.Busy) [], subst (λ (x : Entries). IsQuietWalk n key (x ++ the_round)) (sym (ap (λ (x : Entries). a ++ x) g ∙ append-nil a)) (f.0 the_round (is-round n))))
 
 abbrev began : ℕ → Entries → Entries
 began w es = record { step = step_of w act.Begin; reply = reply.Began } ∷ es
@@ -277,13 +280,13 @@ is-begun n w es z h = (as-zero w act.Begin z, h)
 
 -- a round behind a key's own steps
 pub round_cut : (n w key : ℕ) (o : Outcome) (r : Reply) (old now mid new : ShellSession) → w ≡ 0 → r ≡ reply.Began → AddsSteps (Announces n key o) old now
-    → AddsSteps (λ es. es ≡ record { step = step_of w act.Begin; reply = r } ∷ []) now mid → AddsSteps (λ es. (rest : Entries) × IsReading 0 n 0 0 (es ++ rest)) mid new → AddsSteps (λ es. (rest : Entries) × IsQuietWalk n key (es ++ rest)) old new
+    → AddsSteps (λ es. es ≡ record { step = step_of w act.Begin; reply = r } ∷ []) now mid → AddsSteps (IsUnfinished (IsReading 0 n 0 0)) mid new → AddsSteps (IsUnfinished (IsQuietWalk n key)) old new
 round_cut n w key o r old now mid new z h m k j =
-    let both : AddsSteps (λ es. (rest : Entries) × IsRound 0 n (es ++ rest)) now new =
-    adds_joined (λ es. es ≡ record { step = step_of w act.Begin; reply = r } ∷ []) (λ es. (rest : Entries) × IsReading 0 n 0 0 (es ++ rest)) (λ es. (rest : Entries) × IsRound 0 n (es ++ rest)) now mid new k j
-    (λ a b f g. (g.0, subst (λ (x : Entries). IsRound 0 n ((x ++ b) ++ g.0)) (sym f) (subst (λ (s : Reply). IsRound 0 n (record { step = step_of w act.Begin; reply = s } ∷ b ++ g.0)) (sym h) (is-begun n w (b ++ g.0) z g.1)))) in
-    adds_joined (Announces n key o) (λ es. (rest : Entries) × IsRound 0 n (es ++ rest)) (λ es. (rest : Entries) × IsQuietWalk n key (es ++ rest)) old now new m both
-    (λ a b f g. (g.0, subst (λ (x : Entries). IsQuietWalk n key x) (sym (append_assoc a b g.0)) (f.0 (b ++ g.0) g.1)))
+    let both : AddsSteps (IsUnfinished (IsRound 0 n)) now new =
+    adds_joined (λ es. es ≡ record { step = step_of w act.Begin; reply = r } ∷ []) (IsUnfinished (IsReading 0 n 0 0)) (IsUnfinished (IsRound 0 n)) now mid new k j
+    (λ a b f g. (g.0, g.1, subst (λ (x : Entries). IsRound 0 n ((x ++ b) ++ g.0)) (sym f) (subst (λ (s : Reply). IsRound 0 n (record { step = step_of w act.Begin; reply = s } ∷ b ++ g.0)) (sym h) (is-begun n w (b ++ g.0) z g.2)))) in
+    adds_joined (Announces n key o) (IsUnfinished (IsRound 0 n)) (IsUnfinished (IsQuietWalk n key)) old now new m both
+    (λ a b f g. (g.0, g.1, subst (λ (x : Entries). IsQuietWalk n key x) (sym (append_assoc a b g.0)) (f.0 (b ++ g.0) g.2)))
 
 pub round_made : (n w key : ℕ) (o p : Outcome) (r : Reply) (old now mid new : ShellSession) → w ≡ 0 → r ≡ reply.Began → AddsSteps (Announces n key o) old now
     → AddsSteps (λ es. es ≡ record { step = step_of w act.Begin; reply = r } ∷ []) now mid → AddsSteps (λ es. IsReading 0 n 0 0 es × (p ≡ outcome_from o es)) mid new → AddsSteps (λ es. IsQuietWalk n key es × (p ≡ outcome_from outcome.Kept es)) old new

@@ -1,5 +1,5 @@
 -- Keys one after another.
-use Rattle.std.proofs.Common.{◌≡◌, ℕ, ◌+◌, ◌-◌, ◌<◌, List, [], ◌∷◌, ◌++◌, length, get_or, drop, refl, sym, ap, ◌∙◌, subst, add-one, drop-cons}
+use Rattle.std.proofs.Common.{◌≡◌, ◌≢◌, ℕ, ◌+◌, ◌<◌, List, [], ◌∷◌, ◌++◌, length, get_or, drop, refl, sym, ap, ◌∙◌, subst, add-one, drop-cons}
 use Rattle.std.proofs.lemmas.List.{append_assoc, append-nil}
 use Rattle.step_record.specs.declared.outcome.Outcome.{Outcome}
 use Rattle.step_record.specs.declared.outcome.Outcome.TheVariants as outcome
@@ -37,16 +37,37 @@ one_key n all ks more k os o e a b f h g ps rest m =
     subst (λ (x : List Outcome). AreQuietWalks n all x ((a ++ b) ++ rest)) (sym (append_assoc os (o ∷ []) ps))
     (subst (λ (x : Entries). AreQuietWalks n all (os ++ o ∷ ps) x) (sym (append_assoc a b rest)) whole)
 
-pub cut_here : (n : ℕ) (all ks : List ℕ) (os : List Outcome) (a : Entries) → Lacks n all ks os a → BeginQuietWalks n all a
-cut_here n all ks os a f = let g = finish_keys n ks in (g.0, os ++ g.1, f g.1 g.0 g.2)
+-- a walk has a first entry, and so have the walks of some keys
+walk-some : (n k : ℕ) (es : Entries) → IsQuietWalk n k es → es ≢ []
+walk-some n k [] h = absurd h
+walk-some n k (e ∷ es) h = λ g. absurd (cc g)
 
-pub cut_key : (n : ℕ) (all ks more : List ℕ) (k : ℕ) (os : List Outcome) → ks ≡ k ∷ more → (a b : Entries) → Lacks n all ks os a → (rest : Entries) → IsQuietWalk n k (b ++ rest) → BeginQuietWalks n all (a ++ b)
-cut_key n all ks more k os e a b f rest h =
-    let g : BeginQuietWalks n all (a ++ (b ++ rest)) = cut_here n all more (os ++ outcome_from outcome.Kept (b ++ rest) ∷ []) (a ++ (b ++ rest)) (one_key n all ks more k os (outcome_from outcome.Kept (b ++ rest)) e a (b ++ rest) f h refl) in (
-      rest ++ g.0,
-      g.1,
-      subst (λ (x : Entries). AreQuietWalks n all g.1 x)
-          (append_assoc a (b ++ rest) g.0 ∙ ap (λ (x : Entries). a ++ x) (append_assoc b rest g.0) ∙ sym (append_assoc a b (rest ++ g.0))) g.2,
+longer-some : (a b : Entries) → a ≢ [] → a ++ b ≢ []
+longer-some [] b h = absurd (h refl)
+longer-some (e ∷ a) b h = λ g. absurd (cc g)
+
+walks-some : (n k : ℕ) (ks : List ℕ) (os : List Outcome) (es : Entries) → AreQuietWalks n (k ∷ ks) os es → es ≢ []
+walks-some n k ks [] es h = absurd h
+walks-some n k ks (o ∷ os) es h = λ g. longer-some h.0 h.1 (walk-some n k h.0 h.3) (sym h.2 ∙ g)
+
+-- where a key is left, its walk is still to come
+pub cut_here : (n : ℕ) (all ks more : List ℕ) (k : ℕ) (os : List Outcome) → ks ≡ k ∷ more → (a : Entries) → Lacks n all ks os a → BeginQuietWalks n all a
+cut_here n all ks more k os e a f =
+    let g = finish_keys n (k ∷ more) in
+    (os ++ g.1, (g.0, walks-some n k more g.1 g.0 g.2, f g.1 g.0 (subst (λ (x : List ℕ). AreQuietWalks n x g.1 g.0) (sym e) g.2)))
+
+pub cut_key : (n : ℕ) (all ks more : List ℕ) (k : ℕ) (os : List Outcome) → ks ≡ k ∷ more → (a b : Entries) → Lacks n all ks os a → (rest : Entries) → rest ≢ [] → IsQuietWalk n k (b ++ rest) → BeginQuietWalks n all (a ++ b)
+cut_key n all ks more k os e a b f rest some h =
+    let g = finish_keys n more in
+    let o : Outcome = outcome_from outcome.Kept (b ++ rest) in
+    let whole : AreQuietWalks n all ((os ++ o ∷ []) ++ g.1) ((a ++ (b ++ rest)) ++ g.0) = one_key n all ks more k os o e a (b ++ rest) f h refl g.1 g.0 g.2 in (
+      (os ++ o ∷ []) ++ g.1,
+      (
+        rest ++ g.0,
+        longer-some rest g.0 some,
+        subst (λ (x : Entries). AreQuietWalks n all ((os ++ o ∷ []) ++ g.1) x)
+            (append_assoc a (b ++ rest) g.0 ∙ ap (λ (x : Entries). a ++ x) (append_assoc b rest g.0) ∙ sym (append_assoc a b (rest ++ g.0))) whole,
+      ),
     )
 
 pub all_keys : (n : ℕ) (all ks : List ℕ) (os : List Outcome) (es : Entries) → ks ≡ [] → Lacks n all ks os es → AreQuietWalks n all os es

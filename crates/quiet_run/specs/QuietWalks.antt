@@ -1,6 +1,6 @@
 -- The walk of worker 0 over one key where a round of maintenance comes after each, whatever the reports were answered.
 -- (This project's own: with it the concurrent cache is W-TinyLFU.)
-use Rattle.std.specs.Prelude.{◌≡◌, ℕ, List, [], ◌∷◌, ◌++◌, length}
+use Rattle.std.specs.Prelude.{◌≡◌, ℕ, ◌<◌, List, [], ◌∷◌, ◌++◌, length}
 use Rattle.step_record.specs.declared.item.Item.{Item}
 use Rattle.step_record.specs.declared.outcome.Outcome.{Outcome}
 use Rattle.step_record.specs.declared.outcome.Outcome.TheVariants.{Kept}
@@ -14,7 +14,7 @@ use Rattle.quiet_run.specs.declared.run.QuietFault.{QuietFault}
 use Rattle.quiet_run.specs.declared.run.QuietFault.TheVariants as fault
 use Rattle.walks.specs.Walks.{Opens, IsRound}
 use Rattle.quiet_run.specs.Outcomes.{outcome_from}
-use Rattle.quiet_run.specs.Settle.{ShellSession, AddsSteps}
+use Rattle.quiet_run.specs.Settle.{ShellSession, AddsSteps, IsUnfinished}
 
 -- n is the number of stripes
 module _ (n : ℕ) where
@@ -63,14 +63,15 @@ module _ (n : ℕ) where
   AreQuietWalks [] (o ∷ os) es = ⊥
   AreQuietWalks (k ∷ ks) [] es = ⊥
 
--- the entries begin such walks
+-- the entries begin such walks, and are not all of them
 abbrev pub BeginQuietWalks : ℕ → List ℕ → Entries → Type 0
-BeginQuietWalks n ks es = (rest : Entries) × (os : List Outcome) × AreQuietWalks n ks os (es ++ rest)
+BeginQuietWalks n ks es = (os : List Outcome) × IsUnfinished (AreQuietWalks n ks os) es
 
--- the first steps of the walks, of which the fault says how many they are; none where the maintenance was held
+-- The first steps of the walks, of which the fault says how many they are; none where the maintenance was held. A full
+-- journal is named where the journal is full, and only there.
 abbrev pub LeavesQuietFault : ℕ → List ℕ → ShellSession → ShellSession → QuietFault → Type 0
 LeavesQuietFault n ks old new (fault.OutOfMemory done) =
-    AddsSteps (λ es. BeginQuietWalks n ks es × (done ≡ length es)) old new
+    AddsSteps (λ es. BeginQuietWalks n ks es × (done ≡ length es)) old new × (length new.kept < new.limit)
 LeavesQuietFault n ks old new (fault.JournalFull done) =
     AddsSteps (λ es. BeginQuietWalks n ks es × (done ≡ length es)) old new × (length new.kept ≡ new.limit)
 LeavesQuietFault n ks old new fault.Held = AddsSteps (λ es. es ≡ []) old new

@@ -1,5 +1,5 @@
 -- The rest of a round of maintenance, from the phase that its holder is at.
-use Rattle.std.specs.Prelude.{◌≡◌, ℕ, ◌<◌, Option, Some, None, [], ◌∷◌, ◌++◌, length}
+use Rattle.std.specs.Prelude.{◌≡◌, ◌≢◌, ℕ, ◌<◌, Option, Some, None, [], ◌∷◌, ◌++◌, length}
 use Rattle.step_record.specs.declared.step.Reply.{Reply}
 use Rattle.step_record.specs.declared.step.Step.{Step}
 use Rattle.step_record.specs.declared.drain.Phase.{Phase}
@@ -40,9 +40,13 @@ abbrev pub IsRest : ℕ → Option Holder → Entries → Type 0
 IsRest n None es = es ≡ []
 IsRest n (Some h) es = IsRestOfRound h.worker n h.phase es
 
--- the first entries of such a rest
+-- the first entries of such a list, and not all of it
+abbrev pub IsUnfinished : (Entries → Type 0) → Entries → Type 0
+IsUnfinished IsWhole es = (rest : Entries) × (rest ≢ []) × IsWhole (es ++ rest)
+
+-- the first entries of such a rest, and not all of it
 abbrev pub BeginsRest : ℕ → Option Holder → Entries → Type 0
-BeginsRest n o es = (rest : Entries) × IsRest n o (es ++ rest)
+BeginsRest n o es = IsUnfinished (IsRest n o) es
 
 -- how many steps were made before the fault
 abbrev pub steps_before : SettleFault → ℕ

@@ -1,13 +1,14 @@
 //! Finishing the maintenance that a worker holds.
 ghost use Rattle.std.specs.Prelude.{◌≡◌, ◌≤◌, None, Some, Err, IsSome, IfOk, IfErr, OnOk, OnErr, length};
 ghost use Rattle.std.specs.Prelude.{◌∷◌, ◌++◌, []};
-ghost use Rattle.step_record.specs.History.{Entries};
 ghost use Rattle.journal.specs.Session.{IsSameSession};
 ghost use Rattle.shell_model.specs.Shell.{perform, act as acted};
+ghost use Rattle.shell_model.specs.Reached.{worker_of};
 ghost use Rattle.walks.specs.Walks.{step_of};
 ghost use Rattle.walks.specs.Places.{Ahead, act_of_place};
 ghost use Rattle.quiet_run.specs.Outcomes.{outcome_after, outcome_from};
-ghost use Rattle.quiet_run.specs.Settle.{AddsSteps, IsRest, BeginsRest, IsRefusalCause, IsFullAt, steps_before};
+ghost use Rattle.quiet_run.specs.Settle.{AddsSteps, IsUnfinished, IsRest, BeginsRest, steps_before};
+ghost use Rattle.quiet_run.specs.Settle.{IsRefusalCause, IsFullAt};
 ghost use Rattle.walks.specs.Holders.{IsReady};
 
 use journal::{Session, SessionFault};
@@ -38,10 +39,11 @@ pub fn settle(session: &mut Session<Shell>) -> Result<u64, SettleFault>
         (λ es. IsRest session.old.engine.config.stripes session.old.engine.holder es × (n ≡ length es))
         session.old session.new) }
     ensures none { OnOk result (session.new.engine.holder ≡ None) }
-    // The first of these steps.
+    // The first of these steps, but not all: the holder still holds.
     ensures err { IfErr result (λ f. AddsSteps (λ es.
         BeginsRest session.old.engine.config.stripes session.old.engine.holder es × (steps_before f ≡ length es))
         session.old session.new) }
+    ensures held { OnErr result (worker_of session.new.engine.holder ≡ worker_of session.old.engine.holder) }
     ensures cause { IfErr result (λ f. IsFullAt f session.new) }
 {
     let Some(holder) = session.engine().holder() else {
@@ -82,8 +84,9 @@ pub(crate) fn finish_round(
         × (o ≡ outcome_from start es)) session.old session.new) }
     ensures none { OnOk result (session.new.engine.holder ≡ None) }
     ensures stripes { length session.new.engine.stripes ≡ local.stripes }
-    ensures err { OnErr result (AddsSteps (λ es. (rest : Entries)
-        × Ahead local.worker local.stripes local.place (es ++ rest)) session.old session.new) }
+    ensures err { OnErr result (AddsSteps (IsUnfinished (Ahead local.worker local.stripes local.place))
+        session.old session.new) }
+    ensures held { OnErr result (worker_of session.new.engine.holder ≡ Some local.worker) }
     ensures cause { IfErr result (λ f. IsRefusalCause f session.new) }
 {
     let worker = local.worker;

@@ -13,7 +13,7 @@ ghost use Rattle.quiet_run.specs.Quiet.{IsQuiet, window_tiny_lfu};
 ghost use Rattle.maintenance.specs.Opened.{IsOpened};
 ghost use Rattle.walks.specs.Walks.{IsRound, step_of};
 ghost use Rattle.quiet_run.specs.Outcomes.{outcome_from};
-ghost use Rattle.quiet_run.specs.Settle.{AddsSteps, IsRefusalCause};
+ghost use Rattle.quiet_run.specs.Settle.{AddsSteps, IsUnfinished, IsRefusalCause};
 ghost use Rattle.quiet_run.specs.QuietWalks.{AreQuietWalks, BeginQuietWalks, FollowsQuietOffer, FollowsQuietPut, IsCallers};
 ghost use Rattle.quiet_run.specs.QuietWalks.{IsQuietOffer, IsQuietPut, IsQuietReport, IsQuietWalk, LeavesQuietFault};
 ghost use Rattle.quiet_run.specs.QuietRuns.{QuietGoesOn, IsPolicysRun};
@@ -44,7 +44,8 @@ pub enum QuietFault {
 /// it, and returns their outcomes: a hit, or for a miss the last key that left in its round, if
 /// one did. So the cache is W-TinyLFU: from a new one on, the outcomes and the keys that are held
 /// are the policy's. A maintenance that is under way is to be settled first. After out of memory or
-/// a full journal the steps that were made stay, and worker 0 may hold the maintenance.
+/// a full journal the steps that were made stay, and worker 0 may hold the maintenance; both come
+/// only where steps are left to make, and a full journal is looked for before memory.
 pub fn run_quiet(
     alloc: Global,
     session: &mut Session<Shell>,
@@ -63,7 +64,7 @@ pub fn run_quiet(
     // So it goes on from a cache that holds what W-TinyLFU holds after the accesses of the past.
     ensures later { (c : Config) (past : List ℕ) → IsQuiet session.old.engine (state_after (window_tiny_lfu c) past) →
         IfOk result (λ os. QuietGoesOn c past keys.now os.items session.new.engine) }
-    // The first steps of these walks.
+    // The first steps of these walks, but not all.
     ensures err { IfErr result (LeavesQuietFault session.old.engine.config.stripes keys.now session.old session.new) }
     ensures held { result ≡ Err QuietFault.Held ↔ IsSome session.old.engine.holder }
 {
@@ -103,16 +104,26 @@ fn access_all(
     ensures ok { OnOk result (AddsSteps (AreQuietWalks stripes keys.now outcomes.new.items) session.old session.new) }
     ensures none { OnOk result (session.new.engine.holder ≡ None) }
     ensures err { OnErr result (AddsSteps (BeginQuietWalks stripes keys.now) session.old session.new) }
-    ensures full { result ≡ Err Refusal.JournalFull → length session.new.kept ≡ session.new.limit }
+    ensures cause { IfErr result (λ f. IsRefusalCause f session.new) }
 {
     for key in keys {
         if outcomes.reserve(1).is_err() {
-            return Err(Refusal::OutOfMemory);
+            return Err(refusal_without_memory(session));
         }
         let outcome = quiet_key(session, worker, stripes, *key)?;
         outcomes.push_reserved(outcome);
     }
     Ok(())
+}
+
+// Why no key is accessed where there is no memory for its outcome: a full journal is found before that.
+fn refusal_without_memory(session: &Session<Shell>) -> Refusal
+    ensures { IsRefusalCause result session.now }
+{
+    if session.is_full() {
+        return Refusal::JournalFull;
+    }
+    Refusal::OutOfMemory
 }
 
 // Accesses a key, with a round of maintenance after it.
@@ -132,8 +143,7 @@ fn quiet_key(
         × (o ≡ outcome_from Kept es)) session.old session.new) }
     ensures none { OnOk result (session.new.engine.holder ≡ None) }
     ensures stripes { length session.new.engine.stripes ≡ stripes }
-    ensures err { OnErr result (AddsSteps (λ es. (rest : Entries)
-        × IsQuietWalk stripes key (es ++ rest)) session.old session.new) }
+    ensures err { OnErr result (AddsSteps (IsUnfinished (IsQuietWalk stripes key)) session.old session.new) }
     ensures cause { IfErr result (λ f. IsRefusalCause f session.new) }
 {
     let outcome = announce(session, worker, stripes, key)?;
@@ -161,8 +171,7 @@ fn announce(
         → IsQuietWalk stripes key (es ++ rest)) × (o ≡ outcome_from Kept es)) session.old session.new) }
     ensures holder { session.new.engine.holder ≡ session.old.engine.holder }
     ensures stripes { length session.new.engine.stripes ≡ stripes }
-    ensures err { OnErr result (AddsSteps (λ es. (rest : Entries)
-        × IsQuietWalk stripes key (es ++ rest)) session.old session.new) }
+    ensures err { OnErr result (AddsSteps (IsUnfinished (IsQuietWalk stripes key)) session.old session.new) }
     ensures cause { IfErr result (λ f. IsRefusalCause f session.new) }
 {
     match make_own(session, worker, Act::Look { key })? {
@@ -194,8 +203,7 @@ fn offer(
         → IsQuietOffer stripes item (es ++ rest)) × ((o : Outcome) → outcome_from o es ≡ o)) session.old session.new) }
     ensures holder { session.new.engine.holder ≡ session.old.engine.holder }
     ensures stripes { length session.new.engine.stripes ≡ length session.old.engine.stripes }
-    ensures err { OnErr result (AddsSteps (λ es. (rest : Entries)
-        × IsQuietOffer stripes item (es ++ rest)) session.old session.new) }
+    ensures err { OnErr result (AddsSteps (IsUnfinished (IsQuietOffer stripes item)) session.old session.new) }
     ensures cause { IfErr result (λ f. IsRefusalCause f session.new) }
 {
     let reply = make_own(session, worker, Act::Offer { stripe: 0, item })?;
@@ -225,8 +233,7 @@ fn put(session: &mut Session<Shell>, worker: Worker, stripes: u8, key: Key) -> R
         → IsQuietPut stripes key (es ++ rest)) × ((o : Outcome) → outcome_from o es ≡ o)) session.old session.new) }
     ensures holder { session.new.engine.holder ≡ session.old.engine.holder }
     ensures stripes { length session.new.engine.stripes ≡ length session.old.engine.stripes }
-    ensures err { OnErr result (AddsSteps (λ es. (rest : Entries)
-        × IsQuietPut stripes key (es ++ rest)) session.old session.new) }
+    ensures err { OnErr result (AddsSteps (IsUnfinished (IsQuietPut stripes key)) session.old session.new) }
     ensures cause { IfErr result (λ f. IsRefusalCause f session.new) }
 {
     let reply = make_own(session, worker, Act::Put { key })?;

@@ -1,5 +1,5 @@
 -- A holder's steps: each act of the rest of its round is one that it may make.
-use Rattle.std.proofs.Common.{◌≡◌, ℕ, ◌+◌, ◌<◌, ◌==◌, Bool, true, false, eqb, nat_lt, Option, Some, None, List, [], ◌∷◌, ◌++◌, length, set, MatchBool, IsSome, refl, sym, ap, ◌∙◌, subst, inl, inr, arith, length-set}
+use Rattle.std.proofs.Common.{◌≡◌, ◌≢◌, ℕ, ◌+◌, ◌<◌, ◌==◌, Bool, true, false, eqb, nat_lt, Option, Some, None, List, [], ◌∷◌, ◌++◌, length, MatchBool, IsSome, refl, sym, ap, ◌∙◌, subst, inl, inr, arith, length-set}
 use Rattle.std.proofs.lemmas.Bool.{cases_Bool, eq-eqb, ltb-true, and_parts}
 use Rattle.std.proofs.lemmas.Bool.Decides.{nat_tests}
 use Rattle.std.proofs.lemmas.List.{append_assoc, append-nil}
@@ -16,7 +16,7 @@ use Rattle.segments.specs.Items.{same, first}
 use Rattle.segments.specs.Queues.{total_items}
 use Rattle.shell_model.specs.declared.holder.Holder.{Holder}
 use Rattle.shell_model.specs.Frequency.{admits}
-use Rattle.shell_model.specs.Shell.{Shell, window_size, is_over, held_by, in_phase, shell_contest, shift, evict_from, evict_oldest, evict, end, drain_at_end, perform, tallied, act as acted}
+use Rattle.shell_model.specs.Shell.{Shell, window_size, is_over, held_by, in_phase, shell_contest, shift, evict_from, evict_oldest, evict, drain_at_end, perform, tallied, act as acted}
 use Rattle.shell_model.proofs.Making as k
 use Rattle.shell_model.proofs.Making.{Makes, MakesTo, perform-makes}
 use Rattle.shell_model.proofs.Histories.{counted_up}
@@ -178,6 +178,11 @@ leads w n at.Evict [] h = h
 leads w n at.Evict (e ∷ es) h = h.0
 leads w n at.End [] h = h
 leads w n at.End (e ∷ es) h = h.0
+
+-- the entries from a place on begin with one
+led-some : (w : ℕ) (a : Act) (es : Entries) → Leads w a es → es ≢ []
+led-some w a [] h = absurd h
+led-some w a (e ∷ es) h = λ g. absurd (cc g)
 
 one-act : (w : ℕ) (a b : Act) (es : Entries) → Leads w a es → Leads w b es → a ≡ b
 one-act w a b [] h g = absurd h
@@ -414,11 +419,11 @@ module _ (w n : ℕ) (p : Place) where
   pub goes_over : (next : Next) → next ≡ told.Done → (es : Entries) → Goes w n p next es → Ahead w n p es
   goes_over next d es all = subst (λ (x : Entries). Ahead w n p x) (append-nil es) (all [] (subst (λ (m : Next). Left m []) (sym d) refl))
 
-  pub goes_begun : (next : Next) (a : Act) (l : Local) → next ≡ told.Do a l → (es : Entries) → Goes w n p next es → (rest : Entries) × Ahead w n p (es ++ rest)
+  pub goes_begun : (next : Next) (a : Act) (l : Local) → next ≡ told.Do a l → (es : Entries) → Goes w n p next es → (rest : Entries) × (rest ≢ []) × Ahead w n p (es ++ rest)
   goes_begun next a l d es all =
       let f = finish l.worker l.stripes l.place l.placed in
       let now : Goes w n p (told.Do a l) es = subst (λ (x : Next). Goes w n p x es) d all in
-      (f.0, now f.0 f.1)
+      (f.0, led-some l.worker (act_of_place l.worker l.stripes l.place) f.0 (leads l.worker l.stripes l.place f.0 f.1), now f.0 f.1)
 
 pub act_asked : (w n : ℕ) (next : Next) (a : Act) (l : Local) → next ≡ told.Do a l → Asks w n next → act_of_place l.worker l.stripes l.place ≡ a
 act_asked w n next a l d h = (asked w n next a l d h).0

@@ -4,7 +4,7 @@ use Rattle.walks.specs.Walks.{step_of}
 use Rattle.quiet_run.specs.Outcomes.{outcome_after}
 use Rattle.walks.proofs.Walking.{on_err, answered}
 use Rattle.walks.proofs.Holding.{ready_start, round_on, asks_on, act_asked, goes_on, goes_over, goes_begun, stripes_stay}
-use Rattle.quiet_run.proofs.Adding.{adds_none, adds_more, adds_same, told_last}
+use Rattle.quiet_run.proofs.Adding.{still_held, adds_none, adds_more, adds_same, told_last}
 use Rattle.quiet_run.proofs.round.finish_round.Goals as goal
 
 pub loop-next-init : goal.loop-next-init
@@ -22,6 +22,9 @@ pub returns-in_err-reply-clause-err : goal.returns-in_err-reply-clause-err
 returns-in_err-reply-clause-err c = on_err _ _
     (adds_same _ _ _ c.loop-next.session _ c.loop-next.invariant.adds c.in_err-reply.ensures.err.kept c.in_err-reply.ensures.err.tail
     (λ es h. goes_begun c.args.local.worker c.args.local.stripes c.args.local.place c.loop-next.next c.in-Do.act c.in-Do.at c.in-Do.is es h.0))
+
+pub returns-in_err-reply-clause-held : goal.returns-in_err-reply-clause-held
+returns-in_err-reply-clause-held c = on_err _ _ (still_held c.args.local.worker c.loop-next.next c.in-Do.act c.in-Do.at c.loop-next.session.engine _ c.in-Do.is c.loop-next.invariant.ready c.in_err-reply.ensures.same)
 
 pub next_step-next-requires-in-Do : goal.next_step-next-requires-in-Do
 next_step-next-requires-in-Do c =

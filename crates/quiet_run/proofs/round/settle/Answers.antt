@@ -1,7 +1,7 @@
-use Rattle.std.proofs.Common.{◌-◌, length, Some, option_map, sym, ap, ◌∙◌}
+use Rattle.std.proofs.Common.{ℕ, ◌-◌, length, Some, option_map, sym, ap, ◌∙◌}
 use Rattle.shell_model.specs.Shell.{Shell}
 use Rattle.maintenance.specs.Opened.{triple}
-use Rattle.quiet_run.proofs.Adding.{adds_counted, held_rest}
+use Rattle.quiet_run.proofs.Adding.{adds_counted, held_rest, held_worker}
 use Rattle.quiet_run.proofs.round.settle.Goals as goal
 
 pub returns-in-Ok-clause-ok : goal.returns-in-Ok-clause-ok
@@ -15,8 +15,9 @@ returns-in-Err-OutOfMemory-clause-err c =
     adds_counted _ _ _ c.args.session.now c.finish_round.new.session c.in-Err-OutOfMemory.ensures.err (ap (λ n. n - c.len-before.result) c.len-in-Err-OutOfMemory.ensures.len ∙ ap (λ n. length c.finish_round.new.session.kept - n) c.len-before.ensures.len)
     (λ es h. (
       h.0,
+      h.1,
       held_rest c.resume-local.result _ c.args.session.now.engine.holder c.in-Some.holder.0 c.in-Some.holder.1 c.in-Some.holder.2 (ap (λ (x : Shell). option_map triple x.holder) (sym c.engine.ensures.engine) ∙ sym c.holder.ensures ∙ c.in-Some.is)
-          c.resume-local.ensures.same.0 (c.resume-local.ensures.same.1 ∙ c.stripes-stripes.ensures.stripes ∙ ap (λ (x : Shell). x.config.stripes) c.engine-2.ensures.engine) c.resume-local.ensures.place _ h.1,
+          c.resume-local.ensures.same.0 (c.resume-local.ensures.same.1 ∙ c.stripes-stripes.ensures.stripes ∙ ap (λ (x : Shell). x.config.stripes) c.engine-2.ensures.engine) c.resume-local.ensures.place _ h.2,
     ))
 
 pub returns-in-Err-JournalFull-clause-err : goal.returns-in-Err-JournalFull-clause-err
@@ -24,6 +25,17 @@ returns-in-Err-JournalFull-clause-err c =
     adds_counted _ _ _ c.args.session.now c.finish_round.new.session c.in-Err-JournalFull.ensures.err (ap (λ n. n - c.len-before.result) c.len-in-Err-JournalFull.ensures.len ∙ ap (λ n. length c.finish_round.new.session.kept - n) c.len-before.ensures.len)
     (λ es h. (
       h.0,
+      h.1,
       held_rest c.resume-local.result _ c.args.session.now.engine.holder c.in-Some.holder.0 c.in-Some.holder.1 c.in-Some.holder.2 (ap (λ (x : Shell). option_map triple x.holder) (sym c.engine.ensures.engine) ∙ sym c.holder.ensures ∙ c.in-Some.is)
-          c.resume-local.ensures.same.0 (c.resume-local.ensures.same.1 ∙ c.stripes-stripes.ensures.stripes ∙ ap (λ (x : Shell). x.config.stripes) c.engine-2.ensures.engine) c.resume-local.ensures.place _ h.1,
+          c.resume-local.ensures.same.0 (c.resume-local.ensures.same.1 ∙ c.stripes-stripes.ensures.stripes ∙ ap (λ (x : Shell). x.config.stripes) c.engine-2.ensures.engine) c.resume-local.ensures.place _ h.2,
     ))
+
+pub returns-in-Err-OutOfMemory-clause-held : goal.returns-in-Err-OutOfMemory-clause-held
+returns-in-Err-OutOfMemory-clause-held c =
+    c.in-Err-OutOfMemory.ensures.held ∙ ap (λ (w : ℕ). Some w) c.resume-local.ensures.same.0
+    ∙ sym (held_worker c.args.session.now.engine.holder c.in-Some.holder.0 c.in-Some.holder.1 c.in-Some.holder.2 (ap (λ (x : Shell). option_map triple x.holder) (sym c.engine.ensures.engine) ∙ sym c.holder.ensures ∙ c.in-Some.is))
+
+pub returns-in-Err-JournalFull-clause-held : goal.returns-in-Err-JournalFull-clause-held
+returns-in-Err-JournalFull-clause-held c =
+    c.in-Err-JournalFull.ensures.held ∙ ap (λ (w : ℕ). Some w) c.resume-local.ensures.same.0
+    ∙ sym (held_worker c.args.session.now.engine.holder c.in-Some.holder.0 c.in-Some.holder.1 c.in-Some.holder.2 (ap (λ (x : Shell). option_map triple x.holder) (sym c.engine.ensures.engine) ∙ sym c.holder.ensures ∙ c.in-Some.is))

@@ -8,12 +8,13 @@ use Rattle.quiet_run.proofs.run.access_all.Goals as goal
 
 pub returns-then-is_err-clause-err : goal.returns-then-is_err-clause-err
 returns-then-is_err-clause-err c =
-    adds_known _ _ _ _ c.loop-key.invariant.adds (cut_here c.args.stripes c.args.keys.now _ c.loop-key.outcomes.items)
+    adds_known _ _ _ _ c.loop-key.invariant.adds
+    (cut_here c.args.stripes c.args.keys.now _ _ _ c.loop-key.outcomes.items (drop_key c.args.keys.now c.loop-key.key-index 0 c.loop-key-test.true))
 
 pub returns-in_err-outcome-clause-err : goal.returns-in_err-outcome-clause-err
 returns-in_err-outcome-clause-err c =
     on_err _ _ (adds_joined _ _ _ _ c.loop-key.session _ c.loop-key.invariant.adds c.in_err-outcome.ensures.err
-    (λ a b f h. cut_key c.args.stripes c.args.keys.now _ _ _ c.loop-key.outcomes.items (drop_key c.args.keys.now c.loop-key.key-index _ c.loop-key-test.true) a b f h.0 h.1))
+    (λ a b f h. cut_key c.args.stripes c.args.keys.now _ _ _ c.loop-key.outcomes.items (drop_key c.args.keys.now c.loop-key.key-index _ c.loop-key-test.true) a b f h.0 h.1 h.2))
 
 pub loop-key-preserved : goal.loop-key-preserved
 loop-key-preserved c =

@@ -1,7 +1,7 @@
 use Rattle.std.proofs.Common.{◌≡◌, ◌∙◌, refl, sym, subst, ◌≤◌, ℕ, [], ◌++◌}
-use Rattle.step_record.specs.History.{Entries}
 use Rattle.walks.specs.Walks.{IsReading}
 use Rattle.quiet_run.specs.Outcomes.{outcome_from}
+use Rattle.quiet_run.specs.Settle.{IsUnfinished}
 use Rattle.walks.proofs.Walking.{on_err}
 use Rattle.quiet_run.proofs.Adding.{adds_none, adds_one, adds_known}
 use Rattle.quiet_run.proofs.Calling.{begins, key_cut, round_cut, round_made, map_ok, map_err, reads_ahead, ready_reads}
@@ -31,4 +31,4 @@ returns-clause-err c =
     let b = begins c.args.worker c.announce.new.session.engine c.make_step.new.session.engine c.in_ok-make_step.field-0 (c.in_ok-outcome.ensures.holder ∙ c.requires.none) c.in_ok-make_step.ensures.accepted some in
     map_err c.finish_round.result _ _ (λ m. round_cut c.args.stripes c.args.worker c.args.key c.in_ok-outcome.outcome c.in_ok-make_step.field-0 _ c.announce.new.session c.make_step.new.session _ c.requires.worker b.0 c.in_ok-outcome.ensures.ok
     (adds_one _ _ _ c.in_ok-make_step.ensures.ok c.in_ok-make_step.ensures.tail)
-    (adds_known _ (λ es. (rest : Entries) × IsReading 0 c.args.stripes 0 0 (es ++ rest)) _ _ m (λ es h. (h.0, reads_ahead c.resume.result c.args.worker c.args.stripes c.resume.ensures.same.0 c.resume.ensures.same.1 c.resume.ensures.place c.requires.worker (es ++ h.0) h.1)))) c.finish_round.ensures.err
+    (adds_known _ (IsUnfinished (IsReading 0 c.args.stripes 0 0)) _ _ m (λ es h. (h.0, h.1, reads_ahead c.resume.result c.args.worker c.args.stripes c.resume.ensures.same.0 c.resume.ensures.same.1 c.resume.ensures.place c.requires.worker (es ++ h.0) h.2)))) c.finish_round.ensures.err
