@@ -1,5 +1,5 @@
 -- A run, and its last steps undone.
-use Rattle.std.proofs.Common.{◌≡◌, ◌↔◌, ℕ, ◌-◌, ◌<◌, List, [], ◌∷◌, ◌++◌, Option, Some, Result, Ok, Err, OnOk, get_or, length, take, sym, ap, ◌∙◌, subst, arith}
+use Rattle.std.proofs.Common.{◌≡◌, ◌↔◌, ℕ, ◌-◌, ◌<◌, List, [], ◌∷◌, ◌++◌, Option, Some, Result, Ok, Err, OnOk, OnErr, get_or, length, take, refl, sym, ap, ◌∙◌, subst, arith}
 use Rattle.std.specs.Prelude.{IfErr}
 use Rattle.std.proofs.Math.Seq.{take-length}
 use Rattle.std.proofs.lemmas.List.{take-append-le}
@@ -32,6 +32,12 @@ module _ (k : ℕ) (old new : ShellSession) where
       (e.opening, e.kept ∙ sym (take-length old.kept) ∙ ap (λ n. take n old.kept) all)
   left_by (Err (back.OutOfMemory n)) h e = moved n e.2
 
+-- where not all of k steps were undone, fewer than k were
+pub fewer_undone : (k : ℕ) (old new : ShellSession) (o : Result (Unit {0}) BackFault) → IfErr o (StandsBack (λ x. x) old new k) → (o ≡ Err back.PastStart ↔ length old.kept < k) → OnErr o (undone_of k o < k)
+fewer_undone k old new (Ok done) e p = tt
+fewer_undone k old new (Err back.PastStart) e p = let h : length old.kept < k = p.0 refl in omega (arith, h)
+fewer_undone k old new (Err (back.OutOfMemory n)) e p = e.0
+
 -- legal entries are answered by the definition
 answered : (x : Shell) (steps : Entries) → IsLegal act x steps → IsAnswered x steps
 answered x steps legal before later e is =
@@ -41,9 +47,10 @@ answered x steps legal before later e is =
 
 pub rewound : (n k : ℕ) (pieces : List (List Call)) (cause : Option Cause) (o : Result (Unit {0}) BackFault) (old whole new : ShellSession) (lists : List Entries)
     → IsRun (AreMade n cause) pieces old whole lists → (cause ≡ Some JournalFull → length whole.kept ≡ whole.limit) → IsLegal act whole.opening whole.kept → new.opening ≡ whole.opening → new.kept ≡ take (length whole.kept - undone_of k o) whole.kept
-    → new.engine ≡ after act new.opening new.kept → (o ≡ Err back.PastStart ↔ length whole.kept < k) → IsRewound n k pieces cause o old new lists
-rewound n k pieces cause o old whole new lists run filled legal opening left state past = record {
+    → new.engine ≡ after act new.opening new.kept → (o ≡ Err back.PastStart ↔ length whole.kept < k) → OnErr o (undone_of k o < k) → IsRewound n k pieces cause o old new lists
+rewound n k pieces cause o old whole new lists run filled legal opening left state past fewer = record {
   run = run.news;
+  as_many = run.as_many;
   listed = run.own;
   made = λ w lt. subst (λ es. AreMade n cause w (get_or pieces w []) es) (sym (run.own w lt)) (run.made w lt);
   no_other = run.no_other;
@@ -51,5 +58,6 @@ rewound n k pieces cause o old whole new lists run filled legal opening left sta
   answered = answered old.opening (old.kept ++ run.news) (subst (λ es. IsLegal act old.opening es) run.entered (subst (λ x. IsLegal act x whole.kept) run.opening legal));
   left = left ∙ ap (λ es. take (length es - undone_of k o) es) run.entered;
   state = state ∙ ap (λ x. after act x new.kept) (opening ∙ run.opening);
+  fewer = fewer;
   past = subst (λ es. o ≡ Err back.PastStart ↔ length es < k) run.entered past;
 }

@@ -1,6 +1,6 @@
 -- A run of workers on threads, and what stands once its last steps are undone.
 use Rattle.std.specs.Prelude.{◌≡◌, ◌↔◌, ℕ, ◌-◌, ◌<◌, ◌≤◌, List, [], ◌∷◌, ◌++◌, Option, Some, None, Result, Ok, Err}
-use Rattle.std.specs.Prelude.{get_or, length, take}
+use Rattle.std.specs.Prelude.{OnErr, get_or, length, take}
 use Rattle.step_record.specs.declared.entry.Entry.{Entry}
 use Rattle.step_record.specs.declared.step.Call.{Call}
 use Rattle.step_record.specs.declared.step.Reply.{Reply}
@@ -9,6 +9,8 @@ use Rattle.step_record.specs.History.{after, Entries}
 use Rattle.shell_model.specs.Shell.{Shell, act}
 use Rattle.journal.specs.declared.fault.BackFault.{BackFault}
 use Rattle.journal.specs.declared.fault.BackFault.TheVariants as back
+use Rattle.workers.specs.declared.run.DriveFault.{DriveFault}
+use Rattle.workers.specs.declared.run.DriveFault.TheVariants as drive
 use Rattle.workers.specs.declared.run.Cause.{Cause}
 use Rattle.workers.specs.declared.run.Cause.TheVariants.{JournalFull}
 use Rattle.walks.specs.Walks.{AreWalks}
@@ -32,13 +34,19 @@ undone_of k (Ok done) = k
 undone_of k (Err back.PastStart) = 0
 undone_of k (Err (back.OutOfMemory undone)) = undone
 
+-- a fault of a run in which no step was made
+abbrev pub HasNoSteps : DriveFault → Type 0
+HasNoSteps (drive.Stopped s lists cause) = ⊥
+HasNoSteps _ = Unit {0}
+
 -- The run is one list of steps behind the old ones. Of these, those of each worker are its own list, in order, which
 -- are the walks of its calls, and nobody else made any. A full journal is the cause only where it is full. Each reply
 -- is the definition's on the steps before it. And once the last steps are undone, the state is the one that the
--- definition gives on the others.
+-- definition gives on the others. Where they are not all undone, fewer than k are.
 pub record IsRewound (n k : ℕ) (pieces : List (List Call)) (cause : Option Cause) (undone : Result (Unit {0}) BackFault)
     (old new : ShellSession) (lists : List Entries) : Type 0 where
   pub run : Entries
+  pub as_many : length lists ≡ length pieces
   pub listed : (w : ℕ) → w < length pieces → entries_of w run ≡ get_or lists w []
   pub made : (w : ℕ) → w < length pieces → AreMade n cause w (get_or pieces w []) (entries_of w run)
   pub no_other : (w : ℕ) → length pieces ≤ w → entries_of w run ≡ []
@@ -47,3 +55,4 @@ pub record IsRewound (n k : ℕ) (pieces : List (List Call)) (cause : Option Cau
   pub left : new.kept ≡ take (length (old.kept ++ run) - undone_of k undone) (old.kept ++ run)
   pub state : new.engine ≡ after act old.opening new.kept
   pub past : undone ≡ Err back.PastStart ↔ length (old.kept ++ run) < k
+  pub fewer : OnErr undone (undone_of k undone < k)

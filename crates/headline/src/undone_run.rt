@@ -1,9 +1,9 @@
 //! The history of a run on threads, in one statement that cites what `drive`, `Session` and `Shell` promise.
-ghost use Rattle.std.specs.Prelude.{◌≡◌, ◌↔◌, ◌-◌, ◌<◌, Err, IfErr, IfOk, length, map, take};
+ghost use Rattle.std.specs.Prelude.{◌≡◌, ◌↔◌, ◌-◌, ◌<◌, Err, IfErr, IfOk, OnErr, length, map, take};
 ghost use Rattle.step_record.specs.History.{after};
 ghost use Rattle.shell_model.specs.Shell.{act};
 ghost use Rattle.workers.specs.DriveFaults.{LeavesFault};
-ghost use Rattle.headline.specs.Rewound.{IsRewound, undone_of};
+ghost use Rattle.headline.specs.Rewound.{IsRewound, HasNoSteps, undone_of};
 
 use drive::{Cause, DriveFault, drive};
 use journal::{BackFault, Session};
@@ -42,6 +42,8 @@ pub fn drive_and_undo<G: Gate, R: Threads + Wait + Sync>(
     ensures rewound { IfOk result (λ r. IsRewound session.engine.config.stripes k (map (λ p. p.items) pieces.items)
         r.cause r.undone session r.session (map (λ l. l.items) r.lists.items)) }
     ensures fault { IfErr result (λ f. LeavesFault f (map (λ p. p.items) pieces.items) session) }
+    // A stopped run is no fault.
+    ensures before { IfErr result HasNoSteps }
 {
     match drive(rt, alloc, session, pieces, gate) {
         Ok(driven) => Ok(undo(driven.session, driven.lists, None, k)),
@@ -68,6 +70,7 @@ fn undo(
     ensures opening { result.session.opening ≡ session.opening }
     ensures left { result.session.kept ≡ take (length session.kept - undone_of k result.undone) session.kept }
     ensures state { result.session.engine ≡ after act result.session.opening result.session.kept }
+    ensures fewer { OnErr result.undone (undone_of k result.undone < k) }
     ensures past { result.undone ≡ Err BackFault.PastStart ↔ length session.kept < k }
 {
     let undone = session.back(k);

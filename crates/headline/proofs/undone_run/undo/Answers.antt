@@ -1,4 +1,4 @@
-use Rattle.headline.proofs.Rewinding.{left_by}
+use Rattle.headline.proofs.Rewinding.{left_by, fewer_undone}
 use Rattle.headline.proofs.undone_run.undo.Goals as goal
 
 pub returns-clause-opening : goal.returns-clause-opening
@@ -6,3 +6,6 @@ returns-clause-opening c = (left_by c.args.k _ _ c.back-undone.result c.back-und
 
 pub returns-clause-left : goal.returns-clause-left
 returns-clause-left c = (left_by c.args.k _ _ c.back-undone.result c.back-undone.ensures.ok c.back-undone.ensures.err).1
+
+pub returns-clause-fewer : goal.returns-clause-fewer
+returns-clause-fewer c = fewer_undone c.args.k _ _ c.back-undone.result c.back-undone.ensures.err c.back-undone.ensures.past
