@@ -37,9 +37,18 @@ impl Model for Table {
     ghost invariant = { λ t. IsKept t.slots.items t.index.heads.items t.index.bits t.lengths };
 }
 
-// How many bits number two buckets for each of so many items.
+// Up to so many bits, there are four buckets for each item of a first index, so that most have one item at most. A
+// larger index has two for each: past the processor's caches, its length costs more than a second slot in a tree.
+const MAX_SPARSE_BITS: u32 = 18;
+
+// How many bits number the buckets of a first index for so many items.
 fn bits_for(items: u32) -> u32 {
-    u32::wrapping_sub(33, items.wrapping_sub(1).leading_zeros())
+    let bits = u32::wrapping_sub(33, items.wrapping_sub(1).leading_zeros());
+    if bits < MAX_SPARSE_BITS {
+        bits + 1
+    } else {
+        bits
+    }
 }
 
 impl Table {
