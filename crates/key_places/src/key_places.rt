@@ -1,5 +1,5 @@
 //! The place of each key.
-ghost use Rattle.std.specs.Prelude.{◌≡◌, ℕ, ◌<◌, cond, nat_eq, Some, None, IfOk, OnOk};
+ghost use Rattle.std.specs.Prelude.{◌≡◌, ℕ, ◌<◌, cond, nat_eq, Some, None, IfOk, IfSome, OnOk};
 ghost use Rattle.step_record.specs.declared.limits.TheConstants.{MAX_ACCESSES};
 ghost use Rattle.key_places.specs.KeyPlaces.{place_of};
 
@@ -29,6 +29,18 @@ impl KeyPlaces {
             low,
             high: HashMap::new(alloc),
         })
+    }
+
+    /// The place of a key that the table reaches, `None` for any other key: for reads ahead of `put`, which do not depend
+    /// on one another, so that the processor overlaps them.
+    #[inline(always)]
+    pub fn in_table(&self, key: Key) -> Option<u32>
+        ensures { IfSome result (λ p. place_of self.now key ≡ Some p) }
+    {
+        if key < self.low.len() as u64 {
+            return self.low[key as usize].checked_sub(1);
+        }
+        None
     }
 
     /// Puts a key's place, and returns the one that it had. The only error is out of memory.

@@ -12,6 +12,9 @@ use key_places::KeyPlaces;
 use std::alloc::{AllocError, Global};
 use step_record::Key;
 
+/// How many accesses are read ahead at once.
+const STRETCH: usize = 64;
+
 /// The histogram of the stack distances of the accesses so far.
 ///
 /// The place of each key's last access has a mark. So an access to a key whose last place is p has for its distance the
@@ -24,6 +27,8 @@ pub(crate) struct Histogram {
     marks: Marks,
     // At d - 1, how many accesses have the distance d; as many as there are distinct keys.
     counts: Vec<u32>,
+    // A sum over what `read_ahead` read, kept so that the compiler cannot drop the reads.
+    read: u64,
 }
 
 impl Histogram {
@@ -40,7 +45,37 @@ impl Histogram {
             last,
             marks,
             counts: Vec::new(alloc),
+            read: 0,
         })
+    }
+
+    /// Reads, at the first of each stretch of accesses, what those of the stretch read first: the places of their keys,
+    /// and the marks there. Unlike the reads of `access`, these do not depend on one another, so the processor overlaps
+    /// them.
+    #[inline(always)]
+    pub(crate) fn read_ahead(&mut self, keys: &[Key], place: usize)
+        ensures last { self.new.last ≡ self.old.last }
+        ensures marks { self.new.marks ≡ self.old.marks }
+        ensures counts { self.new.counts ≡ self.old.counts }
+    {
+        if place % STRETCH == 0 {
+            self.read_stretch(keys, place);
+        }
+    }
+
+    #[inline(never)]
+    fn read_stretch(&mut self, keys: &[Key], from: usize)
+        ensures last { self.new.last ≡ self.old.last }
+        ensures marks { self.new.marks ≡ self.old.marks }
+        ensures counts { self.new.counts ≡ self.old.counts }
+    {
+        let mut read = 0;
+        for place in from..keys.len().min(from.saturating_add(STRETCH)) {
+            if let Some(before) = self.last.in_table(keys[place]) {
+                read ^= self.marks.word_of(before as usize);
+            }
+        }
+        self.read ^= read;
     }
 
     /// Counts the distance of the next access of the trace, the one at `place`. The only error is out of memory, after

@@ -74,4 +74,14 @@ impl Marks {
         let low = self.words[word] & ((1 << (place % FAN_OUT)) - 1);
         self.counts.below(word) + low.count_ones()
     }
+
+    /// The word of a place's mark, 0 past the last one: to read it ahead.
+    #[inline(always)]
+    pub(crate) fn word_of(&self, place: usize) -> u64 {
+        let word = place / FAN_OUT;
+        if word < self.words.len() {
+            return self.words[word];
+        }
+        0
+    }
 }
