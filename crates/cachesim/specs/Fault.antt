@@ -11,8 +11,8 @@ use Rattle.debug_commands.specs.declared.fault.DebugFault.{DebugFault}
 use Rattle.debug_commands.specs.declared.fault.DebugFault.TheVariants as debug
 use Rattle.cachesim.specs.declared.files.FileFault.{FileFault}
 use Rattle.cachesim.specs.declared.files.FileFault.TheVariants as file
-use Rattle.policy_actors.specs.declared.fault.ActorFault.{ActorFault}
-use Rattle.policy_actors.specs.declared.fault.ActorFault.TheVariants as actor
+use Rattle.job_checks.specs.declared.fault.ActorFault.{ActorFault}
+use Rattle.job_checks.specs.declared.fault.ActorFault.TheVariants as actor
 use Rattle.cachesim.specs.declared.fault.Fault.{Fault}
 use Rattle.cachesim.specs.declared.fault.Fault.TheVariants.{Actors, Batch, Config, Debug, Journal, JournalFull}
 use Rattle.cachesim.specs.declared.fault.Fault.TheVariants.{NoFile, OutOfMemory, Write}

@@ -13,7 +13,7 @@ use Rattle.policies.specs.declared.any_policy.AnyPolicy.{AnyPolicy}
 use Rattle.policies.specs.AnyPolicy.{Stands, outcomes_on}
 use Rattle.policies.specs.AnyStep.{any_act}
 use Rattle.policies.specs.Theorems.{AnyStands, AnyAccepts, AnyAnswers}
-use Rattle.policy_actors.proofs.Stretches.{next-ahead, added-next}
+use Rattle.policies.proofs.Stretches.{next-ahead, added-next}
 use Rattle.debug_policies.specs.Part.{is_hit_at, AgreeBelow, IsPart, IsNoted, IsFirstOther}
 
 -- ---- one access of one cache

@@ -1,7 +1,7 @@
 //! The debugger of two policies over one trace.
 ghost use Rattle.std.specs.Prelude.{◌≡◌, Err, IfErr, IfSome, OnOk, [], ◌∷◌, ℕ, true, false};
 ghost use Rattle.debug_commands.specs.Dialogue.{dialogue_of, IsLineHeld};
-ghost use Rattle.policy_actors.specs.Faults.{faulty_in};
+ghost use Rattle.job_checks.specs.FaultyJobs.{faulty_in};
 ghost use Rattle.debug_policies.specs.Refused.{ReturnsConfig, UntouchedAtConfig};
 ghost use Rattle.debug_policies.specs.TwoPolicies.{policies_timeline};
 

@@ -5,12 +5,12 @@ ghost use Rattle.step_record.specs.Config.{config_fault};
 ghost use Rattle.step_record.specs.Stats.{is_hit};
 ghost use Rattle.policies.specs.AnyPolicy.{Stands, outcomes_on};
 ghost use Rattle.policies.specs.AnyStep.{any_act};
-ghost use Rattle.policy_actors.specs.Faults.{faulty_in, ReturnsFault};
+ghost use Rattle.job_checks.specs.FaultyJobs.{faulty_in, ReturnsFault};
 ghost use Rattle.debug_policies.specs.Part.{part_line, IsPart, IsNoted, IsFirstOther};
 
 use debug_commands::{push_bytes, push_count};
 use policies::{AnyPolicy, any_accepts, any_answers, any_covers_trace, any_stands};
-use policy_actors::ActorFault;
+use job_checks::ActorFault;
 use std::alloc::{AllocError, Global};
 use step_record::{Job, Key, Outcome, StepFault, Trace};
 

@@ -1,6 +1,6 @@
 //! Small traces whose outcomes were worked out by hand.
 use super::*;
-use policy_actors::ActorFault;
+use job_checks::ActorFault;
 use std::alloc::Global;
 use std::io::{Error, ErrorKind, Read, Write};
 use std::process::Abort;

@@ -5,7 +5,8 @@
 //! calls alone: that the lists are equal, and that they are what the policies' definitions give over the keys of the
 //! trace.
 ghost use Rattle.std.specs.Prelude.{◌≡◌, IfOk, map};
-ghost use Rattle.policy_actors.specs.Faults.{actor_fault, at_capacity, faulty_in, ReturnsFault};
+ghost use Rattle.policy_actors.specs.Faults.{actor_fault};
+ghost use Rattle.job_checks.specs.FaultyJobs.{at_capacity, faulty_in, ReturnsFault};
 ghost use Rattle.policy_actors.specs.Reports.{report_on};
 
 use policy_actors::{ActorFault, run_actors, run_one, sweep};

@@ -3,8 +3,8 @@ use Rattle.std.proofs.Common.{◌≡◌, ℕ, zero, suc, ◌+◌, ◌<◌, Optio
 use Rattle.std.proofs.lemmas.List.{take_more, map-append}
 use Rattle.std.specs.Option.{option_or}
 use Rattle.step_record.specs.declared.job.Job.{Job}
-use Rattle.policy_actors.specs.declared.fault.ActorFault.{ActorFault}
-use Rattle.policy_actors.specs.Faults.{at_capacity, faulty_in}
+use Rattle.job_checks.specs.declared.fault.ActorFault.{ActorFault}
+use Rattle.job_checks.specs.FaultyJobs.{at_capacity, faulty_in}
 use Rattle.policy_actors.specs.Reports.{report_on}
 use Rattle.policy_actors.specs.Sweep.{jobs_over, sweep_fault}
 

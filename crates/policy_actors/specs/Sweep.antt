@@ -3,9 +3,9 @@ use Rattle.std.specs.Option.{option_or}
 use Rattle.std.specs.Prelude.{ℕ, cond, nat_le, Option, Some, None, List, [], ◌∷◌, ◌++◌, length, map}
 use Rattle.step_record.specs.declared.job.Job.{Job}
 use Rattle.policy_actors.specs.declared.run.TheConstants.{MAX_ACTORS}
-use Rattle.policy_actors.specs.declared.fault.ActorFault.{ActorFault}
-use Rattle.policy_actors.specs.declared.fault.ActorFault.TheVariants.{Actors}
-use Rattle.policy_actors.specs.Faults.{at_capacity, faulty_in}
+use Rattle.job_checks.specs.declared.fault.ActorFault.{ActorFault}
+use Rattle.job_checks.specs.declared.fault.ActorFault.TheVariants.{Actors}
+use Rattle.job_checks.specs.FaultyJobs.{at_capacity, faulty_in}
 
 -- the first job at each of the capacities, then the second, and so on
 abbrev pub jobs_over : List Job → List ℕ → List Job

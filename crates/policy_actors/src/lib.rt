@@ -7,15 +7,13 @@
 
 mod accesses;
 mod actor;
-mod checks;
-mod fault;
 mod mail;
 mod rule;
 mod run;
 mod several;
 mod single;
 
-pub use fault::ActorFault;
+pub use job_checks::ActorFault;
 pub use run::{MAX_ACTORS, run_actors};
 pub use several::{sweep, sweep_batches, sweep_each};
 pub use single::run_one;

@@ -5,14 +5,14 @@ ghost use denote.Param.Send.{IsSync};
 ghost use Rattle.step_record.specs.Config.{config_fault};
 ghost use Rattle.policy_actors.specs.declared.run.TheConstants.{MAX_ACTORS};
 ghost use Rattle.policy_actors.specs.Actors.{jobs_of, AllSent};
-ghost use Rattle.policy_actors.specs.Faults.{actor_fault, faulty_in, ReturnsFault};
+ghost use Rattle.policy_actors.specs.Faults.{actor_fault};
+ghost use Rattle.job_checks.specs.FaultyJobs.{faulty_in, ReturnsFault};
 ghost use Rattle.policy_actors.specs.Reports.{report_on};
 
 use crate::actor::act;
-use crate::checks::check_jobs;
-use crate::fault::ActorFault;
 use crate::mail::{Feed, Outbox, channel};
 use crate::rule::Source;
+use job_checks::{ActorFault, check_jobs};
 use report::Report;
 use std::alloc::{AllocError, Global};
 use std::marker::{Brand, PhantomData};

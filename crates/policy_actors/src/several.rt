@@ -1,15 +1,14 @@
 //! Jobs at several capacities.
 ghost use Rattle.std.specs.Prelude.{◌≡◌, ◌++◌, IfOk, IfSome, OnOk, map};
-ghost use Rattle.policy_actors.specs.Faults.{at_capacity, faulty_in, ReturnsFault};
+ghost use Rattle.job_checks.specs.FaultyJobs.{at_capacity, faulty_in, ReturnsFault};
 ghost use Rattle.policy_actors.specs.Reports.{report_on};
 ghost use Rattle.policy_actors.specs.Sweep.{jobs_over, sweep_fault};
 ghost use Rattle.stack_distances.specs.Curve.{curve_of};
 
-use crate::checks::{check_capacities, with_capacity};
-use crate::fault::ActorFault;
 use crate::run::MAX_ACTORS;
 use crate::single::{Input, run_over};
 use clairvoyant::NextUse;
+use job_checks::{ActorFault, check_capacities, with_capacity};
 use rayon::prelude::*;
 use report::Report;
 use stack_distances::Curve;

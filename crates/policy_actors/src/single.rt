@@ -2,13 +2,13 @@
 ghost use Rattle.std.specs.Prelude.{◌≡◌, ℕ, List, Ok, IfOk, IfSome, [], ◌∷◌};
 ghost use Rattle.std.proofs.Props.{props};
 ghost use Rattle.step_record.specs.Config.{config_fault};
-ghost use Rattle.policy_actors.specs.Faults.{faulty_in, ReturnsFault};
+ghost use Rattle.job_checks.specs.FaultyJobs.{faulty_in, ReturnsFault};
 ghost use Rattle.policy_actors.specs.Reports.{report_on};
 ghost use Rattle.stack_distances.specs.Curve.{curve_of};
 
 use crate::accesses::{access_in_batches, report_by};
-use crate::fault::ActorFault;
 use clairvoyant::NextUse;
+use job_checks::ActorFault;
 use policies::AnyPolicy;
 use report::Report;
 use stack_distances::Curve;

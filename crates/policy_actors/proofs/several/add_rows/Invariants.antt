@@ -1,5 +1,5 @@
 use Rattle.std.proofs.Common.{◌≡◌, ◌++◌, map, take}
-use Rattle.policy_actors.specs.Faults.{at_capacity}
+use Rattle.job_checks.specs.FaultyJobs.{at_capacity}
 use Rattle.policy_actors.proofs.several.add_rows.Given as goal
 
 abbrev pub invariant-loop-capacity : goal.invariant-loop-capacity

@@ -1,7 +1,7 @@
 use Rattle.std.proofs.Common.{◌∙◌, subst, Option}
 use Rattle.std.proofs.lemmas.Result.{IfOk-weaker}
-use Rattle.policy_actors.specs.declared.fault.ActorFault.{ActorFault}
-use Rattle.policy_actors.specs.Faults.{ReturnsFault}
+use Rattle.job_checks.specs.declared.fault.ActorFault.{ActorFault}
+use Rattle.job_checks.specs.FaultyJobs.{ReturnsFault}
 use Rattle.policy_actors.proofs.Sweeps.{one-fault, one-reports}
 use Rattle.policy_actors.proofs.several.sweep.Goals as goal
 

@@ -4,7 +4,7 @@ use Rattle.step_record.specs.declared.job.Job.{Job}
 use Rattle.policy_actors.specs.Actors.{AllSent}
 use Rattle.policy_actors.specs.declared.run.Promised.{Promised}
 use Rattle.policy_actors.specs.declared.mail.Outbox.{Outbox}
-use Rattle.policy_actors.proofs.Accepted.{accepted}
+use Rattle.job_checks.proofs.Accepted.{accepted}
 use Rattle.policy_actors.proofs.Rounds.{added}
 use Rattle.policy_actors.proofs.run.fn.run_as.scope.Goals as goal
 

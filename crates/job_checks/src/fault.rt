@@ -1,6 +1,6 @@
 //! Why there are no reports.
 ghost use Rattle.std.specs.Prelude.{◌≡◌};
-ghost use Rattle.policy_actors.specs.declared.fault.ActorFault.TheVariants.{OutOfMemory};
+ghost use Rattle.job_checks.specs.declared.fault.ActorFault.TheVariants.{OutOfMemory};
 
 use std::alloc::AllocError;
 use thiserror::Error;

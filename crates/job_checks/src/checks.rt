@@ -1,6 +1,6 @@
 //! What is checked before any job is run.
 ghost use Rattle.std.specs.Prelude.{◌≡◌, Some, None, MatchResult, map};
-ghost use Rattle.policy_actors.specs.Faults.{at_capacity, faulty_in};
+ghost use Rattle.job_checks.specs.FaultyJobs.{at_capacity, faulty_in};
 
 use crate::fault::ActorFault;
 use step_record::{Config, Job};
