@@ -1,0 +1,82 @@
+//! A session over the concurrent cache, copied by way of its text.
+ghost use Rattle.std.specs.Prelude.{◌≡◌, ◌≤◌, [], IfOk, OnOk, length};
+ghost use Rattle.maintenance.specs.Opened.{IsOpened};
+ghost use Rattle.shell_model.specs.Reached.{IsReachable};
+ghost use Rattle.step_record.specs.declared.limits.TheConstants.{MAX_JOURNAL_LIMIT};
+
+use super::sessions::CONFIG;
+use super::shell_line::assert_shows_as;
+use journal::Session;
+use maintenance::Shell;
+use shell_journal::copy_journal;
+use std::alloc::Global;
+use std::process::Abort;
+use std::test::Fail;
+use step_record::{Act, Config, Reply, Step, Worker};
+
+// A session of at most three steps over an empty shell.
+fn fresh(rt: &impl Abort, alloc: Global, config: &Config) -> Result<Session<Shell>, Fail>
+    ensures opened { IfOk result (λ s. IsOpened config.now s.opening) }
+    ensures reachable { IfOk result (λ s. IsReachable s.opening) }
+    ensures limit { IfOk result (λ s. s.limit ≡ 3) }
+    ensures kept { IfOk result (λ s. s.kept ≡ []) }
+    ensures tail { IfOk result (λ s. s.tail ≡ []) }
+{
+    assert!(rt; config.check() == Ok(()));
+    let shell = Shell::new(alloc, config)?;
+    shell.reachable();
+    Ok(Session::open(alloc, shell, 3))
+}
+
+// Makes a step of worker 0, which is answered so.
+fn make(rt: &impl Abort, session: &mut Session<Shell>, act: Act, reply: Reply) -> Result<(), Fail>
+    ensures opening { session.new.opening ≡ session.old.opening }
+    ensures limit { session.new.limit ≡ session.old.limit }
+{
+    let worker = Worker::new(0).expect(rt, "a worker below the limit");
+    assert_eq!(rt; session.step(Step { worker, act })?, reply);
+    Ok(())
+}
+
+// Makes the steps of a miss.
+fn make_miss(rt: &impl Abort, session: &mut Session<Shell>) -> Result<(), Fail>
+    ensures opening { session.new.opening ≡ session.old.opening }
+    ensures limit { session.new.limit ≡ session.old.limit }
+    ensures few { OnOk result (length session.new.kept ≤ session.new.limit) }
+{
+    let _steps = session.len();
+    make(rt, session, Act::Look { key: 1 }, Reply::Miss)?;
+    make(rt, session, Act::Put { key: 1 }, Reply::Added { node: 0 })?;
+    make(rt, session, Act::AfterWrite, Reply::Drain)?;
+    let _steps = session.len();
+    Ok(())
+}
+
+// Copies a session of the three steps of a miss.
+fn assert_copied(
+    rt: &impl Abort,
+    alloc: Global,
+    session: &Session<Shell>,
+    copy: &mut Session<Shell>,
+) -> Result<(), Fail>
+    requires reachable { IsReachable session.now.opening }
+    requires few { length session.now.kept ≤ MAX_JOURNAL_LIMIT }
+    requires alike { copy.old.opening ≡ session.now.opening }
+    requires kept { copy.old.kept ≡ [] }
+    requires tail { copy.old.tail ≡ [] }
+    requires room { length session.now.kept ≤ copy.old.limit }
+{
+    copy_journal(alloc, session, copy)?;
+    assert_eq!(rt; copy.len(), 3);
+    let put = copy.entry(2).map(|entry| entry.reply);
+    assert_eq!(rt; put, Some(Reply::Added { node: 0 }));
+    assert_shows_as(rt, alloc, copy.engine(), session.engine())
+}
+
+#[test]
+fn a_session_is_copied_by_its_text(rt: HostRuntime) -> Result<(), Fail> {
+    let mut session = fresh(&rt, rt.alloc(), &CONFIG)?;
+    make_miss(&rt, &mut session)?;
+    let mut copy = fresh(&rt, rt.alloc(), &CONFIG)?;
+    assert_copied(&rt, rt.alloc(), &session, &mut copy)
+}
