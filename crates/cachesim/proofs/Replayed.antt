@@ -1,5 +1,5 @@
 -- Answers about a journal that was read from a file.
-use Rattle.std.proofs.Common.{◌≡◌, ◌∙◌, ap, subst, sym, ℕ, true, List, [], ◌++◌, Option, Some, None, length}
+use Rattle.std.proofs.Common.{◌≡◌, ◌∙◌, ap, subst, ℕ, true, List, [], ◌++◌, Option, Some, None, length}
 use Rattle.std.specs.Prelude.{IfSome}
 use Rattle.std.proofs.lemmas.List.{append-nil}
 use Rattle.step_record.specs.declared.config.Config.{Config}

@@ -1,5 +1,5 @@
 //! The line on a terminal that shows how far a subcommand is.
-use std::fmt::{Display, Formatter, Result, Write};
+use std::fmt;
 use std::rt::Clock;
 use std::sync::OnceLock;
 use std::sync::atomic::AtomicU64;
@@ -145,8 +145,8 @@ pub struct Line {
     pub seconds: u64,
 }
 
-impl Display for Line {
-    fn fmt<W: Write>(&self, f: &mut Formatter<W>) -> Result {
+impl fmt::Display for Line {
+    fn fmt<W: fmt::Write>(&self, f: &mut fmt::Formatter<W>) -> fmt::Result {
         let name = self.work.name;
         let percent = self.done.min(self.work.batches).saturating_mul(100)
             / self.work.batches.max(1);

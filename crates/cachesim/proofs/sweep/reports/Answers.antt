@@ -1,4 +1,4 @@
-use Rattle.std.proofs.Common.{◌∙◌, ap, ap₂, ℕ, List, map}
+use Rattle.std.proofs.Common.{◌∙◌, ap, ap₂, List, map}
 use Rattle.std.proofs.lemmas.Result.{IfOk-weaker}
 use Rattle.step_record.specs.declared.job.Job.{Job}
 use Rattle.policy_actors.specs.Reports.{report_on}
