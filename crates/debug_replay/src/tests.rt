@@ -213,6 +213,9 @@ fn walk(
     let mut input = pipe_of(alloc, commands, reads)?;
     let mut output = pipe_of(alloc, b"", writes)?;
     let answer = run_replay(alloc, session, &mut input, &mut output);
+    if answer == Err(DebugFault::OutOfMemory) {
+        return Err(Fail::from("out of memory"));
+    }
     assert_eq!(rt; output.taken.as_slice(), text);
     Ok(answer)
 }

@@ -91,9 +91,7 @@ fn run_of_shell(alloc: Global, config: &Config, keys: &[Key]) -> Result<Shown, F
 {
     let shell = Shell::new(alloc, config)?;
     let mut session = Session::open(alloc, shell, 8192);
-    let Ok(outcomes) = run_quiet(alloc, &mut session, keys) else {
-        return Err(Fail::from("a quiet run that was cut off"));
-    };
+    let outcomes = run_quiet(alloc, &mut session, keys)?;
     shown_by_shell(session.engine(), alloc, keys, outcomes)
 }
 
