@@ -9,8 +9,8 @@ ghost use Rattle.job_checks.specs.FaultyJobs.{faulty_in, ReturnsFault};
 ghost use Rattle.debug_policies.specs.Part.{part_line, IsPart, IsNoted, IsFirstOther};
 
 use debug_commands::{push_bytes, push_count};
-use policies::{AnyPolicy, any_accepts, any_answers, any_covers_trace, any_stands};
 use job_checks::ActorFault;
+use policies::{AnyPolicy, any_accepts, any_answers, any_covers_trace, any_stands};
 use std::alloc::{AllocError, Global};
 use step_record::{Job, Key, Outcome, StepFault, Trace};
 
