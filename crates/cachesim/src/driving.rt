@@ -11,7 +11,6 @@ ghost use Rattle.cachesim.specs.Drove.{IsDriven, IsFirst, IsOfRun};
 
 use crate::fault::Fault;
 use command_line::DriveArguments;
-use drive::{DriveFault, Driven};
 use journal::Session;
 use journal_text::write_journal;
 use maintenance::Shell;
@@ -21,6 +20,7 @@ use std::sync::Wait;
 use std::thread::Threads;
 use step_record::{Call, Config, Key, OpenGate};
 use trace_read::{Format, read_trace};
+use workers::{DriveFault, Driven};
 
 // A list of no call for each worker.
 fn empty_pieces(alloc: Global, workers: u8) -> Result<Vec<Vec<Call>>, AllocError>
@@ -132,6 +132,6 @@ pub fn drive<T: Threads + Wait + Sync, R: Read, W: Write>(
 {
     let pieces = pieces_of(alloc, input, arguments.format, arguments.workers)?;
     let session = open(alloc, &arguments.config)?;
-    let run = drive::drive(rt, alloc, session, pieces, &OpenGate);
+    let run = workers::drive(rt, alloc, session, pieces, &OpenGate);
     end(alloc, run, out)
 }

@@ -5,13 +5,13 @@ ghost use Rattle.cachesim.specs.declared.fault.Fault.TheVariants.{OutOfMemory, T
 
 use crate::files::FileFault;
 use debug_commands::DebugFault;
-use drive::Cause;
 use journal_text::JournalFault;
 use policy_actors::ActorFault;
 use report::WriteFault;
 use std::alloc::AllocError;
 use thiserror::Error;
 use trace_read::TraceFault;
+use workers::Cause;
 
 /// Why a subcommand printed no result. It is displayed as the program prints it after `fault: `.
 #[derive(Clone, Copy, Debug, PartialEq, Eq, Error)]

@@ -4,7 +4,7 @@ ghost use Rattle.cachesim.specs.Part.{Parting};
 
 use crate::fault::Fault;
 use command_line::PartArguments;
-use debug_shell::push_part;
+use debug_policies::push_part;
 use std::alloc::Global;
 use std::io::{Read, Write};
 use trace_read::read_trace;
@@ -23,7 +23,7 @@ pub fn part<R: Read, W: Write>(
     ensures kept { IfErr result (λ fault. fault ≢ Fault.Write → out.new ≡ out.old) }
 {
     let trace = read_trace(alloc, input, arguments.format)?;
-    let found = debug_shell::part(alloc, &trace, &arguments.first, &arguments.second)?;
+    let found = debug_policies::part(alloc, &trace, &arguments.first, &arguments.second)?;
     let mut line = Vec::new(alloc);
     push_part(&mut line, found)?;
     match streams::write_all(out, line.as_slice()) {

@@ -27,6 +27,3 @@ pub use grammar::line;
 pub use lines::MAX_COMMAND_BYTES;
 pub use text::{push_bytes, push_count, push_number};
 pub use timeline::Timeline;
-
-#[cfg(test)]
-mod tests;

@@ -14,6 +14,3 @@ mod two_policies;
 pub use debug_commands::DebugFault;
 pub use debugger::run_debug;
 pub use divergence::{part, push_part};
-
-#[cfg(test)]
-mod tests;

@@ -12,6 +12,3 @@ mod texts;
 
 pub use debug_commands::DebugFault;
 pub use debugger::run_replay;
-
-#[cfg(test)]
-mod tests;

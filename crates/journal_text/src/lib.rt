@@ -28,6 +28,3 @@ pub use reader::{MAX_JOURNAL_BYTES, read_journal};
 pub use theorems::{one_journal, one_line, read_back};
 pub use version::Version;
 pub use writer::write_journal;
-
-#[cfg(test)]
-mod tests;

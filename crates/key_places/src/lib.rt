@@ -8,6 +8,3 @@
 mod key_places;
 
 pub use key_places::KeyPlaces;
-
-#[cfg(test)]
-mod tests;

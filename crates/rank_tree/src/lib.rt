@@ -14,6 +14,3 @@ mod single;
 
 pub use limits::MAX_SIZE;
 pub use ranks::Ranks;
-
-#[cfg(test)]
-mod tests;

@@ -8,8 +8,6 @@
 
 mod stripes;
 mod task;
-#[cfg(test)]
-mod tests;
 mod write_tasks;
 
 pub use stripes::{MAX_ITEMS, Stripes};

@@ -190,7 +190,7 @@ fn a_key_read_removed_and_read_again_is_read_back(rt: HostRuntime) -> Result<(),
 }
 
 // Texts, the line that is not one, and how many steps are applied then.
-const NO_LINES: [(&str, usize, usize); 13] = [
+const NO_LINES: [(&str, usize, usize); 26] = [
     ("cachesim journal 1\nsteps 0\n", 1, 0),
     ("cachesim journal 2\nsteps 0\r\n", 1, 0),
     ("cachesim journal 1\nsteps 00\n", 1, 0),
@@ -204,13 +204,61 @@ const NO_LINES: [(&str, usize, usize); 13] = [
     ("cachesim journal 1\n0 look 1 = kept\n", 1, 0),
     ("cachesim journal 1\n0 put 01 = added 0\n", 1, 0),
     ("cachesim journal 2\n0 put 01 = added 0\n", 1, 0),
+    ("cachesim journal 2\n\n", 1, 0),
+    ("cachesim journal 2\n64 begin = busy\n", 1, 0),
+    ("cachesim journal 2\n0 look 1 = lost\n", 1, 0),
+    ("cachesim journal 2\n0 look 1  = miss\n", 1, 0),
+    ("cachesim journal 2\n0 look 1 = miss \n", 1, 0),
+    ("cachesim journal 2\n0 look 1 = miss\r\n", 1, 0),
+    ("cachesim journal 2\n 0 look 1 = miss\n", 1, 0),
+    (
+        "cachesim journal 2\n0 look 18446744073709551616 = miss\n",
+        1,
+        0,
+    ),
+    ("cachesim journal 2\n0 drainread 256 = empty\n", 1, 0),
+    ("cachesim journal 2\n+1 begin = busy\n", 1, 0),
+    ("cachesim journal 2\n0 afterread go = go\n", 1, 0),
+    ("cachesim journal 2\n0 look 1 miss\n", 1, 0),
+    ("cachesim journal 1\n0 drainwrite = cleared 1 0\n", 1, 0),
 ];
+
+// Lines, what a new cache answers to them, and how many steps are applied then: each is a line, whatever the cache does.
+const FIRST_LINES: [(&str, Result<(), JournalFault>, usize); 8] = [
+    ("0 look 1 = miss", Ok(()), 1),
+    ("0 put 18446744073709551615 = added 0", Ok(()), 1),
+    ("0 remove 1 = removed 0", FALSE, 1),
+    ("0 afterread full = go", FALSE, 1),
+    ("7 lose 3 4 5 = lost", NOT_NOW, 0),
+    ("63 offer 255 18446744073709551615 0 = kept", NOT_NOW, 0),
+    ("0 evict = rejected 1 0", NOT_NOW, 0),
+    ("0 end = notyet", NOT_NOW, 0),
+];
+
+const FALSE: Result<(), JournalFault> = Err(JournalFault::FalseReply { step: 1 });
+
+const NOT_NOW: Result<(), JournalFault> = Err(JournalFault::NotNow { step: 1 });
 
 #[test]
 fn the_first_line_that_is_none_is_named(rt: HostRuntime) -> Result<(), Fail> {
     for (case, (text, step, steps)) in NO_LINES.iter().enumerate() {
         let wanted = (Err(JournalFault::Line { step: *step }), *steps);
         assert_reading(&rt, rt.alloc(), &mut text.as_bytes(), wanted, case)?;
+    }
+    Ok(())
+}
+
+#[test]
+fn each_word_of_a_line_is_read(rt: HostRuntime) -> Result<(), Fail> {
+    for (case, (line, answer, steps)) in FIRST_LINES.iter().enumerate() {
+        let text = format!(in rt.alloc(); "cachesim journal 2\n{line}\nsteps 1\n")?;
+        assert_reading(
+            &rt,
+            rt.alloc(),
+            &mut text.as_bytes(),
+            (*answer, *steps),
+            case,
+        )?;
     }
     Ok(())
 }

@@ -23,6 +23,3 @@ mod total;
 
 pub use curve::Curve;
 pub use theorems::{hits_grow, lru_counts, lru_hits};
-
-#[cfg(test)]
-mod tests;

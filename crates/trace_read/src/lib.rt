@@ -24,6 +24,3 @@ pub use fault::TraceFault;
 pub use format::Format;
 pub use reader::read_trace;
 pub use step_record::Trace;
-
-#[cfg(test)]
-mod tests;

@@ -1,4 +1,5 @@
-use super::*;
+//! The buffers of the concurrent cache, filled and emptied.
+use shell_buffers::{Stripes, Task, WriteTasks};
 use std::test::Fail;
 use step_record::Item;
 
@@ -84,32 +85,5 @@ fn tasks_leave_the_write_queue_in_their_order_and_come_back(rt: HostRuntime) -> 
         queue.tasks(),
         &[Task::Add(item(1)), Task::Update(item(1))][..]
     );
-    Ok(())
-}
-
-// The queue moves three times round its ring, both ways, never empty.
-#[test]
-fn the_write_queue_goes_round_both_ways(rt: HostRuntime) -> Result<(), Fail> {
-    let mut queue = WriteTasks::new(rt.alloc())?;
-    assert!(rt; queue.push(Task::Update(item(0))));
-    for key in 1..400 {
-        assert!(rt; queue.push(Task::Update(item(key))));
-        assert_eq!(rt;
-            queue.tasks(),
-            &[Task::Update(item(key - 1)), Task::Update(item(key))][..]
-        );
-        assert_eq!(rt; queue.take_oldest(), Some(Task::Update(item(key - 1))));
-    }
-    for step in 1..400 {
-        let key = 399 - step;
-        assert!(rt; queue.tasks().len() == 1);
-        queue.untake(Task::Update(item(key)));
-        assert_eq!(rt;
-            queue.tasks(),
-            &[Task::Update(item(key)), Task::Update(item(key + 1))][..]
-        );
-        queue.unpush();
-    }
-    assert_eq!(rt; queue.tasks(), &[Task::Update(item(0))][..]);
     Ok(())
 }

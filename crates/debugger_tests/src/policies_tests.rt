@@ -1,8 +1,8 @@
 //! Small traces whose outcomes were worked out by hand.
-use super::*;
+use super::pipe::{Pipe, ROOM};
+use debug_policies::{DebugFault, part, run_debug};
 use job_checks::ActorFault;
 use std::alloc::Global;
-use std::io::{Error, ErrorKind, Read, Write};
 use std::process::Abort;
 use std::test::Fail;
 use step_record::{Config, Job, Key, Policy, Spread, Trace};
@@ -92,9 +92,6 @@ fn a_refused_configuration_is_reported_by_its_index(rt: HostRuntime) -> Result<(
     }
     Ok(())
 }
-
-// Room for all that is written, so that no output asks for memory.
-const ROOM: usize = 1024;
 
 // What the debugger writes of two policies over a trace.
 fn said_of(
@@ -207,61 +204,6 @@ fn sixty_four_breakpoints(rt: HostRuntime) -> Result<(), Fail> {
     assert_said(&rt, rt.alloc(), commands.as_slice(), text.as_slice())
 }
 
-// An input or an output of one byte at a call: it is interrupted so often first, and fails once so many calls passed.
-#[derive(Drop)]
-struct Pipe<'a> {
-    text: &'a [u8],
-    taken: Vec<u8>,
-    interruptions: u32,
-    passes: usize,
-}
-
-impl<'a> Pipe<'a> {
-    fn of(text: &'a [u8], taken: Vec<u8>, passes: usize) -> Pipe<'a> {
-        Pipe {
-            text,
-            taken,
-            interruptions: 0,
-            passes,
-        }
-    }
-
-    fn next(&mut self) -> std::io::Result<()> {
-        if self.interruptions > 0 {
-            self.interruptions -= 1;
-            return Err(Error::from(ErrorKind::Interrupted));
-        }
-        if self.passes == 0 {
-            return Err(Error::from(ErrorKind::BrokenPipe));
-        }
-        self.passes -= 1;
-        Ok(())
-    }
-}
-
-impl<'a> Read for Pipe<'a> {
-    fn read(&mut self, buf: &mut [u8]) -> std::io::Result<usize> {
-        self.next()?;
-        let count = buf.len().min(self.text.len()).min(1);
-        buf[..count].copy_from_slice(&self.text[..count]);
-        self.text = &self.text[count..];
-        Ok(count)
-    }
-}
-
-impl<'a> Write for Pipe<'a> {
-    fn write(&mut self, buf: &[u8]) -> std::io::Result<usize> {
-        self.next()?;
-        let count = buf.len().min(1);
-        self.taken.extend_from_slice(&buf[..count])?;
-        Ok(count)
-    }
-
-    fn flush(&mut self) -> std::io::Result<()> {
-        self.next()
-    }
-}
-
 // Two commands, of which the second ends the run, and what lies behind it.
 const COMMANDS: &[u8] = b"goto 5\nquit\nshow\n";
 
@@ -287,119 +229,32 @@ fn answer_through(
     }
 }
 
-fn pipe_of(alloc: Global, passes: usize) -> Result<Pipe<'static>, Fail> {
-    Ok(Pipe::of(COMMANDS, Vec::with_capacity(alloc, ROOM)?, passes))
-}
-
-// How often the input, and the output, is interrupted before its first call goes through.
-#[derive(Clone, Copy, Debug)]
-struct Interruptions {
-    reads: u32,
-    writes: u32,
-}
-
-const NONE: Interruptions = Interruptions {
-    reads: 0,
-    writes: 0,
-};
-
-// Sees what the commands are answered through ends that bear so many calls, and that the front of the answers is
+// Sees what the commands are answered through ends that let so many calls pass, and that the front of the answers is
 // written, all of them where there is no fault.
 fn assert_through(
     rt: &impl Abort,
     alloc: Global,
     (reads, writes): (usize, usize),
-    interruptions: Interruptions,
     wanted: Result<(), DebugFault>,
 ) -> Result<(), Fail> {
-    let mut input = pipe_of(alloc, reads)?;
-    let mut output = pipe_of(alloc, writes)?;
-    input.interruptions = interruptions.reads;
-    output.interruptions = interruptions.writes;
+    let mut input = Pipe::of(alloc, COMMANDS, reads)?;
+    let mut output = Pipe::of(alloc, b"", writes)?;
     let answer = answer_through(alloc, &mut input, &mut output)?;
-    assert_eq!(rt;
-        answer,
-        wanted,
-        "{reads} reads, {writes} writes, {interruptions:?}"
-    );
+    assert_eq!(rt; answer, wanted, "{reads} reads, {writes} writes");
     assert!(rt; ANSWERS.starts_with(output.taken.as_slice()));
     assert!(rt; answer.is_err() || output.taken.len() == ANSWERS.len());
     Ok(())
 }
 
 #[test]
-fn each_read_that_fails_is_reported(rt: HostRuntime) -> Result<(), Fail> {
+fn each_read_or_write_that_fails_is_reported(rt: HostRuntime) -> Result<(), Fail> {
     for reads in 0..READS {
-        assert_through(&rt, rt.alloc(), (reads, ROOM), NONE, Err(DebugFault::Read))?;
+        assert_through(&rt, rt.alloc(), (reads, ROOM), Err(DebugFault::Read))?;
     }
-    assert_through(&rt, rt.alloc(), (READS, ROOM), NONE, Ok(()))
-}
-
-#[test]
-fn each_write_or_flush_that_fails_is_reported(rt: HostRuntime) -> Result<(), Fail> {
     for writes in 0..WRITES {
-        assert_through(
-            &rt,
-            rt.alloc(),
-            (READS, writes),
-            NONE,
-            Err(DebugFault::Write),
-        )?;
+        assert_through(&rt, rt.alloc(), (READS, writes), Err(DebugFault::Write))?;
     }
-    assert_through(&rt, rt.alloc(), (READS, WRITES), NONE, Ok(()))
-}
-
-#[test]
-fn the_millionth_interruption_is_a_failure(rt: HostRuntime) -> Result<(), Fail> {
-    for (reads, writes, answer) in [
-        (999_999, 999_999, Ok(())),
-        (1_000_000, 0, Err(DebugFault::Read)),
-        (0, 1_000_000, Err(DebugFault::Write)),
-    ] {
-        let interruptions = Interruptions { reads, writes };
-        assert_through(&rt, rt.alloc(), (READS, WRITES), interruptions, answer)?;
-    }
-    Ok(())
-}
-
-// A command, and a line of blanks behind it.
-fn long_commands(alloc: Global, blanks: usize) -> Result<Vec<u8>, Fail> {
-    let mut commands = Vec::with_capacity(alloc, blanks)?;
-    commands.extend_from_slice(b"goto 2\n")?;
-    for _ in 0..blanks {
-        commands.push(b' ')?;
-    }
-    Ok(commands)
-}
-
-// Sees what long commands are answered, and that the lines before the one that is too large are answered.
-fn assert_long(
-    rt: &impl Abort,
-    alloc: Global,
-    trace: &Trace,
-    commands: &[u8],
-    wanted: Result<(), DebugFault>,
-) -> Result<(), Fail> {
-    let lru = job(Policy::Lru, 2);
-    let mut out = Vec::with_capacity(alloc, ROOM)?;
-    let mut rest = commands;
-    match run_debug(alloc, trace, &lru, &lru, &mut rest, &mut out) {
-        Err(DebugFault::OutOfMemory) => return Err(Fail::from("out of memory")),
-        answer => assert_eq!(rt; answer, wanted),
-    }
-    assert_eq!(rt; out.as_slice(), b"at 2\n".as_slice());
-    Ok(())
-}
-
-// The limit is 2^20 bytes; the lines before the one that passes it are answered.
-#[test]
-fn a_line_past_the_limit_is_too_large(rt: HostRuntime) -> Result<(), Fail> {
-    for (blanks, answer) in [(1_048_569, Ok(())), (1_048_570, Err(DebugFault::TooLarge))] {
-        let commands = long_commands(rt.alloc(), blanks)?;
-        let trace = trace_of(rt.alloc(), &[1, 1, 2, 3, 1])?;
-        assert_long(&rt, rt.alloc(), &trace, commands.as_slice(), answer)?;
-    }
-    Ok(())
+    assert_through(&rt, rt.alloc(), (READS, WRITES), Ok(()))
 }
 
 // Sees that a configuration is refused, by ends of which each call would fail.
@@ -410,8 +265,8 @@ fn assert_refused(
     (first, second): (&Job, &Job),
     index: usize,
 ) -> Result<(), Fail> {
-    let mut input = pipe_of(alloc, 0)?;
-    let mut output = pipe_of(alloc, 0)?;
+    let mut input = Pipe::of(alloc, COMMANDS, 0)?;
+    let mut output = Pipe::of(alloc, COMMANDS, 0)?;
     let refused = run_debug(alloc, trace, first, second, &mut input, &mut output);
     assert_eq!(rt; refused, Err(DebugFault::Config { index }));
     Ok(())

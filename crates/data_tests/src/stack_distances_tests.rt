@@ -2,8 +2,8 @@
 ghost use Rattle.std.specs.Prelude.{◌≡◌, ◌≤◌, Ok, length};
 ghost use Rattle.step_record.specs.Config.{config_fault};
 
-use super::*;
 use policies::AnyPolicy;
+use stack_distances::Curve;
 use std::alloc::{AllocError, Global};
 use std::process::Abort;
 use std::test::Fail;

@@ -1,4 +1,5 @@
-use super::*;
+//! A set of ranks, filled and emptied.
+use rank_tree::Ranks;
 use std::test::Fail;
 
 #[test]

@@ -1,5 +1,7 @@
 //! Lines of the grammar, and dialogues over inputs and outputs that fail, worked out by hand.
-use super::*;
+use debug_commands::{
+    Breakpoint, Command, DebugFault, Dialect, Line, StepFacts, Timeline, answer_commands, line,
+};
 use std::alloc::{AllocError, Global};
 use std::io::{Error, ErrorKind, Read, Result, Write};
 use std::process::Abort;

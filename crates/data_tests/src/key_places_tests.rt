@@ -1,5 +1,5 @@
 //! Places in the table and past it.
-use super::*;
+use key_places::KeyPlaces;
 use std::process::Abort;
 use std::test::Fail;
 use step_record::Key;

@@ -1,0 +1,14 @@
+//! Tests of the data structures: queues of items, buffers, ranks, places of keys, and the curve of Lru. They stand in a
+//! crate of their own so that the gate proves each of those crates once.
+#![tactic(auto)]
+
+#[cfg(test)]
+mod key_places_tests;
+#[cfg(test)]
+mod rank_tree_tests;
+#[cfg(test)]
+mod segments_tests;
+#[cfg(test)]
+mod shell_buffers_tests;
+#[cfg(test)]
+mod stack_distances_tests;
