@@ -16,7 +16,8 @@ use Rattle.clairvoyant.specs.Belady.{belady_residents}
 use Rattle.debug_commands.specs.Texts.{count_text}
 use Rattle.journal.specs.Session.{SessionState}
 use Rattle.policies.specs.declared.any_policy.AnyPolicy.{AnyPolicy}
-use Rattle.policies.specs.AnyPolicy.{knows_trace, outcomes_on, Stands}
+use Rattle.policies.specs.Design.{knows_trace}
+use Rattle.policies.specs.AnyPolicy.{outcomes_on, Stands}
 use Rattle.policies.specs.QueueCache.{frequency_after, residents_in, state_after}
 
 -- ---- by the definitions

@@ -1,10 +1,8 @@
 -- What a cache of any policy stands for.
-use Rattle.std.proofs.Common.{◌≡◌, ◌≢◌, inl, inr, ℕ, Bool, false, cond, suc, ◌+◌, ◌<◌, Option, Some, None, List, [], ◌∷◌, ◌++◌, length, take, get_or, ap, ◌∙◌, sym, refl, arith, subst, length-append}
+use Rattle.std.proofs.Common.{◌≡◌, inl, inr, ℕ, Bool, true, false, cond, suc, ◌+◌, ◌<◌, Option, Some, None, List, [], ◌∷◌, ◌++◌, length, take, get_or, ap, ◌∙◌, sym, refl, arith, subst, length-append}
 use Rattle.std.proofs.lemmas.List.{take_more}
 use Rattle.std.proofs.lemmas.Bool.{cases_Bool}
 use Rattle.step_record.specs.declared.job.Job.{Job}
-use Rattle.step_record.specs.declared.job.Policy.{Policy}
-use Rattle.step_record.specs.declared.job.Policy.TheVariants.{Lru, SegmentedLru, TinyLfuLru, TinyLfuSegmented, WindowTinyLfu, Clairvoyant}
 use Rattle.step_record.specs.declared.outcome.Outcome.{Outcome}
 use Rattle.step_record.specs.declared.outcome.Outcome.TheVariants.{Hit}
 use Rattle.step_record.specs.Stats.{stats_of}
@@ -14,7 +12,8 @@ use Rattle.clairvoyant.specs.Clairvoyant.{ClairvoyantState, clairvoyant_at, clai
 use Rattle.policies.specs.declared.any_policy.AnyPolicy.TheVariants.{Queues, Optimal}
 use Rattle.policies.specs.QueueCache.{QueueState, outcomes_after}
 use Rattle.policies.specs.QueueStep.{queue_act}
-use Rattle.policies.specs.AnyPolicy.{knows_trace, stats_on, IsBeladyAt}
+use Rattle.policies.specs.Design.{knows_trace}
+use Rattle.policies.specs.AnyPolicy.{stats_on, IsBeladyAt}
 use Rattle.policies.specs.AnyStep.{as_queues, as_optimal}
 use Rattle.policies.specs.AnyCounts.{IsQueueStep, IsOptimalStep, queue_step, optimal_step}
 use Rattle.policies.specs.Theorems.{AnyStands, AnyAccepts, AnyIsOne, AnyReports, AnyAnswers, AnyCoversTrace, AnyHitsKeepAll}
@@ -99,19 +98,11 @@ any_accepts law j trace keys rest k (Optimal d) t few s h =
 
 pub any_one : AnyIsOne
 any_one j trace keys (Queues d) (Queues e) a b = ap Queues (a.1.gives ∙ sym b.1.gives)
-any_one j trace keys (Queues d) (Optimal e) a b = absurd (a.0 b.policy)
-any_one j trace keys (Optimal d) (Queues e) a b = absurd (b.0 a.policy)
+any_one j trace keys (Queues d) (Optimal e) a b = absurd (let no : false ≡ true = sym a.0 ∙ b.policy in cc (no))
+any_one j trace keys (Optimal d) (Queues e) a b = absurd (let no : false ≡ true = sym b.0 ∙ a.policy in cc (no))
 any_one j trace keys (Optimal d) (Optimal e) a b = ap Optimal (a.gives ∙ sym b.gives)
 
 -- the statistics after the whole trace
-
-knows-not : (p : Policy) → p ≢ Clairvoyant → knows_trace p ≡ false
-knows-not Lru n = refl
-knows-not SegmentedLru n = refl
-knows-not TinyLfuLru n = refl
-knows-not TinyLfuSegmented n = refl
-knows-not WindowTinyLfu n = refl
-knows-not Clairvoyant n = absurd (n refl)
 
 outcomes-by : Bool → Job → List ℕ → List Outcome
 outcomes-by b j trace = cond b (belady_outcomes j.config.capacity trace (length trace)) (outcomes_after j trace)
@@ -120,10 +111,10 @@ pub any_reports : AnyReports
 unfolding stats_on outcomes-by
 any_reports j trace (Queues d) s =
     ap (λ (x : QueueState). x.stats) s.1.gives
-    ∙ (after-counts j trace ∙ ap (λ (b : Bool). stats_of (outcomes-by b j trace)) (sym (knows-not j.policy s.0)))
+    ∙ (after-counts j trace ∙ ap (λ (b : Bool). stats_of (outcomes-by b j trace)) (sym s.0))
 any_reports j trace (Optimal d) s =
     ap (λ (x : ClairvoyantState). x.stats) s.gives
-    ∙ ap (λ (p : Policy). stats_of (outcomes-by (knows_trace p) j trace)) (sym s.policy)
+    ∙ ap (λ (b : Bool). stats_of (outcomes-by b j trace)) (sym s.policy)
 
 -- the outcomes over the whole trace
 
@@ -137,7 +128,7 @@ any_covers_trace j trace =
 pub any_answers : ClairvoyantStands → AnyAnswers
 any_answers law j trace keys rest k (Queues d) o e x t s h =
     let q : IsQueueStep (queue_act d k) o e = queue_step (queue_act d k) o e h in
-    rw (knows-not j.policy s.0, t) ((act_stands j keys d k o q.next s.1 q.steps).0 ∙ sym (after-answers j keys rest k x))
+    rw (s.0, t) ((act_stands j keys d k o q.next s.1 q.steps).0 ∙ sym (after-answers j keys rest k x))
 any_answers law j trace keys rest k (Optimal d) o e x t s h =
     let q : IsOptimalStep (clairvoyant_act d k) o e = optimal_step (clairvoyant_act d k) o e h in
     let p : IsAtPlace j trace keys d = at_place j trace keys d s in

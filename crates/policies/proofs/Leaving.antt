@@ -13,14 +13,19 @@ use Rattle.segments.specs.declared.records.Queue.TheVariants.{Window, Probation}
 use Rattle.segments.specs.Items.{same, first}
 use Rattle.segments.specs.Queues.{Queues, queue_of, place_of, pushed, taken, moved, total_items, IsDistinct}
 use Rattle.admission.specs.Frequency.{FrequencyData}
+use Rattle.replacement.specs.declared.rules.Placement.{Placement}
+use Rattle.replacement.specs.declared.rules.Placement.TheVariants.{Direct, Windowed}
+use Rattle.replacement.specs.declared.rules.HitRule.{HitRule}
+use Rattle.replacement.specs.declared.rules.HitRule.TheVariants.{Renews, Stays}
 use Rattle.replacement.specs.declared.rules.Rules.{Rules}
 use Rattle.replacement.specs.Admission.{admits_in}
-use Rattle.replacement.specs.Table.{Response, rejection, kept_in, contest, trial_of, eviction, replacing, direct, miss, access_in, access}
-use Rattle.replacement.specs.Plan.{Plan, plan}
+use Rattle.replacement.specs.Table.{Response, rejection, kept_in, contest, trial_of, eviction, replacing, direct, miss_by, miss, access_in, access}
+use Rattle.replacement.specs.Plan.{Plan, hit_plan_by, plan}
 use Rattle.replacement.specs.Moving.{removal_record, moves_of, transferred}
 use Rattle.replacement.proofs.Carrying.{carries}
 use Rattle.replacement.proofs.Planned.{plan-at, access-at, accesses-planned}
-use Rattle.policies.specs.QueueCache.{QueueState, rules_of, nodeless_item, access_response, accessed, frequency_after, state_from, empty_queue_state, state_after}
+use Rattle.policies.specs.Design.{rules_of}
+use Rattle.policies.specs.QueueCache.{QueueState, nodeless_item, access_response, accessed, frequency_after, state_from, empty_queue_state, state_after}
 use Rattle.policies.specs.QueueStep.{IsReached, recorded_in, queue_act, queue_record_of}
 
 -- ---- no miss is a hit
@@ -60,25 +65,29 @@ replacing-misses a q i (Some v) s =
       | inr e ↦ rw e refl
     ]
 
-direct-misses : (r : Rules) (a : ℕ → ℕ → Bool) (i : Item) (s : Queues) → is_hit (direct r a i s).outcome ≡ false
-direct-misses r a i s =
-    elim (cases_Bool (nat_lt (total_items s) r.capacity)) as (λ _. is_hit (direct r a i s).outcome ≡ false) [
+direct-misses : (r : Rules) (a : ℕ → ℕ → Bool) (q : Queue) (i : Item) (s : Queues) → is_hit (direct r a q i s).outcome ≡ false
+direct-misses r a q i s =
+    elim (cases_Bool (nat_lt (total_items s) r.capacity)) as (λ _. is_hit (direct r a q i s).outcome ≡ false) [
       | inl e ↦ rw e refl
-      | inr e ↦ rw e (replacing-misses a r.home i (first (queue_of r.home s)) s)
+      | inr e ↦ rw e (replacing-misses a q i (first (queue_of q s)) s)
     ]
 
 miss-misses : (r : Rules) (a : ℕ → ℕ → Bool) (i : Item) (s : Queues) → is_hit (miss r a i s).outcome ≡ false
-miss-misses r a i s = by r.windowed
+miss-misses r a i s = by r.placement
   where
-    by : (b : Bool) → is_hit (if b then eviction r a (pushed Window i s) else direct r a i s).outcome ≡ false
-    by true = eviction-misses r a (pushed Window i s)
-    by false = direct-misses r a i s
+    by : (p : Placement) → is_hit (miss_by p r a i s).outcome ≡ false
+    by (Direct q) = direct-misses r a q i s
+    by Windowed = eviction-misses r a (pushed Window i s)
 
 -- ---- a hit
 
+hit-plan-keeps : (h : HitRule) (size : ℕ) (i : Item) (q : Queue) (s : Queues) → (moves_of (hit_plan_by h size i q s) s).out ≡ None
+hit-plan-keeps Renews size i q s = refl
+hit-plan-keeps Stays size i q s = refl
+
 hit-keeps : (r : Rules) (a : ℕ → ℕ → Bool) (i : Item) (s : Queues) (p : Option Queue) → place_of i s ≡ p
     → (access r a i s).outcome ≡ Hit → (moves_of (plan r a i s) s).out ≡ None
-hit-keeps r a i s (Some q) h o = rw (plan-at r a i s (Some q) h) refl
+hit-keeps r a i s (Some q) h o = rw (plan-at r a i s (Some q) h) (hit-plan-keeps r.hits r.protected i q s)
 hit-keeps r a i s None h o =
     let hits : is_hit (access_in r a i None s).outcome ≡ true = ap (λ (x : Response). is_hit x.outcome) (sym (access-at r a i s None h)) ∙ ap is_hit o in
     absurd (let no : true ≡ false = sym hits ∙ miss-misses r a i s in cc (no))

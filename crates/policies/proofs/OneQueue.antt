@@ -11,13 +11,16 @@ use Rattle.segments.specs.declared.records.Queue.TheVariants.{Window}
 use Rattle.segments.specs.Items.{has_item, times, items_without, first}
 use Rattle.segments.specs.Queues.{Queues, place_of, pushed, total_items}
 use Rattle.admission.specs.Frequency.{FrequencyData}
+use Rattle.replacement.specs.declared.rules.Placement.TheVariants.{Direct}
+use Rattle.replacement.specs.declared.rules.HitRule.TheVariants.{Renews}
 use Rattle.replacement.specs.declared.rules.Rules.{Rules}
 use Rattle.replacement.specs.Admission.{admits_in}
 use Rattle.replacement.specs.Shape.{shape_of}
 use Rattle.replacement.specs.Table.{Response, kept_in, hit_in, replacing, direct, access}
 use Rattle.replacement.proofs.Planned.{access-at}
 use Rattle.policies.specs.Lru.{lru_residents, lru_outcome, distinct}
-use Rattle.policies.specs.QueueCache.{QueueState, rules_by, rules_of, is_counting, nodeless_item, accessed, frequency_by, frequency_after, state_from, empty_queue_state, state_after, outcome_after}
+use Rattle.policies.specs.Design.{design_of, rules_in, rules_of, is_counting}
+use Rattle.policies.specs.QueueCache.{QueueState, nodeless_item, accessed, frequency_by, frequency_after, state_from, empty_queue_state, state_after, outcome_after}
 use Rattle.policies.specs.InWindow.{in_window}
 use Rattle.policies.proofs.Recency.{IsDistinct, moved, answer, two, without-none, distinct-distinct, residents-snoc, outcome-residents}
 
@@ -52,7 +55,7 @@ total-in : (l : List ℕ) → total_items (in_window l) ≡ length l
 total-in l = omega (arith, length-keys l)
 
 abbrev one : ℕ → Rules
-one c = record { capacity = c; window = 0; protected = 0; home = Window; windowed = false }
+one c = record { capacity = c; window = 0; protected = 0; placement = Direct Window; hits = Renews }
 
 record IsLru (c k : ℕ) (l : List ℕ) (r : Response) : Type 0 where
   lists : r.queues ≡ in_window (moved c l k)
@@ -79,7 +82,7 @@ lru-full c k (a ∷ l) h f d w =
       outcome = rw (h, f) refl;
     }
 
-lru-direct : (c k : ℕ) (l : List ℕ) → has_key k l ≡ false → IsDistinct l → 1 ≤ c → IsLru c k l (direct (one c) (admits_in None) (nodeless_item k) (in_window l))
+lru-direct : (c k : ℕ) (l : List ℕ) → has_key k l ≡ false → IsDistinct l → 1 ≤ c → IsLru c k l (direct (one c) (admits_in None) Window (nodeless_item k) (in_window l))
 lru-direct c k l h d w =
     let full : Bool → Response = λ b. cond b (kept_in (pushed Window (nodeless_item k) (in_window l))) (replacing (admits_in None) Window (nodeless_item k) (first (map nodeless_item l)) (in_window l)) in
     elim (two (nat_lt (length l) c)) [
@@ -118,7 +121,7 @@ module _ (j : Job) (is_lru : j.policy ≡ Lru) (room : 1 ≤ j.config.capacity) 
   response-lru : (past : List ℕ) (d : QueueState) (k : ℕ) (ks : List ℕ) → d.job ≡ j → d.queues ≡ in_window (lru_residents j.config.capacity past)
       → access (rules_of d.job) (admits_in (frequency_after j ks)) (nodeless_item k) d.queues ≡ access (one j.config.capacity) (admits_in None) (nodeless_item k) (in_window (lru_residents j.config.capacity past))
   response-lru past d k ks ej eq =
-      let r : rules_of d.job ≡ one j.config.capacity = ap rules_of ej ∙ ap (λ p. rules_by p j.config) is_lru in
+      let r : rules_of d.job ≡ one j.config.capacity = ap rules_of ej ∙ ap (λ p. rules_in (design_of p) j.config) is_lru in
       let f : frequency_after j ks ≡ None = ap (λ p. frequency_by (is_counting p) (shape_of j.config) ks) is_lru in
       ap (λ (x : Rules). access x (admits_in (frequency_after j ks)) (nodeless_item k) d.queues) r
       ∙ (ap (λ (x : Option FrequencyData). access (one j.config.capacity) (admits_in x) (nodeless_item k) d.queues) f

@@ -14,7 +14,8 @@ use Rattle.replacement.specs.Table.{Response, access}
 use Rattle.replacement.specs.Plan.{plan}
 use Rattle.replacement.specs.Moving.{moves_of}
 use Rattle.policies.specs.declared.record.AccessRecord.{AccessRecord}
-use Rattle.policies.specs.QueueCache.{rules_of, nodeless_item}
+use Rattle.policies.specs.Design.{rules_of}
+use Rattle.policies.specs.QueueCache.{nodeless_item}
 use Rattle.policies.specs.QueueStep.{recorded_in, counting_record, queue_record_of}
 
 abbrev record_with : Option FreqRecord → Moves → Outcome → AccessRecord

@@ -1,9 +1,6 @@
 -- What a cache of any policy shows, and what a job over a trace comes to.
-use Rattle.std.specs.Prelude.{◌≡◌, ◌≢◌, ℕ, ◌≤◌, Bool, true, false, if◌then◌else◌, Option, None, List, length, take}
+use Rattle.std.specs.Prelude.{◌≡◌, ℕ, ◌≤◌, true, false, if◌then◌else◌, Option, None, List, length, take}
 use Rattle.step_record.specs.declared.job.Job.{Job}
-use Rattle.step_record.specs.declared.job.Policy.{Policy}
-use Rattle.step_record.specs.declared.job.Policy.TheVariants.{Lru, SegmentedLru, TinyLfuLru, TinyLfuSegmented}
-use Rattle.step_record.specs.declared.job.Policy.TheVariants.{WindowTinyLfu, Clairvoyant}
 use Rattle.step_record.specs.declared.outcome.Outcome.{Outcome}
 use Rattle.step_record.specs.declared.stats.Stats.{Stats}
 use Rattle.step_record.specs.Stats.{stats_of}
@@ -12,18 +9,10 @@ use Rattle.clairvoyant.specs.Belady.{belady_outcomes}
 use Rattle.clairvoyant.specs.Clairvoyant.{ClairvoyantState, clairvoyant_at}
 use Rattle.policies.specs.declared.any_policy.AnyPolicy.{AnyPolicy}
 use Rattle.policies.specs.declared.any_policy.AnyPolicy.TheVariants.{Queues, Optimal}
+use Rattle.policies.specs.Design.{knows_trace}
 use Rattle.policies.specs.QueueCache.{outcomes_after, residents_in, StandsFor}
 
 -- ---- a job over a trace
-
--- whether the policy has to know the whole trace (Belady 1966)
-abbrev pub knows_trace : Policy → Bool
-knows_trace Lru = false
-knows_trace SegmentedLru = false
-knows_trace TinyLfuLru = false
-knows_trace TinyLfuSegmented = false
-knows_trace WindowTinyLfu = false
-knows_trace Clairvoyant = true
 
 -- the outcomes of a job's accesses to the keys of a trace, in order
 abbrev pub outcomes_on : Job → List ℕ → List Outcome
@@ -51,12 +40,12 @@ frequency_in (Optimal d) = None
 
 -- a cache of Belady's optimal policy made the first accesses of its trace
 pub record IsBeladyAt (j : Job) (trace keys : List ℕ) (d : ClairvoyantState) : Type 0 where
-  pub policy : j.policy ≡ Clairvoyant
+  pub policy : knows_trace j.policy ≡ true
   pub first : keys ≡ take (length keys) trace
   pub within : length keys ≤ length trace
   pub gives : d ≡ clairvoyant_at j.config.capacity trace (length keys)
 
 -- the cache runs the job over the trace, and the keys are the accesses that it made
 abbrev pub Stands : Job → List ℕ → List ℕ → AnyPolicy → Type 0
-Stands j trace keys (Queues d) = (j.policy ≢ Clairvoyant) × StandsFor j keys d
+Stands j trace keys (Queues d) = (knows_trace j.policy ≡ false) × StandsFor j keys d
 Stands j trace keys (Optimal d) = IsBeladyAt j trace keys d

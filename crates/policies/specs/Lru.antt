@@ -1,12 +1,12 @@
 -- The least recently used policy, over a whole list of accesses: a cache holds the last distinct keys in order of last
 -- access. (The textbook definition of Lru.)
 use Rattle.std.specs.Prelude.{ℕ, ◌-◌, nat_lt, Bool, false, ◌&&◌, if◌then◌else◌, List, [], ◌∷◌, length, drop}
-use Rattle.step_record.specs.declared.config.Config.{Config}
 use Rattle.step_record.specs.Keys.{has_key}
 use Rattle.step_record.specs.declared.outcome.Outcome.{Outcome}
 use Rattle.step_record.specs.declared.outcome.Outcome.TheVariants.{Hit, Kept, Evicted}
-use Rattle.replacement.specs.declared.rules.Rules.{Rules}
-use Rattle.replacement.specs.Rules.{one_queue}
+use Rattle.replacement.specs.declared.rules.HitRule.TheVariants.{Renews}
+use Rattle.policies.specs.declared.design.QueueDesign.{QueueDesign}
+use Rattle.policies.specs.declared.design.Layout.TheVariants.{OneQueue}
 
 -- ---- over the accesses
 
@@ -41,10 +41,6 @@ lru_outcome c xs k =
 
 -- ---- as a policy of queues
 
--- the size of its one queue, where new keys go and hits stay
-abbrev pub lru_rules : Config → Rules
-lru_rules c = one_queue c
-
--- whether it counts keys
-abbrev pub lru_counts : Bool
-lru_counts = false
+-- one queue, where a hit takes its key to the recent end, and no filter
+abbrev pub lru : QueueDesign
+lru = record { layout = OneQueue; hits = Renews; counts_keys = false }

@@ -1,13 +1,9 @@
 -- What a cache of queues shows after a list of accesses: the table of moves, folded from empty queues, with the
--- frequency of the accesses so far in each admission. One engine carries all five policies of queues: each is a choice
--- of rules and of whether keys are counted, in the module of its name.
+-- frequency of the accesses so far in each admission. One engine carries all policies of queues: each is a design, in
+-- the module of its name.
 use Rattle.std.specs.Prelude.{◌≡◌, ℕ, Bool, true, false, Option, Some, None, Ok, List, [], ◌∷◌, ◌++◌, map}
-use Rattle.step_record.specs.declared.config.Config.{Config}
 use Rattle.step_record.specs.declared.item.Item.{Item}
 use Rattle.step_record.specs.declared.job.Job.{Job}
-use Rattle.step_record.specs.declared.job.Policy.{Policy}
-use Rattle.step_record.specs.declared.job.Policy.TheVariants.{Lru, SegmentedLru, TinyLfuLru, TinyLfuSegmented}
-use Rattle.step_record.specs.declared.job.Policy.TheVariants.{WindowTinyLfu, Clairvoyant}
 use Rattle.step_record.specs.declared.outcome.Outcome.{Outcome}
 use Rattle.step_record.specs.declared.stats.Stats.{Stats}
 use Rattle.step_record.specs.Config.{config_fault}
@@ -15,37 +11,10 @@ use Rattle.step_record.specs.Stats.{stats_of, counted}
 use Rattle.segments.specs.Queues.{Queues, empty}
 use Rattle.admission.specs.Shape.{Shape}
 use Rattle.admission.specs.Frequency.{FrequencyData, frequency_of}
-use Rattle.replacement.specs.declared.rules.Rules.{Rules}
 use Rattle.replacement.specs.Admission.{admits_in}
 use Rattle.replacement.specs.Shape.{shape_of}
 use Rattle.replacement.specs.Table.{Response, access}
-use Rattle.policies.specs.Lru.{lru_rules, lru_counts}
-use Rattle.policies.specs.SegmentedLru.{segmented_lru_rules, segmented_lru_counts}
-use Rattle.policies.specs.TinyLfu.{tiny_lfu_rules, tiny_lfu_counts}
-use Rattle.policies.specs.WindowTinyLfu.{window_tiny_lfu_rules, window_tiny_lfu_counts}
-
--- ---- the policies
-
--- the rules of a policy; Belady's optimal policy keeps no queues, and its rules are never used
-abbrev pub rules_by : Policy → Config → Rules
-rules_by Lru c = lru_rules c
-rules_by SegmentedLru c = segmented_lru_rules c
-rules_by TinyLfuLru c = tiny_lfu_rules false c
-rules_by TinyLfuSegmented c = tiny_lfu_rules true c
-rules_by WindowTinyLfu c = window_tiny_lfu_rules c
-rules_by Clairvoyant c = lru_rules c
-
-abbrev pub rules_of : Job → Rules
-rules_of j = rules_by j.policy j.config
-
--- whether the policy counts keys for its admissions
-abbrev pub is_counting : Policy → Bool
-is_counting Lru = lru_counts
-is_counting SegmentedLru = segmented_lru_counts
-is_counting TinyLfuLru = tiny_lfu_counts
-is_counting TinyLfuSegmented = tiny_lfu_counts
-is_counting WindowTinyLfu = window_tiny_lfu_counts
-is_counting Clairvoyant = false
+use Rattle.policies.specs.Design.{rules_of, is_counting}
 
 -- a key is cached once at a time, so one node serves all
 abbrev pub nodeless_item : ℕ → Item

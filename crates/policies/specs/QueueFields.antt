@@ -6,7 +6,7 @@ use Rattle.step_record.specs.declared.stats.Stats.{Stats}
 use Rattle.segments.specs.Queues.{Queues}
 use Rattle.admission.specs.Frequency.{FrequencyData}
 use Rattle.replacement.specs.declared.rules.Rules.{Rules}
-use Rattle.policies.specs.QueueCache.{rules_of}
+use Rattle.policies.specs.Design.{rules_of}
 use Rattle.policies.specs.QueueStep.{IsReached}
 
 -- the rules are the job's, and some list of accesses gives what is shown

@@ -13,7 +13,8 @@ use Rattle.replacement.specs.Admission.{admits_in}
 use Rattle.replacement.specs.Plan.{plan}
 use Rattle.replacement.specs.Moving.{moves_of, undone_moves, FitsMoves}
 use Rattle.policies.specs.declared.record.AccessRecord.{AccessRecord}
-use Rattle.policies.specs.QueueCache.{QueueState, rules_of, nodeless_item, access_response, accessed, StandsFor}
+use Rattle.policies.specs.Design.{rules_of}
+use Rattle.policies.specs.QueueCache.{QueueState, nodeless_item, access_response, accessed, StandsFor}
 
 -- ---- an access
 

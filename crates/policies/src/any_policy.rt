@@ -1,19 +1,20 @@
-//! All six policies as one engine.
+//! All policies as one engine.
 ghost use Rattle.std.specs.Prelude.{◌≡◌, ◌+◌, ◌≤◌, ◌↔◌, IfOk, IfErr, IfSome, OnOk, OnErr};
 ghost use Rattle.std.specs.Prelude.{Ok, Err, Some, None, [], option_map};
 ghost use Rattle.step_record.specs.declared.limits.TheConstants.{MAX_STEPS};
 
-use crate::queue_cache::QueueCache;
+use crate::design::{Design, design_of};
+use crate::queue_cache::{ByJob, QueueCache};
 use crate::record::AccessRecord;
 use admission::Frequency;
 use clairvoyant::{Clairvoyant, NextUse, UseRecord};
 use std::alloc::{AllocError, Global};
-use step_record::{Engine, Job, Key, Outcome, Policy, Stats, StepFault, Trace};
+use step_record::{Engine, Job, Key, Outcome, Stats, StepFault, Trace};
 
 /// A cache of any policy.
 #[derive(Drop)]
 pub enum AnyPolicy {
-    /// One of the five policies of queues.
+    /// A policy of queues.
     Queues(QueueCache),
     /// Belady's optimal policy.
     Optimal(Clairvoyant),
@@ -22,7 +23,7 @@ pub enum AnyPolicy {
 /// The undo record of an access to a cache of any policy.
 #[derive(Drop)]
 pub enum AnyRecord {
-    /// Of one of the five policies of queues.
+    /// Of a policy of queues.
     Queues(AccessRecord),
     /// Of Belady's optimal policy.
     Optimal(UseRecord),
@@ -56,18 +57,18 @@ impl AnyPolicy {
         ensures stands { IfOk result (λ p. Stands job.now trace.now [] p) }
         ensures fresh { IfOk result (λ p. (stats_in p).accesses ≡ 0) }
     {
-        match job.policy {
-            Policy::Clairvoyant => {
+        match design_of(job.policy) {
+            Design::Queues(design) => {
+                let cache = QueueCache::with_design(alloc, *job, design)?;
+                Ok(AnyPolicy::Queues(cache))
+            }
+            Design::KnowsTrace => {
                 let uses = match uses {
                     Some(found) => found.share()?,
                     None => NextUse::build(alloc, trace)?,
                 };
                 let cache = Clairvoyant::open(alloc, uses, job.config.capacity)?;
                 Ok(AnyPolicy::Optimal(cache))
-            }
-            _ => {
-                let cache = QueueCache::open(alloc, job)?;
-                Ok(AnyPolicy::Queues(cache))
             }
         }
     }
@@ -232,7 +233,7 @@ impl Engine for AnyPolicy {
         ensures bounded { result ≤ MAX_STEPS }
     {
         match done {
-            AnyRecord::Queues(done) => QueueCache::words(done),
+            AnyRecord::Queues(done) => QueueCache::<ByJob>::words(done),
             AnyRecord::Optimal(_) => 0,
         }
     }

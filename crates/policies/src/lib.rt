@@ -1,5 +1,5 @@
 //! The cache policies, each an engine whose steps are accesses: Lru, SegmentedLru, both TinyLfu, WindowTinyLfu, and
-//! Belady's optimal policy beside them in `AnyPolicy`.
+//! Belady's optimal policy beside them in `AnyPolicy`. What each of them is stands in one table, `design_of`.
 //!
 //! Each policy promises that for every list of accesses that it made, an access answers the outcome that the policy's
 //! definition gives after the whole list, and leaves the cache with that access at the list's end; and that each access
@@ -10,25 +10,25 @@
 #![tactic(auto)]
 
 mod any_policy;
+mod design;
 mod lru;
 mod queue_cache;
 mod record;
 mod segmented_lru;
-#[cfg(test)]
-mod tests;
 mod theorems;
 mod tiny_lfu;
 mod window_tiny_lfu;
 
 pub use any_policy::{AnyPolicy, AnyRecord};
-pub use lru::Lru;
-pub use queue_cache::QueueCache;
+pub use design::{Design, Layout, QueueDesign, design_of};
+pub use lru::{Lru, LruMark};
+pub use queue_cache::{ByJob, QueueCache};
 pub use record::AccessRecord;
-pub use segmented_lru::SegmentedLru;
+pub use segmented_lru::{SegmentedLru, SegmentedLruMark};
 pub use theorems::{
     any_accepts, any_answers, any_covers_trace, any_hits_keep_all, any_is_one, any_reports,
     any_stands, hits_keep_all, lru_stands, queues_accept, queues_count, queues_stand,
     records_show_leaver,
 };
-pub use tiny_lfu::TinyLfu;
-pub use window_tiny_lfu::WindowTinyLfu;
+pub use tiny_lfu::{TinyLfu, TinyLfuMark};
+pub use window_tiny_lfu::{WindowTinyLfu, WindowTinyLfuMark};

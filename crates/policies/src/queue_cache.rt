@@ -1,24 +1,28 @@
-//! The five policies of queues, as one engine.
+//! The policies of queues, as one engine.
 ghost use Rattle.std.specs.Prelude.{◌≡◌, ◌≢◌, ◌+◌, ◌≤◌, ◌<◌, ◌↔◌, [], ◌++◌, option_map, map};
 ghost use Rattle.std.specs.Prelude.{IfOk, IfErr, OnOk, OnErr, Ok, Option, Some, None};
 ghost use Rattle.step_record.specs.declared.limits.TheConstants.{MAX_STEPS};
 ghost use Rattle.step_record.specs.Config.{config_fault};
 ghost use Rattle.step_record.specs.Pace.{words_of_halvings};
 ghost use Rattle.replacement.specs.Admission.{admits_in};
+ghost use Rattle.replacement.specs.Shape.{shape_of};
 ghost use Rattle.replacement.specs.Table.{access};
 ghost use Rattle.replacement.specs.Plan.{plan};
 ghost use Rattle.replacement.specs.Moving.{moves_of, undone_moves, FitsMoves};
-ghost use Rattle.policies.specs.QueueCache.{rules_of, is_counting, nodeless_item, frequency_after};
+ghost use Rattle.policies.specs.declared.design.Design.TheVariants.{Queues};
+ghost use Rattle.policies.specs.Design.{design_of};
+ghost use Rattle.policies.specs.QueueCache.{nodeless_item, frequency_by};
 ghost use Rattle.policies.specs.QueueStep.{recorded_in, counting_record, unrecorded, FitsCounting};
 ghost use Rattle.policies.specs.QueueFields.{FewHalvings};
 
+use crate::design::QueueDesign;
 use crate::record::AccessRecord;
 use admission::{FreqRecord, Frequency};
 use replacement::{Effect, Rules, access, open_frequency, undo};
 use segments::{Queue, Segments};
 use std::alloc::{AllocError, Global};
-use std::marker::Model;
-use step_record::{Engine, Item, Job, Key, MAX_STEPS, Outcome, Policy, Stats, StepFault};
+use std::marker::{Model, PhantomData};
+use step_record::{Config, Engine, Item, Job, Key, MAX_STEPS, Outcome, Stats, StepFault};
 
 // The caller of an access that keeps its undo record. The code of an access stands in the program once for each type of
 // caller, so that the code for callers that drop the record neither makes nor copies it.
@@ -27,17 +31,22 @@ struct Recorder;
 // Queues of so many keys are read ahead.
 const WARM_FROM: usize = 4096;
 
-/// A cache of one of the five policies of queues.
+/// Marks a cache whose policy is known by its job alone.
 #[derive(Drop)]
-pub struct QueueCache {
+pub struct ByJob;
+
+/// A cache of a policy of queues. `P` marks the types of single policies, as `Lru`, and is nothing to the cache.
+#[derive(Drop)]
+pub struct QueueCache<P = ByJob> {
     job: Job,
     rules: Rules,
     segments: Segments,
     frequency: Option<Frequency>,
     stats: Stats,
+    policy: PhantomData<P>,
 }
 
-impl Model for QueueCache {
+impl<P> Model for QueueCache<P> {
     ghost use Rattle.policies.specs.QueueCache.{QueueState};
     ghost use Rattle.policies.specs.QueueFields.{IsHolding};
 
@@ -48,153 +57,31 @@ impl Model for QueueCache {
     ghost invariant = { λ q. IsHolding q.job q.rules q.segments.lists q.frequency q.stats };
 }
 
-// Whether the policy counts keys for its admissions.
-fn counts_keys(policy: Policy) -> bool
-    ensures { result ≡ is_counting policy }
-{
-    match policy {
-        Policy::TinyLfuLru | Policy::TinyLfuSegmented | Policy::WindowTinyLfu => true,
-        Policy::Lru | Policy::SegmentedLru | Policy::Clairvoyant => false,
-    }
-}
-
-// The rules of a job's policy.
-fn rules_for(job: &Job) -> Rules
-    requires checked { config_fault job.now.config ≡ Ok tt }
-    requires queues { job.now.policy ≢ Policy.Clairvoyant }
-    ensures { result ≡ rules_of job.now }
-{
-    match job.policy {
-        Policy::Lru | Policy::TinyLfuLru => Rules::one_queue(&job.config),
-        Policy::SegmentedLru | Policy::TinyLfuSegmented => Rules::two_queues(&job.config),
-        Policy::WindowTinyLfu => Rules::three_queues(&job.config),
-        Policy::Clairvoyant => unreachable!(),
-    }
-}
-
-// The frequency of no key, where the policy counts keys.
-fn first_frequency(alloc: Global, job: &Job) -> Result<Option<Frequency>, AllocError>
-    requires { config_fault job.now.config ≡ Ok tt }
-    ensures { IfOk result (λ f. f ≡ frequency_after job.now []) }
-{
-    if counts_keys(job.policy) {
-        let frequency = open_frequency(alloc, &job.config)?;
-        Ok(Some(frequency))
-    } else {
-        Ok(None)
-    }
-}
-
-// Adds the keys of the items.
-fn add_keys(keys: &mut Vec<Key>, items: &[Item]) -> Result<(), AllocError>
-    ensures { OnOk result (keys.new.items ≡ keys.old.items ++ map (λ i. i.key) items.now) }
-{
-    for item in items {
-        keys.push(item.key)?;
-    }
-    Ok(())
-}
-
-// Records a key where keys are counted.
-#[inline(always)]
-fn record_in(frequency: &mut Option<Frequency>, key: Key) -> Result<Option<FreqRecord>, AllocError>
-    requires { FewHalvings frequency.old }
-    ensures after { OnOk result (frequency.new ≡ recorded_in key frequency.old) }
-    ensures record { IfOk result (λ r. r ≡ counting_record key frequency.old) }
-    ensures fits { IfOk result (λ r. FitsCounting r frequency.new) }
-    ensures undone { IfOk result (λ r. unrecorded r frequency.new ≡ frequency.old) }
-    ensures err { OnErr result (frequency.new ≡ frequency.old) }
-{
-    match frequency {
-        Some(frequency) => Ok(Some(frequency.record(key)?)),
-        None => Ok(None),
-    }
-}
-
-// Records a key where keys are counted, for an access that is not to be undone.
-#[inline(always)]
-fn count_in(frequency: &mut Option<Frequency>, key: Key) -> Result<(), AllocError>
-    requires { FewHalvings frequency.old }
-    ensures after { OnOk result (frequency.new ≡ recorded_in key frequency.old) }
-    ensures err { OnErr result (frequency.new ≡ frequency.old) }
-{
-    if let Some(frequency) = frequency {
-        frequency.record(key)?;
-    }
-    Ok(())
-}
-
-// Undoes the recording of a key, if there was one.
-fn unrecord_in(frequency: &mut Option<Frequency>, done: Option<FreqRecord>)
-    requires { FitsCounting done frequency.old }
-    ensures { frequency.new ≡ unrecorded done frequency.old }
-{
-    if let Some(done) = done {
-        if let Some(frequency) = frequency {
-            frequency.unrecord(done);
-        }
-    }
-}
-
-// Makes the room that one more access takes, before a key is counted: what follows takes none.
-#[inline(always)]
-fn make_room(stats: &Stats, segments: &mut Segments) -> Result<(), StepFault>
-    ensures below { OnOk result (stats.now.accesses ≢ MAX_STEPS) }
-    ensures room { OnOk result (1 ≤ segments.new.spare) }
-    ensures lists { segments.new.lists ≡ segments.old.lists }
-    ensures not_now { result ≡ Err StepFault.NotNow ↔ stats.now.accesses ≡ MAX_STEPS }
-{
-    if stats.accesses == MAX_STEPS {
-        return Err(StepFault::NotNow);
-    }
-    if segments.reserve().is_err() {
-        return Err(StepFault::OutOfMemory);
-    }
-    Ok(())
-}
-
-// Accesses a key in the queues.
-#[inline(always)]
-fn access_key<C>(
-    segments: &mut Segments,
-    frequency: &Option<Frequency>,
-    rules: &Rules,
-    key: Key,
-) -> Effect
-    requires room { 1 ≤ segments.old.spare }
-    ensures outcome { result.outcome
-        ≡ (access rules.now (admits_in frequency.now) (nodeless_item key) segments.old.lists).outcome }
-    ensures lists { segments.new.lists
-        ≡ (access rules.now (admits_in frequency.now) (nodeless_item key) segments.old.lists).queues }
-    ensures record { result.moves ≡ moves_of
-        (plan rules.now (admits_in frequency.now) (nodeless_item key) segments.old.lists) segments.old.lists }
-    ensures fits { FitsMoves result.moves segments.new.lists }
-    ensures undone { undone_moves result.moves segments.new.lists ≡ segments.old.lists }
-{
-    access::<C>(segments, frequency.as_ref(), rules, Item { key, node: 0 })
-}
-
-impl QueueCache {
+impl<P: Drop> QueueCache<P> {
     ghost use Rattle.policies.specs.QueueCache.{StandsFor, residents_in};
     ghost use Rattle.policies.specs.QueueStep.{queue_act, queue_record_of, queue_undone, QueueFits};
     ghost use Rattle.policies.specs.QueueStep.{queue_words, queue_pace};
 
-    /// An empty cache for a job. It requires a configuration that `Config::check` accepts, and one of the five policies
-    /// of queues. The one error is that an allocation failed.
-    pub fn open(alloc: Global, job: &Job) -> Result<QueueCache, AllocError>
-        requires checked { config_fault job.now.config ≡ Ok tt }
-        requires queues { job.now.policy ≢ Policy.Clairvoyant }
-        ensures stands { IfOk result (λ q. StandsFor job.now [] q) }
+    /// An empty cache for a job. It requires a configuration that `Config::check` accepts, and the design of the job's
+    /// policy. The one error is that an allocation failed.
+    pub(crate) fn with_design(
+        alloc: Global,
+        job: Job,
+        design: QueueDesign,
+    ) -> Result<QueueCache<P>, AllocError>
+        requires checked { config_fault job.config ≡ Ok tt }
+        requires design { design_of job.policy ≡ Queues design }
+        ensures stands { IfOk result (λ q. StandsFor job [] q) }
         ensures fresh { IfOk result (λ q. q.stats.accesses ≡ 0) }
     {
-        let rules = rules_for(job);
-        let frequency = first_frequency(alloc, job)?;
+        let frequency = first_frequency(alloc, design.counts_keys, &job.config)?;
         Ok(QueueCache {
-            job: *job,
-            rules,
+            job,
+            rules: design.rules(&job.config),
             segments: Segments::for_items(alloc, job.config.capacity),
             frequency,
             stats: Stats::NONE,
+            policy: PhantomData,
         })
     }
 
@@ -291,7 +178,7 @@ impl QueueCache {
     }
 }
 
-impl Engine for QueueCache {
+impl<P: Drop> Engine for QueueCache<P> {
     ghost use Rattle.policies.specs.QueueStep.{queue_act, queue_record_of, queue_undone, QueueFits};
     ghost use Rattle.policies.specs.QueueStep.{queue_words, queue_pace};
     ghost use Rattle.policies.specs.QueueCounts.{act_counts, act_ends, act_paced};
@@ -302,7 +189,7 @@ impl Engine for QueueCache {
 
     type Record = AccessRecord;
 
-    type Data = QueueCache;
+    type Data = QueueCache<P>;
 
     ghost seen = { λ q. q };
 
@@ -374,4 +261,109 @@ impl Engine for QueueCache {
     ghost counted_out = { act_ends };
 
     ghost paced = { act_paced };
+}
+
+// The frequency of no key, where keys are counted.
+fn first_frequency(
+    alloc: Global,
+    counts_keys: bool,
+    config: &Config,
+) -> Result<Option<Frequency>, AllocError>
+    requires { config_fault config.now ≡ Ok tt }
+    ensures { IfOk result (λ f. f ≡ frequency_by counts_keys (shape_of config.now) []) }
+{
+    if !counts_keys {
+        return Ok(None);
+    }
+    let frequency = open_frequency(alloc, config)?;
+    Ok(Some(frequency))
+}
+
+// Makes the room that one more access takes, before a key is counted: what follows takes none.
+#[inline(always)]
+fn make_room(stats: &Stats, segments: &mut Segments) -> Result<(), StepFault>
+    ensures below { OnOk result (stats.now.accesses ≢ MAX_STEPS) }
+    ensures room { OnOk result (1 ≤ segments.new.spare) }
+    ensures lists { segments.new.lists ≡ segments.old.lists }
+    ensures not_now { result ≡ Err StepFault.NotNow ↔ stats.now.accesses ≡ MAX_STEPS }
+{
+    if stats.accesses == MAX_STEPS {
+        return Err(StepFault::NotNow);
+    }
+    if segments.reserve().is_err() {
+        return Err(StepFault::OutOfMemory);
+    }
+    Ok(())
+}
+
+// Records a key where keys are counted, for an access that is not to be undone.
+#[inline(always)]
+fn count_in(frequency: &mut Option<Frequency>, key: Key) -> Result<(), AllocError>
+    requires { FewHalvings frequency.old }
+    ensures after { OnOk result (frequency.new ≡ recorded_in key frequency.old) }
+    ensures err { OnErr result (frequency.new ≡ frequency.old) }
+{
+    if let Some(frequency) = frequency {
+        frequency.record(key)?;
+    }
+    Ok(())
+}
+
+// Accesses a key in the queues.
+#[inline(always)]
+fn access_key<C>(
+    segments: &mut Segments,
+    frequency: &Option<Frequency>,
+    rules: &Rules,
+    key: Key,
+) -> Effect
+    requires room { 1 ≤ segments.old.spare }
+    ensures outcome { result.outcome
+        ≡ (access rules.now (admits_in frequency.now) (nodeless_item key) segments.old.lists).outcome }
+    ensures lists { segments.new.lists
+        ≡ (access rules.now (admits_in frequency.now) (nodeless_item key) segments.old.lists).queues }
+    ensures record { result.moves ≡ moves_of
+        (plan rules.now (admits_in frequency.now) (nodeless_item key) segments.old.lists) segments.old.lists }
+    ensures fits { FitsMoves result.moves segments.new.lists }
+    ensures undone { undone_moves result.moves segments.new.lists ≡ segments.old.lists }
+{
+    access::<C>(segments, frequency.as_ref(), rules, Item { key, node: 0 })
+}
+
+// Records a key where keys are counted.
+#[inline(always)]
+fn record_in(frequency: &mut Option<Frequency>, key: Key) -> Result<Option<FreqRecord>, AllocError>
+    requires { FewHalvings frequency.old }
+    ensures after { OnOk result (frequency.new ≡ recorded_in key frequency.old) }
+    ensures record { IfOk result (λ r. r ≡ counting_record key frequency.old) }
+    ensures fits { IfOk result (λ r. FitsCounting r frequency.new) }
+    ensures undone { IfOk result (λ r. unrecorded r frequency.new ≡ frequency.old) }
+    ensures err { OnErr result (frequency.new ≡ frequency.old) }
+{
+    match frequency {
+        Some(frequency) => Ok(Some(frequency.record(key)?)),
+        None => Ok(None),
+    }
+}
+
+// Adds the keys of the items.
+fn add_keys(keys: &mut Vec<Key>, items: &[Item]) -> Result<(), AllocError>
+    ensures { OnOk result (keys.new.items ≡ keys.old.items ++ map (λ i. i.key) items.now) }
+{
+    for item in items {
+        keys.push(item.key)?;
+    }
+    Ok(())
+}
+
+// Undoes the recording of a key, if there was one.
+fn unrecord_in(frequency: &mut Option<Frequency>, done: Option<FreqRecord>)
+    requires { FitsCounting done frequency.old }
+    ensures { frequency.new ≡ unrecorded done frequency.old }
+{
+    if let Some(done) = done {
+        if let Some(frequency) = frequency {
+            frequency.unrecord(done);
+        }
+    }
 }

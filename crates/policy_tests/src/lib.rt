@@ -1,9 +1,11 @@
-//! Tests of the policies that need the crates above them: sessions over each, walked back and forth, the optimal
-//! policy beside LRU, and a quiet run of the concurrent cache beside W-TinyLFU.
+//! Tests of the policies: worked examples, an eviction undone by each, sessions over each, walked back and forth, the
+//! optimal policy beside LRU, and a quiet run of the concurrent cache beside W-TinyLFU.
 #![tactic(auto)]
 
 #[cfg(test)]
 mod clairvoyant_tests;
+#[cfg(test)]
+mod example_tests;
 #[cfg(test)]
 mod lru_tests;
 #[cfg(test)]

@@ -6,7 +6,7 @@ use policies::{AnyPolicy, WindowTinyLfu};
 use std::alloc::Global;
 use std::process::Abort;
 use std::test::Fail;
-use step_record::{Config, Engine, Job, Key, Policy, Spread, Trace};
+use step_record::{Config, Engine, Job, Key, POLICIES, Policy, Spread, Trace};
 
 const CONFIG: Config = Config {
     capacity: 2,
@@ -244,14 +244,7 @@ fn random_walk(
 #[test]
 fn back_and_forward_leads_where_the_kept_accesses_lead(rt: HostRuntime) -> Result<(), Fail> {
     let trace = drawn_trace(&rt, rt.alloc())?;
-    for policy in [
-        Policy::Lru,
-        Policy::SegmentedLru,
-        Policy::TinyLfuLru,
-        Policy::TinyLfuSegmented,
-        Policy::WindowTinyLfu,
-        Policy::Clairvoyant,
-    ] {
+    for policy in POLICIES {
         for capacity in [1, 2, 3, 7, 50] {
             let config = Config { capacity, ..CONFIG };
             let job = Job { policy, config };

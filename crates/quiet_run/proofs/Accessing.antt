@@ -9,8 +9,12 @@ use Rattle.segments.specs.declared.records.Queue.TheVariants.{Window, Probation,
 use Rattle.segments.specs.Items.{same, times, first}
 use Rattle.segments.specs.Queues.{Queues, queue_of, place_of, pushed, taken, moved, total_items, IsDistinct}
 use Rattle.segments.proofs.MoveLaws.{Stands, in_window, in_probation, in_protected, nowhere, stands}
+use Rattle.replacement.specs.declared.rules.HitRule.{HitRule}
+use Rattle.replacement.specs.declared.rules.HitRule.TheVariants.{Renews, Stays}
+use Rattle.replacement.specs.declared.rules.Placement.{Placement}
+use Rattle.replacement.specs.declared.rules.Placement.TheVariants.{Direct, Windowed}
 use Rattle.replacement.specs.declared.rules.Rules.{Rules}
-use Rattle.replacement.specs.Table.{Response, kept_in, with_recent, demoted, hit_in, contest, trial, trial_of, eviction, replacing, direct, miss, access_in, access}
+use Rattle.replacement.specs.Table.{Response, kept_in, with_recent, demoted, hit_in, hit_by, contest, trial, trial_of, eviction, replacing, direct, miss_by, miss, access_in, access}
 use Rattle.shell_model.specs.Consistent.{queued}
 use Rattle.shell_model.proofs.Counting.{queued-kept}
 use Rattle.shell_model.proofs.Undoing.{first-queued}
@@ -46,6 +50,11 @@ hits-nodeless size i Probation q u h =
     let m : nodeless_queues (moved i Protected q) ≡ moved (nodeless i) Protected (nodeless_queues q) = moved-nodeless i Protected q (queued-alike i q u (omega (arith, h))) in
     let v : HasKeysOnce (moved i Protected q) = once-kept q (moved i Protected q) (λ j. queued-kept j i Protected q h) u in
     ap (demoted size) (sym m) ∙ demoted-nodeless size (moved i Protected q) v
+
+hits-by-nodeless : (h : HitRule) (size : ℕ) (i : Item) (p : Queue) (q : Queues) → HasKeysOnce q → queued i q ≡ 1
+    → hit_by h size (nodeless i) p (nodeless_queues q) ≡ nodeless_queues (hit_by h size i p q)
+hits-by-nodeless Renews size i p q u h = hits-nodeless size i p q u h
+hits-by-nodeless Stays size i p q u h = refl
 
 -- ---- evictions
 
@@ -122,33 +131,35 @@ replacing-nodeless admits to i (Some v) q u k =
       | inr e ↦ rw e refl
     ]
 
-direct-nodeless : (r : Rules) (admits : ℕ → ℕ → Bool) (i : Item) (q : Queues) → HasKeysOnce q
-    → direct r admits (nodeless i) (nodeless_queues q) ≡ nodeless_response (direct r admits i q)
-direct-nodeless r admits i q u =
+direct-nodeless : (r : Rules) (admits : ℕ → ℕ → Bool) (p : Queue) (i : Item) (q : Queues) → HasKeysOnce q
+    → direct r admits p (nodeless i) (nodeless_queues q) ≡ nodeless_response (direct r admits p i q)
+direct-nodeless r admits p i q u =
     let all : total_items (nodeless_queues q) ≡ total_items q = total-nodeless q in
-    let oldest : first (queue_of r.home (nodeless_queues q)) ≡ nodeless_option (first (queue_of r.home q)) = oldest-nodeless r.home q in
-    let one = replacing-nodeless admits r.home i (first (queue_of r.home q)) q u (λ v f. oldest-queued r.home q v f) in
-    elim (cases_Bool (nat_lt (total_items q) r.capacity)) as (λ _. direct r admits (nodeless i) (nodeless_queues q) ≡ nodeless_response (direct r admits i q)) [
-      | inl e ↦ rw (all, e) (ap kept_in (sym (pushed-nodeless r.home i q)))
+    let oldest : first (queue_of p (nodeless_queues q)) ≡ nodeless_option (first (queue_of p q)) = oldest-nodeless p q in
+    let one = replacing-nodeless admits p i (first (queue_of p q)) q u (λ v f. oldest-queued p q v f) in
+    elim (cases_Bool (nat_lt (total_items q) r.capacity)) as (λ _. direct r admits p (nodeless i) (nodeless_queues q) ≡ nodeless_response (direct r admits p i q)) [
+      | inl e ↦ rw (all, e) (ap kept_in (sym (pushed-nodeless p i q)))
       | inr e ↦ rw (all, e, oldest) one
     ]
 
 misses-nodeless : (r : Rules) (admits : ℕ → ℕ → Bool) (i : Item) (q : Queues) → IsDistinct q → HasKeysOnce q → IsOnly i q → queued i q ≡ 0
     → miss r admits (nodeless i) (nodeless_queues q) ≡ nodeless_response (miss r admits i q)
-misses-nodeless r admits i q d u n z =
-    elim (cases_Bool r.windowed) as (λ _. miss r admits (nodeless i) (nodeless_queues q) ≡ nodeless_response (miss r admits i q)) [
-      | inl e ↦ rw e (ap (eviction r admits) (sym (pushed-nodeless Window i q)) ∙ evictions-nodeless r admits (pushed Window i q) (distinct-pushed i q d z) (once-pushed i q z n u))
-      | inr e ↦ rw e (direct-nodeless r admits i q u)
-    ]
+misses-nodeless r admits i q d u n z = by r.placement
+  where
+    by : (p : Placement) → miss_by p r admits (nodeless i) (nodeless_queues q) ≡ nodeless_response (miss_by p r admits i q)
+    by (Direct p) = direct-nodeless r admits p i q u
+    by Windowed =
+        ap (eviction r admits) (sym (pushed-nodeless Window i q))
+        ∙ evictions-nodeless r admits (pushed Window i q) (distinct-pushed i q d z) (once-pushed i q z n u)
 
 -- ---- accesses
 
 placed-nodeless : (r : Rules) (admits : ℕ → ℕ → Bool) (i : Item) (q : Queues) (o : Option Queue) → Stands i q o → IsDistinct q → HasKeysOnce q → IsOnly i q
     → access_in r admits (nodeless i) o (nodeless_queues q) ≡ nodeless_response (access_in r admits i o q)
 placed-nodeless r admits i q o (nowhere e f g) d u n = misses-nodeless r admits i q d u n (omega (arith, e, f, g))
-placed-nodeless r admits i q o (in_window e f g) d u n = ap (response Hit None) (hits-nodeless r.protected i Window q u (omega (arith, e, f, g)))
-placed-nodeless r admits i q o (in_probation e f g) d u n = ap (response Hit None) (hits-nodeless r.protected i Probation q u (omega (arith, e, f, g)))
-placed-nodeless r admits i q o (in_protected e f g) d u n = ap (response Hit None) (hits-nodeless r.protected i Protected q u (omega (arith, e, f, g)))
+placed-nodeless r admits i q o (in_window e f g) d u n = ap (response Hit None) (hits-by-nodeless r.hits r.protected i Window q u (omega (arith, e, f, g)))
+placed-nodeless r admits i q o (in_probation e f g) d u n = ap (response Hit None) (hits-by-nodeless r.hits r.protected i Probation q u (omega (arith, e, f, g)))
+placed-nodeless r admits i q o (in_protected e f g) d u n = ap (response Hit None) (hits-by-nodeless r.hits r.protected i Protected q u (omega (arith, e, f, g)))
 
 pub accesses-law : AccessesAgree
 unfolding access

@@ -1,19 +1,22 @@
 -- The plans carry out the table of moves.
 use Rattle.std.proofs.Common.{◌≡◌, ℕ, ◌+◌, ◌≤◌, Bool, true, false, cond, nat_lt, Option, Some, None, List, [], ◌∷◌, ◌++◌, length, ap, ◌∙◌, sym, refl, arith, inl, inr, length-append}
-use Rattle.std.specs.Prelude.{if◌then◌else◌}
 use Rattle.std.proofs.lemmas.Bool.{cases_Bool}
 use Rattle.step_record.specs.declared.item.Item.{Item}
 use Rattle.step_record.specs.declared.outcome.Outcome.TheVariants.{Evicted}
 use Rattle.segments.specs.declared.records.Queue.{Queue}
 use Rattle.segments.specs.declared.records.Queue.TheVariants.{Window, Probation, Protected}
 use Rattle.segments.specs.Items.{same, times, items_without, first}
-use Rattle.segments.specs.Queues.{Queues, queue_of, place_of, pushed, taken, moved, total_items, IsDistinct}
+use Rattle.segments.specs.Queues.{Queues, queue_of, place_of, taken, moved, total_items, IsDistinct}
 use Rattle.segments.proofs.ItemLists.{same-refl, same-sym, length-without, without-none, without-append}
 use Rattle.segments.proofs.MoveLaws.{taken-moved}
 use Rattle.segments.proofs.QueueLists.{first-stands}
+use Rattle.replacement.specs.declared.rules.Placement.{Placement}
+use Rattle.replacement.specs.declared.rules.Placement.TheVariants.{Direct, Windowed}
+use Rattle.replacement.specs.declared.rules.HitRule.{HitRule}
+use Rattle.replacement.specs.declared.rules.HitRule.TheVariants.{Renews, Stays}
 use Rattle.replacement.specs.declared.rules.Rules.{Rules}
-use Rattle.replacement.specs.Table.{Response, kept_in, with_recent, demoted, rejection, contest, trial_of, eviction, replacing, direct, miss, access_in, access}
-use Rattle.replacement.specs.Plan.{Plan, Transfer, transfer, demotion, stay_plan, contest_plan, direct_plan, candidate_of, eviction_of, eviction_plan, joining_first, miss_plan, plan_in, plan}
+use Rattle.replacement.specs.Table.{Response, kept_in, with_recent, demoted, hit_response, hit_by, rejection, contest, trial_of, eviction, replacing, direct, miss_by, miss, access_in, access}
+use Rattle.replacement.specs.Plan.{Plan, Transfer, transfer, demotion, hit_plan_by, stay_plan, contest_plan, direct_plan, candidate_of, eviction_of, eviction_plan, joining_first, miss_plan_by, miss_plan, plan_in, plan}
 use Rattle.replacement.specs.Moving.{transferred, removed, response}
 use Rattle.replacement.specs.Theorems.{HitsPlanned, EvictionsPlanned, AccessesPlanned}
 use Rattle.segments.proofs.QueueLists.{still-absent}
@@ -36,6 +39,10 @@ pub hits-planned : HitsPlanned
 hits-planned size i Window s = refl
 hits-planned size i Probation s = demoted-planned size (moved i Protected s)
 hits-planned size i Protected s = refl
+
+hits-planned-by : (h : HitRule) (size : ℕ) (i : Item) (q : Queue) (s : Queues) → hit_response (hit_by h size i q s) ≡ response (hit_plan_by h size i q s) s
+hits-planned-by Renews size i q s = ap hit_response (hits-planned size i q s)
+hits-planned-by Stays size i q s = refl
 
 -- ---- evictions
 
@@ -160,27 +167,27 @@ replacing-planned a q i (Some v) s h =
       | inr e ↦ rw e refl
     ]
 
-direct-planned : (r : Rules) (a : ℕ → ℕ → Bool) (i : Item) (s : Queues) → place_of i s ≡ None → direct r a i s ≡ response (direct_plan r a i s) s
-direct-planned r a i s h =
-    elim (cases_Bool (nat_lt (total_items s) r.capacity)) as (λ _. direct r a i s ≡ response (direct_plan r a i s) s) [
-      | inl e ↦ rw (e, pushed-moved i r.home s h) refl
-      | inr e ↦ rw e (replacing-planned a r.home i (first (queue_of r.home s)) s h)
+direct-planned : (r : Rules) (a : ℕ → ℕ → Bool) (q : Queue) (i : Item) (s : Queues) → place_of i s ≡ None → direct r a q i s ≡ response (direct_plan r a q i s) s
+direct-planned r a q i s h =
+    elim (cases_Bool (nat_lt (total_items s) r.capacity)) as (λ _. direct r a q i s ≡ response (direct_plan r a q i s) s) [
+      | inl e ↦ rw (e, pushed-moved i q s h) refl
+      | inr e ↦ rw e (replacing-planned a q i (first (queue_of q s)) s h)
     ]
 
 miss-planned : (r : Rules) (a : ℕ → ℕ → Bool) (i : Item) (s : Queues) → IsDistinct s → place_of i s ≡ None → miss r a i s ≡ response (miss_plan r a i s) s
-miss-planned r a i s d h = by r.windowed
+miss-planned r a i s d h = by r.placement
   where
-    by : (b : Bool) → (if b then eviction r a (pushed Window i s) else direct r a i s) ≡ response (if b then joining_first i (eviction_plan r a (moved i Window s)) else direct_plan r a i s) s
-    by true =
+    by : (p : Placement) → miss_by p r a i s ≡ response (miss_plan_by p r a i s) s
+    by (Direct q) = direct-planned r a q i s h
+    by Windowed =
         ap (eviction r a) (pushed-moved i Window s h)
         ∙ (evictions-planned r a (moved i Window s) (moved-distinct i Window s d)
         ∙ sym (joined-response i (eviction_plan r a (moved i Window s)) s (evicts-first r a (moved i Window s))))
-    by false = direct-planned r a i s h
 
 pub access-planned-in : (r : Rules) (a : ℕ → ℕ → Bool) (i : Item) (p : Option Queue) (s : Queues) → IsDistinct s → place_of i s ≡ p
     → access_in r a i p s ≡ response (plan_in r a i p s) s
 access-planned-in r a i None s d h = miss-planned r a i s d h
-access-planned-in r a i (Some q) s d h = let e = hits-planned r.protected i q s in rw e refl
+access-planned-in r a i (Some q) s d h = hits-planned-by r.hits r.protected i q s
 
 -- the plan of an access and the table, by where its item stands
 pub plan-at : (r : Rules) (a : ℕ → ℕ → Bool) (i : Item) (s : Queues) (p : Option Queue) → place_of i s ≡ p → plan r a i s ≡ plan_in r a i p s

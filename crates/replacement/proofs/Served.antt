@@ -1,5 +1,5 @@
 -- What the calls leave is what the plan of an access says.
-use Rattle.std.proofs.Common.{◌≡◌, ℕ, Bool, true, false, cond, Option, Some, None, ap, ◌∙◌, sym, refl, subst}
+use Rattle.std.proofs.Common.{◌≡◌, ℕ, Bool, Option, Some, None, ap, ◌∙◌, sym, refl, subst}
 use Rattle.step_record.specs.declared.item.Item.{Item}
 use Rattle.step_record.specs.declared.outcome.Outcome.TheVariants.{Hit}
 use Rattle.segments.specs.declared.records.Queue.{Queue}
@@ -8,31 +8,30 @@ use Rattle.segments.specs.declared.records.MoveRecord.{MoveRecord}
 use Rattle.segments.specs.Queues.{Queues, place_of, moved, IsDistinct}
 use Rattle.replacement.specs.declared.record.Moves.{Moves}
 use Rattle.replacement.specs.declared.record.Effect.{Effect}
+use Rattle.replacement.specs.declared.rules.Placement.{Placement}
+use Rattle.replacement.specs.declared.rules.HitRule.{HitRule}
+use Rattle.replacement.specs.declared.rules.HitRule.TheVariants.{Renews, Stays}
 use Rattle.replacement.specs.declared.rules.Rules.{Rules}
-use Rattle.replacement.specs.Plan.{Transfer, Plan, hit_plan, direct_plan, eviction_plan, joining_first, miss_plan, plan}
-use Rattle.replacement.specs.Table.{hit_in, after_hit}
+use Rattle.replacement.specs.Plan.{Transfer, Plan, hit_plan, hit_plan_by, eviction_plan, joining_first, miss_plan_by, miss_plan, plan}
 use Rattle.replacement.specs.Moving.{transferred, removed, queues_after, transfer_record, removal_record, moves_of}
-use Rattle.replacement.specs.Effects.{IsEffect, IsHit}
+use Rattle.replacement.specs.Effects.{IsEffect, IsHit, IsHitBy}
 use Rattle.replacement.proofs.Carrying.{IsUndone, undoes}
-use Rattle.replacement.proofs.Planned.{plan-at, hits-planned, evicts-first}
+use Rattle.replacement.proofs.Planned.{plan-at, evicts-first}
 
 -- a hit
-
-pub after-hit : (size : ℕ) (i : Item) (s t : Queues) (m : Moves) → IsHit size i s t m → t ≡ after_hit size i s
-after-hit size i s t m h =
-    h.lists ∙ (sym (hits-planned size i h.queue s) ∙ ap (λ (p : Option Queue). hit_in size i p s) (sym h.place))
-
-pub after-none : (size : ℕ) (i : Item) (s t : Queues) → place_of i s ≡ None → t ≡ s → t ≡ after_hit size i s
-after-none size i s t h e = e ∙ ap (λ (p : Option Queue). hit_in size i p s) (sym h)
 
 pub hit-undone : (size : ℕ) (i : Item) (s t : Queues) (m : Moves) → IsDistinct s → IsHit size i s t m → IsUndone s t m
 hit-undone size i s t m d h = undoes (hit_plan size i h.queue s) s t m d h.lists h.moves
 
-pub hit-effect : (r : Rules) (a : ℕ → ℕ → Bool) (i : Item) (s t : Queues) (m : Moves) → IsHit r.protected i s t m
+hit-outcome : (h : HitRule) (size : ℕ) (i : Item) (q : Queue) (s : Queues) → Hit ≡ (hit_plan_by h size i q s).outcome
+hit-outcome Renews size i q s = refl
+hit-outcome Stays size i q s = refl
+
+pub hit-effect : (r : Rules) (a : ℕ → ℕ → Bool) (i : Item) (s t : Queues) (m : Moves) → IsHitBy r.hits r.protected i s t m
     → IsEffect (plan r a i s) s t record { outcome = Hit; moves = m }
 hit-effect r a i s t m h =
     subst (λ (p : Plan). IsEffect p s t record { outcome = Hit; moves = m }) (sym (plan-at r a i s (Some h.queue) h.place))
-    record { lists = h.lists; moves = h.moves; outcome = refl }
+    record { lists = h.lists; moves = h.moves; outcome = hit-outcome r.hits r.protected i h.queue s }
 
 -- a miss, which the search for the item left as it was
 
@@ -41,15 +40,9 @@ pub miss-effect : (r : Rules) (a : ℕ → ℕ → Bool) (i : Item) (s p t : Que
 miss-effect r a i s p t e h same f =
     subst (λ (x : Plan). IsEffect x s t e) (sym (plan-at r a i s None h)) (subst (λ (x : Queues). IsEffect (miss_plan r a i x) x t e) same f)
 
-pub windowed-effect : (r : Rules) (a : ℕ → ℕ → Bool) (i : Item) (s t : Queues) (e : Effect) → r.windowed ≡ true
-    → IsEffect (joining_first i (eviction_plan r a (moved i Window s))) s t e → IsEffect (miss_plan r a i s) s t e
-windowed-effect r a i s t e w f =
-    subst (λ (b : Bool). IsEffect (cond b (joining_first i (eviction_plan r a (moved i Window s))) (direct_plan r a i s)) s t e) (sym w) f
-
-pub direct-effect : (r : Rules) (a : ℕ → ℕ → Bool) (i : Item) (s t : Queues) (e : Effect) → r.windowed ≡ false
-    → IsEffect (direct_plan r a i s) s t e → IsEffect (miss_plan r a i s) s t e
-direct-effect r a i s t e w f =
-    subst (λ (b : Bool). IsEffect (cond b (joining_first i (eviction_plan r a (moved i Window s))) (direct_plan r a i s)) s t e) (sym w) f
+pub placed-effect : (p : Placement) (r : Rules) (a : ℕ → ℕ → Bool) (i : Item) (s t : Queues) (e : Effect) → r.placement ≡ p
+    → IsEffect (miss_plan_by p r a i s) s t e → IsEffect (miss_plan r a i s) s t e
+placed-effect p r a i s t e w f = subst (λ (x : Placement). IsEffect (miss_plan_by x r a i s) s t e) (sym w) f
 
 joined-lists : (i : Item) (p : Plan) (s t : Queues) → p.first ≡ None → t ≡ queues_after p (moved i Window s) → t ≡ queues_after (joining_first i p) s
 joined-lists i p s t n h = h ∙ ap (λ (o : Option Transfer). transferred p.last (removed p.leaves (transferred o (moved i Window s)))) n

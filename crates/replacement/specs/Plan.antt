@@ -8,6 +8,10 @@ use Rattle.segments.specs.declared.records.Queue.{Queue}
 use Rattle.segments.specs.declared.records.Queue.TheVariants.{Window, Probation, Protected}
 use Rattle.segments.specs.Items.{first}
 use Rattle.segments.specs.Queues.{Queues, queue_of, place_of, moved, refreshed_to, total_items}
+use Rattle.replacement.specs.declared.rules.Placement.{Placement}
+use Rattle.replacement.specs.declared.rules.Placement.TheVariants.{Direct, Windowed}
+use Rattle.replacement.specs.declared.rules.HitRule.{HitRule}
+use Rattle.replacement.specs.declared.rules.HitRule.TheVariants.{Renews, Stays}
 use Rattle.replacement.specs.declared.rules.Rules.{Rules}
 
 -- an item goes to the recent end of a queue
@@ -45,6 +49,11 @@ hit_plan size i q s = record {
   outcome = Hit;
 }
 
+-- by the rule of hits
+abbrev pub hit_plan_by : HitRule → ℕ → Item → Queue → Queues → Plan
+hit_plan_by Renews size i q s = hit_plan size i q s
+hit_plan_by Stays size i q s = record { first = None; leaves = None; last = None; outcome = Hit }
+
 -- ---- a miss
 
 -- the candidate stays
@@ -63,12 +72,12 @@ contest_plan q admits c loser (Some v) =
     then record { first = None; leaves = Some v; last = transfer q (Some c); outcome = Evicted v.key }
     else rejection_plan c loser
 
--- a new item joins its queue, against the oldest there where the cache is full
-abbrev pub direct_plan : Rules → (ℕ → ℕ → Bool) → Item → Queues → Plan
-direct_plan r admits i s =
+-- a new item joins a queue, against the oldest there where the cache is full
+abbrev pub direct_plan : Rules → (ℕ → ℕ → Bool) → Queue → Item → Queues → Plan
+direct_plan r admits q i s =
     if nat_lt (total_items s) r.capacity
-    then stay_plan r.home i
-    else contest_plan r.home admits i None (first (queue_of r.home s))
+    then stay_plan q i
+    else contest_plan q admits i None (first (queue_of q s))
 
 -- the item that has to leave the window
 abbrev pub candidate_of : Rules → Queues → Option Item
@@ -89,15 +98,18 @@ eviction_plan r admits s = eviction_of r admits (candidate_of r s) s
 abbrev pub joining_first : Item → Plan → Plan
 joining_first i p = record { first = transfer Window (Some i); leaves = p.leaves; last = p.last; outcome = p.outcome }
 
+abbrev pub miss_plan_by : Placement → Rules → (ℕ → ℕ → Bool) → Item → Queues → Plan
+miss_plan_by (Direct q) r admits i s = direct_plan r admits q i s
+miss_plan_by Windowed r admits i s = joining_first i (eviction_plan r admits (moved i Window s))
+
 abbrev pub miss_plan : Rules → (ℕ → ℕ → Bool) → Item → Queues → Plan
-miss_plan r admits i s =
-    if r.windowed then joining_first i (eviction_plan r admits (moved i Window s)) else direct_plan r admits i s
+miss_plan r admits i s = miss_plan_by r.placement r admits i s
 
 -- ---- an access
 
 abbrev pub plan_in : Rules → (ℕ → ℕ → Bool) → Item → Option Queue → Queues → Plan
 plan_in r admits i None s = miss_plan r admits i s
-plan_in r admits i (Some q) s = hit_plan r.protected i q s
+plan_in r admits i (Some q) s = hit_plan_by r.hits r.protected i q s
 
 -- the plan of an access, by where the item stands
 unfoldable pub plan : Rules → (ℕ → ℕ → Bool) → Item → Queues → Plan

@@ -8,6 +8,10 @@ use Rattle.segments.specs.declared.records.Queue.{Queue}
 use Rattle.segments.specs.declared.records.Queue.TheVariants.{Window, Probation, Protected}
 use Rattle.segments.specs.Items.{same, first}
 use Rattle.segments.specs.Queues.{Queues, queue_of, place_of, pushed, taken, moved, total_items}
+use Rattle.replacement.specs.declared.rules.Placement.{Placement}
+use Rattle.replacement.specs.declared.rules.Placement.TheVariants.{Direct, Windowed}
+use Rattle.replacement.specs.declared.rules.HitRule.{HitRule}
+use Rattle.replacement.specs.declared.rules.HitRule.TheVariants.{Renews, Stays}
 use Rattle.replacement.specs.declared.rules.Rules.{Rules}
 
 -- what an access or an eviction comes to: its outcome, the item that left the queues, and the queues that it leaves
@@ -40,6 +44,14 @@ hit_in size i (Some Protected) s = moved i Protected s
 -- the queues after a hit on an item; nothing moves where it is in none of them
 abbrev pub after_hit : ℕ → Item → Queues → Queues
 after_hit size i s = hit_in size i (place_of i s) s
+
+abbrev pub hit_response : Queues → Response
+hit_response s = record { outcome = Hit; left = None; queues = s }
+
+-- the queues after a hit on an item that stands in a queue, by the rule of hits
+abbrev pub hit_by : HitRule → ℕ → Item → Queue → Queues → Queues
+hit_by Renews size i q s = hit_in size i (Some q) s
+hit_by Stays size i q s = s
 
 -- ---- an eviction, where there is a window
 
@@ -78,24 +90,28 @@ replacing admits q i (Some v) s =
     then record { outcome = Evicted v.key; left = Some v; queues = pushed q i (taken v s) }
     else record { outcome = Rejected i.key; left = None; queues = s }
 
--- A miss without a window: a new item joins its queue. Where the cache is full, that queue's oldest item leaves for it
--- if it is admitted against that; if not, it is not kept. (A full cache has an item there: protected is below the
+-- A miss without a window: a new item joins a queue. Where the cache is full, that queue's oldest item leaves for it if
+-- it is admitted against that; if not, it is not kept. (A full cache has an item there: protected is below the
 -- capacity.)
-abbrev pub direct : Rules → (ℕ → ℕ → Bool) → Item → Queues → Response
-direct r admits i s =
+abbrev pub direct : Rules → (ℕ → ℕ → Bool) → Queue → Item → Queues → Response
+direct r admits q i s =
     if nat_lt (total_items s) r.capacity
-    then kept_in (pushed r.home i s)
-    else replacing admits r.home i (first (queue_of r.home s)) s
+    then kept_in (pushed q i s)
+    else replacing admits q i (first (queue_of q s)) s
 
--- A miss: with a window the new item joins it, and one eviction follows.
+abbrev pub miss_by : Placement → Rules → (ℕ → ℕ → Bool) → Item → Queues → Response
+miss_by (Direct q) r admits i s = direct r admits q i s
+miss_by Windowed r admits i s = eviction r admits (pushed Window i s)
+
+-- A miss: the new item goes where the rules place it. With a window it joins that, and one eviction follows.
 abbrev pub miss : Rules → (ℕ → ℕ → Bool) → Item → Queues → Response
-miss r admits i s = if r.windowed then eviction r admits (pushed Window i s) else direct r admits i s
+miss r admits i s = miss_by r.placement r admits i s
 
 -- ---- an access
 
 abbrev pub access_in : Rules → (ℕ → ℕ → Bool) → Item → Option Queue → Queues → Response
 access_in r admits i None s = miss r admits i s
-access_in r admits i (Some q) s = record { outcome = Hit; left = None; queues = hit_in r.protected i (Some q) s }
+access_in r admits i (Some q) s = hit_response (hit_by r.hits r.protected i q s)
 
 -- what an access to an item comes to, by where the item stands
 unfoldable pub access : Rules → (ℕ → ℕ → Bool) → Item → Queues → Response

@@ -4,27 +4,53 @@ ghost use Rattle.segments.specs.Queues.{place_of, IsDistinct};
 ghost use Rattle.replacement.specs.Table.{after_hit};
 ghost use Rattle.replacement.specs.Plan.{demotion, settling};
 ghost use Rattle.replacement.specs.Moving.{transferred, transfer_record, undone_moves, FitsMoves};
-ghost use Rattle.replacement.specs.Effects.{IsHit};
+ghost use Rattle.replacement.specs.Effects.{IsHit, IsHitBy};
 
 use crate::record::Moves;
-use crate::steps::send_oldest;
+use crate::rules::{HitRule, Rules};
 use segments::{MoveRecord, Queue, Segments};
 use step_record::Item;
 
-// Takes the oldest item of protected to probation where protected is over its size.
+/// A hit on an item, where protected holds `size` items: an item of the window goes to the window's recent end, any
+/// other to protected's, and where one that came from probation takes protected over its size, the oldest item there
+/// goes to probation's recent end. The undo record; `None`, and nothing moved, where the item stands in no queue.
 #[inline(always)]
-fn demote(segments: &mut Segments, size: usize) -> Option<MoveRecord>
-    requires { IsDistinct segments.old.lists }
-    ensures lists { segments.new.lists ≡ transferred (demotion size segments.old.lists) segments.old.lists }
-    ensures record { result ≡ transfer_record (demotion size segments.old.lists) segments.old.lists }
+pub fn hit(segments: &mut Segments, size: usize, item: Item) -> Option<Moves>
+    ensures absent { result ≡ None ↔ place_of item segments.old.lists ≡ None }
+    ensures lists { segments.new.lists ≡ after_hit size item segments.old.lists }
+    ensures record { IfSome result (λ m. IsHit size item segments.old.lists segments.new.lists m) }
+    ensures fits { IfSome result (λ m. FitsMoves m segments.new.lists) }
+    ensures undone { IfSome result (λ m. undone_moves m segments.new.lists ≡ segments.old.lists) }
     ensures spare { segments.old.spare ≤ segments.new.spare }
+    // what holds of every Segments: no item stands twice
+    ensures distinct { IsDistinct segments.old.lists }
 {
-    if segments.len(Queue::Protected) <= size {
-        return None;
+    let (queue, first) = segments.refresh(item)?;
+    let last = settle(segments, size, queue);
+    Some(Moves {
+        first: Some(first),
+        out: None,
+        last,
+    })
+}
+
+/// A hit on an item by the rules; `None`, and nothing moved, where the item stands in no queue.
+#[inline(always)]
+pub(crate) fn hit_by(segments: &mut Segments, rules: &Rules, item: Item) -> Option<Moves>
+    ensures hit { IfSome result (λ m.
+        IsHitBy rules.now.hits rules.now.protected item segments.old.lists segments.new.lists m) }
+    ensures absent { IfNone result (place_of item segments.old.lists ≡ None) }
+    ensures none { IfNone result (segments.new.lists ≡ segments.old.lists) }
+    ensures spare { segments.old.spare ≤ segments.new.spare }
+    ensures distinct { IsDistinct segments.old.lists }
+{
+    match rules.hits {
+        HitRule::Renews => hit(segments, rules.protected, item),
+        HitRule::Stays => {
+            let _queue = segments.find(item)?;
+            Some(Moves::NONE)
+        }
     }
-    let item = segments.oldest(Queue::Protected)?;
-    let done = send_oldest(segments, Queue::Protected, item, Queue::Probation);
-    Some(done)
 }
 
 // What follows the move of an item that stood in the queue.
@@ -41,42 +67,16 @@ fn settle(segments: &mut Segments, size: usize, queue: Queue) -> Option<MoveReco
     }
 }
 
-// Moves an item for a hit where it stands; `None`, and nothing moved, where it stands in no queue.
+// Takes the oldest item of protected to probation where protected is over its size.
 #[inline(always)]
-pub(crate) fn hit_planned(segments: &mut Segments, size: usize, item: Item) -> Option<Moves>
-    ensures hit { IfSome result (λ m. IsHit size item segments.old.lists segments.new.lists m) }
-    ensures absent { IfNone result (place_of item segments.old.lists ≡ None) }
-    ensures none { IfNone result (segments.new.lists ≡ segments.old.lists) }
+fn demote(segments: &mut Segments, size: usize) -> Option<MoveRecord>
+    requires { IsDistinct segments.old.lists }
+    ensures lists { segments.new.lists ≡ transferred (demotion size segments.old.lists) segments.old.lists }
+    ensures record { result ≡ transfer_record (demotion size segments.old.lists) segments.old.lists }
     ensures spare { segments.old.spare ≤ segments.new.spare }
-    ensures distinct { IsDistinct segments.old.lists }
 {
-    let Some((queue, first)) = segments.refresh(item) else {
+    if segments.len(Queue::Protected) <= size {
         return None;
-    };
-    let last = settle(segments, size, queue);
-    Some(Moves {
-        first: Some(first),
-        out: None,
-        last,
-    })
-}
-
-/// A hit on an item, where protected holds `size` items: an item of the window goes to the window's recent end, any
-/// other to protected's, and where one that came from probation takes protected over its size, the oldest item there
-/// goes to probation's recent end. The undo record; `None`, and nothing moved, where the item stands in no queue.
-#[inline(always)]
-pub fn hit(segments: &mut Segments, size: usize, item: Item) -> Option<Moves>
-    ensures absent { result ≡ None ↔ place_of item segments.old.lists ≡ None }
-    ensures lists { segments.new.lists ≡ after_hit size item segments.old.lists }
-    ensures record { IfSome result (λ m. IsHit size item segments.old.lists segments.new.lists m) }
-    ensures fits { IfSome result (λ m. FitsMoves m segments.new.lists) }
-    ensures undone { IfSome result (λ m. undone_moves m segments.new.lists ≡ segments.old.lists) }
-    ensures spare { segments.old.spare ≤ segments.new.spare }
-    // what holds of every Segments: no item stands twice
-    ensures distinct { IsDistinct segments.old.lists }
-{
-    match hit_planned(segments, size, item) {
-        Some(moves) => Some(moves),
-        None => None,
     }
+    segments.send_oldest(Queue::Protected, Queue::Probation)
 }

@@ -6,21 +6,21 @@
 //! admission filter.
 #![tactic(auto)]
 
-mod admitting;
+mod accesses;
+mod admission_filter;
 mod hits;
 mod misses;
+mod queue_moves;
 mod record;
+mod rollback;
 mod rules;
-mod serving;
-mod steps;
 mod theorems;
-mod undoing;
 
-pub use admitting::open_frequency;
+pub use accesses::access;
+pub use admission_filter::open_frequency;
 pub use hits::hit;
 pub use misses::evict;
 pub use record::{Effect, Moves};
-pub use rules::Rules;
-pub use serving::access;
+pub use rollback::undo;
+pub use rules::{HitRule, Placement, Rules};
 pub use theorems::{accesses_planned, evictions_planned, hits_planned};
-pub use undoing::undo;

@@ -7,17 +7,37 @@ ghost use Rattle.replacement.specs.Plan.{direct_plan, eviction_plan, joining_fir
 ghost use Rattle.replacement.specs.Moving.{moves_of, undone_moves, FitsMoves};
 ghost use Rattle.replacement.specs.Effects.{IsEffect};
 
-use crate::admitting::admits;
+use crate::admission_filter::admits;
+use crate::queue_moves::{drop_oldest, join, renew_oldest, send_oldest};
 use crate::record::{Effect, Moves};
 use crate::rules::Rules;
-use crate::steps::{drop_oldest, join, renew_oldest, send_oldest};
 use admission::Frequency;
 use segments::{Queue, Segments};
 use step_record::{Item, Outcome};
 
-// A new item seeks a place in its queue.
+/// One eviction. Where the window is over its size, its oldest item goes to probation's recent end as the candidate;
+/// where the queues then hold more than the capacity, probation's oldest is the victim. Where these are one item it
+/// leaves; else the victim leaves if the candidate is admitted against it (`Evicted`), and the candidate if not
+/// (`Rejected`). In every other case nothing leaves (`Kept`).
 #[inline(always)]
-pub(crate) fn direct(
+pub fn evict(segments: &mut Segments, frequency: Option<&Frequency>, rules: &Rules) -> Effect
+    requires distinct { IsDistinct segments.old.lists }
+    ensures outcome { result.outcome
+        ≡ (eviction rules.now (admits_in (option_map (λ f. f.now) frequency.entry)) segments.old.lists).outcome }
+    ensures lists { segments.new.lists
+        ≡ (eviction rules.now (admits_in (option_map (λ f. f.now) frequency.entry)) segments.old.lists).queues }
+    ensures record { result.moves
+        ≡ moves_of (eviction_plan rules.now (admits_in
+        (option_map (λ f. f.now) frequency.entry)) segments.old.lists) segments.old.lists }
+    ensures fits { FitsMoves result.moves segments.new.lists }
+    ensures undone { undone_moves result.moves segments.new.lists ≡ segments.old.lists }
+{
+    evict_planned(segments, frequency, rules)
+}
+
+// A new item joins the window, and one eviction follows.
+#[inline(always)]
+pub(crate) fn windowed(
     segments: &mut Segments,
     frequency: Option<&Frequency>,
     rules: &Rules,
@@ -26,12 +46,35 @@ pub(crate) fn direct(
     requires absent { place_of item segments.old.lists ≡ None }
     requires distinct { IsDistinct segments.old.lists }
     requires room { 1 ≤ segments.old.spare }
+    ensures { IsEffect (joining_first item
+        (eviction_plan rules.now (admits_in (option_map (λ f. f.now) frequency.entry))
+        (moved item Queue.Window segments.old.lists)))
+        segments.old.lists segments.new.lists result }
+{
+    let first = join(segments, Queue::Window, item);
+    let mut effect = evict_planned(segments, frequency, rules);
+    effect.moves.first = Some(first);
+    effect
+}
+
+// A new item seeks a place in a queue.
+#[inline(always)]
+pub(crate) fn direct(
+    segments: &mut Segments,
+    frequency: Option<&Frequency>,
+    rules: &Rules,
+    queue: Queue,
+    item: Item,
+) -> Effect
+    requires absent { place_of item segments.old.lists ≡ None }
+    requires distinct { IsDistinct segments.old.lists }
+    requires room { 1 ≤ segments.old.spare }
     ensures { IsEffect (direct_plan rules.now (admits_in
-        (option_map (λ f. f.now) frequency.entry)) item segments.old.lists)
+        (option_map (λ f. f.now) frequency.entry)) queue item segments.old.lists)
         segments.old.lists segments.new.lists result }
 {
     if segments.count() < rules.capacity {
-        let last = join(segments, rules.home, item);
+        let last = join(segments, queue, item);
         return Effect {
             outcome: Outcome::Kept,
             moves: Moves {
@@ -44,13 +87,13 @@ pub(crate) fn direct(
         outcome: Outcome::Rejected(item.key),
         moves: Moves::NONE,
     };
-    let Some(victim) = segments.oldest(rules.home) else {
+    let Some(victim) = segments.oldest(queue) else {
         return rejected;
     };
     if !admits(frequency, item.key, victim.key) {
         return rejected;
     }
-    let (out, last) = renew_oldest(segments, rules.home, victim, item);
+    let (out, last) = renew_oldest(segments, queue, item);
     Effect {
         outcome: Outcome::Evicted(victim.key),
         moves: Moves {
@@ -84,65 +127,18 @@ pub(crate) fn evict_planned(
         return effect;
     };
     if segments.count() <= rules.capacity {
-        effect.moves.last = Some(send_oldest(segments, Queue::Window, candidate, Queue::Probation));
+        effect.moves.last = Some(send_oldest(segments, Queue::Window, Queue::Probation));
         return effect;
     }
     if let Some(victim) = segments.oldest(Queue::Probation) {
         if admits(frequency, candidate.key, victim.key) {
             effect.outcome = Outcome::Evicted(victim.key);
-            effect.moves.out = Some(drop_oldest(segments, Queue::Probation, victim));
-            effect.moves.last = Some(send_oldest(
-                segments,
-                Queue::Window,
-                candidate,
-                Queue::Probation,
-            ));
+            effect.moves.out = Some(drop_oldest(segments, Queue::Probation));
+            effect.moves.last = Some(send_oldest(segments, Queue::Window, Queue::Probation));
             return effect;
         }
     }
     effect.outcome = Outcome::Rejected(candidate.key);
-    effect.moves.out = Some(drop_oldest(segments, Queue::Window, candidate));
+    effect.moves.out = Some(drop_oldest(segments, Queue::Window));
     effect
-}
-
-// A new item joins the window, and one eviction follows.
-#[inline(always)]
-pub(crate) fn windowed(
-    segments: &mut Segments,
-    frequency: Option<&Frequency>,
-    rules: &Rules,
-    item: Item,
-) -> Effect
-    requires absent { place_of item segments.old.lists ≡ None }
-    requires distinct { IsDistinct segments.old.lists }
-    requires room { 1 ≤ segments.old.spare }
-    ensures { IsEffect (joining_first item
-        (eviction_plan rules.now (admits_in (option_map (λ f. f.now) frequency.entry))
-        (moved item Queue.Window segments.old.lists)))
-        segments.old.lists segments.new.lists result }
-{
-    let first = join(segments, Queue::Window, item);
-    let mut effect = evict_planned(segments, frequency, rules);
-    effect.moves.first = Some(first);
-    effect
-}
-
-/// One eviction. Where the window is over its size, its oldest item goes to probation's recent end as the candidate;
-/// where the queues then hold more than the capacity, probation's oldest is the victim. Where these are one item it
-/// leaves; else the victim leaves if the candidate is admitted against it (`Evicted`), and the candidate if not
-/// (`Rejected`). In every other case nothing leaves (`Kept`).
-#[inline(always)]
-pub fn evict(segments: &mut Segments, frequency: Option<&Frequency>, rules: &Rules) -> Effect
-    requires distinct { IsDistinct segments.old.lists }
-    ensures outcome { result.outcome
-        ≡ (eviction rules.now (admits_in (option_map (λ f. f.now) frequency.entry)) segments.old.lists).outcome }
-    ensures lists { segments.new.lists
-        ≡ (eviction rules.now (admits_in (option_map (λ f. f.now) frequency.entry)) segments.old.lists).queues }
-    ensures record { result.moves
-        ≡ moves_of (eviction_plan rules.now (admits_in
-        (option_map (λ f. f.now) frequency.entry)) segments.old.lists) segments.old.lists }
-    ensures fits { FitsMoves result.moves segments.new.lists }
-    ensures undone { undone_moves result.moves segments.new.lists ≡ segments.old.lists }
-{
-    evict_planned(segments, frequency, rules)
 }

@@ -6,7 +6,25 @@ ghost use Rattle.replacement.specs.Rules.{main_size, one_queue, two_queues, thre
 use segments::Queue;
 use step_record::Config;
 
-/// The sizes that a policy of queues goes by, and where new items go.
+/// Where a new item goes.
+#[derive(Clone, Copy, Debug, PartialEq, Eq)]
+pub enum Placement {
+    /// To a queue: where the cache is full, that queue's oldest item leaves for it, or it is rejected.
+    Direct(Queue),
+    /// To the window, and one eviction follows.
+    Windowed,
+}
+
+/// What a hit does to its item.
+#[derive(Clone, Copy, Debug, PartialEq, Eq)]
+pub enum HitRule {
+    /// An item of the window goes to the window's recent end, any other to protected's.
+    Renews,
+    /// The item stays where it stands, and ages as if it had not been hit.
+    Stays,
+}
+
+/// The sizes that a policy of queues goes by, where new items go, and what a hit does.
 #[derive(Clone, Copy, Debug, PartialEq, Eq)]
 pub struct Rules {
     /// How many items the cache holds.
@@ -15,10 +33,10 @@ pub struct Rules {
     pub window: usize,
     /// How many of them the protected queue holds.
     pub protected: usize,
-    /// The queue that a new item joins, where there is no window.
-    pub home: Queue,
-    /// Whether a new item joins a window first.
-    pub windowed: bool,
+    /// Where a new item goes.
+    pub placement: Placement,
+    /// What a hit does.
+    pub hits: HitRule,
 }
 
 // How many items the main part holds.
@@ -42,8 +60,8 @@ impl Rules {
             capacity: config.capacity as usize,
             window: 0,
             protected: 0,
-            home: Queue::Window,
-            windowed: false,
+            placement: Placement::Direct(Queue::Window),
+            hits: HitRule::Renews,
         }
     }
 
@@ -57,8 +75,8 @@ impl Rules {
             capacity,
             window: 0,
             protected: capacity * 80 / 100,
-            home: Queue::Probation,
-            windowed: false,
+            placement: Placement::Direct(Queue::Probation),
+            hits: HitRule::Renews,
         }
     }
 
@@ -74,8 +92,8 @@ impl Rules {
             capacity,
             window: capacity - main,
             protected: main * 80 / 100,
-            home: Queue::Window,
-            windowed: true,
+            placement: Placement::Windowed,
+            hits: HitRule::Renews,
         }
     }
 }

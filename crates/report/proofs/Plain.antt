@@ -12,7 +12,7 @@ use Rattle.csv.specs.Writing.{default_writer, field_text, fields_text, is_blank,
 use Rattle.report.specs.Text.{line_text, rate_of, rate_text_of, report_fields}
 use Rattle.step_record.specs.Job.{word_of}
 use Rattle.step_record.specs.declared.job.Policy.{Policy}
-use Rattle.step_record.specs.declared.job.Policy.TheVariants.{Lru, SegmentedLru, TinyLfuLru, TinyLfuSegmented, WindowTinyLfu, Clairvoyant}
+use Rattle.step_record.specs.declared.job.Policy.TheVariants.{Lru}
 use Rattle.report.specs.declared.summary.Report.{Report}
 
 abbrev pub IsPlain : List ℕ → Type 0
@@ -67,11 +67,7 @@ rate_plain n h =
 
 pub word_plain : (p : Policy) → IsPlain (word_of p)
 word_plain Lru = refl
-word_plain SegmentedLru = refl
-word_plain TinyLfuLru = refl
-word_plain TinyLfuSegmented = refl
-word_plain WindowTinyLfu = refl
-word_plain Clairvoyant = refl
+word_plain _ = refl
 
 -- the fields of a report of machine numbers
 pub report_plain : (r : Report) → r.capacity < 10 ^ 64 → r.accesses < 10 ^ 64 → r.hits < 10 ^ 64 → r.misses < 10 ^ 64

@@ -10,7 +10,8 @@ use Rattle.step_record.specs.declared.outcome.Outcome.TheVariants.{Hit, Kept, Ev
 use Rattle.step_record.specs.Stats.{is_hit, is_miss, is_eviction, is_rejection, stats_of, one}
 use Rattle.policies.specs.Lru.{distinct, since, hits, lru_outcome}
 use Rattle.policies.specs.QueueCache.{QueueState, accessed, frequency_after, state_after, outcomes_from, outcomes_after, outcome_after}
-use Rattle.policies.specs.AnyPolicy.{stats_on, outcomes_on, knows_trace}
+use Rattle.policies.specs.Design.{knows_trace}
+use Rattle.policies.specs.AnyPolicy.{stats_on, outcomes_on}
 use Rattle.policies.proofs.Reached.{after-snoc, after-job}
 use Rattle.policies.proofs.OneQueue.{outcome-lru}
 use Rattle.stack_distances.specs.Distances.{distance, distances_after, distances, is_within, hits_within, stats_within}

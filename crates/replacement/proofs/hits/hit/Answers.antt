@@ -1,18 +1,27 @@
-use Rattle.replacement.proofs.Served.{after-hit, after-none, hit-undone}
+use Rattle.std.proofs.Common.{◌∙◌, ap, refl, sym, subst}
+use Rattle.segments.specs.Queues.{Queues, IsDistinct, refreshed_to}
+use Rattle.replacement.specs.Plan.{settling}
+use Rattle.replacement.specs.Moving.{transferred}
+use Rattle.replacement.proofs.Carrying.{moved-distinct}
+use Rattle.replacement.proofs.Served.{hit-undone}
 use Rattle.replacement.proofs.hits.hit.Goals as goal
 
-pub returns-in-Some-clause-lists : goal.returns-in-Some-clause-lists
-returns-in-Some-clause-lists c =
-    after-hit c.args.size c.args.item c.args.segments.now.lists c.hit_planned.new.segments.lists c.in-Some.moves c.in-Some.ensures.hit
+pub settle-last-requires : goal.settle-last-requires
+settle-last-requires c =
+    subst IsDistinct (sym c.in_ok-queue.ensures.lists) (moved-distinct c.args.item (refreshed_to c.in_ok-queue.queue) c.args.segments.now.lists c.in_ok-queue.ensures.distinct)
 
-pub returns-in-Some-clause-fits : goal.returns-in-Some-clause-fits
-returns-in-Some-clause-fits c =
-    (hit-undone c.args.size c.args.item c.args.segments.now.lists c.hit_planned.new.segments.lists c.in-Some.moves c.in-Some.ensures.distinct c.in-Some.ensures.hit).fits
+pub returns-clause-record : goal.returns-clause-record
+returns-clause-record c = record {
+  queue = c.in_ok-queue.queue;
+  place = c.in_ok-queue.ensures.place;
+  lists = c.settle-last.ensures.lists ∙ ap (λ (x : Queues). transferred (settling c.args.size c.in_ok-queue.queue x) x) c.in_ok-queue.ensures.lists;
+  moves = rw (c.in_ok-queue.ensures.record, c.settle-last.ensures.record, c.in_ok-queue.ensures.lists) refl;
+}
 
-pub returns-in-Some-clause-undone : goal.returns-in-Some-clause-undone
-returns-in-Some-clause-undone c =
-    (hit-undone c.args.size c.args.item c.args.segments.now.lists c.hit_planned.new.segments.lists c.in-Some.moves c.in-Some.ensures.distinct c.in-Some.ensures.hit).back
+pub returns-clause-fits : goal.returns-clause-fits
+returns-clause-fits c =
+    (hit-undone c.args.size c.args.item c.args.segments.now.lists c.settle-last.new.segments.lists _ c.in_ok-queue.ensures.distinct (returns-clause-record c)).fits
 
-pub returns-in-None-clause-lists : goal.returns-in-None-clause-lists
-returns-in-None-clause-lists c =
-    after-none c.args.size c.args.item c.args.segments.now.lists c.hit_planned.new.segments.lists c.in-None.ensures.absent c.in-None.ensures.none
+pub returns-clause-undone : goal.returns-clause-undone
+returns-clause-undone c =
+    (hit-undone c.args.size c.args.item c.args.segments.now.lists c.settle-last.new.segments.lists _ c.in_ok-queue.ensures.distinct (returns-clause-record c)).back

@@ -5,13 +5,13 @@ use Rattle.policies.proofs.Recorded.{access-recorded}
 use Rattle.policies.proofs.queue_cache.QueueCache.step.Goals as goal
 
 pub record_in-requires : goal.record_in-requires
-record_in-requires c = reached-halvings _ c.self.invariant.reached
+record_in-requires g c = reached-halvings _ c.self.invariant.reached
 
 pub count-requires : goal.count-requires
-count-requires c = reached-small _ c.self.invariant.reached
+count-requires g c = reached-small _ c.self.invariant.reached
 
 pub invariant_of-self-2 : goal.invariant_of-self-2
-invariant_of-self-2 c = record {
+invariant_of-self-2 g c = record {
   rules = c.self.invariant.rules;
   reached = access-reached c.self.inside.job c.self.inside.rules c.self.inside.segments.lists c.make_room.new.segments.lists c.access_key-effect.new.segments.lists
       c.self.inside.frequency c.record_in.new.frequency c.self.inside.stats c.count.new.self c.args.key c.access_key-effect.result
@@ -20,10 +20,10 @@ invariant_of-self-2 c = record {
 }
 
 pub returns-clause-words : goal.returns-clause-words
-returns-clause-words c = counting-weighs c.in-Ok.counting c.record_in.new.frequency c.in-Ok.ensures.fits
+returns-clause-words g c = counting-weighs c.in-Ok.counting c.record_in.new.frequency c.in-Ok.ensures.fits
 
 pub returns-clause-record_is : goal.returns-clause-record_is
-returns-clause-record_is c =
+returns-clause-record_is g c =
     access-recorded c.self.inside.job c.self.inside.rules c.self.inside.segments.lists c.make_room.new.segments.lists
     c.self.inside.frequency c.record_in.new.frequency c.self.inside.stats c.args.key c.in-Ok.counting c.access_key-effect.result
     c.self.invariant.rules c.make_room.ensures.lists c.in-Ok.ensures.after c.in-Ok.ensures.record

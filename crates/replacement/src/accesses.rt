@@ -7,42 +7,13 @@ ghost use Rattle.replacement.specs.Plan.{plan};
 ghost use Rattle.replacement.specs.Moving.{moves_of, undone_moves, FitsMoves};
 ghost use Rattle.replacement.specs.Effects.{IsEffect};
 
-use crate::hits::hit_planned;
+use crate::hits::hit_by;
 use crate::misses::{direct, windowed};
 use crate::record::Effect;
-use crate::rules::Rules;
+use crate::rules::{Placement, Rules};
 use admission::Frequency;
 use segments::Segments;
 use step_record::{Item, Outcome};
-
-// An access, by its plan.
-#[inline(always)]
-fn access_planned<C>(
-    segments: &mut Segments,
-    frequency: Option<&Frequency>,
-    rules: &Rules,
-    item: Item,
-) -> Effect
-    requires room { 1 ≤ segments.old.spare }
-    ensures effect { IsEffect (plan rules.now (admits_in
-        (option_map (λ f. f.now) frequency.entry)) item segments.old.lists)
-        segments.old.lists segments.new.lists result }
-    ensures distinct { IsDistinct segments.old.lists }
-{
-    match hit_planned(segments, rules.protected, item) {
-        Some(moves) => Effect {
-            outcome: Outcome::Hit,
-            moves,
-        },
-        None => {
-            if rules.windowed {
-                windowed(segments, frequency, rules, item)
-            } else {
-                direct(segments, frequency, rules, item)
-            }
-        }
-    }
-}
 
 /// Accesses an item: a hit where it stands in a queue, else a miss, by the rules. Where keys are counted, `frequency`
 /// is the one that already has the item's key. It requires room for one item.
@@ -70,4 +41,30 @@ pub fn access<C>(
     ensures distinct { IsDistinct segments.old.lists }
 {
     access_planned::<C>(segments, frequency, rules, item)
+}
+
+// An access, by its plan.
+#[inline(always)]
+fn access_planned<C>(
+    segments: &mut Segments,
+    frequency: Option<&Frequency>,
+    rules: &Rules,
+    item: Item,
+) -> Effect
+    requires room { 1 ≤ segments.old.spare }
+    ensures effect { IsEffect (plan rules.now (admits_in
+        (option_map (λ f. f.now) frequency.entry)) item segments.old.lists)
+        segments.old.lists segments.new.lists result }
+    ensures distinct { IsDistinct segments.old.lists }
+{
+    if let Some(moves) = hit_by(segments, rules, item) {
+        return Effect {
+            outcome: Outcome::Hit,
+            moves,
+        };
+    }
+    match rules.placement {
+        Placement::Windowed => windowed(segments, frequency, rules, item),
+        Placement::Direct(queue) => direct(segments, frequency, rules, queue, item),
+    }
 }

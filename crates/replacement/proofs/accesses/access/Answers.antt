@@ -4,7 +4,7 @@ use Rattle.replacement.specs.Table.{Response}
 use Rattle.replacement.specs.Plan.{plan}
 use Rattle.replacement.proofs.Carrying.{undoes}
 use Rattle.replacement.proofs.Planned.{accesses-planned}
-use Rattle.replacement.proofs.serving.access.Goals as goal
+use Rattle.replacement.proofs.accesses.access.Goals as goal
 
 pub returns-clause-outcome : goal.returns-clause-outcome
 returns-clause-outcome g c =

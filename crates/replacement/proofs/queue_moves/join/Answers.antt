@@ -1,7 +1,7 @@
 use Rattle.std.proofs.Common.{◌∙◌, sym, subst}
 use Rattle.segments.specs.Queues.{IsDistinct}
 use Rattle.replacement.proofs.Carrying.{moved-distinct, pushed-moved}
-use Rattle.replacement.proofs.steps.join.Goals as goal
+use Rattle.replacement.proofs.queue_moves.join.Goals as goal
 
 pub returns-clause-lists : goal.returns-clause-lists
 returns-clause-lists c = c.push_recent.ensures.lists ∙ pushed-moved c.args.item c.args.queue c.args.segments.now.lists c.requires.absent

@@ -1,4 +1,4 @@
-//! Admission by how often keys came.
+//! The admission filter: who stays where one of two keys has to go.
 ghost use Rattle.std.specs.Prelude.{◌≡◌, [], Ok, IfOk, option_map};
 ghost use Rattle.step_record.specs.Config.{config_fault};
 ghost use Rattle.admission.specs.Frequency.{frequency_of};

@@ -2,16 +2,16 @@
 ghost use Rattle.std.specs.Prelude.{◌≡◌, Ok};
 ghost use Rattle.step_record.specs.Config.{config_fault};
 
-use super::*;
 use Outcome::{Evicted, Hit, Kept, Rejected};
 use Policy::{
     Clairvoyant, Lru as LeastRecent, SegmentedLru as Segmented, TinyLfuLru, TinyLfuSegmented,
     WindowTinyLfu as Windowed,
 };
+use policies::{AnyPolicy, Lru, QueueCache, SegmentedLru, TinyLfu, WindowTinyLfu};
 use std::alloc::Global;
 use std::process::Abort;
 use std::test::Fail;
-use step_record::{Config, Engine, Job, Key, Outcome, Policy, Spread, Stats, Trace};
+use step_record::{Config, Engine, Job, Key, Outcome, POLICIES, Policy, Spread, Stats, Trace};
 
 // Accesses the keys, and compares each outcome.
 fn access_all(
@@ -35,16 +35,11 @@ fn run(
     counted: (u64, u64, u64, u64, u64),
     residents: &[Key],
 ) -> Result<(), Fail> {
-    let job = Job {
-        policy,
-        config: Config {
-            capacity,
-            main_percent: 99,
-            spread: Spread::Plain,
-            stripes: 1,
-            journal_limit: 1,
-        },
+    let config = Config {
+        capacity,
+        ..small(rt)
     };
+    let job = Job { policy, config };
     assert!(rt; job.config.check().is_ok());
     let mut keys = Vec::new(alloc);
     for (key, _) in accesses {
@@ -69,14 +64,7 @@ fn run(
 
 #[test]
 fn an_empty_trace_counts_nothing(rt: HostRuntime) -> Result<(), Fail> {
-    for policy in [
-        LeastRecent,
-        Segmented,
-        TinyLfuLru,
-        TinyLfuSegmented,
-        Windowed,
-        Clairvoyant,
-    ] {
+    for policy in POLICIES {
         run(&rt, rt.alloc(), (policy, 3), &[], (0, 0, 0, 0, 0), &[])?;
     }
     Ok(())
@@ -203,7 +191,7 @@ fn the_optimal_policy_keeps_what_is_used_next(rt: HostRuntime) -> Result<(), Fai
     )
 }
 
-// Each policy's own type, accessed and undone once.
+// An engine, accessed and undone once through its bound.
 fn once<E: Engine<Step = Key, Reply = Outcome>>(
     rt: &impl Abort,
     cache: &mut E,
@@ -231,35 +219,61 @@ fn small(rt: &impl Abort) -> Config
     config
 }
 
+fn apply_all<P: Drop>(cache: &mut QueueCache<P>, keys: &[Key]) -> Result<(), Fail> {
+    for key in keys {
+        cache.apply(key)?;
+    }
+    Ok(())
+}
+
+// After the accesses that are given, an access to 3 evicts 1. Undoing it leaves what the cache showed before.
+fn undo_an_eviction<P: Drop>(
+    rt: &impl Abort,
+    alloc: Global,
+    cache: &mut QueueCache<P>,
+    keys: &[Key],
+    residents: &[Key],
+) -> Result<(), Fail> {
+    apply_all(cache, keys)?;
+    let stats = cache.stats();
+    let (outcome, done) = cache.apply(&3)?;
+    assert_eq!(rt; outcome, Evicted(1));
+    assert!(rt; cache.undo(done).is_ok());
+    assert_eq!(rt; cache.stats(), stats);
+    let held = cache.residents(alloc)?;
+    assert_eq!(rt; held.as_slice(), residents);
+    Ok(())
+}
+
 #[test]
-fn lru_makes_an_access_and_takes_it_back(rt: HostRuntime) -> Result<(), Fail> {
+fn lru_undoes_an_eviction(rt: HostRuntime) -> Result<(), Fail> {
     let mut cache = Lru::open(rt.alloc(), &small(&rt))?;
-    once(&rt, &mut cache)?;
     assert!(rt; cache.frequency().is_none());
-    assert!(rt; cache.residents(rt.alloc())?.is_empty());
-    Ok(())
+    once(&rt, &mut cache)?;
+    undo_an_eviction(&rt, rt.alloc(), &mut cache, &[1, 2, 2], &[1, 2])
 }
 
 #[test]
-fn segmented_lru_makes_an_access_and_takes_it_back(rt: HostRuntime) -> Result<(), Fail> {
+fn segmented_lru_undoes_an_eviction(rt: HostRuntime) -> Result<(), Fail> {
     let mut cache = SegmentedLru::open(rt.alloc(), &small(&rt))?;
-    once(&rt, &mut cache)?;
-    assert!(rt; cache.residents(rt.alloc())?.is_empty());
+    assert!(rt; cache.frequency().is_none());
+    undo_an_eviction(&rt, rt.alloc(), &mut cache, &[1, 2, 2], &[1, 2])
+}
+
+// Behind the filter 3 is rejected when it comes first, and admitted against 1 when it comes again.
+#[test]
+fn a_filter_undoes_an_eviction(rt: HostRuntime) -> Result<(), Fail> {
+    for segmented in [false, true] {
+        let mut cache = TinyLfu::open(rt.alloc(), &small(&rt), segmented)?;
+        undo_an_eviction(&rt, rt.alloc(), &mut cache, &[1, 2, 2, 3], &[1, 2])?;
+    }
     Ok(())
 }
 
+// The window holds one key: 3 takes 2 out of it, which is admitted against 1.
 #[test]
-fn a_filter_makes_an_access_and_takes_it_back(rt: HostRuntime) -> Result<(), Fail> {
-    let mut cache = TinyLfu::open(rt.alloc(), &small(&rt), true)?;
-    once(&rt, &mut cache)?;
-    assert_eq!(rt; cache.stats(), Stats::NONE);
-    Ok(())
-}
-
-#[test]
-fn a_window_makes_an_access_and_takes_it_back(rt: HostRuntime) -> Result<(), Fail> {
+fn a_window_undoes_an_eviction(rt: HostRuntime) -> Result<(), Fail> {
     let mut cache = WindowTinyLfu::open(rt.alloc(), &small(&rt))?;
-    once(&rt, &mut cache)?;
     assert!(rt; cache.frequency().is_some());
-    Ok(())
+    undo_an_eviction(&rt, rt.alloc(), &mut cache, &[1, 2, 2], &[2, 1])
 }

@@ -1,0 +1,67 @@
+-- What each policy is: the one table of policies. The design of a policy of queues stands in the module of its name,
+-- with the source.
+use Rattle.std.specs.Prelude.{Bool, true, false}
+use Rattle.step_record.specs.declared.config.Config.{Config}
+use Rattle.step_record.specs.declared.job.Job.{Job}
+use Rattle.step_record.specs.declared.job.Policy.{Policy}
+use Rattle.step_record.specs.declared.job.Policy.TheVariants.{Lru, SegmentedLru, TinyLfuLru, TinyLfuSegmented}
+use Rattle.step_record.specs.declared.job.Policy.TheVariants.{WindowTinyLfu, Clairvoyant}
+use Rattle.replacement.specs.declared.rules.Rules.{Rules}
+use Rattle.replacement.specs.Rules.{one_queue, two_queues, three_queues}
+use Rattle.policies.specs.declared.design.Design.{Design}
+use Rattle.policies.specs.declared.design.Design.TheVariants.{Queues, KnowsTrace}
+use Rattle.policies.specs.declared.design.Layout.{Layout}
+use Rattle.policies.specs.declared.design.Layout.TheVariants.{OneQueue, TwoQueues, ThreeQueues}
+use Rattle.policies.specs.declared.design.QueueDesign.{QueueDesign}
+use Rattle.policies.specs.Lru.{lru}
+use Rattle.policies.specs.SegmentedLru.{segmented_lru}
+use Rattle.policies.specs.TinyLfu.{tiny_lfu}
+use Rattle.policies.specs.WindowTinyLfu.{window_tiny_lfu}
+
+abbrev pub design_of : Policy → Design
+design_of Lru = Queues lru
+design_of SegmentedLru = Queues segmented_lru
+design_of TinyLfuLru = Queues (tiny_lfu lru)
+design_of TinyLfuSegmented = Queues (tiny_lfu segmented_lru)
+design_of WindowTinyLfu = Queues window_tiny_lfu
+design_of Clairvoyant = KnowsTrace
+
+-- ---- a design of queues
+
+abbrev pub sizes_by : Layout → Config → Rules
+sizes_by OneQueue c = one_queue c
+sizes_by TwoQueues c = two_queues c
+sizes_by ThreeQueues c = three_queues c
+
+-- the rules for a configuration
+abbrev pub rules_by : QueueDesign → Config → Rules
+rules_by d c = record (sizes_by d.layout c) { hits = d.hits }
+
+-- ---- any design
+
+-- a policy that knows the trace keeps no queues, and its rules are never used
+abbrev pub rules_in : Design → Config → Rules
+rules_in (Queues d) c = rules_by d c
+rules_in KnowsTrace c = one_queue c
+
+abbrev pub counts_in : Design → Bool
+counts_in (Queues d) = d.counts_keys
+counts_in KnowsTrace = false
+
+abbrev pub is_optimal : Design → Bool
+is_optimal (Queues d) = false
+is_optimal KnowsTrace = true
+
+-- ---- a policy
+
+-- the rules of a job's policy
+abbrev pub rules_of : Job → Rules
+rules_of j = rules_in (design_of j.policy) j.config
+
+-- whether the policy counts keys for its admissions
+abbrev pub is_counting : Policy → Bool
+is_counting p = counts_in (design_of p)
+
+-- whether the policy has to know the whole trace (Belady 1966)
+abbrev pub knows_trace : Policy → Bool
+knows_trace p = is_optimal (design_of p)

@@ -1,0 +1,100 @@
+//! What each policy is: the one table of policies.
+ghost use Rattle.std.specs.Prelude.{◌≡◌, Ok};
+ghost use Rattle.step_record.specs.Config.{config_fault};
+ghost use Rattle.policies.specs.Design.{design_of, rules_by};
+
+use replacement::{HitRule, Rules};
+use step_record::{Config, Policy};
+
+/// What a policy is.
+#[derive(Clone, Copy, Debug, PartialEq, Eq)]
+pub enum Design {
+    /// A policy of queues.
+    Queues(QueueDesign),
+    /// A policy that knows the whole trace: Belady's optimal policy.
+    KnowsTrace,
+}
+
+/// What a policy of queues goes by.
+#[derive(Clone, Copy, Debug, PartialEq, Eq)]
+pub struct QueueDesign {
+    /// Which queues it has.
+    pub layout: Layout,
+    /// What a hit does.
+    pub hits: HitRule,
+    /// Whether it counts keys, and admits a new one in a full cache by how often it came.
+    pub counts_keys: bool,
+}
+
+/// The queues of a policy.
+#[derive(Clone, Copy, Debug, PartialEq, Eq)]
+pub enum Layout {
+    /// One queue.
+    OneQueue,
+    /// Probation, where new keys go, and protected.
+    TwoQueues,
+    /// A window, where new keys go, before probation and protected.
+    ThreeQueues,
+}
+
+/// What a policy is. A policy of queues is told from the others by its row here alone.
+pub fn design_of(policy: Policy) -> Design
+    ensures { result ≡ design_of policy }
+{
+    match policy {
+        Policy::Lru => Design::Queues(LRU),
+        Policy::SegmentedLru => Design::Queues(SEGMENTED_LRU),
+        Policy::TinyLfuLru => Design::Queues(TINY_LFU_LRU),
+        Policy::TinyLfuSegmented => Design::Queues(TINY_LFU_SEGMENTED),
+        Policy::WindowTinyLfu => Design::Queues(WINDOW_TINY_LFU),
+        Policy::Clairvoyant => Design::KnowsTrace,
+    }
+}
+
+pub(crate) const LRU: QueueDesign = QueueDesign {
+    layout: Layout::OneQueue,
+    hits: HitRule::Renews,
+    counts_keys: false,
+};
+
+pub(crate) const SEGMENTED_LRU: QueueDesign = QueueDesign {
+    layout: Layout::TwoQueues,
+    hits: HitRule::Renews,
+    counts_keys: false,
+};
+
+pub(crate) const TINY_LFU_LRU: QueueDesign = QueueDesign {
+    layout: Layout::OneQueue,
+    hits: HitRule::Renews,
+    counts_keys: true,
+};
+
+pub(crate) const TINY_LFU_SEGMENTED: QueueDesign = QueueDesign {
+    layout: Layout::TwoQueues,
+    hits: HitRule::Renews,
+    counts_keys: true,
+};
+
+pub(crate) const WINDOW_TINY_LFU: QueueDesign = QueueDesign {
+    layout: Layout::ThreeQueues,
+    hits: HitRule::Renews,
+    counts_keys: true,
+};
+
+impl QueueDesign {
+    /// The rules for a configuration, which it requires `Config::check` to accept.
+    pub fn rules(&self, config: &Config) -> Rules
+        requires { config_fault config.now ≡ Ok tt }
+        ensures { result ≡ rules_by self.now config.now }
+    {
+        let rules = match self.layout {
+            Layout::OneQueue => Rules::one_queue(config),
+            Layout::TwoQueues => Rules::two_queues(config),
+            Layout::ThreeQueues => Rules::three_queues(config),
+        };
+        Rules {
+            hits: self.hits,
+            ..rules
+        }
+    }
+}

@@ -1,0 +1,23 @@
+use Rattle.std.proofs.Common.{◌∙◌, Some, ap, sym}
+use Rattle.segments.specs.Queues.{pushed, taken, moved}
+use Rattle.segments.specs.Moves.{move_record}
+use Rattle.segments.proofs.QueueLists.{still-absent}
+use Rattle.replacement.specs.Moving.{removed}
+use Rattle.replacement.proofs.Carrying.{popped-taken, pushed-moved}
+use Rattle.replacement.proofs.queue_moves.renew_oldest.Goals as goal
+
+pub returns-clause-lists : goal.returns-clause-lists
+returns-clause-lists c =
+    let s = c.args.segments.now.lists in
+    let oldest = c.in-Some.done.0.item in
+    let gone = popped-taken c.args.queue oldest s c.requires.distinct c.in-Some.ensures.item in
+    c.in-Some.ensures.lists ∙ (ap (pushed c.args.queue c.args.item) gone
+    ∙ (pushed-moved c.args.item c.args.queue (taken oldest s) (still-absent c.args.item oldest s c.requires.absent)
+    ∙ ap (λ o. moved c.args.item c.args.queue (removed o s)) (sym c.in-Some.ensures.item)))
+
+pub returns-clause-put : goal.returns-clause-put
+returns-clause-put c =
+    let s = c.args.segments.now.lists in
+    let gone = popped-taken c.args.queue c.in-Some.done.0.item s c.requires.distinct c.in-Some.ensures.item in
+    c.in-Some.ensures.put ∙ (ap (move_record c.args.item (Some c.args.queue)) gone
+    ∙ ap (λ o. move_record c.args.item (Some c.args.queue) (removed o s)) (sym c.in-Some.ensures.item))
