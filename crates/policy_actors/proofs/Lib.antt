@@ -1,6 +1,6 @@
 pub mod Batches
 pub mod Moves
 pub mod Pieces
-pub mod Rounds
+pub mod Rows
 pub mod Swept
-pub mod Sweeps
+pub mod Turns

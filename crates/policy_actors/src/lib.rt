@@ -1,22 +1,26 @@
 //! Reports of jobs over a whole trace: `run_one` on this thread, `run_actors` with each job on a thread of its own that
 //! is fed the trace in batches, and `sweep` and `sweep_each` with a job or several at several capacities.
+//! `feed_in_rounds` is the order in which the actors are fed.
 //!
-//! All four promise the same: with `Ok`, each report is `report_on` of its job and the trace, in the order asked for.
+//! The four runs promise the same: with `Ok`, each report is `report_on` of its job and the trace, in the order asked for.
 //! So a policy's report does not depend on how many actors there are, or on the size of a batch.
 #![tactic(auto)]
 
-mod accesses;
 mod actor;
+mod actor_cache;
 mod mail;
+mod next_uses;
+mod rounds;
 mod rule;
 mod run;
-mod several;
-mod single;
+mod single_run;
+mod sweeps;
 
 pub use job_checks::ActorFault;
+pub use rounds::{BatchEnds, feed_in_rounds};
 pub use run::{MAX_ACTORS, run_actors};
-pub use several::{sweep, sweep_batches, sweep_each};
-pub use single::run_one;
+pub use single_run::run_one;
+pub use sweeps::{sweep, sweep_batches, sweep_each};
 
 #[cfg(test)]
 mod tests;

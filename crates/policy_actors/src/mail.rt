@@ -1,39 +1,52 @@
 //! The two ends of an actor's channel.
-ghost use Rattle.std.specs.Prelude.{◌≡◌, ◌+◌, ◌*◌, ◌≤◌, length, IfOk, IfSome, IsTrue, take, drop, true, false};
+ghost use Rattle.std.specs.Prelude.{◌≡◌, ◌+◌, ◌*◌, ◌<◌, ◌≤◌, length, IfOk, IfSome, IsTrue, take, drop, true, false};
 ghost use Rattle.crossbeam_channel.specs.Claims.{view, IsSeatAt};
 ghost use Rattle.crossbeam_channel.specs.Ends.{sends_on, receives_on};
 ghost use Rattle.step_record.specs.declared.limits.TheConstants.{MAX_ACCESSES};
 ghost use Rattle.policy_actors.specs.Rule.{log, IsBatch};
 
-use crate::accesses::cut;
+use crate::actor_cache::cut;
+use crate::rounds::BatchEnds;
 use crate::rule::{Batch, BatchesInOrder, Gave, Log, Receiver, Roles, Sender, Source, Token, Took};
 use crossbeam_channel::bounded_with;
 use std::alloc::{AllocError, Global};
 use std::marker::PhantomData;
 use std::sync::Wait;
-use step_record::{Key, Trace};
+use step_record::{Key, MAX_ACCESSES, Trace};
 
-/// The trace that a source stands for, and how many of its accesses go to a batch.
+// The most batches that wait in a channel: as many as the longest trace makes at the size that the program has by
+// default. An actor that is behind then holds up neither the feeder nor the other actors, and nobody sleeps and wakes
+// once a batch. A place takes some 50 bytes, so a channel less than a megabyte.
+const MAX_WAITING: usize = MAX_ACCESSES / 1024;
+
+/// The trace that a source stands for, and how it is cut into batches.
 pub struct Feed<'a, S: Source> {
     pub trace: &'a Trace,
     pub keys: &'a [Key],
     pub size: usize,
+    pub batches: usize,
     marker: PhantomData<S>,
     pub ghost known: { trace.now ≡ S.keys },
     pub ghost whole: { keys.now ≡ S.keys },
     pub ghost few: { length keys.now ≤ MAX_ACCESSES },
     pub ghost batch: { size ≡ S.size },
+    pub ghost some: { 0 < batches },
+    pub ghost covered: { length keys.now ≤ batches * size },
 }
 
 impl<'a, S: Source> Feed<'a, S> {
+    /// `size` accesses to a batch; the last one may be shorter, and an empty trace is one empty batch.
     pub fn new(trace: &'a Trace, size: usize) -> Feed<'a, S>
         requires trace { trace.now ≡ S.keys }
-        requires size { size ≡ S.size }
+        requires size { (size ≡ S.size) × (0 < size) }
     {
+        let keys = trace.keys();
+        let batches = keys.len().div_ceil(size).max(1);
         Feed {
             trace,
-            keys: trace.keys(),
+            keys,
             size,
+            batches,
             marker: PhantomData,
         }
     }
@@ -116,7 +129,7 @@ impl<'a, S: Source> Inbox<'a, S> {
     }
 }
 
-/// A channel of four batches.
+/// A channel with room for all batches, up to `MAX_WAITING`.
 pub fn channel<'a, S: Source>(
     alloc: Global,
     feed: Feed<'a, S>,
@@ -124,7 +137,8 @@ pub fn channel<'a, S: Source>(
     ensures { IfOk result (λ r. (r.0.sent ≡ 0) × (r.1.taken ≡ 0)) }
 {
     let (sender, receiver, mut pass) = bounded_with::<Batch<'a>, Log, BatchesInOrder<S>, Global>(
-        alloc, 4,
+        alloc,
+        feed.batches.min(MAX_WAITING),
     )?;
     let theirs = sender.another::<Roles>(&mut pass);
     let outbox = Outbox {
@@ -141,4 +155,22 @@ pub fn channel<'a, S: Source>(
         feed,
     };
     Ok((outbox, inbox))
+}
+
+impl<'a, S: Source> BatchEnds for Vec<Outbox<'a, S>> {
+    ghost use Rattle.std.specs.Prelude.{◌≡◌, ◌+◌, length, map, slice_set, slice_index};
+
+    ghost ends = { λ v. length v.items };
+
+    // one more batch was sent to the end with this index, and as many as before to the others
+    ghost given = { λ v i w. map (λ e. e.sent) w.items
+        ≡ slice_set (map (λ e. e.sent) v.items) i (slice_index (map (λ e. e.sent) v.items) i + 1) };
+
+    fn count(&self) -> usize {
+        self.len()
+    }
+
+    fn give<R: Wait>(&mut self, rt: &R, end: usize) -> bool {
+        self[end].give(rt)
+    }
 }

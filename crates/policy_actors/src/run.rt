@@ -1,16 +1,18 @@
 //! Each job on a thread of its own.
-ghost use Rattle.std.specs.Prelude.{◌≡◌, ◌<◌, ◌≤◌, ◌+◌, ◌*◌, [], ◌∷◌, ◌++◌, map, length};
-ghost use Rattle.std.specs.Prelude.{Ok, None, IfOk, OnOk, IfSome, IsTrue};
+ghost use Rattle.std.specs.Prelude.{◌≡◌, ◌<◌, ◌≤◌, [], ◌∷◌, ◌++◌, map, length};
+ghost use Rattle.std.specs.Prelude.{Ok, None, IfOk, OnOk, IfSome};
 ghost use denote.Param.Send.{IsSync};
 ghost use Rattle.step_record.specs.Config.{config_fault};
 ghost use Rattle.policy_actors.specs.declared.run.TheConstants.{MAX_ACTORS};
-ghost use Rattle.policy_actors.specs.Actors.{jobs_of, AllSent};
+ghost use Rattle.policy_actors.specs.Actors.{jobs_of};
 ghost use Rattle.policy_actors.specs.Faults.{actor_fault};
 ghost use Rattle.job_checks.specs.FaultyJobs.{faulty_in, ReturnsFault};
 ghost use Rattle.policy_actors.specs.Reports.{report_on};
 
 use crate::actor::act;
-use crate::mail::{Feed, Outbox, channel};
+use crate::mail::{Feed, channel};
+use crate::next_uses::SharedUses;
+use crate::rounds::feed_in_rounds;
 use crate::rule::Source;
 use job_checks::{ActorFault, check_jobs};
 use report::Report;
@@ -41,9 +43,11 @@ impl<S: Source> Promise<Option<Report>> for Promised<S> {
 type Handle<S> = thread::PromisedHandle<Option<Report>, Promised<S>>;
 
 /// The reports of the jobs over the trace, in the order of the jobs. Each job is an actor on a thread of its own, fed
-/// through a channel of four batches; batch j goes to every actor before batch j + 1 goes to any. A batch is `batch`
+/// through a channel by `feed_in_rounds`: batch j goes to every actor before batch j + 1 goes to any. A batch is `batch`
 /// accesses of the trace, the last one may be shorter, and an empty trace is one empty batch. The gate is called before
 /// and after each batch of an actor, with the actor's index and the batch's number. No jobs: no reports.
+///
+/// The next uses that Belady's policy goes by are found once, on the thread of the first actor that asks for them.
 ///
 /// Errors: `Batch`, `Actors` and `Config`, exactly where their causes stand, in this order, before any thread is
 /// started; then `OutOfMemory`.
@@ -65,11 +69,12 @@ pub fn run_actors<R: Threads + Wait + Sync, G: Gate>(
         return Err(ActorFault::Actors);
     }
     check_jobs(jobs)?;
-    let reports = run_with::<Brand, R, G>(rt, alloc, trace, batch as usize, jobs, gate)?;
+    let reports = run_jobs::<Brand, R, G>(rt, alloc, trace, batch as usize, jobs, gate)?;
     Ok(reports)
 }
 
-fn run_with<S: Source + Send + Sync + 'static, R: Threads + Wait + Sync, G: Gate>(
+// Runs jobs that were checked before, so that out of memory is the one error.
+fn run_jobs<S: Source + Send + Sync + 'static, R: Threads + Wait + Sync, G: Gate>(
     rt: &R,
     alloc: Global,
     trace: &Trace,
@@ -83,20 +88,19 @@ fn run_with<S: Source + Send + Sync + 'static, R: Threads + Wait + Sync, G: Gate
     requires checked { faulty_in jobs.now ≡ None }
     ensures { IfOk result (λ v. v.items ≡ map (λ j. report_on j S.keys) jobs.now) }
 {
-    let rounds = trace.len().div_ceil(size).max(1);
-    run_as::<S, R, G>(rt, alloc, Feed::new(trace, size), jobs, rounds, gate)
+    let uses = SharedUses::<S>::new();
+    run_fed::<S, R, G>(rt, alloc, Feed::new(trace, size), &uses, jobs, gate)
 }
 
 // Starts the actors, feeds them, and joins them.
-fn run_as<S: Source + Send + Sync + 'static, R: Threads + Wait + Sync, G: Gate>(
+fn run_fed<S: Source + Send + Sync + 'static, R: Threads + Wait + Sync, G: Gate>(
     rt: &R,
     alloc: Global,
     feed: Feed<'_, S>,
+    uses: &SharedUses<S>,
     jobs: &[Job],
-    rounds: usize,
     gate: &G,
 ) -> Result<Vec<Report>, AllocError>
-    requires rounds { (0 < rounds) × (length S.keys ≤ rounds * S.size) }
     requires few { length jobs.now ≤ MAX_ACTORS }
     requires checked { faulty_in jobs.now ≡ None }
     ensures { IfOk result (λ v. v.items ≡ map (λ j. report_on j S.keys) jobs.now) }
@@ -123,12 +127,12 @@ fn run_as<S: Source + Send + Sync + 'static, R: Threads + Wait + Sync, G: Gate>(
                     move || -> Option<Report>
                         requires { (inbox.taken ≡ 0) × (config_fault job.config ≡ Ok tt) }
                         ensures { IfSome result (λ x. x ≡ report_on job S.keys) }
-                    { act::<S, R, G>(rt, alloc, inbox, job, who, gate) },
+                    { act::<S, R, G>(rt, alloc, inbox, uses, job, who, gate) },
                 )?;
                 add(&mut handles, handle)?;
                 ends.push(outbox)?;
             }
-            if !feed_all(rt, &mut ends, rounds as u64) {
+            if !feed_in_rounds(rt, &mut ends, feed.batches as u64) {
                 return Err(AllocError);
             }
             drop(ends);
@@ -160,30 +164,4 @@ fn join_all<S: Source, R: Threads>(
         reports.push(one)?;
     }
     Ok(reports)
-}
-
-// Gives the batches below number `rounds`, each to every actor before the next goes to any.
-fn feed_all<S: Source, R: Wait>(rt: &R, ends: &mut Vec<Outbox<'_, S>>, rounds: u64) -> bool
-    requires { AllSent 0 ends.old.items }
-    ensures { IsTrue result → AllSent rounds ends.new.items }
-{
-    for number in 0..rounds {
-        if !give_all(rt, ends, number) {
-            return false;
-        }
-    }
-    true
-}
-
-// Gives batch `number` to every actor, each of which has all that come before it and no other.
-fn give_all<S: Source, R: Wait>(rt: &R, ends: &mut Vec<Outbox<'_, S>>, number: u64) -> bool
-    requires { AllSent number ends.old.items }
-    ensures { IsTrue result → AllSent (number + 1) ends.new.items }
-{
-    for i in 0..ends.len() {
-        if !ends[i].give(rt) {
-            return false;
-        }
-    }
-    true
 }

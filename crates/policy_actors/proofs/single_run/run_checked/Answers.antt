@@ -1,0 +1,29 @@
+use Rattle.std.proofs.Common.{◌≡◌, [], ◌∙◌, sym, append-nil, subst, IfSome}
+use Rattle.policies.specs.AnyPolicy.{Stands}
+use Rattle.stack_distances.specs.Curve.{curve_of}
+use Rattle.policy_actors.proofs.single_run.run_checked.Goals as goal
+
+pub returns : goal.returns
+returns g c =
+    let input = c.args.input.now in
+    c.read_report.ensures input.trace.now (subst (λ o. IfSome o (λ curve. curve.now ≡ curve_of input.trace.now)) c.in-Some.is input.found)
+
+pub access_in_batches-requires : goal.access_in_batches-requires
+access_in_batches-requires g c = (
+  c.type_bounds.sync-G,
+  record {
+    job = c.args.job.now;
+    trace = c.args.input.now.trace.now;
+    before = [];
+    rest = [];
+    stands = c.in_ok-cache.ensures.stands;
+    ahead = sym (append-nil _ ∙ c.keys.ensures.keys);
+    few = c.keys.ensures.few;
+  },
+)
+
+pub returns-2 : goal.returns-2
+returns-2 g c =
+    let trace = c.args.input.now.trace.now in
+    let e = c.in_ok-access_in_batches.ensures c.args.job.now trace [] c.in_ok-cache.ensures.stands in
+    c.report_by.ensures trace (subst (λ l. Stands c.args.job.now trace l c.access_in_batches.new.cache) c.keys.ensures.keys e)

@@ -1,0 +1,13 @@
+-- Batches given to several ends in turn: as the threads of a run are fed, each number to all of them before the next.
+use Rattle.std.specs.Prelude.{◌≡◌, ℕ, zero, suc, List, [], ◌∷◌, ◌++◌}
+use Rattle.std.specs.List.{range_with_len}
+
+-- the ends go from e to f as those with these indexes are given their next batch, one after the other
+abbrev pub IsGivenInTurn : {E : Type 0} → (E → ℕ → E → Type 0) → List ℕ → E → E → Type 0
+IsGivenInTurn given [] e f = e ≡ f
+IsGivenInTurn given (i ∷ is) e f = (next : _) × given e i next × IsGivenInTurn given is next f
+
+-- the indexes of the ends, from the first to the last, once for each round
+abbrev pub indexes_in_rounds : ℕ → ℕ → List ℕ
+indexes_in_rounds zero ends = []
+indexes_in_rounds (suc rounds) ends = indexes_in_rounds rounds ends ++ range_with_len 0 ends

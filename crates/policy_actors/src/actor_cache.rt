@@ -1,0 +1,115 @@
+//! An actor's cache: the accesses of a trace, batch by batch, and the report at its end.
+ghost use Rattle.std.specs.Prelude.{◌≡◌, ◌≤◌, [], ◌++◌, ℕ, List, length, take, drop, OnOk, IfSome};
+ghost use Rattle.step_record.specs.declared.job.Job.{Job};
+ghost use Rattle.policies.specs.AnyPolicy.{Stands};
+ghost use Rattle.policy_actors.specs.Accesses.{IsNext};
+ghost use Rattle.policy_actors.specs.Reports.{report_on};
+
+use policies::{AnyPolicy, any_accepts, any_reports, any_stands};
+use report::Report;
+use std::alloc::{AllocError, Global};
+use step_record::{Gate, Job, Key, MAX_BATCH, StepFault, Trace};
+
+// For so many accesses at once what they read first is read ahead.
+const AHEAD: usize = 16;
+
+/// Makes the accesses in turn, which are the next ones of a trace. The one error is out of memory; the cache has made
+/// some of them then, and is of no more use.
+pub fn access_all(cache: &mut AnyPolicy, keys: &[Key]) -> Result<(), AllocError>
+    requires { IsNext keys.now cache.old }
+    ensures { (j : Job) (trace done : List ℕ) → Stands j trace done cache.old
+        → OnOk result (Stands j trace (done ++ keys.now) cache.new) }
+{
+    any_stands();
+    any_accepts();
+    for i in 0..keys.len() {
+        warm_at(cache, keys, i);
+        match cache.access::<Report>(keys[i]) {
+            Ok(_) => {}
+            Err(StepFault::OutOfMemory) => return Err(AllocError),
+            Err(StepFault::NotNow) => unreachable!(),
+        }
+    }
+    Ok(())
+}
+
+// Reads ahead what the next accesses read first, once for each few of them.
+#[inline(always)]
+fn warm_at(cache: &mut AnyPolicy, keys: &[Key], i: usize)
+    requires { i ≤ length keys.now }
+    ensures { cache.new ≡ cache.old }
+{
+    if i % AHEAD == 0 {
+        let end = keys.len().min(i + AHEAD);
+        cache.warm(&keys[i..end]);
+    }
+}
+
+/// The same in batches of `MAX_BATCH` accesses, with the gate called before and after each, as worker 0, with the
+/// batch's number.
+pub fn access_in_batches<G: Gate>(
+    cache: &mut AnyPolicy,
+    keys: &[Key],
+    gate: &G,
+) -> Result<(), AllocError>
+    requires { IsNext keys.now cache.old }
+    ensures { (j : Job) (trace done : List ℕ) → Stands j trace done cache.old
+        → OnOk result (Stands j trace (done ++ keys.now) cache.new) }
+{
+    let size = MAX_BATCH as usize;
+    let mut rest = keys;
+    for number in 0..keys.len().div_ceil(size) {
+        let (batch, later) = cut(rest, size);
+        gate.before(0, number as u64);
+        access_all(cache, batch)?;
+        gate.after(0, number as u64);
+        rest = later;
+    }
+    Ok(())
+}
+
+/// The first keys of the rest, `size` where there are so many, and what is left.
+pub fn cut(rest: &[Key], size: usize) -> (&[Key], &[Key])
+    ensures front { result.0.now ≡ take size rest.now }
+    ensures back { result.1.now ≡ drop size rest.now }
+{
+    if rest.len() <= size {
+        (rest, &[])
+    } else {
+        rest.split_at(size)
+    }
+}
+
+/// Makes the accesses of a batch. A cache that ran out of memory is dropped, and stays so.
+pub fn access_batch(cache: &mut Option<AnyPolicy>, keys: &[Key])
+    requires { IfSome cache.old (IsNext keys.now) }
+    ensures { (j : Job) (trace done : List ℕ) → IfSome cache.old (Stands j trace done)
+        → IfSome cache.new (Stands j trace (done ++ keys.now)) }
+{
+    let Some(open) = cache else {
+        return;
+    };
+    let Ok(()) = access_all(open, keys) else {
+        *cache = None;
+        return;
+    };
+}
+
+/// The report of a cache that ran its job over the whole trace.
+pub fn report_by(cache: &AnyPolicy, job: &Job) -> Report
+    ensures { (trace : List ℕ) → Stands job.now trace trace cache.now → result ≡ report_on job.now trace }
+{
+    any_reports();
+    Report::of(job, cache.stats())
+}
+
+/// The same, unless the cache ran out of memory.
+pub fn finish(cache: Option<AnyPolicy>, job: &Job) -> Option<Report>
+    ensures { (trace : List ℕ) → IfSome cache (Stands job.now trace trace)
+        → IfSome result (λ r. r ≡ report_on job.now trace) }
+{
+    match cache {
+        Some(cache) => Some(report_by(&cache, job)),
+        None => None,
+    }
+}

@@ -1,0 +1,95 @@
+//! One job over a trace, on this thread.
+ghost use Rattle.std.specs.Prelude.{◌≡◌, ℕ, List, Ok, IfOk, IfSome, [], ◌∷◌};
+ghost use Rattle.std.proofs.Props.{props};
+ghost use Rattle.step_record.specs.Config.{config_fault};
+ghost use Rattle.job_checks.specs.FaultyJobs.{faulty_in, ReturnsFault};
+ghost use Rattle.policy_actors.specs.Reports.{report_on};
+ghost use Rattle.stack_distances.specs.Curve.{curve_of};
+
+use crate::actor_cache::{access_in_batches, report_by};
+use clairvoyant::NextUse;
+use job_checks::ActorFault;
+use policies::AnyPolicy;
+use report::Report;
+use stack_distances::Curve;
+use std::alloc::{AllocError, Global};
+use step_record::{Gate, Job, OpenGate, Policy, Trace};
+
+/// The report of a job over the trace, made on this thread.
+///
+/// Errors: `Config` with index 0 exactly where `Config::check` refuses the job's configuration, and `OutOfMemory`.
+pub fn run_one(alloc: Global, trace: &Trace, job: &Job) -> Result<Report, ActorFault>
+    ensures report { IfOk result (λ r. r ≡ report_on job.now trace.now) }
+    ensures fault { ReturnsFault (faulty_in (job.now ∷ [])) result }
+{
+    let input = Input::new(trace, None, None);
+    run_over(alloc, &input, job, &OpenGate)
+}
+
+/// A trace, with what was found of it beforehand: the next uses of its keys, and the curve of Lru.
+#[derive(Drop)]
+pub struct Input<'a> {
+    pub trace: &'a Trace,
+    pub uses: Option<&'a NextUse>,
+    pub curve: Option<&'a Curve>,
+    pub ghost known: { IfSome uses (λ u. u.now ≡ trace.now) } by { Prim.hlevel props },
+    pub ghost found: { IfSome curve (λ c. c.now ≡ curve_of trace.now) } by { Prim.hlevel props },
+}
+
+impl<'a> Input<'a> {
+    pub fn new(trace: &'a Trace, uses: Option<&'a NextUse>, curve: Option<&'a Curve>) -> Input<'a>
+        requires known { IfSome uses (λ u. u.now ≡ trace.now) }
+        requires found { IfSome curve (λ c. c.now ≡ curve_of trace.now) }
+        ensures { result.trace.now ≡ trace.now }
+    {
+        Input { trace, uses, curve }
+    }
+}
+
+/// The report of a job over the input. The gate is called before and after each batch of `MAX_BATCH` accesses, unless
+/// the report is read off the curve. Errors: those of `run_one`.
+pub fn run_over<G: Gate>(
+    alloc: Global,
+    input: &Input<'_>,
+    job: &Job,
+    gate: &G,
+) -> Result<Report, ActorFault>
+    ensures report { IfOk result (λ r. r ≡ report_on job.now input.now.trace.now) }
+    ensures fault { ReturnsFault (faulty_in (job.now ∷ [])) result }
+{
+    if job.config.check().is_err() {
+        return Err(ActorFault::Config { index: 0 });
+    }
+    let report = run_checked(alloc, input, job, gate)?;
+    Ok(report)
+}
+
+// The report of a job whose configuration `Config::check` accepts. The one error is out of memory.
+fn run_checked<G: Gate>(
+    alloc: Global,
+    input: &Input<'_>,
+    job: &Job,
+    gate: &G,
+) -> Result<Report, AllocError>
+    requires { config_fault job.now.config ≡ Ok tt }
+    ensures { IfOk result (λ r. r ≡ report_on job.now input.now.trace.now) }
+{
+    if job.policy == Policy::Lru
+        && let Some(curve) = input.curve
+    {
+        return Ok(read_report(curve, job));
+    }
+    let trace = input.trace;
+    let mut cache = AnyPolicy::open_with(alloc, job, trace, input.uses)?;
+    access_in_batches(&mut cache, trace.keys(), gate)?;
+    Ok(report_by(&cache, job))
+}
+
+// The report of a job of Lru, read off the curve of the trace.
+fn read_report(curve: &Curve, job: &Job) -> Report
+    requires lru { job.now.policy ≡ Policy.Lru }
+    requires checked { config_fault job.now.config ≡ Ok tt }
+    ensures { (trace : List ℕ) → curve.now ≡ curve_of trace → result ≡ report_on job.now trace }
+{
+    Report::of(job, curve.stats(job.config.capacity))
+}
