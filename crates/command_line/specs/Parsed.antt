@@ -114,9 +114,10 @@ abbrev pub LacksReplayed : Option ℕ → List Row → Type 0
 LacksReplayed None rows = ⊥
 LacksReplayed (Some stripes) rows = (concurrent_in stripes rows ≡ None) ⊎ (first_of (codes "journal") rows ≡ None)
 
--- the matches of `replay` name a number of read buffers that no cache has; else they lack another argument
+-- The matches of `replay` name a number of read buffers that no cache has; else they lack another argument, or the
+-- allocation of the file's name failed.
 abbrev pub LacksReplay : List Row → ParseFault → Type 0
-LacksReplay rows fault.OutOfMemory = ⊤
+LacksReplay rows fault.OutOfMemory = (stripes : ℕ) × (stripes_in rows ≡ Some stripes)
 LacksReplay rows (fault.Refused error) = ⊥
 LacksReplay rows fault.Stripes = stripes_in rows ≡ None
 LacksReplay rows fault.Incomplete = LacksReplayed (stripes_in rows) rows

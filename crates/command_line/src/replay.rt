@@ -20,7 +20,8 @@ pub struct ReplayArguments {
 }
 
 /// The arguments of `replay` that the matches name. `Stripes` where the number of read buffers is
-/// none of a cache; `Incomplete` where the matches lack another number in its range or a file.
+/// none of a cache; `Incomplete` where the matches lack another number in its range or a file;
+/// `OutOfMemory`, for the name of the file, only where the number of read buffers is one of a cache.
 pub(crate) fn replay_arguments(
     alloc: Global,
     matches: &ArgMatches<'_>,

@@ -8,3 +8,4 @@ pub mod Answers
 pub mod Answering
 pub mod Reading
 pub mod Dialogue
+pub mod FaultText

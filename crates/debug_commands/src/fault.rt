@@ -3,27 +3,40 @@ ghost use Rattle.std.specs.Prelude.{◌≡◌};
 ghost use Rattle.debug_commands.specs.declared.fault.DebugFault.TheVariants.{OutOfMemory, Read, Write};
 
 use std::alloc::AllocError;
+use std::fmt;
 use streams::{ReadFault, WriteAllFault};
 use thiserror::Error;
 
-/// Why a debugger stopped before its input's end or a `quit`.
+/// Why a debugger stopped before its input's end or a `quit`. It is displayed by its name.
 #[derive(Clone, Copy, Debug, PartialEq, Eq, Error)]
 pub enum DebugFault {
     /// An allocation failed.
-    #[error("OutOfMemory")]
     OutOfMemory,
     /// The input failed, or was interrupted a million times.
-    #[error("Read")]
     Read,
     /// The output failed, took no byte, or was interrupted a million times. It may be partial.
-    #[error("Write")]
     Write,
     /// A line of the input goes past `MAX_COMMAND_BYTES` bytes, counted from the first line on.
-    #[error("TooLarge")]
     TooLarge,
     /// `Config::check` refuses the configuration of the policy at this index.
-    #[error("Config")]
     Config { index: usize },
+}
+
+impl fmt::Display for DebugFault {
+    ghost use Rattle.std.specs.Prelude.{Some};
+    ghost use Rattle.debug_commands.specs.FaultText.{debug_fault_text};
+
+    ghost output = { λ fault. Some (debug_fault_text fault) };
+
+    fn fmt<W: fmt::Write>(&self, f: &mut fmt::Formatter<W>) -> fmt::Result {
+        match self {
+            DebugFault::OutOfMemory => f.write_str("OutOfMemory"),
+            DebugFault::Read => f.write_str("Read"),
+            DebugFault::Write => f.write_str("Write"),
+            DebugFault::TooLarge => f.write_str("TooLarge"),
+            DebugFault::Config { index: _ } => f.write_str("Config"),
+        }
+    }
 }
 
 impl From<AllocError> for DebugFault {

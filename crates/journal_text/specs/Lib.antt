@@ -6,3 +6,4 @@ pub mod Faults
 pub mod Unread
 pub mod ReplyItem
 pub mod Writing
+pub mod FaultText

@@ -5,6 +5,7 @@ ghost use Rattle.std.specs.Io.KnownBytes.{Appends};
 ghost use Rattle.csv.specs.Writing.{default_writer, row_text, text_written};
 ghost use Rattle.report.specs.Ready.{IsWriterReady};
 ghost use Rattle.report.specs.Text.{header_fields, line_text, rate_text_of, report_line, reports_text};
+ghost use Rattle.streams.specs.Part.{AppendsPart};
 
 use super::{Report, WriteFault};
 use csv::{Writer, WriterBuilder};
@@ -105,7 +106,7 @@ fn reports_text(alloc: Global, reports: &[Report]) -> Result<Vec<u8>, WriteFault
 
 /// Writes the header and a line for each report, in order, and flushes. The writes and flushes of
 /// one call share its interruptions, of which the millionth is `Write`. `OutOfMemory` has written
-/// nothing; after `Write` the output may be partial.
+/// nothing; after `Write` a beginning of the text was written.
 pub fn write_reports<W: Write>(
     alloc: Global,
     reports: &[Report],
@@ -113,6 +114,8 @@ pub fn write_reports<W: Write>(
 ) -> Result<(), WriteFault>
     ensures text { OnOk result (Appends (W.contents writer.old) (W.contents writer.new) (reports_text reports.now)) }
     ensures none { result ≡ Err WriteFault.OutOfMemory → writer.new ≡ writer.old }
+    ensures part { result ≡ Err WriteFault.Write
+        → AppendsPart (W.contents writer.old) (W.contents writer.new) (reports_text reports.now) }
 {
     let text = reports_text(alloc, reports)?;
     streams::write_all(writer, text.as_slice())?;

@@ -47,6 +47,7 @@ const HEADER_LENGTH: usize = 63;
 #[derive(Drop)]
 struct Pipe {
     taken: Vec<u8>,
+    flushed: usize,
     most: usize,
     interruptions: u32,
     interrupted: u32,
@@ -56,6 +57,7 @@ impl Pipe {
     fn of(taken: Vec<u8>, most: usize) -> Pipe {
         Pipe {
             taken,
+            flushed: 0,
             most,
             interruptions: 0,
             interrupted: 0,
@@ -89,6 +91,7 @@ impl Write for Pipe {
     }
 
     fn flush(&mut self) -> Result<()> {
+        self.flushed = self.taken.len();
         Ok(())
     }
 }
@@ -104,10 +107,13 @@ fn the_text_of_reports(rt: HostRuntime) -> std::result::Result<(), Fail> {
 }
 
 #[test]
-fn a_writer_of_single_bytes_gets_the_same_text(rt: HostRuntime) -> std::result::Result<(), Fail> {
+fn a_writer_of_single_bytes_gets_the_same_text_and_a_flush(
+    rt: HostRuntime,
+) -> std::result::Result<(), Fail> {
     let mut pipe = Pipe::of(Vec::with_capacity(rt.alloc(), TEXT.len())?, TEXT.len());
     write_reports(rt.alloc(), &[COUNTED, EMPTY, LARGE], &mut pipe)?;
     assert_eq!(rt; pipe.taken.as_slice(), TEXT.as_bytes());
+    assert_eq!(rt; pipe.flushed, TEXT.len());
     Ok(())
 }
 
