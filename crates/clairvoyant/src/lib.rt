@@ -10,6 +10,7 @@
 
 mod clairvoyant;
 mod next_use;
+mod packed_keys;
 mod theorems;
 mod use_record;
 

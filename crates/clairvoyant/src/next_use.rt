@@ -1,8 +1,9 @@
 //! A trace with the next use of each access, found beforehand.
 ghost use Rattle.std.specs.Prelude.{◌≡◌, ℕ, suc, ◌-◌, ◌*◌, ◌<◌, ◌≤◌, IfOk, IfSome, length, slice_index};
 ghost use Rattle.step_record.specs.declared.limits.TheConstants.{MAX_ACCESSES};
-ghost use Rattle.clairvoyant.specs.Uses.{next, rank, rank_by, key_at};
+ghost use Rattle.clairvoyant.specs.Uses.{IsFound, next, rank, rank_by, key_at};
 
+use crate::packed_keys::PackedKeys;
 use key_places::KeyPlaces;
 use std::alloc::{AllocError, Global};
 use std::marker::Model;
@@ -25,7 +26,7 @@ pub struct NextUse {
 // The keys of the accesses, and the rank of each one's key after it.
 #[derive(Drop)]
 struct Found {
-    keys: Vec<Key>,
+    keys: PackedKeys,
     ranks: Vec<u32>,
 }
 
@@ -33,26 +34,13 @@ impl Model for NextUse {
     ghost use Rattle.std.specs.Prelude.{ℕ, List};
     ghost use Rattle.std.specs.Arc.{arc_value};
     ghost use Rattle.clairvoyant.specs.Uses.{IsFound};
+    ghost use Rattle.clairvoyant.specs.PackedKeys.{unpacked};
 
     ghost Value = { List ℕ };
 
-    ghost view = { λ u. (arc_value u.found).keys.items };
+    ghost view = { λ u. unpacked (arc_value u.found).keys };
 
-    ghost invariant = { λ u. IsFound (arc_value u.found).keys.items (arc_value u.found).ranks.items };
-}
-
-/// The rank of a key that is used next at one place and was used last at another.
-fn rank_by(len: usize, next: Option<u32>, last: usize) -> u32
-    requires few { len ≤ MAX_ACCESSES }
-    requires next { IfSome next (λ n. n < len) }
-    requires last { last < len }
-    ensures rank { result ≡ rank_by len next last }
-    ensures within { result < 2 * len }
-{
-    match next {
-        Some(next) => (2 * len - 1) as u32 - next,
-        None => last as u32,
-    }
+    ghost invariant = { λ u. IsFound (unpacked (arc_value u.found).keys) (arc_value u.found).ranks.items };
 }
 
 impl NextUse {
@@ -61,15 +49,8 @@ impl NextUse {
     pub fn build(alloc: Global, trace: &Trace) -> Result<NextUse, AllocError>
         ensures { IfOk result (λ u. u ≡ trace.now) }
     {
-        let keys = Vec::from_slice(alloc, trace.keys())?;
-        let len = keys.len();
-        let mut ranks: Vec<u32> = vec![in alloc; 0; len]?;
-        let mut following = KeyPlaces::new(alloc, trace.keys())?;
-        for back in 0..len {
-            let place = len - 1 - back;
-            let next = following.put(keys[place], place as u32)?;
-            ranks[place] = rank_by(len, next, place);
-        }
+        let ranks = ranks_of(alloc, trace.keys())?;
+        let keys = PackedKeys::pack(alloc, trace.keys())?;
         let found = Arc::new(alloc, Found { keys, ranks })?;
         Ok(NextUse { found })
     }
@@ -88,7 +69,7 @@ impl NextUse {
         ensures len { result ≡ length self.now }
         ensures few { result ≤ MAX_ACCESSES }
     {
-        self.found.keys.len()
+        self.found.ranks.len()
     }
 
     /// The key of the access at a place.
@@ -96,7 +77,7 @@ impl NextUse {
         requires { place < length self.now }
         ensures { result ≡ slice_index self.now place }
     {
-        self.found.keys[place]
+        self.found.keys.get(place)
     }
 
     /// The next use of the key that is accessed at a place: the least later place that holds the
@@ -128,11 +109,42 @@ impl NextUse {
         requires { rank < 2 * length self.now }
         ensures { result ≡ key_at self.now rank }
     {
-        let len = self.found.keys.len();
+        let len = self.len();
         if rank < len {
-            self.found.keys[rank]
+            self.key(rank)
         } else {
-            self.found.keys[2 * len - 1 - rank]
+            self.key(2 * len - 1 - rank)
         }
+    }
+}
+
+// The rank of each access's key after it. The places of the keys, which it goes by, are gone at its end, so the keys
+// of the trace can be packed where they were.
+fn ranks_of(alloc: Global, keys: &[Key]) -> Result<Vec<u32>, AllocError>
+    requires { length keys.now ≤ MAX_ACCESSES }
+    ensures { IfOk result (λ ranks. IsFound keys.now ranks.items) }
+{
+    let len = keys.len();
+    let mut ranks: Vec<u32> = vec![in alloc; 0; len]?;
+    let mut following = KeyPlaces::new(alloc, keys)?;
+    for back in 0..len {
+        let place = len - 1 - back;
+        let next = following.put(keys[place], place as u32)?;
+        ranks[place] = rank_by(len, next, place);
+    }
+    Ok(ranks)
+}
+
+// The rank of a key that is used next at one place and was used last at another.
+fn rank_by(len: usize, next: Option<u32>, last: usize) -> u32
+    requires few { len ≤ MAX_ACCESSES }
+    requires next { IfSome next (λ n. n < len) }
+    requires last { last < len }
+    ensures rank { result ≡ rank_by len next last }
+    ensures within { result < 2 * len }
+{
+    match next {
+        Some(next) => (2 * len - 1) as u32 - next,
+        None => last as u32,
     }
 }

@@ -20,6 +20,14 @@ fn opened(alloc: Global, keys: &[Key], capacity: u32) -> Result<Clairvoyant, Fai
     Ok(cache)
 }
 
+// The outcome of an access, or `None` where it was refused.
+fn answer(cache: &mut Clairvoyant, key: Key) -> Option<Outcome> {
+    match cache.apply(&key) {
+        Ok((outcome, _)) => Some(outcome),
+        Err(_) => None,
+    }
+}
+
 #[test]
 fn the_key_whose_next_use_is_farthest_leaves(rt: HostRuntime) -> Result<(), Fail> {
     let mut cache = opened(rt.alloc(), &[1, 2, 3, 1, 2], 2)?;
@@ -30,8 +38,7 @@ fn the_key_whose_next_use_is_farthest_leaves(rt: HostRuntime) -> Result<(), Fail
         (1, Outcome::Hit),
         (2, Outcome::Hit),
     ] {
-        let step = cache.apply(&key);
-        assert_eq!(rt; step.ok().map(|step| step.0), Some(outcome));
+        assert_eq!(rt; answer(&mut cache, key), Some(outcome));
     }
     assert_eq!(rt; cache.apply(&1).err(), Some(StepFault::NotNow));
     assert_eq!(rt;
@@ -58,8 +65,7 @@ fn of_keys_never_used_again_the_one_accessed_first_leaves(rt: HostRuntime) -> Re
         (3, Outcome::Evicted(1)),
         (4, Outcome::Evicted(2)),
     ] {
-        let step = cache.apply(&key);
-        assert_eq!(rt; step.ok().map(|step| step.0), Some(outcome));
+        assert_eq!(rt; answer(&mut cache, key), Some(outcome));
     }
     Ok(())
 }
@@ -95,23 +101,28 @@ fn shared_next_uses_outlive_their_first_owner(rt: HostRuntime) -> Result<(), Fai
     Ok(())
 }
 
+// Makes an access that evicts the key 1, and undoes it.
+fn evict_and_undo(rt: &impl Abort, cache: &mut Clairvoyant, key: Key) {
+    match cache.apply(&key) {
+        Ok((outcome, record)) => {
+            assert_eq!(rt; outcome, Outcome::Evicted(1));
+            assert_eq!(rt; record.outcome(), outcome);
+            assert!(rt; cache.undo(record).is_ok());
+        }
+        Err(_) => assert!(rt; false, "refused"),
+    }
+}
+
 #[test]
 fn an_undone_access_is_made_again(rt: HostRuntime) -> Result<(), Fail> {
     let mut cache = opened(rt.alloc(), &[1, 2, 3, 4], 2)?;
     for key in [1, 2] {
-        assert!(rt; cache.apply(&key).is_ok());
+        assert_eq!(rt; answer(&mut cache, key), Some(Outcome::Kept));
     }
     let before = cache.stats();
-    let third = cache.apply(&3);
-    assert!(rt; third.is_ok());
-    if let Ok((outcome, record)) = third {
-        assert_eq!(rt; outcome, Outcome::Evicted(1));
-        assert_eq!(rt; record.outcome(), outcome);
-        assert!(rt; cache.undo(record).is_ok());
-    }
+    evict_and_undo(&rt, &mut cache, 3);
     assert_eq!(rt; cache.stats(), before);
-    let again = cache.apply(&3);
-    assert_eq!(rt; again.ok().map(|step| step.0), Some(Outcome::Evicted(1)));
+    assert_eq!(rt; answer(&mut cache, 3), Some(Outcome::Evicted(1)));
     Ok(())
 }
 
@@ -191,29 +202,53 @@ fn small_trace(seed: u64) -> [Key; 14] {
     keys
 }
 
+fn assert_residents(
+    rt: &impl Abort,
+    alloc: Global,
+    cache: &Clairvoyant,
+    wanted: &[Key],
+) -> Result<(), AllocError> {
+    let held = cache.residents(alloc)?;
+    assert_eq!(rt; held.as_slice(), wanted);
+    Ok(())
+}
+
 /// Serves a trace by the cache and by scans of plain lists, and compares each outcome and the
 /// residents.
+fn serve_both(
+    rt: &impl Abort,
+    alloc: Global,
+    cache: &mut Clairvoyant,
+    residents: &mut Vec<Key>,
+    keys: &[Key],
+    capacity: usize,
+) -> Result<(), AllocError> {
+    for (place, key) in keys.iter().enumerate() {
+        let expected = scanned(residents, keys, place, *key, capacity)?;
+        assert_eq!(rt;
+            answer(cache, *key),
+            Some(expected),
+            "{keys:?} at capacity {capacity}, place {place}"
+        );
+        residents.sort_unstable();
+        assert_residents(rt, alloc, cache, residents)?;
+    }
+    Ok(())
+}
+
 fn assert_scanned(rt: &impl Abort, alloc: Global, keys: &[Key], capacity: u32) -> Result<(), Fail>
     requires { (1 ≤ capacity) × (capacity ≤ MAX_CAPACITY) }
 {
     let mut cache = opened(alloc, keys, capacity)?;
     let mut residents = Vec::new(alloc);
-    for (place, key) in keys.iter().enumerate() {
-        let expected = scanned(&mut residents, keys, place, *key, capacity as usize)?;
-        let step = cache.apply(key);
-        assert_eq!(rt;
-            step.ok().map(|step| step.0),
-            Some(expected),
-            "{keys:?} at capacity {capacity}, place {place}"
-        );
-        let held = cache.residents(alloc)?;
-        residents.sort_unstable();
-        assert_eq!(rt;
-            held.as_slice(),
-            residents.as_slice(),
-            "{keys:?} at capacity {capacity}, place {place}"
-        );
-    }
+    serve_both(
+        rt,
+        alloc,
+        &mut cache,
+        &mut residents,
+        keys,
+        capacity as usize,
+    )?;
     Ok(())
 }
 
@@ -323,25 +358,37 @@ fn held_by(
     }
 }
 
-// An access and its undoing ask for no memory, and one refused allocation changes no answer.
+// Makes an access, and compares its outcome and the residents behind it.
+fn assert_after(
+    rt: &impl Abort,
+    refused: &mut u32,
+    alloc: Global,
+    cache: &mut Clairvoyant,
+    wanted: (Key, Outcome, &[Key]),
+) -> Result<(), AllocError> {
+    let (key, outcome, after) = wanted;
+    assert_eq!(rt; answer(cache, key), Some(outcome));
+    let residents = held_by(rt, refused, alloc, cache)?;
+    assert_eq!(rt; residents.as_slice(), after);
+    Ok(())
+}
+
+// An access asks for no memory, and one refused allocation changes no answer. One key is too large for 4 bytes.
 #[test]
 fn a_refusal_of_memory_changes_no_answer(rt: HostRuntime) -> Result<(), Fail> {
-    let keys = Vec::from_slice(rt.alloc(), &[1, 900, 3, 1, 900])?;
+    let keys = Vec::from_slice(rt.alloc(), &[1, Key::MAX, 3, 1, Key::MAX])?;
     assert!(rt; keys.len() == 5);
     let trace = Trace::new(keys);
     let mut refused = 0;
     let mut cache = opened_again(&rt, &mut refused, rt.alloc(), &trace)?;
-    for (key, outcome, after) in [
+    for wanted in [
         (1, Outcome::Kept, &[1][..]),
-        (900, Outcome::Kept, &[1, 900][..]),
-        (3, Outcome::Rejected(3), &[1, 900][..]),
-        (1, Outcome::Hit, &[1, 900][..]),
-        (900, Outcome::Hit, &[1, 900][..]),
+        (Key::MAX, Outcome::Kept, &[1, Key::MAX][..]),
+        (3, Outcome::Rejected(3), &[1, Key::MAX][..]),
+        (1, Outcome::Hit, &[1, Key::MAX][..]),
+        (Key::MAX, Outcome::Hit, &[1, Key::MAX][..]),
     ] {
-        let step = cache.apply(&key);
-        assert_eq!(rt; step.ok().map(|step| step.0), Some(outcome));
-        let residents = held_by(&rt, &mut refused, rt.alloc(), &cache)?;
-        assert_eq!(rt; residents.as_slice(), after);
+        assert_after(&rt, &mut refused, rt.alloc(), &mut cache, wanted)?;
     }
     Ok(())
 }

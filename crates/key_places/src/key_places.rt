@@ -25,10 +25,8 @@ impl KeyPlaces {
         ensures { IfOk result (λ p. (k : ℕ) → place_of p k ≡ None) }
     {
         let low: Vec<u32> = vec![in alloc; 0; table_len(keys)]?;
-        Ok(KeyPlaces {
-            low,
-            high: HashMap::new(alloc),
-        })
+        let high = HashMap::with_capacity(alloc, past_table(keys) / 4)?;
+        Ok(KeyPlaces { low, high })
     }
 
     /// The place of a key that the table reaches, `None` for any other key: for reads ahead of `put`, which do not depend
@@ -67,4 +65,10 @@ fn table_len(keys: &[Key]) -> usize {
         }
     }
     len
+}
+
+// How many accesses the table does not reach. Room for a fourth of so many keys is made at once, since most keys come
+// several times; for more the map grows.
+fn past_table(keys: &[Key]) -> usize {
+    keys.iter().filter(|key| **key >= keys.len() as u64).count()
 }
