@@ -18,6 +18,3 @@ pub use clairvoyant::Clairvoyant;
 pub use next_use::NextUse;
 pub use theorems::{clairvoyant_accepts, clairvoyant_stands};
 pub use use_record::{Gone, UseRecord};
-
-#[cfg(test)]
-mod tests;

@@ -1,7 +1,9 @@
-//! Tests of the data structures: queues of items, buffers, ranks, places of keys, and the curve of Lru. They stand in a
+//! Tests of the data structures: queues of items, buffers, ranks, places of keys, next uses, and the curve of Lru. They stand in a
 //! crate of their own so that the gate proves each of those crates once.
 #![tactic(auto)]
 
+#[cfg(test)]
+mod clairvoyant_tests;
 #[cfg(test)]
 mod key_places_tests;
 #[cfg(test)]

@@ -21,6 +21,3 @@ pub use rounds::{BatchEnds, feed_in_rounds};
 pub use run::{MAX_ACTORS, run_actors};
 pub use single_run::run_one;
 pub use sweeps::{sweep, sweep_batches, sweep_each};
-
-#[cfg(test)]
-mod tests;

@@ -1,7 +1,8 @@
+//! Belady's optimal policy over small traces.
 ghost use Rattle.std.specs.Prelude.{◌≤◌};
 ghost use Rattle.step_record.specs.declared.limits.TheConstants.{MAX_CAPACITY};
 
-use super::*;
+use clairvoyant::{Clairvoyant, NextUse};
 use std::alloc::{AllocError, Global};
 use std::process::Abort;
 use std::test::Fail;
