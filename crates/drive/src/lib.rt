@@ -2,9 +2,6 @@
 //! (`workers`), and finishing a maintenance and quiet runs (`quiet_run`).
 #![tactic(auto)]
 
-#[cfg(test)]
-mod tests;
-
 pub use quiet_run::{QuietFault, SettleFault, run_quiet, settle, theorems};
 pub use walks::{Local, Next, next_step};
 pub use workers::{Cause, DriveFault, Driven, drive};

@@ -9,8 +9,3 @@ mod undone_run;
 pub use held_words::words_held;
 pub use reports::{BothWays, capacities_both_ways, jobs_both_ways};
 pub use undone_run::{Rewound, drive_and_undo};
-
-#[cfg(test)]
-mod report_tests;
-#[cfg(test)]
-mod undone_run_tests;

@@ -9,8 +9,6 @@
 
 mod round;
 mod run;
-#[cfg(test)]
-mod tests;
 pub mod theorems;
 
 pub use round::{SettleFault, settle};

@@ -11,8 +11,6 @@
 mod local;
 mod next;
 mod place;
-#[cfg(test)]
-mod tests;
 
 pub use local::Local;
 pub use next::{Next, next_step};

@@ -4,11 +4,7 @@
 //! in turns, and into its own list, or the beginning of such walks where a step was refused.
 #![tactic(auto)]
 
-#[cfg(test)]
-mod crowd_tests;
 mod run;
-#[cfg(test)]
-mod run_tests;
 mod turns;
 mod worker_state;
 

@@ -1,5 +1,5 @@
 use Rattle.std.proofs.Common.{refl}
-use Rattle.drive.proofs.tests.new_session.Goals as goal
+use Rattle.thread_tests.proofs.settled_run_tests.new_session.Goals as goal
 
 pub new-requires : goal.new-requires
 unfolding lib.Count.ones

@@ -1,6 +1,7 @@
-use super::*;
+//! Walks, step by step.
 use std::process::Abort;
 use step_record::{Act, Answer, Call, Item, Reply, Worker};
+use walks::{Local, Next, next_step};
 
 const ITEM: Item = Item { key: 1, node: 0 };
 

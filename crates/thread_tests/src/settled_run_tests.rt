@@ -1,7 +1,7 @@
 //! A run on threads, and what settles it.
 ghost use Rattle.std.specs.Prelude.{◌≤◌, ◌^◌};
 
-use super::*;
+use drive::{Cause, DriveFault, Driven, SettleFault, drive, settle};
 use journal::Session;
 use maintenance::Shell;
 use std::alloc::{AllocError, Global};

@@ -1,8 +1,8 @@
 //! A run on threads of which more steps are to be undone than there are.
 ghost use Rattle.std.specs.Prelude.{Ok};
 
-use super::{Rewound, drive_and_undo};
 use drive::{Cause, DriveFault};
+use headline::{Rewound, drive_and_undo};
 use journal::{BackFault, Session};
 use maintenance::Shell;
 use std::alloc::{AllocError, Global};

@@ -1,5 +1,5 @@
 //! The reports of small traces, made in two ways and compared with values that were worked out by hand.
-use super::{BothWays, capacities_both_ways, jobs_both_ways};
+use headline::{BothWays, capacities_both_ways, jobs_both_ways};
 use policy_actors::ActorFault;
 use report::Report;
 use std::process::Abort;

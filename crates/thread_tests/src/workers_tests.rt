@@ -1,7 +1,6 @@
 //! Runs of workers on threads, some held back until all have begun.
 ghost use Rattle.std.specs.Prelude.{◌≤◌, ◌^◌};
 
-use super::*;
 use journal::Session;
 use maintenance::Shell;
 use std::alloc::{AllocError, Global};
@@ -13,6 +12,7 @@ use std::test::Fail;
 use std::thread;
 use std::thread::Threads;
 use step_record::{Call, Config, Drain, Entry, Gate, Key, OpenGate, Reply, Spread, Step};
+use workers::{Cause, DriveFault, Driven, drive};
 
 const CONFIG: Config = Config {
     capacity: 8,

@@ -1,6 +1,7 @@
-use super::*;
+//! Maintenance that is settled, and quiet runs that are cut off.
 use journal::{BackFault, Session, SessionFault};
 use maintenance::Shell;
+use quiet_run::{QuietFault, SettleFault, run_quiet, settle};
 use std::alloc::Global;
 use std::process::Abort;
 use std::test::Fail;

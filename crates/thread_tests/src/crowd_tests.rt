@@ -1,6 +1,5 @@
 //! Sixty-four workers side by side, whose entries are read by the rule of walks alone.
-use super::run_tests::{assert_own_lists, driven};
-use super::*;
+use super::workers_tests::{assert_own_lists, driven};
 use journal::Session;
 use maintenance::Shell;
 use std::alloc::{AllocError, Global};
