@@ -1,5 +1,5 @@
 //! The place of each key.
-ghost use Rattle.std.specs.Prelude.{◌≡◌, ℕ, ◌<◌, cond, nat_eq, Some, None, IfOk, IfSome, OnOk};
+ghost use Rattle.std.specs.Prelude.{◌≡◌, ℕ, ◌<◌, ◌≤◌, cond, nat_eq, Some, None, IfOk, IfSome, OnOk, length};
 ghost use Rattle.step_record.specs.declared.limits.TheConstants.{MAX_ACCESSES};
 ghost use Rattle.key_places.specs.KeyPlaces.{place_of};
 
@@ -42,6 +42,7 @@ impl KeyPlaces {
     }
 
     /// Puts a key's place, and returns the one that it had. The only error is out of memory.
+    #[inline(always)]
     pub fn put(&mut self, key: Key, place: u32) -> Result<Option<u32>, AllocError>
         requires { place < MAX_ACCESSES }
         ensures old { IfOk result (λ o. o ≡ place_of self.old key) }
@@ -52,6 +53,18 @@ impl KeyPlaces {
             let before = mem::replace(&mut self.low[key as usize], place + 1);
             return Ok(before.checked_sub(1));
         }
+        self.put_past(key, place)
+    }
+
+    // The same for a key that the table does not reach, out of line: a loop over keys that it does reach then saves no
+    // registers for the map.
+    #[inline(never)]
+    fn put_past(&mut self, key: Key, place: u32) -> Result<Option<u32>, AllocError>
+        requires { length self.old.low.items ≤ key }
+        ensures old { IfOk result (λ o. o ≡ place_of self.old key) }
+        ensures updates { OnOk result ((k : ℕ) →
+            place_of self.new k ≡ cond (nat_eq key k) (Some place) (place_of self.old k)) }
+    {
         Ok(self.high.insert(key, place)?)
     }
 }
