@@ -11,18 +11,24 @@ use std::thread;
 use std::thread::Threads;
 use step_record::{Config, Gate, Job, OpenGate, Policy, Spread, Trace};
 
-// Holds each actor's batch n until batch n of every actor has begun.
+// Holds each actor's batch n, for the first few n, until batch n of every actor has begun.
 #[derive(Drop)]
 struct Hold {
     actors: u64,
+    held: u64,
     begun: AtomicU64,
     over: AtomicU64,
     late: AtomicU64,
 }
 
 fn gate_for(actors: u64) -> Hold {
+    gate_of_first(actors, u64::MAX)
+}
+
+fn gate_of_first(actors: u64, held: u64) -> Hold {
     Hold {
         actors,
+        held,
         begun: AtomicU64::new(0),
         over: AtomicU64::new(0),
         late: AtomicU64::new(0),
@@ -32,6 +38,9 @@ fn gate_for(actors: u64) -> Hold {
 impl Gate for Hold {
     fn before(&self, _who: u8, n: u64) {
         self.begun.fetch_add(1, SeqCst);
+        if n >= self.held {
+            return;
+        }
         let wanted = n.wrapping_add(1).wrapping_mul(self.actors);
         for _ in 0..1_000_000 {
             if self.begun.load(SeqCst) >= wanted {
@@ -158,6 +167,102 @@ fn sixty_four_actors_of_an_empty_trace(rt: HostRuntime) -> Result<(), Fail> {
     }
     assert_eq!(rt; gate.late.load(SeqCst), 0);
     assert_eq!(rt; gate.over.load(SeqCst), 64);
+    Ok(())
+}
+
+// Counts the calls of each actor, and those that came out of turn: batch 0 is begun and then over, then batch 1.
+#[derive(Drop)]
+struct Turns {
+    calls: Vec<AtomicU64>,
+    wrong: AtomicU64,
+}
+
+impl Turns {
+    fn new(alloc: Global, actors: usize) -> Result<Turns, Fail> {
+        let mut calls = Vec::new(alloc);
+        for _actor in 0..actors {
+            calls.push(AtomicU64::new(0))?;
+        }
+        Ok(Turns {
+            calls,
+            wrong: AtomicU64::new(0),
+        })
+    }
+
+    // Call number `number` of an actor.
+    fn called(&self, who: u8, number: u64) {
+        if let Some(calls) = self.calls.get(usize::from(who))
+            && calls.fetch_add(1, SeqCst) == number
+        {
+            return;
+        }
+        self.wrong.fetch_add(1, SeqCst);
+    }
+
+    // Whether each actor was seen to begin and to end so many batches in turn.
+    fn is_over(&self, batches: u64) -> bool {
+        let wanted = batches.wrapping_mul(2);
+        self.wrong.load(SeqCst) == 0 && self.calls.iter().all(|calls| calls.load(SeqCst) == wanted)
+    }
+}
+
+impl Gate for Turns {
+    fn before(&self, who: u8, n: u64) {
+        self.called(who, n.wrapping_mul(2));
+    }
+
+    fn after(&self, who: u8, n: u64) {
+        self.called(who, n.wrapping_mul(2).wrapping_add(1));
+    }
+}
+
+// Many batches and many actors over a thousand accesses of one key, each actor's batches in their order.
+#[test]
+fn each_actor_takes_its_batches_in_turn(rt: HostRuntime) -> Result<(), Fail> {
+    let alloc = rt.alloc();
+    let many = Trace::new(vec![in alloc; 7; 1_000]?);
+    let jobs = [job(Policy::Lru, 2); 64];
+    for (actors, batch, batches) in [(1, 1, 1_000), (2, 1, 1_000), (63, 999, 2), (64, 334, 3)] {
+        let Some(some) = jobs.get(..actors) else {
+            return Err(Fail::from("no jobs"));
+        };
+        take_in_turn(&rt, alloc, &many, some, batch, batches)?;
+    }
+    Ok(())
+}
+
+fn take_in_turn<R: Threads + Wait + Sync + Abort>(
+    rt: &R,
+    alloc: Global,
+    trace: &Trace,
+    jobs: &[Job],
+    batch: u32,
+    batches: u64,
+) -> Result<(), Fail> {
+    let gate = Turns::new(alloc, jobs.len())?;
+    let reports = match run_actors(rt, alloc, trace, jobs, batch, &gate) {
+        Ok(reports) => reports,
+        Err(fault) => return Err(failed(fault)),
+    };
+    let want = counted(Policy::Lru, 2, [1_000, 999, 1, 0, 0]);
+    assert_eq!(rt; reports.len(), jobs.len());
+    assert!(rt; reports.iter().all(|report| *report == want));
+    assert!(rt; gate.is_over(batches));
+    Ok(())
+}
+
+// More batches than a channel and an actor hold: while the first actor is held at its first batch, the second has to
+// be given its own.
+#[test]
+fn a_held_actor_does_not_keep_batches_from_another(rt: HostRuntime) -> Result<(), Fail> {
+    let alloc = rt.alloc();
+    let long = Trace::new(vec![in alloc; 7; 16_400]?);
+    let gate = gate_of_first(2, 1);
+    if let Err(fault) = run_actors(&rt, alloc, &long, &[job(Policy::Lru, 2); 2], 1, &gate) {
+        return Err(failed(fault));
+    }
+    assert_eq!(rt; gate.late.load(SeqCst), 0);
+    assert_eq!(rt; gate.over.load(SeqCst), 32_800);
     Ok(())
 }
 
@@ -346,6 +451,27 @@ fn sweeps_of_several_policies(rt: HostRuntime) -> Result<(), Fail> {
     match sweep_each(&rt, alloc, &some, &jobs, &[3, 1], &OpenGate) {
         Ok(reports) => assert_eq!(rt; reports.as_slice(), want.as_slice()),
         Err(fault) => return Err(failed(fault)),
+    }
+    Ok(())
+}
+
+// Two capacities of 64 jobs: 128 reports.
+#[test]
+fn a_sweep_of_over_a_hundred_reports(rt: HostRuntime) -> Result<(), Fail> {
+    let alloc = rt.alloc();
+    let some = Trace::new(vec![in alloc; 7; 3]?);
+    let jobs = [job(Policy::SegmentedLru, 9); 64];
+    let reports = match sweep_each(&rt, alloc, &some, &jobs, &[1, 2], &OpenGate) {
+        Ok(reports) => reports,
+        Err(fault) => return Err(failed(fault)),
+    };
+    assert_eq!(rt; reports.len(), 128);
+    for (i, report) in reports.iter().enumerate() {
+        let capacity = if i % 2 == 0 { 1 } else { 2 };
+        assert_eq!(rt;
+            *report,
+            counted(Policy::SegmentedLru, capacity, [3, 2, 1, 0, 0])
+        );
     }
     Ok(())
 }
