@@ -1,3 +1,6 @@
 pub mod Ending
 pub mod Replayed
 pub mod Dealing
+pub mod Faulting
+pub mod Knowing
+pub mod Found

@@ -5,3 +5,6 @@ pub mod Jobs
 pub mod Part
 pub mod Run
 pub mod Dealt
+pub mod FaultLine
+pub mod Found
+pub mod KnownFile
