@@ -2,5 +2,4 @@ pub mod Ending
 pub mod Replayed
 pub mod Dealing
 pub mod Faulting
-pub mod Knowing
 pub mod Found

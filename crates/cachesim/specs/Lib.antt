@@ -7,4 +7,3 @@ pub mod Run
 pub mod Dealt
 pub mod FaultLine
 pub mod Found
-pub mod KnownFile
