@@ -1,3 +1,5 @@
 pub mod Ending
 pub mod Replayed
 pub mod Dealing
+pub mod Faulting
+pub mod Found

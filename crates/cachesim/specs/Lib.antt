@@ -5,3 +5,5 @@ pub mod Jobs
 pub mod Part
 pub mod Run
 pub mod Dealt
+pub mod FaultLine
+pub mod Found

@@ -1,7 +1,11 @@
 //! The whole program, over readers and writers.
-ghost use Rattle.std.specs.Prelude.{◌≡◌, ◌≢◌, ◌≤◌, map};
+ghost use Rattle.std.specs.Prelude.{◌≡◌, ◌≢◌, ◌≤◌, ◌⊎◌, map};
 ghost use Rattle.clap.specs.Words.{kind_of};
+ghost use Rattle.streams.specs.Part.{AppendsPart};
+ghost use Rattle.cachesim.specs.FaultLine.{IsReported};
+ghost use Rattle.cachesim.specs.Found.{EndsInFault};
 ghost use Rattle.cachesim.specs.Run.{DoneBy, is_help, RefusedBy};
+ghost use Rattle.cachesim.specs.declared.command.TheConstants.{DONE, FAULT, REFUSED};
 
 use crate::debugging::{debug, replay};
 use crate::driving::drive;
@@ -35,14 +39,17 @@ const OUT_OF_MEMORY: &[u8] = b"fault: OutOfMemory\n";
 const STRIPES: &[u8] = b"fault: Stripes\n";
 
 // Writes a line to the fault output; where that fails too, the status alone reports.
-fn report_line<X: Write>(line: &[u8], fault_out: &mut X) {
+fn report_line<X: Write>(line: &[u8], fault_out: &mut X)
+    ensures { AppendsPart (X.contents fault_out.old) (X.contents fault_out.new) line.now }
+{
     let _ = streams::write_all(fault_out, line);
 }
 
 // Reports a fault. That of a failed allocation takes no memory, and stands for a line for which
 // there was none.
 pub fn report_fault<X: Write>(alloc: Global, fault: Fault, fault_out: &mut X) -> u8
-    ensures { result ≡ 1 }
+    ensures status { result ≡ FAULT }
+    ensures reported { IsReported fault (X.contents fault_out.old) (X.contents fault_out.new) }
 {
     if fault != Fault::OutOfMemory
         && let Ok(line) = format!(in alloc; "fault: {fault}\n")
@@ -56,9 +63,13 @@ pub fn report_fault<X: Write>(alloc: Global, fault: Fault, fault_out: &mut X) ->
 
 // Writes help or the version to the output, and what else clap answers to the fault output.
 fn answer<W: Write, X: Write>(alloc: Global, error: &Error, out: &mut W, fault_out: &mut X) -> u8
-    ensures status { result ≤ 2 }
-    ensures done { result ≡ 0 → is_help (kind_of error.now) }
-    ensures refused { result ≡ 2 → (¬ is_help (kind_of error.now))
+    ensures status { result ≤ REFUSED }
+    ensures done { result ≡ DONE → is_help (kind_of error.now) }
+    ensures silent { result ≡ DONE → fault_out.new ≡ fault_out.old }
+    ensures faulted { result ≡ FAULT
+        → IsReported Fault.OutOfMemory (X.contents fault_out.old) (X.contents fault_out.new)
+        ⊎ IsReported Fault.Write (X.contents fault_out.old) (X.contents fault_out.new) }
+    ensures refused { result ≡ REFUSED → (¬ is_help (kind_of error.now))
         × (kind_of error.now ≢ ErrorKind.OutOfMemory) × (out.new ≡ out.old) }
 {
     if error.kind() == ErrorKind::OutOfMemory {
@@ -78,8 +89,8 @@ fn answer<W: Write, X: Write>(alloc: Global, error: &Error, out: &mut W, fault_o
 }
 
 /// The program, of the words after its name, over an input and two outputs: it returns the
-/// status. 0 is done, 1 a fault with one line on the fault output, 2 a usage error. `debug` and
-/// `replay` read a file too; `run` and `sweep` are watched.
+/// status. `DONE` is 0, `FAULT` 1, with one line on the fault output, and `REFUSED` 2, a usage
+/// error. `debug` and `replay` read a file too; `run` and `sweep` are watched.
 pub fn command<T: Threads + Wait + Sync, R: Read, W: Write, X: Write, F: Files, P: Watch>(
     rt: &T,
     alloc: Global,
@@ -90,17 +101,23 @@ pub fn command<T: Threads + Wait + Sync, R: Read, W: Write, X: Write, F: Files, 
     files: &F,
     watch: &P,
 ) -> u8
-    ensures status { result ≤ 2 }
+    ensures status { result ≤ REFUSED }
     // With status 0 the words are taken as `run`, `sweep`, `part` or `drive`, the bytes read have no
     // fault, and those written are the text of the report of each policy, or of the policy at each
     // capacity, that the words name, or the line of the access at which two policies part, or the journal
     // of the walks by which so many workers read the accesses in turn, in an empty cache; or the words are
     // taken as `debug` or `replay`, the file that they name is a trace or a journal without a fault, and the
     // bytes written are the answers to the commands read; or the words ask for help.
-    ensures done { result ≡ 0 → DoneBy (map (λ s. s.now) words.now) (F.known files.now) (R.remaining input.old)
+    ensures done { result ≡ DONE → DoneBy (map (λ s. s.now) words.now) (F.known files.now) (R.remaining input.old)
         (W.contents out.old) (W.contents out.new) }
+    ensures silent { result ≡ DONE → fault_out.new ≡ fault_out.old }
+    // With status 1 a fault was found: one of the machine, or that of the words, the trace or the journal. Its line was
+    // written to the fault output, or a beginning of it where a write failed. What is found before anything is written,
+    // as a faulty line of a trace, leaves the output as it was.
+    ensures faulted { result ≡ FAULT → EndsInFault (map (λ s. s.now) words.now) (F.known files.now)
+        (R.remaining input.old) (X.contents fault_out.old) (X.contents fault_out.new) (out.new ≡ out.old) }
     // A usage error comes only where it is due, before anything is read or written.
-    ensures refused { result ≡ 2 → RefusedBy (map (λ s. s.now) words.now)
+    ensures refused { result ≡ REFUSED → RefusedBy (map (λ s. s.now) words.now)
         × (input.new ≡ input.old) × (out.new ≡ out.old) }
 {
     let arguments = match command_line::parse(alloc, words) {

@@ -1,7 +1,10 @@
 //! The subcommands `debug` and `replay`: commands on the input, about what a file has.
-ghost use Rattle.std.specs.Prelude.{◌≡◌, [], Ok, OnOk, string_bytes};
+ghost use Rattle.std.specs.Prelude.{◌≡◌, ◌⊎◌, [], ◌∷◌, IfErr, Ok, OnOk, string_bytes};
+ghost use Rattle.job_checks.specs.FaultyJobs.{faulty_in};
 ghost use Rattle.step_record.specs.Config.{config_fault};
 ghost use Rattle.cachesim.specs.Debugged.{Debugging, IsReplayedFrom, Replaying};
+ghost use Rattle.cachesim.specs.Found.{IsBeforeOutput, IsFoundIn, IsFoundInFile, IsOfDebugger, IsOfMachine, IsOfReplay};
+ghost use Rattle.cachesim.specs.Found.{IsOfReplayFrom};
 
 use crate::driving::open;
 use crate::fault::Fault;
@@ -25,9 +28,15 @@ pub fn debug<R: Read, W: Write, F: Files>(
     out: &mut W,
     files: &F,
 ) -> Result<(), Fault>
-    ensures { OnOk result (Debugging arguments.now.policies.format arguments.now.policies.first
+    ensures ok { OnOk result (Debugging arguments.now.policies.format arguments.now.policies.first
         arguments.now.policies.second (F.known files.now (string_bytes arguments.now.trace))
         (R.remaining input.old) (W.contents out.old) (W.contents out.new)) }
+    ensures kept { IfErr result (λ fault. IsBeforeOutput fault → out.new ≡ out.old) }
+    // The fault is one of the machine, or that of the file's trace, or else that of the jobs or the commands.
+    ensures fault { IfErr result (λ fault. IsOfMachine fault
+        ⊎ IsFoundInFile (F.known files.now (string_bytes arguments.now.trace))
+        (IsFoundIn arguments.now.policies.format (IsOfDebugger
+        (faulty_in (arguments.now.policies.first ∷ arguments.now.policies.second ∷ [])))) fault) }
 {
     let bytes = files.bytes(alloc, arguments.trace.as_str())?;
     let policies = &arguments.policies;
@@ -46,8 +55,11 @@ fn replay_in<R: Read, W: Write>(
 ) -> Result<(), Fault>
     requires kept { session.old.kept ≡ [] }
     requires tail { session.old.tail ≡ [] }
-    ensures { OnOk result (IsReplayedFrom session.old.opening session.old.limit journal.entry.now
+    ensures ok { OnOk result (IsReplayedFrom session.old.opening session.old.limit journal.entry.now
         (R.remaining input.old) (W.contents out.old) (W.contents out.new)) }
+    ensures kept { IfErr result (λ fault. IsBeforeOutput fault → out.new ≡ out.old) }
+    ensures fault { IfErr result (λ fault. IsOfMachine fault
+        ⊎ IsOfReplayFrom session.old.opening session.old.limit fault journal.entry.now) }
 {
     read_journal(alloc, &mut journal, session)?;
     run_replay(alloc, session, input, out)?;
@@ -64,8 +76,13 @@ pub fn replay<R: Read, W: Write, F: Files>(
     files: &F,
 ) -> Result<(), Fault>
     requires { config_fault arguments.now.config ≡ Ok tt }
-    ensures { OnOk result (Replaying arguments.now.config (F.known files.now (string_bytes arguments.now.journal))
+    ensures ok { OnOk result (Replaying arguments.now.config (F.known files.now (string_bytes arguments.now.journal))
         (R.remaining input.old) (W.contents out.old) (W.contents out.new)) }
+    ensures kept { IfErr result (λ fault. IsBeforeOutput fault → out.new ≡ out.old) }
+    // The fault is one of the machine, or that of the file's journal, or else that of the commands.
+    ensures fault { IfErr result (λ fault. IsOfMachine fault
+        ⊎ IsFoundInFile (F.known files.now (string_bytes arguments.now.journal))
+        (IsOfReplay arguments.now.config) fault) }
 {
     let bytes = files.bytes(alloc, arguments.journal.as_str())?;
     let mut session = open(alloc, &arguments.config)?;

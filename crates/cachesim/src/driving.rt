@@ -1,5 +1,6 @@
 //! The subcommand `drive`: a trace to the journal of workers on threads.
-ghost use Rattle.std.specs.Prelude.{◌≡◌, ◌≤◌, ℕ, Ok, [], IfErr, IfOk, IfSome, IsOkAnd, None, OnOk, get_or, length, map};
+ghost use Rattle.std.specs.Prelude.{◌≡◌, ◌≤◌, ◌⊎◌, ℕ, Ok, [], IfErr, IfOk, IfSome, IsOkAnd, None, OnOk, get_or, length};
+ghost use Rattle.std.specs.Prelude.{map};
 ghost use Rattle.std.specs.Io.KnownBytes.{Appends};
 ghost use Rattle.step_record.specs.Config.{config_fault};
 ghost use Rattle.step_record.specs.declared.worker.TheConstants.{MAX_WORKERS};
@@ -8,6 +9,7 @@ ghost use Rattle.journal_text.specs.Journal.{journal_of};
 ghost use Rattle.journal_text.specs.declared.version.Version.TheVariants.{Two};
 ghost use Rattle.cachesim.specs.Dealt.{IsDealt};
 ghost use Rattle.cachesim.specs.Drove.{IsDriven, IsFirst, IsOfRun};
+ghost use Rattle.cachesim.specs.Found.{IsBeforeOutput, IsFoundIn, IsOfEnd, IsOfMachine};
 
 use crate::fault::Fault;
 use command_line::DriveArguments;
@@ -68,6 +70,8 @@ fn pieces_of<R: Read>(
     ensures many { IfOk result (λ pieces. length (map (λ p. p.items) pieces.items) ≡ workers) }
     ensures dealt { IfOk result (λ pieces. IfSome (R.remaining input.old) (λ bytes. (fault_in format bytes ≡ None)
         × IsDealt workers (keys_in format bytes) (map (λ p. p.items) pieces.items))) }
+    ensures fault { IfErr result (λ fault. IsOfMachine fault
+        ⊎ IfSome (R.remaining input.old) (IsFoundIn format (λ f. f ≡ Fault.JournalFull) fault)) }
 {
     let trace = read_trace(alloc, input, format)?;
     let pieces = deal(alloc, trace.keys(), workers)?;
@@ -77,7 +81,8 @@ fn pieces_of<R: Read>(
 // Writes the journal of a run, also of one that was stopped, and tells why it did not make all walks.
 fn tell<W: Write>(alloc: Global, run: &Result<Driven, DriveFault>, out: &mut W) -> Result<(), Fault>
     requires { IfErr run.now IsOfRun }
-    ensures { OnOk result (IsOkAnd run.now (λ driven.
+    ensures fault { IfErr result IsOfEnd }
+    ensures written { OnOk result (IsOkAnd run.now (λ driven.
         Appends (W.contents out.old) (W.contents out.new) (journal_of Two driven.session.kept))) }
 {
     match run {
@@ -106,7 +111,8 @@ fn tell<W: Write>(alloc: Global, run: &Result<Driven, DriveFault>, out: &mut W) 
 // Ends a run so.
 fn end<W: Write>(alloc: Global, run: Result<Driven, DriveFault>, out: &mut W) -> Result<(), Fault>
     requires { IfErr run IsOfRun }
-    ensures { OnOk result (IsOkAnd run (λ driven.
+    ensures fault { IfErr result IsOfEnd }
+    ensures written { OnOk result (IsOkAnd run (λ driven.
         Appends (W.contents out.old) (W.contents out.new) (journal_of Two driven.session.kept))) }
 {
     let told = tell(alloc, &run, out);
@@ -127,8 +133,12 @@ pub fn drive<T: Threads + Wait + Sync, R: Read, W: Write>(
     requires checked { config_fault arguments.now.config ≡ Ok tt }
     requires some { 1 ≤ arguments.now.workers }
     requires few { arguments.now.workers ≤ MAX_WORKERS }
-    ensures { OnOk result (IsDriven arguments.now.config arguments.now.workers arguments.now.format
+    ensures ok { OnOk result (IsDriven arguments.now.config arguments.now.workers arguments.now.format
         (R.remaining input.old) (W.contents out.old) (W.contents out.new)) }
+    ensures kept { IfErr result (λ fault. IsBeforeOutput fault → out.new ≡ out.old) }
+    // The fault is one of the machine, or that of the trace, or else that the journal was full.
+    ensures fault { IfErr result (λ fault. IsOfMachine fault ⊎ IfSome (R.remaining input.old)
+        (IsFoundIn arguments.now.format (λ f. f ≡ Fault.JournalFull) fault)) }
 {
     let pieces = pieces_of(alloc, input, arguments.format, arguments.workers)?;
     let session = open(alloc, &arguments.config)?;

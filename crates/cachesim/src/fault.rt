@@ -9,6 +9,7 @@ use journal_text::JournalFault;
 use policy_actors::ActorFault;
 use report::WriteFault;
 use std::alloc::AllocError;
+use std::fmt;
 use thiserror::Error;
 use trace_read::TraceFault;
 use workers::Cause;
@@ -17,35 +18,47 @@ use workers::Cause;
 #[derive(Clone, Copy, Debug, PartialEq, Eq, Error)]
 pub enum Fault {
     /// The allocation failed.
-    #[error("OutOfMemory")]
     OutOfMemory,
     /// The size of a batch is out of its range.
-    #[error("Batch")]
     Batch,
     /// A configuration is not accepted.
-    #[error("Config")]
     Config,
     /// Over 64 policies were named.
-    #[error("Actors")]
     Actors,
     /// The trace was not read, or has a faulty line.
-    #[error("{0}")]
     Trace(TraceFault),
     /// A worker was refused a step, since as many were made as the journal holds.
-    #[error("JournalFull")]
     JournalFull,
     /// There is no such file, or it cannot be read.
-    #[error("NoFile")]
     NoFile,
     /// The file is no journal of a session with the arguments.
-    #[error("{0}")]
     Journal(JournalFault),
     /// The commands were not answered to their end.
-    #[error("{0}")]
     Debug(DebugFault),
     /// The output failed; it may be partial.
-    #[error("Write")]
     Write,
+}
+
+impl fmt::Display for Fault {
+    ghost use Rattle.std.specs.Prelude.{Some};
+    ghost use Rattle.cachesim.specs.FaultLine.{fault_text};
+
+    ghost output = { λ fault. Some (fault_text fault) };
+
+    fn fmt<W: fmt::Write>(&self, f: &mut fmt::Formatter<W>) -> fmt::Result {
+        match self {
+            Fault::OutOfMemory => f.write_str("OutOfMemory"),
+            Fault::Batch => f.write_str("Batch"),
+            Fault::Config => f.write_str("Config"),
+            Fault::Actors => f.write_str("Actors"),
+            Fault::Trace(fault) => write!(f, "{fault}"),
+            Fault::JournalFull => f.write_str("JournalFull"),
+            Fault::NoFile => f.write_str("NoFile"),
+            Fault::Journal(fault) => write!(f, "{fault}"),
+            Fault::Debug(fault) => write!(f, "{fault}"),
+            Fault::Write => f.write_str("Write"),
+        }
+    }
 }
 
 impl From<AllocError> for Fault {

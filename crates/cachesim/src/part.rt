@@ -1,5 +1,7 @@
 //! The subcommand `part`: a trace to the access at which two policies part.
-ghost use Rattle.std.specs.Prelude.{◌≡◌, ◌≢◌, IfErr, OnOk};
+ghost use Rattle.std.specs.Prelude.{◌≡◌, ◌≢◌, ◌⊎◌, [], ◌∷◌, IfErr, IfSome, OnOk};
+ghost use Rattle.job_checks.specs.FaultyJobs.{faulty_in};
+ghost use Rattle.cachesim.specs.Found.{IsFoundIn, IsOfJobs, IsOfMachine};
 ghost use Rattle.cachesim.specs.Part.{Parting};
 
 use crate::fault::Fault;
@@ -21,6 +23,10 @@ pub fn part<R: Read, W: Write>(
     ensures ok { OnOk result (Parting arguments.now.format arguments.now.first arguments.now.second
         (R.remaining input.old) (W.contents out.old) (W.contents out.new)) }
     ensures kept { IfErr result (λ fault. fault ≢ Fault.Write → out.new ≡ out.old) }
+    // The fault is one of the machine, or that of the trace, or else that of the two jobs.
+    ensures fault { IfErr result (λ fault. IsOfMachine fault ⊎ IfSome (R.remaining input.old)
+        (IsFoundIn arguments.now.format
+        (IsOfJobs (faulty_in (arguments.now.first ∷ arguments.now.second ∷ []))) fault)) }
 {
     let trace = read_trace(alloc, input, arguments.format)?;
     let found = debug_policies::part(alloc, &trace, &arguments.first, &arguments.second)?;

@@ -1,5 +1,7 @@
 //! The subcommand `run`: a trace to the reports of policies.
-ghost use Rattle.std.specs.Prelude.{◌≡◌, ◌≢◌, IfErr, IfOk, OnOk};
+ghost use Rattle.std.specs.Prelude.{◌≡◌, ◌≢◌, ◌⊎◌, IfErr, IfOk, IfSome, None, OnOk, Some};
+ghost use Rattle.policy_actors.specs.Faults.{actor_fault};
+ghost use Rattle.cachesim.specs.Found.{IsFoundIn, IsOfJobs, IsOfMachine};
 ghost use Rattle.cachesim.specs.Jobs.{jobs_by_policy, reports_on};
 ghost use Rattle.cachesim.specs.Run.{Reports};
 
@@ -37,8 +39,12 @@ fn reports<T: Threads + Wait + Sync, P: Watch>(
     arguments: &RunArguments,
     watch: &P,
 ) -> Result<Vec<Report>, ActorFault>
-    ensures { IfOk result (λ reports. reports.items
+    ensures reports { IfOk result (λ reports. reports.items
         ≡ reports_on (jobs_by_policy arguments.now.config arguments.now.policies.items) trace.now) }
+    ensures fault { IfErr result (λ fault. (fault ≡ ActorFault.OutOfMemory) ⊎ (actor_fault arguments.now.batch
+        (jobs_by_policy arguments.now.config arguments.now.policies.items) ≡ Some fault)) }
+    ensures few { OnOk result
+        (actor_fault arguments.now.batch (jobs_by_policy arguments.now.config arguments.now.policies.items) ≡ None) }
 {
     let jobs = jobs(alloc, arguments.config, arguments.policies.as_slice())?;
     let batch = arguments.batch;
@@ -63,6 +69,10 @@ pub fn run<T: Threads + Wait + Sync, R: Read, W: Write, P: Watch>(
         (jobs_by_policy arguments.now.config arguments.now.policies.items) (R.remaining input.old)
         (W.contents out.old) (W.contents out.new)) }
     ensures kept { IfErr result (λ fault. fault ≢ Fault.Write → out.new ≡ out.old) }
+    // The fault is one of the machine, or that of the trace, or else that of the jobs.
+    ensures fault { IfErr result (λ fault. IsOfMachine fault ⊎ IfSome (R.remaining input.old)
+        (IsFoundIn arguments.now.format (IsOfJobs (actor_fault arguments.now.batch
+        (jobs_by_policy arguments.now.config arguments.now.policies.items))) fault)) }
 {
     let trace = read_trace(alloc, input, arguments.format)?;
     let reports = reports(rt, alloc, &trace, arguments, watch)?;

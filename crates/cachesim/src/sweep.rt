@@ -1,6 +1,7 @@
 //! The subcommand `sweep`: a trace to the reports of policies at several capacities.
-ghost use Rattle.std.specs.Prelude.{◌≡◌, ◌≢◌, IfErr, IfOk, OnOk};
-ghost use Rattle.policy_actors.specs.Sweep.{jobs_over};
+ghost use Rattle.std.specs.Prelude.{◌≡◌, ◌≢◌, ◌⊎◌, IfErr, IfOk, IfSome, None, OnOk, Some};
+ghost use Rattle.policy_actors.specs.Sweep.{jobs_over, sweep_fault};
+ghost use Rattle.cachesim.specs.Found.{IsFoundIn, IsOfJobs, IsOfMachine};
 ghost use Rattle.cachesim.specs.Jobs.{jobs_by_policy, reports_on};
 ghost use Rattle.cachesim.specs.Run.{Reports};
 
@@ -24,9 +25,14 @@ fn reports<T: Threads + Sync, P: Watch>(
     arguments: &SweepArguments,
     watch: &P,
 ) -> Result<Vec<Report>, ActorFault>
-    ensures { IfOk result (λ reports. reports.items ≡ reports_on
+    ensures reports { IfOk result (λ reports. reports.items ≡ reports_on
         (jobs_over (jobs_by_policy arguments.now.config arguments.now.policies.items) arguments.now.capacities.items)
         trace.now) }
+    ensures fault { IfErr result (λ fault. (fault ≡ ActorFault.OutOfMemory)
+        ⊎ (sweep_fault (jobs_by_policy arguments.now.config arguments.now.policies.items)
+        arguments.now.capacities.items ≡ Some fault)) }
+    ensures few { OnOk result (sweep_fault
+        (jobs_by_policy arguments.now.config arguments.now.policies.items) arguments.now.capacities.items ≡ None) }
 {
     let jobs = jobs(alloc, arguments.config, arguments.policies.as_slice())?;
     let capacities = arguments.capacities.as_slice();
@@ -54,6 +60,10 @@ pub fn sweep<T: Threads + Sync, R: Read, W: Write, P: Watch>(
         (jobs_over (jobs_by_policy arguments.now.config arguments.now.policies.items) arguments.now.capacities.items)
         (R.remaining input.old) (W.contents out.old) (W.contents out.new)) }
     ensures kept { IfErr result (λ fault. fault ≢ Fault.Write → out.new ≡ out.old) }
+    // The fault is one of the machine, or that of the trace, or else that of the jobs.
+    ensures fault { IfErr result (λ fault. IsOfMachine fault ⊎ IfSome (R.remaining input.old)
+        (IsFoundIn arguments.now.format (IsOfJobs (sweep_fault
+        (jobs_by_policy arguments.now.config arguments.now.policies.items) arguments.now.capacities.items)) fault)) }
 {
     let trace = read_trace(alloc, input, arguments.format)?;
     let reports = reports(rt, alloc, &trace, arguments, watch)?;

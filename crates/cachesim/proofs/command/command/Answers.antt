@@ -3,6 +3,7 @@ use Rattle.std.specs.Borrow.{Bor}
 use Rattle.command_line.specs.Parsed.{ParsedBy}
 use Rattle.command_line.specs.declared.arguments.Arguments.{Arguments}
 use Rattle.command_line.specs.declared.fault.ParseFault.{ParseFault}
+use Rattle.command_line.specs.declared.arguments.Arguments.TheVariants as asked
 use Rattle.command_line.specs.declared.fault.ParseFault.TheVariants.{Stripes}
 use Rattle.std.specs.Prelude.{OnOk}
 use Rattle.std.specs.Prelude.{string_bytes}
@@ -14,6 +15,7 @@ use Rattle.cachesim.specs.Part.{Parting}
 use Rattle.cachesim.specs.Run.{Reports}
 use Rattle.cachesim.specs.declared.fault.Fault.{Fault}
 use Rattle.cachesim.proofs.Ending.{debug_done, drive_done, odd_by, part_done, refused_by, replay_done, run_done, sweep_done}
+use Rattle.cachesim.proofs.Faulting.{at_err, ended_by, ended_in_help, ended_out_of_memory, ended_unwritten}
 use Rattle.cachesim.proofs.command.command.Goals as goal
 use Rattle.cachesim.proofs.command.command.Goals.{in-Debug, in-Drive, in-Part, in-Replay, in-Run, in-Sweep}
 
@@ -61,22 +63,73 @@ returns-in-Ok-done-clause-done g c zero =
       | in-Drive w ↦
           let drive = w.in-Drive.arguments in
           let q = subst (λ (a : Arguments). ParsedBy words (Ok a)) w.in-Drive.is p in
-          let ok = w.drive-done.ensures in
+          let ok = w.drive-done.ensures.ok in
           let Wrote = IsDriven drive.config drive.workers drive.format (g.R.Read.remaining c.args.input.now) (g.W.Write.contents c.args.out.now) (g.W.Write.contents w.drive-done.new.out) in
           let h : Wrote = subst (λ (r : Result (Unit {0}) Fault). OnOk r Wrote) (sym w.done-is ∙ c.in-Ok-done.is) ok in
           rw w.out-is (drive_done words drive q known _ _ _ h)
       | in-Debug w ↦
           let debug = w.in-Debug.arguments in
           let q = subst (λ (a : Arguments). ParsedBy words (Ok a)) w.in-Debug.is p in
-          let ok = w.debug-done.ensures in
+          let ok = w.debug-done.ensures.ok in
           let Wrote = Debugging debug.policies.format debug.policies.first debug.policies.second (known (string_bytes debug.trace)) (g.R.Read.remaining c.args.input.now) (g.W.Write.contents c.args.out.now) (g.W.Write.contents w.debug-done.new.out) in
           let h : Wrote = subst (λ (r : Result (Unit {0}) Fault). OnOk r Wrote) (sym w.done-is ∙ c.in-Ok-done.is) ok in
           rw w.out-is (debug_done words debug q known _ _ _ h)
       | in-Replay w ↦
           let replay = w.in-Replay.arguments in
           let q = subst (λ (a : Arguments). ParsedBy words (Ok a)) w.in-Replay.is p in
-          let ok = w.replay-done.ensures in
+          let ok = w.replay-done.ensures.ok in
           let Wrote = Replaying replay.config (known (string_bytes replay.journal)) (g.R.Read.remaining c.args.input.now) (g.W.Write.contents c.args.out.now) (g.W.Write.contents w.replay-done.new.out) in
           let h : Wrote = subst (λ (r : Result (Unit {0}) Fault). OnOk r Wrote) (sym w.done-is ∙ c.in-Ok-done.is) ok in
           rw w.out-is (replay_done words replay q known _ _ _ h)
+    ]
+
+pub returns-in-Err-OutOfMemory-clause-faulted : goal.returns-in-Err-OutOfMemory-clause-faulted
+returns-in-Err-OutOfMemory-clause-faulted g c one = ended_out_of_memory _ _ _ _ _ _ c.report_fault.ensures.reported
+
+pub returns-in-Err-Refused-clause-faulted : goal.returns-in-Err-Refused-clause-faulted
+returns-in-Err-Refused-clause-faulted g c one = ended_in_help _ _ _ _ _ _ (c.answer.ensures.faulted one)
+
+pub returns-in-Err-clause-faulted : goal.returns-in-Err-clause-faulted
+returns-in-Err-clause-faulted g c one =
+    let words = map (λ (s : Bor (List ℕ)). s.now) c.args.words.now in
+    let known : KnownFiles = g.F.Files.known c.args.files.now in
+    let p = subst (λ (r : Result Arguments ParseFault). ParsedBy words r) c.in-Ok.is c.parse.ensures in
+    let line = c.report_fault-in-Err.ensures.reported in
+    elim c.match-arguments.branch [
+      | in-Run w ↦
+          let q = subst (λ (a : Arguments). ParsedBy words (Ok a)) w.in-Run.is p in
+          let is = sym w.done-is ∙ c.in-Err.is in
+          let due = at_err _ w.run-done.result c.in-Err.fault is w.run-done.ensures.fault in
+          let kept = at_err _ w.run-done.result c.in-Err.fault is w.run-done.ensures.kept in
+          rw w.out-is (ended_unwritten words known _ _ _ _ (asked.Run w.in-Run.arguments) q c.in-Err.fault due kept line)
+      | in-Sweep w ↦
+          let q = subst (λ (a : Arguments). ParsedBy words (Ok a)) w.in-Sweep.is p in
+          let is = sym w.done-is ∙ c.in-Err.is in
+          let due = at_err _ w.sweep-done.result c.in-Err.fault is w.sweep-done.ensures.fault in
+          let kept = at_err _ w.sweep-done.result c.in-Err.fault is w.sweep-done.ensures.kept in
+          rw w.out-is (ended_unwritten words known _ _ _ _ (asked.Sweep w.in-Sweep.arguments) q c.in-Err.fault due kept line)
+      | in-Part w ↦
+          let q = subst (λ (a : Arguments). ParsedBy words (Ok a)) w.in-Part.is p in
+          let is = sym w.done-is ∙ c.in-Err.is in
+          let due = at_err _ w.part-done.result c.in-Err.fault is w.part-done.ensures.fault in
+          let kept = at_err _ w.part-done.result c.in-Err.fault is w.part-done.ensures.kept in
+          rw w.out-is (ended_unwritten words known _ _ _ _ (asked.Part w.in-Part.arguments) q c.in-Err.fault due kept line)
+      | in-Drive w ↦
+          let q = subst (λ (a : Arguments). ParsedBy words (Ok a)) w.in-Drive.is p in
+          let is = sym w.done-is ∙ c.in-Err.is in
+          let due = at_err _ w.drive-done.result c.in-Err.fault is w.drive-done.ensures.fault in
+          let kept = at_err _ w.drive-done.result c.in-Err.fault is w.drive-done.ensures.kept in
+          rw w.out-is (ended_by words known _ _ _ _ (asked.Drive w.in-Drive.arguments) q c.in-Err.fault due kept line)
+      | in-Debug w ↦
+          let q = subst (λ (a : Arguments). ParsedBy words (Ok a)) w.in-Debug.is p in
+          let is = sym w.done-is ∙ c.in-Err.is in
+          let due = at_err _ w.debug-done.result c.in-Err.fault is w.debug-done.ensures.fault in
+          let kept = at_err _ w.debug-done.result c.in-Err.fault is w.debug-done.ensures.kept in
+          rw w.out-is (ended_by words known _ _ _ _ (asked.Debug w.in-Debug.arguments) q c.in-Err.fault due kept line)
+      | in-Replay w ↦
+          let q = subst (λ (a : Arguments). ParsedBy words (Ok a)) w.in-Replay.is p in
+          let is = sym w.done-is ∙ c.in-Err.is in
+          let due = at_err _ w.replay-done.result c.in-Err.fault is w.replay-done.ensures.fault in
+          let kept = at_err _ w.replay-done.result c.in-Err.fault is w.replay-done.ensures.kept in
+          rw w.out-is (ended_by words known _ _ _ _ (asked.Replay w.in-Replay.arguments) q c.in-Err.fault due kept line)
     ]

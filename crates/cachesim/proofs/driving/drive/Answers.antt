@@ -17,6 +17,7 @@ use Rattle.workers.specs.declared.run.DriveFault.TheVariants.{Workers, Held, Out
 use Rattle.cachesim.specs.Drove.{IsOfRun}
 use Rattle.cachesim.specs.Dealt.{AreOfReads}
 use Rattle.cachesim.proofs.Dealing.{reads_walked}
+use Rattle.cachesim.proofs.Found.{late_end, of_end}
 use Rattle.cachesim.proofs.driving.drive.Goals as goal
 
 could_begin : (fault : DriveFault) (pieces : List (List Call)) (session : SessionState Shell Shell Step Reply)
@@ -31,8 +32,8 @@ held : {X Y G : Type 0} (r : Result X Y) {P Q R : X → Type 0} → IsOkAnd r P 
 held (Ok x) p q r then = then x p q r
 held (Err e) p q r then = absurd p
 
-pub returns : goal.returns
-returns g c =
+pub returns-clause-ok : goal.returns-clause-ok
+returns-clause-ok g c =
     let first = c.in_ok-session.ensures.first in
     let workers = c.args.arguments.now.workers in
     let stripes = ap (λ x. x.config.stripes) (first.same ∙ first.opened.is) in
@@ -46,7 +47,16 @@ returns g c =
       walks = IfSome_then input c.in_ok-pieces.ensures.dealt
           (λ bytes h. subst (λ n. AreOfReads workers n (keys_in c.args.arguments.now.format bytes) driven.session.kept) stripes (reads_walked workers c.in_ok-session.session.engine.config.stripes (keys_in c.args.arguments.now.format bytes) _ c.in_ok-session.session driven.session _ h.1 first.none run));
       written = written;
-    })) c.end.ensures
+    })) c.end.ensures.written
+
+pub returns-clause-kept : goal.returns-clause-kept
+returns-clause-kept g c = IfErr-weaker c.end.result _ _ (λ fault ended before. absurd (late_end fault ended before)) c.end.ensures.fault
+
+pub returns-clause-fault : goal.returns-clause-fault
+returns-clause-fault g c =
+    let input = g.R.Read.remaining c.args.input.now in
+    let read = IfSome_then input c.in_ok-pieces.ensures.dealt (λ bytes h. h.0) in
+    IfErr-weaker c.end.result _ _ (λ fault ended. of_end c.args.arguments.now.format input fault ended read) c.end.ensures.fault
 
 pub end-requires : goal.end-requires
 end-requires g c =

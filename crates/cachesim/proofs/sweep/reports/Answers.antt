@@ -6,8 +6,8 @@ use Rattle.policy_actors.specs.Sweep.{jobs_over}
 use Rattle.cachesim.specs.Jobs.{jobs_by_policy}
 use Rattle.cachesim.proofs.sweep.reports.Goals as goal
 
-pub returns : goal.returns
-returns g c =
+pub returns-clause-reports : goal.returns-clause-reports
+returns-clause-reports g c =
     let jobs = c.as_slice-3.ensures.value ∙ c.in_ok-jobs.ensures ∙ ap (jobs_by_policy c.args.arguments.now.config) c.as_slice.ensures.value in
     let rows = ap₂ jobs_over jobs c.as_slice-capacities.ensures.value in
     IfOk-weaker c.sweep_each-reports.result _ _ (λ v h. h ∙ ap (λ (l : List Job). map (λ job. report_on job c.args.trace.now) l) rows) c.sweep_each-reports.ensures.reports
