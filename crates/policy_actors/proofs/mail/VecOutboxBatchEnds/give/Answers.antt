@@ -1,4 +1,4 @@
-use Rattle.std.proofs.Common.{◌≡◌, ℕ, ◌+◌, set, map, get_or, ap, sym, ◌∙◌, arith}
+use Rattle.std.proofs.Common.{ℕ, ◌+◌, set, map, ap, sym, ◌∙◌}
 use Rattle.std.proofs.lemmas.List.{map-set, get_or-map}
 use Rattle.policy_actors.specs.declared.mail.Outbox.{Outbox}
 use Rattle.policy_actors.proofs.mail.VecOutboxBatchEnds.give.Goals as goal
