@@ -1,7 +1,7 @@
-use Rattle.std.proofs.Common.{rules, arith, ◌≡◌, ◌≤◌, ◌<◌, map, vec_items, length, refl, sym, ap, subst, ◌∙◌}
+use Rattle.std.proofs.Common.{rules, arith, ◌≤◌, ◌<◌, map, vec_items, length, refl, sym, ap, subst, ◌∙◌}
 use Rattle.std.proofs.lemmas.List.{length-map}
 use Rattle.step_record.specs.declared.worker.TheConstants.{MAX_WORKERS}
-use Rattle.turn_book.specs.Faults.{IsOpenCause, value_in}
+use Rattle.turn_book.specs.Faults.{IsOpenCause}
 use Rattle.turn_book.specs.declared.book.TheConstants.{MAX_TURNS}
 use Rattle.workers.specs.DriveFaults.{CanRun}
 use Rattle.workers.specs.Runs.{IsRunUpTo}

@@ -1,6 +1,5 @@
-use Rattle.std.proofs.Common.{◌≡◌, ◌≤◌, sym, ap, subst, ◌∙◌, map, length, vec_items, arith}
+use Rattle.std.proofs.Common.{◌≤◌, sym, ap, ◌∙◌, map, length, vec_items, arith}
 use Rattle.std.proofs.lemmas.List.{length-map}
-use Rattle.turn_book.specs.Turns.{Every}
 use Rattle.turn_book.specs.Passes.{id_of}
 use Rattle.workers.specs.Runs.{first_cause}
 use Rattle.workers.proofs.Collecting.{collected, refusal_of, every_map, run_up_to, map_both}

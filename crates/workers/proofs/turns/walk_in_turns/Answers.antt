@@ -1,4 +1,4 @@
-use Rattle.std.proofs.Common.{refl, sym, ap, subst, ◌∙◌}
+use Rattle.std.proofs.Common.{refl, sym, subst, ◌∙◌}
 use Rattle.walks.specs.Admits.{MayMake}
 use Rattle.walks.proofs.Coming.{may_make}
 use Rattle.walks.proofs.Walking.{nothing, stopped, stepped, over, known, asks_same, asked_of, Completes, listed}
