@@ -1,5 +1,5 @@
 -- A run, and its last steps undone.
-use Rattle.std.proofs.Common.{◌≡◌, ◌↔◌, ℕ, ◌-◌, ◌<◌, List, [], ◌∷◌, ◌++◌, Option, Some, Result, Ok, Err, OnOk, OnErr, get_or, length, take, refl, sym, ap, ◌∙◌, subst, arith}
+use Rattle.std.proofs.Common.{◌≡◌, ◌↔◌, ℕ, zero, suc, ◌-◌, ◌<◌, List, [], ◌∷◌, ◌++◌, Option, Some, None, Result, Ok, Err, OnOk, OnErr, get_or, length, take, refl, sym, ap, ◌∙◌, subst, arith}
 use Rattle.std.specs.Prelude.{IfErr}
 use Rattle.std.proofs.Math.Seq.{take-length}
 use Rattle.std.proofs.lemmas.List.{take-append-le}
@@ -11,11 +11,11 @@ use Rattle.journal.specs.Faults.{StandsBack}
 use Rattle.journal.specs.declared.fault.BackFault.{BackFault}
 use Rattle.journal.specs.declared.fault.BackFault.TheVariants as back
 use Rattle.workers.specs.declared.run.Cause.{Cause}
-use Rattle.workers.specs.declared.run.Cause.TheVariants.{JournalFull}
-use Rattle.workers.specs.Runs.{IsRun}
+use Rattle.walks.specs.Walks.{AreWalks}
+use Rattle.workers.specs.Runs.{IsRun, IsRunUpTo, AreWalksUpTo, first_cause}
 use Rattle.workers.specs.WorkerStates.{ShellSession}
 use Rattle.workers.proofs.Turning.{legal_split, after_append}
-use Rattle.headline.specs.Rewound.{IsAnswered, AreMade, IsRewound, undone_of}
+use Rattle.headline.specs.Rewound.{IsAnswered, IsRewound, undone_of}
 
 -- the steps that are left
 module _ (k : ℕ) (old new : ShellSession) where
@@ -45,16 +45,58 @@ answered x steps legal before later e is =
     let last : IsLegal act (after act x before) (e ∷ later) = legal_split act x before (e ∷ later) whole in
     last.0 ∙ ap (λ (y : Shell). Some (e.reply, y)) (sym (after_append act x before (e ∷ [])))
 
+none_of : List (List Call) → List (Option Cause)
+none_of [] = []
+none_of (p ∷ ps) = None ∷ none_of ps
+
+none_length : (ps : List (List Call)) → length (none_of ps) ≡ length ps
+unfolding none_of
+none_length [] = refl
+none_length (p ∷ ps) = ap suc (none_length ps)
+
+none_first : (ps : List (List Call)) → None ≡ first_cause (none_of ps)
+unfolding none_of
+none_first [] = refl
+none_first (p ∷ ps) = none_first ps
+
+none_at : (ps : List (List Call)) (w : ℕ) → get_or (none_of ps) w None ≡ None
+unfolding none_of
+none_at [] w = refl
+none_at (p ∷ ps) zero = refl
+none_at (p ∷ ps) (suc w) = none_at ps w
+
+-- a run of whole walks is one in which no worker was refused a step
+pub whole_up_to : (n : ℕ) (pieces : List (List Call)) (old new : ShellSession) (lists : List Entries) → IsRun (λ w. AreWalks w n) pieces old new lists → IsRunUpTo None n pieces old new lists
+whole_up_to n pieces old new lists run = record {
+  refusals = none_of pieces;
+  of_each = none_length pieces;
+  first = none_first pieces;
+  run = record {
+    opening = run.opening;
+    limit = run.limit;
+    news = run.news;
+    entered = run.entered;
+    as_many = run.as_many;
+    own = run.own;
+    made = λ w lt. subst (λ r. AreWalksUpTo r n w (get_or pieces w []) (get_or lists w [])) (sym (none_at pieces w)) (run.made w lt);
+    no_other = run.no_other;
+  };
+  full = λ w e. absurd (cc (sym (none_at pieces w) ∙ e));
+}
+
 pub rewound : (n k : ℕ) (pieces : List (List Call)) (cause : Option Cause) (o : Result (Unit {0}) BackFault) (old whole new : ShellSession) (lists : List Entries)
-    → IsRun (AreMade n cause) pieces old whole lists → (cause ≡ Some JournalFull → length whole.kept ≡ whole.limit) → IsLegal act whole.opening whole.kept → new.opening ≡ whole.opening → new.kept ≡ take (length whole.kept - undone_of k o) whole.kept
+    → IsRunUpTo cause n pieces old whole lists → IsLegal act whole.opening whole.kept → new.opening ≡ whole.opening → new.kept ≡ take (length whole.kept - undone_of k o) whole.kept
     → new.engine ≡ after act new.opening new.kept → (o ≡ Err back.PastStart ↔ length whole.kept < k) → OnErr o (undone_of k o < k) → IsRewound n k pieces cause o old new lists
-rewound n k pieces cause o old whole new lists run filled legal opening left state past fewer = record {
+rewound n k pieces cause o old whole new lists up legal opening left state past fewer = let run = up.run in record {
   run = run.news;
   as_many = run.as_many;
   listed = run.own;
-  made = λ w lt. subst (λ es. AreMade n cause w (get_or pieces w []) es) (sym (run.own w lt)) (run.made w lt);
+  refusals = up.refusals;
+  of_each = up.of_each;
+  first = up.first;
+  made = λ w lt. subst (λ es. AreWalksUpTo (get_or up.refusals w None) n w (get_or pieces w []) es) (sym (run.own w lt)) (run.made w lt);
   no_other = run.no_other;
-  full = λ e. sym (ap (λ (es : Entries). length es) run.entered) ∙ filled e ∙ run.limit;
+  full = λ w e. sym (ap (λ (es : Entries). length es) run.entered) ∙ up.full w e ∙ run.limit;
   answered = answered old.opening (old.kept ++ run.news) (subst (λ es. IsLegal act old.opening es) run.entered (subst (λ x. IsLegal act x whole.kept) run.opening legal));
   left = left ∙ ap (λ es. take (length es - undone_of k o) es) run.entered;
   state = state ∙ ap (λ x. after act x new.kept) (opening ∙ run.opening);

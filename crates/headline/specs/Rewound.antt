@@ -13,20 +13,14 @@ use Rattle.workers.specs.declared.run.DriveFault.{DriveFault}
 use Rattle.workers.specs.declared.run.DriveFault.TheVariants as drive
 use Rattle.workers.specs.declared.run.Cause.{Cause}
 use Rattle.workers.specs.declared.run.Cause.TheVariants.{JournalFull}
-use Rattle.walks.specs.Walks.{AreWalks}
-use Rattle.walks.specs.Made.{BeginWalks}
 use Rattle.walks.specs.Made.{entries_of}
+use Rattle.workers.specs.Runs.{AreWalksUpTo, first_cause}
 use Rattle.workers.specs.WorkerStates.{ShellSession}
 
 -- from the state x on, each reply is the one that the definition gives on the steps before it
 abbrev pub IsAnswered : Shell → Entries → Type 0
 IsAnswered x steps = (before later : Entries) (e : Entry Step Reply) → steps ≡ before ++ e ∷ later
     → act (after act x before) e.step ≡ Some (e.reply, after act x (before ++ e ∷ []))
-
--- one walk for each call, or the beginning of such walks where a worker was refused a step
-abbrev pub AreMade : ℕ → Option Cause → ℕ → List Call → Entries → Type 0
-AreMade n None w calls es = AreWalks w n calls es
-AreMade n (Some cause) w calls es = BeginWalks w n calls es
 
 -- how many of k steps were undone
 abbrev pub undone_of : ℕ → Result (Unit {0}) BackFault → ℕ
@@ -40,17 +34,22 @@ HasNoSteps (drive.Stopped s lists cause) = ⊥
 HasNoSteps _ = Unit {0}
 
 -- The run is one list of steps behind the old ones. Of these, those of each worker are its own list, in order, which
--- are the walks of its calls, and nobody else made any. A full journal is the cause only where it is full. Each reply
--- is the definition's on the steps before it. And once the last steps are undone, the state is the one that the
--- definition gives on the others. Where they are not all undone, fewer than k are.
+-- are the walks of its calls, up to the step that it was refused, where it was; and nobody else made any. The cause is
+-- that of the refused worker with the lowest number, and a full journal is one only where it is full. Each reply is the
+-- definition's on the steps before it. And once the last steps are undone, the state is the one that the definition
+-- gives on the others. Where they are not all undone, fewer than k are.
 pub record IsRewound (n k : ℕ) (pieces : List (List Call)) (cause : Option Cause) (undone : Result (Unit {0}) BackFault)
     (old new : ShellSession) (lists : List Entries) : Type 0 where
   pub run : Entries
   pub as_many : length lists ≡ length pieces
   pub listed : (w : ℕ) → w < length pieces → entries_of w run ≡ get_or lists w []
-  pub made : (w : ℕ) → w < length pieces → AreMade n cause w (get_or pieces w []) (entries_of w run)
+  pub refusals : List (Option Cause)
+  pub of_each : length refusals ≡ length pieces
+  pub first : cause ≡ first_cause refusals
+  pub made : (w : ℕ) → w < length pieces
+      → AreWalksUpTo (get_or refusals w None) n w (get_or pieces w []) (entries_of w run)
   pub no_other : (w : ℕ) → length pieces ≤ w → entries_of w run ≡ []
-  pub full : cause ≡ Some JournalFull → length (old.kept ++ run) ≡ old.limit
+  pub full : (w : ℕ) → get_or refusals w None ≡ Some JournalFull → length (old.kept ++ run) ≡ old.limit
   pub answered : IsAnswered old.opening (old.kept ++ run)
   pub left : new.kept ≡ take (length (old.kept ++ run) - undone_of k undone) (old.kept ++ run)
   pub state : new.engine ≡ after act old.opening new.kept

@@ -20,7 +20,8 @@ use Rattle.walks.specs.declared.local.Local.{Local}
 use Rattle.walks.specs.declared.place.Place.{Place}
 use Rattle.walks.specs.Places.{Ahead, phase_place}
 use Rattle.quiet_run.specs.Outcomes.{outcome_after, outcome_from}
-use Rattle.quiet_run.specs.Settle.{ShellSession, tail_after, AddsSteps, IsRestOfRound, IsRest}
+use Rattle.walks.specs.Made.{tail_after}
+use Rattle.quiet_run.specs.Settle.{ShellSession, AddsSteps, IsRestOfRound, IsRest}
 
 pub adds_none : (P : Entries → Type 0) (old new : ShellSession) → new.kept ≡ old.kept → new.tail ≡ old.tail → P [] → AddsSteps P old new
 adds_none P old new k t h = record { made = []; entered = k ∙ sym (append-nil old.kept); tail = t; holds = h }

@@ -32,7 +32,8 @@ use Rattle.walks.specs.declared.place.Place.TheVariants as at
 use Rattle.walks.specs.Places.{Ahead, act_of_place}
 use Rattle.walks.specs.Walks.{step_of, IsReading, IsRound}
 use Rattle.quiet_run.specs.Outcomes.{outcome_after, outcome_from}
-use Rattle.quiet_run.specs.Settle.{ShellSession, AddsSteps, IsUnfinished}
+use Rattle.walks.specs.Made.{IsUnfinished}
+use Rattle.quiet_run.specs.Settle.{ShellSession, AddsSteps}
 use Rattle.walks.specs.Holders.{IsReady}
 use Rattle.quiet_run.specs.QuietWalks.{IsCallers, FollowsQuietReport, IsQuietReport, FollowsQuietOffer, IsQuietOffer, FollowsQuietPut, IsQuietPut, FollowsQuietLook, IsQuietWalk}
 use Rattle.quiet_run.proofs.Adding.{adds_known, adds_joined, told_joined}

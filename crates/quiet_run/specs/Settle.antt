@@ -1,5 +1,5 @@
 -- The rest of a round of maintenance, from the phase that its holder is at.
-use Rattle.std.specs.Prelude.{◌≡◌, ◌≢◌, ℕ, ◌<◌, Option, Some, None, [], ◌∷◌, ◌++◌, length}
+use Rattle.std.specs.Prelude.{◌≡◌, ℕ, ◌<◌, Option, Some, None, [], ◌++◌, length}
 use Rattle.step_record.specs.declared.step.Reply.{Reply}
 use Rattle.step_record.specs.declared.step.Step.{Step}
 use Rattle.step_record.specs.declared.drain.Phase.{Phase}
@@ -12,15 +12,11 @@ use Rattle.quiet_run.specs.declared.round.Refusal.{Refusal}
 use Rattle.quiet_run.specs.declared.round.Refusal.TheVariants as refusal
 use Rattle.quiet_run.specs.declared.round.SettleFault.{SettleFault}
 use Rattle.quiet_run.specs.declared.round.SettleFault.TheVariants as fault
+use Rattle.walks.specs.Made.{IsUnfinished, tail_after}
 use Rattle.walks.specs.Walks.{IsReading, IsWriting, IsEvicting}
 
 abbrev pub ShellSession : Type 0
 ShellSession = SessionState Shell Shell Step Reply
-
--- the undone steps are dropped by the first step that is made
-abbrev pub tail_after : Entries → Entries → Entries
-tail_after [] tail = tail
-tail_after (e ∷ es) tail = []
 
 -- the entries came to the end of the journal
 pub record AddsSteps (IsMade : Entries → Type 0) (old new : ShellSession) : Type 0 where
@@ -39,10 +35,6 @@ IsRestOfRound w n Evictions es = IsEvicting w n es
 abbrev pub IsRest : ℕ → Option Holder → Entries → Type 0
 IsRest n None es = es ≡ []
 IsRest n (Some h) es = IsRestOfRound h.worker n h.phase es
-
--- the first entries of such a list, and not all of it
-abbrev pub IsUnfinished : (Entries → Type 0) → Entries → Type 0
-IsUnfinished IsWhole es = (rest : Entries) × (rest ≢ []) × IsWhole (es ++ rest)
 
 -- the first entries of such a rest, and not all of it
 abbrev pub BeginsRest : ℕ → Option Holder → Entries → Type 0

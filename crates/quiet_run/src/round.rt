@@ -7,7 +7,8 @@ ghost use Rattle.shell_model.specs.Reached.{worker_of};
 ghost use Rattle.walks.specs.Walks.{step_of};
 ghost use Rattle.walks.specs.Places.{Ahead, act_of_place};
 ghost use Rattle.quiet_run.specs.Outcomes.{outcome_after, outcome_from};
-ghost use Rattle.quiet_run.specs.Settle.{AddsSteps, IsUnfinished, IsRest, BeginsRest, steps_before};
+ghost use Rattle.walks.specs.Made.{IsUnfinished};
+ghost use Rattle.quiet_run.specs.Settle.{AddsSteps, IsRest, BeginsRest, steps_before};
 ghost use Rattle.quiet_run.specs.Settle.{IsRefusalCause, IsFullAt};
 ghost use Rattle.walks.specs.Holders.{IsReady};
 

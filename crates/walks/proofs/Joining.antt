@@ -1,10 +1,10 @@
 -- Walks one after another.
-use Rattle.std.proofs.Common.{◌≡◌, ℕ, ◌+◌, ◌<◌, List, [], ◌∷◌, ◌++◌, length, get_or, drop, refl, sym, ap, ◌∙◌, subst, add-one, drop-cons}
+use Rattle.std.proofs.Common.{◌≡◌, ◌≢◌, ℕ, ◌+◌, ◌<◌, List, [], ◌∷◌, ◌++◌, length, get_or, drop, refl, sym, ap, ◌∙◌, subst, add-one, drop-cons}
 use Rattle.std.proofs.lemmas.List.{append_assoc, append-nil}
 use Rattle.step_record.specs.declared.step.Call.{Call}
 use Rattle.step_record.specs.History.{Entries}
 use Rattle.walks.specs.Walks.{IsWalk, AreWalks}
-use Rattle.walks.specs.Made.{Made, BeginsWalk, BeginWalks}
+use Rattle.walks.specs.Made.{Made, IsUnfinished}
 use Rattle.walks.proofs.Finishing.{finish_calls}
 
 -- entries after entries
@@ -19,6 +19,10 @@ joined P Q R k k1 k2 o o1 o2 m n f = record {
 pub drop_item : (cs : List Call) (i : ℕ) (d : Call) → i < length cs → drop i cs ≡ get_or cs i d ∷ drop (i + 1) cs
 drop_item cs i d h = rw (add-one, drop-cons cs i d)
 
+some_left : (es fs : Entries) → es ≢ [] → es ++ fs ≢ []
+some_left [] fs some none = some refl
+some_left (e ∷ es) fs some none = absurd (cc (none))
+
 module _ (w : ℕ) (n : ℕ) (cs : List Call) where
   -- what the calls from the place i on add completes the walks
   abbrev pub Lacks : List Call → Entries → Type 0
@@ -31,15 +35,15 @@ module _ (w : ℕ) (n : ℕ) (cs : List Call) where
       let all : AreWalks w n (c ∷ ds') (b ++ rest) = (b, rest, refl, h, more) in
       subst P (sym (append_assoc a b rest)) (f (b ++ rest) (subst Q (sym e) all))
 
-  pub cut_walk : (ds ds' : List Call) (c : Call) → ds ≡ c ∷ ds' → (a b : Entries) → Lacks ds a → BeginsWalk w n c b → BeginWalks w n cs (a ++ b)
+  pub cut_walk : (ds ds' : List Call) (c : Call) → ds ≡ c ∷ ds' → (a b : Entries) → Lacks ds a → IsUnfinished (IsWalk w n c) b → IsUnfinished (AreWalks w n cs) (a ++ b)
   cut_walk ds ds' c e a b f h =
       let later : (es : Entries) × AreWalks w n ds' es = finish_calls w n ds' in
       let rest : Entries = h.0 ++ later.0 in
       let P : Entries → Type 0 = λ x. AreWalks w n cs x in
       let Q : List Call → Type 0 = λ x. AreWalks w n x ((b ++ h.0) ++ later.0) in
-      let all : AreWalks w n (c ∷ ds') ((b ++ h.0) ++ later.0) = (b ++ h.0, later.0, refl, h.1, later.1) in
+      let all : AreWalks w n (c ∷ ds') ((b ++ h.0) ++ later.0) = (b ++ h.0, later.0, refl, h.2, later.1) in
       let whole : AreWalks w n cs (a ++ ((b ++ h.0) ++ later.0)) = f ((b ++ h.0) ++ later.0) (subst Q (sym e) all) in
-      (rest, subst P (ap (λ x. a ++ x) (append_assoc b h.0 later.0) ∙ sym (append_assoc a b rest)) whole)
+      (rest, some_left h.0 later.0 h.1, subst P (ap (λ x. a ++ x) (append_assoc b h.0 later.0) ∙ sym (append_assoc a b rest)) whole)
 
   pub all_walks : (ds : List Call) → ds ≡ [] → (es : Entries) → Lacks ds es → AreWalks w n cs es
   all_walks ds e es f =

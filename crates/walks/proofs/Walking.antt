@@ -14,7 +14,8 @@ use Rattle.walks.specs.declared.next.Next.TheVariants as told
 use Rattle.walks.specs.Walks.{step_of, IsWalk}
 use Rattle.walks.specs.Places.{Ahead, AheadAfter, act_of_place, is_place}
 use Rattle.walks.specs.Nexts.{Left, Asks}
-use Rattle.walks.specs.Made.{Made, BeginsWalk}
+use Rattle.walks.specs.Made.{Made, IsUnfinished}
+use Rattle.walks.proofs.Asking.{not_over}
 use Rattle.walks.proofs.Finishing.{finish}
 
 -- with no entry
@@ -62,12 +63,14 @@ module _ (w : ℕ) (n : ℕ) (c : Call) where
       let R : Next → Type 0 = λ x. Left x [] in
       subst Q (append-nil es) (all [] (subst R (sym d) refl))
 
-  begun : (a : Act) (l : Local) → is_place l.stripes l.place ≡ true → (es : Entries) → Completes (told.Do a l) es → BeginsWalk w n c es
-  begun a l h es all = let f : (rest : Entries) × Ahead l.worker l.stripes l.place rest = finish l.worker l.stripes l.place h in (f.0, all f.0 f.1)
+  begun : (a : Act) (l : Local) → is_place l.stripes l.place ≡ true → (es : Entries) → Completes (told.Do a l) es → IsUnfinished (IsWalk w n c) es
+  begun a l h es all =
+      let f : (rest : Entries) × Ahead l.worker l.stripes l.place rest = finish l.worker l.stripes l.place h in
+      (f.0, λ none. not_over l.worker l.stripes l.place (subst (Ahead l.worker l.stripes l.place) none f.1), all f.0 f.1)
 
   -- a walk that stopped where the act a was to be made
   pub stopped : (next : Next) (a : Act) (l : Local) → next ≡ told.Do a l → is_place l.stripes l.place ≡ true
-      → (kept kept' kept'' own own' own'' : Entries) → kept'' ≡ kept' → own'' ≡ own' → Made (Completes next) kept kept' own own' → Made (BeginsWalk w n c) kept kept'' own own''
+      → (kept kept' kept'' own own' own'' : Entries) → kept'' ≡ kept' → own'' ≡ own' → Made (Completes next) kept kept' own own' → Made (IsUnfinished (IsWalk w n c)) kept kept'' own own''
   stopped next a l e h kept kept' kept'' own own' own'' k o m =
       let P : Next → Type 0 = λ x. Completes x m.made in
       record { made = m.made; entered = k ∙ m.entered; owned = o ∙ m.owned; holds = begun a l h m.made (subst P e m.holds) }

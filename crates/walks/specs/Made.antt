@@ -1,9 +1,7 @@
 -- What a worker made, and how it stands in its own list and in the journal.
-use Rattle.std.specs.Prelude.{◌≡◌, ℕ, ◌==◌, List, ◌++◌}
+use Rattle.std.specs.Prelude.{◌≡◌, ◌≢◌, ℕ, ◌==◌, List, [], ◌∷◌, ◌++◌}
 use Rattle.std.specs.List.{filter}
-use Rattle.step_record.specs.declared.step.Call.{Call}
 use Rattle.step_record.specs.History.{Entries}
-use Rattle.walks.specs.Walks.{IsWalk, AreWalks}
 
 -- the entries of worker w, in order
 abbrev pub entries_of : ℕ → Entries → Entries
@@ -16,10 +14,11 @@ pub record Made (IsMade : Entries → Type 0) (kept kept' own own' : Entries) : 
   pub owned : own' ≡ own ++ made
   pub holds : IsMade made
 
--- the first entries of a walk
-abbrev pub BeginsWalk : ℕ → ℕ → Call → Entries → Type 0
-BeginsWalk w n c es = (rest : Entries) × IsWalk w n c (es ++ rest)
+-- the first entries of such a list, and not all of it
+abbrev pub IsUnfinished : (Entries → Type 0) → Entries → Type 0
+IsUnfinished IsWhole es = (rest : Entries) × (rest ≢ []) × IsWhole (es ++ rest)
 
--- the first entries of one walk for each call
-abbrev pub BeginWalks : ℕ → ℕ → List Call → Entries → Type 0
-BeginWalks w n cs es = (rest : Entries) × AreWalks w n cs (es ++ rest)
+-- the undone steps are dropped by the first step that is made
+abbrev pub tail_after : {E : Type 0} → List E → List E → List E
+tail_after [] tail = tail
+tail_after (e ∷ es) tail = []

@@ -1,23 +1,20 @@
 -- What the workers brought back from their places.
 use Rattle.std.proofs.Common.{◌≡◌, ℕ, zero, suc, ◌+◌, ◌<◌, ◌≤◌, List, [], ◌∷◌, map, length, get_or, length-append, Option, Some, None, refl, sym, ap, ◌∙◌, subst, arith}
 use Rattle.std.specs.Prelude.{IfSome}
-use Rattle.std.proofs.lemmas.List.{append-nil}
 use Rattle.step_record.specs.declared.entry.Entry.{Entry}
 use Rattle.step_record.specs.declared.step.Call.{Call}
 use Rattle.step_record.specs.declared.step.Reply.{Reply}
 use Rattle.step_record.specs.declared.step.Step.{Step}
 use Rattle.step_record.specs.History.{Entries}
 use Rattle.shell_model.specs.Shell.{Shell}
-use Rattle.journal.specs.declared.fault.SessionFault.{SessionFault}
-use Rattle.journal.specs.declared.fault.SessionFault.TheVariants.{JournalFull, NotNow}
 use Rattle.turn_book.specs.Turns.{Every, Begins}
 use Rattle.turn_book.specs.Passes.{BookId, PassState, InOrder, OwnAll, Ends}
 use Rattle.workers.specs.declared.worker_state.WorkerState.{WorkerState}
-use Rattle.walks.specs.Walks.{AreWalks}
-use Rattle.walks.specs.Made.{BeginWalks}
+use Rattle.workers.specs.declared.run.Cause.{Cause}
+use Rattle.workers.specs.declared.run.Cause.TheVariants.{JournalFull}
 use Rattle.workers.specs.WorkerStates.{ShellSession, HoldsPass, AreNumbered, HasWorked}
 use Rattle.walks.specs.Made.{entries_of}
-use Rattle.workers.specs.Runs.{IsRun}
+use Rattle.workers.specs.Runs.{IsRun, IsRunUpTo, AreWalksUpTo, first_cause}
 
 abbrev pub ShellPass : Type 0
 ShellPass = PassState ShellSession (Entry Step Reply)
@@ -51,26 +48,23 @@ collected b (d ∷ ds) (p ∷ ps) lo e h c =
       owns = ap (λ l. l ∷ map (λ p. p.own) ps) fit.2 ∙ ap (λ ls. d.list.items ∷ ls) r.owns;
     }
 
--- a worker that was stopped by a full journal saw it full
+abbrev pub refusal_of : WorkerState → Option Cause
+refusal_of d = d.refusal
+
+-- a worker that was refused a step for a full journal saw it full
 pub full_at : (n limit : ℕ) (calls : ℕ → List Call) (kept : Entries) (ds : List WorkerState) (ps : List ShellPass) → map (λ p. Some p) ps ≡ map (λ d. d.pass) ds → Every (HasWorked n limit calls) ds → Every (λ p. Begins p.last kept) ps
-    → (i : ℕ) → i < length ds → ((d : WorkerState) → (get_or ds i d).fault ≡ Some JournalFull) → limit ≤ length kept
-full_at n limit calls kept [] ps e h s i lt f = absurd (omega arith)
-full_at n limit calls kept (d ∷ ds) [] e h s i lt f = absurd (cc)
-full_at n limit calls kept (d ∷ ds) (p ∷ ps) e h s zero lt f =
+    → (w : ℕ) → get_or (map refusal_of ds) w None ≡ Some JournalFull → limit ≤ length kept
+full_at n limit calls kept [] ps e h s w f = absurd (cc (f))
+full_at n limit calls kept (d ∷ ds) [] e h s w f = absurd (cc (e))
+full_at n limit calls kept (d ∷ ds) (p ∷ ps) e h s zero f =
     let first : Some p ≡ d.pass = cc in
-    let saw : length p.last ≡ limit = subst (λ o. IfSome o (λ q. length q.last ≡ limit)) (sym first) (h.0.full (f d)) in
+    let saw : length p.last ≡ limit = subst (λ o. IfSome o (λ q. length q.last ≡ limit)) (sym first) (h.0.full f) in
     let longer = ap length s.0.1 in
     let parts = length-append p.last s.0.0 in
     omega arith
-full_at n limit calls kept (d ∷ ds) (p ∷ ps) e h s (suc i) lt f =
+full_at n limit calls kept (d ∷ ds) (p ∷ ps) e h s (suc w) f =
     let rest : map (λ p. Some p) ps ≡ map (λ d. d.pass) ds = cc in
-    full_at n limit calls kept ds ps rest h.1 s.1 i (omega arith) f
-
--- no worker was stopped for a step that may not come now
-pub taken_at : (n limit : ℕ) (calls : ℕ → List Call) (ds : List WorkerState) → Every (HasWorked n limit calls) ds → (i : ℕ) → i < length ds → ((d : WorkerState) → (get_or ds i d).fault ≡ Some NotNow) → ⊥
-taken_at n limit calls [] h i lt f = absurd (omega arith)
-taken_at n limit calls (d ∷ ds) h zero lt f = h.0.now (f d)
-taken_at n limit calls (d ∷ ds) h (suc i) lt f = taken_at n limit calls ds h.1 i (omega arith) f
+    full_at n limit calls kept ds ps rest h.1 s.1 w f
 
 pub every_map : {X : Type 0} (P Q : X → Type 0) (xs : List X) → ((x : X) → P x → Q x) → Every P xs → Every Q xs
 every_map P Q [] f h = tt
@@ -80,25 +74,12 @@ pub every_both : {X : Type 0} (P Q R : X → Type 0) (xs : List X) → ((x : X) 
 every_both P Q R [] f h k = tt
 every_both P Q R (x ∷ xs) f h k = (f x h.0 k.0, every_both P Q R xs f h.1 k.1)
 
-module _ (n : ℕ) (limit : ℕ) (calls : ℕ → List Call) where
-  done_at : (d : WorkerState) (o : Option SessionFault) → d.fault ≡ o → o ≡ None → HasWorked n limit calls d → AreWalks d.worker n (calls d.worker) d.list.items
-  done_at d None e m h = rw e at h.walks
-  done_at d (Some f) e m h = absurd (cc (m))
-
-  pub done : (d : WorkerState) → HasWorked n limit calls d → d.fault ≡ None → AreWalks d.worker n (calls d.worker) d.list.items
-  done d h m = done_at d d.fault refl m h
-
-  begun_at : (d : WorkerState) (o : Option SessionFault) → d.fault ≡ o → HasWorked n limit calls d → BeginWalks d.worker n (calls d.worker) d.list.items
-  begun_at d None e h = ([], subst (AreWalks d.worker n (calls d.worker)) (sym (append-nil d.list.items)) (rw e at h.walks))
-  begun_at d (Some f) e h = rw e at h.walks
-
-  pub begun : (d : WorkerState) → HasWorked n limit calls d → BeginWalks d.worker n (calls d.worker) d.list.items
-  begun d h = begun_at d d.fault refl h
-
-made_at : (Q : ℕ → Entries → Type 0) (ds : List WorkerState) (lo : ℕ) → Every (λ d. Q d.worker d.list.items) ds → AreNumbered lo ds → (w : ℕ) → w < length ds → Q (lo + w) (get_or (map list_of ds) w [])
+-- what is said of each worker, its refusal and its list, by its number
+made_at : (Q : ℕ → Option Cause → Entries → Type 0) (ds : List WorkerState) (lo : ℕ) → Every (λ d. Q d.worker d.refusal d.list.items) ds → AreNumbered lo ds
+    → (w : ℕ) → w < length ds → Q (lo + w) (get_or (map refusal_of ds) w None) (get_or (map list_of ds) w [])
 made_at Q [] lo h c w lt = absurd (omega arith)
-made_at Q (d ∷ ds) lo h c zero lt = subst (λ k. Q k d.list.items) (let e = c.0 in omega arith) h.0
-made_at Q (d ∷ ds) lo h c (suc w) lt = subst (λ k. Q k (get_or (map list_of ds) w [])) (omega arith) (made_at Q ds (suc lo) h.1 c.1 w (omega arith))
+made_at Q (d ∷ ds) lo h c zero lt = subst (λ k. Q k d.refusal d.list.items) (let e = c.0 in omega arith) h.0
+made_at Q (d ∷ ds) lo h c (suc w) lt = subst (λ k. Q k (get_or (map refusal_of ds) w None) (get_or (map list_of ds) w [])) (omega arith) (made_at Q ds (suc lo) h.1 c.1 w (omega arith))
 
 abbrev origin_of : ShellSession → Shell × ℕ
 origin_of s = (s.opening, s.limit)
@@ -117,10 +98,11 @@ length_map : {X Y : Type 0} (f : X → Y) (xs : List X) → length (map f xs) �
 length_map f [] = refl
 length_map f (x ∷ xs) = ap suc (length_map f xs)
 
-pub run_of : (Is : ℕ → List Call → Entries → Type 0) (pieces : List (List Call)) (o t : ShellSession) (ps : List ShellPass) (ds : List WorkerState) (lists : List Entries)
+-- the run, where each worker made what is said of it and its refusal
+run_from : (Is : Option Cause → ℕ → List Call → Entries → Type 0) (pieces : List (List Call)) (o t : ShellSession) (ps : List ShellPass) (ds : List WorkerState) (lists : List Entries)
     → Ends origin_of (λ s. s.kept) (λ e. e.step.worker) o ps t → map (λ p. p.own) ps ≡ map list_of ds → lists ≡ map list_of ds → AreNumbered 0 ds → length ds ≡ length pieces
-    → Every (λ d. Is d.worker (get_or pieces d.worker []) d.list.items) ds → IsRun Is pieces o t lists
-run_of Is pieces o t ps ds lists ends owns listed counts same made =
+    → Every (λ d. Is d.refusal d.worker (get_or pieces d.worker []) d.list.items) ds → IsRun (λ w. Is (get_or (map refusal_of ds) w None) w) pieces o t lists
+run_from Is pieces o t ps ds lists ends owns listed counts same made =
     let many = length_map list_of ds in
     let seen = length_map (λ p. p.own) ps in
     let both = ap length owns in
@@ -132,8 +114,27 @@ run_of Is pieces o t ps ds lists ends owns listed counts same made =
       entered = ends.list_is;
       as_many = omega arith;
       own = λ w lt. ap (λ k. entries_of k ends.news) (let z : w ≡ 0 + w = omega arith in z) ∙ own_at ps (map list_of ds) 0 ends.news owns ends.own_is w (omega arith) ∙ ap (λ ls. get_or ls w []) (sym listed);
-      made = λ w lt. subst (λ ls. Is w (get_or pieces w []) (get_or ls w [])) (sym listed) (subst (λ k. Is k (get_or pieces k []) (get_or (map list_of ds) w [])) (let z : 0 + w ≡ w = omega arith in z) (made_at (λ k l. Is k (get_or pieces k []) l) ds 0 made counts w (omega arith)));
+      made = λ w lt. (
+          let Q : ℕ → Option Cause → Entries → Type 0 = λ k r l. Is r k (get_or pieces k []) l in
+          subst (λ ls. Q w (get_or (map refusal_of ds) w None) (get_or ls w [])) (sym listed)
+          (subst (λ k. Q k (get_or (map refusal_of ds) w None) (get_or (map list_of ds) w [])) (let z : 0 + w ≡ w = omega arith in z) (made_at Q ds 0 made counts w (omega arith)))
+          );
       no_other = λ w le. ends.no_other w (omega arith);
+    }
+
+-- the run up to the steps that workers were refused
+pub run_up_to : (n : ℕ) (cause : Option Cause) (pieces : List (List Call)) (o t : ShellSession) (ps : List ShellPass) (ds : List WorkerState) (lists : List Entries)
+    → Ends origin_of (λ s. s.kept) (λ e. e.step.worker) o ps t → length t.kept ≤ t.limit
+    → map (λ p. Some p) ps ≡ map (λ d. d.pass) ds → map (λ p. p.own) ps ≡ map list_of ds → lists ≡ map list_of ds → AreNumbered 0 ds → length ds ≡ length pieces
+    → Every (HasWorked n o.limit (λ w. get_or pieces w [])) ds → cause ≡ first_cause (map refusal_of ds) → IsRunUpTo cause n pieces o t lists
+run_up_to n cause pieces o t ps ds lists ends room passes owns listed counts same worked first =
+    let limit : t.limit ≡ o.limit = ap (λ p. p.1) ends.same_origin in
+    record {
+      refusals = map refusal_of ds;
+      of_each = length_map refusal_of ds ∙ same;
+      first = first;
+      run = run_from (λ r w. AreWalksUpTo r n w) pieces o t ps ds lists ends owns listed counts same (every_map _ _ ds (λ d h. h.walks) worked);
+      full = λ w e. (let full = full_at n o.limit (λ w. get_or pieces w []) t.kept ds ps passes worked ends.last_is w e in omega (arith, full, room, limit));
     }
 
 pub map_both : {X Y Z : Type 0} (g : Y → Z) (f : X → Y) (xs : List X) → map g (map f xs) ≡ map (λ x. g (f x)) xs

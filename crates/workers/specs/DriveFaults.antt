@@ -1,5 +1,5 @@
 -- When a run of workers ends in a fault, and what each fault leaves.
-use Rattle.std.specs.Prelude.{◌≡◌, ◌<◌, ◌≤◌, List, Option, Some, None, length, map}
+use Rattle.std.specs.Prelude.{◌≡◌, ◌<◌, ◌≤◌, List, Some, None, length, map}
 use Rattle.std.specs.Vec.{vec_items}
 use Rattle.step_record.specs.declared.step.Call.{Call}
 use Rattle.step_record.specs.declared.step.Reply.{Reply}
@@ -9,12 +9,7 @@ use Rattle.step_record.specs.History.{IsLegal}
 use Rattle.shell_model.specs.Shell.{Shell, act}
 use Rattle.shell_model.specs.Reached.{worker_of}
 use Rattle.journal.specs.Session.{SessionState}
-use Rattle.journal.specs.declared.fault.SessionFault.{SessionFault}
-use Rattle.journal.specs.declared.fault.SessionFault.TheVariants as refused
-use Rattle.workers.specs.declared.run.Cause.{Cause}
-use Rattle.workers.specs.declared.run.Cause.TheVariants.{Memory, JournalFull}
-use Rattle.walks.specs.Made.{BeginWalks}
-use Rattle.workers.specs.Runs.{IsRun}
+use Rattle.workers.specs.Runs.{IsRunUpTo}
 use Rattle.workers.specs.declared.run.DriveFault.{DriveFault}
 use Rattle.workers.specs.declared.run.DriveFault.TheVariants.{Workers, Held, OutOfMemory, Stopped}
 
@@ -24,18 +19,12 @@ pub record CanRun (pieces : List (List Call)) (x : Shell) : Type 0 where
   pub few : length pieces ≤ MAX_WORKERS
   pub free : x.holder ≡ None
 
--- what stopped a worker, by why its step was refused
-abbrev pub the_cause : Option SessionFault → Cause
-the_cause (Some refused.JournalFull) = JournalFull
-the_cause o = Memory
-
--- Each fault holds the session: as it was, or with what the workers made of it, one of whom was refused a step. A full
--- journal is a cause only where the session is full.
+-- Each fault holds the session: as it was, or with what the workers made of it, one of whom was refused a step.
 abbrev pub LeavesFault : DriveFault → List (List Call) → SessionState Shell Shell Step Reply → Type 0
 LeavesFault (Workers s) pieces old = (s ≡ old) × (1 ≤ length pieces → MAX_WORKERS < length pieces)
 LeavesFault (Held w s) pieces old = (s ≡ old) × (1 ≤ length pieces) × (length pieces ≤ MAX_WORKERS)
     × (worker_of old.engine.holder ≡ Some w)
 LeavesFault (OutOfMemory s) pieces old = (s ≡ old) × CanRun pieces old.engine
 LeavesFault (Stopped s lists cause) pieces old =
-    CanRun pieces old.engine × IsLegal act s.opening s.kept × (cause ≡ JournalFull → length s.kept ≡ s.limit)
-    × IsRun (λ w. BeginWalks w old.engine.config.stripes) pieces old s (map (λ l. vec_items l) lists.items)
+    CanRun pieces old.engine × IsLegal act s.opening s.kept
+    × IsRunUpTo (Some cause) old.engine.config.stripes pieces old s (map (λ l. vec_items l) lists.items)

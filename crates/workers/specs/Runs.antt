@@ -1,11 +1,14 @@
 -- What a run of workers on threads leaves.
-use Rattle.std.specs.Prelude.{◌≡◌, ℕ, ◌<◌, ◌≤◌, List, [], ◌++◌, length, get_or}
+use Rattle.std.specs.Prelude.{◌≡◌, ℕ, ◌<◌, ◌≤◌, List, [], ◌∷◌, ◌++◌, Option, Some, None, length, get_or}
 use Rattle.step_record.specs.declared.step.Call.{Call}
 use Rattle.step_record.specs.declared.step.Reply.{Reply}
 use Rattle.step_record.specs.declared.step.Step.{Step}
 use Rattle.step_record.specs.History.{Entries}
 use Rattle.journal.specs.Session.{SessionState}
-use Rattle.walks.specs.Made.{entries_of}
+use Rattle.walks.specs.Walks.{AreWalks}
+use Rattle.walks.specs.Made.{entries_of, IsUnfinished}
+use Rattle.workers.specs.declared.run.Cause.{Cause}
+use Rattle.workers.specs.declared.run.Cause.TheVariants.{JournalFull}
 
 -- Past the old entries, the new session has those that the workers made: those of worker w are just its own list, in
 -- order, which is as IsMade says for its calls; and nobody else made any.
@@ -20,3 +23,25 @@ pub record IsRun {E D : Type 0} (IsMade : ℕ → List Call → Entries → Type
   pub own : (w : ℕ) → w < length pieces → entries_of w news ≡ get_or lists w []
   pub made : (w : ℕ) → w < length pieces → IsMade w (get_or pieces w []) (get_or lists w [])
   pub no_other : (w : ℕ) → length pieces ≤ w → entries_of w news ≡ []
+
+-- why the first refused worker was refused, of all in order
+abbrev pub first_cause : List (Option Cause) → Option Cause
+first_cause [] = None
+first_cause (None ∷ causes) = first_cause causes
+first_cause (Some cause ∷ causes) = Some cause
+
+-- one walk for each call where the worker was not refused a step, and else the first entries of such walks and not all
+abbrev pub AreWalksUpTo : Option Cause → ℕ → ℕ → List Call → Entries → Type 0
+AreWalksUpTo None n w calls es = AreWalks w n calls es
+AreWalksUpTo (Some cause) n w calls es = IsUnfinished (AreWalks w n calls) es
+
+-- A run in which each worker went on up to its first refused step, or made whole walks where there is none. Its cause
+-- is that of the refused worker with the lowest number. A full journal is a cause only where the session is full.
+pub record IsRunUpTo {E D : Type 0} (cause : Option Cause) (stripes : ℕ) (pieces : List (List Call))
+    (old new : SessionState E D Step Reply)
+    (lists : List Entries) : Type 0 where
+  pub refusals : List (Option Cause)
+  pub of_each : length refusals ≡ length pieces
+  pub first : cause ≡ first_cause refusals
+  pub run : IsRun (λ w. AreWalksUpTo (get_or refusals w None) stripes w) pieces old new lists
+  pub full : (w : ℕ) → get_or refusals w None ≡ Some JournalFull → length new.kept ≡ new.limit

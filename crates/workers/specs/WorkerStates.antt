@@ -1,5 +1,5 @@
 -- Workers at their places, and what they made there.
-use Rattle.std.specs.Prelude.{◌≡◌, ◌≢◌, ℕ, suc, List, [], ◌∷◌, map, length, get_or, Some, IfSome, MatchOption}
+use Rattle.std.specs.Prelude.{◌≡◌, ℕ, suc, List, [], ◌∷◌, map, length, get_or, Some, IfSome}
 use Rattle.std.specs.Option.{IsSome}
 use Rattle.std.specs.Global.{Vec}
 use Rattle.std.specs.Vec.{vec_items}
@@ -7,13 +7,12 @@ use Rattle.step_record.specs.declared.step.Call.{Call}
 use Rattle.step_record.specs.declared.step.Reply.{Reply}
 use Rattle.step_record.specs.declared.step.Step.{Step}
 use Rattle.journal.specs.Session.{SessionState}
-use Rattle.journal.specs.declared.fault.SessionFault.TheVariants.{JournalFull, NotNow}
 use Rattle.turn_book.specs.Passes.{BookId}
+use Rattle.workers.specs.declared.run.Cause.TheVariants.{JournalFull}
 use Rattle.workers.specs.declared.worker_state.WorkerState.{WorkerState}
-use Rattle.walks.specs.Walks.{AreWalks}
+use Rattle.workers.specs.Runs.{AreWalksUpTo}
 use Rattle.step_record.specs.History.{after}
 use Rattle.shell_model.specs.Shell.{Shell, act}
-use Rattle.walks.specs.Made.{BeginWalks}
 use Rattle.walks.specs.Admits.{AdmitsWalks}
 
 -- the calls of each worker, by its number
@@ -28,13 +27,11 @@ pub record HoldsPass (b : BookId ShellSession) (d : WorkerState) : Type 0 where
   pub has : IsSome d.pass
   pub own : IfSome d.pass (λ p. (p.book ≡ b) × (p.worker ≡ d.worker) × (p.own ≡ d.list.items))
 
--- Its list is one walk for each of its calls, or the beginning of such walks where it was stopped; and where a full
--- journal did that, it last saw as many entries as the limit. It is not stopped for a step that may not come now.
+-- Its list is its walks up to the step that it was refused, where it was; and where a full journal was why, it last saw
+-- as many entries as the limit.
 pub record HasWorked (n limit : ℕ) (calls : ℕ → List Call) (d : WorkerState) : Type 0 where
-  pub walks : MatchOption d.fault (AreWalks d.worker n (calls d.worker) d.list.items)
-      (λ f. BeginWalks d.worker n (calls d.worker) d.list.items)
-  pub full : d.fault ≡ Some JournalFull → IfSome d.pass (λ p. length p.last ≡ limit)
-  pub now : d.fault ≢ Some NotNow
+  pub walks : AreWalksUpTo d.refusal n d.worker (calls d.worker) d.list.items
+  pub full : d.refusal ≡ Some JournalFull → IfSome d.pass (λ p. length p.last ≡ limit)
 
 -- the workers from lo on, in order
 abbrev pub AreNumbered : ℕ → List WorkerState → Type 0

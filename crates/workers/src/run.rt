@@ -1,21 +1,20 @@
 //! Workers on threads, over one session of the concurrent cache.
-ghost use Rattle.std.specs.Prelude.{◌≡◌, ◌≢◌, ◌<◌, ◌≤◌, None, Some, [], Option, IfOk, IfErr, OnOk};
+ghost use Rattle.std.specs.Prelude.{◌≡◌, ◌<◌, ◌≤◌, None, [], IfOk, IfErr, OnOk};
 ghost use Rattle.std.specs.Prelude.{length, map, vec_capacity};
 ghost use Rattle.step_record.specs.declared.limits.TheConstants.{MAX_STRIPES};
 ghost use Rattle.step_record.specs.declared.worker.TheConstants.{MAX_WORKERS};
 ghost use Rattle.turn_book.specs.Turns.{Every};
 ghost use Rattle.turn_book.specs.Passes.{InOrder, id_of};
 ghost use Rattle.walks.specs.Walks.{AreWalks};
-ghost use Rattle.walks.specs.Made.{BeginWalks};
 ghost use Rattle.workers.specs.WorkerStates.{AdmitsAll};
 ghost use Rattle.workers.specs.Draws.{IsWithin};
-ghost use Rattle.workers.specs.Runs.{IsRun};
+ghost use Rattle.workers.specs.Runs.{IsRun, IsRunUpTo};
 ghost use Rattle.step_record.specs.History.{after, IsLegal};
 ghost use Rattle.shell_model.specs.Shell.{act};
-ghost use Rattle.workers.specs.DriveFaults.{CanRun, LeavesFault, the_cause};
+ghost use Rattle.workers.specs.DriveFaults.{CanRun, LeavesFault};
 
-use super::worker_state::{WorkerState, assign_passes, collect_passes, first_fault, work_seated};
-use journal::{Session, SessionFault};
+use super::worker_state::{WorkerState, assign_passes, collect_passes, first_refusal, work_all};
+use journal::Session;
 use maintenance::Shell;
 use std::alloc::{AllocError, Global};
 use std::sync::Wait;
@@ -55,8 +54,9 @@ pub enum DriveFault {
     OutOfMemory {
         session: Session<Shell>,
     },
-    /// A worker was refused a step, and ended there, while the others went on. The lists are those of a run, each of
-    /// which may end early; the cause is that of the refused worker with the lowest number.
+    /// A worker was refused a step, and ended there, while the others went on: whoever was refused none made all of its
+    /// walks. The lists are those of a run, those of refused workers without their ends; the cause is that of the
+    /// refused worker with the lowest number.
     Stopped {
         session: Session<Shell>,
         lists: Vec<Vec<Entry<Step, Reply>>>,
@@ -99,7 +99,7 @@ pub fn drive<G: Gate, R: Threads + Wait + Sync>(
     };
     match TurnBook::open(alloc, session, workers as u8, MAX_TURNS) {
         Ok((book, passes)) => {
-            let (session, lists, fault) = run_book(
+            let (session, lists, cause) = run_book(
                 rt,
                 alloc,
                 gate,
@@ -109,47 +109,18 @@ pub fn drive<G: Gate, R: Threads + Wait + Sync>(
                 stripes,
                 room,
             );
-            run_result(session, lists, fault)
+            match cause {
+                None => Ok(Driven { session, lists }),
+                Some(cause) => Err(DriveFault::Stopped {
+                    session,
+                    lists,
+                    cause,
+                }),
+            }
         }
         Err(OpenFault::OutOfMemory(session)) => Err(DriveFault::OutOfMemory { session }),
         Err(OpenFault::Workers(_)) => unreachable!(),
         Err(OpenFault::Turns(_)) => unreachable!(),
-    }
-}
-
-// What a run hands back, by whether a worker stopped.
-fn run_result(
-    session: Session<Shell>,
-    lists: Vec<Vec<Entry<Step, Reply>>>,
-    fault: Option<SessionFault>,
-) -> Result<Driven, DriveFault>
-    requires { fault ≢ Some SessionFault.NotNow }
-    ensures ok { IfOk result (λ d. (d.session ≡ session) × (d.lists.items ≡ lists.items) × (fault ≡ None)) }
-    ensures err { IfErr result (λ f. f ≡ DriveFault.Stopped session lists (the_cause fault)) }
-    ensures legal { IsLegal act session.opening session.kept }
-    ensures stands { session.engine ≡ after act session.opening session.kept }
-    ensures room { length session.kept ≤ session.limit }
-{
-    session.len();
-    match fault {
-        None => Ok(Driven { session, lists }),
-        Some(fault) => Err(DriveFault::Stopped {
-            session,
-            lists,
-            cause: cause_of(fault),
-        }),
-    }
-}
-
-// What stopped a worker, whose steps may always come.
-fn cause_of(fault: SessionFault) -> Cause
-    requires { fault ≢ SessionFault.NotNow }
-    ensures { result ≡ the_cause (Some fault) }
-{
-    match fault {
-        SessionFault::OutOfMemory => Cause::Memory,
-        SessionFault::JournalFull => Cause::JournalFull,
-        SessionFault::NotNow => unreachable!(),
     }
 }
 
@@ -176,7 +147,8 @@ impl Room {
     }
 }
 
-// Has the workers work, and closes the book: the session, each worker's list, and why the first that stopped did so.
+// Has the workers work, and closes the book: the session, each worker's list, and why the first refused worker was
+// refused a step.
 fn run_book<G: Gate, R: Threads + Wait + Sync>(
     rt: &R,
     alloc: Global,
@@ -186,11 +158,7 @@ fn run_book<G: Gate, R: Threads + Wait + Sync>(
     pieces: &[Vec<Call>],
     stripes: u8,
     room: Room,
-) -> (
-    Session<Shell>,
-    Vec<Vec<Entry<Step, Reply>>>,
-    Option<SessionFault>,
-)
+) -> (Session<Shell>, Vec<Vec<Entry<Step, Reply>>>, Option<Cause>)
     requires stripes { (1 ≤ stripes) × (stripes ≤ MAX_STRIPES) }
     requires admits { AdmitsAll stripes book.opening }
     requires workers { (length pieces.now ≡ book.workers) × (1 ≤ length pieces.now)
@@ -202,21 +170,21 @@ fn run_book<G: Gate, R: Threads + Wait + Sync>(
     requires fresh { (room.states.items ≡ []) × (room.passes.items ≡ []) × (room.lists.items ≡ []) }
     requires room { (length pieces.now ≤ vec_capacity room.states) × (length pieces.now ≤ vec_capacity room.passes)
         × (length pieces.now ≤ vec_capacity room.lists) }
-    ensures none { result.2 ≡ None → IsRun (λ w. AreWalks w stripes) (map (λ p. p.items) pieces.now) book.opening
-        result.0 (map (λ l. l.items) result.1.items) }
-    ensures full { result.2 ≡ Some SessionFault.JournalFull → book.opening.limit ≤ length result.0.kept }
-    ensures now { result.2 ≢ Some SessionFault.NotNow }
-    ensures some { IsRun (λ w. BeginWalks w stripes) (map (λ p. p.items) pieces.now) book.opening result.0
+    ensures run { IsRunUpTo result.2 stripes (map (λ p. p.items) pieces.now) book.opening result.0
         (map (λ l. l.items) result.1.items) }
+    ensures legal { IsLegal act result.0.opening result.0.kept }
+    ensures stands { result.0.engine ≡ after act result.0.opening result.0.kept }
 {
     let Room {
         states,
-        passes: seats,
+        passes: collected,
         lists,
     } = room;
     let states = assign_passes(alloc, &book, passes, states);
-    let states = work_seated(rt, gate, &book, pieces, stripes, states);
-    let fault = first_fault(states.as_slice());
-    let (passes, lists) = collect_passes(states, seats, lists);
-    (book.close(passes), lists, fault)
+    let states = work_all(rt, gate, &book, pieces, stripes, states);
+    let cause = first_refusal(states.as_slice());
+    let (passes, lists) = collect_passes(states, collected, lists);
+    let session = book.close(passes);
+    session.len();
+    (session, lists, cause)
 }

@@ -1,6 +1,6 @@
 //! What one worker does over a session that workers take in turns.
 ghost use Rattle.std.specs.Prelude.{◌≡◌, ◌≢◌, ◌≤◌, List, ◌∷◌, ◌++◌, [], true, length, OnOk, OnErr, IfOk};
-ghost use Rattle.std.specs.Prelude.{MatchResult, Some, Err};
+ghost use Rattle.std.specs.Prelude.{MatchResult, Err};
 ghost use Rattle.step_record.specs.declared.limits.TheConstants.{MAX_STRIPES};
 ghost use Rattle.step_record.specs.Answers.{AnswersItsActs, is_answer};
 ghost use Rattle.turn_book.specs.Passes.{id_of};
@@ -9,8 +9,10 @@ ghost use Rattle.step_record.specs.declared.step.Call.{Call};
 ghost use Rattle.walks.specs.Walks.{IsWalk, AreWalks, step_of};
 ghost use Rattle.walks.specs.Admits.{AdmitsWalks, IsTaken};
 ghost use Rattle.workers.specs.Draws.{IsWithin};
-ghost use Rattle.walks.specs.Made.{Made, BeginsWalk, BeginWalks};
+ghost use Rattle.walks.specs.Made.{Made, IsUnfinished};
+ghost use Rattle.workers.specs.Causes.{the_cause};
 
+use super::run::Cause;
 use journal::{Session, SessionFault};
 use std::sync::Wait;
 use step_record::{Act, Call, Engine, Entry, Gate, Reply, Step, Worker};
@@ -28,7 +30,7 @@ pub(crate) fn work_in_turns<E: Engine<Step = Step, Reply = Reply> + Drop, G: Gat
     worker: Worker,
     stripes: u8,
     calls: &[Call],
-) -> (Pass<Session<E>>, Result<(), SessionFault>)
+) -> (Pass<Session<E>>, Result<(), Cause>)
     requires own { pass.book ≡ id_of book.now }
     requires worker { pass.worker ≡ worker }
     requires answers { AnswersItsActs E.act }
@@ -42,18 +44,17 @@ pub(crate) fn work_in_turns<E: Engine<Step = Step, Reply = Reply> + Drop, G: Gat
     ensures worker { result.0.worker ≡ worker }
     ensures ok { OnOk result.1 (Made (AreWalks worker stripes calls.now) pass.own result.0.own list.old.items
         list.new.items) }
-    ensures err { OnErr result.1 (Made (BeginWalks worker stripes calls.now) pass.own result.0.own list.old.items
-        list.new.items) }
-    ensures full { result.1 ≡ Err SessionFault.JournalFull → length result.0.last ≡ book.now.opening.limit }
-    ensures now { result.1 ≢ Err SessionFault.NotNow }
+    ensures err { OnErr result.1 (Made (IsUnfinished (AreWalks worker stripes calls.now)) pass.own result.0.own
+        list.old.items list.new.items) }
+    ensures full { result.1 ≡ Err Cause.JournalFull → length result.0.last ≡ book.now.opening.limit }
     ensures within { OnOk result.1 (IsWithin book.now.opening.limit result.0) }
 {
     for (n, call) in calls.iter().enumerate() {
         gate.before(worker.number(), n as u64);
         let (given, answer) = walk_in_turns(rt, book, pass, list, worker, stripes, *call);
         pass = given;
-        if let Err(fault) = answer {
-            return (pass, Err(fault));
+        if let Err(cause) = answer {
+            return (pass, Err(cause));
         }
         gate.after(worker.number(), n as u64);
     }
@@ -69,7 +70,7 @@ fn walk_in_turns<E: Engine<Step = Step, Reply = Reply> + Drop, R: Wait>(
     worker: Worker,
     stripes: u8,
     call: Call,
-) -> (Pass<Session<E>>, Result<(), SessionFault>)
+) -> (Pass<Session<E>>, Result<(), Cause>)
     requires own { pass.book ≡ id_of book.now }
     requires worker { pass.worker ≡ worker }
     requires answers { AnswersItsActs E.act }
@@ -82,10 +83,9 @@ fn walk_in_turns<E: Engine<Step = Step, Reply = Reply> + Drop, R: Wait>(
     ensures same { result.0.book ≡ pass.book }
     ensures worker { result.0.worker ≡ worker }
     ensures ok { OnOk result.1 (Made (IsWalk worker stripes call) pass.own result.0.own list.old.items list.new.items) }
-    ensures err { OnErr result.1 (Made (BeginsWalk worker stripes call) pass.own result.0.own list.old.items
+    ensures err { OnErr result.1 (Made (IsUnfinished (IsWalk worker stripes call)) pass.own result.0.own list.old.items
         list.new.items) }
-    ensures full { result.1 ≡ Err SessionFault.JournalFull → length result.0.last ≡ book.now.opening.limit }
-    ensures now { result.1 ≢ Err SessionFault.NotNow }
+    ensures full { result.1 ≡ Err Cause.JournalFull → length result.0.last ≡ book.now.opening.limit }
     ensures within { OnOk result.1 (IsWithin book.now.opening.limit result.0) }
 {
     let mut next = next_step(Local::start(worker, stripes, call), None);
@@ -94,7 +94,7 @@ fn walk_in_turns<E: Engine<Step = Step, Reply = Reply> + Drop, R: Wait>(
             return (pass, Ok(()));
         };
         if list.reserve(1).is_err() {
-            return (pass, Err(SessionFault::OutOfMemory));
+            return (pass, Err(Cause::Memory));
         }
         let step = Step { worker, act };
         let (given, answer) = turn(rt, book, pass, step);
@@ -104,7 +104,7 @@ fn walk_in_turns<E: Engine<Step = Step, Reply = Reply> + Drop, R: Wait>(
                 list.push_reserved(entry_of(worker, act, reply));
                 next = next_step(local, Some(reply));
             }
-            Err(fault) => return (pass, Err(fault)),
+            Err(cause) => return (pass, Err(cause)),
         }
     }
     unreachable!()
@@ -117,11 +117,12 @@ fn turn<E: Engine<Step = Step, Reply = Reply> + Drop, R: Wait>(
     book: &TurnBook<Session<E>>,
     pass: Pass<Session<E>>,
     step: Step,
-) -> (Pass<Session<E>>, Result<Reply, SessionFault>)
+) -> (Pass<Session<E>>, Result<Reply, Cause>)
     requires own { pass.book ≡ id_of book.now }
     requires worker { pass.worker ≡ step.worker }
     requires answers { AnswersItsActs E.act }
-    requires takes { IsTaken E.act E.count (after E.act book.now.opening.opening book.now.opening.kept) pass.own step }
+    requires takes { IsTaken E.act E.count
+        (after E.act book.now.opening.opening book.now.opening.kept) pass.own step }
     requires within { IsWithin book.now.opening.limit pass }
     requires turns { book.now.opening.limit ≤ book.now.turns }
     ensures same { result.0.book ≡ pass.book }
@@ -130,16 +131,27 @@ fn turn<E: Engine<Step = Step, Reply = Reply> + Drop, R: Wait>(
         (λ _. result.0.own ≡ pass.own) }
     ensures answer { IfOk result.1 (λ r. is_answer step.act r ≡ true) }
     // A full journal: what the pass last saw is as long as the limit.
-    ensures full { result.1 ≡ Err SessionFault.JournalFull → length result.0.last ≡ book.now.opening.limit }
-    ensures now { result.1 ≢ Err SessionFault.NotNow }
+    ensures full { result.1 ≡ Err Cause.JournalFull → length result.0.last ≡ book.now.opening.limit }
     ensures within { OnOk result.1 (IsWithin book.now.opening.limit result.0) }
 {
     match book.take(rt, pass) {
         Ok(mut turn) => match turn.value().step(step) {
             Ok(reply) => (book.give(turn), Ok(reply)),
-            Err(fault) => (book.give(turn), Err(fault)),
+            Err(fault) => (book.give(turn), Err(cause_of(fault))),
         },
-        Err(pass) => (pass, Err(SessionFault::JournalFull)),
+        Err(pass) => (pass, Err(Cause::JournalFull)),
+    }
+}
+
+// Why a session refused a step that its engine takes.
+fn cause_of(fault: SessionFault) -> Cause
+    requires { fault ≢ SessionFault.NotNow }
+    ensures { result ≡ the_cause fault }
+{
+    match fault {
+        SessionFault::OutOfMemory => Cause::Memory,
+        SessionFault::JournalFull => Cause::JournalFull,
+        SessionFault::NotNow => unreachable!(),
     }
 }
 

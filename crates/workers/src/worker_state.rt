@@ -1,15 +1,17 @@
 //! What each worker has at its own place, and how all of them work side by side.
-ghost use Rattle.std.specs.Prelude.{◌≡◌, ℕ, ◌<◌, ◌≤◌, None, Some, [], All, Option, IfSome, IsSome, length};
+ghost use Rattle.std.specs.Prelude.{◌≡◌, ℕ, ◌<◌, ◌≤◌, Some, [], All, IfSome, IsSome, length};
 ghost use Rattle.std.specs.Prelude.{map, slice_index_or, vec_capacity};
 ghost use Rattle.step_record.specs.declared.limits.TheConstants.{MAX_STRIPES};
 ghost use Rattle.step_record.specs.declared.worker.TheConstants.{MAX_WORKERS};
 ghost use Rattle.turn_book.specs.Turns.{Every};
 ghost use Rattle.turn_book.specs.Passes.{InOrder, id_of};
 ghost use Rattle.workers.specs.Draws.{IsWithin};
+ghost use Rattle.workers.specs.Runs.{first_cause};
 ghost use Rattle.workers.specs.WorkerStates.{HoldsPass, HasWorked, AreNumbered, AdmitsAll, calls_of};
 
+use super::run::Cause;
 use super::turns::work_in_turns;
-use journal::{Session, SessionFault};
+use journal::Session;
 use maintenance::Shell;
 use std::alloc::Global;
 use std::sync::Wait;
@@ -18,14 +20,14 @@ use std::thread::Threads;
 use step_record::{Call, Entry, Gate, Reply, Step, Worker};
 use turn_book::{Pass, TurnBook};
 
-/// What one worker has: its pass, which is with it but while it works, the entries that it made, and why it
-/// stopped before its last call was done.
+/// What one worker has: its pass, which is with it but while it works, the entries that it made, and why it was refused
+/// a step, where it was.
 #[derive(Drop)]
 pub(crate) struct WorkerState {
     pub(crate) pass: Option<Pass<Session<Shell>>>,
     pub(crate) worker: Worker,
     pub(crate) list: Vec<Entry<Step, Reply>>,
-    pub(crate) fault: Option<SessionFault>,
+    pub(crate) refusal: Option<Cause>,
 }
 
 // Makes the walks of one worker's calls.
@@ -39,12 +41,12 @@ fn work_at<G: Gate, R: Wait>(
 )
     requires stripes { (1 ≤ stripes) × (stripes ≤ MAX_STRIPES) }
     requires admits { AdmitsAll stripes book.now.opening }
-    requires sits { HoldsPass (id_of book.now) state.old }
+    requires holds { HoldsPass (id_of book.now) state.old }
     requires fresh { state.old.list.items ≡ [] }
     requires within { IfSome state.old.pass (λ p. IsWithin book.now.opening.limit p) }
     requires turns { book.now.opening.limit ≤ book.now.turns }
     requires below { state.old.worker < length pieces.now }
-    ensures sits { HoldsPass (id_of book.now) state.new }
+    ensures holds { HoldsPass (id_of book.now) state.new }
     ensures worked { HasWorked stripes book.now.opening.limit (calls_of pieces.now) state.new }
     ensures worker { state.new.worker ≡ state.old.worker }
 {
@@ -64,11 +66,11 @@ fn work_at<G: Gate, R: Wait>(
         calls,
     );
     state.pass = Some(pass);
-    state.fault = answer.err();
+    state.refusal = answer.err();
 }
 
-// All workers make the walks of their calls, each in a thread of its own where one can be made.
-fn work_all<G: Gate, R: Threads + Wait + Sync>(
+// All workers make the walks of their calls, each on a thread of its own where one can be made.
+fn work_on_threads<G: Gate, R: Threads + Wait + Sync>(
     rt: &R,
     gate: &G,
     book: &TurnBook<Session<Shell>>,
@@ -79,10 +81,10 @@ fn work_all<G: Gate, R: Threads + Wait + Sync>(
     requires stripes { (1 ≤ stripes) × (stripes ≤ MAX_STRIPES) }
     requires admits { AdmitsAll stripes book.now.opening }
     requires turns { book.now.opening.limit ≤ book.now.turns }
-    requires sit { All (λ d. HoldsPass (id_of book.now) d × (d.list.items ≡ [])
+    requires holds { All (λ d. HoldsPass (id_of book.now) d × (d.list.items ≡ [])
         × IfSome d.pass (λ p. IsWithin book.now.opening.limit p) × (d.worker < length pieces.now)) states.old }
-    ensures sit { All (λ d. HoldsPass (id_of book.now) d × HasWorked stripes book.now.opening.limit (calls_of pieces.now) d)
-        states.new }
+    ensures holds { All (λ d. HoldsPass (id_of book.now) d
+        × HasWorked stripes book.now.opening.limit (calls_of pieces.now) d) states.new }
     ensures workers { (i : ℕ) (d : WorkerState) → i < length states.old
         → (slice_index_or states.new i d).worker ≡ (slice_index_or states.old i d).worker }
 {
@@ -92,8 +94,9 @@ fn work_all<G: Gate, R: Threads + Wait + Sync>(
     let threads = states.len();
     let each = |_i: usize, state: &mut WorkerState|
         requires { (1 ≤ stripes) × (stripes ≤ MAX_STRIPES) × AdmitsAll stripes book.now.opening
-            × (book.now.opening.limit ≤ book.now.turns) × HoldsPass (id_of book.now) state.now × (state.now.list.items ≡ [])
-            × IfSome state.now.pass (λ p. IsWithin book.now.opening.limit p) × (state.now.worker < length pieces.now) }
+            × (book.now.opening.limit ≤ book.now.turns) × HoldsPass (id_of book.now) state.now
+            × (state.now.list.items ≡ []) × IfSome state.now.pass (λ p. IsWithin book.now.opening.limit p)
+            × (state.now.worker < length pieces.now) }
         ensures { HoldsPass (id_of book.entry.now) state.exit.now
             × HasWorked stripes book.entry.now.opening.limit (calls_of pieces.entry.now) state.exit.now
             × (state.exit.now.worker ≡ state.entry.now.worker) }
@@ -101,7 +104,7 @@ fn work_all<G: Gate, R: Threads + Wait + Sync>(
     thread::for_each_mut(rt, states, threads, &each);
 }
 
-// A place for each worker, with its pass, in memory that is there.
+// The state of each worker, with its pass, in memory that is there.
 pub(crate) fn assign_passes(
     alloc: Global,
     book: &TurnBook<Session<Shell>>,
@@ -112,7 +115,7 @@ pub(crate) fn assign_passes(
     requires own { Every (λ p. p.book ≡ id_of book.now) passes.items }
     requires empty { Every (λ p. (p.own ≡ []) × IsWithin book.now.opening.limit p) passes.items }
     requires room { (states.items ≡ []) × (length passes.items ≤ vec_capacity states) }
-    ensures sit { Every (λ d. HoldsPass (id_of book.now) d × (d.list.items ≡ [])
+    ensures holds { Every (λ d. HoldsPass (id_of book.now) d × (d.list.items ≡ [])
         × IfSome d.pass (λ p. IsWithin book.now.opening.limit p)) result.items }
     ensures counts { AreNumbered 0 result.items × (length result.items ≡ length passes.items) }
 {
@@ -124,14 +127,14 @@ pub(crate) fn assign_passes(
             pass: Some(pass),
             worker,
             list: Vec::new(alloc),
-            fault: None,
+            refusal: None,
         });
     }
     states
 }
 
-// Has all workers work, at their places.
-pub(crate) fn work_seated<G: Gate, R: Threads + Wait + Sync>(
+// All workers make the walks of their calls.
+pub(crate) fn work_all<G: Gate, R: Threads + Wait + Sync>(
     rt: &R,
     gate: &G,
     book: &TurnBook<Session<Shell>>,
@@ -142,26 +145,24 @@ pub(crate) fn work_seated<G: Gate, R: Threads + Wait + Sync>(
     requires stripes { (1 ≤ stripes) × (stripes ≤ MAX_STRIPES) }
     requires admits { AdmitsAll stripes book.now.opening }
     requires turns { book.now.opening.limit ≤ book.now.turns }
-    requires sit { Every (λ d. HoldsPass (id_of book.now) d × (d.list.items ≡ [])
+    requires holds { Every (λ d. HoldsPass (id_of book.now) d × (d.list.items ≡ [])
         × IfSome d.pass (λ p. IsWithin book.now.opening.limit p)) states.items }
     requires counts { AreNumbered 0 states.items × (length states.items ≡ length pieces.now) }
-    ensures sit { Every (λ d. HoldsPass (id_of book.now) d
+    ensures holds { Every (λ d. HoldsPass (id_of book.now) d
         × HasWorked stripes book.now.opening.limit (calls_of pieces.now) d) result.items }
     ensures counts { AreNumbered 0 result.items × (length result.items ≡ length pieces.now) }
 {
-    work_all(rt, gate, book, pieces, stripes, states.as_mut_slice());
+    work_on_threads(rt, gate, book, pieces, stripes, states.as_mut_slice());
     states
 }
 
-// Why the first of the workers that stopped did so; nothing where none stopped.
-pub(crate) fn first_fault(states: &[WorkerState]) -> Option<SessionFault>
-    ensures none { result ≡ None → Every (λ d. d.fault ≡ None) states.now }
-    ensures some { IfSome result (λ f. (i : ℕ) × (i < length states.now)
-        × ((d : WorkerState) → (slice_index_or states.now i d).fault ≡ Some f)) }
+// Why the first worker that was refused a step was refused it, in the order of their numbers.
+pub(crate) fn first_refusal(states: &[WorkerState]) -> Option<Cause>
+    ensures { result ≡ first_cause (map (λ d. d.refusal) states.now) }
 {
     for state in states {
-        if let Some(fault) = state.fault {
-            return Some(fault);
+        if let Some(cause) = state.refusal {
+            return Some(cause);
         }
     }
     None
@@ -173,7 +174,7 @@ pub(crate) fn collect_passes(
     mut passes: Vec<Pass<Session<Shell>>>,
     mut lists: Vec<Vec<Entry<Step, Reply>>>,
 ) -> (Vec<Pass<Session<Shell>>>, Vec<Vec<Entry<Step, Reply>>>)
-    requires sit { Every (λ d. IsSome d.pass) states.items }
+    requires holds { Every (λ d. IsSome d.pass) states.items }
     requires passes { (passes.items ≡ []) × (length states.items ≤ vec_capacity passes) }
     requires lists { (lists.items ≡ []) × (length states.items ≤ vec_capacity lists) }
     ensures passes { map (λ p. Some p) result.0.items ≡ map (λ d. d.pass) states.items }
@@ -184,7 +185,7 @@ pub(crate) fn collect_passes(
             pass,
             worker: _,
             list,
-            fault: _,
+            refusal: _,
         } = state;
         passes.push_reserved(pass.unwrap());
         lists.push_reserved(list);

@@ -3,10 +3,8 @@ use Rattle.std.proofs.lemmas.List.{length-map}
 use Rattle.step_record.specs.declared.worker.TheConstants.{MAX_WORKERS}
 use Rattle.turn_book.specs.Faults.{IsOpenCause}
 use Rattle.turn_book.specs.declared.book.TheConstants.{MAX_TURNS}
-use Rattle.walks.specs.Walks.{AreWalks}
-use Rattle.walks.specs.Made.{BeginWalks}
-use Rattle.workers.specs.Runs.{IsRun}
-use Rattle.workers.specs.DriveFaults.{CanRun, LeavesFault}
+use Rattle.workers.specs.DriveFaults.{CanRun}
+use Rattle.workers.specs.Runs.{IsRunUpTo}
 use Rattle.step_record.specs.History.{after}
 use Rattle.shell_model.specs.Shell.{act}
 use Rattle.walks.specs.Admits.{AdmitsWalks}
@@ -14,66 +12,9 @@ use Rattle.walks.proofs.Admitting.{shell_admits}
 use Rattle.workers.proofs.Freeing.{run_frees}
 use Rattle.shell_model.specs.Reached.{IsReachable}
 use Rattle.workers.proofs.Collecting.{every_map}
-use Rattle.workers.proofs.RunResults.{moved_run, free_of, if_ok, if_err, on_ok, full_cause}
+use Rattle.workers.proofs.RunResults.{moved_run, whole_run, free_of}
 use Rattle.workers.proofs.Turning.{within_first}
 use Rattle.workers.proofs.run.drive.Goals as goal
-
-pub returns-in-Ok-open-clause-run : goal.returns-in-Ok-open-clause-run
-returns-in-Ok-open-clause-run g c =
-    let stripes = c.stripes-stripes.ensures.stripes ∙ ap (λ x. x.config.stripes) c.engine-shell.ensures.engine in
-    let pieces = ap (map (λ p. vec_items p)) c.as_slice.ensures.value in
-    if_ok c.run_result.result _ _ (λ d h. (
-    let run = moved_run (λ w n. AreWalks w n) _ _ _ _ _ _ c.run_book-session.result.0 _ stripes pieces c.in-Ok-open.ensures.opens.0 (c.run_book-session.ensures.none h.2) in
-    subst (λ l. IsRun (λ w. AreWalks w c.args.session.engine.config.stripes) (map (λ p. vec_items p) c.args.pieces.items) c.args.session d.session l) (ap (map (λ x. vec_items x)) (sym h.1))
-    (subst (λ s. IsRun (λ w. AreWalks w c.args.session.engine.config.stripes) (map (λ p. vec_items p) c.args.pieces.items) c.args.session s (map (λ x. vec_items x) c.run_book-session.result.1.items)) (sym h.0) run)
-    )) c.run_result.ensures.ok
-
-pub returns-in-Ok-open-clause-free : goal.returns-in-Ok-open-clause-free
-returns-in-Ok-open-clause-free g c =
-    let shell = c.engine-shell.ensures.engine in
-    let stripes = c.stripes-stripes.ensures in
-    let free = free_of _ _ (sym c.holder.ensures ∙ c.in_default.is) in
-    if_ok c.run_result.result _ _ (λ d h. (
-    let run = moved_run (λ w n. AreWalks w n) _ _ _ _ _ _ c.run_book-session.result.0 _ refl refl c.in-Ok-open.ensures.opens.0 (c.run_book-session.ensures.none h.2) in
-    ap (λ s. s.engine.holder) h.0
-    ∙ run_frees c.args.session c.run_book-session.result.0 c.stripes-stripes.result _ _ stripes.range.0 (subst IsReachable shell stripes.reached) (ap (λ x. x.holder) (sym shell) ∙ free)
-    (ap (λ x. length x.stripes) (sym shell) ∙ stripes.count) c.engine-shell.ensures.sound.stands run c.run_result.ensures.legal c.run_result.ensures.stands
-    )) c.run_result.ensures.ok
-
-pub returns-in-Ok-open-clause-accepted : goal.returns-in-Ok-open-clause-accepted
-returns-in-Ok-open-clause-accepted g c =
-    let many = length-map c.args.pieces.items (λ p. vec_items p) in
-    let ok = c.args.pieces.ok.0 in
-    let len = c.len-workers.ensures in
-    let free = free_of _ _ (sym c.holder.ensures ∙ c.in_default.is) in
-    let some : 1 ≤ c.len-workers.result = search rules in
-    let few : c.len-workers.result ≤ MAX_WORKERS = search rules in
-    let can : CanRun (map (λ p. vec_items p) c.args.pieces.items) c.args.session.engine = record {
-      some = omega arith;
-      few = omega arith;
-      free = ap (λ x. x.holder) (sym c.engine-shell.ensures.engine) ∙ free;
-    } in
-    on_ok _ _ can
-
-pub returns-in-Ok-open-clause-fault : goal.returns-in-Ok-open-clause-fault
-returns-in-Ok-open-clause-fault g c =
-    let stripes = c.stripes-stripes.ensures.stripes ∙ ap (λ x. x.config.stripes) c.engine-shell.ensures.engine in
-    let pieces = ap (map (λ p. vec_items p)) c.as_slice.ensures.value in
-    let many = length-map c.args.pieces.items (λ p. vec_items p) in
-    let ok = c.args.pieces.ok.0 in
-    let len = c.len-workers.ensures in
-    let free = free_of _ _ (sym c.holder.ensures ∙ c.in_default.is) in
-    let some : 1 ≤ c.len-workers.result = search rules in
-    let few : c.len-workers.result ≤ MAX_WORKERS = search rules in
-    let can : CanRun (map (λ p. vec_items p) c.args.pieces.items) c.args.session.engine = record {
-      some = omega arith;
-      few = omega arith;
-      free = ap (λ x. x.holder) (sym c.engine-shell.ensures.engine) ∙ free;
-    } in
-    let run = moved_run (λ w n. BeginWalks w n) _ _ _ _ _ _ c.run_book-session.result.0 _ stripes pieces c.in-Ok-open.ensures.opens.0 c.run_book-session.ensures.some in
-    let limit = c.run_book-session.ensures.some.limit in
-    let room = c.run_result.ensures.room in
-    if_err c.run_result.result _ _ (λ f h. subst (λ x. LeavesFault x (map (λ p. vec_items p) c.args.pieces.items) c.args.session) (sym h) (can, c.run_result.ensures.legal, (λ e. (let full = c.run_book-session.ensures.full (full_cause c.run_book-session.result.2 e) in omega arith)), run)) c.run_result.ensures.err
 
 pub run_book-session-requires-clause-empty : goal.run_book-session-requires-clause-empty
 run_book-session-requires-clause-empty g c κs within =
@@ -94,6 +35,57 @@ run_book-session-requires-clause-admits g c κs within = λ w.
     let stood = c.engine-shell.ensures.engine ∙ c.engine-shell.ensures.sound.stands ∙ ap (λ s. after act s.opening s.kept) (sym c.in-Ok-open.ensures.opens.0) in
     subst (λ y. AdmitsWalks act (λ z. z.applied) w c.stripes-stripes.result y) stood
     (shell_admits c.engine-shell.result.now w c.stripes-stripes.result c.stripes-stripes.ensures.range.0 c.stripes-stripes.ensures.reached free c.stripes-stripes.ensures.count)
+
+pub returns-in-None-clause-run : goal.returns-in-None-clause-run
+returns-in-None-clause-run g c =
+    let stripes = c.stripes-stripes.ensures.stripes ∙ ap (λ x. x.config.stripes) c.engine-shell.ensures.engine in
+    let pieces = ap (map (λ p. vec_items p)) c.as_slice.ensures.value in
+    whole_run _ _ _ _ _ _ c.in-None.is (moved_run _ _ _ _ _ _ _ _ _ stripes pieces c.in-Ok-open.ensures.opens.0 c.run_book-session.ensures.run)
+
+pub returns-in-None-clause-free : goal.returns-in-None-clause-free
+returns-in-None-clause-free g c =
+    let shell = c.engine-shell.ensures.engine in
+    let stripes = c.stripes-stripes.ensures in
+    let free = free_of _ _ (sym c.holder.ensures ∙ c.in_default.is) in
+    let run = whole_run _ _ _ _ _ _ c.in-None.is (moved_run _ _ _ _ _ _ _ _ _ refl refl c.in-Ok-open.ensures.opens.0 c.run_book-session.ensures.run) in
+    run_frees c.args.session c.run_book-session.result.0 c.stripes-stripes.result _ _ stripes.range.0 (subst IsReachable shell stripes.reached) (ap (λ x. x.holder) (sym shell) ∙ free)
+    (ap (λ x. length x.stripes) (sym shell) ∙ stripes.count) c.engine-shell.ensures.sound.stands run c.run_book-session.ensures.legal c.run_book-session.ensures.stands
+
+pub returns-in-None-clause-accepted : goal.returns-in-None-clause-accepted
+returns-in-None-clause-accepted g c =
+    let many = length-map c.args.pieces.items (λ p. vec_items p) in
+    let ok = c.args.pieces.ok.0 in
+    let len = c.len-workers.ensures in
+    let free = free_of _ _ (sym c.holder.ensures ∙ c.in_default.is) in
+    let some : 1 ≤ c.len-workers.result = search rules in
+    let few : c.len-workers.result ≤ MAX_WORKERS = search rules in
+    record {
+      some = omega arith;
+      few = omega arith;
+      free = ap (λ x. x.holder) (sym c.engine-shell.ensures.engine) ∙ free;
+    }
+
+pub returns-in-Ok-open-clause-fault : goal.returns-in-Ok-open-clause-fault
+returns-in-Ok-open-clause-fault g c =
+    let stripes = c.stripes-stripes.ensures.stripes ∙ ap (λ x. x.config.stripes) c.engine-shell.ensures.engine in
+    let pieces = ap (map (λ p. vec_items p)) c.as_slice.ensures.value in
+    let many = length-map c.args.pieces.items (λ p. vec_items p) in
+    let ok = c.args.pieces.ok.0 in
+    let len = c.len-workers.ensures in
+    let free = free_of _ _ (sym c.holder.ensures ∙ c.in_default.is) in
+    let some : 1 ≤ c.len-workers.result = search rules in
+    let few : c.len-workers.result ≤ MAX_WORKERS = search rules in
+    let can : CanRun (map (λ p. vec_items p) c.args.pieces.items) c.args.session.engine = record {
+      some = omega arith;
+      few = omega arith;
+      free = ap (λ x. x.holder) (sym c.engine-shell.ensures.engine) ∙ free;
+    } in
+    let run = moved_run _ _ _ _ _ _ _ _ _ stripes pieces c.in-Ok-open.ensures.opens.0 c.run_book-session.ensures.run in
+    let lists = map (λ l. vec_items l) c.run_book-session.result.1.items in (
+      can,
+      c.run_book-session.ensures.legal,
+      subst (λ o. IsRunUpTo o c.args.session.engine.config.stripes (map (λ p. vec_items p) c.args.pieces.items) c.args.session c.run_book-session.result.0 lists) c.in-Some-cause.is run,
+    )
 
 pub unreachable-requires : goal.unreachable-requires
 unreachable-requires g c =

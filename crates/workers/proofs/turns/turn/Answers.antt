@@ -1,10 +1,10 @@
-use Rattle.std.proofs.Common.{length, length-append, arith, ap, ◌∙◌, ◌∷◌, ◌++◌, [], sym}
+use Rattle.std.proofs.Common.{length, length-append, arith, ap, ◌∙◌, ◌∷◌, ◌++◌, [], sym, Err}
 use Rattle.std.proofs.lemmas.List.{append-nil}
 use Rattle.step_record.specs.declared.entry.Entry.{Entry}
 use Rattle.step_record.specs.declared.step.Reply.{Reply}
 use Rattle.step_record.specs.declared.step.Step.{Step}
 use Rattle.walks.specs.Made.{entries_of}
-use Rattle.workers.proofs.Turning.{gained, leaves_same, not_refused, few_made, within_more, within_spent}
+use Rattle.workers.proofs.Turning.{gained, leaves_same, not_refused, few_made, within_more, within_spent, full_cause, err_same}
 use Rattle.workers.proofs.turns.turn.Goals as goal
 
 pub returns-in-Ok-step-clause-answer : goal.returns-in-Ok-step-clause-answer
@@ -21,7 +21,9 @@ pub give-requires-in-Err-step-clause-leaves : goal.give-requires-in-Err-step-cla
 give-requires-in-Err-step-clause-leaves g c =
     let v = c.value.ensures.value ∙ sym c.in-Ok.ensures.took.taken in
     let same = c.in-Err-step.ensures.err in
-    leaves_same _ _ _ _ _ _ (λ i. ((same.opening ∙ ap (λ s. s.opening) v) i, (same.limit ∙ ap (λ s. s.limit) v) i)) (same.kept ∙ ap (λ s. s.kept) v ∙ sym (append-nil _))
+    leaves_same _ _ _ _ _ _
+    (λ i. ((same.opening ∙ ap (λ s. s.opening) v) i, (same.limit ∙ ap (λ s. s.limit) v) i))
+    (same.kept ∙ ap (λ s. s.kept) v ∙ sym (append-nil _))
 
 pub returns-in-Err-step-clause-own : goal.returns-in-Err-step-clause-own
 returns-in-Err-step-clause-own g c =
@@ -31,12 +33,14 @@ returns-in-Err-step-clause-own g c =
 
 pub returns-in-Err-step-clause-full : goal.returns-in-Err-step-clause-full
 returns-in-Err-step-clause-full g c = λ e.
-    ap (λ p. length p.last) c.give-in-Err-step.ensures.gave.pass ∙ ap length c.in-Err-step.ensures.err.kept ∙ c.in-Err-step.ensures.full.0 e
+    let full = full_cause c.in-Err-step.fault (sym c.cause_of.ensures ∙ err_same _ _ e) in
+    ap (λ p. length p.last) c.give-in-Err-step.ensures.gave.pass ∙ ap length c.in-Err-step.ensures.err.kept
+    ∙ c.in-Err-step.ensures.full.0 (ap (λ f. Err f) full)
     ∙ ap (λ s. s.limit) c.value.ensures.value ∙ ap (λ p. p.1) c.in-Ok.ensures.took.shows.same_origin
 
-pub returns-in-Err-step-clause-now : goal.returns-in-Err-step-clause-now
-returns-in-Err-step-clause-now g c = λ e.
-    let no = c.in-Err-step.ensures.not_now e in
+pub cause_of-requires : goal.cause_of-requires
+cause_of-requires g c = λ e.
+    let no = c.in-Err-step.ensures.not_now (ap (λ f. Err f) e) in
     let shows = c.in-Ok.ensures.took.shows in
     let same = c.in-Err-step.ensures.err in
     let sound = c.in-Err-step.ensures.sound in

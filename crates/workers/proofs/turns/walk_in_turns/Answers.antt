@@ -1,8 +1,8 @@
-use Rattle.std.proofs.Common.{refl, sym, ap, subst, ◌∙◌, Err}
+use Rattle.std.proofs.Common.{refl, sym, subst, ◌∙◌}
 use Rattle.walks.specs.Admits.{MayMake}
 use Rattle.walks.proofs.Coming.{may_make}
 use Rattle.walks.proofs.Walking.{nothing, stopped, stepped, over, known, asks_same, asked_of, Completes, listed}
-use Rattle.workers.proofs.Turning.{at_ok, at_err, err_same, on_ok_at}
+use Rattle.workers.proofs.Turning.{at_ok, at_err, on_ok_at}
 use Rattle.workers.proofs.turns.walk_in_turns.Goals as goal
 
 pub loop-init : goal.loop-init
@@ -48,6 +48,3 @@ pub turn-given-requires-clause-takes : goal.turn-given-requires-clause-takes
 turn-given-requires-clause-takes g c = λ es legal own below.
     c.requires.admits es legal c.in-Do.act (subst (λ l. MayMake c.args.worker c.args.stripes l c.in-Do.act) (sym own)
     (may_make c.args.worker c.args.stripes c.args.call c.requires.walks.0 _ _ _ _ c.loop.next c.in-Do.act c.in-Do.local c.requires.walks.1 c.loop.invariant.made c.in-Do.is c.loop.invariant.asks c.in-Do.local.placed)) below
-
-pub returns-in-Err-clause-now : goal.returns-in-Err-clause-now
-returns-in-Err-clause-now g c = λ e. c.turn-given.ensures.now (c.in-Err.is ∙ ap (λ f. Err f) (err_same _ _ e))

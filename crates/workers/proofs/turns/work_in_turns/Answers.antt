@@ -1,8 +1,8 @@
-use Rattle.std.proofs.Common.{◌∙◌, ap, Err}
+use Rattle.std.proofs.Common.{◌∙◌}
 use Rattle.std.proofs.lemmas.List.{drop_all}
 use Rattle.walks.proofs.Coming.{walked}
 use Rattle.walks.proofs.Joining.{joined, one_walk, cut_walk, all_walks, drop_item}
-use Rattle.workers.proofs.Turning.{on_ok_at, on_err_at, err_same}
+use Rattle.workers.proofs.Turning.{on_ok_at, on_err_at}
 use Rattle.walks.proofs.Walking.{known}
 use Rattle.workers.proofs.turns.work_in_turns.Goals as goal
 
@@ -22,6 +22,3 @@ returns-in-Err-clause-err g c =
 pub returns-clause-ok : goal.returns-clause-ok
 returns-clause-ok g c =
     known _ _ _ _ _ _ (all_walks c.args.worker c.args.stripes c.args.calls.now _ (drop_all c.loop-n.n c.args.calls.now c.loop-n-test.false)) c.loop-n.invariant.made
-
-pub returns-in-Err-clause-now : goal.returns-in-Err-clause-now
-returns-in-Err-clause-now g c = λ e. c.walk_in_turns-given.ensures.now (c.in-Err.is ∙ ap (λ f. Err f) (err_same _ _ e))

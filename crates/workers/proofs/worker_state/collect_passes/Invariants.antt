@@ -6,7 +6,7 @@ use Rattle.workers.proofs.worker_state.collect_passes.Given as goal
 
 abbrev pub invariant-loop-state : goal.invariant-loop-state
 invariant-loop-state l = record {
-  sit : Every (λ d. IsSome d.pass) (into_iter_items l.state-iterator);
+  holds : Every (λ d. IsSome d.pass) (into_iter_items l.state-iterator);
   passes : map (λ p. Some p) l.passes.items ++ map (λ d. d.pass) (into_iter_items l.state-iterator) ≡ map (λ d. d.pass) l.fn.states.items;
   lists : l.lists.items ++ map (λ d. d.list) (into_iter_items l.state-iterator) ≡ map (λ d. d.list) l.fn.states.items;
   seats_room : length l.passes.items + length (into_iter_items l.state-iterator) ≤ vec_capacity l.passes;
