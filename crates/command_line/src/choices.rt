@@ -15,8 +15,11 @@ pub(crate) const MIXED: &str = "mixed";
 // The word of `Spread::Plain`.
 const PLAIN: &str = "plain";
 
+// How many policies there are.
+const POLICY_COUNT: usize = POLICIES.len();
+
 /// The words that name the policies.
-pub(crate) fn policy_words() -> [&'static str; 6]
+pub(crate) fn policy_words() -> [&'static str; POLICY_COUNT]
     ensures { AreWords policy_words result }
 {
     POLICIES.map(Policy::word)
