@@ -1,5 +1,5 @@
 //! Small traces whose reports were worked out by hand, and threads that wait for one another.
-use policy_actors::{ActorFault, run_actors, run_one, sweep, sweep_each};
+use policy_actors::{ActorFault, run_actors, run_one, sweep, sweep_batches, sweep_each};
 use report::Report;
 use std::alloc::Global;
 use std::process::Abort;
