@@ -1,15 +1,17 @@
 -- The program's commands, as clap reads them, and what their matches name.
-use Rattle.std.specs.Prelude.{ℕ, pos, true, List, [], ◌∷◌, Option, Some, None, codes}
-use Rattle.std.specs.Prelude.{Result, Ok, Err, option_and_then, if◌then◌else◌, ◌&&◌, nat_le}
+use Rattle.std.specs.Prelude.{◌≡◌, ℕ, pos, true, false, List, [], ◌∷◌, Option, Some, None, codes}
+use Rattle.std.specs.Prelude.{Result, Ok, Err, IfOk, option_and_then, if◌then◌else◌, ◌&&◌, nat_le}
 use Rattle.std.specs.Int.{is_power_of_two}
 use Rattle.std.specs.Borrow.{Bor}
 use Rattle.std.specs.Str.Parse.{digits_value, without_leading_plus}
 use Rattle.clap.specs.Lexer.{usize_max}
-use Rattle.clap.specs.Words.{App, Row, Rule, Text, all_of, first_of, new_app, new_rule, one_of}
+use Rattle.clap.specs.Words.{App, Row, Rule, Text, all_of, app_of, first_of, new_app, new_rule, one_of}
 use Rattle.clap.specs.ValueTests.{is_unsigned_in}
 use Rattle.clap.specs.Words.{with_rule, with_subcommand}
 use Rattle.clap.specs.declared.builder.ArgAction.TheVariants.{Append}
 use Rattle.clap.specs.declared.builder.ValueParser.TheVariants as parser
+use Rattle.clap.specs.declared.builder.command.Command.{Command}
+use Rattle.clap.specs.declared.builder.command.Command.TheViews.{out-Command}
 use Rattle.step_record.specs.Config.{config_fault, is_from_one}
 use Rattle.step_record.specs.declared.limits.TheConstants.{MAX_BATCH, MAX_CAPACITY, MAX_JOURNAL_LIMIT}
 use Rattle.step_record.specs.declared.limits.TheConstants.{MAX_MAIN_PERCENT, MAX_STRIPES}
@@ -219,6 +221,10 @@ program_app lists = with_subcommand
     (drive_app lists.formats lists.spreads).top)
     (debug_app lists).top)
     (replay_app lists.spreads).top
+
+-- a command that was made is this one, and none of its arguments is one for its subcommands too
+abbrev pub Makes : {E : Type 0} → App → Result Command E → Type 0
+Makes app made = IfOk made (λ c. (app_of c ≡ app) × ((out-Command c).has_globals ≡ false))
 
 -- the words of a call: the program's name, and those after it
 abbrev pub called : List Text → List Text

@@ -1,13 +1,14 @@
 //! The program's commands, as `clap` builds them.
-ghost use Rattle.std.specs.Prelude.{◌≡◌, false, IfOk, IsOkAnd};
-ghost use Rattle.clap.specs.Words.{app_of, new_app, rule_of, with_subcommand};
+ghost use Rattle.std.specs.Prelude.{◌≡◌, false, IfOk};
+ghost use Rattle.clap.specs.Words.{App, Rule, app_of, new_app, rule_of, with_rule, with_subcommand};
 ghost use Rattle.clap.specs.declared.builder.command.Command.TheViews.{out-Command};
 ghost use Rattle.command_line.specs.Program.{batch_rule, capacities_rule, capacity_rule, concurrent_app};
 ghost use Rattle.command_line.specs.Program.{configured_app, divided_app};
 ghost use Rattle.command_line.specs.Program.{debug_app, drive_app, file_rule, format_rule, limit_rule, paired_app};
+ghost use Rattle.command_line.specs.Program.{Makes};
 ghost use Rattle.command_line.specs.Program.{replay_app};
 ghost use Rattle.command_line.specs.Program.{main_rule, one_policy_rule, part_app, policies_rule, policy_rule};
-ghost use Rattle.command_line.specs.Program.{program_app, run_app};
+ghost use Rattle.command_line.specs.Program.{empty_app, program_app, run_app};
 ghost use Rattle.command_line.specs.Program.{spread_rule};
 ghost use Rattle.command_line.specs.Program.{stripes_rule, sweep_app, workers_rule};
 
@@ -212,58 +213,63 @@ fn format_arg<'a>(alloc: Global, words: &'a [&'a str]) -> Arg<'a>
         .value_parser(words)
 }
 
+// The command that was made, with an argument more; or what failed.
+fn with<'a>(made: Result<Command<'a>, AllocError>, arg: Arg<'a>) -> Result<Command<'a>, AllocError>
+    ensures { (app : App) (rule : Rule) → Makes app made.entry → rule_of arg.entry ≡ rule
+        → arg.entry.global ≡ false → Makes (with_rule app rule) result }
+{
+    match made {
+        Ok(command) => command.arg(arg),
+        Err(error) => {
+            drop(arg);
+            Err(error)
+        }
+    }
+}
+
 /// A command with the options that say how a cache is set up, but for its capacity.
 fn divided<'a>(
     alloc: Global,
-    command: Command<'a>,
+    made: Result<Command<'a>, AllocError>,
     spreads: &'a [&'a str],
 ) -> Result<Command<'a>, AllocError>
-    requires local { (out-Command command).has_globals ≡ false }
-    ensures shape { IfOk result (λ c. app_of c ≡ divided_app spreads.entry (app_of command.entry)) }
-    ensures local { IfOk result (λ c. (out-Command c).has_globals ≡ false) }
+    ensures { (app : App) → Makes app made.entry → Makes (divided_app spreads.entry app) result }
 {
-    let main_percent = main_arg(alloc);
-    let divided = command.arg(main_percent)?;
-    let spread = spread_arg(alloc, spreads);
-    divided.arg(spread)
+    let divided = with(made, main_arg(alloc));
+    with(divided, spread_arg(alloc, spreads))
 }
 
 /// A command with the options that say how a cache is set up.
 fn configured<'a>(
     alloc: Global,
-    command: Command<'a>,
+    made: Result<Command<'a>, AllocError>,
     spreads: &'a [&'a str],
 ) -> Result<Command<'a>, AllocError>
-    requires local { (out-Command command).has_globals ≡ false }
-    ensures shape { IfOk result (λ c. app_of c ≡ configured_app spreads.entry (app_of command.entry)) }
-    ensures local { IfOk result (λ c. (out-Command c).has_globals ≡ false) }
+    ensures { (app : App) → Makes app made.entry → Makes (configured_app spreads.entry app) result }
 {
-    let capacity = capacity_arg(alloc);
-    let sized = command.arg(capacity)?;
+    let sized = with(made, capacity_arg(alloc));
     divided(alloc, sized, spreads)
 }
 
 /// A command with the options of a concurrent cache and its journal.
-fn concurrent<'a>(alloc: Global, command: Command<'a>) -> Result<Command<'a>, AllocError>
-    requires local { (out-Command command).has_globals ≡ false }
-    ensures shape { IfOk result (λ c. app_of c ≡ concurrent_app (app_of command.entry)) }
-    ensures local { IfOk result (λ c. (out-Command c).has_globals ≡ false) }
+fn concurrent<'a>(
+    alloc: Global,
+    made: Result<Command<'a>, AllocError>,
+) -> Result<Command<'a>, AllocError>
+    ensures { (app : App) → Makes app made.entry → Makes (concurrent_app app) result }
 {
-    let stripes = stripes_arg(alloc);
-    let striped = command.arg(stripes)?;
-    let limit = limit_arg(alloc);
-    striped.arg(limit)
+    let striped = with(made, stripes_arg(alloc));
+    with(striped, limit_arg(alloc))
 }
 
 // A subcommand of this name, whose help has these texts.
-fn described<'a>(alloc: Global, name: &'a str, help: Help) -> Command<'a>
-    ensures shape { app_of result ≡ new_app name.entry.now }
-    ensures local { (out-Command result).has_globals ≡ false }
+fn described<'a>(alloc: Global, name: &'a str, help: Help) -> Result<Command<'a>, AllocError>
+    ensures { Makes (new_app name.entry.now) result }
 {
     let named = Command::new(alloc, name);
     let listed = named.about(help.about);
     let explained = listed.long_about(help.whole);
-    explained.after_help(help.example)
+    Ok(explained.after_help(help.example))
 }
 
 /// `run`, which prints a report for each policy that is named.
@@ -273,21 +279,17 @@ fn run_command<'a>(
     formats: &'a [&'a str],
     spreads: &'a [&'a str],
 ) -> Result<Command<'a>, AllocError>
-    ensures shape { IfOk result (λ c. app_of c ≡ run_app (record {
+    ensures { Makes (run_app (record {
       policies = policies.entry;
       formats = formats.entry;
       spreads = spreads.entry;
-    })) }
-    ensures local { IfOk result (λ c. (out-Command c).has_globals ≡ false) }
+    })) result }
 {
     let run = described(alloc, "run", RUN);
-    let configured = configured(alloc, run, spreads)?;
-    let format = format_arg(alloc, formats);
-    let formed = configured.arg(format)?;
-    let batch = batch_arg(alloc);
-    let batched = formed.arg(batch)?;
-    let policy = policy_arg(alloc, policies);
-    batched.arg(policy)
+    let configured = configured(alloc, run, spreads);
+    let formed = with(configured, format_arg(alloc, formats));
+    let batched = with(formed, batch_arg(alloc));
+    with(batched, policy_arg(alloc, policies))
 }
 
 /// `sweep`, which prints a report of each policy that is named at each capacity.
@@ -297,47 +299,40 @@ fn sweep_command<'a>(
     formats: &'a [&'a str],
     spreads: &'a [&'a str],
 ) -> Result<Command<'a>, AllocError>
-    ensures shape { IfOk result (λ c. app_of c ≡ sweep_app (record {
+    ensures { Makes (sweep_app (record {
       policies = policies.entry;
       formats = formats.entry;
       spreads = spreads.entry;
-    })) }
-    ensures local { IfOk result (λ c. (out-Command c).has_globals ≡ false) }
+    })) result }
 {
     let sweep = described(alloc, "sweep", SWEEP);
-    let divided = divided(alloc, sweep, spreads)?;
-    let format = format_arg(alloc, formats);
-    let formed = divided.arg(format)?;
-    let policy = policies_arg(alloc, policies);
-    let chosen = formed.arg(policy)?;
-    let capacities = capacities_arg(alloc);
-    chosen.arg(capacities)
+    let divided = divided(alloc, sweep, spreads);
+    let formed = with(divided, format_arg(alloc, formats));
+    let chosen = with(formed, policies_arg(alloc, policies));
+    with(chosen, capacities_arg(alloc))
 }
 
 /// A command with the options that name two policies, how both are set up, and the format of a
 /// trace.
 fn paired<'a>(
     alloc: Global,
-    command: Command<'a>,
+    made: Result<Command<'a>, AllocError>,
     policies: &'a [&'a str],
     formats: &'a [&'a str],
     spreads: &'a [&'a str],
 ) -> Result<Command<'a>, AllocError>
-    requires local { (out-Command command).has_globals ≡ false }
-    ensures shape { IfOk result (λ c. app_of c ≡ paired_app (record {
+    ensures { (app : App) → Makes app made.entry → Makes (paired_app (record {
       policies = policies.entry;
       formats = formats.entry;
       spreads = spreads.entry;
-    }) (app_of command.entry)) }
-    ensures local { IfOk result (λ c. (out-Command c).has_globals ≡ false) }
+    }) app) result }
 {
-    let configured = configured(alloc, command, spreads)?;
-    let format = format_arg(alloc, formats);
-    let formed = configured.arg(format)?;
+    let configured = configured(alloc, made, spreads);
+    let formed = with(configured, format_arg(alloc, formats));
     let first = one_policy_arg(alloc, "first", "The one policy", policies);
-    let one = formed.arg(first)?;
+    let one = with(formed, first);
     let second = one_policy_arg(alloc, "second", "The other policy", policies);
-    one.arg(second)
+    with(one, second)
 }
 
 /// `part`, which prints the first access at which just one of two policies hits.
@@ -347,12 +342,11 @@ fn part_command<'a>(
     formats: &'a [&'a str],
     spreads: &'a [&'a str],
 ) -> Result<Command<'a>, AllocError>
-    ensures shape { IfOk result (λ c. app_of c ≡ part_app (record {
+    ensures { Makes (part_app (record {
       policies = policies.entry;
       formats = formats.entry;
       spreads = spreads.entry;
-    })) }
-    ensures local { IfOk result (λ c. (out-Command c).has_globals ≡ false) }
+    })) result }
 {
     let part = described(alloc, "part", PART);
     paired(alloc, part, policies, formats, spreads)
@@ -365,36 +359,34 @@ fn debug_command<'a>(
     formats: &'a [&'a str],
     spreads: &'a [&'a str],
 ) -> Result<Command<'a>, AllocError>
-    ensures shape { IfOk result (λ c. app_of c ≡ debug_app (record {
+    ensures { Makes (debug_app (record {
       policies = policies.entry;
       formats = formats.entry;
       spreads = spreads.entry;
-    })) }
-    ensures local { IfOk result (λ c. (out-Command c).has_globals ≡ false) }
+    })) result }
 {
     let debug = described(alloc, "debug", DEBUG);
-    let paired = paired(alloc, debug, policies, formats, spreads)?;
+    let paired = paired(alloc, debug, policies, formats, spreads);
     let trace = file_arg(
         alloc,
         "trace",
         "The file of the trace, of at most 2^30 bytes",
     );
-    paired.arg(trace)
+    with(paired, trace)
 }
 
 /// `replay`, which answers commands about a journal.
 fn replay_command<'a>(alloc: Global, spreads: &'a [&'a str]) -> Result<Command<'a>, AllocError>
-    ensures shape { IfOk result (λ c. app_of c ≡ replay_app spreads.entry) }
-    ensures local { IfOk result (λ c. (out-Command c).has_globals ≡ false) }
+    ensures { Makes (replay_app spreads.entry) result }
 {
     let replay = described(alloc, "replay", REPLAY);
-    let configured = configured(alloc, replay, spreads)?;
+    let configured = configured(alloc, replay, spreads);
     let journal = file_arg(
         alloc,
         "journal",
         "The file of the journal, of at most 2^30 bytes",
     );
-    let recorded = configured.arg(journal)?;
+    let recorded = with(configured, journal);
     concurrent(alloc, recorded)
 }
 
@@ -404,16 +396,23 @@ fn drive_command<'a>(
     formats: &'a [&'a str],
     spreads: &'a [&'a str],
 ) -> Result<Command<'a>, AllocError>
-    ensures shape { IfOk result (λ c. app_of c ≡ drive_app formats.entry spreads.entry) }
-    ensures local { IfOk result (λ c. (out-Command c).has_globals ≡ false) }
+    ensures { Makes (drive_app formats.entry spreads.entry) result }
 {
     let drive = described(alloc, "drive", DRIVE);
-    let configured = configured(alloc, drive, spreads)?;
-    let format = format_arg(alloc, formats);
-    let formed = configured.arg(format)?;
-    let workers = workers_arg(alloc);
-    let manned = formed.arg(workers)?;
+    let configured = configured(alloc, drive, spreads);
+    let formed = with(configured, format_arg(alloc, formats));
+    let manned = with(formed, workers_arg(alloc));
     concurrent(alloc, manned)
+}
+
+// `cachesim` itself, which has a version and wants a subcommand.
+fn top_command<'a>(alloc: Global) -> Result<Command<'a>, AllocError>
+    ensures { Makes empty_app result }
+{
+    let named = Command::new(alloc, "cachesim");
+    let top = named.about("Simulates cache policies over recorded block traces");
+    let versioned = top.version("0.1.0");
+    Ok(versioned.subcommand_required(true))
 }
 
 // The command with a subcommand more, where memory sufficed for that.
@@ -421,13 +420,31 @@ fn added<'a>(
     command: Command<'a>,
     made: Result<Command<'a>, AllocError>,
 ) -> Result<Command<'a>, AllocError>
-    ensures { IfOk result (λ c. IsOkAnd made.entry (λ m. (out-Command m).has_globals ≡ false →
-        app_of c ≡ with_subcommand (app_of command.entry) (app_of m).top)) }
+    ensures { (app sub : App) → app_of command.entry ≡ app
+        → (out-Command command.entry).has_globals ≡ false → Makes sub made.entry
+        → Makes (with_subcommand app sub.top) result }
 {
     match made {
         Ok(subcommand) => command.subcommand(subcommand),
         Err(error) => {
             drop(command);
+            Err(error)
+        }
+    }
+}
+
+// The command that was made, with a subcommand more; or what failed.
+fn with_added<'a>(
+    made: Result<Command<'a>, AllocError>,
+    subcommand: Result<Command<'a>, AllocError>,
+) -> Result<Command<'a>, AllocError>
+    ensures { (app sub : App) → Makes app made.entry → Makes sub subcommand.entry
+        → Makes (with_subcommand app sub.top) result }
+{
+    match made {
+        Ok(command) => added(command, subcommand),
+        Err(error) => {
+            drop(subcommand);
             Err(error)
         }
     }
@@ -446,14 +463,11 @@ pub(crate) fn program<'a>(
       spreads = spreads.entry;
     })) }
 {
-    let named = Command::new(alloc, "cachesim");
-    let top = named.about("Simulates cache policies over recorded block traces");
-    let versioned = top.version("0.1.0");
-    let empty = versioned.subcommand_required(true);
-    let running = added(empty, run_command(alloc, policies, formats, spreads))?;
-    let sweeping = added(running, sweep_command(alloc, policies, formats, spreads))?;
-    let parting = added(sweeping, part_command(alloc, policies, formats, spreads))?;
-    let driving = added(parting, drive_command(alloc, formats, spreads))?;
-    let debugging = added(driving, debug_command(alloc, policies, formats, spreads))?;
-    added(debugging, replay_command(alloc, spreads))
+    let top = top_command(alloc);
+    let running = with_added(top, run_command(alloc, policies, formats, spreads));
+    let sweeping = with_added(running, sweep_command(alloc, policies, formats, spreads));
+    let parting = with_added(sweeping, part_command(alloc, policies, formats, spreads));
+    let driving = with_added(parting, drive_command(alloc, formats, spreads));
+    let debugging = with_added(driving, debug_command(alloc, policies, formats, spreads));
+    with_added(debugging, replay_command(alloc, spreads))
 }
