@@ -54,16 +54,16 @@ module _ {T E : Type 0} where
   pub pass_seat : (me : Me (Option T) (View T E)) (p : PassState T E) (table : TableId) (o : T) → me ≡ (pass_view p, []) → p.book ≡ book_id table o → IsPass me p.draws
   pass_seat me p table o is own = record { opening = o; part = part_of p; is = book_at me p table o is own; drawn_is = refl }
 
-module _ {T E O : Type 0} (origin : T → O) (entries : T → List E) (by : E → ℕ) where
+module _ {T E O : Type 0} (origin : T → O) (entries : T → List E) (by : E → ℕ) (undone : T → List E) where
   -- the pass in the seat me has taken a turn
   pub takes_of : (id id' : TableId) (me me1 me2 me3 : Me (Option T) (View T E)) (n drawn : ℕ) (o t taken : T) (p : PassState T E) → IsPassAt id me drawn → pass_in id me.0 drawn ≡ p → me.0.opening ≡ Some o → id' ≡ id
-      → Draws me n me1 → Comes origin entries by me1 n me2 → me2.1 ≡ (0, Some t) ∷ rest me2.1 → me3 ≡ (me2.0, (0, None) ∷ rest me2.1) → taken ≡ t
-      → IsTurnAt id' me3 (drawn + 1) taken × Takes origin entries by o p (turn_in id' me3.0 (drawn + 1) taken t)
+      → Draws me n me1 → Comes origin entries by undone me1 n me2 → me2.1 ≡ (0, Some t) ∷ rest me2.1 → me3 ≡ (me2.0, (0, None) ∷ rest me2.1) → taken ≡ t
+      → IsTurnAt id' me3 (drawn + 1) taken × Takes origin entries by undone o p (turn_in id' me3.0 (drawn + 1) taken t)
   takes_of id id' me me1 me2 me3 n drawn o t taken p at same begun ids x y found left kept =
       let q : PassState T E = pass_in id me.0 drawn in
-      let z = took_at origin entries by o 0 me me1 me2 me3 n o (part_of q) me.0.last t (is_pass id me drawn o at begun).is x y found left in
+      let z = took_at origin entries by undone o 0 me me1 me2 me3 n o (part_of q) me.0.last t (is_pass id me drawn o at begun).is x y found left in
       let s = z.1 in
-      let shows : Shows origin entries by o q t = record { same_origin = s.same_origin; last_first = s.last_first; news = s.news; list_is = s.list_is; own_is = s.own_is.0 } in (
+      let shows : Shows origin entries by undone o q t = record { same_origin = s.same_origin; last_first = s.last_first; news = s.news; list_is = s.list_is; undone_is = s.undone_is; own_is = s.own_is.0 } in (
         record {
           ticket = n;
           is = subst (λ (m : Me (Option T) (View T E)). m ≡ (turn_view (pass_in id' m.0 (drawn + 1)) n taken, (0, None) ∷ [])) (sym z.0)
@@ -74,23 +74,23 @@ module _ {T E O : Type 0} (origin : T → O) (entries : T → List E) (by : E �
               ∙ (λ i. record { book = record { table = ids i; opening = sym begun i }; worker = q.worker; own = q.own; last = q.last; draws = q.draws + 1 })
               ∙ ap (drawn_once {T = T} {E = E}) same;
           taken = kept;
-          shows = subst (λ (r : PassState T E). Shows origin entries by o r t) same shows;
+          shows = subst (λ (r : PassState T E). Shows origin entries by undone o r t) same shows;
         },
       )
 
   -- the turn in the seat me was given back
   pub gives_of : (id id' : TableId) (me put after : Me (Option T) (View T E)) (drawn n : ℕ) (o taken u : T) (t : TurnState T E) → (x : IsTurnAt id me drawn taken) → turn_in id me.0 drawn taken u ≡ t → (begun : me.0.opening ≡ Some o) → id' ≡ id
-      → put ≡ (me.0, (0, Some u) ∷ rest me.1) → Passed origin entries by (step 0 1 1 0 maybe.none) put n after
-      → IsPassAt id' after drawn × Gives origin entries by t (pass_in id' after.0 drawn)
+      → put ≡ (me.0, (0, Some u) ∷ rest me.1) → Passed origin entries by undone (step 0 1 1 0 maybe.none) put n after
+      → IsPassAt id' after drawn × Gives origin entries by undone t (pass_in id' after.0 drawn)
   gives_of id id' me put after drawn n o taken u t x same begun ids left told =
       let q : PassState T E = pass_in id me.0 drawn in
-      let y = passed_as origin entries by o 0 me put after drawn n u (is_turn id me drawn taken o x begun) left told in
-      let gives : Gives origin entries by (turn_in id me.0 drawn taken u) (pass_in id' after.0 drawn) = record {
+      let y = passed_as origin entries by undone o 0 me put after drawn n u (is_turn id me drawn taken o x begun) left told in
+      let gives : Gives origin entries by undone (turn_in id me.0 drawn taken u) (pass_in id' after.0 drawn) = record {
         made = y.0;
         adds = y.1;
         pass = ap (λ (m : Me (Option T) (View T E)). pass_in id' m.0 drawn) y.2
             ∙ (λ i. record { book = record { table = ids i; opening = sym begun i }; worker = q.worker; own = q.own ++ y.0; last = entries u; draws = drawn });
       } in (
         pass_at id' after drawn o (with_new y.0 (entries u) (part_of q)) (entries u) refl refl y.2,
-        subst (λ (r : TurnState T E). Gives origin entries by r (pass_in id' after.0 drawn)) same gives,
+        subst (λ (r : TurnState T E). Gives origin entries by undone r (pass_in id' after.0 drawn)) same gives,
       )

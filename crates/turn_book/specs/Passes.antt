@@ -1,5 +1,6 @@
 -- What callers see of a book, of a pass and of a turn, and what a book promises of them.
 use Rattle.std.specs.Prelude.{◌≡◌, ℕ, suc, ◌+◌, ◌≤◌, List, [], ◌∷◌, ◌++◌, length, Option, Some}
+use Rattle.step_record.specs.History.{tail_after}
 use Rattle.atomic_table.specs.Seated.{TableId}
 use Rattle.turn_book.specs.Turns.{Begins, Every, AddsInTurn, made_by}
 
@@ -56,14 +57,16 @@ module _ {T E : Type 0} where
   InOrder lo [] = Unit {0}
   InOrder lo (p ∷ ps) = (p.worker ≡ lo) × InOrder (suc lo) ps
 
-module _ {T E O : Type 0} (origin : T → O) (entries : T → List E) (by : E → ℕ) where
+module _ {T E O : Type 0} (origin : T → O) (entries : T → List E) (by : E → ℕ) (undone : T → List E) where
   -- What the turn of a pass shows: the value t has the origin of the opening value o. Its list begins with the one
-  -- that the pass gave last, and past the opening entries those of this worker are the pass's own.
+  -- that the pass gave last, and past the opening entries those of this worker are the pass's own. Its undone
+  -- entries are the opening's, or none once there is an entry past the opening ones.
   pub record Shows (o : T) (p : PassState T E) (t : T) : Type 0 where
     pub same_origin : origin t ≡ origin o
     pub last_first : Begins p.last (entries t)
     pub news : List E
     pub list_is : entries t ≡ entries o ++ news
+    pub undone_is : undone t ≡ tail_after news (undone o)
     pub own_is : made_by by p.worker news ≡ p.own
 
   -- the pass p has taken the turn t of a book that was opened with o
@@ -76,7 +79,7 @@ module _ {T E O : Type 0} (origin : T → O) (entries : T → List E) (by : E �
   -- list
   pub record Gives (t : TurnState T E) (p : PassState T E) : Type 0 where
     pub made : List E
-    pub adds : AddsInTurn origin entries by t.pass.worker t.taken t.value made
+    pub adds : AddsInTurn origin entries by undone t.pass.worker t.taken t.value made
     pub pass : p ≡ having_made made (entries t.value) t.pass
 
   -- of each worker from lo on, the entries among these are the own list of its pass
@@ -86,11 +89,13 @@ module _ {T E O : Type 0} (origin : T → O) (entries : T → List E) (by : E �
 
   -- What a book ends with, opened with o, from its passes: the value t has the opening origin. Past the opening
   -- entries those of worker w are the own list of the pass at place w, and no other worker has any. Its list begins
-  -- with the one that each pass gave last.
+  -- with the one that each pass gave last. Its undone entries are the opening's where no entry was made, and else
+  -- none.
   pub record Ends (o : T) (ps : List (PassState T E)) (t : T) : Type 0 where
     pub same_origin : origin t ≡ origin o
     pub news : List E
     pub list_is : entries t ≡ entries o ++ news
+    pub undone_is : undone t ≡ tail_after news (undone o)
     pub own_is : OwnAll 0 ps news
     pub last_is : Every (λ p. Begins p.last (entries t)) ps
     pub no_other : (w : ℕ) → length ps ≤ w → made_by by w news ≡ []

@@ -107,10 +107,11 @@ impl<T: Kept> TurnBook<T> {
     /// back as it was, and nothing else is an error.
     ///
     /// The value has the origin that it was opened with. Its entries begin with those that this pass gave last, and
-    /// past the opening ones those of this worker are the pass's own.
+    /// past the opening ones those of this worker are the pass's own. Its undone entries are the opening ones, or none
+    /// once there is an entry past the opening ones.
     pub fn take<R: Wait>(&self, rt: &R, pass: Pass<T>) -> Result<Turn<T>, Pass<T>>
         requires own { pass.book ≡ id_of self.now }
-        ensures took { IfOk result (λ t. Takes T.origin T.entries T.worker_of self.now.opening pass t) }
+        ensures took { IfOk result (λ t. Takes T.origin T.entries T.worker_of T.undone self.now.opening pass t) }
         ensures left { OnOk result (pass.draws < self.now.turns) }
         ensures spent { IfErr result (λ p. (p ≡ pass) × (self.now.turns ≤ p.draws)) }
     {
@@ -132,12 +133,13 @@ impl<T: Kept> TurnBook<T> {
     }
 
     /// Gives the turn back, and passes it on to the next ticket. The value has the origin that it had when it was
-    /// taken, and the same entries or one more, of this worker, at their end; the pass's own list gains just that.
+    /// taken, and the same entries or one more, of this worker, at their end; the pass's own list gains just that. The
+    /// undone entries are the same too, and with one more entry there are none.
     pub fn give(&self, turn: Turn<T>) -> Pass<T>
         requires own { turn.pass.book ≡ id_of self.now }
-        requires leaves { (made : List T.Entry) × AddsInTurn T.origin T.entries T.worker_of turn.pass.worker turn.taken
-            turn.value made }
-        ensures gave { Gives T.origin T.entries T.worker_of turn result }
+        requires leaves { (made : List T.Entry) × AddsInTurn T.origin T.entries T.worker_of T.undone turn.pass.worker
+            turn.taken turn.value made }
+        ensures gave { Gives T.origin T.entries T.worker_of T.undone turn result }
     {
         let Turn {
             mut seat,
@@ -155,12 +157,13 @@ impl<T: Kept> TurnBook<T> {
 
     /// The value at the end, from all of the book's passes in their order. It has the opening origin; past the
     /// opening entries those of worker `w` are the own list of the pass at place `w`, and no other worker has any;
-    /// and its entries begin with those that each pass gave last.
+    /// and its entries begin with those that each pass gave last. Where no entry was made its undone entries are the
+    /// opening ones, and else it has none.
     pub fn close(self, passes: Vec<Pass<T>>) -> T
         requires own { Every (λ p. p.book ≡ id_of self) passes.items }
         requires all { InOrder 0 passes.items × (length passes.items ≡ self.workers) }
         requires some { 0 < vec_len passes }
-        ensures { Ends T.origin T.entries T.worker_of self.opening passes.items result }
+        ensures { Ends T.origin T.entries T.worker_of T.undone self.opening passes.items result }
     {
         let TurnBook {
             table,
@@ -180,7 +183,7 @@ fn lay<T: Kept>(alloc: Global, value: T, workers: u8) -> Result<(Board<T>, Place
     ensures counts { IfOk result (λ r. (r.0.shared.table_id.words ≡ 2) × (r.0.shared.table_id.slots ≡ 1)
         × (r.0.shared.key.workers ≡ workers) × (r.0.shared.key.opening.value ≡ value)) }
     ensures seat { IfOk result (λ r. (r.1.table_id ≡ r.0.shared.table_id)
-        × (r.1.me ≡ (beginner T.origin T.entries T.worker_of value workers, []))) }
+        × (r.1.me ≡ (beginner T.origin T.entries T.worker_of T.undone value workers, []))) }
     ensures back { IfErr result (λ v. v ≡ value) }
 {
     let terms = Terms {
@@ -225,7 +228,7 @@ fn wait<T: Kept, R: Wait>(
     requires own { seat.old.table_id ≡ board.now.shared.table_id }
     requires waits { Waits seat.old.me ticket }
     ensures same { seat.new.table_id ≡ seat.old.table_id }
-    ensures came { Comes T.origin T.entries T.worker_of seat.old.me ticket seat.new.me }
+    ensures came { Comes T.origin T.entries T.worker_of T.undone seat.old.me ticket seat.new.me }
 {
     let mut looks: u32 = 0;
     for _ in rt.forever() {

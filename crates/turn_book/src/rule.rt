@@ -9,9 +9,9 @@ pub struct Turns;
 impl<T: Kept> TableRule<Option<T>, View<T, T::Entry>, Terms<T>> for Turns {
     ghost use Rattle.turn_book.specs.Turns.{InTurns, beginner};
 
-    ghost holds = { λ k. InTurns T.origin T.entries T.worker_of k.opening.value k.workers };
+    ghost holds = { λ k. InTurns T.origin T.entries T.worker_of T.undone k.opening.value k.workers };
 
-    ghost first = { λ k. beginner T.origin T.entries T.worker_of k.opening.value k.workers };
+    ghost first = { λ k. beginner T.origin T.entries T.worker_of T.undone k.opening.value k.workers };
 }
 
 /// A ticket is drawn.
@@ -20,7 +20,7 @@ pub struct Draw;
 impl<T: Kept> Play<Option<T>, View<T, T::Entry>> for Draw {
     ghost use Rattle.turn_book.specs.Turns.{Drew};
 
-    ghost then = { Drew T.origin T.entries T.worker_of };
+    ghost then = { Drew T.origin T.entries T.worker_of T.undone };
 }
 
 /// A seat with a ticket looks whether its turn has come.
@@ -29,7 +29,7 @@ pub struct Look;
 impl<T: Kept> Play<Option<T>, View<T, T::Entry>> for Look {
     ghost use Rattle.turn_book.specs.Turns.{Looked};
 
-    ghost then = { Looked T.origin T.entries T.worker_of };
+    ghost then = { Looked T.origin T.entries T.worker_of T.undone };
 }
 
 /// The turn is passed on to the next ticket.
@@ -38,7 +38,7 @@ pub struct PassOn;
 impl<T: Kept> Play<Option<T>, View<T, T::Entry>> for PassOn {
     ghost use Rattle.turn_book.specs.Turns.{Passed};
 
-    ghost then = { Passed T.origin T.entries T.worker_of };
+    ghost then = { Passed T.origin T.entries T.worker_of T.undone };
 }
 
 /// Seats are split and joined by the parts of the workers.

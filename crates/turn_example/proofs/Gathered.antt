@@ -18,6 +18,9 @@ name_of l = l.name
 abbrev lines_in : Log → List Line
 lines_in l = l.lines.items
 
+abbrev undone_in : Log → List Line
+undone_in l = []
+
 abbrev worker_of : Line → ℕ
 worker_of l = l.worker
 
@@ -55,7 +58,7 @@ module _ (b : BookId Log) (n : ℕ) where
   whole_at lo (p ∷ ps) (l ∷ ls) h zero lt = h.0.list ∙ ap (λ k. numbered k n) (omega arith)
   whole_at lo (p ∷ ps) (l ∷ ls) h (suc w) lt = whole_at (suc lo) ps ls h.1 w (omega arith) ∙ ap (λ k. numbered k n) (omega arith)
 
-  own_at : (lo : ℕ) (ps : List LogPass) (ls : List (Vec Line)) (news : List Line) → WroteAll b n lo ps ls → OwnAll name_of lines_in worker_of lo ps news
+  own_at : (lo : ℕ) (ps : List LogPass) (ls : List (Vec Line)) (news : List Line) → WroteAll b n lo ps ls → OwnAll name_of lines_in worker_of undone_in lo ps news
       → (w : ℕ) → w < length ps → lines_by (lo + w) news ≡ numbered (lo + w) n
   own_at lo [] ls news h o w lt = absurd (omega arith)
   own_at lo (p ∷ ps) [] news h o w lt = absurd h
@@ -65,10 +68,10 @@ module _ (b : BookId Log) (n : ℕ) where
   whole_from : (ps : List LogPass) (ls : List (Vec Line)) → WroteAll b n 0 ps ls → (w : ℕ) → w < length ps → get_or (map (λ l. vec_items l) ls) w [] ≡ numbered w n
   whole_from ps ls h w lt = whole_at 0 ps ls h w lt ∙ ap (λ k. numbered k n) (omega arith)
 
-  own_from : (ps : List LogPass) (ls : List (Vec Line)) (news : List Line) → WroteAll b n 0 ps ls → OwnAll name_of lines_in worker_of 0 ps news → (w : ℕ) → w < length ps → lines_by w news ≡ numbered w n
+  own_from : (ps : List LogPass) (ls : List (Vec Line)) (news : List Line) → WroteAll b n 0 ps ls → OwnAll name_of lines_in worker_of undone_in 0 ps news → (w : ℕ) → w < length ps → lines_by w news ≡ numbered w n
   own_from ps ls news h o w lt = subst (λ k. lines_by k news ≡ numbered k n) (let e : 0 + w ≡ w = omega arith in e) (own_at 0 ps ls news h o w lt)
 
-  pub written_of : (workers : ℕ) (ps : List LogPass) (ls : List (Vec Line)) (o t : Log) → length ps ≡ workers → WroteAll b n 0 ps ls → Ends name_of lines_in worker_of o ps t → IsWritten workers n o t (map (λ l. vec_items l) ls)
+  pub written_of : (workers : ℕ) (ps : List LogPass) (ls : List (Vec Line)) (o t : Log) → length ps ≡ workers → WroteAll b n 0 ps ls → Ends name_of lines_in worker_of undone_in o ps t → IsWritten workers n o t (map (λ l. vec_items l) ls)
   written_of workers ps ls o t same h ends =
       let many = as_many 0 ps ls h in
       let listed = length-map ls (λ l. vec_items l) in

@@ -16,7 +16,7 @@ pub struct Log {
 }
 
 impl Kept for Log {
-    ghost use Rattle.std.specs.Prelude.{ℕ};
+    ghost use Rattle.std.specs.Prelude.{ℕ, []};
 
     type Entry = Line;
 
@@ -25,6 +25,9 @@ impl Kept for Log {
     ghost origin = { λ l. l.name };
 
     ghost entries = { λ l. l.lines.items };
+
+    // A line that was written stays.
+    ghost undone = { λ _. [] };
 
     ghost worker_of = { λ e. e.worker };
 }

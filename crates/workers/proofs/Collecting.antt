@@ -84,7 +84,7 @@ made_at Q (d ∷ ds) lo h c (suc w) lt = subst (λ k. Q k (get_or (map refusal_o
 abbrev origin_of : ShellSession → Shell × ℕ
 origin_of s = (s.opening, s.limit)
 
-own_at : (ps : List ShellPass) (ls : List Entries) (lo : ℕ) (news : Entries) → map (λ p. p.own) ps ≡ ls → OwnAll origin_of (λ s. s.kept) (λ e. e.step.worker) lo ps news
+own_at : (ps : List ShellPass) (ls : List Entries) (lo : ℕ) (news : Entries) → map (λ p. p.own) ps ≡ ls → OwnAll origin_of (λ s. s.kept) (λ e. e.step.worker) (λ s. s.tail) lo ps news
     → (w : ℕ) → w < length ls → entries_of (lo + w) news ≡ get_or ls w []
 own_at [] [] lo news e h w lt = absurd (omega arith)
 own_at [] (l ∷ ls) lo news e h w lt = absurd (cc)
@@ -100,7 +100,7 @@ length_map f (x ∷ xs) = ap suc (length_map f xs)
 
 -- the run, where each worker made what is said of it and its refusal
 run_from : (Is : Option Cause → ℕ → List Call → Entries → Type 0) (pieces : List (List Call)) (o t : ShellSession) (ps : List ShellPass) (ds : List WorkerState) (lists : List Entries)
-    → Ends origin_of (λ s. s.kept) (λ e. e.step.worker) o ps t → map (λ p. p.own) ps ≡ map list_of ds → lists ≡ map list_of ds → AreNumbered 0 ds → length ds ≡ length pieces
+    → Ends origin_of (λ s. s.kept) (λ e. e.step.worker) (λ s. s.tail) o ps t → map (λ p. p.own) ps ≡ map list_of ds → lists ≡ map list_of ds → AreNumbered 0 ds → length ds ≡ length pieces
     → Every (λ d. Is d.refusal d.worker (get_or pieces d.worker []) d.list.items) ds → IsRun (λ w. Is (get_or (map refusal_of ds) w None) w) pieces o t lists
 run_from Is pieces o t ps ds lists ends owns listed counts same made =
     let many = length_map list_of ds in
@@ -112,6 +112,7 @@ run_from Is pieces o t ps ds lists ends owns listed counts same made =
       limit = ap (λ p. p.1) ends.same_origin;
       news = ends.news;
       entered = ends.list_is;
+      tail = ends.undone_is;
       as_many = omega arith;
       own = λ w lt. ap (λ k. entries_of k ends.news) (let z : w ≡ 0 + w = omega arith in z) ∙ own_at ps (map list_of ds) 0 ends.news owns ends.own_is w (omega arith) ∙ ap (λ ls. get_or ls w []) (sym listed);
       made = λ w lt. (
@@ -124,7 +125,7 @@ run_from Is pieces o t ps ds lists ends owns listed counts same made =
 
 -- the run up to the steps that workers were refused
 pub run_up_to : (n : ℕ) (cause : Option Cause) (pieces : List (List Call)) (o t : ShellSession) (ps : List ShellPass) (ds : List WorkerState) (lists : List Entries)
-    → Ends origin_of (λ s. s.kept) (λ e. e.step.worker) o ps t → length t.kept ≤ t.limit
+    → Ends origin_of (λ s. s.kept) (λ e. e.step.worker) (λ s. s.tail) o ps t → length t.kept ≤ t.limit
     → map (λ p. Some p) ps ≡ map (λ d. d.pass) ds → map (λ p. p.own) ps ≡ map list_of ds → lists ≡ map list_of ds → AreNumbered 0 ds → length ds ≡ length pieces
     → Every (HasWorked n o.limit (λ w. get_or pieces w [])) ds → cause ≡ first_cause (map refusal_of ds) → IsRunUpTo cause n pieces o t lists
 run_up_to n cause pieces o t ps ds lists ends room passes owns listed counts same worked first =

@@ -35,6 +35,7 @@ module _ {E D : Type 0} where
     limit = h.run.limit;
     news = h.run.news;
     entered = h.run.entered;
+    tail = h.run.tail;
     as_many = h.run.as_many;
     own = h.run.own;
     made = λ w lt. subst (λ r. AreWalksUpTo r n w (get_or ps w []) (get_or ls w [])) (none_refused h.refusals (sym h.first ∙ none) w) (h.run.made w lt);

@@ -16,13 +16,13 @@ use Rattle.workers.specs.declared.run.Cause.TheVariants as cause
 use Rattle.turn_book.specs.Turns.{AddsInTurn, made_by}
 use Rattle.turn_book.specs.Passes.{TurnState, PassState, Gives}
 
-module _ {T E O : Type 0} (origin : T → O) (entries : T → List E) (by : E → ℕ) where
+module _ {T E O : Type 0} (origin : T → O) (entries : T → List E) (by : E → ℕ) (undone : T → List E) where
   -- a turn that made no entry
-  pub leaves_same : (w : ℕ) (t u : T) → origin u ≡ origin t → entries u ≡ entries t ++ [] → (es : List E) × AddsInTurn origin entries by w t u es
-  leaves_same w t u o l = ([], record { same_origin = o; list_is = l; one = inl refl })
+  pub leaves_same : (w : ℕ) (t u : T) → origin u ≡ origin t → entries u ≡ entries t ++ [] → undone u ≡ undone t → (es : List E) × AddsInTurn origin entries by undone w t u es
+  leaves_same w t u o l d = ([], record { same_origin = o; list_is = l; undone_is = d; one = inl refl })
 
   -- what the own list gained is what the value gained
-  pub gained : (t : TurnState T E) (p : PassState T E) (es : List E) → Gives origin entries by t p → entries t.value ≡ entries t.taken ++ es → p.own ≡ t.pass.own ++ es
+  pub gained : (t : TurnState T E) (p : PassState T E) (es : List E) → Gives origin entries by undone t p → entries t.value ≡ entries t.taken ++ es → p.own ≡ t.pass.own ++ es
   gained t p es g l = ap (λ (q : PassState T E). q.own) g.pass ∙ ap (λ x. t.pass.own ++ x) (append_cancel_left (entries t.taken) g.made es (sym g.adds.list_is ∙ l))
 
 pub at_ok : {T F : Type 0} (r : Result T F) (P : T → Type 0) (Q : F → Type 0) (x : T) → r ≡ Ok x → MatchResult r P Q → P x

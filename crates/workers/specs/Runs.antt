@@ -3,7 +3,7 @@ use Rattle.std.specs.Prelude.{◌≡◌, ℕ, ◌<◌, ◌≤◌, List, [], ◌�
 use Rattle.step_record.specs.declared.step.Call.{Call}
 use Rattle.step_record.specs.declared.step.Reply.{Reply}
 use Rattle.step_record.specs.declared.step.Step.{Step}
-use Rattle.step_record.specs.History.{Entries}
+use Rattle.step_record.specs.History.{Entries, tail_after}
 use Rattle.journal.specs.Session.{SessionState}
 use Rattle.walks.specs.Walks.{AreWalks}
 use Rattle.walks.specs.Made.{entries_of, IsUnfinished}
@@ -11,7 +11,8 @@ use Rattle.workers.specs.declared.run.Cause.{Cause}
 use Rattle.workers.specs.declared.run.Cause.TheVariants.{JournalFull}
 
 -- Past the old entries, the new session has those that the workers made: those of worker w are just its own list, in
--- order, which is as IsMade says for its calls; and nobody else made any.
+-- order, which is as IsMade says for its calls; and nobody else made any. What was left to redo is left where no step
+-- was made, and else nothing is.
 pub record IsRun {E D : Type 0} (IsMade : ℕ → List Call → Entries → Type 0) (pieces : List (List Call))
     (old new : SessionState E D Step Reply)
     (lists : List Entries) : Type 0 where
@@ -19,6 +20,7 @@ pub record IsRun {E D : Type 0} (IsMade : ℕ → List Call → Entries → Type
   pub limit : new.limit ≡ old.limit
   pub news : Entries
   pub entered : new.kept ≡ old.kept ++ news
+  pub tail : new.tail ≡ tail_after news old.tail
   pub as_many : length lists ≡ length pieces
   pub own : (w : ℕ) → w < length pieces → entries_of w news ≡ get_or lists w []
   pub made : (w : ℕ) → w < length pieces → IsMade w (get_or pieces w []) (get_or lists w [])

@@ -65,8 +65,8 @@ pub enum DriveFault {
 }
 
 /// Workers, each on a thread of its own where one can be made, make the walks of their calls: worker `w` those of piece
-/// `w`, in order. Each step is made in a turn of its own, so the session has one list of steps; the gate is called
-/// around each call of a worker, without a turn.
+/// `w`, in order. Each step is made in a turn of its own, so the session has one list of steps, and once a step was
+/// made nothing is left to redo; the gate is called around each call of a worker, without a turn.
 ///
 /// The faults are looked for in the order in which [`DriveFault`] has them.
 pub fn drive<G: Gate, R: Threads + Wait + Sync>(
@@ -76,7 +76,8 @@ pub fn drive<G: Gate, R: Threads + Wait + Sync>(
     pieces: Vec<Vec<Call>>,
     gate: &G,
 ) -> Result<Driven, DriveFault>
-    // Past the old entries, those of each worker are its list: one walk for each of its calls, in order.
+    // Past the old entries, those of each worker are its list: one walk for each of its calls, in order. What was left
+    // to redo is left where no step was made, and else nothing is.
     ensures run { IfOk result (λ d. IsRun (λ w. AreWalks w session.engine.config.stripes)
         (map (λ p. p.items) pieces.items) session d.session (map (λ l. l.items) d.lists.items)) }
     ensures legal { IfOk result (λ d. IsLegal act d.session.opening d.session.kept) }

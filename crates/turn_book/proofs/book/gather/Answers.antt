@@ -27,7 +27,7 @@ join_seat-requires g c =
     let k = c.args.board.now.shared.key in
     let own = every_less _ _ _ _ c.in-Some.ensures.items i.own in
     let s = c.seat_of-other.ensures in
-    (i.same, s.same ∙ ap (λ b. b.table) own.1, ap (λ m. m.1) s.seat, omega arith, joins_as g.T.Kept.origin g.T.Kept.entries g.T.Kept.worker_of k.opening.value k.workers _ _ _ _ _ _ _ p.draws i.rests.is (pass_seat _ p _ _ s.seat own.1))
+    (i.same, s.same ∙ ap (λ b. b.table) own.1, ap (λ m. m.1) s.seat, omega arith, joins_as g.T.Kept.origin g.T.Kept.entries g.T.Kept.worker_of g.T.Kept.undone k.opening.value k.workers _ _ _ _ _ _ _ p.draws i.rests.is (pass_seat _ p _ _ s.seat own.1))
 
 pub loop-pass-preserved : goal.loop-pass-preserved
 loop-pass-preserved g c =

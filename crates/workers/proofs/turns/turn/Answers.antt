@@ -14,22 +14,23 @@ pub returns-in-Ok-step-clause-own : goal.returns-in-Ok-step-clause-own
 returns-in-Ok-step-clause-own g c =
     let took = c.in-Ok.ensures.took in
     let v = c.value.ensures.value ∙ sym took.taken in
-    gained _ _ _ _ _ _ c.give.ensures.gave (c.in-Ok-step.ensures.ok ∙ ap (λ s. s.kept ++ record { step = c.args.step; reply = c.in-Ok-step.reply } ∷ []) v)
+    gained _ _ _ _ _ _ _ c.give.ensures.gave (c.in-Ok-step.ensures.ok ∙ ap (λ s. s.kept ++ record { step = c.args.step; reply = c.in-Ok-step.reply } ∷ []) v)
     ∙ ap (λ p. p.own ++ record { step = c.args.step; reply = c.in-Ok-step.reply } ∷ []) took.pass
 
 pub give-requires-in-Err-step-clause-leaves : goal.give-requires-in-Err-step-clause-leaves
 give-requires-in-Err-step-clause-leaves g c =
     let v = c.value.ensures.value ∙ sym c.in-Ok.ensures.took.taken in
     let same = c.in-Err-step.ensures.err in
-    leaves_same _ _ _ _ _ _
+    leaves_same _ _ _ _ _ _ _
     (λ i. ((same.opening ∙ ap (λ s. s.opening) v) i, (same.limit ∙ ap (λ s. s.limit) v) i))
     (same.kept ∙ ap (λ s. s.kept) v ∙ sym (append-nil _))
+    (same.tail ∙ ap (λ s. s.tail) v)
 
 pub returns-in-Err-step-clause-own : goal.returns-in-Err-step-clause-own
 returns-in-Err-step-clause-own g c =
     let took = c.in-Ok.ensures.took in
     let v = c.value.ensures.value ∙ sym took.taken in
-    gained _ _ _ _ _ [] c.give-in-Err-step.ensures.gave (c.in-Err-step.ensures.err.kept ∙ ap (λ s. s.kept) v ∙ sym (append-nil _)) ∙ append-nil _ ∙ ap (λ p. p.own) took.pass
+    gained _ _ _ _ _ _ [] c.give-in-Err-step.ensures.gave (c.in-Err-step.ensures.err.kept ∙ ap (λ s. s.kept) v ∙ sym (append-nil _)) ∙ append-nil _ ∙ ap (λ p. p.own) took.pass
 
 pub returns-in-Err-step-clause-full : goal.returns-in-Err-step-clause-full
 returns-in-Err-step-clause-full g c = λ e.
@@ -55,7 +56,7 @@ returns-in-Ok-step-clause-within g c =
     let v = c.value.ensures.value ∙ sym took.taken in
     let value = ap (λ s. s.kept) c.value.ensures.value in
     let e : Entry Step Reply = record { step = c.args.step; reply = c.in-Ok-step.reply } in
-    let own = gained _ _ _ _ _ _ gave (c.in-Ok-step.ensures.ok ∙ ap (λ s. s.kept ++ e ∷ []) v) ∙ ap (λ p. p.own ++ e ∷ []) took.pass in
+    let own = gained _ _ _ _ _ _ _ gave (c.in-Ok-step.ensures.ok ∙ ap (λ s. s.kept ++ e ∷ []) v) ∙ ap (λ p. p.own ++ e ∷ []) took.pass in
     let draws = ap (λ p. p.draws) gave.pass ∙ ap (λ p. p.draws) took.pass in
     let last = ap (λ p. length p.last) gave.pass in
     let seen = last ∙ ap length c.in-Ok-step.ensures.ok in
