@@ -29,18 +29,24 @@ fn answer(cache: &mut Clairvoyant, key: Key) -> Option<Outcome> {
     }
 }
 
+// Makes accesses in turn, and sees their outcomes.
+fn assert_outcomes(rt: &impl Abort, cache: &mut Clairvoyant, wanted: &[(Key, Outcome)]) {
+    for (key, outcome) in wanted {
+        assert_eq!(rt; answer(cache, *key), Some(*outcome), "of {key}");
+    }
+}
+
 #[test]
 fn the_key_whose_next_use_is_farthest_leaves(rt: HostRuntime) -> Result<(), Fail> {
     let mut cache = opened(rt.alloc(), &[1, 2, 3, 1, 2], 2)?;
-    for (key, outcome) in [
+    let wanted = [
         (1, Outcome::Kept),
         (2, Outcome::Kept),
         (3, Outcome::Rejected(3)),
         (1, Outcome::Hit),
         (2, Outcome::Hit),
-    ] {
-        assert_eq!(rt; answer(&mut cache, key), Some(outcome));
-    }
+    ];
+    assert_outcomes(&rt, &mut cache, &wanted);
     assert_eq!(rt; cache.apply(&1).err(), Some(StepFault::NotNow));
     assert_eq!(rt;
         cache.stats(),
@@ -60,14 +66,13 @@ fn of_keys_never_used_again_the_one_accessed_first_leaves(rt: HostRuntime) -> Re
     let mut cache = opened(rt.alloc(), &[1, 2, 3, 4], 2)?;
     assert_eq!(rt; cache.apply(&2).err(), Some(StepFault::NotNow));
     assert_eq!(rt; cache.standing(), 0);
-    for (key, outcome) in [
+    let wanted = [
         (1, Outcome::Kept),
         (2, Outcome::Kept),
         (3, Outcome::Evicted(1)),
         (4, Outcome::Evicted(2)),
-    ] {
-        assert_eq!(rt; answer(&mut cache, key), Some(outcome));
-    }
+    ];
+    assert_outcomes(&rt, &mut cache, &wanted);
     Ok(())
 }
 
@@ -114,16 +119,18 @@ fn evict_and_undo(rt: &impl Abort, cache: &mut Clairvoyant, key: Key) {
     }
 }
 
+fn assert_made_again(rt: &impl Abort, cache: &mut Clairvoyant) {
+    assert_outcomes(rt, cache, &[(1, Outcome::Kept), (2, Outcome::Kept)]);
+    let before = cache.stats();
+    evict_and_undo(rt, cache, 3);
+    assert_eq!(rt; cache.stats(), before);
+    assert_outcomes(rt, cache, &[(3, Outcome::Evicted(1))]);
+}
+
 #[test]
 fn an_undone_access_is_made_again(rt: HostRuntime) -> Result<(), Fail> {
     let mut cache = opened(rt.alloc(), &[1, 2, 3, 4], 2)?;
-    for key in [1, 2] {
-        assert_eq!(rt; answer(&mut cache, key), Some(Outcome::Kept));
-    }
-    let before = cache.stats();
-    evict_and_undo(&rt, &mut cache, 3);
-    assert_eq!(rt; cache.stats(), before);
-    assert_eq!(rt; answer(&mut cache, 3), Some(Outcome::Evicted(1)));
+    assert_made_again(&rt, &mut cache);
     Ok(())
 }
 
@@ -359,37 +366,63 @@ fn held_by(
     }
 }
 
-// Makes an access, and compares its outcome and the residents behind it.
-fn assert_after(
+// Sees the residents.
+fn assert_held(
+    rt: &impl Abort,
+    refused: &mut u32,
+    alloc: Global,
+    cache: &Clairvoyant,
+    wanted: &[Key],
+) -> Result<(), AllocError> {
+    let residents = held_by(rt, refused, alloc, cache)?;
+    assert_eq!(rt; residents.as_slice(), wanted);
+    Ok(())
+}
+
+// The accesses that are made, their outcomes, and the residents behind each.
+const WANTED: [(Key, Outcome, &[Key]); 5] = [
+    (1, Outcome::Kept, &[1]),
+    (Key::MAX, Outcome::Kept, &[1, Key::MAX]),
+    (3, Outcome::Rejected(3), &[1, Key::MAX]),
+    (1, Outcome::Hit, &[1, Key::MAX]),
+    (Key::MAX, Outcome::Hit, &[1, Key::MAX]),
+];
+
+fn assert_all_after(
     rt: &impl Abort,
     refused: &mut u32,
     alloc: Global,
     cache: &mut Clairvoyant,
-    wanted: (Key, Outcome, &[Key]),
 ) -> Result<(), AllocError> {
-    let (key, outcome, after) = wanted;
-    assert_eq!(rt; answer(cache, key), Some(outcome));
-    let residents = held_by(rt, refused, alloc, cache)?;
-    assert_eq!(rt; residents.as_slice(), after);
+    for (key, outcome, after) in WANTED {
+        assert_eq!(rt; answer(cache, key), Some(outcome));
+        assert_held(rt, refused, alloc, cache, after)?;
+    }
     Ok(())
 }
 
-// An access asks for no memory, and one refused allocation changes no answer. One key is too large for 4 bytes.
+// The trace of these accesses. One key is too large for 4 bytes.
+fn short_trace(rt: &impl Abort, alloc: Global) -> Result<Trace, Fail> {
+    let keys = Vec::from_slice(alloc, &[1, Key::MAX, 3, 1, Key::MAX])?;
+    assert!(rt; keys.len() == 5);
+    Ok(Trace::new(keys))
+}
+
+fn opened_for_short_trace(
+    rt: &impl Abort,
+    refused: &mut u32,
+    alloc: Global,
+) -> Result<Clairvoyant, Fail> {
+    let trace = short_trace(rt, alloc)?;
+    let cache = opened_again(rt, refused, alloc, &trace)?;
+    Ok(cache)
+}
+
+// An access asks for no memory, and one refused allocation changes no answer.
 #[test]
 fn a_refusal_of_memory_changes_no_answer(rt: HostRuntime) -> Result<(), Fail> {
-    let keys = Vec::from_slice(rt.alloc(), &[1, Key::MAX, 3, 1, Key::MAX])?;
-    assert!(rt; keys.len() == 5);
-    let trace = Trace::new(keys);
     let mut refused = 0;
-    let mut cache = opened_again(&rt, &mut refused, rt.alloc(), &trace)?;
-    for wanted in [
-        (1, Outcome::Kept, &[1][..]),
-        (Key::MAX, Outcome::Kept, &[1, Key::MAX][..]),
-        (3, Outcome::Rejected(3), &[1, Key::MAX][..]),
-        (1, Outcome::Hit, &[1, Key::MAX][..]),
-        (Key::MAX, Outcome::Hit, &[1, Key::MAX][..]),
-    ] {
-        assert_after(&rt, &mut refused, rt.alloc(), &mut cache, wanted)?;
-    }
+    let mut cache = opened_for_short_trace(&rt, &mut refused, rt.alloc())?;
+    assert_all_after(&rt, &mut refused, rt.alloc(), &mut cache)?;
     Ok(())
 }

@@ -12,6 +12,3 @@ mod summary;
 pub use fault::WriteFault;
 pub use rows::write_reports;
 pub use summary::Report;
-
-#[cfg(test)]
-mod tests;

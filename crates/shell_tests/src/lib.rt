@@ -1,13 +1,17 @@
-//! Tests that need the concurrent cache and the crates above it at once: sessions over a `Shell`,
-//! made by hand, undone, redone, written as text and read back.
+//! Tests of sessions: over an engine that is refused memory at calls that are set by number, and over a `Shell`, made by
+//! hand, undone, redone, written as text and read back.
 #![tactic(auto)]
 
 #[cfg(test)]
 mod copy_tests;
 #[cfg(test)]
+mod counter;
+#[cfg(test)]
 mod ends;
 #[cfg(test)]
 mod ends_tests;
+#[cfg(test)]
+mod journal_tests;
 #[cfg(test)]
 mod random_walks;
 #[cfg(test)]

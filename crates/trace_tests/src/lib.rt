@@ -1,5 +1,10 @@
-//! Tests of reading traces. They stand in a crate of their own so that the gate proves `trace_read` once.
+//! Tests of reads and writes piece by piece, of reading traces, and of reports. They stand in a crate of their own so that
+//! the gate proves `streams`, `trace_read` and `report` once.
 #![tactic(auto)]
 
+#[cfg(test)]
+mod report_tests;
+#[cfg(test)]
+mod streams_tests;
 #[cfg(test)]
 mod trace_read_tests;

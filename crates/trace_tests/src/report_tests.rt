@@ -1,4 +1,5 @@
-use super::{Report, WriteFault, write_reports};
+//! Reports as text, into writers that are interrupted or fail.
+use report::{Report, WriteFault, write_reports};
 use std::io::{Error, ErrorKind, Result, Write};
 use std::test::Fail;
 use step_record::Policy;
