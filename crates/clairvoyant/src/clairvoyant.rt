@@ -164,6 +164,9 @@ impl Engine for Clairvoyant {
 
     ghost undone = { clairvoyant_undone };
 
+    // Undoing takes no memory.
+    ghost asks = { λ r. ⊥ };
+
     ghost count = { λ d. d.stats.accesses };
 
     ghost words_of = { λ r. 0 };
@@ -206,8 +209,8 @@ impl Engine for Clairvoyant {
         ensures ok { OnOk result (self.new ≡ clairvoyant_undone done self.old) }
         ensures err { OnErr result (self.new ≡ self.old) }
         ensures returned { IfErr result (λ r. r ≡ done) }
-        // Undoing asks for no memory.
-        ensures never_refused { result ≡ Ok tt }
+        // Undoing is never refused.
+        ensures asks { OnErr result ⊥ }
     {
         let place = (self.stats.accesses - 1) as usize;
         self.core.unserve(&mut self.ranks, place, done);

@@ -166,7 +166,7 @@ impl Shell {
 
 impl Engine for Shell {
     ghost use Rattle.shell_model.specs.Shell.{act};
-    ghost use Rattle.shell_model.specs.Records.{undone_step, record_size};
+    ghost use Rattle.shell_model.specs.Records.{undone_step, step_asks, record_size};
     ghost use Rattle.shell_model.specs.Reached.{ShellFits};
     ghost use Rattle.admission.specs.Frequency.{pace_of};
     ghost use Rattle.shell_model.proofs.Engines.{act_counts, act_ends, act_paced};
@@ -186,6 +186,8 @@ impl Engine for Shell {
     ghost fits = { ShellFits };
 
     ghost undone = { undone_step };
+
+    ghost asks = { step_asks };
 
     ghost count = { λ x. x.applied };
 

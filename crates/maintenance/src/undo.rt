@@ -1,8 +1,9 @@
 //! Undoing one step.
-ghost use Rattle.std.specs.Prelude.{◌≡◌, ◌<◌, Some, None, IfErr, OnOk, OnErr};
+ghost use Rattle.std.specs.Prelude.{◌≡◌, ◌≢◌, ◌<◌, Some, None, IfErr, OnOk, OnErr};
 ghost use Rattle.replacement.specs.Moving.{undone_by, FitsBy};
 ghost use Rattle.shell_model.specs.Records.{before_use, FitsTouched, rephased, refilled, HasLeft};
 ghost use Rattle.shell_model.specs.Records.{before_change, FitsChange, undone_step, FitsStep};
+ghost use Rattle.shell_model.specs.Records.{change_asks, step_asks};
 ghost use Rattle.shell_model.specs.Consistent.{IsLeft};
 ghost use Rattle.shell_model.specs.declared.record.Change.TheVariants.{Nothing, Offered, Updated, Added, Removed, Read};
 ghost use Rattle.shell_model.specs.declared.record.Change.TheVariants.{Applied, Cleared, Evicted, Ended};
@@ -59,6 +60,7 @@ impl Core {
         requires { FitsBy out self.old.queues }
         ensures ok { OnOk result (self.new ≡ record self.old { queues = undone_by out self.old.queues }) }
         ensures err { OnErr result (self.new ≡ self.old) }
+        ensures asks { OnErr result (out ≢ None) }
     {
         let Some(out) = out else {
             return Ok(());
@@ -127,6 +129,7 @@ impl Core {
         requires { FitsChange (Cleared before item out) self.old }
         ensures ok { OnOk result (self.new ≡ before_change (Cleared before item out) self.old) }
         ensures err { OnErr result (self.new ≡ self.old) }
+        ensures asks { OnErr result (out ≢ None) }
     {
         self.unclear(out)?;
         self.writes.untake(Task::Remove(item));
@@ -138,6 +141,7 @@ impl Core {
         requires { FitsChange (Evicted before eviction) self.old }
         ensures ok { OnOk result (self.new ≡ before_change (Evicted before eviction) self.old) }
         ensures err { OnErr result (self.new ≡ self.old) }
+        ensures asks { OnErr result (eviction.moves.out ≢ None) }
     {
         let EvictionRecord { moves, listed } = eviction;
         if let Some(out) = moves.out {
@@ -159,6 +163,7 @@ impl Core {
         ensures ok { OnOk result (self.new ≡ before_change change self.old) }
         ensures err { OnErr result (self.new ≡ self.old) }
         ensures returned { IfErr result (λ c. c ≡ change) }
+        ensures asks { OnErr result (change_asks change) }
     {
         match change {
             Change::Nothing => {}
@@ -207,6 +212,7 @@ impl Core {
         ensures ok { OnOk result (self.new ≡ undone_step made self.old) }
         ensures err { OnErr result (self.new ≡ self.old) }
         ensures returned { IfErr result (λ r. r ≡ made) }
+        ensures asks { OnErr result (step_asks made) }
     {
         let ShellRecord { reply, change } = made;
         match self.undo_change(change) {

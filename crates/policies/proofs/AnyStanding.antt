@@ -143,5 +143,5 @@ any_answers law j trace keys rest k (Optimal d) o e x t s h =
 pub any_hits_keep_all : AnyHitsKeepAll
 any_hits_keep_all (Queues d) k e h =
     let q : IsQueueStep (queue_act d k) Hit e = queue_step (queue_act d k) Hit e h in
-    hits_keep_all d k q.next q.steps
-any_hits_keep_all (Optimal d) k e h = tt
+    λ asks. asks (hits_keep_all d k q.next q.steps)
+any_hits_keep_all (Optimal d) k e h = λ asks. asks

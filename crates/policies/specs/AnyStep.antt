@@ -1,6 +1,6 @@
 -- How one access changes what a cache of any policy shows, and how its undo record undoes it: by the policy's own
 -- engine.
-use Rattle.std.specs.Prelude.{◌≡◌, ℕ, Option, Some, None}
+use Rattle.std.specs.Prelude.{ℕ, Option, Some, None}
 use Rattle.step_record.specs.declared.outcome.Outcome.{Outcome}
 use Rattle.step_record.specs.Pace.{Pace, still}
 use Rattle.clairvoyant.specs.Clairvoyant.{ClairvoyantState, clairvoyant_act}
@@ -10,7 +10,8 @@ use Rattle.policies.specs.declared.any_policy.AnyPolicy.TheVariants.{Queues, Opt
 use Rattle.policies.specs.declared.any_policy.AnyRecord.{AnyRecord}
 use Rattle.policies.specs.declared.any_policy.AnyRecord.TheVariants as done
 use Rattle.policies.specs.QueueCache.{QueueState}
-use Rattle.policies.specs.QueueStep.{queue_act, queue_record_of, queue_undone, QueueFits, queue_words, queue_pace}
+use Rattle.policies.specs.QueueStep.{queue_act, queue_record_of, queue_undone, queue_asks, QueueFits}
+use Rattle.policies.specs.QueueStep.{queue_words, queue_pace}
 
 abbrev pub as_queues : Option (Outcome × QueueState) → Option (Outcome × AnyPolicy)
 as_queues None = None
@@ -47,10 +48,10 @@ AnyFits (done.Optimal r) (Optimal d) = ClairvoyantFits r d
 AnyFits (done.Queues r) (Optimal d) = ⊥
 AnyFits (done.Optimal r) (Queues d) = ⊥
 
--- undoing the step asks for no room, since no item left the queues in it
-abbrev pub NeedsNoRoom : AnyRecord → Type 0
-NeedsNoRoom (done.Queues r) = r.moves.out ≡ None
-NeedsNoRoom (done.Optimal r) = Unit {0}
+-- undoing the step takes memory: an item left the queues in it
+abbrev pub any_asks : AnyRecord → Type 0
+any_asks (done.Queues r) = queue_asks r
+any_asks (done.Optimal r) = ⊥
 
 abbrev pub any_words : AnyRecord → ℕ
 any_words (done.Queues r) = queue_words r

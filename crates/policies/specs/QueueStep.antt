@@ -1,5 +1,5 @@
 -- How one access changes what a cache of queues shows, its undo record, and how the record undoes it.
-use Rattle.std.specs.Prelude.{ℕ, ◌≤◌, ◌==◌, if◌then◌else◌, Option, Some, None, List, length}
+use Rattle.std.specs.Prelude.{◌≢◌, ℕ, ◌≤◌, ◌==◌, if◌then◌else◌, Option, Some, None, List, length}
 use Rattle.step_record.specs.declared.limits.TheConstants.{MAX_STEPS}
 use Rattle.step_record.specs.declared.outcome.Outcome.{Outcome}
 use Rattle.step_record.specs.Stats.{uncounted, IsCounted}
@@ -83,6 +83,10 @@ pub record QueueFits (r : AccessRecord) (d : QueueState) : Type 0 where
   pub moves : FitsMoves r.moves d.queues
   pub counting : FitsCounting r.counting d.frequency
   pub reached : IsReached (queue_undone r d)
+
+-- undoing the access takes memory: an item left in it, which comes back
+abbrev pub queue_asks : AccessRecord → Type 0
+queue_asks r = r.moves.out ≢ None
 
 -- ---- its words, and how the frequency ages
 

@@ -13,7 +13,7 @@ use Rattle.policies.specs.QueueCache.{QueueState, access_response, state_after, 
 use Rattle.policies.specs.QueueCache.{StandsFor}
 use Rattle.policies.specs.QueueStep.{recorded_in, queue_act, queue_record_of, IsReached}
 use Rattle.policies.specs.AnyPolicy.{Stands, stats_in, stats_on, outcomes_on}
-use Rattle.policies.specs.AnyStep.{any_act, any_record_of, NeedsNoRoom}
+use Rattle.policies.specs.AnyStep.{any_act, any_record_of, any_asks}
 
 -- For a cache of queues that made some accesses, an accepted step answers the outcome that the definition gives after
 -- all of them, and leaves a cache that made one access more.
@@ -77,6 +77,7 @@ AnyAnswers = (j : Job) (trace keys rest : List ℕ) (k : ℕ) (d : AnyPolicy) (o
 abbrev pub AnyCoversTrace : Type 0
 AnyCoversTrace = (j : Job) (trace : List ℕ) → length (outcomes_on j trace) ≡ length trace
 
--- Undoing a hit of a cache of any policy asks for no room.
+-- Undoing a hit of a cache of any policy takes no memory.
 abbrev pub AnyHitsKeepAll : Type 0
-AnyHitsKeepAll = (d : AnyPolicy) (k : ℕ) (e : AnyPolicy) → any_act d k ≡ Some (Hit, e) → NeedsNoRoom (any_record_of k d)
+AnyHitsKeepAll = (d : AnyPolicy) (k : ℕ) (e : AnyPolicy) → any_act d k ≡ Some (Hit, e)
+    → any_asks (any_record_of k d) → ⊥

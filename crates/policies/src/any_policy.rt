@@ -142,7 +142,7 @@ impl AnyPolicy {
 
 impl Engine for AnyPolicy {
     ghost use Rattle.policies.specs.AnyPolicy.{stats_in};
-    ghost use Rattle.policies.specs.AnyStep.{any_act, any_record_of, MayAllocate, any_undone, AnyFits, NeedsNoRoom};
+    ghost use Rattle.policies.specs.AnyStep.{any_act, any_record_of, MayAllocate, any_undone, any_asks, AnyFits};
     ghost use Rattle.policies.specs.AnyStep.{any_words, any_pace};
     ghost use Rattle.step_record.specs.Pace.{words_of_halvings};
     ghost use Rattle.policies.specs.AnyCounts.{any_counts, any_ends, any_paced};
@@ -162,6 +162,8 @@ impl Engine for AnyPolicy {
     ghost fits = { AnyFits };
 
     ghost undone = { any_undone };
+
+    ghost asks = { any_asks };
 
     ghost count = { λ d. (stats_in d).accesses };
 
@@ -201,7 +203,7 @@ impl Engine for AnyPolicy {
         ensures err { OnErr result (self.new ≡ self.old) }
         ensures returned { IfErr result (λ r. r ≡ done) }
         // Only an item that left queues asks for room to come back.
-        ensures not_refused { NeedsNoRoom done → result ≡ Ok tt }
+        ensures asks { OnErr result (any_asks done) }
     {
         match self {
             AnyPolicy::Queues(cache) => match done {

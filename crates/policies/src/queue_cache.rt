@@ -59,7 +59,7 @@ impl<P> Model for QueueCache<P> {
 
 impl<P: Drop> QueueCache<P> {
     ghost use Rattle.policies.specs.QueueCache.{StandsFor, residents_in};
-    ghost use Rattle.policies.specs.QueueStep.{queue_act, queue_record_of, queue_undone, QueueFits};
+    ghost use Rattle.policies.specs.QueueStep.{queue_act, queue_record_of, queue_undone, queue_asks, QueueFits};
     ghost use Rattle.policies.specs.QueueStep.{queue_words, queue_pace};
 
     /// An empty cache for a job. It requires a configuration that `Config::check` accepts, and the design of the job's
@@ -179,7 +179,7 @@ impl<P: Drop> QueueCache<P> {
 }
 
 impl<P: Drop> Engine for QueueCache<P> {
-    ghost use Rattle.policies.specs.QueueStep.{queue_act, queue_record_of, queue_undone, QueueFits};
+    ghost use Rattle.policies.specs.QueueStep.{queue_act, queue_record_of, queue_undone, queue_asks, QueueFits};
     ghost use Rattle.policies.specs.QueueStep.{queue_words, queue_pace};
     ghost use Rattle.policies.specs.QueueCounts.{act_counts, act_ends, act_paced};
 
@@ -198,6 +198,8 @@ impl<P: Drop> Engine for QueueCache<P> {
     ghost fits = { QueueFits };
 
     ghost undone = { queue_undone };
+
+    ghost asks = { queue_asks };
 
     ghost count = { λ d. d.stats.accesses };
 
@@ -226,7 +228,7 @@ impl<P: Drop> Engine for QueueCache<P> {
         ensures err { OnErr result (self.new ≡ self.old) }
         ensures returned { IfErr result (λ r. r ≡ done) }
         // Only an item that left asks for room to come back.
-        ensures not_refused { done.moves.out ≡ None → result ≡ Ok tt }
+        ensures asks { OnErr result (queue_asks done) }
     {
         if done.moves.out.is_some() && self.segments.reserve().is_err() {
             return Err(done);

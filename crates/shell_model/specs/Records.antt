@@ -1,6 +1,6 @@
 -- The records of steps, how a record undoes its step, and where it fits.
-use Rattle.std.specs.Prelude.{◌≡◌, ℕ, ◌+◌, ◌-◌, ◌<◌, ◌≤◌, nat_lt, Bool, true, false, cond, eqb, Option, Some, None}
-use Rattle.std.specs.Prelude.{List, [], ◌∷◌, ◌++◌, length, set}
+use Rattle.std.specs.Prelude.{◌≡◌, ◌≢◌, ℕ, ◌+◌, ◌-◌, ◌<◌, ◌≤◌, nat_lt, Bool, true, false, cond, eqb}
+use Rattle.std.specs.Prelude.{Option, Some, None, List, [], ◌∷◌, ◌++◌, length, set}
 use Rattle.shell_buffers.specs.declared.stripes.TheConstants.{MAX_ITEMS}
 use Rattle.shell_buffers.specs.declared.write_tasks.TheConstants.{MAX_TASKS}
 use Rattle.step_record.specs.declared.item.Item.{Item}
@@ -141,6 +141,16 @@ pub record FitsStep (r : ShellRecord) (x : Shell) : Type 0 where
   pub stats : IsReplyCounted r.reply x.stats
   pub applied : 1 ≤ x.applied
   pub change : FitsChange r.change x
+
+-- undoing the change takes memory: an item left the table or the queues in it, and comes back
+abbrev pub change_asks : Change → Type 0
+change_asks (Removed i) = Unit {0}
+change_asks (Cleared before i out) = out ≢ None
+change_asks (Evicted before g) = g.moves.out ≢ None
+change_asks c = ⊥
+
+abbrev pub step_asks : ShellRecord → Type 0
+step_asks r = change_asks r.change
 
 -- the change that a step makes to x
 

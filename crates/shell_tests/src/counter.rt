@@ -67,6 +67,9 @@ impl Engine for Counter {
 
     ghost undone = { λ r n. n - 1 };
 
+    // Any record may be refused.
+    ghost asks = { λ r. Unit {0} };
+
     ghost count = { λ n. n };
 
     ghost words_of = { λ r. 0 };

@@ -2,6 +2,7 @@
 use super::counter::Counter;
 use journal::{BackFault, ForwardFault, GotoFault, Session, SessionFault};
 use std::process::Abort;
+use std::test::Fail;
 use step_record::Engine;
 
 // Sees how many steps are applied, and how many are undone.
@@ -96,4 +97,53 @@ fn a_full_session_and_walks_past_its_ends(rt: HostRuntime) {
     assert_eq!(rt; session.step(()), Ok(3));
     assert_place(&rt, &session, (3, 0));
     assert_eq!(rt; session.held(), 0);
+}
+
+#[test]
+fn a_refused_step_is_shown_by_its_name(rt: HostRuntime) -> Result<(), Fail> {
+    for (fault, text) in [
+        (SessionFault::OutOfMemory, "OutOfMemory"),
+        (SessionFault::NotNow, "NotNow"),
+        (SessionFault::JournalFull, "JournalFull"),
+    ] {
+        let shown = format!(in rt.alloc(); "{fault}")?;
+        assert_eq!(rt; shown.as_str(), text);
+    }
+    Ok(())
+}
+
+#[test]
+fn a_refused_way_back_is_shown_by_its_name(rt: HostRuntime) -> Result<(), Fail> {
+    for (fault, text) in [
+        (BackFault::OutOfMemory { undone: 7 }, "OutOfMemory"),
+        (BackFault::PastStart, "PastStart"),
+    ] {
+        let shown = format!(in rt.alloc(); "{fault}")?;
+        assert_eq!(rt; shown.as_str(), text);
+    }
+    Ok(())
+}
+
+#[test]
+fn a_refused_way_forward_is_shown_by_its_name(rt: HostRuntime) -> Result<(), Fail> {
+    for (fault, text) in [
+        (ForwardFault::OutOfMemory { done: 7 }, "OutOfMemory"),
+        (ForwardFault::PastEnd, "PastEnd"),
+    ] {
+        let shown = format!(in rt.alloc(); "{fault}")?;
+        assert_eq!(rt; shown.as_str(), text);
+    }
+    Ok(())
+}
+
+#[test]
+fn a_refused_goto_is_shown_by_its_name(rt: HostRuntime) -> Result<(), Fail> {
+    for (fault, text) in [
+        (GotoFault::OutOfMemory { at: 7 }, "OutOfMemory"),
+        (GotoFault::PastEnd, "PastEnd"),
+    ] {
+        let shown = format!(in rt.alloc(); "{fault}")?;
+        assert_eq!(rt; shown.as_str(), text);
+    }
+    Ok(())
 }
