@@ -1,8 +1,8 @@
 -- A run, and its last steps undone.
-use Rattle.std.proofs.Common.{◌≡◌, ◌↔◌, ℕ, zero, suc, ◌-◌, ◌<◌, List, [], ◌∷◌, ◌++◌, Option, Some, None, Result, Ok, Err, OnOk, OnErr, get_or, length, take, refl, sym, ap, ◌∙◌, subst, arith}
+use Rattle.std.proofs.Common.{◌≡◌, ◌↔◌, ℕ, zero, suc, ◌-◌, ◌<◌, List, [], ◌∷◌, ◌++◌, Option, Some, None, Result, Ok, Err, OnOk, OnErr, get_or, length, take, drop, refl, sym, ap, ◌∙◌, subst, arith}
 use Rattle.std.specs.Prelude.{IfErr}
-use Rattle.std.proofs.Math.Seq.{take-length}
-use Rattle.std.proofs.lemmas.List.{take-append-le}
+use Rattle.std.proofs.Math.Seq.{take-length, drop-length}
+use Rattle.std.proofs.lemmas.List.{take-append-le, drop-append-le}
 use Rattle.step_record.specs.declared.step.Call.{Call}
 use Rattle.step_record.specs.History.{after, IsLegal, Entries}
 use Rattle.shell_model.specs.Shell.{Shell, act}
@@ -17,19 +17,27 @@ use Rattle.workers.specs.WorkerStates.{ShellSession}
 use Rattle.workers.proofs.Turning.{legal_split, after_append}
 use Rattle.headline.specs.Rewound.{IsAnswered, IsRewound, undone_of}
 
--- the steps that are left
+drop_first : {X : Type 0} (xs ys : List X) → drop (length xs) (xs ++ ys) ≡ ys
+drop_first xs ys = drop-append-le (length xs) xs ys (omega arith) ∙ ap (λ l. l ++ ys) (drop-length xs)
+
+-- the steps that are left, and those that can be redone
 module _ (k : ℕ) (old new : ShellSession) where
   abbrev Left : ℕ → Type 0
   Left n = (new.opening ≡ old.opening) × (new.kept ≡ take (length old.kept - n) old.kept)
+      × (new.tail ≡ drop (length old.kept - n) (old.kept ++ old.tail))
 
   moved : (n : ℕ) → IsMovedTo (length old.kept - n) old new → Left n
-  moved n m = (m.opening, m.kept ∙ take-append-le (length old.kept - n) old.kept old.tail (omega arith))
+  moved n m = (m.opening, m.kept ∙ take-append-le (length old.kept - n) old.kept old.tail (omega arith), m.tail)
 
   pub left_by : (o : Result (Unit {0}) BackFault) → OnOk o (IsMovedTo (length old.kept - k) old new) → IfErr o (StandsBack (λ x. x) old new k) → Left (undone_of k o)
   left_by (Ok done) h e = moved k h
   left_by (Err back.PastStart) h e =
       let all : length old.kept ≡ length old.kept - 0 = omega arith in
-      (e.opening, e.kept ∙ sym (take-length old.kept) ∙ ap (λ n. take n old.kept) all)
+      (
+        e.opening,
+        e.kept ∙ sym (take-length old.kept) ∙ ap (λ n. take n old.kept) all,
+        e.tail ∙ sym (drop_first old.kept old.tail) ∙ ap (λ n. drop n (old.kept ++ old.tail)) all,
+      )
   left_by (Err (back.OutOfMemory n)) h e = moved n e.2
 
 -- where not all of k steps were undone, fewer than k were
@@ -76,6 +84,7 @@ whole_up_to n pieces old new lists run = record {
     limit = run.limit;
     news = run.news;
     entered = run.entered;
+    tail = run.tail;
     as_many = run.as_many;
     own = run.own;
     made = λ w lt. subst (λ r. AreWalksUpTo r n w (get_or pieces w []) (get_or lists w [])) (sym (none_at pieces w)) (run.made w lt);
@@ -86,8 +95,9 @@ whole_up_to n pieces old new lists run = record {
 
 pub rewound : (n k : ℕ) (pieces : List (List Call)) (cause : Option Cause) (o : Result (Unit {0}) BackFault) (old whole new : ShellSession) (lists : List Entries)
     → IsRunUpTo cause n pieces old whole lists → IsLegal act whole.opening whole.kept → new.opening ≡ whole.opening → new.kept ≡ take (length whole.kept - undone_of k o) whole.kept
+    → new.tail ≡ drop (length whole.kept - undone_of k o) (whole.kept ++ whole.tail)
     → new.engine ≡ after act new.opening new.kept → (o ≡ Err back.PastStart ↔ length whole.kept < k) → OnErr o (undone_of k o < k) → IsRewound n k pieces cause o old new lists
-rewound n k pieces cause o old whole new lists up legal opening left state past fewer = let run = up.run in record {
+rewound n k pieces cause o old whole new lists up legal opening left redo state past fewer = let run = up.run in record {
   run = run.news;
   as_many = run.as_many;
   listed = run.own;
@@ -99,6 +109,7 @@ rewound n k pieces cause o old whole new lists up legal opening left state past 
   full = λ w e. sym (ap (λ (es : Entries). length es) run.entered) ∙ up.full w e ∙ run.limit;
   answered = answered old.opening (old.kept ++ run.news) (subst (λ es. IsLegal act old.opening es) run.entered (subst (λ x. IsLegal act x whole.kept) run.opening legal));
   left = left ∙ ap (λ es. take (length es - undone_of k o) es) run.entered;
+  redo = redo ∙ ap (λ (z : Entries × Entries). drop (length z.0 - undone_of k o) (z.0 ++ z.1)) (λ i. (run.entered i, run.tail i));
   state = state ∙ ap (λ x. after act x new.kept) (opening ∙ run.opening);
   fewer = fewer;
   past = subst (λ es. o ≡ Err back.PastStart ↔ length es < k) run.entered past;

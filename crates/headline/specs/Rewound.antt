@@ -1,11 +1,11 @@
 -- A run of workers on threads, and what stands once its last steps are undone.
 use Rattle.std.specs.Prelude.{◌≡◌, ◌↔◌, ℕ, ◌-◌, ◌<◌, ◌≤◌, List, [], ◌∷◌, ◌++◌, Option, Some, None, Result, Ok, Err}
-use Rattle.std.specs.Prelude.{OnErr, get_or, length, take}
+use Rattle.std.specs.Prelude.{OnErr, get_or, length, take, drop}
 use Rattle.step_record.specs.declared.entry.Entry.{Entry}
 use Rattle.step_record.specs.declared.step.Call.{Call}
 use Rattle.step_record.specs.declared.step.Reply.{Reply}
 use Rattle.step_record.specs.declared.step.Step.{Step}
-use Rattle.step_record.specs.History.{after, Entries}
+use Rattle.step_record.specs.History.{after, Entries, tail_after}
 use Rattle.shell_model.specs.Shell.{Shell, act}
 use Rattle.journal.specs.declared.fault.BackFault.{BackFault}
 use Rattle.journal.specs.declared.fault.BackFault.TheVariants as back
@@ -37,7 +37,8 @@ HasNoSteps _ = Unit {0}
 -- are the walks of its calls, up to the step that it was refused, where it was; and nobody else made any. The cause is
 -- that of the refused worker with the lowest number, and a full journal is one only where it is full. Each reply is the
 -- definition's on the steps before it. And once the last steps are undone, the state is the one that the definition
--- gives on the others. Where they are not all undone, fewer than k are.
+-- gives on the others. The steps that can be redone are those that were undone, and behind them the ones that could be
+-- before, where no step was made. Where the last k are not all undone, fewer than k are.
 pub record IsRewound (n k : ℕ) (pieces : List (List Call)) (cause : Option Cause) (undone : Result (Unit {0}) BackFault)
     (old new : ShellSession) (lists : List Entries) : Type 0 where
   pub run : Entries
@@ -52,6 +53,8 @@ pub record IsRewound (n k : ℕ) (pieces : List (List Call)) (cause : Option Cau
   pub full : (w : ℕ) → get_or refusals w None ≡ Some JournalFull → length (old.kept ++ run) ≡ old.limit
   pub answered : IsAnswered old.opening (old.kept ++ run)
   pub left : new.kept ≡ take (length (old.kept ++ run) - undone_of k undone) (old.kept ++ run)
+  pub redo : new.tail
+      ≡ drop (length (old.kept ++ run) - undone_of k undone) ((old.kept ++ run) ++ tail_after run old.tail)
   pub state : new.engine ≡ after act old.opening new.kept
   pub past : undone ≡ Err back.PastStart ↔ length (old.kept ++ run) < k
   pub fewer : OnErr undone (undone_of k undone < k)

@@ -1,5 +1,5 @@
 //! The history of a run on threads, in one statement that cites what `drive`, `Session` and `Shell` promise.
-ghost use Rattle.std.specs.Prelude.{◌≡◌, ◌↔◌, ◌-◌, ◌<◌, Err, IfErr, IfOk, OnErr, length, map, take};
+ghost use Rattle.std.specs.Prelude.{◌≡◌, ◌↔◌, ◌-◌, ◌<◌, Err, IfErr, IfOk, OnErr, drop, length, map, take, ◌++◌};
 ghost use Rattle.step_record.specs.History.{after};
 ghost use Rattle.shell_model.specs.Shell.{act};
 ghost use Rattle.workers.specs.DriveFaults.{LeavesFault};
@@ -29,6 +29,7 @@ pub struct Rewound {
 /// Has workers make their calls on threads, and then undoes the last `k` steps of the session. The run is one list of
 /// steps, in which each worker's are the walks of its calls, in order, and each reply is the one that the definition of
 /// the cache gives on the steps before it; the state is the one that the definition gives on the steps that are left.
+/// Nothing can be redone but the steps that were undone, and what could be before where the run made no step.
 ///
 /// The faults are those of [`drive`] but `Stopped`, whose run counts as far as it came.
 pub fn drive_and_undo<G: Gate, R: Threads + Wait + Sync>(
@@ -69,6 +70,8 @@ fn undo(
     ensures cause { result.cause ≡ cause }
     ensures opening { result.session.opening ≡ session.opening }
     ensures left { result.session.kept ≡ take (length session.kept - undone_of k result.undone) session.kept }
+    ensures redo { result.session.tail ≡ drop (length session.kept - undone_of k result.undone)
+        (session.kept ++ session.tail) }
     ensures state { result.session.engine ≡ after act result.session.opening result.session.kept }
     ensures fewer { OnErr result.undone (undone_of k result.undone < k) }
     ensures past { result.undone ≡ Err BackFault.PastStart ↔ length session.kept < k }

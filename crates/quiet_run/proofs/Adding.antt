@@ -8,7 +8,8 @@ use Rattle.step_record.specs.declared.step.Reply.{Reply}
 use Rattle.step_record.specs.declared.step.Step.{Step}
 use Rattle.step_record.specs.declared.drain.Phase.{Phase}
 use Rattle.step_record.specs.declared.drain.Phase.TheVariants.{Reads, Writes, Evictions}
-use Rattle.step_record.specs.History.{Entries}
+use Rattle.step_record.specs.History.{Entries, tail_after}
+use Rattle.step_record.proofs.Undone.{tail_joined}
 use Rattle.shell_model.specs.declared.holder.Holder.{Holder}
 use Rattle.shell_model.specs.Reached.{worker_of}
 use Rattle.shell_model.specs.Shell.{Shell}
@@ -20,7 +21,6 @@ use Rattle.walks.specs.declared.local.Local.{Local}
 use Rattle.walks.specs.declared.place.Place.{Place}
 use Rattle.walks.specs.Places.{Ahead, phase_place}
 use Rattle.quiet_run.specs.Outcomes.{outcome_after, outcome_from}
-use Rattle.walks.specs.Made.{tail_after}
 use Rattle.quiet_run.specs.Settle.{ShellSession, AddsSteps, IsRestOfRound, IsRest}
 
 pub adds_none : (P : Entries → Type 0) (old new : ShellSession) → new.kept ≡ old.kept → new.tail ≡ old.tail → P [] → AddsSteps P old new
@@ -85,17 +85,11 @@ held_rest l n o w p left e a b c es h =
     held-rest n o w p left es e
     (subst (λ (q : Place). Ahead w n q es) c (subst (λ (m : ℕ). Ahead w m l.place es) b (subst (λ (v : ℕ). Ahead v l.stripes l.place es) a h)))
 
--- entries after entries
-tail-joined : (a b : Entries) (t : Entries) → tail_after b (tail_after a t) ≡ tail_after (a ++ b) t
-tail-joined [] b t = refl
-tail-joined (e ∷ a) [] t = refl
-tail-joined (e ∷ a) (f ∷ b) t = refl
-
 pub adds_joined : (P Q R : Entries → Type 0) (old now new : ShellSession) → AddsSteps P old now → AddsSteps Q now new → ((a b : Entries) → P a → Q b → R (a ++ b)) → AddsSteps R old new
 adds_joined P Q R old now new m n f = record {
   made = m.made ++ n.made;
   entered = n.entered ∙ ap (λ l. l ++ n.made) m.entered ∙ append_assoc old.kept m.made n.made;
-  tail = n.tail ∙ ap (tail_after n.made) m.tail ∙ tail-joined m.made n.made old.tail;
+  tail = n.tail ∙ ap (tail_after n.made) m.tail ∙ tail_joined m.made n.made old.tail;
   holds = f m.made n.made m.holds n.holds;
 }
 

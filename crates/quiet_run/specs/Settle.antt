@@ -4,7 +4,7 @@ use Rattle.step_record.specs.declared.step.Reply.{Reply}
 use Rattle.step_record.specs.declared.step.Step.{Step}
 use Rattle.step_record.specs.declared.drain.Phase.{Phase}
 use Rattle.step_record.specs.declared.drain.Phase.TheVariants.{Reads, Writes, Evictions}
-use Rattle.step_record.specs.History.{Entries}
+use Rattle.step_record.specs.History.{Entries, tail_after}
 use Rattle.journal.specs.Session.{SessionState}
 use Rattle.shell_model.specs.declared.holder.Holder.{Holder}
 use Rattle.shell_model.specs.Shell.{Shell}
@@ -12,7 +12,7 @@ use Rattle.quiet_run.specs.declared.round.Refusal.{Refusal}
 use Rattle.quiet_run.specs.declared.round.Refusal.TheVariants as refusal
 use Rattle.quiet_run.specs.declared.round.SettleFault.{SettleFault}
 use Rattle.quiet_run.specs.declared.round.SettleFault.TheVariants as fault
-use Rattle.walks.specs.Made.{IsUnfinished, tail_after}
+use Rattle.walks.specs.Made.{IsUnfinished}
 use Rattle.walks.specs.Walks.{IsReading, IsWriting, IsEvicting}
 
 abbrev pub ShellSession : Type 0

@@ -17,8 +17,3 @@ pub record Made (IsMade : Entries → Type 0) (kept kept' own own' : Entries) : 
 -- the first entries of such a list, and not all of it
 abbrev pub IsUnfinished : (Entries → Type 0) → Entries → Type 0
 IsUnfinished IsWhole es = (rest : Entries) × (rest ≢ []) × IsWhole (es ++ rest)
-
--- the undone steps are dropped by the first step that is made
-abbrev pub tail_after : {E : Type 0} → List E → List E → List E
-tail_after [] tail = tail
-tail_after (e ∷ es) tail = []

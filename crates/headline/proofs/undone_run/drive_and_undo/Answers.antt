@@ -12,7 +12,7 @@ returns-in-Ok-clause-rewound g c =
     let r = c.undo.result in
     let n = c.args.session.engine.config.stripes in
     let pieces = map (λ p. vec_items p) c.args.pieces.items in
-    let whole = rewound n c.args.k pieces None r.undone c.args.session c.in-Ok.driven.session r.session (map (λ l. vec_items l) c.in-Ok.driven.lists.items) (whole_up_to n pieces c.args.session c.in-Ok.driven.session (map (λ l. vec_items l) c.in-Ok.driven.lists.items) c.in-Ok.ensures.run) c.in-Ok.ensures.legal u.opening u.left u.state u.past u.fewer in
+    let whole = rewound n c.args.k pieces None r.undone c.args.session c.in-Ok.driven.session r.session (map (λ l. vec_items l) c.in-Ok.driven.lists.items) (whole_up_to n pieces c.args.session c.in-Ok.driven.session (map (λ l. vec_items l) c.in-Ok.driven.lists.items) c.in-Ok.ensures.run) c.in-Ok.ensures.legal u.opening u.left u.redo u.state u.past u.fewer in
     subst (λ (ls : List Entries). IsRewound n c.args.k pieces r.cause r.undone c.args.session r.session ls) (sym (ap (map (λ l. vec_items l)) u.lists))
     (subst (λ (o : Option Cause). IsRewound n c.args.k pieces o r.undone c.args.session r.session (map (λ l. vec_items l) c.in-Ok.driven.lists.items)) (sym u.cause) whole)
 
@@ -25,6 +25,6 @@ returns-in-Err-Stopped-clause-rewound g c =
     let s = c.in-Err-Stopped.session in
     let lists = map (λ l. vec_items l) c.in-Err-Stopped.lists.items in
     let left = subst (λ f. LeavesFault f pieces c.args.session) c.in-Err-Stopped.field-0-is c.in-Err-Stopped.ensures.fault in
-    let whole = rewound n c.args.k pieces (Some c.in-Err-Stopped.cause) r.undone c.args.session s r.session lists left.2 left.1 u.opening u.left u.state u.past u.fewer in
+    let whole = rewound n c.args.k pieces (Some c.in-Err-Stopped.cause) r.undone c.args.session s r.session lists left.2 left.1 u.opening u.left u.redo u.state u.past u.fewer in
     subst (λ (ls : List Entries). IsRewound n c.args.k pieces r.cause r.undone c.args.session r.session ls) (sym (ap (map (λ l. vec_items l)) u.lists))
     (subst (λ (o : Option Cause). IsRewound n c.args.k pieces o r.undone c.args.session r.session lists) (sym u.cause) whole)
