@@ -6,6 +6,7 @@ use drive::run_quiet;
 use journal::Session;
 use maintenance::Shell;
 use policies::WindowTinyLfu;
+use quiet_run::{QuietFault, SettleFault};
 use segments::Queue;
 use std::alloc::{AllocError, Global};
 use std::process::Abort;
@@ -176,6 +177,31 @@ fn assert_agree(rt: &impl Abort, alloc: Global, capacity: u32) -> Result<(), Fai
 fn a_quiet_run_is_window_tiny_lfu(rt: HostRuntime) -> Result<(), Fail> {
     for capacity in [1, 2, 8, 50] {
         assert_agree(&rt, rt.alloc(), capacity)?;
+    }
+    Ok(())
+}
+
+#[test]
+fn an_unfinished_maintenance_is_shown_by_its_cause(rt: HostRuntime) -> Result<(), Fail> {
+    for (fault, text) in [
+        (SettleFault::OutOfMemory { done: 7 }, "OutOfMemory"),
+        (SettleFault::JournalFull { done: 7 }, "JournalFull"),
+    ] {
+        let shown = format!(in rt.alloc(); "{fault}")?;
+        assert_eq!(rt; shown.as_str(), text);
+    }
+    Ok(())
+}
+
+#[test]
+fn an_unfinished_quiet_run_is_shown_by_its_cause(rt: HostRuntime) -> Result<(), Fail> {
+    for (fault, text) in [
+        (QuietFault::OutOfMemory { done: 7 }, "OutOfMemory"),
+        (QuietFault::JournalFull { done: 7 }, "JournalFull"),
+        (QuietFault::Held, "Held"),
+    ] {
+        let shown = format!(in rt.alloc(); "{fault}")?;
+        assert_eq!(rt; shown.as_str(), text);
     }
     Ok(())
 }
