@@ -1,73 +1,14 @@
 //! Small traces whose reports were worked out by hand, and threads that wait for one another.
+use super::gates::{Hold, Turns};
+use super::jobs::{counted, failed, job};
 use policy_actors::{ActorFault, run_actors, run_one, sweep, sweep_batches, sweep_each};
 use report::Report;
 use std::alloc::Global;
 use std::process::Abort;
 use std::sync::Wait;
-use std::sync::atomic::AtomicU64;
-use std::sync::atomic::Ordering::SeqCst;
 use std::test::Fail;
-use std::thread;
 use std::thread::Threads;
-use step_record::{Config, Gate, Job, OpenGate, Policy, Spread, Trace};
-
-// Holds each actor's batch n, for the first few n, until batch n of every actor has begun.
-#[derive(Drop)]
-struct Hold {
-    actors: u64,
-    held: u64,
-    begun: AtomicU64,
-    over: AtomicU64,
-    late: AtomicU64,
-}
-
-fn gate_for(actors: u64) -> Hold {
-    gate_of_first(actors, u64::MAX)
-}
-
-fn gate_of_first(actors: u64, held: u64) -> Hold {
-    Hold {
-        actors,
-        held,
-        begun: AtomicU64::new(0),
-        over: AtomicU64::new(0),
-        late: AtomicU64::new(0),
-    }
-}
-
-impl Gate for Hold {
-    fn before(&self, _who: u8, n: u64) {
-        self.begun.fetch_add(1, SeqCst);
-        if n >= self.held {
-            return;
-        }
-        let wanted = n.wrapping_add(1).wrapping_mul(self.actors);
-        for _ in 0..1_000_000 {
-            if self.begun.load(SeqCst) >= wanted {
-                return;
-            }
-            thread::yield_now();
-        }
-        self.late.fetch_add(1, SeqCst);
-    }
-
-    fn after(&self, _who: u8, _n: u64) {
-        self.over.fetch_add(1, SeqCst);
-    }
-}
-
-fn job(policy: Policy, capacity: u32) -> Job {
-    Job {
-        policy,
-        config: Config {
-            capacity,
-            main_percent: 99,
-            spread: Spread::Plain,
-            stripes: 1,
-            journal_limit: 1,
-        },
-    }
-}
+use step_record::{Job, OpenGate, Policy, Trace};
 
 fn jobs() -> [Job; 4] {
     [
@@ -104,16 +45,6 @@ fn all_wanted() -> [Report; 4] {
     ]
 }
 
-// A test that gets no reports fails by the fault's name.
-fn failed(fault: ActorFault) -> Fail {
-    match fault {
-        ActorFault::OutOfMemory => Fail::from("OutOfMemory"),
-        ActorFault::Batch => Fail::from("Batch"),
-        ActorFault::Config { .. } => Fail::from("Config"),
-        ActorFault::Actors => Fail::from("Actors"),
-    }
-}
-
 // Runs the first jobs on actors, and sees that they ran side by side.
 fn run<R: Threads + Wait + Sync + Abort>(
     rt: &R,
@@ -123,7 +54,7 @@ fn run<R: Threads + Wait + Sync + Abort>(
     batches: u64,
 ) -> Result<(), Fail> {
     let trace = trace(alloc)?;
-    let gate = gate_for(actors as u64);
+    let gate = Hold::new(actors as u64, u64::MAX);
     let all = jobs();
     let Some(some) = all.get(..actors) else {
         return Err(Fail::from("no jobs"));
@@ -134,8 +65,8 @@ fn run<R: Threads + Wait + Sync + Abort>(
     };
     let want = all_wanted();
     assert_eq!(rt; Some(reports.as_slice()), want.get(..actors));
-    assert_eq!(rt; gate.late.load(SeqCst), 0);
-    assert_eq!(rt; gate.over.load(SeqCst), batches.wrapping_mul(actors as u64));
+    assert!(rt; !gate.is_late());
+    assert_eq!(rt; gate.over(), batches.wrapping_mul(actors as u64));
     Ok(())
 }
 
@@ -152,7 +83,7 @@ fn actors_run_side_by_side(rt: HostRuntime) -> Result<(), Fail> {
 #[test]
 fn sixty_four_actors_of_an_empty_trace(rt: HostRuntime) -> Result<(), Fail> {
     let alloc = rt.alloc();
-    let gate = gate_for(64);
+    let gate = Hold::new(64, u64::MAX);
     let empty = Trace::new(Vec::new(alloc));
     match run_actors(
         &rt,
@@ -165,55 +96,9 @@ fn sixty_four_actors_of_an_empty_trace(rt: HostRuntime) -> Result<(), Fail> {
         Ok(reports) => assert_eq!(rt; reports.len(), 64),
         Err(fault) => return Err(failed(fault)),
     }
-    assert_eq!(rt; gate.late.load(SeqCst), 0);
-    assert_eq!(rt; gate.over.load(SeqCst), 64);
+    assert!(rt; !gate.is_late());
+    assert_eq!(rt; gate.over(), 64);
     Ok(())
-}
-
-// Counts the calls of each actor, and those that came out of turn: batch 0 is begun and then over, then batch 1.
-#[derive(Drop)]
-struct Turns {
-    calls: Vec<AtomicU64>,
-    wrong: AtomicU64,
-}
-
-impl Turns {
-    fn new(alloc: Global, actors: usize) -> Result<Turns, Fail> {
-        let mut calls = Vec::new(alloc);
-        for _actor in 0..actors {
-            calls.push(AtomicU64::new(0))?;
-        }
-        Ok(Turns {
-            calls,
-            wrong: AtomicU64::new(0),
-        })
-    }
-
-    // Call number `number` of an actor.
-    fn called(&self, who: u8, number: u64) {
-        if let Some(calls) = self.calls.get(usize::from(who))
-            && calls.fetch_add(1, SeqCst) == number
-        {
-            return;
-        }
-        self.wrong.fetch_add(1, SeqCst);
-    }
-
-    // Whether each actor was seen to begin and to end so many batches in turn.
-    fn is_over(&self, batches: u64) -> bool {
-        let wanted = batches.wrapping_mul(2);
-        self.wrong.load(SeqCst) == 0 && self.calls.iter().all(|calls| calls.load(SeqCst) == wanted)
-    }
-}
-
-impl Gate for Turns {
-    fn before(&self, who: u8, n: u64) {
-        self.called(who, n.wrapping_mul(2));
-    }
-
-    fn after(&self, who: u8, n: u64) {
-        self.called(who, n.wrapping_mul(2).wrapping_add(1));
-    }
 }
 
 // Many batches and many actors over a thousand accesses of one key, each actor's batches in their order.
@@ -257,12 +142,12 @@ fn take_in_turn<R: Threads + Wait + Sync + Abort>(
 fn a_held_actor_does_not_keep_batches_from_another(rt: HostRuntime) -> Result<(), Fail> {
     let alloc = rt.alloc();
     let long = Trace::new(vec![in alloc; 7; 16_400]?);
-    let gate = gate_of_first(2, 1);
+    let gate = Hold::new(2, 1);
     if let Err(fault) = run_actors(&rt, alloc, &long, &[job(Policy::Lru, 2); 2], 1, &gate) {
         return Err(failed(fault));
     }
-    assert_eq!(rt; gate.late.load(SeqCst), 0);
-    assert_eq!(rt; gate.over.load(SeqCst), 32_800);
+    assert!(rt; !gate.is_late());
+    assert_eq!(rt; gate.over(), 32_800);
     Ok(())
 }
 
@@ -334,19 +219,6 @@ fn single_runs(rt: HostRuntime) -> Result<(), Fail> {
         Err(fault) => return Err(failed(fault)),
     }
     Ok(())
-}
-
-fn counted(policy: Policy, capacity: u32, counts: [u64; 5]) -> Report {
-    let [accesses, hits, misses, evictions, rejections] = counts;
-    Report {
-        policy,
-        capacity,
-        accesses,
-        hits,
-        misses,
-        evictions,
-        rejections,
-    }
 }
 
 fn compare_sweep<R: Threads + Sync + Abort>(
@@ -484,12 +356,12 @@ fn a_sweep_shows_its_batches(rt: HostRuntime) -> Result<(), Fail> {
     let jobs = [job(Policy::Lru, 7), job(Policy::SegmentedLru, 7)];
     let many = [2u32; 16];
     for (capacities, wanted) in [(&many[..2], 8), (&many[..], 32)] {
-        let gate = gate_for(0);
+        let gate = Hold::new(0, 0);
         assert_eq!(rt; sweep_batches(&some, &jobs, capacities), wanted);
         if let Err(fault) = sweep_each(&rt, alloc, &some, &jobs, capacities, &gate) {
             return Err(failed(fault));
         }
-        assert_eq!(rt; gate.over.load(SeqCst), wanted);
+        assert_eq!(rt; gate.over(), wanted);
     }
     Ok(())
 }

@@ -1,19 +1,25 @@
-//! Sixty-four workers side by side, whose entries are read by the rule of walks alone.
-use super::workers_tests::{assert_own_lists, driven};
-use journal::Session;
+//! Many workers side by side, whose entries are read by the rule of walks alone.
+use super::gates::{Hold, Turns};
+use super::sessions::{SMALL, assert_own_lists, driven, fresh};
 use maintenance::Shell;
 use std::alloc::{AllocError, Global};
 use std::process::Abort;
 use std::sync::Wait;
 use std::test::Fail;
 use std::thread::Threads;
-use step_record::{Act, Answer, Call, Config, Entry, Item, Key, OpenGate, Reply, Spread, Step};
+use step_record::{Act, Answer, Call, Config, Entry, Gate, Item, Key, OpenGate, Reply, Step};
 
-const WORKERS: u8 = 64;
+// How many workers there are, how many calls each makes, how many reads that is of all of them, and how many read buffers
+// their cache has.
+#[derive(Clone, Copy)]
+struct Crowd {
+    workers: u8,
+    calls: u64,
+    reads: u64,
+    stripes: u8,
+}
 
-// So many calls has each worker: of eight, seven are reads, and the last removes a key.
-const CALLS: u64 = 2_000;
-
+// Of eight calls seven are reads, and the last removes a key.
 fn call_of(worker: u8, n: u64) -> Call {
     let key = u64::from(worker)
         .wrapping_mul(7)
@@ -26,11 +32,11 @@ fn call_of(worker: u8, n: u64) -> Call {
     }
 }
 
-fn pieces(alloc: Global) -> Result<Vec<Vec<Call>>, AllocError> {
+fn pieces(alloc: Global, crowd: Crowd) -> Result<Vec<Vec<Call>>, AllocError> {
     let mut pieces = Vec::new(alloc);
-    for worker in 0..WORKERS {
+    for worker in 0..crowd.workers {
         let mut calls = Vec::new(alloc);
-        for n in 0..CALLS {
+        for n in 0..crowd.calls {
             calls.push(call_of(worker, n))?;
         }
         pieces.push(calls)?;
@@ -38,10 +44,11 @@ fn pieces(alloc: Global) -> Result<Vec<Vec<Call>>, AllocError> {
     Ok(pieces)
 }
 
-// Whose walks are read: the number of the worker, its read buffer, and how many there are.
+// Whose walks are read: the number of the worker, how many calls it made, its read buffer, and how many there are.
 #[derive(Clone, Copy)]
 struct Walker {
     worker: u8,
+    calls: u64,
     stripe: u8,
     stripes: u8,
 }
@@ -179,7 +186,7 @@ fn read_removal(
 // The list is one walk for each call of the worker, in order.
 fn assert_walks(rt: &impl Abort, list: &[Entry<Step, Reply>], who: Walker) {
     let mut at = 0;
-    for n in 0..CALLS {
+    for n in 0..who.calls {
         match call_of(who.worker, n) {
             Call::Read(key) => read_read(rt, list, &mut at, who, key),
             Call::Remove(key) => read_removal(rt, list, &mut at, who, key),
@@ -189,62 +196,104 @@ fn assert_walks(rt: &impl Abort, list: &[Entry<Step, Reply>], who: Walker) {
 }
 
 // The lists are the walks of all workers.
-fn assert_all_walks(rt: &impl Abort, lists: &[Vec<Entry<Step, Reply>>], stripes: u8) {
+fn assert_all_walks(rt: &impl Abort, lists: &[Vec<Entry<Step, Reply>>], crowd: Crowd) {
     let mut number = 0;
     for list in lists {
         let who = Walker {
             worker: number,
-            stripe: if stripes == 1 { 0 } else { number },
-            stripes,
+            calls: crowd.calls,
+            stripe: if crowd.stripes == 1 { 0 } else { number },
+            stripes: crowd.stripes,
         };
         assert_walks(rt, list.as_slice(), who);
         number = number.wrapping_add(1);
     }
-    assert_eq!(rt; number, WORKERS);
+    assert_eq!(rt; number, crowd.workers);
 }
 
 // The cache that is left: nobody holds the maintenance, and each read was counted.
-fn assert_left(rt: &impl Abort, shell: &Shell) {
+fn assert_left(rt: &impl Abort, shell: &Shell, reads: u64) {
     assert!(rt; shell.holder().is_none());
     let stats = shell.stats();
-    // Each of the 64 workers makes 1,750 reads.
-    assert_eq!(rt; stats.hits.wrapping_add(stats.misses), 112_000);
+    assert_eq!(rt; stats.hits.wrapping_add(stats.misses), reads);
 }
 
-// A new cache with so many read buffers.
-fn opened(rt: &impl Abort, alloc: Global, stripes: u8) -> Result<Session<Shell>, Fail> {
-    let config = Config {
+// The cache of a crowd.
+fn config(stripes: u8) -> Config {
+    Config {
         capacity: 50,
-        main_percent: 99,
-        spread: Spread::Mixed,
         stripes,
-        journal_limit: 1,
-    };
-    assert!(rt; config.check() == Ok(()));
-    Ok(Session::open(alloc, Shell::new(alloc, &config)?, 8_000_000))
+        ..SMALL
+    }
 }
 
-// Runs all workers in a cache with one read buffer, or with one for each of them.
-fn assert_crowd<R: Threads + Wait + Sync + Abort>(
+// Runs all workers, whose calls pass a gate.
+fn assert_crowd<G: Gate, R: Threads + Wait + Sync + Abort>(
     rt: &R,
     alloc: Global,
-    stripes: u8,
+    crowd: Crowd,
+    gate: &G,
 ) -> Result<(), Fail> {
-    let pieces = pieces(alloc)?;
-    let session = opened(rt, alloc, stripes)?;
-    let driven = driven(rt, alloc, session, pieces, &OpenGate)?;
-    assert_all_walks(rt, driven.lists.as_slice(), stripes);
+    let pieces = pieces(alloc, crowd)?;
+    let session = fresh(rt, alloc, &config(crowd.stripes), 8_000_000)?;
+    let driven = driven(rt, alloc, session, pieces, gate)?;
+    assert_all_walks(rt, driven.lists.as_slice(), crowd);
     assert_own_lists(rt, &driven.session, driven.lists.as_slice());
-    assert_left(rt, driven.session.engine());
+    assert_left(rt, driven.session.engine(), crowd.reads);
     Ok(())
 }
 
+// Each of the 64 workers makes 1,750 reads.
+const MANY_CALLS: Crowd = Crowd {
+    workers: 64,
+    calls: 2_000,
+    reads: 112_000,
+    stripes: 1,
+};
+
 #[test]
 fn a_crowd_at_one_read_buffer_makes_walks(rt: HostRuntime) -> Result<(), Fail> {
-    assert_crowd(&rt, rt.alloc(), 1)
+    assert_crowd(&rt, rt.alloc(), MANY_CALLS, &OpenGate)
 }
 
 #[test]
 fn a_crowd_at_a_read_buffer_each_makes_walks(rt: HostRuntime) -> Result<(), Fail> {
-    assert_crowd(&rt, rt.alloc(), WORKERS)
+    let crowd = Crowd {
+        stripes: 64,
+        ..MANY_CALLS
+    };
+    assert_crowd(&rt, rt.alloc(), crowd, &OpenGate)
+}
+
+// None of the 64 goes on with its first call before all of them have begun theirs. Each makes 14 reads.
+#[test]
+fn sixty_four_workers_are_held_at_once(rt: HostRuntime) -> Result<(), Fail> {
+    let gate = Hold::new(64, 1);
+    let crowd = Crowd {
+        workers: 64,
+        calls: 16,
+        reads: 896,
+        stripes: 64,
+    };
+    assert_crowd(&rt, rt.alloc(), crowd, &gate)?;
+    if gate.is_late() {
+        return Err(Fail::from("workers one after the other, or out of memory for a thread"));
+    }
+    assert_eq!(rt; gate.over(), 1_024);
+    Ok(())
+}
+
+// Each of the 33 makes 88 reads.
+#[test]
+fn thirty_three_workers_pass_the_gate_in_turn(rt: HostRuntime) -> Result<(), Fail> {
+    let gate = Turns::new(rt.alloc(), 33)?;
+    let crowd = Crowd {
+        workers: 33,
+        calls: 100,
+        reads: 2_904,
+        stripes: 1,
+    };
+    assert_crowd(&rt, rt.alloc(), crowd, &gate)?;
+    assert!(rt; gate.is_over(100));
+    Ok(())
 }

@@ -8,9 +8,17 @@ mod actors_tests;
 #[cfg(test)]
 mod crowd_tests;
 #[cfg(test)]
+mod gates;
+#[cfg(test)]
+mod jobs;
+#[cfg(test)]
+mod limits_tests;
+#[cfg(test)]
 mod quiet_run_tests;
 #[cfg(test)]
 mod report_tests;
+#[cfg(test)]
+mod sessions;
 #[cfg(test)]
 mod settled_run_tests;
 #[cfg(test)]

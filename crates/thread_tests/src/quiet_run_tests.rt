@@ -1,23 +1,16 @@
 //! Maintenance that is settled, and quiet runs that are cut off.
+use super::sessions::{SMALL, fresh};
 use journal::{BackFault, Session, SessionFault};
 use maintenance::Shell;
 use quiet_run::{QuietFault, SettleFault, run_quiet, settle};
 use std::alloc::Global;
 use std::process::Abort;
 use std::test::Fail;
-use step_record::{Act, Config, Drain, Entry, Item, Key, Outcome, Reply, Spread, Step, Worker};
-
-const CONFIG: Config = Config {
-    capacity: 8,
-    main_percent: 99,
-    spread: Spread::Mixed,
-    stripes: 1,
-    journal_limit: 1024,
-};
+use step_record::{Act, Config, Drain, Entry, Item, Key, Outcome, Reply, Step, Worker};
 
 // A session in which worker 3 put key 1 and began the maintenance: four steps.
 fn begun(rt: &impl Abort, alloc: Global, limit: usize) -> Result<Session<Shell>, Fail> {
-    let mut session = fresh(rt, alloc, &CONFIG, limit)?;
+    let mut session = fresh(rt, alloc, &SMALL, limit)?;
     for act in [
         Act::Look { key: 1 },
         Act::Put { key: 1 },
@@ -36,18 +29,6 @@ fn make(rt: &impl Abort, session: &mut Session<Shell>, act: Act) -> Result<Reply
         Err(SessionFault::OutOfMemory) => Err(Fail::from("out of memory")),
         Err(_) => Err(Fail::from("a step by hand is refused")),
     }
-}
-
-fn fresh(
-    rt: &impl Abort,
-    alloc: Global,
-    config: &Config,
-    limit: usize,
-) -> Result<Session<Shell>, Fail> {
-    assert!(rt; config.check().is_ok());
-    assert!(rt; 1 <= limit && limit <= 1024);
-    let shell = Shell::new(alloc, config)?;
-    Ok(Session::open(alloc, shell, limit))
 }
 
 fn step(rt: &impl Abort, act: Act) -> Step {
@@ -173,9 +154,9 @@ fn settling_without_a_holder_makes_no_step(rt: HostRuntime) -> Result<(), Fail> 
 // is over its size; hits take nine.
 const KEYS: [Key; 5] = [1, 2, 1, 3, 1];
 
-const SMALL: Config = Config {
+const OF_TWO: Config = Config {
     capacity: 2,
-    ..CONFIG
+    ..SMALL
 };
 
 // Why a quiet run was cut off.
@@ -208,7 +189,7 @@ fn assert_cut_off(
     limit: usize,
     second: QuietFault,
 ) -> Result<(), Fail> {
-    let mut session = fresh(rt, alloc, &SMALL, limit)?;
+    let mut session = fresh(rt, alloc, &OF_TWO, limit)?;
     assert_cut_twice(rt, alloc, &mut session, limit, second)
 }
 
@@ -252,6 +233,6 @@ fn a_quiet_run_answers_the_outcomes(rt: HostRuntime) -> Result<(), Fail> {
         Outcome::Rejected(2),
         Outcome::Hit,
     ];
-    let mut session = fresh(&rt, rt.alloc(), &SMALL, 47)?;
+    let mut session = fresh(&rt, rt.alloc(), &OF_TWO, 47)?;
     assert_outcomes(&rt, rt.alloc(), &mut session, &wanted)
 }

@@ -1,23 +1,11 @@
 //! The reports of small traces, made in two ways and compared with values that were worked out by hand.
+use super::jobs::{counted, failed, job};
 use headline::{BothWays, capacities_both_ways, jobs_both_ways};
 use policy_actors::ActorFault;
 use report::Report;
 use std::process::Abort;
 use std::test::Fail;
-use step_record::{Config, Job, OpenGate, Policy, Spread, Trace};
-
-fn job(policy: Policy, capacity: u32) -> Job {
-    Job {
-        policy,
-        config: Config {
-            capacity,
-            main_percent: 99,
-            spread: Spread::Plain,
-            stripes: 1,
-            journal_limit: 1,
-        },
-    }
-}
+use step_record::{OpenGate, Policy, Trace};
 
 // Both lists are the wanted reports.
 fn compare<R: Abort>(
@@ -31,21 +19,7 @@ fn compare<R: Abort>(
             assert_eq!(rt; reports.together.as_slice(), wanted);
             Ok(())
         }
-        Err(ActorFault::OutOfMemory) => Err(Fail::from("OutOfMemory")),
-        Err(_) => Err(Fail::from("no reports")),
-    }
-}
-
-fn report(policy: Policy, capacity: u32, counts: [u64; 5]) -> Report {
-    let [accesses, hits, misses, evictions, rejections] = counts;
-    Report {
-        policy,
-        capacity,
-        accesses,
-        hits,
-        misses,
-        evictions,
-        rejections,
+        Err(fault) => Err(failed(fault)),
     }
 }
 
@@ -59,10 +33,10 @@ fn jobs_alone_and_together(rt: HostRuntime) -> Result<(), Fail> {
         job(Policy::SegmentedLru, 2),
     ];
     let wanted = [
-        report(Policy::WindowTinyLfu, 2, [5, 2, 3, 1, 1]),
-        report(Policy::Lru, 2, [5, 1, 4, 2, 0]),
-        report(Policy::Clairvoyant, 2, [5, 2, 3, 1, 0]),
-        report(Policy::SegmentedLru, 2, [5, 2, 3, 1, 0]),
+        counted(Policy::WindowTinyLfu, 2, [5, 2, 3, 1, 1]),
+        counted(Policy::Lru, 2, [5, 1, 4, 2, 0]),
+        counted(Policy::Clairvoyant, 2, [5, 2, 3, 1, 0]),
+        counted(Policy::SegmentedLru, 2, [5, 2, 3, 1, 0]),
     ];
     for batch in [1, 2, 65_536] {
         let made = jobs_both_ways(&rt, rt.alloc(), &trace, &jobs, batch, &OpenGate);
@@ -76,9 +50,9 @@ fn capacities_alone_and_together(rt: HostRuntime) -> Result<(), Fail> {
     let trace = Trace::new(vec![in rt.alloc(); 1, 2, 3, 1, 4, 2]?);
     let made = capacities_both_ways(&rt, rt.alloc(), &trace, &job(Policy::Lru, 9), &[1, 2, 3]);
     let wanted = [
-        report(Policy::Lru, 1, [6, 0, 6, 5, 0]),
-        report(Policy::Lru, 2, [6, 0, 6, 4, 0]),
-        report(Policy::Lru, 3, [6, 1, 5, 2, 0]),
+        counted(Policy::Lru, 1, [6, 0, 6, 5, 0]),
+        counted(Policy::Lru, 2, [6, 0, 6, 4, 0]),
+        counted(Policy::Lru, 3, [6, 1, 5, 2, 0]),
     ];
     compare(&rt, made, &wanted)
 }

@@ -1,37 +1,11 @@
 //! A run on threads, and what settles it.
-ghost use Rattle.std.specs.Prelude.{◌≤◌, ◌^◌};
-
+use super::sessions::{SMALL, failed, fresh, pieces_of};
 use drive::{Cause, DriveFault, Driven, SettleFault, drive, settle};
 use journal::Session;
 use maintenance::Shell;
-use std::alloc::{AllocError, Global};
 use std::process::Abort;
 use std::test::Fail;
-use step_record::{Call, Config, OpenGate, Spread};
-
-const CONFIG: Config = Config {
-    capacity: 8,
-    main_percent: 99,
-    spread: Spread::Plain,
-    stripes: 1,
-    journal_limit: 1,
-};
-
-fn new_session(alloc: Global, limit: usize) -> Result<Session<Shell>, Fail>
-    requires { (1 ≤ limit) × (limit ≤ 2 ^ 24) }
-{
-    let shell = Shell::new(alloc, &CONFIG)?;
-    Ok(Session::open(alloc, shell, limit))
-}
-
-// One worker that reads a key, removes it and reads it again.
-fn pieces(alloc: Global) -> Result<Vec<Vec<Call>>, AllocError> {
-    let mut calls = Vec::new(alloc);
-    calls.extend_from_slice(&[Call::Read(1), Call::Remove(1), Call::Read(1)])?;
-    let mut pieces = Vec::new(alloc);
-    pieces.push(calls)?;
-    Ok(pieces)
-}
+use step_record::{Call, OpenGate};
 
 // What a run leaves that makes all walks, or is stopped for memory.
 fn left_by(answer: Result<Driven, DriveFault>) -> Result<Session<Shell>, Fail> {
@@ -44,18 +18,7 @@ fn left_by(answer: Result<Driven, DriveFault>) -> Result<Session<Shell>, Fail> {
                 cause: Cause::Memory,
             },
         ) => Ok(session),
-        Err(fault) => {
-            let text = fault_text(&fault);
-            drop(fault);
-            Err(Fail::from(text))
-        }
-    }
-}
-
-fn fault_text(fault: &DriveFault) -> &'static str {
-    match fault {
-        DriveFault::OutOfMemory { session: _ } => "out of memory",
-        _ => "not driven",
+        Err(fault) => Err(failed(fault)),
     }
 }
 
@@ -73,8 +36,8 @@ fn assert_settles(rt: &impl Abort, session: &mut Session<Shell>) -> Result<(), F
 #[test]
 fn a_stopped_maintenance_is_settled(rt: HostRuntime) -> Result<(), Fail> {
     let alloc = rt.alloc();
-    let pieces = pieces(alloc)?;
-    let session = new_session(alloc, 100)?;
+    let pieces = pieces_of(alloc, &[&[Call::Read(1), Call::Remove(1), Call::Read(1)]])?;
+    let session = fresh(&rt, alloc, &SMALL, 100)?;
     let mut session = left_by(drive(&rt, alloc, session, pieces, &OpenGate))?;
     assert_settles(&rt, &mut session)
 }

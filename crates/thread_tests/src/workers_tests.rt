@@ -1,109 +1,17 @@
 //! Runs of workers on threads, some held back until all have begun.
-ghost use Rattle.std.specs.Prelude.{◌≤◌, ◌^◌};
-
+use super::gates::Hold;
+use super::sessions::{
+    SMALL, assert_own_lists, driven, failed, fault_text, fresh, one_read_each, pieces_of,
+};
+use drive::{Cause, DriveFault, Driven, drive};
 use journal::Session;
 use maintenance::Shell;
 use std::alloc::{AllocError, Global};
 use std::process::Abort;
 use std::sync::Wait;
-use std::sync::atomic::AtomicU64;
-use std::sync::atomic::Ordering::SeqCst;
 use std::test::Fail;
-use std::thread;
 use std::thread::Threads;
-use step_record::{Call, Config, Drain, Entry, Gate, Key, OpenGate, Reply, Spread, Step};
-use workers::{Cause, DriveFault, Driven, drive};
-
-const CONFIG: Config = Config {
-    capacity: 8,
-    main_percent: 99,
-    spread: Spread::Plain,
-    stripes: 1,
-    journal_limit: 1,
-};
-
-// Holds each worker's call n until call n of every worker has begun.
-#[derive(Drop)]
-struct Hold {
-    workers: u64,
-    begun: AtomicU64,
-    late: AtomicU64,
-}
-
-impl Gate for Hold {
-    fn before(&self, _who: u8, n: u64) {
-        self.begun.fetch_add(1, SeqCst);
-        let wanted = n.wrapping_add(1).wrapping_mul(self.workers);
-        for _ in 0..1_000_000 {
-            if self.begun.load(SeqCst) >= wanted {
-                return;
-            }
-            thread::yield_now();
-        }
-        self.late.fetch_add(1, SeqCst);
-    }
-
-    fn after(&self, _who: u8, _n: u64) {}
-}
-
-fn new_session(alloc: Global, limit: usize) -> Result<Session<Shell>, Fail>
-    requires { (1 ≤ limit) × (limit ≤ 2 ^ 24) }
-{
-    let shell = Shell::new(alloc, &CONFIG)?;
-    Ok(Session::open(alloc, shell, limit))
-}
-
-fn fault_text(fault: &DriveFault) -> &'static str {
-    match fault {
-        DriveFault::OutOfMemory { session: _ } => "out of memory",
-        DriveFault::Stopped {
-            session: _,
-            lists: _,
-            cause: Cause::Memory,
-        } => "out of memory",
-        _ => "not driven",
-    }
-}
-
-// What a run that did not make all walks is to a test.
-fn failed(fault: DriveFault) -> Fail {
-    let text = fault_text(&fault);
-    drop(fault);
-    Fail::from(text)
-}
-
-// A run that makes all walks.
-pub(crate) fn driven<G: Gate, R: Threads + Wait + Sync>(
-    rt: &R,
-    alloc: Global,
-    session: Session<Shell>,
-    pieces: Vec<Vec<Call>>,
-    gate: &G,
-) -> Result<Driven, Fail> {
-    drive(rt, alloc, session, pieces, gate).map_err(failed)
-}
-
-// Each list has the session's entries of its worker, in order.
-pub(crate) fn assert_own_lists(
-    rt: &impl Abort,
-    session: &Session<Shell>,
-    lists: &[Vec<Entry<Step, Reply>>],
-) {
-    let mut read: [usize; 64] = [0; 64];
-    for n in 1..=session.len() {
-        let entry = session.entry(n).expect(rt, "an entry");
-        let worker = usize::from(entry.step.worker.number());
-        let list = lists.get(worker).expect(rt, "a list of the worker");
-        let at = read.get_mut(worker).expect(rt, "a worker below the limit");
-        assert!(rt; list.get(*at) == Some(entry));
-        *at = at.wrapping_add(1);
-    }
-    let mut total: usize = 0;
-    for list in lists {
-        total = total.wrapping_add(list.len());
-    }
-    assert_eq!(rt; total, session.len());
-}
+use step_record::{Call, Drain, OpenGate};
 
 // Runs the pieces, each call held until all workers have begun theirs.
 fn held_run<R: Threads + Wait + Sync + Abort>(
@@ -112,13 +20,9 @@ fn held_run<R: Threads + Wait + Sync + Abort>(
     session: Session<Shell>,
     pieces: Vec<Vec<Call>>,
 ) -> Result<Driven, Fail> {
-    let gate = Hold {
-        workers: pieces.len() as u64,
-        begun: AtomicU64::new(0),
-        late: AtomicU64::new(0),
-    };
+    let gate = Hold::new(pieces.len() as u64, u64::MAX);
     let driven = driven(rt, alloc, session, pieces, &gate)?;
-    if gate.late.load(SeqCst) > 0 {
+    if gate.is_late() {
         return Err(Fail::from("workers one after the other, or out of memory for a thread"));
     }
     Ok(driven)
@@ -141,32 +45,10 @@ fn assert_held_run<R: Threads + Wait + Sync + Abort>(
     pieces: Vec<Vec<Call>>,
     counts: (u64, u64, u64),
 ) -> Result<(), Fail> {
-    let session = new_session(alloc, 1000)?;
+    let session = fresh(rt, alloc, &SMALL, 1000)?;
     let driven = held_run(rt, alloc, session, pieces)?;
     assert_counts(rt, &driven, counts);
     Ok(())
-}
-
-// A piece for each worker, with its calls in order.
-fn pieces_of(alloc: Global, pieces: &[&[Call]]) -> Result<Vec<Vec<Call>>, AllocError> {
-    let mut owned = Vec::new(alloc);
-    for calls in pieces {
-        let mut piece = Vec::new(alloc);
-        piece.extend_from_slice(calls)?;
-        owned.push(piece)?;
-    }
-    Ok(owned)
-}
-
-// A read of one of so many keys for each worker.
-fn one_read_each(alloc: Global, keys: Key) -> Result<Vec<Vec<Call>>, AllocError> {
-    let mut pieces = Vec::new(alloc);
-    for key in 0..keys {
-        let mut piece = Vec::new(alloc);
-        piece.push(Call::Read(key))?;
-        pieces.push(piece)?;
-    }
-    Ok(pieces)
 }
 
 #[test]
@@ -192,7 +74,7 @@ fn assert_added_anew(rt: &impl Abort, driven: &Driven) {
 fn a_removed_key_is_added_anew(rt: HostRuntime) -> Result<(), Fail> {
     let alloc = rt.alloc();
     let pieces = pieces_of(alloc, &[&[Call::Read(1), Call::Remove(1), Call::Read(1)]])?;
-    let session = new_session(alloc, 100)?;
+    let session = fresh(&rt, alloc, &SMALL, 100)?;
     let driven = driven(&rt, alloc, session, pieces, &OpenGate)?;
     assert_added_anew(&rt, &driven);
     Ok(())
@@ -219,7 +101,7 @@ fn stopped<R: Threads + Wait + Sync + Abort>(
     alloc: Global,
 ) -> Result<Session<Shell>, Fail> {
     let pieces = one_read_each(alloc, 1)?;
-    let session = new_session(alloc, 4)?;
+    let session = fresh(rt, alloc, &SMALL, 4)?;
     let Err(fault) = drive(rt, alloc, session, pieces, &OpenGate) else {
         return Err(Fail::from("not stopped"));
     };
@@ -278,7 +160,7 @@ fn idle_workers(alloc: Global, workers: usize) -> Result<Vec<Vec<Call>>, AllocEr
 fn no_worker_or_too_many_is_a_fault(rt: HostRuntime) -> Result<(), Fail> {
     for workers in [0, 65] {
         let pieces = idle_workers(rt.alloc(), workers)?;
-        let session = new_session(rt.alloc(), 9)?;
+        let session = fresh(&rt, rt.alloc(), &SMALL, 9)?;
         let refusal = refused(drive(&rt, rt.alloc(), session, pieces, &OpenGate))?;
         assert_eq!(rt; refusal, Refusal::Workers(0));
     }

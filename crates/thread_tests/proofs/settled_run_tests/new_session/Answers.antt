@@ -1,6 +1,0 @@
-use Rattle.std.proofs.Common.{refl}
-use Rattle.thread_tests.proofs.settled_run_tests.new_session.Goals as goal
-
-pub new-requires : goal.new-requires
-unfolding lib.Count.ones
-new-requires c = refl
