@@ -32,8 +32,7 @@ module _ (k : ℕ) (old new : ShellSession) where
   pub left_by : (o : Result (Unit {0}) BackFault) → OnOk o (IsMovedTo (length old.kept - k) old new) → IfErr o (StandsBack (λ x. x) old new k) → Left (undone_of k o)
   left_by (Ok done) h e = moved k h
   left_by (Err back.PastStart) h e =
-      let all : length old.kept ≡ length old.kept - 0 = omega arith in
-      (
+      let all : length old.kept ≡ length old.kept - 0 = omega arith in (
         e.opening,
         e.kept ∙ sym (take-length old.kept) ∙ ap (λ n. take n old.kept) all,
         e.tail ∙ sym (drop_first old.kept old.tail) ∙ ap (λ n. drop n (old.kept ++ old.tail)) all,
