@@ -91,6 +91,27 @@ fn each_next_use_is_told(rt: HostRuntime) -> Result<(), Fail> {
     Ok(())
 }
 
+// A thousand keys in turn: each is used again a thousand accesses later, but in the last thousand.
+#[test]
+fn each_next_use_of_200_000_accesses_is_told(rt: HostRuntime) -> Result<(), Fail> {
+    let mut keys = Vec::new(rt.alloc());
+    for place in 0..200_000 {
+        keys.push(place % 1000)?;
+    }
+    assert!(rt; keys.len() == 200_000);
+    let uses = NextUse::build(rt.alloc(), &Trace::new(keys))?;
+    assert!(rt; uses.len() == 200_000);
+    for place in 0..200_000 {
+        let next = if place < 199_000 {
+            Some(place + 1000)
+        } else {
+            None
+        };
+        assert_eq!(rt; uses.next(place as usize), next);
+    }
+    Ok(())
+}
+
 #[test]
 fn shared_next_uses_outlive_their_first_owner(rt: HostRuntime) -> Result<(), Fail> {
     let keys = Vec::from_slice(rt.alloc(), &[1, 2, 3, 1, 2])?;

@@ -15,6 +15,8 @@ mod journal_tests;
 #[cfg(test)]
 mod random_walks;
 #[cfg(test)]
+mod range_tests;
+#[cfg(test)]
 mod retry_tests;
 #[cfg(test)]
 mod session_tests;
