@@ -11,6 +11,9 @@ use clairvoyant::{Clairvoyant, NextUse, UseRecord};
 use std::alloc::{AllocError, Global};
 use step_record::{Engine, Job, Key, Outcome, Stats, StepFault, Trace};
 
+// How many keys of a trace are looked at for how many bits they have.
+const KEYS_TO_SEE: usize = 4096;
+
 /// A cache of any policy.
 #[derive(Drop)]
 pub enum AnyPolicy {
@@ -59,7 +62,7 @@ impl AnyPolicy {
     {
         match design_of(job.policy) {
             Design::Queues(design) => {
-                let cache = QueueCache::with_design(alloc, *job, design)?;
+                let cache = QueueCache::with_design(alloc, *job, design, key_bits(trace))?;
                 Ok(AnyPolicy::Queues(cache))
             }
             Design::KnowsTrace => {
@@ -245,4 +248,17 @@ impl Engine for AnyPolicy {
     ghost counted_out = { any_ends };
 
     ghost paced = { any_paced };
+}
+
+// How many bits the keys of a trace have, as far as some of them tell: an index may go by it, and no contract does.
+fn key_bits(trace: &Trace) -> u32 {
+    let keys = trace.keys();
+    let stride = keys.len() / KEYS_TO_SEE + 1;
+    let mut seen = 0u64;
+    for i in 0..KEYS_TO_SEE {
+        if let Some(key) = keys.get(i.saturating_mul(stride)) {
+            seen |= *key;
+        }
+    }
+    u64::BITS.wrapping_sub(seen.leading_zeros())
 }

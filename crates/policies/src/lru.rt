@@ -29,6 +29,6 @@ impl QueueCache<LruMark> {
             policy: Policy::Lru,
             config: *config,
         };
-        QueueCache::with_design(alloc, job, LRU)
+        QueueCache::with_design(alloc, job, LRU, u64::BITS)
     }
 }

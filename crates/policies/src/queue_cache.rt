@@ -62,12 +62,13 @@ impl<P: Drop> QueueCache<P> {
     ghost use Rattle.policies.specs.QueueStep.{queue_act, queue_record_of, queue_undone, queue_asks, QueueFits};
     ghost use Rattle.policies.specs.QueueStep.{queue_words, queue_pace};
 
-    /// An empty cache for a job. It requires a configuration that `Config::check` accepts, and the design of the job's
-    /// policy. The one error is that an allocation failed.
+    /// An empty cache for a job over keys most of which have so many bits. It requires a configuration that
+    /// `Config::check` accepts, and the design of the job's policy. The one error is that an allocation failed.
     pub(crate) fn with_design(
         alloc: Global,
         job: Job,
         design: QueueDesign,
+        key_bits: u32,
     ) -> Result<QueueCache<P>, AllocError>
         requires checked { config_fault job.config ≡ Ok tt }
         requires design { design_of job.policy ≡ Queues design }
@@ -78,7 +79,7 @@ impl<P: Drop> QueueCache<P> {
         Ok(QueueCache {
             job,
             rules: design.rules(&job.config),
-            segments: Segments::for_items(alloc, job.config.capacity),
+            segments: Segments::for_keys(alloc, job.config.capacity, key_bits),
             frequency,
             stats: Stats::NONE,
             policy: PhantomData,

@@ -30,6 +30,6 @@ impl QueueCache<SegmentedLruMark> {
             policy: Policy::SegmentedLru,
             config: *config,
         };
-        QueueCache::with_design(alloc, job, SEGMENTED_LRU)
+        QueueCache::with_design(alloc, job, SEGMENTED_LRU, u64::BITS)
     }
 }

@@ -35,6 +35,6 @@ impl QueueCache<TinyLfuMark> {
             policy,
             config: *config,
         };
-        QueueCache::with_design(alloc, job, design)
+        QueueCache::with_design(alloc, job, design, u64::BITS)
     }
 }

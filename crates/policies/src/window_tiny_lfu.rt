@@ -30,6 +30,6 @@ impl QueueCache<WindowTinyLfuMark> {
             policy: Policy::WindowTinyLfu,
             config: *config,
         };
-        QueueCache::with_design(alloc, job, WINDOW_TINY_LFU)
+        QueueCache::with_design(alloc, job, WINDOW_TINY_LFU, u64::BITS)
     }
 }

@@ -1,6 +1,7 @@
 -- The hash index: for each bucket a search tree of the slots whose items share it. A slot's left branch stands in the
 -- slot, its right branch behind the roots of the index; 0 is no slot.
 use Rattle.std.specs.Prelude.{◌≡◌, ℕ, suc, zero, ◌+◌, ◌-◌, ◌*◌, ◌/◌, ◌%◌, ◌^◌, ◌≤◌, ◌<◌, eqb, cond, Bool, true, false}
+use Rattle.std.specs.Prelude.{nat_lt, if◌then◌else◌}
 use Rattle.std.specs.Prelude.{List, [], ◌∷◌, length, slice_index}
 use Rattle.step_record.specs.declared.item.Item.{Item}
 use Rattle.segments.specs.Items.{same}
@@ -106,13 +107,18 @@ pub record IsBare (index : Index) (slots : List Slot) (at : ℕ) : Type 0 where
   pub left : slice_index (chains slots) at ≡ 0
   pub right : slice_index index.heads.items (2 ^ index.bits + at) ≡ 0
 
--- a key and a node spread over the upper bits of one product by a number near 2^64 over the golden ratio (Knuth's
+-- a key and a node as one number: the key itself where the node is 0
+abbrev pub mixed : Item → ℕ
+mixed i = (i.key + i.node * 2 ^ 32) % 2 ^ 64
+
+-- that number spread over the upper bits of a product by a number near 2^64 over the golden ratio (Knuth's
 -- multiplicative hashing)
 abbrev pub hash : Item → ℕ
-hash i = ((i.key + i.node * 2 ^ 32) * 11400714819323198485) % 2 ^ 64
+hash i = (mixed i * 11400714819323198485) % 2 ^ 64
 
+-- a number below the number of buckets is its own bucket; any other is spread
 abbrev pub bucket : ℕ → Item → ℕ
-bucket bits i = hash i / 2 ^ (64 - bits)
+bucket bits i = if nat_lt (mixed i) (2 ^ bits) then mixed i else hash i / 2 ^ (64 - bits)
 
 -- how many links an index has: a root for each bucket, and right branches for half as many slots and two more
 abbrev pub index_size : ℕ → ℕ

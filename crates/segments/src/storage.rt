@@ -57,9 +57,18 @@ impl Segments {
         ensures lists { result.lists ≡ empty }
         ensures distinct { IsDistinct result.lists }
     {
+        Segments::for_keys(alloc, items, 0)
+    }
+
+    /// The same, where most keys are below 2^key_bits. Where that is not too many more than there are items, the index
+    /// has a place for each such key, and finds it without a search.
+    pub fn for_keys(alloc: Global, items: u32, key_bits: u32) -> Segments
+        ensures lists { result.lists ≡ empty }
+        ensures distinct { IsDistinct result.lists }
+    {
         Segments {
             alloc,
-            table: Table::for_items(alloc, items),
+            table: Table::for_keys(alloc, items, key_bits),
             warmth: 0,
         }
     }

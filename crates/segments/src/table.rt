@@ -41,8 +41,14 @@ impl Model for Table {
 // larger index has two for each: past the processor's caches, its length costs more than a second slot in a tree.
 const MAX_SPARSE_BITS: u32 = 18;
 
-// How many bits number the buckets of a first index for so many items.
-fn bits_for(items: u32) -> u32 {
+// Up to so many bits, an index has a bucket for each key: 32 MiB of them.
+const MAX_KEY_BITS: u32 = 23;
+
+// For a bucket of each key there are up to 2^4 times as many buckets as the items ask for.
+const MAX_MORE_BITS: u32 = 4;
+
+// How many bits number the buckets of a first index for so many items, whatever their keys are.
+fn bits_for_items(items: u32) -> u32 {
     let bits = u32::wrapping_sub(33, items.wrapping_sub(1).leading_zeros());
     if bits < MAX_SPARSE_BITS {
         bits + 1
@@ -51,16 +57,28 @@ fn bits_for(items: u32) -> u32 {
     }
 }
 
+// How many bits number the buckets of a first index for so many items, most of whose keys have so many bits.
+fn bits_for(items: u32, key_bits: u32) -> u32 {
+    let bits = bits_for_items(items);
+    let more = key_bits.wrapping_sub(bits);
+    if key_bits <= MAX_KEY_BITS && more <= MAX_MORE_BITS {
+        key_bits
+    } else {
+        bits
+    }
+}
+
 impl Table {
-    /// No slots yet. The first index will be large enough for so many items. Allocates nothing.
-    pub(crate) fn for_items(alloc: Global, items: u32) -> Table
+    /// No slots yet. The first index will be large enough for so many items, and have a bucket for each key of so many
+    /// bits if that is not too many. Allocates nothing.
+    pub(crate) fn for_keys(alloc: Global, items: u32, key_bits: u32) -> Table
         ensures { result ≡ [] }
     {
         Table {
             slots: Vec::new(alloc),
             index: Index {
                 heads: Vec::new(alloc),
-                bits: bits_for(items),
+                bits: bits_for(items, key_bits),
             },
             lengths: Lengths {
                 window: 0,
