@@ -12,7 +12,6 @@ mod fault;
 mod files;
 mod limits;
 mod part;
-mod progress;
 mod run;
 mod sweep;
 
@@ -97,6 +96,3 @@ fn main(rt: HostRuntime) -> ExitCode {
     );
     ExitCode::from(status)
 }
-
-#[cfg(test)]
-mod tests;

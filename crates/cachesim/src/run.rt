@@ -6,9 +6,9 @@ ghost use Rattle.cachesim.specs.Jobs.{jobs_by_policy, reports_on};
 ghost use Rattle.cachesim.specs.Run.{Reports};
 
 use crate::fault::Fault;
-use crate::progress::{Watch, Work};
 use command_line::RunArguments;
 use policy_actors::{ActorFault, run_actors};
+use progress::{Watch, Work};
 use report::{Report, write_reports};
 use std::alloc::{AllocError, Global};
 use std::io::{Read, Write};

@@ -6,10 +6,10 @@ ghost use Rattle.cachesim.specs.Jobs.{jobs_by_policy, reports_on};
 ghost use Rattle.cachesim.specs.Run.{Reports};
 
 use crate::fault::Fault;
-use crate::progress::{Watch, Work};
 use crate::run::jobs;
 use command_line::SweepArguments;
 use policy_actors::{ActorFault, sweep_batches, sweep_each};
+use progress::{Watch, Work};
 use report::{Report, write_reports};
 use std::alloc::Global;
 use std::io::{Read, Write};

@@ -1,8 +1,7 @@
 //! The grammar of a line.
 ghost use Rattle.std.specs.Prelude.{◌≡◌, ◌∷◌};
-ghost use Rattle.debug_commands.specs.Commands.{command_in, command_line_of, command_named, line_in, point_at};
+ghost use Rattle.debug_commands.specs.Commands.{command_in, command_line_of, command_named, point_at};
 ghost use Rattle.text_lines.specs.Reads.{with_rest};
-ghost use Rattle.debug_commands.specs.Words.{words_in};
 
 use crate::breakpoint::Breakpoint;
 use crate::command::{Command, Dialect, Line};
@@ -11,18 +10,11 @@ use crate::words::Words;
 use text_lines::trimmed;
 
 /// What a line says, which is given without its line feed.
+#[tactic(auto, unfolding(crate::specs::Commands::line_in))]
 pub fn line(dialect: Dialect, text: &[u8]) -> Line
     ensures { result ≡ command_line_of dialect text.now }
 {
-    line_read(dialect, trimmed(text))
-}
-
-// What the words of a text say.
-#[tactic(auto, unfolding(crate::specs::Commands::line_in))]
-fn line_read(dialect: Dialect, text: &[u8]) -> Line
-    ensures { result ≡ line_in dialect (words_in text.now) }
-{
-    let mut words = Words::of(text);
+    let mut words = Words::of(trimmed(text));
     let Some(first) = words.next() else {
         return Line::Empty;
     };

@@ -8,7 +8,7 @@ ghost use Rattle.debug_policies.specs.OnePolicy.{age_at, counts_line, holds_line
 ghost use Rattle.debug_policies.specs.OnePolicy.{spaced_key};
 
 use debug_commands::{push_bytes, push_count, push_number};
-use journal::{BackFault, Session, SessionFault};
+use journal::{GotoFault, Session, SessionFault};
 use policies::{AnyPolicy, any_accepts, any_answers, any_stands};
 use std::alloc::{AllocError, Global};
 use std::marker::Model;
@@ -79,9 +79,8 @@ impl<'a> OnePolicy<'a> {
         ensures trace { self.new.trace ≡ self.old.trace }
         ensures at { OnOk result (self.new.at ≡ n) }
     {
-        let at = self.position();
-        if n < at {
-            return self.back(at - n);
+        if n < self.position() {
+            return self.undo_to(n);
         }
         'accesses: while self.position() < n {
             self.next()?;
@@ -89,18 +88,18 @@ impl<'a> OnePolicy<'a> {
         Ok(())
     }
 
-    // Undoes the last `k` accesses.
-    fn back(&mut self, k: usize) -> Result<(), AllocError>
-        requires { k ≤ self.old.at }
+    // Undoes the accesses past the first `n`.
+    fn undo_to(&mut self, n: usize) -> Result<(), AllocError>
+        requires { n ≤ self.old.at }
         ensures job { self.new.job ≡ self.old.job }
         ensures trace { self.new.trace ≡ self.old.trace }
-        ensures at { OnOk result (self.new.at ≡ self.old.at - k) }
+        ensures at { OnOk result (self.new.at ≡ n) }
     {
         any_stands();
-        match self.session.back(k) {
+        match self.session.goto(n) {
             Ok(()) => Ok(()),
-            Err(BackFault::OutOfMemory { .. }) => Err(AllocError),
-            Err(BackFault::PastStart) => unreachable!(),
+            Err(GotoFault::OutOfMemory { .. }) => Err(AllocError),
+            Err(GotoFault::PastEnd) => unreachable!(),
         }
     }
 

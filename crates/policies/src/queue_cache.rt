@@ -118,32 +118,6 @@ impl<P: Drop> QueueCache<P> {
         Ok(effect.outcome)
     }
 
-    // Makes an access, and records what it takes to undo it.
-    #[inline(always)]
-    fn step(&mut self, key: Key) -> Result<(Outcome, AccessRecord), StepFault>
-        ensures accepted { IfOk result (λ r. queue_act self.old key ≡ Some (r.0, self.new)) }
-        ensures fits { IfOk result (λ r. QueueFits r.1 self.new) }
-        ensures undone { IfOk result (λ r. queue_undone r.1 self.new ≡ self.old) }
-        ensures words { IfOk result (λ r. words_of_halvings (queue_pace self.new)
-            ≡ words_of_halvings (queue_pace (queue_undone r.1 self.new)) + queue_words r.1) }
-        ensures not_now { result ≡ Err StepFault.NotNow ↔ queue_act self.old key ≡ None }
-        ensures err { OnErr result (self.new ≡ self.old) }
-        ensures record_is { IfOk result (λ r. r.1 ≡ queue_record_of key self.old) }
-    {
-        make_room(&self.stats, &mut self.segments)?;
-        let Ok(counting) = record_in(&mut self.frequency, key) else {
-            return Err(StepFault::OutOfMemory);
-        };
-        let effect = access_key::<Recorder>(&mut self.segments, &self.frequency, &self.rules, key);
-        self.stats.count(effect.outcome);
-        let record = AccessRecord {
-            counting,
-            moves: effect.moves,
-            outcome: effect.outcome,
-        };
-        Ok((effect.outcome, record))
-    }
-
     /// The job that it runs.
     pub fn job(&self) -> Job
         ensures { result ≡ self.now.job }
@@ -219,7 +193,19 @@ impl<P: Drop> Engine for QueueCache<P> {
         // The record is that of an access to this key, from the cache before it, and nothing beside.
         ensures record_is { IfOk result (λ r. r.1 ≡ queue_record_of step.now self.old) }
     {
-        self.step(*step)
+        let key = *step;
+        make_room(&self.stats, &mut self.segments)?;
+        let Ok(counting) = record_in(&mut self.frequency, key) else {
+            return Err(StepFault::OutOfMemory);
+        };
+        let effect = access_key::<Recorder>(&mut self.segments, &self.frequency, &self.rules, key);
+        self.stats.count(effect.outcome);
+        let record = AccessRecord {
+            counting,
+            moves: effect.moves,
+            outcome: effect.outcome,
+        };
+        Ok((effect.outcome, record))
     }
 
     fn undo(&mut self, done: AccessRecord) -> Result<(), AccessRecord>

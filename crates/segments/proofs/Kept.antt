@@ -6,11 +6,12 @@ use Rattle.segments.specs.declared.records.Queue.TheVariants.{Window, Probation,
 use Rattle.segments.specs.declared.lengths.Lengths.{Lengths}
 use Rattle.segments.specs.declared.slot.Slot.{Slot}
 use Rattle.segments.specs.Queues.{IsDistinct}
-use Rattle.segments.specs.Ring.{count, used, Order, ring, order_of, lists}
+use Rattle.segments.specs.Ring.{count, used, Order, ring, order_of, lists, IsQueued}
 use Rattle.segments.specs.Index.{IsLoaded}
 use Rattle.segments.specs.Table.{spare_in, lengths_of, raised, lowered, IsInSlots, IsKept}
 use Rattle.segments.proofs.Growing.{still_loaded}
 use Rattle.segments.proofs.Finding.{slots-length}
+use Rattle.segments.proofs.Holding.{used-real, used-within}
 use Rattle.segments.proofs.Calls.{some-slots}
 
 pub some-used : (slots : List Slot) (k : ℕ) → 1 ≤ count k (used (order_of slots)) → 0 < length slots
@@ -62,3 +63,11 @@ items-few (x ∷ slots) heads bits n k =
     let ring = ring-length (order_of all) in
     let few = k.few in
     rw k.counted (omega (arith, long, size, ring, few))
+
+-- a slot in use is behind the sentinels, and within the slots
+pub used-slot : (slots : List Slot) (k : ℕ) → IsQueued slots (order_of slots) → 1 ≤ count k (used (order_of slots)) → (4 ≤ k) × (k < length slots)
+used-slot slots k h u =
+    let r = used-real (order_of slots) k h.linked.once u in
+    let w = used-within slots (order_of slots) h k u in
+    let l = slots-length slots in
+    (r, omega (arith, w, l))

@@ -1,5 +1,5 @@
 //! The line of progress: its text, and when it is drawn and cleared.
-use crate::progress::{Line, ProgressLine, Watch, Work};
+use super::progress_line::{Line, ProgressLine, Watch, Work};
 use std::fmt::{Display, Write};
 use std::rt::Clock;
 use std::sync::atomic::AtomicU64;

@@ -2,7 +2,7 @@ use Rattle.policies.proofs.Reached.{reached-halvings, reached-small, access-reac
 use Rattle.std.proofs.Common.{◌∙◌, ap}
 use Rattle.policies.specs.QueueStep.{queue_record_of}
 use Rattle.policies.proofs.Recorded.{access-recorded}
-use Rattle.policies.proofs.queue_cache.QueueCache.step.Goals as goal
+use Rattle.policies.proofs.queue_cache.QueueCacheEngine.apply.Goals as goal
 
 pub record_in-requires : goal.record_in-requires
 record_in-requires g c = reached-halvings _ c.self.invariant.reached
@@ -14,7 +14,7 @@ pub invariant_of-self-2 : goal.invariant_of-self-2
 invariant_of-self-2 g c = record {
   rules = c.self.invariant.rules;
   reached = access-reached c.self.inside.job c.self.inside.rules c.self.inside.segments.lists c.make_room.new.segments.lists c.access_key-effect.new.segments.lists
-      c.self.inside.frequency c.record_in.new.frequency c.self.inside.stats c.count.new.self c.args.key c.access_key-effect.result
+      c.self.inside.frequency c.record_in.new.frequency c.self.inside.stats c.count.new.self c.args.step.now c.access_key-effect.result
       c.self.invariant.rules c.self.invariant.reached c.in_ok-make_room.ensures.below c.make_room.ensures.lists c.in-Ok.ensures.after
       c.access_key-effect.ensures.outcome c.access_key-effect.ensures.lists c.count.ensures;
 }
@@ -25,7 +25,7 @@ returns-clause-words g c = counting-weighs c.in-Ok.counting c.record_in.new.freq
 pub returns-clause-record_is : goal.returns-clause-record_is
 returns-clause-record_is g c =
     access-recorded c.self.inside.job c.self.inside.rules c.self.inside.segments.lists c.make_room.new.segments.lists
-    c.self.inside.frequency c.record_in.new.frequency c.self.inside.stats c.args.key c.in-Ok.counting c.access_key-effect.result
+    c.self.inside.frequency c.record_in.new.frequency c.self.inside.stats c.args.step.now c.in-Ok.counting c.access_key-effect.result
     c.self.invariant.rules c.make_room.ensures.lists c.in-Ok.ensures.after c.in-Ok.ensures.record
     c.access_key-effect.ensures.outcome c.access_key-effect.ensures.record
-    ∙ ap (queue_record_of c.args.key) c.self.view_is
+    ∙ ap (queue_record_of c.args.step.now) c.self.view_is
