@@ -136,6 +136,7 @@ fn note_hits(
     any_answers();
     let keys = trace.keys();
     for i in start..end {
+        cache.warm_at(keys, i);
         let outcome = access::<Noting>(cache, keys[i])?;
         noted[i - start] = hits(outcome);
     }
@@ -164,6 +165,7 @@ fn compare_hits(
     any_answers();
     let keys = trace.keys();
     for i in start..end {
+        cache.warm_at(keys, i);
         let outcome = access::<Comparing>(cache, keys[i])?;
         if hits(outcome) != noted[i - start] {
             return Ok(Some(i));

@@ -1,6 +1,6 @@
 //! All policies as one engine.
 ghost use Rattle.std.specs.Prelude.{◌≡◌, ◌+◌, ◌≤◌, ◌↔◌, IfOk, IfErr, IfSome, OnOk, OnErr};
-ghost use Rattle.std.specs.Prelude.{Ok, Err, Some, None, [], option_map};
+ghost use Rattle.std.specs.Prelude.{Ok, Err, Some, None, [], option_map, length};
 ghost use Rattle.step_record.specs.declared.limits.TheConstants.{MAX_STEPS};
 
 use crate::design::{Design, design_of};
@@ -10,6 +10,9 @@ use admission::Frequency;
 use clairvoyant::{Clairvoyant, NextUse, UseRecord};
 use std::alloc::{AllocError, Global};
 use step_record::{Engine, Job, Key, Outcome, Stats, StepFault, Trace};
+
+// For so many accesses at once what they read first is read ahead.
+const AHEAD: usize = 16;
 
 /// A cache of any policy.
 #[derive(Drop)]
@@ -81,6 +84,18 @@ impl AnyPolicy {
         match self {
             AnyPolicy::Queues(cache) => cache.warm(keys),
             AnyPolicy::Optimal(_) => {}
+        }
+    }
+
+    /// The same from the key at `i` on, once for each few keys: to be called before each access of a loop over them.
+    #[inline(always)]
+    pub fn warm_at(&mut self, keys: &[Key], i: usize)
+        requires { i ≤ length keys.now }
+        ensures { self.new ≡ self.old }
+    {
+        if i % AHEAD == 0 {
+            let end = keys.len().min(i + AHEAD);
+            self.warm(&keys[i..end]);
         }
     }
 

@@ -1,5 +1,5 @@
 //! An actor's cache: the accesses of a trace, batch by batch, and the report at its end.
-ghost use Rattle.std.specs.Prelude.{◌≡◌, ◌≤◌, [], ◌++◌, ℕ, List, length, take, drop, OnOk, IfSome};
+ghost use Rattle.std.specs.Prelude.{◌≡◌, [], ◌++◌, ℕ, List, take, drop, OnOk, IfSome};
 ghost use Rattle.step_record.specs.declared.job.Job.{Job};
 ghost use Rattle.policies.specs.AnyPolicy.{Stands};
 ghost use Rattle.policy_actors.specs.Accesses.{IsNext};
@@ -9,9 +9,6 @@ use policies::{AnyPolicy, any_accepts, any_reports, any_stands};
 use report::Report;
 use std::alloc::{AllocError, Global};
 use step_record::{Gate, Job, Key, MAX_BATCH, StepFault, Trace};
-
-// For so many accesses at once what they read first is read ahead.
-const AHEAD: usize = 16;
 
 /// Makes the accesses in turn, which are the next ones of a trace. The one error is out of memory; the cache has made
 /// some of them then, and is of no more use.
@@ -23,7 +20,7 @@ pub fn access_all(cache: &mut AnyPolicy, keys: &[Key]) -> Result<(), AllocError>
     any_stands();
     any_accepts();
     for i in 0..keys.len() {
-        warm_at(cache, keys, i);
+        cache.warm_at(keys, i);
         match cache.access::<Report>(keys[i]) {
             Ok(_) => {}
             Err(StepFault::OutOfMemory) => return Err(AllocError),
@@ -31,18 +28,6 @@ pub fn access_all(cache: &mut AnyPolicy, keys: &[Key]) -> Result<(), AllocError>
         }
     }
     Ok(())
-}
-
-// Reads ahead what the next accesses read first, once for each few of them.
-#[inline(always)]
-fn warm_at(cache: &mut AnyPolicy, keys: &[Key], i: usize)
-    requires { i ≤ length keys.now }
-    ensures { cache.new ≡ cache.old }
-{
-    if i % AHEAD == 0 {
-        let end = keys.len().min(i + AHEAD);
-        cache.warm(&keys[i..end]);
-    }
 }
 
 /// The same in batches of `MAX_BATCH` accesses, with the gate called before and after each, as worker 0, with the
