@@ -2,6 +2,7 @@
 ghost use Rattle.std.specs.Prelude.{◌≤◌};
 ghost use Rattle.step_record.specs.declared.limits.TheConstants.{MAX_CAPACITY};
 
+use super::assertions::assert_equal;
 use clairvoyant::{Clairvoyant, NextUse};
 use std::alloc::{AllocError, Global};
 use std::process::Abort;
@@ -47,16 +48,17 @@ fn the_key_whose_next_use_is_farthest_leaves(rt: HostRuntime) -> Result<(), Fail
         (2, Outcome::Hit),
     ];
     assert_outcomes(&rt, &mut cache, &wanted);
-    assert_eq!(rt; cache.apply(&1).err(), Some(StepFault::NotNow));
-    assert_eq!(rt;
+    assert_equal(&rt, cache.apply(&1).err(), Some(StepFault::NotNow));
+    assert_equal(
+        &rt,
         cache.stats(),
         Stats {
             accesses: 5,
             hits: 2,
             misses: 3,
             evictions: 1,
-            rejections: 1
-        }
+            rejections: 1,
+        },
     );
     Ok(())
 }
@@ -64,8 +66,8 @@ fn the_key_whose_next_use_is_farthest_leaves(rt: HostRuntime) -> Result<(), Fail
 #[test]
 fn of_keys_never_used_again_the_one_accessed_first_leaves(rt: HostRuntime) -> Result<(), Fail> {
     let mut cache = opened(rt.alloc(), &[1, 2, 3, 4], 2)?;
-    assert_eq!(rt; cache.apply(&2).err(), Some(StepFault::NotNow));
-    assert_eq!(rt; cache.standing(), 0);
+    assert_equal(&rt, cache.apply(&2).err(), Some(StepFault::NotNow));
+    assert_equal(&rt, cache.standing(), 0);
     let wanted = [
         (1, Outcome::Kept),
         (2, Outcome::Kept),
@@ -86,7 +88,7 @@ fn each_next_use_is_told(rt: HostRuntime) -> Result<(), Fail> {
     assert!(rt; uses.len() == 5);
     for (place, next) in [(0, Some(3)), (1, Some(4)), (2, None), (3, None), (4, None)] {
         assert!(rt; place < uses.len());
-        assert_eq!(rt; uses.next(place), next);
+        assert_equal(&rt, uses.next(place), next);
     }
     Ok(())
 }
@@ -107,7 +109,7 @@ fn each_next_use_of_200_000_accesses_is_told(rt: HostRuntime) -> Result<(), Fail
         } else {
             None
         };
-        assert_eq!(rt; uses.next(place as usize), next);
+        assert_equal(&rt, uses.next(place as usize), next);
     }
     Ok(())
 }
@@ -123,7 +125,7 @@ fn shared_next_uses_outlive_their_first_owner(rt: HostRuntime) -> Result<(), Fai
     assert!(rt; second.len() == 5);
     for (place, next) in [(0, Some(3)), (1, Some(4)), (2, None), (3, None), (4, None)] {
         assert!(rt; place < second.len());
-        assert_eq!(rt; second.next(place), next);
+        assert_equal(&rt, second.next(place), next);
     }
     Ok(())
 }
@@ -132,8 +134,8 @@ fn shared_next_uses_outlive_their_first_owner(rt: HostRuntime) -> Result<(), Fai
 fn evict_and_undo(rt: &impl Abort, cache: &mut Clairvoyant, key: Key) {
     match cache.apply(&key) {
         Ok((outcome, record)) => {
-            assert_eq!(rt; outcome, Outcome::Evicted(1));
-            assert_eq!(rt; record.outcome(), outcome);
+            assert_equal(rt, outcome, Outcome::Evicted(1));
+            assert_equal(rt, record.outcome(), outcome);
             assert!(rt; cache.undo(record).is_ok());
         }
         Err(_) => assert!(rt; false, "refused"),
@@ -144,7 +146,7 @@ fn assert_made_again(rt: &impl Abort, cache: &mut Clairvoyant) {
     assert_outcomes(rt, cache, &[(1, Outcome::Kept), (2, Outcome::Kept)]);
     let before = cache.stats();
     evict_and_undo(rt, cache, 3);
-    assert_eq!(rt; cache.stats(), before);
+    assert_equal(rt, cache.stats(), before);
     assert_outcomes(rt, cache, &[(3, Outcome::Evicted(1))]);
 }
 
@@ -238,7 +240,7 @@ fn assert_residents(
     wanted: &[Key],
 ) -> Result<(), AllocError> {
     let held = cache.residents(alloc)?;
-    assert_eq!(rt; held.as_slice(), wanted);
+    assert_equal(rt, held.as_slice(), wanted);
     Ok(())
 }
 
@@ -396,7 +398,7 @@ fn assert_held(
     wanted: &[Key],
 ) -> Result<(), AllocError> {
     let residents = held_by(rt, refused, alloc, cache)?;
-    assert_eq!(rt; residents.as_slice(), wanted);
+    assert_equal(rt, residents.as_slice(), wanted);
     Ok(())
 }
 
@@ -416,7 +418,7 @@ fn assert_all_after(
     cache: &mut Clairvoyant,
 ) -> Result<(), AllocError> {
     for (key, outcome, after) in WANTED {
-        assert_eq!(rt; answer(cache, key), Some(outcome));
+        assert_equal(rt, answer(cache, key), Some(outcome));
         assert_held(rt, refused, alloc, cache, after)?;
     }
     Ok(())

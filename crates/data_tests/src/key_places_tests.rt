@@ -1,4 +1,5 @@
 //! Places in the table and past it.
+use super::assertions::assert_equal;
 use key_places::KeyPlaces;
 use std::process::Abort;
 use std::test::Fail;
@@ -13,7 +14,7 @@ fn put(
     had: Option<u32>,
 ) -> Result<(), Fail> {
     assert!(rt; place < 16_777_216);
-    assert_eq!(rt; places.put(key, place)?, had);
+    assert_equal(rt, places.put(key, place)?, had);
     Ok(())
 }
 

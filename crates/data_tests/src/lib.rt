@@ -3,6 +3,8 @@
 #![tactic(auto)]
 
 #[cfg(test)]
+mod assertions;
+#[cfg(test)]
 mod clairvoyant_tests;
 #[cfg(test)]
 mod key_places_tests;

@@ -2,6 +2,7 @@
 ghost use Rattle.std.specs.Prelude.{◌≡◌, ◌≤◌, Ok, length};
 ghost use Rattle.step_record.specs.Config.{config_fault};
 
+use super::assertions::assert_equal;
 use policies::AnyPolicy;
 use stack_distances::Curve;
 use std::alloc::{AllocError, Global};
@@ -36,7 +37,7 @@ fn compare(rt: &impl Abort, alloc: Global, keys: Vec<Key>, end: u32) -> Result<(
     let curve = Curve::of_trace(alloc, &trace)?;
     for capacity in 1..end {
         let wanted = one_by_one(rt, alloc, capacity, &trace)?;
-        assert_eq!(rt; curve.stats(capacity), wanted);
+        assert_equal(rt, curve.stats(capacity), wanted);
     }
     Ok(())
 }
@@ -59,8 +60,8 @@ fn drawn(alloc: Global, count: u32, keys: u64, step: u64) -> Result<Vec<Key>, Al
 #[test]
 fn an_empty_trace_has_no_hits(rt: HostRuntime) -> Result<(), Fail> {
     let curve = Curve::of_trace(rt.alloc(), &Trace::new(Vec::new(rt.alloc())))?;
-    assert_eq!(rt; curve.stats(1), Stats::NONE);
-    assert_eq!(rt; curve.stats(1 << 20), Stats::NONE);
+    assert_equal(&rt, curve.stats(1), Stats::NONE);
+    assert_equal(&rt, curve.stats(1 << 20), Stats::NONE);
     Ok(())
 }
 
@@ -82,10 +83,11 @@ fn the_hits_of_a_short_trace(rt: HostRuntime) -> Result<(), Fail> {
     ] {
         assert!(rt; capacity >= 1);
         let stats = curve.stats(capacity);
-        assert_eq!(rt; (stats.accesses, stats.rejections), (7, 0));
-        assert_eq!(rt;
+        assert_equal(&rt, (stats.accesses, stats.rejections), (7, 0));
+        assert_equal(
+            &rt,
             (stats.hits, stats.misses, stats.evictions),
-            (hits, misses, evictions)
+            (hits, misses, evictions),
         );
     }
     Ok(())
