@@ -23,6 +23,10 @@ pub next-of : (trace : List ℕ) (i : ℕ) → i < length trace
     → trace ≡ take i trace ++ slice_index trace i ∷ (drop (suc i) trace ++ [])
 next-of trace i lt = next-ahead trace [] trace [] i lt (sym (append-nil trace))
 
+-- a cache that has read ahead stands where it stood
+pub warmed : (j : Job) (trace keys : List ℕ) (d e : AnyPolicy) → e ≡ d → Stands j trace keys d → Stands j trace keys e
+warmed j trace keys d e same s = subst (λ (f : AnyPolicy). Stands j trace keys f) (sym same) s
+
 pub ready : AnyAccepts → (j : Job) (trace keys : List ℕ) (i : ℕ) (d : AnyPolicy) → keys ≡ trace → i < length keys
     → length trace ≤ MAX_ACCESSES → Stands j trace (take i trace) d → any_act d (slice_index keys i) ≢ None
 ready law j trace keys i d same lt few s none =

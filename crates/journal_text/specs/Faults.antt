@@ -1,5 +1,5 @@
 -- Why a text is not a journal that a session takes, and which entries the session then holds.
-use Rattle.std.specs.Prelude.{◌≡◌, ◌≢◌, ◌<◌, ◌+◌, ◌⊎◌, ℕ, Bool, true, false, Option, Some, None, Result, Ok, Err}
+use Rattle.std.specs.Prelude.{◌≡◌, ◌≢◌, ◌<◌, ◌≤◌, ◌+◌, ◌⊎◌, ℕ, Bool, true, false, Option, Some, None, Result, Ok, Err}
 use Rattle.std.specs.Prelude.{List, [], ◌∷◌, ◌++◌, length}
 use Rattle.journal_text.specs.Journal.{begun, ended_line, header, journal_of, AreLines}
 use Rattle.journal_text.specs.Table.{text_of, IsLine}
@@ -10,11 +10,21 @@ use Rattle.journal_text.specs.declared.line.Line.TheVariants.{Made, Steps}
 use Rattle.journal_text.specs.declared.reader.TheConstants.{MAX_JOURNAL_BYTES}
 use Rattle.journal_text.specs.declared.version.Version.{Version}
 use Rattle.journal_text.specs.declared.version.Version.TheVariants.{One, Two}
-use Rattle.step_record.specs.History.{after, Entries}
+use Rattle.journal.specs.Session.{SessionState}
+use Rattle.step_record.specs.History.{after, Entries, IsLegal}
 use Rattle.step_record.specs.declared.entry.Entry.{Entry}
 use Rattle.step_record.specs.declared.step.Reply.{Reply}
 use Rattle.step_record.specs.declared.step.Step.{Step}
 use Rattle.text_lines.specs.Feeds.{HasNoFeed}
+
+-- Reading leaves where the session was opened, its limit, no undone step where there was none, and applied steps that
+-- are legal and within the limit.
+pub record KeepsSession {E D S R : Type 0} (act : D → S → Option (R × D)) (old new : SessionState E D S R) : Type 0 where
+  pub opening : new.opening ≡ old.opening
+  pub limit : new.limit ≡ old.limit
+  pub tail : old.tail ≡ [] → new.tail ≡ []
+  pub legal : IsLegal act old.opening new.kept
+  pub room : length new.kept ≤ old.limit
 
 -- the text is the line of this entry
 abbrev pub IsLineOf : Version → Entry Step Reply → List ℕ → Type 0

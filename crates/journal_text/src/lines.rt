@@ -1,6 +1,6 @@
 //! The lines of a journal, whose steps are made one after another.
 ghost use Rattle.std.specs.Prelude.{◌≡◌, ◌≢◌, ◌≤◌, ◌<◌, ◌+◌, ◌++◌, ℕ, List, [], IfErr, OnOk, MatchOption, length};
-ghost use Rattle.journal_text.specs.Faults.{IsFault, IsUnread};
+ghost use Rattle.journal_text.specs.Faults.{IsFault, IsUnread, KeepsSession};
 ghost use Rattle.text_lines.specs.Feeds.{HasNoFeed};
 ghost use Rattle.journal_text.specs.Journal.{ended_line, header, IsTextOf};
 ghost use Rattle.journal_text.specs.declared.version.Version.{Version};
@@ -25,11 +25,7 @@ pub fn read_text<E: Engine<Step = Step, Reply = Reply>>(
     ensures err { IfErr result (λ f.
         IsFault E.act session.old.opening session.old.limit f bytes.now session.new.kept) }
     ensures unread { IfErr result (λ f. IsUnread f → IsSameSession E.seen session.old session.new) }
-    ensures opening { session.new.opening ≡ session.old.opening }
-    ensures limit { session.new.limit ≡ session.old.limit }
-    ensures tail { session.old.tail ≡ [] → session.new.tail ≡ [] }
-    ensures legal { IsLegal E.act session.old.opening session.new.kept }
-    ensures room { length session.new.kept ≤ session.old.limit }
+    ensures session { KeepsSession E.act session.old session.new }
 {
     match header_of(bytes) {
         Some((version, lines)) => read_lines(version, lines, session),
@@ -48,11 +44,7 @@ fn read_lines<E: Engine<Step = Step, Reply = Reply>>(
     ensures err { IfErr result (λ f. IsFault E.act session.old.opening session.old.limit f
         (ended_line (header version) ++ lines.now) session.new.kept) }
     ensures late { IfErr result (λ f. IsUnread f → ⊥) }
-    ensures opening { session.new.opening ≡ session.old.opening }
-    ensures limit { session.new.limit ≡ session.old.limit }
-    ensures tail { session.old.tail ≡ [] → session.new.tail ≡ [] }
-    ensures legal { IsLegal E.act session.old.opening session.new.kept }
-    ensures room { length session.new.kept ≤ session.old.limit }
+    ensures session { KeepsSession E.act session.old session.new }
 {
     let mut rest = lines;
     'lines: while let Some((text, behind)) = first_line(rest) {

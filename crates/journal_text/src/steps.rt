@@ -1,6 +1,6 @@
 //! The step of a line, made in a session.
 ghost use Rattle.std.specs.Prelude.{◌≡◌, ◌≢◌, true, false, ◌∷◌, [], ◌++◌, ◌+◌, ◌≤◌, length, IfErr, IfOk, OnOk};
-ghost use Rattle.journal_text.specs.Faults.{IsWrong, Took};
+ghost use Rattle.journal_text.specs.Faults.{IsWrong, KeepsSession, Took};
 ghost use Rattle.step_record.specs.History.{IsLegal};
 ghost use Rattle.journal_text.specs.ReplyItem.{reply_item};
 ghost use Rattle.journal_text.specs.Table.{text_of, IsLine};
@@ -23,11 +23,7 @@ pub fn take<E: Engine<Step = Step, Reply = Reply>>(
     ensures ok { IfOk result (λ closed. Took closed version text.now session.old.kept session.new.kept) }
     ensures err { IfErr result (λ f.
         IsWrong E.act session.old.opening session.old.limit f version session.old.kept text.now session.new.kept) }
-    ensures opening { session.new.opening ≡ session.old.opening }
-    ensures limit { session.new.limit ≡ session.old.limit }
-    ensures tail { session.old.tail ≡ [] → session.new.tail ≡ [] }
-    ensures legal { IsLegal E.act session.old.opening session.new.kept }
-    ensures room { length session.new.kept ≤ session.old.limit }
+    ensures session { KeepsSession E.act session.old session.new }
 {
     match line(version, text) {
         Some(Line::Made(entry)) => {
@@ -56,11 +52,7 @@ fn make<E: Engine<Step = Step, Reply = Reply>>(
     ensures ok { OnOk result (session.new.kept ≡ session.old.kept ++ entry ∷ []) }
     ensures err { IfErr result (λ f. IsWrong E.act session.old.opening session.old.limit f version
         session.old.kept (text_of (Made entry)) session.new.kept) }
-    ensures opening { session.new.opening ≡ session.old.opening }
-    ensures limit { session.new.limit ≡ session.old.limit }
-    ensures tail { session.old.tail ≡ [] → session.new.tail ≡ [] }
-    ensures legal { IsLegal E.act session.old.opening session.new.kept }
-    ensures room { length session.new.kept ≤ session.old.limit }
+    ensures session { KeepsSession E.act session.old session.new }
 {
     let step = session.len() + 1;
     match session.step(entry.step) {

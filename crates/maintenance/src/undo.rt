@@ -30,13 +30,8 @@ impl Core {
     fn rephase(&mut self, before: Phase)
         ensures { self.new ≡ record self.old { holder = rephased before self.old.holder } }
     {
-        match self.holder {
-            None => {}
-            Some(holder) => self.holder = Some(Holder {
-                worker: holder.worker,
-                phase: before,
-                left: holder.left,
-            }),
+        if let Some(holder) = &mut self.holder {
+            holder.phase = before;
         }
     }
 
@@ -45,13 +40,9 @@ impl Core {
         requires { HasLeft self.old.holder }
         ensures { self.new ≡ record self.old { holder = refilled before self.old.holder } }
     {
-        match self.holder {
-            None => {}
-            Some(holder) => self.holder = Some(Holder {
-                worker: holder.worker,
-                phase: before,
-                left: holder.left + 1,
-            }),
+        if let Some(holder) = &mut self.holder {
+            holder.phase = before;
+            holder.left += 1;
         }
     }
 

@@ -1,5 +1,5 @@
 -- What the replies so far say of the state.
-use Rattle.std.proofs.Common.{◌≡◌, ℕ, suc, zero, ◌+◌, ◌<◌, ◌≤◌, ◌↔◌, Bool, true, false, eqb, nat_lt, Option, Some, None, List, [], ◌∷◌, ◌++◌, length, set, drop, ap, ◌∙◌, sym, refl, arith, inl, inr, append-nil, append_assoc}
+use Rattle.std.proofs.Common.{◌≡◌, ℕ, suc, zero, ◌+◌, ◌<◌, ◌≤◌, ◌↔◌, Bool, true, false, eqb, nat_lt, Option, Some, None, List, [], ◌∷◌, ◌++◌, length, set, drop, subst, ap, ◌∙◌, sym, refl, arith, inl, inr, append-nil, append_assoc}
 use Rattle.std.proofs.lemmas.Bool.{cases_Bool, eqb-true, eq-eqb}
 use Rattle.std.proofs.lemmas.List.{drop-append-le, drop-drop, get_or-set_same, get_or-set_other}
 use Rattle.step_record.specs.declared.item.Item.{Item}
@@ -44,13 +44,24 @@ shell_in : Shell → Option (Reply × Shell) → Shell
 shell_in x None = x
 shell_in x (Some p) = p.1
 
-acted : (x : Shell) (e : MadeStep) (z : Shell) (p : Option (Reply × Shell)) → MakesTo e.step.worker x e.step.act p → tallied p ≡ Some (e.reply, z) → Steps x e z
+-- what a tallied reply and shell come from
+pub record IsTallied (p : Option (Reply × Shell)) (r : Reply) (z : Shell) : Type 0 where
+  pub left : Shell
+  pub made : p ≡ Some (r, left)
+  pub is : z ≡ counted_up r left
+
+pub tallied-from : (x : Shell) (p : Option (Reply × Shell)) (r : Reply) (z : Shell) → tallied p ≡ Some (r, z) → IsTallied p r z
 unfolding reply_in shell_in
-acted x e z None h i = absurd (cc (i))
-acted x e z (Some p) h i =
-    let r : p.0 ≡ e.reply = ap (reply_in p.0) i in
+tallied-from x None r z i = absurd (cc (i))
+tallied-from x (Some p) r z i =
+    let e : p.0 ≡ r = ap (reply_in p.0) i in
     let y : counted_up p.0 p.1 ≡ z = ap (shell_in x) i in
-    record { left = p.1; made = rw r at h; is = sym (rw r at y) }
+    record { left = p.1; made = ap (λ (s : Reply). Some (s, p.1)) e; is = sym (rw e at y) }
+
+acted : (x : Shell) (e : MadeStep) (z : Shell) (p : Option (Reply × Shell)) → MakesTo e.step.worker x e.step.act p → tallied p ≡ Some (e.reply, z) → Steps x e z
+acted x e z p h i =
+    let t = tallied-from x p e.reply z i in
+    record { left = t.left; made = subst (MakesTo e.step.worker x e.step.act) t.made h; is = t.is }
 
 pub stepped : (x : Shell) (e : MadeStep) (z : Shell) → act x e.step ≡ Some (e.reply, z) → Steps x e z
 stepped x e z h =

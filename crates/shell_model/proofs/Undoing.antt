@@ -218,33 +218,39 @@ cleared-back i q (Some p) d = let l = out_leads i q d in record { fits = l.fits;
 abbrev pub worn : Holder → Holder
 worn h = record { worker = h.worker; phase = Writes; left = h.left - 1 }
 
+-- where a task is applied, a task fits behind the rest again, and another one is left to the holder
+record IsWorn (h : Holder) (rest : List Task) : Type 0 where
+  room : length rest < 128
+  left : h.left - 1 < 128
+  again : h.left - 1 + 1 ≡ h.left
+
+is-worn : (t : Task) (rest : List Task) (h : Holder) (x : Shell) → x.writes ≡ t ∷ rest → x.holder ≡ Some h → 1 ≤ h.left → IsConsistent x → IsWorn h rest
+is-worn t rest h x e f more w =
+    let few : suc (length rest) ≤ 128 = rw e at w.writes in
+    let left : h.left ≤ 128 = rw f at w.left in
+    record { room = omega (arith, few); left = omega (arith, left, more); again = omega arith }
+
 task-goes : (t : Task) (rest : List Task) (h : Holder) (x : Shell) → x.writes ≡ t ∷ rest → x.holder ≡ Some h → 1 ≤ h.left → IsConsistent x → Goes (task_change h.phase t x) x (apply_task t record x { writes = rest; holder = Some (worn h) }).1
 task-goes (Add i) rest h x e f more w =
     let b = added-back i rest x e w in
-    let few : suc (length rest) ≤ 128 = rw e at w.writes in
-    let left : h.left ≤ 128 = rw f at w.left in
-    let again : h.left - 1 + 1 ≡ h.left = omega arith in
+    let t = is-worn (Add i) rest h x e f more w in
     record {
-      fits = (record { moves = b.fits.moves; frequency = b.fits.frequency; stays = b.fits.stays }, omega (arith, few), refl, omega (arith, left, more));
-      back = rw (b.queues, b.frequency, again, ← e, ← f) refl;
+      fits = (record { moves = b.fits.moves; frequency = b.fits.frequency; stays = b.fits.stays }, t.room, refl, t.left);
+      back = let again = t.again in rw (b.queues, b.frequency, again, ← e, ← f) refl;
     }
 task-goes (Update i) rest h x e f more w =
     let b = touch-back i x w in
-    let few : suc (length rest) ≤ 128 = rw e at w.writes in
-    let left : h.left ≤ 128 = rw f at w.left in
-    let again : h.left - 1 + 1 ≡ h.left = omega arith in
+    let t = is-worn (Update i) rest h x e f more w in
     record {
-      fits = (record { moves = b.fits.moves; frequency = b.fits.frequency; stays = b.fits.stays }, omega (arith, few), refl, omega (arith, left, more));
-      back = rw (b.queues, b.frequency, again, ← e, ← f) refl;
+      fits = (record { moves = b.fits.moves; frequency = b.fits.frequency; stays = b.fits.stays }, t.room, refl, t.left);
+      back = let again = t.again in rw (b.queues, b.frequency, again, ← e, ← f) refl;
     }
 task-goes (Remove i) rest h x e f more w =
     let b = cleared-back i x.queues (place_of i x.queues) (sound-distinct x w) in
-    let few : suc (length rest) ≤ 128 = rw e at w.writes in
-    let left : h.left ≤ 128 = rw f at w.left in
-    let again : h.left - 1 + 1 ≡ h.left = omega arith in
+    let t = is-worn (Remove i) rest h x e f more w in
     record {
-      fits = (b.fits, omega (arith, few), refl, omega (arith, left, more));
-      back = rw (b.back, again, ← e, ← f) refl;
+      fits = (b.fits, t.room, refl, t.left);
+      back = let again = t.again in rw (b.back, again, ← e, ← f) refl;
     }
 
 write-goes : (h : Holder) (l : List Task) (x : Shell) → x.writes ≡ l → x.holder ≡ Some h → IsConsistent x → Goes (write_change h l x) x (drain_write h l x).1

@@ -82,29 +82,20 @@ union_step a b c d x y z w p q r s =
 four_bits : ℕ → ℕ → ℕ → ℕ → ℕ → ℕ
 four_bits n a b c d = nibble a n % 2 + 2 * (nibble b n % 2) + 4 * (nibble c n % 2) + 8 * (nibble d n % 2)
 
+-- the lowest digit of the union, and the union of the rest
+union_cut : (k a b c d : ℕ) → union (bit_and a (mask 1 k * 16 + 1)) (bit_and b (mask 1 k * 16 + 1)) (bit_and c (mask 1 k * 16 + 1)) (bit_and d (mask 1 k * 16 + 1))
+    ≡ union (bit_and (a / 16) (mask 1 k)) (bit_and (b / 16) (mask 1 k)) (bit_and (c / 16) (mask 1 k)) (bit_and (d / 16) (mask 1 k)) * 16 + (a % 2 + 2 * (b % 2) + 4 * (c % 2) + 8 * (d % 2))
+union_cut k a b c d =
+    rw (odd_step a (mask 1 k), odd_step b (mask 1 k), odd_step c (mask 1 k), odd_step d (mask 1 k))
+    (union_step (a % 2) (b % 2) (c % 2) (d % 2) (bit_and (a / 16) (mask 1 k)) (bit_and (b / 16) (mask 1 k)) (bit_and (c / 16) (mask 1 k)) (bit_and (d / 16) (mask 1 k)) (omega arith) (omega arith) (omega arith) (omega arith))
+
 union_digits : (k n a b c d : ℕ) → n < k → nibble (union (bit_and a (mask 1 k)) (bit_and b (mask 1 k)) (bit_and c (mask 1 k)) (bit_and d (mask 1 k))) n ≡ four_bits n a b c d
 unfolding nibble mask four_bits
 union_digits zero n a b c d w = absurd (omega arith)
-union_digits (suc k) zero a b c d w =
-    rw (
-      odd_step a (mask 1 k),
-      odd_step b (mask 1 k),
-      odd_step c (mask 1 k),
-      odd_step d (mask 1 k),
-      union_step (a % 2) (b % 2) (c % 2) (d % 2) (bit_and (a / 16) (mask 1 k)) (bit_and (b / 16) (mask 1 k)) (bit_and (c / 16) (mask 1 k)) (bit_and (d / 16) (mask 1 k)) (omega arith) (omega arith) (omega arith) (omega arith),
-    )
-    (omega arith)
+union_digits (suc k) zero a b c d w = rw (union_cut k a b c d) (omega arith)
 union_digits (suc k) (suc n) a b c d w =
     let e : (union (bit_and (a / 16) (mask 1 k)) (bit_and (b / 16) (mask 1 k)) (bit_and (c / 16) (mask 1 k)) (bit_and (d / 16) (mask 1 k)) * 16 + (a % 2 + 2 * (b % 2) + 4 * (c % 2) + 8 * (d % 2))) / 16 ≡ union (bit_and (a / 16) (mask 1 k)) (bit_and (b / 16) (mask 1 k)) (bit_and (c / 16) (mask 1 k)) (bit_and (d / 16) (mask 1 k)) = omega arith in
-    rw (
-      odd_step a (mask 1 k),
-      odd_step b (mask 1 k),
-      odd_step c (mask 1 k),
-      odd_step d (mask 1 k),
-      union_step (a % 2) (b % 2) (c % 2) (d % 2) (bit_and (a / 16) (mask 1 k)) (bit_and (b / 16) (mask 1 k)) (bit_and (c / 16) (mask 1 k)) (bit_and (d / 16) (mask 1 k)) (omega arith) (omega arith) (omega arith) (omega arith),
-      e,
-    )
-    (union_digits k n (a / 16) (b / 16) (c / 16) (d / 16) (omega arith))
+    rw (union_cut k a b c d, e) (union_digits k n (a / 16) (b / 16) (c / 16) (d / 16) (omega arith))
 
 nibble_lost : (ws : List ℕ) (j n : ℕ) → n < 16 → nibble (lost_word ws j) n ≡ four_bits n (get_or ws (4 * j) 0) (get_or ws (4 * j + 1) 0) (get_or ws (4 * j + 2) 0) (get_or ws (4 * j + 3) 0)
 unfolding mask union

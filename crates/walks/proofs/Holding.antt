@@ -16,10 +16,10 @@ use Rattle.segments.specs.Items.{same, first}
 use Rattle.segments.specs.Queues.{total_items}
 use Rattle.shell_model.specs.declared.holder.Holder.{Holder}
 use Rattle.shell_model.specs.Frequency.{admits}
-use Rattle.shell_model.specs.Shell.{Shell, window_size, is_over, held_by, in_phase, shell_contest, shift, evict_from, evict_oldest, evict, drain_at_end, perform, tallied, act as acted}
+use Rattle.shell_model.specs.Shell.{Shell, window_size, is_over, held_by, in_phase, shell_contest, shift, evict_from, evict_oldest, evict, drain_at_end, perform, act as acted}
 use Rattle.shell_model.proofs.Making as k
 use Rattle.shell_model.proofs.Making.{Makes, MakesTo, perform-makes}
-use Rattle.shell_model.proofs.Histories.{counted_up}
+use Rattle.shell_model.proofs.Histories.{counted_up, tallied-from}
 use Rattle.walks.specs.declared.local.Local.{Local}
 use Rattle.walks.specs.declared.next.Next.{Next}
 use Rattle.walks.specs.declared.next.Next.TheVariants as told
@@ -37,26 +37,10 @@ pub record Performs (x : Shell) (w : ℕ) (b : Act) (r : Reply) (y : Shell) : Ty
   pub is : perform w b x ≡ Some (r, left)
   pub counts : y ≡ counted_up r left
 
-reply_in : Reply → Option (Reply × Shell) → Reply
-reply_in r None = r
-reply_in r (Some p) = p.0
-
-shell_in : Shell → Option (Reply × Shell) → Shell
-shell_in x None = x
-shell_in x (Some p) = p.1
-
-performed : (x : Shell) (w : ℕ) (b : Act) (r : Reply) (y : Shell) (p : Option (Reply × Shell)) → perform w b x ≡ p → tallied p ≡ Some (r, y) → Performs x w b r y
-unfolding reply_in shell_in
-performed x w b r y None e i = absurd (cc (i))
-performed x w b r y (Some p) e i =
-    let q : p.0 ≡ r = ap (reply_in p.0) i in
-    let z : counted_up p.0 p.1 ≡ y = ap (shell_in x) i in
-    record { left = p.1; is = e ∙ ap (λ (s : Reply). Some (s, p.1)) q; counts = sym (rw q at z) }
-
 pub performs : (x : Shell) (w : ℕ) (b : Act) (r : Reply) (y : Shell) → acted x (step_of w b) ≡ Some (r, y) → Performs x w b r y
 performs x w b r y h =
     elim (cases_Bool (nat_lt x.applied 4294967296)) [
-      | inl t ↦ performed x w b r y (perform w b x) refl (rw t at h)
+      | inl t ↦ (let made = tallied-from x (perform w b x) r y (rw t at h) in record { left = made.left; is = made.made; counts = made.is })
       | inr t ↦ absurd (let no : None ≡ Some (r, y) = rw t at h in cc (no))
     ]
 

@@ -82,19 +82,8 @@ fn after_remove(key: Key, reply: Reply) -> Option<Place>
     }
 }
 
-fn after_read(answer: Answer, reply: Reply) -> Option<Place>
-    requires { is_answer (Act.AfterRead answer) reply ≡ true }
-    ensures ahead { (w : ℕ) (n : ℕ) (es : Entries) → FollowsReport w n reply es ↔ AheadIf w n result es }
-    ensures place { (n : ℕ) → is_place_if n result ≡ true }
-{
-    match reply {
-        Reply::Go => None,
-        Reply::Drain => Some(Place::Begin),
-        _ => unreachable!(),
-    }
-}
-
-fn after_write(reply: Reply) -> Option<Place>
+// Behind the report of a read or of a write, which have the same replies.
+fn after_report(reply: Reply) -> Option<Place>
     requires { is_answer Act.AfterWrite reply ≡ true }
     ensures ahead { (w : ℕ) (n : ℕ) (es : Entries) → FollowsReport w n reply es ↔ AheadIf w n result es }
     ensures place { (n : ℕ) → is_place_if n result ≡ true }
@@ -254,10 +243,10 @@ pub(crate) fn after(worker: Worker, stripes: u8, place: Place, reply: Reply) -> 
     match place {
         Place::Look { key } => Some(after_look(key, reply)),
         Place::Offer { item } => Some(after_offer(item, worker.number() % stripes, reply)),
-        Place::AfterRead { answer } => after_read(answer, reply),
+        Place::AfterRead { answer: _ } => after_report(reply),
         Place::Put { key } => Some(after_put(key, reply)),
         Place::Remove { key } => after_remove(key, reply),
-        Place::AfterWrite => after_write(reply),
+        Place::AfterWrite => after_report(reply),
         Place::Begin => after_begin(stripes, reply),
         Place::DrainRead { stripe, drained } => {
             Some(after_drain_read(stripes, stripe, drained, reply))

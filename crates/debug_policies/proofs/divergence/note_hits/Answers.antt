@@ -1,33 +1,27 @@
-use Rattle.std.proofs.Common.{◌≡◌, ◌∙◌, ◌+◌, ◌-◌, ◌<◌, ◌≤◌, length, set, ap, arith, take, subst, sym}
+use Rattle.std.proofs.Common.{◌≡◌, ◌∙◌, ◌+◌, ◌-◌, ◌<◌, ◌≤◌, length, take, set, ap, arith}
 use Rattle.std.proofs.Math.ListN.{length-set}
-use Rattle.policies.specs.declared.any_policy.AnyPolicy.{AnyPolicy}
-use Rattle.policies.specs.AnyPolicy.{Stands, outcomes_on}
+use Rattle.policies.specs.AnyPolicy.{outcomes_on}
 use Rattle.debug_policies.specs.Part.{is_hit_at}
-use Rattle.debug_policies.proofs.Walked.{ready, moves, answers, noted-more}
+use Rattle.debug_policies.proofs.Walked.{ready, moves, answers, warmed, noted-more}
 use Rattle.debug_policies.proofs.divergence.note_hits.Goals as goal
 
 pub access-requires : goal.access-requires
 access-requires c =
-    let trace = c.args.trace.now in
-    let keys = c.keys-keys.result.now in
-    let i = c.loop-i.i in
     let long = ap length c.keys-keys.ensures.keys in
-    let below : i < length keys = omega (arith, long, c.requires.within, c.loop-i-test.true) in
-    ready c.any_accepts.ensures c.args._job.now trace keys i c.warm_at.new.self c.keys-keys.ensures.keys below c.keys-keys.ensures.few
-    (subst (λ (d : AnyPolicy). Stands c.args._job.now trace (take i trace) d) (sym c.warm_at.ensures) c.loop-i.invariant.0)
+    ready c.any_accepts.ensures c.args._job.now c.args.trace.now c.keys-keys.result.now c.loop-i.i c.warm_at.new.self c.keys-keys.ensures.keys
+    (omega (arith, long, c.requires.within, c.loop-i-test.true)) c.keys-keys.ensures.few (warmed c.args._job.now c.args.trace.now (take c.loop-i.i c.args.trace.now) c.loop-i.cache c.warm_at.new.self c.warm_at.ensures c.loop-i.invariant.0)
 
 pub loop-i-preserved : goal.loop-i-preserved
 loop-i-preserved c =
     let trace = c.args.trace.now in
-    let keys = c.keys-keys.result.now in
     let i = c.loop-i.i in
     let long = ap length c.keys-keys.ensures.keys in
-    let below : i < length keys = omega (arith, long, c.requires.within, c.loop-i-test.true) in
+    let below : i < length c.keys-keys.result.now = omega (arith, long, c.requires.within, c.loop-i-test.true) in
     let here : c.hits.result ≡ is_hit_at (outcomes_on c.args._job.now trace) (i + 1) =
-    c.hits.ensures ∙ answers c.any_answers.ensures c.args._job.now trace keys i c.warm_at.new.self c.in_ok-outcome.outcome c.access.new.cache
-    c.keys-keys.ensures.keys below (subst (λ (d : AnyPolicy). Stands c.args._job.now trace (take i trace) d) (sym c.warm_at.ensures) c.loop-i.invariant.0) c.in_ok-outcome.ensures in
-    let on = moves c.any_stands.ensures c.args._job.now trace keys i c.warm_at.new.self c.in_ok-outcome.outcome c.access.new.cache
-    c.keys-keys.ensures.keys below (subst (λ (d : AnyPolicy). Stands c.args._job.now trace (take i trace) d) (sym c.warm_at.ensures) c.loop-i.invariant.0) c.in_ok-outcome.ensures in
+    c.hits.ensures ∙ answers c.any_answers.ensures c.args._job.now trace _ i c.warm_at.new.self c.in_ok-outcome.outcome c.access.new.cache
+    c.keys-keys.ensures.keys below (warmed c.args._job.now trace (take i trace) c.loop-i.cache c.warm_at.new.self c.warm_at.ensures c.loop-i.invariant.0) c.in_ok-outcome.ensures in
+    let on = moves c.any_stands.ensures c.args._job.now trace _ i c.warm_at.new.self c.in_ok-outcome.outcome c.access.new.cache
+    c.keys-keys.ensures.keys below (warmed c.args._job.now trace (take i trace) c.loop-i.cache c.warm_at.new.self c.warm_at.ensures c.loop-i.invariant.0) c.in_ok-outcome.ensures in
     let from : c.args.start ≤ i = omega (arith, c.loop-i.auto.i) in
     let size = c.loop-i.invariant.2 in
     let within : i - c.args.start < length c.loop-i.noted = omega (arith, c.requires.room, size, from, c.loop-i-test.true) in

@@ -14,11 +14,13 @@ lines-init g c =
     record {
       lines = subst (AreLines v) none (All-nil (λ e. IsLine v (Made e)));
       read = ap (λ t. t ++ c.args.lines.now) (ap (begun v) c.requires ∙ begun_none v);
-      opening = refl;
-      limit = refl;
-      tail = λ e. e;
-      legal = subst (IsLegal g.E.Engine.act c.args.session.now.opening) none tt;
-      room = subst (λ k. length k ≤ c.args.session.now.limit) none (omega arith);
+      session = record {
+        opening = refl;
+        limit = refl;
+        tail = λ e. e;
+        legal = subst (IsLegal g.E.Engine.act c.args.session.now.opening) none tt;
+        room = subst (λ k. length k ≤ c.args.session.now.limit) none (omega arith);
+      };
     }
 
 pub lines-preserved : goal.lines-preserved
@@ -31,9 +33,11 @@ lines-preserved g c =
     record {
       lines = line_more v old new text _ c.if-branch.false c.in_ok-take.ensures.ok before.lines;
       read = line_gone v old new text c.lines.rest.now c.in-Some.behind.now _ _ c.if-branch.false c.in_ok-take.ensures.ok before.read c.in-Some.ensures.1;
-      opening = c.take.ensures.opening ∙ before.opening;
-      limit = c.take.ensures.limit ∙ before.limit;
-      tail = λ e. c.take.ensures.tail (before.tail e);
-      legal = subst (λ d. IsLegal g.E.Engine.act d new) before.opening c.take.ensures.legal;
-      room = subst (λ n. length new ≤ n) before.limit c.take.ensures.room;
+      session = record {
+        opening = c.take.ensures.session.opening ∙ before.session.opening;
+        limit = c.take.ensures.session.limit ∙ before.session.limit;
+        tail = λ e. c.take.ensures.session.tail (before.session.tail e);
+        legal = subst (λ d. IsLegal g.E.Engine.act d new) before.session.opening c.take.ensures.session.legal;
+        room = subst (λ n. length new ≤ n) before.session.limit c.take.ensures.session.room;
+      };
     }

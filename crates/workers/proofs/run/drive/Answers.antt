@@ -15,6 +15,22 @@ use Rattle.workers.proofs.Collecting.{every_map}
 use Rattle.workers.proofs.RunResults.{moved_run, whole_run, free_of}
 use Rattle.workers.proofs.Turning.{within_first}
 use Rattle.workers.proofs.run.drive.Goals as goal
+use Rattle.workers.proofs.run.drive.Goals.{After-run_book-session}
+
+-- what was looked at before the run began: so many workers can run
+can-run : (g : _) (c : goal.After-run_book-session g) → CanRun (map (λ p. vec_items p) c.args.pieces.items) c.args.session.engine
+can-run g c =
+    let many = length-map c.args.pieces.items (λ p. vec_items p) in
+    let ok = c.args.pieces.ok.0 in
+    let len = c.len-workers.ensures in
+    let free = free_of _ _ (sym c.holder.ensures ∙ c.in_default.is) in
+    let some : 1 ≤ c.len-workers.result = search rules in
+    let few : c.len-workers.result ≤ MAX_WORKERS = search rules in
+    record {
+      some = omega arith;
+      few = omega arith;
+      free = ap (λ x. x.holder) (sym c.engine-shell.ensures.engine) ∙ free;
+    }
 
 pub run_book-session-requires-clause-empty : goal.run_book-session-requires-clause-empty
 run_book-session-requires-clause-empty g c κs within =
@@ -52,37 +68,15 @@ returns-in-None-clause-free g c =
     (ap (λ x. length x.stripes) (sym shell) ∙ stripes.count) c.engine-shell.ensures.sound.stands run c.run_book-session.ensures.legal c.run_book-session.ensures.stands
 
 pub returns-in-None-clause-accepted : goal.returns-in-None-clause-accepted
-returns-in-None-clause-accepted g c =
-    let many = length-map c.args.pieces.items (λ p. vec_items p) in
-    let ok = c.args.pieces.ok.0 in
-    let len = c.len-workers.ensures in
-    let free = free_of _ _ (sym c.holder.ensures ∙ c.in_default.is) in
-    let some : 1 ≤ c.len-workers.result = search rules in
-    let few : c.len-workers.result ≤ MAX_WORKERS = search rules in
-    record {
-      some = omega arith;
-      few = omega arith;
-      free = ap (λ x. x.holder) (sym c.engine-shell.ensures.engine) ∙ free;
-    }
+returns-in-None-clause-accepted g c = can-run g (goal.at.returns-in-None-clause-accepted g c).After-run_book-session
 
 pub returns-in-Ok-open-clause-fault : goal.returns-in-Ok-open-clause-fault
 returns-in-Ok-open-clause-fault g c =
     let stripes = c.stripes-stripes.ensures.stripes ∙ ap (λ x. x.config.stripes) c.engine-shell.ensures.engine in
     let pieces = ap (map (λ p. vec_items p)) c.as_slice.ensures.value in
-    let many = length-map c.args.pieces.items (λ p. vec_items p) in
-    let ok = c.args.pieces.ok.0 in
-    let len = c.len-workers.ensures in
-    let free = free_of _ _ (sym c.holder.ensures ∙ c.in_default.is) in
-    let some : 1 ≤ c.len-workers.result = search rules in
-    let few : c.len-workers.result ≤ MAX_WORKERS = search rules in
-    let can : CanRun (map (λ p. vec_items p) c.args.pieces.items) c.args.session.engine = record {
-      some = omega arith;
-      few = omega arith;
-      free = ap (λ x. x.holder) (sym c.engine-shell.ensures.engine) ∙ free;
-    } in
     let run = moved_run _ _ _ _ _ _ _ _ _ stripes pieces c.in-Ok-open.ensures.opens.0 c.run_book-session.ensures.run in
     let lists = map (λ l. vec_items l) c.run_book-session.result.1.items in (
-      can,
+      can-run g (goal.at.returns-in-Ok-open-clause-fault g c).After-run_book-session,
       c.run_book-session.ensures.legal,
       subst (λ o. IsRunUpTo o c.args.session.engine.config.stripes (map (λ p. vec_items p) c.args.pieces.items) c.args.session c.run_book-session.result.0 lists) c.in-Some-cause.is run,
     )

@@ -44,8 +44,7 @@ pub release-requires-clause-at : goal.release-requires-clause-at
 release-requires-clause-at c =
     let a = (goal.at.release-requires-clause-at c).After-deref_mut-slots in
     let b = used-slot c.deref_mut-slots.result.now c.args.at (held-there a).queued (used-there a) in
-    let few = b.1 in
-    (omega (arith, b.0), omega (arith, few))
+    (omega (arith, b.0), omega (arith, b.1))
 
 pub invariant_of-self : goal.invariant_of-self
 invariant_of-self c =
