@@ -82,19 +82,8 @@ fn after_remove(reply: Reply) -> Option<Place>
     }
 }
 
-fn after_read(reply: Reply) -> Option<Place>
-    requires { (answer : Answer) × (is_answer (Act.AfterRead answer) reply ≡ true) }
-    ensures ahead { (w : ℕ) (n : ℕ) (es : Entries) → FollowsReport w n reply es ↔ AheadIf w n result es }
-    ensures place { (n : ℕ) → is_place_if n result ≡ true }
-{
-    match reply {
-        Reply::Go => None,
-        Reply::Drain => Some(Place::Begin),
-        _ => unreachable!(),
-    }
-}
-
-fn after_write(reply: Reply) -> Option<Place>
+// Past a question whether maintenance is due, after a read or a write.
+fn after_report(reply: Reply) -> Option<Place>
     requires { is_answer Act.AfterWrite reply ≡ true }
     ensures ahead { (w : ℕ) (n : ℕ) (es : Entries) → FollowsReport w n reply es ↔ AheadIf w n result es }
     ensures place { (n : ℕ) → is_place_if n result ≡ true }
@@ -253,10 +242,10 @@ pub(crate) fn after(stripes: u8, place: Place, reply: Reply) -> Option<Place>
     match place {
         Place::Look { key } => Some(after_look(key, reply)),
         Place::Offer { item: _ } => Some(after_offer(reply)),
-        Place::AfterRead { answer: _ } => after_read(reply),
+        Place::AfterRead { answer: _ } => after_report(reply),
         Place::Put { key: _ } => Some(after_put(reply)),
         Place::Remove { key: _ } => after_remove(reply),
-        Place::AfterWrite => after_write(reply),
+        Place::AfterWrite => after_report(reply),
         Place::Begin => after_begin(reply),
         Place::DrainRead { stripe, drained } => {
             Some(after_drain_read(stripes, stripe, drained, reply))
