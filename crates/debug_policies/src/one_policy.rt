@@ -79,28 +79,18 @@ impl<'a> OnePolicy<'a> {
         ensures trace { self.new.trace ≡ self.old.trace }
         ensures at { OnOk result (self.new.at ≡ n) }
     {
-        if n < self.position() {
-            return self.undo_to(n);
+        any_stands();
+        if n < self.session.len() {
+            return match self.session.goto(n) {
+                Ok(()) => Ok(()),
+                Err(GotoFault::OutOfMemory { .. }) => Err(AllocError),
+                Err(GotoFault::PastEnd) => unreachable!(),
+            };
         }
         'accesses: while self.position() < n {
             self.next()?;
         }
         Ok(())
-    }
-
-    // Undoes the accesses past the first `n`.
-    fn undo_to(&mut self, n: usize) -> Result<(), AllocError>
-        requires { n ≤ self.old.at }
-        ensures job { self.new.job ≡ self.old.job }
-        ensures trace { self.new.trace ≡ self.old.trace }
-        ensures at { OnOk result (self.new.at ≡ n) }
-    {
-        any_stands();
-        match self.session.goto(n) {
-            Ok(()) => Ok(()),
-            Err(GotoFault::OutOfMemory { .. }) => Err(AllocError),
-            Err(GotoFault::PastEnd) => unreachable!(),
-        }
     }
 
     /// The age of its sketch, 0 where it has none.

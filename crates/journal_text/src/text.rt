@@ -160,11 +160,10 @@ fn push_numbers(text: &mut Vec<u8>, reply: Reply)
     }
 }
 
-// Adds an entry.
-fn push_entry(text: &mut Vec<u8>, entry: &Entry<Step, Reply>)
-    requires { vec_len text.old + 188 ≤ vec_capacity text.old }
-    ensures items { text.new.items ≡ text.old.items ++ spelled (entry_words entry.now) }
-    ensures len { vec_len text.new ≤ vec_len text.old + 188 }
+/// Adds an entry with its line feed. Its words fit, since its numbers are of their types.
+pub fn push_entry_line(text: &mut Vec<u8>, entry: &Entry<Step, Reply>)
+    requires { vec_len text.old + MAX_LINE ≤ vec_capacity text.old }
+    ensures items { text.new.items ≡ text.old.items ++ ended_line (text_of (Made entry.now)) }
     ensures capacity { vec_capacity text.old ≤ vec_capacity text.new }
     ensures fit { Fit (entry_words entry.now) }
 {
@@ -178,16 +177,6 @@ fn push_entry(text: &mut Vec<u8>, entry: &Entry<Step, Reply>)
         ],
     );
     push_numbers(text, entry.reply);
-}
-
-/// Adds an entry with its line feed. Its words fit, since its numbers are of their types.
-pub fn push_entry_line(text: &mut Vec<u8>, entry: &Entry<Step, Reply>)
-    requires { vec_len text.old + MAX_LINE ≤ vec_capacity text.old }
-    ensures items { text.new.items ≡ text.old.items ++ ended_line (text_of (Made entry.now)) }
-    ensures capacity { vec_capacity text.old ≤ vec_capacity text.new }
-    ensures fit { Fit (entry_words entry.now) }
-{
-    push_entry(text, entry);
     text.push_reserved(b'\n');
 }
 

@@ -4,21 +4,17 @@ ghost use Rattle.std.specs.Prelude.{IfOk, IfErr, OnOk, OnErr, Ok, Option, Some, 
 ghost use Rattle.step_record.specs.declared.limits.TheConstants.{MAX_STEPS};
 ghost use Rattle.step_record.specs.Config.{config_fault};
 ghost use Rattle.step_record.specs.Pace.{words_of_halvings};
-ghost use Rattle.replacement.specs.Admission.{admits_in};
 ghost use Rattle.replacement.specs.Shape.{shape_of};
-ghost use Rattle.replacement.specs.Table.{access};
-ghost use Rattle.replacement.specs.Plan.{plan};
-ghost use Rattle.replacement.specs.Moving.{moves_of, undone_moves, FitsMoves};
 ghost use Rattle.policies.specs.declared.design.Design.TheVariants.{Queues};
 ghost use Rattle.policies.specs.Design.{design_of};
-ghost use Rattle.policies.specs.QueueCache.{nodeless_item, frequency_by};
+ghost use Rattle.policies.specs.QueueCache.{frequency_by};
 ghost use Rattle.policies.specs.QueueStep.{recorded_in, counting_record, unrecorded, FitsCounting};
 ghost use Rattle.policies.specs.QueueFields.{FewHalvings};
 
 use crate::design::QueueDesign;
 use crate::record::AccessRecord;
 use admission::{FreqRecord, Frequency};
-use replacement::{Effect, Rules, access, open_frequency, undo};
+use replacement::{Rules, access, open_frequency, undo};
 use segments::{Queue, Segments};
 use std::alloc::{AllocError, Global};
 use std::marker::{Model, PhantomData};
@@ -113,7 +109,9 @@ impl<P: Drop> QueueCache<P> {
         let Ok(()) = count_in(&mut self.frequency, key) else {
             return Err(StepFault::OutOfMemory);
         };
-        let effect = access_key::<C>(&mut self.segments, &self.frequency, &self.rules, key);
+        let item = Item { key, node: 0 };
+        let frequency = self.frequency.as_ref();
+        let effect = access::<C>(&mut self.segments, frequency, &self.rules, item);
         self.stats.count(effect.outcome);
         Ok(effect.outcome)
     }
@@ -198,7 +196,9 @@ impl<P: Drop> Engine for QueueCache<P> {
         let Ok(counting) = record_in(&mut self.frequency, key) else {
             return Err(StepFault::OutOfMemory);
         };
-        let effect = access_key::<Recorder>(&mut self.segments, &self.frequency, &self.rules, key);
+        let item = Item { key, node: 0 };
+        let frequency = self.frequency.as_ref();
+        let effect = access::<Recorder>(&mut self.segments, frequency, &self.rules, item);
         self.stats.count(effect.outcome);
         let record = AccessRecord {
             counting,
@@ -295,27 +295,6 @@ fn count_in(frequency: &mut Option<Frequency>, key: Key) -> Result<(), AllocErro
         frequency.record(key)?;
     }
     Ok(())
-}
-
-// Accesses a key in the queues.
-#[inline(always)]
-fn access_key<C>(
-    segments: &mut Segments,
-    frequency: &Option<Frequency>,
-    rules: &Rules,
-    key: Key,
-) -> Effect
-    requires room { 1 ≤ segments.old.spare }
-    ensures outcome { result.outcome
-        ≡ (access rules.now (admits_in frequency.now) (nodeless_item key) segments.old.lists).outcome }
-    ensures lists { segments.new.lists
-        ≡ (access rules.now (admits_in frequency.now) (nodeless_item key) segments.old.lists).queues }
-    ensures record { result.moves ≡ moves_of
-        (plan rules.now (admits_in frequency.now) (nodeless_item key) segments.old.lists) segments.old.lists }
-    ensures fits { FitsMoves result.moves segments.new.lists }
-    ensures undone { undone_moves result.moves segments.new.lists ≡ segments.old.lists }
-{
-    access::<C>(segments, frequency.as_ref(), rules, Item { key, node: 0 })
 }
 
 // Records a key where keys are counted.

@@ -1,5 +1,5 @@
 -- What a worker made, and how it stands in its own list and in the journal.
-use Rattle.std.specs.Prelude.{◌≡◌, ◌≢◌, ℕ, ◌==◌, List, [], ◌∷◌, ◌++◌}
+use Rattle.std.specs.Prelude.{◌≡◌, ◌≢◌, ℕ, ◌==◌, [], ◌++◌}
 use Rattle.std.specs.List.{filter}
 use Rattle.step_record.specs.History.{Entries}
 

@@ -28,7 +28,7 @@ pub fn next_step(local: Local, reply: Option<Reply>) -> Next
     let stripes = local.stripes;
     let place = match reply {
         None => Some(local.place),
-        Some(reply) => after(worker, stripes, local.place, reply),
+        Some(reply) => after(stripes, local.place, reply),
     };
     match place {
         None => Next::Done,

@@ -40,8 +40,8 @@ fn after_look(key: Key, reply: Reply) -> Place
     }
 }
 
-fn after_offer(item: Item, stripe: u8, reply: Reply) -> Place
-    requires { is_answer (Act.Offer stripe item) reply ≡ true }
+fn after_offer(reply: Reply) -> Place
+    requires { (stripe : ℕ) × (item : Item) × (is_answer (Act.Offer stripe item) reply ≡ true) }
     ensures ahead { (w : ℕ) (n : ℕ) (es : Entries) → FollowsOffer w n reply es ↔ Ahead w n result es }
     ensures place { (n : ℕ) → is_place n result ≡ true }
 {
@@ -56,8 +56,8 @@ fn after_offer(item: Item, stripe: u8, reply: Reply) -> Place
     }
 }
 
-fn after_put(key: Key, reply: Reply) -> Place
-    requires { is_answer (Act.Put key) reply ≡ true }
+fn after_put(reply: Reply) -> Place
+    requires { (key : ℕ) × (is_answer (Act.Put key) reply ≡ true) }
     ensures ahead { (w : ℕ) (n : ℕ) (es : Entries) → FollowsPut w n reply es ↔ Ahead w n result es }
     ensures place { (n : ℕ) → is_place n result ≡ true }
 {
@@ -69,8 +69,8 @@ fn after_put(key: Key, reply: Reply) -> Place
     }
 }
 
-fn after_remove(key: Key, reply: Reply) -> Option<Place>
-    requires { is_answer (Act.Remove key) reply ≡ true }
+fn after_remove(reply: Reply) -> Option<Place>
+    requires { (key : ℕ) × (is_answer (Act.Remove key) reply ≡ true) }
     ensures ahead { (w : ℕ) (n : ℕ) (es : Entries) → FollowsRemove w n reply es ↔ AheadIf w n result es }
     ensures place { (n : ℕ) → is_place_if n result ≡ true }
 {
@@ -82,7 +82,7 @@ fn after_remove(key: Key, reply: Reply) -> Option<Place>
     }
 }
 
-// Behind the report of a read or of a write, which have the same replies.
+// Past a question whether maintenance is due, after a read or a write.
 fn after_report(reply: Reply) -> Option<Place>
     requires { is_answer Act.AfterWrite reply ≡ true }
     ensures ahead { (w : ℕ) (n : ℕ) (es : Entries) → FollowsReport w n reply es ↔ AheadIf w n result es }
@@ -95,11 +95,10 @@ fn after_report(reply: Reply) -> Option<Place>
     }
 }
 
-fn after_begin(stripes: u8, reply: Reply) -> Option<Place>
-    requires answer { is_answer Act.Begin reply ≡ true }
-    requires some { 1 ≤ stripes }
+fn after_begin(reply: Reply) -> Option<Place>
+    requires { is_answer Act.Begin reply ≡ true }
     ensures ahead { (w : ℕ) (n : ℕ) (es : Entries) → FollowsBegin w n reply es ↔ AheadIf w n result es }
-    ensures place { is_place_if stripes result ≡ true }
+    ensures place { (n : ℕ) → 1 ≤ n → is_place_if n result ≡ true }
 {
     match reply {
         Reply::Busy => None,
@@ -232,22 +231,22 @@ pub(crate) fn act_of(worker: Worker, stripes: u8, place: Place) -> Act
 }
 
 /// Where the worker stands after a reply; nowhere where its walk is over.
-pub(crate) fn after(worker: Worker, stripes: u8, place: Place, reply: Reply) -> Option<Place>
-    requires answer { is_answer (act_of_place worker stripes place) reply ≡ true }
+pub(crate) fn after(stripes: u8, place: Place, reply: Reply) -> Option<Place>
+    requires answer { (worker : ℕ) × (is_answer (act_of_place worker stripes place) reply ≡ true) }
     requires some { 1 ≤ stripes }
     requires place { is_place stripes place ≡ true }
-    ensures ahead { (es : Entries) → AheadAfter worker stripes place (Some reply) es
+    ensures ahead { (worker : ℕ) (es : Entries) → AheadAfter worker stripes place (Some reply) es
         ↔ AheadIf worker stripes result es }
     ensures place { is_place_if stripes result ≡ true }
 {
     match place {
         Place::Look { key } => Some(after_look(key, reply)),
-        Place::Offer { item } => Some(after_offer(item, worker.number() % stripes, reply)),
+        Place::Offer { item: _ } => Some(after_offer(reply)),
         Place::AfterRead { answer: _ } => after_report(reply),
-        Place::Put { key } => Some(after_put(key, reply)),
-        Place::Remove { key } => after_remove(key, reply),
+        Place::Put { key: _ } => Some(after_put(reply)),
+        Place::Remove { key: _ } => after_remove(reply),
         Place::AfterWrite => after_report(reply),
-        Place::Begin => after_begin(stripes, reply),
+        Place::Begin => after_begin(reply),
         Place::DrainRead { stripe, drained } => {
             Some(after_drain_read(stripes, stripe, drained, reply))
         }

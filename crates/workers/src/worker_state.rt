@@ -69,41 +69,6 @@ fn work_at<G: Gate, R: Wait>(
     state.refusal = answer.err();
 }
 
-// All workers make the walks of their calls, each on a thread of its own where one can be made.
-fn work_on_threads<G: Gate, R: Threads + Wait + Sync>(
-    rt: &R,
-    gate: &G,
-    book: &TurnBook<Session<Shell>>,
-    pieces: &[Vec<Call>],
-    stripes: u8,
-    states: &mut [WorkerState],
-)
-    requires stripes { (1 ≤ stripes) × (stripes ≤ MAX_STRIPES) }
-    requires admits { AdmitsAll stripes book.now.opening }
-    requires turns { book.now.opening.limit ≤ book.now.turns }
-    requires holds { All (λ d. HoldsPass (id_of book.now) d × (d.list.items ≡ [])
-        × IfSome d.pass (λ p. IsWithin book.now.opening.limit p) × (d.worker < length pieces.now)) states.old }
-    ensures holds { All (λ d. HoldsPass (id_of book.now) d
-        × HasWorked stripes book.now.opening.limit (calls_of pieces.now) d) states.new }
-    ensures workers { (i : ℕ) (d : WorkerState) → i < length states.old
-        → (slice_index_or states.new i d).worker ≡ (slice_index_or states.old i d).worker }
-{
-    if states.is_empty() {
-        return;
-    }
-    let threads = states.len();
-    let each = |_i: usize, state: &mut WorkerState|
-        requires { (1 ≤ stripes) × (stripes ≤ MAX_STRIPES) × AdmitsAll stripes book.now.opening
-            × (book.now.opening.limit ≤ book.now.turns) × HoldsPass (id_of book.now) state.now
-            × (state.now.list.items ≡ []) × IfSome state.now.pass (λ p. IsWithin book.now.opening.limit p)
-            × (state.now.worker < length pieces.now) }
-        ensures { HoldsPass (id_of book.entry.now) state.exit.now
-            × HasWorked stripes book.entry.now.opening.limit (calls_of pieces.entry.now) state.exit.now
-            × (state.exit.now.worker ≡ state.entry.now.worker) }
-    { work_at(rt, gate, book, pieces, stripes, state) };
-    thread::for_each_mut(rt, states, threads, &each);
-}
-
 // The state of each worker, with its pass, in memory that is there.
 pub(crate) fn assign_passes(
     alloc: Global,
@@ -133,7 +98,7 @@ pub(crate) fn assign_passes(
     states
 }
 
-// All workers make the walks of their calls.
+// All workers make the walks of their calls, each on a thread of its own where one can be made.
 pub(crate) fn work_all<G: Gate, R: Threads + Wait + Sync>(
     rt: &R,
     gate: &G,
@@ -152,7 +117,20 @@ pub(crate) fn work_all<G: Gate, R: Threads + Wait + Sync>(
         × HasWorked stripes book.now.opening.limit (calls_of pieces.now) d) result.items }
     ensures counts { AreNumbered 0 result.items × (length result.items ≡ length pieces.now) }
 {
-    work_on_threads(rt, gate, book, pieces, stripes, states.as_mut_slice());
+    if states.is_empty() {
+        return states;
+    }
+    let threads = states.len();
+    let each = |_i: usize, state: &mut WorkerState|
+        requires { (1 ≤ stripes) × (stripes ≤ MAX_STRIPES) × AdmitsAll stripes book.now.opening
+            × (book.now.opening.limit ≤ book.now.turns) × HoldsPass (id_of book.now) state.now
+            × (state.now.list.items ≡ []) × IfSome state.now.pass (λ p. IsWithin book.now.opening.limit p)
+            × (state.now.worker < length pieces.now) }
+        ensures { HoldsPass (id_of book.entry.now) state.exit.now
+            × HasWorked stripes book.entry.now.opening.limit (calls_of pieces.entry.now) state.exit.now
+            × (state.exit.now.worker ≡ state.entry.now.worker) }
+    { work_at(rt, gate, book, pieces, stripes, state) };
+    thread::for_each_mut(rt, states.as_mut_slice(), threads, &each);
     states
 }
 

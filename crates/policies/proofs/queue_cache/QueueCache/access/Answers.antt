@@ -1,3 +1,5 @@
+use Rattle.std.proofs.Common.{rules, ◌≡◌}
+use Rattle.std.specs.Option.{option_map}
 use Rattle.policies.proofs.Reached.{reached-halvings, reached-small, access-reached}
 use Rattle.policies.proofs.queue_cache.QueueCache.access.Goals as goal
 
@@ -8,4 +10,12 @@ pub count-requires : goal.count-requires
 count-requires g c = reached-small _ c.self.invariant.reached
 
 pub invariant_of-self-2 : goal.invariant_of-self-2
-invariant_of-self-2 g c = record { rules = c.self.invariant.rules; reached = access-reached c.self.inside.job c.self.inside.rules _ _ _ _ _ _ _ c.args.key c.access_key-effect.result c.self.invariant.rules c.self.invariant.reached c.in_ok-make_room.ensures.below c.make_room.ensures.lists c.in-Ok.ensures.after c.access_key-effect.ensures.outcome c.access_key-effect.ensures.lists c.count.ensures }
+invariant_of-self-2 g c =
+    let seen : option_map (λ f. f.now) c.as_ref-frequency.result ≡ c.count_in.new.frequency = search rules in
+    record {
+      rules = c.self.invariant.rules;
+      reached = access-reached c.self.inside.job c.self.inside.rules c.self.inside.segments.lists c.make_room.new.segments.lists c.access-effect.new.segments.lists
+          c.self.inside.frequency c.count_in.new.frequency c.self.inside.stats c.count.new.self c.args.key c.access-effect.result
+          c.self.invariant.rules c.self.invariant.reached c.in_ok-make_room.ensures.below c.make_room.ensures.lists c.in-Ok.ensures.after
+          (rw seen at c.access-effect.ensures.outcome) (rw seen at c.access-effect.ensures.lists) c.count.ensures;
+    }

@@ -1,5 +1,6 @@
 use Rattle.policies.proofs.Reached.{reached-halvings, reached-small, access-reached, counting-weighs}
-use Rattle.std.proofs.Common.{◌∙◌, ap}
+use Rattle.std.proofs.Common.{rules, ◌≡◌, ◌∙◌, ap}
+use Rattle.std.specs.Option.{option_map}
 use Rattle.policies.specs.QueueStep.{queue_record_of}
 use Rattle.policies.proofs.Recorded.{access-recorded}
 use Rattle.policies.proofs.queue_cache.QueueCacheEngine.apply.Goals as goal
@@ -11,15 +12,24 @@ pub count-requires : goal.count-requires
 count-requires g c = reached-small _ c.self.invariant.reached
 
 pub invariant_of-self-2 : goal.invariant_of-self-2
-invariant_of-self-2 g c = record { rules = c.self.invariant.rules; reached = access-reached c.self.inside.job c.self.inside.rules _ _ _ _ _ _ _ c.args.step.now c.access_key-effect.result c.self.invariant.rules c.self.invariant.reached c.in_ok-make_room.ensures.below c.make_room.ensures.lists c.in-Ok.ensures.after c.access_key-effect.ensures.outcome c.access_key-effect.ensures.lists c.count.ensures }
+invariant_of-self-2 g c =
+    let seen : option_map (λ f. f.now) c.as_ref-frequency.result ≡ c.record_in.new.frequency = search rules in
+    record {
+      rules = c.self.invariant.rules;
+      reached = access-reached c.self.inside.job c.self.inside.rules c.self.inside.segments.lists c.make_room.new.segments.lists c.access-effect.new.segments.lists
+          c.self.inside.frequency c.record_in.new.frequency c.self.inside.stats c.count.new.self c.args.step.now c.access-effect.result
+          c.self.invariant.rules c.self.invariant.reached c.in_ok-make_room.ensures.below c.make_room.ensures.lists c.in-Ok.ensures.after
+          (rw seen at c.access-effect.ensures.outcome) (rw seen at c.access-effect.ensures.lists) c.count.ensures;
+    }
 
 pub returns-clause-words : goal.returns-clause-words
 returns-clause-words g c = counting-weighs c.in-Ok.counting c.record_in.new.frequency c.in-Ok.ensures.fits
 
 pub returns-clause-record_is : goal.returns-clause-record_is
 returns-clause-record_is g c =
+    let seen : option_map (λ f. f.now) c.as_ref-frequency.result ≡ c.record_in.new.frequency = search rules in
     access-recorded c.self.inside.job c.self.inside.rules c.self.inside.segments.lists c.make_room.new.segments.lists
-    c.self.inside.frequency c.record_in.new.frequency c.self.inside.stats c.args.step.now c.in-Ok.counting c.access_key-effect.result
+    c.self.inside.frequency c.record_in.new.frequency c.self.inside.stats c.args.step.now c.in-Ok.counting c.access-effect.result
     c.self.invariant.rules c.make_room.ensures.lists c.in-Ok.ensures.after c.in-Ok.ensures.record
-    c.access_key-effect.ensures.outcome c.access_key-effect.ensures.record
+    (rw seen at c.access-effect.ensures.outcome) (rw seen at c.access-effect.ensures.record)
     ∙ ap (queue_record_of c.args.step.now) c.self.view_is

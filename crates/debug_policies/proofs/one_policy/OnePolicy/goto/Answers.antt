@@ -1,16 +1,15 @@
-use Rattle.std.proofs.Common.{◌≤◌, List, ℕ, length, subst, sym}
+use Rattle.std.proofs.Common.{rules, ◌≤◌, List, ℕ, length, subst}
 use Rattle.journal.specs.Faults.{StandsAt}
 use Rattle.policies.specs.declared.any_policy.AnyPolicy.{AnyPolicy}
-use Rattle.debug_policies.specs.OnePolicy.{OnePolicyState}
 use Rattle.debug_policies.proofs.Sessions.{moved, undone_within}
-use Rattle.debug_policies.proofs.one_policy.OnePolicy.undo_to.Goals as goal
-use Rattle.debug_policies.proofs.one_policy.OnePolicy.undo_to.Goals.{in-Ok, in-Err-OutOfMemory}
+use Rattle.debug_policies.proofs.one_policy.OnePolicy.goto.Goals as goal
+use Rattle.debug_policies.proofs.one_policy.OnePolicy.goto.Goals.{in-Ok, in-Err-OutOfMemory}
 
 pub invariant_of-self : goal.invariant_of-self
 invariant_of-self c =
     let trace : List ℕ = c.self.inside.trace.now in
     let s = c.self.inside.session in
-    let within : c.args.n ≤ length s.kept = subst (λ (v : OnePolicyState). c.args.n ≤ v.at) (sym c.self.view_is) c.requires in
+    let within : c.args.n ≤ length s.kept = search rules in
     elim c.match-goto.branch [
       | in-Ok w ↦ moved c.any_stands.ensures c.self.inside.job trace c.args.n s c.goto.new.self c.self.invariant
           w.in-Ok.ensures.ok within c.goto.ensures.sound.legal c.goto.ensures.sound.stands
