@@ -1,8 +1,7 @@
 -- From what the program promises of any files to what it answers about one whose bytes are known.
 use Rattle.std.proofs.Common.{◌≡◌, ◌∙◌, ◌⊎◌, ap, subst, sym, arith, inl, inr, ℕ, List, [], ◌∷◌, Option, Some, codes}
 use Rattle.std.specs.Option.{option_map_or}
-use Rattle.clap.specs.Words.{Kinds, Row, Text, fault_of, subcommand_of}
-use Rattle.command_line.specs.Program.{called, program_app}
+use Rattle.clap.specs.Words.{Kinds, Row, Text}
 use Rattle.cachesim.specs.Debugged.{KnownFiles}
 use Rattle.cachesim.specs.InMemory.{AnswersAboutFile, AnswersAboutJournal, AnswersAboutTrace}
 use Rattle.cachesim.specs.Run.{AsksHelp, Debugged, DoneBy, Drove, Parted, Ran, Replayed, Swept}
