@@ -3,3 +3,4 @@ pub mod Replayed
 pub mod Dealing
 pub mod Faulting
 pub mod Found
+pub mod InMemory

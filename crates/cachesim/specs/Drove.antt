@@ -1,5 +1,5 @@
 -- What `drive` writes.
-use Rattle.std.specs.Prelude.{◌≡◌, ℕ, List, [], Option, None, IfSome}
+use Rattle.std.specs.Prelude.{◌≡◌, ◌≤◌, ℕ, List, [], Option, None, IfSome, length}
 use Rattle.std.specs.Io.KnownBytes.{Appends}
 use Rattle.step_record.specs.History.{IsLegal, Entries}
 use Rattle.step_record.specs.declared.config.Config.{Config}
@@ -23,8 +23,8 @@ pub record IsFirst (config : Config) (session : SessionState Shell Shell Step Re
   pub none : session.kept ≡ []
 
 -- The bytes read have no fault, and those written are the journal of steps that the cache of the configuration accepts
--- one after another, each with its reply, from the empty state on. They are the walks of the accesses in the bytes
--- read, each by the worker whose turn it is.
+-- one after another, each with its reply, from the empty state on, as many as the limit of its journal at most. They are
+-- the walks of the accesses in the bytes read, each by the worker whose turn it is.
 pub record IsDriven (config : Config) (workers : ℕ) (format : Format)
     (input before after : Option (List ℕ)) : Type 0 where
   pub faultless : IfSome input (λ bytes. fault_in format bytes ≡ None)
@@ -32,6 +32,7 @@ pub record IsDriven (config : Config) (workers : ℕ) (format : Format)
   pub opened : IsOpened config opening
   pub steps : Entries
   pub legal : IsLegal act opening steps
+  pub few : length steps ≤ config.journal_limit
   pub walks : IfSome input (λ bytes. AreOfReads workers config.stripes (keys_in format bytes) steps)
   pub written : Appends before after (journal_of Two steps)
 

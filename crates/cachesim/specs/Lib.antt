@@ -7,3 +7,4 @@ pub mod Run
 pub mod Dealt
 pub mod FaultLine
 pub mod Found
+pub mod InMemory

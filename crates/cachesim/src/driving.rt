@@ -82,11 +82,15 @@ fn pieces_of<R: Read>(
 fn tell<W: Write>(alloc: Global, run: &Result<Driven, DriveFault>, out: &mut W) -> Result<(), Fault>
     requires { IfErr run.now IsOfRun }
     ensures fault { IfErr result IsOfEnd }
+    ensures few { OnOk result (IsOkAnd run.now (λ driven. length driven.session.kept ≤ driven.session.limit)) }
     ensures written { OnOk result (IsOkAnd run.now (λ driven.
         Appends (W.contents out.old) (W.contents out.new) (journal_of Two driven.session.kept))) }
 {
     match run {
-        Ok(driven) => Ok(write_journal(alloc, &driven.session, out)?),
+        Ok(driven) => {
+            driven.session.len();
+            Ok(write_journal(alloc, &driven.session, out)?)
+        }
         Err(
             DriveFault::Stopped {
                 session,
@@ -112,6 +116,7 @@ fn tell<W: Write>(alloc: Global, run: &Result<Driven, DriveFault>, out: &mut W) 
 fn end<W: Write>(alloc: Global, run: Result<Driven, DriveFault>, out: &mut W) -> Result<(), Fault>
     requires { IfErr run IsOfRun }
     ensures fault { IfErr result IsOfEnd }
+    ensures few { OnOk result (IsOkAnd run (λ driven. length driven.session.kept ≤ driven.session.limit)) }
     ensures written { OnOk result (IsOkAnd run (λ driven.
         Appends (W.contents out.old) (W.contents out.new) (journal_of Two driven.session.kept))) }
 {

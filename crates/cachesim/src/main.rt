@@ -10,6 +10,7 @@ mod debugging;
 mod driving;
 mod fault;
 mod files;
+mod in_memory;
 mod limits;
 mod part;
 mod run;

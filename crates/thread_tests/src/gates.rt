@@ -93,6 +93,13 @@ impl Turns {
         self.is_in_turn() && self.calls.iter().all(|calls| calls.load(SeqCst) == wanted)
     }
 
+    // The same, where each thread has its own number of calls.
+    pub(crate) fn is_over_each(&self, calls: &[u64]) -> bool {
+        let mut pairs = self.calls.iter().zip(calls);
+        let each = pairs.all(|(seen, calls)| seen.load(SeqCst) == calls.wrapping_mul(2));
+        self.is_in_turn() && each && self.calls.len() == calls.len()
+    }
+
     // Whether no thread was seen to begin or to end a call out of turn.
     fn is_in_turn(&self) -> bool {
         self.wrong.load(SeqCst) == 0

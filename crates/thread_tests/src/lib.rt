@@ -8,6 +8,8 @@ mod actors_tests;
 #[cfg(test)]
 mod crowd_tests;
 #[cfg(test)]
+mod gate_tests;
+#[cfg(test)]
 mod gates;
 #[cfg(test)]
 mod jobs;

@@ -1,7 +1,7 @@
 use Rattle.std.proofs.Common.{◌≡◌, ◌≤◌, ◌∙◌, ap, subst, sym, arith, List, length, map, None, Result, Ok, Err}
-use Rattle.std.specs.Prelude.{IfOk, IsOkAnd}
+use Rattle.std.specs.Prelude.{IfOk, IsOkAnd, OnOk}
 use Rattle.std.proofs.lemmas.Option.{IfSome_then}
-use Rattle.std.proofs.lemmas.Result.{IfErr-weaker, on_ok_weaker}
+use Rattle.std.proofs.lemmas.Result.{IfErr-weaker}
 use Rattle.step_record.specs.History.{IsLegal}
 use Rattle.shell_model.specs.Shell.{Shell, act}
 use Rattle.shell_model.specs.Reached.{worker_of}
@@ -28,9 +28,15 @@ could_begin (OutOfMemory s) pieces session left some few free = tt
 could_begin (Stopped s lists cause) pieces session left some few free = tt
 
 -- what follows from what is said of the value in an `Ok`
-held : {X Y G : Type 0} (r : Result X Y) {P Q R : X → Type 0} → IsOkAnd r P → IfOk r Q → IfOk r R → ((x : X) → P x → Q x → R x → G) → G
-held (Ok x) p q r then = then x p q r
-held (Err e) p q r then = absurd p
+held : {X Y G : Type 0} (r : Result X Y) {O P Q R : X → Type 0} → IsOkAnd r O → IsOkAnd r P → IfOk r Q → IfOk r R
+    → ((x : X) → O x → P x → Q x → R x → G) → G
+held (Ok x) o p q r then = then x o p q r
+held (Err e) o p q r then = absurd p
+
+-- what is said of one success, twice
+on_ok_both : {X Y : Type 0} (r : Result X Y) {P Q G : Type 0} → (P → Q → G) → OnOk r P → OnOk r Q → OnOk r G
+on_ok_both (Ok x) both p q = both p q
+on_ok_both (Err e) both p q = tt
 
 pub returns-clause-ok : goal.returns-clause-ok
 returns-clause-ok g c =
@@ -38,7 +44,7 @@ returns-clause-ok g c =
     let workers = c.args.arguments.now.workers in
     let stripes = ap (λ x. x.config.stripes) (first.same ∙ first.opened.is) in
     let input = g.R.Read.remaining c.args.input.now in
-    on_ok_weaker c.end.result (λ done. held c.drive-run.result done c.drive-run.ensures.run c.drive-run.ensures.legal (λ driven written run legal. record {
+    on_ok_both c.end.result (λ few done. held c.drive-run.result few done c.drive-run.ensures.run c.drive-run.ensures.legal (λ driven few written run legal. record {
       faultless = IfSome_then input c.in_ok-pieces.ensures.dealt (λ bytes h. h.0);
       opening = c.in_ok-session.session.opening;
       opened = first.opened;
@@ -46,8 +52,9 @@ returns-clause-ok g c =
       legal = subst (λ o. IsLegal act o driven.session.kept) run.opening legal;
       walks = IfSome_then input c.in_ok-pieces.ensures.dealt
           (λ bytes h. subst (λ n. AreOfReads workers n (keys_in c.args.arguments.now.format bytes) driven.session.kept) stripes (reads_walked workers c.in_ok-session.session.engine.config.stripes (keys_in c.args.arguments.now.format bytes) _ c.in_ok-session.session driven.session _ h.1 first.none run));
+      few = subst (λ l. length driven.session.kept ≤ l) (run.limit ∙ c.in_ok-session.ensures.limit) few;
       written = written;
-    })) c.end.ensures.written
+    })) c.end.ensures.few c.end.ensures.written
 
 pub returns-clause-kept : goal.returns-clause-kept
 returns-clause-kept g c = IfErr-weaker c.end.result _ _ (λ fault ended before. absurd (late_end fault ended before)) c.end.ensures.fault
