@@ -5,7 +5,7 @@ ghost use Rattle.cachesim.specs.declared.command.TheConstants.{DONE};
 
 use crate::command::command;
 use crate::files::{FileFault, Files};
-use crate::progress::Watch;
+use progress::Watch;
 use std::alloc::Global;
 use std::io::{Read, Write};
 use std::sync::Wait;
