@@ -18,8 +18,8 @@ use Rattle.journal_text.specs.declared.word.Word.TheVariants.{Named, Worker, Str
 use Rattle.journal_text.specs.Table.{word_text, spelled, FitsWord, Fit, act_words, reply_words, entry_words, count_words, text_of, is_answer_in, IsLine}
 use Rattle.journal_text.specs.declared.line.Line.{Line}
 use Rattle.journal_text.specs.declared.line.Line.TheVariants.{Made, Steps}
-use Rattle.journal_text.specs.declared.name.Name.{Name}
-use Rattle.journal_text.specs.declared.name.Name.TheVariants as name
+use Rattle.journal_text.specs.declared.name.JournalName.{JournalName}
+use Rattle.journal_text.specs.declared.name.JournalName.TheVariants as name
 use Rattle.journal_text.specs.declared.version.Version.{Version}
 use Rattle.journal_text.specs.declared.version.Version.TheVariants.{One, Two}
 use Rattle.journal_text.proofs.Spellings.{number_again}
@@ -53,11 +53,11 @@ entry_back e f =
     let reply : reply_at (map word_text (reply_words r)) ≡ Some (r, []) = ap reply_at (sym (append-nil (map word_text (reply_words r)))) ∙ reply_back [] r parts.1.1 in
     rw worker (rw act (rw equals (rw reply refl)))
 
-equals_is : (n : Name) (u : Unit {0}) → only_equals n ≡ Some u → n ≡ name.Equals
+equals_is : (n : JournalName) (u : Unit {0}) → only_equals n ≡ Some u → n ≡ name.Equals
 equals_is name.Equals u h = refl
 equals_is _ u h = absurd (cc)
 
-steps_is : (n : Name) (u : Unit {0}) → only_steps n ≡ Some u → n ≡ name.Steps
+steps_is : (n : JournalName) (u : Unit {0}) → only_steps n ≡ Some u → n ≡ name.Steps
 steps_is name.Steps u h = refl
 steps_is _ u h = absurd (cc)
 
@@ -131,7 +131,7 @@ module _ (c : ℕ) where
       let above : 33 ≤ b = grind (arith, nat_tests) in
       All-cons (λ b. (b == c) ≡ false) b xs (ne_eqb b c (λ e. omega arith)) (printed_lacks h xs parts.1)
 
-printed : (n : Name) → list_any (λ b. nat_lt b 33) (spelling n) ≡ false
+printed : (n : JournalName) → list_any (λ b. nat_lt b 33) (spelling n) ≡ false
 printed name.Look = refl
 printed name.Offer = refl
 printed name.Lose = refl

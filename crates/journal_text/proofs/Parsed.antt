@@ -8,8 +8,8 @@ use Rattle.journal_text.specs.Names.{journal_name_of, spelling}
 use Rattle.journal_text.specs.Reading.{numeral_of, name_at, wide_at, small_at, item_at, answer_at, answer_named, act_at, act_named, reply_at, reply_named}
 use Rattle.journal_text.specs.declared.word.Word.{Word}
 use Rattle.journal_text.specs.Table.{word_text, Fit, answer_name, act_words, reply_words}
-use Rattle.journal_text.specs.declared.name.Name.{Name}
-use Rattle.journal_text.specs.declared.name.Name.TheVariants as name
+use Rattle.journal_text.specs.declared.name.JournalName.{JournalName}
+use Rattle.journal_text.specs.declared.name.JournalName.TheVariants as name
 use Rattle.journal_text.proofs.Spellings.{name_again, name_takes, number_again, number_takes}
 use Rattle.step_record.specs.declared.item.Item.{Item}
 use Rattle.step_record.specs.declared.step.Act.{Act}
@@ -28,7 +28,7 @@ again answer.Full = refl
 again answer.Lost = refl
 
 module _ (ws : List (List ℕ)) where
-  pub name_back : (n : Name) → name_at (spelling n ∷ ws) ≡ Some (n, ws)
+  pub name_back : (n : JournalName) → name_at (spelling n ∷ ws) ≡ Some (n, ws)
   unfolding name_at
   name_back n = ap (with_rest ws) (name_again n)
 
@@ -114,7 +114,7 @@ rest_taken : {A : Type 0} (ws : List (List ℕ)) (o : Option A) (k : A × List (
 rest_taken ws None k h = absurd (cc)
 rest_taken ws (Some x) k h = (ap (λ p. Some p.0) (some_same h), ap (λ p. p.1) (some_same h))
 
-pub name_taken : (ws : List (List ℕ)) (k : Name × List (List ℕ)) → name_at ws ≡ Some k → ws ≡ spelling k.0 ∷ k.1
+pub name_taken : (ws : List (List ℕ)) (k : JournalName × List (List ℕ)) → name_at ws ≡ Some k → ws ≡ spelling k.0 ∷ k.1
 unfolding name_at
 name_taken [] k h = absurd (cc)
 name_taken (w ∷ ws) k h =
@@ -157,7 +157,7 @@ item_taken ws k h =
     (wide_at b.0.1) (λ n. record { key = b.0.0; node = n }) k
     (λ m e. let node = wide_taken b.0.1 m e in (key.0 ∙ ap (λ t. decimal b.0.0 ∷ t) node.0, key.1, node.1)) b.2
 
-answer_of : (n : Name) (a : Answer) → answer_named n ≡ Some a → n ≡ answer_name a
+answer_of : (n : JournalName) (a : Answer) → answer_named n ≡ Some a → n ≡ answer_name a
 answer_of name.Kept a h = ap answer_name (some_same h)
 answer_of name.Full a h = ap answer_name (some_same h)
 answer_of name.Lost a h = ap answer_name (some_same h)
@@ -171,10 +171,10 @@ answer_taken ws k h =
     name_taken ws b.0 b.1 ∙ ap (λ n. spelling n ∷ b.0.1) (answer_of b.0.0 k.0 r.0) ∙ ap (λ t. spelling (answer_name k.0) ∷ t) r.1
 
 -- a name and the words behind it are these words, which fit, and the rest
-abbrev Taken : {A : Type 0} → (A → List Word) → Name → List (List ℕ) → A × List (List ℕ) → Type 0
+abbrev Taken : {A : Type 0} → (A → List Word) → JournalName → List (List ℕ) → A × List (List ℕ) → Type 0
 Taken words n ws y = (spelling n ∷ ws ≡ map word_text (words y.0) ++ y.1) × Fit (words y.0)
 
-named_act : (n : Name) (ws : List (List ℕ)) (y : Act × List (List ℕ)) → act_named n ws ≡ Some y → Taken act_words n ws y
+named_act : (n : JournalName) (ws : List (List ℕ)) (y : Act × List (List ℕ)) → act_named n ws ≡ Some y → Taken act_words n ws y
 named_act name.Look ws y h = read_then (Taken act_words name.Look ws) (wide_at ws) act.Look y (λ k e. (ap (λ t. spelling name.Look ∷ t) (wide_taken ws k e).0, (tt, ((wide_taken ws k e).1, tt)))) h
 named_act name.Offer ws y h =
     let b = bound (small_at 256 ws) _ y h in
@@ -197,7 +197,7 @@ named_act name.Evict ws y h = subst (Taken act_words name.Evict ws) (some_same h
 named_act name.End ws y h = subst (Taken act_words name.End ws) (some_same h) (refl, (tt, tt))
 named_act _ ws y h = absurd (cc)
 
-named_reply : (n : Name) (ws : List (List ℕ)) (y : Reply × List (List ℕ)) → reply_named n ws ≡ Some y → Taken reply_words n ws y
+named_reply : (n : JournalName) (ws : List (List ℕ)) (y : Reply × List (List ℕ)) → reply_named n ws ≡ Some y → Taken reply_words n ws y
 named_reply name.Hit ws y h = read_then (Taken reply_words name.Hit ws) (wide_at ws) reply.Hit y (λ k e. (ap (λ t. spelling name.Hit ∷ t) (wide_taken ws k e).0, (tt, ((wide_taken ws k e).1, tt)))) h
 named_reply name.Miss ws y h = subst (Taken reply_words name.Miss ws) (some_same h) (refl, (tt, tt))
 named_reply name.Kept ws y h = subst (Taken reply_words name.Kept ws) (some_same h) (refl, (tt, tt))

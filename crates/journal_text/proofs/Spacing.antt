@@ -4,7 +4,7 @@ use Rattle.std.proofs.lemmas.List.{append-nil}
 use Rattle.std.specs.Fmt.{decimal}
 use Rattle.journal_text.specs.Journal.{ended_line}
 use Rattle.journal_text.specs.Table.{word_text, spelled, spaced, act_words, reply_name, reply_numbers, entry_words}
-use Rattle.journal_text.specs.declared.name.Name.TheVariants as name
+use Rattle.journal_text.specs.declared.name.JournalName.TheVariants as name
 use Rattle.journal_text.specs.declared.word.Word.{Word}
 use Rattle.journal_text.specs.declared.word.Word.TheVariants.{Named, Worker}
 use Rattle.step_record.specs.declared.entry.Entry.{Entry}

@@ -6,8 +6,8 @@ use Rattle.journal_text.specs.Names.{journal_name_of}
 use Rattle.journal_text.specs.Table.{is_answer_in}
 use Rattle.journal_text.specs.declared.line.Line.{Line}
 use Rattle.journal_text.specs.declared.line.Line.TheVariants as line
-use Rattle.journal_text.specs.declared.name.Name.{Name}
-use Rattle.journal_text.specs.declared.name.Name.TheVariants as name
+use Rattle.journal_text.specs.declared.name.JournalName.{JournalName}
+use Rattle.journal_text.specs.declared.name.JournalName.TheVariants as name
 use Rattle.journal_text.specs.declared.version.Version.{Version}
 use Rattle.journal_text.specs.declared.version.Version.TheVariants.{One, Two}
 use Rattle.step_record.specs.declared.entry.Entry.{Entry}
@@ -31,7 +31,7 @@ numeral_of w = if nat_lt 1 (length w) && slice_index w 0 == 48 then None else nu
 abbrev pub words_of : List ℕ → List (List ℕ)
 words_of text = slice_split (λ b. b == 32) text
 
-unfoldable pub name_at : Reads Name
+unfoldable pub name_at : Reads JournalName
 name_at [] = None
 name_at (w ∷ ws) = with_rest ws (journal_name_of w)
 
@@ -46,7 +46,7 @@ small_at limit ws = wide_at ws >>= λ n. if nat_lt n.0 limit then Some n else No
 unfoldable pub item_at : Reads Item
 item_at ws = wide_at ws >>= λ k. (wide_at k.1 >>= λ n. Some (record { key = k.0; node = n.0 }, n.1))
 
-abbrev pub answer_named : Name → Option Answer
+abbrev pub answer_named : JournalName → Option Answer
 answer_named name.Kept = Some answer.Kept
 answer_named name.Full = Some answer.Full
 answer_named name.Lost = Some answer.Lost
@@ -55,7 +55,7 @@ answer_named _ = None
 unfoldable pub answer_at : Reads Answer
 answer_at ws = name_at ws >>= λ n. with_rest n.1 (answer_named n.0)
 
-abbrev pub act_named : Name → Reads Act
+abbrev pub act_named : JournalName → Reads Act
 act_named name.Look ws = wide_at ws >>= λ k. Some (act.Look k.0, k.1)
 act_named name.Offer ws = small_at 256 ws >>= λ s. (item_at s.1 >>= λ i. Some (act.Offer s.0 i.0, i.1))
 act_named name.Lose ws = small_at 256 ws >>= λ s. (item_at s.1 >>= λ i. Some (act.Lose s.0 i.0, i.1))
@@ -73,7 +73,7 @@ act_named _ ws = None
 unfoldable pub act_at : Reads Act
 act_at ws = name_at ws >>= λ n. act_named n.0 n.1
 
-abbrev pub reply_named : Name → Reads Reply
+abbrev pub reply_named : JournalName → Reads Reply
 reply_named name.Hit ws = wide_at ws >>= λ n. Some (reply.Hit n.0, n.1)
 reply_named name.Miss ws = Some (reply.Miss, ws)
 reply_named name.Kept ws = Some (reply.Kept, ws)
@@ -106,11 +106,11 @@ unfoldable pub reply_at : Reads Reply
 reply_at ws = name_at ws >>= λ n. reply_named n.0 n.1
 
 -- a name that must stand there
-abbrev pub only_equals : Name → Option (Unit {0})
+abbrev pub only_equals : JournalName → Option (Unit {0})
 only_equals name.Equals = Some tt
 only_equals _ = None
 
-abbrev pub only_steps : Name → Option (Unit {0})
+abbrev pub only_steps : JournalName → Option (Unit {0})
 only_steps name.Steps = Some tt
 only_steps _ = None
 

@@ -3,8 +3,8 @@ use Rattle.std.specs.Prelude.{◌≡◌, ◌<◌, ◌^◌, ℕ, Bool, List, [], 
 use Rattle.std.specs.Fmt.{decimal}
 use Rattle.std.specs.List.{AllByRecursion, join_with_byte}
 use Rattle.journal_text.specs.Names.{spelling}
-use Rattle.journal_text.specs.declared.name.Name.{Name}
-use Rattle.journal_text.specs.declared.name.Name.TheVariants as name
+use Rattle.journal_text.specs.declared.name.JournalName.{JournalName}
+use Rattle.journal_text.specs.declared.name.JournalName.TheVariants as name
 use Rattle.journal_text.specs.declared.version.Version.{Version}
 use Rattle.journal_text.specs.declared.version.Version.TheVariants.{One, Two}
 use Rattle.journal_text.specs.declared.line.Line.{Line}
@@ -26,13 +26,13 @@ use Rattle.step_record.specs.declared.worker.TheConstants.{MAX_WORKERS}
 abbrev pub item_words : Item → List Word
 item_words i = Wide i.key ∷ Wide i.node ∷ []
 
-abbrev pub answer_name : Answer → Name
+abbrev pub answer_name : Answer → JournalName
 answer_name answer.Kept = name.Kept
 answer_name answer.Full = name.Full
 answer_name answer.Lost = name.Lost
 
 -- the words of an offer to a read buffer
-abbrev pub offer_words : Name → ℕ → Item → List Word
+abbrev pub offer_words : JournalName → ℕ → Item → List Word
 offer_words name s item = Named name ∷ Stripe s ∷ item_words item
 
 abbrev pub act_words : Act → List Word
@@ -50,7 +50,7 @@ act_words act.Evict = Named name.Evict ∷ []
 act_words act.End = Named name.End ∷ []
 
 -- the name at the front of a reply
-abbrev pub reply_name : Reply → Name
+abbrev pub reply_name : Reply → JournalName
 reply_name (reply.Hit node) = name.Hit
 reply_name reply.Miss = name.Miss
 reply_name reply.Kept = name.Kept

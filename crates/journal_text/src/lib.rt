@@ -8,14 +8,14 @@
 
 mod fault;
 mod line;
-mod lines;
+mod replay;
 mod name;
 mod numeral;
 mod reader;
-mod reading;
+mod grammar;
 mod steps;
 mod table;
-mod text;
+mod line_text;
 mod theorems;
 mod version;
 mod word;

@@ -6,8 +6,8 @@ ghost use Rattle.journal_text.specs.ReplyItem.{reply_item};
 ghost use Rattle.journal_text.specs.Table.{text_of, IsLine};
 ghost use Rattle.journal_text.specs.declared.line.Line.TheVariants.{Made};
 
-use super::name::Name;
-use super::reading::line;
+use super::name::JournalName;
+use super::grammar::line;
 use super::table::reply_name;
 use super::{JournalFault, Line, Version};
 use journal::{Session, SessionFault};
@@ -81,7 +81,7 @@ fn is_same(reply: Reply, other: Reply) -> bool
 }
 
 // Whether the names are one.
-fn is_same_name(name: Name, other: Name) -> bool
+fn is_same_name(name: JournalName, other: JournalName) -> bool
     ensures same { result ≡ true → name ≡ other }
     ensures differs { result ≡ false → name ≢ other }
 {

@@ -3,40 +3,40 @@ ghost use Rattle.std.specs.Prelude.{◌≡◌};
 ghost use Rattle.journal_text.specs.Table.{is_answer_in, is_in_version, reply_name};
 
 use super::Version;
-use super::name::Name;
+use super::name::JournalName;
 use step_record::{Act, Reply};
 
 /// The name at the front of a reply.
-pub fn reply_name(reply: &Reply) -> Name
+pub fn reply_name(reply: &Reply) -> JournalName
     ensures { result ≡ reply_name reply.now }
 {
     match reply {
-        Reply::Hit { .. } => Name::Hit,
-        Reply::Miss => Name::Miss,
-        Reply::Kept => Name::Kept,
-        Reply::Full => Name::Full,
-        Reply::Lost => Name::Lost,
-        Reply::Added { .. } => Name::Added,
-        Reply::Present { .. } => Name::Present,
-        Reply::WritesFull => Name::WritesFull,
-        Reply::Removed { .. } => Name::Removed,
-        Reply::Absent => Name::Absent,
-        Reply::Go => Name::Go,
-        Reply::Drain => Name::Drain,
-        Reply::Began => Name::Began,
-        Reply::Busy => Name::Busy,
-        Reply::Drained { .. } => Name::Drained,
-        Reply::Empty => Name::Empty,
-        Reply::Applied { .. } => Name::Applied,
-        Reply::Cleared { .. } => Name::Cleared,
-        Reply::Enough => Name::Enough,
-        Reply::Shifted { .. } => Name::Shifted,
-        Reply::Evicted { .. } => Name::Evicted,
-        Reply::Rejected { .. } => Name::Rejected,
-        Reply::Fits => Name::Fits,
-        Reply::Idle => Name::Idle,
-        Reply::Again => Name::Again,
-        Reply::NotYet => Name::NotYet,
+        Reply::Hit { .. } => JournalName::Hit,
+        Reply::Miss => JournalName::Miss,
+        Reply::Kept => JournalName::Kept,
+        Reply::Full => JournalName::Full,
+        Reply::Lost => JournalName::Lost,
+        Reply::Added { .. } => JournalName::Added,
+        Reply::Present { .. } => JournalName::Present,
+        Reply::WritesFull => JournalName::WritesFull,
+        Reply::Removed { .. } => JournalName::Removed,
+        Reply::Absent => JournalName::Absent,
+        Reply::Go => JournalName::Go,
+        Reply::Drain => JournalName::Drain,
+        Reply::Began => JournalName::Began,
+        Reply::Busy => JournalName::Busy,
+        Reply::Drained { .. } => JournalName::Drained,
+        Reply::Empty => JournalName::Empty,
+        Reply::Applied { .. } => JournalName::Applied,
+        Reply::Cleared { .. } => JournalName::Cleared,
+        Reply::Enough => JournalName::Enough,
+        Reply::Shifted { .. } => JournalName::Shifted,
+        Reply::Evicted { .. } => JournalName::Evicted,
+        Reply::Rejected { .. } => JournalName::Rejected,
+        Reply::Fits => JournalName::Fits,
+        Reply::Idle => JournalName::Idle,
+        Reply::Again => JournalName::Again,
+        Reply::NotYet => JournalName::NotYet,
     }
 }
 

@@ -14,7 +14,7 @@ use Rattle.segments.proofs.ItemLists.{without-none}
 use Rattle.shell_model.specs.Shell.{node_of, placed, is_listed}
 use Rattle.shell_model.specs.Consistent.{AreAbove, IsAscending}
 use Rattle.shell_model.proofs.Counting.{above-none}
-use Rattle.maintenance.specs.Table.{table_items}
+use Rattle.maintenance.specs.NodeTable.{table_items}
 
 pub found : (k : ℕ) (es : List (ℕ × ℕ)) → lookup (is_at (nat_cmp k)) es ≡ node_of k (table_items es)
 found k [] = refl

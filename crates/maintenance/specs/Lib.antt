@@ -1,3 +1,3 @@
 pub mod Opened
-pub mod Table
+pub mod NodeTable
 pub mod Evicted

@@ -11,7 +11,7 @@ mod moves;
 mod shell;
 mod shell_core;
 mod step;
-mod table;
+mod node_table;
 mod undo;
 
 pub use shell::Shell;

@@ -10,7 +10,7 @@ ghost use Rattle.shell_model.specs.Reached.{IsReachable};
 ghost use Rattle.maintenance.specs.Opened.{IsOpened, triple};
 
 use crate::shell_core::Core;
-use crate::table::Table;
+use crate::node_table::NodeTable;
 use admission::Frequency;
 use replacement::Rules;
 use segments::{Queue, Segments};
@@ -55,7 +55,7 @@ impl Shell {
             core: Core {
                 config,
                 rules: Rules::three_queues(&config),
-                table: Table::new(alloc),
+                table: NodeTable::new(alloc),
                 next: 0,
                 queues: Segments::for_items(alloc, config.capacity),
                 stripes,

@@ -4,7 +4,7 @@ ghost use Rattle.replacement.specs.Rules.{three_queues};
 ghost use Rattle.replacement.specs.Plan.{candidate_of};
 ghost use Rattle.shell_model.specs.Shell.{is_over};
 
-use crate::table::Table;
+use crate::node_table::NodeTable;
 use admission::Frequency;
 use replacement::Rules;
 use segments::{Queue, Segments};
@@ -20,7 +20,7 @@ use step_record::{Config, Drain, Item};
 pub(crate) struct Core {
     pub(crate) config: Config,
     pub(crate) rules: Rules,
-    pub(crate) table: Table,
+    pub(crate) table: NodeTable,
     pub(crate) next: u64,
     pub(crate) queues: Segments,
     pub(crate) stripes: Stripes,

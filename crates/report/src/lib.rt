@@ -7,8 +7,8 @@
 
 mod fault;
 mod rows;
-mod summary;
+mod report;
 
 pub use fault::WriteFault;
 pub use rows::write_reports;
-pub use summary::Report;
+pub use report::Report;

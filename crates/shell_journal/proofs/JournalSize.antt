@@ -7,7 +7,7 @@ use Rattle.step_record.specs.History.{Entries}
 use Rattle.journal_text.specs.Journal.{begun, closing_line, ended_line, entry_line, header, journal_of}
 use Rattle.journal_text.specs.Names.{spelling}
 use Rattle.journal_text.specs.Table.{count_words, spaced, spelled, text_of}
-use Rattle.journal_text.specs.declared.name.Name.TheVariants as name
+use Rattle.journal_text.specs.declared.name.JournalName.TheVariants as name
 use Rattle.journal_text.specs.declared.version.Version.TheVariants.{Two}
 use Rattle.journal_text.specs.declared.word.Word.TheVariants.{Named, Wide}
 use Rattle.journal_text.proofs.Spacing.{spelled_spaced}

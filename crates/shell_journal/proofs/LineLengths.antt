@@ -21,8 +21,8 @@ use Rattle.journal_text.specs.Names.{spelling}
 use Rattle.journal_text.specs.ReplyItem.{reply_item}
 use Rattle.journal_text.specs.Table.{act_words, answer_name, entry_words, is_answer_in, is_in_version, item_words, reply_name, reply_numbers, reply_words, spaced, spelled, text_of, word_text, Fit, IsLine}
 use Rattle.journal_text.specs.declared.line.Line.TheVariants.{Made}
-use Rattle.journal_text.specs.declared.name.Name.{Name}
-use Rattle.journal_text.specs.declared.name.Name.TheVariants as name
+use Rattle.journal_text.specs.declared.name.JournalName.{Name}
+use Rattle.journal_text.specs.declared.name.JournalName.TheVariants as name
 use Rattle.journal_text.specs.declared.version.Version.TheVariants.{Two}
 use Rattle.journal_text.specs.declared.word.Word.{Word}
 use Rattle.journal_text.specs.declared.word.Word.TheVariants.{Named, Worker, Stripe, Wide}

@@ -3,9 +3,9 @@
 #![tactic(auto)]
 
 mod blanks;
-mod cutting;
+mod separators;
 mod digits;
 
 pub use blanks::trimmed;
-pub use cutting::{cut, place_of};
+pub use separators::{cut, place_of};
 pub use digits::number;

@@ -1,6 +1,0 @@
-use Rattle.std.proofs.Common.{◌∙◌}
-use Rattle.maintenance.proofs.Tables.{found}
-use Rattle.maintenance.proofs.table.Table.node_of.Goals as goal
-
-pub returns : goal.returns
-returns c = rw (← c.self.view_is) (c.copied.ensures ∙ c.get.ensures.value ∙ found c.args.key _)

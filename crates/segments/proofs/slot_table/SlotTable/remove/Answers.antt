@@ -1,0 +1,77 @@
+use Rattle.std.proofs.Common.{◌≡◌, ◌∙◌, ◌≤◌, ◌++◌, sym, ap, subst, arith, List, ℕ, length, take, drop}
+use Rattle.segments.specs.declared.lengths.Lengths.{Lengths}
+use Rattle.segments.specs.declared.slot.Slot.{Slot}
+use Rattle.segments.specs.Ring.{count, newers, olders, ring_of, IsRing, Order, ring, order_in, used, order_of, freed, IsQueued}
+use Rattle.segments.specs.SlotTable.{IsInSlots, lowered, one_longer, lengths_of}
+use Rattle.segments.proofs.Orders.{order-is}
+use Rattle.segments.proofs.Holding.{held-freed}
+use Rattle.segments.proofs.Tables.{take-front}
+use Rattle.segments.proofs.Calls.{lengths-out, lengths-freed, remove-lists}
+use Rattle.segments.proofs.Kept.{free-lowered, held-used, used-slot, kept-on}
+use Rattle.segments.proofs.slot_table.SlotTable.remove.Goals as goal
+use Rattle.segments.proofs.slot_table.SlotTable.remove.Goals.{After-deref_mut-slots, After-release, After-lower}
+
+-- the slots, as they are lent, have the slot in use
+used-there : (c : goal.After-deref_mut-slots) → 1 ≤ count c.args.at (used (order_of c.deref_mut-slots.result.now))
+used-there c = rw (c.deref_mut-slots.ensures.value ∙ c.self.view_is) c.requires.used
+
+-- and they hold together
+held-there : (c : goal.After-deref_mut-slots) → IsInSlots c.deref_mut-slots.result.now c.self.inside.index.heads.items c.self.inside.index.bits (order_of c.deref_mut-slots.result.now)
+held-there c = held-used c.deref_mut-slots.result.now c.self.inside.slots.items _ _ _ c.self.invariant c.deref_mut-slots.ensures.value c.args.at (used-there c)
+
+ring-after : (c : goal.After-release) → IsRing (newers c.release.new.slots) (olders c.release.new.slots) (ring (freed c.args.at (order_of c.deref_mut-slots.result.now)))
+ring-after c =
+    let order : order_of c.remove.new.slots ≡ order_of c.deref_mut-slots.result.now = ap (λ (l : List ℕ). order_in (ring_of l)) c.remove.ensures.only.newers in
+    subst (λ (o : Order). IsRing (newers c.release.new.slots) (olders c.release.new.slots) (ring (freed c.args.at o))) order c.release.ensures.ring
+
+order-after : (c : goal.After-release) → order_of c.release.new.slots ≡ freed c.args.at (order_of c.deref_mut-slots.result.now)
+order-after c = order-is (newers c.release.new.slots) (olders c.release.new.slots) (freed c.args.at (order_of c.deref_mut-slots.result.now)) (ring-after c)
+
+counted-after : (c : goal.After-lower) → IsQueued c.deref_mut-slots.result.now (order_of c.deref_mut-slots.result.now)
+    → order_of c.release.new.slots ≡ freed c.args.at (order_of c.deref_mut-slots.result.now) → one_longer c.lower.new.self ≡ lengths_of (order_of c.release.new.slots)
+counted-after c h eo =
+    let out = lengths-out c.place_of_slot-from.result.queue c.args.at (order_of c.deref_mut-slots.result.now) h.linked.once c.place_of_slot-from.ensures.queue in
+    ap one_longer (c.lower.ensures ∙ (ap (lowered c.place_of_slot-from.result.queue) (c.self.invariant.counted ∙ ap (λ (s : List Slot). lengths_of (order_of s)) (sym c.deref_mut-slots.ensures.value)) ∙ sym out))
+    ∙ (sym (lengths-freed c.args.at (order_of c.deref_mut-slots.result.now)) ∙ ap lengths_of (sym eo))
+
+pub place_of_slot-from-requires-clause-queued : goal.place_of_slot-from-requires-clause-queued
+place_of_slot-from-requires-clause-queued c = (held-there ((goal.at.place_of_slot-from-requires-clause-queued c).After-deref_mut-slots)).queued
+
+pub remove-requires-clause-held : goal.remove-requires-clause-held
+remove-requires-clause-held c = held-there ((goal.at.remove-requires-clause-held c).After-deref_mut-slots)
+
+pub release-requires-clause-at : goal.release-requires-clause-at
+release-requires-clause-at c =
+    let a = (goal.at.release-requires-clause-at c).After-deref_mut-slots in
+    let b = used-slot c.deref_mut-slots.result.now c.args.at (held-there a).queued (used-there a) in
+    (omega (arith, b.0), omega (arith, b.1))
+
+pub invariant_of-self : goal.invariant_of-self
+invariant_of-self c =
+    let at = goal.at.invariant_of-self c in
+    let h = (held-there at.After-deref_mut-slots).queued in
+    let eo = order-after at.After-release in
+    let whole : take c.self.inside.slots.len (c.release.new.slots ++ drop (length c.release.new.slots) c.self.inside.slots.items) ≡ c.release.new.slots = take-front _ _ _ (omega arith) in
+    let held = subst (IsInSlots c.release.new.slots c.remove.new.self.heads.items c.remove.new.self.bits) (sym eo)
+    (held-freed c.deref_mut-slots.result.now c.release.new.slots c.remove.new.self.heads.items c.remove.new.self.bits (order_of c.deref_mut-slots.result.now) h c.args.at (ring-after at.After-release)
+    (rw (c.release.ensures.only.chains, c.release.ensures.only.items) c.remove.ensures.indexed)
+    (c.release.ensures.only.tags ∙ c.remove.ensures.only.tags)
+    (c.release.ensures.only.items ∙ c.remove.ensures.only.items)
+    (used-there at.After-deref_mut-slots)) in
+    rw whole (kept-on c.self.inside.slots.items c.release.new.slots _ _ _ _ _ _ c.self.invariant held (counted-after at.After-lower h eo) (omega arith) c.remove.ensures.bits)
+
+pub returns-clause-spare : goal.returns-clause-spare
+returns-clause-spare c =
+    let at = goal.at.returns-clause-spare c in
+    let whole : take c.self.inside.slots.len (c.release.new.slots ++ drop (length c.release.new.slots) c.self.inside.slots.items) ≡ c.release.new.slots = take-front _ _ _ (omega arith) in
+    let f = ap (λ (l : Lengths). l.free) (counted-after at.After-lower (held-there at.After-deref_mut-slots).queued (order-after at.After-release)) in
+    let g = ap (λ (l : Lengths). l.free) c.self.invariant.counted in
+    let b = ap (λ (l : Lengths). l.free) c.lower.ensures ∙ free-lowered c.place_of_slot-from.result.queue _ in
+    rw (whole, ← c.self.view_is) (omega (arith, f, g, b))
+
+pub returns-clause-lists : goal.returns-clause-lists
+returns-clause-lists c =
+    let at = goal.at.returns-clause-lists c in
+    let e : c.deref_mut-slots.result.now ≡ c.args.self.now = c.deref_mut-slots.ensures.value ∙ c.self.view_is in
+    let whole : take c.self.inside.slots.len (c.release.new.slots ++ drop (length c.release.new.slots) c.self.inside.slots.items) ≡ c.release.new.slots = take-front _ _ _ (omega arith) in
+    rw (whole, ← e) (remove-lists c.deref_mut-slots.result.now c.release.new.slots (order_of c.deref_mut-slots.result.now) (held-there at.After-deref_mut-slots).queued c.args.at (used-there at.After-deref_mut-slots) (c.release.ensures.only.items ∙ c.remove.ensures.only.items) (order-after at.After-release))
