@@ -4,7 +4,7 @@ use Rattle.clap.specs.Words.{Row, Text, fault_of, subcommand_of}
 use Rattle.step_record.specs.declared.config.Config.{Config}
 use Rattle.step_record.specs.declared.job.Policy.{Policy}
 use Rattle.trace_read.specs.Reading.{fault_in, keys_in}
-use Rattle.command_line.specs.Program.{AreLists, Lists, called, program_app}
+use Rattle.command_line.specs.Program.{AreLists, Lists, call_words, program_app}
 use Rattle.command_line.specs.Program.{concurrent_in, config_in, format_in, policy_in, stripes_in}
 use Rattle.debug_policies.specs.TwoPolicies.{policies_timeline}
 use Rattle.cachesim.specs.Debugged.{Answering, IsReplayed}
@@ -35,9 +35,9 @@ pub record AnswersAboutJournal (rows : List Row) (file : List ℕ) (input before
 pub record AnswersAboutFile (words : List Text) (file : List ℕ) (input before after : Option (List ℕ)) : Type 0 where
   pub lists : Lists
   pub are : AreLists lists
-  pub trace : (rows : List Row) → fault_of (program_app lists) (called words) ≡ []
-      → subcommand_of (program_app lists) (called words) ≡ Some (codes "debug", rows)
+  pub trace : (rows : List Row) → fault_of (program_app lists) (call_words words) ≡ []
+      → subcommand_of (program_app lists) (call_words words) ≡ Some (codes "debug", rows)
       → AnswersAboutTrace rows file input before after
-  pub journal : (rows : List Row) → fault_of (program_app lists) (called words) ≡ []
-      → subcommand_of (program_app lists) (called words) ≡ Some (codes "replay", rows)
+  pub journal : (rows : List Row) → fault_of (program_app lists) (call_words words) ≡ []
+      → subcommand_of (program_app lists) (call_words words) ≡ Some (codes "replay", rows)
       → AnswersAboutJournal rows file input before after

@@ -9,7 +9,7 @@ use Rattle.std.specs.Io.KnownBytes.{Appends, Consumes, IsAtEnd}
 use Rattle.std.specs.List.{onto_first}
 use Rattle.std.specs.Prelude.{IfSome}
 use Rattle.debug_commands.specs.Answering.{IsAnswer}
-use Rattle.debug_commands.specs.Answers.{Place, CommandResponse, answer_to, response_to}
+use Rattle.debug_commands.specs.Answers.{TimelinePlace, CommandResponse, answer_to, response_to}
 use Rattle.debug_commands.specs.Commands.{command_line_of}
 use Rattle.debug_commands.specs.Dialogue.{Dialogue, answers, dialogue_from, dialogue_of, ends, is_quit, IsLineHeld}
 use Rattle.debug_commands.specs.Reading.{feed, IsTooLarge}
@@ -33,29 +33,29 @@ behind_behind w v d = ap (λ t. record { text = t; at = d.at; fits = d.fits }) (
 -- ---- the first line
 
 module _ (t : TimelineData) where
-  fed_step : (room : ℕ) (l : List ℕ) (ls : List (List ℕ)) (p : Place) → (ls ≡ [] → ⊥) → length l + 1 ≤ room → is_quit (command_line_of t.dialect l) ≡ false
+  fed_step : (room : ℕ) (l : List ℕ) (ls : List (List ℕ)) (p : TimelinePlace) → (ls ≡ [] → ⊥) → length l + 1 ≤ room → is_quit (command_line_of t.dialect l) ≡ false
       → dialogue_from t room (l ∷ ls) p ≡ answers (answer_to t p (command_line_of t.dialect l)) (dialogue_from t (room - (length l + 1)) ls)
   unfolding dialogue_from
   fed_step room l [] p some within other = absurd (some refl)
   fed_step room l (m ∷ ms) p some within other = cond-false _ _ _ (le-ltb room (length l + 1) within) ∙ cond-false _ _ _ other
 
-  quit_step : (room : ℕ) (l : List ℕ) (ls : List (List ℕ)) (p : Place) → (ls ≡ [] → ⊥) → length l + 1 ≤ room → is_quit (command_line_of t.dialect l) ≡ true
+  quit_step : (room : ℕ) (l : List ℕ) (ls : List (List ℕ)) (p : TimelinePlace) → (ls ≡ [] → ⊥) → length l + 1 ≤ room → is_quit (command_line_of t.dialect l) ≡ true
       → dialogue_from t room (l ∷ ls) p ≡ ends p true
   unfolding dialogue_from
   quit_step room l [] p some within quits = absurd (some refl)
   quit_step room l (m ∷ ms) p some within quits = cond-false _ _ _ (le-ltb room (length l + 1) within) ∙ cond-true _ _ _ quits
 
-  last_step : (room : ℕ) (l : List ℕ) (p : Place) → length l ≤ room
+  last_step : (room : ℕ) (l : List ℕ) (p : TimelinePlace) → length l ≤ room
       → dialogue_from t room (l ∷ []) p ≡ answers (answer_to t p (command_line_of t.dialect l)) (λ q. ends q true)
   unfolding dialogue_from
   last_step room l p within = cond-false _ _ _ (le-ltb room (length l) within)
 
-  large_step : (room : ℕ) (l : List ℕ) (ls : List (List ℕ)) (p : Place) → room < length l → dialogue_from t room (l ∷ ls) p ≡ ends p false
+  large_step : (room : ℕ) (l : List ℕ) (ls : List (List ℕ)) (p : TimelinePlace) → room < length l → dialogue_from t room (l ∷ ls) p ≡ ends p false
   unfolding dialogue_from
   large_step room l [] p over = cond-true _ _ _ (lt-ltb room (length l) over)
   large_step room l (m ∷ ms) p over = cond-true _ _ _ (lt-ltb room (length l + 1) (omega (arith, over)))
 
-  large_fed : (room : ℕ) (l : List ℕ) (ls : List (List ℕ)) (p : Place) → (ls ≡ [] → ⊥) → room < length l + 1 → dialogue_from t room (l ∷ ls) p ≡ ends p false
+  large_fed : (room : ℕ) (l : List ℕ) (ls : List (List ℕ)) (p : TimelinePlace) → (ls ≡ [] → ⊥) → room < length l + 1 → dialogue_from t room (l ∷ ls) p ≡ ends p false
   unfolding dialogue_from
   large_fed room l [] p some over = absurd (some refl)
   large_fed room l (m ∷ ms) p some over = cond-true _ _ _ (lt-ltb room (length l + 1) over)
@@ -81,7 +81,7 @@ unfed_room true less n room h e = absurd (true≢false h)
 -- ---- the whole so far
 
 -- what was read and written so far, and what follows from here
-pub record IsAhead (t : TimelineData) (first : ℕ) (p : Place) (room : ℕ) (given left had has : Option (List ℕ)) : Type 0 where
+pub record IsAhead (t : TimelineData) (first : ℕ) (p : TimelinePlace) (room : ℕ) (given left had has : Option (List ℕ)) : Type 0 where
   pub read : List ℕ
   pub written : List ℕ
   pub consumed : Consumes given left read
@@ -107,12 +107,12 @@ begins t first room breaks given had none all = record {
       ∙ ap (λ b. dialogue_from t MAX_COMMAND_BYTES (lines_of bytes) (record { at = first; breaks = b })) none);
 }
 
-place_is : (p : Place) (at : ℕ) (breaks : List Breakpoint) → at ≡ p.at → breaks ≡ p.breaks → record { at = at; breaks = breaks } ≡ p
+place_is : (p : TimelinePlace) (at : ℕ) (breaks : List Breakpoint) → at ≡ p.at → breaks ≡ p.breaks → record { at = at; breaks = breaks } ≡ p
 place_is p at breaks e h =
     ap (λ a. record { at = a; breaks = breaks }) e ∙ ap (λ b. record { at = p.at; breaks = b }) h
 
 -- a line was read and answered, and the answer was sent
-pub record Round (t : TimelineData) (first : ℕ) (p : Place) (room less : ℕ) (given left rest had has more : Option (List ℕ)) (fed : Bool) (l text : List ℕ)
+pub record Round (t : TimelineData) (first : ℕ) (p : TimelinePlace) (room less : ℕ) (given left rest had has more : Option (List ℕ)) (fed : Bool) (l text : List ℕ)
     (at : ℕ) (breaks : List Breakpoint) : Type 0 where
   pub ahead : IsAhead t first p room given left had has
   pub read : Consumes left rest (l ++ feed fed)
@@ -122,7 +122,7 @@ pub record Round (t : TimelineData) (first : ℕ) (p : Place) (room less : ℕ) 
   pub sent : Appends has more text
 
 -- a line with its line feed was answered
-pub goes_on : {t : TimelineData} {first : ℕ} {p : Place} {room less : ℕ} {given left rest had has more : Option (List ℕ)} {fed : Bool} {l text : List ℕ} {at : ℕ}
+pub goes_on : {t : TimelineData} {first : ℕ} {p : TimelinePlace} {room less : ℕ} {given left rest had has more : Option (List ℕ)} {fed : Bool} {l text : List ℕ} {at : ℕ}
     {breaks : List Breakpoint} → Round t first p room less given left rest had has more fed l text at breaks → fed ≡ true
     → is_quit (command_line_of t.dialect l) ≡ false → IsAhead t first (record { at = at; breaks = breaks }) less given rest had more
 goes_on {t} {first} {p} {room} {less} {given} {left} {rest} {had} {has} {more} {fed} {l} {text} {at} {breaks} round has_feed other =
@@ -149,7 +149,7 @@ goes_on {t} {first} {p} {room} {less} {given} {left} {rest} {had} {has} {more} {
 -- ---- the end
 
 -- the dialogue over the last bytes that were read ends it, whatever follows them
-over : (t : TimelineData) (first : ℕ) (p : Place) (room : ℕ) (given left rest had has more : Option (List ℕ)) (used : List ℕ) (d : Dialogue)
+over : (t : TimelineData) (first : ℕ) (p : TimelinePlace) (room : ℕ) (given left rest had has more : Option (List ℕ)) (used : List ℕ) (d : Dialogue)
     → IsAhead t first p room given left had has → Consumes left rest used → Appends has more d.text
     → IfSome rest (λ bytes. dialogue_from t room (lines_of (used ++ bytes)) p ≡ d)
     → IfSome given (λ bytes. IsLineHeld (dialogue_of t first bytes) d.fits had more d.at)
@@ -174,7 +174,7 @@ at_the_end None P e h = tt
 at_the_end (Some xs) P e h = subst P (sym e) h
 
 -- the last line was answered, which had no line feed
-pub ends_at_last : {t : TimelineData} {first : ℕ} {p : Place} {room less : ℕ} {given left rest had has more : Option (List ℕ)} {fed : Bool} {l text : List ℕ}
+pub ends_at_last : {t : TimelineData} {first : ℕ} {p : TimelinePlace} {room less : ℕ} {given left rest had has more : Option (List ℕ)} {fed : Bool} {l text : List ℕ}
     {at : ℕ} {breaks : List Breakpoint} → Round t first p room less given left rest had has more fed l text at breaks → fed ≡ false → IsAtEnd rest
     → IfSome given (λ bytes. IsLineHeld (dialogue_of t first bytes) true had more at)
 ends_at_last {t} {first} {p} {room} {less} {given} {left} {rest} {had} {has} {more} {fed} {l} {text} {at} {breaks} round no_feed end =
@@ -190,7 +190,7 @@ ends_at_last {t} {first} {p} {room} {less} {given} {left} {rest} {had} {has} {mo
     over t first p room given left rest had has more (l ++ []) d round.ahead (unfed_read fed left rest l no_feed round.read) round.sent
     (at_the_end rest (λ bytes. dialogue_from t room (lines_of ((l ++ []) ++ bytes)) p ≡ d) end is)
 
-quit_line : (t : TimelineData) (p : Place) (line : Line) → is_quit line ≡ true → answer_to t p line ≡ record { text = []; place = p }
+quit_line : (t : TimelineData) (p : TimelinePlace) (line : Line) → is_quit line ≡ true → answer_to t p line ≡ record { text = []; place = p }
 unfolding response_to
 quit_line t p Empty h = absurd (true≢false (sym h))
 quit_line t p Unknown h = absurd (true≢false (sym h))
@@ -204,12 +204,12 @@ quit_line t p (Known command.Show) h = absurd (true≢false (sym h))
 quit_line t p (Known command.Own) h = absurd (true≢false (sym h))
 quit_line t p (Known command.Quit) h = refl
 
-quit_answer : (t : TimelineData) (p : Place) (l : List ℕ) → is_quit (command_line_of t.dialect l) ≡ true
+quit_answer : (t : TimelineData) (p : TimelinePlace) (l : List ℕ) → is_quit (command_line_of t.dialect l) ≡ true
     → answer_to t p (command_line_of t.dialect l) ≡ record { text = []; place = p }
 quit_answer t p l h = quit_line t p (command_line_of t.dialect l) h
 
 -- a `quit` was read
-pub ends_at_quit : {t : TimelineData} {first : ℕ} {p : Place} {room less : ℕ} {given left rest had has more : Option (List ℕ)} {fed : Bool} {l text : List ℕ}
+pub ends_at_quit : {t : TimelineData} {first : ℕ} {p : TimelinePlace} {room less : ℕ} {given left rest had has more : Option (List ℕ)} {fed : Bool} {l text : List ℕ}
     {at : ℕ} {breaks : List Breakpoint} → Round t first p room less given left rest had has more fed l text at breaks → fed ≡ true
     → is_quit (command_line_of t.dialect l) ≡ true → IfSome given (λ bytes. IsLineHeld (dialogue_of t first bytes) true had more at)
 ends_at_quit {t} {first} {p} {room} {less} {given} {left} {rest} {had} {has} {more} {fed} {l} {text} {at} {breaks} round has_feed quits =
@@ -248,7 +248,7 @@ long_first (x ∷ xs) rest h =
       long = omega (arith, more.long);
     }
 
-large_by : (t : TimelineData) (p : Place) (room byte : ℕ) (front rest : List ℕ) (b : Bool) → (byte == 10) ≡ b → HasNoFeed front → length front ≡ room
+large_by : (t : TimelineData) (p : TimelinePlace) (room byte : ℕ) (front rest : List ℕ) (b : Bool) → (byte == 10) ≡ b → HasNoFeed front → length front ≡ room
     → dialogue_from t room (lines_of ((front ++ byte ∷ []) ++ rest)) p ≡ ends p false
 large_by t p room byte front rest true is h full =
     ap (λ b. dialogue_from t room (lines_of ((front ++ b ∷ []) ++ rest)) p) (eqb-true byte 10 is)
@@ -260,7 +260,7 @@ large_by t p room byte front rest false is h full =
     ap (λ ls. dialogue_from t room ls p) long.lines ∙ large_step t room long.first long.later p (omega (arith, full, more, long.long))
 
 -- a line was too large, and the lines before it were answered
-pub ends_at_large : {t : TimelineData} {first : ℕ} {p : Place} {room : ℕ} {given left rest had has : Option (List ℕ)}
+pub ends_at_large : {t : TimelineData} {first : ℕ} {p : TimelinePlace} {room : ℕ} {given left rest had has : Option (List ℕ)}
     → IsAhead t first p room given left had has → IsTooLarge room left rest
     → IfSome given (λ bytes. IsLineHeld (dialogue_of t first bytes) false had has p.at)
 ends_at_large {t} {first} {p} {room} {given} {left} {rest} {had} {has} a large =
@@ -276,7 +276,7 @@ said_is {u} {t} {d} {slice} {l} same dialect is said =
     said ∙ ap (λ x. command_line_of x slice) (dialect ∙ ap (λ (x : TimelineData). x.dialect) same) ∙ ap (command_line_of t.dialect) is
 
 -- the line as it was read from the buffer, and its answer, are those of the timeline at the start
-pub a_round : {t u : TimelineData} {first : ℕ} {p : Place} {room less : ℕ} {given left had has : Option (List ℕ)} {fed : Bool} {l slice before text shown : List ℕ}
+pub a_round : {t u : TimelineData} {first : ℕ} {p : TimelinePlace} {room less : ℕ} {given left had has : Option (List ℕ)} {fed : Bool} {l slice before text shown : List ℕ}
     {at : ℕ} {breaks : List Breakpoint} {d : Dialect} {line : Line} (rest more : Option (List ℕ))
     → IsAhead t first p room given left had has → u ≡ t → d ≡ u.dialect → slice ≡ l → line ≡ command_line_of d slice
     → before ≡ [] → IsAnswer (answer_to u p line) before text at breaks

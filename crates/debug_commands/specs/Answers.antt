@@ -14,7 +14,7 @@ use Rattle.debug_commands.specs.declared.command.Line.{Line}
 use Rattle.debug_commands.specs.declared.command.Line.TheVariants.{Empty, Unknown, Known}
 
 -- between two commands: how many steps are made, and the breakpoints in the order in which they were set
-pub record Place : Type 0 where
+pub record TimelinePlace : Type 0 where
   pub at : ℕ
   pub breaks : List Breakpoint
 
@@ -31,18 +31,18 @@ stop_line (Some b) = codes "stop " ++ (breakpoint_word b ++ codes "\n")
 
 pub record CommandResponse : Type 0 where
   pub text : List ℕ
-  pub place : Place
+  pub place : TimelinePlace
 
 -- the position and the breakpoints stay
-abbrev pub stays : Place → List ℕ → CommandResponse
+abbrev pub stays : TimelinePlace → List ℕ → CommandResponse
 stays p text = record { text = text; place = p }
 
 -- the position is n
-abbrev pub goes : Place → ℕ → CommandResponse
+abbrev pub goes : TimelinePlace → ℕ → CommandResponse
 goes p n = record { text = position_line n; place = record { at = n; breaks = p.breaks } }
 
 -- the breakpoints are these
-abbrev pub sets : Place → List Breakpoint → CommandResponse
+abbrev pub sets : TimelinePlace → List Breakpoint → CommandResponse
 sets p breaks = record { text = codes "ok\n"; place = record { at = p.at; breaks = breaks } }
 
 -- the stop behind step n, or the later one
@@ -56,11 +56,11 @@ stop_after facts breaks at zero = (at, None)
 stop_after facts breaks at (suc left) =
     stop_here (first_holding (facts (at + 1)) breaks) (at + 1) (stop_after facts breaks (at + 1) left)
 
-abbrev pub runs : Place → ℕ × Option Breakpoint → CommandResponse
+abbrev pub runs : TimelinePlace → ℕ × Option Breakpoint → CommandResponse
 runs p stop =
     record { text = stop_line stop.1 ++ position_line stop.0; place = record { at = stop.0; breaks = p.breaks } }
 
-unfoldable pub response_to : TimelineData → Place → Command → CommandResponse
+unfoldable pub response_to : TimelineData → TimelinePlace → Command → CommandResponse
 response_to t p (command.Step n) =
     if nat_lt t.end (p.at + n) then stays p (codes "fault: PastEnd\n") else goes p (p.at + n)
 response_to t p (command.Back n) = if nat_lt p.at n then stays p (codes "fault: PastStart\n") else goes p (p.at - n)
@@ -77,7 +77,7 @@ response_to t p command.Quit = stays p []
 
 -- ---- the answer to a line
 
-abbrev pub answer_to : TimelineData → Place → Line → CommandResponse
+abbrev pub answer_to : TimelineData → TimelinePlace → Line → CommandResponse
 answer_to t p Empty = stays p []
 answer_to t p Unknown = stays p (codes "fault: Command\n")
 answer_to t p (Known c) = response_to t p c

@@ -3,7 +3,7 @@ use Rattle.std.specs.Prelude.{◌≡◌, ℕ, ◌+◌, ◌-◌, nat_lt, Bool, tr
 use Rattle.std.specs.Prelude.{◌++◌, length}
 use Rattle.std.specs.Io.KnownBytes.{Appends}
 use Rattle.text_lines.specs.Feeds.{lines_of}
-use Rattle.debug_commands.specs.Answers.{Place, CommandResponse, answer_to}
+use Rattle.debug_commands.specs.Answers.{TimelinePlace, CommandResponse, answer_to}
 use Rattle.debug_commands.specs.Commands.{command_line_of}
 use Rattle.debug_commands.specs.Timeline.{TimelineData}
 use Rattle.debug_commands.specs.declared.command.Command.TheVariants.{Quit}
@@ -22,15 +22,15 @@ pub record Dialogue : Type 0 where
   -- no line went past the limit
   pub fits : Bool
 
-abbrev pub ends : Place → Bool → Dialogue
+abbrev pub ends : TimelinePlace → Bool → Dialogue
 ends p fits = record { text = []; at = p.at; fits = fits }
 
 -- the answer, and then what follows from the place that it leaves
-abbrev pub answers : CommandResponse → (Place → Dialogue) → Dialogue
+abbrev pub answers : CommandResponse → (TimelinePlace → Dialogue) → Dialogue
 answers r later = record { text = r.text ++ (later r.place).text; at = (later r.place).at; fits = (later r.place).fits }
 
 -- the lines in order, where there is room for so many bytes more; a line feed stands behind each line but the last
-unfoldable pub dialogue_from : TimelineData → ℕ → List (List ℕ) → Place → Dialogue
+unfoldable pub dialogue_from : TimelineData → ℕ → List (List ℕ) → TimelinePlace → Dialogue
 dialogue_from t room [] p = ends p true
 dialogue_from t room (l ∷ []) p =
     if nat_lt room (length l) then ends p false

@@ -43,9 +43,9 @@ pub struct BatchesInOrder<S> {
 
 impl<'a, S: Source> Protocol<Batch<'a>, Log> for BatchesInOrder<S> {
     ghost use Rattle.std.specs.Prelude.{true};
-    ghost use Rattle.policy_actors.specs.Rule.{log, Kept};
+    ghost use Rattle.policy_actors.specs.Rule.{log, AreKept};
 
-    ghost holds = { Kept S.keys S.size };
+    ghost holds = { AreKept S.keys S.size };
 
     ghost first = { log true true 0 0 };
 }

@@ -2,7 +2,7 @@ use Rattle.std.proofs.Common.{◌≡◌, ◌∙◌, ◌≤◌, ◌++◌, sym, ap
 use Rattle.step_record.specs.declared.item.Item.{Item}
 use Rattle.segments.specs.declared.lengths.Lengths.{Lengths}
 use Rattle.segments.specs.declared.slot.Slot.{Slot}
-use Rattle.segments.specs.Queues.{place_of}
+use Rattle.segments.specs.Queues.{queue_holding}
 use Rattle.segments.specs.Ring.{items, chains, count, newers, olders, ring_of, IsRing, Order, ring, order_in, used, section, order_of, sent, freed, lists}
 use Rattle.segments.specs.Index.{IsIndexed}
 use Rattle.segments.specs.SlotTable.{IsInSlots, lengths_of}
@@ -112,7 +112,7 @@ invariant_of-self c =
     let u = used-there before-it.After-deref_mut-slots in
     let h = (held-there before-it.After-deref_mut-slots).queued in
     let eo = order-after before-it.After-send in
-    let absent : place_of c.args.item (lists slots) ≡ None = rw (c.deref_mut-slots.ensures.value ∙ c.self.view_is) c.requires.absent in
+    let absent : queue_holding c.args.item (lists slots) ≡ None = rw (c.deref_mut-slots.ensures.value ∙ c.self.view_is) c.requires.absent in
     let x : IsIndexed c.remove.new.self.heads.items (chains c.set_item.new.slots) (items c.remove.new.slots) c.remove.new.self.bits (used (freed at o)) = rw c.set_item.ensures.chains c.remove.ensures.indexed in
     let y = c.add.ensures.indexed (items c.remove.new.slots) (used (freed at o)) (used (sent at c.args.queue before o)) x
     (joins slots o h at u c.args.queue before c.args.item (items c.remove.new.slots) (items c.set_item.new.slots) c.remove.ensures.only.items c.set_item.ensures.items) in
