@@ -3,7 +3,7 @@ use Rattle.std.specs.Prelude.{ℕ, List, map}
 use Rattle.step_record.specs.declared.config.Config.{Config}
 use Rattle.step_record.specs.declared.job.Job.{Job}
 use Rattle.step_record.specs.declared.job.Policy.{Policy}
-use Rattle.report.specs.declared.summary.Report.{Report}
+use Rattle.report.specs.declared.report.Report.{Report}
 use Rattle.policy_actors.specs.Reports.{report_on}
 
 -- one job for each policy, all on one configuration

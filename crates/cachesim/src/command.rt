@@ -7,8 +7,8 @@ ghost use Rattle.cachesim.specs.Found.{EndsInFault};
 ghost use Rattle.cachesim.specs.Run.{DoneBy, is_help, RefusedBy};
 ghost use Rattle.cachesim.specs.declared.command.TheConstants.{DONE, FAULT, REFUSED};
 
-use crate::debugging::{debug, replay};
-use crate::driving::drive;
+use crate::debug::{debug, replay};
+use crate::drive::drive;
 use crate::fault::Fault;
 use crate::files::Files;
 use crate::part::part;

@@ -6,8 +6,8 @@
 #![tactic(auto)]
 
 mod command;
-mod debugging;
-mod driving;
+mod debug;
+mod drive;
 mod fault;
 mod files;
 mod limits;

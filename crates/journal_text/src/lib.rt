@@ -7,15 +7,15 @@
 #![tactic(auto)]
 
 mod fault;
+mod grammar;
 mod line;
-mod lines;
+mod line_text;
 mod name;
 mod numeral;
 mod reader;
-mod reading;
+mod replay;
 mod steps;
 mod table;
-mod text;
 mod theorems;
 mod version;
 mod word;

@@ -6,7 +6,7 @@ ghost use Rattle.journal_text.specs.Journal.{IsJournalText};
 ghost use Rattle.journal.specs.Session.{IsSameSession};
 
 use super::JournalFault;
-use super::lines::read_text;
+use super::replay::read_text;
 use journal::Session;
 use std::alloc::Global;
 use std::io::Read;

@@ -4,12 +4,12 @@ ghost use Rattle.std.specs.Io.KnownBytes.{append_known, Appends, Keeps};
 ghost use Rattle.step_record.specs.Answers.{AnswersItsActs};
 ghost use Rattle.journal_text.specs.Journal.{begun, journal_of, AreLines};
 ghost use Rattle.journal_text.specs.Writing.{AreFit, IsTextWritten};
-ghost use Rattle.journal_text.specs.declared.text.TheConstants.{MAX_LINE};
+ghost use Rattle.journal_text.specs.declared.line_text.TheConstants.{MAX_LINE};
 ghost use Rattle.journal_text.specs.declared.writer.TheConstants.{BUFFER};
 ghost use Rattle.journal_text.specs.declared.version.Version.TheVariants.{Two};
 
 use super::WriteFault;
-use super::text::{MAX_LINE, push_count_line, push_entry_line, push_header};
+use super::line_text::{MAX_LINE, push_count_line, push_entry_line, push_header};
 use journal::Session;
 use std::alloc::Global;
 use std::io::Write;

@@ -13,7 +13,7 @@ use Rattle.report.specs.Text.{line_text, rate_of, rate_text_of, report_fields}
 use Rattle.step_record.specs.Job.{word_of}
 use Rattle.step_record.specs.declared.job.Policy.{Policy}
 use Rattle.step_record.specs.declared.job.Policy.TheVariants.{Lru}
-use Rattle.report.specs.declared.summary.Report.{Report}
+use Rattle.report.specs.declared.report.Report.{Report}
 
 abbrev pub IsPlain : List ℕ → Type 0
 IsPlain field = list_any (needs_byte default_writer) field ≡ false

@@ -5,7 +5,7 @@ use Rattle.std.specs.Fmt.{decimal}
 use Rattle.step_record.specs.Job.{word_of}
 use Rattle.step_record.specs.declared.job.Job.{Job}
 use Rattle.step_record.specs.declared.stats.Stats.{Stats}
-use Rattle.report.specs.declared.summary.Report.{Report}
+use Rattle.report.specs.declared.report.Report.{Report}
 
 -- the report of a job, from what was counted
 abbrev pub report_of : Job → Stats → Report

@@ -6,9 +6,9 @@
 #![tactic(auto)]
 
 mod fault;
+mod report;
 mod rows;
-mod summary;
 
 pub use fault::WriteFault;
+pub use report::Report;
 pub use rows::write_reports;
-pub use summary::Report;

@@ -5,7 +5,7 @@ use Rattle.segments.specs.declared.index.Index.{Index}
 use Rattle.segments.specs.declared.slot.Slot.{Slot}
 use Rattle.segments.specs.Ring.{items, chains, slot_item, count, Order, used, freed}
 use Rattle.segments.specs.Index.{Tree, tally, IsTree, tree_below, HasTree, LeavesTree, ChangesWithin, IsSorted, grafted, detached, bucket, IsIndexed}
-use Rattle.segments.specs.Table.{IsInSlots}
+use Rattle.segments.specs.SlotTable.{IsInSlots}
 use Rattle.segments.proofs.Orders.{used-freed}
 use Rattle.segments.proofs.Sorting.{sorted-same, grafted-tally, grafted-sorted, detached-tally, detached-sorted}
 use Rattle.segments.proofs.Indexing.{placed-used, placed-here, indexed-bared, indexed_added, indexed_removed}

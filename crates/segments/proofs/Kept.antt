@@ -8,7 +8,7 @@ use Rattle.segments.specs.declared.slot.Slot.{Slot}
 use Rattle.segments.specs.Queues.{IsDistinct}
 use Rattle.segments.specs.Ring.{count, used, Order, ring, order_of, lists}
 use Rattle.segments.specs.Index.{IsLoaded}
-use Rattle.segments.specs.Table.{spare_in, lengths_of, raised, lowered, IsInSlots, IsKept}
+use Rattle.segments.specs.SlotTable.{spare_in, lengths_of, raised, lowered, IsInSlots, IsKept}
 use Rattle.segments.proofs.Growing.{still_loaded}
 use Rattle.segments.proofs.Finding.{slots-length}
 use Rattle.segments.proofs.Calls.{some-slots}

@@ -10,7 +10,7 @@ use Rattle.segments.specs.declared.lengths.Lengths.{Lengths}
 use Rattle.segments.specs.Queues.{place_of, pushed, taken, IsDistinct}
 use Rattle.segments.specs.Ring.{items, chains, olders, newers, tags, slot_item, count, IsRing, Order, ring, used, section, closing, order_of, order_without, sent, freed, lists_of, lists, IsQueued}
 use Rattle.segments.specs.Index.{IsIndexed, IsJoining}
-use Rattle.segments.specs.Table.{IsInSlots, length_in, raised, lowered, lengths_of}
+use Rattle.segments.specs.SlotTable.{IsInSlots, length_in, raised, lowered, lengths_of}
 use Rattle.segments.proofs.QueueLists.{absent, still-absent, distinct-taken}
 use Rattle.segments.proofs.Sections.{length-without}
 use Rattle.segments.proofs.Orders.{IsOnce, used-kept, used-freed}

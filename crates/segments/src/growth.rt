@@ -3,7 +3,7 @@ ghost use Rattle.std.specs.Prelude.{◌≡◌, ◌<◌, ◌≤◌, ◌*◌, ◌^
 ghost use Rattle.segments.specs.Ring.{items, chains, olders, newers, tags, IsRing, ring, order_of, no_slots, more_free};
 ghost use Rattle.segments.specs.Ring.{lists, bare_slot, IsQueued};
 ghost use Rattle.segments.specs.Index.{IsLoaded};
-ghost use Rattle.segments.specs.Table.{IsInSlots, lengths_of, one_longer, IsSound, IsSame};
+ghost use Rattle.segments.specs.SlotTable.{IsInSlots, lengths_of, one_longer, IsSound, IsSame};
 ghost use Rattle.segments.specs.declared.records.Queue.TheVariants.{Window};
 
 use crate::index::Index;

@@ -1,7 +1,7 @@
 use Rattle.std.proofs.Common.{◌≡◌, ℕ, List, map, ap, sym, ◌∙◌}
 use Rattle.std.proofs.lemmas.Simd.{map-map}
 use Rattle.step_record.specs.declared.job.Job.{Job}
-use Rattle.report.specs.declared.summary.Report.{Report}
+use Rattle.report.specs.declared.report.Report.{Report}
 use Rattle.job_checks.specs.FaultyJobs.{at_capacity}
 use Rattle.policy_actors.specs.Reports.{report_on}
 use Rattle.headline.proofs.reports.capacities_both_ways.Goals as goal

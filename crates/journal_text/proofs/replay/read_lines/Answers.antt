@@ -1,0 +1,39 @@
+use Rattle.std.proofs.Common.{◌∙◌, ◌≤◌, ◌++◌, length, ap, sym, refl, subst, arith}
+use Rattle.std.proofs.lemmas.List.Elements.{All-nil}
+use Rattle.step_record.specs.History.{IsLegal}
+use Rattle.journal_text.specs.Journal.{begun, AreLines}
+use Rattle.journal_text.specs.Table.{IsLine}
+use Rattle.journal_text.specs.declared.line.Line.TheVariants.{Made}
+use Rattle.journal_text.proofs.Fronts.{begun_none, line_gone, line_more}
+use Rattle.journal_text.proofs.replay.read_lines.Goals as goal
+
+pub lines-init : goal.lines-init
+lines-init g c =
+    let v = c.args.version in
+    let none = sym c.requires in
+    record {
+      lines = subst (AreLines v) none (All-nil (λ e. IsLine v (Made e)));
+      read = ap (λ t. t ++ c.args.lines.now) (ap (begun v) c.requires ∙ begun_none v);
+      opening = refl;
+      limit = refl;
+      tail = λ e. e;
+      legal = subst (IsLegal g.E.Engine.act c.args.session.now.opening) none tt;
+      room = subst (λ k. length k ≤ c.args.session.now.limit) none (omega arith);
+    }
+
+pub lines-preserved : goal.lines-preserved
+lines-preserved g c =
+    let v = c.args.version in
+    let old = c.lines.session.kept in
+    let new = c.take.new.session.kept in
+    let text = c.in-Some.text.now in
+    let before = c.lines.invariant in
+    record {
+      lines = line_more v old new text _ c.if-branch.false c.in_ok-take.ensures.ok before.lines;
+      read = line_gone v old new text c.lines.rest.now c.in-Some.behind.now _ _ c.if-branch.false c.in_ok-take.ensures.ok before.read c.in-Some.ensures.1;
+      opening = c.take.ensures.opening ∙ before.opening;
+      limit = c.take.ensures.limit ∙ before.limit;
+      tail = λ e. c.take.ensures.tail (before.tail e);
+      legal = subst (λ d. IsLegal g.E.Engine.act d new) before.opening c.take.ensures.legal;
+      room = subst (λ n. length new ≤ n) before.limit c.take.ensures.room;
+    }

@@ -1,0 +1,140 @@
+use Rattle.std.proofs.Common.{◌≡◌, ◌∙◌, ◌≤◌, ◌++◌, ap, sym, subst, arith, List, ℕ, length, take, drop, None, get_or-set_other}
+use Rattle.segments.specs.declared.lengths.Lengths.{Lengths}
+use Rattle.segments.specs.declared.slot.Slot.{Slot}
+use Rattle.segments.specs.Queues.{place_of}
+use Rattle.segments.specs.Ring.{items, chains, newers, olders, ring_of, IsRing, Order, ring, used, order_in, order_of, sent, lists}
+use Rattle.segments.specs.Index.{IsIndexed}
+use Rattle.segments.specs.SlotTable.{IsInSlots, spare_in, raised, one_less, lengths_of}
+use Rattle.segments.proofs.Orders.{used-more, order-is}
+use Rattle.segments.proofs.Calls.{lengths-taken, lengths-sent, insert-recent, insert-back}
+use Rattle.segments.proofs.Tables.{free-real, free-unused, free-within, place-free, held-inserted, take-front}
+use Rattle.segments.proofs.Kept.{free-raised, held-room, kept-on, distinct-in}
+use Rattle.segments.proofs.slot_table.SlotTable.insert.Goals as goal
+
+pub newest_free-at-requires-clause-queued : goal.newest_free-at-requires-clause-queued
+newest_free-at-requires-clause-queued c =
+    let e : c.deref_mut-slots.result.now ≡ c.args.self.now = c.deref_mut-slots.ensures.value ∙ c.self.view_is in
+    let room : 1 ≤ spare_in c.deref_mut-slots.result.now = subst (λ (s : List Slot). 1 ≤ spare_in s) (sym e) c.requires.room in
+    let h = held-room c.deref_mut-slots.result.now c.self.inside.slots.items _ _ _ c.self.invariant c.deref_mut-slots.ensures.value room in
+    h.queued
+
+pub set_item-requires : goal.set_item-requires
+set_item-requires c =
+    let e : c.deref_mut-slots.result.now ≡ c.args.self.now = c.deref_mut-slots.ensures.value ∙ c.self.view_is in
+    let room : 1 ≤ spare_in c.deref_mut-slots.result.now = subst (λ (s : List Slot). 1 ≤ spare_in s) (sym e) c.requires.room in
+    let h = held-room c.deref_mut-slots.result.now c.self.inside.slots.items _ _ _ c.self.invariant c.deref_mut-slots.ensures.value room in
+    free-within c.deref_mut-slots.result.now (order_of c.deref_mut-slots.result.now) h.queued c.newest_free-at.result c.newest_free-at.ensures
+
+pub add-requires-clause-at : goal.add-requires-clause-at
+add-requires-clause-at c =
+    let e : c.deref_mut-slots.result.now ≡ c.args.self.now = c.deref_mut-slots.ensures.value ∙ c.self.view_is in
+    let room : 1 ≤ spare_in c.deref_mut-slots.result.now = subst (λ (s : List Slot). 1 ≤ spare_in s) (sym e) c.requires.room in
+    let h = held-room c.deref_mut-slots.result.now c.self.inside.slots.items _ _ _ c.self.invariant c.deref_mut-slots.ensures.value room in
+    let w = free-within c.deref_mut-slots.result.now (order_of c.deref_mut-slots.result.now) h.queued c.newest_free-at.result c.newest_free-at.ensures in
+    let r = free-real c.deref_mut-slots.result.now (order_of c.deref_mut-slots.result.now) h.queued c.newest_free-at.result c.newest_free-at.ensures in
+    (omega (arith, r), omega (arith, w))
+
+pub add-requires-clause-held : goal.add-requires-clause-held
+add-requires-clause-held c =
+    let e : c.deref_mut-slots.result.now ≡ c.args.self.now = c.deref_mut-slots.ensures.value ∙ c.self.view_is in
+    let room : 1 ≤ spare_in c.deref_mut-slots.result.now = subst (λ (s : List Slot). 1 ≤ spare_in s) (sym e) c.requires.room in
+    let h = held-room c.deref_mut-slots.result.now c.self.inside.slots.items _ _ _ c.self.invariant c.deref_mut-slots.ensures.value room in
+    record {
+      its = items c.deref_mut-slots.result.now;
+      used = used (order_of c.deref_mut-slots.result.now);
+      indexed = rw c.set_item.ensures.chains h.index;
+      fresh = free-unused c.deref_mut-slots.result.now (order_of c.deref_mut-slots.result.now) h.queued c.newest_free-at.result c.newest_free-at.ensures;
+    }
+
+pub send-requires-clause-at : goal.send-requires-clause-at
+send-requires-clause-at c =
+    let e : c.deref_mut-slots.result.now ≡ c.args.self.now = c.deref_mut-slots.ensures.value ∙ c.self.view_is in
+    let room : 1 ≤ spare_in c.deref_mut-slots.result.now = subst (λ (s : List Slot). 1 ≤ spare_in s) (sym e) c.requires.room in
+    let h = held-room c.deref_mut-slots.result.now c.self.inside.slots.items _ _ _ c.self.invariant c.deref_mut-slots.ensures.value room in
+    let w = free-within c.deref_mut-slots.result.now (order_of c.deref_mut-slots.result.now) h.queued c.newest_free-at.result c.newest_free-at.ensures in
+    let r = free-real c.deref_mut-slots.result.now (order_of c.deref_mut-slots.result.now) h.queued c.newest_free-at.result c.newest_free-at.ensures in
+    (omega (arith, r), omega (arith, w))
+
+pub send-requires-clause-place : goal.send-requires-clause-place
+send-requires-clause-place c =
+    let e : c.deref_mut-slots.result.now ≡ c.args.self.now = c.deref_mut-slots.ensures.value ∙ c.self.view_is in
+    let room : 1 ≤ spare_in c.deref_mut-slots.result.now = subst (λ (s : List Slot). 1 ≤ spare_in s) (sym e) c.requires.room in
+    let h = held-room c.deref_mut-slots.result.now c.self.inside.slots.items _ _ _ c.self.invariant c.deref_mut-slots.ensures.value room in
+    let p = place-free c.deref_mut-slots.result.now (order_of c.deref_mut-slots.result.now) h.queued c.newest_free-at.result c.newest_free-at.ensures c.args.before c.args.queue (rw e c.requires.place) in
+    rw (c.add.ensures.only.newers, c.set_item.ensures.newers) p
+
+pub invariant_of-self : goal.invariant_of-self
+invariant_of-self c =
+    let e : c.deref_mut-slots.result.now ≡ c.args.self.now = c.deref_mut-slots.ensures.value ∙ c.self.view_is in
+    let room : 1 ≤ spare_in c.deref_mut-slots.result.now = subst (λ (s : List Slot). 1 ≤ spare_in s) (sym e) c.requires.room in
+    let h = held-room c.deref_mut-slots.result.now c.self.inside.slots.items _ _ _ c.self.invariant c.deref_mut-slots.ensures.value room in
+    let n = c.newest_free-at.ensures in
+    let order : order_of c.add.new.slots ≡ order_of c.deref_mut-slots.result.now = ap (λ (l : List ℕ). order_in (ring_of l)) (c.add.ensures.only.newers ∙ c.set_item.ensures.newers) in
+    let r = subst (λ (o : Order). IsRing (newers c.send.new.slots) (olders c.send.new.slots) (ring (sent c.newest_free-at.result c.args.queue c.args.before o))) order c.send.ensures.ring in
+    let eo = order-is (newers c.send.new.slots) (olders c.send.new.slots) (sent c.newest_free-at.result c.args.queue c.args.before (order_of c.deref_mut-slots.result.now)) r in
+    let counted = c.raise.ensures
+    ∙ (ap (raised c.args.queue) (ap one_less (c.self.invariant.counted ∙ ap (λ (s : List Slot). lengths_of (order_of s)) (sym c.deref_mut-slots.ensures.value)) ∙ sym (lengths-taken c.newest_free-at.result (order_of c.deref_mut-slots.result.now) h.queued.linked.once n))
+    ∙ (sym (lengths-sent c.args.queue c.newest_free-at.result c.args.before (order_of c.deref_mut-slots.result.now)) ∙ ap lengths_of (sym eo))) in
+    let x : IsIndexed c.self.inside.index.heads.items (chains c.set_item.new.slots) (items c.deref_mut-slots.result.now) c.self.inside.index.bits (used (order_of c.deref_mut-slots.result.now)) = rw c.set_item.ensures.chains h.index in
+    let y = c.add.ensures.indexed (items c.deref_mut-slots.result.now) (used (order_of c.deref_mut-slots.result.now)) (used (sent c.newest_free-at.result c.args.queue c.args.before (order_of c.deref_mut-slots.result.now))) x record {
+      fresh = free-unused c.deref_mut-slots.result.now (order_of c.deref_mut-slots.result.now) h.queued c.newest_free-at.result n;
+      others = λ j d. rw c.set_item.ensures.items (get_or-set_other (items c.deref_mut-slots.result.now) c.newest_free-at.result j c.args.item _ d);
+      counted = λ j. used-more j c.newest_free-at.result c.args.before c.args.queue (order_of c.deref_mut-slots.result.now) (free-unused c.deref_mut-slots.result.now (order_of c.deref_mut-slots.result.now) h.queued c.newest_free-at.result n);
+    } in
+    let absent : place_of c.args.item (lists c.deref_mut-slots.result.now) ≡ None = rw e c.requires.absent in
+    let held = subst (IsInSlots c.send.new.slots c.add.new.self.heads.items c.add.new.self.bits) (sym eo)
+    (held-inserted c.deref_mut-slots.result.now c.send.new.slots c.add.new.self.heads.items c.add.new.self.bits (order_of c.deref_mut-slots.result.now) h.queued c.newest_free-at.result n c.args.queue c.args.before c.args.item
+    r
+    (rw (c.send.ensures.chains, c.send.ensures.items) y)
+    (c.send.ensures.items ∙ c.add.ensures.only.items ∙ c.set_item.ensures.items)
+    (c.send.ensures.tags ∙ (rw (c.add.ensures.only.tags, c.set_item.ensures.tags)))
+    absent) in
+    let whole : take c.self.inside.slots.len (c.send.new.slots ++ drop (length c.send.new.slots) c.self.inside.slots.items) ≡ c.send.new.slots = take-front _ _ _ (omega arith) in
+    rw whole (kept-on c.self.inside.slots.items c.send.new.slots _ _ _ _ _ _ c.self.invariant held counted (omega arith) c.add.ensures.bits)
+
+pub returns-clause-distinct : goal.returns-clause-distinct
+returns-clause-distinct c =
+    rw (← c.self.view_is) (distinct-in c.self.inside.slots.items _ _ _ c.self.invariant)
+
+pub returns-clause-spare : goal.returns-clause-spare
+returns-clause-spare c =
+    let e : c.deref_mut-slots.result.now ≡ c.args.self.now = c.deref_mut-slots.ensures.value ∙ c.self.view_is in
+    let room : 1 ≤ spare_in c.deref_mut-slots.result.now = subst (λ (s : List Slot). 1 ≤ spare_in s) (sym e) c.requires.room in
+    let h = held-room c.deref_mut-slots.result.now c.self.inside.slots.items _ _ _ c.self.invariant c.deref_mut-slots.ensures.value room in
+    let n = c.newest_free-at.ensures in
+    let order : order_of c.add.new.slots ≡ order_of c.deref_mut-slots.result.now = ap (λ (l : List ℕ). order_in (ring_of l)) (c.add.ensures.only.newers ∙ c.set_item.ensures.newers) in
+    let r = subst (λ (o : Order). IsRing (newers c.send.new.slots) (olders c.send.new.slots) (ring (sent c.newest_free-at.result c.args.queue c.args.before o))) order c.send.ensures.ring in
+    let eo = order-is (newers c.send.new.slots) (olders c.send.new.slots) (sent c.newest_free-at.result c.args.queue c.args.before (order_of c.deref_mut-slots.result.now)) r in
+    let counted = c.raise.ensures
+    ∙ (ap (raised c.args.queue) (ap one_less (c.self.invariant.counted ∙ ap (λ (s : List Slot). lengths_of (order_of s)) (sym c.deref_mut-slots.ensures.value)) ∙ sym (lengths-taken c.newest_free-at.result (order_of c.deref_mut-slots.result.now) h.queued.linked.once n))
+    ∙ (sym (lengths-sent c.args.queue c.newest_free-at.result c.args.before (order_of c.deref_mut-slots.result.now)) ∙ ap lengths_of (sym eo))) in
+    let whole : take c.self.inside.slots.len (c.send.new.slots ++ drop (length c.send.new.slots) c.self.inside.slots.items) ≡ c.send.new.slots = take-front _ _ _ (omega arith) in
+    let f = ap (λ (l : Lengths). l.free) counted in
+    let g = ap (λ (l : Lengths). l.free) c.self.invariant.counted in
+    let a = ap (λ (l : Lengths). l.free) c.raise.ensures ∙ free-raised c.args.queue _ in
+    let m = subst (λ (s : List Slot). 1 ≤ spare_in s) c.deref_mut-slots.ensures.value room in
+    rw (whole, ← c.self.view_is) (omega (arith, f, g, a, m))
+
+pub returns-clause-recent : goal.returns-clause-recent
+returns-clause-recent c =
+    let e : c.deref_mut-slots.result.now ≡ c.args.self.now = c.deref_mut-slots.ensures.value ∙ c.self.view_is in
+    let room : 1 ≤ spare_in c.deref_mut-slots.result.now = subst (λ (s : List Slot). 1 ≤ spare_in s) (sym e) c.requires.room in
+    let h = held-room c.deref_mut-slots.result.now c.self.inside.slots.items _ _ _ c.self.invariant c.deref_mut-slots.ensures.value room in
+    let n = c.newest_free-at.ensures in
+    let order : order_of c.add.new.slots ≡ order_of c.deref_mut-slots.result.now = ap (λ (l : List ℕ). order_in (ring_of l)) (c.add.ensures.only.newers ∙ c.set_item.ensures.newers) in
+    let r = subst (λ (o : Order). IsRing (newers c.send.new.slots) (olders c.send.new.slots) (ring (sent c.newest_free-at.result c.args.queue c.args.before o))) order c.send.ensures.ring in
+    let eo = order-is (newers c.send.new.slots) (olders c.send.new.slots) (sent c.newest_free-at.result c.args.queue c.args.before (order_of c.deref_mut-slots.result.now)) r in
+    let whole : take c.self.inside.slots.len (c.send.new.slots ++ drop (length c.send.new.slots) c.self.inside.slots.items) ≡ c.send.new.slots = take-front _ _ _ (omega arith) in
+    rw (whole, ← e) (insert-recent c.deref_mut-slots.result.now c.send.new.slots (order_of c.deref_mut-slots.result.now) h.queued c.newest_free-at.result n c.args.queue c.args.before c.args.item (c.send.ensures.items ∙ c.add.ensures.only.items ∙ c.set_item.ensures.items) eo)
+
+pub returns-clause-back : goal.returns-clause-back
+returns-clause-back c =
+    let e : c.deref_mut-slots.result.now ≡ c.args.self.now = c.deref_mut-slots.ensures.value ∙ c.self.view_is in
+    let room : 1 ≤ spare_in c.deref_mut-slots.result.now = subst (λ (s : List Slot). 1 ≤ spare_in s) (sym e) c.requires.room in
+    let h = held-room c.deref_mut-slots.result.now c.self.inside.slots.items _ _ _ c.self.invariant c.deref_mut-slots.ensures.value room in
+    let n = c.newest_free-at.ensures in
+    let order : order_of c.add.new.slots ≡ order_of c.deref_mut-slots.result.now = ap (λ (l : List ℕ). order_in (ring_of l)) (c.add.ensures.only.newers ∙ c.set_item.ensures.newers) in
+    let r = subst (λ (o : Order). IsRing (newers c.send.new.slots) (olders c.send.new.slots) (ring (sent c.newest_free-at.result c.args.queue c.args.before o))) order c.send.ensures.ring in
+    let eo = order-is (newers c.send.new.slots) (olders c.send.new.slots) (sent c.newest_free-at.result c.args.queue c.args.before (order_of c.deref_mut-slots.result.now)) r in
+    let whole : take c.self.inside.slots.len (c.send.new.slots ++ drop (length c.send.new.slots) c.self.inside.slots.items) ≡ c.send.new.slots = take-front _ _ _ (omega arith) in
+    rw (whole, ← e) (λ older newer b. insert-back c.deref_mut-slots.result.now c.send.new.slots (order_of c.deref_mut-slots.result.now) h.queued c.newest_free-at.result n c.args.queue c.args.before c.args.item (c.send.ensures.items ∙ c.add.ensures.only.items ∙ c.set_item.ensures.items) eo older newer b.gap b.slot)

@@ -1,0 +1,328 @@
+//! The queues, in linked slots.
+ghost use Rattle.std.specs.Prelude.{◌≡◌, ◌↔◌, ◌+◌, ◌≤◌, Ok, [], length, Option, Some, None, MatchOption};
+ghost use Rattle.std.specs.Prelude.{IfOk, OnOk, IfSome, IfNone};
+ghost use Rattle.segments.specs.Items.{first};
+ghost use Rattle.segments.specs.Queues.{empty, queue_of, place_of, IsDistinct, pushed, taken, moved, popped};
+ghost use Rattle.segments.specs.Queues.{refreshed_to, total_items};
+ghost use Rattle.segments.specs.Moves.{move_record, queues_before_move, FitsMove, needed};
+
+use crate::links::slot_behind;
+use crate::records::{MoveRecord, Queue};
+use crate::slot_table::SlotTable;
+use std::alloc::{AllocError, Global};
+use std::marker::Model;
+use step_record::{Item, Key, Node};
+
+/// Three queues of items, each of which stands once, oldest first.
+#[derive(Drop)]
+pub struct Segments {
+    alloc: Global,
+    table: SlotTable,
+    /// A sum over what `warm` read, kept so that the compiler cannot drop the reads.
+    warmth: u32,
+}
+
+impl Model for Segments {
+    ghost use Rattle.segments.specs.Queues.{Shown};
+    ghost use Rattle.segments.specs.SlotTable.{shown_of};
+
+    ghost Value = { Shown };
+
+    ghost view = { λ s. shown_of s.table };
+}
+
+// The queue to which an item goes on a hit where it stands.
+#[inline(always)]
+fn refreshed(queue: Queue) -> Queue
+    ensures { result ≡ refreshed_to queue }
+{
+    match queue {
+        Queue::Window => Queue::Window,
+        Queue::Probation | Queue::Protected => Queue::Protected,
+    }
+}
+
+impl Segments {
+    /// Three empty queues, with no room yet. Allocates nothing.
+    pub fn new(alloc: Global) -> Segments
+        ensures lists { result.lists ≡ empty }
+        ensures distinct { IsDistinct result.lists }
+    {
+        Segments::for_items(alloc, 0)
+    }
+
+    /// Three empty queues, with no room yet. Allocates nothing. The first `reserve` makes a hash index that is large
+    /// enough for so many items, so that it is not rebuilt while the queues fill.
+    pub fn for_items(alloc: Global, items: u32) -> Segments
+        ensures lists { result.lists ≡ empty }
+        ensures distinct { IsDistinct result.lists }
+    {
+        Segments {
+            alloc,
+            table: SlotTable::for_items(alloc, items),
+            warmth: 0,
+        }
+    }
+
+    /// Prefetches what a search for each of these keys with this node reads first. Unlike the reads of a search, these
+    /// do not depend on one another, so the processor overlaps them. Changes nothing that a caller can see.
+    #[inline(never)]
+    pub fn warm(&mut self, keys: &[Key], node: Node)
+        ensures { self.new ≡ self.old }
+    {
+        self.warmth ^= self.table.touch(keys, node);
+    }
+
+    /// Makes room for at least one more item; where there is room, it allocates nothing and returns Ok. The one error
+    /// is out of memory; queues and room are then as before.
+    #[inline(always)]
+    pub fn reserve(&mut self) -> Result<(), AllocError>
+        ensures lists { self.new.lists ≡ self.old.lists }
+        ensures room { OnOk result (1 ≤ self.new.spare) }
+        ensures enough { 1 ≤ self.old.spare → result ≡ Ok tt }
+        ensures spare { self.old.spare ≤ self.new.spare }
+    {
+        self.table.reserve(self.alloc)
+    }
+
+    /// For how many more items there is room.
+    pub fn spare(&self) -> usize
+        ensures { result ≡ self.now.spare }
+    {
+        self.table.spare()
+    }
+
+    /// Puts an item that stands in no queue at the recent end of one. It requires room, and takes room for one.
+    #[inline(always)]
+    pub fn push_recent(&mut self, queue: Queue, item: Item) -> MoveRecord
+        requires room { 1 ≤ self.old.spare }
+        requires absent { place_of item self.old.lists ≡ None }
+        ensures lists { self.new.lists ≡ pushed queue item self.old.lists }
+        ensures record { result ≡ move_record item (Some queue) self.old.lists }
+        ensures fits { FitsMove result self.new.lists }
+        ensures undone { queues_before_move result self.new.lists ≡ self.old.lists }
+        ensures spare { self.old.spare ≤ self.new.spare + 1 }
+    {
+        self.table.insert(item, queue, slot_behind(queue));
+        MoveRecord {
+            item,
+            from: None,
+            to: Some(queue),
+        }
+    }
+
+    /// Takes the item from where it stands to the recent end of a queue. `None`, and nothing moved, where it stands in
+    /// no queue.
+    pub fn move_recent(&mut self, item: Item, queue: Queue) -> Option<MoveRecord>
+        ensures absent { result ≡ None ↔ place_of item self.old.lists ≡ None }
+        ensures lists { IfSome result (λ _. self.new.lists ≡ moved item queue self.old.lists) }
+        ensures none { IfNone result (self.new.lists ≡ self.old.lists) }
+        ensures record { IfSome result (λ r. r ≡ move_record item (Some queue) self.old.lists) }
+        ensures fits { IfSome result (λ r. FitsMove r self.new.lists) }
+        ensures undone { IfSome result (λ r. queues_before_move r self.new.lists ≡ self.old.lists) }
+        ensures spare { self.old.spare ≤ self.new.spare }
+    {
+        let Some(at) = self.table.find_slot(item) else {
+            return None;
+        };
+        let place = self.table.shift(at, queue, slot_behind(queue));
+        Some(MoveRecord {
+            item,
+            from: Some(place),
+            to: Some(queue),
+        })
+    }
+
+    /// Moves the item to the recent end of the queue that it goes to on a hit: of the window if it stands there, else
+    /// of protected. Returns where it stood, and the record of the move. `None`, and nothing moved, if it stands in no
+    /// queue. Looks the item up once.
+    #[inline(always)]
+    pub fn refresh(&mut self, item: Item) -> Option<(Queue, MoveRecord)>
+        ensures absent { result ≡ None ↔ place_of item self.old.lists ≡ None }
+        ensures place { IfSome result (λ r. place_of item self.old.lists ≡ Some r.0) }
+        ensures lists { IfSome result (λ r. self.new.lists ≡ moved item (refreshed_to r.0) self.old.lists) }
+        ensures none { IfNone result (self.new.lists ≡ self.old.lists) }
+        ensures record { IfSome result (λ r. r.1 ≡ move_record item (Some (refreshed_to r.0)) self.old.lists) }
+        ensures fits { IfSome result (λ r. FitsMove r.1 self.new.lists) }
+        ensures undone { IfSome result (λ r. queues_before_move r.1 self.new.lists ≡ self.old.lists) }
+        ensures spare { self.old.spare ≤ self.new.spare }
+        // Of every `Segments`: no item stands twice.
+        ensures distinct { IsDistinct self.old.lists }
+    {
+        let Some((at, from)) = self.table.find(item) else {
+            return None;
+        };
+        let to = refreshed(from);
+        let place = self.table.shift(at, to, slot_behind(to));
+        let record = MoveRecord {
+            item,
+            from: Some(place),
+            to: Some(to),
+        };
+        Some((from, record))
+    }
+
+    /// Takes the oldest item of the queue out. `None`, and nothing moved, where the queue is empty.
+    #[inline(always)]
+    pub fn pop_oldest(&mut self, queue: Queue) -> Option<(Item, MoveRecord)>
+        ensures item { MatchOption result (queue_of queue self.old.lists ≡ [])
+            (λ r. first (queue_of queue self.old.lists) ≡ Some r.0) }
+        ensures lists { self.new.lists ≡ popped queue self.old.lists }
+        ensures none { IfNone result (self.new.lists ≡ self.old.lists) }
+        ensures record { IfSome result (λ r. r.1 ≡ move_record r.0 None self.old.lists) }
+        ensures fits { IfSome result (λ r. FitsMove r.1 self.new.lists) }
+        ensures undone { IfSome result (λ r. queues_before_move r.1 self.new.lists ≡ self.old.lists) }
+        ensures spare { self.old.spare ≤ self.new.spare }
+        ensures gained { IfSome result (λ _. self.old.spare + 1 ≤ self.new.spare) }
+    {
+        let Some((at, item)) = self.table.oldest(queue) else {
+            return None;
+        };
+        let place = self.table.remove(at);
+        let record = MoveRecord {
+            item,
+            from: Some(place),
+            to: None,
+        };
+        Some((item, record))
+    }
+
+    /// Takes the oldest item of the queue out, and puts one that stands in no queue at its recent end. Returns the
+    /// records of both moves, in this order; `None`, and nothing moved, where the queue is empty. Takes no room.
+    #[inline(always)]
+    pub fn renew_oldest(&mut self, queue: Queue, item: Item) -> Option<(MoveRecord, MoveRecord)>
+        requires absent { place_of item self.old.lists ≡ None }
+        ensures item { MatchOption result (queue_of queue self.old.lists ≡ [])
+            (λ r. first (queue_of queue self.old.lists) ≡ Some r.0.item) }
+        ensures lists { IfSome result (λ _. self.new.lists ≡ pushed queue item (popped queue self.old.lists)) }
+        ensures none { IfNone result (self.new.lists ≡ self.old.lists) }
+        ensures out { IfSome result (λ r. r.0 ≡ move_record r.0.item None self.old.lists) }
+        ensures put { IfSome result (λ r. r.1 ≡ move_record item (Some queue) (popped queue self.old.lists)) }
+        ensures fits { IfSome result (λ r. FitsMove r.1 self.new.lists) }
+        ensures undone { IfSome result (λ r. queues_before_move r.1 self.new.lists ≡ popped queue self.old.lists) }
+        ensures fits_before { IfSome result (λ r. FitsMove r.0 (popped queue self.old.lists)) }
+        ensures undone_both { IfSome result (λ r. queues_before_move r.0 (popped queue self.old.lists)
+            ≡ self.old.lists) }
+        ensures spare { self.old.spare ≤ self.new.spare }
+    {
+        let Some((at, oldest)) = self.table.oldest(queue) else {
+            return None;
+        };
+        let place = self.table.renew(at, queue, item);
+        let out = MoveRecord {
+            item: oldest,
+            from: Some(place),
+            to: None,
+        };
+        let put = MoveRecord {
+            item,
+            from: None,
+            to: Some(queue),
+        };
+        Some((out, put))
+    }
+
+    /// The oldest item of the queue, `None` if it is empty.
+    #[inline(always)]
+    pub fn oldest(&self, queue: Queue) -> Option<Item>
+        ensures { result ≡ first (queue_of queue self.now.lists) }
+    {
+        let (_, item) = self.table.oldest(queue)?;
+        Some(item)
+    }
+
+    /// Moves the oldest item of a queue to the recent end of a queue. `None`, and nothing moved, if the first queue is
+    /// empty. Does not search the hash index.
+    #[inline(always)]
+    pub fn send_oldest(&mut self, from: Queue, to: Queue) -> Option<MoveRecord>
+        ensures item { MatchOption result (queue_of from self.old.lists ≡ [])
+            (λ r. first (queue_of from self.old.lists) ≡ Some r.item) }
+        ensures lists { IfSome result (λ r. self.new.lists ≡ moved r.item to self.old.lists) }
+        ensures none { IfNone result (self.new.lists ≡ self.old.lists) }
+        ensures record { IfSome result (λ r. r ≡ move_record r.item (Some to) self.old.lists) }
+        ensures fits { IfSome result (λ r. FitsMove r self.new.lists) }
+        ensures undone { IfSome result (λ r. queues_before_move r self.new.lists ≡ self.old.lists) }
+        ensures spare { self.old.spare ≤ self.new.spare }
+    {
+        let Some((at, item)) = self.table.oldest(from) else {
+            return None;
+        };
+        let place = self.table.shift(at, to, slot_behind(to));
+        Some(MoveRecord {
+            item,
+            from: Some(place),
+            to: Some(to),
+        })
+    }
+
+    /// Takes the item out. `None`, and nothing moved, where it stands in no queue.
+    pub fn take_out(&mut self, item: Item) -> Option<MoveRecord>
+        ensures absent { result ≡ None ↔ place_of item self.old.lists ≡ None }
+        ensures lists { self.new.lists ≡ taken item self.old.lists }
+        ensures none { IfNone result (self.new.lists ≡ self.old.lists) }
+        ensures record { IfSome result (λ r. r ≡ move_record item None self.old.lists) }
+        ensures fits { IfSome result (λ r. FitsMove r self.new.lists) }
+        ensures undone { IfSome result (λ r. queues_before_move r self.new.lists ≡ self.old.lists) }
+        ensures spare { self.old.spare ≤ self.new.spare }
+        ensures gained { IfSome result (λ _. self.old.spare + 1 ≤ self.new.spare) }
+    {
+        let at = self.table.find_slot(item)?;
+        let from = self.table.remove(at);
+        Some(MoveRecord {
+            item,
+            from: Some(from),
+            to: None,
+        })
+    }
+
+    /// Undoes a move from its record, which must fit the queues as they stand. If the item went out, it requires
+    /// room for it.
+    pub fn put_back(&mut self, done: MoveRecord)
+        requires fits { FitsMove done self.old.lists }
+        requires room { needed done.to ≤ self.old.spare }
+        ensures lists { self.new.lists ≡ queues_before_move done self.old.lists }
+        ensures spare { self.old.spare ≤ self.new.spare + needed done.to }
+    {
+        let Some(place) = done.from else {
+            let _ = self.take_out(done.item);
+            return;
+        };
+        match self.table.find_slot(done.item) {
+            Some(at) => self.table.shift_to(at, place),
+            None => self.table.insert_at(done.item, place),
+        }
+    }
+
+    /// A copy of the queue's items, oldest first.
+    pub fn list(&self, alloc: Global, queue: Queue) -> Result<Vec<Item>, AllocError>
+        ensures { IfOk result (λ items. items.items ≡ queue_of queue self.now.lists) }
+    {
+        self.table.list(alloc, queue)
+    }
+
+    /// How many items stand in the queue.
+    #[inline(always)]
+    pub fn len(&self, queue: Queue) -> usize
+        ensures { result ≡ length (queue_of queue self.now.lists) }
+    {
+        self.table.len(queue)
+    }
+
+    /// How many items stand in the queues.
+    #[inline(always)]
+    pub fn count(&self) -> usize
+        ensures { result ≡ total_items self.now.lists }
+    {
+        self.table.count()
+    }
+
+    /// The queue in which the item stands.
+    pub fn find(&self, item: Item) -> Option<Queue>
+        ensures queue { result ≡ place_of item self.now.lists }
+        // Of every `Segments`: no item stands twice.
+        ensures distinct { IsDistinct self.now.lists }
+    {
+        let (_, queue) = self.table.find(item)?;
+        Some(queue)
+    }
+}
