@@ -125,7 +125,7 @@ pub record DoneBy (words : List Text) (files : KnownFiles) (input before after :
       ⊎ AsksHelp (fault_of (program_app lists) (called words))
 
 -- a usage error: clap refuses the words, or they lack a number in its range or a known policy, or their number of read
--- buffers is none of a cache
+-- buffers is not a power of two from 1 to 64
 pub record RefusedBy (words : List Text) : Type 0 where
   pub lists : Lists
   pub are : AreLists lists

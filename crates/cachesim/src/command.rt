@@ -23,6 +23,12 @@ use std::io::{Read, Write};
 use std::sync::Wait;
 use std::thread::Threads;
 
+// The line of the fault for which no memory may be left.
+const OUT_OF_MEMORY: &[u8] = b"fault: OutOfMemory\n";
+
+// The line of a number of read buffers that no cache has, which is a usage error.
+const STRIPES: &[u8] = b"fault: Stripes\n";
+
 /// The program did what it was asked to.
 pub const DONE: u8 = 0;
 
@@ -31,19 +37,6 @@ pub const FAULT: u8 = 1;
 
 /// A usage error: the command-line arguments are invalid.
 pub const REFUSED: u8 = 2;
-
-// The line of the fault for which no memory may be left.
-const OUT_OF_MEMORY: &[u8] = b"fault: OutOfMemory\n";
-
-// The line of a number of read buffers that no cache has, which is a usage error.
-const STRIPES: &[u8] = b"fault: Stripes\n";
-
-// Writes a line to the fault output; where that fails too, the status alone reports.
-fn report_line<X: Write>(line: &[u8], fault_out: &mut X)
-    ensures { AppendsPart (X.contents fault_out.old) (X.contents fault_out.new) line.now }
-{
-    let _ = streams::write_all(fault_out, line);
-}
 
 // Reports a fault. That of a failed allocation takes no memory, and stands for a line for which
 // there was none.
@@ -59,33 +52,6 @@ pub fn report_fault<X: Write>(alloc: Global, fault: Fault, fault_out: &mut X) ->
     }
     report_line(OUT_OF_MEMORY, fault_out);
     FAULT
-}
-
-// Writes help or the version to the output, and what else clap answers to the fault output.
-fn answer<W: Write, X: Write>(alloc: Global, error: &Error, out: &mut W, fault_out: &mut X) -> u8
-    ensures status { result ≤ REFUSED }
-    ensures done { result ≡ DONE → is_help (kind_of error.now) }
-    ensures silent { result ≡ DONE → fault_out.new ≡ fault_out.old }
-    ensures faulted { result ≡ FAULT
-        → IsReported Fault.OutOfMemory (X.contents fault_out.old) (X.contents fault_out.new)
-        ⊎ IsReported Fault.Write (X.contents fault_out.old) (X.contents fault_out.new) }
-    ensures refused { result ≡ REFUSED → (¬ is_help (kind_of error.now))
-        × (kind_of error.now ≢ ErrorKind.OutOfMemory) × (out.new ≡ out.old) }
-{
-    if error.kind() == ErrorKind::OutOfMemory {
-        return report_fault(alloc, Fault::OutOfMemory, fault_out);
-    }
-    let Ok(text) = error.to_string(alloc) else {
-        return report_fault(alloc, Fault::OutOfMemory, fault_out);
-    };
-    if error.use_stderr() {
-        report_line(text.as_bytes(), fault_out);
-        return REFUSED;
-    }
-    match streams::write_all(out, text.as_bytes()) {
-        Ok(()) => DONE,
-        Err(_) => report_fault(alloc, Fault::Write, fault_out),
-    }
 }
 
 /// The program, of the words after its name, over an input and two outputs: it returns the
@@ -146,5 +112,39 @@ pub fn command<T: Threads + Wait + Sync, R: Read, W: Write, X: Write, F: Files, 
     match done {
         Ok(()) => DONE,
         Err(fault) => report_fault(alloc, fault, fault_out),
+    }
+}
+
+// Writes a line to the fault output; where that fails too, the status alone reports.
+fn report_line<X: Write>(line: &[u8], fault_out: &mut X)
+    ensures { AppendsPart (X.contents fault_out.old) (X.contents fault_out.new) line.now }
+{
+    let _ = streams::write_all(fault_out, line);
+}
+
+// Writes help or the version to the output, and what else clap answers to the fault output.
+fn answer<W: Write, X: Write>(alloc: Global, error: &Error, out: &mut W, fault_out: &mut X) -> u8
+    ensures status { result ≤ REFUSED }
+    ensures done { result ≡ DONE → is_help (kind_of error.now) }
+    ensures silent { result ≡ DONE → fault_out.new ≡ fault_out.old }
+    ensures faulted { result ≡ FAULT
+        → IsReported Fault.OutOfMemory (X.contents fault_out.old) (X.contents fault_out.new)
+        ⊎ IsReported Fault.Write (X.contents fault_out.old) (X.contents fault_out.new) }
+    ensures refused { result ≡ REFUSED → (¬ is_help (kind_of error.now))
+        × (kind_of error.now ≢ ErrorKind.OutOfMemory) × (out.new ≡ out.old) }
+{
+    if error.kind() == ErrorKind::OutOfMemory {
+        return report_fault(alloc, Fault::OutOfMemory, fault_out);
+    }
+    let Ok(text) = error.to_string(alloc) else {
+        return report_fault(alloc, Fault::OutOfMemory, fault_out);
+    };
+    if error.use_stderr() {
+        report_line(text.as_bytes(), fault_out);
+        return REFUSED;
+    }
+    match streams::write_all(out, text.as_bytes()) {
+        Ok(()) => DONE,
+        Err(_) => report_fault(alloc, Fault::Write, fault_out),
     }
 }

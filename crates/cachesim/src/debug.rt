@@ -45,27 +45,6 @@ pub fn debug<R: Read, W: Write, F: Files>(
     Ok(())
 }
 
-// Reads the journal into a session of no step, and answers the commands of the input about it.
-fn replay_in<R: Read, W: Write>(
-    alloc: Global,
-    session: &mut Session<Shell>,
-    mut journal: &[u8],
-    input: &mut R,
-    out: &mut W,
-) -> Result<(), Fault>
-    requires kept { session.old.kept ≡ [] }
-    requires tail { session.old.tail ≡ [] }
-    ensures ok { OnOk result (IsReplayedFrom session.old.opening session.old.limit journal.entry.now
-        (R.remaining input.old) (W.contents out.old) (W.contents out.new)) }
-    ensures kept { IfErr result (λ fault. IsBeforeOutput fault → out.new ≡ out.old) }
-    ensures fault { IfErr result (λ fault. IsOfMachine fault
-        ⊎ IsOfReplayFrom session.old.opening session.old.limit fault journal.entry.now) }
-{
-    read_journal(alloc, &mut journal, session)?;
-    run_replay(alloc, session, input, out)?;
-    Ok(())
-}
-
 /// Reads the journal of the file into a session of an empty cache, and answers the commands of the
 /// input about it, each at once.
 pub fn replay<R: Read, W: Write, F: Files>(
@@ -87,4 +66,25 @@ pub fn replay<R: Read, W: Write, F: Files>(
     let bytes = files.bytes(alloc, arguments.journal.as_str())?;
     let mut session = open(alloc, &arguments.config)?;
     replay_in(alloc, &mut session, bytes.as_slice(), input, out)
+}
+
+// Reads the journal into a session of no step, and answers the commands of the input about it.
+fn replay_in<R: Read, W: Write>(
+    alloc: Global,
+    session: &mut Session<Shell>,
+    mut journal: &[u8],
+    input: &mut R,
+    out: &mut W,
+) -> Result<(), Fault>
+    requires kept { session.old.kept ≡ [] }
+    requires tail { session.old.tail ≡ [] }
+    ensures ok { OnOk result (IsReplayedFrom session.old.opening session.old.limit journal.entry.now
+        (R.remaining input.old) (W.contents out.old) (W.contents out.new)) }
+    ensures kept { IfErr result (λ fault. IsBeforeOutput fault → out.new ≡ out.old) }
+    ensures fault { IfErr result (λ fault. IsOfMachine fault
+        ⊎ IsOfReplayFrom session.old.opening session.old.limit fault journal.entry.now) }
+{
+    read_journal(alloc, &mut journal, session)?;
+    run_replay(alloc, session, input, out)?;
+    Ok(())
 }

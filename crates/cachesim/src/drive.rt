@@ -24,6 +24,43 @@ use step_record::{Call, Config, Key, OpenGate};
 use trace_read::{Format, read_trace};
 use workers::{DriveFault, Driven};
 
+/// A session of no step over an empty cache. The one error is out of memory.
+pub fn open(alloc: Global, config: &Config) -> Result<Session<Shell>, AllocError>
+    requires { config_fault config.now ≡ Ok tt }
+    ensures first { IfOk result (IsFirst config.now) }
+    ensures tail { IfOk result (λ session. session.tail ≡ []) }
+    ensures limit { IfOk result (λ session. session.limit ≡ config.now.journal_limit) }
+{
+    let shell = Shell::new(alloc, config)?;
+    Ok(Session::open(alloc, shell, config.journal_limit as usize))
+}
+
+/// Reads the trace, lets the workers read its keys in a concurrent cache, each on a thread of its
+/// own, and writes the journal of their steps. Where a worker was refused a step, the journal is
+/// written too, and the fault is the cause. Any other fault but `Write` has written nothing.
+pub fn drive<T: Threads + Wait + Sync, R: Read, W: Write>(
+    rt: &T,
+    alloc: Global,
+    arguments: &DriveArguments,
+    input: &mut R,
+    out: &mut W,
+) -> Result<(), Fault>
+    requires checked { config_fault arguments.now.config ≡ Ok tt }
+    requires some { 1 ≤ arguments.now.workers }
+    requires few { arguments.now.workers ≤ MAX_WORKERS }
+    ensures ok { OnOk result (IsDriven arguments.now.config arguments.now.workers arguments.now.format
+        (R.remaining input.old) (W.contents out.old) (W.contents out.new)) }
+    ensures kept { IfErr result (λ fault. IsBeforeOutput fault → out.new ≡ out.old) }
+    // The fault is one of the machine, or that of the trace, or else that the journal was full.
+    ensures fault { IfErr result (λ fault. IsOfMachine fault ⊎ IfSome (R.remaining input.old)
+        (IsFoundIn arguments.now.format (λ f. f ≡ Fault.JournalFull) fault)) }
+{
+    let pieces = pieces_of(alloc, input, arguments.format, arguments.workers)?;
+    let session = open(alloc, &arguments.config)?;
+    let run = workers::drive(rt, alloc, session, pieces, &OpenGate);
+    end(alloc, run, out)
+}
+
 // A list of no call for each worker.
 fn empty_pieces(alloc: Global, workers: u8) -> Result<Vec<Vec<Call>>, AllocError>
     ensures many { IfOk result (λ pieces. length pieces.items ≡ workers) }
@@ -48,17 +85,6 @@ fn deal(alloc: Global, keys: &[Key], workers: u8) -> Result<Vec<Vec<Call>>, Allo
     Ok(pieces)
 }
 
-/// A session of no step over an empty cache. The one error is out of memory.
-pub fn open(alloc: Global, config: &Config) -> Result<Session<Shell>, AllocError>
-    requires { config_fault config.now ≡ Ok tt }
-    ensures first { IfOk result (IsFirst config.now) }
-    ensures tail { IfOk result (λ session. session.tail ≡ []) }
-    ensures limit { IfOk result (λ session. session.limit ≡ config.now.journal_limit) }
-{
-    let shell = Shell::new(alloc, config)?;
-    Ok(Session::open(alloc, shell, config.journal_limit as usize))
-}
-
 // The calls of each worker for the accesses of the trace.
 fn pieces_of<R: Read>(
     alloc: Global,
@@ -78,8 +104,8 @@ fn pieces_of<R: Read>(
     Ok(pieces)
 }
 
-// Writes the journal of a run, also of one that was stopped, and tells why it did not make all walks.
-fn tell<W: Write>(alloc: Global, run: &Result<Driven, DriveFault>, out: &mut W) -> Result<(), Fault>
+// Writes the journal of a run, also of one that was stopped, and reports why it did not make all walks.
+fn write_run<W: Write>(alloc: Global, run: &Result<Driven, DriveFault>, out: &mut W) -> Result<(), Fault>
     requires { IfErr run.now IsOfRun }
     ensures fault { IfErr result IsOfEnd }
     ensures written { OnOk result (IsOkAnd run.now (λ driven.
@@ -115,33 +141,7 @@ fn end<W: Write>(alloc: Global, run: Result<Driven, DriveFault>, out: &mut W) ->
     ensures written { OnOk result (IsOkAnd run (λ driven.
         Appends (W.contents out.old) (W.contents out.new) (journal_of Two driven.session.kept))) }
 {
-    let told = tell(alloc, &run, out);
+    let written = write_run(alloc, &run, out);
     drop(run);
-    told
-}
-
-/// Reads the trace, lets the workers read its keys in a concurrent cache, each on a thread of its
-/// own, and writes the journal of their steps. Where a worker was refused a step, the journal is
-/// written too, and the fault is the cause. Any other fault but `Write` has written nothing.
-pub fn drive<T: Threads + Wait + Sync, R: Read, W: Write>(
-    rt: &T,
-    alloc: Global,
-    arguments: &DriveArguments,
-    input: &mut R,
-    out: &mut W,
-) -> Result<(), Fault>
-    requires checked { config_fault arguments.now.config ≡ Ok tt }
-    requires some { 1 ≤ arguments.now.workers }
-    requires few { arguments.now.workers ≤ MAX_WORKERS }
-    ensures ok { OnOk result (IsDriven arguments.now.config arguments.now.workers arguments.now.format
-        (R.remaining input.old) (W.contents out.old) (W.contents out.new)) }
-    ensures kept { IfErr result (λ fault. IsBeforeOutput fault → out.new ≡ out.old) }
-    // The fault is one of the machine, or that of the trace, or else that the journal was full.
-    ensures fault { IfErr result (λ fault. IsOfMachine fault ⊎ IfSome (R.remaining input.old)
-        (IsFoundIn arguments.now.format (λ f. f ≡ Fault.JournalFull) fault)) }
-{
-    let pieces = pieces_of(alloc, input, arguments.format, arguments.workers)?;
-    let session = open(alloc, &arguments.config)?;
-    let run = workers::drive(rt, alloc, session, pieces, &OpenGate);
-    end(alloc, run, out)
+    written
 }

@@ -31,29 +31,6 @@ pub fn jobs(alloc: Global, config: Config, policies: &[Policy]) -> Result<Vec<Jo
     Ok(jobs)
 }
 
-// The reports of the policies that the arguments name, each run on a thread of its own.
-fn reports<T: Threads + Wait + Sync, P: Watch>(
-    rt: &T,
-    alloc: Global,
-    trace: &Trace,
-    arguments: &RunArguments,
-    watch: &P,
-) -> Result<Vec<Report>, ActorFault>
-    ensures reports { IfOk result (λ reports. reports.items
-        ≡ reports_on (jobs_by_policy arguments.now.config arguments.now.policies.items) trace.now) }
-    ensures fault { IfErr result (λ fault. (fault ≡ ActorFault.OutOfMemory) ⊎ (actor_fault arguments.now.batch
-        (jobs_by_policy arguments.now.config arguments.now.policies.items) ≡ Some fault)) }
-    ensures few { OnOk result
-        (actor_fault arguments.now.batch (jobs_by_policy arguments.now.config arguments.now.policies.items) ≡ None) }
-{
-    let jobs = jobs(alloc, arguments.config, arguments.policies.as_slice())?;
-    let batch = arguments.batch;
-    watch.begin(Work::in_batches("run", jobs.len(), trace.len(), batch));
-    let reports = run_actors(rt, alloc, trace, jobs.as_slice(), batch, watch);
-    watch.end();
-    reports
-}
-
 /// Reads the trace and writes the report of each policy that the arguments name; each policy runs
 /// on a thread of its own. A fault has written nothing, but for `Write`, after which the output may
 /// be partial.
@@ -78,4 +55,27 @@ pub fn run<T: Threads + Wait + Sync, R: Read, W: Write, P: Watch>(
     let reports = reports(rt, alloc, &trace, arguments, watch)?;
     write_reports(alloc, reports.as_slice(), out)?;
     Ok(())
+}
+
+// The reports of the policies that the arguments name, each run on a thread of its own.
+fn reports<T: Threads + Wait + Sync, P: Watch>(
+    rt: &T,
+    alloc: Global,
+    trace: &Trace,
+    arguments: &RunArguments,
+    watch: &P,
+) -> Result<Vec<Report>, ActorFault>
+    ensures reports { IfOk result (λ reports. reports.items
+        ≡ reports_on (jobs_by_policy arguments.now.config arguments.now.policies.items) trace.now) }
+    ensures fault { IfErr result (λ fault. (fault ≡ ActorFault.OutOfMemory) ⊎ (actor_fault arguments.now.batch
+        (jobs_by_policy arguments.now.config arguments.now.policies.items) ≡ Some fault)) }
+    ensures few { OnOk result
+        (actor_fault arguments.now.batch (jobs_by_policy arguments.now.config arguments.now.policies.items) ≡ None) }
+{
+    let jobs = jobs(alloc, arguments.config, arguments.policies.as_slice())?;
+    let batch = arguments.batch;
+    watch.begin(Work::in_batches("run", jobs.len(), trace.len(), batch));
+    let reports = run_actors(rt, alloc, trace, jobs.as_slice(), batch, watch);
+    watch.end();
+    reports
 }

@@ -17,6 +17,32 @@ use std::thread::Threads;
 use step_record::Trace;
 use trace_read::read_trace;
 
+/// Reads the trace and writes the reports of the policies that the arguments name at each of the capacities: those of
+/// the first policy in the order of the capacities, then those of the second, and so on. A fault has written nothing, but
+/// for `Write`, after which the output may be partial.
+pub fn sweep<T: Threads + Sync, R: Read, W: Write, P: Watch>(
+    rt: &T,
+    alloc: Global,
+    arguments: &SweepArguments,
+    input: &mut R,
+    out: &mut W,
+    watch: &P,
+) -> Result<(), Fault>
+    ensures ok { OnOk result (Reports arguments.now.format
+        (jobs_over (jobs_by_policy arguments.now.config arguments.now.policies.items) arguments.now.capacities.items)
+        (R.remaining input.old) (W.contents out.old) (W.contents out.new)) }
+    ensures kept { IfErr result (λ fault. fault ≢ Fault.Write → out.new ≡ out.old) }
+    // The fault is one of the machine, or that of the trace, or else that of the jobs.
+    ensures fault { IfErr result (λ fault. IsOfMachine fault ⊎ IfSome (R.remaining input.old)
+        (IsFoundIn arguments.now.format (IsOfJobs (sweep_fault
+        (jobs_by_policy arguments.now.config arguments.now.policies.items) arguments.now.capacities.items)) fault)) }
+{
+    let trace = read_trace(alloc, input, arguments.format)?;
+    let reports = reports(rt, alloc, &trace, arguments, watch)?;
+    write_reports(alloc, reports.as_slice(), out)?;
+    Ok(())
+}
+
 // The reports of the policies that the arguments name at each of the capacities.
 fn reports<T: Threads + Sync, P: Watch>(
     rt: &T,
@@ -43,30 +69,4 @@ fn reports<T: Threads + Sync, P: Watch>(
     let reports = sweep_each(rt, alloc, trace, jobs.as_slice(), capacities, watch);
     watch.end();
     reports
-}
-
-/// Reads the trace and writes the reports of the policies that the arguments name at each of the capacities: those of
-/// the first policy in the order of the capacities, then those of the second, and so on. A fault has written nothing, but
-/// for `Write`, after which the output may be partial.
-pub fn sweep<T: Threads + Sync, R: Read, W: Write, P: Watch>(
-    rt: &T,
-    alloc: Global,
-    arguments: &SweepArguments,
-    input: &mut R,
-    out: &mut W,
-    watch: &P,
-) -> Result<(), Fault>
-    ensures ok { OnOk result (Reports arguments.now.format
-        (jobs_over (jobs_by_policy arguments.now.config arguments.now.policies.items) arguments.now.capacities.items)
-        (R.remaining input.old) (W.contents out.old) (W.contents out.new)) }
-    ensures kept { IfErr result (λ fault. fault ≢ Fault.Write → out.new ≡ out.old) }
-    // The fault is one of the machine, or that of the trace, or else that of the jobs.
-    ensures fault { IfErr result (λ fault. IsOfMachine fault ⊎ IfSome (R.remaining input.old)
-        (IsFoundIn arguments.now.format (IsOfJobs (sweep_fault
-        (jobs_by_policy arguments.now.config arguments.now.policies.items) arguments.now.capacities.items)) fault)) }
-{
-    let trace = read_trace(alloc, input, arguments.format)?;
-    let reports = reports(rt, alloc, &trace, arguments, watch)?;
-    write_reports(alloc, reports.as_slice(), out)?;
-    Ok(())
 }

@@ -433,13 +433,13 @@ fn assert_refused<T: Threads + Wait + Sync + Abort>(
     words: &[&str],
 ) -> Result<(), AllocError> {
     let run = call(rt, alloc, words, &mut b"1\n".as_slice(), &Nowhere)?;
-    let told = run.fault.as_slice();
+    let reported = run.fault.as_slice();
     let wanted = Wanted {
         status: 2,
         out: b"".as_slice(),
-        fault: told,
+        fault: reported,
     };
-    assert!(rt; !told.is_empty());
+    assert!(rt; !reported.is_empty());
     compare(rt, &run, &wanted)
 }
 
@@ -504,28 +504,28 @@ fn texts_of_usage_errors_and_help(rt: HostRuntime) -> Result<(), Fail> {
     Ok(())
 }
 
-// The program over an output that fails tells that.
+// The program over an output that fails reports that.
 fn assert_unwritten<T: Threads + Wait + Sync + Abort>(
     rt: &T,
     alloc: Global,
     words: &[&str],
     mut input: &[u8],
 ) -> Result<(), AllocError> {
-    let mut told = Vec::with_capacity(alloc, ROOM)?;
+    let mut reported = Vec::with_capacity(alloc, ROOM)?;
     let status = command(
         rt,
         alloc,
         words,
         &mut input,
         &mut Broken,
-        &mut told,
+        &mut reported,
         &Nowhere,
         &OpenGate,
     );
     let run = Run {
         status,
         out: Vec::new(alloc),
-        fault: told,
+        fault: reported,
     };
     compare(rt, &run, &fault("fault: Write\n"))
 }
@@ -613,8 +613,8 @@ const WORDS: [&str; 4] = ["run", "--capacity", "3", "lru"];
 
 #[test]
 fn a_broken_input_is_told(rt: HostRuntime) -> Result<(), Fail> {
-    let told = fault("fault: Read\n");
-    assert_call(&rt, rt.alloc(), &WORDS, &mut Broken, &Nowhere, &told)?;
+    let reported = fault("fault: Read\n");
+    assert_call(&rt, rt.alloc(), &WORDS, &mut Broken, &Nowhere, &reported)?;
     Ok(())
 }
 

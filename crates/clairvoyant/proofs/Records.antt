@@ -72,8 +72,8 @@ module _ (c : ℕ) (t : List ℕ) (i : ℕ) where
       ]
 
   -- which way it was, from the record
-  pub told-hit : Hit ≡ record_at c t i → has_key (get_or t i 0) (belady_residents c t i) ≡ true
-  told-hit h =
+  pub known-hit : Hit ≡ record_at c t i → has_key (get_or t i 0) (belady_residents c t i) ≡ true
+  known-hit h =
       elim ways [
         | inl w ↦ w.hit
         | inr w1 ↦ elim w1 [
@@ -85,8 +85,8 @@ module _ (c : ℕ) (t : List ℕ) (i : ℕ) where
         ]
       ]
 
-  pub told-kept : Kept ≡ record_at c t i → (has_key (get_or t i 0) (belady_residents c t i) ≡ false) × (length (belady_residents c t i) < c)
-  told-kept h =
+  pub known-kept : Kept ≡ record_at c t i → (has_key (get_or t i 0) (belady_residents c t i) ≡ false) × (length (belady_residents c t i) < c)
+  known-kept h =
       elim ways [
         | inl w ↦ absurd (let no : Kept ≡ Hit = h ∙ w.is in cc (no))
         | inr w1 ↦ elim w1 [
@@ -98,8 +98,8 @@ module _ (c : ℕ) (t : List ℕ) (i : ℕ) where
         ]
       ]
 
-  pub told-rejected : (j : ℕ) → Rejected j ≡ record_at c t i → (has_key (get_or t i 0) (belady_residents c t i) ≡ false) × (c ≤ length (belady_residents c t i)) × (farthest t i (get_or t i 0) (belady_residents c t i) ≡ get_or t i 0)
-  told-rejected j h =
+  pub known-rejected : (j : ℕ) → Rejected j ≡ record_at c t i → (has_key (get_or t i 0) (belady_residents c t i) ≡ false) × (c ≤ length (belady_residents c t i)) × (farthest t i (get_or t i 0) (belady_residents c t i) ≡ get_or t i 0)
+  known-rejected j h =
       elim ways [
         | inl w ↦ absurd (let no : Rejected j ≡ Hit = h ∙ w.is in cc (no))
         | inr w1 ↦ elim w1 [
@@ -111,8 +111,8 @@ module _ (c : ℕ) (t : List ℕ) (i : ℕ) where
         ]
       ]
 
-  pub told-evicted : (g : Gone) → Evicted g ≡ record_at c t i → IsEvicted c t i g.key × (g.rank ≡ rank t (suc i) g.key)
-  told-evicted g h =
+  pub known-evicted : (g : Gone) → Evicted g ≡ record_at c t i → IsEvicted c t i g.key × (g.rank ≡ rank t (suc i) g.key)
+  known-evicted g h =
       elim ways [
         | inl w ↦ absurd (let no : Evicted g ≡ Hit = h ∙ w.is in cc (no))
         | inr w1 ↦ elim w1 [

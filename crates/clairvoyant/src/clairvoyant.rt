@@ -126,7 +126,7 @@ impl Clairvoyant {
         self.stats
     }
 
-    /// The keys that it holds, ascending. The only error is want of memory for the list.
+    /// The keys that it holds, ascending. The only error is out of memory.
     pub fn residents(&self, alloc: Global) -> Result<Vec<Key>, AllocError>
         ensures { IfOk result (λ keys. keys.items ≡ self.now.residents) }
     {

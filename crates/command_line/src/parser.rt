@@ -16,6 +16,27 @@ use crate::sweep::sweep_arguments;
 use clap::ArgMatches;
 use std::alloc::{AllocError, Global};
 
+/// What the words after the program's name ask for. `Refused` comes exactly where `clap` refuses
+/// them by the commands' rules, also where they ask for help or the version, or where it ran out
+/// of memory; `Stripes` where the number of read buffers is not a power of two from 1 to 64; `Incomplete`
+/// where they lack another number in its range or a known policy.
+pub fn parse(alloc: Global, words: &[&str]) -> Result<Arguments, ParseFault>
+    ensures { ParsedBy (map (λ s. s.now) words.now) result }
+{
+    let policies = policy_words();
+    let formats = format_words();
+    let spreads = spread_words();
+    let called = called(alloc, words)?;
+    let program = program(
+        alloc,
+        policies.as_slice(),
+        formats.as_slice(),
+        spreads.as_slice(),
+    )?;
+    let matches = program.try_get_matches_from(called.as_slice())?;
+    arguments(alloc, &matches)
+}
+
 // The words of a call, with the program's name before them.
 fn called<'a>(alloc: Global, words: &[&'a str]) -> Result<Vec<&'a str>, AllocError>
     ensures { IfOk result (λ v. map (λ s. s.now) v.items ≡ called_by (map (λ s. s.now) words.now)) }
@@ -75,25 +96,4 @@ fn arguments(alloc: Global, matches: &ArgMatches<'_>) -> Result<Arguments, Parse
         };
     }
     Err(ParseFault::Incomplete)
-}
-
-/// What the words after the program's name ask for. `Refused` comes exactly where `clap` refuses
-/// them by the commands' rules, also where they ask for help or the version, or where it ran out
-/// of memory; `Stripes` where the number of read buffers is none of a cache; `Incomplete` where they
-/// lack another number in its range or a known policy.
-pub fn parse(alloc: Global, words: &[&str]) -> Result<Arguments, ParseFault>
-    ensures { ParsedBy (map (λ s. s.now) words.now) result }
-{
-    let policies = policy_words();
-    let formats = format_words();
-    let spreads = spread_words();
-    let called = called(alloc, words)?;
-    let program = program(
-        alloc,
-        policies.as_slice(),
-        formats.as_slice(),
-        spreads.as_slice(),
-    )?;
-    let matches = program.try_get_matches_from(called.as_slice())?;
-    arguments(alloc, &matches)
 }

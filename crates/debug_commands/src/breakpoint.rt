@@ -66,16 +66,6 @@ impl Breakpoint {
     }
 }
 
-// Whether it is this key.
-fn is_key(found: Option<Key>, key: Key) -> bool
-    ensures { result ≡ Rattle.debug_commands.specs.Breakpoints.is_key found key }
-{
-    match found {
-        Some(other) => other == key,
-        None => false,
-    }
-}
-
 /// The first of the breakpoints that holds after the step.
 pub fn first_holding(breaks: &[Breakpoint], facts: &StepFacts) -> Option<Breakpoint>
     ensures { result ≡ first_holding facts.now breaks.now }
@@ -86,4 +76,14 @@ pub fn first_holding(breaks: &[Breakpoint], facts: &StepFacts) -> Option<Breakpo
         }
     }
     None
+}
+
+// Whether it is this key.
+fn is_key(found: Option<Key>, key: Key) -> bool
+    ensures { result ≡ Rattle.debug_commands.specs.Breakpoints.is_key found key }
+{
+    match found {
+        Some(other) => other == key,
+        None => false,
+    }
 }

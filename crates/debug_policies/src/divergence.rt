@@ -14,6 +14,10 @@ use policies::{AnyPolicy, any_accepts, any_answers, any_covers_trace, any_stands
 use std::alloc::{AllocError, Global};
 use step_record::{Job, Key, Outcome, StepFault, Trace};
 
+// So many accesses are made in one cache before the other makes them: each has a loop of its own, of which the code of
+// an access is part.
+const BLOCK: usize = 1024;
+
 /// The first access of the trace, counted from 1, at which the policy of one job hits and that of the other does not;
 /// `None` where there is no such access.
 ///
@@ -51,9 +55,13 @@ pub fn push_part(text: &mut Vec<u8>, found: Option<u64>) -> Result<(), AllocErro
     }
 }
 
-// So many accesses are made in one cache before the other makes them: each has a loop of its own, of which the code of
-// an access is part.
-const BLOCK: usize = 1024;
+/// Whether the outcome is a hit.
+#[inline(always)]
+pub fn hits(outcome: Outcome) -> bool
+    ensures { result ≡ is_hit outcome }
+{
+    matches!(outcome, Outcome::Hit)
+}
 
 // The caller in the first cache's loop, and that in the second's.
 struct Noting;
@@ -183,12 +191,4 @@ fn access<C>(cache: &mut AnyPolicy, key: Key) -> Result<Outcome, AllocError>
         Err(StepFault::OutOfMemory) => Err(AllocError),
         Err(StepFault::NotNow) => unreachable!(),
     }
-}
-
-/// Whether the outcome is a hit.
-#[inline(always)]
-pub fn hits(outcome: Outcome) -> bool
-    ensures { result ≡ is_hit outcome }
-{
-    matches!(outcome, Outcome::Hit)
 }

@@ -40,22 +40,6 @@ pub fn push_count_line(text: &mut Vec<u8>, name: &[u8], count: u64) -> Result<()
     push_bytes(text, b"\n")
 }
 
-// Adds a colon and a number.
-fn push_node(text: &mut Vec<u8>, node: u64) -> Result<(), AllocError>
-    ensures { OnOk result (text.new.items ≡ text.old.items ++ number_text node) }
-{
-    push_bytes(text, b":")?;
-    push_number(text, node)
-}
-
-// Adds a space and an item.
-fn push_item(text: &mut Vec<u8>, item: Item) -> Result<(), AllocError>
-    ensures { OnOk result (text.new.items ≡ text.old.items ++ item_text item) }
-{
-    push_count(text, b" ", item.key)?;
-    push_node(text, item.node)
-}
-
 /// Adds items, each with a space before it.
 pub fn push_items(text: &mut Vec<u8>, items: &[Item]) -> Result<(), AllocError>
     ensures { OnOk result (text.new.items ≡ text.old.items ++ flat_map item_text items.now) }
@@ -73,6 +57,31 @@ pub fn push_items_line(text: &mut Vec<u8>, name: &[u8], items: &[Item]) -> Resul
     push_bytes(text, name)?;
     push_items(text, items)?;
     push_bytes(text, b"\n")
+}
+
+/// Adds the line of the write queue.
+pub fn push_tasks_line(text: &mut Vec<u8>, tasks: &[Task]) -> Result<(), AllocError>
+    ensures { OnOk result (text.new.items ≡ text.old.items ++ tasks_line tasks.now) }
+{
+    push_bytes(text, b"writes")?;
+    push_tasks(text, tasks)?;
+    push_bytes(text, b"\n")
+}
+
+// Adds a colon and a number.
+fn push_node(text: &mut Vec<u8>, node: u64) -> Result<(), AllocError>
+    ensures { OnOk result (text.new.items ≡ text.old.items ++ number_text node) }
+{
+    push_bytes(text, b":")?;
+    push_number(text, node)
+}
+
+// Adds a space and an item.
+fn push_item(text: &mut Vec<u8>, item: Item) -> Result<(), AllocError>
+    ensures { OnOk result (text.new.items ≡ text.old.items ++ item_text item) }
+{
+    push_count(text, b" ", item.key)?;
+    push_node(text, item.node)
 }
 
 // The word of a task, and its item.
@@ -103,13 +112,4 @@ fn push_tasks(text: &mut Vec<u8>, tasks: &[Task]) -> Result<(), AllocError>
         push_task(text, *task)?;
     }
     Ok(())
-}
-
-/// Adds the line of the write queue.
-pub fn push_tasks_line(text: &mut Vec<u8>, tasks: &[Task]) -> Result<(), AllocError>
-    ensures { OnOk result (text.new.items ≡ text.old.items ++ tasks_line tasks.now) }
-{
-    push_bytes(text, b"writes")?;
-    push_tasks(text, tasks)?;
-    push_bytes(text, b"\n")
 }

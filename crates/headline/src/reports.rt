@@ -1,7 +1,7 @@
 //! A job's report is the same however it is made: alone on this thread, on a thread of its own beside other jobs, or
 //! within a sweep over capacities.
 //!
-//! Both functions make the same reports in two ways and hand out both lists. Their contracts stand on those of the
+//! Both functions make the same reports in two ways and return both lists. Their contracts stand on those of the
 //! calls alone: that the lists are equal, and that they are what the policies' definitions give over the keys of the
 //! trace.
 ghost use Rattle.std.specs.Prelude.{◌≡◌, IfOk, map};

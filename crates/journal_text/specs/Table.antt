@@ -144,7 +144,7 @@ line_words (line.Steps n) = count_words n
 unfoldable pub text_of : Line → List ℕ
 text_of line = spelled (line_words line)
 
--- a line of the table; the count of the steps stands in version 2 alone
+-- a line of the table; version 2 alone has the count of its steps
 unfoldable pub IsLine : Version → Line → Type 0
 IsLine v (line.Made e) = Fit (entry_words e) × (is_answer_in v e.step.act e.reply ≡ true)
 IsLine One (line.Steps n) = ⊥

@@ -12,6 +12,16 @@ use super::words::Words;
 use super::{Line, Version};
 use step_record::{Act, Entry, Reply, Step};
 
+/// The line of the table that the text is, without its line feed.
+pub fn line(version: Version, text: &[u8]) -> Option<Line>
+    // What is read is a line of the table, in its one spelling.
+    ensures found { IfSome result (λ l. IsLine version l × (text_of l ≡ text.now)) }
+    // Each line of the table is read; so where none is, no line of the table is spelled so.
+    ensures only { (l : Line) → IsLine version l → text_of l ≡ text.now → result ≡ Some l }
+{
+    line_read(version, text)
+}
+
 // The act that stands next.
 #[tactic(auto, unfolding(crate::specs::Reading::act_at))]
 fn act(words: &mut Words) -> Option<Act>
@@ -161,14 +171,4 @@ fn line_read(version: Version, text: &[u8]) -> Option<Line>
             None => Some(Line::Steps(count(text)?)),
         },
     }
-}
-
-/// The line of the table that the text is, without its line feed.
-pub fn line(version: Version, text: &[u8]) -> Option<Line>
-    // What is read is a line of the table, in its one spelling.
-    ensures found { IfSome result (λ l. IsLine version l × (text_of l ≡ text.now)) }
-    // Each line of the table is read; so where none is, no line of the table is spelled so.
-    ensures only { (l : Line) → IsLine version l → text_of l ≡ text.now → result ≡ Some l }
-{
-    line_read(version, text)
 }

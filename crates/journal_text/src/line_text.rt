@@ -18,6 +18,37 @@ use step_record::{Act, Answer, Entry, Item, Reply, Step};
 /// at most 20 bytes and with one byte behind it.
 pub const MAX_LINE: usize = 192;
 
+/// Adds an entry with its line feed. Its words fit, since its numbers are of their types.
+pub fn push_entry_line(text: &mut Vec<u8>, entry: &Entry<Step, Reply>)
+    requires { vec_len text.old + MAX_LINE ≤ vec_capacity text.old }
+    ensures items { text.new.items ≡ text.old.items ++ ended_line (text_of (Made entry.now)) }
+    ensures capacity { vec_capacity text.old ≤ vec_capacity text.new }
+    ensures fit { Fit (entry_words entry.now) }
+{
+    push_entry(text, entry);
+    text.push_reserved(b'\n');
+}
+
+/// Adds the count of the steps with its line feed.
+pub fn push_count_line(text: &mut Vec<u8>, count: u64)
+    requires { vec_len text.old + MAX_LINE ≤ vec_capacity text.old }
+    ensures items { text.new.items ≡ text.old.items ++ ended_line (text_of (Steps count)) }
+{
+    push_word(text, Word::Named(Name::Steps));
+    push_words(text, &[Word::Wide(count)]);
+    text.push_reserved(b'\n');
+}
+
+/// Begins an empty text with the header of version 2.
+pub fn push_header(text: &mut Vec<u8>)
+    requires empty { text.old.items ≡ [] }
+    requires room { MAX_LINE ≤ vec_capacity text.old }
+    ensures items { text.new.items ≡ begun Two [] }
+    ensures capacity { vec_capacity text.old ≤ vec_capacity text.new }
+{
+    push_bytes(text, b"cachesim journal 2\n");
+}
+
 // Adds bytes.
 fn push_bytes(text: &mut Vec<u8>, bytes: &[u8])
     requires { vec_len text.old + length bytes.now ≤ vec_capacity text.old }
@@ -178,35 +209,4 @@ fn push_entry(text: &mut Vec<u8>, entry: &Entry<Step, Reply>)
         ],
     );
     push_numbers(text, entry.reply);
-}
-
-/// Adds an entry with its line feed. Its words fit, since its numbers are of their types.
-pub fn push_entry_line(text: &mut Vec<u8>, entry: &Entry<Step, Reply>)
-    requires { vec_len text.old + MAX_LINE ≤ vec_capacity text.old }
-    ensures items { text.new.items ≡ text.old.items ++ ended_line (text_of (Made entry.now)) }
-    ensures capacity { vec_capacity text.old ≤ vec_capacity text.new }
-    ensures fit { Fit (entry_words entry.now) }
-{
-    push_entry(text, entry);
-    text.push_reserved(b'\n');
-}
-
-/// Adds the count of the steps with its line feed.
-pub fn push_count_line(text: &mut Vec<u8>, count: u64)
-    requires { vec_len text.old + MAX_LINE ≤ vec_capacity text.old }
-    ensures items { text.new.items ≡ text.old.items ++ ended_line (text_of (Steps count)) }
-{
-    push_word(text, Word::Named(Name::Steps));
-    push_words(text, &[Word::Wide(count)]);
-    text.push_reserved(b'\n');
-}
-
-/// Begins an empty text with the header of version 2.
-pub fn push_header(text: &mut Vec<u8>)
-    requires empty { text.old.items ≡ [] }
-    requires room { MAX_LINE ≤ vec_capacity text.old }
-    ensures items { text.new.items ≡ begun Two [] }
-    ensures capacity { vec_capacity text.old ≤ vec_capacity text.new }
-{
-    push_bytes(text, b"cachesim journal 2\n");
 }

@@ -40,6 +40,14 @@ pub fn reply_name(reply: &Reply) -> Name
     }
 }
 
+/// Whether the version has such an entry, whose reply belongs to the act.
+#[tactic(auto, unfolding(crate::specs::Table::is_answer_in))]
+pub fn is_answer_in(version: Version, act: &Act, reply: &Reply) -> bool
+    ensures { result ≡ is_answer_in version act.now reply.now }
+{
+    is_known(version, act, reply) && act.is_answered_by(reply)
+}
+
 // Whether the version has such an entry.
 fn is_known(version: Version, act: &Act, reply: &Reply) -> bool
     ensures { result ≡ is_in_version version act.now reply.now }
@@ -49,12 +57,4 @@ fn is_known(version: Version, act: &Act, reply: &Reply) -> bool
         (Version::One, _, Reply::Cleared { .. }) => false,
         _ => true,
     }
-}
-
-/// Whether the version has such an entry, whose reply belongs to the act.
-#[tactic(auto, unfolding(crate::specs::Table::is_answer_in))]
-pub fn is_answer_in(version: Version, act: &Act, reply: &Reply) -> bool
-    ensures { result ≡ is_answer_in version act.now reply.now }
-{
-    is_known(version, act, reply) && act.is_answered_by(reply)
 }

@@ -37,7 +37,7 @@ pub enum Layout {
     ThreeQueues,
 }
 
-/// What a policy is. A policy of queues is told from the others by its row here alone.
+/// What a policy is. A policy of queues differs from the others in its row here alone.
 pub fn design_of(policy: Policy) -> Design
     ensures { result ≡ design_of policy }
 {

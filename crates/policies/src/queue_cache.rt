@@ -24,10 +24,6 @@ use std::alloc::{AllocError, Global};
 use std::marker::{Model, PhantomData};
 use step_record::{Config, Engine, Item, Job, Key, MAX_STEPS, Outcome, Stats, StepFault};
 
-// The caller of an access that keeps its undo record. The code of an access stands in the program once for each type of
-// caller, so that the code for callers that drop the record neither makes nor copies it.
-struct Recorder;
-
 // Queues of so many keys are read ahead.
 const WARM_FROM: usize = 4096;
 
@@ -264,6 +260,10 @@ impl<P: Drop> Engine for QueueCache<P> {
 
     ghost paced = { act_paced };
 }
+
+// The caller of an access that keeps its undo record. The code of an access stands in the program once for each type of
+// caller, so that the code for callers that drop the record neither makes nor copies it.
+struct Recorder;
 
 // The frequency of no key, where keys are counted.
 fn first_frequency(

@@ -33,18 +33,6 @@ pub fn access_all(cache: &mut AnyPolicy, keys: &[Key]) -> Result<(), AllocError>
     Ok(())
 }
 
-// Reads ahead what the next accesses read first, once for each few of them.
-#[inline(always)]
-fn warm_at(cache: &mut AnyPolicy, keys: &[Key], i: usize)
-    requires { i ≤ length keys.now }
-    ensures { cache.new ≡ cache.old }
-{
-    if i % AHEAD == 0 {
-        let end = keys.len().min(i + AHEAD);
-        cache.warm(&keys[i..end]);
-    }
-}
-
 /// The same in batches of `MAX_BATCH` accesses, with the gate called before and after each, as worker 0, with the
 /// batch's number.
 pub fn access_in_batches<G: Gate>(
@@ -111,5 +99,17 @@ pub fn finish(cache: Option<AnyPolicy>, job: &Job) -> Option<Report>
     match cache {
         Some(cache) => Some(report_by(&cache, job)),
         None => None,
+    }
+}
+
+// Reads ahead what the next accesses read first, once for each few of them.
+#[inline(always)]
+fn warm_at(cache: &mut AnyPolicy, keys: &[Key], i: usize)
+    requires { i ≤ length keys.now }
+    ensures { cache.new ≡ cache.old }
+{
+    if i % AHEAD == 0 {
+        let end = keys.len().min(i + AHEAD);
+        cache.warm(&keys[i..end]);
     }
 }

@@ -16,7 +16,7 @@ use Rattle.shell_model.specs.Shell.{Shell}
 use Rattle.maintenance.specs.Opened.{triple}
 use Rattle.walks.specs.Holders.{IsReady, IsReadyFor}
 use Rattle.walks.specs.declared.next.Next.{Next}
-use Rattle.walks.specs.declared.next.Next.TheVariants as told
+use Rattle.walks.specs.declared.next.Next.TheVariants as next_act
 use Rattle.walks.specs.declared.local.Local.{Local}
 use Rattle.walks.specs.declared.place.Place.{Place}
 use Rattle.walks.specs.Places.{Ahead, phase_place}
@@ -54,8 +54,8 @@ adds_counted P Q n old new m c f =
     let many : length new.kept ≡ length old.kept + length m.made = ap length m.entered ∙ length-append old.kept m.made in
     record { made = m.made; entered = m.entered; tail = m.tail; holds = (f m.made m.holds, omega (arith, c, many)) }
 
--- the holder that is told to make another act holds
-pub still_held : (w : ℕ) (next : Next) (a : Act) (l : Local) (x y : Shell) → next ≡ told.Do a l → IsReadyFor w next x → y ≡ x → worker_of y.holder ≡ Some w
+-- the holder whose next step is another act holds
+pub still_held : (w : ℕ) (next : Next) (a : Act) (l : Local) (x y : Shell) → next ≡ next_act.Do a l → IsReadyFor w next x → y ≡ x → worker_of y.holder ≡ Some w
 still_held w next a l x y d h same =
     let r : IsReady w a x = subst (λ (m : Next). IsReadyFor w m x) d h in
     ap (λ (z : Shell). worker_of z.holder) same ∙ ap worker_of r.holds ∙ ap (λ (v : ℕ). Some v) r.worker

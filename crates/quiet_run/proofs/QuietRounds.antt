@@ -66,19 +66,19 @@ fits c t n q l f p left s m o Q v k =
 -- one eviction that takes the candidate out of the window
 record IsTried (n : ℕ) (c : Item) (q : Queues) (r : Response) : Type 1 where
   more : (More : Type 0) (es : Entries) → FollowsEvict 0 n More (reply_by r.outcome r.left c) es → More
-  tells : outcome_after outcome.Kept (reply_by r.outcome r.left c) ≡ r.outcome
+  outcome_is : outcome_after outcome.Kept (reply_by r.outcome r.left c) ≡ r.outcome
   shorter : length r.queues.window + 1 ≤ length q.window
 
 contest-tried : (n : ℕ) (admits : ℕ → ℕ → Bool) (c : Item) (o : Option Item) (q : Queues) → 1 ≤ times c q.window → IsTried n c q (contest admits c o (moved c Probation q))
-contest-tried n admits c None q h = record { more = λ M es w. w; tells = refl; shorter = omega (arith, h, length-without c q.window, length-without c (items_without c q.window)) }
+contest-tried n admits c None q h = record { more = λ M es w. w; outcome_is = refl; shorter = omega (arith, h, length-without c q.window, length-without c (items_without c q.window)) }
 contest-tried n admits c (Some v) q h =
     let rejects : length (items_without c (items_without c q.window)) + 1 ≤ length q.window = omega (arith, h, length-without c q.window, length-without c (items_without c q.window)) in
     let evicts : length (items_without v (items_without c q.window)) + 1 ≤ length q.window = omega (arith, h, length-without c q.window, length-without v (items_without c q.window)) in
     elim (cases_Bool (same c v)) as (λ _. IsTried n c q (contest admits c (Some v) (moved c Probation q))) [
-      | inl e ↦ rw e record { more = λ M es w. w; tells = refl; shorter = rejects }
+      | inl e ↦ rw e record { more = λ M es w. w; outcome_is = refl; shorter = rejects }
       | inr e ↦ rw e (elim (cases_Bool (admits c.key v.key)) [
-        | inl f ↦ rw f record { more = λ M es w. w; tells = refl; shorter = evicts }
-        | inr f ↦ rw f record { more = λ M es w. w; tells = refl; shorter = rejects }
+        | inl f ↦ rw f record { more = λ M es w. w; outcome_is = refl; shorter = evicts }
+        | inr f ↦ rw f record { more = λ M es w. w; outcome_is = refl; shorter = rejects }
       ])
     ]
 
@@ -86,7 +86,7 @@ trial-tried : (n : ℕ) (c : Config) (admits : ℕ → ℕ → Bool) (i : Item) 
 trial-tried n c admits i q h =
     elim (cases_Bool (nat_lt c.capacity (total_items (moved i Probation q)))) as (λ _. IsTried n i q (trial (three_queues c) admits i (moved i Probation q))) [
       | inl e ↦ rw e (contest-tried n admits i (first (moved i Probation q).probation) q h)
-      | inr e ↦ rw e record { more = λ M es w. w; tells = refl; shorter = omega (arith, h, length-without i q.window) }
+      | inr e ↦ rw e record { more = λ M es w. w; outcome_is = refl; shorter = omega (arith, h, length-without i q.window) }
     ]
 
 abbrev pub evicted : Config → Queues → FrequencyData → Response
@@ -128,7 +128,7 @@ evicts c t n q l f p left s m Q v k =
           rw is (evicting-opens c.stripes (state c t n q l [] f drain.ToIdle (held p left) s m) outcome.Kept r.outcome Q
           (opens c.stripes a.Evict (λ r es. FollowsEvict 0 c.stripes (IsEvicting 0 c.stripes es) r es) (state c t n q l [] f drain.ToIdle (held p left) s m) outcome.Kept r.outcome Q b (state c (unlisted_by r.left t) n r.queues l [] f drain.ToIdle (held Evictions left) s m)
           (rw (evictions-law (state c t n q l [] f drain.ToIdle (held Evictions left) s m), e, o.1) refl)
-          (rw g.tells (λ es w. next es (g.more (IsEvicting 0 c.stripes es) es w)))))
+          (rw g.outcome_is (λ es w. next es (g.more (IsEvicting 0 c.stripes es) es w)))))
       | inr e ↦
           let small : length q.window ≤ window_size c = grind (arith, nat_tests) in
           let k2 : Leaves Q c t n q l f = rw e at k in

@@ -50,13 +50,13 @@ pub runs : (c : Config) → config_fault c ≡ Ok tt → (ks past : List ℕ) (x
 runs c h [] past x d [] es b v q f w l = (refl, subst (λ (y : Entries). IsQuiet (after act x y) d) (sym w) q)
 runs c h [] past x d (o ∷ os) es b v q f w l = absurd w
 runs c h (k ∷ ks) past x d [] es b v q f w l = absurd w
-runs c h (k ∷ ks) past x d (o ∷ os) es b v q f (walk, rest, cut, walks, tells, more) l =
+runs c h (k ∷ ks) past x d (o ∷ os) es b v q f (walk, rest, cut, walks, outcome_is, more) l =
     let p = legal-split x walk rest (subst (λ (y : Entries). IsLegal act x y) cut l) in
     let n : 1 ≤ x.config.stripes = subst (λ (y : Config). 1 ≤ y.stripes) (sym b) (stripes_checked c h).0 in
     let m = key-served x d k walk v q n (subst (λ (y : Config). IsQuietWalk y.stripes k walk) (sym b) walks) p.0 in
     let g : recorded_in k d.frequency ≡ frequency_after (window_tiny_lfu c) (past ++ k ∷ []) = frequency-next c h past d k f in
     let d2 : QueueState = accessed (frequency_after (window_tiny_lfu c) (past ++ k ∷ [])) k d in
-    let first : o ≡ (access_response (frequency_after (window_tiny_lfu c) (past ++ k ∷ [])) k d).outcome = tells ∙ m.0 ∙ ap (λ (y : Option FrequencyData). (access_response y k d).outcome) g in
+    let first : o ≡ (access_response (frequency_after (window_tiny_lfu c) (past ++ k ∷ [])) k d).outcome = outcome_is ∙ m.0 ∙ ap (λ (y : Option FrequencyData). (access_response y k d).outcome) g in
     let quiet : IsQuiet (after act x walk) d2 = subst (λ (y : Option FrequencyData). IsQuiet (after act x walk) (accessed y k d)) g m.1.quiet in
     let r = runs c h ks (past ++ k ∷ []) (after act x walk) d2 os rest (m.1.config ∙ b) m.1.consistent quiet refl more p.1 in
     let all = outcomes_from (window_tiny_lfu c) (past ++ k ∷ []) d2 ks in (

@@ -71,7 +71,7 @@ pub(crate) enum Refusal {
     JournalFull,
 }
 
-// Makes a round from where its holder stands, to its End, and tells the outcome with what left.
+// Makes a round from where its holder stands, to its End, and returns the outcome with what was evicted.
 pub(crate) fn finish_round(
     session: &mut Session<Shell>,
     local: Local,

@@ -75,7 +75,7 @@ module _ (ws : List ℕ) (w x tz : ℕ) (in_it : w < length ws) (read : x ≡ ge
         | inr n ↦ ap (λ y. eqb (bit_at y (q % 64)) 1) (past (q / 64) (let ne : q / 64 ≢ w = n in omega arith)) ∙ ap (λ y. eqb y 1) (bit_at-zero (q % 64))
       ]
 
--- the layer above, where one word was written that is not 0, or is 0, or stays what the layer above told of it
+-- the layer above, where one word was written that is not 0, or is 0, or stays what the layer above has of it
 pub above-after : (ws : List ℕ) (n m : ℕ) (old new : ℕ → Bool) (j x : ℕ) → IsAbove ws n old → j < length ws → eqb x 0 ≡ false → m ≡ n → ((w : ℕ) → new w ≡ cond (eqb w j) true (old w)) → IsAbove (set ws j x) m new
 above-after ws n m old new j x up within some same puts = record {
   long = let l : length (set ws j x) ≡ length ws = simp length-set refl in omega (arith, same, up.long);

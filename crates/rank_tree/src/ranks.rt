@@ -31,7 +31,7 @@ impl Model for Ranks {
 }
 
 impl Ranks {
-    /// A set without a number. The only error is want of memory.
+    /// A set without a number. The only error is out of memory.
     pub fn new(alloc: Global, size: usize) -> Result<Ranks, AllocError>
         requires { size ≤ MAX_SIZE }
         ensures size { IfOk result (λ r. length r ≡ size) }

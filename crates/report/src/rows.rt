@@ -12,6 +12,24 @@ use csv::{Writer, WriterBuilder};
 use std::alloc::{AllocError, Global};
 use std::io::Write;
 
+/// Writes the header and a line for each report, in order, and flushes. The writes and flushes of
+/// one call share its interruptions, of which the millionth is `Write`. `OutOfMemory` has written
+/// nothing; after `Write` a beginning of the text was written.
+pub fn write_reports<W: Write>(
+    alloc: Global,
+    reports: &[Report],
+    writer: &mut W,
+) -> Result<(), WriteFault>
+    ensures text { OnOk result (Appends (W.contents writer.old) (W.contents writer.new) (reports_text reports.now)) }
+    ensures none { result ≡ Err WriteFault.OutOfMemory → writer.new ≡ writer.old }
+    ensures part { result ≡ Err WriteFault.Write
+        → AppendsPart (W.contents writer.old) (W.contents writer.new) (reports_text reports.now) }
+{
+    let text = reports_text(alloc, reports)?;
+    streams::write_all(writer, text.as_slice())?;
+    Ok(())
+}
+
 // The rate in percent, with two decimals.
 fn rate_text(alloc: Global, rate: u128) -> Result<String, AllocError>
     ensures { IfOk result (λ s. string_bytes s ≡ rate_text_of rate) }
@@ -102,22 +120,4 @@ fn reports_text(alloc: Global, reports: &[Report]) -> Result<Vec<u8>, WriteFault
         Ok(text) => Ok(text),
         Err(_) => Err(WriteFault::OutOfMemory),
     }
-}
-
-/// Writes the header and a line for each report, in order, and flushes. The writes and flushes of
-/// one call share its interruptions, of which the millionth is `Write`. `OutOfMemory` has written
-/// nothing; after `Write` a beginning of the text was written.
-pub fn write_reports<W: Write>(
-    alloc: Global,
-    reports: &[Report],
-    writer: &mut W,
-) -> Result<(), WriteFault>
-    ensures text { OnOk result (Appends (W.contents writer.old) (W.contents writer.new) (reports_text reports.now)) }
-    ensures none { result ≡ Err WriteFault.OutOfMemory → writer.new ≡ writer.old }
-    ensures part { result ≡ Err WriteFault.Write
-        → AppendsPart (W.contents writer.old) (W.contents writer.new) (reports_text reports.now) }
-{
-    let text = reports_text(alloc, reports)?;
-    streams::write_all(writer, text.as_slice())?;
-    Ok(())
 }

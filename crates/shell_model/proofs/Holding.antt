@@ -77,7 +77,7 @@ holder-step x w b r y (k.idle h f d e) es = refl
 holder-step x w b r y (k.again h f d e) es = refl
 holder-step x w b r y made es = same-seat (seat_of x.holder) w b r es refl refl
 
--- what came before the entries is told by what they say of a holder
+-- what came before the entries follows from what they say of a holder
 join : (e : MadeStep) (es : List MadeStep) (q : Option (ℕ × List MadeStep)) (t : Bool) (o u : Option (ℕ × Phase)) → t ≡ some_end es
     → (later None false u es ≡ later (cond (is_begun_reply e.reply) (Some (e.step.worker, es)) None) (is_ending e.reply) o (e ∷ es))
     → later q t u es ≡ later (open_from e es q) (cond (is_ending e.reply) true t) o (e ∷ es)

@@ -47,7 +47,7 @@ pub record Shell : Type 0 where
   pub drain : DrainState
   pub holder : Option Holder
   pub stats : ShellStats
-  pub applied : ℕ  -- how many steps stand
+  pub applied : ℕ  -- how many steps are applied
 
 -- the sizes of the parts, by the policies' rules
 

@@ -13,7 +13,7 @@ pub fn history()
     ensures { HistoryLaws }
 {}
 
-/// From any reachable state without a holder: who holds the maintenance now is told by the steps since, and table nodes
+/// From any reachable state without a holder: who holds the maintenance now follows from the steps since, and table nodes
 /// stay below the next number.
 pub fn later_history()
     ensures { LaterLaws }

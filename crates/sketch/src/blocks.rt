@@ -16,7 +16,7 @@ pub const ONES: u64 = 0x1111111111111111;
 // By how much the lost bits of each of eight words are shifted: those of four words fill one.
 const SHIFTS: [u64; 8] = [0, 1, 2, 3, 0, 1, 2, 3];
 
-/// Halves the counters of the eight words from `at` on, and hands out the two words of bits that they lose.
+/// Halves the counters of the eight words from `at` on, and returns the two words of bits that they lose.
 pub fn halve_block(words: &mut [u64], at: usize) -> [u64; 2]
     requires { at + 8 ≤ length words.old }
     ensures words { words.new ≡ put_chunk at words.old (map halved_word (chunk at 8 words.old)) }

@@ -6,6 +6,40 @@ ghost use Rattle.bits_and_lists.specs.Places.{by_place};
 
 use step_record::{Key, Spread};
 
+/// The column of a key in a row, of 1 to 2^23 columns. A sketch has the rows 0 to 3; the rows 4 to 6 are there for
+/// the probes of a doorkeeper.
+///
+/// The mixed spread mixes the key and its row by the finalizer of SplitMix64; the plain one takes the key's remainder
+/// and steps on by the remainder of its quotient.
+pub fn column(spread: Spread, key: Key, row: u32, width: u32) -> u32
+    requires row { row < 7 }
+    requires some { 1 ≤ width }
+    requires few { width ≤ 2 ^ 23 }
+    ensures value { result ≡ column_of spread key row width }
+    ensures below { result < width }
+{
+    if width.is_power_of_two() {
+        masked(spread, key, row, width)
+    } else {
+        divided(spread, key, row, width)
+    }
+}
+
+/// A key's columns in the rows 0 to 3, where the width is a power of two.
+pub fn columns(spread: Spread, key: Key, width: u32) -> [u32; 4]
+    requires power { IsPowerOfTwo width }
+    requires few { width ≤ 2 ^ 23 }
+    ensures value { result ≡ by_place 4 (λ row. column_of spread key row width) }
+    ensures below { (row : ℕ) → row < 4 → slice_index result row < width }
+{
+    [
+        masked(spread, key, 0, width),
+        masked(spread, key, 1, width),
+        masked(spread, key, 2, width),
+        masked(spread, key, 3, width),
+    ]
+}
+
 #[tactic(auto, unfolding(crate::specs::Columns::mix))]
 fn mix(z: u64) -> u64
     ensures { result ≡ mix_of z }
@@ -53,40 +87,6 @@ fn divided(spread: Spread, key: Key, row: u32, width: u32) -> u32
         Spread::Plain => (key % width + row as u64 * (key / width % width)) % width,
     };
     at as u32
-}
-
-/// The column of a key in a row, of 1 to 2^23 columns. A sketch has the rows 0 to 3; the rows 4 to 6 are there for
-/// the probes of a doorkeeper.
-///
-/// The mixed spread mixes the key and its row by the finalizer of SplitMix64; the plain one takes the key's remainder
-/// and steps on by the remainder of its quotient.
-pub fn column(spread: Spread, key: Key, row: u32, width: u32) -> u32
-    requires row { row < 7 }
-    requires some { 1 ≤ width }
-    requires few { width ≤ 2 ^ 23 }
-    ensures value { result ≡ column_of spread key row width }
-    ensures below { result < width }
-{
-    if width.is_power_of_two() {
-        masked(spread, key, row, width)
-    } else {
-        divided(spread, key, row, width)
-    }
-}
-
-/// A key's columns in the rows 0 to 3, where the width is a power of two.
-pub fn columns(spread: Spread, key: Key, width: u32) -> [u32; 4]
-    requires power { IsPowerOfTwo width }
-    requires few { width ≤ 2 ^ 23 }
-    ensures value { result ≡ by_place 4 (λ row. column_of spread key row width) }
-    ensures below { (row : ℕ) → row < 4 → slice_index result row < width }
-{
-    [
-        masked(spread, key, 0, width),
-        masked(spread, key, 1, width),
-        masked(spread, key, 2, width),
-        masked(spread, key, 3, width),
-    ]
 }
 
 #[cfg(test)]

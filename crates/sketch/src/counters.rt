@@ -12,7 +12,7 @@ pub fn get(words: &[u64], at: usize) -> u32
     ((word >> (4 * (at % 16))) & 15) as u32
 }
 
-/// Raises the counter at a place, unless it is 15, and hands out what it was.
+/// Raises the counter at a place, unless it is 15, and returns what it was.
 pub fn raise(words: &mut [u64], at: usize) -> u32
     requires { at < 16 * length words.old }
     ensures was { result ≡ counter_at words.old at }

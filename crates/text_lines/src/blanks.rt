@@ -2,6 +2,20 @@
 ghost use Rattle.std.specs.Prelude.{◌≡◌};
 ghost use Rattle.text_lines.specs.Blanks.{is_blank, trimmed_text, without_back};
 
+/// The line without the blanks at its ends.
+pub fn trimmed(line: &[u8]) -> &[u8]
+    ensures { result.now ≡ trimmed_text line.now }
+{
+    let mut rest = line;
+    'front: while let [first, tail @ ..] = rest {
+        if !is_blank_byte(*first) {
+            break;
+        }
+        rest = tail;
+    }
+    trimmed_back(rest)
+}
+
 fn is_blank_byte(byte: u8) -> bool
     ensures { result ≡ is_blank byte }
 {
@@ -19,18 +33,4 @@ fn trimmed_back(text: &[u8]) -> &[u8]
         end -= 1;
     }
     &text[..end]
-}
-
-/// The line without the blanks at its ends.
-pub fn trimmed(line: &[u8]) -> &[u8]
-    ensures { result.now ≡ trimmed_text line.now }
-{
-    let mut rest = line;
-    'front: while let [first, tail @ ..] = rest {
-        if !is_blank_byte(*first) {
-            break;
-        }
-        rest = tail;
-    }
-    trimmed_back(rest)
 }

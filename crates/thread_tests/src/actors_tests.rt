@@ -348,7 +348,7 @@ fn a_sweep_of_over_a_hundred_reports(rt: HostRuntime) -> Result<(), Fail> {
     Ok(())
 }
 
-// The gate is called for as many batches as are foretold: for none of Lru where its reports are read off the curve.
+// The gate is called for as many batches as were announced: for none of Lru where its reports are read off the curve.
 #[test]
 fn a_sweep_shows_its_batches(rt: HostRuntime) -> Result<(), Fail> {
     let alloc = rt.alloc();

@@ -19,36 +19,6 @@ use std::alloc::{AllocError, Global};
 use step_record::{Key, MAX_ACCESSES};
 use text_lines::place_of;
 
-// Adds the accesses of a line to those of the lines before it.
-fn add_line(format: Format, text: &[u8], line: u64, keys: &mut Vec<Key>) -> Result<(), TraceFault>
-    requires { vec_len keys.old ≤ MAX_ACCESSES }
-    ensures ok { OnOk result (IsRead format line keys.old.items text.now keys.new.items) }
-    ensures within { OnOk result (vec_len keys.new ≤ MAX_ACCESSES) }
-    ensures err { IfErr result (IsTraceRefused format line keys.old.items text.now) }
-{
-    match format {
-        Format::Lirs => add_lirs(text, line, keys),
-        Format::Arc => add_arc(text, line, keys),
-    }
-}
-
-// Reserves room for the accesses of LIRS lines of so many bytes in all. False, and no room, where they might pass
-// `MAX_ACCESSES`.
-fn reserve_for(keys: &mut Vec<Key>, bytes: usize) -> Result<bool, AllocError>
-    requires { vec_len keys.old ≤ MAX_ACCESSES }
-    ensures items { keys.new.items ≡ keys.old.items }
-    ensures len { vec_len keys.new ≡ vec_len keys.old }
-    ensures room { IfOk result (λ more. IsTrue more → HasRoom bytes (vec_len keys.new) (vec_capacity keys.new)) }
-{
-    // Each access has a digit of its own and a line feed.
-    let most = bytes / 2 + 1;
-    if most > MAX_ACCESSES - keys.len() {
-        return Ok(false);
-    }
-    keys.reserve(most)?;
-    Ok(true)
-}
-
 /// A scan of the lines of a trace file, whose bytes come in pieces. It keeps no byte but those of
 /// the line that the last piece cut in two.
 ///
@@ -124,7 +94,7 @@ impl Scan {
         Ok(Trace::new(keys))
     }
 
-    // Adds the accesses of the next line, where it ends in these bytes, and tells the place of its end.
+    // Adds the accesses of the next line, where it ends in these bytes, and returns the place of its end.
     fn end_next(&mut self, bytes: &[u8]) -> Result<Option<usize>, TraceFault>
         requires scan { IsScan self.old }
         requires lines { self.old.line + length bytes.now < 2 ^ 64 }
@@ -361,4 +331,34 @@ impl Scan {
         self.line += 1;
         Ok(())
     }
+}
+
+// Adds the accesses of a line to those of the lines before it.
+fn add_line(format: Format, text: &[u8], line: u64, keys: &mut Vec<Key>) -> Result<(), TraceFault>
+    requires { vec_len keys.old ≤ MAX_ACCESSES }
+    ensures ok { OnOk result (IsRead format line keys.old.items text.now keys.new.items) }
+    ensures within { OnOk result (vec_len keys.new ≤ MAX_ACCESSES) }
+    ensures err { IfErr result (IsTraceRefused format line keys.old.items text.now) }
+{
+    match format {
+        Format::Lirs => add_lirs(text, line, keys),
+        Format::Arc => add_arc(text, line, keys),
+    }
+}
+
+// Reserves room for the accesses of LIRS lines of so many bytes in all. False, and no room, where they might pass
+// `MAX_ACCESSES`.
+fn reserve_for(keys: &mut Vec<Key>, bytes: usize) -> Result<bool, AllocError>
+    requires { vec_len keys.old ≤ MAX_ACCESSES }
+    ensures items { keys.new.items ≡ keys.old.items }
+    ensures len { vec_len keys.new ≡ vec_len keys.old }
+    ensures room { IfOk result (λ more. IsTrue more → HasRoom bytes (vec_len keys.new) (vec_capacity keys.new)) }
+{
+    // Each access has a digit of its own and a line feed.
+    let most = bytes / 2 + 1;
+    if most > MAX_ACCESSES - keys.len() {
+        return Ok(false);
+    }
+    keys.reserve(most)?;
+    Ok(true)
 }

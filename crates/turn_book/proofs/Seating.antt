@@ -82,9 +82,9 @@ module _ {T E O : Type 0} (origin : T → O) (entries : T → List E) (by : E �
   pub gives_of : (id id' : TableId) (me put after : Me (Option T) (View T E)) (drawn n : ℕ) (o taken u : T) (t : TurnState T E) → (x : IsTurnAt id me drawn taken) → turn_in id me.0 drawn taken u ≡ t → (begun : me.0.opening ≡ Some o) → id' ≡ id
       → put ≡ (me.0, (0, Some u) ∷ rest me.1) → Passed origin entries by undone (step 0 1 1 0 maybe.none) put n after
       → IsPassAt id' after drawn × Gives origin entries by undone t (pass_in id' after.0 drawn)
-  gives_of id id' me put after drawn n o taken u t x same begun ids left told =
+  gives_of id id' me put after drawn n o taken u t x same begun ids left is_shown =
       let q : PassState T E = pass_in id me.0 drawn in
-      let y = passed_as origin entries by undone o 0 me put after drawn n u (is_turn id me drawn taken o x begun) left told in
+      let y = passed_as origin entries by undone o 0 me put after drawn n u (is_turn id me drawn taken o x begun) left is_shown in
       let gives : Gives origin entries by undone (turn_in id me.0 drawn taken u) (pass_in id' after.0 drawn) = record {
         made = y.0;
         adds = y.1;

@@ -9,7 +9,7 @@ use Rattle.step_record.specs.declared.step.Step.{Step}
 use Rattle.step_record.specs.History.{Entries}
 use Rattle.walks.specs.declared.local.Local.{Local}
 use Rattle.walks.specs.declared.next.Next.{Next}
-use Rattle.walks.specs.declared.next.Next.TheVariants as told
+use Rattle.walks.specs.declared.next.Next.TheVariants as next_act
 use Rattle.walks.specs.declared.place.Place.{Place}
 use Rattle.walks.specs.Walks.{step_of, IsWalk, AreWalks}
 use Rattle.walks.specs.Places.{Ahead, act_of_place, is_place}
@@ -29,14 +29,14 @@ starts w n p [] h = absurd (not_over w n p h)
 starts w n p (y ∷ es) h = (y.reply, es, ap (λ t. entry_of t y.reply ∷ es) (first_step w n p y es h))
 
 pub may_make : (w n : ℕ) (c : Call) (before : List Call) (own own' list list' : Entries) (next : Next) (a : Act) (l : Local) → AreWalks w n before own → Made (Completes w n c next) own own' list list'
-    → next ≡ told.Do a l → Asks w n next → is_place l.stripes l.place ≡ true → MayMake w n own' a
+    → next ≡ next_act.Do a l → Asks w n next → is_place l.stripes l.place ≡ true → MayMake w n own' a
 unfolding entry_of
 may_make w n c before own own' list list' next a l h m is asks placed =
     let f = finish l.worker l.stripes l.place placed in
     let s = starts l.worker l.stripes l.place f.0 f.1 in
     let asked = asked_of w n c next a l is asks in
     let first : f.0 ≡ entry_of (step_of w a) s.0 ∷ s.1 = s.2 ∙ ap (λ t. entry_of t s.0 ∷ s.1) (same_step w n c a l asked.0 asked.1) in
-    let all : Completes w n c (told.Do a l) m.made = subst (λ x. Completes w n c x m.made) is m.holds in
+    let all : Completes w n c (next_act.Do a l) m.made = subst (λ x. Completes w n c x m.made) is m.holds in
     let walk : IsWalk w n c (m.made ++ entry_of (step_of w a) s.0 ∷ s.1) = subst (λ es. IsWalk w n c (m.made ++ es)) first (all f.0 f.1) in
     let list : own' ++ entry_of (step_of w a) s.0 ∷ s.1 ≡ own ++ (m.made ++ entry_of (step_of w a) s.0 ∷ s.1) = ap (λ x. x ++ entry_of (step_of w a) s.0 ∷ s.1) m.entered ∙ append_assoc own m.made (entry_of (step_of w a) s.0 ∷ s.1) in
     record {

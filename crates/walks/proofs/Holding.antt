@@ -22,7 +22,7 @@ use Rattle.shell_model.proofs.Making.{Makes, MakesTo, perform-makes}
 use Rattle.shell_model.proofs.Histories.{counted_up}
 use Rattle.walks.specs.declared.local.Local.{Local}
 use Rattle.walks.specs.declared.next.Next.{Next}
-use Rattle.walks.specs.declared.next.Next.TheVariants as told
+use Rattle.walks.specs.declared.next.Next.TheVariants as next_act
 use Rattle.walks.specs.declared.place.Place.{Place}
 use Rattle.walks.specs.declared.place.Place.TheVariants as at
 use Rattle.walks.specs.Walks.{step_of, IsReading, IsWriting, IsEvicting, FollowsDrainRead, FollowsDrainWrite, FollowsEvict, FollowsEnd}
@@ -202,7 +202,7 @@ below w n at.Evict s e h = absurd (cc (e))
 below w n at.End s e h = absurd (cc (e))
 
 -- entries that complete the walk of one that is to make the act, whose read buffer is one of n
-comes : (w n : ℕ) (a : Act) (l : Local) → Asks w n (told.Do a l) → (rest : Entries) × Ahead l.worker l.stripes l.place rest × Leads w a rest × ((s : ℕ) → a ≡ act.DrainRead s → s < n)
+comes : (w n : ℕ) (a : Act) (l : Local) → Asks w n (next_act.Do a l) → (rest : Entries) × Ahead l.worker l.stripes l.place rest × Leads w a rest × ((s : ℕ) → a ≡ act.DrainRead s → s < n)
 comes w n a l asks =
     let f = finish l.worker l.stripes l.place l.placed in
     let one : Leads l.worker (act_of_place l.worker l.stripes l.place) f.0 = leads l.worker l.stripes l.place f.0 f.1 in
@@ -289,8 +289,8 @@ stripes_stay w b x y r e =
 
 read-on : (w n s j : ℕ) (x y : Shell) (r : Reply) (next : Next) → IsReady w (act.DrainRead s) x → length x.stripes ≡ n → acted x (step_of w (act.DrainRead s)) ≡ Some (r, y) → Asks w n next
     → ((es : Entries) → Left next es → AheadAfter w n (at.DrainRead s j) (Some r) es) → IsReadyFor w next y
-read-on w n s j x y r told.Done v l e asks back = absurd (past-read w n s j r [] (back [] refl).1).1
-read-on w n s j x y r (told.Do a m) v l e asks back =
+read-on w n s j x y r next_act.Done v l e asks back = absurd (past-read w n s j r [] (back [] refl).1).1
+read-on w n s j x y r (next_act.Do a m) v l e asks back =
     let t : Performs x w (act.DrainRead s) r y = performs x w (act.DrainRead s) r y e in
     let u : t.left.holder ≡ x.holder = holds-after w x (act.DrainRead s) r t.left (made-by w x (act.DrainRead s) r t.left t.is) in
     let c = comes w n a m asks in
@@ -307,8 +307,8 @@ read-on w n s j x y r (told.Do a m) v l e asks back =
 
 write-on : (w n : ℕ) (x y : Shell) (r : Reply) (next : Next) → IsReady w act.DrainWrite x → acted x (step_of w act.DrainWrite) ≡ Some (r, y) → Asks w n next
     → ((es : Entries) → Left next es → AheadAfter w n at.DrainWrite (Some r) es) → IsReadyFor w next y
-write-on w n x y r told.Done v e asks back = absurd (past-write w n r [] (back [] refl).1).1
-write-on w n x y r (told.Do a m) v e asks back =
+write-on w n x y r next_act.Done v e asks back = absurd (past-write w n r [] (back [] refl).1).1
+write-on w n x y r (next_act.Do a m) v e asks back =
     let t : Performs x w act.DrainWrite r y = performs x w act.DrainWrite r y e in
     let u : HoldsAfter act.DrainWrite x t.left = holds-after w x act.DrainWrite r t.left (made-by w x act.DrainWrite r t.left t.is) in
     let c = comes w n a m asks in
@@ -331,8 +331,8 @@ fits-end w x z h r m e f =
 
 evict-on : (w n : ℕ) (x y : Shell) (r : Reply) (next : Next) → IsReady w act.Evict x → acted x (step_of w act.Evict) ≡ Some (r, y) → Asks w n next
     → ((es : Entries) → Left next es → AheadAfter w n at.Evict (Some r) es) → IsReadyFor w next y
-evict-on w n x y r told.Done v e asks back = absurd (past-evict w n r [] (back [] refl).1).1
-evict-on w n x y r (told.Do a m) v e asks back =
+evict-on w n x y r next_act.Done v e asks back = absurd (past-evict w n r [] (back [] refl).1).1
+evict-on w n x y r (next_act.Do a m) v e asks back =
     let t : Performs x w act.Evict r y = performs x w act.Evict r y e in
     let u : HoldsAfter act.Evict x t.left = holds-after w x act.Evict r t.left (made-by w x act.Evict r t.left t.is) in
     let c = comes w n a m asks in
@@ -348,13 +348,13 @@ evict-on w n x y r (told.Do a m) v e asks back =
 
 end-on : (w n : ℕ) (x y : Shell) (r : Reply) (next : Next) → IsReady w act.End x → acted x (step_of w act.End) ≡ Some (r, y) → Asks w n next
     → ((es : Entries) → Left next es → AheadAfter w n at.End (Some r) es) → IsReadyFor w next y
-end-on w n x y r told.Done v e asks back =
+end-on w n x y r next_act.Done v e asks back =
     let t : Performs x w act.End r y = performs x w act.End r y e in
     let over : is_over x ≡ false = v.suits in
     let g : Some ((drain_at_end x.drain).0, record x { drain = (drain_at_end x.drain).1; holder = None }) ≡ Some (r, t.left) = rw (mine w x v.holder v.holds v.worker, over) at t.is in
     let one : ((drain_at_end x.drain).0, record x { drain = (drain_at_end x.drain).1; holder = None }) ≡ (r, t.left) = cc (g) in
     ap (λ (z : Shell). z.holder) t.counts ∙ sym (ap (λ (p : Reply × Shell). p.1.holder) one)
-end-on w n x y r (told.Do a m) v e asks back =
+end-on w n x y r (next_act.Do a m) v e asks back =
     let c = comes w n a m asks in
     let none : c.0 ≡ [] = past-end w n r c.0 (back c.0 c.1).1 in
     let no : Leads w a [] = subst (λ (es : Entries). Leads w a es) none c.2 in
@@ -376,29 +376,29 @@ steps_on w n at.AfterWrite x y r next v l e asks back = absurd v.suits
 steps_on w n at.Begin x y r next v l e asks back = absurd v.suits
 
 -- what is asked of the one whose next act is a
-asked : (w n : ℕ) (next : Next) (a : Act) (l : Local) → next ≡ told.Do a l → Asks w n next → Asks w n (told.Do a l)
+asked : (w n : ℕ) (next : Next) (a : Act) (l : Local) → next ≡ next_act.Do a l → Asks w n next → Asks w n (next_act.Do a l)
 asked w n next a l e h = subst (λ (x : Next). Asks w n x) e h
 
-pub ready_now : (w : ℕ) (next : Next) (a : Act) (l : Local) (x : Shell) → next ≡ told.Do a l → IsReadyFor w next x → IsReady w a x
-ready_now w next a l x e h = let v : IsReadyFor w (told.Do a l) x = subst (λ (m : Next). IsReadyFor w m x) e h in v
+pub ready_now : (w : ℕ) (next : Next) (a : Act) (l : Local) (x : Shell) → next ≡ next_act.Do a l → IsReadyFor w next x → IsReady w a x
+ready_now w next a l x e h = let v : IsReadyFor w (next_act.Do a l) x = subst (λ (m : Next). IsReadyFor w m x) e h in v
 
-step-same : (w n : ℕ) (a : Act) (l : Local) → Asks w n (told.Do a l) → step_of w a ≡ step_of l.worker (act_of_place l.worker l.stripes l.place)
+step-same : (w n : ℕ) (a : Act) (l : Local) → Asks w n (next_act.Do a l) → step_of w a ≡ step_of l.worker (act_of_place l.worker l.stripes l.place)
 step-same w n a l h = ap (λ (b : Act). step_of w b) (sym h.0) ∙ ap (λ (v : ℕ). step_of v (act_of_place l.worker l.stripes l.place)) (sym h.1)
 
 -- a loop over the rest of a round keeps that its next act is ready
-pub round_on : (w n : ℕ) (next after : Next) (a : Act) (l : Local) (x y : Shell) (r : Reply) → next ≡ told.Do a l → Asks w n next → IsReadyFor w next x → length x.stripes ≡ n
+pub round_on : (w n : ℕ) (next after : Next) (a : Act) (l : Local) (x y : Shell) (r : Reply) → next ≡ next_act.Do a l → Asks w n next → IsReadyFor w next x → length x.stripes ≡ n
     → acted x (step_of w a) ≡ Some (r, y) → Asks l.worker l.stripes after → ((es : Entries) → Left after es → AheadAfter l.worker l.stripes l.place (Some r) es) → IsReadyFor w after y
 round_on w n next after a l x y r d asks ready many e more back =
-    let h : Asks w n (told.Do a l) = asked w n next a l d asks in
+    let h : Asks w n (next_act.Do a l) = asked w n next a l d asks in
     let v : IsReady w a x = ready_now w next a l x d ready in
     let u : IsReady l.worker a x = subst (λ (m : ℕ). IsReady m a x) (sym h.1) v in
     let t : IsReady l.worker (act_of_place l.worker l.stripes l.place) x = subst (λ (b : Act). IsReady l.worker b x) (sym h.0) u in
     let f : acted x (step_of l.worker (act_of_place l.worker l.stripes l.place)) ≡ Some (r, y) = ap (acted x) (sym (step-same w n a l h)) ∙ e in
     subst (λ (m : ℕ). IsReadyFor m after y) h.1 (steps_on l.worker l.stripes l.place x y r after t (many ∙ sym h.2) f more back)
 
-pub asks_on : (w n : ℕ) (next after : Next) (a : Act) (l : Local) → next ≡ told.Do a l → Asks w n next → Asks l.worker l.stripes after → Asks w n after
+pub asks_on : (w n : ℕ) (next after : Next) (a : Act) (l : Local) → next ≡ next_act.Do a l → Asks w n next → Asks l.worker l.stripes after → Asks w n after
 asks_on w n next after a l d asks more =
-    let h : Asks w n (told.Do a l) = asked w n next a l d asks in
+    let h : Asks w n (next_act.Do a l) = asked w n next a l d asks in
     subst (λ (m : ℕ). Asks w m after) h.2 (subst (λ (v : ℕ). Asks v l.stripes after) h.1 more)
 
 -- what completes the walk, behind these entries
@@ -406,33 +406,33 @@ abbrev pub Goes : ℕ → ℕ → Place → Next → Entries → Type 0
 Goes w n p next es = (rest : Entries) → Left next rest → Ahead w n p (es ++ rest)
 
 module _ (w n : ℕ) (p : Place) where
-  pub goes_on : (v m : ℕ) (next after : Next) (a : Act) (l : Local) (r : Reply) → next ≡ told.Do a l → Asks v m next
+  pub goes_on : (v m : ℕ) (next after : Next) (a : Act) (l : Local) (r : Reply) → next ≡ next_act.Do a l → Asks v m next
       → ((rest : Entries) → Left after rest → AheadAfter l.worker l.stripes l.place (Some r) rest)
       → (es : Entries) → Goes w n p next es → Goes w n p after (es ++ record { step = step_of v a; reply = r } ∷ [])
   goes_on v m next after a l r d asks back es all rest left =
-      let h : Asks v m (told.Do a l) = asked v m next a l d asks in
+      let h : Asks v m (next_act.Do a l) = asked v m next a l d asks in
       let e : Entry Step Reply = record { step = step_of v a; reply = r } in
-      let now : Goes w n p (told.Do a l) es = subst (λ (x : Next). Goes w n p x es) d all in
+      let now : Goes w n p (next_act.Do a l) es = subst (λ (x : Next). Goes w n p x es) d all in
       let ahead : Ahead l.worker l.stripes l.place (e ∷ rest) = subst (λ (s : Step). Ahead l.worker l.stripes l.place (record { step = s; reply = r } ∷ rest)) (sym (step-same v m a l h)) (back rest left) in
       subst (λ (x : Entries). Ahead w n p x) (sym (append_assoc es (e ∷ []) rest)) (now (e ∷ rest) ahead)
 
-  pub goes_over : (next : Next) → next ≡ told.Done → (es : Entries) → Goes w n p next es → Ahead w n p es
+  pub goes_over : (next : Next) → next ≡ next_act.Done → (es : Entries) → Goes w n p next es → Ahead w n p es
   goes_over next d es all = subst (λ (x : Entries). Ahead w n p x) (append-nil es) (all [] (subst (λ (m : Next). Left m []) (sym d) refl))
 
-  pub goes_begun : (next : Next) (a : Act) (l : Local) → next ≡ told.Do a l → (es : Entries) → Goes w n p next es → (rest : Entries) × (rest ≢ []) × Ahead w n p (es ++ rest)
+  pub goes_begun : (next : Next) (a : Act) (l : Local) → next ≡ next_act.Do a l → (es : Entries) → Goes w n p next es → (rest : Entries) × (rest ≢ []) × Ahead w n p (es ++ rest)
   goes_begun next a l d es all =
       let f = finish l.worker l.stripes l.place l.placed in
-      let now : Goes w n p (told.Do a l) es = subst (λ (x : Next). Goes w n p x es) d all in
+      let now : Goes w n p (next_act.Do a l) es = subst (λ (x : Next). Goes w n p x es) d all in
       (f.0, led-some l.worker (act_of_place l.worker l.stripes l.place) f.0 (leads l.worker l.stripes l.place f.0 f.1), now f.0 f.1)
 
-pub act_asked : (w n : ℕ) (next : Next) (a : Act) (l : Local) → next ≡ told.Do a l → Asks w n next → act_of_place l.worker l.stripes l.place ≡ a
+pub act_asked : (w n : ℕ) (next : Next) (a : Act) (l : Local) → next ≡ next_act.Do a l → Asks w n next → act_of_place l.worker l.stripes l.place ≡ a
 act_asked w n next a l d h = (asked w n next a l d h).0
 
 -- the first act of the rest is the one at which the holder stands
 pub ready_start : (l : Local) (next : Next) (x : Shell) → IsReady l.worker (act_of_place l.worker l.stripes l.place) x → Asks l.worker l.stripes next
     → ((es : Entries) → Left next es → Ahead l.worker l.stripes l.place es) → IsReadyFor l.worker next x
-ready_start l told.Done x v asks back = absurd (leads l.worker l.stripes l.place [] (back [] refl))
-ready_start l (told.Do a m) x v asks back =
+ready_start l next_act.Done x v asks back = absurd (leads l.worker l.stripes l.place [] (back [] refl))
+ready_start l (next_act.Do a m) x v asks back =
     let c = comes l.worker l.stripes a m asks in
     let same : a ≡ act_of_place l.worker l.stripes l.place = one-act l.worker a (act_of_place l.worker l.stripes l.place) c.0 c.2 (leads l.worker l.stripes l.place c.0 (back c.0 c.1)) in
     subst (λ (b : Act). IsReady l.worker b x) (sym same) v

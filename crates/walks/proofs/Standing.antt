@@ -1,4 +1,4 @@
--- How far a worker is in the maintenance that it holds, told by its own steps alone.
+-- How far a worker is in the maintenance that it holds, by its own steps alone.
 use Rattle.std.proofs.Common.{◌≡◌, ℕ, ◌<◌, ◌≤◌, Bool, true, false, cond, eqb, nat_lt, Option, Some, None, [], ◌∷◌, length, refl, sym, ap, ◌∙◌, subst, arith, ◌⊎◌, inl, inr, length-set}
 use Rattle.std.proofs.lemmas.Bool.{cases_Bool, eqb-true, eq-eqb}
 use Rattle.std.proofs.lemmas.Bool.Decides.{nat_tests}
@@ -26,8 +26,8 @@ use Rattle.walks.specs.Walks.{step_of}
 use Rattle.walks.specs.Made.{entries_of}
 use Rattle.walks.proofs.Holding.{Performs, performs, fits-end, mine}
 
--- the phase of the maintenance that the worker holds, the node that it last found, and whether its last eviction told it
--- that the window fits
+-- the phase of the maintenance that the worker holds, the node that it last found, and whether its last eviction
+-- was answered that the window fits
 pub record Standing : Type 0 where
   pub at : Option Phase
   pub node : Option ℕ
@@ -57,7 +57,7 @@ abbrev pub phase_of : Option Holder → Option Phase
 phase_of None = None
 phase_of (Some h) = Some h.phase
 
--- where the worker was told that the window fits, it holds the maintenance, and the window fits
+-- where the worker was answered that the window fits, it holds the maintenance, and the window fits
 abbrev Fitting : Standing → Shell → Type 0
 Fitting s x = s.fits ≡ true → (p : Phase) × (s.at ≡ Some p) × (is_over x ≡ false)
 
@@ -219,7 +219,7 @@ other_window w v s x b r y m ne o holds fit e =
       | inr f ↦ (was.0, was.1, window_stays v x b r y m f ∙ was.2)
     ]
 
--- after an own step the worker knows that the window fits where that step told it so, or where the step is none of the
+-- after an own step the worker knows that the window fits where that step was answered so, or where the step is none of the
 -- holder's and it knew before
 abbrev Keeps : Standing → Act → Reply → Type 0
 Keeps s b r = (next_of s b r).fits ≡ true → ((b ≡ a.Evict) × (r ≡ reply.Fits)) ⊎ ((is_holding b ≡ false) × (s.fits ≡ true) × ((next_of s b r).at ≡ s.at))
@@ -243,9 +243,9 @@ keeps w s x b r y (k.again g f d e) h = absurd (cc (h))
 keeps w s x b r y made h = inr (refl, h, refl)
 
 own_window : (w : ℕ) (s : Standing) (x : Shell) (b : Act) (r : Reply) (y : Shell) → Makes w x b r y → (b ≡ a.Evict → r ≡ reply.Fits → is_over y ≡ false) → Fitting s x → Fitting (next_of s b r) y
-own_window w s x b r y m told fit e =
+own_window w s x b r y m answered fit e =
     elim (keeps w s x b r y m e) [
-      | inl g ↦ (Evictions, ap (λ (c : Act). (next_of s c r).at) g.0 ∙ ap (λ (t : Reply). (next_of s a.Evict t).at) g.1, told g.0 g.1)
+      | inl g ↦ (Evictions, ap (λ (c : Act). (next_of s c r).at) g.0 ∙ ap (λ (t : Reply). (next_of s a.Evict t).at) g.1, answered g.0 g.1)
       | inr g ↦ (let was : (p : Phase) × (s.at ≡ Some p) × (is_over x ≡ false) = fit g.1 in (was.0, g.2 ∙ was.1, window_stays w x b r y m g.0 ∙ was.2))
     ]
 

@@ -10,7 +10,7 @@ use Rattle.step_record.specs.Answers.{is_answer}
 use Rattle.step_record.specs.History.{Entries}
 use Rattle.walks.specs.declared.local.Local.{Local}
 use Rattle.walks.specs.declared.next.Next.{Next}
-use Rattle.walks.specs.declared.next.Next.TheVariants as told
+use Rattle.walks.specs.declared.next.Next.TheVariants as next_act
 use Rattle.walks.specs.Walks.{step_of, IsWalk}
 use Rattle.walks.specs.Places.{Ahead, AheadAfter, act_of_place, is_place}
 use Rattle.walks.specs.Nexts.{Left, Asks}
@@ -45,38 +45,38 @@ module _ (w : ℕ) (n : ℕ) (c : Call) where
   same_step a l h e = ap (λ x. step_of x (act_of_place l.worker l.stripes l.place)) e ∙ ap (λ x. step_of w x) h
 
   -- what is asked of the one whose next act is a
-  pub asked_of : (next : Next) (a : Act) (l : Local) → next ≡ told.Do a l → Asks w n next → Asks w n (told.Do a l)
+  pub asked_of : (next : Next) (a : Act) (l : Local) → next ≡ next_act.Do a l → Asks w n next → Asks w n (next_act.Do a l)
   asked_of next a l e h = let P : Next → Type 0 = λ x. Asks w n x in subst P e h
 
-  pub goes_on : (a : Act) (l : Local) (r : Reply) (next : Next) → Asks w n (told.Do a l)
+  pub goes_on : (a : Act) (l : Local) (r : Reply) (next : Next) → Asks w n (next_act.Do a l)
       → ((rest : Entries) → Left next rest → AheadAfter l.worker l.stripes l.place (Some r) rest)
-      → (es : Entries) → Completes (told.Do a l) es → Completes next (es ++ record { step = record { worker = w; act = a }; reply = r } ∷ [])
+      → (es : Entries) → Completes (next_act.Do a l) es → Completes next (es ++ record { step = record { worker = w; act = a }; reply = r } ∷ [])
   goes_on a l r next asks back es all rest left =
       let e : Entry Step Reply = record { step = record { worker = w; act = a }; reply = r } in
       let P : Step → Type 0 = λ s. Ahead l.worker l.stripes l.place (record { step = s; reply = r } ∷ rest) in
       let Q : Entries → Type 0 = λ x. IsWalk w n c x in
       subst Q (sym (append_assoc es (e ∷ []) rest)) (all (e ∷ rest) (subst P (same_step a l asks.0 asks.1) (back rest left)))
 
-  pub over : (next : Next) → next ≡ told.Done → (es : Entries) → Completes next es → IsWalk w n c es
+  pub over : (next : Next) → next ≡ next_act.Done → (es : Entries) → Completes next es → IsWalk w n c es
   over next d es all =
       let Q : Entries → Type 0 = λ x. IsWalk w n c x in
       let R : Next → Type 0 = λ x. Left x [] in
       subst Q (append-nil es) (all [] (subst R (sym d) refl))
 
-  begun : (a : Act) (l : Local) → is_place l.stripes l.place ≡ true → (es : Entries) → Completes (told.Do a l) es → IsUnfinished (IsWalk w n c) es
+  begun : (a : Act) (l : Local) → is_place l.stripes l.place ≡ true → (es : Entries) → Completes (next_act.Do a l) es → IsUnfinished (IsWalk w n c) es
   begun a l h es all =
       let f : (rest : Entries) × Ahead l.worker l.stripes l.place rest = finish l.worker l.stripes l.place h in
       (f.0, λ none. not_over l.worker l.stripes l.place (subst (Ahead l.worker l.stripes l.place) none f.1), all f.0 f.1)
 
   -- a walk that stopped where the act a was to be made
-  pub stopped : (next : Next) (a : Act) (l : Local) → next ≡ told.Do a l → is_place l.stripes l.place ≡ true
+  pub stopped : (next : Next) (a : Act) (l : Local) → next ≡ next_act.Do a l → is_place l.stripes l.place ≡ true
       → (kept kept' kept'' own own' own'' : Entries) → kept'' ≡ kept' → own'' ≡ own' → Made (Completes next) kept kept' own own' → Made (IsUnfinished (IsWalk w n c)) kept kept'' own own''
   stopped next a l e h kept kept' kept'' own own' own'' k o m =
       let P : Next → Type 0 = λ x. Completes x m.made in
       record { made = m.made; entered = k ∙ m.entered; owned = o ∙ m.owned; holds = begun a l h m.made (subst P e m.holds) }
 
   -- a walk with one entry more
-  pub stepped : (next next' : Next) (a : Act) (l : Local) (r : Reply) → next ≡ told.Do a l → Asks w n next
+  pub stepped : (next next' : Next) (a : Act) (l : Local) (r : Reply) → next ≡ next_act.Do a l → Asks w n next
       → ((rest : Entries) → Left next' rest → AheadAfter l.worker l.stripes l.place (Some r) rest)
       → (kept kept1 kept2 own own1 own2 : Entries) → kept2 ≡ kept1 ++ record { step = record { worker = w; act = a }; reply = r } ∷ [] → own2 ≡ own1 ++ record { step = record { worker = w; act = a }; reply = r } ∷ []
       → Made (Completes next) kept kept1 own own1 → Made (Completes next') kept kept2 own own2

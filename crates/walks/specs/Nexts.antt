@@ -1,4 +1,4 @@
--- What a worker is told.
+-- What a worker does next.
 use Rattle.std.specs.Prelude.{◌≡◌, ℕ, []}
 use Rattle.step_record.specs.History.{Entries}
 use Rattle.walks.specs.declared.next.Next.{Next}

@@ -13,7 +13,7 @@ use Rattle.walks.specs.declared.place.Place.TheVariants as at
 use Rattle.walks.specs.Walks.{step_of, Opens, IsOffer, IsReport, IsPut, FollowsLook, FollowsRemove, IsRound}
 use Rattle.walks.specs.Walks.{IsReading, IsWriting, IsEvicting, IsEnding}
 
--- the act that a worker who stands there was told to make
+-- the act that a worker makes at that place
 abbrev pub act_of_place : ℕ → ℕ → Place → Act
 act_of_place w n (at.Look k) = act.Look k
 act_of_place w n (at.Offer i) = act.Offer (w % n) i
