@@ -4,7 +4,8 @@ use Rattle.step_record.specs.Pace.{IsPaced}
 use Rattle.admission.specs.declared.freq_record.FreqRecord.{FreqRecord}
 use Rattle.admission.specs.Shape.{Shape, IsShape}
 use Rattle.admission.specs.Eras.{halvings, age}
-use Rattle.admission.specs.Frequency.{FrequencyData, frequency_of, recorded, halves, halving_words, frequency_words}
+use Rattle.admission.specs.Frequency.{FrequencyData, frequency_of, frequency_with}
+use Rattle.admission.specs.Frequency.{halves, halving_words, frequency_words}
 use Rattle.admission.specs.Frequency.{pace_of, IsFrequency}
 use Rattle.admission.specs.FreqRecord.{frequency_record, frequency_before, FitsRecord, size_of}
 
@@ -12,16 +13,16 @@ use Rattle.admission.specs.FreqRecord.{frequency_record, frequency_before, FitsR
 abbrev pub RecordingAppends : Type 0
 RecordingAppends =
     (s : Shape) (keys : List ℕ) (key : ℕ) → IsShape s
-    → recorded key (frequency_of s keys) ≡ frequency_of s (keys ++ key ∷ [])
+    → frequency_with key (frequency_of s keys) ≡ frequency_of s (keys ++ key ∷ [])
 
 -- a record fits what recording leaves
 abbrev pub RecordsFit : Type 0
-RecordsFit = (f : FrequencyData) (key : ℕ) → IsFrequency f → FitsRecord (frequency_record key f) (recorded key f)
+RecordsFit = (f : FrequencyData) (key : ℕ) → IsFrequency f → FitsRecord (frequency_record key f) (frequency_with key f)
 
 -- and undoing it there leaves what was before
 abbrev pub RecordsUndo : Type 0
 RecordsUndo = (f : FrequencyData) (key : ℕ) → IsFrequency f
-    → frequency_before (frequency_record key f) (recorded key f) ≡ f
+    → frequency_before (frequency_record key f) (frequency_with key f) ≡ f
 
 -- a record's size, that of a halving's record stays as it is, and how the words of the halvings rises and
 -- falls by it
@@ -29,9 +30,9 @@ pub record RecordsWeigh : Type 0 where
   pub of_lists : (s : Shape) (keys : List ℕ) → halving_words (frequency_of s keys) ≡ s.width / 16 + s.size / 64
   pub size : (f : FrequencyData) (key : ℕ) → IsFrequency f
       → size_of (frequency_record key f) ≡ cond (halves f) (halving_words f) 0
-  pub same : (f : FrequencyData) (key : ℕ) → halving_words (recorded key f) ≡ halving_words f
+  pub same : (f : FrequencyData) (key : ℕ) → halving_words (frequency_with key f) ≡ halving_words f
   pub rises : (f : FrequencyData) (key : ℕ) → IsFrequency f
-      → frequency_words (recorded key f) ≡ frequency_words f + size_of (frequency_record key f)
+      → frequency_words (frequency_with key f) ≡ frequency_words f + size_of (frequency_record key f)
   pub falls : (f : FrequencyData) (r : FreqRecord) → FitsRecord r f
       → frequency_words f ≡ frequency_words (frequency_before r f) + size_of r
 
@@ -46,9 +47,9 @@ pub record CountsRecords : Type 0 where
 -- data whose tables have their lengths, with counters up to 15
 pub record AreWhole : Type 0 where
   pub every : (s : Shape) (keys : List ℕ) → IsShape s → IsFrequency (frequency_of s keys)
-  pub kept : (f : FrequencyData) (key : ℕ) → IsFrequency f → IsFrequency (recorded key f)
+  pub kept : (f : FrequencyData) (key : ℕ) → IsFrequency f → IsFrequency (frequency_with key f)
 
 -- recording a key raises the age by one, or halves it at twice the period; and the age stays below twice the period
 pub record RecordingPaces : Type 0 where
-  pub paced : (f : FrequencyData) (key : ℕ) → IsPaced (pace_of f) (pace_of (recorded key f))
-  pub young : (f : FrequencyData) (key : ℕ) → f.age < 10 * f.capacity → (recorded key f).age < 10 * f.capacity
+  pub paced : (f : FrequencyData) (key : ℕ) → IsPaced (pace_of f) (pace_of (frequency_with key f))
+  pub young : (f : FrequencyData) (key : ℕ) → f.age < 10 * f.capacity → (frequency_with key f).age < 10 * f.capacity

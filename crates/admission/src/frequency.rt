@@ -3,7 +3,7 @@ ghost use Rattle.std.specs.Prelude.{◌≡◌, ◌<◌, ◌≤◌, ◌+◌, ◌-
 ghost use Rattle.std.specs.Prelude.{IfOk, OnOk, OnErr};
 ghost use Rattle.step_record.specs.declared.limits.TheConstants.{MAX_CAPACITY};
 ghost use Rattle.admission.specs.Shape.{Shape, IsShape};
-ghost use Rattle.admission.specs.Frequency.{IsFrequencyOf, frequency_of, marked, faded, recorded, halves};
+ghost use Rattle.admission.specs.Frequency.{IsFrequencyOf, frequency_of, marked, faded, frequency_with, halves};
 ghost use Rattle.admission.specs.Frequency.{halving_words};
 ghost use Rattle.admission.specs.Frequency.{estimate as estimate_of};
 ghost use Rattle.admission.specs.FreqRecord.{frequency_record, mark_of, lost_of, frequency_before, FitsRecord};
@@ -72,7 +72,7 @@ impl Frequency {
     #[inline(always)]
     pub fn record(&mut self, key: Key) -> Result<FreqRecord, AllocError>
         requires { self.old.halvings < 2 ^ 64 - 1 }
-        ensures after { OnOk result (self.new ≡ recorded key self.old) }
+        ensures after { OnOk result (self.new ≡ frequency_with key self.old) }
         ensures record_is { IfOk result (λ r. r ≡ frequency_record key self.old) }
         ensures fits { IfOk result (λ r. FitsRecord r self.new) }
         ensures undone { IfOk result (λ r. frequency_before r self.new ≡ self.old) }

@@ -21,7 +21,7 @@ use Rattle.job_checks.specs.declared.fault.ActorFault.TheVariants as actor
 use Rattle.policy_actors.specs.Faults.{actor_fault}
 use Rattle.policy_actors.specs.Sweep.{sweep_fault}
 use Rattle.command_line.specs.Parsed.{IsAsked}
-use Rattle.command_line.specs.Program.{AreLists, Lists, called, program_app}
+use Rattle.command_line.specs.Program.{AreLists, Lists, call_words, program_app}
 use Rattle.command_line.specs.declared.arguments.Arguments.{Arguments}
 use Rattle.command_line.specs.declared.arguments.Arguments.TheVariants as asked
 use Rattle.cachesim.specs.Debugged.{KnownFiles}
@@ -105,9 +105,9 @@ IsFound (asked.Replay replay) files input fault =
 pub record IsFoundBy (words : List Text) (files : KnownFiles) (input : Option (List ℕ)) (fault : Fault) : Type 0 where
   pub lists : Lists
   pub are : AreLists lists
-  pub taken : fault_of (program_app lists) (called words) ≡ []
+  pub taken : fault_of (program_app lists) (call_words words) ≡ []
   pub arguments : Arguments
-  pub asked : IsAsked (subcommand_of (program_app lists) (called words)) arguments
+  pub asked : IsAsked (subcommand_of (program_app lists) (call_words words)) arguments
   pub found : IsFound arguments files input fault
 
 -- faults that are found before anything is written

@@ -11,7 +11,7 @@ use Rattle.trace_read.specs.Reading.{fault_in, keys_in}
 use Rattle.trace_read.specs.declared.format.Format.{Format}
 use Rattle.report.specs.Text.{reports_text}
 use Rattle.command_line.specs.Parsed.{HasOddStripes, IsIncomplete}
-use Rattle.command_line.specs.Program.{AreLists, Lists, called, program_app}
+use Rattle.command_line.specs.Program.{AreLists, Lists, call_words, program_app}
 use Rattle.command_line.specs.Program.{capacities_in, concurrent_in, config_at, config_in, format_in}
 use Rattle.command_line.specs.Program.{policies_in, policy_in, stripes_in, workers_in}
 use Rattle.cachesim.specs.Debugged.{Debugging, KnownFiles, Replaying}
@@ -115,21 +115,21 @@ RefusesWords kinds = (kind : ErrorKind) × (¬ is_help kind) × IsAmong kind kin
 pub record DoneBy (words : List Text) (files : KnownFiles) (input before after : Option (List ℕ)) : Type 0 where
   pub lists : Lists
   pub are : AreLists lists
-  pub done : ((fault_of (program_app lists) (called words) ≡ [])
-      × (Ran (subcommand_of (program_app lists) (called words)) input before after
-      ⊎ Swept (subcommand_of (program_app lists) (called words)) input before after
-      ⊎ Parted (subcommand_of (program_app lists) (called words)) input before after
-      ⊎ Drove (subcommand_of (program_app lists) (called words)) input before after
-      ⊎ Debugged files (subcommand_of (program_app lists) (called words)) input before after
-      ⊎ Replayed files (subcommand_of (program_app lists) (called words)) input before after))
-      ⊎ AsksHelp (fault_of (program_app lists) (called words))
+  pub done : ((fault_of (program_app lists) (call_words words) ≡ [])
+      × (Ran (subcommand_of (program_app lists) (call_words words)) input before after
+      ⊎ Swept (subcommand_of (program_app lists) (call_words words)) input before after
+      ⊎ Parted (subcommand_of (program_app lists) (call_words words)) input before after
+      ⊎ Drove (subcommand_of (program_app lists) (call_words words)) input before after
+      ⊎ Debugged files (subcommand_of (program_app lists) (call_words words)) input before after
+      ⊎ Replayed files (subcommand_of (program_app lists) (call_words words)) input before after))
+      ⊎ AsksHelp (fault_of (program_app lists) (call_words words))
 
 -- a usage error: clap refuses the words, or they lack a number in its range or a known policy, or their number of read
 -- buffers is not a power of two from 1 to 64
 pub record RefusedBy (words : List Text) : Type 0 where
   pub lists : Lists
   pub are : AreLists lists
-  pub refuses : RefusesWords (fault_of (program_app lists) (called words))
-      ⊎ ((fault_of (program_app lists) (called words) ≡ [])
-      × (IsIncomplete (subcommand_of (program_app lists) (called words))
-      ⊎ HasOddStripes (subcommand_of (program_app lists) (called words))))
+  pub refuses : RefusesWords (fault_of (program_app lists) (call_words words))
+      ⊎ ((fault_of (program_app lists) (call_words words) ≡ [])
+      × (IsIncomplete (subcommand_of (program_app lists) (call_words words))
+      ⊎ HasOddStripes (subcommand_of (program_app lists) (call_words words))))

@@ -5,14 +5,14 @@ use Rattle.step_record.specs.declared.stats.Stats.{Stats}
 use Rattle.clairvoyant.specs.declared.use_record.UseRecord.{UseRecord}
 use Rattle.clairvoyant.specs.Belady.{belady_residents, belady_outcome}
 use Rattle.clairvoyant.specs.RankSet.{IsTied}
-use Rattle.step_record.specs.Stats.{counted, uncounted}
+use Rattle.step_record.specs.Stats.{stats_with, stats_without}
 use Rattle.clairvoyant.specs.Clairvoyant.{ClairvoyantState, clairvoyant_at, IsBeladyReached, clairvoyant_act}
 use Rattle.clairvoyant.specs.UseRecord.{record_at, outcome_of, undone_keys, clairvoyant_undone, ClairvoyantFits}
 use Rattle.clairvoyant.proofs.Records.{outcome-is, keys-back}
 use Rattle.clairvoyant.specs.Representation.{shown, IsRepresented}
 use Rattle.clairvoyant.proofs.Reached.{reached-next, act-next, uncount-by}
 
-module _ (c : ℕ) (t : List ℕ) (s u : Stats) (o : Outcome) (lt : s.accesses < length t) (r : IsBeladyReached (shown c t s)) (is : o ≡ belady_outcome c t s.accesses) (more : u ≡ counted o s) where
+module _ (c : ℕ) (t : List ℕ) (s u : Stats) (o : Outcome) (lt : s.accesses < length t) (r : IsBeladyReached (shown c t s)) (is : o ≡ belady_outcome c t s.accesses) (more : u ≡ stats_with o s) where
   pub up : u.accesses ≡ suc s.accesses
   up = ap (λ x. x.accesses) more ∙ add-one s.accesses
 
@@ -22,7 +22,7 @@ module _ (c : ℕ) (t : List ℕ) (s u : Stats) (o : Outcome) (lt : s.accesses <
   pub next-reached : IsBeladyReached (shown c t u)
   next-reached =
       let P : Stats → Type 0 = λ x. IsBeladyReached (shown c t x) in
-      subst P (sym (more ∙ ap (λ x. counted x s) is)) (reached-next c t s lt r)
+      subst P (sym (more ∙ ap (λ x. stats_with x s) is)) (reached-next c t s lt r)
 
   pub next-keeping : (h : List Bool) → IsTied t (suc s.accesses) (belady_residents c t (suc s.accesses)) h → IsRepresented c t u h
   next-keeping h tied = record {
@@ -54,8 +54,8 @@ module _ (c : ℕ) (t : List ℕ) (s u : Stats) (o : Outcome) (lt : s.accesses <
 
     pub next-undone : clairvoyant_undone done (shown c t u) ≡ shown c t s
     next-undone =
-        ap (λ x. record { trace = t; capacity = c; residents = x; stats = uncounted (outcome_of done) u }) back
-        ∙ ap (λ x. record { trace = t; capacity = c; residents = belady_residents c t s.accesses; stats = x }) (ap (uncounted (outcome_of done)) more ∙ uncount-by (outcome_of done) o s by)
+        ap (λ x. record { trace = t; capacity = c; residents = x; stats = stats_without (outcome_of done) u }) back
+        ∙ ap (λ x. record { trace = t; capacity = c; residents = belady_residents c t s.accesses; stats = x }) (ap (stats_without (outcome_of done)) more ∙ uncount-by (outcome_of done) o s by)
 
     pub next-fits : ClairvoyantFits done (shown c t u)
     next-fits = record {

@@ -1,7 +1,7 @@
 -- The residents and what leaves.
 use Rattle.std.proofs.Common.{◌≡◌, ℕ, suc, zero, ◌<◌, ◌≤◌, true, false, cond, eqb, nat_lt, ◌⊎◌, inl, inr, List, [], ◌∷◌, length, get_or, ap, ◌∙◌, sym, refl, arith}
 use Rattle.std.proofs.lemmas.Bool.{cases_Bool, eqb-true, eq-eqb, ltb-true, ltb-false}
-use Rattle.step_record.specs.Keys.{has_key, without}
+use Rattle.step_record.specs.Keys.{has_key, keys_without}
 use Rattle.clairvoyant.specs.Keys.{residents_with, IsAscendingKeys}
 use Rattle.clairvoyant.specs.Uses.{rank, key_at}
 use Rattle.clairvoyant.specs.Belady.{leaves_first, farthest, belady_residents_after, belady_residents}
@@ -29,7 +29,7 @@ put-has x k r h =
       | inr e ↦ inr (rw (has-put x k r, e) at h)
     ]
 
-without-has : (x v : ℕ) (r : List ℕ) → has_key x (without v r) ≡ true → has_key x r ≡ true
+without-has : (x v : ℕ) (r : List ℕ) → has_key x (keys_without v r) ≡ true → has_key x r ≡ true
 without-has x v r h =
     elim (cases_Bool (eqb x v)) [
       | inl e ↦ absurd (let no : false ≡ true = rw (has-without x v r, e) at h in cc (no))

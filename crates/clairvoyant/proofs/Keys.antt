@@ -2,7 +2,7 @@
 use Rattle.std.proofs.Common.{◌≡◌, ℕ, suc, ◌<◌, ◌≤◌, Bool, true, false, cond, eqb, nat_lt, List, [], ◌∷◌, length, ap, refl, arith, inl, inr}
 use Rattle.std.proofs.lemmas.Bool.{cases_Bool, eqb-true, eqb-false, eq-eqb, ne_eqb, ltb-true, ltb-false, le-ltb, lt-ltb}
 use Rattle.std.proofs.lemmas.Bool.Decides.{nat_tests}
-use Rattle.step_record.specs.Keys.{has_key, without}
+use Rattle.step_record.specs.Keys.{has_key, keys_without}
 use Rattle.clairvoyant.specs.Keys.{residents_with, IsBelowAll, IsAscendingKeys}
 
 swap : (x y z : Bool) → cond x true (cond y true z) ≡ cond y true (cond x true z)
@@ -19,10 +19,10 @@ has-put k b (a ∷ l) =
       | inr e ↦ rw (e, has-put k b l) (swap (eqb k a) (eqb k b) (has_key k l))
     ]
 
-pub has-without : (k b : ℕ) (l : List ℕ) → has_key k (without b l) ≡ cond (eqb k b) false (has_key k l)
+pub has-without : (k b : ℕ) (l : List ℕ) → has_key k (keys_without b l) ≡ cond (eqb k b) false (has_key k l)
 has-without k b [] = elim (cases_Bool (eqb k b)) as (λ _. false ≡ cond (eqb k b) false false) [ inl e ↦ rw e refl | inr e ↦ rw e refl ]
 has-without k b (a ∷ l) =
-    elim (cases_Bool (eqb b a)) as (λ _. has_key k (cond (eqb b a) (without b l) (a ∷ without b l)) ≡ cond (eqb k b) false (cond (eqb k a) true (has_key k l))) [
+    elim (cases_Bool (eqb b a)) as (λ _. has_key k (cond (eqb b a) (keys_without b l) (a ∷ keys_without b l)) ≡ cond (eqb k b) false (cond (eqb k a) true (has_key k l))) [
       | inl e ↦ let same : b ≡ a = eqb-true b a e in rw (e, has-without k b l, same) (elim (cases_Bool (eqb k a)) as (λ _. cond (eqb k a) false (has_key k l) ≡ cond (eqb k a) false (cond (eqb k a) true (has_key k l))) [ inl f ↦ rw f refl | inr f ↦ rw f refl ])
       | inr e ↦ rw (e, has-without k b l) (elim (cases_Bool (eqb k a)) as (λ _. cond (eqb k a) true (cond (eqb k b) false (has_key k l)) ≡ cond (eqb k b) false (cond (eqb k a) true (has_key k l))) [
         | inl f ↦ let apart : eqb k b ≡ false = grind (arith, nat_tests) in rw (f, apart) refl
@@ -30,35 +30,35 @@ has-without k b (a ∷ l) =
       ])
     ]
 
-pub without-none : (k : ℕ) (l : List ℕ) → has_key k l ≡ false → without k l ≡ l
+pub without-none : (k : ℕ) (l : List ℕ) → has_key k l ≡ false → keys_without k l ≡ l
 without-none k [] h = refl
 without-none k (a ∷ l) h =
-    elim (cases_Bool (eqb k a)) as (λ _. cond (eqb k a) (without k l) (a ∷ without k l) ≡ a ∷ l) [
+    elim (cases_Bool (eqb k a)) as (λ _. cond (eqb k a) (keys_without k l) (a ∷ keys_without k l) ≡ a ∷ l) [
       | inl e ↦ absurd (let no : true ≡ false = rw e at h in cc (no))
       | inr e ↦ rw e (ap (λ t. a ∷ t) (without-none k l (rw e at h)))
     ]
 
-pub without-put : (k : ℕ) (l : List ℕ) → has_key k l ≡ false → without k (residents_with k l) ≡ l
+pub without-put : (k : ℕ) (l : List ℕ) → has_key k l ≡ false → keys_without k (residents_with k l) ≡ l
 without-put k [] h = let e : eqb k k ≡ true = eq-eqb k k refl in rw e refl
 without-put k (a ∷ l) h =
-    elim (cases_Bool (eqb k a)) as (λ _. without k (cond (nat_lt k a) (k ∷ a ∷ l) (a ∷ residents_with k l)) ≡ a ∷ l) [
+    elim (cases_Bool (eqb k a)) as (λ _. keys_without k (cond (nat_lt k a) (k ∷ a ∷ l) (a ∷ residents_with k l)) ≡ a ∷ l) [
       | inl e ↦ absurd (let no : true ≡ false = rw e at h in cc (no))
-      | inr e ↦ elim (cases_Bool (nat_lt k a)) as (λ _. without k (cond (nat_lt k a) (k ∷ a ∷ l) (a ∷ residents_with k l)) ≡ a ∷ l) [
+      | inr e ↦ elim (cases_Bool (nat_lt k a)) as (λ _. keys_without k (cond (nat_lt k a) (k ∷ a ∷ l) (a ∷ residents_with k l)) ≡ a ∷ l) [
         | inl f ↦ let s : eqb k k ≡ true = eq-eqb k k refl in rw (f, s) (without-none k (a ∷ l) h)
         | inr f ↦ rw (f, e) (ap (λ t. a ∷ t) (without-put k l (rw e at h)))
       ]
     ]
 
 -- two are taken out in any order
-pub without-swap : (a b : ℕ) (l : List ℕ) → without a (without b l) ≡ without b (without a l)
+pub without-swap : (a b : ℕ) (l : List ℕ) → keys_without a (keys_without b l) ≡ keys_without b (keys_without a l)
 without-swap a b [] = refl
 without-swap a b (x ∷ l) =
-    elim (cases_Bool (eqb b x)) as (λ _. without a (cond (eqb b x) (without b l) (x ∷ without b l)) ≡ without b (cond (eqb a x) (without a l) (x ∷ without a l))) [
-      | inl e ↦ rw e (elim (cases_Bool (eqb a x)) as (λ _. without a (without b l) ≡ without b (cond (eqb a x) (without a l) (x ∷ without a l))) [
+    elim (cases_Bool (eqb b x)) as (λ _. keys_without a (cond (eqb b x) (keys_without b l) (x ∷ keys_without b l)) ≡ keys_without b (cond (eqb a x) (keys_without a l) (x ∷ keys_without a l))) [
+      | inl e ↦ rw e (elim (cases_Bool (eqb a x)) as (λ _. keys_without a (keys_without b l) ≡ keys_without b (cond (eqb a x) (keys_without a l) (x ∷ keys_without a l))) [
         | inl f ↦ rw f (without-swap a b l)
         | inr f ↦ rw (f, e) (without-swap a b l)
       ])
-      | inr e ↦ rw e (elim (cases_Bool (eqb a x)) as (λ _. cond (eqb a x) (without a (without b l)) (x ∷ without a (without b l)) ≡ without b (cond (eqb a x) (without a l) (x ∷ without a l))) [
+      | inr e ↦ rw e (elim (cases_Bool (eqb a x)) as (λ _. cond (eqb a x) (keys_without a (keys_without b l)) (x ∷ keys_without a (keys_without b l)) ≡ keys_without b (cond (eqb a x) (keys_without a l) (x ∷ keys_without a l))) [
         | inl f ↦ rw f (without-swap a b l)
         | inr f ↦ rw (f, e) (ap (λ t. x ∷ t) (without-swap a b l))
       ])
@@ -94,18 +94,18 @@ ascending-put k (a ∷ l) s h =
       ]
     ]
 
-below-without : (a k : ℕ) (l : List ℕ) → IsBelowAll a l → IsBelowAll a (without k l)
+below-without : (a k : ℕ) (l : List ℕ) → IsBelowAll a l → IsBelowAll a (keys_without k l)
 below-without a k [] w = tt
 below-without a k (x ∷ l) w =
-    elim (cases_Bool (eqb k x)) as (λ _. IsBelowAll a (cond (eqb k x) (without k l) (x ∷ without k l))) [
+    elim (cases_Bool (eqb k x)) as (λ _. IsBelowAll a (cond (eqb k x) (keys_without k l) (x ∷ keys_without k l))) [
       | inl e ↦ rw e (below-without a k l w.1)
       | inr e ↦ rw e (w.0, below-without a k l w.1)
     ]
 
-pub ascending-without : (k : ℕ) (l : List ℕ) → IsAscendingKeys l → IsAscendingKeys (without k l)
+pub ascending-without : (k : ℕ) (l : List ℕ) → IsAscendingKeys l → IsAscendingKeys (keys_without k l)
 ascending-without k [] s = tt
 ascending-without k (a ∷ l) s =
-    elim (cases_Bool (eqb k a)) as (λ _. IsAscendingKeys (cond (eqb k a) (without k l) (a ∷ without k l))) [
+    elim (cases_Bool (eqb k a)) as (λ _. IsAscendingKeys (cond (eqb k a) (keys_without k l) (a ∷ keys_without k l))) [
       | inl e ↦ rw e (ascending-without k l s.1)
       | inr e ↦ rw e (below-without a k l s.0, ascending-without k l s.1)
     ]
@@ -123,10 +123,10 @@ below-has a k (x ∷ l) w h =
     ]
 
 -- what was taken out goes back to its place
-pub put-without : (k : ℕ) (l : List ℕ) → IsAscendingKeys l → has_key k l ≡ true → residents_with k (without k l) ≡ l
+pub put-without : (k : ℕ) (l : List ℕ) → IsAscendingKeys l → has_key k l ≡ true → residents_with k (keys_without k l) ≡ l
 put-without k [] s h = absurd (cc (h))
 put-without k (a ∷ l) s h =
-    elim (cases_Bool (eqb k a)) as (λ _. residents_with k (cond (eqb k a) (without k l) (a ∷ without k l)) ≡ a ∷ l) [
+    elim (cases_Bool (eqb k a)) as (λ _. residents_with k (cond (eqb k a) (keys_without k l) (a ∷ keys_without k l)) ≡ a ∷ l) [
       | inl e ↦
           let same : k ≡ a = eqb-true k a e in
           rw (e, same, without-none a l (below-none a l s.0)) (put-below a l s.0)
@@ -144,10 +144,10 @@ length-put k (a ∷ l) =
       | inr e ↦ rw e (ap suc (length-put k l))
     ]
 
-pub length-without : (k : ℕ) (l : List ℕ) → IsAscendingKeys l → has_key k l ≡ true → suc (length (without k l)) ≡ length l
+pub length-without : (k : ℕ) (l : List ℕ) → IsAscendingKeys l → has_key k l ≡ true → suc (length (keys_without k l)) ≡ length l
 length-without k [] s h = absurd (cc (h))
 length-without k (a ∷ l) s h =
-    elim (cases_Bool (eqb k a)) as (λ _. suc (length (cond (eqb k a) (without k l) (a ∷ without k l))) ≡ suc (length l)) [
+    elim (cases_Bool (eqb k a)) as (λ _. suc (length (cond (eqb k a) (keys_without k l) (a ∷ keys_without k l))) ≡ suc (length l)) [
       | inl e ↦ let same : k ≡ a = eqb-true k a e in rw (e, same, without-none a l (below-none a l s.0)) refl
       | inr e ↦ rw e (ap suc (length-without k l s.1 (rw e at h)))
     ]

@@ -5,9 +5,9 @@ use Rattle.std.specs.List.Sorted.{IsPermutation, IsNonDecreasing}
 use Rattle.std.proofs.lemmas.List.Sums.{sum_by-append}
 use Rattle.std.proofs.lemmas.List.Sorted.{sum_by-IsPermutation}
 use Rattle.std.proofs.lemmas.Bool.{cases_Bool, cases_eq, cases_lt, eqb-true, eq-eqb, ne_eqb, lt-ltb, le-ltb}
-use Rattle.step_record.specs.Stats.{one}
+use Rattle.step_record.specs.Stats.{one_if}
 use Rattle.step_record.specs.Keys.{has_key}
-use Rattle.rank_tree.specs.Bits.{holds}
+use Rattle.rank_tree.specs.Bits.{is_in_set}
 use Rattle.clairvoyant.specs.Keys.{IsAscendingKeys}
 use Rattle.clairvoyant.specs.Uses.{rank, key_at}
 use Rattle.clairvoyant.specs.RankSet.{IsTied, is_ranked}
@@ -19,33 +19,33 @@ use Rattle.clairvoyant.proofs.Belady.{residents-seen, residents-ascending}
 -- how often k is in a list
 abbrev pub times : ℕ → List ℕ → ℕ
 times k [] = 0
-times k (a ∷ xs) = one (eqb k a) + times k xs
+times k (a ∷ xs) = one_if (eqb k a) + times k xs
 
-times-sum : (k : ℕ) (xs : List ℕ) → times k xs ≡ sum_by (λ x. one (eqb k x)) xs
+times-sum : (k : ℕ) (xs : List ℕ) → times k xs ≡ sum_by (λ x. one_if (eqb k x)) xs
 times-sum k [] = refl
-times-sum k (a ∷ xs) = let cut = sum_by-append (λ x. one (eqb k x)) (a ∷ []) xs in let past = times-sum k xs in omega (arith, cut, past)
+times-sum k (a ∷ xs) = let cut = sum_by-append (λ x. one_if (eqb k x)) (a ∷ []) xs in let past = times-sum k xs in omega (arith, cut, past)
 
 pub times-moved : (k : ℕ) (xs ys : List ℕ) → IsPermutation xs ys → times k ys ≡ times k xs
-times-moved k xs ys p = times-sum k ys ∙ sum_by-IsPermutation (λ x. one (eqb k x)) xs ys p ∙ sym (times-sum k xs)
+times-moved k xs ys p = times-sum k ys ∙ sum_by-IsPermutation (λ x. one_if (eqb k x)) xs ys p ∙ sym (times-sum k xs)
 
-times-snoc : (k a : ℕ) (xs : List ℕ) → times k (xs ++ a ∷ []) ≡ times k xs + one (eqb k a)
+times-snoc : (k a : ℕ) (xs : List ℕ) → times k (xs ++ a ∷ []) ≡ times k xs + one_if (eqb k a)
 times-snoc k a [] = omega arith
-times-snoc k a (x ∷ xs) = let past : times k (xs ++ a ∷ []) ≡ times k xs + one (eqb k a) = times-snoc k a xs in omega (arith, past)
+times-snoc k a (x ∷ xs) = let past : times k (xs ++ a ∷ []) ≡ times k xs + one_if (eqb k a) = times-snoc k a xs in omega (arith, past)
 
-times-has : (k : ℕ) (rs : List ℕ) → IsAscendingKeys rs → times k rs ≡ one (has_key k rs)
+times-has : (k : ℕ) (rs : List ℕ) → IsAscendingKeys rs → times k rs ≡ one_if (has_key k rs)
 times-has k [] s = refl
 times-has k (a ∷ rs) s =
-    let rest : times k rs ≡ one (has_key k rs) = times-has k rs s.1 in
+    let rest : times k rs ≡ one_if (has_key k rs) = times-has k rs s.1 in
     elim (cases_Bool (eqb k a)) [
       | inl e ↦
           let same : k ≡ a = eqb-true k a e in
-          let none : times k rs ≡ 0 = rest ∙ ap one (ap (λ x. has_key x rs) same ∙ below-none a rs s.0) in
-          let here : one (eqb k a) ≡ 1 = ap one e in
-          let is : one (has_key k (a ∷ rs)) ≡ 1 = ap (λ b. one (cond b true (has_key k rs))) e in
+          let none : times k rs ≡ 0 = rest ∙ ap one_if (ap (λ x. has_key x rs) same ∙ below-none a rs s.0) in
+          let here : one_if (eqb k a) ≡ 1 = ap one_if e in
+          let is : one_if (has_key k (a ∷ rs)) ≡ 1 = ap (λ b. one_if (cond b true (has_key k rs))) e in
           omega (arith, none, here, is)
       | inr e ↦
-          let here : one (eqb k a) ≡ 0 = ap one e in
-          let is : one (has_key k (a ∷ rs)) ≡ one (has_key k rs) = ap (λ b. one (cond b true (has_key k rs))) e in
+          let here : one_if (eqb k a) ≡ 0 = ap one_if e in
+          let is : one_if (has_key k (a ∷ rs)) ≡ one_if (has_key k rs) = ap (λ b. one_if (cond b true (has_key k rs))) e in
           omega (arith, rest, here, is)
     ]
 
@@ -56,12 +56,12 @@ found k (x ∷ xs) h P all =
     elim (cases_Bool (eqb k x)) [
       | inl e ↦ subst P (sym (eqb-true k x e)) (all 0 (omega arith))
       | inr e ↦
-          let none : one (eqb k x) ≡ 0 = ap one e in
+          let none : one_if (eqb k x) ≡ 0 = ap one_if e in
           found k xs (omega (arith, h, none)) P (λ j lt. all (suc j) (omega (arith, lt)))
     ]
 
 own : (x : ℕ) (xs : List ℕ) → 0 < times x (x ∷ xs)
-own x xs = let one_there : one (eqb x x) ≡ 1 = ap one (eq-eqb x x refl) in omega (arith, one_there)
+own x xs = let one_there : one_if (eqb x x) ≡ 1 = ap one_if (eq-eqb x x refl) in omega (arith, one_there)
 
 low-sorted : (x : ℕ) (xs : List ℕ) → IsNonDecreasing (x ∷ xs) → (k : ℕ) → 0 < times k (x ∷ xs) → x ≤ k
 low-sorted x xs up k h = found k (x ∷ xs) h (λ y. x ≤ y) (λ j lt. up 0 j 0 (omega arith) lt)
@@ -73,8 +73,8 @@ low-ascending r rs s k h =
       | inr e ↦ elim (cases_Bool (has_key k rs)) [
         | inl f ↦ let above : r < k = below-has r k rs s.0 f in omega (arith, above)
         | inr f ↦
-            let none : one (eqb k r) ≡ 0 = ap one e in
-            let no : times k rs ≡ 0 = times-has k rs s.1 ∙ ap one f in
+            let none : one_if (eqb k r) ≡ 0 = ap one_if e in
+            let no : times k rs ≡ 0 = times-has k rs s.1 ∙ ap one_if f in
             absurd (omega (arith, h, none, no))
       ]
     ]
@@ -90,7 +90,7 @@ same-list (x ∷ xs) (r ∷ rs) up s e =
     let down : r ≤ x = low-ascending r rs s x (subst (λ n. 0 < n) (e x) there) in
     let high : x ≤ r = low-sorted x xs up r (subst (λ n. 0 < n) (sym (e r)) here) in
     let head : x ≡ r = omega (arith, down, high) in
-    let rest : (k : ℕ) → times k xs ≡ times k rs = λ k. (let both : one (eqb k x) + times k xs ≡ one (eqb k r) + times k rs = e k in let heads : one (eqb k x) ≡ one (eqb k r) = ap (λ y. one (eqb k y)) head in omega (arith, both, heads)) in
+    let rest : (k : ℕ) → times k xs ≡ times k rs = λ k. (let both : one_if (eqb k x) + times k xs ≡ one_if (eqb k r) + times k rs = e k in let heads : one_if (eqb k x) ≡ one_if (eqb k r) = ap (λ y. one_if (eqb k y)) head in omega (arith, both, heads)) in
     let tail : xs ≡ rs = same-list xs rs (λ i j d le lt. up (suc i) (suc j) d (omega (arith, le)) (omega (arith, lt))) s.1 rest in
     ap (λ y. y ∷ xs) head ∙ ap (λ l. r ∷ l) tail
 
@@ -125,10 +125,10 @@ module _ (t : List ℕ) (i : ℕ) (r : List ℕ) (le : i ≤ length t) (seen : (
   keyed : (q k : ℕ) → has_key k r ≡ true → rank t i k ≡ q → key_at t q ≡ k
   keyed q k there same = ap (key_at t) (sym same) ∙ (named t i k le (seen k there)).key
 
-  pub listed-start : (k : ℕ) → times k [] ≡ one (is_listed t i r 0 k)
+  pub listed-start : (k : ℕ) → times k [] ≡ one_if (is_listed t i r 0 k)
   listed-start k =
       let none : nat_lt (rank t i k) 0 ≡ false = le-ltb (rank t i k) 0 (omega arith) in
-      elim (cases_Bool (has_key k r)) as (λ _. 0 ≡ one (has_key k r && nat_lt (rank t i k) 0)) [ inl e ↦ rw (e, none) refl | inr e ↦ rw e refl ]
+      elim (cases_Bool (has_key k r)) as (λ _. 0 ≡ one_if (has_key k r && nat_lt (rank t i k) 0)) [ inl e ↦ rw (e, none) refl | inr e ↦ rw e refl ]
 
   pub listed-all : (k : ℕ) → is_listed t i r (2 * length t) k ≡ has_key k r
   listed-all k =
@@ -137,16 +137,16 @@ module _ (t : List ℕ) (i : ℕ) (r : List ℕ) (le : i ≤ length t) (seen : (
         | inr e ↦ ap (λ b. b && nat_lt (rank t i k) (2 * length t)) e ∙ sym e
       ]
 
-  module _ (h : List Bool) (tied : IsTied t i r h) (q : ℕ) (lt : q < 2 * length t) (keys : List ℕ) (all : (k : ℕ) → times k keys ≡ one (is_listed t i r q k)) where
-    pub listed-other : holds h q ≡ false → (k : ℕ) → times k keys ≡ one (is_listed t i r (q + 1) k)
+  module _ (h : List Bool) (tied : IsTied t i r h) (q : ℕ) (lt : q < 2 * length t) (keys : List ℕ) (all : (k : ℕ) → times k keys ≡ one_if (is_listed t i r q k)) where
+    pub listed-other : is_in_set h q ≡ false → (k : ℕ) → times k keys ≡ one_if (is_listed t i r (q + 1) k)
     listed-other none k =
         let apart : has_key k r ≡ true → rank t i k ≢ q = λ there same. (
         let at : key_at t q ≡ k = keyed q k there same in
         let is : is_ranked t i r q ≡ true = and-is _ _ true (ap (λ x. has_key x r) at ∙ there) (eq-eqb (rank t i (key_at t q)) q (ap (rank t i) at ∙ same)) in
         let no : true ≡ false = sym is ∙ sym (tied.ranks q lt) ∙ none in cc (no)) in
-        all k ∙ ap one (sym (unmoved q k apart))
+        all k ∙ ap one_if (sym (unmoved q k apart))
 
-    pub listed-held : (a : ℕ) → a ≡ key_at t q → holds h q ≡ true → (k : ℕ) → times k (keys ++ a ∷ []) ≡ one (is_listed t i r (q + 1) k)
+    pub listed-held : (a : ℕ) → a ≡ key_at t q → is_in_set h q ≡ true → (k : ℕ) → times k (keys ++ a ∷ []) ≡ one_if (is_listed t i r (q + 1) k)
     listed-held a named_at held k =
         let both : (has_key (key_at t q) r ≡ true) × (eqb (rank t i (key_at t q)) q ≡ true) = and-true _ _ (sym (tied.ranks q lt) ∙ held) in
         let level : rank t i (key_at t q) ≡ q = eqb-true (rank t i (key_at t q)) q both.1 in
@@ -157,18 +157,18 @@ module _ (t : List ℕ) (i : ℕ) (r : List ℕ) (le : i ≤ length t) (seen : (
               let same : rank t i k ≡ q = ap (rank t i) at ∙ level in
               let before : is_listed t i r q k ≡ false = and-is _ _ false there (le-ltb (rank t i k) q (omega (arith, same))) in
               let after : is_listed t i r (q + 1) k ≡ true = and-is _ _ true there (lt-ltb (rank t i k) (q + 1) (omega (arith, same))) in
-              let x : times k keys ≡ 0 = all k ∙ ap one before in
-              let y : one (eqb k a) ≡ 1 = ap one (eq-eqb k a e) in
-              let sum : times k keys + one (eqb k a) ≡ 1 = omega (arith, x, y) in
-              times-snoc k a keys ∙ sum ∙ sym (ap one after)
+              let x : times k keys ≡ 0 = all k ∙ ap one_if before in
+              let y : one_if (eqb k a) ≡ 1 = ap one_if (eq-eqb k a e) in
+              let sum : times k keys + one_if (eqb k a) ≡ 1 = omega (arith, x, y) in
+              times-snoc k a keys ∙ sum ∙ sym (ap one_if after)
           | inr n ↦
               let apart : has_key k r ≡ true → rank t i k ≢ q = λ there same. n (sym (keyed q k there same) ∙ sym named_at) in
-              let y : one (eqb k a) ≡ 0 = ap one (ne_eqb k a n) in
-              let sum : times k keys + one (eqb k a) ≡ times k keys = omega (arith, y) in
-              times-snoc k a keys ∙ sum ∙ all k ∙ ap one (sym (unmoved q k apart))
+              let y : one_if (eqb k a) ≡ 0 = ap one_if (ne_eqb k a n) in
+              let sum : times k keys + one_if (eqb k a) ≡ times k keys = omega (arith, y) in
+              times-snoc k a keys ∙ sum ∙ all k ∙ ap one_if (sym (unmoved q k apart))
         ]
 
-pub listed-residents : (c : ℕ) (t : List ℕ) (i : ℕ) (keys sorted : List ℕ) → i ≤ length t → ((k : ℕ) → times k keys ≡ one (is_listed t i (belady_residents c t i) (2 * length t) k)) → IsPermutation keys sorted → IsNonDecreasing sorted → sorted ≡ belady_residents c t i
+pub listed-residents : (c : ℕ) (t : List ℕ) (i : ℕ) (keys sorted : List ℕ) → i ≤ length t → ((k : ℕ) → times k keys ≡ one_if (is_listed t i (belady_residents c t i) (2 * length t) k)) → IsPermutation keys sorted → IsNonDecreasing sorted → sorted ≡ belady_residents c t i
 listed-residents c t i keys sorted le all moved up =
     let s : IsAscendingKeys (belady_residents c t i) = residents-ascending c t i in
-    same-list sorted (belady_residents c t i) up s (λ k. times-moved k keys sorted moved ∙ all k ∙ ap one (listed-all t i (belady_residents c t i) le (residents-seen c t i) k) ∙ sym (times-has k (belady_residents c t i) s))
+    same-list sorted (belady_residents c t i) up s (λ k. times-moved k keys sorted moved ∙ all k ∙ ap one_if (listed-all t i (belady_residents c t i) le (residents-seen c t i) k) ∙ sym (times-has k (belady_residents c t i) s))

@@ -4,10 +4,10 @@ use Rattle.std.proofs.lemmas.Bool.{cases_Bool, eq-eqb, ne_eqb, lt-ltb, le-ltb}
 use Rattle.step_record.specs.declared.limits.TheConstants.{MAX_ACCESSES, MAX_STEPS}
 use Rattle.step_record.specs.declared.outcome.Outcome.{Outcome}
 use Rattle.step_record.specs.declared.stats.Stats.{Stats}
-use Rattle.step_record.specs.Keys.{has_key, without}
+use Rattle.step_record.specs.Keys.{has_key, keys_without}
 use Rattle.clairvoyant.specs.Keys.{residents_with, IsAscendingKeys}
 use Rattle.clairvoyant.specs.Belady.{farthest, belady_residents_after, belady_answer, belady_departure, belady_residents, belady_outcome, belady_outcomes}
-use Rattle.step_record.specs.Stats.{is_hit, is_miss, is_eviction, is_rejection, one, counted, uncounted, IsCounted, IsSmall, stats_of}
+use Rattle.step_record.specs.Stats.{is_hit, is_miss, is_eviction, is_rejection, one_if, stats_with, stats_without, IsCounted, IsSmall, stats_of}
 use Rattle.clairvoyant.specs.Clairvoyant.{IsBeladyReached, clairvoyant_act, is_next, clairvoyant_after}
 use Rattle.clairvoyant.specs.Representation.{shown}
 use Rattle.step_record.proofs.Counting.{stats-snoc, stats-small}
@@ -19,11 +19,11 @@ outcomes-length c t zero = refl
 outcomes-length c t (suc i) = length-append (belady_outcomes c t i) (belady_outcome c t i ∷ []) ∙ (let n : length (belady_outcomes c t i) ≡ i = outcomes-length c t i in omega arith)
 
 -- the counts after one access more
-pub stats-next : (c : ℕ) (t : List ℕ) (s : Stats) → s ≡ stats_of (belady_outcomes c t s.accesses) → counted (belady_outcome c t s.accesses) s ≡ stats_of (belady_outcomes c t (s.accesses + 1))
+pub stats-next : (c : ℕ) (t : List ℕ) (s : Stats) → s ≡ stats_of (belady_outcomes c t s.accesses) → stats_with (belady_outcome c t s.accesses) s ≡ stats_of (belady_outcomes c t (s.accesses + 1))
 stats-next c t s e =
-    ap (counted (belady_outcome c t s.accesses)) e ∙ sym (stats-snoc (belady_outcomes c t s.accesses) (belady_outcome c t s.accesses)) ∙ ap (λ n. stats_of (belady_outcomes c t n)) (sym (add-one s.accesses))
+    ap (stats_with (belady_outcome c t s.accesses)) e ∙ sym (stats-snoc (belady_outcomes c t s.accesses) (belady_outcome c t s.accesses)) ∙ ap (λ n. stats_of (belady_outcomes c t n)) (sym (add-one s.accesses))
 
-pub reached-next : (c : ℕ) (t : List ℕ) (s : Stats) → s.accesses < length t → IsBeladyReached (shown c t s) → IsBeladyReached (shown c t (counted (belady_outcome c t s.accesses) s))
+pub reached-next : (c : ℕ) (t : List ℕ) (s : Stats) → s.accesses < length t → IsBeladyReached (shown c t s) → IsBeladyReached (shown c t (stats_with (belady_outcome c t s.accesses) s))
 reached-next c t s lt r = record {
   gives = ap (λ x. record { trace = t; capacity = c; residents = belady_residents c t (s.accesses + 1); stats = x }) (stats-next c t s (ap (λ d. d.stats) r.gives));
   within = omega arith;
@@ -42,16 +42,16 @@ reached-small c t s r =
 gone-both : (k v : ℕ) → (is_miss (belady_departure k v) ≡ true) × (is_eviction (belady_departure k v) ≡ true)
 gone-both k v = elim (cases_Bool (eqb k v)) as (λ _. (is_miss (belady_departure k v) ≡ true) × (is_eviction (belady_departure k v) ≡ true)) [ inl e ↦ rw e (refl, refl) | inr e ↦ rw e (refl, refl) ]
 
-served-count : (c : ℕ) (t : List ℕ) (i k : ℕ) (r : List ℕ) → IsAscendingKeys r → length (belady_residents_after c t i k r) + one (is_eviction (belady_answer c t i k r)) ≡ length r + one (is_miss (belady_answer c t i k r))
+served-count : (c : ℕ) (t : List ℕ) (i k : ℕ) (r : List ℕ) → IsAscendingKeys r → length (belady_residents_after c t i k r) + one_if (is_eviction (belady_answer c t i k r)) ≡ length r + one_if (is_miss (belady_answer c t i k r))
 served-count c t i k r s =
-    elim (cases_Bool (has_key k r)) as (λ _. length (belady_residents_after c t i k r) + one (is_eviction (belady_answer c t i k r)) ≡ length r + one (is_miss (belady_answer c t i k r))) [
+    elim (cases_Bool (has_key k r)) as (λ _. length (belady_residents_after c t i k r) + one_if (is_eviction (belady_answer c t i k r)) ≡ length r + one_if (is_miss (belady_answer c t i k r))) [
       | inl e ↦ rw e refl
-      | inr e ↦ elim (cases_Bool (nat_lt (length r) c)) as (λ _. length (belady_residents_after c t i k r) + one (is_eviction (belady_answer c t i k r)) ≡ length r + one (is_miss (belady_answer c t i k r))) [
+      | inr e ↦ elim (cases_Bool (nat_lt (length r) c)) as (λ _. length (belady_residents_after c t i k r) + one_if (is_eviction (belady_answer c t i k r)) ≡ length r + one_if (is_miss (belady_answer c t i k r))) [
         | inl f ↦ rw (e, f) (let n : length (residents_with k r) ≡ suc (length r) = length-put k r in omega arith)
         | inr f ↦
             let v : ℕ = farthest t i k r in
             let in_it : has_key v (residents_with k r) ≡ true = has-put v k r ∙ soon v k r (farthest-among t i k r) in
-            let fewer : suc (length (without v (residents_with k r))) ≡ length (residents_with k r) = length-without v (residents_with k r) (ascending-put k r s e) in_it in
+            let fewer : suc (length (keys_without v (residents_with k r))) ≡ length (residents_with k r) = length-without v (residents_with k r) (ascending-put k r s e) in_it in
             let n : length (residents_with k r) ≡ suc (length r) = length-put k r in
             let both = gone-both k v in
             rw (e, f, both.0, both.1) (omega arith)
@@ -62,10 +62,10 @@ pub held-count : (c : ℕ) (t : List ℕ) (i : ℕ) → length (belady_residents
 held-count c t zero = refl
 held-count c t (suc i) =
     let past : length (belady_residents c t i) + count_by is_eviction (belady_outcomes c t i) ≡ count_by is_miss (belady_outcomes c t i) = held-count c t i in
-    let now : length (belady_residents c t (suc i)) + one (is_eviction (belady_outcome c t i)) ≡ length (belady_residents c t i) + one (is_miss (belady_outcome c t i)) = served-count c t i (get_or t i 0) (belady_residents c t i) (residents-ascending c t i) in
-    let counts : stats_of (belady_outcomes c t (suc i)) ≡ counted (belady_outcome c t i) (stats_of (belady_outcomes c t i)) = stats-snoc (belady_outcomes c t i) (belady_outcome c t i) in
-    let evictions : count_by is_eviction (belady_outcomes c t (suc i)) ≡ count_by is_eviction (belady_outcomes c t i) + one (is_eviction (belady_outcome c t i)) = ap (λ x. x.evictions) counts in
-    let misses : count_by is_miss (belady_outcomes c t (suc i)) ≡ count_by is_miss (belady_outcomes c t i) + one (is_miss (belady_outcome c t i)) = ap (λ x. x.misses) counts in
+    let now : length (belady_residents c t (suc i)) + one_if (is_eviction (belady_outcome c t i)) ≡ length (belady_residents c t i) + one_if (is_miss (belady_outcome c t i)) = served-count c t i (get_or t i 0) (belady_residents c t i) (residents-ascending c t i) in
+    let counts : stats_of (belady_outcomes c t (suc i)) ≡ stats_with (belady_outcome c t i) (stats_of (belady_outcomes c t i)) = stats-snoc (belady_outcomes c t i) (belady_outcome c t i) in
+    let evictions : count_by is_eviction (belady_outcomes c t (suc i)) ≡ count_by is_eviction (belady_outcomes c t i) + one_if (is_eviction (belady_outcome c t i)) = ap (λ x. x.evictions) counts in
+    let misses : count_by is_miss (belady_outcomes c t (suc i)) ≡ count_by is_miss (belady_outcomes c t i) + one_if (is_miss (belady_outcome c t i)) = ap (λ x. x.misses) counts in
     omega (arith, past, now, evictions, misses)
 
 pub reached-held : (c : ℕ) (t : List ℕ) (s : Stats) → IsBeladyReached (shown c t s) → length (belady_residents c t s.accesses) + s.evictions ≡ s.misses
@@ -82,13 +82,13 @@ now-holds c t s k lt few e =
     let d : eqb k (get_or t s.accesses 0) ≡ true = eq-eqb k (get_or t s.accesses 0) e in
     rw (a, b, d) refl
 
-pub act-next : (c : ℕ) (t : List ℕ) (s : Stats) (k : ℕ) (o : Outcome) → s.accesses < length t → length t ≤ MAX_ACCESSES → k ≡ get_or t s.accesses 0 → o ≡ belady_outcome c t s.accesses → clairvoyant_act (shown c t s) k ≡ Some (o, shown c t (counted o s))
+pub act-next : (c : ℕ) (t : List ℕ) (s : Stats) (k : ℕ) (o : Outcome) → s.accesses < length t → length t ≤ MAX_ACCESSES → k ≡ get_or t s.accesses 0 → o ≡ belady_outcome c t s.accesses → clairvoyant_act (shown c t s) k ≡ Some (o, shown c t (stats_with o s))
 act-next c t s k o lt few e f =
     let yes : is_next (shown c t s) k ≡ true = now-holds c t s k lt few e in
     ap (λ b. cond b (Some (belady_answer c t s.accesses k (belady_residents c t s.accesses), clairvoyant_after (shown c t s) k)) None) yes
     ∙ ap (λ x. Some (belady_answer c t s.accesses x (belady_residents c t s.accesses), clairvoyant_after (shown c t s) x)) e
-    ∙ ap (λ n. Some (belady_outcome c t s.accesses, record { trace = t; capacity = c; residents = belady_residents c t n; stats = counted (belady_outcome c t s.accesses) s })) (sym (add-one s.accesses))
-    ∙ ap (λ x. Some (x, shown c t (counted x s))) (sym f)
+    ∙ ap (λ n. Some (belady_outcome c t s.accesses, record { trace = t; capacity = c; residents = belady_residents c t n; stats = stats_with (belady_outcome c t s.accesses) s })) (sym (add-one s.accesses))
+    ∙ ap (λ x. Some (x, shown c t (stats_with x s))) (sym f)
 
 past : (a b d : Bool) → b ≡ false → (a && (b && d)) ≡ false
 past true b d e = rw e refl
@@ -105,19 +105,19 @@ act-past c t s k le = rw (past (nat_lt s.accesses MAX_STEPS) (nat_lt s.accesses 
 pub act-other : (c : ℕ) (t : List ℕ) (s : Stats) (k : ℕ) → (get_or t s.accesses 0 ≡ k → ⊥) → clairvoyant_act (shown c t s) k ≡ None
 act-other c t s k ne = rw (other (nat_lt s.accesses MAX_STEPS) (nat_lt s.accesses (length t)) (eqb k (get_or t s.accesses 0)) (ne_eqb k (get_or t s.accesses 0) (λ h. ne (sym h)))) refl
 
-uncount : (o : Outcome) (s : Stats) → uncounted o (counted o s) ≡ s
+uncount : (o : Outcome) (s : Stats) → stats_without o (stats_with o s) ≡ s
 uncount o s =
     let a : s.accesses + 1 - 1 ≡ s.accesses = omega arith in
-    let b : s.hits + one (is_hit o) - one (is_hit o) ≡ s.hits = omega arith in
-    let d : s.misses + one (is_miss o) - one (is_miss o) ≡ s.misses = omega arith in
-    let e : s.evictions + one (is_eviction o) - one (is_eviction o) ≡ s.evictions = omega arith in
-    let f : s.rejections + one (is_rejection o) - one (is_rejection o) ≡ s.rejections = omega arith in
+    let b : s.hits + one_if (is_hit o) - one_if (is_hit o) ≡ s.hits = omega arith in
+    let d : s.misses + one_if (is_miss o) - one_if (is_miss o) ≡ s.misses = omega arith in
+    let e : s.evictions + one_if (is_eviction o) - one_if (is_eviction o) ≡ s.evictions = omega arith in
+    let f : s.rejections + one_if (is_rejection o) - one_if (is_rejection o) ≡ s.rejections = omega arith in
     rw (a, b, d, e, f) refl
 
-pub uncount-by : (p o : Outcome) (s : Stats) → p ≡ o → uncounted p (counted o s) ≡ s
-uncount-by p o s e = ap (λ x. uncounted x (counted o s)) e ∙ uncount o s
+pub uncount-by : (p o : Outcome) (s : Stats) → p ≡ o → stats_without p (stats_with o s) ≡ s
+uncount-by p o s e = ap (λ x. stats_without x (stats_with o s)) e ∙ uncount o s
 
-pub is-counted : (p o : Outcome) (s : Stats) → p ≡ o → IsCounted p (counted o s)
+pub is-counted : (p o : Outcome) (s : Stats) → p ≡ o → IsCounted p (stats_with o s)
 is-counted p o s e =
-    let r : IsCounted o (counted o s) = record { accesses = omega arith; hits = omega arith; misses = omega arith; evictions = omega arith; rejections = omega arith } in
-    let P : Outcome → Type 0 = λ x. IsCounted x (counted o s) in subst P (sym e) r
+    let r : IsCounted o (stats_with o s) = record { accesses = omega arith; hits = omega arith; misses = omega arith; evictions = omega arith; rejections = omega arith } in
+    let P : Outcome → Type 0 = λ x. IsCounted x (stats_with o s) in subst P (sym e) r

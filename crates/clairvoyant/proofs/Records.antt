@@ -1,7 +1,7 @@
 -- What the record of an access says of it, and how it leads back.
 use Rattle.std.proofs.Common.{◌≡◌, ℕ, suc, ◌<◌, ◌≤◌, ◌⊎◌, inl, inr, true, false, eqb, nat_lt, List, length, get_or, ap, ◌∙◌, sym, subst, refl}
 use Rattle.std.proofs.lemmas.Bool.{cases_Bool, eqb-true, eqb-false, ltb-true, ltb-false, lt-ltb, le-ltb, eq-eqb}
-use Rattle.step_record.specs.Keys.{has_key, without}
+use Rattle.step_record.specs.Keys.{has_key, keys_without}
 use Rattle.clairvoyant.specs.declared.use_record.Gone.{Gone}
 use Rattle.clairvoyant.specs.declared.use_record.UseRecord.{UseRecord}
 use Rattle.clairvoyant.specs.declared.use_record.UseRecord.TheVariants.{Hit, Kept, Evicted, Rejected}
@@ -170,12 +170,12 @@ module _ (c : ℕ) (t : List ℕ) (i : ℕ) where
         | inl w ↦ ap (λ x. undone_keys x (get_or t i 0) (belady_residents c t (suc i))) w.is ∙ served-hit c t i (get_or t i 0) (belady_residents c t i) w.hit
         | inr w1 ↦ elim w1 [
           | inl w ↦ ap (λ x. undone_keys x (get_or t i 0) (belady_residents c t (suc i))) w.is
-              ∙ ap (without (get_or t i 0)) (served-kept c t i (get_or t i 0) (belady_residents c t i) w.miss w.room) ∙ without-put (get_or t i 0) (belady_residents c t i) w.miss
+              ∙ ap (keys_without (get_or t i 0)) (served-kept c t i (get_or t i 0) (belady_residents c t i) w.miss w.room) ∙ without-put (get_or t i 0) (belady_residents c t i) w.miss
           | inr w2 ↦ elim w2 [
             | inl w ↦ ap (λ x. undone_keys x (get_or t i 0) (belady_residents c t (suc i))) w.is
                 ∙ served-full c t i (get_or t i 0) (belady_residents c t i) (get_or t i 0) w.miss w.full w.goes ∙ without-put (get_or t i 0) (belady_residents c t i) w.miss
             | inr w ↦ ap (λ x. undone_keys x (get_or t i 0) (belady_residents c t (suc i))) w.is
-                ∙ ap (λ l. residents_with (farthest t i (get_or t i 0) (belady_residents c t i)) (without (get_or t i 0) l)) (served-full c t i (get_or t i 0) (belady_residents c t i) (farthest t i (get_or t i 0) (belady_residents c t i)) w.miss w.full refl)
+                ∙ ap (λ l. residents_with (farthest t i (get_or t i 0) (belady_residents c t i)) (keys_without (get_or t i 0) l)) (served-full c t i (get_or t i 0) (belady_residents c t i) (farthest t i (get_or t i 0) (belady_residents c t i)) w.miss w.full refl)
                 ∙ evicted-back (get_or t i 0) (farthest t i (get_or t i 0) (belady_residents c t i)) (belady_residents c t i) (residents-ascending c t i) w.miss (was-in (farthest t i (get_or t i 0) (belady_residents c t i)) refl w.differs)
           ]
         ]

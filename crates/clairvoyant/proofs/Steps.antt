@@ -2,7 +2,7 @@
 use Rattle.std.proofs.Common.{◌≡◌, ℕ, suc, ◌-◌, ◌*◌, ◌<◌, Bool, true, false, cond, ◌&&◌, eqb, nat_lt, inl, inr, List, length, get_or, ap, ◌∙◌, sym, refl, arith}
 use Rattle.std.proofs.lemmas.Bool.{cases_Bool, eqb-true, eqb-false, eq-eqb, ne_eqb, le-ltb}
 use Rattle.std.proofs.lemmas.Bool.Decides.{nat_tests}
-use Rattle.step_record.specs.Keys.{has_key, without}
+use Rattle.step_record.specs.Keys.{has_key, keys_without}
 use Rattle.clairvoyant.specs.Keys.{residents_with}
 use Rattle.clairvoyant.specs.Uses.{rank, key_at}
 use Rattle.clairvoyant.specs.RankSet.{is_ranked}
@@ -104,18 +104,18 @@ module _ (t : List ℕ) (i : ℕ) (lt : i < length t) (r : List ℕ) where
       vk : eqb (get_or t i 0) v ≡ false
       vk = ne_eqb (get_or t i 0) v (λ h. let no : true ≡ false = sym there ∙ ap (λ x. has_key x r) (sym h) ∙ none in cc (no))
 
-      came : has_key (get_or t i 0) (without v (residents_with (get_or t i 0) r)) ≡ true
+      came : has_key (get_or t i 0) (keys_without v (residents_with (get_or t i 0) r)) ≡ true
       came = has-without (get_or t i 0) v (residents_with (get_or t i 0) r) ∙ ap (λ b. cond b false (has_key (get_or t i 0) (residents_with (get_or t i 0) r))) vk ∙ put-own
 
-      left : has_key v (without v (residents_with (get_or t i 0) r)) ≡ false
+      left : has_key v (keys_without v (residents_with (get_or t i 0) r)) ≡ false
       left = has-without v v (residents_with (get_or t i 0) r) ∙ ap (λ b. cond b false (has_key v (residents_with (get_or t i 0) r))) (same v)
 
-      pub step-evicted : (q : ℕ) → is_ranked t (suc i) (without v (residents_with (get_or t i 0) r)) q ≡ cond (eqb q (rank t (suc i) (get_or t i 0))) true (cond (eqb q m) false (is_ranked t i r q))
+      pub step-evicted : (q : ℕ) → is_ranked t (suc i) (keys_without v (residents_with (get_or t i 0) r)) q ≡ cond (eqb q (rank t (suc i) (get_or t i 0))) true (cond (eqb q m) false (is_ranked t i r q))
       step-evicted q =
           elim (cases_Bool (eqb (key_at t q) (get_or t i 0))) [
             | inl e ↦
                 let k : key_at t q ≡ get_or t i 0 = eqb-true (key_at t q) (get_or t i 0) e in
-                in-new t i (without v (residents_with (get_or t i 0) r)) q k ∙ and-of (has_key (get_or t i 0) (without v (residents_with (get_or t i 0) r))) (eqb (rank t (suc i) (get_or t i 0)) q) true came
+                in-new t i (keys_without v (residents_with (get_or t i 0) r)) q k ∙ and-of (has_key (get_or t i 0) (keys_without v (residents_with (get_or t i 0) r))) (eqb (rank t (suc i) (get_or t i 0)) q) true came
                 ∙ came-plain q (rank t (suc i) (get_or t i 0)) m
                 ∙ ap (λ z. cond (eqb q (rank t (suc i) (get_or t i 0))) true (cond (eqb q m) false z)) (sym (not-in q k))
             | inr e ↦
@@ -123,12 +123,12 @@ module _ (t : List ℕ) (i : ℕ) (lt : i < length t) (r : List ℕ) where
                 elim (cases_Bool (eqb (key_at t q) v)) [
                   | inl f ↦
                       let g : key_at t q ≡ v = eqb-true (key_at t q) v f in
-                      is-at t (suc i) (without v (residents_with (get_or t i 0) r)) q v g ∙ and-of (has_key v (without v (residents_with (get_or t i 0) r))) (eqb (rank t (suc i) v) q) false left
+                      is-at t (suc i) (keys_without v (residents_with (get_or t i 0) r)) q v g ∙ and-of (has_key v (keys_without v (residents_with (get_or t i 0) r))) (eqb (rank t (suc i) v) q) false left
                       ∙ left-plain q m
                       ∙ ap (λ z. cond (eqb q m) false z) (sym (is-at t i r q v g ∙ and-of (has_key v r) (eqb (rank t i v) q) true there ∙ ap (λ n. eqb n q) ranked))
                       ∙ sym (ap (λ b. cond b true (cond (eqb q m) false (is_ranked t i r q))) new)
                   | inr f ↦
-                      in-other t i r (without v (residents_with (get_or t i 0) r)) q lt e
+                      in-other t i r (keys_without v (residents_with (get_or t i 0) r)) q lt e
                       (has-without (key_at t q) v (residents_with (get_or t i 0) r) ∙ ap (λ b. cond b false (has_key (key_at t q) (residents_with (get_or t i 0) r))) f ∙ has-put (key_at t q) (get_or t i 0) r ∙ ap (λ b. cond b true (has_key (key_at t q) r)) e)
                       ∙ skip (eqb q (rank t (suc i) (get_or t i 0))) (eqb q m) (is_ranked t i r q) new (apart t q m v f key)
                 ]

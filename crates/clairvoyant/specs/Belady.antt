@@ -3,7 +3,7 @@ use Rattle.std.specs.Prelude.{ℕ, zero, suc, nat_lt, Bool, true, false, cond, e
 use Rattle.std.specs.Prelude.{List, [], ◌∷◌, ◌++◌, length, slice_index}
 use Rattle.step_record.specs.declared.outcome.Outcome.{Outcome}
 use Rattle.step_record.specs.declared.outcome.Outcome.TheVariants.{Hit, Kept, Evicted, Rejected}
-use Rattle.step_record.specs.Keys.{has_key, without}
+use Rattle.step_record.specs.Keys.{has_key, keys_without}
 use Rattle.clairvoyant.specs.Keys.{residents_with}
 use Rattle.clairvoyant.specs.Uses.{next, last_use}
 
@@ -27,7 +27,7 @@ farthest t i b (a ∷ xs) = farthest t i (cond (leaves_first t i a b) a b) xs
 abbrev pub belady_residents_after : ℕ → List ℕ → ℕ → ℕ → List ℕ → List ℕ
 belady_residents_after c t i k r =
     cond (has_key k r) r
-    (cond (nat_lt (length r) c) (residents_with k r) (without (farthest t i k r) (residents_with k r)))
+    (cond (nat_lt (length r) c) (residents_with k r) (keys_without (farthest t i k r) (residents_with k r)))
 
 -- the outcome where k came and v left
 abbrev pub belady_departure : ℕ → ℕ → Outcome

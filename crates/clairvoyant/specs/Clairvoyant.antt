@@ -4,7 +4,7 @@ use Rattle.std.specs.Prelude.{List, length, slice_index}
 use Rattle.step_record.specs.declared.limits.TheConstants.{MAX_ACCESSES, MAX_STEPS}
 use Rattle.step_record.specs.declared.outcome.Outcome.{Outcome}
 use Rattle.step_record.specs.declared.stats.Stats.{Stats}
-use Rattle.step_record.specs.Stats.{stats_of, counted}
+use Rattle.step_record.specs.Stats.{stats_of, stats_with}
 use Rattle.clairvoyant.specs.Belady.{belady_residents_after, belady_answer, belady_residents, belady_outcomes}
 
 pub record ClairvoyantState : Type 0 where
@@ -36,7 +36,7 @@ clairvoyant_after d k = record {
   trace = d.trace;
   capacity = d.capacity;
   residents = belady_residents_after d.capacity d.trace d.stats.accesses k d.residents;
-  stats = counted (belady_answer d.capacity d.trace d.stats.accesses k d.residents) d.stats;
+  stats = stats_with (belady_answer d.capacity d.trace d.stats.accesses k d.residents) d.stats;
 }
 
 abbrev pub clairvoyant_act : ClairvoyantState → ℕ → Option (Outcome × ClairvoyantState)

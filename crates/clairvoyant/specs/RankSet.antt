@@ -1,6 +1,6 @@
 -- The residents as the set of their ranks.
 use Rattle.std.specs.Prelude.{◌≡◌, ℕ, ◌*◌, ◌<◌, Bool, eqb, ◌&&◌, List, length}
-use Rattle.rank_tree.specs.Bits.{holds}
+use Rattle.rank_tree.specs.Bits.{is_in_set}
 use Rattle.step_record.specs.Keys.{has_key}
 use Rattle.clairvoyant.specs.Uses.{rank, key_at}
 
@@ -11,4 +11,4 @@ is_ranked t i r q = has_key (key_at t q) r && eqb (rank t i (key_at t q)) q
 -- the numbers held are the ranks of the keys r
 pub record IsTied (t : List ℕ) (i : ℕ) (r : List ℕ) (h : List Bool) : Type 0 where
   pub size : length h ≡ 2 * length t
-  pub ranks : (q : ℕ) → q < 2 * length t → holds h q ≡ is_ranked t i r q
+  pub ranks : (q : ℕ) → q < 2 * length t → is_in_set h q ≡ is_ranked t i r q

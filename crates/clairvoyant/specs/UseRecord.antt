@@ -2,8 +2,8 @@
 use Rattle.std.specs.Prelude.{◌≡◌, ℕ, suc, ◌-◌, ◌≤◌, nat_lt, cond, eqb, List, length, slice_index}
 use Rattle.step_record.specs.declared.outcome.Outcome.{Outcome}
 use Rattle.step_record.specs.declared.outcome.Outcome.TheVariants as outcome
-use Rattle.step_record.specs.Stats.{uncounted}
-use Rattle.step_record.specs.Keys.{has_key, without}
+use Rattle.step_record.specs.Stats.{stats_without}
+use Rattle.step_record.specs.Keys.{has_key, keys_without}
 use Rattle.clairvoyant.specs.declared.use_record.UseRecord.{UseRecord}
 use Rattle.clairvoyant.specs.declared.use_record.UseRecord.TheVariants.{Hit, Kept, Evicted, Rejected}
 use Rattle.clairvoyant.specs.Keys.{residents_with}
@@ -33,8 +33,8 @@ outcome_of (Rejected k) = outcome.Rejected k
 -- the residents before an access to k, from those after it
 abbrev pub undone_keys : UseRecord → ℕ → List ℕ → List ℕ
 undone_keys Hit k l = l
-undone_keys Kept k l = without k l
-undone_keys (Evicted g) k l = residents_with g.key (without k l)
+undone_keys Kept k l = keys_without k l
+undone_keys (Evicted g) k l = residents_with g.key (keys_without k l)
 undone_keys (Rejected j) k l = l
 
 abbrev pub clairvoyant_undone : UseRecord → ClairvoyantState → ClairvoyantState
@@ -42,7 +42,7 @@ clairvoyant_undone r d = record {
   trace = d.trace;
   capacity = d.capacity;
   residents = undone_keys r (slice_index d.trace (d.stats.accesses - 1)) d.residents;
-  stats = uncounted (outcome_of r) d.stats;
+  stats = stats_without (outcome_of r) d.stats;
 }
 
 -- the record is that of the last access

@@ -146,7 +146,7 @@ impl Engine for Clairvoyant {
     ghost use Rattle.clairvoyant.specs.Clairvoyant.{clairvoyant_at, clairvoyant_act};
     ghost use Rattle.clairvoyant.specs.UseRecord.{clairvoyant_undone, ClairvoyantFits};
     ghost use Rattle.clairvoyant.specs.StepCount.{act_counts, act_ends};
-    ghost use Rattle.step_record.specs.Pace.{still, still-paced};
+    ghost use Rattle.step_record.specs.Pace.{pace_without_sketch, still-paced};
 
     type Step = Key;
 
@@ -171,7 +171,7 @@ impl Engine for Clairvoyant {
 
     ghost words_of = { λ r. 0 };
 
-    ghost pace = { λ d. still };
+    ghost pace = { λ d. pace_without_sketch };
 
     fn apply(&mut self, step: &Key) -> Result<(Outcome, UseRecord), StepFault>
         ensures accepted { IfOk result (λ r. clairvoyant_act self.old step.now ≡ Some (r.0, self.new)) }

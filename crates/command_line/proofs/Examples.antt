@@ -12,7 +12,7 @@ use Rattle.step_record.specs.declared.config.Spread.TheVariants.{Mixed}
 use Rattle.trace_read.specs.declared.format.Format.{Format}
 use Rattle.trace_read.specs.declared.format.Format.TheVariants.{Lirs}
 use Rattle.command_line.specs.Choices.{format_words, policy_words, spread_words}
-use Rattle.command_line.specs.Program.{Lists, called, config_in, config_of, format_in, policies_in, program_app}
+use Rattle.command_line.specs.Program.{Lists, call_words, config_in, config_of, format_in, policies_in, program_app}
 
 abbrev at : List ℕ → Bor (List ℕ)
 at text = record { ref_ptr = (0, 0); now = text }
@@ -27,29 +27,29 @@ names = record {
 abbrev words : List Text
 words = codes "run" ∷ codes "--capacity" ∷ codes "3" ∷ codes "--main" ∷ codes "50" ∷ codes "wtinylfu" ∷ codes "lru" ∷ []
 
-taken : fault_of (program_app names) (called words) ≡ []
+taken : fault_of (program_app names) (call_words words) ≡ []
 unfolding clap_on_literals
 taken = refl
 
 abbrev shown : Text × List Row → Text × Option Config × Option (List Policy) × Format
 shown p = (p.0, config_in p.1, policies_in p.1, format_in p.1)
 
-named : option_map shown (subcommand_of (program_app names) (called words)) ≡ Some (codes "run", Some (config_of 3 50 Mixed), Some (WindowTinyLfu ∷ Lru ∷ []), Lirs)
+named : option_map shown (subcommand_of (program_app names) (call_words words)) ≡ Some (codes "run", Some (config_of 3 50 Mixed), Some (WindowTinyLfu ∷ Lru ∷ []), Lirs)
 unfolding clap_on_literals lib.Count.ones
 named = refl
 
-helped : fault_of (program_app names) (called (codes "run" ∷ codes "--help" ∷ [])) ≡ kind.DisplayHelp ∷ []
+helped : fault_of (program_app names) (call_words (codes "run" ∷ codes "--help" ∷ [])) ≡ kind.DisplayHelp ∷ []
 unfolding clap_on_literals
 helped = refl
 
-versioned : fault_of (program_app names) (called (codes "--version" ∷ [])) ≡ kind.DisplayVersion ∷ []
+versioned : fault_of (program_app names) (call_words (codes "--version" ∷ [])) ≡ kind.DisplayVersion ∷ []
 unfolding clap_on_literals
 versioned = refl
 
-refused : fault_of (program_app names) (called (codes "run" ∷ codes "--capacity" ∷ codes "0" ∷ codes "lru" ∷ [])) ≡ kind.ValueValidation ∷ []
+refused : fault_of (program_app names) (call_words (codes "run" ∷ codes "--capacity" ∷ codes "0" ∷ codes "lru" ∷ [])) ≡ kind.ValueValidation ∷ []
 unfolding clap_on_literals
 refused = refl
 
-mistaken : fault_of (program_app names) (called (codes "run" ∷ codes "--capacity" ∷ codes "3" ∷ codes "mru" ∷ [])) ≡ kind.InvalidValue ∷ []
+mistaken : fault_of (program_app names) (call_words (codes "run" ∷ codes "--capacity" ∷ codes "3" ∷ codes "mru" ∷ [])) ≡ kind.InvalidValue ∷ []
 unfolding clap_on_literals
 mistaken = refl

@@ -5,7 +5,7 @@ use Rattle.clap.specs.Words.{App, HasKind, Text, fault_of, subcommand_of, subcom
 use Rattle.clap.specs.declared.Error.{Error}
 use Rattle.clap.specs.declared.ArgMatches.{ArgMatches}
 use Rattle.command_line.specs.Parsed.{HasOddStripes, IsAsked, IsIncomplete, IsLacking, ParsedBy}
-use Rattle.command_line.specs.Program.{AreLists, Lists, called, program_app}
+use Rattle.command_line.specs.Program.{AreLists, Lists, call_words, program_app}
 use Rattle.command_line.specs.declared.arguments.Arguments.{Arguments}
 use Rattle.command_line.specs.declared.fault.ParseFault.{ParseFault}
 use Rattle.command_line.specs.declared.fault.ParseFault.TheVariants.{OutOfMemory, Refused, Incomplete, Stripes}
@@ -15,21 +15,21 @@ module _ (lists : Lists) (are : AreLists lists) (words : List Text) where
   out_of_memory (Ok a) h = absurd h
   out_of_memory (Err f) h = record { lists = lists; are = are; gives = rw h tt }
 
-  module _ (a : App) (args : List Text) (is : a ≡ program_app lists) (texts : args ≡ called words) where
+  module _ (a : App) (args : List Text) (is : a ≡ program_app lists) (texts : args ≡ call_words words) where
     pub refused : (e : Error) → HasKind (fault_of a args) e → (r : Result Arguments ParseFault) → IsErrAnd r (λ f. f ≡ Refused e) → ParsedBy words r
     refused e h (Ok x) g = absurd g
     refused e h (Err f) g = record {
       lists = lists;
       are = are;
-      gives = rw g (subst (λ (p : App). HasKind (fault_of p (called words)) e) is (subst (λ (t : List Text). HasKind (fault_of a t) e) texts h));
+      gives = rw g (subst (λ (p : App). HasKind (fault_of p (call_words words)) e) is (subst (λ (t : List Text). HasKind (fault_of a t) e) texts h));
     }
 
-    free : fault_of a args ≡ [] → fault_of (program_app lists) (called words) ≡ []
-    free h = subst (λ (p : App). fault_of p (called words) ≡ []) is (subst (λ (t : List Text). fault_of a t ≡ []) texts h)
+    free : fault_of a args ≡ [] → fault_of (program_app lists) (call_words words) ≡ []
+    free h = subst (λ (p : App). fault_of p (call_words words) ≡ []) is (subst (λ (t : List Text). fault_of a t ≡ []) texts h)
 
     module _ (m : ArgMatches) (taken : fault_of a args ≡ []) (rows : subcommand_rows_of m ≡ subcommand_of a args) where
-      rows_are : subcommand_rows_of m ≡ subcommand_of (program_app lists) (called words)
-      rows_are = subst (λ (p : App). subcommand_rows_of m ≡ subcommand_of p (called words)) is (subst (λ (t : List Text). subcommand_rows_of m ≡ subcommand_of a t) texts rows)
+      rows_are : subcommand_rows_of m ≡ subcommand_of (program_app lists) (call_words words)
+      rows_are = subst (λ (p : App). subcommand_rows_of m ≡ subcommand_of p (call_words words)) is (subst (λ (t : List Text). subcommand_rows_of m ≡ subcommand_of a t) texts rows)
 
       pub ended : (r : Result Arguments ParseFault) → MatchResult r (IsAsked (subcommand_rows_of m)) (IsLacking (subcommand_rows_of m)) → ParsedBy words r
       ended (Ok x) h = record {

@@ -3,7 +3,7 @@ use Rattle.std.specs.Prelude.{◌≡◌, ◌⊎◌, ⊤, ℕ, List, [], Option, 
 use Rattle.std.specs.Prelude.{string_bytes}
 use Rattle.clap.specs.Words.{HasKind, Row, Text, fault_of, first_of, subcommand_of}
 use Rattle.step_record.specs.Config.{config_fault}
-use Rattle.command_line.specs.Program.{AreLists, Lists, called, program_app}
+use Rattle.command_line.specs.Program.{AreLists, Lists, call_words, program_app}
 use Rattle.command_line.specs.Program.{batch_in, capacities_in, concurrent_in, config_at, config_in, format_in}
 use Rattle.command_line.specs.Program.{policies_in, policy_in, stripes_in, workers_in}
 use Rattle.command_line.specs.declared.arguments.Arguments.{Arguments}
@@ -147,16 +147,16 @@ IsLacking subcommand fault.Incomplete = IsIncomplete subcommand
 abbrev pub IsFaultOf : Lists → List Text → ParseFault → Type 0
 IsFaultOf lists words fault.OutOfMemory = ⊤
 IsFaultOf lists words (fault.Refused error) =
-    HasKind (fault_of (program_app lists) (called words)) error
-IsFaultOf lists words fault.Incomplete = (fault_of (program_app lists) (called words) ≡ [])
-    × IsIncomplete (subcommand_of (program_app lists) (called words))
-IsFaultOf lists words fault.Stripes = (fault_of (program_app lists) (called words) ≡ [])
-    × HasOddStripes (subcommand_of (program_app lists) (called words))
+    HasKind (fault_of (program_app lists) (call_words words)) error
+IsFaultOf lists words fault.Incomplete = (fault_of (program_app lists) (call_words words) ≡ [])
+    × IsIncomplete (subcommand_of (program_app lists) (call_words words))
+IsFaultOf lists words fault.Stripes = (fault_of (program_app lists) (call_words words) ≡ [])
+    × HasOddStripes (subcommand_of (program_app lists) (call_words words))
 
 -- the arguments are what clap's rules make of the words, and a fault comes only where it is due
 pub record ParsedBy (words : List Text) (r : Result Arguments ParseFault) : Type 0 where
   pub lists : Lists
   pub are : AreLists lists
-  pub gives : MatchResult r (λ arguments. (fault_of (program_app lists) (called words) ≡ [])
-      × IsAsked (subcommand_of (program_app lists) (called words)) arguments)
+  pub gives : MatchResult r (λ arguments. (fault_of (program_app lists) (call_words words) ≡ [])
+      × IsAsked (subcommand_of (program_app lists) (call_words words)) arguments)
       (IsFaultOf lists words)

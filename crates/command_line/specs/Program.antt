@@ -227,8 +227,8 @@ abbrev pub Makes : {E : Type 0} → App → Result Command E → Type 0
 Makes app made = IfOk made (λ c. (app_of c ≡ app) × ((out-Command c).has_globals ≡ false))
 
 -- the words of a call: the program's name, and those after it
-abbrev pub called : List Text → List Text
-called words = codes "cachesim" ∷ words
+abbrev pub call_words : List Text → List Text
+call_words words = codes "cachesim" ∷ words
 
 -- ---- what the matches of a subcommand name
 

@@ -7,10 +7,10 @@ use Rattle.step_record.specs.declared.entry.Entry.{Entry}
 use Rattle.step_record.specs.declared.job.Job.{Job}
 use Rattle.step_record.specs.declared.outcome.Outcome.{Outcome}
 use Rattle.step_record.specs.declared.outcome.Outcome.TheVariants.{Kept}
-use Rattle.step_record.specs.History.{after, went, IsLegal}
+use Rattle.step_record.specs.History.{data_after, next_data, IsLegal}
 use Rattle.journal.specs.Session.{SessionState, IsMovedTo}
 use Rattle.policies.specs.declared.any_policy.AnyPolicy.{AnyPolicy}
-use Rattle.policies.specs.AnyPolicy.{outcomes_on, Stands}
+use Rattle.policies.specs.AnyPolicy.{outcomes_on, HasAccessed}
 use Rattle.policies.specs.AnyStep.{any_act}
 use Rattle.policies.specs.Theorems.{AnyAnswers, AnyStands}
 use Rattle.debug_policies.specs.OnePolicy.{outcome_at, steps_of, IsPolicyAt}
@@ -32,13 +32,13 @@ steps_take (suc n) (e ∷ es) = ap (λ t. e.step ∷ t) (steps_take n es)
 pub unmoved : (j : Job) (trace : List ℕ) (old new : State) → IsPolicyAt j trace old → new.kept ≡ old.kept → new.engine ≡ old.engine
     → new.opening ≡ old.opening → new.limit ≡ old.limit → IsPolicyAt j trace new
 unmoved j trace old new is kept engine opening limit = record {
-  opening = subst (Stands j trace []) (sym opening) is.opening;
+  opening = subst (HasAccessed j trace []) (sym opening) is.opening;
   limit = limit ∙ is.limit;
   steps = subst (λ es. steps_of es ≡ take (length es) trace) (sym kept) is.steps;
   within = subst (λ (es : List (Entry ℕ Outcome)). length es ≤ length trace) (sym kept) is.within;
   few = is.few;
-  stands = subst (λ (es : List (Entry ℕ Outcome)). Stands j trace (take (length es) trace) new.engine) (sym kept)
-      (subst (Stands j trace (take (length old.kept) trace)) (sym engine) is.stands);
+  stands = subst (λ (es : List (Entry ℕ Outcome)). HasAccessed j trace (take (length es) trace) new.engine) (sym kept)
+      (subst (HasAccessed j trace (take (length old.kept) trace)) (sym engine) is.stands);
 }
 
 -- the next access was made
@@ -55,12 +55,12 @@ one_more law j trace keys old new key o is same lt key_is made kept opening limi
     ∙ ap (λ k. take n trace ++ k ∷ []) at ∙ sym (take_more trace n 0 below) in
     let step : any_act old.engine (slice_index keys n) ≡ Some (o, new.engine) = subst (λ k. any_act old.engine k ≡ Some (o, new.engine)) key_is made in
     record {
-      opening = subst (Stands j trace []) (sym opening) is.opening;
+      opening = subst (HasAccessed j trace []) (sym opening) is.opening;
       limit = limit ∙ is.limit;
       steps = next ∙ ap (λ k. take k trace) (sym long);
       within = omega (arith, long, below);
       few = is.few;
-      stands = subst (λ k. Stands j trace (take k trace) new.engine) (sym long) (moves law j trace keys n old.engine o new.engine same lt is.stands step);
+      stands = subst (λ k. HasAccessed j trace (take k trace) new.engine) (sym long) (moves law j trace keys n old.engine o new.engine same lt is.stands step);
     }
 
 -- the next access was made, or nothing was done
@@ -75,7 +75,7 @@ after_step law (Err e) j trace keys old new key is same lt key_is made kept err 
 
 -- its outcome is that of the trace
 pub answered : AnyAnswers → (r : Result Outcome AllocError) (j : Job) (trace keys : List ℕ) (i : ℕ) (d e : AnyPolicy) (key : ℕ) → keys ≡ trace
-    → i < length keys → Stands j trace (take i trace) d → key ≡ slice_index keys i → IfOk r (λ o. any_act d key ≡ Some (o, e))
+    → i < length keys → HasAccessed j trace (take i trace) d → key ≡ slice_index keys i → IfOk r (λ o. any_act d key ≡ Some (o, e))
     → IfOk r (λ o. o ≡ outcome_at j trace (i + 1))
 answered law (Err x) j trace keys i d e key same lt s key_is h = tt
 answered law (Ok o) j trace keys i d e key same lt s key_is h =
@@ -89,12 +89,12 @@ answered law (Ok o) j trace keys i d e key same lt s key_is h =
 
 -- ---- going back
 
-stands_after : AnyStands → (j : Job) (trace keys : List ℕ) (x : AnyPolicy) (es : List (Entry ℕ Outcome)) → Stands j trace keys x → IsLegal any_act x es
-    → Stands j trace (keys ++ steps_of es) (after any_act x es)
-stands_after law j trace keys x [] s legal = subst (λ l. Stands j trace l x) (sym (append-nil keys)) s
+stands_after : AnyStands → (j : Job) (trace keys : List ℕ) (x : AnyPolicy) (es : List (Entry ℕ Outcome)) → HasAccessed j trace keys x → IsLegal any_act x es
+    → HasAccessed j trace (keys ++ steps_of es) (data_after any_act x es)
+stands_after law j trace keys x [] s legal = subst (λ l. HasAccessed j trace l x) (sym (append-nil keys)) s
 stands_after law j trace keys x (e ∷ es) s legal =
-    let y : AnyPolicy = went (any_act x e.step) x in
-    subst (λ l. Stands j trace l (after any_act y es)) (append_assoc keys (e.step ∷ []) (steps_of es))
+    let y : AnyPolicy = next_data (any_act x e.step) x in
+    subst (λ l. HasAccessed j trace l (data_after any_act y es)) (append_assoc keys (e.step ∷ []) (steps_of es))
     (stands_after law j trace (keys ++ e.step ∷ []) y es (law j trace keys x e.step e.reply y s legal.0) legal.1)
 
 pub take_front : {A : Type 0} (n : ℕ) (xs ys : List A) → n ≤ length xs → take n (xs ++ ys) ≡ take n xs
@@ -109,13 +109,13 @@ take_take (suc n) (suc m) [] le = refl
 take_take (suc n) (suc m) (x ∷ xs) le = ap (λ t. x ∷ t) (take_take n m xs (omega arith))
 
 pub moved : AnyStands → (j : Job) (trace : List ℕ) (n : ℕ) (old new : State) → IsPolicyAt j trace old → IsMovedTo n old new → n ≤ length old.kept
-    → IsLegal any_act new.opening new.kept → new.engine ≡ after any_act new.opening new.kept → IsPolicyAt j trace new
+    → IsLegal any_act new.opening new.kept → new.engine ≡ data_after any_act new.opening new.kept → IsPolicyAt j trace new
 moved law j trace n old new is to le legal shows =
     let kept : new.kept ≡ take n old.kept = to.kept ∙ take_front n old.kept old.tail le in
-    let opening : Stands j trace [] new.opening = subst (Stands j trace []) (sym to.opening) is.opening in
+    let opening : HasAccessed j trace [] new.opening = subst (HasAccessed j trace []) (sym to.opening) is.opening in
     let steps : steps_of new.kept ≡ take n trace =
     ap steps_of kept ∙ steps_take n old.kept ∙ ap (take n) is.steps ∙ take_take n (length old.kept) trace le in
-    let after_them : Stands j trace (steps_of new.kept) (after any_act new.opening new.kept) =
+    let after_them : HasAccessed j trace (steps_of new.kept) (data_after any_act new.opening new.kept) =
     stands_after law j trace [] new.opening new.kept opening legal in
     record {
       opening = opening;
@@ -123,6 +123,6 @@ moved law j trace n old new is to le legal shows =
       steps = steps ∙ ap (λ k. take k trace) (sym to.applied);
       within = omega (arith, to.applied, le, is.within);
       few = is.few;
-      stands = subst (λ k. Stands j trace (take k trace) new.engine) (sym to.applied)
-          (subst (λ l. Stands j trace l new.engine) steps (subst (Stands j trace (steps_of new.kept)) (sym shows) after_them));
+      stands = subst (λ k. HasAccessed j trace (take k trace) new.engine) (sym to.applied)
+          (subst (λ l. HasAccessed j trace l new.engine) steps (subst (HasAccessed j trace (steps_of new.kept)) (sym shows) after_them));
     }

@@ -11,8 +11,8 @@ use Rattle.policies.specs.declared.any_policy.AnyPolicy.TheVariants.{Queues, Opt
 use Rattle.policies.specs.declared.design.Design.{Design}
 use Rattle.policies.specs.declared.design.Design.TheVariants.{KnowsTrace, Queues as OfQueues}
 use Rattle.policies.specs.Design.{design_of, counts_in, is_optimal}
-use Rattle.policies.specs.AnyPolicy.{frequency_in, any_residents, stats_in, Stands}
-use Rattle.policies.specs.QueueCache.{QueueState, accessed, frequency_after, frequency_by, empty_queue_state, outcomes_after, outcomes_from, residents_in, access_response}
+use Rattle.policies.specs.AnyPolicy.{frequency_in, any_residents, stats_in, HasAccessed}
+use Rattle.policies.specs.QueueCache.{QueueState, queue_state_after, frequency_after, frequency_by, empty_queue_state, outcomes_after, outcomes_from, residents_in, access_response}
 use Rattle.policies.proofs.Answered.{outcomes-length}
 use Rattle.policies.proofs.Counting.{after-counts}
 use Rattle.policies.proofs.Reached.{after-frequency}
@@ -30,14 +30,14 @@ optimal_counts_none : (d : Design) → is_optimal d ≡ true → counts_in d ≡
 optimal_counts_none (OfQueues d) e = absurd (cc (e))
 optimal_counts_none KnowsTrace e = refl
 
-pub shown_age : (j : Job) (trace keys : List ℕ) (d : AnyPolicy) → Stands j trace keys d → age_in (frequency_in d) ≡ age_in (frequency_after j keys)
+pub shown_age : (j : Job) (trace keys : List ℕ) (d : AnyPolicy) → HasAccessed j trace keys d → age_in (frequency_in d) ≡ age_in (frequency_after j keys)
 shown_age j trace keys (Queues d) s = ap age_in (ap (λ (x : QueueState). x.frequency) s.1.gives ∙ after-frequency j keys)
 shown_age j trace keys (Optimal d) s =
     ap (λ b. age_in (frequency_by b (shape_of j.config) keys)) (sym (optimal_counts_none (design_of j.policy) s.policy))
 
 -- ---- the residents
 
-pub shown_keys : (j : Job) (trace : List ℕ) (n : ℕ) (d : AnyPolicy) → n ≤ length trace → Stands j trace (take n trace) d → any_residents d ≡ residents_at j trace n
+pub shown_keys : (j : Job) (trace : List ℕ) (n : ℕ) (d : AnyPolicy) → n ≤ length trace → HasAccessed j trace (take n trace) d → any_residents d ≡ residents_at j trace n
 shown_keys j trace n (Queues d) le s =
     ap (λ (x : QueueState). residents_in x.queues) s.1.gives ∙ sym (cond-false _ _ _ s.0)
 shown_keys j trace n (Optimal d) le s =
@@ -51,7 +51,7 @@ from_first : (j : Job) (past : List ℕ) (d : QueueState) (n : ℕ) (keys : List
 from_first j past d zero keys = refl
 from_first j past d (suc n) [] = refl
 from_first j past d (suc n) (k ∷ keys) =
-    ap (λ t. (access_response (frequency_after j (past ++ k ∷ [])) k d).outcome ∷ t) (from_first j (past ++ k ∷ []) (accessed (frequency_after j (past ++ k ∷ [])) k d) n keys)
+    ap (λ t. (access_response (frequency_after j (past ++ k ∷ [])) k d).outcome ∷ t) (from_first j (past ++ k ∷ []) (queue_state_after (frequency_after j (past ++ k ∷ [])) k d) n keys)
 
 queues_first : (j : Job) (n : ℕ) (keys : List ℕ) → outcomes_after j (take n keys) ≡ take n (outcomes_after j keys)
 unfolding outcomes_after
@@ -70,7 +70,7 @@ optimal_first c t n (suc m) le =
           ap (belady_outcomes c t) same ∙ sym (take_all n (belady_outcomes c t (suc m)) (omega (arith, same, outcomes-length c t (suc m))))
     ]
 
-pub shown_stats : (j : Job) (trace : List ℕ) (n : ℕ) (d : AnyPolicy) → n ≤ length trace → Stands j trace (take n trace) d → stats_in d ≡ stats_at j trace n
+pub shown_stats : (j : Job) (trace : List ℕ) (n : ℕ) (d : AnyPolicy) → n ≤ length trace → HasAccessed j trace (take n trace) d → stats_in d ≡ stats_at j trace n
 shown_stats j trace n (Queues d) le s =
     ap (λ (x : QueueState). x.stats) s.1.gives
     ∙ (after-counts j (take n trace) ∙ ap stats_of (queues_first j n trace))

@@ -10,7 +10,7 @@ use Rattle.step_record.specs.declared.outcome.Outcome.{Outcome}
 use Rattle.step_record.specs.declared.outcome.Outcome.TheVariants.{Kept}
 use Rattle.step_record.specs.Stats.{is_hit}
 use Rattle.policies.specs.declared.any_policy.AnyPolicy.{AnyPolicy}
-use Rattle.policies.specs.AnyPolicy.{Stands, outcomes_on}
+use Rattle.policies.specs.AnyPolicy.{HasAccessed, outcomes_on}
 use Rattle.policies.specs.AnyStep.{any_act}
 use Rattle.policies.specs.Theorems.{AnyStands, AnyAccepts, AnyAnswers}
 use Rattle.policies.proofs.Stretches.{next-ahead, added-next}
@@ -24,22 +24,22 @@ pub next-of : (trace : List ℕ) (i : ℕ) → i < length trace
 next-of trace i lt = next-ahead trace [] trace [] i lt (sym (append-nil trace))
 
 pub ready : AnyAccepts → (j : Job) (trace keys : List ℕ) (i : ℕ) (d : AnyPolicy) → keys ≡ trace → i < length keys
-    → length trace ≤ MAX_ACCESSES → Stands j trace (take i trace) d → any_act d (slice_index keys i) ≢ None
+    → length trace ≤ MAX_ACCESSES → HasAccessed j trace (take i trace) d → any_act d (slice_index keys i) ≢ None
 ready law j trace keys i d same lt few s none =
     let below : i < length trace = subst (λ (l : List ℕ). i < length l) same lt in
     law j trace (take i trace) (drop (suc i) trace ++ []) (slice_index trace i) d (next-of trace i below) few s
     (subst (λ (l : List ℕ). any_act d (slice_index l i) ≡ None) same none)
 
 pub moves : AnyStands → (j : Job) (trace keys : List ℕ) (i : ℕ) (d : AnyPolicy) (o : Outcome) (e : AnyPolicy) → keys ≡ trace
-    → i < length keys → Stands j trace (take i trace) d → any_act d (slice_index keys i) ≡ Some (o, e)
-    → Stands j trace (take (i + 1) trace) e
+    → i < length keys → HasAccessed j trace (take i trace) d → any_act d (slice_index keys i) ≡ Some (o, e)
+    → HasAccessed j trace (take (i + 1) trace) e
 moves law j trace keys i d o e same lt s h =
     let below : i < length trace = subst (λ (l : List ℕ). i < length l) same lt in
     let step : any_act d (slice_index trace i) ≡ Some (o, e) = subst (λ (l : List ℕ). any_act d (slice_index l i) ≡ Some (o, e)) same h in
-    subst (λ (l : List ℕ). Stands j trace l e) (added-next [] trace i below) (law j trace (take i trace) d (slice_index trace i) o e s step)
+    subst (λ (l : List ℕ). HasAccessed j trace l e) (added-next [] trace i below) (law j trace (take i trace) d (slice_index trace i) o e s step)
 
 pub answers : AnyAnswers → (j : Job) (trace keys : List ℕ) (i : ℕ) (d : AnyPolicy) (o : Outcome) (e : AnyPolicy) → keys ≡ trace
-    → i < length keys → Stands j trace (take i trace) d → any_act d (slice_index keys i) ≡ Some (o, e)
+    → i < length keys → HasAccessed j trace (take i trace) d → any_act d (slice_index keys i) ≡ Some (o, e)
     → is_hit o ≡ is_hit_at (outcomes_on j trace) (i + 1)
 answers law j trace keys i d o e same lt s h =
     let below : i < length trace = subst (λ (l : List ℕ). i < length l) same lt in

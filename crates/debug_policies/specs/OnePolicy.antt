@@ -17,7 +17,7 @@ use Rattle.debug_commands.specs.Texts.{count_text}
 use Rattle.journal.specs.Session.{SessionState}
 use Rattle.policies.specs.declared.any_policy.AnyPolicy.{AnyPolicy}
 use Rattle.policies.specs.Design.{knows_trace}
-use Rattle.policies.specs.AnyPolicy.{outcomes_on, Stands}
+use Rattle.policies.specs.AnyPolicy.{outcomes_on, HasAccessed}
 use Rattle.policies.specs.QueueCache.{frequency_after, residents_in, state_after}
 
 -- ---- by the definitions
@@ -75,9 +75,9 @@ steps_of es = map (λ e. e.step) es
 
 -- the session began with no access made, and its applied steps are the first accesses of the trace
 pub record IsPolicyAt (j : Job) (trace : List ℕ) (s : SessionState AnyPolicy AnyPolicy ℕ Outcome) : Type 0 where
-  pub opening : Stands j trace [] s.opening
+  pub opening : HasAccessed j trace [] s.opening
   pub limit : s.limit ≡ MAX_JOURNAL_LIMIT
   pub steps : steps_of s.kept ≡ take (length s.kept) trace
   pub within : length s.kept ≤ length trace
   pub few : length trace ≤ MAX_ACCESSES
-  pub stands : Stands j trace (take (length s.kept) trace) s.engine
+  pub stands : HasAccessed j trace (take (length s.kept) trace) s.engine

@@ -3,7 +3,7 @@ ghost use Rattle.std.specs.Prelude.{◌≡◌, ◌≢◌, ◌≤◌, ◌-◌, �
 ghost use Rattle.std.specs.Prelude.{IfOk, OnOk, IfSome, IfNone};
 ghost use Rattle.step_record.specs.Config.{config_fault};
 ghost use Rattle.step_record.specs.Stats.{is_hit};
-ghost use Rattle.policies.specs.AnyPolicy.{Stands, outcomes_on};
+ghost use Rattle.policies.specs.AnyPolicy.{HasAccessed, outcomes_on};
 ghost use Rattle.policies.specs.AnyStep.{any_act};
 ghost use Rattle.job_checks.specs.FaultyJobs.{faulty_in, ReturnsFault};
 ghost use Rattle.debug_policies.specs.Part.{part_line, IsPart, IsNoted, IsFirstOther};
@@ -86,7 +86,7 @@ fn walk_beside(
     second: &Job,
     one: &mut AnyPolicy,
 ) -> Result<Option<u64>, AllocError>
-    requires one { Stands first.now trace.now [] one.old }
+    requires one { HasAccessed first.now trace.now [] one.old }
     requires second { config_fault second.now.config ≡ Ok tt }
     ensures { IfOk result (IsPart (outcomes_on first.now trace.now) (outcomes_on second.now trace.now)) }
 {
@@ -102,8 +102,8 @@ fn walk_both(
     one: &mut AnyPolicy,
     other: &mut AnyPolicy,
 ) -> Result<Option<u64>, AllocError>
-    requires one { Stands first.now trace.now [] one.old }
-    requires other { Stands second.now trace.now [] other.old }
+    requires one { HasAccessed first.now trace.now [] one.old }
+    requires other { HasAccessed second.now trace.now [] other.old }
     ensures { IfOk result (IsPart (outcomes_on first.now trace.now) (outcomes_on second.now trace.now)) }
 {
     any_stands();
@@ -134,8 +134,8 @@ fn note_hits(
     requires order { start ≤ end }
     requires within { end ≤ length trace.now }
     requires room { end - start ≤ length noted.old }
-    requires stands { Stands _job.now trace.now (take start trace.now) cache.old }
-    ensures stands { OnOk result (Stands _job.now trace.now (take end trace.now) cache.new) }
+    requires stands { HasAccessed _job.now trace.now (take start trace.now) cache.old }
+    ensures stands { OnOk result (HasAccessed _job.now trace.now (take end trace.now) cache.new) }
     ensures noted { OnOk result (IsNoted noted.new (outcomes_on _job.now trace.now) start end) }
     ensures room { length noted.new ≡ length noted.old }
 {
@@ -162,8 +162,8 @@ fn compare_hits(
     requires order { start ≤ end }
     requires within { end ≤ length trace.now }
     requires room { end - start ≤ length noted.now }
-    requires stands { Stands _job.now trace.now (take start trace.now) cache.old }
-    ensures stands { IfOk result (λ r. IfNone r (Stands _job.now trace.now (take end trace.now) cache.new)) }
+    requires stands { HasAccessed _job.now trace.now (take start trace.now) cache.old }
+    ensures stands { IfOk result (λ r. IfNone r (HasAccessed _job.now trace.now (take end trace.now) cache.new)) }
     ensures agree { IfOk result (λ r. IfNone r (IsNoted noted.now (outcomes_on _job.now trace.now) start end)) }
     ensures part { IfOk result (λ r. IfSome r (IsFirstOther noted.now (outcomes_on _job.now trace.now) start end)) }
 {

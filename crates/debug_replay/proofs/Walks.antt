@@ -4,7 +4,7 @@ use Rattle.std.specs.Prelude.{is_err, nat_lt, slice_get, OnOk}
 use Rattle.step_record.specs.declared.entry.Entry.{Entry}
 use Rattle.step_record.specs.declared.step.Reply.{Reply}
 use Rattle.step_record.specs.declared.step.Step.{Step}
-use Rattle.step_record.specs.History.{after, Entries}
+use Rattle.step_record.specs.History.{data_after, Entries}
 use Rattle.shell_model.specs.Shell.{Shell, act}
 use Rattle.debug_replay.specs.Replay.{entry_facts, step_facts, halves_on_step, state_at}
 
@@ -18,12 +18,12 @@ front [] tail = refl
 front (e ∷ es) tail = ap (λ t. e ∷ t) (front es tail)
 
 -- where the first entries are applied, the state is what they lead to
-pub stands_here : (opening x : Shell) (kept tail : Entries) → x ≡ after act opening kept → x ≡ state_at opening (kept ++ tail) (length kept)
-stands_here opening x kept tail e = e ∙ ap (after act opening) (sym (front kept tail))
+pub stands_here : (opening x : Shell) (kept tail : Entries) → x ≡ data_after act opening kept → x ≡ state_at opening (kept ++ tail) (length kept)
+stands_here opening x kept tail e = e ∙ ap (data_after act opening) (sym (front kept tail))
 
-pub stands_there : (opening from x : Shell) (kept steps : Entries) (n : ℕ) → from ≡ opening → kept ≡ take (n + 1) steps → x ≡ after act from kept
+pub stands_there : (opening from x : Shell) (kept steps : Entries) (n : ℕ) → from ≡ opening → kept ≡ take (n + 1) steps → x ≡ data_after act from kept
     → x ≡ state_at opening steps (n + 1)
-stands_there opening from x kept steps n same k e = e ∙ ap (λ o. after act o kept) same ∙ ap (after act opening) k
+stands_there opening from x kept steps n same k e = e ∙ ap (λ o. data_after act o kept) same ∙ ap (data_after act opening) k
 
 pub facts_are : (opening before now : Shell) (kept steps : Entries) (n place : ℕ) (e : Entry Step Reply) (halved : Bool) → before ≡ state_at opening steps n
     → now ≡ state_at opening steps (n + 1) → halved ≡ nat_lt now.frequency.age before.frequency.age → kept ≡ take (n + 1) steps → place ≡ n

@@ -8,7 +8,7 @@ use Rattle.step_record.specs.declared.step.Act.TheVariants.{Look}
 use Rattle.step_record.specs.declared.step.Reply.{Reply}
 use Rattle.step_record.specs.declared.step.Reply.TheVariants.{Hit, Full, Lost, Evicted, Rejected}
 use Rattle.step_record.specs.declared.step.Step.{Step}
-use Rattle.step_record.specs.History.{after, Entries}
+use Rattle.step_record.specs.History.{data_after, Entries}
 use Rattle.journal.specs.Session.{SessionState}
 use Rattle.debug_commands.specs.Timeline.{TimelineData}
 use Rattle.debug_commands.specs.declared.breakpoint.StepFacts.{StepFacts}
@@ -47,7 +47,7 @@ step_facts a r halved = record {
 
 -- the state after the first n steps
 abbrev pub state_at : Shell → Entries → ℕ → Shell
-state_at opening steps n = after act opening (take n steps)
+state_at opening steps n = data_after act opening (take n steps)
 
 -- the age of the sketch falls at step n
 abbrev pub halves_on_step : Shell → Entries → ℕ → Bool

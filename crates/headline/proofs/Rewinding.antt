@@ -4,7 +4,7 @@ use Rattle.std.specs.Prelude.{IfErr}
 use Rattle.std.proofs.Math.Seq.{take-length, drop-length}
 use Rattle.std.proofs.lemmas.List.{take-append-le, drop-append-le}
 use Rattle.step_record.specs.declared.step.Call.{Call}
-use Rattle.step_record.specs.History.{after, IsLegal, Entries}
+use Rattle.step_record.specs.History.{data_after, IsLegal, Entries}
 use Rattle.shell_model.specs.Shell.{Shell, act}
 use Rattle.journal.specs.Session.{IsMovedTo}
 use Rattle.journal.specs.Faults.{StandsBack}
@@ -49,7 +49,7 @@ fewer_undone k old new (Err (back.OutOfMemory n)) e p = e.0
 answered : (x : Shell) (steps : Entries) → IsLegal act x steps → IsAnswered x steps
 answered x steps legal before later e is =
     let whole : IsLegal act x (before ++ e ∷ later) = subst (λ es. IsLegal act x es) is legal in
-    let last : IsLegal act (after act x before) (e ∷ later) = legal_split act x before (e ∷ later) whole in
+    let last : IsLegal act (data_after act x before) (e ∷ later) = legal_split act x before (e ∷ later) whole in
     last.0 ∙ ap (λ (y : Shell). Some (e.reply, y)) (sym (after_append act x before (e ∷ [])))
 
 none_of : List (List Call) → List (Option Cause)
@@ -95,7 +95,7 @@ whole_up_to n pieces old new lists run = record {
 pub rewound : (n k : ℕ) (pieces : List (List Call)) (cause : Option Cause) (o : Result (Unit {0}) BackFault) (old whole new : ShellSession) (lists : List Entries)
     → IsRunUpTo cause n pieces old whole lists → IsLegal act whole.opening whole.kept → new.opening ≡ whole.opening → new.kept ≡ take (length whole.kept - undone_of k o) whole.kept
     → new.tail ≡ drop (length whole.kept - undone_of k o) (whole.kept ++ whole.tail)
-    → new.engine ≡ after act new.opening new.kept → (o ≡ Err back.PastStart ↔ length whole.kept < k) → OnErr o (undone_of k o < k) → IsRewound n k pieces cause o old new lists
+    → new.engine ≡ data_after act new.opening new.kept → (o ≡ Err back.PastStart ↔ length whole.kept < k) → OnErr o (undone_of k o < k) → IsRewound n k pieces cause o old new lists
 rewound n k pieces cause o old whole new lists up legal opening left redo state past fewer = let run = up.run in record {
   run = run.news;
   as_many = run.as_many;
@@ -109,7 +109,7 @@ rewound n k pieces cause o old whole new lists up legal opening left redo state 
   answered = answered old.opening (old.kept ++ run.news) (subst (λ es. IsLegal act old.opening es) run.entered (subst (λ x. IsLegal act x whole.kept) run.opening legal));
   left = left ∙ ap (λ es. take (length es - undone_of k o) es) run.entered;
   redo = redo ∙ ap (λ (z : Entries × Entries). drop (length z.0 - undone_of k o) (z.0 ++ z.1)) (λ i. (run.entered i, run.tail i));
-  state = state ∙ ap (λ x. after act x new.kept) (opening ∙ run.opening);
+  state = state ∙ ap (λ x. data_after act x new.kept) (opening ∙ run.opening);
   fewer = fewer;
   past = subst (λ es. o ≡ Err back.PastStart ↔ length es < k) run.entered past;
 }

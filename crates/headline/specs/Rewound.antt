@@ -5,7 +5,7 @@ use Rattle.step_record.specs.declared.entry.Entry.{Entry}
 use Rattle.step_record.specs.declared.step.Call.{Call}
 use Rattle.step_record.specs.declared.step.Reply.{Reply}
 use Rattle.step_record.specs.declared.step.Step.{Step}
-use Rattle.step_record.specs.History.{after, Entries, tail_after}
+use Rattle.step_record.specs.History.{data_after, Entries, tail_after}
 use Rattle.shell_model.specs.Shell.{Shell, act}
 use Rattle.journal.specs.declared.fault.BackFault.{BackFault}
 use Rattle.journal.specs.declared.fault.BackFault.TheVariants as back
@@ -20,7 +20,7 @@ use Rattle.workers.specs.WorkerStates.{ShellSession}
 -- from the state x on, each reply is the one that the definition gives on the steps before it
 abbrev pub IsAnswered : Shell → Entries → Type 0
 IsAnswered x steps = (before later : Entries) (e : Entry Step Reply) → steps ≡ before ++ e ∷ later
-    → act (after act x before) e.step ≡ Some (e.reply, after act x (before ++ e ∷ []))
+    → act (data_after act x before) e.step ≡ Some (e.reply, data_after act x (before ++ e ∷ []))
 
 -- how many of k steps were undone
 abbrev pub undone_of : ℕ → Result (Unit {0}) BackFault → ℕ
@@ -55,6 +55,6 @@ pub record IsRewound (n k : ℕ) (pieces : List (List Call)) (cause : Option Cau
   pub left : new.kept ≡ take (length (old.kept ++ run) - undone_of k undone) (old.kept ++ run)
   pub redo : new.tail
       ≡ drop (length (old.kept ++ run) - undone_of k undone) ((old.kept ++ run) ++ tail_after run old.tail)
-  pub state : new.engine ≡ after act old.opening new.kept
+  pub state : new.engine ≡ data_after act old.opening new.kept
   pub past : undone ≡ Err back.PastStart ↔ length (old.kept ++ run) < k
   pub fewer : OnErr undone (undone_of k undone < k)

@@ -1,6 +1,6 @@
 //! The history of a run on threads, in one statement that cites what `drive`, `Session` and `Shell` promise.
 ghost use Rattle.std.specs.Prelude.{◌≡◌, ◌↔◌, ◌-◌, ◌<◌, Err, IfErr, IfOk, OnErr, drop, length, map, take, ◌++◌};
-ghost use Rattle.step_record.specs.History.{after};
+ghost use Rattle.step_record.specs.History.{data_after};
 ghost use Rattle.shell_model.specs.Shell.{act};
 ghost use Rattle.workers.specs.DriveFaults.{LeavesFault};
 ghost use Rattle.headline.specs.Rewound.{IsRewound, HasNoSteps, undone_of};
@@ -72,7 +72,7 @@ fn undo(
     ensures left { result.session.kept ≡ take (length session.kept - undone_of k result.undone) session.kept }
     ensures redo { result.session.tail ≡ drop (length session.kept - undone_of k result.undone)
         (session.kept ++ session.tail) }
-    ensures state { result.session.engine ≡ after act result.session.opening result.session.kept }
+    ensures state { result.session.engine ≡ data_after act result.session.opening result.session.kept }
     ensures fewer { OnErr result.undone (undone_of k result.undone < k) }
     ensures past { result.undone ≡ Err BackFault.PastStart ↔ length session.kept < k }
 {

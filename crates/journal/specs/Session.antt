@@ -3,7 +3,7 @@
 use Rattle.std.specs.Prelude.{◌≡◌, ℕ, ◌+◌, ◌*◌, ◌/◌, ◌≤◌, Option, List, ◌++◌, length, take, drop}
 use Rattle.step_record.specs.declared.entry.Entry.{Entry}
 use Rattle.step_record.specs.declared.limits.TheConstants.{MAX_STEPS}
-use Rattle.step_record.specs.History.{after, IsLegal}
+use Rattle.step_record.specs.History.{data_after, IsLegal}
 use Rattle.step_record.specs.Pace.{Pace}
 
 -- What callers see of a session.
@@ -36,7 +36,7 @@ pub record IsSoundSession {E D S R : Type 0} (act : D → S → Option (R × D))
     (seen : E → D)
     (s : SessionState E D S R) : Type 0 where
   pub legal : IsLegal act s.opening s.kept
-  pub stands : seen s.engine ≡ after act s.opening s.kept
+  pub stands : seen s.engine ≡ data_after act s.opening s.kept
   pub redo : IsLegal act (seen s.engine) s.tail
   pub room : length s.kept + length s.tail ≤ s.limit
   pub counted : count (seen s.engine) ≡ count s.opening + length s.kept

@@ -15,7 +15,7 @@ use Rattle.journal_text.specs.declared.version.Version.{Version}
 use Rattle.journal_text.specs.declared.version.Version.TheVariants.{One, Two}
 use Rattle.journal_text.proofs.Fronts.{header_lacks, no_line, same_line}
 use Rattle.journal_text.proofs.Unique.{count_line, front_line, line_lacks, made_same, no_entry, nothing_ended, one_header, one_journal, one_line}
-use Rattle.step_record.specs.History.{after, went, IsLegal, Entries}
+use Rattle.step_record.specs.History.{data_after, next_data, IsLegal, Entries}
 use Rattle.step_record.specs.declared.entry.Entry.{Entry}
 use Rattle.step_record.specs.declared.step.Reply.{Reply}
 use Rattle.step_record.specs.declared.step.Step.{Step}
@@ -78,9 +78,9 @@ count_apart v n e two h k t =
 
 module _ {D : Type 0} (act : D → Step → Option (Reply × D)) where
   legal_at : (x : D) (fs : Entries) (g : Entry Step Reply) (gs : Entries) → IsLegal act x (fs ++ g ∷ gs)
-      → act (after act x fs) g.step ≡ Some (g.reply, went (act (after act x fs) g.step) (after act x fs))
+      → act (data_after act x fs) g.step ≡ Some (g.reply, next_data (act (data_after act x fs) g.step) (data_after act x fs))
   legal_at x [] g gs h = h.0
-  legal_at x (f ∷ fs) g gs h = legal_at (went (act x f.step) x) fs g gs h.1
+  legal_at x (f ∷ fs) g gs h = legal_at (next_data (act x f.step) x) fs g gs h.1
 
 pair_same : {A B : Type 0} (p q : A × B) → Some p ≡ Some q → p.0 ≡ q.0
 pair_same p q h = let same : p ≡ q = cc in ap (λ r. r.0) same
@@ -140,15 +140,15 @@ module _ {D : Type 0} (act : D → Step → Option (Reply × D)) (x : D) (limit 
       let same : e ≡ g = made_same (one_line v (Made e) (Made g) h.1.2.0 line (h.1.2.1 ∙ t)) in
       let mine = h.1.5.1 in
       let right = legal_at act x fs g gs (subst (IsLegal act x) w ok.legal) in
-      let both = sym mine ∙ ap (λ y. act (after act x fs) y.step) same ∙ right in
+      let both = sym mine ∙ ap (λ y. act (data_after act x fs) y.step) same ∙ right in
       absurd (h.1.4 (pair_same _ _ both ∙ ap (λ y. y.reply) (sym same)))
   never (fault.NotNow n) fs text ok (Closes two same t) h = absurd (count_apart v (length es) h.2.0 two ok.few h.2.1.0 (sym t ∙ sym h.2.1.1))
   never (fault.NotNow n) fs text ok (Goes g gs w line t) h =
       let e = h.2.0 in
       let same : e ≡ g = made_same (one_line v (Made e) (Made g) h.2.1.0 line (h.2.1.1 ∙ t)) in
       let right = legal_at act x fs g gs (subst (IsLegal act x) w ok.legal) in
-      let none : None ≡ Some (g.reply, went (act (after act x fs) g.step) (after act x fs)) =
-      sym h.2.3 ∙ ap (λ y. act (after act x fs) y.step) same ∙ right in
+      let none : None ≡ Some (g.reply, next_data (act (data_after act x fs) g.step) (data_after act x fs)) =
+      sym h.2.3 ∙ ap (λ y. act (data_after act x fs) y.step) same ∙ right in
       absurd (cc)
   never (fault.JournalFull n) fs text ok (Closes two same t) h = absurd (count_apart v (length es) h.2.0 two ok.few h.2.1.0 (sym t ∙ sym h.2.1.1))
   never (fault.JournalFull n) fs text ok (Goes g gs w line t) h =

@@ -15,7 +15,7 @@ use Rattle.journal_text.specs.Names.{spelling}
 use Rattle.journal_text.specs.Reading.{numeral_of, name_at, wide_at, small_at, act_at, reply_at, only_equals, only_steps, entry_in, count_in, made_in, or_count, journal_line_in, words_of}
 use Rattle.journal_text.specs.declared.word.Word.{Word}
 use Rattle.journal_text.specs.declared.word.Word.TheVariants.{Named, Worker, Stripe, Wide}
-use Rattle.journal_text.specs.Table.{word_text, spelled, FitsWord, Fit, act_words, reply_words, entry_words, count_words, text_of, is_answer_in, IsLine}
+use Rattle.journal_text.specs.Table.{word_text, spaced_words, FitsWord, FitWords, act_words, reply_words, entry_words, count_words, text_of, is_answer_in, IsLine}
 use Rattle.journal_text.specs.declared.line.Line.{Line}
 use Rattle.journal_text.specs.declared.line.Line.TheVariants.{Made, Steps}
 use Rattle.journal_text.specs.declared.name.Name.{Name}
@@ -32,15 +32,15 @@ use Rattle.text_lines.specs.Reads.{at_end}
 
 -- ---- words and entries
 
-fit_parts : (xs ys : List Word) → Fit (xs ++ ys) → Fit xs × Fit ys
+fit_parts : (xs ys : List Word) → FitWords (xs ++ ys) → FitWords xs × FitWords ys
 fit_parts [] ys f = (tt, f)
 fit_parts (x ∷ xs) ys f = let p = fit_parts xs ys f.1 in ((f.0, p.0), p.1)
 
-fit_joined : (xs ys : List Word) → Fit xs → Fit ys → Fit (xs ++ ys)
+fit_joined : (xs ys : List Word) → FitWords xs → FitWords ys → FitWords (xs ++ ys)
 fit_joined [] ys f g = g
 fit_joined (x ∷ xs) ys f g = (f.0, fit_joined xs ys f.1 g)
 
-pub entry_back : (e : Entry Step Reply) → Fit (entry_words e) → entry_in (map word_text (entry_words e)) ≡ Some e
+pub entry_back : (e : Entry Step Reply) → FitWords (entry_words e) → entry_in (map word_text (entry_words e)) ≡ Some e
 unfolding entry_in
 entry_back e f =
     let a = e.step.act in
@@ -65,7 +65,7 @@ end_taken : {A : Type 0} (x y : A) (ws : List (List ℕ)) → at_end (x, ws) ≡
 end_taken x y [] h = (some_same h, refl)
 end_taken x y (w ∷ ws) h = absurd (cc)
 
-pub entry_taken : (ws : List (List ℕ)) (e : Entry Step Reply) → entry_in ws ≡ Some e → (ws ≡ map word_text (entry_words e)) × Fit (entry_words e)
+pub entry_taken : (ws : List (List ℕ)) (e : Entry Step Reply) → entry_in ws ≡ Some e → (ws ≡ map word_text (entry_words e)) × FitWords (entry_words e)
 unfolding entry_in
 entry_taken ws e h =
     let worker = bound (small_at 64 ws) _ e h in
@@ -81,7 +81,7 @@ entry_taken ws e h =
     let last : equals.0.1 ≡ map word_text (reply_words reply.0.0) = r.0 ∙ ap (λ t. map word_text (reply_words reply.0.0) ++ t) done.1 ∙ append-nil (map word_text (reply_words reply.0.0)) in
     let behind : act.0.1 ≡ map word_text (Named name.Equals ∷ reply_words reply.0.0) = n ∙ ap (λ m. spelling m ∷ equals.0.1) (equals_is equals.0.0 only.0 only.1) ∙ ap (λ t. spelling name.Equals ∷ t) last in
     let after : worker.0.1 ≡ map word_text (act_words act.0.0 ++ (Named name.Equals ∷ reply_words reply.0.0)) = a.0 ∙ ap (λ t. map word_text (act_words act.0.0) ++ t) behind ∙ sym (map-append word_text (act_words act.0.0) (Named name.Equals ∷ reply_words reply.0.0)) in
-    let P : Entry Step Reply → Type 0 = λ x. (ws ≡ map word_text (entry_words x)) × Fit (entry_words x) in
+    let P : Entry Step Reply → Type 0 = λ x. (ws ≡ map word_text (entry_words x)) × FitWords (entry_words x) in
     subst P done.0 (w.0 ∙ ap (λ t. decimal worker.0.0 ∷ t) after, (w.1, fit_joined (act_words act.0.0) (Named name.Equals ∷ reply_words reply.0.0) a.1 (tt, r.1)))
 
 pub count_back : (n : ℕ) → n < 2 ^ 64 → count_in (map word_text (count_words n)) ≡ Some n
@@ -179,18 +179,18 @@ word_lacks c h (Worker n) f = decimal_lacks c (omega arith) n (omega arith)
 word_lacks c h (Stripe n) f = decimal_lacks c (omega arith) n (omega arith)
 word_lacks c h (Wide n) f = decimal_lacks c (omega arith) n f
 
-pub spelled_words : (w : Word) (ws : List Word) → Fit (w ∷ ws) → words_of (spelled (w ∷ ws)) ≡ map word_text (w ∷ ws)
+pub spelled_words : (w : Word) (ws : List Word) → FitWords (w ∷ ws) → words_of (spaced_words (w ∷ ws)) ≡ map word_text (w ∷ ws)
 spelled_words w [] f = slice_split_none (λ b. b == 32) (word_text w) (word_lacks 32 (omega arith) w f.0)
 spelled_words w (v ∷ vs) f =
-    slice_split_at (λ b. b == 32) (word_text w) 32 (spelled (v ∷ vs)) (word_lacks 32 (omega arith) w f.0) refl
+    slice_split_at (λ b. b == 32) (word_text w) 32 (spaced_words (v ∷ vs)) (word_lacks 32 (omega arith) w f.0) refl
     ∙ ap (λ t. word_text w ∷ t) (spelled_words v vs f.1)
 
 -- a line has no line feed in it
-pub spelled_lacks : (w : Word) (ws : List Word) → Fit (w ∷ ws) → Lacks 10 (spelled (w ∷ ws))
+pub spelled_lacks : (w : Word) (ws : List Word) → FitWords (w ∷ ws) → Lacks 10 (spaced_words (w ∷ ws))
 spelled_lacks w [] f = word_lacks 10 (omega arith) w f.0
 spelled_lacks w (v ∷ vs) f =
-    All-append (λ b. (b == 10) ≡ false) (word_text w) (32 ∷ spelled (v ∷ vs)) (word_lacks 10 (omega arith) w f.0)
-    (All-cons (λ b. (b == 10) ≡ false) 32 (spelled (v ∷ vs)) refl (spelled_lacks v vs f.1))
+    All-append (λ b. (b == 10) ≡ false) (word_text w) (32 ∷ spaced_words (v ∷ vs)) (word_lacks 10 (omega arith) w f.0)
+    (All-cons (λ b. (b == 10) ≡ false) 32 (spaced_words (v ∷ vs)) refl (spelled_lacks v vs f.1))
 
 -- ---- lines
 
@@ -207,20 +207,20 @@ no_entry n (Some e) h =
     let none : numeral_of (spelling name.Steps) ≡ None = refl in
     absurd (cc)
 
-made_back : (v : Version) (e : Entry Step Reply) → Fit (entry_words e) → is_answer_in v e.step.act e.reply ≡ true
-    → made_in v (spelled (entry_words e)) ≡ Some (Made e)
+made_back : (v : Version) (e : Entry Step Reply) → FitWords (entry_words e) → is_answer_in v e.step.act e.reply ≡ true
+    → made_in v (spaced_words (entry_words e)) ≡ Some (Made e)
 unfolding made_in
 made_back v e f a =
-    let words : words_of (spelled (entry_words e)) ≡ map word_text (entry_words e) = spelled_words (Worker e.step.worker) _ f in
-    let read : entry_in (words_of (spelled (entry_words e))) ≡ Some e = ap entry_in words ∙ entry_back e f in
+    let words : words_of (spaced_words (entry_words e)) ≡ map word_text (entry_words e) = spelled_words (Worker e.step.worker) _ f in
+    let read : entry_in (words_of (spaced_words (entry_words e))) ≡ Some e = ap entry_in words ∙ entry_back e f in
     rw read (cond-true (is_answer_in v e.step.act e.reply) (Some (Made e)) None a)
 
-none_made : (n : ℕ) → n < 2 ^ 64 → made_in Two (spelled (count_words n)) ≡ None
+none_made : (n : ℕ) → n < 2 ^ 64 → made_in Two (spaced_words (count_words n)) ≡ None
 unfolding made_in
 none_made n h =
-    let words : words_of (spelled (count_words n)) ≡ map word_text (count_words n) =
+    let words : words_of (spaced_words (count_words n)) ≡ map word_text (count_words n) =
     spelled_words (Named name.Steps) (Wide n ∷ []) (tt, (h, tt)) in
-    let none : entry_in (words_of (spelled (count_words n))) ≡ None = ap entry_in words ∙ no_entry n _ refl in
+    let none : entry_in (words_of (spaced_words (count_words n))) ≡ None = ap entry_in words ∙ no_entry n _ refl in
     rw none refl
 
 -- Each line of the table is read.
@@ -228,13 +228,13 @@ pub line_again : (v : Version) (l : Line) → IsLine v l → journal_line_in v (
 unfolding journal_line_in IsLine text_of
 line_again One (Made e) h = made_back One e h.0 h.1
 line_again Two (Made e) h =
-    ap (λ o. or_count o (count_in (words_of (spelled (entry_words e))))) (made_back Two e h.0 h.1)
+    ap (λ o. or_count o (count_in (words_of (spaced_words (entry_words e))))) (made_back Two e h.0 h.1)
 line_again One (Steps n) h = absurd h
 line_again Two (Steps n) h =
-    let words : words_of (spelled (count_words n)) ≡ map word_text (count_words n) =
+    let words : words_of (spaced_words (count_words n)) ≡ map word_text (count_words n) =
     spelled_words (Named name.Steps) (Wide n ∷ []) (tt, (h, tt)) in
-    let some : count_in (words_of (spelled (count_words n))) ≡ Some n = ap count_in words ∙ count_back n h in
-    ap (λ o. or_count o (count_in (words_of (spelled (count_words n))))) (none_made n h) ∙ ap (or_count None) some
+    let some : count_in (words_of (spaced_words (count_words n))) ≡ Some n = ap count_in words ∙ count_back n h in
+    ap (λ o. or_count o (count_in (words_of (spaced_words (count_words n))))) (none_made n h) ∙ ap (or_count None) some
 
 answered : (v : Version) (e : Entry Step Reply) (l : Line) (b : Bool) → is_answer_in v e.step.act e.reply ≡ b → cond b (Some (Made e)) None ≡ Some l
     → (is_answer_in v e.step.act e.reply ≡ true) × (Made e ≡ l)

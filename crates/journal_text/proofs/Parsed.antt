@@ -7,7 +7,7 @@ use Rattle.std.specs.Prelude.{nat_lt}
 use Rattle.journal_text.specs.Names.{journal_name_of, spelling}
 use Rattle.journal_text.specs.Reading.{numeral_of, name_at, wide_at, small_at, item_at, answer_at, answer_named, act_at, act_named, reply_at, reply_named}
 use Rattle.journal_text.specs.declared.word.Word.{Word}
-use Rattle.journal_text.specs.Table.{word_text, Fit, answer_name, act_words, reply_words}
+use Rattle.journal_text.specs.Table.{word_text, FitWords, answer_name, act_words, reply_words}
 use Rattle.journal_text.specs.declared.name.Name.{Name}
 use Rattle.journal_text.specs.declared.name.Name.TheVariants as name
 use Rattle.journal_text.proofs.Spellings.{name_again, name_takes, number_again, number_takes}
@@ -49,7 +49,7 @@ module _ (ws : List (List ℕ)) where
   unfolding answer_at
   answer_back a = rw (name_back (answer_name a)) (ap (with_rest ws) (again a))
 
-pub act_back : (ws : List (List ℕ)) (a : Act) → Fit (act_words a) → act_at (map word_text (act_words a) ++ ws) ≡ Some (a, ws)
+pub act_back : (ws : List (List ℕ)) (a : Act) → FitWords (act_words a) → act_at (map word_text (act_words a) ++ ws) ≡ Some (a, ws)
 unfolding act_at
 act_back ws (act.Look n) f = rw (name_back (decimal n ∷ ws) name.Look) (rw (wide_back ws n f.1.0) refl)
 act_back ws (act.Offer s i) f = rw (name_back (decimal s ∷ decimal i.key ∷ decimal i.node ∷ ws) name.Offer)
@@ -66,7 +66,7 @@ act_back ws act.DrainWrite f = rw (name_back ws name.DrainWrite) refl
 act_back ws act.Evict f = rw (name_back ws name.Evict) refl
 act_back ws act.End f = rw (name_back ws name.End) refl
 
-pub reply_back : (ws : List (List ℕ)) (r : Reply) → Fit (reply_words r) → reply_at (map word_text (reply_words r) ++ ws) ≡ Some (r, ws)
+pub reply_back : (ws : List (List ℕ)) (r : Reply) → FitWords (reply_words r) → reply_at (map word_text (reply_words r) ++ ws) ≡ Some (r, ws)
 unfolding reply_at
 reply_back ws (reply.Hit n) f = rw (name_back (decimal n ∷ ws) name.Hit) (rw (wide_back ws n f.1.0) refl)
 reply_back ws reply.Miss f = rw (name_back ws name.Miss) refl
@@ -172,7 +172,7 @@ answer_taken ws k h =
 
 -- a name and the words behind it are these words, which fit, and the rest
 abbrev Taken : {A : Type 0} → (A → List Word) → Name → List (List ℕ) → A × List (List ℕ) → Type 0
-Taken words n ws y = (spelling n ∷ ws ≡ map word_text (words y.0) ++ y.1) × Fit (words y.0)
+Taken words n ws y = (spelling n ∷ ws ≡ map word_text (words y.0) ++ y.1) × FitWords (words y.0)
 
 named_act : (n : Name) (ws : List (List ℕ)) (y : Act × List (List ℕ)) → act_named n ws ≡ Some y → Taken act_words n ws y
 named_act name.Look ws y h = read_then (Taken act_words name.Look ws) (wide_at ws) act.Look y (λ k e. (ap (λ t. spelling name.Look ∷ t) (wide_taken ws k e).0, (tt, ((wide_taken ws k e).1, tt)))) h
@@ -226,14 +226,14 @@ named_reply name.Again ws y h = subst (Taken reply_words name.Again ws) (some_sa
 named_reply name.NotYet ws y h = subst (Taken reply_words name.NotYet ws) (some_same h) (refl, (tt, tt))
 named_reply _ ws y h = absurd (cc)
 
-pub act_taken : (ws : List (List ℕ)) (y : Act × List (List ℕ)) → act_at ws ≡ Some y → (ws ≡ map word_text (act_words y.0) ++ y.1) × Fit (act_words y.0)
+pub act_taken : (ws : List (List ℕ)) (y : Act × List (List ℕ)) → act_at ws ≡ Some y → (ws ≡ map word_text (act_words y.0) ++ y.1) × FitWords (act_words y.0)
 unfolding act_at
 act_taken ws y h =
     let b = bound (name_at ws) _ y h in
     let t = named_act b.0.0 b.0.1 y b.2 in
     (name_taken ws b.0 b.1 ∙ t.0, t.1)
 
-pub reply_taken : (ws : List (List ℕ)) (y : Reply × List (List ℕ)) → reply_at ws ≡ Some y → (ws ≡ map word_text (reply_words y.0) ++ y.1) × Fit (reply_words y.0)
+pub reply_taken : (ws : List (List ℕ)) (y : Reply × List (List ℕ)) → reply_at ws ≡ Some y → (ws ≡ map word_text (reply_words y.0) ++ y.1) × FitWords (reply_words y.0)
 unfolding reply_at
 reply_taken ws y h =
     let b = bound (name_at ws) _ y h in

@@ -3,7 +3,7 @@ use Rattle.std.proofs.Common.{◌≡◌, ◌∙◌, ℕ, List, [], ◌∷◌, �
 use Rattle.std.proofs.lemmas.List.{append-nil}
 use Rattle.std.specs.Fmt.{decimal}
 use Rattle.journal_text.specs.Journal.{ended_line}
-use Rattle.journal_text.specs.Table.{word_text, spelled, spaced, act_words, reply_name, reply_numbers, entry_words}
+use Rattle.journal_text.specs.Table.{word_text, spaced_words, spaced, act_words, reply_name, reply_numbers, entry_words}
 use Rattle.journal_text.specs.declared.name.Name.TheVariants as name
 use Rattle.journal_text.specs.declared.word.Word.{Word}
 use Rattle.journal_text.specs.declared.word.Word.TheVariants.{Named, Worker}
@@ -21,7 +21,7 @@ spaced_append [] ys = refl
 spaced_append (x ∷ xs) ys =
     ap (λ t. 32 ∷ (word_text x ++ t)) (spaced_append xs ys) ∙ ap (λ t. 32 ∷ t) (sym (append_assoc (word_text x) (spaced xs) (spaced ys)))
 
-pub spelled_spaced : (w : Word) (ws : List Word) → spelled (w ∷ ws) ≡ word_text w ++ spaced ws
+pub spelled_spaced : (w : Word) (ws : List Word) → spaced_words (w ∷ ws) ≡ word_text w ++ spaced ws
 unfolding spaced
 spelled_spaced w [] = sym (append-nil (word_text w))
 spelled_spaced w (v ∷ vs) = ap (λ t. word_text w ++ (32 ∷ t)) (spelled_spaced v vs)
@@ -34,13 +34,13 @@ word_more text pushed new w ws p n =
     ap (λ t. t ++ spaced ws) (n ∙ ap (λ t. t ++ word_text w) p ∙ append_assoc text (32 ∷ []) (word_text w))
     ∙ append_assoc text (32 ∷ word_text w) (spaced ws)
 
-pub words_more : (text a b : List ℕ) (w : Word) (ws : List Word) → a ≡ text ++ word_text w → b ≡ a ++ spaced ws → b ≡ text ++ spelled (w ∷ ws)
+pub words_more : (text a b : List ℕ) (w : Word) (ws : List Word) → a ≡ text ++ word_text w → b ≡ a ++ spaced ws → b ≡ text ++ spaced_words (w ∷ ws)
 words_more text a b w ws h k =
     k ∙ ap (λ t. t ++ spaced ws) h ∙ append_assoc text (word_text w) (spaced ws) ∙ ap (λ t. text ++ t) (sym (spelled_spaced w ws))
 
 pub entry_more : (text a b d e : List ℕ) (entry : Entry Step Reply) → a ≡ text ++ decimal entry.step.worker → b ≡ a ++ spaced (act_words entry.step.act)
     → d ≡ b ++ spaced (Named name.Equals ∷ Named (reply_name entry.reply) ∷ []) → e ≡ d ++ spaced (reply_numbers entry.reply)
-    → e ≡ text ++ spelled (entry_words entry)
+    → e ≡ text ++ spaced_words (entry_words entry)
 entry_more text a b d e entry ha hb hd he =
     let acts = act_words entry.step.act in
     let equals : List Word = Named name.Equals ∷ Named (reply_name entry.reply) ∷ [] in

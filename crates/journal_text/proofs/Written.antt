@@ -4,12 +4,12 @@ use Rattle.std.proofs.lemmas.List.{append-nil}
 use Rattle.std.proofs.lemmas.List.Elements.{All-cons, All-head, All-nil, All-tail}
 use Rattle.std.specs.Io.KnownBytes.{append_known, Appends, Keeps}
 use Rattle.journal_text.specs.Journal.{AreLines}
-use Rattle.journal_text.specs.Table.{entry_words, is_answer_in, Fit, IsLine}
+use Rattle.journal_text.specs.Table.{entry_words, is_answer_in, FitWords, IsLine}
 use Rattle.journal_text.specs.Writing.{AreFit, IsTextWritten}
 use Rattle.journal_text.specs.declared.line.Line.TheVariants.{Made}
 use Rattle.journal_text.specs.declared.version.Version.TheVariants.{Two}
 use Rattle.step_record.specs.Answers.{is_answer, AnswersItsActs}
-use Rattle.step_record.specs.History.{went, IsLegal, Entries}
+use Rattle.step_record.specs.History.{next_data, IsLegal, Entries}
 use Rattle.step_record.specs.declared.entry.Entry.{Entry}
 use Rattle.step_record.specs.declared.step.Reply.{Reply}
 use Rattle.step_record.specs.declared.step.Step.{Step}
@@ -55,7 +55,7 @@ finished (Some xs) (Some ys) (Some zs) None waiting bytes h a k = absurd k
 finished (Some xs) (Some ys) (Some zs) (Some ws) waiting bytes h a k = k ∙ a ∙ h
 
 -- The entries that an engine made are lines of version 2, where it answers its acts and their numbers fit.
-line_of_two : (e : Entry Step Reply) → Fit (entry_words e) → is_answer e.step.act e.reply ≡ true → IsLine Two (Made e)
+line_of_two : (e : Entry Step Reply) → FitWords (entry_words e) → is_answer e.step.act e.reply ≡ true → IsLine Two (Made e)
 unfolding IsLine is_answer_in
 line_of_two e fit answer = (fit, answer)
 
@@ -64,5 +64,5 @@ module _ {D : Type 0} (act : D → Step → Option (Reply × D)) where
   lines_of_two x [] answers legal fit = All-nil (λ e. IsLine Two (Made e))
   lines_of_two x (e ∷ es) answers legal fit =
       All-cons (λ e. IsLine Two (Made e)) e es
-      (line_of_two e (All-head (λ e. Fit (entry_words e)) e es fit) (answers x (went (act x e.step) x) e.step e.reply legal.0))
-      (lines_of_two (went (act x e.step) x) es answers legal.1 (All-tail (λ e. Fit (entry_words e)) e es fit))
+      (line_of_two e (All-head (λ e. FitWords (entry_words e)) e es fit) (answers x (next_data (act x e.step) x) e.step e.reply legal.0))
+      (lines_of_two (next_data (act x e.step) x) es answers legal.1 (All-tail (λ e. FitWords (entry_words e)) e es fit))

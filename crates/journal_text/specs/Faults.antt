@@ -10,7 +10,7 @@ use Rattle.journal_text.specs.declared.line.Line.TheVariants.{Made, Steps}
 use Rattle.journal_text.specs.declared.reader.TheConstants.{MAX_JOURNAL_BYTES}
 use Rattle.journal_text.specs.declared.version.Version.{Version}
 use Rattle.journal_text.specs.declared.version.Version.TheVariants.{One, Two}
-use Rattle.step_record.specs.History.{after, Entries}
+use Rattle.step_record.specs.History.{data_after, Entries}
 use Rattle.step_record.specs.declared.entry.Entry.{Entry}
 use Rattle.step_record.specs.declared.step.Reply.{Reply}
 use Rattle.step_record.specs.declared.step.Step.{Step}
@@ -35,11 +35,11 @@ module _ {D : Type 0} (act : D → Step → Option (Reply × D)) (x : D) (limit 
   IsWrong (fault.FalseReply n) v es text kept =
       (n ≡ length es + 1) × ((e : Entry Step Reply) × (r : Reply) × IsLineOf v e text
       × (kept ≡ es ++ record { step = e.step; reply = r } ∷ []) × (r ≢ e.reply)
-      × ((y : D) × (act (after act x es) e.step ≡ Some (r, y))))
+      × ((y : D) × (act (data_after act x es) e.step ≡ Some (r, y))))
   -- its step is not accepted
   IsWrong (fault.NotNow n) v es text kept =
       (n ≡ length es + 1) × (kept ≡ es) × ((e : Entry Step Reply) × IsLineOf v e text
-      × (length es ≢ limit) × (act (after act x es) e.step ≡ None))
+      × (length es ≢ limit) × (act (data_after act x es) e.step ≡ None))
   -- there is no room for its step
   IsWrong (fault.JournalFull n) v es text kept =
       (n ≡ length es + 1) × (kept ≡ es) × ((e : Entry Step Reply) × IsLineOf v e text × (length es ≡ limit))

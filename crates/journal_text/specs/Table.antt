@@ -119,8 +119,8 @@ word_text (Stripe n) = decimal n
 word_text (Wide n) = decimal n
 
 -- words with single spaces (32) between them
-abbrev pub spelled : List Word → List ℕ
-spelled words = join_with_byte 32 (map word_text words)
+abbrev pub spaced_words : List Word → List ℕ
+spaced_words words = join_with_byte 32 (map word_text words)
 
 -- words, each with a space before it
 unfoldable pub spaced : List Word → List ℕ
@@ -133,8 +133,8 @@ FitsWord (Worker n) = n < MAX_WORKERS
 FitsWord (Stripe n) = n < 256
 FitsWord (Wide n) = n < 2 ^ 64
 
-abbrev pub Fit : List Word → Type 0
-Fit words = AllByRecursion FitsWord words
+abbrev pub FitWords : List Word → Type 0
+FitWords words = AllByRecursion FitsWord words
 
 abbrev pub line_words : Line → List Word
 line_words (line.Made e) = entry_words e
@@ -142,10 +142,10 @@ line_words (line.Steps n) = count_words n
 
 -- the one text of a line, without its line feed
 unfoldable pub text_of : Line → List ℕ
-text_of line = spelled (line_words line)
+text_of line = spaced_words (line_words line)
 
 -- a line of the table; version 2 alone has the count of its steps
 unfoldable pub IsLine : Version → Line → Type 0
-IsLine v (line.Made e) = Fit (entry_words e) × (is_answer_in v e.step.act e.reply ≡ true)
+IsLine v (line.Made e) = FitWords (entry_words e) × (is_answer_in v e.step.act e.reply ≡ true)
 IsLine One (line.Steps n) = ⊥
 IsLine Two (line.Steps n) = n < 2 ^ 64

@@ -2,7 +2,7 @@
 ghost use Rattle.std.specs.Prelude.{◌≡◌, ◌≤◌, ◌+◌, ◌*◌, ◌++◌, [], length, vec_len, vec_capacity};
 ghost use Rattle.std.specs.Fmt.{decimal};
 ghost use Rattle.journal_text.specs.Table.{act_words, answer_name, entry_words, item_words, offer_words};
-ghost use Rattle.journal_text.specs.Table.{reply_numbers, spaced, spelled, text_of, word_text, Fit};
+ghost use Rattle.journal_text.specs.Table.{reply_numbers, spaced, spaced_words, text_of, word_text, FitWords};
 ghost use Rattle.journal_text.specs.Journal.{begun, ended_line};
 ghost use Rattle.journal_text.specs.declared.line.Line.TheVariants.{Made, Steps};
 ghost use Rattle.journal_text.specs.declared.version.Version.TheVariants.{Two};
@@ -23,7 +23,7 @@ pub fn push_entry_line(text: &mut Vec<u8>, entry: &Entry<Step, Reply>)
     requires { vec_len text.old + MAX_LINE ≤ vec_capacity text.old }
     ensures items { text.new.items ≡ text.old.items ++ ended_line (text_of (Made entry.now)) }
     ensures capacity { vec_capacity text.old ≤ vec_capacity text.new }
-    ensures fit { Fit (entry_words entry.now) }
+    ensures fit { FitWords (entry_words entry.now) }
 {
     push_entry(text, entry);
     text.push_reserved(b'\n');
@@ -106,7 +106,7 @@ fn push_item(text: &mut Vec<u8>, item: Item)
     ensures items { text.new.items ≡ text.old.items ++ spaced (item_words item) }
     ensures len { vec_len text.new ≤ vec_len text.old + 42 }
     ensures capacity { vec_capacity text.old ≤ vec_capacity text.new }
-    ensures fit { Fit (item_words item) }
+    ensures fit { FitWords (item_words item) }
 {
     push_words(text, &[Word::Wide(item.key), Word::Wide(item.node)]);
 }
@@ -128,7 +128,7 @@ fn push_act(text: &mut Vec<u8>, act: Act)
     ensures items { text.new.items ≡ text.old.items ++ spaced (act_words act) }
     ensures len { vec_len text.new ≤ vec_len text.old + 84 }
     ensures capacity { vec_capacity text.old ≤ vec_capacity text.new }
-    ensures fit { Fit (act_words act) }
+    ensures fit { FitWords (act_words act) }
 {
     match act {
         Act::Look { key } => push_words(text, &[Word::Named(Name::Look), Word::Wide(key)]),
@@ -157,7 +157,7 @@ fn push_offer(text: &mut Vec<u8>, name: Name, stripe: u8, item: Item)
     ensures items { text.new.items ≡ text.old.items ++ spaced (offer_words name stripe item) }
     ensures len { vec_len text.new ≤ vec_len text.old + 84 }
     ensures capacity { vec_capacity text.old ≤ vec_capacity text.new }
-    ensures fit { Fit (offer_words name stripe item) }
+    ensures fit { FitWords (offer_words name stripe item) }
 {
     let words = [
         Word::Named(name),
@@ -174,7 +174,7 @@ fn push_numbers(text: &mut Vec<u8>, reply: Reply)
     ensures items { text.new.items ≡ text.old.items ++ spaced (reply_numbers reply) }
     ensures len { vec_len text.new ≤ vec_len text.old + 42 }
     ensures capacity { vec_capacity text.old ≤ vec_capacity text.new }
-    ensures fit { Fit (reply_numbers reply) }
+    ensures fit { FitWords (reply_numbers reply) }
 {
     match reply {
         Reply::Hit { node }
@@ -194,10 +194,10 @@ fn push_numbers(text: &mut Vec<u8>, reply: Reply)
 // Adds an entry.
 fn push_entry(text: &mut Vec<u8>, entry: &Entry<Step, Reply>)
     requires { vec_len text.old + 188 ≤ vec_capacity text.old }
-    ensures items { text.new.items ≡ text.old.items ++ spelled (entry_words entry.now) }
+    ensures items { text.new.items ≡ text.old.items ++ spaced_words (entry_words entry.now) }
     ensures len { vec_len text.new ≤ vec_len text.old + 188 }
     ensures capacity { vec_capacity text.old ≤ vec_capacity text.new }
-    ensures fit { Fit (entry_words entry.now) }
+    ensures fit { FitWords (entry_words entry.now) }
 {
     push_word(text, Word::Worker(entry.step.worker.number()));
     push_act(text, entry.step.act);

@@ -7,8 +7,8 @@ use Rattle.replacement.specs.declared.record.Moves.{Moves}
 use Rattle.replacement.specs.declared.rules.Rules.{Rules}
 use Rattle.replacement.specs.Rules.{three_queues}
 use Rattle.replacement.specs.Plan.{candidate_of}
-use Rattle.replacement.specs.Moving.{transferred, queues_after, response, removal_record, moves_of}
-use Rattle.shell_model.specs.Shell.{Shell, evict}
+use Rattle.replacement.specs.Moving.{queues_after_transfer, queues_after, response_of_plan, removal_record, moves_of}
+use Rattle.shell_model.specs.Shell.{Shell, evict_effect}
 use Rattle.shell_model.specs.Evicting.{reply_by, unlisted_by, evicted_by}
 use Rattle.shell_model.proofs.Evicting.{evictions-by-plan}
 use Rattle.maintenance.specs.Evicted.{planned, item_out}
@@ -24,9 +24,9 @@ pub evicted-is : (x : Shell) (c : Item) (r : Rules) (o : Outcome) (m : Moves) (q
     → m ≡ moves_of (planned r x.frequency x.queues) x.queues
     → o ≡ (planned r x.frequency x.queues).outcome
     → t ≡ unlisted_by (item_out m.out) x.table
-    → evict x ≡ (reply_by o (item_out m.out) c, record x { queues = q; table = t })
+    → evict_effect x ≡ (reply_by o (item_out m.out) c, record x { queues = q; table = t })
 evicted-is x c r o m q t d hr hc hq hm ho ht =
     let p = planned (three_queues x.config) x.frequency x.queues in
-    let h : evict x ≡ evicted_by (Some c) (response p x.queues) x =
-    evictions-by-plan x d ∙ ap (λ (k : Option Item). evicted_by k (response p x.queues) x) (sym hc) in
-    rw (ht, hq, hm, ho, hr, out-leaves p.leaves (transferred p.first x.queues)) h
+    let h : evict_effect x ≡ evicted_by (Some c) (response_of_plan p x.queues) x =
+    evictions-by-plan x d ∙ ap (λ (k : Option Item). evicted_by k (response_of_plan p x.queues) x) (sym hc) in
+    rw (ht, hq, hm, ho, hr, out-leaves p.leaves (queues_after_transfer p.first x.queues)) h

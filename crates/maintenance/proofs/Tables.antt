@@ -9,9 +9,9 @@ use Rattle.std.specs.List.Sorted.{IsStrictlySortedBy}
 use Rattle.std.specs.Map.{keys_of, lookup, remove_entry}
 use Rattle.std.specs.BTreeMap.{insert_entry, is_at}
 use Rattle.step_record.specs.declared.item.Item.{Item}
-use Rattle.segments.specs.Items.{same, times, items_without}
+use Rattle.segments.specs.Items.{is_same_item, occurrences, items_without}
 use Rattle.segments.proofs.ItemLists.{without-none}
-use Rattle.shell_model.specs.Shell.{node_of, placed, is_listed}
+use Rattle.shell_model.specs.Shell.{node_of, table_with, is_listed}
 use Rattle.shell_model.specs.Consistent.{AreAbove, IsAscending}
 use Rattle.shell_model.proofs.Counting.{above-none}
 use Rattle.maintenance.specs.Table.{table_items}
@@ -25,14 +25,14 @@ found k (e ∷ es) =
       | inr q ↦ rw (t, q) (found k es)
     ]
 
-pub entry-placed : (k n : ℕ) (es : List (ℕ × ℕ)) → node_of k (table_items es) ≡ None → table_items (insert_entry nat_cmp es k n) ≡ placed record { key = k; node = n } (table_items es)
+pub entry-placed : (k n : ℕ) (es : List (ℕ × ℕ)) → node_of k (table_items es) ≡ None → table_items (insert_entry nat_cmp es k n) ≡ table_with record { key = k; node = n } (table_items es)
 entry-placed k n [] h = refl
 entry-placed k n (e ∷ es) h =
-    elim (cases_Bool (eqb k e.0)) as (λ _. table_items (match_ordering (nat_cmp k e.0) ((k, n) ∷ e ∷ es) ((e.0, n) ∷ es) (e ∷ insert_entry nat_cmp es k n)) ≡ placed record { key = k; node = n } (table_items (e ∷ es))) [
+    elim (cases_Bool (eqb k e.0)) as (λ _. table_items (match_ordering (nat_cmp k e.0) ((k, n) ∷ e ∷ es) ((e.0, n) ∷ es) (e ∷ insert_entry nat_cmp es k n)) ≡ table_with record { key = k; node = n } (table_items (e ∷ es))) [
       | inl q ↦ absurd (let no : Some e.1 ≡ None = rw q at h in cc (no))
-      | inr q ↦ elim (cases_Bool (nat_lt k e.0)) as (λ _. table_items (match_ordering (nat_cmp k e.0) ((k, n) ∷ e ∷ es) ((e.0, n) ∷ es) (e ∷ insert_entry nat_cmp es k n)) ≡ placed record { key = k; node = n } (table_items (e ∷ es))) [
+      | inr q ↦ elim (cases_Bool (nat_lt k e.0)) as (λ _. table_items (match_ordering (nat_cmp k e.0) ((k, n) ∷ e ∷ es) ((e.0, n) ∷ es) (e ∷ insert_entry nat_cmp es k n)) ≡ table_with record { key = k; node = n } (table_items (e ∷ es))) [
         | inl l ↦ rw l refl
-        | inr l ↦ let i : table_items (insert_entry nat_cmp es k n) ≡ placed record { key = k; node = n } (table_items es) = entry-placed k n es (rw q at h) in rw (l, q, i) refl
+        | inr l ↦ let i : table_items (insert_entry nat_cmp es k n) ≡ table_with record { key = k; node = n } (table_items es) = entry-placed k n es (rw q at h) in rw (l, q, i) refl
       ]
     ]
 
@@ -43,9 +43,9 @@ entry-removed i (e ∷ es) a h =
     elim (cases_Bool (eqb i.key e.0)) as (λ _. table_items (cond (is_eq (nat_cmp i.key e.0)) es (e ∷ remove_entry (is_at (nat_cmp i.key)) es)) ≡ items_without i (table_items (e ∷ es))) [
       | inl q ↦
           let n : eqb i.node e.1 ≡ true = rw q at h in
-          let s : same i record { key = e.0; node = e.1 } ≡ true = and_from (eqb i.key e.0) (eqb i.node e.1) q n in
+          let s : is_same_item i record { key = e.0; node = e.1 } ≡ true = and_from (eqb i.key e.0) (eqb i.node e.1) q n in
           let k : i.key ≡ e.0 = eqb-true i.key e.0 q in
-          let none : times i (table_items es) ≡ 0 = above-none i (table_items es) (rw k a.0) in
+          let none : occurrences i (table_items es) ≡ 0 = above-none i (table_items es) (rw k a.0) in
           rw (t, q, n) (sym (without-none i (table_items es) none))
       | inr q ↦ rw (t, q) (ap (λ l. record { key = e.0; node = e.1 } ∷ l) (entry-removed i es a.1 (rw q at h)))
     ]

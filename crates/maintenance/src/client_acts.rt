@@ -1,7 +1,7 @@
 //! What readers and writers do.
 ghost use Rattle.std.specs.Prelude.{◌≡◌, ◌<◌, length, Some, None, IfOk, OnOk, OnErr};
 ghost use Rattle.step_record.specs.declared.limits.TheConstants.{MAX_STEPS};
-ghost use Rattle.shell_model.specs.Shell.{put, remove, begin, offer, after_write, after_read, held_by};
+ghost use Rattle.shell_model.specs.Shell.{put_effect, remove_effect, begin_effect, offer_effect, after_write, after_read, held_by};
 ghost use Rattle.shell_model.specs.Records.{change_of};
 ghost use Rattle.step_record.specs.declared.step.Act.TheVariants as act;
 
@@ -13,7 +13,7 @@ use step_record::{Answer, Drain, Item, Key, Phase, Reply, Worker};
 
 impl Core {
     pub(crate) fn look(&self, key: Key) -> Reply
-        ensures { result ≡ Rattle.shell_model.specs.Shell.look
+        ensures { result ≡ Rattle.shell_model.specs.Shell.look_reply
             (Rattle.shell_model.specs.Shell.node_of key self.now.table) }
     {
         match self.table.node_of(key) {
@@ -24,8 +24,8 @@ impl Core {
 
     pub(crate) fn offer(&mut self, worker: Worker, stripe: u8, item: Item) -> (Reply, Change)
         requires { stripe < length self.old.stripes }
-        ensures reply { result.0 ≡ (offer stripe item self.old).0 }
-        ensures state { self.new ≡ (offer stripe item self.old).1 }
+        ensures reply { result.0 ≡ (offer_effect stripe item self.old).0 }
+        ensures state { self.new ≡ (offer_effect stripe item self.old).1 }
         ensures change { result.1 ≡ change_of worker (act.Offer stripe item) self.old }
     {
         if self.stripes.offer(stripe, item) {
@@ -37,8 +37,8 @@ impl Core {
 
     pub(crate) fn put(&mut self, worker: Worker, key: Key) -> Result<(Reply, Change), AllocError>
         requires { self.old.next < MAX_STEPS }
-        ensures reply { IfOk result (λ r. r.0 ≡ (put key self.old).0) }
-        ensures state { OnOk result (self.new ≡ (put key self.old).1) }
+        ensures reply { IfOk result (λ r. r.0 ≡ (put_effect key self.old).0) }
+        ensures state { OnOk result (self.new ≡ (put_effect key self.old).1) }
         ensures change { IfOk result (λ r. r.1 ≡ change_of worker (act.Put key) self.old) }
         ensures err { OnErr result (self.new ≡ self.old) }
     {
@@ -63,8 +63,8 @@ impl Core {
     }
 
     pub(crate) fn remove(&mut self, worker: Worker, key: Key) -> (Reply, Change)
-        ensures reply { result.0 ≡ (remove key self.old).0 }
-        ensures state { self.new ≡ (remove key self.old).1 }
+        ensures reply { result.0 ≡ (remove_effect key self.old).0 }
+        ensures state { self.new ≡ (remove_effect key self.old).1 }
         ensures change { result.1 ≡ change_of worker (act.Remove key) self.old }
     {
         match self.table.node_of(key) {
@@ -112,8 +112,8 @@ impl Core {
     }
 
     pub(crate) fn begin(&mut self, worker: Worker) -> (Reply, Change)
-        ensures reply { result.0 ≡ (begin worker self.old.holder self.old).0 }
-        ensures state { self.new ≡ (begin worker self.old.holder self.old).1 }
+        ensures reply { result.0 ≡ (begin_effect worker self.old.holder self.old).0 }
+        ensures state { self.new ≡ (begin_effect worker self.old.holder self.old).1 }
         ensures change { result.1 ≡ change_of worker act.Begin self.old }
     {
         if self.holder.is_some() {

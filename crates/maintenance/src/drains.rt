@@ -3,12 +3,12 @@ ghost use Rattle.std.specs.Prelude.{◌≡◌, ◌<◌, ◌≤◌, length, cond,
 ghost use Rattle.step_record.specs.declared.limits.TheConstants.{MAX_STEPS};
 ghost use Rattle.shell_buffers.specs.declared.write_tasks.TheConstants.{MAX_TASKS};
 ghost use Rattle.shell_buffers.specs.Buffers.{stripe_at};
-ghost use Rattle.shell_model.specs.Shell.{touching, apply_task, drain_read, drain_write, in_phase, end, drain_at_end};
+ghost use Rattle.shell_model.specs.Shell.{shell_after_touch, apply_task, drain_read, drain_write, in_phase, end_effect, drain_at_end};
 ghost use Rattle.shell_model.specs.Shell.{is_over};
 ghost use Rattle.shell_model.specs.Records.{touched_of, added_of, task_change, read_change, write_change};
 ghost use Rattle.shell_model.specs.Consistent.{IsConsistent};
 ghost use Rattle.shell_model.specs.declared.record.Change.TheVariants.{Nothing, Ended};
-ghost use Rattle.segments.specs.Queues.{place_of};
+ghost use Rattle.segments.specs.Queues.{queue_holding};
 ghost use Rattle.shell_buffers.specs.declared.task.Task.TheVariants as task;
 
 use crate::key_records::record_key;
@@ -25,7 +25,7 @@ impl Core {
     // A key is recorded, and its item moves where it is queued.
     fn touch(&mut self, item: Item) -> Result<UseRecord, AllocError>
         requires { self.old.frequency.halvings ≤ MAX_STEPS }
-        ensures state { OnOk result (self.new ≡ touching item self.old) }
+        ensures state { OnOk result (self.new ≡ shell_after_touch item self.old) }
         ensures made { IfOk result (λ r. r ≡ touched_of item self.old) }
         ensures err { OnErr result (self.new ≡ self.old) }
     {
@@ -37,7 +37,7 @@ impl Core {
     // An item that is queued nowhere is recorded, and comes into the window.
     fn enter_window(&mut self, item: Item) -> Result<UseRecord, AllocError>
         requires few { self.old.frequency.halvings ≤ MAX_STEPS }
-        requires absent { place_of item self.old.queues ≡ None }
+        requires absent { queue_holding item self.old.queues ≡ None }
         ensures state { OnOk result (self.new ≡ (apply_task (task.Add item) self.old).1) }
         ensures made { IfOk result (λ r. r ≡ added_of item self.old) }
         ensures err { OnErr result (self.new ≡ self.old) }
@@ -54,7 +54,7 @@ impl Core {
 
     fn apply_add(&mut self, before: Phase, item: Item) -> Result<(Reply, Change), AllocError>
         requires few { self.old.frequency.halvings ≤ MAX_STEPS }
-        requires absent { place_of item self.old.queues ≡ None }
+        requires absent { queue_holding item self.old.queues ≡ None }
         ensures reply { IfOk result (λ r. r.0 ≡ (apply_task (task.Add item) self.old).0) }
         ensures state { OnOk result (self.new ≡ (apply_task (task.Add item) self.old).1) }
         ensures change { IfOk result (λ r. r.1 ≡ task_change before (task.Add item) self.old) }
@@ -162,8 +162,8 @@ impl Core {
 
     pub(crate) fn end(&mut self, holder: Holder) -> (Reply, Change)
         requires { self.old.holder ≡ Some holder }
-        ensures reply { result.0 ≡ (end self.old).0 }
-        ensures state { self.new ≡ (end self.old).1 }
+        ensures reply { result.0 ≡ (end_effect self.old).0 }
+        ensures state { self.new ≡ (end_effect self.old).1 }
         ensures change { result.1
             ≡ cond (is_over self.old) Nothing (Ended holder self.old.drain (drain_at_end self.old.drain).1) }
     {

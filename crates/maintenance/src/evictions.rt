@@ -4,7 +4,7 @@ ghost use Rattle.shell_buffers.specs.declared.write_tasks.TheConstants.{MAX_TASK
 ghost use Rattle.step_record.specs.declared.drain.Phase.TheVariants as phase;
 ghost use Rattle.segments.specs.Queues.{IsDistinct};
 ghost use Rattle.replacement.specs.Moving.{queues_after, moves_of};
-ghost use Rattle.shell_model.specs.Shell.{evict, in_phase};
+ghost use Rattle.shell_model.specs.Shell.{evict_effect, in_phase};
 ghost use Rattle.shell_model.specs.Evicting.{reply_by, unlisted_by};
 ghost use Rattle.shell_model.specs.Records.{leaves_table, evict_change};
 ghost use Rattle.maintenance.specs.Evicted.{planned, item_out};
@@ -57,8 +57,8 @@ impl Core {
     pub(crate) fn evict(&mut self, holder: Holder) -> (Reply, Change)
         requires left { holder.left ≤ MAX_TASKS }
         requires distinct { IsDistinct self.old.queues }
-        ensures reply { result.0 ≡ (evict (in_phase phase.Evictions holder self.old)).0 }
-        ensures state { self.new ≡ (evict (in_phase phase.Evictions holder self.old)).1 }
+        ensures reply { result.0 ≡ (evict_effect (in_phase phase.Evictions holder self.old)).0 }
+        ensures state { self.new ≡ (evict_effect (in_phase phase.Evictions holder self.old)).1 }
         ensures change { result.1 ≡ evict_change holder self.old }
     {
         let before = holder.phase;

@@ -7,7 +7,7 @@ ghost use Rattle.segments.specs.Queues.{queue_of};
 ghost use Rattle.shell_buffers.specs.Buffers.{stripe_at};
 ghost use Rattle.shell_model.specs.Shell.{node_of};
 ghost use Rattle.shell_model.specs.Reached.{IsReachable};
-ghost use Rattle.maintenance.specs.Opened.{IsOpened, triple};
+ghost use Rattle.maintenance.specs.Opened.{IsOpened, holder_parts};
 
 use crate::shell_core::Core;
 use crate::table::Table;
@@ -86,7 +86,7 @@ impl Shell {
 
     /// The worker that does the maintenance, its phase, and how many more tasks it may apply.
     pub fn holder(&self) -> Option<(Worker, Phase, u8)>
-        ensures { result ≡ option_map triple self.now.holder }
+        ensures { result ≡ option_map holder_parts self.now.holder }
     {
         match self.core.holder {
             None => None,

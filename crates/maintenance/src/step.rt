@@ -2,7 +2,7 @@
 ghost use Rattle.std.specs.Prelude.{◌≡◌, ◌<◌, ◌≤◌, ◌↔◌, Some, None, IfOk, OnErr, Err, IsSome, IfSome, IfNone};
 ghost use Rattle.step_record.specs.declared.limits.TheConstants.{MAX_STEPS};
 ghost use Rattle.step_record.specs.declared.step.Act.TheVariants.{DrainRead, DrainWrite};
-ghost use Rattle.shell_model.specs.Shell.{perform, act as acted};
+ghost use Rattle.shell_model.specs.Shell.{act_effect, act as acted};
 ghost use Rattle.shell_model.specs.Records.{change_of};
 ghost use Rattle.shell_model.specs.ShellStats.{AreAtMost};
 ghost use Rattle.shell_model.specs.Consistent.{IsConsistent};
@@ -18,10 +18,10 @@ impl Core {
         requires sound { IsConsistent self.old }
         requires room { self.old.next < MAX_STEPS }
         requires few { self.old.frequency.halvings ≤ MAX_STEPS }
-        ensures some { IfOk result (λ o. IfSome o (λ r. perform worker act self.old ≡ Some (r.0, self.new))) }
+        ensures some { IfOk result (λ o. IfSome o (λ r. act_effect worker act self.old ≡ Some (r.0, self.new))) }
         ensures change { IfOk result (λ o. IfSome o (λ r. r.1 ≡ change_of worker act self.old)) }
-        ensures none { IfOk result (λ o. IfNone o ((perform worker act self.old ≡ None) × (self.new ≡ self.old))) }
-        ensures accepted { OnErr result (IsSome (perform worker act self.old)) }
+        ensures none { IfOk result (λ o. IfNone o ((act_effect worker act self.old ≡ None) × (self.new ≡ self.old))) }
+        ensures accepted { OnErr result (IsSome (act_effect worker act self.old)) }
         ensures err { OnErr result (self.new ≡ self.old) }
     {
         match act {
@@ -65,10 +65,10 @@ impl Core {
         stripe: u8,
     ) -> Result<Option<(Reply, Change)>, AllocError>
         requires few { self.old.frequency.halvings ≤ MAX_STEPS }
-        ensures some { IfOk result (λ o. IfSome o (λ r. perform worker (DrainRead stripe) self.old ≡ Some (r.0, self.new))) }
+        ensures some { IfOk result (λ o. IfSome o (λ r. act_effect worker (DrainRead stripe) self.old ≡ Some (r.0, self.new))) }
         ensures change { IfOk result (λ o. IfSome o (λ r. r.1 ≡ change_of worker (DrainRead stripe) self.old)) }
-        ensures none { IfOk result (λ o. IfNone o ((perform worker (DrainRead stripe) self.old ≡ None) × (self.new ≡ self.old))) }
-        ensures accepted { OnErr result (IsSome (perform worker (DrainRead stripe) self.old)) }
+        ensures none { IfOk result (λ o. IfNone o ((act_effect worker (DrainRead stripe) self.old ≡ None) × (self.new ≡ self.old))) }
+        ensures accepted { OnErr result (IsSome (act_effect worker (DrainRead stripe) self.old)) }
         ensures err { OnErr result (self.new ≡ self.old) }
     {
         match self.held_by(worker) {
@@ -84,10 +84,10 @@ impl Core {
     fn perform_drain_write(&mut self, worker: Worker) -> Result<Option<(Reply, Change)>, AllocError>
         requires sound { IsConsistent self.old }
         requires few { self.old.frequency.halvings ≤ MAX_STEPS }
-        ensures some { IfOk result (λ o. IfSome o (λ r. perform worker DrainWrite self.old ≡ Some (r.0, self.new))) }
+        ensures some { IfOk result (λ o. IfSome o (λ r. act_effect worker DrainWrite self.old ≡ Some (r.0, self.new))) }
         ensures change { IfOk result (λ o. IfSome o (λ r. r.1 ≡ change_of worker DrainWrite self.old)) }
-        ensures none { IfOk result (λ o. IfNone o ((perform worker DrainWrite self.old ≡ None) × (self.new ≡ self.old))) }
-        ensures accepted { OnErr result (IsSome (perform worker DrainWrite self.old)) }
+        ensures none { IfOk result (λ o. IfNone o ((act_effect worker DrainWrite self.old ≡ None) × (self.new ≡ self.old))) }
+        ensures accepted { OnErr result (IsSome (act_effect worker DrainWrite self.old)) }
         ensures err { OnErr result (self.new ≡ self.old) }
     {
         match self.held_by(worker) {

@@ -1,7 +1,7 @@
 //! The table from keys to nodes.
 ghost use Rattle.std.specs.Prelude.{◌≡◌, [], true, Some, None, IfOk, OnOk, OnErr};
 ghost use Rattle.segments.specs.Items.{items_without};
-ghost use Rattle.shell_model.specs.Shell.{node_of, placed, is_listed};
+ghost use Rattle.shell_model.specs.Shell.{node_of, table_with, is_listed};
 ghost use Rattle.maintenance.specs.Table.{table_items};
 
 use std::alloc::{AllocError, Global};
@@ -58,7 +58,7 @@ impl Table {
     /// Puts in an item whose key is not there. The only error is that the allocation failed; nothing is changed then.
     pub(crate) fn place(&mut self, item: Item) -> Result<(), AllocError>
         requires { node_of item.key self.old ≡ None }
-        ensures ok { OnOk result (self.new ≡ placed item self.old) }
+        ensures ok { OnOk result (self.new ≡ table_with item self.old) }
         ensures err { OnErr result (self.new ≡ self.old) }
     {
         let _ = self.nodes.insert(item.key, item.node)?;

@@ -1,7 +1,7 @@
 //! Undoing one step.
 ghost use Rattle.std.specs.Prelude.{◌≡◌, ◌≢◌, ◌<◌, Some, None, IfErr, OnOk, OnErr};
 ghost use Rattle.replacement.specs.Moving.{undone_by, FitsBy};
-ghost use Rattle.shell_model.specs.Records.{before_use, FitsTouched, rephased, refilled, HasLeft};
+ghost use Rattle.shell_model.specs.Records.{before_use, FitsTouched, holder_in_phase, holder_with_task, HasLeft};
 ghost use Rattle.shell_model.specs.Records.{before_change, FitsChange, undone_step, FitsStep};
 ghost use Rattle.shell_model.specs.Records.{change_asks, step_asks};
 ghost use Rattle.shell_model.specs.Consistent.{IsLeft};
@@ -28,7 +28,7 @@ impl Core {
 
     // The phase as before.
     fn rephase(&mut self, before: Phase)
-        ensures { self.new ≡ record self.old { holder = rephased before self.old.holder } }
+        ensures { self.new ≡ record self.old { holder = holder_in_phase before self.old.holder } }
     {
         match self.holder {
             None => {}
@@ -43,7 +43,7 @@ impl Core {
     // The phase as before, and a task more left.
     fn refill(&mut self, before: Phase)
         requires { HasLeft self.old.holder }
-        ensures { self.new ≡ record self.old { holder = refilled before self.old.holder } }
+        ensures { self.new ≡ record self.old { holder = holder_with_task before self.old.holder } }
     {
         match self.holder {
             None => {}

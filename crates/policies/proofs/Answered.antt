@@ -6,7 +6,7 @@ use Rattle.std.proofs.Math.Seq.{get_or-append_seam}
 use Rattle.step_record.specs.declared.job.Job.{Job}
 use Rattle.step_record.specs.declared.outcome.Outcome.{Outcome}
 use Rattle.clairvoyant.specs.Belady.{belady_outcomes, belady_outcome as outcome_at}
-use Rattle.policies.specs.QueueCache.{QueueState, access_response, accessed, frequency_after, state_from, empty_queue_state, state_after, outcomes_from, outcomes_after, outcome_after}
+use Rattle.policies.specs.QueueCache.{QueueState, access_response, queue_state_after, frequency_after, state_from, empty_queue_state, state_after, outcomes_from, outcomes_after, outcome_after}
 
 -- ---- of a policy of queues
 
@@ -15,7 +15,7 @@ from-answers : (j : Job) (past : List ℕ) (d : QueueState) (keys rest : List �
     ≡ (access_response (frequency_after j ((past ++ keys) ++ k ∷ [])) k (state_from j past d keys)).outcome
 from-answers j past d [] rest k x = rw (append-nil past) refl
 from-answers j past d (a ∷ keys) rest k x =
-    from-answers j (past ++ a ∷ []) (accessed (frequency_after j (past ++ a ∷ [])) a d) keys rest k x
+    from-answers j (past ++ a ∷ []) (queue_state_after (frequency_after j (past ++ a ∷ [])) a d) keys rest k x
     ∙ rw (append_assoc past (a ∷ []) keys) refl
 
 pub after-answers : (j : Job) (keys rest : List ℕ) (k : ℕ) (x : Outcome)
@@ -26,7 +26,7 @@ after-answers j keys rest k x = from-answers j [] (empty_queue_state j) keys res
 from-length : (j : Job) (past : List ℕ) (d : QueueState) (keys : List ℕ) → length (outcomes_from j past d keys) ≡ length keys
 from-length j past d [] = refl
 from-length j past d (k ∷ keys) =
-    ap suc (from-length j (past ++ k ∷ []) (accessed (frequency_after j (past ++ k ∷ [])) k d) keys)
+    ap suc (from-length j (past ++ k ∷ []) (queue_state_after (frequency_after j (past ++ k ∷ [])) k d) keys)
 
 pub after-length : (j : Job) (keys : List ℕ) → length (outcomes_after j keys) ≡ length keys
 unfolding outcomes_after

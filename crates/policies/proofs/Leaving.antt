@@ -10,8 +10,8 @@ use Rattle.step_record.specs.declared.outcome.Outcome.TheVariants.{Hit, Evicted}
 use Rattle.step_record.specs.Stats.{is_hit}
 use Rattle.segments.specs.declared.records.Queue.{Queue}
 use Rattle.segments.specs.declared.records.Queue.TheVariants.{Window, Probation}
-use Rattle.segments.specs.Items.{same, first}
-use Rattle.segments.specs.Queues.{Queues, queue_of, place_of, pushed, taken, moved, total_items, IsDistinct}
+use Rattle.segments.specs.Items.{is_same_item, oldest_of}
+use Rattle.segments.specs.Queues.{Queues, queue_of, queue_holding, queues_after_push, queues_without, queues_after_move, total_items, IsDistinct}
 use Rattle.admission.specs.Frequency.{FrequencyData}
 use Rattle.replacement.specs.declared.rules.Placement.{Placement}
 use Rattle.replacement.specs.declared.rules.Placement.TheVariants.{Direct, Windowed}
@@ -19,22 +19,22 @@ use Rattle.replacement.specs.declared.rules.HitRule.{HitRule}
 use Rattle.replacement.specs.declared.rules.HitRule.TheVariants.{Renews, Stays}
 use Rattle.replacement.specs.declared.rules.Rules.{Rules}
 use Rattle.replacement.specs.Admission.{admits_in}
-use Rattle.replacement.specs.Table.{Response, rejection, kept_in, contest, trial_of, eviction, replacing, direct, miss_by, miss, access_in, access}
+use Rattle.replacement.specs.Table.{Response, rejection, kept_in, contest, trial_of, eviction, response_with_victim, response_without_trial, miss_by, miss, access_in, access}
 use Rattle.replacement.specs.Plan.{Plan, hit_plan_by, plan}
-use Rattle.replacement.specs.Moving.{removal_record, moves_of, transferred}
+use Rattle.replacement.specs.Moving.{removal_record, moves_of, queues_after_transfer}
 use Rattle.replacement.proofs.Carrying.{carries}
 use Rattle.replacement.proofs.Planned.{plan-at, access-at, accesses-planned}
 use Rattle.policies.specs.Design.{rules_of}
-use Rattle.policies.specs.QueueCache.{QueueState, nodeless_item, access_response, accessed, frequency_after, state_from, empty_queue_state, state_after}
+use Rattle.policies.specs.QueueCache.{QueueState, nodeless_item, access_response, queue_state_after, frequency_after, state_from, empty_queue_state, state_after}
 use Rattle.policies.specs.QueueStep.{IsReached, recorded_in, queue_act, queue_record_of}
 
 -- ---- no miss is a hit
 
 contest-misses : (a : ℕ → ℕ → Bool) (c : Item) (v : Option Item) (s : Queues) → is_hit (contest a c v s).outcome ≡ false
 contest-misses a c None s = refl
-contest-misses a c (Some v) s = by (same c v) (a c.key v.key)
+contest-misses a c (Some v) s = by (is_same_item c v) (a c.key v.key)
   where
-    by : (b e : Bool) → is_hit (if b then rejection c s else if e then record { outcome = Evicted v.key; left = Some v; queues = taken v s } else rejection c s).outcome ≡ false
+    by : (b e : Bool) → is_hit (if b then rejection c s else if e then record { outcome = Evicted v.key; left = Some v; queues = queues_without v s } else rejection c s).outcome ≡ false
     by true e = refl
     by false true = refl
     by false false = refl
@@ -44,32 +44,32 @@ trial-misses r a None s = refl
 trial-misses r a (Some c) s = by (nat_lt r.capacity (total_items t))
   where
     t : Queues
-    t = moved c Probation s
+    t = queues_after_move c Probation s
 
-    by : (b : Bool) → is_hit (if b then contest a c (first t.probation) t else kept_in t).outcome ≡ false
-    by true = contest-misses a c (first t.probation) t
+    by : (b : Bool) → is_hit (if b then contest a c (oldest_of t.probation) t else kept_in t).outcome ≡ false
+    by true = contest-misses a c (oldest_of t.probation) t
     by false = refl
 
 eviction-misses : (r : Rules) (a : ℕ → ℕ → Bool) (s : Queues) → is_hit (eviction r a s).outcome ≡ false
 eviction-misses r a s = by (nat_lt r.window (length s.window))
   where
-    by : (b : Bool) → is_hit (if b then trial_of r a (first s.window) s else kept_in s).outcome ≡ false
-    by true = trial-misses r a (first s.window) s
+    by : (b : Bool) → is_hit (if b then trial_of r a (oldest_of s.window) s else kept_in s).outcome ≡ false
+    by true = trial-misses r a (oldest_of s.window) s
     by false = refl
 
-replacing-misses : (a : ℕ → ℕ → Bool) (q : Queue) (i : Item) (o : Option Item) (s : Queues) → is_hit (replacing a q i o s).outcome ≡ false
+replacing-misses : (a : ℕ → ℕ → Bool) (q : Queue) (i : Item) (o : Option Item) (s : Queues) → is_hit (response_with_victim a q i o s).outcome ≡ false
 replacing-misses a q i None s = refl
 replacing-misses a q i (Some v) s =
-    elim (cases_Bool (a i.key v.key)) as (λ _. is_hit (replacing a q i (Some v) s).outcome ≡ false) [
+    elim (cases_Bool (a i.key v.key)) as (λ _. is_hit (response_with_victim a q i (Some v) s).outcome ≡ false) [
       | inl e ↦ rw e refl
       | inr e ↦ rw e refl
     ]
 
-direct-misses : (r : Rules) (a : ℕ → ℕ → Bool) (q : Queue) (i : Item) (s : Queues) → is_hit (direct r a q i s).outcome ≡ false
+direct-misses : (r : Rules) (a : ℕ → ℕ → Bool) (q : Queue) (i : Item) (s : Queues) → is_hit (response_without_trial r a q i s).outcome ≡ false
 direct-misses r a q i s =
-    elim (cases_Bool (nat_lt (total_items s) r.capacity)) as (λ _. is_hit (direct r a q i s).outcome ≡ false) [
+    elim (cases_Bool (nat_lt (total_items s) r.capacity)) as (λ _. is_hit (response_without_trial r a q i s).outcome ≡ false) [
       | inl e ↦ rw e refl
-      | inr e ↦ rw e (replacing-misses a q i (first (queue_of q s)) s)
+      | inr e ↦ rw e (replacing-misses a q i (oldest_of (queue_of q s)) s)
     ]
 
 miss-misses : (r : Rules) (a : ℕ → ℕ → Bool) (i : Item) (s : Queues) → is_hit (miss r a i s).outcome ≡ false
@@ -77,7 +77,7 @@ miss-misses r a i s = by r.placement
   where
     by : (p : Placement) → is_hit (miss_by p r a i s).outcome ≡ false
     by (Direct q) = direct-misses r a q i s
-    by Windowed = eviction-misses r a (pushed Window i s)
+    by Windowed = eviction-misses r a (queues_after_push Window i s)
 
 -- ---- a hit
 
@@ -85,7 +85,7 @@ hit-plan-keeps : (h : HitRule) (size : ℕ) (i : Item) (q : Queue) (s : Queues) 
 hit-plan-keeps Renews size i q s = refl
 hit-plan-keeps Stays size i q s = refl
 
-hit-keeps : (r : Rules) (a : ℕ → ℕ → Bool) (i : Item) (s : Queues) (p : Option Queue) → place_of i s ≡ p
+hit-keeps : (r : Rules) (a : ℕ → ℕ → Bool) (i : Item) (s : Queues) (p : Option Queue) → queue_holding i s ≡ p
     → (access r a i s).outcome ≡ Hit → (moves_of (plan r a i s) s).out ≡ None
 hit-keeps r a i s (Some q) h o = rw (plan-at r a i s (Some q) h) (hit-plan-keeps r.hits r.protected i q s)
 hit-keeps r a i s None h o =
@@ -102,14 +102,14 @@ hits_keep_all d k e h =
     elim (cases_Bool (d.stats.accesses == MAX_STEPS)) [
       | inl f ↦ absurd (let no : None ≡ Some (Hit, e) = rw f at h in cc (no))
       | inr f ↦
-          let b : Some ((access_response (recorded_in k d.frequency) k d).outcome, accessed (recorded_in k d.frequency) k d) ≡ Some (Hit, e) = rw f at h in
-          hit-keeps (rules_of d.job) (admits_in (recorded_in k d.frequency)) (nodeless_item k) d.queues (place_of (nodeless_item k) d.queues) refl
+          let b : Some ((access_response (recorded_in k d.frequency) k d).outcome, queue_state_after (recorded_in k d.frequency) k d) ≡ Some (Hit, e) = rw f at h in
+          hit-keeps (rules_of d.job) (admits_in (recorded_in k d.frequency)) (nodeless_item k) d.queues (queue_holding (nodeless_item k) d.queues) refl
           (ap (λ x. answer_in x Hit) b)
     ]
 
 -- ---- any access
 
-accessed-distinct : (f : Option FrequencyData) (k : ℕ) (d : QueueState) → IsDistinct d.queues → IsDistinct (accessed f k d).queues
+accessed-distinct : (f : Option FrequencyData) (k : ℕ) (d : QueueState) → IsDistinct d.queues → IsDistinct (queue_state_after f k d).queues
 accessed-distinct f k d u =
     let p : Plan = plan (rules_of d.job) (admits_in f) (nodeless_item k) d.queues in
     subst IsDistinct (ap (λ (x : Response). x.queues) (sym (accesses-planned (rules_of d.job) (admits_in f) (nodeless_item k) d.queues u)))
@@ -118,7 +118,7 @@ accessed-distinct f k d u =
 from-distinct : (j : Job) (past : List ℕ) (d : QueueState) (keys : List ℕ) → IsDistinct d.queues → IsDistinct (state_from j past d keys).queues
 from-distinct j past d [] u = u
 from-distinct j past d (k ∷ keys) u =
-    from-distinct j (past ++ k ∷ []) (accessed (frequency_after j (past ++ k ∷ [])) k d) keys
+    from-distinct j (past ++ k ∷ []) (queue_state_after (frequency_after j (past ++ k ∷ [])) k d) keys
     (accessed-distinct (frequency_after j (past ++ k ∷ [])) k d u)
 
 after-distinct : (j : Job) (keys : List ℕ) → IsDistinct (state_after j keys).queues
@@ -135,5 +135,5 @@ records_show_leaver d k r =
     let u : IsDistinct d.queues = subst (λ (x : QueueState). IsDistinct x.queues) (sym r.stands.gives) (after-distinct d.job r.keys) in
     let f = recorded_in k d.frequency in
     let p : Plan = plan (rules_of d.job) (admits_in f) (nodeless_item k) d.queues in
-    removed-item p.leaves (transferred p.first d.queues)
+    removed-item p.leaves (queues_after_transfer p.first d.queues)
     ∙ ap (λ (x : Response). x.left) (sym (accesses-planned (rules_of d.job) (admits_in f) (nodeless_item k) d.queues u))

@@ -6,21 +6,21 @@ use Rattle.std.proofs.lemmas.Bool.Decides.{nat_tests}
 use Rattle.step_record.specs.declared.job.Job.{Job}
 use Rattle.step_record.specs.declared.job.Policy.TheVariants.{Lru}
 use Rattle.step_record.specs.declared.outcome.Outcome.TheVariants.{Hit}
-use Rattle.step_record.specs.Keys.{has_key, without as without_key}
+use Rattle.step_record.specs.Keys.{has_key, keys_without as without_key}
 use Rattle.segments.specs.declared.records.Queue.TheVariants.{Window}
-use Rattle.segments.specs.Items.{has_item, times, items_without, first}
-use Rattle.segments.specs.Queues.{Queues, place_of, pushed, total_items}
+use Rattle.segments.specs.Items.{has_item, occurrences, items_without, oldest_of}
+use Rattle.segments.specs.Queues.{Queues, queue_holding, queues_after_push, total_items}
 use Rattle.admission.specs.Frequency.{FrequencyData}
 use Rattle.replacement.specs.declared.rules.Placement.TheVariants.{Direct}
 use Rattle.replacement.specs.declared.rules.HitRule.TheVariants.{Renews}
 use Rattle.replacement.specs.declared.rules.Rules.{Rules}
 use Rattle.replacement.specs.Admission.{admits_in}
 use Rattle.replacement.specs.Shape.{shape_of}
-use Rattle.replacement.specs.Table.{Response, kept_in, hit_in, replacing, direct, access}
+use Rattle.replacement.specs.Table.{Response, kept_in, hit_in, response_with_victim, response_without_trial, access}
 use Rattle.replacement.proofs.Planned.{access-at}
-use Rattle.policies.specs.Lru.{lru_residents, lru_outcome, distinct}
+use Rattle.policies.specs.Lru.{lru_residents, lru_outcome, distinct_keys}
 use Rattle.policies.specs.Design.{design_of, rules_in, rules_of, is_counting}
-use Rattle.policies.specs.QueueCache.{QueueState, nodeless_item, accessed, frequency_by, frequency_after, state_from, empty_queue_state, state_after, outcome_after}
+use Rattle.policies.specs.QueueCache.{QueueState, nodeless_item, queue_state_after, frequency_by, frequency_after, state_from, empty_queue_state, state_after, outcome_after}
 use Rattle.policies.specs.InWindow.{in_window}
 use Rattle.policies.proofs.Recency.{IsDistinct, moved, answer, two, without-none, distinct-distinct, residents-snoc, outcome-residents}
 
@@ -31,8 +31,8 @@ has-map : (k : ℕ) (l : List ℕ) → has_item (nodeless_item k) (map nodeless_
 has-map k [] = refl
 has-map k (a ∷ l) =
     elim (two (eqb k a)) as (λ _. has_item (nodeless_item k) (nodeless_item a ∷ map nodeless_item l) ≡ cond (eqb k a) true (has_key k l)) [
-      | inl e ↦ rw e (pos (times (nodeless_item k) (map nodeless_item l)))
-      | inr e ↦ let z : 0 + times (nodeless_item k) (map nodeless_item l) ≡ times (nodeless_item k) (map nodeless_item l) = omega arith in rw (e, z) (has-map k l)
+      | inl e ↦ rw e (pos (occurrences (nodeless_item k) (map nodeless_item l)))
+      | inr e ↦ let z : 0 + occurrences (nodeless_item k) (map nodeless_item l) ≡ occurrences (nodeless_item k) (map nodeless_item l) = omega arith in rw (e, z) (has-map k l)
     ]
 
 without-map : (k : ℕ) (l : List ℕ) → items_without (nodeless_item k) (map nodeless_item l) ≡ map nodeless_item (without_key k l)
@@ -67,13 +67,13 @@ lru-hit c k l h = record {
   outcome = rw h refl;
 }
 
-lru-room : (c k : ℕ) (l : List ℕ) → has_key k l ≡ false → nat_lt (length l) c ≡ true → IsLru c k l (kept_in (pushed Window (nodeless_item k) (in_window l)))
+lru-room : (c k : ℕ) (l : List ℕ) → has_key k l ≡ false → nat_lt (length l) c ≡ true → IsLru c k l (kept_in (queues_after_push Window (nodeless_item k) (in_window l)))
 lru-room c k l h f = record {
   lists = rw (h, f, map-snoc l k) refl;
   outcome = rw (h, f) refl;
 }
 
-lru-full : (c k : ℕ) (l : List ℕ) → has_key k l ≡ false → nat_lt (length l) c ≡ false → IsDistinct l → 1 ≤ c → IsLru c k l (replacing (admits_in None) Window (nodeless_item k) (first (map nodeless_item l)) (in_window l))
+lru-full : (c k : ℕ) (l : List ℕ) → has_key k l ≡ false → nat_lt (length l) c ≡ false → IsDistinct l → 1 ≤ c → IsLru c k l (response_with_victim (admits_in None) Window (nodeless_item k) (oldest_of (map nodeless_item l)) (in_window l))
 lru-full c k [] h f d w = absurd (let t : nat_lt 0 c ≡ true = grind (arith, nat_tests) in let no : true ≡ false = sym t ∙ f in cc (no))
 lru-full c k (a ∷ l) h f d w =
     let self : eqb a a ≡ true = eq-eqb a a refl in
@@ -82,9 +82,9 @@ lru-full c k (a ∷ l) h f d w =
       outcome = rw (h, f) refl;
     }
 
-lru-direct : (c k : ℕ) (l : List ℕ) → has_key k l ≡ false → IsDistinct l → 1 ≤ c → IsLru c k l (direct (one c) (admits_in None) Window (nodeless_item k) (in_window l))
+lru-direct : (c k : ℕ) (l : List ℕ) → has_key k l ≡ false → IsDistinct l → 1 ≤ c → IsLru c k l (response_without_trial (one c) (admits_in None) Window (nodeless_item k) (in_window l))
 lru-direct c k l h d w =
-    let full : Bool → Response = λ b. cond b (kept_in (pushed Window (nodeless_item k) (in_window l))) (replacing (admits_in None) Window (nodeless_item k) (first (map nodeless_item l)) (in_window l)) in
+    let full : Bool → Response = λ b. cond b (kept_in (queues_after_push Window (nodeless_item k) (in_window l))) (response_with_victim (admits_in None) Window (nodeless_item k) (oldest_of (map nodeless_item l)) (in_window l)) in
     elim (two (nat_lt (length l) c)) [
       | inl f ↦ subst (λ (b : Bool). IsLru c k l (full b)) (sym (ap (λ n. nat_lt n c) (total-in l) ∙ f)) (lru-room c k l h f)
       | inr f ↦ subst (λ (b : Bool). IsLru c k l (full b)) (sym (ap (λ n. nat_lt n c) (total-in l) ∙ f)) (lru-full c k l h f d w)
@@ -94,10 +94,10 @@ lru-access : (c k : ℕ) (l : List ℕ) → IsDistinct l → 1 ≤ c → IsLru c
 lru-access c k l d w =
     elim (two (has_key k l)) [
       | inl h ↦
-          let there : place_of (nodeless_item k) (in_window l) ≡ Some Window = rw (has-map k l, h) refl in
+          let there : queue_holding (nodeless_item k) (in_window l) ≡ Some Window = rw (has-map k l, h) refl in
           subst (IsLru c k l) (sym (access-at (one c) (admits_in None) (nodeless_item k) (in_window l) (Some Window) there)) (lru-hit c k l h)
       | inr h ↦
-          let there : place_of (nodeless_item k) (in_window l) ≡ None = rw (has-map k l, h) refl in
+          let there : queue_holding (nodeless_item k) (in_window l) ≡ None = rw (has-map k l, h) refl in
           subst (IsLru c k l) (sym (access-at (one c) (admits_in None) (nodeless_item k) (in_window l) None there)) (lru-direct c k l h d w)
     ]
 
@@ -107,7 +107,7 @@ distinct-drop (suc n) [] d = tt
 distinct-drop (suc n) (a ∷ l) d = distinct-drop n l d.1
 
 residents-distinct : (c : ℕ) (xs : List ℕ) → IsDistinct (lru_residents c xs)
-residents-distinct c xs = distinct-drop (length (distinct xs) - c) (distinct xs) (distinct-distinct xs)
+residents-distinct c xs = distinct-drop (length (distinct_keys xs) - c) (distinct_keys xs) (distinct-distinct xs)
 
 residents-none : (c : ℕ) → lru_residents c [] ≡ []
 residents-none c = let z : 0 - c ≡ 0 = omega arith in rw z refl
@@ -128,7 +128,7 @@ module _ (j : Job) (is_lru : j.policy ≡ Lru) (room : 1 ≤ j.config.capacity) 
       ∙ ap (λ (x : Queues). access (one j.config.capacity) (admits_in None) (nodeless_item k) x) eq)
 
   step-lru : (past : List ℕ) (d : QueueState) (k : ℕ) (ks : List ℕ) → d.job ≡ j → d.queues ≡ in_window (lru_residents j.config.capacity past)
-      → (accessed (frequency_after j ks) k d).queues ≡ in_window (lru_residents j.config.capacity (past ++ k ∷ []))
+      → (queue_state_after (frequency_after j ks) k d).queues ≡ in_window (lru_residents j.config.capacity (past ++ k ∷ []))
   step-lru past d k ks ej eq =
       let p = response-lru past d k ks ej eq in
       let l = lru-access j.config.capacity k (lru_residents j.config.capacity past) (residents-distinct j.config.capacity past) room in
@@ -138,7 +138,7 @@ module _ (j : Job) (is_lru : j.policy ≡ Lru) (room : 1 ≤ j.config.capacity) 
       → (state_from j past d keys).queues ≡ in_window (lru_residents j.config.capacity (past ++ keys))
   from-lru past d [] ej eq = rw (append-nil past) eq
   from-lru past d (a ∷ keys) ej eq =
-      from-lru (past ++ a ∷ []) (accessed (frequency_after j (past ++ a ∷ [])) a d) keys ej (step-lru past d a (past ++ a ∷ []) ej eq)
+      from-lru (past ++ a ∷ []) (queue_state_after (frequency_after j (past ++ a ∷ [])) a d) keys ej (step-lru past d a (past ++ a ∷ []) ej eq)
       ∙ rw (append_assoc past (a ∷ []) keys) refl
 
   pub after-lru : (keys : List ℕ) → (state_after j keys).queues ≡ in_window (lru_residents j.config.capacity keys)

@@ -11,8 +11,8 @@ use Rattle.step_record.specs.declared.outcome.Outcome.TheVariants.{Hit}
 use Rattle.step_record.specs.declared.stats.Stats.{Stats}
 use Rattle.step_record.specs.Config.{config_fault, is_from_one}
 use Rattle.step_record.specs.Pace.{words_of_halvings}
-use Rattle.step_record.specs.Stats.{stats_of, counted, one, is_hit, is_miss, is_eviction, is_rejection, IsSmall}
-use Rattle.segments.specs.Queues.{Queues, empty}
+use Rattle.step_record.specs.Stats.{stats_of, stats_with, one_if, is_hit, is_miss, is_eviction, is_rejection, IsSmall}
+use Rattle.segments.specs.Queues.{Queues, empty_queues}
 use Rattle.admission.specs.declared.freq_record.FreqRecord.{FreqRecord}
 use Rattle.admission.specs.Frequency.{FrequencyData, frequency_of}
 use Rattle.admission.proofs.Recording.{recorded_freq}
@@ -24,25 +24,25 @@ use Rattle.replacement.specs.Shape.{shape_of}
 use Rattle.replacement.specs.Table.{Response, access}
 use Rattle.replacement.proofs.Shape.{shape-is}
 use Rattle.policies.specs.Design.{is_counting, rules_of}
-use Rattle.policies.specs.QueueCache.{QueueState, nodeless_item, access_response, accessed, frequency_by, frequency_after, state_from, empty_queue_state, state_after, outcome_after, StandsFor}
+use Rattle.policies.specs.QueueCache.{QueueState, nodeless_item, access_response, queue_state_after, frequency_by, frequency_after, state_from, empty_queue_state, state_after, outcome_after, StandsFor}
 use Rattle.policies.specs.QueueStep.{IsReached, recorded_in, queue_act, FitsCounting, unrecorded, counting_words, pace_by}
 use Rattle.policies.specs.QueueFields.{FewHalvings}
 
-from-snoc : (j : Job) (past : List ℕ) (d : QueueState) (keys : List ℕ) (k : ℕ) → state_from j past d (keys ++ k ∷ []) ≡ accessed (frequency_after j ((past ++ keys) ++ k ∷ [])) k (state_from j past d keys)
+from-snoc : (j : Job) (past : List ℕ) (d : QueueState) (keys : List ℕ) (k : ℕ) → state_from j past d (keys ++ k ∷ []) ≡ queue_state_after (frequency_after j ((past ++ keys) ++ k ∷ [])) k (state_from j past d keys)
 from-snoc j past d [] k = rw (append-nil past) refl
 from-snoc j past d (a ∷ keys) k =
-    from-snoc j (past ++ a ∷ []) (accessed (frequency_after j (past ++ a ∷ [])) a d) keys k
+    from-snoc j (past ++ a ∷ []) (queue_state_after (frequency_after j (past ++ a ∷ [])) a d) keys k
     ∙ rw (append_assoc past (a ∷ []) keys) refl
 
 -- one access more
-pub after-snoc : (j : Job) (keys : List ℕ) (k : ℕ) → state_after j (keys ++ k ∷ []) ≡ accessed (frequency_after j (keys ++ k ∷ [])) k (state_after j keys)
+pub after-snoc : (j : Job) (keys : List ℕ) (k : ℕ) → state_after j (keys ++ k ∷ []) ≡ queue_state_after (frequency_after j (keys ++ k ∷ [])) k (state_after j keys)
 unfolding state_after
 after-snoc j keys k = from-snoc j [] (empty_queue_state j) keys k
 
 from-frequency : (j : Job) (past : List ℕ) (d : QueueState) (keys : List ℕ) → d.frequency ≡ frequency_after j past → (state_from j past d keys).frequency ≡ frequency_after j (past ++ keys)
 from-frequency j past d [] h = rw (append-nil past) h
 from-frequency j past d (a ∷ keys) h =
-    from-frequency j (past ++ a ∷ []) (accessed (frequency_after j (past ++ a ∷ [])) a d) keys refl
+    from-frequency j (past ++ a ∷ []) (queue_state_after (frequency_after j (past ++ a ∷ [])) a d) keys refl
     ∙ rw (append_assoc past (a ∷ []) keys) refl
 
 pub after-frequency : (j : Job) (keys : List ℕ) → (state_after j keys).frequency ≡ frequency_after j keys
@@ -51,7 +51,7 @@ after-frequency j keys = from-frequency j [] (empty_queue_state j) keys refl
 
 from-job : (j : Job) (past : List ℕ) (d : QueueState) (keys : List ℕ) → (state_from j past d keys).job ≡ d.job
 from-job j past d [] = refl
-from-job j past d (a ∷ keys) = from-job j (past ++ a ∷ []) (accessed (frequency_after j (past ++ a ∷ [])) a d) keys
+from-job j past d (a ∷ keys) = from-job j (past ++ a ∷ []) (queue_state_after (frequency_after j (past ++ a ∷ [])) a d) keys
 
 pub after-job : (j : Job) (keys : List ℕ) → (state_after j keys).job ≡ j
 unfolding state_after
@@ -65,11 +65,11 @@ record IsSteady (d : QueueState) (n : ℕ) : Type 0 where
   evictions : d.stats.evictions ≤ n
   rejections : d.stats.rejections ≤ n
 
-one-few : (b : Bool) → one b ≤ 1
+one-few : (b : Bool) → one_if b ≤ 1
 one-few true = omega arith
 one-few false = omega arith
 
-steady-step : (f : Option FrequencyData) (k : ℕ) (d : QueueState) (n : ℕ) → IsSteady d n → IsSteady (accessed f k d) (n + 1)
+steady-step : (f : Option FrequencyData) (k : ℕ) (d : QueueState) (n : ℕ) → IsSteady d n → IsSteady (queue_state_after f k d) (n + 1)
 steady-step f k d n h =
     let o : Outcome = (access_response f k d).outcome in
     record {
@@ -83,8 +83,8 @@ steady-step f k d n h =
 from-steady : (j : Job) (past : List ℕ) (d : QueueState) (keys : List ℕ) (n : ℕ) → IsSteady d n → IsSteady (state_from j past d keys) (n + length keys)
 from-steady j past d [] n h = subst (IsSteady d) (omega arith) h
 from-steady j past d (a ∷ keys) n h =
-    subst (IsSteady (state_from j (past ++ a ∷ []) (accessed (frequency_after j (past ++ a ∷ [])) a d) keys)) (omega arith)
-    (from-steady j (past ++ a ∷ []) (accessed (frequency_after j (past ++ a ∷ [])) a d) keys (n + 1) (steady-step (frequency_after j (past ++ a ∷ [])) a d n h))
+    subst (IsSteady (state_from j (past ++ a ∷ []) (queue_state_after (frequency_after j (past ++ a ∷ [])) a d) keys)) (omega arith)
+    (from-steady j (past ++ a ∷ []) (queue_state_after (frequency_after j (past ++ a ∷ [])) a d) keys (n + 1) (steady-step (frequency_after j (past ++ a ∷ [])) a d n h))
 
 after-steady : (j : Job) (keys : List ℕ) → IsSteady (state_after j keys) (length keys)
 unfolding state_after
@@ -139,17 +139,17 @@ stands-frequency j keys k d s =
     ∙ recorded-by (is_counting j.policy) j.config keys k (has-room j.config s.checked)
 
 -- it stands for one access more after a step
-stands-step : (j : Job) (keys : List ℕ) (k : ℕ) (d : QueueState) → StandsFor j keys d → accessed (recorded_in k d.frequency) k d ≡ state_after j (keys ++ k ∷ [])
+stands-step : (j : Job) (keys : List ℕ) (k : ℕ) (d : QueueState) → StandsFor j keys d → queue_state_after (recorded_in k d.frequency) k d ≡ state_after j (keys ++ k ∷ [])
 stands-step j keys k d s =
-    ap (λ f. accessed f k d) (stands-frequency j keys k d s)
-    ∙ (ap (accessed (frequency_after j (keys ++ k ∷ [])) k) s.gives ∙ sym (after-snoc j keys k))
+    ap (λ f. queue_state_after f k d) (stands-frequency j keys k d s)
+    ∙ (ap (queue_state_after (frequency_after j (keys ++ k ∷ [])) k) s.gives ∙ sym (after-snoc j keys k))
 
 stands-outcome : (j : Job) (keys : List ℕ) (k : ℕ) (d : QueueState) → StandsFor j keys d → (access_response (recorded_in k d.frequency) k d).outcome ≡ outcome_after j keys k
 stands-outcome j keys k d s =
     ap (λ f. (access_response f k d).outcome) (stands-frequency j keys k d s)
     ∙ ap (λ x. (access_response (frequency_after j (keys ++ k ∷ [])) k x).outcome) s.gives
 
-reached-step : (d : QueueState) (k : ℕ) → IsReached d → d.stats.accesses ≢ 4294967296 → IsReached (accessed (recorded_in k d.frequency) k d)
+reached-step : (d : QueueState) (k : ℕ) → IsReached d → d.stats.accesses ≢ 4294967296 → IsReached (queue_state_after (recorded_in k d.frequency) k d)
 reached-step d k r below =
     let n = (reached-steady d r).accesses in
     let less : length r.keys ≢ 4294967296 = λ h. below (n ∙ h) in
@@ -160,7 +160,7 @@ reached-step d k r below =
     }
 
 -- a cache that made no access
-pub first-stands : (j : Job) (f : Option FrequencyData) (q : Queues) → config_fault j.config ≡ Ok tt → f ≡ frequency_after j [] → q ≡ empty
+pub first-stands : (j : Job) (f : Option FrequencyData) (q : Queues) → config_fault j.config ≡ Ok tt → f ≡ frequency_after j [] → q ≡ empty_queues
     → StandsFor j [] record { job = j; queues = q; frequency = f; stats = stats_of [] }
 unfolding state_after
 first-stands j f q h g e = record { checked = h; gives = rw (e, g) refl }
@@ -169,7 +169,7 @@ first-stands j f q h g e = record { checked = h; gives = rw (e, g) refl }
 pub access-reached : (j : Job) (r : Rules) (q p t : Queues) (f g : Option FrequencyData) (s z : Stats) (k : ℕ) (w : Effect)
     → r ≡ rules_of j → IsReached record { job = j; queues = q; frequency = f; stats = s } → s.accesses ≢ 4294967296
     → p ≡ q → g ≡ recorded_in k f → w.outcome ≡ (access r (admits_in g) (nodeless_item k) p).outcome → t ≡ (access r (admits_in g) (nodeless_item k) p).queues
-    → z ≡ counted w.outcome s → IsReached record { job = j; queues = t; frequency = g; stats = z }
+    → z ≡ stats_with w.outcome s → IsReached record { job = j; queues = t; frequency = g; stats = z }
 access-reached j r q p t f g s z k w er reached below ep eg ho hl ez =
     let d : QueueState = record { job = j; queues = q; frequency = f; stats = s } in
     let new : QueueState = record { job = j; queues = t; frequency = g; stats = z } in
@@ -178,8 +178,8 @@ access-reached j r q p t f g s z k w er reached below ep eg ho hl ez =
     ∙ (ap (λ (x : Option FrequencyData). access r (admits_in x) (nodeless_item k) q) eg ∙ ap (λ (x : Rules). access x (admits_in (recorded_in k f)) (nodeless_item k) q) er) in
     let lists : t ≡ (access (rules_of j) (admits_in (recorded_in k f)) (nodeless_item k) q).queues = hl ∙ ap (λ (x : Response). x.queues) same in
     let outcome : w.outcome ≡ (access (rules_of j) (admits_in (recorded_in k f)) (nodeless_item k) q).outcome = ho ∙ ap (λ (x : Response). x.outcome) same in
-    let stats : z ≡ counted (access (rules_of j) (admits_in (recorded_in k f)) (nodeless_item k) q).outcome s = ez ∙ ap (λ o. counted o s) outcome in
-    let all : new ≡ accessed (recorded_in k f) k d = rw (lists, eg, stats) refl in
+    let stats : z ≡ stats_with (access (rules_of j) (admits_in (recorded_in k f)) (nodeless_item k) q).outcome s = ez ∙ ap (λ o. stats_with o s) outcome in
+    let all : new ≡ queue_state_after (recorded_in k f) k d = rw (lists, eg, stats) refl in
     subst IsReached (sym all) (reached-step d k reached below)
 
 -- the words of a record of the frequency
@@ -204,7 +204,7 @@ act_stands j keys d k o e s a =
     elim (cases_Bool (d.stats.accesses == 4294967296)) [
       | inl f ↦ absurd (let no : None ≡ Some (o, e) = rw f at a in cc (no))
       | inr f ↦
-          let b : Some ((access_response (recorded_in k d.frequency) k d).outcome, accessed (recorded_in k d.frequency) k d) ≡ Some (o, e) = rw f at a in (
+          let b : Some ((access_response (recorded_in k d.frequency) k d).outcome, queue_state_after (recorded_in k d.frequency) k d) ≡ Some (o, e) = rw f at a in (
             sym (ap answer_in b) ∙ stands-outcome j keys k d s,
             record {
               checked = s.checked;
@@ -218,7 +218,7 @@ pub act_accepts : (d : QueueState) (k : ℕ) → queue_act d k ≡ None → d.st
 act_accepts d k h =
     elim (cases_Bool (d.stats.accesses == 4294967296)) [
       | inl f ↦ eqb-true d.stats.accesses 4294967296 f
-      | inr f ↦ absurd (let no : Some ((access_response (recorded_in k d.frequency) k d).outcome, accessed (recorded_in k d.frequency) k d) ≡ None = rw f at h in cc (no))
+      | inr f ↦ absurd (let no : Some ((access_response (recorded_in k d.frequency) k d).outcome, queue_state_after (recorded_in k d.frequency) k d) ≡ None = rw f at h in cc (no))
     ]
 
 pub stands-accesses : (j : Job) (keys : List ℕ) (d : QueueState) → StandsFor j keys d → d.stats.accesses ≡ length keys

@@ -46,6 +46,6 @@ pub record IsBeladyAt (j : Job) (trace keys : List ℕ) (d : ClairvoyantState) :
   pub gives : d ≡ clairvoyant_at j.config.capacity trace (length keys)
 
 -- the cache runs the job over the trace, and the keys are the accesses that it made
-abbrev pub Stands : Job → List ℕ → List ℕ → AnyPolicy → Type 0
-Stands j trace keys (Queues d) = (knows_trace j.policy ≡ false) × StandsFor j keys d
-Stands j trace keys (Optimal d) = IsBeladyAt j trace keys d
+abbrev pub HasAccessed : Job → List ℕ → List ℕ → AnyPolicy → Type 0
+HasAccessed j trace keys (Queues d) = (knows_trace j.policy ≡ false) × StandsFor j keys d
+HasAccessed j trace keys (Optimal d) = IsBeladyAt j trace keys d

@@ -2,7 +2,7 @@
 -- engine.
 use Rattle.std.specs.Prelude.{ℕ, Option, Some, None}
 use Rattle.step_record.specs.declared.outcome.Outcome.{Outcome}
-use Rattle.step_record.specs.Pace.{Pace, still}
+use Rattle.step_record.specs.Pace.{Pace, pace_without_sketch}
 use Rattle.clairvoyant.specs.Clairvoyant.{ClairvoyantState, clairvoyant_act}
 use Rattle.clairvoyant.specs.UseRecord.{record_at, clairvoyant_undone, ClairvoyantFits}
 use Rattle.policies.specs.declared.any_policy.AnyPolicy.{AnyPolicy}
@@ -59,4 +59,4 @@ any_words (done.Optimal r) = 0
 
 abbrev pub any_pace : AnyPolicy → Pace
 any_pace (Queues d) = queue_pace d
-any_pace (Optimal d) = still
+any_pace (Optimal d) = pace_without_sketch

@@ -11,22 +11,22 @@ use Rattle.policies.specs.declared.design.Layout.TheVariants.{OneQueue}
 -- ---- over the accesses
 
 -- the distinct keys, in order of last access
-abbrev pub distinct : List ℕ → List ℕ
-distinct [] = []
-distinct (a ∷ xs) = if has_key a xs then distinct xs else a ∷ distinct xs
+abbrev pub distinct_keys : List ℕ → List ℕ
+distinct_keys [] = []
+distinct_keys (a ∷ xs) = if has_key a xs then distinct_keys xs else a ∷ distinct_keys xs
 
 -- what came after the last access to k, which is among the accesses
-abbrev pub since : ℕ → List ℕ → List ℕ
-since k [] = []
-since k (a ∷ xs) = if has_key k xs then since k xs else xs
+abbrev pub keys_since : ℕ → List ℕ → List ℕ
+keys_since k [] = []
+keys_since k (a ∷ xs) = if has_key k xs then keys_since k xs else xs
 
 -- the last c of the distinct keys
 abbrev pub lru_residents : ℕ → List ℕ → List ℕ
-lru_residents c xs = drop (length (distinct xs) - c) (distinct xs)
+lru_residents c xs = drop (length (distinct_keys xs) - c) (distinct_keys xs)
 
 -- k came before, and fewer than c distinct other keys came since
-abbrev pub hits : ℕ → List ℕ → ℕ → Bool
-hits c xs k = has_key k xs && nat_lt (length (distinct (since k xs))) c
+abbrev pub is_lru_hit : ℕ → List ℕ → ℕ → Bool
+is_lru_hit c xs k = has_key k xs && nat_lt (length (distinct_keys (keys_since k xs))) c
 
 abbrev pub first_or : ℕ → List ℕ → ℕ
 first_or d [] = d
@@ -35,9 +35,9 @@ first_or d (a ∷ xs) = a
 -- the outcome of an access to k after the accesses xs, at capacity c
 abbrev pub lru_outcome : ℕ → List ℕ → ℕ → Outcome
 lru_outcome c xs k =
-    if hits c xs k
+    if is_lru_hit c xs k
     then Hit
-    else if nat_lt (length (distinct xs)) c then Kept else Evicted (first_or 0 (lru_residents c xs))
+    else if nat_lt (length (distinct_keys xs)) c then Kept else Evicted (first_or 0 (lru_residents c xs))
 
 -- ---- as a policy of queues
 

@@ -7,8 +7,8 @@ use Rattle.step_record.specs.declared.job.Job.{Job}
 use Rattle.step_record.specs.declared.outcome.Outcome.{Outcome}
 use Rattle.step_record.specs.declared.stats.Stats.{Stats}
 use Rattle.step_record.specs.Config.{config_fault}
-use Rattle.step_record.specs.Stats.{stats_of, counted}
-use Rattle.segments.specs.Queues.{Queues, empty}
+use Rattle.step_record.specs.Stats.{stats_of, stats_with}
+use Rattle.segments.specs.Queues.{Queues, empty_queues}
 use Rattle.admission.specs.Shape.{Shape}
 use Rattle.admission.specs.Frequency.{FrequencyData, frequency_of}
 use Rattle.replacement.specs.Admission.{admits_in}
@@ -37,12 +37,12 @@ residents_in q = map (λ i. i.key) q.window ++ map (λ i. i.key) q.probation ++ 
 abbrev pub access_response : Option FrequencyData → ℕ → QueueState → Response
 access_response f k d = access (rules_of d.job) (admits_in f) (nodeless_item k) d.queues
 
-abbrev pub accessed : Option FrequencyData → ℕ → QueueState → QueueState
-accessed f k d = record {
+abbrev pub queue_state_after : Option FrequencyData → ℕ → QueueState → QueueState
+queue_state_after f k d = record {
   job = d.job;
   queues = (access_response f k d).queues;
   frequency = f;
-  stats = counted (access_response f k d).outcome d.stats;
+  stats = stats_with (access_response f k d).outcome d.stats;
 }
 
 -- ---- a list of accesses
@@ -58,11 +58,12 @@ frequency_after j keys = frequency_by (is_counting j.policy) (shape_of j.config)
 -- the accesses in order, after those that are past
 abbrev pub state_from : Job → List ℕ → QueueState → List ℕ → QueueState
 state_from j past d [] = d
-state_from j past d (k ∷ ks) = state_from j (past ++ k ∷ []) (accessed (frequency_after j (past ++ k ∷ [])) k d) ks
+state_from j past d (k ∷ ks) =
+    state_from j (past ++ k ∷ []) (queue_state_after (frequency_after j (past ++ k ∷ [])) k d) ks
 
 -- an empty cache
 abbrev pub empty_queue_state : Job → QueueState
-empty_queue_state j = record { job = j; queues = empty; frequency = frequency_after j []; stats = stats_of [] }
+empty_queue_state j = record { job = j; queues = empty_queues; frequency = frequency_after j []; stats = stats_of [] }
 
 -- what a cache shows after the accesses
 unfoldable pub state_after : Job → List ℕ → QueueState
@@ -72,7 +73,7 @@ abbrev pub outcomes_from : Job → List ℕ → QueueState → List ℕ → List
 outcomes_from j past d [] = []
 outcomes_from j past d (k ∷ ks) =
     (access_response (frequency_after j (past ++ k ∷ [])) k d).outcome
-    ∷ outcomes_from j (past ++ k ∷ []) (accessed (frequency_after j (past ++ k ∷ [])) k d) ks
+    ∷ outcomes_from j (past ++ k ∷ []) (queue_state_after (frequency_after j (past ++ k ∷ [])) k d) ks
 
 -- the outcomes of the accesses, in order
 unfoldable pub outcomes_after : Job → List ℕ → List Outcome

@@ -7,7 +7,7 @@ use Rattle.step_record.specs.declared.outcome.Outcome.{Outcome}
 use Rattle.step_record.specs.Pace.{IsPaced, still-paced}
 use Rattle.admission.specs.Frequency.{FrequencyData}
 use Rattle.admission.proofs.Weighing.{recorded_paced}
-use Rattle.policies.specs.QueueCache.{QueueState, accessed}
+use Rattle.policies.specs.QueueCache.{QueueState, queue_state_after}
 use Rattle.policies.specs.QueueStep.{queue_act, recorded_in, pace_by, queue_pace}
 
 abbrev accesses_after_step : Option (Outcome × QueueState) → ℕ
@@ -39,6 +39,6 @@ act_paced d k o e h =
     elim (cases_Bool (d.stats.accesses == MAX_STEPS)) [
       | inl f ↦ absurd (let no : None ≡ Some (o, e) = rw f at h in cc (no))
       | inr f ↦
-          let same : accessed (recorded_in k d.frequency) k d ≡ e = ap (state_in d) (rw f at h) in
+          let same : queue_state_after (recorded_in k d.frequency) k d ≡ e = ap (state_in d) (rw f at h) in
           subst (λ (x : QueueState). IsPaced (queue_pace d) (queue_pace x)) same (paced-by k d.frequency)
     ]

@@ -2,10 +2,10 @@
 use Rattle.std.specs.Prelude.{◌≢◌, ℕ, ◌≤◌, ◌==◌, if◌then◌else◌, Option, Some, None, List, length}
 use Rattle.step_record.specs.declared.limits.TheConstants.{MAX_STEPS}
 use Rattle.step_record.specs.declared.outcome.Outcome.{Outcome}
-use Rattle.step_record.specs.Stats.{uncounted, IsCounted}
-use Rattle.step_record.specs.Pace.{Pace, still}
+use Rattle.step_record.specs.Stats.{stats_without, IsCounted}
+use Rattle.step_record.specs.Pace.{Pace, pace_without_sketch}
 use Rattle.admission.specs.declared.freq_record.FreqRecord.{FreqRecord}
-use Rattle.admission.specs.Frequency.{FrequencyData, recorded, pace_of as frequency_pace}
+use Rattle.admission.specs.Frequency.{FrequencyData, frequency_with, pace_of as frequency_pace}
 use Rattle.admission.specs.FreqRecord.{frequency_record as freq_record_of, frequency_before as freq_undone, FitsRecord}
 use Rattle.admission.specs.FreqRecord.{size_of as freq_words}
 use Rattle.replacement.specs.declared.record.Moves.{Moves}
@@ -14,21 +14,24 @@ use Rattle.replacement.specs.Plan.{plan}
 use Rattle.replacement.specs.Moving.{moves_of, undone_moves, FitsMoves}
 use Rattle.policies.specs.declared.record.AccessRecord.{AccessRecord}
 use Rattle.policies.specs.Design.{rules_of}
-use Rattle.policies.specs.QueueCache.{QueueState, nodeless_item, access_response, accessed, StandsFor}
+use Rattle.policies.specs.QueueCache.{QueueState, nodeless_item, access_response, queue_state_after, StandsFor}
 
 -- ---- an access
 
 -- the frequency with the key, where keys are counted
 abbrev pub recorded_in : ℕ → Option FrequencyData → Option FrequencyData
 recorded_in k None = None
-recorded_in k (Some f) = Some (recorded k f)
+recorded_in k (Some f) = Some (frequency_with k f)
 
 -- An access records its key, then moves. None is accepted after MAX_STEPS.
 abbrev pub queue_act : QueueState → ℕ → Option (Outcome × QueueState)
 queue_act d k =
     if d.stats.accesses == MAX_STEPS
     then None
-    else Some ((access_response (recorded_in k d.frequency) k d).outcome, accessed (recorded_in k d.frequency) k d)
+    else Some (
+      (access_response (recorded_in k d.frequency) k d).outcome,
+      queue_state_after (recorded_in k d.frequency) k d,
+    )
 
 -- ---- its record
 
@@ -68,7 +71,7 @@ queue_undone r d = record {
   job = d.job;
   queues = undone_moves r.moves d.queues;
   frequency = unrecorded r.counting d.frequency;
-  stats = uncounted r.outcome d.stats;
+  stats = stats_without r.outcome d.stats;
 }
 
 -- some list of accesses gives the state
@@ -98,7 +101,7 @@ abbrev pub queue_words : AccessRecord → ℕ
 queue_words r = counting_words r.counting
 
 abbrev pub pace_by : Option FrequencyData → Pace
-pace_by None = still
+pace_by None = pace_without_sketch
 pace_by (Some f) = frequency_pace f
 
 abbrev pub queue_pace : QueueState → Pace

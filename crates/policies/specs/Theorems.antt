@@ -12,7 +12,7 @@ use Rattle.policies.specs.InWindow.{in_window}
 use Rattle.policies.specs.QueueCache.{QueueState, access_response, state_after, outcome_after, outcomes_after}
 use Rattle.policies.specs.QueueCache.{StandsFor}
 use Rattle.policies.specs.QueueStep.{recorded_in, queue_act, queue_record_of, IsReached}
-use Rattle.policies.specs.AnyPolicy.{Stands, stats_in, stats_on, outcomes_on}
+use Rattle.policies.specs.AnyPolicy.{HasAccessed, stats_in, stats_on, outcomes_on}
 use Rattle.policies.specs.AnyStep.{any_act, any_record_of, any_asks}
 
 -- For a cache of queues that made some accesses, an accepted step answers the outcome that the definition gives after
@@ -51,26 +51,27 @@ LruStands = (j : Job) (keys : List ℕ) (k : ℕ) → j.policy ≡ Lru → 1 ≤
 -- A cache of any policy that made some accesses made one more after an accepted step.
 abbrev pub AnyStands : Type 0
 AnyStands = (j : Job) (trace keys : List ℕ) (d : AnyPolicy) (k : ℕ) (o : Outcome) (e : AnyPolicy)
-    → Stands j trace keys d → any_act d k ≡ Some (o, e) → Stands j trace (keys ++ k ∷ []) e
+    → HasAccessed j trace keys d → any_act d k ≡ Some (o, e) → HasAccessed j trace (keys ++ k ∷ []) e
 
 -- One that made the first accesses of a trace, fewer than all, accepts the next of them.
 abbrev pub AnyAccepts : Type 0
 AnyAccepts = (j : Job) (trace keys rest : List ℕ) (k : ℕ) (d : AnyPolicy)
-    → trace ≡ keys ++ k ∷ rest → length trace ≤ MAX_ACCESSES → Stands j trace keys d → any_act d k ≡ None → ⊥
+    → trace ≡ keys ++ k ∷ rest → length trace ≤ MAX_ACCESSES → HasAccessed j trace keys d → any_act d k ≡ None → ⊥
 
 -- What a cache shows after some accesses is determined by the job, the trace and the accesses.
 abbrev pub AnyIsOne : Type 0
-AnyIsOne = (j : Job) (trace keys : List ℕ) (d e : AnyPolicy) → Stands j trace keys d → Stands j trace keys e → d ≡ e
+AnyIsOne = (j : Job) (trace keys : List ℕ) (d e : AnyPolicy) → HasAccessed j trace keys d
+    → HasAccessed j trace keys e → d ≡ e
 
 -- After all accesses of the trace, its statistics are those of the job over the trace.
 abbrev pub AnyReports : Type 0
-AnyReports = (j : Job) (trace : List ℕ) (d : AnyPolicy) → Stands j trace trace d → stats_in d ≡ stats_on j trace
+AnyReports = (j : Job) (trace : List ℕ) (d : AnyPolicy) → HasAccessed j trace trace d → stats_in d ≡ stats_on j trace
 
 -- One that made the first accesses of a trace answers the next of them with the outcome that the job over the whole
 -- trace has at that place.
 abbrev pub AnyAnswers : Type 0
 AnyAnswers = (j : Job) (trace keys rest : List ℕ) (k : ℕ) (d : AnyPolicy) (o : Outcome) (e : AnyPolicy) (x : Outcome)
-    → trace ≡ keys ++ k ∷ rest → Stands j trace keys d → any_act d k ≡ Some (o, e)
+    → trace ≡ keys ++ k ∷ rest → HasAccessed j trace keys d → any_act d k ≡ Some (o, e)
     → o ≡ slice_index_or (outcomes_on j trace) (length keys) x
 
 -- A job over a trace has one outcome for each access.

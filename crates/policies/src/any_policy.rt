@@ -31,14 +31,14 @@ pub enum AnyRecord {
 
 impl AnyPolicy {
     ghost use Rattle.step_record.specs.Config.{config_fault};
-    ghost use Rattle.policies.specs.AnyPolicy.{Stands, stats_in, any_residents, frequency_in};
+    ghost use Rattle.policies.specs.AnyPolicy.{HasAccessed, stats_in, any_residents, frequency_in};
     ghost use Rattle.policies.specs.AnyStep.{any_act, MayAllocate};
 
     /// An empty cache for a job over a trace. It requires a configuration that `Config::check` accepts. The one error
     /// is that an allocation failed.
     pub fn open(alloc: Global, job: &Job, trace: &Trace) -> Result<AnyPolicy, AllocError>
         requires { config_fault job.now.config ≡ Ok tt }
-        ensures stands { IfOk result (λ p. Stands job.now trace.now [] p) }
+        ensures stands { IfOk result (λ p. HasAccessed job.now trace.now [] p) }
         ensures fresh { IfOk result (λ p. (stats_in p).accesses ≡ 0) }
     {
         AnyPolicy::open_with(alloc, job, trace, None)
@@ -54,7 +54,7 @@ impl AnyPolicy {
     ) -> Result<AnyPolicy, AllocError>
         requires checked { config_fault job.now.config ≡ Ok tt }
         requires uses { IfSome uses (λ u. u.now ≡ trace.now) }
-        ensures stands { IfOk result (λ p. Stands job.now trace.now [] p) }
+        ensures stands { IfOk result (λ p. HasAccessed job.now trace.now [] p) }
         ensures fresh { IfOk result (λ p. (stats_in p).accesses ≡ 0) }
     {
         match design_of(job.policy) {

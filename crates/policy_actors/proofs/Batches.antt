@@ -5,12 +5,12 @@ use Rattle.std.proofs.lemmas.List.{take_all}
 use Rattle.step_record.specs.declared.job.Job.{Job}
 use Rattle.step_record.specs.declared.limits.TheConstants.{MAX_ACCESSES}
 use Rattle.policies.specs.declared.any_policy.AnyPolicy.{AnyPolicy}
-use Rattle.policies.specs.AnyPolicy.{Stands}
+use Rattle.policies.specs.AnyPolicy.{HasAccessed}
 use Rattle.policy_actors.specs.Accesses.{IsNext}
 
 -- a cache that stands for the batches before is ready for the next
 pub ready : (m : Option AnyPolicy) (j : Job) (size k : ℕ) (keys piece : List ℕ) → piece ≡ take size (drop (k * size) keys) → length keys ≤ MAX_ACCESSES
-    → IfSome m (Stands j keys (take (k * size) keys)) → IfSome m (IsNext piece)
+    → IfSome m (HasAccessed j keys (take (k * size) keys)) → IfSome m (IsNext piece)
 ready None j size k keys piece is few s = tt
 ready (Some d) j size k keys piece is few s = record {
   job = j;

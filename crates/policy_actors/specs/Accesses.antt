@@ -3,7 +3,7 @@ use Rattle.std.specs.Prelude.{◌≡◌, ℕ, ◌≤◌, List, ◌++◌, length}
 use Rattle.step_record.specs.declared.job.Job.{Job}
 use Rattle.step_record.specs.declared.limits.TheConstants.{MAX_ACCESSES}
 use Rattle.policies.specs.declared.any_policy.AnyPolicy.{AnyPolicy}
-use Rattle.policies.specs.AnyPolicy.{Stands}
+use Rattle.policies.specs.AnyPolicy.{HasAccessed}
 
 -- the cache stands for the first accesses of a trace, and the keys are the next of them
 pub record IsNext (keys : List ℕ) (d : AnyPolicy) : Type 0 where
@@ -11,6 +11,6 @@ pub record IsNext (keys : List ℕ) (d : AnyPolicy) : Type 0 where
   pub trace : List ℕ
   pub before : List ℕ
   pub rest : List ℕ
-  pub stands : Stands job trace before d
+  pub stands : HasAccessed job trace before d
   pub ahead : trace ≡ before ++ (keys ++ rest)
   pub few : length trace ≤ MAX_ACCESSES

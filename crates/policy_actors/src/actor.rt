@@ -1,7 +1,7 @@
 //! One actor: a job's policy, fed with batches.
 ghost use Rattle.std.specs.Prelude.{◌≡◌, [], Ok, IfSome};
 ghost use Rattle.step_record.specs.Config.{config_fault};
-ghost use Rattle.policies.specs.AnyPolicy.{Stands};
+ghost use Rattle.policies.specs.AnyPolicy.{HasAccessed};
 ghost use Rattle.policy_actors.specs.Reports.{report_on};
 
 use crate::actor_cache::{access_batch, finish};
@@ -55,7 +55,7 @@ fn open<S: Source, R: Wait>(
 ) -> Option<AnyPolicy>
     requires checked { config_fault job.now.config ≡ Ok tt }
     requires trace { trace.now ≡ S.keys }
-    ensures { IfSome result (Stands job.now S.keys []) }
+    ensures { IfSome result (HasAccessed job.now S.keys []) }
 {
     let found = match job.policy {
         Policy::Clairvoyant => uses.get(rt, alloc, trace),

@@ -1,7 +1,7 @@
 //! An actor's cache: the accesses of a trace, batch by batch, and the report at its end.
 ghost use Rattle.std.specs.Prelude.{◌≡◌, ◌≤◌, [], ◌++◌, ℕ, List, length, take, drop, OnOk, IfSome};
 ghost use Rattle.step_record.specs.declared.job.Job.{Job};
-ghost use Rattle.policies.specs.AnyPolicy.{Stands};
+ghost use Rattle.policies.specs.AnyPolicy.{HasAccessed};
 ghost use Rattle.policy_actors.specs.Accesses.{IsNext};
 ghost use Rattle.policy_actors.specs.Reports.{report_on};
 
@@ -17,8 +17,8 @@ const AHEAD: usize = 16;
 /// some of them then, and is of no more use.
 pub fn access_all(cache: &mut AnyPolicy, keys: &[Key]) -> Result<(), AllocError>
     requires { IsNext keys.now cache.old }
-    ensures { (j : Job) (trace done : List ℕ) → Stands j trace done cache.old
-        → OnOk result (Stands j trace (done ++ keys.now) cache.new) }
+    ensures { (j : Job) (trace done : List ℕ) → HasAccessed j trace done cache.old
+        → OnOk result (HasAccessed j trace (done ++ keys.now) cache.new) }
 {
     any_stands();
     any_accepts();
@@ -41,8 +41,8 @@ pub fn access_in_batches<G: Gate>(
     gate: &G,
 ) -> Result<(), AllocError>
     requires { IsNext keys.now cache.old }
-    ensures { (j : Job) (trace done : List ℕ) → Stands j trace done cache.old
-        → OnOk result (Stands j trace (done ++ keys.now) cache.new) }
+    ensures { (j : Job) (trace done : List ℕ) → HasAccessed j trace done cache.old
+        → OnOk result (HasAccessed j trace (done ++ keys.now) cache.new) }
 {
     let size = MAX_BATCH as usize;
     let mut rest = keys;
@@ -71,8 +71,8 @@ pub fn cut(rest: &[Key], size: usize) -> (&[Key], &[Key])
 /// Makes the accesses of a batch. A cache that ran out of memory is dropped, and stays so.
 pub fn access_batch(cache: &mut Option<AnyPolicy>, keys: &[Key])
     requires { IfSome cache.old (IsNext keys.now) }
-    ensures { (j : Job) (trace done : List ℕ) → IfSome cache.old (Stands j trace done)
-        → IfSome cache.new (Stands j trace (done ++ keys.now)) }
+    ensures { (j : Job) (trace done : List ℕ) → IfSome cache.old (HasAccessed j trace done)
+        → IfSome cache.new (HasAccessed j trace (done ++ keys.now)) }
 {
     let Some(open) = cache else {
         return;
@@ -85,7 +85,7 @@ pub fn access_batch(cache: &mut Option<AnyPolicy>, keys: &[Key])
 
 /// The report of a cache that ran its job over the whole trace.
 pub fn report_by(cache: &AnyPolicy, job: &Job) -> Report
-    ensures { (trace : List ℕ) → Stands job.now trace trace cache.now → result ≡ report_on job.now trace }
+    ensures { (trace : List ℕ) → HasAccessed job.now trace trace cache.now → result ≡ report_on job.now trace }
 {
     any_reports();
     Report::of(job, cache.stats())
@@ -93,7 +93,7 @@ pub fn report_by(cache: &AnyPolicy, job: &Job) -> Report
 
 /// The same, unless the cache ran out of memory.
 pub fn finish(cache: Option<AnyPolicy>, job: &Job) -> Option<Report>
-    ensures { (trace : List ℕ) → IfSome cache (Stands job.now trace trace)
+    ensures { (trace : List ℕ) → IfSome cache (HasAccessed job.now trace trace)
         → IfSome result (λ r. r ≡ report_on job.now trace) }
 {
     match cache {

@@ -13,13 +13,13 @@ use Rattle.step_record.proofs.Undone.{tail_joined}
 use Rattle.shell_model.specs.declared.holder.Holder.{Holder}
 use Rattle.shell_model.specs.Reached.{worker_of}
 use Rattle.shell_model.specs.Shell.{Shell}
-use Rattle.maintenance.specs.Opened.{triple}
+use Rattle.maintenance.specs.Opened.{holder_parts}
 use Rattle.walks.specs.Holders.{IsReady, IsReadyFor}
 use Rattle.walks.specs.declared.next.Next.{Next}
 use Rattle.walks.specs.declared.next.Next.TheVariants as next_act
 use Rattle.walks.specs.declared.local.Local.{Local}
 use Rattle.walks.specs.declared.place.Place.{Place}
-use Rattle.walks.specs.Places.{Ahead, phase_place}
+use Rattle.walks.specs.Places.{IsAheadOf, phase_place}
 use Rattle.quiet_run.specs.Outcomes.{outcome_after, outcome_from}
 use Rattle.quiet_run.specs.Settle.{ShellSession, AddsSteps, IsRestOfRound, IsRest}
 
@@ -61,29 +61,29 @@ still_held w next a l x y d h same =
     ap (λ (z : Shell). worker_of z.holder) same ∙ ap worker_of r.holds ∙ ap (λ (v : ℕ). Some v) r.worker
 
 -- the worker of a holder that is shown as a triple
-pub held_worker : (o : Option Holder) (w : ℕ) (p : Phase) (left : ℕ) → option_map triple o ≡ Some (w, p, left) → worker_of o ≡ Some w
+pub held_worker : (o : Option Holder) (w : ℕ) (p : Phase) (left : ℕ) → option_map holder_parts o ≡ Some (w, p, left) → worker_of o ≡ Some w
 held_worker None w p left e = absurd (cc (e))
-held_worker (Some g) w p left e = ap (λ (v : ℕ). Some v) (ap (λ (t : ℕ × Phase × ℕ). t.0) (let all : triple g ≡ (w, p, left) = cc (e) in all))
+held_worker (Some g) w p left e = ap (λ (v : ℕ). Some v) (ap (λ (t : ℕ × Phase × ℕ). t.0) (let all : holder_parts g ≡ (w, p, left) = cc (e) in all))
 
-rest-in : (w n : ℕ) (p : Phase) (es : Entries) → Ahead w n (phase_place p) es → IsRestOfRound w n p es
+rest-in : (w n : ℕ) (p : Phase) (es : Entries) → IsAheadOf w n (phase_place p) es → IsRestOfRound w n p es
 rest-in w n Reads es h = h
 rest-in w n Writes es h = h
 rest-in w n Evictions es h = h
 
-held-rest : (n : ℕ) (o : Option Holder) (w : ℕ) (p : Phase) (left : ℕ) (es : Entries) → option_map triple o ≡ Some (w, p, left) → Ahead w n (phase_place p) es → IsRest n o es
+held-rest : (n : ℕ) (o : Option Holder) (w : ℕ) (p : Phase) (left : ℕ) (es : Entries) → option_map holder_parts o ≡ Some (w, p, left) → IsAheadOf w n (phase_place p) es → IsRest n o es
 held-rest n None w p left es e h = absurd (cc (e))
 held-rest n (Some g) w p left es e h =
-    let all : triple g ≡ (w, p, left) = cc (e) in
+    let all : holder_parts g ≡ (w, p, left) = cc (e) in
     let worker : w ≡ g.worker = sym (ap (λ (t : ℕ × Phase × ℕ). t.0) all) in
     let phase : p ≡ g.phase = sym (ap (λ (t : ℕ × Phase × ℕ). t.1) all) in
     subst (λ (q : Phase). IsRestOfRound g.worker n q es) phase (subst (λ (v : ℕ). IsRestOfRound v n p es) worker (rest-in w n p es h))
 
 -- what is ahead of one that stands where the holder stands is the rest of the holder's round
-pub held_rest : (l : Local) (n : ℕ) (o : Option Holder) (w : ℕ) (p : Phase) (left : ℕ) → option_map triple o ≡ Some (w, p, left) → l.worker ≡ w → l.stripes ≡ n → l.place ≡ phase_place p
-    → (es : Entries) → Ahead l.worker l.stripes l.place es → IsRest n o es
+pub held_rest : (l : Local) (n : ℕ) (o : Option Holder) (w : ℕ) (p : Phase) (left : ℕ) → option_map holder_parts o ≡ Some (w, p, left) → l.worker ≡ w → l.stripes ≡ n → l.place ≡ phase_place p
+    → (es : Entries) → IsAheadOf l.worker l.stripes l.place es → IsRest n o es
 held_rest l n o w p left e a b c es h =
     held-rest n o w p left es e
-    (subst (λ (q : Place). Ahead w n q es) c (subst (λ (m : ℕ). Ahead w m l.place es) b (subst (λ (v : ℕ). Ahead v l.stripes l.place es) a h)))
+    (subst (λ (q : Place). IsAheadOf w n q es) c (subst (λ (m : ℕ). IsAheadOf w m l.place es) b (subst (λ (v : ℕ). IsAheadOf v l.stripes l.place es) a h)))
 
 pub adds_joined : (P Q R : Entries → Type 0) (old now new : ShellSession) → AddsSteps P old now → AddsSteps Q now new → ((a b : Entries) → P a → Q b → R (a ++ b)) → AddsSteps R old new
 adds_joined P Q R old now new m n f = record {

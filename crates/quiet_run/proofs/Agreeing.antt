@@ -5,11 +5,11 @@ use Rattle.replacement.specs.Rules.{three_queues}
 use Rattle.replacement.specs.Plan.{candidate_of}
 use Rattle.replacement.specs.Table.{eviction}
 use Rattle.shell_model.specs.Frequency.{admits}
-use Rattle.shell_model.specs.Shell.{Shell, evict}
+use Rattle.shell_model.specs.Shell.{Shell, evict_effect}
 use Rattle.shell_model.specs.Evicting.{evicted_by}
 use Rattle.shell_model.proofs.Evicting.{evictions-agree}
 
-pub evictions-law : (x : Shell) → evict x ≡ evicted_by
+pub evictions-law : (x : Shell) → evict_effect x ≡ evicted_by
     (candidate_of (three_queues x.config) x.queues)
     (eviction (three_queues x.config) (admits_in (Some x.frequency)) x.queues)
     x

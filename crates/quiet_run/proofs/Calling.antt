@@ -16,10 +16,10 @@ use Rattle.step_record.specs.declared.step.Step.{Step}
 use Rattle.step_record.specs.declared.drain.Phase.TheVariants.{Reads}
 use Rattle.step_record.specs.Answers.{is_answer}
 use Rattle.step_record.specs.History.{Entries}
-use Rattle.segments.specs.Items.{times}
+use Rattle.segments.specs.Items.{occurrences}
 use Rattle.shell_model.specs.declared.holder.Holder.{Holder}
 use Rattle.shell_model.specs.Reached.{IsReachable}
-use Rattle.shell_model.specs.Shell.{Shell, node_of, look, begin, perform, act as acted}
+use Rattle.shell_model.specs.Shell.{Shell, node_of, look_reply, begin_effect, act_effect, act as acted}
 use Rattle.shell_model.specs.Consistent.{IsConsistent}
 use Rattle.shell_model.proofs.Counting.{node-listed, listed-times}
 use Rattle.shell_model.proofs.Engines.{answers_law}
@@ -29,7 +29,7 @@ use Rattle.shell_model.proofs.Making.{Makes}
 use Rattle.walks.specs.declared.local.Local.{Local}
 use Rattle.walks.specs.declared.place.Place.{Place}
 use Rattle.walks.specs.declared.place.Place.TheVariants as at
-use Rattle.walks.specs.Places.{Ahead, act_of_place}
+use Rattle.walks.specs.Places.{IsAheadOf, act_of_place}
 use Rattle.walks.specs.Walks.{step_of, IsReading, IsRound}
 use Rattle.quiet_run.specs.Outcomes.{outcome_after, outcome_from}
 use Rattle.walks.specs.Made.{IsUnfinished}
@@ -75,19 +75,19 @@ either_striped (Err f) w b x y h e = ap (λ (z : Shell). length z.stripes) e
 
 -- ---- a hit's node is one of the table
 
-looked : (o : Option ℕ) (n : ℕ) → look o ≡ reply.Hit n → o ≡ Some n
+looked : (o : Option ℕ) (n : ℕ) → look_reply o ≡ reply.Hit n → o ≡ Some n
 looked None n e = absurd (cc (e))
 looked (Some m) n e = let same : m ≡ n = cc (e) in ap (λ (v : ℕ). Some v) same
 
-pub offers : (w : ℕ) (x y : Shell) (key n : ℕ) → IsReachable y → acted x (step_of w (act.Look key)) ≡ Some (reply.Hit n, y) → 1 ≤ length y.stripes → IsSome (perform w (act.Offer 0 (record { key = key; node = n })) y)
+pub offers : (w : ℕ) (x y : Shell) (key n : ℕ) → IsReachable y → acted x (step_of w (act.Look key)) ≡ Some (reply.Hit n, y) → 1 ≤ length y.stripes → IsSome (act_effect w (act.Offer 0 (record { key = key; node = n })) y)
 offers w x y key n h e s =
     let t : Performs x w (act.Look key) (reply.Hit n) y = performs x w (act.Look key) (reply.Hit n) y e in
-    let p : (look (node_of key x.table), x) ≡ (reply.Hit n, t.left) = (let g : Some (look (node_of key x.table), x) ≡ Some (reply.Hit n, t.left) = t.is in cc (g)) in
+    let p : (look_reply (node_of key x.table), x) ≡ (reply.Hit n, t.left) = (let g : Some (look_reply (node_of key x.table), x) ≡ Some (reply.Hit n, t.left) = t.is in cc (g)) in
     let found : node_of key x.table ≡ Some n = looked (node_of key x.table) n (ap (λ (q : Reply × Shell). q.0) p) in
     let table : y.table ≡ x.table = ap (λ (z : Shell). z.table) t.counts ∙ sym (ap (λ (q : Reply × Shell). q.1.table) p) in
     let there : node_of key y.table ≡ Some n = ap (node_of key) table ∙ found in
     let i : Item = record { key = key; node = n } in
-    let many : 1 ≤ times i y.table = listed-times i y.table (node-listed i y.table there) in
+    let many : 1 ≤ occurrences i y.table = listed-times i y.table (node-listed i y.table there) in
     let v : IsConsistent y = reached-sound y h in
     let low : n < y.next = v.placed.below i (omega (arith, many)) in
     let a : nat_lt 0 (length y.stripes) ≡ true = grind (arith, nat_tests, s) in
@@ -99,8 +99,8 @@ offers w x y key n h e s =
 pub begins : (w : ℕ) (x y : Shell) (r : Reply) → x.holder ≡ None → acted x (step_of w act.Begin) ≡ Some (r, y) → 1 ≤ length x.stripes → (r ≡ reply.Began) × IsReady w (act.DrainRead 0) y × (length y.stripes ≡ length x.stripes)
 begins w x y r n e s =
     let t : Performs x w act.Begin r y = performs x w act.Begin r y e in
-    let g : Some (begin w x.holder x) ≡ Some (r, t.left) = t.is in
-    let f : begin w None x ≡ (r, t.left) = (let q : Some (begin w None x) ≡ Some (r, t.left) = sym (ap (λ (o : Option Holder). Some (begin w o x)) n) ∙ g in cc (q)) in
+    let g : Some (begin_effect w x.holder x) ≡ Some (r, t.left) = t.is in
+    let f : begin_effect w None x ≡ (r, t.left) = (let q : Some (begin_effect w None x) ≡ Some (r, t.left) = sym (ap (λ (o : Option Holder). Some (begin_effect w o x)) n) ∙ g in cc (q)) in
     let h : Holder = record { worker = w; phase = Reads; left = 128 } in
     let holds : y.holder ≡ Some h = ap (λ (z : Shell). z.holder) t.counts ∙ sym (ap (λ (q : Reply × Shell). q.1.holder) f) in
     let many : length y.stripes ≡ length x.stripes = ap (λ (z : Shell). length z.stripes) t.counts ∙ sym (ap (λ (q : Reply × Shell). length q.1.stripes) f) in
@@ -300,7 +300,7 @@ round_made n w key o p r old now mid new z h m k j =
     (λ a b f g. (f.0 b g.0, g.1 ∙ ap (λ (q : Outcome). outcome_from q b) f.1 ∙ sym (told_joined outcome.Kept a b)))
 
 pub offers_at : (w : ℕ) (x y z : Shell) (key node m : ℕ) (r : Reply) → z ≡ y → IsReachable z → r ≡ reply.Hit node → acted x (step_of w (act.Look key)) ≡ Some (r, y) → length y.stripes ≡ length x.stripes → length x.stripes ≡ m → 1 ≤ m
-    → IsSome (perform w (act.Offer 0 (record { key = key; node = node })) y)
+    → IsSome (act_effect w (act.Offer 0 (record { key = key; node = node })) y)
 offers_at w x y z key node m r same h hit e s t few =
     offers w x y key node (subst IsReachable same h) (e ∙ ap (λ (q : Reply). Some (q, y)) hit) (omega (arith, s, t, few))
 
@@ -312,10 +312,10 @@ pub map_err : {T F : Type 0} (r : Result T F) (P Q : Type 0) → (P → Q) → O
 map_err (Ok x) P Q f h = tt
 map_err (Err e) P Q f h = f h
 
-pub reads_ahead : (l : Local) (w n : ℕ) → l.worker ≡ w → l.stripes ≡ n → l.place ≡ at.DrainRead 0 0 → w ≡ 0 → (es : Entries) → Ahead l.worker l.stripes l.place es → IsReading 0 n 0 0 es
+pub reads_ahead : (l : Local) (w n : ℕ) → l.worker ≡ w → l.stripes ≡ n → l.place ≡ at.DrainRead 0 0 → w ≡ 0 → (es : Entries) → IsAheadOf l.worker l.stripes l.place es → IsReading 0 n 0 0 es
 reads_ahead l w n a b c z es h =
     subst (λ (v : ℕ). IsReading v n 0 0 es) z
-    (subst (λ (m : ℕ). IsReading w m 0 0 es) b (subst (λ (v : ℕ). IsReading v l.stripes 0 0 es) a (subst (λ (p : Place). Ahead l.worker l.stripes p es) c h)))
+    (subst (λ (m : ℕ). IsReading w m 0 0 es) b (subst (λ (v : ℕ). IsReading v l.stripes 0 0 es) a (subst (λ (p : Place). IsAheadOf l.worker l.stripes p es) c h)))
 
 pub ready_reads : (l : Local) (w : ℕ) (y : Shell) → l.worker ≡ w → l.place ≡ at.DrainRead 0 0 → IsReady w (act.DrainRead 0) y → IsReady l.worker (act_of_place l.worker l.stripes l.place) y
 ready_reads l w y a c h = subst (λ (p : Place). IsReady l.worker (act_of_place l.worker l.stripes p) y) (sym c) (subst (λ (v : ℕ). IsReady v (act.DrainRead 0) y) (sym a) h)

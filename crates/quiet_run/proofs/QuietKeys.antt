@@ -12,14 +12,14 @@ use Rattle.step_record.specs.declared.drain.Drain.TheVariants as drain
 use Rattle.step_record.specs.declared.drain.Phase.TheVariants.{Reads, Writes}
 use Rattle.admission.specs.Frequency.{FrequencyData}
 use Rattle.segments.specs.declared.records.Queue.TheVariants.{Window}
-use Rattle.segments.specs.Queues.{Queues, pushed}
+use Rattle.segments.specs.Queues.{Queues, queues_after_push}
 use Rattle.shell_buffers.specs.declared.task.Task.TheVariants.{Add}
 use Rattle.shell_buffers.specs.Buffers.{stripe_at}
 use Rattle.shell_model.specs.declared.stats.ShellStats.{ShellStats}
 use Rattle.shell_model.specs.Frequency.{frequency_recorded}
 use Rattle.shell_model.specs.ShellStats.{shell_stats_after}
 use Rattle.replacement.specs.Table.{after_hit}
-use Rattle.shell_model.specs.Shell.{Shell, window_size, shell_protected_size, node_of, placed}
+use Rattle.shell_model.specs.Shell.{Shell, window_size, shell_protected_size, node_of, table_with}
 use Rattle.walks.specs.Walks.{IsRound, FollowsBegin, IsWriting, FollowsDrainWrite}
 use Rattle.quiet_run.specs.QuietWalks.{FollowsQuietReport, FollowsQuietOffer, FollowsQuietPut, FollowsQuietLook, IsQuietWalk}
 use Rattle.shell_model.specs.Evicting.{unlisted_by}
@@ -71,13 +71,13 @@ hits c t n q rest f s m k nd Q e b r u v g =
 -- a new item is applied, and what leaves for it is evicted
 miss-round : (j : ℕ) (c : Config) (t : List Item) (n : ℕ) (q : Queues) (l : List (List Item)) (i : Item) (f : FrequencyData) (s : ShellStats) (m : ℕ) (Q : Shell → Type 0)
     → suc j ≡ c.stripes → length l ≡ c.stripes → ((k : ℕ) → stripe_at k l ≡ [])
-    → length (pushed Window i q).window ≤ window_size c + 1
-    → Leaves Q c (unlisted_by (evicted c (pushed Window i q) (frequency_recorded f i.key)).left t) n (evicted c (pushed Window i q) (frequency_recorded f i.key)).queues l (frequency_recorded f i.key)
-    → Leads (IsRound 0 c.stripes) (state c t n q l (Add i ∷ []) f drain.Required None s m) outcome.Kept (evicted c (pushed Window i q) (frequency_recorded f i.key)).outcome Q
+    → length (queues_after_push Window i q).window ≤ window_size c + 1
+    → Leaves Q c (unlisted_by (evicted c (queues_after_push Window i q) (frequency_recorded f i.key)).left t) n (evicted c (queues_after_push Window i q) (frequency_recorded f i.key)).queues l (frequency_recorded f i.key)
+    → Leads (IsRound 0 c.stripes) (state c t n q l (Add i ∷ []) f drain.Required None s m) outcome.Kept (evicted c (queues_after_push Window i q) (frequency_recorded f i.key)).outcome Q
 miss-round j c t n q l i f s m Q z r u v g =
-    let goal : Outcome = (evicted c (pushed Window i q) (frequency_recorded f i.key)).outcome in
+    let goal : Outcome = (evicted c (queues_after_push Window i q) (frequency_recorded f i.key)).outcome in
     let s1 : ShellStats = shell_stats_after reply.Began s in
-    let q2 : Queues = pushed Window i q in
+    let q2 : Queues = queues_after_push Window i q in
     let f2 : FrequencyData = frequency_recorded f i.key in
     opens c.stripes a.Begin (FollowsBegin 0 c.stripes) (state c t n q l (Add i ∷ []) f drain.Required None s m) outcome.Kept goal Q reply.Began (state c t n q l (Add i ∷ []) f drain.ToIdle (held Reads 128) s m)
     refl
@@ -90,14 +90,14 @@ miss-round j c t n q l i f s m Q z r u v g =
 
 pub misses : (j : ℕ) (c : Config) (t : List Item) (n : ℕ) (q : Queues) (l : List (List Item)) (f : FrequencyData) (s : ShellStats) (m k : ℕ) (Q : Shell → Type 0)
     → node_of k t ≡ None → suc j ≡ c.stripes → length l ≡ c.stripes → ((i : ℕ) → stripe_at i l ≡ [])
-    → length (pushed Window record { key = k; node = n } q).window ≤ window_size c + 1
-    → Leaves Q c (unlisted_by (evicted c (pushed Window record { key = k; node = n } q) (frequency_recorded f k)).left (placed record { key = k; node = n } t)) (n + 1)
-    (evicted c (pushed Window record { key = k; node = n } q) (frequency_recorded f k)).queues l (frequency_recorded f k)
-    → Leads (IsQuietWalk c.stripes k) (state c t n q l [] f drain.Idle None s m) outcome.Kept (evicted c (pushed Window record { key = k; node = n } q) (frequency_recorded f k)).outcome Q
+    → length (queues_after_push Window record { key = k; node = n } q).window ≤ window_size c + 1
+    → Leaves Q c (unlisted_by (evicted c (queues_after_push Window record { key = k; node = n } q) (frequency_recorded f k)).left (table_with record { key = k; node = n } t)) (n + 1)
+    (evicted c (queues_after_push Window record { key = k; node = n } q) (frequency_recorded f k)).queues l (frequency_recorded f k)
+    → Leads (IsQuietWalk c.stripes k) (state c t n q l [] f drain.Idle None s m) outcome.Kept (evicted c (queues_after_push Window record { key = k; node = n } q) (frequency_recorded f k)).outcome Q
 misses j c t n q l f s m k Q e z r u v g =
     let i : Item = record { key = k; node = n } in
-    let goal : Outcome = (evicted c (pushed Window i q) (frequency_recorded f k)).outcome in
-    let t2 : List Item = placed record { key = k; node = n } t in
+    let goal : Outcome = (evicted c (queues_after_push Window i q) (frequency_recorded f k)).outcome in
+    let t2 : List Item = table_with record { key = k; node = n } t in
     let s1 : ShellStats = shell_stats_after reply.Miss s in
     let s2 : ShellStats = shell_stats_after (reply.Added n) s1 in
     let s3 : ShellStats = shell_stats_after reply.Drain s2 in

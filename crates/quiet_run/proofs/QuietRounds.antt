@@ -16,8 +16,8 @@ use Rattle.step_record.specs.declared.drain.Phase.TheVariants.{Reads, Writes, Ev
 use Rattle.step_record.specs.History.{Entries}
 use Rattle.admission.specs.Frequency.{FrequencyData}
 use Rattle.segments.specs.declared.records.Queue.TheVariants.{Probation}
-use Rattle.segments.specs.Items.{same, times, items_without, first}
-use Rattle.segments.specs.Queues.{Queues, moved, total_items}
+use Rattle.segments.specs.Items.{is_same_item, occurrences, items_without, oldest_of}
+use Rattle.segments.specs.Queues.{Queues, queues_after_move, total_items}
 use Rattle.segments.proofs.ItemLists.{length-without}
 use Rattle.replacement.specs.Admission.{admits_in}
 use Rattle.replacement.specs.Rules.{three_queues}
@@ -69,12 +69,12 @@ record IsTried (n : ℕ) (c : Item) (q : Queues) (r : Response) : Type 1 where
   outcome_is : outcome_after outcome.Kept (reply_by r.outcome r.left c) ≡ r.outcome
   shorter : length r.queues.window + 1 ≤ length q.window
 
-contest-tried : (n : ℕ) (admits : ℕ → ℕ → Bool) (c : Item) (o : Option Item) (q : Queues) → 1 ≤ times c q.window → IsTried n c q (contest admits c o (moved c Probation q))
+contest-tried : (n : ℕ) (admits : ℕ → ℕ → Bool) (c : Item) (o : Option Item) (q : Queues) → 1 ≤ occurrences c q.window → IsTried n c q (contest admits c o (queues_after_move c Probation q))
 contest-tried n admits c None q h = record { more = λ M es w. w; outcome_is = refl; shorter = omega (arith, h, length-without c q.window, length-without c (items_without c q.window)) }
 contest-tried n admits c (Some v) q h =
     let rejects : length (items_without c (items_without c q.window)) + 1 ≤ length q.window = omega (arith, h, length-without c q.window, length-without c (items_without c q.window)) in
     let evicts : length (items_without v (items_without c q.window)) + 1 ≤ length q.window = omega (arith, h, length-without c q.window, length-without v (items_without c q.window)) in
-    elim (cases_Bool (same c v)) as (λ _. IsTried n c q (contest admits c (Some v) (moved c Probation q))) [
+    elim (cases_Bool (is_same_item c v)) as (λ _. IsTried n c q (contest admits c (Some v) (queues_after_move c Probation q))) [
       | inl e ↦ rw e record { more = λ M es w. w; outcome_is = refl; shorter = rejects }
       | inr e ↦ rw e (elim (cases_Bool (admits c.key v.key)) [
         | inl f ↦ rw f record { more = λ M es w. w; outcome_is = refl; shorter = evicts }
@@ -82,17 +82,17 @@ contest-tried n admits c (Some v) q h =
       ])
     ]
 
-trial-tried : (n : ℕ) (c : Config) (admits : ℕ → ℕ → Bool) (i : Item) (q : Queues) → 1 ≤ times i q.window → IsTried n i q (trial (three_queues c) admits i (moved i Probation q))
+trial-tried : (n : ℕ) (c : Config) (admits : ℕ → ℕ → Bool) (i : Item) (q : Queues) → 1 ≤ occurrences i q.window → IsTried n i q (trial (three_queues c) admits i (queues_after_move i Probation q))
 trial-tried n c admits i q h =
-    elim (cases_Bool (nat_lt c.capacity (total_items (moved i Probation q)))) as (λ _. IsTried n i q (trial (three_queues c) admits i (moved i Probation q))) [
-      | inl e ↦ rw e (contest-tried n admits i (first (moved i Probation q).probation) q h)
+    elim (cases_Bool (nat_lt c.capacity (total_items (queues_after_move i Probation q)))) as (λ _. IsTried n i q (trial (three_queues c) admits i (queues_after_move i Probation q))) [
+      | inl e ↦ rw e (contest-tried n admits i (oldest_of (queues_after_move i Probation q).probation) q h)
       | inr e ↦ rw e record { more = λ M es w. w; outcome_is = refl; shorter = omega (arith, h, length-without i q.window) }
     ]
 
 abbrev pub evicted : Config → Queues → FrequencyData → Response
 evicted c q f = eviction (three_queues c) (admits_in (Some f)) q
 
-first-some : (l : List Item) (n : ℕ) → n < length l → (i : Item) × (first l ≡ Some i)
+first-some : (l : List Item) (n : ℕ) → n < length l → (i : Item) × (oldest_of l ≡ Some i)
 first-some [] n h = absurd (omega arith)
 first-some (x ∷ l) n h = (x, refl)
 
@@ -103,7 +103,7 @@ window-after c q f h =
       | inl e ↦
           let lt : window_size c < length q.window = grind (arith, nat_tests) in
           let o = first-some q.window (window_size c) lt in
-          let g : IsTried c.stripes o.0 q (trial (three_queues c) (admits_in (Some f)) o.0 (moved o.0 Probation q)) = trial-tried c.stripes c (admits_in (Some f)) o.0 q (first-queued o.0 q.window o.1) in
+          let g : IsTried c.stripes o.0 q (trial (three_queues c) (admits_in (Some f)) o.0 (queues_after_move o.0 Probation q)) = trial-tried c.stripes c (admits_in (Some f)) o.0 q (first-queued o.0 q.window o.1) in
           let s = g.shorter in
           rw (e, o.1) (omega (arith, s, h))
       | inr e ↦ let small : length q.window ≤ window_size c = grind (arith, nat_tests) in rw e small
@@ -118,8 +118,8 @@ evicts c t n q l f p left s m Q v k =
       | inl e ↦
           let lt : window_size c < length q.window = grind (arith, nat_tests) in
           let o = first-some q.window (window_size c) lt in
-          let r : Response = trial (three_queues c) (admits_in (Some f)) o.0 (moved o.0 Probation q) in
-          let is : evicted c q f ≡ trial (three_queues c) (admits_in (Some f)) o.0 (moved o.0 Probation q) = rw (e, o.1) refl in
+          let r : Response = trial (three_queues c) (admits_in (Some f)) o.0 (queues_after_move o.0 Probation q) in
+          let is : evicted c q f ≡ trial (three_queues c) (admits_in (Some f)) o.0 (queues_after_move o.0 Probation q) = rw (e, o.1) refl in
           let g : IsTried c.stripes o.0 q r = trial-tried c.stripes c (admits_in (Some f)) o.0 q (first-queued o.0 q.window o.1) in
           let k2 : Leaves Q c (unlisted_by r.left t) n r.queues l f = rw is at k in
           let b : Reply = reply_by r.outcome r.left o.0 in

@@ -5,19 +5,19 @@ use Rattle.step_record.specs.declared.config.Config.{Config}
 use Rattle.step_record.specs.declared.outcome.Outcome.{Outcome}
 use Rattle.step_record.specs.declared.job.Job.{Job}
 use Rattle.step_record.specs.Config.{config_fault}
-use Rattle.step_record.specs.History.{went, after, IsLegal, Entries}
+use Rattle.step_record.specs.History.{next_data, data_after, IsLegal, Entries}
 use Rattle.admission.specs.Shape.{Shape, IsShape}
 use Rattle.admission.specs.Frequency.{FrequencyData, frequency_of, pace_of}
 use Rattle.admission.proofs.Recording.{recorded_freq}
 use Rattle.replacement.specs.Shape.{shape_of}
 use Rattle.replacement.proofs.Shape.{shape-is, own-shape}
-use Rattle.policies.specs.QueueCache.{QueueState, access_response, accessed, frequency_after, empty_queue_state as opened_policy, outcomes_from, outcomes_after, state_from, state_after}
+use Rattle.policies.specs.QueueCache.{QueueState, access_response, queue_state_after, frequency_after, empty_queue_state as opened_policy, outcomes_from, outcomes_after, state_from, state_after}
 use Rattle.policies.specs.QueueStep.{recorded_in}
 use Rattle.policies.proofs.Reached.{has-room, after-frequency, after-job}
 use Rattle.shell_model.specs.Shell.{Shell, act}
 use Rattle.shell_model.specs.Consistent.{IsConsistent}
 use Rattle.shell_model.specs.Reached.{IsReachable}
-use Rattle.shell_model.specs.Laws.{MadeStep, IsShapeOf, opened}
+use Rattle.shell_model.specs.Laws.{MadeStep, IsShapeOf, empty_shell}
 use Rattle.shell_model.proofs.Reached.{reached-sound}
 use Rattle.shell_model.proofs.Striped.{stripes_checked}
 use Rattle.maintenance.specs.Opened.{IsOpened}
@@ -28,13 +28,13 @@ use Rattle.quiet_run.specs.Settle.{ShellSession, AddsSteps}
 use Rattle.quiet_run.specs.QuietRuns.{IsPolicysRun, QuietGoesOn}
 use Rattle.quiet_run.proofs.QuietServing.{key-served}
 
-after-append : (x : Shell) (es fs : List MadeStep) → after act x (es ++ fs) ≡ after act (after act x es) fs
+after-append : (x : Shell) (es fs : List MadeStep) → data_after act x (es ++ fs) ≡ data_after act (data_after act x es) fs
 after-append x [] fs = refl
-after-append x (e ∷ es) fs = after-append (went (act x e.step) x) es fs
+after-append x (e ∷ es) fs = after-append (next_data (act x e.step) x) es fs
 
-legal-split : (x : Shell) (es fs : List MadeStep) → IsLegal act x (es ++ fs) → IsLegal act x es × IsLegal act (after act x es) fs
+legal-split : (x : Shell) (es fs : List MadeStep) → IsLegal act x (es ++ fs) → IsLegal act x es × IsLegal act (data_after act x es) fs
 legal-split x [] fs l = (tt, l)
-legal-split x (e ∷ es) fs l = let p = legal-split (went (act x e.step) x) es fs l.1 in ((l.0, p.0), p.1)
+legal-split x (e ∷ es) fs l = let p = legal-split (next_data (act x e.step) x) es fs l.1 in ((l.0, p.0), p.1)
 
 -- the frequency with the key is that of the keys with it
 frequency-next : (c : Config) → config_fault c ≡ Ok tt → (past : List ℕ) (d : QueueState) (k : ℕ) → d.frequency ≡ frequency_after (window_tiny_lfu c) past
@@ -46,8 +46,8 @@ frequency-next c h past d k e =
 pub runs : (c : Config) → config_fault c ≡ Ok tt → (ks past : List ℕ) (x : Shell) (d : QueueState) (os : List Outcome) (es : Entries)
     → x.config ≡ c → IsConsistent x → IsQuiet x d → d.frequency ≡ frequency_after (window_tiny_lfu c) past
     → AreQuietWalks c.stripes ks os es → IsLegal act x es
-    → (os ≡ outcomes_from (window_tiny_lfu c) past d ks) × IsQuiet (after act x es) (state_from (window_tiny_lfu c) past d ks)
-runs c h [] past x d [] es b v q f w l = (refl, subst (λ (y : Entries). IsQuiet (after act x y) d) (sym w) q)
+    → (os ≡ outcomes_from (window_tiny_lfu c) past d ks) × IsQuiet (data_after act x es) (state_from (window_tiny_lfu c) past d ks)
+runs c h [] past x d [] es b v q f w l = (refl, subst (λ (y : Entries). IsQuiet (data_after act x y) d) (sym w) q)
 runs c h [] past x d (o ∷ os) es b v q f w l = absurd w
 runs c h (k ∷ ks) past x d [] es b v q f w l = absurd w
 runs c h (k ∷ ks) past x d (o ∷ os) es b v q f (walk, rest, cut, walks, outcome_is, more) l =
@@ -55,18 +55,18 @@ runs c h (k ∷ ks) past x d (o ∷ os) es b v q f (walk, rest, cut, walks, outc
     let n : 1 ≤ x.config.stripes = subst (λ (y : Config). 1 ≤ y.stripes) (sym b) (stripes_checked c h).0 in
     let m = key-served x d k walk v q n (subst (λ (y : Config). IsQuietWalk y.stripes k walk) (sym b) walks) p.0 in
     let g : recorded_in k d.frequency ≡ frequency_after (window_tiny_lfu c) (past ++ k ∷ []) = frequency-next c h past d k f in
-    let d2 : QueueState = accessed (frequency_after (window_tiny_lfu c) (past ++ k ∷ [])) k d in
+    let d2 : QueueState = queue_state_after (frequency_after (window_tiny_lfu c) (past ++ k ∷ [])) k d in
     let first : o ≡ (access_response (frequency_after (window_tiny_lfu c) (past ++ k ∷ [])) k d).outcome = outcome_is ∙ m.0 ∙ ap (λ (y : Option FrequencyData). (access_response y k d).outcome) g in
-    let quiet : IsQuiet (after act x walk) d2 = subst (λ (y : Option FrequencyData). IsQuiet (after act x walk) (accessed y k d)) g m.1.quiet in
-    let r = runs c h ks (past ++ k ∷ []) (after act x walk) d2 os rest (m.1.config ∙ b) m.1.consistent quiet refl more p.1 in
+    let quiet : IsQuiet (data_after act x walk) d2 = subst (λ (y : Option FrequencyData). IsQuiet (data_after act x walk) (queue_state_after y k d)) g m.1.quiet in
+    let r = runs c h ks (past ++ k ∷ []) (data_after act x walk) d2 os rest (m.1.config ∙ b) m.1.consistent quiet refl more p.1 in
     let all = outcomes_from (window_tiny_lfu c) (past ++ k ∷ []) d2 ks in (
       ap (λ (y : Outcome). y ∷ os) first ∙ ap (λ (y : List Outcome). (access_response (frequency_after (window_tiny_lfu c) (past ++ k ∷ [])) k d).outcome ∷ y) r.0,
-      subst (λ (y : Shell). IsQuiet y (state_from (window_tiny_lfu c) (past ++ k ∷ []) d2 ks)) (sym (after-append x walk rest) ∙ ap (after act x) (sym cut)) r.1,
+      subst (λ (y : Shell). IsQuiet y (state_from (window_tiny_lfu c) (past ++ k ∷ []) d2 ks)) (sym (after-append x walk rest) ∙ ap (data_after act x) (sym cut)) r.1,
     )
 
 -- from a new shell
 
-opened-quiet : (c : Config) (s : Shape) → frequency_of s [] ≡ frequency_of (shape_of c) [] → IsQuiet (opened c s) (opened_policy (window_tiny_lfu c))
+opened-quiet : (c : Config) (s : Shape) → frequency_of s [] ≡ frequency_of (shape_of c) [] → IsQuiet (empty_shell c s) (opened_policy (window_tiny_lfu c))
 opened-quiet c s e = record {
   job = refl;
   queues = refl;
@@ -84,7 +84,7 @@ own-frequency : (c : Config) (s : Shape) → IsShapeOf c s → frequency_of s []
 own-frequency c s h = own-shape c [] (frequency_of s []) record { shape = s; is = h.is; capacity_is = h.capacity; spread_is = h.spread; stands = refl }
 
 pub new-run : (x : Shell) (c : Config) (ks : List ℕ) (os : List Outcome) (es : Entries) → IsReachable x → IsOpened c x
-    → AreQuietWalks x.config.stripes ks os es → IsLegal act x es → IsPolicysRun c ks os (after act x es)
+    → AreQuietWalks x.config.stripes ks os es → IsLegal act x es → IsPolicysRun c ks os (data_after act x es)
 unfolding outcomes_after state_after
 new-run x c ks os es r n w l =
     let same : x.config ≡ c = ap (λ (y : Shell). y.config) n.is in
@@ -99,7 +99,7 @@ outcomes-append : (j : Job) (past : List ℕ) (d : QueueState) (ks more : List �
     → outcomes_from j past d (ks ++ more) ≡ outcomes_from j past d ks ++ outcomes_from j (past ++ ks) (state_from j past d ks) more
 outcomes-append j past d [] more = ap (λ (y : List ℕ). outcomes_from j y d more) (sym (append-nil past))
 outcomes-append j past d (k ∷ ks) more =
-    let e : QueueState = accessed (frequency_after j (past ++ k ∷ [])) k d in
+    let e : QueueState = queue_state_after (frequency_after j (past ++ k ∷ [])) k d in
     let o : Outcome = (access_response (frequency_after j (past ++ k ∷ [])) k d).outcome in
     ap (λ (y : List Outcome). o ∷ y)
     (outcomes-append j (past ++ k ∷ []) e ks more
@@ -109,7 +109,7 @@ states-append : (j : Job) (past : List ℕ) (d : QueueState) (ks more : List ℕ
     → state_from j past d (ks ++ more) ≡ state_from j (past ++ ks) (state_from j past d ks) more
 states-append j past d [] more = ap (λ (y : List ℕ). state_from j y d more) (sym (append-nil past))
 states-append j past d (k ∷ ks) more =
-    let e : QueueState = accessed (frequency_after j (past ++ k ∷ [])) k d in
+    let e : QueueState = queue_state_after (frequency_after j (past ++ k ∷ [])) k d in
     states-append j (past ++ k ∷ []) e ks more
     ∙ ap (λ (y : List ℕ). state_from j y (state_from j (past ++ k ∷ []) e ks) more) (append_assoc past (k ∷ []) ks)
 
@@ -124,11 +124,11 @@ goes-by c past ks os z m =
     )
 
 pub later-run : (x : Shell) (c : Config) (past ks : List ℕ) (os : List Outcome) (es : Entries) → IsReachable x → IsQuiet x (state_after (window_tiny_lfu c) past)
-    → AreQuietWalks x.config.stripes ks os es → IsLegal act x es → QuietGoesOn c past ks os (after act x es)
+    → AreQuietWalks x.config.stripes ks os es → IsLegal act x es → QuietGoesOn c past ks os (data_after act x es)
 later-run x c past ks os es r q w l =
     let j : Job = window_tiny_lfu c in
     let same : x.config ≡ c = ap (λ (y : Job). y.config) (sym q.job ∙ after-job (window_tiny_lfu c) past) in
-    goes-by c past ks os (after act x es)
+    goes-by c past ks os (data_after act x es)
     (runs c (subst (λ (y : Config). config_fault y ≡ Ok tt) same r.checked) ks past x (state_after (window_tiny_lfu c) past) os es same (reached-sound x r) q (after-frequency (window_tiny_lfu c) past)
     (subst (λ (y : Config). AreQuietWalks y.stripes ks os es) same w) l)
 
@@ -143,23 +143,23 @@ pub record Leads (P : Entries → Type 0) (x z : Shell) : Type 0 where
   pub made : Entries
   pub holds : P made
   pub legal : IsLegal act x made
-  pub gives : z ≡ after act x made
+  pub gives : z ≡ data_after act x made
 
 pub adds-lead : (P : Entries → Type 0) (old new : ShellSession) → IsSound old → IsSound new → new.opening ≡ old.opening → AddsSteps P old new → Leads P old.engine new.engine
 adds-lead P old new s t o m =
     let kept : IsLegal act old.opening (old.kept ++ m.made) = subst (λ (y : Shell). IsLegal act y (old.kept ++ m.made)) o (subst (IsLegal act new.opening) m.entered t.legal) in
-    let there : old.engine ≡ after act old.opening old.kept = s.stands in
-    let gives : new.engine ≡ after act old.opening (old.kept ++ m.made) = t.stands ∙ ap (after act new.opening) m.entered ∙ ap (λ (y : Shell). after act y (old.kept ++ m.made)) o in
+    let there : old.engine ≡ data_after act old.opening old.kept = s.stands in
+    let gives : new.engine ≡ data_after act old.opening (old.kept ++ m.made) = t.stands ∙ ap (data_after act new.opening) m.entered ∙ ap (λ (y : Shell). data_after act y (old.kept ++ m.made)) o in
     record {
       made = m.made;
       holds = m.holds;
       legal = subst (λ (y : Shell). IsLegal act y m.made) (sym there) (legal-split old.opening old.kept m.made kept).1;
-      gives = gives ∙ after-append old.opening old.kept m.made ∙ ap (λ (y : Shell). after act y m.made) (sym there);
+      gives = gives ∙ after-append old.opening old.kept m.made ∙ ap (λ (y : Shell). data_after act y m.made) (sym there);
     }
 
 -- a session of length 0 has the engine that it was opened on
 at-opening : (s : ShellSession) → IsSound s → s.kept ≡ [] → s.engine ≡ s.opening
-at-opening s h k = h.stands ∙ ap (after act s.opening) k
+at-opening s h k = h.stands ∙ ap (data_after act s.opening) k
 
 pub new-session : (ks : List ℕ) (os : List Outcome) (old new : ShellSession) → IsSound old → IsSound new → IsReachable old.engine → new.opening ≡ old.opening
     → AddsSteps (AreQuietWalks old.engine.config.stripes ks os) old new → (c : Config) → IsOpened c old.opening → old.kept ≡ [] → IsPolicysRun c ks os new.engine

@@ -8,14 +8,14 @@ use Rattle.step_record.specs.declared.outcome.Outcome.{Outcome}
 use Rattle.step_record.specs.declared.outcome.Outcome.TheVariants as outcome
 use Rattle.step_record.specs.declared.drain.Drain.{Drain}
 use Rattle.step_record.specs.declared.drain.Drain.TheVariants as drain
-use Rattle.step_record.specs.History.{after, IsLegal, Entries}
+use Rattle.step_record.specs.History.{data_after, IsLegal, Entries}
 use Rattle.admission.specs.Frequency.{FrequencyData}
 use Rattle.segments.specs.declared.records.Queue.TheVariants.{Window}
-use Rattle.segments.specs.Items.{times}
-use Rattle.segments.specs.Queues.{Queues, pushed, IsDistinct}
+use Rattle.segments.specs.Items.{occurrences}
+use Rattle.segments.specs.Queues.{Queues, queues_after_push, IsDistinct}
 use Rattle.replacement.specs.Admission.{admits_in}
 use Rattle.replacement.specs.Table.{Response, after_hit}
-use Rattle.policies.specs.QueueCache.{QueueState, access_response, accessed}
+use Rattle.policies.specs.QueueCache.{QueueState, access_response, queue_state_after}
 use Rattle.policies.specs.QueueStep.{recorded_in, queue_act}
 use Rattle.shell_buffers.specs.declared.task.Task.{Task}
 use Rattle.shell_buffers.specs.Buffers.{stripe_at}
@@ -23,7 +23,7 @@ use Rattle.shell_model.specs.declared.holder.Holder.{Holder}
 use Rattle.shell_model.specs.declared.stats.ShellStats.{ShellStats}
 use Rattle.shell_model.specs.Frequency.{frequency_recorded}
 use Rattle.shell_model.specs.Shell.{Shell, window_size, shell_protected_size, node_of, act}
-use Rattle.shell_model.specs.Consistent.{IsConsistent, IsPlaced, queued}
+use Rattle.shell_model.specs.Consistent.{IsConsistent, IsPlaced, queue_occurrences}
 use Rattle.shell_model.proofs.Counting.{listed-times, node-listed}
 use Rattle.shell_model.proofs.Histories.{after-sound}
 use Rattle.shell_model.proofs.Reached.{reached-sound}
@@ -55,7 +55,7 @@ abbrev outcome_at : QueueState → ℕ → Outcome
 outcome_at d k = (access_response (recorded_in k d.frequency) k d).outcome
 
 abbrev accessed_at : QueueState → ℕ → QueueState
-accessed_at d k = accessed (recorded_in k d.frequency) k d
+accessed_at d k = queue_state_after (recorded_in k d.frequency) k d
 
 abbrev Serves : Shell → QueueState → ℕ → Type 0
 Serves x d k = Leads (IsQuietWalk x.config.stripes k) x outcome.Kept (outcome_at d k) (λ z. IsLeft x.config z (accessed_at d k))
@@ -82,10 +82,10 @@ key-hit : (j : ℕ) (c : Config) (t : List Item) (n : ℕ) (q : Queues) (f : Fre
     → Serves (state c t n q ([] ∷ nones j) [] f drain.Idle None s m) d k
 key-hit j c t n q f s m d k nd p e b v w g r =
     let i : Item = record { key = k; node = nd } in
-    let there : 1 ≤ times record { key = k; node = nd } t = listed-times i t (node-listed i t e) in
+    let there : 1 ≤ occurrences record { key = k; node = nd } t = listed-times i t (node-listed i t e) in
     let apart : IsDistinct q = distinct-in t n q p in
-    let few : queued i q ≤ 1 = apart i in
-    let one : queued i q ≡ 1 = omega (arith, there, few, resident t n q p i) in
+    let few : queue_occurrences i q ≤ 1 = apart i in
+    let one : queue_occurrences i q ≡ 1 = omega (arith, there, few, resident t n q p i) in
     let below : nd < n = p.below i (omega (arith, there)) in
     let place = place-some i q apart one in
     let fits : length (after_hit (shell_protected_size c) i q).window ≤ window_size c = (let y = hit-window (shell_protected_size c) i q apart in omega (arith, y, v)) in
@@ -114,10 +114,10 @@ key-miss : (j : ℕ) (c : Config) (t : List Item) (n : ℕ) (q : Queues) (f : Fr
     → Serves (state c t n q ([] ∷ nones j) [] f drain.Idle None s m) d k
 key-miss j c t n q f s m d k p e b v w g r =
     let i : Item = record { key = k; node = n } in
-    let new : (y : Item) → 1 ≤ queued y q → i.key ≡ y.key → ⊥ = lacks t n k q p e in
-    let none : queued i q ≡ 0 = not-queued i q new in
+    let new : (y : Item) → 1 ≤ queue_occurrences y q → i.key ≡ y.key → ⊥ = lacks t n k q p e in
+    let none : queue_occurrences i q ≡ 0 = not-queued i q new in
     let apart : IsDistinct q = distinct-in t n q p in
-    let longer : length (pushed Window i q).window ≤ window_size c + 1 = omega (arith, v, length-append q.window (i ∷ [])) in
+    let longer : length (queues_after_push Window i q).window ≤ window_size c + 1 = omega (arith, v, length-append q.window (i ∷ [])) in
     let same = responses c i q f d w g r apart (keys-once t n q p) (λ y h z. absurd (new y h z)) ∙ ap nodeless_response (miss-response c (admits_in (Some (frequency_recorded f k))) i q (place-none i q apart none)) in
     subst (λ (o : Outcome). Leads (IsQuietWalk c.stripes k) (state c t n q ([] ∷ nones j) [] f drain.Idle None s m) outcome.Kept o (λ z. IsLeft c z (accessed_at d k)))
     (sym (ap (λ (y : Response). y.outcome) same))
@@ -127,7 +127,7 @@ key-miss j c t n q f s m d k p e b v w g r =
       job = w;
       queues = ap (λ (y : Response). y.queues) same;
       frequency = frequencies k f d r;
-      window = window-after c (pushed Window i q) (frequency_recorded f k) longer;
+      window = window-after c (queues_after_push Window i q) (frequency_recorded f k) longer;
       stripes = ap nones (sym b);
       writes = refl;
       drain = refl;
@@ -188,11 +188,11 @@ quiet-left c z e v l =
 
 pub key-served : (x : Shell) (d : QueueState) (k : ℕ) (es : Entries) → IsConsistent x → IsQuiet x d → 1 ≤ x.config.stripes
     → IsQuietWalk x.config.stripes k es → IsLegal act x es
-    → (outcome_from outcome.Kept es ≡ outcome_at d k) × IsServed x (after act x es) (accessed_at d k)
+    → (outcome_from outcome.Kept es ≡ outcome_at d k) × IsServed x (data_after act x es) (accessed_at d k)
 key-served x d k es v q b w l =
     let m = key-serves x d k v q b es w l in
-    let u : IsConsistent (after act x es) = after-sound x es v l in
-    (m.0, record { config = m.1.config; consistent = u; quiet = quiet-left x.config (after act x es) (accessed_at d k) u m.1 })
+    let u : IsConsistent (data_after act x es) = after-sound x es v l in
+    (m.0, record { config = m.1.config; consistent = u; quiet = quiet-left x.config (data_after act x es) (accessed_at d k) u m.1 })
 
 -- what the policy's step comes to
 record IsAct (d e : QueueState) (k : ℕ) (o : Outcome) : Type 0 where
@@ -221,4 +221,4 @@ pub keys-law : KeysAgree
 keys-law x d e k o es r q w l h =
     let m = key-served x d k es (reached-sound x r) q (stripes_checked x.config r.checked).0 w l in
     let i = act-is d e k o h in
-    (m.0 ∙ i.outcome, subst (λ (y : QueueState). IsQuiet (after act x es) y) i.leaves m.1.quiet)
+    (m.0 ∙ i.outcome, subst (λ (y : QueueState). IsQuiet (data_after act x es) y) i.leaves m.1.quiet)

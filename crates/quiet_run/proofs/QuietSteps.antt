@@ -9,13 +9,13 @@ use Rattle.step_record.specs.declared.step.Reply.{Reply}
 use Rattle.step_record.specs.declared.drain.Drain.{Drain}
 use Rattle.step_record.specs.declared.drain.Drain.TheVariants as drain
 use Rattle.step_record.specs.declared.drain.Phase.{Phase}
-use Rattle.step_record.specs.History.{went, after, IsLegal, Entries}
+use Rattle.step_record.specs.History.{next_data, data_after, IsLegal, Entries}
 use Rattle.admission.specs.Frequency.{FrequencyData}
 use Rattle.segments.specs.Queues.{Queues}
 use Rattle.shell_buffers.specs.declared.task.Task.{Task}
 use Rattle.shell_model.specs.declared.holder.Holder.{Holder}
 use Rattle.shell_model.specs.declared.stats.ShellStats.{ShellStats}
-use Rattle.shell_model.specs.Shell.{Shell, perform, act}
+use Rattle.shell_model.specs.Shell.{Shell, act_effect, act}
 use Rattle.shell_model.specs.Laws.{MadeStep}
 use Rattle.shell_model.proofs.Histories.{counted_up}
 use Rattle.walks.specs.Walks.{Opens, step_of}
@@ -23,7 +23,7 @@ use Rattle.quiet_run.specs.Outcomes.{outcome_after, outcome_from}
 
 -- entries of the walk that are legal from x come to the outcome, where o was found so far, and Q holds of what they leave
 abbrev pub Leads : (Entries → Type 0) → Shell → Outcome → Outcome → (Shell → Type 0) → Type 0
-Leads Walk x o goal Q = (es : Entries) → Walk es → IsLegal act x es → (outcome_from o es ≡ goal) × Q (after act x es)
+Leads Walk x o goal Q = (es : Entries) → Walk es → IsLegal act x es → (outcome_from o es ≡ goal) × Q (data_after act x es)
 
 reply_in : Reply → Option (Reply × Shell) → Reply
 reply_in r None = r
@@ -34,26 +34,26 @@ record IsStep (e : MadeStep) (z : Shell) (r : Reply) (y : Shell) : Type 0 where
   reply : e.reply ≡ r
   leaves : z ≡ y
 
-accepted : (x : Shell) (e : MadeStep) (b : Act) (r : Reply) (y : Shell) → e.step ≡ step_of 0 b → act x e.step ≡ Some (e.reply, went (act x e.step) x)
-    → perform 0 b x ≡ Some (r, y) → IsStep e (went (act x e.step) x) r (counted_up r y)
+accepted : (x : Shell) (e : MadeStep) (b : Act) (r : Reply) (y : Shell) → e.step ≡ step_of 0 b → act x e.step ≡ Some (e.reply, next_data (act x e.step) x)
+    → act_effect 0 b x ≡ Some (r, y) → IsStep e (next_data (act x e.step) x) r (counted_up r y)
 unfolding reply_in
 accepted x e b r y s l h =
     elim (cases_Bool (nat_lt x.applied 4294967296)) [
       | inl t ↦
           let f : act x e.step ≡ Some (r, counted_up r y) = ap (act x) s ∙ (rw (t, h) refl) in
-          record { reply = ap (reply_in r) (sym l ∙ f); leaves = ap (λ (o : Option (Reply × Shell)). went o x) f }
+          record { reply = ap (reply_in r) (sym l ∙ f); leaves = ap (λ (o : Option (Reply × Shell)). next_data o x) f }
       | inr t ↦
           let f : act x e.step ≡ None = ap (act x) s ∙ (rw t refl) in
-          absurd (let no : None ≡ Some (e.reply, went (act x e.step) x) = sym f ∙ l in cc (no))
+          absurd (let no : None ≡ Some (e.reply, next_data (act x e.step) x) = sym f ∙ l in cc (no))
     ]
 
 pub opens : (n : ℕ) (b : Act) (Follows : Reply → Entries → Type 0) (x : Shell) (o goal : Outcome) (Q : Shell → Type 0) (r : Reply) (y : Shell)
-    → perform 0 b x ≡ Some (r, y) → Leads (Follows r) (counted_up r y) (outcome_after o r) goal Q → Leads (λ es. Opens 0 n b Follows es) x o goal Q
+    → act_effect 0 b x ≡ Some (r, y) → Leads (Follows r) (counted_up r y) (outcome_after o r) goal Q → Leads (λ es. Opens 0 n b Follows es) x o goal Q
 opens n b Follows x o goal Q r y h k [] w l = absurd w
 opens n b Follows x o goal Q r y h k (e ∷ es) w l =
     let p = accepted x e b r y w.0 l.0 h in
     let m = k es (subst (λ z. Follows z es) p.reply w.1) (subst (λ z. IsLegal act z es) p.leaves l.1) in
-    (ap (λ z. outcome_from (outcome_after o z) es) p.reply ∙ m.0, subst (λ z. Q (after act z es)) (sym p.leaves) m.1)
+    (ap (λ z. outcome_from (outcome_after o z) es) p.reply ∙ m.0, subst (λ z. Q (data_after act z es)) (sym p.leaves) m.1)
 
 -- nothing follows
 pub over : (x : Shell) (o : Outcome) (Q : Shell → Type 0) → Q x → Leads (λ es. es ≡ []) x o o Q

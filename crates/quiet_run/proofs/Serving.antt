@@ -7,7 +7,7 @@ use Rattle.step_record.specs.declared.outcome.Outcome.TheVariants.{Hit}
 use Rattle.admission.specs.Frequency.{FrequencyData}
 use Rattle.segments.specs.declared.records.Queue.{Queue}
 use Rattle.segments.specs.declared.records.Queue.TheVariants.{Window}
-use Rattle.segments.specs.Queues.{Queues, place_of, pushed, IsDistinct}
+use Rattle.segments.specs.Queues.{Queues, queue_holding, queues_after_push, IsDistinct}
 use Rattle.replacement.specs.Admission.{admits_in}
 use Rattle.replacement.specs.Rules.{three_queues}
 use Rattle.replacement.specs.Table.{Response, hit_in, after_hit, eviction, access_in, access}
@@ -23,15 +23,15 @@ abbrev response : Outcome → Option Item → Queues → Response
 response o l q = record { outcome = o; left = l; queues = q }
 
 -- what an access to the item comes to at the shell's queues
-pub hit-response : (c : Config) (admits : ℕ → ℕ → Bool) (i : Item) (p : Queue) (q : Queues) → place_of i q ≡ Some p
+pub hit-response : (c : Config) (admits : ℕ → ℕ → Bool) (i : Item) (p : Queue) (q : Queues) → queue_holding i q ≡ Some p
     → access (three_queues c) admits i q ≡ response Hit None (after_hit (shell_protected_size c) i q)
 unfolding access
 hit-response c admits i p q e =
     ap (λ (o : Option Queue). access_in (three_queues c) admits i o q) e
     ∙ ap (λ (o : Option Queue). response Hit None (hit_in (shell_protected_size c) i o q)) (sym e)
 
-pub miss-response : (c : Config) (admits : ℕ → ℕ → Bool) (i : Item) (q : Queues) → place_of i q ≡ None
-    → access (three_queues c) admits i q ≡ eviction (three_queues c) admits (pushed Window i q)
+pub miss-response : (c : Config) (admits : ℕ → ℕ → Bool) (i : Item) (q : Queues) → queue_holding i q ≡ None
+    → access (three_queues c) admits i q ≡ eviction (three_queues c) admits (queues_after_push Window i q)
 unfolding access
 miss-response c admits i q e = ap (λ (o : Option Queue). access_in (three_queues c) admits i o q) e
 

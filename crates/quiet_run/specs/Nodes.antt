@@ -4,7 +4,7 @@ use Rattle.step_record.specs.declared.item.Item.{Item}
 use Rattle.segments.specs.Queues.{Queues, IsDistinct}
 use Rattle.replacement.specs.declared.rules.Rules.{Rules}
 use Rattle.replacement.specs.Table.{Response, access}
-use Rattle.shell_model.specs.Consistent.{queued}
+use Rattle.shell_model.specs.Consistent.{queue_occurrences}
 
 -- the item as a policy has it
 abbrev pub nodeless : Item → Item
@@ -33,11 +33,11 @@ nodeless_response r = record {
 
 -- no other item of its key is queued
 abbrev pub IsOnly : Item → Queues → Type 0
-IsOnly i q = (j : Item) → 1 ≤ queued j q → i.key ≡ j.key → i ≡ j
+IsOnly i q = (j : Item) → 1 ≤ queue_occurrences j q → i.key ≡ j.key → i ≡ j
 
 -- no two items of one key are queued
 abbrev pub HasKeysOnce : Queues → Type 0
-HasKeysOnce q = (i : Item) → 1 ≤ queued i q → IsOnly i q
+HasKeysOnce q = (i : Item) → 1 ≤ queue_occurrences i q → IsOnly i q
 
 -- where each key has one item, an access over the keys alone comes to what it comes to over the items
 abbrev pub AccessesAgree : Type 0

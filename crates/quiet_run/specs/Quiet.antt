@@ -5,10 +5,10 @@ use Rattle.step_record.specs.declared.item.Item.{Item}
 use Rattle.step_record.specs.declared.job.Job.{Job}
 use Rattle.step_record.specs.declared.job.Policy.TheVariants.{WindowTinyLfu}
 use Rattle.step_record.specs.declared.drain.Drain.TheVariants.{Idle}
-use Rattle.segments.specs.Items.{times}
+use Rattle.segments.specs.Items.{occurrences}
 use Rattle.policies.specs.QueueCache.{QueueState}
 use Rattle.shell_model.specs.Shell.{Shell, window_size}
-use Rattle.shell_model.specs.Consistent.{queued}
+use Rattle.shell_model.specs.Consistent.{queue_occurrences}
 use Rattle.quiet_run.specs.Nodes.{nodeless_queues, HasKeysOnce}
 
 -- the policy of the same configuration
@@ -21,7 +21,7 @@ pub record IsQuiet (x : Shell) (d : QueueState) : Type 0 where
   pub job : d.job ≡ window_tiny_lfu x.config
   pub queues : d.queues ≡ nodeless_queues x.queues
   pub frequency : d.frequency ≡ Some x.frequency
-  pub table : (i : Item) → times i x.table ≡ queued i x.queues
+  pub table : (i : Item) → occurrences i x.table ≡ queue_occurrences i x.queues
   pub once : HasKeysOnce x.queues
   pub window : length x.queues.window ≤ window_size x.config
   pub stripes : x.stripes ≡ replicate x.config.stripes []

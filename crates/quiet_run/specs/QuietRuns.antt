@@ -3,7 +3,7 @@ use Rattle.std.specs.Prelude.{◌≡◌, ℕ, Some, List, ◌++◌}
 use Rattle.step_record.specs.declared.config.Config.{Config}
 use Rattle.step_record.specs.declared.outcome.Outcome.{Outcome}
 use Rattle.step_record.specs.declared.outcome.Outcome.TheVariants.{Kept}
-use Rattle.step_record.specs.History.{after, IsLegal, Entries}
+use Rattle.step_record.specs.History.{data_after, IsLegal, Entries}
 use Rattle.policies.specs.QueueCache.{QueueState, outcomes_after, state_after}
 use Rattle.policies.specs.QueueStep.{queue_act}
 use Rattle.shell_model.specs.Shell.{Shell, act}
@@ -28,4 +28,4 @@ QuietGoesOn c past keys os x =
 abbrev pub KeysAgree : Type 0
 KeysAgree = (x : Shell) (d e : QueueState) (k : ℕ) (o : Outcome) (es : Entries) → IsReachable x → IsQuiet x d
     → IsQuietWalk x.config.stripes k es → IsLegal act x es → queue_act d k ≡ Some (o, e)
-    → (outcome_from Kept es ≡ o) × IsQuiet (after act x es) e
+    → (outcome_from Kept es ≡ o) × IsQuiet (data_after act x es) e

@@ -2,10 +2,10 @@
 ghost use Rattle.std.specs.Prelude.{◌≡◌, ◌≤◌, None, Some, Err, IsSome, IfOk, IfErr, OnOk, OnErr, length};
 ghost use Rattle.std.specs.Prelude.{◌∷◌, ◌++◌, []};
 ghost use Rattle.journal.specs.Session.{IsSameSession};
-ghost use Rattle.shell_model.specs.Shell.{perform, act as acted};
+ghost use Rattle.shell_model.specs.Shell.{act_effect, act as acted};
 ghost use Rattle.shell_model.specs.Reached.{worker_of};
 ghost use Rattle.walks.specs.Walks.{step_of};
-ghost use Rattle.walks.specs.Places.{Ahead, act_of_place};
+ghost use Rattle.walks.specs.Places.{IsAheadOf, act_of_place};
 ghost use Rattle.quiet_run.specs.Outcomes.{outcome_after, outcome_from};
 ghost use Rattle.walks.specs.Made.{IsUnfinished};
 ghost use Rattle.quiet_run.specs.Settle.{AddsSteps, IsRest, BeginsRest, steps_before};
@@ -81,11 +81,11 @@ pub(crate) fn finish_round(
     requires ready { IsReady local.worker (act_of_place local.worker local.stripes local.place) session.old.engine }
     ensures opening { session.new.opening ≡ session.old.opening }
     ensures limit { session.new.limit ≡ session.old.limit }
-    ensures ok { IfOk result (λ o. AddsSteps (λ es. Ahead local.worker local.stripes local.place es
+    ensures ok { IfOk result (λ o. AddsSteps (λ es. IsAheadOf local.worker local.stripes local.place es
         × (o ≡ outcome_from start es)) session.old session.new) }
     ensures none { OnOk result (session.new.engine.holder ≡ None) }
     ensures stripes { length session.new.engine.stripes ≡ local.stripes }
-    ensures err { OnErr result (AddsSteps (IsUnfinished (Ahead local.worker local.stripes local.place))
+    ensures err { OnErr result (AddsSteps (IsUnfinished (IsAheadOf local.worker local.stripes local.place))
         session.old session.new) }
     ensures held { OnErr result (worker_of session.new.engine.holder ≡ Some local.worker) }
     ensures cause { IfErr result (λ f. IsRefusalCause f session.new) }
@@ -107,7 +107,7 @@ pub(crate) fn make_step(
     worker: Worker,
     act: Act,
 ) -> Result<Reply, Refusal>
-    requires { IsSome (perform worker act session.old.engine) }
+    requires { IsSome (act_effect worker act session.old.engine) }
     ensures opening { session.new.opening ≡ session.old.opening }
     ensures limit { session.new.limit ≡ session.old.limit }
     ensures ok { IfOk result (λ r. session.new.kept

@@ -8,7 +8,7 @@ ghost use Rattle.step_record.specs.declared.outcome.Outcome.TheVariants.{Kept};
 ghost use Rattle.step_record.specs.Answers.{is_answer};
 ghost use Rattle.step_record.specs.History.{Entries};
 ghost use Rattle.policies.specs.QueueCache.{state_after};
-ghost use Rattle.shell_model.specs.Shell.{perform, act as acted};
+ghost use Rattle.shell_model.specs.Shell.{act_effect, act as acted};
 ghost use Rattle.quiet_run.specs.Quiet.{IsQuiet, window_tiny_lfu};
 ghost use Rattle.maintenance.specs.Opened.{IsOpened};
 ghost use Rattle.walks.specs.Walks.{IsRound, step_of};
@@ -197,7 +197,7 @@ fn offer(
     item: Item,
 ) -> Result<(), Refusal>
     requires worker { worker ≡ 0 }
-    requires accepted { IsSome (perform worker (Act.Offer 0 item) session.old.engine) }
+    requires accepted { IsSome (act_effect worker (Act.Offer 0 item) session.old.engine) }
     ensures opening { session.new.opening ≡ session.old.opening }
     ensures limit { session.new.limit ≡ session.old.limit }
     ensures ok { OnOk result (AddsSteps (λ es. ((rest : Entries) → IsRound 0 stripes rest
@@ -262,7 +262,7 @@ fn is_queued(key: Key, reply: Reply) -> bool
 
 // Makes a step of a caller's own, which leaves the maintenance alone.
 fn make_own(session: &mut Session<Shell>, worker: Worker, act: Act) -> Result<Reply, Refusal>
-    requires accepted { IsSome (perform worker act session.old.engine) }
+    requires accepted { IsSome (act_effect worker act session.old.engine) }
     requires own { IsCallers act }
     ensures opening { session.new.opening ≡ session.old.opening }
     ensures limit { session.new.limit ≡ session.old.limit }

@@ -7,5 +7,5 @@ pub record IsAbove (words : List ℕ) (n : ℕ) (held : ℕ → Bool) : Type 0 w
   pub some : (w : ℕ) → held w ≡ not (eqb (slice_index words w) 0)
 
 -- q is in the set of which these are the tests
-abbrev pub holds : List Bool → ℕ → Bool
-holds tests q = slice_index_or tests q false
+abbrev pub is_in_set : List Bool → ℕ → Bool
+is_in_set tests q = slice_index_or tests q false

@@ -1,7 +1,7 @@
 //! A set of numbers below a size that is fixed when it is made.
 ghost use Rattle.std.specs.Prelude.{◌≡◌, ℕ, ◌<◌, ◌≤◌, true, false, cond, eqb, MatchOption, IfOk, length};
 ghost use Rattle.rank_tree.specs.declared.limits.TheConstants.{MAX_SIZE};
-ghost use Rattle.rank_tree.specs.Bits.{holds};
+ghost use Rattle.rank_tree.specs.Bits.{is_in_set};
 
 use crate::layer::Layer;
 use crate::places::Places;
@@ -35,7 +35,7 @@ impl Ranks {
     pub fn new(alloc: Global, size: usize) -> Result<Ranks, AllocError>
         requires { size ≤ MAX_SIZE }
         ensures size { IfOk result (λ r. length r ≡ size) }
-        ensures none { IfOk result (λ r. (q : ℕ) → holds r q ≡ false) }
+        ensures none { IfOk result (λ r. (q : ℕ) → is_in_set r q ≡ false) }
     {
         let tree = Layer::new(alloc, size)?;
         Ok(Ranks { size, tree })
@@ -44,7 +44,7 @@ impl Ranks {
     /// Whether a number is in the set.
     pub fn has(&self, rank: usize) -> bool
         requires { rank < length self.now }
-        ensures { result ≡ holds self.now rank }
+        ensures { result ≡ is_in_set self.now rank }
     {
         self.tree.has(rank)
     }
@@ -53,7 +53,7 @@ impl Ranks {
     pub fn put(&mut self, rank: usize)
         requires { rank < length self.old }
         ensures size { length self.new ≡ length self.old }
-        ensures puts { (q : ℕ) → holds self.new q ≡ cond (eqb q rank) true (holds self.old q) }
+        ensures puts { (q : ℕ) → is_in_set self.new q ≡ cond (eqb q rank) true (is_in_set self.old q) }
     {
         self.tree.put(rank);
     }
@@ -62,7 +62,7 @@ impl Ranks {
     pub fn take(&mut self, rank: usize)
         requires { rank < length self.old }
         ensures size { length self.new ≡ length self.old }
-        ensures takes { (q : ℕ) → holds self.new q ≡ cond (eqb q rank) false (holds self.old q) }
+        ensures takes { (q : ℕ) → is_in_set self.new q ≡ cond (eqb q rank) false (is_in_set self.old q) }
     {
         self.tree.take(rank);
     }
@@ -70,8 +70,8 @@ impl Ranks {
     /// The least number of the set, if it is below the bound.
     pub fn least_below(&self, bound: usize) -> Option<usize>
         requires { bound ≤ length self.now }
-        ensures { MatchOption result ((q : ℕ) → q < bound → holds self.now q ≡ false)
-            (λ m. (m < bound) × (holds self.now m ≡ true) × ((q : ℕ) → q < m → holds self.now q ≡ false)) }
+        ensures { MatchOption result ((q : ℕ) → q < bound → is_in_set self.now q ≡ false)
+            (λ m. (m < bound) × (is_in_set self.now m ≡ true) × ((q : ℕ) → q < m → is_in_set self.now q ≡ false)) }
     {
         match self.tree.least() {
             None => None,

@@ -5,8 +5,8 @@ use Rattle.step_record.specs.declared.item.Item.{Item}
 use Rattle.step_record.specs.declared.outcome.Outcome.TheVariants.{Evicted}
 use Rattle.segments.specs.declared.records.Queue.{Queue}
 use Rattle.segments.specs.declared.records.Queue.TheVariants.{Window, Probation, Protected}
-use Rattle.segments.specs.Items.{same, times, items_without, first}
-use Rattle.segments.specs.Queues.{Queues, queue_of, place_of, taken, moved, total_items, IsDistinct}
+use Rattle.segments.specs.Items.{is_same_item, occurrences, items_without, oldest_of}
+use Rattle.segments.specs.Queues.{Queues, queue_of, queue_holding, queues_without, queues_after_move, total_items, IsDistinct}
 use Rattle.segments.proofs.ItemLists.{same-refl, same-sym, length-without, without-none, without-append}
 use Rattle.segments.proofs.MoveLaws.{taken-moved}
 use Rattle.segments.proofs.QueueLists.{first-stands}
@@ -15,32 +15,32 @@ use Rattle.replacement.specs.declared.rules.Placement.TheVariants.{Direct, Windo
 use Rattle.replacement.specs.declared.rules.HitRule.{HitRule}
 use Rattle.replacement.specs.declared.rules.HitRule.TheVariants.{Renews, Stays}
 use Rattle.replacement.specs.declared.rules.Rules.{Rules}
-use Rattle.replacement.specs.Table.{Response, kept_in, with_recent, demoted, hit_response, hit_by, rejection, contest, trial_of, eviction, replacing, direct, miss_by, miss, access_in, access}
+use Rattle.replacement.specs.Table.{Response, kept_in, with_recent, queues_after_demotion, hit_response, hit_by, rejection, contest, trial_of, eviction, response_with_victim, response_without_trial, miss_by, miss, access_in, access}
 use Rattle.replacement.specs.Plan.{Plan, Transfer, transfer, demotion, hit_plan_by, stay_plan, contest_plan, direct_plan, candidate_of, eviction_of, eviction_plan, joining_first, miss_plan_by, miss_plan, plan_in, plan}
-use Rattle.replacement.specs.Moving.{transferred, removed, response}
+use Rattle.replacement.specs.Moving.{queues_after_transfer, removed, response_of_plan}
 use Rattle.replacement.specs.Theorems.{HitsPlanned, EvictionsPlanned, AccessesPlanned}
 use Rattle.segments.proofs.QueueLists.{still-absent}
 use Rattle.replacement.proofs.Carrying.{moved-distinct, pushed-moved}
 
 -- ---- hits
 
-demoted-planned : (size : ℕ) (s : Queues) → demoted size s ≡ transferred (demotion size s) s
+demoted-planned : (size : ℕ) (s : Queues) → queues_after_demotion size s ≡ queues_after_transfer (demotion size s) s
 demoted-planned size s =
-    elim (cases_Bool (nat_lt size (length s.protected))) as (λ _. demoted size s ≡ transferred (demotion size s) s) [
-      | inl e ↦ rw e (by_oldest (first s.protected))
+    elim (cases_Bool (nat_lt size (length s.protected))) as (λ _. queues_after_demotion size s ≡ queues_after_transfer (demotion size s) s) [
+      | inl e ↦ rw e (by_oldest (oldest_of s.protected))
       | inr e ↦ rw e refl
     ]
   where
-    by_oldest : (o : Option Item) → with_recent o Probation s ≡ transferred (transfer Probation o) s
+    by_oldest : (o : Option Item) → with_recent o Probation s ≡ queues_after_transfer (transfer Probation o) s
     by_oldest None = refl
     by_oldest (Some i) = refl
 
 pub hits-planned : HitsPlanned
 hits-planned size i Window s = refl
-hits-planned size i Probation s = demoted-planned size (moved i Protected s)
+hits-planned size i Probation s = demoted-planned size (queues_after_move i Protected s)
 hits-planned size i Protected s = refl
 
-hits-planned-by : (h : HitRule) (size : ℕ) (i : Item) (q : Queue) (s : Queues) → hit_response (hit_by h size i q s) ≡ response (hit_plan_by h size i q s) s
+hits-planned-by : (h : HitRule) (size : ℕ) (i : Item) (q : Queue) (s : Queues) → hit_response (hit_by h size i q s) ≡ response_of_plan (hit_plan_by h size i q s) s
 hits-planned-by Renews size i q s = ap hit_response (hits-planned size i q s)
 hits-planned-by Stays size i q s = refl
 
@@ -51,19 +51,19 @@ swapped : (v c : Item) (l : List Item) → items_without v (items_without c l) �
 swapped v c [] = refl
 swapped v c (x ∷ l) =
     let h : items_without v (items_without c l) ≡ items_without c (items_without v l) = swapped v c l in
-    elim (cases_Bool (same c x)) as (λ _. items_without v (cond (same c x) (items_without c l) (x ∷ items_without c l)) ≡ items_without c (cond (same v x) (items_without v l) (x ∷ items_without v l))) [
-      | inl e ↦ rw e (elim (cases_Bool (same v x)) as (λ _. items_without v (items_without c l) ≡ items_without c (cond (same v x) (items_without v l) (x ∷ items_without v l))) [
+    elim (cases_Bool (is_same_item c x)) as (λ _. items_without v (cond (is_same_item c x) (items_without c l) (x ∷ items_without c l)) ≡ items_without c (cond (is_same_item v x) (items_without v l) (x ∷ items_without v l))) [
+      | inl e ↦ rw e (elim (cases_Bool (is_same_item v x)) as (λ _. items_without v (items_without c l) ≡ items_without c (cond (is_same_item v x) (items_without v l) (x ∷ items_without v l))) [
         | inl f ↦ rw f h
         | inr f ↦ rw (f, e) h
       ])
-      | inr e ↦ rw e (elim (cases_Bool (same v x)) as (λ _. cond (same v x) (items_without v (items_without c l)) (x ∷ items_without v (items_without c l)) ≡ items_without c (cond (same v x) (items_without v l) (x ∷ items_without v l))) [
+      | inr e ↦ rw e (elim (cases_Bool (is_same_item v x)) as (λ _. cond (is_same_item v x) (items_without v (items_without c l)) (x ∷ items_without v (items_without c l)) ≡ items_without c (cond (is_same_item v x) (items_without v l) (x ∷ items_without v l))) [
         | inl f ↦ rw f h
         | inr f ↦ rw (f, e) (ap (λ t. x ∷ t) h)
       ])
     ]
 
 -- another item is taken out before or after the candidate goes to probation
-taken-past : (v c : Item) (q : Queues) → same v c ≡ false → taken v (moved c Probation q) ≡ moved c Probation (taken v q)
+taken-past : (v c : Item) (q : Queues) → is_same_item v c ≡ false → queues_without v (queues_after_move c Probation q) ≡ queues_after_move c Probation (queues_without v q)
 taken-past v c q h =
     rw (without-append v (items_without c q.probation) (c ∷ []), h, swapped v c q.window, swapped v c q.probation, swapped v c q.protected) refl
 
@@ -72,17 +72,17 @@ first_or c None = Some c
 first_or c (Some v) = Some v
 
 -- the victim, once the candidate stands behind it
-first-shifted : (c : Item) (l : List Item) → times c l ≡ 0 → first (items_without c l ++ c ∷ []) ≡ first_or c (first l)
+first-shifted : (c : Item) (l : List Item) → occurrences c l ≡ 0 → oldest_of (items_without c l ++ c ∷ []) ≡ first_or c (oldest_of l)
 unfolding first_or
 first-shifted c l h = rw (without-none c l h) (by l)
   where
-    by : (l : List Item) → first (l ++ c ∷ []) ≡ first_or c (first l)
+    by : (l : List Item) → oldest_of (l ++ c ∷ []) ≡ first_or c (oldest_of l)
     by [] = refl
     by (x ∷ l) = refl
 
-apart : (c v : Item) (l : List Item) → times c l ≡ 0 → first l ≡ Some v → same c v ≡ false
+apart : (c v : Item) (l : List Item) → occurrences c l ≡ 0 → oldest_of l ≡ Some v → is_same_item c v ≡ false
 apart c v l h f =
-    elim (cases_Bool (same c v)) [
+    elim (cases_Bool (is_same_item c v)) [
       | inl e ↦ absurd (by l h f e)
       | inr e ↦ e
     ]
@@ -91,45 +91,45 @@ apart c v l h f =
     item_in d None = d
     item_in d (Some j) = j
 
-    by : (l : List Item) → times c l ≡ 0 → first l ≡ Some v → same c v ≡ true → ⊥
+    by : (l : List Item) → occurrences c l ≡ 0 → oldest_of l ≡ Some v → is_same_item c v ≡ true → ⊥
     by [] h f e = cc (f)
     by (x ∷ l) h f e =
         let s : x ≡ v = ap (item_in x) f in
-        let t : same c x ≡ true = rw s e in
-        let no : 1 + times c l ≡ 0 = rw t at h in
+        let t : is_same_item c x ≡ true = rw s e in
+        let no : 1 + occurrences c l ≡ 0 = rw t at h in
         omega arith
 
-contest-planned : (a : ℕ → ℕ → Bool) (c : Item) (o : Option Item) (s : Queues) → first s.probation ≡ o → times c s.probation ≡ 0
-    → contest a c (first_or c o) (moved c Probation s) ≡ response (contest_plan Probation a c (Some c) o) s
+contest-planned : (a : ℕ → ℕ → Bool) (c : Item) (o : Option Item) (s : Queues) → oldest_of s.probation ≡ o → occurrences c s.probation ≡ 0
+    → contest a c (first_or c o) (queues_after_move c Probation s) ≡ response_of_plan (contest_plan Probation a c (Some c) o) s
 unfolding first_or
 contest-planned a c None s f h = let e = same-refl c in rw (e, taken-moved c Probation s) refl
 contest-planned a c (Some v) s f h =
-    let e : same c v ≡ false = apart c v s.probation h f in
-    rw e (elim (cases_Bool (a c.key v.key)) as (λ _. cond {A = Response} (a c.key v.key) record { outcome = Evicted v.key; left = Some v; queues = taken v (moved c Probation s) } (rejection c (moved c Probation s)) ≡ response (contest_plan Probation a c (Some c) (Some v)) s) [
+    let e : is_same_item c v ≡ false = apart c v s.probation h f in
+    rw e (elim (cases_Bool (a c.key v.key)) as (λ _. cond {A = Response} (a c.key v.key) record { outcome = Evicted v.key; left = Some v; queues = queues_without v (queues_after_move c Probation s) } (rejection c (queues_after_move c Probation s)) ≡ response_of_plan (contest_plan Probation a c (Some c) (Some v)) s) [
       | inl g ↦ rw (g, taken-past v c s (same-sym c v e)) refl
       | inr g ↦ rw (g, taken-moved c Probation s) refl
     ])
 
 -- the candidate's way to probation adds no item
-total-shifted : (c : Item) (q : Queues) → IsDistinct q → 1 ≤ times c q.window → total_items (moved c Probation q) ≡ total_items q
+total-shifted : (c : Item) (q : Queues) → IsDistinct q → 1 ≤ occurrences c q.window → total_items (queues_after_move c Probation q) ≡ total_items q
 total-shifted c q d h = omega (arith, d c, h, length-without c q.window, length-without c q.probation, length-without c q.protected, length-append (items_without c q.probation) (c ∷ []))
 
-trial-planned : (r : Rules) (a : ℕ → ℕ → Bool) (o : Option Item) (s : Queues) → first s.window ≡ o → IsDistinct s
-    → trial_of r a o s ≡ response (eviction_of r a o s) s
+trial-planned : (r : Rules) (a : ℕ → ℕ → Bool) (o : Option Item) (s : Queues) → oldest_of s.window ≡ o → IsDistinct s
+    → trial_of r a o s ≡ response_of_plan (eviction_of r a o s) s
 trial-planned r a None s f d = refl
 trial-planned r a (Some c) s f d =
-    let n : 1 ≤ times c s.window = first-stands c s.window f in
-    let z : times c s.probation ≡ 0 = omega (arith, d c, n) in
-    rw (total-shifted c s d n) (elim (cases_Bool (nat_lt r.capacity (total_items s))) as (λ _. cond {A = Response} (nat_lt r.capacity (total_items s)) (contest a c (first (moved c Probation s).probation) (moved c Probation s)) (kept_in (moved c Probation s))
-    ≡ response (cond (nat_lt r.capacity (total_items s)) (contest_plan Probation a c (Some c) (first s.probation)) (stay_plan Probation c)) s) [
-      | inl e ↦ rw e (ap (λ (o : Option Item). contest a c o (moved c Probation s)) (first-shifted c s.probation z) ∙ contest-planned a c (first s.probation) s refl z)
+    let n : 1 ≤ occurrences c s.window = first-stands c s.window f in
+    let z : occurrences c s.probation ≡ 0 = omega (arith, d c, n) in
+    rw (total-shifted c s d n) (elim (cases_Bool (nat_lt r.capacity (total_items s))) as (λ _. cond {A = Response} (nat_lt r.capacity (total_items s)) (contest a c (oldest_of (queues_after_move c Probation s).probation) (queues_after_move c Probation s)) (kept_in (queues_after_move c Probation s))
+    ≡ response_of_plan (cond (nat_lt r.capacity (total_items s)) (contest_plan Probation a c (Some c) (oldest_of s.probation)) (stay_plan Probation c)) s) [
+      | inl e ↦ rw e (ap (λ (o : Option Item). contest a c o (queues_after_move c Probation s)) (first-shifted c s.probation z) ∙ contest-planned a c (oldest_of s.probation) s refl z)
       | inr e ↦ rw e refl
     ])
 
 pub evictions-planned : EvictionsPlanned
 evictions-planned r a s d =
-    elim (cases_Bool (nat_lt r.window (length s.window))) as (λ _. eviction r a s ≡ response (eviction_plan r a s) s) [
-      | inl e ↦ rw e (trial-planned r a (first s.window) s refl d)
+    elim (cases_Bool (nat_lt r.window (length s.window))) as (λ _. eviction r a s ≡ response_of_plan (eviction_plan r a s) s) [
+      | inl e ↦ rw e (trial-planned r a (oldest_of s.window) s refl d)
       | inr e ↦ rw e refl
     ]
 
@@ -140,7 +140,7 @@ first-none : (r : Rules) (a : ℕ → ℕ → Bool) (o : Option Item) (s : Queue
 first-none r a None s = refl
 first-none r a (Some c) s =
     elim (cases_Bool (nat_lt r.capacity (total_items s))) as (λ _. (eviction_of r a (Some c) s).first ≡ None) [
-      | inl e ↦ rw e (by (first s.probation))
+      | inl e ↦ rw e (by (oldest_of s.probation))
       | inr e ↦ rw e refl
     ]
   where
@@ -149,56 +149,56 @@ first-none r a (Some c) s =
     by (Some v) = elim (cases_Bool (a c.key v.key)) as (λ _. (contest_plan Probation a c (Some c) (Some v)).first ≡ None) [ inl e ↦ rw e refl | inr e ↦ rw e refl ]
 
 response_with : Option Transfer → Plan → Queues → Response
-response_with o p s = record { outcome = p.outcome; left = p.leaves; queues = transferred p.last (removed p.leaves (transferred o s)) }
+response_with o p s = record { outcome = p.outcome; left = p.leaves; queues = queues_after_transfer p.last (removed p.leaves (queues_after_transfer o s)) }
 
-pub joined-response : (i : Item) (p : Plan) (s : Queues) → p.first ≡ None → response (joining_first i p) s ≡ response p (moved i Window s)
+pub joined-response : (i : Item) (p : Plan) (s : Queues) → p.first ≡ None → response_of_plan (joining_first i p) s ≡ response_of_plan p (queues_after_move i Window s)
 unfolding response_with
-joined-response i p s h = ap (λ (o : Option Transfer). response_with o p (moved i Window s)) (sym h)
+joined-response i p s h = ap (λ (o : Option Transfer). response_with o p (queues_after_move i Window s)) (sym h)
 
 pub evicts-first : (r : Rules) (a : ℕ → ℕ → Bool) (s : Queues) → (eviction_plan r a s).first ≡ None
 evicts-first r a s = first-none r a (candidate_of r s) s
 
-replacing-planned : (a : ℕ → ℕ → Bool) (q : Queue) (i : Item) (o : Option Item) (s : Queues) → place_of i s ≡ None
-    → replacing a q i o s ≡ response (contest_plan q a i None o) s
+replacing-planned : (a : ℕ → ℕ → Bool) (q : Queue) (i : Item) (o : Option Item) (s : Queues) → queue_holding i s ≡ None
+    → response_with_victim a q i o s ≡ response_of_plan (contest_plan q a i None o) s
 replacing-planned a q i None s h = refl
 replacing-planned a q i (Some v) s h =
-    elim (cases_Bool (a i.key v.key)) as (λ _. replacing a q i (Some v) s ≡ response (contest_plan q a i None (Some v)) s) [
-      | inl e ↦ rw (e, pushed-moved i q (taken v s) (still-absent i v s h)) refl
+    elim (cases_Bool (a i.key v.key)) as (λ _. response_with_victim a q i (Some v) s ≡ response_of_plan (contest_plan q a i None (Some v)) s) [
+      | inl e ↦ rw (e, pushed-moved i q (queues_without v s) (still-absent i v s h)) refl
       | inr e ↦ rw e refl
     ]
 
-direct-planned : (r : Rules) (a : ℕ → ℕ → Bool) (q : Queue) (i : Item) (s : Queues) → place_of i s ≡ None → direct r a q i s ≡ response (direct_plan r a q i s) s
+direct-planned : (r : Rules) (a : ℕ → ℕ → Bool) (q : Queue) (i : Item) (s : Queues) → queue_holding i s ≡ None → response_without_trial r a q i s ≡ response_of_plan (direct_plan r a q i s) s
 direct-planned r a q i s h =
-    elim (cases_Bool (nat_lt (total_items s) r.capacity)) as (λ _. direct r a q i s ≡ response (direct_plan r a q i s) s) [
+    elim (cases_Bool (nat_lt (total_items s) r.capacity)) as (λ _. response_without_trial r a q i s ≡ response_of_plan (direct_plan r a q i s) s) [
       | inl e ↦ rw (e, pushed-moved i q s h) refl
-      | inr e ↦ rw e (replacing-planned a q i (first (queue_of q s)) s h)
+      | inr e ↦ rw e (replacing-planned a q i (oldest_of (queue_of q s)) s h)
     ]
 
-miss-planned : (r : Rules) (a : ℕ → ℕ → Bool) (i : Item) (s : Queues) → IsDistinct s → place_of i s ≡ None → miss r a i s ≡ response (miss_plan r a i s) s
+miss-planned : (r : Rules) (a : ℕ → ℕ → Bool) (i : Item) (s : Queues) → IsDistinct s → queue_holding i s ≡ None → miss r a i s ≡ response_of_plan (miss_plan r a i s) s
 miss-planned r a i s d h = by r.placement
   where
-    by : (p : Placement) → miss_by p r a i s ≡ response (miss_plan_by p r a i s) s
+    by : (p : Placement) → miss_by p r a i s ≡ response_of_plan (miss_plan_by p r a i s) s
     by (Direct q) = direct-planned r a q i s h
     by Windowed =
         ap (eviction r a) (pushed-moved i Window s h)
-        ∙ (evictions-planned r a (moved i Window s) (moved-distinct i Window s d)
-        ∙ sym (joined-response i (eviction_plan r a (moved i Window s)) s (evicts-first r a (moved i Window s))))
+        ∙ (evictions-planned r a (queues_after_move i Window s) (moved-distinct i Window s d)
+        ∙ sym (joined-response i (eviction_plan r a (queues_after_move i Window s)) s (evicts-first r a (queues_after_move i Window s))))
 
-pub access-planned-in : (r : Rules) (a : ℕ → ℕ → Bool) (i : Item) (p : Option Queue) (s : Queues) → IsDistinct s → place_of i s ≡ p
-    → access_in r a i p s ≡ response (plan_in r a i p s) s
+pub access-planned-in : (r : Rules) (a : ℕ → ℕ → Bool) (i : Item) (p : Option Queue) (s : Queues) → IsDistinct s → queue_holding i s ≡ p
+    → access_in r a i p s ≡ response_of_plan (plan_in r a i p s) s
 access-planned-in r a i None s d h = miss-planned r a i s d h
 access-planned-in r a i (Some q) s d h = hits-planned-by r.hits r.protected i q s
 
 -- the plan of an access and the table, by where its item stands
-pub plan-at : (r : Rules) (a : ℕ → ℕ → Bool) (i : Item) (s : Queues) (p : Option Queue) → place_of i s ≡ p → plan r a i s ≡ plan_in r a i p s
+pub plan-at : (r : Rules) (a : ℕ → ℕ → Bool) (i : Item) (s : Queues) (p : Option Queue) → queue_holding i s ≡ p → plan r a i s ≡ plan_in r a i p s
 unfolding plan
 plan-at r a i s p h = ap (λ (x : Option Queue). plan_in r a i x s) h
 
-pub access-at : (r : Rules) (a : ℕ → ℕ → Bool) (i : Item) (s : Queues) (p : Option Queue) → place_of i s ≡ p → access r a i s ≡ access_in r a i p s
+pub access-at : (r : Rules) (a : ℕ → ℕ → Bool) (i : Item) (s : Queues) (p : Option Queue) → queue_holding i s ≡ p → access r a i s ≡ access_in r a i p s
 unfolding access
 access-at r a i s p h = ap (λ (x : Option Queue). access_in r a i x s) h
 
 pub accesses-planned : AccessesPlanned
 accesses-planned r a i s d =
-    access-at r a i s (place_of i s) refl ∙ (access-planned-in r a i (place_of i s) s d refl
-    ∙ ap (λ (p : Plan). response p s) (sym (plan-at r a i s (place_of i s) refl)))
+    access-at r a i s (queue_holding i s) refl ∙ (access-planned-in r a i (queue_holding i s) s d refl
+    ∙ ap (λ (p : Plan). response_of_plan p s) (sym (plan-at r a i s (queue_holding i s) refl)))

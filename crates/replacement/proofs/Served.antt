@@ -5,7 +5,7 @@ use Rattle.step_record.specs.declared.outcome.Outcome.TheVariants.{Hit}
 use Rattle.segments.specs.declared.records.Queue.{Queue}
 use Rattle.segments.specs.declared.records.Queue.TheVariants.{Window}
 use Rattle.segments.specs.declared.records.MoveRecord.{MoveRecord}
-use Rattle.segments.specs.Queues.{Queues, place_of, moved, IsDistinct}
+use Rattle.segments.specs.Queues.{Queues, queue_holding, queues_after_move, IsDistinct}
 use Rattle.replacement.specs.declared.record.Moves.{Moves}
 use Rattle.replacement.specs.declared.record.Effect.{Effect}
 use Rattle.replacement.specs.declared.rules.Placement.{Placement}
@@ -13,7 +13,7 @@ use Rattle.replacement.specs.declared.rules.HitRule.{HitRule}
 use Rattle.replacement.specs.declared.rules.HitRule.TheVariants.{Renews, Stays}
 use Rattle.replacement.specs.declared.rules.Rules.{Rules}
 use Rattle.replacement.specs.Plan.{Transfer, Plan, hit_plan, hit_plan_by, eviction_plan, joining_first, miss_plan_by, miss_plan, plan}
-use Rattle.replacement.specs.Moving.{transferred, removed, queues_after, transfer_record, removal_record, moves_of}
+use Rattle.replacement.specs.Moving.{queues_after_transfer, removed, queues_after, transfer_record, removal_record, moves_of}
 use Rattle.replacement.specs.Effects.{IsEffect, IsHit, IsHitBy}
 use Rattle.replacement.proofs.Carrying.{IsUndone, undoes}
 use Rattle.replacement.proofs.Planned.{plan-at, evicts-first}
@@ -35,7 +35,7 @@ hit-effect r a i s t m h =
 
 -- a miss, which the search for the item left as it was
 
-pub miss-effect : (r : Rules) (a : ℕ → ℕ → Bool) (i : Item) (s p t : Queues) (e : Effect) → place_of i s ≡ None → p ≡ s
+pub miss-effect : (r : Rules) (a : ℕ → ℕ → Bool) (i : Item) (s p t : Queues) (e : Effect) → queue_holding i s ≡ None → p ≡ s
     → IsEffect (miss_plan r a i p) p t e → IsEffect (plan r a i s) s t e
 miss-effect r a i s p t e h same f =
     subst (λ (x : Plan). IsEffect x s t e) (sym (plan-at r a i s None h)) (subst (λ (x : Queues). IsEffect (miss_plan r a i x) x t e) same f)
@@ -44,36 +44,36 @@ pub placed-effect : (p : Placement) (r : Rules) (a : ℕ → ℕ → Bool) (i : 
     → IsEffect (miss_plan_by p r a i s) s t e → IsEffect (miss_plan r a i s) s t e
 placed-effect p r a i s t e w f = subst (λ (x : Placement). IsEffect (miss_plan_by x r a i s) s t e) (sym w) f
 
-joined-lists : (i : Item) (p : Plan) (s t : Queues) → p.first ≡ None → t ≡ queues_after p (moved i Window s) → t ≡ queues_after (joining_first i p) s
-joined-lists i p s t n h = h ∙ ap (λ (o : Option Transfer). transferred p.last (removed p.leaves (transferred o (moved i Window s)))) n
+joined-lists : (i : Item) (p : Plan) (s t : Queues) → p.first ≡ None → t ≡ queues_after p (queues_after_move i Window s) → t ≡ queues_after (joining_first i p) s
+joined-lists i p s t n h = h ∙ ap (λ (o : Option Transfer). queues_after_transfer p.last (removed p.leaves (queues_after_transfer o (queues_after_move i Window s)))) n
 
-joined-moves : (i : Item) (p : Plan) (s : Queues) (m : Moves) → p.first ≡ None → m ≡ moves_of p (moved i Window s)
+joined-moves : (i : Item) (p : Plan) (s : Queues) (m : Moves) → p.first ≡ None → m ≡ moves_of p (queues_after_move i Window s)
     → record { first = (moves_of (joining_first i p) s).first; out = m.out; last = m.last } ≡ moves_of (joining_first i p) s
 joined-moves i p s m n h =
-    ap (with_first (moves_of (joining_first i p) s).first) (h ∙ ap (λ (o : Option Transfer). moves_with o p (moved i Window s)) n)
+    ap (with_first (moves_of (joining_first i p) s).first) (h ∙ ap (λ (o : Option Transfer). moves_with o p (queues_after_move i Window s)) n)
   where
     moves_with : Option Transfer → Plan → Queues → Moves
     moves_with o p q = record {
       first = transfer_record o q;
-      out = removal_record p.leaves (transferred o q);
-      last = transfer_record p.last (removed p.leaves (transferred o q));
+      out = removal_record p.leaves (queues_after_transfer o q);
+      last = transfer_record p.last (removed p.leaves (queues_after_transfer o q));
     }
 
     with_first : Option MoveRecord → Moves → Moves
     with_first f m = record { first = f; out = m.out; last = m.last }
 
 -- an item joins the window before the eviction
-pub joined-effect : (r : Rules) (a : ℕ → ℕ → Bool) (i : Item) (s p t : Queues) (e : Effect) → p ≡ moved i Window s
+pub joined-effect : (r : Rules) (a : ℕ → ℕ → Bool) (i : Item) (s p t : Queues) (e : Effect) → p ≡ queues_after_move i Window s
     → IsEffect (eviction_plan r a p) p t e
-    → IsEffect (joining_first i (eviction_plan r a (moved i Window s))) s t record {
+    → IsEffect (joining_first i (eviction_plan r a (queues_after_move i Window s))) s t record {
       outcome = e.outcome;
-      moves = record { first = (moves_of (joining_first i (eviction_plan r a (moved i Window s))) s).first; out = e.moves.out; last = e.moves.last };
+      moves = record { first = (moves_of (joining_first i (eviction_plan r a (queues_after_move i Window s))) s).first; out = e.moves.out; last = e.moves.last };
     }
 joined-effect r a i s p t e same f =
-    let g : IsEffect (eviction_plan r a (moved i Window s)) (moved i Window s) t e = subst (λ (x : Queues). IsEffect (eviction_plan r a x) x t e) same f in
-    let n = evicts-first r a (moved i Window s) in
+    let g : IsEffect (eviction_plan r a (queues_after_move i Window s)) (queues_after_move i Window s) t e = subst (λ (x : Queues). IsEffect (eviction_plan r a x) x t e) same f in
+    let n = evicts-first r a (queues_after_move i Window s) in
     record {
-      lists = joined-lists i (eviction_plan r a (moved i Window s)) s t n g.lists;
-      moves = joined-moves i (eviction_plan r a (moved i Window s)) s e.moves n g.moves;
+      lists = joined-lists i (eviction_plan r a (queues_after_move i Window s)) s t n g.lists;
+      moves = joined-moves i (eviction_plan r a (queues_after_move i Window s)) s e.moves n g.moves;
       outcome = g.outcome;
     }

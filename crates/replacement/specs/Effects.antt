@@ -2,7 +2,7 @@
 use Rattle.std.specs.Prelude.{◌≡◌, ℕ, Some}
 use Rattle.step_record.specs.declared.item.Item.{Item}
 use Rattle.segments.specs.declared.records.Queue.{Queue}
-use Rattle.segments.specs.Queues.{Queues, place_of}
+use Rattle.segments.specs.Queues.{Queues, queue_holding}
 use Rattle.replacement.specs.declared.record.Moves.{Moves}
 use Rattle.replacement.specs.declared.record.Effect.{Effect}
 use Rattle.replacement.specs.declared.rules.HitRule.{HitRule}
@@ -19,7 +19,7 @@ pub record IsEffect (p : Plan) (before after : Queues) (e : Effect) : Type 0 whe
 -- the item was there, and was hit by the rule
 pub record IsHitBy (h : HitRule) (size : ℕ) (i : Item) (before after : Queues) (m : Moves) : Type 0 where
   pub queue : Queue
-  pub place : place_of i before ≡ Some queue
+  pub place : queue_holding i before ≡ Some queue
   pub lists : after ≡ queues_after (hit_plan_by h size i queue before) before
   pub moves : m ≡ moves_of (hit_plan_by h size i queue before) before
 

@@ -2,27 +2,27 @@
 use Rattle.std.specs.Prelude.{◌≡◌, ℕ, Option, Some, None}
 use Rattle.step_record.specs.declared.item.Item.{Item}
 use Rattle.segments.specs.declared.records.MoveRecord.{MoveRecord}
-use Rattle.segments.specs.Queues.{Queues, taken, moved}
-use Rattle.segments.specs.Moves.{move_record, queues_before_move, FitsMove, needed}
+use Rattle.segments.specs.Queues.{Queues, queues_without, queues_after_move}
+use Rattle.segments.specs.Moves.{move_record, queues_before_move, FitsMove, room_needed}
 use Rattle.replacement.specs.declared.record.Moves.{Moves}
 use Rattle.replacement.specs.Table.{Response}
 use Rattle.replacement.specs.Plan.{Transfer, Plan}
 
-abbrev pub transferred : Option Transfer → Queues → Queues
-transferred None s = s
-transferred (Some t) s = moved t.item t.to s
+abbrev pub queues_after_transfer : Option Transfer → Queues → Queues
+queues_after_transfer None s = s
+queues_after_transfer (Some t) s = queues_after_move t.item t.to s
 
 abbrev pub removed : Option Item → Queues → Queues
 removed None s = s
-removed (Some i) s = taken i s
+removed (Some i) s = queues_without i s
 
 -- the queues after the plan
 abbrev pub queues_after : Plan → Queues → Queues
-queues_after p s = transferred p.last (removed p.leaves (transferred p.first s))
+queues_after p s = queues_after_transfer p.last (removed p.leaves (queues_after_transfer p.first s))
 
 -- what the plan comes to
-abbrev pub response : Plan → Queues → Response
-response p s = record { outcome = p.outcome; left = p.leaves; queues = queues_after p s }
+abbrev pub response_of_plan : Plan → Queues → Response
+response_of_plan p s = record { outcome = p.outcome; left = p.leaves; queues = queues_after p s }
 
 -- ---- its record
 
@@ -38,8 +38,8 @@ removal_record (Some i) s = Some (move_record i None s)
 abbrev pub moves_of : Plan → Queues → Moves
 moves_of p s = record {
   first = transfer_record p.first s;
-  out = removal_record p.leaves (transferred p.first s);
-  last = transfer_record p.last (removed p.leaves (transferred p.first s));
+  out = removal_record p.leaves (queues_after_transfer p.first s);
+  last = transfer_record p.last (removed p.leaves (queues_after_transfer p.first s));
 }
 
 -- ---- undoing
@@ -58,7 +58,7 @@ FitsBy (Some r) s = FitsMove r s
 
 abbrev pub needed_by : Option MoveRecord → ℕ
 needed_by None = 0
-needed_by (Some r) = needed r.to
+needed_by (Some r) = room_needed r.to
 
 -- each move fits in its turn, and at most one item went out
 pub record FitsMoves (m : Moves) (s : Queues) : Type 0 where

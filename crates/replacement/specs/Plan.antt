@@ -6,8 +6,8 @@ use Rattle.step_record.specs.declared.outcome.Outcome.{Outcome}
 use Rattle.step_record.specs.declared.outcome.Outcome.TheVariants.{Hit, Kept, Evicted, Rejected}
 use Rattle.segments.specs.declared.records.Queue.{Queue}
 use Rattle.segments.specs.declared.records.Queue.TheVariants.{Window, Probation, Protected}
-use Rattle.segments.specs.Items.{first}
-use Rattle.segments.specs.Queues.{Queues, queue_of, place_of, moved, refreshed_to, total_items}
+use Rattle.segments.specs.Items.{oldest_of}
+use Rattle.segments.specs.Queues.{Queues, queue_of, queue_holding, queues_after_move, queue_after_access, total_items}
 use Rattle.replacement.specs.declared.rules.Placement.{Placement}
 use Rattle.replacement.specs.declared.rules.Placement.TheVariants.{Direct, Windowed}
 use Rattle.replacement.specs.declared.rules.HitRule.{HitRule}
@@ -33,7 +33,7 @@ transfer q (Some i) = Some record { item = i; to = q }
 -- ---- a hit
 
 abbrev pub demotion : ℕ → Queues → Option Transfer
-demotion size s = if nat_lt size (length s.protected) then transfer Probation (first s.protected) else None
+demotion size s = if nat_lt size (length s.protected) then transfer Probation (oldest_of s.protected) else None
 
 -- what follows the move of an item that stood in the queue
 abbrev pub settling : ℕ → Queue → Queues → Option Transfer
@@ -43,9 +43,9 @@ settling size Protected s = None
 
 abbrev pub hit_plan : ℕ → Item → Queue → Queues → Plan
 hit_plan size i q s = record {
-  first = transfer (refreshed_to q) (Some i);
+  first = transfer (queue_after_access q) (Some i);
   leaves = None;
-  last = settling size q (moved i (refreshed_to q) s);
+  last = settling size q (queues_after_move i (queue_after_access q) s);
   outcome = Hit;
 }
 
@@ -77,17 +77,17 @@ abbrev pub direct_plan : Rules → (ℕ → ℕ → Bool) → Queue → Item →
 direct_plan r admits q i s =
     if nat_lt (total_items s) r.capacity
     then stay_plan q i
-    else contest_plan q admits i None (first (queue_of q s))
+    else contest_plan q admits i None (oldest_of (queue_of q s))
 
 -- the item that has to leave the window
 abbrev pub candidate_of : Rules → Queues → Option Item
-candidate_of r s = if nat_lt r.window (length s.window) then first s.window else None
+candidate_of r s = if nat_lt r.window (length s.window) then oldest_of s.window else None
 
 abbrev pub eviction_of : Rules → (ℕ → ℕ → Bool) → Option Item → Queues → Plan
 eviction_of r admits None s = record { first = None; leaves = None; last = None; outcome = Kept }
 eviction_of r admits (Some c) s =
     if nat_lt r.capacity (total_items s)
-    then contest_plan Probation admits c (Some c) (first s.probation)
+    then contest_plan Probation admits c (Some c) (oldest_of s.probation)
     else stay_plan Probation c
 
 -- one eviction
@@ -100,7 +100,7 @@ joining_first i p = record { first = transfer Window (Some i); leaves = p.leaves
 
 abbrev pub miss_plan_by : Placement → Rules → (ℕ → ℕ → Bool) → Item → Queues → Plan
 miss_plan_by (Direct q) r admits i s = direct_plan r admits q i s
-miss_plan_by Windowed r admits i s = joining_first i (eviction_plan r admits (moved i Window s))
+miss_plan_by Windowed r admits i s = joining_first i (eviction_plan r admits (queues_after_move i Window s))
 
 abbrev pub miss_plan : Rules → (ℕ → ℕ → Bool) → Item → Queues → Plan
 miss_plan r admits i s = miss_plan_by r.placement r admits i s
@@ -113,4 +113,4 @@ plan_in r admits i (Some q) s = hit_plan_by r.hits r.protected i q s
 
 -- the plan of an access, by where the item stands
 unfoldable pub plan : Rules → (ℕ → ℕ → Bool) → Item → Queues → Plan
-plan r admits i s = plan_in r admits i (place_of i s) s
+plan r admits i s = plan_in r admits i (queue_holding i s) s

@@ -6,7 +6,7 @@ use Rattle.segments.specs.Queues.{Queues, IsDistinct}
 use Rattle.replacement.specs.declared.rules.Rules.{Rules}
 use Rattle.replacement.specs.Table.{hit_in, eviction, access}
 use Rattle.replacement.specs.Plan.{hit_plan, eviction_plan, plan}
-use Rattle.replacement.specs.Moving.{queues_after, response}
+use Rattle.replacement.specs.Moving.{queues_after, response_of_plan}
 
 -- a hit
 abbrev pub HitsPlanned : Type 0
@@ -17,9 +17,9 @@ HitsPlanned = (size : ℕ) (i : Item) (q : Queue) (s : Queues)
 -- left which the table gives by way of probation.
 abbrev pub EvictionsPlanned : Type 0
 EvictionsPlanned = (r : Rules) (admits : ℕ → ℕ → Bool) (s : Queues) → IsDistinct s
-    → eviction r admits s ≡ response (eviction_plan r admits s) s
+    → eviction r admits s ≡ response_of_plan (eviction_plan r admits s) s
 
 -- an access
 abbrev pub AccessesPlanned : Type 0
 AccessesPlanned = (r : Rules) (admits : ℕ → ℕ → Bool) (i : Item) (s : Queues) → IsDistinct s
-    → access r admits i s ≡ response (plan r admits i s) s
+    → access r admits i s ≡ response_of_plan (plan r admits i s) s

@@ -1,9 +1,9 @@
 //! A hit.
 ghost use Rattle.std.specs.Prelude.{◌≡◌, ◌≤◌, ◌↔◌, Option, Some, None, IfSome, IfNone};
-ghost use Rattle.segments.specs.Queues.{place_of, IsDistinct};
+ghost use Rattle.segments.specs.Queues.{queue_holding, IsDistinct};
 ghost use Rattle.replacement.specs.Table.{after_hit};
 ghost use Rattle.replacement.specs.Plan.{demotion, settling};
-ghost use Rattle.replacement.specs.Moving.{transferred, transfer_record, undone_moves, FitsMoves};
+ghost use Rattle.replacement.specs.Moving.{queues_after_transfer, transfer_record, undone_moves, FitsMoves};
 ghost use Rattle.replacement.specs.Effects.{IsHit, IsHitBy};
 
 use crate::record::Moves;
@@ -16,7 +16,7 @@ use step_record::Item;
 /// goes to probation's recent end. The undo record; `None`, and nothing moved, where the item stands in no queue.
 #[inline(always)]
 pub fn hit(segments: &mut Segments, size: usize, item: Item) -> Option<Moves>
-    ensures absent { result ≡ None ↔ place_of item segments.old.lists ≡ None }
+    ensures absent { result ≡ None ↔ queue_holding item segments.old.lists ≡ None }
     ensures lists { segments.new.lists ≡ after_hit size item segments.old.lists }
     ensures record { IfSome result (λ m. IsHit size item segments.old.lists segments.new.lists m) }
     ensures fits { IfSome result (λ m. FitsMoves m segments.new.lists) }
@@ -39,7 +39,7 @@ pub fn hit(segments: &mut Segments, size: usize, item: Item) -> Option<Moves>
 pub(crate) fn hit_by(segments: &mut Segments, rules: &Rules, item: Item) -> Option<Moves>
     ensures hit { IfSome result (λ m.
         IsHitBy rules.now.hits rules.now.protected item segments.old.lists segments.new.lists m) }
-    ensures absent { IfNone result (place_of item segments.old.lists ≡ None) }
+    ensures absent { IfNone result (queue_holding item segments.old.lists ≡ None) }
     ensures none { IfNone result (segments.new.lists ≡ segments.old.lists) }
     ensures spare { segments.old.spare ≤ segments.new.spare }
     ensures distinct { IsDistinct segments.old.lists }
@@ -57,7 +57,7 @@ pub(crate) fn hit_by(segments: &mut Segments, rules: &Rules, item: Item) -> Opti
 #[inline(always)]
 fn settle(segments: &mut Segments, size: usize, queue: Queue) -> Option<MoveRecord>
     requires { IsDistinct segments.old.lists }
-    ensures lists { segments.new.lists ≡ transferred (settling size queue segments.old.lists) segments.old.lists }
+    ensures lists { segments.new.lists ≡ queues_after_transfer (settling size queue segments.old.lists) segments.old.lists }
     ensures record { result ≡ transfer_record (settling size queue segments.old.lists) segments.old.lists }
     ensures spare { segments.old.spare ≤ segments.new.spare }
 {
@@ -71,7 +71,7 @@ fn settle(segments: &mut Segments, size: usize, queue: Queue) -> Option<MoveReco
 #[inline(always)]
 fn demote(segments: &mut Segments, size: usize) -> Option<MoveRecord>
     requires { IsDistinct segments.old.lists }
-    ensures lists { segments.new.lists ≡ transferred (demotion size segments.old.lists) segments.old.lists }
+    ensures lists { segments.new.lists ≡ queues_after_transfer (demotion size segments.old.lists) segments.old.lists }
     ensures record { result ≡ transfer_record (demotion size segments.old.lists) segments.old.lists }
     ensures spare { segments.old.spare ≤ segments.new.spare }
 {

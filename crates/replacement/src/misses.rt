@@ -1,6 +1,6 @@
 //! A miss, and one eviction.
 ghost use Rattle.std.specs.Prelude.{◌≡◌, ◌≤◌, Option, Some, None, option_map};
-ghost use Rattle.segments.specs.Queues.{place_of, moved, IsDistinct};
+ghost use Rattle.segments.specs.Queues.{queue_holding, queues_after_move, IsDistinct};
 ghost use Rattle.replacement.specs.Admission.{admits_in};
 ghost use Rattle.replacement.specs.Table.{eviction};
 ghost use Rattle.replacement.specs.Plan.{direct_plan, eviction_plan, joining_first};
@@ -43,12 +43,12 @@ pub(crate) fn windowed(
     rules: &Rules,
     item: Item,
 ) -> Effect
-    requires absent { place_of item segments.old.lists ≡ None }
+    requires absent { queue_holding item segments.old.lists ≡ None }
     requires distinct { IsDistinct segments.old.lists }
     requires room { 1 ≤ segments.old.spare }
     ensures { IsEffect (joining_first item
         (eviction_plan rules.now (admits_in (option_map (λ f. f.now) frequency.entry))
-        (moved item Queue.Window segments.old.lists)))
+        (queues_after_move item Queue.Window segments.old.lists)))
         segments.old.lists segments.new.lists result }
 {
     let first = join(segments, Queue::Window, item);
@@ -66,7 +66,7 @@ pub(crate) fn direct(
     queue: Queue,
     item: Item,
 ) -> Effect
-    requires absent { place_of item segments.old.lists ≡ None }
+    requires absent { queue_holding item segments.old.lists ≡ None }
     requires distinct { IsDistinct segments.old.lists }
     requires room { 1 ≤ segments.old.spare }
     ensures { IsEffect (direct_plan rules.now (admits_in

@@ -1,10 +1,10 @@
 //! Single moves in the queues, where the caller knows beforehand that there is an item to move.
 ghost use Rattle.std.specs.Prelude.{◌≡◌, ◌≤◌, ◌+◌, Some, None, IsSome};
-ghost use Rattle.segments.specs.Items.{first};
-ghost use Rattle.segments.specs.Queues.{queue_of, place_of, moved, popped, IsDistinct};
+ghost use Rattle.segments.specs.Items.{oldest_of};
+ghost use Rattle.segments.specs.Queues.{queue_of, queue_holding, queues_after_move, queues_after_pop, IsDistinct};
 ghost use Rattle.segments.specs.Moves.{move_record};
 ghost use Rattle.replacement.specs.Plan.{transfer};
-ghost use Rattle.replacement.specs.Moving.{transferred, removed, transfer_record, removal_record};
+ghost use Rattle.replacement.specs.Moving.{queues_after_transfer, removed, transfer_record, removal_record};
 
 use segments::{MoveRecord, Queue, Segments};
 use step_record::Item;
@@ -13,9 +13,9 @@ use step_record::Item;
 #[inline(always)]
 pub(crate) fn join(segments: &mut Segments, queue: Queue, item: Item) -> MoveRecord
     requires room { 1 ≤ segments.old.spare }
-    requires absent { place_of item segments.old.lists ≡ None }
+    requires absent { queue_holding item segments.old.lists ≡ None }
     requires distinct { IsDistinct segments.old.lists }
-    ensures lists { segments.new.lists ≡ moved item queue segments.old.lists }
+    ensures lists { segments.new.lists ≡ queues_after_move item queue segments.old.lists }
     ensures record { result ≡ move_record item (Some queue) segments.old.lists }
     ensures distinct { IsDistinct segments.new.lists }
     ensures spare { segments.old.spare ≤ segments.new.spare + 1 }
@@ -26,11 +26,11 @@ pub(crate) fn join(segments: &mut Segments, queue: Queue, item: Item) -> MoveRec
 /// Takes out the oldest item of a queue that is not empty.
 #[inline(always)]
 pub(crate) fn drop_oldest(segments: &mut Segments, queue: Queue) -> MoveRecord
-    requires oldest { IsSome (first (queue_of queue segments.old.lists)) }
+    requires oldest { IsSome (oldest_of (queue_of queue segments.old.lists)) }
     requires distinct { IsDistinct segments.old.lists }
-    ensures lists { segments.new.lists ≡ removed (first (queue_of queue segments.old.lists)) segments.old.lists }
-    ensures rest { segments.new.lists ≡ popped queue segments.old.lists }
-    ensures record { Some result ≡ removal_record (first (queue_of queue segments.old.lists)) segments.old.lists }
+    ensures lists { segments.new.lists ≡ removed (oldest_of (queue_of queue segments.old.lists)) segments.old.lists }
+    ensures rest { segments.new.lists ≡ queues_after_pop queue segments.old.lists }
+    ensures record { Some result ≡ removal_record (oldest_of (queue_of queue segments.old.lists)) segments.old.lists }
     ensures distinct { IsDistinct segments.new.lists }
     ensures spare { segments.old.spare + 1 ≤ segments.new.spare }
 {
@@ -48,14 +48,14 @@ pub(crate) fn renew_oldest(
     queue: Queue,
     item: Item,
 ) -> (MoveRecord, MoveRecord)
-    requires oldest { IsSome (first (queue_of queue segments.old.lists)) }
-    requires absent { place_of item segments.old.lists ≡ None }
+    requires oldest { IsSome (oldest_of (queue_of queue segments.old.lists)) }
+    requires absent { queue_holding item segments.old.lists ≡ None }
     requires distinct { IsDistinct segments.old.lists }
     ensures lists { segments.new.lists
-        ≡ moved item queue (removed (first (queue_of queue segments.old.lists)) segments.old.lists) }
-    ensures out { Some result.0 ≡ removal_record (first (queue_of queue segments.old.lists)) segments.old.lists }
+        ≡ queues_after_move item queue (removed (oldest_of (queue_of queue segments.old.lists)) segments.old.lists) }
+    ensures out { Some result.0 ≡ removal_record (oldest_of (queue_of queue segments.old.lists)) segments.old.lists }
     ensures put { result.1 ≡ move_record item (Some queue)
-        (removed (first (queue_of queue segments.old.lists)) segments.old.lists) }
+        (removed (oldest_of (queue_of queue segments.old.lists)) segments.old.lists) }
     ensures spare { segments.old.spare ≤ segments.new.spare }
 {
     match segments.renew_oldest(queue, item) {
@@ -67,12 +67,12 @@ pub(crate) fn renew_oldest(
 /// Takes the oldest item of a queue that is not empty to the recent end of another.
 #[inline(always)]
 pub(crate) fn send_oldest(segments: &mut Segments, from: Queue, to: Queue) -> MoveRecord
-    requires oldest { IsSome (first (queue_of from segments.old.lists)) }
+    requires oldest { IsSome (oldest_of (queue_of from segments.old.lists)) }
     requires distinct { IsDistinct segments.old.lists }
     ensures lists { segments.new.lists
-        ≡ transferred (transfer to (first (queue_of from segments.old.lists))) segments.old.lists }
+        ≡ queues_after_transfer (transfer to (oldest_of (queue_of from segments.old.lists))) segments.old.lists }
     ensures record { Some result
-        ≡ transfer_record (transfer to (first (queue_of from segments.old.lists))) segments.old.lists }
+        ≡ transfer_record (transfer to (oldest_of (queue_of from segments.old.lists))) segments.old.lists }
     ensures spare { segments.old.spare ≤ segments.new.spare }
 {
     match segments.send_oldest(from, to) {

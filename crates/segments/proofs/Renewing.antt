@@ -7,7 +7,7 @@ use Rattle.segments.specs.declared.records.Queue.{Queue}
 use Rattle.segments.specs.declared.records.Queue.TheVariants.{Window, Probation, Protected}
 use Rattle.segments.specs.declared.slot.Slot.{Slot}
 use Rattle.segments.specs.declared.lengths.Lengths.{Lengths}
-use Rattle.segments.specs.Queues.{place_of, pushed, taken, IsDistinct}
+use Rattle.segments.specs.Queues.{queue_holding, queues_after_push, queues_without, IsDistinct}
 use Rattle.segments.specs.Ring.{items, chains, olders, newers, tags, slot_item, count, IsRing, Order, ring, used, section, closing, order_of, order_without, sent, freed, lists_of, lists, IsQueued}
 use Rattle.segments.specs.Index.{IsIndexed, IsJoining}
 use Rattle.segments.specs.SlotTable.{IsInSlots, length_in, raised, lowered, lengths_of}
@@ -68,12 +68,12 @@ module _ (slots : List Slot) (o : Order) (h : IsQueued slots o) (k : ℕ) (n : 1
         let li = length-map slots (λ (s : Slot). s.item) in
         ap (λ (s : List Item). slot_item s k) it ∙ get_or-set_same (items slots) k i _ (omega (arith, w, l, li))
 
-    rest : lists_of (order_without k o) (items slots2) ≡ taken (slot_item (items slots) k) (lists_of o (items slots))
+    rest : lists_of (order_without k o) (items slots2) ≡ queues_without (slot_item (items slots) k) (lists_of o (items slots))
     rest = ap (lists_of (order_without k o)) it ∙ (lists-kept (order_without k o) (items slots) k i unused ∙ sym (taken-order o (items slots) k h.distinct n))
 
     pub held-renewed : (heads2 : List ℕ) (bits : ℕ) (q : Queue) (b : ℕ) → IsRing (newers slots2) (olders slots2) (ring (sent k q b o)) →
         IsIndexed heads2 (chains slots2) (items slots2) bits (used (sent k q b o)) → tags slots2 ≡ set (tags slots) k q →
-        place_of i (lists_of o (items slots)) ≡ None → IsInSlots slots2 heads2 bits (sent k q b o)
+        queue_holding i (lists_of o (items slots)) ≡ None → IsInSlots slots2 heads2 bits (sent k q b o)
     held-renewed heads2 bits q b r x t a =
         let w = used-within slots o h k n in
         let l = slots-length slots in
@@ -81,11 +81,11 @@ module _ (slots : List Slot) (o : Order) (h : IsQueued slots o) (k : ℕ) (n : 1
         let old = slot_item (items slots) k in
         held-sent slots slots2 heads2 bits o h k q b r x t (omega (arith, w, l, lt))
         (subst IsDistinct (sym rest) (distinct-taken old (lists_of o (items slots)) h.distinct))
-        (rw (rest, here) (absent i (taken old (lists_of o (items slots))) (still-absent i old (lists_of o (items slots)) a)))
+        (rw (rest, here) (absent i (queues_without old (lists_of o (items slots))) (still-absent i old (lists_of o (items slots)) a)))
 
-    pub renew-lists : (q : Queue) (b : ℕ) → b ≡ closing q → order_of slots2 ≡ sent k q b o → lists slots2 ≡ pushed q i (taken (slot_item (items slots) k) (lists_of o (items slots)))
+    pub renew-lists : (q : Queue) (b : ℕ) → b ≡ closing q → order_of slots2 ≡ sent k q b o → lists slots2 ≡ queues_after_push q i (queues_without (slot_item (items slots) k) (lists_of o (items slots)))
     renew-lists q b e eo =
         let none : count b (section q (order_without k o)) ≡ 0 = subst (λ c. count c (section q (order_without k o)) ≡ 0) (sym e) (closing-without q q k o h.linked.once) in
         ap (λ (p : Order). lists_of p (items slots2)) eo
         ∙ (lists-recent q k b o (items slots2) none
-        ∙ (ap (λ (x : Item). pushed q x (lists_of (order_without k o) (items slots2))) here ∙ ap (pushed q i) rest))
+        ∙ (ap (λ (x : Item). queues_after_push q x (lists_of (order_without k o) (items slots2))) here ∙ ap (queues_after_push q i) rest))

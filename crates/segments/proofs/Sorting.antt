@@ -4,7 +4,7 @@ use Rattle.std.proofs.lemmas.Bool.{eq-eqb, ne_eqb, cases_Bool, cases_eq}
 use Rattle.step_record.specs.declared.item.Item.{Item}
 use Rattle.segments.specs.Ring.{slot_item}
 use Rattle.segments.specs.Index.{Tree, leaf, fork, tally, tree_of, turn, IsSorted, found, grafted, joined, lifted, detached}
-use Rattle.segments.specs.Items.{same}
+use Rattle.segments.specs.Items.{is_same_item}
 use Rattle.segments.proofs.ItemLists.{same-true}
 use Rattle.segments.proofs.Trees.{tally-here, tally-past, IsOpen}
 
@@ -134,21 +134,21 @@ detached-sorted its d x at (fork i l r) s e m =
 
 pub record IsFoundIn (i : Item) (its : List Item) (t : Tree) (r : ℕ) : Type 0 where
   pub there : 1 ≤ r → (1 ≤ tally r t) × (slot_item its r ≡ i)
-  pub missing : r ≡ 0 → (k : ℕ) → 1 ≤ tally k t → same i (slot_item its k) ≡ false
+  pub missing : r ≡ 0 → (k : ℕ) → 1 ≤ tally k t → is_same_item i (slot_item its k) ≡ false
 
 module _ (i : Item) (its : List Item) where
   -- a slot on the other side holds another item
-  elsewhere : (d k : ℕ) (b c : Bool) → turn d i ≡ b → turn d (slot_item its k) ≡ c → (b ≡ c → ⊥) → same i (slot_item its k) ≡ false
+  elsewhere : (d k : ℕ) (b c : Bool) → turn d i ≡ b → turn d (slot_item its k) ≡ c → (b ≡ c → ⊥) → is_same_item i (slot_item its k) ≡ false
   elsewhere d k b c f g n =
-      elim (cases_Bool (same i (slot_item its k))) [
+      elim (cases_Bool (is_same_item i (slot_item its k))) [
         | inl y ↦ absurd (n (sym f ∙ (ap (turn d) (same-true i (slot_item its k) y) ∙ g)))
         | inr y ↦ y
       ]
 
-  onward : (j k : ℕ) (l r : Tree) → same i (slot_item its j) ≡ false → ((j2 : ℕ) → 1 ≤ tally j2 l → same i (slot_item its j2) ≡ false) → ((j2 : ℕ) → 1 ≤ tally j2 r → same i (slot_item its j2) ≡ false) → 1 ≤ tally k (fork j l r) → same i (slot_item its k) ≡ false
+  onward : (j k : ℕ) (l r : Tree) → is_same_item i (slot_item its j) ≡ false → ((j2 : ℕ) → 1 ≤ tally j2 l → is_same_item i (slot_item its j2) ≡ false) → ((j2 : ℕ) → 1 ≤ tally j2 r → is_same_item i (slot_item its j2) ≡ false) → 1 ≤ tally k (fork j l r) → is_same_item i (slot_item its k) ≡ false
   onward j k l r e f g m =
       elim (cases_eq k j) [
-        | inl s ↦ subst (λ y. same i (slot_item its y) ≡ false) (sym s) e
+        | inl s ↦ subst (λ y. is_same_item i (slot_item its y) ≡ false) (sym s) e
         | inr n ↦ let p = tally-past k j l r n in elim (some_or_none (tally k l)) [ inl a ↦ f k a | inr z ↦ g k (omega (arith, p, m, z)) ]
       ]
 
@@ -158,7 +158,7 @@ module _ (i : Item) (its : List Item) where
       let a : IsFoundIn i its l (found (d + 1) i its l) = found-in (d + 1) l (λ k m. real k (omega (arith, m))) s.0 in
       let b : IsFoundIn i its r (found (d + 1) i its r) = found-in (d + 1) r (λ k m. real k (omega (arith, m))) s.1 in
       let here = tally-here j l r in
-      elim (cases_Bool (same i (slot_item its j))) as (λ _. IsFoundIn i its (fork j l r) (cond (same i (slot_item its j)) j (cond (turn d i) (found (d + 1) i its r) (found (d + 1) i its l)))) [
+      elim (cases_Bool (is_same_item i (slot_item its j))) as (λ _. IsFoundIn i its (fork j l r) (cond (is_same_item i (slot_item its j)) j (cond (turn d i) (found (d + 1) i its r) (found (d + 1) i its l)))) [
         | inl e ↦ rw e record {
           there = λ n. (omega (arith, here), sym (same-true i (slot_item its j) e));
           missing = λ z k n. absurd (let p = real j (omega (arith, here)) in omega (arith, p, z));
@@ -178,11 +178,11 @@ module _ (i : Item) (its : List Item) where
 -- steps of the search
 
 module _ (h n : List ℕ) (base at m m1 : ℕ) (o : IsOpen h n base at m m1) (d : ℕ) (item : Item) (its : List Item) where
-  pub met : same item (slot_item its at) ≡ true → found d item its (tree_of h n base at m) ≡ at
+  pub met : is_same_item item (slot_item its at) ≡ true → found d item its (tree_of h n base at m) ≡ at
   met e = ap (found d item its) o.is ∙ (rw e refl)
 
-  pub went-right : same item (slot_item its at) ≡ false → turn d item ≡ true → found d item its (tree_of h n base at m) ≡ found (d + 1) item its (tree_of h n base (get_or h (base + at) 0) m1)
+  pub went-right : is_same_item item (slot_item its at) ≡ false → turn d item ≡ true → found d item its (tree_of h n base at m) ≡ found (d + 1) item its (tree_of h n base (get_or h (base + at) 0) m1)
   went-right e w = ap (found d item its) o.is ∙ (rw (e, w) refl)
 
-  pub went-left : same item (slot_item its at) ≡ false → turn d item ≡ false → found d item its (tree_of h n base at m) ≡ found (d + 1) item its (tree_of h n base (get_or n at 0) m1)
+  pub went-left : is_same_item item (slot_item its at) ≡ false → turn d item ≡ false → found d item its (tree_of h n base at m) ≡ found (d + 1) item its (tree_of h n base (get_or n at 0) m1)
   went-left e w = ap (found d item its) o.is ∙ (rw (e, w) refl)

@@ -3,7 +3,7 @@
 use Rattle.std.specs.Prelude.{◌≡◌, ℕ, suc, zero, ◌+◌, ◌-◌, ◌*◌, ◌/◌, ◌%◌, ◌^◌, ◌≤◌, ◌<◌, eqb, cond, Bool, true, false}
 use Rattle.std.specs.Prelude.{List, [], ◌∷◌, length, slice_index}
 use Rattle.step_record.specs.declared.item.Item.{Item}
-use Rattle.segments.specs.Items.{same}
+use Rattle.segments.specs.Items.{is_same_item}
 use Rattle.segments.specs.declared.index.Index.{Index}
 use Rattle.segments.specs.declared.slot.Slot.{Slot}
 use Rattle.segments.specs.Ring.{items, chains, count, slot_item}
@@ -48,7 +48,7 @@ IsSorted items depth (fork i l r) =
 abbrev pub found : ℕ → Item → List Item → Tree → ℕ
 found depth item items leaf = 0
 found depth item items (fork i l r) =
-    cond (same item (slot_item items i)) i
+    cond (is_same_item item (slot_item items i)) i
     (cond (turn depth item) (found (depth + 1) item items r) (found (depth + 1) item items l))
 
 -- the tree with a slot more, at the end of the item's way

@@ -1,10 +1,10 @@
 //! The queues, in linked slots.
 ghost use Rattle.std.specs.Prelude.{◌≡◌, ◌↔◌, ◌+◌, ◌≤◌, Ok, [], length, Option, Some, None, MatchOption};
 ghost use Rattle.std.specs.Prelude.{IfOk, OnOk, IfSome, IfNone};
-ghost use Rattle.segments.specs.Items.{first};
-ghost use Rattle.segments.specs.Queues.{empty, queue_of, place_of, IsDistinct, pushed, taken, moved, popped};
-ghost use Rattle.segments.specs.Queues.{refreshed_to, total_items};
-ghost use Rattle.segments.specs.Moves.{move_record, queues_before_move, FitsMove, needed};
+ghost use Rattle.segments.specs.Items.{oldest_of};
+ghost use Rattle.segments.specs.Queues.{empty_queues, queue_of, queue_holding, IsDistinct, queues_after_push, queues_without, queues_after_move, queues_after_pop};
+ghost use Rattle.segments.specs.Queues.{queue_after_access, total_items};
+ghost use Rattle.segments.specs.Moves.{move_record, queues_before_move, FitsMove, room_needed};
 
 use crate::links::slot_behind;
 use crate::records::{MoveRecord, Queue};
@@ -34,7 +34,7 @@ impl Model for Segments {
 // The queue to which an item goes on a hit where it stands.
 #[inline(always)]
 fn refreshed(queue: Queue) -> Queue
-    ensures { result ≡ refreshed_to queue }
+    ensures { result ≡ queue_after_access queue }
 {
     match queue {
         Queue::Window => Queue::Window,
@@ -45,7 +45,7 @@ fn refreshed(queue: Queue) -> Queue
 impl Segments {
     /// Three empty queues, with no room yet. Allocates nothing.
     pub fn new(alloc: Global) -> Segments
-        ensures lists { result.lists ≡ empty }
+        ensures lists { result.lists ≡ empty_queues }
         ensures distinct { IsDistinct result.lists }
     {
         Segments::for_items(alloc, 0)
@@ -54,7 +54,7 @@ impl Segments {
     /// Three empty queues, with no room yet. Allocates nothing. The first `reserve` makes a hash index that is large
     /// enough for so many items, so that it is not rebuilt while the queues fill.
     pub fn for_items(alloc: Global, items: u32) -> Segments
-        ensures lists { result.lists ≡ empty }
+        ensures lists { result.lists ≡ empty_queues }
         ensures distinct { IsDistinct result.lists }
     {
         Segments {
@@ -96,8 +96,8 @@ impl Segments {
     #[inline(always)]
     pub fn push_recent(&mut self, queue: Queue, item: Item) -> MoveRecord
         requires room { 1 ≤ self.old.spare }
-        requires absent { place_of item self.old.lists ≡ None }
-        ensures lists { self.new.lists ≡ pushed queue item self.old.lists }
+        requires absent { queue_holding item self.old.lists ≡ None }
+        ensures lists { self.new.lists ≡ queues_after_push queue item self.old.lists }
         ensures record { result ≡ move_record item (Some queue) self.old.lists }
         ensures fits { FitsMove result self.new.lists }
         ensures undone { queues_before_move result self.new.lists ≡ self.old.lists }
@@ -114,8 +114,8 @@ impl Segments {
     /// Takes the item from where it stands to the recent end of a queue. `None`, and nothing moved, where it stands in
     /// no queue.
     pub fn move_recent(&mut self, item: Item, queue: Queue) -> Option<MoveRecord>
-        ensures absent { result ≡ None ↔ place_of item self.old.lists ≡ None }
-        ensures lists { IfSome result (λ _. self.new.lists ≡ moved item queue self.old.lists) }
+        ensures absent { result ≡ None ↔ queue_holding item self.old.lists ≡ None }
+        ensures lists { IfSome result (λ _. self.new.lists ≡ queues_after_move item queue self.old.lists) }
         ensures none { IfNone result (self.new.lists ≡ self.old.lists) }
         ensures record { IfSome result (λ r. r ≡ move_record item (Some queue) self.old.lists) }
         ensures fits { IfSome result (λ r. FitsMove r self.new.lists) }
@@ -138,11 +138,11 @@ impl Segments {
     /// queue. Looks the item up once.
     #[inline(always)]
     pub fn refresh(&mut self, item: Item) -> Option<(Queue, MoveRecord)>
-        ensures absent { result ≡ None ↔ place_of item self.old.lists ≡ None }
-        ensures place { IfSome result (λ r. place_of item self.old.lists ≡ Some r.0) }
-        ensures lists { IfSome result (λ r. self.new.lists ≡ moved item (refreshed_to r.0) self.old.lists) }
+        ensures absent { result ≡ None ↔ queue_holding item self.old.lists ≡ None }
+        ensures place { IfSome result (λ r. queue_holding item self.old.lists ≡ Some r.0) }
+        ensures lists { IfSome result (λ r. self.new.lists ≡ queues_after_move item (queue_after_access r.0) self.old.lists) }
         ensures none { IfNone result (self.new.lists ≡ self.old.lists) }
-        ensures record { IfSome result (λ r. r.1 ≡ move_record item (Some (refreshed_to r.0)) self.old.lists) }
+        ensures record { IfSome result (λ r. r.1 ≡ move_record item (Some (queue_after_access r.0)) self.old.lists) }
         ensures fits { IfSome result (λ r. FitsMove r.1 self.new.lists) }
         ensures undone { IfSome result (λ r. queues_before_move r.1 self.new.lists ≡ self.old.lists) }
         ensures spare { self.old.spare ≤ self.new.spare }
@@ -166,8 +166,8 @@ impl Segments {
     #[inline(always)]
     pub fn pop_oldest(&mut self, queue: Queue) -> Option<(Item, MoveRecord)>
         ensures item { MatchOption result (queue_of queue self.old.lists ≡ [])
-            (λ r. first (queue_of queue self.old.lists) ≡ Some r.0) }
-        ensures lists { self.new.lists ≡ popped queue self.old.lists }
+            (λ r. oldest_of (queue_of queue self.old.lists) ≡ Some r.0) }
+        ensures lists { self.new.lists ≡ queues_after_pop queue self.old.lists }
         ensures none { IfNone result (self.new.lists ≡ self.old.lists) }
         ensures record { IfSome result (λ r. r.1 ≡ move_record r.0 None self.old.lists) }
         ensures fits { IfSome result (λ r. FitsMove r.1 self.new.lists) }
@@ -191,17 +191,17 @@ impl Segments {
     /// records of both moves, in this order; `None`, and nothing moved, where the queue is empty. Takes no room.
     #[inline(always)]
     pub fn renew_oldest(&mut self, queue: Queue, item: Item) -> Option<(MoveRecord, MoveRecord)>
-        requires absent { place_of item self.old.lists ≡ None }
+        requires absent { queue_holding item self.old.lists ≡ None }
         ensures item { MatchOption result (queue_of queue self.old.lists ≡ [])
-            (λ r. first (queue_of queue self.old.lists) ≡ Some r.0.item) }
-        ensures lists { IfSome result (λ _. self.new.lists ≡ pushed queue item (popped queue self.old.lists)) }
+            (λ r. oldest_of (queue_of queue self.old.lists) ≡ Some r.0.item) }
+        ensures lists { IfSome result (λ _. self.new.lists ≡ queues_after_push queue item (queues_after_pop queue self.old.lists)) }
         ensures none { IfNone result (self.new.lists ≡ self.old.lists) }
         ensures out { IfSome result (λ r. r.0 ≡ move_record r.0.item None self.old.lists) }
-        ensures put { IfSome result (λ r. r.1 ≡ move_record item (Some queue) (popped queue self.old.lists)) }
+        ensures put { IfSome result (λ r. r.1 ≡ move_record item (Some queue) (queues_after_pop queue self.old.lists)) }
         ensures fits { IfSome result (λ r. FitsMove r.1 self.new.lists) }
-        ensures undone { IfSome result (λ r. queues_before_move r.1 self.new.lists ≡ popped queue self.old.lists) }
-        ensures fits_before { IfSome result (λ r. FitsMove r.0 (popped queue self.old.lists)) }
-        ensures undone_both { IfSome result (λ r. queues_before_move r.0 (popped queue self.old.lists)
+        ensures undone { IfSome result (λ r. queues_before_move r.1 self.new.lists ≡ queues_after_pop queue self.old.lists) }
+        ensures fits_before { IfSome result (λ r. FitsMove r.0 (queues_after_pop queue self.old.lists)) }
+        ensures undone_both { IfSome result (λ r. queues_before_move r.0 (queues_after_pop queue self.old.lists)
             ≡ self.old.lists) }
         ensures spare { self.old.spare ≤ self.new.spare }
     {
@@ -225,7 +225,7 @@ impl Segments {
     /// The oldest item of the queue, `None` if it is empty.
     #[inline(always)]
     pub fn oldest(&self, queue: Queue) -> Option<Item>
-        ensures { result ≡ first (queue_of queue self.now.lists) }
+        ensures { result ≡ oldest_of (queue_of queue self.now.lists) }
     {
         let (_, item) = self.table.oldest(queue)?;
         Some(item)
@@ -236,8 +236,8 @@ impl Segments {
     #[inline(always)]
     pub fn send_oldest(&mut self, from: Queue, to: Queue) -> Option<MoveRecord>
         ensures item { MatchOption result (queue_of from self.old.lists ≡ [])
-            (λ r. first (queue_of from self.old.lists) ≡ Some r.item) }
-        ensures lists { IfSome result (λ r. self.new.lists ≡ moved r.item to self.old.lists) }
+            (λ r. oldest_of (queue_of from self.old.lists) ≡ Some r.item) }
+        ensures lists { IfSome result (λ r. self.new.lists ≡ queues_after_move r.item to self.old.lists) }
         ensures none { IfNone result (self.new.lists ≡ self.old.lists) }
         ensures record { IfSome result (λ r. r ≡ move_record r.item (Some to) self.old.lists) }
         ensures fits { IfSome result (λ r. FitsMove r self.new.lists) }
@@ -257,8 +257,8 @@ impl Segments {
 
     /// Takes the item out. `None`, and nothing moved, where it stands in no queue.
     pub fn take_out(&mut self, item: Item) -> Option<MoveRecord>
-        ensures absent { result ≡ None ↔ place_of item self.old.lists ≡ None }
-        ensures lists { self.new.lists ≡ taken item self.old.lists }
+        ensures absent { result ≡ None ↔ queue_holding item self.old.lists ≡ None }
+        ensures lists { self.new.lists ≡ queues_without item self.old.lists }
         ensures none { IfNone result (self.new.lists ≡ self.old.lists) }
         ensures record { IfSome result (λ r. r ≡ move_record item None self.old.lists) }
         ensures fits { IfSome result (λ r. FitsMove r self.new.lists) }
@@ -279,9 +279,9 @@ impl Segments {
     /// room for it.
     pub fn put_back(&mut self, done: MoveRecord)
         requires fits { FitsMove done self.old.lists }
-        requires room { needed done.to ≤ self.old.spare }
+        requires room { room_needed done.to ≤ self.old.spare }
         ensures lists { self.new.lists ≡ queues_before_move done self.old.lists }
-        ensures spare { self.old.spare ≤ self.new.spare + needed done.to }
+        ensures spare { self.old.spare ≤ self.new.spare + room_needed done.to }
     {
         let Some(place) = done.from else {
             let _ = self.take_out(done.item);
@@ -318,7 +318,7 @@ impl Segments {
 
     /// The queue in which the item stands.
     pub fn find(&self, item: Item) -> Option<Queue>
-        ensures queue { result ≡ place_of item self.now.lists }
+        ensures queue { result ≡ queue_holding item self.now.lists }
         // Of every `Segments`: no item stands twice.
         ensures distinct { IsDistinct self.now.lists }
     {

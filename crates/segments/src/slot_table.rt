@@ -2,8 +2,8 @@
 ghost use Rattle.std.specs.Prelude.{◌≡◌, ◌≢◌, ◌<◌, ◌≤◌, ◌+◌, [], Ok, Option, Some, None, OnOk, IfOk, IfSome, IfNone};
 ghost use Rattle.std.specs.Prelude.{length};
 ghost use Rattle.step_record.specs.declared.item.Item.{Item};
-ghost use Rattle.segments.specs.Items.{first, IsGap};
-ghost use Rattle.segments.specs.Queues.{queue_of, place_of, pushed, taken, moved, total_items, IsDistinct};
+ghost use Rattle.segments.specs.Items.{oldest_of, IsGap};
+ghost use Rattle.segments.specs.Queues.{queue_of, queue_holding, queues_after_push, queues_without, queues_after_move, total_items, IsDistinct};
 ghost use Rattle.segments.specs.Ring.{count, used, section, closing, order_of, order_without, lists, IsPlace, IsQueued};
 ghost use Rattle.segments.specs.SlotTable.{spare_in, item_in, place_at, put_in_place, IsBehind, IsSlotOf};
 
@@ -132,7 +132,7 @@ impl SlotTable {
     #[inline(always)]
     pub(crate) fn find_slot(&self, item: Item) -> Option<u32>
         ensures there { IfSome result (λ at. IsSlotOf at item self.now) }
-        ensures missing { IfNone result (place_of item (lists self.now) ≡ None) }
+        ensures missing { IfNone result (queue_holding item (lists self.now) ≡ None) }
         // Of every table: no item stands twice.
         ensures distinct { IsDistinct (lists self.now) }
     {
@@ -149,8 +149,8 @@ impl SlotTable {
     #[inline(always)]
     pub(crate) fn find(&self, item: Item) -> Option<(u32, Queue)>
         ensures there { IfSome result (λ r. IsSlotOf r.0 item self.now) }
-        ensures place { IfSome result (λ r. place_of item (lists self.now) ≡ Some r.1) }
-        ensures missing { IfNone result (place_of item (lists self.now) ≡ None) }
+        ensures place { IfSome result (λ r. queue_holding item (lists self.now) ≡ Some r.1) }
+        ensures missing { IfNone result (queue_holding item (lists self.now) ≡ None) }
         // Of every table: no item stands twice.
         ensures distinct { IsDistinct (lists self.now) }
     {
@@ -163,7 +163,7 @@ impl SlotTable {
     pub(crate) fn oldest(&self, queue: Queue) -> Option<(u32, Item)>
         ensures there { IfSome result (λ r. IsSlotOf r.0 r.1 self.now) }
         ensures stands { IfSome result (λ r. 1 ≤ count r.0 (section queue (order_of self.now))) }
-        ensures first { IfSome result (λ r. first (queue_of queue (lists self.now)) ≡ Some r.1) }
+        ensures first { IfSome result (λ r. oldest_of (queue_of queue (lists self.now)) ≡ Some r.1) }
         ensures missing { IfNone result (queue_of queue (lists self.now) ≡ []) }
     {
         if self.lengths.of(queue) == 0 {
@@ -176,7 +176,7 @@ impl SlotTable {
     // The slot behind a place: that of its newer neighbour, or the one that closes the queue.
     fn slot_at_place(&self, place: Place) -> u32
         ensures last { place.newer ≡ None → result ≡ closing place.queue }
-        ensures newer { (n : Item) → place.newer ≡ Some n → place_of n (lists self.now) ≢ None
+        ensures newer { (n : Item) → place.newer ≡ Some n → queue_holding n (lists self.now) ≢ None
             → IsSlotOf result n self.now }
         // Of every table with slots: they are linked in their order.
         ensures queued { 0 < length self.now → IsQueued self.now (order_of self.now) }
@@ -192,11 +192,11 @@ impl SlotTable {
     #[inline(always)]
     pub(crate) fn insert(&mut self, item: Item, queue: Queue, before: u32)
         requires room { 1 ≤ spare_in self.old }
-        requires absent { place_of item (lists self.old) ≡ None }
+        requires absent { queue_holding item (lists self.old) ≡ None }
         requires place { IsPlace before queue (order_of self.old) }
         ensures distinct { IsDistinct (lists self.old) }
         ensures spare { spare_in self.new + 1 ≡ spare_in self.old }
-        ensures recent { before ≡ closing queue → lists self.new ≡ pushed queue item (lists self.old) }
+        ensures recent { before ≡ closing queue → lists self.new ≡ queues_after_push queue item (lists self.old) }
         ensures back { (older newer : Option Item) → IsBehind before queue older newer self.old (order_of self.old)
             → lists self.new ≡ put_in_place queue older item (lists self.old) }
     {
@@ -216,11 +216,11 @@ impl SlotTable {
         requires place { IsPlace before queue (order_without at (order_of self.old)) }
         ensures spare { spare_in self.new ≡ spare_in self.old }
         ensures place { Some result ≡ place_at (item_in at self.old) (lists self.old) }
-        ensures recent { before ≡ closing queue → lists self.new ≡ moved (item_in at self.old) queue (lists self.old) }
+        ensures recent { before ≡ closing queue → lists self.new ≡ queues_after_move (item_in at self.old) queue (lists self.old) }
         ensures back { (older newer : Option Item) → IsBehind before queue older newer self.old
             (order_without at (order_of self.old))
             → lists self.new
-            ≡ put_in_place queue older (item_in at self.old) (taken (item_in at self.old) (lists self.old)) }
+            ≡ put_in_place queue older (item_in at self.old) (queues_without (item_in at self.old) (lists self.old)) }
     {
         let slots: &mut [Slot] = &mut self.slots;
         let from = place_of_slot(slots, at);
@@ -234,10 +234,10 @@ impl SlotTable {
     #[inline(always)]
     pub(crate) fn renew(&mut self, at: u32, queue: Queue, item: Item) -> Place
         requires stands { 1 ≤ count at (section queue (order_of self.old)) }
-        requires absent { place_of item (lists self.old) ≡ None }
+        requires absent { queue_holding item (lists self.old) ≡ None }
         ensures spare { spare_in self.new ≡ spare_in self.old }
         ensures place { Some result ≡ place_at (item_in at self.old) (lists self.old) }
-        ensures lists { lists self.new ≡ pushed queue item (taken (item_in at self.old) (lists self.old)) }
+        ensures lists { lists self.new ≡ queues_after_push queue item (queues_without (item_in at self.old) (lists self.old)) }
     {
         let slots: &mut [Slot] = &mut self.slots;
         let from = place_of_slot(slots, at);
@@ -251,7 +251,7 @@ impl SlotTable {
     /// Puts an item that is not there into its place.
     pub(crate) fn insert_at(&mut self, item: Item, place: Place)
         requires room { 1 ≤ spare_in self.old }
-        requires absent { place_of item (lists self.old) ≡ None }
+        requires absent { queue_holding item (lists self.old) ≡ None }
         requires gap { IsGap place.older place.newer (queue_of place.queue (lists self.old)) }
         ensures spare { spare_in self.new + 1 ≡ spare_in self.old }
         ensures lists { lists self.new ≡ put_in_place place.queue place.older item (lists self.old) }
@@ -264,11 +264,11 @@ impl SlotTable {
     pub(crate) fn shift_to(&mut self, at: u32, place: Place)
         requires used { 1 ≤ count at (used (order_of self.old)) }
         requires gap { IsGap place.older place.newer (queue_of place.queue
-            (taken (item_in at self.old) (lists self.old))) }
+            (queues_without (item_in at self.old) (lists self.old))) }
         ensures spare { spare_in self.new ≡ spare_in self.old }
         ensures lists { lists self.new
             ≡ put_in_place place.queue place.older (item_in at self.old)
-            (taken (item_in at self.old) (lists self.old)) }
+            (queues_without (item_in at self.old) (lists self.old)) }
     {
         let before = self.slot_at_place(place);
         let _ = self.shift(at, place.queue, before);
@@ -280,7 +280,7 @@ impl SlotTable {
         requires used { 1 ≤ count at (used (order_of self.old)) }
         ensures spare { spare_in self.new ≡ spare_in self.old + 1 }
         ensures place { Some result ≡ place_at (item_in at self.old) (lists self.old) }
-        ensures lists { lists self.new ≡ taken (item_in at self.old) (lists self.old) }
+        ensures lists { lists self.new ≡ queues_without (item_in at self.old) (lists self.old) }
     {
         let slots: &mut [Slot] = &mut self.slots;
         let from = place_of_slot(slots, at);

@@ -8,8 +8,8 @@ abbrev pub stripe_at : ℕ → List (List Item) → List Item
 stripe_at s stripes = get_or stripes s []
 
 -- the list without its newest element
-abbrev pub but_newest : {A : Type 0} → List A → List A
-but_newest l = take (length l - 1) l
+abbrev pub all_but_newest : {A : Type 0} → List A → List A
+all_but_newest l = take (length l - 1) l
 
 -- what a buffer of fixed capacity holds
 abbrev pub items_of : ArrayVec Item → List Item

@@ -1,7 +1,7 @@
 //! The striped read buffers.
 ghost use Rattle.std.specs.Prelude.{◌≡◌, ◌<◌, ◌≤◌, [], ◌∷◌, ◌++◌, length, drop, set, replicate, nat_lt, true, false};
 ghost use Rattle.std.specs.Prelude.{IfOk, IfSome, IfNone};
-ghost use Rattle.shell_buffers.specs.Buffers.{stripe_at, but_newest};
+ghost use Rattle.shell_buffers.specs.Buffers.{stripe_at, all_but_newest};
 ghost use Rattle.step_record.specs.declared.limits.TheConstants.{MAX_STRIPES};
 ghost use Rattle.shell_buffers.specs.declared.stripes.TheConstants.{MAX_ITEMS};
 
@@ -81,7 +81,7 @@ impl Stripes {
     pub fn unoffer(&mut self, stripe: u8)
         requires stripe { stripe < length self.old }
         requires some { 1 ≤ length (stripe_at stripe self.old) }
-        ensures { self.new ≡ set self.old stripe (but_newest (stripe_at stripe self.old)) }
+        ensures { self.new ≡ set self.old stripe (all_but_newest (stripe_at stripe self.old)) }
     {
         let _ = self.buffers[stripe as usize].pop();
     }

@@ -1,7 +1,7 @@
 //! The write queue.
 ghost use Rattle.std.specs.Prelude.{◌≡◌, ◌<◌, ◌≤◌, ◌+◌, [], ◌∷◌, ◌++◌, length, nat_lt, true, false, IfOk, IfSome};
 ghost use Rattle.std.specs.Prelude.{IfNone};
-ghost use Rattle.shell_buffers.specs.Buffers.{but_newest};
+ghost use Rattle.shell_buffers.specs.Buffers.{all_but_newest};
 ghost use Rattle.shell_buffers.specs.Ring.{IsWrapped};
 ghost use Rattle.shell_buffers.specs.declared.write_tasks.TheConstants.{MAX_TASKS};
 
@@ -76,7 +76,7 @@ impl WriteTasks {
     /// Undoes a `push` that answered `true`: takes the newest off.
     pub fn unpush(&mut self)
         requires { 1 ≤ length self.old }
-        ensures { self.new ≡ but_newest self.old }
+        ensures { self.new ≡ all_but_newest self.old }
     {
         self.len -= 1;
     }

@@ -6,7 +6,7 @@ use Rattle.std.specs.List.{flat_map}
 use Rattle.step_record.specs.History.{Entries}
 use Rattle.journal_text.specs.Journal.{begun, closing_line, ended_line, entry_line, header, journal_of}
 use Rattle.journal_text.specs.Names.{spelling}
-use Rattle.journal_text.specs.Table.{count_words, spaced, spelled, text_of}
+use Rattle.journal_text.specs.Table.{count_words, spaced, spaced_words, text_of}
 use Rattle.journal_text.specs.declared.name.Name.TheVariants as name
 use Rattle.journal_text.specs.declared.version.Version.TheVariants.{Two}
 use Rattle.journal_text.specs.declared.word.Word.TheVariants.{Named, Wide}
@@ -18,10 +18,10 @@ use Rattle.shell_journal.specs.JournalSize.{TextSizeLaw}
 count-length : (n : ℕ) → n < 2 ^ 64 → length (closing_line Two n) ≤ 32
 unfolding text_of
 count-length n h =
-    let text : spelled (count_words n) ≡ spelling name.Steps ++ spaced (Wide n ∷ []) = spelled_spaced (Named name.Steps) (Wide n ∷ []) in
-    let sizes : length (spelled (count_words n)) ≡ length (spelling name.Steps) + length (spaced (Wide n ∷ [])) =
+    let text : spaced_words (count_words n) ≡ spelling name.Steps ++ spaced (Wide n ∷ []) = spelled_spaced (Named name.Steps) (Wide n ∷ []) in
+    let sizes : length (spaced_words (count_words n)) ≡ length (spelling name.Steps) + length (spaced (Wide n ∷ [])) =
     ap (λ (t : List ℕ). length t) text ∙ length-append (spelling name.Steps) (spaced (Wide n ∷ [])) in
-    let ended : length (closing_line Two n) ≡ length (spelled (count_words n)) + 1 = length-append (spelled (count_words n)) (10 ∷ []) in
+    let ended : length (closing_line Two n) ≡ length (spaced_words (count_words n)) + 1 = length-append (spaced_words (count_words n)) (10 ∷ []) in
     let digits : length (decimal n) ≤ 20 = length-decimal-le 20 n (omega arith) (omega arith) h in
     omega (arith, sizes, ended, digits, one-more (Wide n) [], none-more, short-name name.Steps)
 

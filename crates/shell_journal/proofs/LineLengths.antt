@@ -19,7 +19,7 @@ use Rattle.step_record.specs.History.{Entries}
 use Rattle.journal_text.specs.Journal.{entry_line, AreLines}
 use Rattle.journal_text.specs.Names.{spelling}
 use Rattle.journal_text.specs.ReplyItem.{reply_item}
-use Rattle.journal_text.specs.Table.{act_words, answer_name, entry_words, is_answer_in, is_in_version, item_words, reply_name, reply_numbers, reply_words, spaced, spelled, text_of, word_text, Fit, IsLine}
+use Rattle.journal_text.specs.Table.{act_words, answer_name, entry_words, is_answer_in, is_in_version, item_words, reply_name, reply_numbers, reply_words, spaced, spaced_words, text_of, word_text, FitWords, IsLine}
 use Rattle.journal_text.specs.declared.line.Line.TheVariants.{Made}
 use Rattle.journal_text.specs.declared.name.Name.{Name}
 use Rattle.journal_text.specs.declared.name.Name.TheVariants as name
@@ -83,7 +83,7 @@ offer-length n s i h k l =
 alone-length : (n : Name) → length (spaced (Named n ∷ [])) ≤ 11
 alone-length n = omega (arith, one-more (Named n) [], none-more, short-name n)
 
-act-length : (b : Act) → Fit (act_words b) → act_node b ≤ MAX_STEPS → length (spaced (act_words b)) ≤ act_width b
+act-length : (b : Act) → FitWords (act_words b) → act_node b ≤ MAX_STEPS → length (spaced (act_words b)) ≤ act_width b
 act-length (a.Look k) f l = keyed-length name.Look k f.1.0
 act-length (a.Offer s i) f l = offer-length name.Offer s i f.1.0 f.1.1.0 l
 act-length (a.Lose s i) f l = offer-length name.Lose s i f.1.0 f.1.1.0 l
@@ -115,7 +115,7 @@ numbers_width r = 0
 one-node : (n : ℕ) → n ≤ MAX_STEPS → length (spaced (Wide n ∷ [])) ≤ 11
 one-node n h = omega (arith, one-more (Wide n) [], none-more, node-length n h)
 
-numbers-length : (r : Reply) → Fit (reply_numbers r) → (reply_item r).node ≤ MAX_STEPS → length (spaced (reply_numbers r)) ≤ numbers_width r
+numbers-length : (r : Reply) → FitWords (reply_numbers r) → (reply_item r).node ≤ MAX_STEPS → length (spaced (reply_numbers r)) ≤ numbers_width r
 numbers-length (reply.Hit n) f l = one-node n l
 numbers-length (reply.Added n) f l = one-node n l
 numbers-length (reply.Present n) f l = one-node n l
@@ -164,7 +164,7 @@ widths b r h = absurd (cc h)
 
 -- ---- the line of an entry
 
-fit-parts : (xs ys : List Word) → Fit (xs ++ ys) → Fit xs × Fit ys
+fit-parts : (xs ys : List Word) → FitWords (xs ++ ys) → FitWords xs × FitWords ys
 fit-parts [] ys h = (tt, h)
 fit-parts (x ∷ xs) ys h = let p = fit-parts xs ys h.1 in ((h.0, p.0), p.1)
 
@@ -175,15 +175,15 @@ line-length e line low =
     let equals : List Word = Named name.Equals ∷ reply_words e.reply in
     let parts = fit-parts acts equals line.0.1 in
     let right = and_parts (is_in_version Two e.step.act e.reply) (is_answer e.step.act e.reply) line.1 in
-    let text : spelled (entry_words e) ≡ decimal e.step.worker ++ spaced (acts ++ equals) = spelled_spaced (Worker e.step.worker) (acts ++ equals) in
-    let sizes : length (spelled (entry_words e)) ≡ length (decimal e.step.worker) + length (spaced (acts ++ equals)) =
+    let text : spaced_words (entry_words e) ≡ decimal e.step.worker ++ spaced (acts ++ equals) = spelled_spaced (Worker e.step.worker) (acts ++ equals) in
+    let sizes : length (spaced_words (entry_words e)) ≡ length (decimal e.step.worker) + length (spaced (acts ++ equals)) =
     ap (λ (t : List ℕ). length t) text ∙ length-append (decimal e.step.worker) (spaced (acts ++ equals)) in
     let halves : length (spaced (acts ++ equals)) ≡ length (spaced acts) + length (spaced equals) =
     ap (λ (t : List ℕ). length t) (spaced_append acts equals) ∙ length-append (spaced acts) (spaced equals) in
     let reply_part : length (spaced equals) ≡ 2 + length (spaced (reply_words e.reply)) = one-more (Named name.Equals) (reply_words e.reply) in
     let named : length (spaced (reply_words e.reply)) ≡ 1 + length (spelling (reply_name e.reply)) + length (spaced (reply_numbers e.reply)) =
     one-more (Named (reply_name e.reply)) (reply_numbers e.reply) in
-    let ended : length (entry_line e) ≡ length (spelled (entry_words e)) + 1 = length-append (spelled (entry_words e)) (10 ∷ []) in
+    let ended : length (entry_line e) ≡ length (spaced_words (entry_words e)) + 1 = length-append (spaced_words (entry_words e)) (10 ∷ []) in
     let w = worker-length e.step.worker line.0.0 in
     let acted = act-length e.step.act parts.0 low.of_act in
     let numbers = numbers-length e.reply parts.1.1.1 low.of_reply in

@@ -11,14 +11,14 @@ use Rattle.step_record.specs.declared.step.Act.{Act}
 use Rattle.step_record.specs.declared.step.Act.TheVariants as a
 use Rattle.step_record.specs.declared.step.Reply.{Reply}
 use Rattle.step_record.specs.declared.step.Reply.TheVariants as reply
-use Rattle.step_record.specs.History.{went, after, IsLegal}
-use Rattle.segments.specs.Items.{times, first}
+use Rattle.step_record.specs.History.{next_data, data_after, IsLegal}
+use Rattle.segments.specs.Items.{occurrences, oldest_of}
 use Rattle.shell_buffers.specs.declared.task.Task.{Task}
 use Rattle.shell_buffers.specs.declared.task.Task.TheVariants.{Add, Update, Remove}
 use Rattle.shell_buffers.specs.Buffers.{stripe_at}
-use Rattle.shell_model.specs.Shell.{Shell, node_of, look, put, put_at, offer, when, is_stripe, perform, tallied, act}
-use Rattle.shell_model.specs.Consistent.{IsConsistent, queued}
-use Rattle.shell_model.specs.Laws.{MadeStep, opened}
+use Rattle.shell_model.specs.Shell.{Shell, node_of, look_reply, put_effect, put_at, offer_effect, some_if, is_stripe, act_effect, counted_reply, act}
+use Rattle.shell_model.specs.Consistent.{IsConsistent, queue_occurrences}
+use Rattle.shell_model.specs.Laws.{MadeStep, empty_shell}
 use Rattle.shell_model.specs.Reached.{IsReachable, IsBounded}
 use Rattle.admission.specs.Shape.{Shape}
 use Rattle.shell_model.proofs.Counting.{node-listed, listed-times}
@@ -92,11 +92,11 @@ abbrev SourcedTo : Shell → Act → Option (Reply × Shell) → Type 0
 SourcedTo x b None = Unit {0}
 SourcedTo x b (Some p) = IsSourced x b p.0
 
-when-sourced : (x : Shell) (b : Act) (t : Bool) (p : Reply × Shell) → (t ≡ true → IsSourced x b p.0) → SourcedTo x b (when t p)
+when-sourced : (x : Shell) (b : Act) (t : Bool) (p : Reply × Shell) → (t ≡ true → IsSourced x b p.0) → SourcedTo x b (some_if t p)
 when-sourced x b true p h = h refl
 when-sourced x b false p h = tt
 
-look-sourced : (x : Shell) (k : ℕ) (o : Option ℕ) → node_of k x.table ≡ o → IsSourced x (a.Look k) (look o)
+look-sourced : (x : Shell) (k : ℕ) (o : Option ℕ) → node_of k x.table ≡ o → IsSourced x (a.Look k) (look_reply o)
 look-sourced x k None e = tt
 look-sourced x k (Some n) e = e
 
@@ -104,9 +104,9 @@ put_at-sourced : (x : Shell) (k : ℕ) (o : Option ℕ) → node_of k x.table �
 put_at-sourced x k None e = tt
 put_at-sourced x k (Some n) e = e
 
-put-sourced : (x : Shell) (k : ℕ) → IsSourced x (a.Put k) (put k x).0
+put-sourced : (x : Shell) (k : ℕ) → IsSourced x (a.Put k) (put_effect k x).0
 put-sourced x k =
-    elim (cases_Bool (nat_lt (length x.writes) 128)) as (λ _. IsSourced x (a.Put k) (put k x).0) [
+    elim (cases_Bool (nat_lt (length x.writes) 128)) as (λ _. IsSourced x (a.Put k) (put_effect k x).0) [
       | inl e ↦ rw e (put_at-sourced x k (node_of k x.table) refl)
       | inr e ↦ rw e tt
     ]
@@ -133,25 +133,25 @@ end-sourced : (x : Shell) (o : Option (Reply × Shell)) → SourcedTo x a.End o
 end-sourced x None = tt
 end-sourced x (Some p) = tt
 
-performed : (w : ℕ) (b : Act) (x : Shell) → SourcedTo x b (perform w b x)
+performed : (w : ℕ) (b : Act) (x : Shell) → SourcedTo x b (act_effect w b x)
 performed w (a.Look k) x = look-sourced x k (node_of k x.table) refl
-performed w (a.Offer s i) x = when-sourced x (a.Offer s i) (is_stripe s x && nat_lt i.node x.next) (offer s i x) (below-next x s i)
+performed w (a.Offer s i) x = when-sourced x (a.Offer s i) (is_stripe s x && nat_lt i.node x.next) (offer_effect s i x) (below-next x s i)
 performed w (a.Lose s i) x = when-sourced x (a.Lose s i) (is_stripe s x && nat_lt i.node x.next) (reply.Lost, x) (below-next x s i)
 performed w (a.Put k) x = put-sourced x k
 performed w (a.Remove k) x = tt
 performed w (a.AfterRead b) x = tt
 performed w a.AfterWrite x = tt
 performed w a.Begin x = tt
-performed w (a.DrainRead s) x = read-sourced x s (perform w (a.DrainRead s) x)
-performed w a.DrainWrite x = write-sourced x (perform w a.DrainWrite x)
-performed w a.Evict x = evict-sourced x (perform w a.Evict x)
-performed w a.End x = end-sourced x (perform w a.End x)
+performed w (a.DrainRead s) x = read-sourced x s (act_effect w (a.DrainRead s) x)
+performed w a.DrainWrite x = write-sourced x (act_effect w a.DrainWrite x)
+performed w a.Evict x = evict-sourced x (act_effect w a.Evict x)
+performed w a.End x = end-sourced x (act_effect w a.End x)
 
 reply_of : Reply → Option (Reply × Shell) → Reply
 reply_of r None = r
 reply_of r (Some p) = p.0
 
-tallied-sourced : (x z : Shell) (b : Act) (r : Reply) (o : Option (Reply × Shell)) → SourcedTo x b o → tallied o ≡ Some (r, z) → IsSourced x b r
+tallied-sourced : (x z : Shell) (b : Act) (r : Reply) (o : Option (Reply × Shell)) → SourcedTo x b o → counted_reply o ≡ Some (r, z) → IsSourced x b r
 unfolding reply_of
 tallied-sourced x z b r None h e = absurd (cc e)
 tallied-sourced x z b r (Some p) h e =
@@ -161,7 +161,7 @@ tallied-sourced x z b r (Some p) h e =
 sourced : (x : Shell) (e : MadeStep) (z : Shell) → act x e.step ≡ Some (e.reply, z) → IsSourced x e.step.act e.reply
 sourced x e z h =
     elim (cases_Bool (nat_lt x.applied 4294967296)) [
-      | inl t ↦ tallied-sourced x z e.step.act e.reply (perform e.step.worker e.step.act x) (performed e.step.worker e.step.act x) (rw t at h)
+      | inl t ↦ tallied-sourced x z e.step.act e.reply (act_effect e.step.worker e.step.act x) (performed e.step.worker e.step.act x) (rw t at h)
       | inr t ↦ absurd (let no : None ≡ Some (e.reply, z) = rw t at h in cc (no))
     ]
 
@@ -170,13 +170,13 @@ sourced x e z h =
 listed-below : (x : Shell) (k n : ℕ) → IsConsistent x → node_of k x.table ≡ Some n → n < x.next
 listed-below x k n c e =
     let i : Item = record { key = k; node = n } in
-    let once : 1 ≤ times i x.table = listed-times i x.table (node-listed i x.table e) in
+    let once : 1 ≤ occurrences i x.table = listed-times i x.table (node-listed i x.table e) in
     c.placed.below i (omega (arith, once))
 
-window-below : (x : Shell) (i : Item) → IsConsistent x → first x.queues.window ≡ Some i → (1 ≤ queued i x.queues) × (i.node < x.next)
+window-below : (x : Shell) (i : Item) → IsConsistent x → oldest_of x.queues.window ≡ Some i → (1 ≤ queue_occurrences i x.queues) × (i.node < x.next)
 window-below x i c e =
-    let once : 1 ≤ times i x.queues.window = first-queued i x.queues.window e in
-    let held : 1 ≤ queued i x.queues = omega (arith, once) in
+    let once : 1 ≤ occurrences i x.queues.window = first-queued i x.queues.window e in
+    let held : 1 ≤ queue_occurrences i x.queues = omega (arith, once) in
     (held, queued-below i x c held)
 
 head-item : (n : ℕ) (l rest : List Item) (i : Item) → l ≡ i ∷ rest → AreNumbered n l → (i.node ≤ n) × AreNumbered n rest
@@ -285,27 +285,27 @@ low-next x e z c v h =
     let low : IsLowStep x e.step.act e.reply s.left = low-step e.step.worker x e.step.act e.reply s.left s.made c v (sourced x e z h) in
     subst (λ u. IsLowStep x e.step.act e.reply u) (sym s.is) (lifted x e.step.act e.reply s.left low)
 
-after-numbered : (x : Shell) (es : List MadeStep) → IsConsistent x → IsNumbered x → IsLegal act x es → IsNumbered (after act x es)
+after-numbered : (x : Shell) (es : List MadeStep) → IsConsistent x → IsNumbered x → IsLegal act x es → IsNumbered (data_after act x es)
 after-numbered x [] c v l = v
 after-numbered x (e ∷ es) c v l =
-    after-numbered (went (act x e.step) x) es (after-sound x (e ∷ []) c (l.0, tt)) (low-next x e (went (act x e.step) x) c v l.0).numbered l.1
+    after-numbered (next_data (act x e.step) x) es (after-sound x (e ∷ []) c (l.0, tt)) (low-next x e (next_data (act x e.step) x) c v l.0).numbered l.1
 
 no-stripes : (n k : ℕ) → stripe_at k (replicate n []) ≡ []
 no-stripes zero k = refl
 no-stripes (suc n) zero = refl
 no-stripes (suc n) (suc k) = no-stripes n k
 
-opened-numbered : (c : Config) (s : Shape) → IsNumbered (opened c s)
+opened-numbered : (c : Config) (s : Shape) → IsNumbered (empty_shell c s)
 opened-numbered c s = record { stripes = λ t. rw (no-stripes c.stripes t) tt; writes = tt }
 
 reached-numbered : (x : Shell) → IsReachable x → IsNumbered x
 reached-numbered x r =
-    rw r.gives (after-numbered (opened x.config r.shape) r.entries (opened-sound x.config r.shape r.shape_is) (opened-numbered x.config r.shape) r.legal)
+    rw r.gives (after-numbered (empty_shell x.config r.shape) r.entries (opened-sound x.config r.shape r.shape_is) (opened-numbered x.config r.shape) r.legal)
 
 all-low : (x : Shell) (es : List MadeStep) → IsConsistent x → IsBounded x → IsNumbered x → IsLegal act x es → AllByRecursion IsLow es
 all-low x [] c b v l = tt
 all-low x (e ∷ es) c b v l =
-    let z : Shell = went (act x e.step) x in
+    let z : Shell = next_data (act x e.step) x in
     let low : IsLowStep x e.step.act e.reply z = low-next x e z c v l.0 in
     let on : IsBounded z = after-bound x (e ∷ []) b (l.0, tt) in (
       record { of_act = omega (arith, low.of_act, b.next, b.applied); of_reply = omega (arith, low.of_reply, on.next, on.applied) },

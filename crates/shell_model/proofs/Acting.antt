@@ -7,9 +7,9 @@ use Rattle.shell_model.specs.declared.stats.ShellStats.{ShellStats}
 use Rattle.shell_model.specs.declared.record.ShellRecord.{ShellRecord}
 use Rattle.shell_model.specs.declared.record.Change.{Change}
 use Rattle.shell_model.specs.declared.record.Change.TheVariants.{Nothing, Offered, Updated, Added, Removed, Requested, Began, Read, Passed, Applied, Cleared, Evicted, Ended}
-use Rattle.shell_model.specs.Shell.{Shell, perform, tallied, act}
+use Rattle.shell_model.specs.Shell.{Shell, act_effect, counted_reply, act}
 use Rattle.shell_model.specs.ShellStats.{shell_stats_after, shell_stats_before, IsReplyCounted, is_hit_reply, is_miss_reply, is_kept_reply, is_full_reply, is_lost_reply, is_added_reply, is_updated_reply, is_refused_reply, is_eviction_reply, is_rejection_reply, is_begun_reply, is_busy_reply, is_removed_reply}
-use Rattle.step_record.specs.Stats.{one}
+use Rattle.step_record.specs.Stats.{one_if}
 use Rattle.shell_model.specs.Records.{before_change, FitsChange, undone_step, FitsStep, change_of}
 use Rattle.shell_model.specs.Consistent.{IsConsistent}
 use Rattle.shell_model.proofs.Undoing.{GoesTo, perform-goes}
@@ -20,19 +20,19 @@ plus-less a b = omega arith
 pub uncounted-counted : (r : Reply) (s : ShellStats) → shell_stats_before r (shell_stats_after r s) ≡ s
 uncounted-counted r s =
     rw (
-      plus-less s.hits (one (is_hit_reply r)),
-      plus-less s.misses (one (is_miss_reply r)),
-      plus-less s.kept (one (is_kept_reply r)),
-      plus-less s.full (one (is_full_reply r)),
-      plus-less s.lost (one (is_lost_reply r)),
-      plus-less s.added (one (is_added_reply r)),
-      plus-less s.updated (one (is_updated_reply r)),
-      plus-less s.refused (one (is_refused_reply r)),
-      plus-less s.evictions (one (is_eviction_reply r)),
-      plus-less s.rejections (one (is_rejection_reply r)),
-      plus-less s.begun (one (is_begun_reply r)),
-      plus-less s.busy (one (is_busy_reply r)),
-      plus-less s.removed (one (is_removed_reply r)),
+      plus-less s.hits (one_if (is_hit_reply r)),
+      plus-less s.misses (one_if (is_miss_reply r)),
+      plus-less s.kept (one_if (is_kept_reply r)),
+      plus-less s.full (one_if (is_full_reply r)),
+      plus-less s.lost (one_if (is_lost_reply r)),
+      plus-less s.added (one_if (is_added_reply r)),
+      plus-less s.updated (one_if (is_updated_reply r)),
+      plus-less s.refused (one_if (is_refused_reply r)),
+      plus-less s.evictions (one_if (is_eviction_reply r)),
+      plus-less s.rejections (one_if (is_rejection_reply r)),
+      plus-less s.begun (one_if (is_begun_reply r)),
+      plus-less s.busy (one_if (is_busy_reply r)),
+      plus-less s.removed (one_if (is_removed_reply r)),
     ) refl
 
 more : (a b : ℕ) → b ≤ a + b
@@ -104,7 +104,7 @@ abbrev pub IsUndone : Change → Shell → Option (Reply × Shell) → Type 0
 IsUndone c x None = Unit {0}
 IsUndone c x (Some p) = let r : ShellRecord = record { reply = p.0; change = c } in FitsStep r p.1 × (undone_step r p.1 ≡ x)
 
-tallied-undone : (c : Change) (x : Shell) (p : Option (Reply × Shell)) → GoesTo c x p → IsUndone c x (tallied p)
+tallied-undone : (c : Change) (x : Shell) (p : Option (Reply × Shell)) → GoesTo c x p → IsUndone c x (counted_reply p)
 tallied-undone c x None g = tt
 tallied-undone c x (Some p) g =
     let y : Shell = p.1 in (
@@ -119,7 +119,7 @@ tallied-undone c x (Some p) g =
 -- the record of a step of the shell leads back from what the step left
 pub act-undone : (x : Shell) (s : Step) → IsConsistent x → IsUndone (change_of s.worker s.act x) x (act x s)
 act-undone x s w =
-    elim (cases_Bool (nat_lt x.applied 4294967296)) as (λ _. IsUndone (change_of s.worker s.act x) x (cond (nat_lt x.applied 4294967296) (tallied (perform s.worker s.act x)) None)) [
-      | inl e ↦ rw e (tallied-undone (change_of s.worker s.act x) x (perform s.worker s.act x) (perform-goes s.worker s.act x w))
+    elim (cases_Bool (nat_lt x.applied 4294967296)) as (λ _. IsUndone (change_of s.worker s.act x) x (cond (nat_lt x.applied 4294967296) (counted_reply (act_effect s.worker s.act x)) None)) [
+      | inl e ↦ rw e (tallied-undone (change_of s.worker s.act x) x (act_effect s.worker s.act x) (perform-goes s.worker s.act x w))
       | inr e ↦ rw e tt
     ]

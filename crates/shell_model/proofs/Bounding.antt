@@ -6,15 +6,15 @@ use Rattle.step_record.specs.declared.config.Config.{Config}
 use Rattle.step_record.specs.declared.step.Act.{Act}
 use Rattle.step_record.specs.declared.step.Step.{Step}
 use Rattle.step_record.specs.declared.step.Reply.{Reply}
-use Rattle.step_record.specs.History.{went, after, IsLegal}
+use Rattle.step_record.specs.History.{next_data, data_after, IsLegal}
 use Rattle.admission.specs.Shape.{Shape, IsShape}
-use Rattle.admission.specs.Frequency.{FrequencyData, frequency_of, recorded as recorded_key}
+use Rattle.admission.specs.Frequency.{FrequencyData, frequency_of, frequency_with as recorded_key}
 use Rattle.shell_model.specs.Frequency.{frequency_recorded}
 use Rattle.shell_model.specs.declared.stats.ShellStats.{ShellStats}
 use Rattle.shell_model.specs.ShellStats.{shell_stats_after, AreAtMost, is_hit_reply, is_miss_reply, is_kept_reply, is_full_reply, is_lost_reply, is_added_reply, is_updated_reply, is_refused_reply, is_eviction_reply, is_rejection_reply, is_begun_reply, is_busy_reply, is_removed_reply}
-use Rattle.step_record.specs.Stats.{one}
+use Rattle.step_record.specs.Stats.{one_if}
 use Rattle.shell_model.specs.Shell.{Shell, act}
-use Rattle.shell_model.specs.Laws.{MadeStep, IsShapeOf, opened}
+use Rattle.shell_model.specs.Laws.{MadeStep, IsShapeOf, empty_shell}
 use Rattle.shell_model.specs.Reached.{IsBounded, BoundLaw}
 use Rattle.shell_model.proofs.Making as k
 use Rattle.shell_model.proofs.Making.{Makes}
@@ -47,7 +47,7 @@ none : (s : Shape) → IsShape s → (frequency_of s []).halvings ≤ 0
 unfolding frequency_of
 none s h = let e : nat_lt 0 (10 * s.capacity) ≡ true = grind (arith, nat_tests, h.some) in rw e (omega arith)
 
-up : (b : Bool) (m n : ℕ) → m ≤ n → m + one b ≤ n + 1
+up : (b : Bool) (m n : ℕ) → m ≤ n → m + one_if b ≤ n + 1
 up true m n h = omega (arith, h)
 up false m n h = omega (arith, h)
 
@@ -112,11 +112,11 @@ bound-next x e z v h =
       applied = omega (arith, w, few);
     }
 
-pub after-bound : (x : Shell) (es : List MadeStep) → IsBounded x → IsLegal act x es → IsBounded (after act x es)
+pub after-bound : (x : Shell) (es : List MadeStep) → IsBounded x → IsLegal act x es → IsBounded (data_after act x es)
 after-bound x [] v l = v
-after-bound x (e ∷ es) v l = after-bound (went (act x e.step) x) es (bound-next x e (went (act x e.step) x) v l.0) l.1
+after-bound x (e ∷ es) v l = after-bound (next_data (act x e.step) x) es (bound-next x e (next_data (act x e.step) x) v l.0) l.1
 
-pub opened-bound : (c : Config) (s : Shape) → IsShapeOf c s → IsBounded (opened c s)
+pub opened-bound : (c : Config) (s : Shape) → IsShapeOf c s → IsBounded (empty_shell c s)
 opened-bound c sh k = record {
   halvings = none sh k.is;
   next = omega arith;
@@ -139,4 +139,4 @@ opened-bound c sh k = record {
 }
 
 pub bound-law : BoundLaw
-bound-law x r = rw r.gives (after-bound (opened x.config r.shape) r.entries (opened-bound x.config r.shape r.shape_is) r.legal)
+bound-law x r = rw r.gives (after-bound (empty_shell x.config r.shape) r.entries (opened-bound x.config r.shape r.shape_is) r.legal)

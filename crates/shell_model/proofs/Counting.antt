@@ -5,129 +5,129 @@ use Rattle.std.proofs.lemmas.Bool.Decides.{nat_tests}
 use Rattle.step_record.specs.declared.item.Item.{Item}
 use Rattle.segments.specs.declared.records.Queue.{Queue}
 use Rattle.segments.specs.declared.records.Queue.TheVariants.{Window, Probation, Protected}
-use Rattle.segments.specs.Items.{same, times, items_without}
-use Rattle.segments.specs.Queues.{Queues, place_of, pushed, taken, moved, IsDistinct}
+use Rattle.segments.specs.Items.{is_same_item, occurrences, items_without}
+use Rattle.segments.specs.Queues.{Queues, queue_holding, queues_after_push, queues_without, queues_after_move, IsDistinct}
 use Rattle.segments.proofs.ItemLists.{same-true, same-refl, times-append, without-none}
 use Rattle.segments.proofs.MoveLaws.{Stands, in_window, in_probation, in_protected, nowhere, stands, taken-none}
-use Rattle.shell_model.specs.Shell.{placed, node_of, is_listed, unlisted, queues_cleared, cleared_from}
-use Rattle.shell_model.specs.Consistent.{queued, AreAbove, IsAscending}
+use Rattle.shell_model.specs.Shell.{table_with, node_of, is_listed, unlisted, queues_cleared, cleared_from}
+use Rattle.shell_model.specs.Consistent.{queue_occurrences, AreAbove, IsAscending}
 
 abbrev pub once : Item → Item → ℕ
-once i j = cond (same i j) 1 0
+once i j = cond (is_same_item i j) 1 0
 
-pub unless-same : (j i : Item) (l : List Item) → times j (items_without i l) ≡ cond (same j i) 0 (times j l)
-unless-same j i [] = elim (cases_Bool (same j i)) as (λ _. times j [] ≡ cond (same j i) 0 (times j [])) [ inl e ↦ rw e refl | inr e ↦ rw e refl ]
+pub unless-same : (j i : Item) (l : List Item) → occurrences j (items_without i l) ≡ cond (is_same_item j i) 0 (occurrences j l)
+unless-same j i [] = elim (cases_Bool (is_same_item j i)) as (λ _. occurrences j [] ≡ cond (is_same_item j i) 0 (occurrences j [])) [ inl e ↦ rw e refl | inr e ↦ rw e refl ]
 unless-same j i (x ∷ l) =
-    let h : times j (items_without i l) ≡ cond (same j i) 0 (times j l) = unless-same j i l in
-    elim (cases_Bool (same i x)) as (λ _. times j (cond (same i x) (items_without i l) (x ∷ items_without i l)) ≡ cond (same j i) 0 (cond (same j x) 1 0 + times j l)) [
-      | inl e ↦ let s : i ≡ x = same-true i x e in rw (e, h) (elim (cases_Bool (same j i)) as (λ _. cond (same j i) 0 (times j l) ≡ cond (same j i) 0 (cond (same j x) 1 0 + times j l)) [
+    let h : occurrences j (items_without i l) ≡ cond (is_same_item j i) 0 (occurrences j l) = unless-same j i l in
+    elim (cases_Bool (is_same_item i x)) as (λ _. occurrences j (cond (is_same_item i x) (items_without i l) (x ∷ items_without i l)) ≡ cond (is_same_item j i) 0 (cond (is_same_item j x) 1 0 + occurrences j l)) [
+      | inl e ↦ let s : i ≡ x = same-true i x e in rw (e, h) (elim (cases_Bool (is_same_item j i)) as (λ _. cond (is_same_item j i) 0 (occurrences j l) ≡ cond (is_same_item j i) 0 (cond (is_same_item j x) 1 0 + occurrences j l)) [
         | inl f ↦ rw f refl
-        | inr f ↦ let g : same j x ≡ false = rw s at f in rw (f, g) (omega arith)
+        | inr f ↦ let g : is_same_item j x ≡ false = rw s at f in rw (f, g) (omega arith)
       ])
-      | inr e ↦ rw (e, h) (elim (cases_Bool (same j i)) as (λ _. cond (same j x) 1 0 + cond (same j i) 0 (times j l) ≡ cond (same j i) 0 (cond (same j x) 1 0 + times j l)) [
-        | inl f ↦ let s : j ≡ i = same-true j i f in let g : same j x ≡ false = rw (← s) at e in rw (f, g) refl
+      | inr e ↦ rw (e, h) (elim (cases_Bool (is_same_item j i)) as (λ _. cond (is_same_item j x) 1 0 + cond (is_same_item j i) 0 (occurrences j l) ≡ cond (is_same_item j i) 0 (cond (is_same_item j x) 1 0 + occurrences j l)) [
+        | inl f ↦ let s : j ≡ i = same-true j i f in let g : is_same_item j x ≡ false = rw (← s) at e in rw (f, g) refl
         | inr f ↦ rw f refl
       ])
     ]
 
-pub queued-taken : (j i : Item) (q : Queues) → queued j (taken i q) ≡ cond (same j i) 0 (queued j q)
+pub queued-taken : (j i : Item) (q : Queues) → queue_occurrences j (queues_without i q) ≡ cond (is_same_item j i) 0 (queue_occurrences j q)
 queued-taken j i q =
     rw (unless-same j i q.window, unless-same j i q.probation, unless-same j i q.protected)
-    (elim (cases_Bool (same j i)) as (λ _. cond (same j i) 0 (times j q.window) + cond (same j i) 0 (times j q.probation) + cond (same j i) 0 (times j q.protected) ≡ cond (same j i) 0 (queued j q)) [
+    (elim (cases_Bool (is_same_item j i)) as (λ _. cond (is_same_item j i) 0 (occurrences j q.window) + cond (is_same_item j i) 0 (occurrences j q.probation) + cond (is_same_item j i) 0 (occurrences j q.protected) ≡ cond (is_same_item j i) 0 (queue_occurrences j q)) [
       | inl e ↦ rw e refl
       | inr e ↦ rw e refl
     ])
 
-pub queued-pushed : (j i : Item) (to : Queue) (q : Queues) → queued j (pushed to i q) ≡ queued j q + once j i
+pub queued-pushed : (j i : Item) (to : Queue) (q : Queues) → queue_occurrences j (queues_after_push to i q) ≡ queue_occurrences j q + once j i
 queued-pushed j i Window q = rw (times-append j q.window (i ∷ [])) (omega arith)
 queued-pushed j i Probation q = rw (times-append j q.probation (i ∷ [])) (omega arith)
 queued-pushed j i Protected q = rw (times-append j q.protected (i ∷ [])) (omega arith)
 
-pub queued-moved : (j i : Item) (to : Queue) (q : Queues) → queued j (moved i to q) ≡ cond (same j i) 1 (queued j q)
+pub queued-moved : (j i : Item) (to : Queue) (q : Queues) → queue_occurrences j (queues_after_move i to q) ≡ cond (is_same_item j i) 1 (queue_occurrences j q)
 queued-moved j i to q =
-    queued-pushed j i to (taken i q) ∙ rw (queued-taken j i q) (elim (cases_Bool (same j i)) as (λ _. cond (same j i) 0 (queued j q) + cond (same j i) 1 0 ≡ cond (same j i) 1 (queued j q)) [
+    queued-pushed j i to (queues_without i q) ∙ rw (queued-taken j i q) (elim (cases_Bool (is_same_item j i)) as (λ _. cond (is_same_item j i) 0 (queue_occurrences j q) + cond (is_same_item j i) 1 0 ≡ cond (is_same_item j i) 1 (queue_occurrences j q)) [
       | inl e ↦ rw e refl
       | inr e ↦ rw e (omega arith)
     ])
 
-pub distinct-moved : (i : Item) (to : Queue) (q : Queues) → IsDistinct q → IsDistinct (moved i to q)
+pub distinct-moved : (i : Item) (to : Queue) (q : Queues) → IsDistinct q → IsDistinct (queues_after_move i to q)
 distinct-moved i to q d j =
-    rw (queued-moved j i to q) (elim (cases_Bool (same j i)) as (λ _. cond (same j i) 1 (queued j q) ≤ 1) [
+    rw (queued-moved j i to q) (elim (cases_Bool (is_same_item j i)) as (λ _. cond (is_same_item j i) 1 (queue_occurrences j q) ≤ 1) [
       | inl e ↦ rw e (omega arith)
       | inr e ↦ rw e (d j)
     ])
 
 -- the moved item was queued: nothing comes or goes
-pub queued-kept : (j i : Item) (to : Queue) (q : Queues) → queued i q ≡ 1 → queued j (moved i to q) ≡ queued j q
+pub queued-kept : (j i : Item) (to : Queue) (q : Queues) → queue_occurrences i q ≡ 1 → queue_occurrences j (queues_after_move i to q) ≡ queue_occurrences j q
 queued-kept j i to q h =
-    queued-moved j i to q ∙ elim (cases_Bool (same j i)) as (λ _. cond (same j i) 1 (queued j q) ≡ queued j q) [
+    queued-moved j i to q ∙ elim (cases_Bool (is_same_item j i)) as (λ _. cond (is_same_item j i) 1 (queue_occurrences j q) ≡ queue_occurrences j q) [
       | inl e ↦ let s : j ≡ i = same-true j i e in rw (e, s) (sym h)
       | inr e ↦ rw e refl
     ]
 
 -- the table
 
-pub times-placed : (j i : Item) (t : List Item) → times j (placed i t) ≡ once j i + times j t
+pub times-placed : (j i : Item) (t : List Item) → occurrences j (table_with i t) ≡ once j i + occurrences j t
 times-placed j i [] = refl
 times-placed j i (x ∷ t) =
-    let h : times j (placed i t) ≡ once j i + times j t = times-placed j i t in
-    elim (cases_Bool (nat_lt i.key x.key)) as (λ _. times j (cond (nat_lt i.key x.key) (i ∷ x ∷ t) (x ∷ placed i t)) ≡ once j i + (once j x + times j t)) [
+    let h : occurrences j (table_with i t) ≡ once j i + occurrences j t = times-placed j i t in
+    elim (cases_Bool (nat_lt i.key x.key)) as (λ _. occurrences j (cond (nat_lt i.key x.key) (i ∷ x ∷ t) (x ∷ table_with i t)) ≡ once j i + (once j x + occurrences j t)) [
       | inl e ↦ rw e refl
       | inr e ↦ rw (e, h) (omega arith)
     ]
 
-pub without-placed : (i : Item) (t : List Item) → times i t ≡ 0 → items_without i (placed i t) ≡ t
+pub without-placed : (i : Item) (t : List Item) → occurrences i t ≡ 0 → items_without i (table_with i t) ≡ t
 without-placed i [] h = let e = same-refl i in rw e refl
 without-placed i (x ∷ t) h =
-    let apart : same i x ≡ false = elim (cases_Bool (same i x)) [ inl f ↦ absurd (let no : 1 + times i t ≡ 0 = rw f at h in omega arith) | inr f ↦ f ] in
-    let rest : times i t ≡ 0 = omega (arith, h) in
+    let apart : is_same_item i x ≡ false = elim (cases_Bool (is_same_item i x)) [ inl f ↦ absurd (let no : 1 + occurrences i t ≡ 0 = rw f at h in omega arith) | inr f ↦ f ] in
+    let rest : occurrences i t ≡ 0 = omega (arith, h) in
     let e = same-refl i in
-    elim (cases_Bool (nat_lt i.key x.key)) as (λ _. items_without i (cond (nat_lt i.key x.key) (i ∷ x ∷ t) (x ∷ placed i t)) ≡ x ∷ t) [
+    elim (cases_Bool (nat_lt i.key x.key)) as (λ _. items_without i (cond (nat_lt i.key x.key) (i ∷ x ∷ t) (x ∷ table_with i t)) ≡ x ∷ t) [
       | inl f ↦ rw (f, e, apart, without-none i t rest) refl
       | inr f ↦ rw (f, apart, without-placed i t rest) refl
     ]
 
-pub node_of-placed : (i : Item) (t : List Item) → node_of i.key t ≡ None → node_of i.key (placed i t) ≡ Some i.node
+pub node_of-placed : (i : Item) (t : List Item) → node_of i.key t ≡ None → node_of i.key (table_with i t) ≡ Some i.node
 node_of-placed i [] h = let e = eq-eqb i.key i.key refl in rw e refl
 node_of-placed i (x ∷ t) h =
     let e = eq-eqb i.key i.key refl in
-    elim (cases_Bool (nat_lt i.key x.key)) as (λ _. node_of i.key (cond (nat_lt i.key x.key) (i ∷ x ∷ t) (x ∷ placed i t)) ≡ Some i.node) [
+    elim (cases_Bool (nat_lt i.key x.key)) as (λ _. node_of i.key (cond (nat_lt i.key x.key) (i ∷ x ∷ t) (x ∷ table_with i t)) ≡ Some i.node) [
       | inl f ↦ rw (f, e) refl
-      | inr f ↦ rw f (elim (cases_Bool (eqb i.key x.key)) as (λ _. cond (eqb i.key x.key) (Some x.node) (node_of i.key (placed i t)) ≡ Some i.node) [
+      | inr f ↦ rw f (elim (cases_Bool (eqb i.key x.key)) as (λ _. cond (eqb i.key x.key) (Some x.node) (node_of i.key (table_with i t)) ≡ Some i.node) [
         | inl g ↦ absurd (let no : Some x.node ≡ None = rw g at h in cc (no))
         | inr g ↦ rw g (node_of-placed i t (rw g at h))
       ])
     ]
 
-pub above-key : (k : ℕ) (v : Item) (t : List Item) → AreAbove k t → 1 ≤ times v t → k < v.key
+pub above-key : (k : ℕ) (v : Item) (t : List Item) → AreAbove k t → 1 ≤ occurrences v t → k < v.key
 above-key k v [] a h = absurd (omega arith)
 above-key k v (x ∷ t) a h =
-    elim (cases_Bool (same v x)) [
+    elim (cases_Bool (is_same_item v x)) [
       | inl e ↦ let s : v ≡ x = same-true v x e in rw s a.0
-      | inr e ↦ above-key k v t a.1 (let r : 1 ≤ 0 + times v t = rw e at h in omega arith)
+      | inr e ↦ above-key k v t a.1 (let r : 1 ≤ 0 + occurrences v t = rw e at h in omega arith)
     ]
 
-pub above-none : (v : Item) (t : List Item) → AreAbove v.key t → times v t ≡ 0
-above-none v t a = elim (zero_or (times v t)) [ inl e ↦ e | inr e ↦ absurd (let no : v.key < v.key = above-key v.key v t a e in omega arith) ]
+pub above-none : (v : Item) (t : List Item) → AreAbove v.key t → occurrences v t ≡ 0
+above-none v t a = elim (zero_or (occurrences v t)) [ inl e ↦ e | inr e ↦ absurd (let no : v.key < v.key = above-key v.key v t a e in omega arith) ]
   where
     zero_or : (n : ℕ) → (n ≡ 0) ⊎ (1 ≤ n)
     zero_or zero = inl refl
     zero_or (suc n) = inr (omega arith)
 
-placed-front : (v : Item) (t : List Item) → AreAbove v.key t → placed v t ≡ v ∷ t
+placed-front : (v : Item) (t : List Item) → AreAbove v.key t → table_with v t ≡ v ∷ t
 placed-front v [] a = refl
 placed-front v (y ∷ t) a = let e : nat_lt v.key y.key ≡ true = grind (arith, nat_tests, a.0) in rw e refl
 
-pub placed-without : (v : Item) (t : List Item) → IsAscending t → 1 ≤ times v t → placed v (items_without v t) ≡ t
+pub placed-without : (v : Item) (t : List Item) → IsAscending t → 1 ≤ occurrences v t → table_with v (items_without v t) ≡ t
 placed-without v [] a h = absurd (omega arith)
 placed-without v (x ∷ t) a h =
-    elim (cases_Bool (same v x)) as (λ _. placed v (cond (same v x) (items_without v t) (x ∷ items_without v t)) ≡ x ∷ t) [
+    elim (cases_Bool (is_same_item v x)) as (λ _. table_with v (cond (is_same_item v x) (items_without v t) (x ∷ items_without v t)) ≡ x ∷ t) [
       | inl e ↦
           let s : v ≡ x = same-true v x e in
           let up : AreAbove v.key t = rw s a.0 in
           rw (e, without-none v t (above-none v t up), placed-front v t up) (rw s refl)
       | inr e ↦
-          let more : 1 ≤ times v t = (let r : 1 ≤ 0 + times v t = rw e at h in omega arith) in
+          let more : 1 ≤ occurrences v t = (let r : 1 ≤ 0 + occurrences v t = rw e at h in omega arith) in
           let up : x.key < v.key = above-key x.key v t a.0 more in
           let f : nat_lt v.key x.key ≡ false = grind (arith, nat_tests) in
           rw (e, f, placed-without v t a.1 more) refl
@@ -140,16 +140,16 @@ node_of-above k (x ∷ t) a = let e : eqb k x.key ≡ false = grind (arith, nat_
     later : (m : ℕ) (t : List Item) → AreAbove k (x ∷ t) → AreAbove k t
     later m t a = a.1
 
-pub node_of-without : (v : Item) (t : List Item) → IsAscending t → 1 ≤ times v t → node_of v.key (items_without v t) ≡ None
+pub node_of-without : (v : Item) (t : List Item) → IsAscending t → 1 ≤ occurrences v t → node_of v.key (items_without v t) ≡ None
 node_of-without v [] a h = absurd (omega arith)
 node_of-without v (x ∷ t) a h =
-    elim (cases_Bool (same v x)) as (λ _. node_of v.key (cond (same v x) (items_without v t) (x ∷ items_without v t)) ≡ None) [
+    elim (cases_Bool (is_same_item v x)) as (λ _. node_of v.key (cond (is_same_item v x) (items_without v t) (x ∷ items_without v t)) ≡ None) [
       | inl e ↦
           let s : v ≡ x = same-true v x e in
           let up : AreAbove v.key t = rw s a.0 in
           rw (e, without-none v t (above-none v t up)) (node_of-above v.key t up)
       | inr e ↦
-          let more : 1 ≤ times v t = (let r : 1 ≤ 0 + times v t = rw e at h in omega arith) in
+          let more : 1 ≤ occurrences v t = (let r : 1 ≤ 0 + occurrences v t = rw e at h in omega arith) in
           let up : x.key < v.key = above-key x.key v t a.0 more in
           let f : eqb v.key x.key ≡ false = grind (arith, nat_tests) in
           rw (e, f) (node_of-without v t a.1 more)
@@ -157,33 +157,33 @@ node_of-without v (x ∷ t) a h =
 
 -- the table lists the item where it gives its key that very node
 
-pub listed-times : (i : Item) (t : List Item) → is_listed i t ≡ true → 1 ≤ times i t
+pub listed-times : (i : Item) (t : List Item) → is_listed i t ≡ true → 1 ≤ occurrences i t
 listed-times i [] h = absurd (cc (h))
 listed-times i (x ∷ t) h =
-    elim (cases_Bool (eqb i.key x.key)) as (λ _. 1 ≤ times i (x ∷ t)) [
+    elim (cases_Bool (eqb i.key x.key)) as (λ _. 1 ≤ occurrences i (x ∷ t)) [
       | inl e ↦
           let n : eqb i.node x.node ≡ true = rw e at h in
-          let s : same i x ≡ true = and_from (eqb i.key x.key) (eqb i.node x.node) e n in
+          let s : is_same_item i x ≡ true = and_from (eqb i.key x.key) (eqb i.node x.node) e n in
           rw s (omega arith)
-      | inr e ↦ let more : 1 ≤ times i t = listed-times i t (rw e at h) in omega (arith, more)
+      | inr e ↦ let more : 1 ≤ occurrences i t = listed-times i t (rw e at h) in omega (arith, more)
     ]
 
 pub node-listed : (i : Item) (t : List Item) → node_of i.key t ≡ Some i.node → is_listed i t ≡ true
 node-listed i t e = rw e (eq-eqb i.node i.node refl)
 
-pub unlisted-times : (i : Item) (t : List Item) → IsAscending t → is_listed i t ≡ false → times i t ≡ 0
+pub unlisted-times : (i : Item) (t : List Item) → IsAscending t → is_listed i t ≡ false → occurrences i t ≡ 0
 unlisted-times i [] a h = refl
 unlisted-times i (x ∷ t) a h =
-    elim (cases_Bool (same i x)) as (λ _. cond (same i x) 1 0 + times i t ≡ 0) [
+    elim (cases_Bool (is_same_item i x)) as (λ _. cond (is_same_item i x) 1 0 + occurrences i t ≡ 0) [
       | inl e ↦
           let p = and_parts (eqb i.key x.key) (eqb i.node x.node) e in
           absurd (let no : eqb i.node x.node ≡ false = rw p.0 at h in cc (no, p.1))
-      | inr e ↦ rw e (elim (cases_Bool (eqb i.key x.key)) as (λ _. 0 + times i t ≡ 0) [
+      | inr e ↦ rw e (elim (cases_Bool (eqb i.key x.key)) as (λ _. 0 + occurrences i t ≡ 0) [
         | inl f ↦
             let k : i.key ≡ x.key = eqb-true i.key x.key f in
-            let none : times i t ≡ 0 = above-none i t (rw k a.0) in
+            let none : occurrences i t ≡ 0 = above-none i t (rw k a.0) in
             omega (arith, none)
-        | inr f ↦ let none : times i t ≡ 0 = unlisted-times i t a.1 (rw f at h) in omega (arith, none)
+        | inr f ↦ let none : occurrences i t ≡ 0 = unlisted-times i t a.1 (rw f at h) in omega (arith, none)
       ])
     ]
 
@@ -195,11 +195,11 @@ unlisted-is i t a =
     ]
 
 -- a cleared item is taken out, wherever it stands
-cleared-at : (i : Item) (q : Queues) (p : Option Queue) → Stands i q p → cleared_from i p q ≡ taken i q
+cleared-at : (i : Item) (q : Queues) (p : Option Queue) → Stands i q p → cleared_from i p q ≡ queues_without i q
 cleared-at i q p (nowhere e f g) = sym (taken-none i q (omega (arith, e, f, g)))
 cleared-at i q p (in_window e f g) = refl
 cleared-at i q p (in_probation e f g) = refl
 cleared-at i q p (in_protected e f g) = refl
 
-pub cleared-is : (i : Item) (q : Queues) → IsDistinct q → queues_cleared i q ≡ taken i q
-cleared-is i q d = cleared-at i q (place_of i q) (stands i q d)
+pub cleared-is : (i : Item) (q : Queues) → IsDistinct q → queues_cleared i q ≡ queues_without i q
+cleared-is i q d = cleared-at i q (queue_holding i q) (stands i q d)

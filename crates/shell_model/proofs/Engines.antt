@@ -18,7 +18,7 @@ use Rattle.shell_model.specs.declared.record.ShellRecord.{ShellRecord}
 use Rattle.shell_model.specs.declared.record.Change.{Change}
 use Rattle.shell_model.specs.declared.record.Change.TheVariants.{Nothing, Read, Applied}
 use Rattle.shell_model.specs.Frequency.{frequency_recorded, frequency_unrecorded, FitsFrequency}
-use Rattle.shell_model.specs.Shell.{Shell, perform, act, held_by, hold_end}
+use Rattle.shell_model.specs.Shell.{Shell, act_effect, act, held_by, hold_end}
 use Rattle.shell_model.specs.Records.{before_change, undone_step, FitsChange, FitsStep, change_size, record_size}
 use Rattle.shell_model.specs.Laws.{MadeStep, is_ending}
 use Rattle.shell_model.specs.Reached.{worker_of, HoldLaws}
@@ -120,7 +120,7 @@ number_in : ℕ → Option ℕ → ℕ
 number_in d None = d
 number_in d (Some n) = n
 
-not-refused : (x : Shell) (s : Step) (p : Reply × Shell) → act x s ≡ Some p → perform s.worker s.act x ≡ None → ⊥
+not-refused : (x : Shell) (s : Step) (p : Reply × Shell) → act x s ≡ Some p → act_effect s.worker s.act x ≡ None → ⊥
 not-refused x s p h e =
     elim (cases_Bool (nat_lt x.applied 4294967296)) [
       | inl t ↦ (let no : None ≡ Some p = rw (t, e) at h in cc (no))
@@ -140,7 +140,7 @@ ends-own : (x y : Shell) (s : Step) (r : Reply) (n : ℕ) → worker_of x.holder
 ends-own x y s r n g h i =
     let t : Steps x (made_of s r) y = stepped x (made_of s r) y h in
     let b : s.act ≡ a.End = made-ends x s.worker s.act r t.left t.made i in
-    end-own s.worker n x.holder x g (λ none. not-refused x s (r, y) h (ap (λ (c : Act). perform s.worker c x) b ∙ none))
+    end-own s.worker n x.holder x g (λ none. not-refused x s (r, y) h (ap (λ (c : Act). act_effect s.worker c x) b ∙ none))
 
 pub hold_laws : HoldLaws
 hold_laws = record {

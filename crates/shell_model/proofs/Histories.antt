@@ -7,8 +7,8 @@ use Rattle.step_record.specs.declared.step.Act.{Act}
 use Rattle.step_record.specs.declared.step.Act.TheVariants as a
 use Rattle.step_record.specs.declared.step.Reply.{Reply}
 use Rattle.step_record.specs.declared.step.Reply.TheVariants as reply
-use Rattle.step_record.specs.History.{went, after, IsLegal}
-use Rattle.segments.specs.Items.{same, times, items_without}
+use Rattle.step_record.specs.History.{next_data, data_after, IsLegal}
+use Rattle.segments.specs.Items.{is_same_item, occurrences, items_without}
 use Rattle.segments.proofs.ItemLists.{same-true, times-append}
 use Rattle.admission.specs.Shape.{Shape, IsShape}
 use Rattle.admission.specs.Frequency.{FrequencyData, frequency_of}
@@ -16,10 +16,10 @@ use Rattle.admission.proofs.Recording.{recorded_freq}
 use Rattle.shell_model.specs.declared.stats.ShellStats.{ShellStats}
 use Rattle.shell_model.specs.Frequency.{frequency_recorded}
 use Rattle.shell_model.specs.ShellStats.{shell_stats_after}
-use Rattle.step_record.specs.Stats.{one}
+use Rattle.step_record.specs.Stats.{one_if}
 use Rattle.shell_buffers.specs.Buffers.{stripe_at}
-use Rattle.shell_model.specs.Shell.{Shell, touching, perform, tallied, act}
-use Rattle.shell_model.specs.Consistent.{IsConsistent, queued}
+use Rattle.shell_model.specs.Shell.{Shell, shell_after_touch, act_effect, counted_reply, act}
+use Rattle.shell_model.specs.Consistent.{IsConsistent, queue_occurrences}
 use Rattle.shell_model.specs.Laws.{MadeStep, collect, tally, offered, drained, asked, done, added, evicted_items, removed_items, keyed}
 use Rattle.shell_model.proofs.Counting.{once, unless-same, times-placed, listed-times, node-listed, unlisted-is}
 use Rattle.shell_model.proofs.Undoing.{first-queued, shifted-queued}
@@ -44,7 +44,7 @@ shell_in : Shell → Option (Reply × Shell) → Shell
 shell_in x None = x
 shell_in x (Some p) = p.1
 
-acted : (x : Shell) (e : MadeStep) (z : Shell) (p : Option (Reply × Shell)) → MakesTo e.step.worker x e.step.act p → tallied p ≡ Some (e.reply, z) → Steps x e z
+acted : (x : Shell) (e : MadeStep) (z : Shell) (p : Option (Reply × Shell)) → MakesTo e.step.worker x e.step.act p → counted_reply p ≡ Some (e.reply, z) → Steps x e z
 unfolding reply_in shell_in
 acted x e z None h i = absurd (cc (i))
 acted x e z (Some p) h i =
@@ -55,16 +55,16 @@ acted x e z (Some p) h i =
 pub stepped : (x : Shell) (e : MadeStep) (z : Shell) → act x e.step ≡ Some (e.reply, z) → Steps x e z
 stepped x e z h =
     elim (cases_Bool (nat_lt x.applied 4294967296)) [
-      | inl t ↦ acted x e z (perform e.step.worker e.step.act x) (perform-makes e.step.worker x e.step.act) (rw t at h)
+      | inl t ↦ acted x e z (act_effect e.step.worker e.step.act x) (perform-makes e.step.worker x e.step.act) (rw t at h)
       | inr t ↦ absurd (let no : None ≡ Some (e.reply, z) = rw t at h in cc (no))
     ]
 
 sound-next : (x : Shell) (e : MadeStep) (z : Shell) → IsConsistent x → act x e.step ≡ Some (e.reply, z) → IsConsistent z
 sound-next x e z v h = let s : SoundTo (act x e.step) = act-sound x e.step v in let t : SoundTo (Some (e.reply, z)) = rw h at s in t
 
-pub after-sound : (x : Shell) (es : List MadeStep) → IsConsistent x → IsLegal act x es → IsConsistent (after act x es)
+pub after-sound : (x : Shell) (es : List MadeStep) → IsConsistent x → IsLegal act x es → IsConsistent (data_after act x es)
 after-sound x [] v l = v
-after-sound x (e ∷ es) v l = after-sound (went (act x e.step) x) es (sound-next x e (went (act x e.step) x) v l.0) l.1
+after-sound x (e ∷ es) v l = after-sound (next_data (act x e.step) x) es (sound-next x e (next_data (act x e.step) x) v l.0) l.1
 
 -- first in, first out
 
@@ -77,12 +77,12 @@ drop-more n p l k h = rw (← drop-append-le p l k h) (drop-drop n p (l ++ k))
 
 fifo : {A : Type 0} (view : Shell → List A) (ins : Act → Reply → List A) (outs : Act → Reply → ℕ)
     → ((x : Shell) (e : MadeStep) (z : Shell) → Steps x e z → IsFifo view ins outs x e.step.act e.reply z)
-    → (x : Shell) (es : List MadeStep) → IsLegal act x es → view (after act x es) ≡ drop (tally outs es) (view x ++ collect ins es)
+    → (x : Shell) (es : List MadeStep) → IsLegal act x es → view (data_after act x es) ≡ drop (tally outs es) (view x ++ collect ins es)
 fifo view ins outs step x [] l = rw append-nil refl
 fifo view ins outs step x (e ∷ es) l =
-    let z : Shell = went (act x e.step) x in
-    let f : IsFifo view ins outs x e.step.act e.reply (went (act x e.step) x) = step x e (went (act x e.step) x) (stepped x e (went (act x e.step) x) l.0) in
-    let i : view (after act (went (act x e.step) x) es) ≡ drop (tally outs es) (view (went (act x e.step) x) ++ collect ins es) = fifo view ins outs step (went (act x e.step) x) es l.1 in
+    let z : Shell = next_data (act x e.step) x in
+    let f : IsFifo view ins outs x e.step.act e.reply (next_data (act x e.step) x) = step x e (next_data (act x e.step) x) (stepped x e (next_data (act x e.step) x) l.0) in
+    let i : view (data_after act (next_data (act x e.step) x) es) ≡ drop (tally outs es) (view (next_data (act x e.step) x) ++ collect ins es) = fifo view ins outs step (next_data (act x e.step) x) es l.1 in
     i ∙ ap (λ v. drop (tally outs es) (v ++ collect ins es)) f.gives ∙ drop-more (tally outs es) (outs e.step.act e.reply) (view x ++ ins e.step.act e.reply) (collect ins es) f.within ∙ ap (drop (outs e.step.act e.reply + tally outs es)) (append_assoc (view x) (ins e.step.act e.reply) (collect ins es))
 
 same-fifo : {A : Type 0} (view : Shell → List A) (ins : Act → Reply → List A) (outs : Act → Reply → ℕ) (x : Shell) (b : Act) (r : Reply) (y : Shell) → ins b r ≡ [] → outs b r ≡ 0 → view y ≡ view x → IsFifo view ins outs x b r y
@@ -101,7 +101,7 @@ writes-step x w b r y made = same-fifo (λ z. z.writes) asked done x b r y refl 
 writes-next : (x : Shell) (e : MadeStep) (z : Shell) → Steps x e z → IsFifo (λ z. z.writes) asked done x e.step.act e.reply z
 writes-next x e z s = let f = writes-step x e.step.worker e.step.act e.reply s.left s.made in record { within = f.within; gives = rw s.is f.gives }
 
-pub writes-law : (x : Shell) (es : List MadeStep) → IsLegal act x es → (after act x es).writes ≡ drop (tally done es) (x.writes ++ collect asked es)
+pub writes-law : (x : Shell) (es : List MadeStep) → IsLegal act x es → (data_after act x es).writes ≡ drop (tally done es) (x.writes ++ collect asked es)
 writes-law x es l = fifo (λ z. z.writes) asked done writes-next x es l
 
 -- stripes
@@ -116,7 +116,7 @@ stripes-step j x w b r y (k.kept s i h) =
       | inr e ↦ record { within = omega arith; gives = rw (e, append-nil) (get_or-set_other x.stripes s j (stripe_at s x.stripes ++ i ∷ []) [] (apart j s e)) }
     ]
 stripes-step j x w b r y (k.drained s i rest h e) =
-    elim (cases_Bool (eqb j s)) as (λ _. IsFifo (λ z. stripe_at j z.stripes) (offered j) (drained j) x (a.DrainRead s) (reply.Drained i) (touching i record x { stripes = set x.stripes s rest })) [
+    elim (cases_Bool (eqb j s)) as (λ _. IsFifo (λ z. stripe_at j z.stripes) (offered j) (drained j) x (a.DrainRead s) (reply.Drained i) (shell_after_touch i record x { stripes = set x.stripes s rest })) [
       | inl f ↦
           let t : j ≡ s = eqb-true j s f in
           let l : stripe_at j x.stripes ≡ i ∷ rest = rw t e in
@@ -131,7 +131,7 @@ stripes-step j x w b r y made = same-fifo (λ z. stripe_at j z.stripes) (offered
 stripes-next : (j : ℕ) (x : Shell) (e : MadeStep) (z : Shell) → Steps x e z → IsFifo (λ z. stripe_at j z.stripes) (offered j) (drained j) x e.step.act e.reply z
 stripes-next j x e z s = let f = stripes-step j x e.step.worker e.step.act e.reply s.left s.made in record { within = f.within; gives = rw s.is f.gives }
 
-pub stripes-law : (j : ℕ) (x : Shell) (es : List MadeStep) → IsLegal act x es → stripe_at j (after act x es).stripes ≡ drop (tally (drained j) es) (stripe_at j x.stripes ++ collect (offered j) es)
+pub stripes-law : (j : ℕ) (x : Shell) (es : List MadeStep) → IsLegal act x es → stripe_at j (data_after act x es).stripes ≡ drop (tally (drained j) es) (stripe_at j x.stripes ++ collect (offered j) es)
 stripes-law j x es l = fifo (λ z. stripe_at j z.stripes) (offered j) (drained j) (stripes-next j) x es l
 
 -- statistics: f is one of them, which p counts
@@ -140,15 +140,15 @@ pub stats-step : (x : Shell) (w : ℕ) (b : Act) (r : Reply) (y : Shell) → Mak
 stats-step x w b r y k.busy = refl
 stats-step x w b r y made = refl
 
-pub stats-law : (f : ShellStats → ℕ) (p : Reply → Bool) → ((r : Reply) (s : ShellStats) → f (shell_stats_after r s) ≡ f s + one (p r)) → (x : Shell) (es : List MadeStep) → IsLegal act x es → f (after act x es).stats ≡ f x.stats + tally (λ b r. one (p r)) es
+pub stats-law : (f : ShellStats → ℕ) (p : Reply → Bool) → ((r : Reply) (s : ShellStats) → f (shell_stats_after r s) ≡ f s + one_if (p r)) → (x : Shell) (es : List MadeStep) → IsLegal act x es → f (data_after act x es).stats ≡ f x.stats + tally (λ b r. one_if (p r)) es
 stats-law f p q x [] l = omega arith
 stats-law f p q x (e ∷ es) l =
-    let z : Shell = went (act x e.step) x in
-    let s : Steps x e (went (act x e.step) x) = stepped x e (went (act x e.step) x) l.0 in
-    let i : f (after act (went (act x e.step) x) es).stats ≡ f (went (act x e.step) x).stats + tally (λ b r. one (p r)) es = stats-law f p q (went (act x e.step) x) es l.1 in
-    let g : (went (act x e.step) x).stats ≡ shell_stats_after e.reply s.left.stats = ap (λ (y : Shell). y.stats) s.is in
+    let z : Shell = next_data (act x e.step) x in
+    let s : Steps x e (next_data (act x e.step) x) = stepped x e (next_data (act x e.step) x) l.0 in
+    let i : f (data_after act (next_data (act x e.step) x) es).stats ≡ f (next_data (act x e.step) x).stats + tally (λ b r. one_if (p r)) es = stats-law f p q (next_data (act x e.step) x) es l.1 in
+    let g : (next_data (act x e.step) x).stats ≡ shell_stats_after e.reply s.left.stats = ap (λ (y : Shell). y.stats) s.is in
     let h : s.left.stats ≡ x.stats = stats-step x e.step.worker e.step.act e.reply s.left s.made in
-    let n : f (went (act x e.step) x).stats ≡ f x.stats + one (p e.reply) = ap f (g ∙ ap (shell_stats_after e.reply) h) ∙ q e.reply x.stats in
+    let n : f (next_data (act x e.step) x).stats ≡ f x.stats + one_if (p e.reply) = ap f (g ∙ ap (shell_stats_after e.reply) h) ∙ q e.reply x.stats in
     omega (arith, i, n)
 
 -- the recorded keys
@@ -169,23 +169,23 @@ recorded-keys s h past [] = rw append-nil refl
 recorded-keys s h past (k ∷ ks) =
     ap (λ f. recorded_all f ks) (recorded_freq s h.some (omega (arith, h.width.1)) (omega (arith, h.size.1)) past k) ∙ recorded-keys s h (past ++ k ∷ []) ks ∙ ap (frequency_of s) (append_assoc past (k ∷ []) ks)
 
-pub frequency-law : (s : Shape) → IsShape s → (past : List ℕ) (x : Shell) (es : List MadeStep) → x.frequency ≡ frequency_of s past → IsLegal act x es → (after act x es).frequency ≡ frequency_of s (past ++ collect keyed es)
+pub frequency-law : (s : Shape) → IsShape s → (past : List ℕ) (x : Shell) (es : List MadeStep) → x.frequency ≡ frequency_of s past → IsLegal act x es → (data_after act x es).frequency ≡ frequency_of s (past ++ collect keyed es)
 frequency-law sh k past x [] f l = rw append-nil f
 frequency-law sh k past x (e ∷ es) f l =
-    let s : Steps x e (went (act x e.step) x) = stepped x e (went (act x e.step) x) l.0 in
-    let g : (went (act x e.step) x).frequency ≡ s.left.frequency = ap (λ (y : Shell). y.frequency) s.is in
+    let s : Steps x e (next_data (act x e.step) x) = stepped x e (next_data (act x e.step) x) l.0 in
+    let g : (next_data (act x e.step) x).frequency ≡ s.left.frequency = ap (λ (y : Shell). y.frequency) s.is in
     let h : s.left.frequency ≡ recorded_all x.frequency (keyed e.step.act e.reply) = frequency-step x e.step.worker e.step.act e.reply s.left s.made in
-    let n : (went (act x e.step) x).frequency ≡ frequency_of sh (past ++ keyed e.step.act e.reply) = g ∙ h ∙ ap (λ v. recorded_all v (keyed e.step.act e.reply)) f ∙ recorded-keys sh k past (keyed e.step.act e.reply) in
-    frequency-law sh k (past ++ keyed e.step.act e.reply) (went (act x e.step) x) es n l.1 ∙ ap (frequency_of sh) (append_assoc past (keyed e.step.act e.reply) (collect keyed es))
+    let n : (next_data (act x e.step) x).frequency ≡ frequency_of sh (past ++ keyed e.step.act e.reply) = g ∙ h ∙ ap (λ v. recorded_all v (keyed e.step.act e.reply)) f ∙ recorded-keys sh k past (keyed e.step.act e.reply) in
+    frequency-law sh k (past ++ keyed e.step.act e.reply) (next_data (act x e.step) x) es n l.1 ∙ ap (frequency_of sh) (append_assoc past (keyed e.step.act e.reply) (collect keyed es))
 
 -- nodes are given once
 
-given-step : (i : Item) (x : Shell) (w : ℕ) (b : Act) (r : Reply) (y : Shell) → Makes w x b r y → (x.next ≤ y.next) × (1 ≤ times i (added b r) → x.next ≤ i.node)
+given-step : (i : Item) (x : Shell) (w : ℕ) (b : Act) (r : Reply) (y : Shell) → Makes w x b r y → (x.next ≤ y.next) × (1 ≤ occurrences i (added b r) → x.next ≤ i.node)
 given-step i x w b r y (k.added j) = (omega arith, λ h. node j x.next (times-one-of i record { key = j; node = x.next } h))
   where
-    times-one-of : (i u : Item) → 1 ≤ times i (u ∷ []) → i ≡ u
+    times-one-of : (i u : Item) → 1 ≤ occurrences i (u ∷ []) → i ≡ u
     times-one-of i u h =
-        elim (cases_Bool (same i u)) [
+        elim (cases_Bool (is_same_item i u)) [
           | inl e ↦ same-true i u e
           | inr e ↦ absurd (let no : 1 ≤ 0 + 0 = rw e at h in omega arith)
         ]
@@ -195,15 +195,15 @@ given-step i x w b r y (k.added j) = (omega arith, λ h. node j x.next (times-on
 given-step i x w b r y made = (omega arith, λ h. absurd (omega arith))
 
 -- an addition to come has a node that is not below the next one
-pub given-law : (i : Item) (x : Shell) (es : List MadeStep) → IsLegal act x es → 1 ≤ times i (collect added es) → x.next ≤ i.node
+pub given-law : (i : Item) (x : Shell) (es : List MadeStep) → IsLegal act x es → 1 ≤ occurrences i (collect added es) → x.next ≤ i.node
 given-law i x [] l h = absurd (omega arith)
 given-law i x (e ∷ es) l h =
-    let s : Steps x e (went (act x e.step) x) = stepped x e (went (act x e.step) x) l.0 in
-    let g : (went (act x e.step) x).next ≡ s.left.next = ap (λ (y : Shell). y.next) s.is in
-    let n : 1 ≤ times i (collect added es) → (went (act x e.step) x).next ≤ i.node = given-law i (went (act x e.step) x) es l.1 in
+    let s : Steps x e (next_data (act x e.step) x) = stepped x e (next_data (act x e.step) x) l.0 in
+    let g : (next_data (act x e.step) x).next ≡ s.left.next = ap (λ (y : Shell). y.next) s.is in
+    let n : 1 ≤ occurrences i (collect added es) → (next_data (act x e.step) x).next ≤ i.node = given-law i (next_data (act x e.step) x) es l.1 in
     let o = given-step i x e.step.worker e.step.act e.reply s.left s.made in
     let t = times-append i (added e.step.act e.reply) (collect added es) in
-    either (times i (added e.step.act e.reply)) o.1 (λ m. (let p = n (omega (arith, h, t, m)) in let up : x.next ≤ s.left.next = o.0 in omega (arith, p, up, g)))
+    either (occurrences i (added e.step.act e.reply)) o.1 (λ m. (let p = n (omega (arith, h, t, m)) in let up : x.next ≤ s.left.next = o.0 in omega (arith, p, up, g)))
   where
     either : (p : ℕ) {A : Type 0} → (1 ≤ p → A) → (p ≡ 0 → A) → A
     either zero f g = g refl
@@ -216,50 +216,50 @@ pub record Comes (i : Item) (before now lost come next : ℕ) : Type 0 where
   pub kept : lost ≡ 0 → now ≡ before + come
   pub left : 1 ≤ lost → (now ≡ 0) × (i.node < next)
 
-comes-out : (i u : Item) (t : List Item) (lost come next : ℕ) → u.node < next → lost ≡ once i u → come ≡ 0 → Comes i (times i t) (times i (items_without u t)) lost come next
+comes-out : (i u : Item) (t : List Item) (lost come next : ℕ) → u.node < next → lost ≡ once i u → come ≡ 0 → Comes i (occurrences i t) (occurrences i (items_without u t)) lost come next
 comes-out i u t lost come next below l c =
-    elim (cases_Bool (same i u)) [
+    elim (cases_Bool (is_same_item i u)) [
       | inl e ↦
           let s : i ≡ u = same-true i u e in
-          let one : lost ≡ 1 = rw e at l in
+          let one_if : lost ≡ 1 = rw e at l in
           record {
-            kept = λ h. absurd (omega (arith, h, one));
+            kept = λ h. absurd (omega (arith, h, one_if));
             left = λ h. (unless-same i u t ∙ rw e refl, (let n : i.node ≡ u.node = ap (λ (z : Item). z.node) s in omega arith));
           }
       | inr e ↦
           let none : lost ≡ 0 = rw e at l in
-          let k : times i (items_without u t) ≡ times i t = unless-same i u t ∙ rw e refl in
+          let k : occurrences i (items_without u t) ≡ occurrences i t = unless-same i u t ∙ rw e refl in
           record { kept = λ h. omega (arith, k, c); left = λ h. absurd (omega (arith, h, none)) }
     ]
 
-table-step : (i : Item) (x : Shell) → IsConsistent x → (w : ℕ) (b : Act) (r : Reply) (y : Shell) → Makes w x b r y → Comes i (times i x.table) (times i y.table) (times i (evicted_items b r) + times i (removed_items b r)) (times i (added b r)) y.next
+table-step : (i : Item) (x : Shell) → IsConsistent x → (w : ℕ) (b : Act) (r : Reply) (y : Shell) → Makes w x b r y → Comes i (occurrences i x.table) (occurrences i y.table) (occurrences i (evicted_items b r) + occurrences i (removed_items b r)) (occurrences i (added b r)) y.next
 table-step i x v w b r y (k.added j) = record {
   kept = λ h. rw (times-placed i record { key = j; node = x.next } x.table) (omega arith);
   left = λ h. absurd (omega arith);
 }
 table-step i x v w b r y (k.removed j n e) =
     let u : Item = record { key = j; node = n } in
-    let h : 1 ≤ times record { key = j; node = n } x.table = listed-times record { key = j; node = n } x.table (node-listed record { key = j; node = n } x.table e) in
+    let h : 1 ≤ occurrences record { key = j; node = n } x.table = listed-times record { key = j; node = n } x.table (node-listed record { key = j; node = n } x.table e) in
     comes-out i record { key = j; node = n } x.table _ _ x.next (v.placed.below record { key = j; node = n } (omega (arith, h))) (omega arith) refl
 table-step i x v w b r y (k.evicted h f c u g n) =
-    let q : 1 ≤ queued c x.queues = (let o = first-queued c x.queues.window g in omega (arith, o)) in
+    let q : 1 ≤ queue_occurrences c x.queues = (let o = first-queued c x.queues.window g in omega (arith, o)) in
     rw (unlisted-is u x.table v.placed.ascending) (comes-out i u x.table _ _ x.next (queued-below u x v (shifted-queued c u x q n)) (omega arith) refl)
 table-step i x v w b r y (k.rejected h f c g) =
-    let q : 1 ≤ queued c x.queues = (let o = first-queued c x.queues.window g in omega (arith, o)) in
+    let q : 1 ≤ queue_occurrences c x.queues = (let o = first-queued c x.queues.window g in omega (arith, o)) in
     rw (unlisted-is c x.table v.placed.ascending) (comes-out i c x.table _ _ x.next (queued-below c x v q) (omega arith) refl)
 table-step i x v w b r y made = record { kept = λ h. omega arith; left = λ h. absurd (omega arith) }
 
 -- what stands at the end, from what stood at first (before) and after one step (now): g and r name it as leaving in that step, gs and rs later
 joined : (node next before now last n ns g gs r rs : ℕ) → (g + r ≡ 0 → now ≡ before + n) → (1 ≤ g + r → (now ≡ 0) × (node < next)) → (1 ≤ ns → next ≤ node)
     → ((1 ≤ last) ↔ ((1 ≤ now + ns) × (gs ≡ 0) × (rs ≡ 0))) → (1 ≤ last) ↔ ((1 ≤ before + (n + ns)) × (g + gs ≡ 0) × (r + rs ≡ 0))
-joined node next before now last n ns g gs r rs kept left given h = either (g + r) same evicted_items
+joined node next before now last n ns g gs r rs kept left given h = either (g + r) is_same_item evicted_items
   where
     either : (m : ℕ) {A : Type 0} → (m ≡ 0 → A) → (1 ≤ m → A) → A
     either zero f g = f refl
     either (suc m) f g = g (omega arith)
 
-    same : g + r ≡ 0 → (1 ≤ last) ↔ ((1 ≤ before + (n + ns)) × (g + gs ≡ 0) × (r + rs ≡ 0))
-    same e =
+    is_same_item : g + r ≡ 0 → (1 ≤ last) ↔ ((1 ≤ before + (n + ns)) × (g + gs ≡ 0) × (r + rs ≡ 0))
+    is_same_item e =
         let k : now ≡ before + n = kept e in (
           (λ u. (let p = h.0 u in let p1 : 1 ≤ now + ns = p.0 in let p2 : gs ≡ 0 = p.1 in let p3 : rs ≡ 0 = p.2 in (omega arith, omega arith, omega arith))),
           (λ p. (let p1 : 1 ≤ before + (n + ns) = p.0 in let p2 : g + gs ≡ 0 = p.1 in let p3 : r + rs ≡ 0 = p.2 in h.1 (omega arith, omega arith, omega arith))),
@@ -275,14 +275,14 @@ joined node next before now last n ns g gs r rs kept left given h = either (g + 
         )
 
 pub table-law : (i : Item) (x : Shell) (es : List MadeStep) → IsConsistent x → IsLegal act x es
-    → (1 ≤ times i (after act x es).table) ↔ ((1 ≤ times i x.table + times i (collect added es)) × (times i (collect evicted_items es) ≡ 0) × (times i (collect removed_items es) ≡ 0))
-table-law i x [] v l = ((λ u. (omega (arith, u), refl, refl)), (λ p. (let q : 1 ≤ times i x.table + 0 = p.0 in omega arith)))
+    → (1 ≤ occurrences i (data_after act x es).table) ↔ ((1 ≤ occurrences i x.table + occurrences i (collect added es)) × (occurrences i (collect evicted_items es) ≡ 0) × (occurrences i (collect removed_items es) ≡ 0))
+table-law i x [] v l = ((λ u. (omega (arith, u), refl, refl)), (λ p. (let q : 1 ≤ occurrences i x.table + 0 = p.0 in omega arith)))
 table-law i x (e ∷ es) v l =
-    let s : Steps x e (went (act x e.step) x) = stepped x e (went (act x e.step) x) l.0 in
-    let h = table-law i (went (act x e.step) x) es (sound-next x e (went (act x e.step) x) v l.0) l.1 in
+    let s : Steps x e (next_data (act x e.step) x) = stepped x e (next_data (act x e.step) x) l.0 in
+    let h = table-law i (next_data (act x e.step) x) es (sound-next x e (next_data (act x e.step) x) v l.0) l.1 in
     let c = table-step i x v e.step.worker e.step.act e.reply s.left s.made in
-    let t : times i (went (act x e.step) x).table ≡ times i s.left.table = ap (λ (y : Shell). times i y.table) s.is in
-    let g : (went (act x e.step) x).next ≡ s.left.next = ap (λ (y : Shell). y.next) s.is in
-    let j = joined i.node s.left.next (times i x.table) (times i s.left.table) (times i (after act (went (act x e.step) x) es).table) (times i (added e.step.act e.reply)) (times i (collect added es)) (times i (evicted_items e.step.act e.reply)) (times i (collect evicted_items es)) (times i (removed_items e.step.act e.reply)) (times i (collect removed_items es))
-    c.kept c.left (rw g at (given-law i (went (act x e.step) x) es l.1)) (rw t at h) in
+    let t : occurrences i (next_data (act x e.step) x).table ≡ occurrences i s.left.table = ap (λ (y : Shell). occurrences i y.table) s.is in
+    let g : (next_data (act x e.step) x).next ≡ s.left.next = ap (λ (y : Shell). y.next) s.is in
+    let j = joined i.node s.left.next (occurrences i x.table) (occurrences i s.left.table) (occurrences i (data_after act (next_data (act x e.step) x) es).table) (occurrences i (added e.step.act e.reply)) (occurrences i (collect added es)) (occurrences i (evicted_items e.step.act e.reply)) (occurrences i (collect evicted_items es)) (occurrences i (removed_items e.step.act e.reply)) (occurrences i (collect removed_items es))
+    c.kept c.left (rw g at (given-law i (next_data (act x e.step) x) es l.1)) (rw t at h) in
     rw (times-append i (added e.step.act e.reply) (collect added es), times-append i (evicted_items e.step.act e.reply) (collect evicted_items es), times-append i (removed_items e.step.act e.reply) (collect removed_items es)) j

@@ -7,8 +7,8 @@ use Rattle.step_record.specs.declared.drain.Phase.TheVariants.{Reads, Writes, Ev
 use Rattle.step_record.specs.declared.drain.Phase.{Phase}
 use Rattle.step_record.specs.declared.step.Reply.{Reply}
 use Rattle.step_record.specs.declared.step.Reply.TheVariants as reply
-use Rattle.step_record.specs.History.{went, after, IsLegal}
-use Rattle.segments.specs.Items.{times}
+use Rattle.step_record.specs.History.{next_data, data_after, IsLegal}
+use Rattle.segments.specs.Items.{occurrences}
 use Rattle.admission.specs.Shape.{Shape, IsShape}
 use Rattle.admission.proofs.Doors.{part_16}
 use Rattle.admission.proofs.Weighing.{frequency_is}
@@ -17,7 +17,7 @@ use Rattle.shell_model.specs.ShellStats.{is_hit_reply, is_miss_reply, is_kept_re
 use Rattle.shell_buffers.specs.Buffers.{stripe_at}
 use Rattle.shell_model.specs.Shell.{Shell, may_write, act}
 use Rattle.shell_model.specs.Consistent.{IsConsistent}
-use Rattle.shell_model.specs.Laws.{MadeStep, collect, IsShapeOf, opened, added, is_ending, is_drain_write, is_evict, some_end, some_act, phase_after, open_from, open_began, seat_of, seat_from, AreReplies, HistoryLaws}
+use Rattle.shell_model.specs.Laws.{MadeStep, collect, IsShapeOf, empty_shell, added, is_ending, is_drain_write, is_evict, some_end, some_act, phase_after, open_from, open_began, seat_of, seat_from, AreReplies, HistoryLaws}
 use Rattle.shell_model.proofs.Making as k
 use Rattle.shell_model.proofs.Making.{Makes}
 use Rattle.shell_model.proofs.Histories.{Steps, stepped, after-sound, writes-law, stripes-law, stats-law, frequency-law, table-law}
@@ -97,7 +97,7 @@ join e es None false o u h i = i ∙ rw (← h) (over (is_begun_reply e.reply) (
     over false true = refl
     over false false = refl
 
-pub holder-law : (x : Shell) (es : List MadeStep) → IsLegal act x es → seat_of (after act x es).holder ≡ later (open_began es) (some_end es) (seat_of x.holder) es
+pub holder-law : (x : Shell) (es : List MadeStep) → IsLegal act x es → seat_of (data_after act x es).holder ≡ later (open_began es) (some_end es) (seat_of x.holder) es
 holder-law x [] l = begin x.holder
   where
     begin : (o : Option Holder) → seat_of o ≡ later None false (seat_of o) []
@@ -109,9 +109,9 @@ holder-law x [] l = begin x.holder
         phase Writes = refl
         phase Evictions = refl
 holder-law x (e ∷ es) l =
-    let s : Steps x e (went (act x e.step) x) = stepped x e (went (act x e.step) x) l.0 in
-    let i = holder-law (went (act x e.step) x) es l.1 in
-    let g : seat_of (went (act x e.step) x).holder ≡ seat_of s.left.holder = ap (λ (y : Shell). seat_of y.holder) s.is in
+    let s : Steps x e (next_data (act x e.step) x) = stepped x e (next_data (act x e.step) x) l.0 in
+    let i = holder-law (next_data (act x e.step) x) es l.1 in
+    let g : seat_of (next_data (act x e.step) x).holder ≡ seat_of s.left.holder = ap (λ (y : Shell). seat_of y.holder) s.is in
     let h = holder-step x e.step.worker e.step.act e.reply s.left s.made es in
     i ∙ ap (λ u. later (open_began es) (some_end es) u es) g ∙ join e es (open_began es) (some_end es) (seat_of x.holder) (seat_of s.left.holder) refl h
 
@@ -133,7 +133,7 @@ sixteenths s h =
     let low : 16 ≤ s.width = omega (arith, h.width.1) in
     rw p.1 (part_16 p.0 (rw p.1 at low))
 
-pub opened-sound : (c : Config) (s : Shape) → IsShapeOf c s → IsConsistent (opened c s)
+pub opened-sound : (c : Config) (s : Shape) → IsShapeOf c s → IsConsistent (empty_shell c s)
 opened-sound c sh k = record {
   placed = record { stands = λ i. omega arith; known = λ i. omega arith; once = λ i. omega arith; below = λ i h. absurd (omega arith); ascending = tt; ordered = tt };
   stripes = λ s. rw (no-stripes c.stripes s) (omega arith);
@@ -143,21 +143,21 @@ opened-sound c sh k = record {
   frequency = frequency_is sh [] (omega (arith, k.is.width.1)) (sixteenths sh k.is) (omega (arith, k.is.size.1));
 }
 
-pub replies-law : (c : Config) (sh : Shape) (es : List MadeStep) → IsLegal act (opened c sh) es → AreReplies (after act (opened c sh) es).stats es
+pub replies-law : (c : Config) (sh : Shape) (es : List MadeStep) → IsLegal act (empty_shell c sh) es → AreReplies (data_after act (empty_shell c sh) es).stats es
 replies-law c sh es l = record {
-  hits = stats-law (λ s. s.hits) is_hit_reply (λ r s. refl) (opened c sh) es l ∙ zero-plus _;
-  misses = stats-law (λ s. s.misses) is_miss_reply (λ r s. refl) (opened c sh) es l ∙ zero-plus _;
-  kept = stats-law (λ s. s.kept) is_kept_reply (λ r s. refl) (opened c sh) es l ∙ zero-plus _;
-  full = stats-law (λ s. s.full) is_full_reply (λ r s. refl) (opened c sh) es l ∙ zero-plus _;
-  lost = stats-law (λ s. s.lost) is_lost_reply (λ r s. refl) (opened c sh) es l ∙ zero-plus _;
-  added = stats-law (λ s. s.added) is_added_reply (λ r s. refl) (opened c sh) es l ∙ zero-plus _;
-  updated = stats-law (λ s. s.updated) is_updated_reply (λ r s. refl) (opened c sh) es l ∙ zero-plus _;
-  refused = stats-law (λ s. s.refused) is_refused_reply (λ r s. refl) (opened c sh) es l ∙ zero-plus _;
-  evictions = stats-law (λ s. s.evictions) is_eviction_reply (λ r s. refl) (opened c sh) es l ∙ zero-plus _;
-  rejections = stats-law (λ s. s.rejections) is_rejection_reply (λ r s. refl) (opened c sh) es l ∙ zero-plus _;
-  begun = stats-law (λ s. s.begun) is_begun_reply (λ r s. refl) (opened c sh) es l ∙ zero-plus _;
-  busy = stats-law (λ s. s.busy) is_busy_reply (λ r s. refl) (opened c sh) es l ∙ zero-plus _;
-  removed = stats-law (λ s. s.removed) is_removed_reply (λ r s. refl) (opened c sh) es l ∙ zero-plus _;
+  hits = stats-law (λ s. s.hits) is_hit_reply (λ r s. refl) (empty_shell c sh) es l ∙ zero-plus _;
+  misses = stats-law (λ s. s.misses) is_miss_reply (λ r s. refl) (empty_shell c sh) es l ∙ zero-plus _;
+  kept = stats-law (λ s. s.kept) is_kept_reply (λ r s. refl) (empty_shell c sh) es l ∙ zero-plus _;
+  full = stats-law (λ s. s.full) is_full_reply (λ r s. refl) (empty_shell c sh) es l ∙ zero-plus _;
+  lost = stats-law (λ s. s.lost) is_lost_reply (λ r s. refl) (empty_shell c sh) es l ∙ zero-plus _;
+  added = stats-law (λ s. s.added) is_added_reply (λ r s. refl) (empty_shell c sh) es l ∙ zero-plus _;
+  updated = stats-law (λ s. s.updated) is_updated_reply (λ r s. refl) (empty_shell c sh) es l ∙ zero-plus _;
+  refused = stats-law (λ s. s.refused) is_refused_reply (λ r s. refl) (empty_shell c sh) es l ∙ zero-plus _;
+  evictions = stats-law (λ s. s.evictions) is_eviction_reply (λ r s. refl) (empty_shell c sh) es l ∙ zero-plus _;
+  rejections = stats-law (λ s. s.rejections) is_rejection_reply (λ r s. refl) (empty_shell c sh) es l ∙ zero-plus _;
+  begun = stats-law (λ s. s.begun) is_begun_reply (λ r s. refl) (empty_shell c sh) es l ∙ zero-plus _;
+  busy = stats-law (λ s. s.busy) is_busy_reply (λ r s. refl) (empty_shell c sh) es l ∙ zero-plus _;
+  removed = stats-law (λ s. s.removed) is_removed_reply (λ r s. refl) (empty_shell c sh) es l ∙ zero-plus _;
 }
   where
     zero-plus : (n : ℕ) → 0 + n ≡ n
@@ -165,20 +165,20 @@ replies-law c sh es l = record {
 
 pub history-laws : HistoryLaws
 history-laws c sh es k l =
-    let v : IsConsistent (after act (opened c sh) es) = after-sound (opened c sh) es (opened-sound c sh k) l in
+    let v : IsConsistent (data_after act (empty_shell c sh) es) = after-sound (empty_shell c sh) es (opened-sound c sh k) l in
     record {
-      stripes = λ j. stripes-law j (opened c sh) es l ∙ rw (no-stripes c.stripes j) refl;
-      writes = writes-law (opened c sh) es l;
+      stripes = λ j. stripes-law j (empty_shell c sh) es l ∙ rw (no-stripes c.stripes j) refl;
+      writes = writes-law (empty_shell c sh) es l;
       stats = replies-law c sh es l;
-      table = λ i. (let t = table-law i (opened c sh) es (opened-sound c sh k) l in (
-        (λ h. (let p = t.0 h in let q : 1 ≤ 0 + times i (collect added es) = p.0 in (omega arith, p.1, p.2))),
-        (λ p. (let q : 1 ≤ times i (collect added es) = p.0 in t.1 (omega arith, p.1, p.2))),
+      table = λ i. (let t = table-law i (empty_shell c sh) es (opened-sound c sh k) l in (
+        (λ h. (let p = t.0 h in let q : 1 ≤ 0 + occurrences i (collect added es) = p.0 in (omega arith, p.1, p.2))),
+        (λ p. (let q : 1 ≤ occurrences i (collect added es) = p.0 in t.1 (omega arith, p.1, p.2))),
       ));
       stands = λ i h. (let a = v.placed.stands i in let b = v.placed.known i in let d = v.placed.once i in (omega (arith, a, b, d, h), omega (arith, d, h)));
       others = λ i h m. (let b = v.placed.known i in let d = v.placed.once i in omega (arith, b, d, h, m));
       behind = λ i before rest e. ordered-behind i before rest (rw e at v.placed.ordered);
       main = v.main;
-      frequency = frequency-law sh k.is [] (opened c sh) es refl l;
+      frequency = frequency-law sh k.is [] (empty_shell c sh) es refl l;
       below = λ i h. v.placed.below i (omega (arith, h));
-      holder = holder-law (opened c sh) es l ∙ from-none (open_began es) (some_end es) es;
+      holder = holder-law (empty_shell c sh) es l ∙ from-none (open_began es) (some_end es) es;
     }

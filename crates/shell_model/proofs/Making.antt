@@ -13,14 +13,14 @@ use Rattle.step_record.specs.declared.drain.Phase.TheVariants.{Reads, Writes, Ev
 use Rattle.step_record.specs.declared.step.Reply.{Reply}
 use Rattle.step_record.specs.declared.step.Reply.TheVariants as reply
 use Rattle.segments.specs.declared.records.Queue.TheVariants.{Window}
-use Rattle.segments.specs.Items.{same, first}
-use Rattle.segments.specs.Queues.{pushed, total_items}
+use Rattle.segments.specs.Items.{is_same_item, oldest_of}
+use Rattle.segments.specs.Queues.{queues_after_push, total_items}
 use Rattle.shell_buffers.specs.declared.task.Task.{Task}
 use Rattle.shell_buffers.specs.declared.task.Task.TheVariants.{Add, Update, Remove}
 use Rattle.shell_model.specs.declared.holder.Holder.{Holder}
 use Rattle.shell_model.specs.Frequency.{admits, frequency_recorded}
 use Rattle.shell_buffers.specs.Buffers.{stripe_at}
-use Rattle.shell_model.specs.Shell.{Shell, node_of, placed, queues_cleared, look, offer, put, put_at, removing, remove_at, after_read, after_write, begin, is_over, held_by, shift, in_phase, touching, drain_read, drain_write, shell_contest, leave, evict_from, evict_oldest, evict, drain_at_end, end, when, may_read, may_write, is_stripe, hold_read, hold_write, hold_evict, hold_end, perform}
+use Rattle.shell_model.specs.Shell.{Shell, node_of, table_with, queues_cleared, look_reply, offer_effect, put_effect, put_at, removing, remove_at, after_read, after_write, begin_effect, is_over, held_by, shift_effect, in_phase, shell_after_touch, drain_read, drain_write, shell_contest, leave, evict_from, evict_oldest, evict_effect, drain_at_end, end_effect, some_if, may_read, may_write, is_stripe, hold_read, hold_write, hold_evict, hold_end, act_effect}
 
 pub data Makes (w : ℕ) (x : Shell) : Act → Reply → Shell → Type 0 where
   hit : (k n : ℕ) → Makes w x (a.Look k) (reply.Hit n) x
@@ -30,7 +30,7 @@ pub data Makes (w : ℕ) (x : Shell) : Act → Reply → Shell → Type 0 where
   lost : (s : ℕ) (i : Item) → Makes w x (a.Lose s i) reply.Lost x
   writes_full : (k : ℕ) → Makes w x (a.Put k) reply.WritesFull x
   present : (k n : ℕ) → Makes w x (a.Put k) (reply.Present n) record x { writes = x.writes ++ Update record { key = k; node = n } ∷ [] }
-  added : (k : ℕ) → Makes w x (a.Put k) (reply.Added x.next) record x { table = placed record { key = k; node = x.next } x.table; next = x.next + 1; writes = x.writes ++ Add record { key = k; node = x.next } ∷ [] }
+  added : (k : ℕ) → Makes w x (a.Put k) (reply.Added x.next) record x { table = table_with record { key = k; node = x.next } x.table; next = x.next + 1; writes = x.writes ++ Add record { key = k; node = x.next } ∷ [] }
   absent : (k : ℕ) → Makes w x (a.Remove k) reply.Absent x
   remove_full : (k : ℕ) → Makes w x (a.Remove k) reply.WritesFull x
   removed : (k n : ℕ) → node_of k x.table ≡ Some n → Makes w x (a.Remove k) (reply.Removed n) (removing record { key = k; node = n } x)
@@ -41,19 +41,19 @@ pub data Makes (w : ℕ) (x : Shell) : Act → Reply → Shell → Type 0 where
   busy : Makes w x a.Begin reply.Busy x
   began : x.holder ≡ None → Makes w x a.Begin reply.Began record x { drain = drain.ToIdle; holder = Some record { worker = w; phase = Reads; left = 128 } }
   read_empty : (s : ℕ) → Makes w x (a.DrainRead s) reply.Empty x
-  drained : (s : ℕ) (i : Item) (rest : List Item) → s < length x.stripes → stripe_at s x.stripes ≡ i ∷ rest → Makes w x (a.DrainRead s) (reply.Drained i) (touching i record x { stripes = set x.stripes s rest })
+  drained : (s : ℕ) (i : Item) (rest : List Item) → s < length x.stripes → stripe_at s x.stripes ≡ i ∷ rest → Makes w x (a.DrainRead s) (reply.Drained i) (shell_after_touch i record x { stripes = set x.stripes s rest })
   write_empty : (h : Holder) → x.holder ≡ Some h → may_write h.phase ≡ true → Makes w x a.DrainWrite reply.Empty (in_phase Writes h x)
   enough : (h : Holder) → x.holder ≡ Some h → may_write h.phase ≡ true → Makes w x a.DrainWrite reply.Enough (in_phase Writes h x)
   applied_add : (h : Holder) → x.holder ≡ Some h → may_write h.phase ≡ true → (i : Item) (rest : List Task) → x.writes ≡ Add i ∷ rest → (n : ℕ)
-      → Makes w x a.DrainWrite (reply.Applied i) record x { writes = rest; holder = Some record { worker = h.worker; phase = Writes; left = n }; frequency = frequency_recorded x.frequency i.key; queues = pushed Window i x.queues }
+      → Makes w x a.DrainWrite (reply.Applied i) record x { writes = rest; holder = Some record { worker = h.worker; phase = Writes; left = n }; frequency = frequency_recorded x.frequency i.key; queues = queues_after_push Window i x.queues }
   applied_update : (h : Holder) → x.holder ≡ Some h → may_write h.phase ≡ true → (i : Item) (rest : List Task) → x.writes ≡ Update i ∷ rest → (n : ℕ)
-      → Makes w x a.DrainWrite (reply.Applied i) (touching i record x { writes = rest; holder = Some record { worker = h.worker; phase = Writes; left = n } })
+      → Makes w x a.DrainWrite (reply.Applied i) (shell_after_touch i record x { writes = rest; holder = Some record { worker = h.worker; phase = Writes; left = n } })
   applied_remove : (h : Holder) → x.holder ≡ Some h → may_write h.phase ≡ true → (i : Item) (rest : List Task) → x.writes ≡ Remove i ∷ rest → (n : ℕ)
       → Makes w x a.DrainWrite (reply.Cleared i) record x { writes = rest; holder = Some record { worker = h.worker; phase = Writes; left = n }; queues = queues_cleared i x.queues }
   fits : (h : Holder) → x.holder ≡ Some h → Makes w x a.Evict reply.Fits (in_phase Evictions h x)
-  shifted : (h : Holder) → x.holder ≡ Some h → (c : Item) → first x.queues.window ≡ Some c → Makes w x a.Evict (reply.Shifted c) (shift c (in_phase Evictions h x))
-  evicted : (h : Holder) → x.holder ≡ Some h → (c v : Item) → first x.queues.window ≡ Some c → first (shift c x).queues.probation ≡ Some v → Makes w x a.Evict (reply.Evicted v) (leave v (shift c (in_phase Evictions h x)))
-  rejected : (h : Holder) → x.holder ≡ Some h → (c : Item) → first x.queues.window ≡ Some c → Makes w x a.Evict (reply.Rejected c) (leave c (shift c (in_phase Evictions h x)))
+  shifted : (h : Holder) → x.holder ≡ Some h → (c : Item) → oldest_of x.queues.window ≡ Some c → Makes w x a.Evict (reply.Shifted c) (shift_effect c (in_phase Evictions h x))
+  evicted : (h : Holder) → x.holder ≡ Some h → (c v : Item) → oldest_of x.queues.window ≡ Some c → oldest_of (shift_effect c x).queues.probation ≡ Some v → Makes w x a.Evict (reply.Evicted v) (leave v (shift_effect c (in_phase Evictions h x)))
+  rejected : (h : Holder) → x.holder ≡ Some h → (c : Item) → oldest_of x.queues.window ≡ Some c → Makes w x a.Evict (reply.Rejected c) (leave c (shift_effect c (in_phase Evictions h x)))
   not_yet : Makes w x a.End reply.NotYet x
   idle : (h : Holder) → x.holder ≡ Some h → (d : Drain) → d ≡ (drain_at_end x.drain).1 → Makes w x a.End reply.Idle record x { drain = d; holder = None }
   again : (h : Holder) → x.holder ≡ Some h → (d : Drain) → d ≡ (drain_at_end x.drain).1 → Makes w x a.End reply.Again record x { drain = d; holder = None }
@@ -62,17 +62,17 @@ abbrev pub MakesTo : ℕ → Shell → Act → Option (Reply × Shell) → Type 
 MakesTo w x b None = Unit {0}
 MakesTo w x b (Some p) = Makes w x b p.0 p.1
 
-when-makes : (w : ℕ) (x : Shell) (b : Act) (t : Bool) (p : Reply × Shell) → (t ≡ true → Makes w x b p.0 p.1) → MakesTo w x b (when t p)
+when-makes : (w : ℕ) (x : Shell) (b : Act) (t : Bool) (p : Reply × Shell) → (t ≡ true → Makes w x b p.0 p.1) → MakesTo w x b (some_if t p)
 when-makes w x b true p h = h refl
 when-makes w x b false p h = tt
 
-look-makes : (w : ℕ) (x : Shell) (k : ℕ) (o : Option ℕ) → Makes w x (a.Look k) (look o) x
+look-makes : (w : ℕ) (x : Shell) (k : ℕ) (o : Option ℕ) → Makes w x (a.Look k) (look_reply o) x
 look-makes w x k None = miss k
 look-makes w x k (Some n) = hit k n
 
-offer-makes : (w : ℕ) (x : Shell) (s : ℕ) (i : Item) → s < length x.stripes → Makes w x (a.Offer s i) (offer s i x).0 (offer s i x).1
+offer-makes : (w : ℕ) (x : Shell) (s : ℕ) (i : Item) → s < length x.stripes → Makes w x (a.Offer s i) (offer_effect s i x).0 (offer_effect s i x).1
 offer-makes w x s i h =
-    elim (cases_Bool (nat_lt (length (stripe_at s x.stripes)) 16)) as (λ _. Makes w x (a.Offer s i) (offer s i x).0 (offer s i x).1) [
+    elim (cases_Bool (nat_lt (length (stripe_at s x.stripes)) 16)) as (λ _. Makes w x (a.Offer s i) (offer_effect s i x).0 (offer_effect s i x).1) [
       | inl e ↦ rw e (kept s i h)
       | inr e ↦ rw e (full s i)
     ]
@@ -81,9 +81,9 @@ put_at-makes : (w : ℕ) (x : Shell) (k : ℕ) (o : Option ℕ) → Makes w x (a
 put_at-makes w x k (Some n) = present k n
 put_at-makes w x k None = added k
 
-put-makes : (w : ℕ) (x : Shell) (k : ℕ) → Makes w x (a.Put k) (put k x).0 (put k x).1
+put-makes : (w : ℕ) (x : Shell) (k : ℕ) → Makes w x (a.Put k) (put_effect k x).0 (put_effect k x).1
 put-makes w x k =
-    elim (cases_Bool (nat_lt (length x.writes) 128)) as (λ _. Makes w x (a.Put k) (put k x).0 (put k x).1) [
+    elim (cases_Bool (nat_lt (length x.writes) 128)) as (λ _. Makes w x (a.Put k) (put_effect k x).0 (put_effect k x).1) [
       | inl e ↦ rw e (put_at-makes w x k (node_of k x.table))
       | inr e ↦ rw e (writes_full k)
     ]
@@ -110,7 +110,7 @@ after_write-makes w x drain.Required e = write_drain drain.Required (rw e refl)
 after_write-makes w x drain.ToIdle e = write_go drain.ToRequired (rw e refl)
 after_write-makes w x drain.ToRequired e = write_go drain.ToRequired (rw e refl)
 
-begin-makes : (w : ℕ) (x : Shell) (o : Option Holder) → x.holder ≡ o → Makes w x a.Begin (begin w o x).0 (begin w o x).1
+begin-makes : (w : ℕ) (x : Shell) (o : Option Holder) → x.holder ≡ o → Makes w x a.Begin (begin_effect w o x).0 (begin_effect w o x).1
 begin-makes w x (Some h) e = busy
 begin-makes w x None e = began e
 
@@ -144,30 +144,30 @@ write-makes w x h f m (Remove i ∷ rest) e =
       | inr g ↦ rw g (applied_remove h f m i rest e (h.left - 1))
     ]
 
-contest-makes : (w : ℕ) (x : Shell) (h : Holder) → x.holder ≡ Some h → (c : Item) → first x.queues.window ≡ Some c → (o : Option Item) → first (shift c x).queues.probation ≡ o → Makes w x a.Evict (shell_contest c o (shift c (in_phase Evictions h x))).0 (shell_contest c o (shift c (in_phase Evictions h x))).1
+contest-makes : (w : ℕ) (x : Shell) (h : Holder) → x.holder ≡ Some h → (c : Item) → oldest_of x.queues.window ≡ Some c → (o : Option Item) → oldest_of (shift_effect c x).queues.probation ≡ o → Makes w x a.Evict (shell_contest c o (shift_effect c (in_phase Evictions h x))).0 (shell_contest c o (shift_effect c (in_phase Evictions h x))).1
 contest-makes w x h f c i None j = shifted h f c i
 contest-makes w x h f c i (Some v) j =
-    let y : Shell = shift c (in_phase Evictions h x) in
-    elim (cases_Bool (same c v)) as (λ _. Makes w x a.Evict (shell_contest c (Some v) (shift c (in_phase Evictions h x))).0 (shell_contest c (Some v) (shift c (in_phase Evictions h x))).1) [
+    let y : Shell = shift_effect c (in_phase Evictions h x) in
+    elim (cases_Bool (is_same_item c v)) as (λ _. Makes w x a.Evict (shell_contest c (Some v) (shift_effect c (in_phase Evictions h x))).0 (shell_contest c (Some v) (shift_effect c (in_phase Evictions h x))).1) [
       | inl e ↦ rw e (rejected h f c i)
-      | inr e ↦ rw e (elim (cases_Bool (admits x.frequency c.key v.key)) as (λ _. Makes w x a.Evict (cond {A = Reply × Shell} (admits x.frequency c.key v.key) (reply.Evicted v, leave v (shift c (in_phase Evictions h x))) (reply.Rejected c, leave c (shift c (in_phase Evictions h x)))).0 (cond {A = Reply × Shell} (admits x.frequency c.key v.key) (reply.Evicted v, leave v (shift c (in_phase Evictions h x))) (reply.Rejected c, leave c (shift c (in_phase Evictions h x)))).1) [
+      | inr e ↦ rw e (elim (cases_Bool (admits x.frequency c.key v.key)) as (λ _. Makes w x a.Evict (cond {A = Reply × Shell} (admits x.frequency c.key v.key) (reply.Evicted v, leave v (shift_effect c (in_phase Evictions h x))) (reply.Rejected c, leave c (shift_effect c (in_phase Evictions h x)))).0 (cond {A = Reply × Shell} (admits x.frequency c.key v.key) (reply.Evicted v, leave v (shift_effect c (in_phase Evictions h x))) (reply.Rejected c, leave c (shift_effect c (in_phase Evictions h x)))).1) [
         | inl g ↦ rw g (evicted h f c v i j)
         | inr g ↦ rw g (rejected h f c i)
       ])
     ]
 
-oldest-makes : (w : ℕ) (x : Shell) (h : Holder) → x.holder ≡ Some h → (o : Option Item) → first x.queues.window ≡ o → Makes w x a.Evict (evict_oldest o (in_phase Evictions h x)).0 (evict_oldest o (in_phase Evictions h x)).1
+oldest-makes : (w : ℕ) (x : Shell) (h : Holder) → x.holder ≡ Some h → (o : Option Item) → oldest_of x.queues.window ≡ o → Makes w x a.Evict (evict_oldest o (in_phase Evictions h x)).0 (evict_oldest o (in_phase Evictions h x)).1
 oldest-makes w x h f None i = fits h f
 oldest-makes w x h f (Some c) i =
-    elim (cases_Bool (nat_lt x.config.capacity (total_items (shift c x).queues))) as (λ _. Makes w x a.Evict (evict_from c (shift c (in_phase Evictions h x))).0 (evict_from c (shift c (in_phase Evictions h x))).1) [
-      | inl e ↦ rw e (contest-makes w x h f c i (first (shift c x).queues.probation) refl)
+    elim (cases_Bool (nat_lt x.config.capacity (total_items (shift_effect c x).queues))) as (λ _. Makes w x a.Evict (evict_from c (shift_effect c (in_phase Evictions h x))).0 (evict_from c (shift_effect c (in_phase Evictions h x))).1) [
+      | inl e ↦ rw e (contest-makes w x h f c i (oldest_of (shift_effect c x).queues.probation) refl)
       | inr e ↦ rw e (shifted h f c i)
     ]
 
-evict-makes : (w : ℕ) (x : Shell) (h : Holder) → x.holder ≡ Some h → Makes w x a.Evict (evict (in_phase Evictions h x)).0 (evict (in_phase Evictions h x)).1
+evict-makes : (w : ℕ) (x : Shell) (h : Holder) → x.holder ≡ Some h → Makes w x a.Evict (evict_effect (in_phase Evictions h x)).0 (evict_effect (in_phase Evictions h x)).1
 evict-makes w x h f =
-    elim (cases_Bool (is_over x)) as (λ _. Makes w x a.Evict (evict (in_phase Evictions h x)).0 (evict (in_phase Evictions h x)).1) [
-      | inl e ↦ rw e (oldest-makes w x h f (first x.queues.window) refl)
+    elim (cases_Bool (is_over x)) as (λ _. Makes w x a.Evict (evict_effect (in_phase Evictions h x)).0 (evict_effect (in_phase Evictions h x)).1) [
+      | inl e ↦ rw e (oldest-makes w x h f (oldest_of x.queues.window) refl)
       | inr e ↦ rw e (fits h f)
     ]
 
@@ -177,16 +177,16 @@ ended-makes w x h f drain.Required e = idle h f drain.Idle (rw e refl)
 ended-makes w x h f drain.ToIdle e = idle h f drain.Idle (rw e refl)
 ended-makes w x h f drain.Idle e = idle h f drain.Idle (rw e refl)
 
-end-makes : (w : ℕ) (x : Shell) (h : Holder) → x.holder ≡ Some h → Makes w x a.End (end x).0 (end x).1
+end-makes : (w : ℕ) (x : Shell) (h : Holder) → x.holder ≡ Some h → Makes w x a.End (end_effect x).0 (end_effect x).1
 end-makes w x h f =
-    elim (cases_Bool (is_over x)) as (λ _. Makes w x a.End (end x).0 (end x).1) [
+    elim (cases_Bool (is_over x)) as (λ _. Makes w x a.End (end_effect x).0 (end_effect x).1) [
       | inl e ↦ rw e not_yet
       | inr e ↦ rw e (ended-makes w x h f x.drain refl)
     ]
 
-pub perform-makes : (w : ℕ) (x : Shell) (b : Act) → MakesTo w x b (perform w b x)
+pub perform-makes : (w : ℕ) (x : Shell) (b : Act) → MakesTo w x b (act_effect w b x)
 perform-makes w x (a.Look k) = look-makes w x k (node_of k x.table)
-perform-makes w x (a.Offer s i) = when-makes w x (a.Offer s i) (is_stripe s x && nat_lt i.node x.next) (offer s i x) (λ t. offer-makes w x s i (grind (arith, nat_tests, (and_parts (is_stripe s x) (nat_lt i.node x.next) t).0)))
+perform-makes w x (a.Offer s i) = when-makes w x (a.Offer s i) (is_stripe s x && nat_lt i.node x.next) (offer_effect s i x) (λ t. offer-makes w x s i (grind (arith, nat_tests, (and_parts (is_stripe s x) (nat_lt i.node x.next) t).0)))
 perform-makes w x (a.Lose s i) = when-makes w x (a.Lose s i) (is_stripe s x && nat_lt i.node x.next) (reply.Lost, x) (λ t. lost s i)
 perform-makes w x (a.Put k) = put-makes w x k
 perform-makes w x (a.Remove k) = remove_at-makes w x k (node_of k x.table) refl

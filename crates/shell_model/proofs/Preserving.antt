@@ -13,8 +13,8 @@ use Rattle.step_record.specs.declared.step.Reply.{Reply}
 use Rattle.step_record.specs.declared.step.Reply.TheVariants as reply
 use Rattle.segments.specs.declared.records.Queue.{Queue}
 use Rattle.segments.specs.declared.records.Queue.TheVariants.{Window, Probation, Protected}
-use Rattle.segments.specs.Items.{same, times, items_without, first}
-use Rattle.segments.specs.Queues.{Queues, place_of, pushed, moved, taken, total_items, IsDistinct}
+use Rattle.segments.specs.Items.{is_same_item, occurrences, items_without, oldest_of}
+use Rattle.segments.specs.Queues.{Queues, queue_holding, queues_after_push, queues_after_move, queues_without, total_items, IsDistinct}
 use Rattle.segments.proofs.ItemLists.{same-refl, same-true, times-append, times-one, length-without, times-without}
 use Rattle.segments.proofs.MoveLaws.{Stands, in_window, in_probation, in_protected, nowhere, stands}
 use Rattle.replacement.specs.Rules.{main_size}
@@ -24,8 +24,8 @@ use Rattle.shell_buffers.specs.declared.task.Task.TheVariants.{Add, Update, Remo
 use Rattle.shell_model.specs.declared.holder.Holder.{Holder}
 use Rattle.shell_model.specs.Frequency.{admits}
 use Rattle.shell_buffers.specs.Buffers.{stripe_at}
-use Rattle.shell_model.specs.Shell.{Shell, node_of, placed, queues_cleared, window_size, shell_protected_size, offer, put, put_at, removing, remove_at, begin, is_over, held_by, shift, in_phase, drain_read, drain_write, apply_task, shell_contest, leave, evict_from, evict_oldest, evict, end, when, may_read, may_write, is_stripe, hold_read, hold_write, hold_evict, hold_end, perform, tallied, act}
-use Rattle.shell_model.specs.Consistent.{IsConsistent, IsPlaced, main_length, queued, waiting_tasks, leaving, IsOrdered, AreAbove, IsAscending, IsLeft}
+use Rattle.shell_model.specs.Shell.{Shell, node_of, table_with, queues_cleared, window_size, shell_protected_size, offer_effect, put_effect, put_at, removing, remove_at, begin_effect, is_over, held_by, shift_effect, in_phase, drain_read, drain_write, apply_task, shell_contest, leave, evict_from, evict_oldest, evict_effect, end_effect, some_if, may_read, may_write, is_stripe, hold_read, hold_write, hold_evict, hold_end, act_effect, counted_reply, act}
+use Rattle.shell_model.specs.Consistent.{IsConsistent, IsPlaced, main_length, queue_occurrences, waiting_tasks, leaving, IsOrdered, AreAbove, IsAscending, IsLeft}
 use Rattle.admission.specs.Frequency.{IsFrequency}
 use Rattle.shell_model.proofs.Frequency.{recorded-whole}
 use Rattle.shell_model.proofs.Counting.{once, unless-same, queued-kept, queued-taken, queued-pushed, distinct-moved, times-placed, listed-times, node-listed, unlisted-is, cleared-is}
@@ -35,7 +35,7 @@ abbrev pub SoundTo : Option (Reply × Shell) → Type 0
 SoundTo None = Unit {0}
 SoundTo (Some p) = IsConsistent p.1
 
-when-sound : (b : Bool) (p : Reply × Shell) → (b ≡ true → IsConsistent p.1) → SoundTo (when b p)
+when-sound : (b : Bool) (p : Reply × Shell) → (b ≡ true → IsConsistent p.1) → SoundTo (some_if b p)
 when-sound true p h = h refl
 when-sound false p h = tt
 
@@ -50,26 +50,26 @@ set-short ls s l h n few k =
 
 -- the main queues do not grow
 
-moved-window : (i : Item) (q : Queues) → main_length (moved i Window q) ≤ main_length q
+moved-window : (i : Item) (q : Queues) → main_length (queues_after_move i Window q) ≤ main_length q
 moved-window i q = omega (arith, length-without i q.probation, length-without i q.protected)
 
-moved-protected : (i : Item) (q : Queues) → 1 ≤ times i q.probation + times i q.protected → main_length (moved i Protected q) ≤ main_length q
+moved-protected : (i : Item) (q : Queues) → 1 ≤ occurrences i q.probation + occurrences i q.protected → main_length (queues_after_move i Protected q) ≤ main_length q
 moved-protected i q h = omega (arith, length-without i q.probation, length-without i q.protected, length-append (items_without i q.protected) (i ∷ []))
 
-moved-probation : (i : Item) (q : Queues) → 1 ≤ times i q.probation + times i q.protected → main_length (moved i Probation q) ≤ main_length q
+moved-probation : (i : Item) (q : Queues) → 1 ≤ occurrences i q.probation + occurrences i q.protected → main_length (queues_after_move i Probation q) ≤ main_length q
 moved-probation i q h = omega (arith, length-without i q.probation, length-without i q.protected, length-append (items_without i q.probation) (i ∷ []))
 
 -- what a hit keeps
 pub record IsKept (q r : Queues) : Type 0 where
-  pub queued : (j : Item) → queued j r ≡ queued j q
+  pub queued : (j : Item) → queue_occurrences j r ≡ queue_occurrences j q
   pub main : main_length r ≤ main_length q
 
-kept-demote : (o : Option Item) (q : Queues) → IsDistinct q → ((d : Item) → o ≡ Some d → 1 ≤ times d q.protected) → IsKept q (with_recent o Probation q)
+kept-demote : (o : Option Item) (q : Queues) → IsDistinct q → ((d : Item) → o ≡ Some d → 1 ≤ occurrences d q.protected) → IsKept q (with_recent o Probation q)
 kept-demote None q u k = record { queued = λ j. refl; main = omega arith }
 kept-demote (Some d) q u k =
-    let n : 1 ≤ times d q.protected = k d refl in
+    let n : 1 ≤ occurrences d q.protected = k d refl in
     let few = u d in
-    let one : queued d q ≡ 1 = omega (arith, n, few) in
+    let one : queue_occurrences d q ≡ 1 = omega (arith, n, few) in
     record { queued = λ j. queued-kept j d Probation q one; main = moved-probation d q (omega (arith, n)) }
 
 hit-kept : (size : ℕ) (i : Item) (q : Queues) (p : Option Queue) → IsDistinct q → Stands i q p → IsKept q (hit_in size i p q)
@@ -77,24 +77,24 @@ hit-kept size i q p u (nowhere e f g) = record { queued = λ j. refl; main = ome
 hit-kept size i q p u (in_window e f g) = record { queued = λ j. queued-kept j i Window q (omega (arith, e, f, g)); main = moved-window i q }
 hit-kept size i q p u (in_protected e f g) = record { queued = λ j. queued-kept j i Protected q (omega (arith, e, f, g)); main = moved-protected i q (omega (arith, e, f, g)) }
 hit-kept size i q p u (in_probation e f g) =
-    let r : Queues = moved i Protected q in
-    let m : main_length (moved i Protected q) ≤ main_length q = moved-protected i q (omega (arith, e, f, g)) in
-    let k : (j : Item) → queued j (moved i Protected q) ≡ queued j q = λ j. queued-kept j i Protected q (omega (arith, e, f, g)) in
-    elim (cases_Bool (nat_lt size (length (moved i Protected q).protected))) as (λ _. IsKept q (cond (nat_lt size (length (moved i Protected q).protected)) (with_recent (first (moved i Protected q).protected) Probation (moved i Protected q)) (moved i Protected q))) [
-      | inl t ↦ rw t (let d : IsKept (moved i Protected q) (with_recent (first (moved i Protected q).protected) Probation (moved i Protected q)) = kept-demote (first (moved i Protected q).protected) (moved i Protected q) (distinct-moved i Protected q u) (λ d h. first-queued d (moved i Protected q).protected h) in
+    let r : Queues = queues_after_move i Protected q in
+    let m : main_length (queues_after_move i Protected q) ≤ main_length q = moved-protected i q (omega (arith, e, f, g)) in
+    let k : (j : Item) → queue_occurrences j (queues_after_move i Protected q) ≡ queue_occurrences j q = λ j. queued-kept j i Protected q (omega (arith, e, f, g)) in
+    elim (cases_Bool (nat_lt size (length (queues_after_move i Protected q).protected))) as (λ _. IsKept q (cond (nat_lt size (length (queues_after_move i Protected q).protected)) (with_recent (oldest_of (queues_after_move i Protected q).protected) Probation (queues_after_move i Protected q)) (queues_after_move i Protected q))) [
+      | inl t ↦ rw t (let d : IsKept (queues_after_move i Protected q) (with_recent (oldest_of (queues_after_move i Protected q).protected) Probation (queues_after_move i Protected q)) = kept-demote (oldest_of (queues_after_move i Protected q).protected) (queues_after_move i Protected q) (distinct-moved i Protected q u) (λ d h. first-queued d (queues_after_move i Protected q).protected h) in
           record { queued = λ j. d.queued j ∙ k j; main = omega (arith, d.main, m) })
       | inr t ↦ rw t record { queued = k; main = m }
     ]
 
 pub hit-is-kept : (size : ℕ) (i : Item) (q : Queues) → IsDistinct q → IsKept q (after_hit size i q)
-hit-is-kept size i q u = hit-kept size i q (place_of i q) u (stands i q u)
+hit-is-kept size i q u = hit-kept size i q (queue_holding i q) u (stands i q u)
 
 -- the table
 
-above-placed : (k : ℕ) (i : Item) (t : List Item) → k < i.key → AreAbove k t → AreAbove k (placed i t)
+above-placed : (k : ℕ) (i : Item) (t : List Item) → k < i.key → AreAbove k t → AreAbove k (table_with i t)
 above-placed k i [] h b = (h, tt)
 above-placed k i (x ∷ t) h b =
-    elim (cases_Bool (nat_lt i.key x.key)) as (λ _. AreAbove k (cond (nat_lt i.key x.key) (i ∷ x ∷ t) (x ∷ placed i t))) [
+    elim (cases_Bool (nat_lt i.key x.key)) as (λ _. AreAbove k (cond (nat_lt i.key x.key) (i ∷ x ∷ t) (x ∷ table_with i t))) [
       | inl e ↦ rw e (h, b)
       | inr e ↦ rw e (b.0, above-placed k i t h b.1)
     ]
@@ -103,7 +103,7 @@ above-more : (k m : ℕ) (t : List Item) → k < m → AreAbove m t → AreAbove
 above-more k m [] h b = tt
 above-more k m (x ∷ t) h b = (omega (arith, b.0, h), above-more k m t h b.1)
 
-pub ascending-placed : (i : Item) (t : List Item) → node_of i.key t ≡ None → IsAscending t → IsAscending (placed i t)
+pub ascending-placed : (i : Item) (t : List Item) → node_of i.key t ≡ None → IsAscending t → IsAscending (table_with i t)
 ascending-placed i [] n h = (tt, tt)
 ascending-placed i (x ∷ t) n h =
     elim (cases_Bool (eqb i.key x.key)) [
@@ -111,7 +111,7 @@ ascending-placed i (x ∷ t) n h =
       | inr e ↦
           let rest : node_of i.key t ≡ None = rw e at n in
           let apart : (i.key ≡ x.key → ⊥) = (λ (g : i.key ≡ x.key). let no : true ≡ false = rw (eq-eqb i.key x.key g) at e in cc (no)) in
-          elim (cases_Bool (nat_lt i.key x.key)) as (λ _. IsAscending (cond (nat_lt i.key x.key) (i ∷ x ∷ t) (x ∷ placed i t))) [
+          elim (cases_Bool (nat_lt i.key x.key)) as (λ _. IsAscending (cond (nat_lt i.key x.key) (i ∷ x ∷ t) (x ∷ table_with i t))) [
             | inl f ↦ let lt : i.key < x.key = grind (arith, nat_tests) in rw f ((lt, above-more i.key x.key t lt h.0), (h.0, h.1))
             | inr f ↦ let lt : x.key < i.key = grind (arith, nat_tests, apart) in rw f (above-placed x.key i t lt h.0, ascending-placed i t rest h.1)
           ]
@@ -120,7 +120,7 @@ ascending-placed i (x ∷ t) n h =
 above-without : (k : ℕ) (v : Item) (t : List Item) → AreAbove k t → AreAbove k (items_without v t)
 above-without k v [] b = tt
 above-without k v (x ∷ t) b =
-    elim (cases_Bool (same v x)) as (λ _. AreAbove k (cond (same v x) (items_without v t) (x ∷ items_without v t))) [
+    elim (cases_Bool (is_same_item v x)) as (λ _. AreAbove k (cond (is_same_item v x) (items_without v t) (x ∷ items_without v t))) [
       | inl e ↦ rw e (above-without k v t b.1)
       | inr e ↦ rw e (b.0, above-without k v t b.1)
     ]
@@ -128,7 +128,7 @@ above-without k v (x ∷ t) b =
 pub ascending-without : (v : Item) (t : List Item) → IsAscending t → IsAscending (items_without v t)
 ascending-without v [] h = tt
 ascending-without v (x ∷ t) h =
-    elim (cases_Bool (same v x)) as (λ _. IsAscending (cond (same v x) (items_without v t) (x ∷ items_without v t))) [
+    elim (cases_Bool (is_same_item v x)) as (λ _. IsAscending (cond (is_same_item v x) (items_without v t) (x ∷ items_without v t))) [
       | inl e ↦ rw e (ascending-without v t h.1)
       | inr e ↦ rw e (above-without x.key v t h.0, ascending-without v t h.1)
     ]
@@ -153,7 +153,7 @@ ordered-push [] t s f o = s
 ordered-push (Add k ∷ l) t s f o = ordered-push l t s f o
 ordered-push (Update k ∷ l) t s f o = ordered-push l t s f o
 ordered-push (Remove k ∷ l) t s f o =
-    let one : 1 ≤ cond (same k k) 1 0 + leaving k l = (let e = same-refl k in rw e (omega arith)) in
+    let one : 1 ≤ cond (is_same_item k k) 1 0 + leaving k l = (let e = same-refl k in rw e (omega arith)) in
     let none : waiting_tasks k (t ∷ []) ≡ 0 = f k one in
     (rw (waiting-append k l (t ∷ [])) (omega (arith, o.0, none)), ordered-push l t s (λ j h. f j (omega (arith, h))) o.1)
 
@@ -164,11 +164,11 @@ ordered-behind i (Add j ∷ l) m o = ordered-behind i l m o
 ordered-behind i (Update j ∷ l) m o = ordered-behind i l m o
 ordered-behind i (Remove j ∷ l) m o =
     let rest : leaving i l ≡ 0 = ordered-behind i l m o.1 in
-    elim (cases_Bool (same i j)) as (λ _. cond (same i j) 1 0 + leaving i l ≡ 0) [
+    elim (cases_Bool (is_same_item i j)) as (λ _. cond (is_same_item i j) 1 0 + leaving i l ≡ 0) [
       | inl e ↦
           let s : i ≡ j = same-true i j e in
           let none : waiting_tasks i (l ++ Add i ∷ m) ≡ 0 = ap (λ (y : Item). waiting_tasks y (l ++ Add i ∷ m)) s ∙ o.0 in
-          let sum : waiting_tasks i (l ++ Add i ∷ m) ≡ waiting_tasks i l + (cond (same i i) 1 0 + waiting_tasks i m) = waiting-append i l (Add i ∷ m) in
+          let sum : waiting_tasks i (l ++ Add i ∷ m) ≡ waiting_tasks i l + (cond (is_same_item i i) 1 0 + waiting_tasks i m) = waiting-append i l (Add i ∷ m) in
           let sum2 : waiting_tasks i (l ++ Add i ∷ m) ≡ waiting_tasks i l + (1 + waiting_tasks i m) = rw (same-refl i) at sum in
           absurd (omega (arith, none, sum2))
       | inr e ↦ rw e (omega (arith, rest))
@@ -177,7 +177,7 @@ ordered-behind i (Remove j ∷ l) m o =
 -- the parts that place items
 
 -- nothing comes or goes
-placed-same : (t : List Item) (n : ℕ) (q r : Queues) (l m : List Task) → ((j : Item) → queued j r + waiting_tasks j m ≡ queued j q + waiting_tasks j l) → ((j : Item) → leaving j m ≡ leaving j l) → IsOrdered m → IsPlaced t n q l → IsPlaced t n r m
+placed-same : (t : List Item) (n : ℕ) (q r : Queues) (l m : List Task) → ((j : Item) → queue_occurrences j r + waiting_tasks j m ≡ queue_occurrences j q + waiting_tasks j l) → ((j : Item) → leaving j m ≡ leaving j l) → IsOrdered m → IsPlaced t n q l → IsPlaced t n r m
 placed-same t n q r l m f g o p = record {
   stands = λ j. omega (arith, p.stands j, f j);
   known = λ j. omega (arith, p.known j, f j, g j);
@@ -194,27 +194,27 @@ placed-update t n q l i p =
     (λ j. rw (leaving-append j l (Update i ∷ [])) (omega arith))
     (ordered-push l (Update i) tt (λ j h. refl) p.ordered) p
 
-placed-add : (t : List Item) (n k : ℕ) (q : Queues) (l : List Task) → node_of k t ≡ None → IsPlaced t n q l → (i : Item) → i ≡ record { key = k; node = n } → IsPlaced (placed i t) (n + 1) q (l ++ Add i ∷ [])
+placed-add : (t : List Item) (n k : ℕ) (q : Queues) (l : List Task) → node_of k t ≡ None → IsPlaced t n q l → (i : Item) → i ≡ record { key = k; node = n } → IsPlaced (table_with i t) (n + 1) q (l ++ Add i ∷ [])
 placed-add t n k q l none p i e =
     let key : i.key ≡ k = ap (λ (x : Item). x.key) e in
     let node : i.node ≡ n = ap (λ (x : Item). x.node) e in
     record {
       stands = λ j. rw (waiting-append j l (Add i ∷ []), times-placed j i t) (omega (arith, p.stands j));
       known = λ j. rw (waiting-append j l (Add i ∷ []), leaving-append j l (Add i ∷ []), times-placed j i t) (omega (arith, p.known j));
-      once = λ j. rw (leaving-append j l (Add i ∷ []), times-placed j i t) (elim (cases_Bool (same j i)) as (λ _. cond (same j i) 1 0 + times j t + (leaving j l + 0) ≤ 1) [
-        | inl f ↦ rw f (let s : j ≡ i = same-true j i f in let m : j.node ≡ n = ap (λ (x : Item). x.node) s ∙ node in let z = zero_or (times j t + leaving j l) (p.below j) m in omega (arith, z))
+      once = λ j. rw (leaving-append j l (Add i ∷ []), times-placed j i t) (elim (cases_Bool (is_same_item j i)) as (λ _. cond (is_same_item j i) 1 0 + occurrences j t + (leaving j l + 0) ≤ 1) [
+        | inl f ↦ rw f (let s : j ≡ i = same-true j i f in let m : j.node ≡ n = ap (λ (x : Item). x.node) s ∙ node in let z = zero_or (occurrences j t + leaving j l) (p.below j) m in omega (arith, z))
         | inr f ↦ rw f (omega (arith, p.once j))
       ]);
-      below = λ j h. elim (cases_Bool (same j i)) as (λ _. j.node < n + 1) [
+      below = λ j h. elim (cases_Bool (is_same_item j i)) as (λ _. j.node < n + 1) [
         | inl f ↦ let s : j ≡ i = same-true j i f in let m : j.node ≡ n = ap (λ (x : Item). x.node) s ∙ node in omega arith
         | inr f ↦
-            let g : 1 ≤ once j i + times j t + (leaving j l + 0) = rw (leaving-append j l (Add i ∷ []), times-placed j i t) at h in
-            let g2 : 1 ≤ 0 + times j t + (leaving j l + 0) = rw f at g in
+            let g : 1 ≤ once j i + occurrences j t + (leaving j l + 0) = rw (leaving-append j l (Add i ∷ []), times-placed j i t) at h in
+            let g2 : 1 ≤ 0 + occurrences j t + (leaving j l + 0) = rw f at g in
             let b : j.node < n = p.below j (omega arith) in
             omega arith
       ];
       ascending = ascending-placed i t (rw key none) p.ascending;
-      ordered = ordered-push l (Add i) tt (λ j h. elim (cases_Bool (same j i)) as (λ _. cond (same j i) 1 0 + 0 ≡ 0) [
+      ordered = ordered-push l (Add i) tt (λ j h. elim (cases_Bool (is_same_item j i)) as (λ _. cond (is_same_item j i) 1 0 + 0 ≡ 0) [
         | inl f ↦ absurd (let s : j ≡ i = same-true j i f in let m : j.node ≡ n = ap (λ (x : Item). x.node) s ∙ node in let b : j.node < n = p.below j (omega (arith, h)) in omega arith)
         | inr f ↦ rw f refl
       ]) p.ordered;
@@ -224,22 +224,22 @@ placed-add t n k q l none p i e =
     zero_or zero f e = refl
     zero_or (suc m) f e = absurd (let no = f (omega arith) in omega (arith, no))
 
-placed-remove : (t : List Item) (n : ℕ) (q : Queues) (l : List Task) (i : Item) → 1 ≤ times i t → IsPlaced t n q l → IsPlaced (items_without i t) n q (l ++ Remove i ∷ [])
+placed-remove : (t : List Item) (n : ℕ) (q : Queues) (l : List Task) (i : Item) → 1 ≤ occurrences i t → IsPlaced t n q l → IsPlaced (items_without i t) n q (l ++ Remove i ∷ [])
 placed-remove t n q l i h p = record {
   stands = λ j. rw (waiting-append j l (Remove i ∷ [])) (omega (arith, times-without i j t, p.stands j));
-  known = λ j. rw (waiting-append j l (Remove i ∷ []), leaving-append j l (Remove i ∷ []), unless-same j i t) (elim (cases_Bool (same j i)) as (λ _. queued j q + (waiting_tasks j l + 0) ≤ cond (same j i) 0 (times j t) + (leaving j l + (cond (same j i) 1 0 + 0))) [
+  known = λ j. rw (waiting-append j l (Remove i ∷ []), leaving-append j l (Remove i ∷ []), unless-same j i t) (elim (cases_Bool (is_same_item j i)) as (λ _. queue_occurrences j q + (waiting_tasks j l + 0) ≤ cond (is_same_item j i) 0 (occurrences j t) + (leaving j l + (cond (is_same_item j i) 1 0 + 0))) [
     | inl e ↦ rw e (omega (arith, p.known j, p.once j))
     | inr e ↦ rw e (omega (arith, p.known j))
   ]);
-  once = λ j. rw (leaving-append j l (Remove i ∷ []), unless-same j i t) (elim (cases_Bool (same j i)) as (λ _. cond (same j i) 0 (times j t) + (leaving j l + (cond (same j i) 1 0 + 0)) ≤ 1) [
-    | inl e ↦ let s : j ≡ i = same-true j i e in let a : 1 ≤ times j t = rw s h in rw e (omega (arith, a, p.once j))
+  once = λ j. rw (leaving-append j l (Remove i ∷ []), unless-same j i t) (elim (cases_Bool (is_same_item j i)) as (λ _. cond (is_same_item j i) 0 (occurrences j t) + (leaving j l + (cond (is_same_item j i) 1 0 + 0)) ≤ 1) [
+    | inl e ↦ let s : j ≡ i = same-true j i e in let a : 1 ≤ occurrences j t = rw s h in rw e (omega (arith, a, p.once j))
     | inr e ↦ rw e (omega (arith, p.once j))
   ]);
-  below = λ j g. p.below j (elim (cases_Bool (same j i)) as (λ _. 1 ≤ times j t + leaving j l) [
-    | inl e ↦ let s : j ≡ i = same-true j i e in let a : 1 ≤ times j t = rw s h in omega (arith, a)
+  below = λ j g. p.below j (elim (cases_Bool (is_same_item j i)) as (λ _. 1 ≤ occurrences j t + leaving j l) [
+    | inl e ↦ let s : j ≡ i = same-true j i e in let a : 1 ≤ occurrences j t = rw s h in omega (arith, a)
     | inr e ↦
-        let b : 1 ≤ times j (items_without i t) + (leaving j l + (cond (same j i) 1 0 + 0)) = rw (leaving-append j l (Remove i ∷ [])) at g in
-        let c : 1 ≤ times j (items_without i t) + (leaving j l + (0 + 0)) = rw e at b in
+        let b : 1 ≤ occurrences j (items_without i t) + (leaving j l + (cond (is_same_item j i) 1 0 + 0)) = rw (leaving-append j l (Remove i ∷ [])) at g in
+        let c : 1 ≤ occurrences j (items_without i t) + (leaving j l + (0 + 0)) = rw e at b in
         omega (arith, c, times-without i j t)
   ]);
   ascending = ascending-without i t p.ascending;
@@ -252,23 +252,23 @@ placed-hit t n q r l k p = placed-same t n q r l l (λ j. rw (k.queued j) refl) 
 placed-update-done : (t : List Item) (n : ℕ) (q : Queues) (l : List Task) (i : Item) → IsPlaced t n q (Update i ∷ l) → IsPlaced t n q l
 placed-update-done t n q l i p = placed-same t n q q (Update i ∷ l) l (λ j. refl) (λ j. refl) p.ordered p
 
-placed-add-done : (t : List Item) (n : ℕ) (q : Queues) (l : List Task) (i : Item) → IsPlaced t n q (Add i ∷ l) → IsPlaced t n (pushed Window i q) l
-placed-add-done t n q l i p = placed-same t n q (pushed Window i q) (Add i ∷ l) l (λ j. rw (queued-pushed j i Window q) (omega arith)) (λ j. refl) p.ordered p
+placed-add-done : (t : List Item) (n : ℕ) (q : Queues) (l : List Task) (i : Item) → IsPlaced t n q (Add i ∷ l) → IsPlaced t n (queues_after_push Window i q) l
+placed-add-done t n q l i p = placed-same t n q (queues_after_push Window i q) (Add i ∷ l) l (λ j. rw (queued-pushed j i Window q) (omega arith)) (λ j. refl) p.ordered p
 
-placed-clear : (t : List Item) (n : ℕ) (q : Queues) (l : List Task) (i : Item) → IsPlaced t n q (Remove i ∷ l) → IsPlaced t n (taken i q) l
+placed-clear : (t : List Item) (n : ℕ) (q : Queues) (l : List Task) (i : Item) → IsPlaced t n q (Remove i ∷ l) → IsPlaced t n (queues_without i q) l
 placed-clear t n q l i p = record {
-  stands = λ j. rw (queued-taken j i q) (elim (cases_Bool (same j i)) as (λ _. times j t ≤ cond (same j i) 0 (queued j q) + waiting_tasks j l) [
+  stands = λ j. rw (queued-taken j i q) (elim (cases_Bool (is_same_item j i)) as (λ _. occurrences j t ≤ cond (is_same_item j i) 0 (queue_occurrences j q) + waiting_tasks j l) [
     | inl e ↦
-        let a : times j t + (cond (same j i) 1 0 + leaving j l) ≤ 1 = p.once j in
-        let b : times j t + (1 + leaving j l) ≤ 1 = rw e at a in
+        let a : occurrences j t + (cond (is_same_item j i) 1 0 + leaving j l) ≤ 1 = p.once j in
+        let b : occurrences j t + (1 + leaving j l) ≤ 1 = rw e at a in
         omega (arith, b)
     | inr e ↦ rw e (p.stands j)
   ]);
-  known = λ j. rw (queued-taken j i q) (elim (cases_Bool (same j i)) as (λ _. cond (same j i) 0 (queued j q) + waiting_tasks j l ≤ times j t + leaving j l) [
+  known = λ j. rw (queued-taken j i q) (elim (cases_Bool (is_same_item j i)) as (λ _. cond (is_same_item j i) 0 (queue_occurrences j q) + waiting_tasks j l ≤ occurrences j t + leaving j l) [
     | inl e ↦ let s : j ≡ i = same-true j i e in let none : waiting_tasks j l ≡ 0 = rw s p.ordered.0 in rw e (omega (arith, none))
     | inr e ↦
-        let a : queued j q + waiting_tasks j l ≤ times j t + (cond (same j i) 1 0 + leaving j l) = p.known j in
-        let b : queued j q + waiting_tasks j l ≤ times j t + (0 + leaving j l) = rw e at a in
+        let a : queue_occurrences j q + waiting_tasks j l ≤ occurrences j t + (cond (is_same_item j i) 1 0 + leaving j l) = p.known j in
+        let b : queue_occurrences j q + waiting_tasks j l ≤ occurrences j t + (0 + leaving j l) = rw e at a in
         rw e (omega (arith, b))
   ]);
   once = λ j. omega (arith, p.once j);
@@ -277,14 +277,14 @@ placed-clear t n q l i p = record {
   ordered = p.ordered.1;
 }
 
-placed-leave : (t : List Item) (n : ℕ) (q : Queues) (l : List Task) (v : Item) → 1 ≤ queued v q → IsPlaced t n q l → IsPlaced (items_without v t) n (taken v q) l
+placed-leave : (t : List Item) (n : ℕ) (q : Queues) (l : List Task) (v : Item) → 1 ≤ queue_occurrences v q → IsPlaced t n q l → IsPlaced (items_without v t) n (queues_without v q) l
 placed-leave t n q l v h p = record {
-  stands = λ j. rw (queued-taken j v q, unless-same j v t) (elim (cases_Bool (same j v)) as (λ _. cond (same j v) 0 (times j t) ≤ cond (same j v) 0 (queued j q) + waiting_tasks j l) [
+  stands = λ j. rw (queued-taken j v q, unless-same j v t) (elim (cases_Bool (is_same_item j v)) as (λ _. cond (is_same_item j v) 0 (occurrences j t) ≤ cond (is_same_item j v) 0 (queue_occurrences j q) + waiting_tasks j l) [
     | inl e ↦ rw e (omega arith)
     | inr e ↦ rw e (p.stands j)
   ]);
-  known = λ j. rw (queued-taken j v q, unless-same j v t) (elim (cases_Bool (same j v)) as (λ _. cond (same j v) 0 (queued j q) + waiting_tasks j l ≤ cond (same j v) 0 (times j t) + leaving j l) [
-    | inl e ↦ let s : j ≡ v = same-true j v e in let a : 1 ≤ queued j q = rw s h in rw e (omega (arith, a, p.known j, p.once j))
+  known = λ j. rw (queued-taken j v q, unless-same j v t) (elim (cases_Bool (is_same_item j v)) as (λ _. cond (is_same_item j v) 0 (queue_occurrences j q) + waiting_tasks j l ≤ cond (is_same_item j v) 0 (occurrences j t) + leaving j l) [
+    | inl e ↦ let s : j ≡ v = same-true j v e in let a : 1 ≤ queue_occurrences j q = rw s h in rw e (omega (arith, a, p.known j, p.once j))
     | inr e ↦ rw e (p.known j)
   ]);
   once = λ j. omega (arith, times-without v j t, p.once j);
@@ -295,9 +295,9 @@ placed-leave t n q l v h p = record {
 
 -- the acts
 
-offer-sound : (s : ℕ) (i : Item) (x : Shell) → s < length x.stripes → IsConsistent x → IsConsistent (offer s i x).1
+offer-sound : (s : ℕ) (i : Item) (x : Shell) → s < length x.stripes → IsConsistent x → IsConsistent (offer_effect s i x).1
 offer-sound s i x h v =
-    elim (cases_Bool (nat_lt (length (stripe_at s x.stripes)) 16)) as (λ _. IsConsistent (offer s i x).1) [
+    elim (cases_Bool (nat_lt (length (stripe_at s x.stripes)) 16)) as (λ _. IsConsistent (offer_effect s i x).1) [
       | inl e ↦
           let lt : length (stripe_at s x.stripes) < 16 = grind (arith, nat_tests) in
           rw e record {
@@ -329,9 +329,9 @@ put_at-sound k None x e h v = record {
   frequency = v.frequency;
 }
 
-put-sound : (k : ℕ) (x : Shell) → IsConsistent x → IsConsistent (put k x).1
+put-sound : (k : ℕ) (x : Shell) → IsConsistent x → IsConsistent (put_effect k x).1
 put-sound k x v =
-    elim (cases_Bool (nat_lt (length x.writes) 128)) as (λ _. IsConsistent (put k x).1) [
+    elim (cases_Bool (nat_lt (length x.writes) 128)) as (λ _. IsConsistent (put_effect k x).1) [
       | inl e ↦ let lt : length x.writes < 128 = grind (arith, nat_tests) in rw e (put_at-sound k (node_of k x.table) x refl lt v)
       | inr e ↦ rw e v
     ]
@@ -339,7 +339,7 @@ put-sound k x v =
 remove_at-sound : (k : ℕ) (o : Option ℕ) (x : Shell) → node_of k x.table ≡ o → IsConsistent x → IsConsistent (remove_at k o x).1
 remove_at-sound k None x e v = v
 remove_at-sound k (Some n) x e v =
-    let h : 1 ≤ times record { key = k; node = n } x.table = listed-times record { key = k; node = n } x.table (node-listed record { key = k; node = n } x.table e) in
+    let h : 1 ≤ occurrences record { key = k; node = n } x.table = listed-times record { key = k; node = n } x.table (node-listed record { key = k; node = n } x.table e) in
     elim (cases_Bool (nat_lt (length x.writes) 128)) as (λ _. IsConsistent (cond {A = Reply × Shell} (nat_lt (length x.writes) 128) (reply.Removed n, removing record { key = k; node = n } x) (reply.WritesFull, x)).1) [
       | inl t ↦
           let lt : length x.writes < 128 = grind (arith, nat_tests) in
@@ -354,7 +354,7 @@ remove_at-sound k (Some n) x e v =
       | inr t ↦ rw t v
     ]
 
-begin-sound : (w : ℕ) (o : Option Holder) (x : Shell) → IsConsistent x → IsConsistent (begin w o x).1
+begin-sound : (w : ℕ) (o : Option Holder) (x : Shell) → IsConsistent x → IsConsistent (begin_effect w o x).1
 begin-sound w (Some h) x v = v
 begin-sound w None x v = record { placed = v.placed; stripes = v.stripes; writes = v.writes; main = v.main; frequency = v.frequency; left = omega arith }
 
@@ -419,7 +419,7 @@ applied-sound (Update i) rest h x e n v =
 applied-sound (Remove i) rest h x e n v =
     let few : suc (length rest) ≤ 128 = rw e at v.writes in
     let p : IsPlaced x.table x.next x.queues (Remove i ∷ rest) = rw e at v.placed in
-    let c : queues_cleared i x.queues ≡ taken i x.queues = cleared-is i x.queues (sound-distinct x v) in
+    let c : queues_cleared i x.queues ≡ queues_without i x.queues = cleared-is i x.queues (sound-distinct x v) in
     record {
       placed = rw c (placed-clear x.table x.next x.queues rest i p);
       writes = omega (arith, few);
@@ -446,7 +446,7 @@ pub record IsLoose (x : Shell) : Type 0 where
   pub left : IsLeft x.holder
   pub frequency : IsFrequency x.frequency
 
-leave-sound : (v : Item) (x : Shell) → IsLoose x → 1 ≤ times v x.queues.probation → main_length x.queues ≤ main_size x.config + 1 → IsConsistent (leave v x)
+leave-sound : (v : Item) (x : Shell) → IsLoose x → 1 ≤ occurrences v x.queues.probation → main_length x.queues ≤ main_size x.config + 1 → IsConsistent (leave v x)
 leave-sound v x s h m = record {
   placed = rw (unlisted-is v x.table s.placed.ascending) (placed-leave x.table x.next x.queues x.writes v (omega (arith, h)) s.placed);
   stripes = s.stripes;
@@ -456,14 +456,14 @@ leave-sound v x s h m = record {
   frequency = s.frequency;
 }
 
-contest-sound : (c : Item) (o : Option Item) (x : Shell) → IsLoose x → first x.queues.probation ≡ o → 1 ≤ times c x.queues.probation → main_length x.queues ≤ main_size x.config + 1 → IsConsistent (shell_contest c o x).1
+contest-sound : (c : Item) (o : Option Item) (x : Shell) → IsLoose x → oldest_of x.queues.probation ≡ o → 1 ≤ occurrences c x.queues.probation → main_length x.queues ≤ main_size x.config + 1 → IsConsistent (shell_contest c o x).1
 contest-sound c None x s e h m = absurd (none x.queues.probation e h)
   where
-    none : (l : List Item) → first l ≡ None → 1 ≤ times c l → ⊥
+    none : (l : List Item) → oldest_of l ≡ None → 1 ≤ occurrences c l → ⊥
     none [] e h = omega arith
     none (y ∷ l) e h = cc (e)
 contest-sound c (Some v) x s e h m =
-    elim (cases_Bool (same c v)) as (λ _. IsConsistent (shell_contest c (Some v) x).1) [
+    elim (cases_Bool (is_same_item c v)) as (λ _. IsConsistent (shell_contest c (Some v) x).1) [
       | inl f ↦ rw f (leave-sound c x s h m)
       | inr f ↦ rw f (elim (cases_Bool (admits x.frequency c.key v.key)) as (λ _. IsConsistent (cond {A = Reply × Shell} (admits x.frequency c.key v.key) (reply.Evicted v, leave v x) (reply.Rejected c, leave c x)).1) [
         | inl g ↦ rw g (leave-sound v x s (first-queued v x.queues.probation e) m)
@@ -471,44 +471,44 @@ contest-sound c (Some v) x s e h m =
       ])
     ]
 
-from-sound : (c : Item) (x : Shell) → IsLoose x → 1 ≤ times c x.queues.probation → main_length x.queues ≤ main_size x.config + 1 → window_size x.config ≤ length x.queues.window → IsConsistent (evict_from c x).1
+from-sound : (c : Item) (x : Shell) → IsLoose x → 1 ≤ occurrences c x.queues.probation → main_length x.queues ≤ main_size x.config + 1 → window_size x.config ≤ length x.queues.window → IsConsistent (evict_from c x).1
 from-sound c x s h m n =
     elim (cases_Bool (nat_lt x.config.capacity (total_items x.queues))) as (λ _. IsConsistent (evict_from c x).1) [
-      | inl e ↦ rw e (contest-sound c (first x.queues.probation) x s refl h m)
+      | inl e ↦ rw e (contest-sound c (oldest_of x.queues.probation) x s refl h m)
       | inr e ↦
           let few : total_items x.queues ≤ x.config.capacity = grind (arith, nat_tests) in
           rw e record { placed = s.placed; stripes = s.stripes; writes = s.writes; left = s.left; main = omega (arith, few, n); frequency = s.frequency }
     ]
 
-oldest-sound : (o : Option Item) (x : Shell) → first x.queues.window ≡ o → window_size x.config < length x.queues.window → IsConsistent x → IsConsistent (evict_oldest o x).1
+oldest-sound : (o : Option Item) (x : Shell) → oldest_of x.queues.window ≡ o → window_size x.config < length x.queues.window → IsConsistent x → IsConsistent (evict_oldest o x).1
 oldest-sound None x e h v = v
 oldest-sound (Some c) x e h v =
-    let n : 1 ≤ times c x.queues.window = first-queued c x.queues.window e in
+    let n : 1 ≤ occurrences c x.queues.window = first-queued c x.queues.window e in
     let d = sound-distinct x v c in
-    let one : queued c x.queues ≡ 1 = omega (arith, n, d) in
-    let k : IsPlaced x.table x.next (moved c Probation x.queues) x.writes = placed-same x.table x.next x.queues (moved c Probation x.queues) x.writes x.writes (λ j. rw (queued-kept j c Probation x.queues one) refl) (λ j. refl) v.placed.ordered v.placed in
-    from-sound c (shift c x) record { placed = k; stripes = v.stripes; writes = v.writes; left = v.left; frequency = v.frequency }
+    let one : queue_occurrences c x.queues ≡ 1 = omega (arith, n, d) in
+    let k : IsPlaced x.table x.next (queues_after_move c Probation x.queues) x.writes = placed-same x.table x.next x.queues (queues_after_move c Probation x.queues) x.writes x.writes (λ j. rw (queued-kept j c Probation x.queues one) refl) (λ j. refl) v.placed.ordered v.placed in
+    from-sound c (shift_effect c x) record { placed = k; stripes = v.stripes; writes = v.writes; left = v.left; frequency = v.frequency }
     (omega (arith, times-append c (items_without c x.queues.probation) (c ∷ []), times-one c))
     (omega (arith, v.main, length-without c x.queues.probation, length-without c x.queues.protected, length-append (items_without c x.queues.probation) (c ∷ [])))
     (omega (arith, h, n, d, length-without c x.queues.window))
 
-evict-sound : (x : Shell) → IsConsistent x → IsConsistent (evict x).1
+evict-sound : (x : Shell) → IsConsistent x → IsConsistent (evict_effect x).1
 evict-sound x v =
-    elim (cases_Bool (is_over x)) as (λ _. IsConsistent (evict x).1) [
-      | inl e ↦ let lt : window_size x.config < length x.queues.window = grind (arith, nat_tests) in rw e (oldest-sound (first x.queues.window) x refl lt v)
+    elim (cases_Bool (is_over x)) as (λ _. IsConsistent (evict_effect x).1) [
+      | inl e ↦ let lt : window_size x.config < length x.queues.window = grind (arith, nat_tests) in rw e (oldest-sound (oldest_of x.queues.window) x refl lt v)
       | inr e ↦ rw e v
     ]
 
-end-sound : (x : Shell) → IsConsistent x → IsConsistent (end x).1
+end-sound : (x : Shell) → IsConsistent x → IsConsistent (end_effect x).1
 end-sound x v =
-    elim (cases_Bool (is_over x)) as (λ _. IsConsistent (end x).1) [
+    elim (cases_Bool (is_over x)) as (λ _. IsConsistent (end_effect x).1) [
       | inl e ↦ rw e v
       | inr e ↦ rw e record { placed = v.placed; stripes = v.stripes; writes = v.writes; main = v.main; frequency = v.frequency; left = tt }
     ]
 
-pub perform-sound : (w : ℕ) (b : Act) (x : Shell) → IsConsistent x → SoundTo (perform w b x)
+pub perform-sound : (w : ℕ) (b : Act) (x : Shell) → IsConsistent x → SoundTo (act_effect w b x)
 perform-sound w (a.Look k) x v = v
-perform-sound w (a.Offer s i) x v = when-sound (is_stripe s x && nat_lt i.node x.next) (offer s i x) (λ t. offer-sound s i x (grind (arith, nat_tests, (and_parts (is_stripe s x) (nat_lt i.node x.next) t).0)) v)
+perform-sound w (a.Offer s i) x v = when-sound (is_stripe s x && nat_lt i.node x.next) (offer_effect s i x) (λ t. offer-sound s i x (grind (arith, nat_tests, (and_parts (is_stripe s x) (nat_lt i.node x.next) t).0)) v)
 perform-sound w (a.Lose s i) x v = when-sound (is_stripe s x && nat_lt i.node x.next) (reply.Lost, x) (λ t. v)
 perform-sound w (a.Put k) x v = put-sound k x v
 perform-sound w (a.Remove k) x v = remove_at-sound k (node_of k x.table) x refl v
@@ -520,17 +520,17 @@ perform-sound w a.DrainWrite x v = held-sound w x.holder (λ o. hold_write o x) 
 perform-sound w a.Evict x v = held-sound w x.holder (λ o. hold_evict o x) tt (λ h f. evict-sound (in_phase Evictions h x) (phase-sound Evictions h x f v))
 perform-sound w a.End x v = held-sound w x.holder (λ o. hold_end o x) tt (λ h f. end-sound x v)
 
-tallied-sound : (p : Option (Reply × Shell)) → SoundTo p → SoundTo (tallied p)
+tallied-sound : (p : Option (Reply × Shell)) → SoundTo p → SoundTo (counted_reply p)
 tallied-sound None v = tt
 tallied-sound (Some p) v = record { placed = v.placed; stripes = v.stripes; writes = v.writes; main = v.main; frequency = v.frequency; left = v.left }
 
 pub act-sound : (x : Shell) (s : Step) → IsConsistent x → SoundTo (act x s)
 act-sound x s v =
-    elim (cases_Bool (nat_lt x.applied 4294967296)) as (λ _. SoundTo (cond (nat_lt x.applied 4294967296) (tallied (perform s.worker s.act x)) None)) [
-      | inl e ↦ rw e (tallied-sound (perform s.worker s.act x) (perform-sound s.worker s.act x v))
+    elim (cases_Bool (nat_lt x.applied 4294967296)) as (λ _. SoundTo (cond (nat_lt x.applied 4294967296) (counted_reply (act_effect s.worker s.act x)) None)) [
+      | inl e ↦ rw e (tallied-sound (act_effect s.worker s.act x) (perform-sound s.worker s.act x v))
       | inr e ↦ rw e tt
     ]
 
 -- what is queued was given a node
-pub queued-below : (i : Item) (x : Shell) → IsConsistent x → 1 ≤ queued i x.queues → i.node < x.next
+pub queued-below : (i : Item) (x : Shell) → IsConsistent x → 1 ≤ queue_occurrences i x.queues → i.node < x.next
 queued-below i x v h = v.placed.below i (omega (arith, v.placed.known i, h))

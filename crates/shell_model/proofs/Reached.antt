@@ -1,7 +1,7 @@
 -- Reached states, and the laws of records over them.
 use Rattle.std.proofs.Common.{◌≡◌, ℕ, Some, Ok, List, [], ◌∷◌, ◌++◌, ap, subst, ◌∙◌, sym, refl, arith}
 use Rattle.step_record.specs.Config.{config_fault}
-use Rattle.step_record.specs.History.{went, after, IsLegal}
+use Rattle.step_record.specs.History.{next_data, data_after, IsLegal}
 use Rattle.step_record.specs.declared.config.Config.{Config}
 use Rattle.step_record.specs.declared.step.Act.{Act}
 use Rattle.step_record.specs.declared.step.Step.{Step}
@@ -10,7 +10,7 @@ use Rattle.shell_model.specs.declared.record.ShellRecord.{ShellRecord}
 use Rattle.shell_model.specs.Shell.{Shell, act}
 use Rattle.shell_model.specs.Consistent.{IsConsistent}
 use Rattle.shell_model.specs.Records.{change_of}
-use Rattle.shell_model.specs.Laws.{MadeStep, IsShapeOf, opened, some_end, open_began}
+use Rattle.shell_model.specs.Laws.{MadeStep, IsShapeOf, empty_shell, some_end, open_began}
 use Rattle.shell_model.specs.Reached.{IsReachable, RecordLaw, LaterLaws}
 use Rattle.shell_model.proofs.Acting.{IsUndone, act-undone}
 use Rattle.shell_model.proofs.Making as k
@@ -19,7 +19,7 @@ use Rattle.shell_model.proofs.Histories.{Steps, stepped, after-sound}
 use Rattle.shell_model.proofs.Holding.{opened-sound, holder-law, from-none}
 
 pub reached-sound : (x : Shell) → IsReachable x → IsConsistent x
-reached-sound x r = rw r.gives (after-sound (opened x.config r.shape) r.entries (opened-sound x.config r.shape r.shape_is) r.legal)
+reached-sound x r = rw r.gives (after-sound (empty_shell x.config r.shape) r.entries (opened-sound x.config r.shape r.shape_is) r.legal)
 
 pub record-law : RecordLaw
 record-law x y s r h e =
@@ -36,13 +36,13 @@ later-laws x es h n l = record {
 
 -- a step leads from a reached state to a reached one
 
-after-append : (x : Shell) (es fs : List MadeStep) → after act x (es ++ fs) ≡ after act (after act x es) fs
+after-append : (x : Shell) (es fs : List MadeStep) → data_after act x (es ++ fs) ≡ data_after act (data_after act x es) fs
 after-append x [] fs = refl
-after-append x (e ∷ es) fs = after-append (went (act x e.step) x) es fs
+after-append x (e ∷ es) fs = after-append (next_data (act x e.step) x) es fs
 
-legal-append : (x : Shell) (es fs : List MadeStep) → IsLegal act x es → IsLegal act (after act x es) fs → IsLegal act x (es ++ fs)
+legal-append : (x : Shell) (es fs : List MadeStep) → IsLegal act x es → IsLegal act (data_after act x es) fs → IsLegal act x (es ++ fs)
 legal-append x [] fs l m = m
-legal-append x (e ∷ es) fs l m = (l.0, legal-append (went (act x e.step) x) es fs l.1 m)
+legal-append x (e ∷ es) fs l m = (l.0, legal-append (next_data (act x e.step) x) es fs l.1 m)
 
 config-step : (x : Shell) (w : ℕ) (b : Act) (r : Reply) (y : Shell) → Makes w x b r y → y.config ≡ x.config
 config-step x w b r y k.busy = refl
@@ -60,14 +60,14 @@ pub reached-on : (x y : Shell) (s : Step) (r : Reply) → IsReachable x → act 
 reached-on x y s r h e =
     let c : x.config ≡ y.config = sym (config-kept x y s r e) in
     let one : IsLegal act x (made_of s r ∷ []) = (rw e refl, tt) in
-    let last : y ≡ after act x (made_of s r ∷ []) = rw e refl in
-    let legal : IsLegal act (opened x.config h.shape) (h.entries ++ made_of s r ∷ []) = legal-append (opened x.config h.shape) h.entries (made_of s r ∷ []) h.legal (subst (λ (z : Shell). IsLegal act z (made_of s r ∷ [])) h.gives one) in
-    let gives : y ≡ after act (opened x.config h.shape) (h.entries ++ made_of s r ∷ []) = last ∙ ap (λ (z : Shell). after act z (made_of s r ∷ [])) h.gives ∙ sym (after-append (opened x.config h.shape) h.entries (made_of s r ∷ [])) in
+    let last : y ≡ data_after act x (made_of s r ∷ []) = rw e refl in
+    let legal : IsLegal act (empty_shell x.config h.shape) (h.entries ++ made_of s r ∷ []) = legal-append (empty_shell x.config h.shape) h.entries (made_of s r ∷ []) h.legal (subst (λ (z : Shell). IsLegal act z (made_of s r ∷ [])) h.gives one) in
+    let gives : y ≡ data_after act (empty_shell x.config h.shape) (h.entries ++ made_of s r ∷ []) = last ∙ ap (λ (z : Shell). data_after act z (made_of s r ∷ [])) h.gives ∙ sym (after-append (empty_shell x.config h.shape) h.entries (made_of s r ∷ [])) in
     record {
       checked = subst (λ (d : Config). config_fault d ≡ Ok tt) c h.checked;
       shape = h.shape;
       shape_is = subst (λ (d : Config). IsShapeOf d h.shape) c h.shape_is;
       entries = h.entries ++ made_of s r ∷ [];
-      legal = subst (λ (d : Config). IsLegal act (opened d h.shape) (h.entries ++ made_of s r ∷ [])) c legal;
-      gives = gives ∙ ap (λ (d : Config). after act (opened d h.shape) (h.entries ++ made_of s r ∷ [])) c;
+      legal = subst (λ (d : Config). IsLegal act (empty_shell d h.shape) (h.entries ++ made_of s r ∷ [])) c legal;
+      gives = gives ∙ ap (λ (d : Config). data_after act (empty_shell d h.shape) (h.entries ++ made_of s r ∷ [])) c;
     }

@@ -5,7 +5,7 @@ use Rattle.step_record.specs.declared.drain.Drain.{Drain}
 use Rattle.step_record.specs.declared.drain.Drain.TheVariants.{Idle, Required, ToIdle, ToRequired}
 use Rattle.step_record.specs.declared.step.Reply.{Reply}
 use Rattle.step_record.specs.declared.drain.Phase.TheVariants.{Writes, Evictions}
-use Rattle.step_record.specs.History.{went, after, IsLegal}
+use Rattle.step_record.specs.History.{next_data, data_after, IsLegal}
 use Rattle.shell_model.specs.declared.holder.Holder.{Holder}
 use Rattle.shell_model.specs.Shell.{Shell, act, after_write, drain_at_end}
 use Rattle.shell_model.specs.Laws.{MadeStep}
@@ -62,11 +62,11 @@ seat-step x w b r y (k.idle h f d e) v = rw e (left-side x.drain)
 seat-step x w b r y (k.again h f d e) v = rw e (left-side x.drain)
 seat-step x w b r y made v = v
 
-pub seat-law : (x : Shell) (es : List MadeStep) → IsSeated x.holder x.drain → IsLegal act x es → IsSeated (after act x es).holder (after act x es).drain
+pub seat-law : (x : Shell) (es : List MadeStep) → IsSeated x.holder x.drain → IsLegal act x es → IsSeated (data_after act x es).holder (data_after act x es).drain
 seat-law x [] v l = v
 seat-law x (e ∷ es) v l =
-    let s : Steps x e (went (act x e.step) x) = stepped x e (went (act x e.step) x) l.0 in
-    let g : (went (act x e.step) x).holder ≡ s.left.holder = ap (λ (y : Shell). y.holder) s.is in
-    let h : (went (act x e.step) x).drain ≡ s.left.drain = ap (λ (y : Shell). y.drain) s.is in
+    let s : Steps x e (next_data (act x e.step) x) = stepped x e (next_data (act x e.step) x) l.0 in
+    let g : (next_data (act x e.step) x).holder ≡ s.left.holder = ap (λ (y : Shell). y.holder) s.is in
+    let h : (next_data (act x e.step) x).drain ≡ s.left.drain = ap (λ (y : Shell). y.drain) s.is in
     let n : IsSeated s.left.holder s.left.drain = seat-step x e.step.worker e.step.act e.reply s.left s.made v in
-    seat-law (went (act x e.step) x) es (rw (g, h) n) l.1
+    seat-law (next_data (act x e.step) x) es (rw (g, h) n) l.1

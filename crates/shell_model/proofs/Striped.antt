@@ -9,9 +9,9 @@ use Rattle.step_record.specs.declared.limits.TheConstants.{MAX_CAPACITY, MAX_MAI
 use Rattle.step_record.specs.declared.step.Act.{Act}
 use Rattle.step_record.specs.declared.step.Reply.{Reply}
 use Rattle.step_record.specs.Config.{is_from_one, config_fault}
-use Rattle.step_record.specs.History.{went, after, IsLegal}
+use Rattle.step_record.specs.History.{next_data, data_after, IsLegal}
 use Rattle.shell_model.specs.Shell.{Shell, act}
-use Rattle.shell_model.specs.Laws.{MadeStep, opened}
+use Rattle.shell_model.specs.Laws.{MadeStep, empty_shell}
 use Rattle.shell_model.specs.Reached.{IsReachable}
 use Rattle.shell_model.proofs.Making as k
 use Rattle.shell_model.proofs.Making.{Makes}
@@ -26,19 +26,19 @@ striped-step x w b r y (k.kept s i h) v = length-set x.stripes s _ ∙ v
 striped-step x w b r y (k.drained s i rest h e) v = length-set x.stripes s rest ∙ v
 striped-step x w b r y made v = v
 
-after-striped : (x : Shell) (es : List MadeStep) → IsStriped x → IsLegal act x es → IsStriped (after act x es)
+after-striped : (x : Shell) (es : List MadeStep) → IsStriped x → IsLegal act x es → IsStriped (data_after act x es)
 after-striped x [] v l = v
 after-striped x (e ∷ es) v l =
-    let t : Steps x e (went (act x e.step) x) = stepped x e (went (act x e.step) x) l.0 in
+    let t : Steps x e (next_data (act x e.step) x) = stepped x e (next_data (act x e.step) x) l.0 in
     let u : IsStriped t.left = striped-step x e.step.worker e.step.act e.reply t.left t.made v in
-    after-striped (went (act x e.step) x) es (ap (λ (z : Shell). length z.stripes) t.is ∙ u ∙ sym (ap (λ (z : Shell). z.config.stripes) t.is)) l.1
+    after-striped (next_data (act x e.step) x) es (ap (λ (z : Shell). length z.stripes) t.is ∙ u ∙ sym (ap (λ (z : Shell). z.config.stripes) t.is)) l.1
 
 length-none : (n : ℕ) (l : List Item) → length (replicate n l) ≡ n
 length-none zero l = refl
 length-none (suc n) l = ap suc (length-none n l)
 
 pub striped-law : (x : Shell) → IsReachable x → length x.stripes ≡ x.config.stripes
-striped-law x r = rw r.gives (after-striped (opened x.config r.shape) r.entries (length-none x.config.stripes []) r.legal)
+striped-law x r = rw r.gives (after-striped (empty_shell x.config r.shape) r.entries (length-none x.config.stripes []) r.legal)
 
 powers : (n : ℕ) → is_power_of_two n ≡ true → 1 ≤ n
 unfolding lib.Count.ones

@@ -12,15 +12,15 @@ use Rattle.step_record.specs.declared.step.Reply.TheVariants as reply
 use Rattle.segments.specs.declared.records.Queue.{Queue}
 use Rattle.segments.specs.declared.records.Queue.TheVariants.{Window, Probation}
 use Rattle.segments.specs.declared.records.MoveRecord.{MoveRecord}
-use Rattle.segments.specs.Items.{same, times, first}
-use Rattle.segments.specs.Queues.{Queues, place_of, pushed, moved, taken, IsDistinct}
+use Rattle.segments.specs.Items.{is_same_item, occurrences, oldest_of}
+use Rattle.segments.specs.Queues.{Queues, queue_holding, queues_after_push, queues_after_move, queues_without, IsDistinct}
 use Rattle.segments.proofs.ItemLists.{same-refl, same-true}
 use Rattle.segments.proofs.MoveLaws.{out_leads, taken-none}
 use Rattle.replacement.specs.declared.record.Moves.{Moves}
 use Rattle.replacement.specs.Rules.{three_queues}
 use Rattle.replacement.specs.Table.{hit_in}
 use Rattle.replacement.specs.Plan.{Plan, hit_plan, stay_plan, candidate_of, eviction_plan}
-use Rattle.replacement.specs.Moving.{transferred, queues_after, response, removal_record, moves_of, undone_by, undone_moves, FitsBy, FitsMoves}
+use Rattle.replacement.specs.Moving.{queues_after_transfer, queues_after, response_of_plan, removal_record, moves_of, undone_by, undone_moves, FitsBy, FitsMoves}
 use Rattle.replacement.proofs.Carrying.{carries}
 use Rattle.replacement.proofs.Planned.{hits-planned}
 use Rattle.shell_buffers.specs.declared.task.Task.{Task}
@@ -30,11 +30,11 @@ use Rattle.shell_model.specs.declared.record.UseRecord.{UseRecord}
 use Rattle.shell_model.specs.declared.record.Change.{Change}
 use Rattle.shell_model.specs.declared.record.Change.TheVariants.{Nothing, Offered, Removed, Passed, Ended}
 use Rattle.shell_model.specs.Frequency.{frequency_unrecorded, admits}
-use Rattle.shell_buffers.specs.Buffers.{stripe_at, but_newest}
-use Rattle.shell_model.specs.Shell.{Shell, node_of, is_listed, unlisted, shell_protected_size, cleared_from, offer, put, put_at, removing, remove_at, begin, is_over, held_by, in_phase, drain_at_end, touching, drain_read, drain_write, apply_task, evict, end, when, may_read, may_write, is_stripe, hold_read, hold_write, hold_evict, hold_end, perform}
+use Rattle.shell_buffers.specs.Buffers.{stripe_at, all_but_newest}
+use Rattle.shell_model.specs.Shell.{Shell, node_of, is_listed, unlisted, shell_protected_size, cleared_from, offer_effect, put_effect, put_at, removing, remove_at, begin_effect, is_over, held_by, in_phase, drain_at_end, shell_after_touch, drain_read, drain_write, apply_task, evict_effect, end_effect, some_if, may_read, may_write, is_stripe, hold_read, hold_write, hold_evict, hold_end, act_effect}
 use Rattle.shell_model.specs.Evicting.{unlisted_by, evicted_by}
 use Rattle.shell_model.specs.Records.{IsNewest, FitsTouched, entered, IsOut, before_change, FitsChange, hit_moves, touched_of, added_of, cleared_of, task_change, put_change, remove_change, begin_change, read_change, write_change, leaves_table, planned_change, evict_change, if_held, change_of}
-use Rattle.shell_model.specs.Consistent.{IsConsistent, queued, waiting_tasks, leaving, IsAscending}
+use Rattle.shell_model.specs.Consistent.{IsConsistent, queue_occurrences, waiting_tasks, leaving, IsAscending}
 use Rattle.shell_model.proofs.Counting.{queued-moved, without-placed, node_of-placed, placed-without, node_of-without, listed-times, node-listed}
 use Rattle.shell_model.proofs.Evicting.{evictions-by-plan}
 use Rattle.shell_model.proofs.Frequency.{fits_recorded, unrecorded-recorded}
@@ -48,11 +48,11 @@ abbrev pub GoesTo : Change → Shell → Option (Reply × Shell) → Type 0
 GoesTo c x None = Unit {0}
 GoesTo c x (Some p) = Goes c x p.1
 
-when-goes : (c : Change) (x : Shell) (b : Bool) (p : Reply × Shell) → (b ≡ true → Goes c x p.1) → GoesTo c x (when b p)
+when-goes : (c : Change) (x : Shell) (b : Bool) (p : Reply × Shell) → (b ≡ true → Goes c x p.1) → GoesTo c x (some_if b p)
 when-goes c x true p h = h refl
 when-goes c x false p h = tt
 
-pub but_newest-push : {A : Type 0} → (l : List A) (e : A) → but_newest (l ++ e ∷ []) ≡ l
+pub but_newest-push : {A : Type 0} → (l : List A) (e : A) → all_but_newest (l ++ e ∷ []) ≡ l
 but_newest-push l e =
     let n : length (l ++ e ∷ []) - 1 ≡ length l = omega (arith, length-append l (e ∷ [])) in
     rw n (take_at l (e ∷ []) (length l) refl)
@@ -62,22 +62,22 @@ newest-push l e = rw (but_newest-push l e) refl
 
 -- offers
 
-offer-goes : (s : ℕ) (i : Item) (x : Shell) → s < length x.stripes → Goes (cond (nat_lt (length (stripe_at s x.stripes)) 16) (Offered s i) Nothing) x (offer s i x).1
+offer-goes : (s : ℕ) (i : Item) (x : Shell) → s < length x.stripes → Goes (cond (nat_lt (length (stripe_at s x.stripes)) 16) (Offered s i) Nothing) x (offer_effect s i x).1
 offer-goes s i x h =
-    elim (cases_Bool (nat_lt (length (stripe_at s x.stripes)) 16)) as (λ _. Goes (cond (nat_lt (length (stripe_at s x.stripes)) 16) (Offered s i) Nothing) x (offer s i x).1) [
+    elim (cases_Bool (nat_lt (length (stripe_at s x.stripes)) 16)) as (λ _. Goes (cond (nat_lt (length (stripe_at s x.stripes)) 16) (Offered s i) Nothing) x (offer_effect s i x).1) [
       | inl e ↦
-          let same : stripe_at s (set x.stripes s (stripe_at s x.stripes ++ i ∷ [])) ≡ stripe_at s x.stripes ++ i ∷ [] = get_or-set_same x.stripes s (stripe_at s x.stripes ++ i ∷ []) [] h in
+          let is_same_item : stripe_at s (set x.stripes s (stripe_at s x.stripes ++ i ∷ [])) ≡ stripe_at s x.stripes ++ i ∷ [] = get_or-set_same x.stripes s (stripe_at s x.stripes ++ i ∷ []) [] h in
           rw e record {
-            fits = (omega (arith, h, length-set x.stripes s (stripe_at s x.stripes ++ i ∷ [])), rw same (newest-push (stripe_at s x.stripes) i));
-            back = rw (same, but_newest-push (stripe_at s x.stripes) i, set-set x.stripes s (stripe_at s x.stripes ++ i ∷ []) (stripe_at s x.stripes), set-get_or x.stripes s []) refl;
+            fits = (omega (arith, h, length-set x.stripes s (stripe_at s x.stripes ++ i ∷ [])), rw is_same_item (newest-push (stripe_at s x.stripes) i));
+            back = rw (is_same_item, but_newest-push (stripe_at s x.stripes) i, set-set x.stripes s (stripe_at s x.stripes ++ i ∷ []) (stripe_at s x.stripes), set-get_or x.stripes s []) refl;
           }
       | inr e ↦ rw e record { fits = tt; back = refl }
     ]
 
 -- puts
 
-pub fresh-none : (x : Shell) (k : ℕ) → IsConsistent x → times record { key = k; node = x.next } x.table ≡ 0
-fresh-none x k w = let n : times record { key = k; node = x.next } x.table + leaving record { key = k; node = x.next } x.writes ≡ 0 = none (times record { key = k; node = x.next } x.table + leaving record { key = k; node = x.next } x.writes) (w.placed.below record { key = k; node = x.next }) in omega (arith, n)
+pub fresh-none : (x : Shell) (k : ℕ) → IsConsistent x → occurrences record { key = k; node = x.next } x.table ≡ 0
+fresh-none x k w = let n : occurrences record { key = k; node = x.next } x.table + leaving record { key = k; node = x.next } x.writes ≡ 0 = none (occurrences record { key = k; node = x.next } x.table + leaving record { key = k; node = x.next } x.writes) (w.placed.below record { key = k; node = x.next }) in omega (arith, n)
   where
     none : (n : ℕ) → (1 ≤ n → x.next < x.next) → n ≡ 0
     none zero f = refl
@@ -95,9 +95,9 @@ put_at-goes k None x e w =
           rw (but_newest-push x.writes (Add record { key = k; node = x.next }), without-placed record { key = k; node = x.next } x.table (fresh-none x k w), n) refl;
     }
 
-put-goes : (k : ℕ) (x : Shell) → IsConsistent x → Goes (cond (nat_lt (length x.writes) 128) (put_change k (node_of k x.table) x) Nothing) x (put k x).1
+put-goes : (k : ℕ) (x : Shell) → IsConsistent x → Goes (cond (nat_lt (length x.writes) 128) (put_change k (node_of k x.table) x) Nothing) x (put_effect k x).1
 put-goes k x w =
-    elim (cases_Bool (nat_lt (length x.writes) 128)) as (λ _. Goes (cond (nat_lt (length x.writes) 128) (put_change k (node_of k x.table) x) Nothing) x (put k x).1) [
+    elim (cases_Bool (nat_lt (length x.writes) 128)) as (λ _. Goes (cond (nat_lt (length x.writes) 128) (put_change k (node_of k x.table) x) Nothing) x (put_effect k x).1) [
       | inl e ↦ rw e (put_at-goes k (node_of k x.table) x refl w)
       | inr e ↦ rw e record { fits = tt; back = refl }
     ]
@@ -106,7 +106,7 @@ remove_at-goes : (k : ℕ) (o : Option ℕ) (x : Shell) → node_of k x.table �
 remove_at-goes k None x e w = record { fits = tt; back = refl }
 remove_at-goes k (Some n) x e w =
     let i : Item = record { key = k; node = n } in
-    let h : 1 ≤ times record { key = k; node = n } x.table = listed-times record { key = k; node = n } x.table (node-listed record { key = k; node = n } x.table e) in
+    let h : 1 ≤ occurrences record { key = k; node = n } x.table = listed-times record { key = k; node = n } x.table (node-listed record { key = k; node = n } x.table e) in
     elim (cases_Bool (nat_lt (length x.writes) 128)) as (λ _. Goes (cond (nat_lt (length x.writes) 128) (Removed record { key = k; node = n }) Nothing) x (cond {A = Reply × Shell} (nat_lt (length x.writes) 128) (reply.Removed n, removing record { key = k; node = n } x) (reply.WritesFull, x)).1) [
       | inl t ↦ rw t record {
         fits = (newest-push x.writes (Remove record { key = k; node = n }), node_of-without record { key = k; node = n } x.table w.placed.ascending h);
@@ -115,7 +115,7 @@ remove_at-goes k (Some n) x e w =
       | inr t ↦ rw t record { fits = tt; back = refl }
     ]
 
-begin-goes : (w : ℕ) (o : Option Holder) (x : Shell) → x.holder ≡ o → Goes (begin_change w o x) x (begin w o x).1
+begin-goes : (w : ℕ) (o : Option Holder) (x : Shell) → x.holder ≡ o → Goes (begin_change w o x) x (begin_effect w o x).1
 begin-goes w (Some h) x e = record { fits = tt; back = refl }
 begin-goes w None x e = record { fits = (refl, refl); back = rw (← e) refl }
 
@@ -148,14 +148,14 @@ pub record TouchBack (t : UseRecord) (x y : Shell) : Type 0 where
   pub queues : undone_moves t.moves y.queues ≡ x.queues
   pub frequency : frequency_unrecorded t.frequency y.frequency ≡ x.frequency
 
-touch-back : (i : Item) (x : Shell) → IsConsistent x → TouchBack (touched_of i x) x (touching i x)
+touch-back : (i : Item) (x : Shell) → IsConsistent x → TouchBack (touched_of i x) x (shell_after_touch i x)
 touch-back i x w =
-    let b = hit-back (shell_protected_size x.config) i x.queues (place_of i x.queues) (sound-distinct x w) in
+    let b = hit-back (shell_protected_size x.config) i x.queues (queue_holding i x.queues) (sound-distinct x w) in
     record {
       fits = record {
         moves = b.fits;
         frequency = fits_recorded x.frequency i.key w.frequency;
-        stays = hit-stays (shell_protected_size x.config) i x.queues (place_of i x.queues);
+        stays = hit-stays (shell_protected_size x.config) i x.queues (queue_holding i x.queues);
       };
       queues = b.back;
       frequency = unrecorded-recorded x.frequency i.key w.frequency;
@@ -167,13 +167,13 @@ read-goes : (s : ℕ) (l : List Item) (x : Shell) → stripe_at s x.stripes ≡ 
 read-goes s [] x e h w = record { fits = tt; back = refl }
 read-goes s (i ∷ rest) x e h w =
     let b = touch-back i x w in
-    let same : stripe_at s (set x.stripes s rest) ≡ rest = get_or-set_same x.stripes s rest [] h in
+    let is_same_item : stripe_at s (set x.stripes s rest) ≡ rest = get_or-set_same x.stripes s rest [] h in
     let few : length (stripe_at s x.stripes) ≤ 16 = w.stripes s in
     let few2 : suc (length rest) ≤ 16 = rw e at few in
     let whole : set x.stripes s (i ∷ rest) ≡ x.stripes = rw (← e) (set-get_or x.stripes s []) in
     record {
-      fits = (record { moves = b.fits.moves; frequency = b.fits.frequency; stays = b.fits.stays }, omega (arith, h, length-set x.stripes s rest), rw same (omega (arith, few2)));
-      back = rw (b.queues, b.frequency, same, set-set x.stripes s rest (i ∷ rest), whole) refl;
+      fits = (record { moves = b.fits.moves; frequency = b.fits.frequency; stays = b.fits.stays }, omega (arith, h, length-set x.stripes s rest), rw is_same_item (omega (arith, few2)));
+      back = rw (b.queues, b.frequency, is_same_item, set-set x.stripes s rest (i ∷ rest), whole) refl;
     }
 
 hold_read-goes : (s : ℕ) (w : ℕ) (o : Option Holder) (x : Shell) → IsConsistent x → GoesTo (read_change s (stripe_at s x.stripes) x) x (hold_read s (held_by w o) x)
@@ -186,17 +186,17 @@ hold_read-goes s w (Some h) x v =
 
 -- writes
 
-pub queued-waits : (i : Item) (rest : List Task) (x : Shell) → x.writes ≡ Add i ∷ rest → IsConsistent x → queued i x.queues ≡ 0
+pub queued-waits : (i : Item) (rest : List Task) (x : Shell) → x.writes ≡ Add i ∷ rest → IsConsistent x → queue_occurrences i x.queues ≡ 0
 queued-waits i rest x e w =
-    let a : queued i x.queues + waiting_tasks i x.writes ≤ 1 = omega (arith, w.placed.known i, w.placed.once i) in
-    let b : queued i x.queues + (cond (same i i) 1 0 + waiting_tasks i rest) ≤ 1 = rw e at a in
-    let c : queued i x.queues + (1 + waiting_tasks i rest) ≤ 1 = rw (same-refl i) at b in
+    let a : queue_occurrences i x.queues + waiting_tasks i x.writes ≤ 1 = omega (arith, w.placed.known i, w.placed.once i) in
+    let b : queue_occurrences i x.queues + (cond (is_same_item i i) 1 0 + waiting_tasks i rest) ≤ 1 = rw e at a in
+    let c : queue_occurrences i x.queues + (1 + waiting_tasks i rest) ≤ 1 = rw (same-refl i) at b in
     omega (arith, c)
 
 added-back : (i : Item) (rest : List Task) (x : Shell) → x.writes ≡ Add i ∷ rest → IsConsistent x → TouchBack (added_of i x) x (apply_task (Add i) x).1
 added-back i rest x e w =
-    let n : taken i x.queues ≡ x.queues = taken-none i x.queues (queued-waits i rest x e w) in
-    let m : moved i Window x.queues ≡ pushed Window i x.queues = ap (λ r. pushed Window i r) n in
+    let n : queues_without i x.queues ≡ x.queues = taken-none i x.queues (queued-waits i rest x e w) in
+    let m : queues_after_move i Window x.queues ≡ queues_after_push Window i x.queues = ap (λ r. queues_after_push Window i r) n in
     let b = subst (λ r. MovesBack (moves_of (stay_plan Window i) x.queues) x.queues r) m
     (plan-back (stay_plan Window i) x.queues (sound-distinct x w)) in
     record {
@@ -238,7 +238,7 @@ task-goes (Update i) rest h x e f more w =
       back = rw (b.queues, b.frequency, again, ← e, ← f) refl;
     }
 task-goes (Remove i) rest h x e f more w =
-    let b = cleared-back i x.queues (place_of i x.queues) (sound-distinct x w) in
+    let b = cleared-back i x.queues (queue_holding i x.queues) (sound-distinct x w) in
     let few : suc (length rest) ≤ 128 = rw e at w.writes in
     let left : h.left ≤ 128 = rw f at w.left in
     let again : h.left - 1 + 1 ≡ h.left = omega arith in
@@ -265,11 +265,11 @@ if_held-goes f g w (Some h) x u n s k =
 
 -- evictions
 
-pub first-queued : (i : Item) (l : List Item) → first l ≡ Some i → 1 ≤ times i l
+pub first-queued : (i : Item) (l : List Item) → oldest_of l ≡ Some i → 1 ≤ occurrences i l
 first-queued i [] h = absurd (cc (h))
 first-queued i (x ∷ l) h =
     let e : x ≡ i = unsome x i h in
-    let s : same i x ≡ true = rw e (same-refl i) in
+    let s : is_same_item i x ≡ true = rw e (same-refl i) in
     rw s (omega arith)
   where
     item_in : Item → Option Item → Item
@@ -280,12 +280,12 @@ first-queued i (x ∷ l) h =
     unsome x i h = ap (item_in x) h
 
 -- the candidate was queued, and goes to probation, whose items were queued all
-pub shifted-queued : (c v : Item) (x : Shell) → 1 ≤ queued c x.queues → first (moved c Probation x.queues).probation ≡ Some v → 1 ≤ queued v x.queues
+pub shifted-queued : (c v : Item) (x : Shell) → 1 ≤ queue_occurrences c x.queues → oldest_of (queues_after_move c Probation x.queues).probation ≡ Some v → 1 ≤ queue_occurrences v x.queues
 shifted-queued c v x h f =
-    let q : queued v (moved c Probation x.queues) ≡ cond (same v c) 1 (queued v x.queues) = queued-moved v c Probation x.queues in
-    let n : 1 ≤ times v (moved c Probation x.queues).probation = first-queued v (moved c Probation x.queues).probation f in
-    let m : 1 ≤ cond (same v c) 1 (queued v x.queues) = omega (arith, q, n) in
-    elim (cases_Bool (same v c)) as (λ _. 1 ≤ queued v x.queues) [
+    let q : queue_occurrences v (queues_after_move c Probation x.queues) ≡ cond (is_same_item v c) 1 (queue_occurrences v x.queues) = queued-moved v c Probation x.queues in
+    let n : 1 ≤ occurrences v (queues_after_move c Probation x.queues).probation = first-queued v (queues_after_move c Probation x.queues).probation f in
+    let m : 1 ≤ cond (is_same_item v c) 1 (queue_occurrences v x.queues) = omega (arith, q, n) in
+    elim (cases_Bool (is_same_item v c)) as (λ _. 1 ≤ queue_occurrences v x.queues) [
       | inl e ↦ let s : v ≡ c = same-true v c e in rw s h
       | inr e ↦ rw e at m
     ]
@@ -301,21 +301,21 @@ table-back None s t a = record { out = tt; back = refl }
 table-back (Some i) s t a =
     elim (cases_Bool (is_listed i t)) as (λ _. TableBack (is_listed i t) (removal_record (Some i) s) t (unlisted i t)) [
       | inl e ↦
-          let h : 1 ≤ times i t = listed-times i t e in
+          let h : 1 ≤ occurrences i t = listed-times i t e in
           rw e record { out = node_of-without i t a h; back = placed-without i t a h }
       | inr e ↦ rw e record { out = tt; back = refl }
     ]
 
 planned-goes : (h : Holder) (o : Option Item) (p : Plan) (x : Shell) → x.holder ≡ Some h → IsConsistent x
-    → Goes (planned_change h o p x) x (evicted_by o (response p x.queues) (in_phase Evictions h x)).1
+    → Goes (planned_change h o p x) x (evicted_by o (response_of_plan p x.queues) (in_phase Evictions h x)).1
 planned-goes h None p x f w = record { fits = refl; back = rw (← f) refl }
 planned-goes h (Some c) p x f w =
     let m = plan-back p x.queues (sound-distinct x w) in
-    let t = table-back p.leaves (transferred p.first x.queues) x.table w.placed.ascending in
+    let t = table-back p.leaves (queues_after_transfer p.first x.queues) x.table w.placed.ascending in
     record { fits = (record { moves = m.fits; table = t.out }, refl); back = rw (m.back, t.back) (rw (← f) refl) }
 
 evict-goes : (h : Holder) (x : Shell) → x.holder ≡ Some h → IsConsistent x
-    → Goes (evict_change h x) x (evict (in_phase Evictions h x)).1
+    → Goes (evict_change h x) x (evict_effect (in_phase Evictions h x)).1
 evict-goes h x f w =
     subst (λ (r : Reply × Shell). Goes (evict_change h x) x r.1)
     (sym (evictions-by-plan (in_phase Evictions h x) (sound-distinct x w)))
@@ -328,7 +328,7 @@ end-goes : (w : ℕ) (x : Shell) → GoesTo (cond (is_over x) Nothing (if_held (
 end-goes w x =
     elim (cases_Bool (is_over x)) as (λ _. GoesTo (cond (is_over x) Nothing (if_held (λ h. Ended h x.drain (drain_at_end x.drain).1) x.holder)) x (hold_end (held_by w x.holder) x)) [
       | inl e ↦ rw e (over (held_by w x.holder) e)
-      | inr e ↦ rw e (if_held-goes (λ h. Ended h x.drain (drain_at_end x.drain).1) (λ h. Some (end x)) w x.holder x (λ o. hold_end o x) refl (λ h. refl) (λ h f. rw e record { fits = (refl, refl); back = rw (← f) refl }))
+      | inr e ↦ rw e (if_held-goes (λ h. Ended h x.drain (drain_at_end x.drain).1) (λ h. Some (end_effect x)) w x.holder x (λ o. hold_end o x) refl (λ h. refl) (λ h f. rw e record { fits = (refl, refl); back = rw (← f) refl }))
     ]
   where
     over : (o : Option Holder) → is_over x ≡ true → GoesTo Nothing x (hold_end o x)
@@ -336,9 +336,9 @@ end-goes w x =
     over (Some h) e = rw e record { fits = tt; back = refl }
 
 -- every accepted act's change leads from the state before to the state after
-pub perform-goes : (w : ℕ) (b : Act) (x : Shell) → IsConsistent x → GoesTo (change_of w b x) x (perform w b x)
+pub perform-goes : (w : ℕ) (b : Act) (x : Shell) → IsConsistent x → GoesTo (change_of w b x) x (act_effect w b x)
 perform-goes w (a.Look k) x v = record { fits = tt; back = refl }
-perform-goes w (a.Offer s i) x v = when-goes (change_of w (a.Offer s i) x) x (is_stripe s x && nat_lt i.node x.next) (offer s i x) (λ t. offer-goes s i x (grind (arith, nat_tests, (and_parts (is_stripe s x) (nat_lt i.node x.next) t).0)))
+perform-goes w (a.Offer s i) x v = when-goes (change_of w (a.Offer s i) x) x (is_stripe s x && nat_lt i.node x.next) (offer_effect s i x) (λ t. offer-goes s i x (grind (arith, nat_tests, (and_parts (is_stripe s x) (nat_lt i.node x.next) t).0)))
 perform-goes w (a.Lose s i) x v = when-goes Nothing x (is_stripe s x && nat_lt i.node x.next) (reply.Lost, x) (λ t. record { fits = tt; back = refl })
 perform-goes w (a.Put k) x v = put-goes k x v
 perform-goes w (a.Remove k) x v = remove_at-goes k (node_of k x.table) x refl v
@@ -347,8 +347,8 @@ perform-goes w a.AfterWrite x v = record { fits = refl; back = refl }
 perform-goes w a.Begin x v = begin-goes w x.holder x refl
 perform-goes w (a.DrainRead s) x v = hold_read-goes s w x.holder x v
 perform-goes w a.DrainWrite x v =
-    if_held-goes (λ h. write_change h x.writes x) (λ h. when (may_write h.phase) (drain_write h x.writes x)) w x.holder x (λ o. hold_write o x) refl (λ h. refl)
+    if_held-goes (λ h. write_change h x.writes x) (λ h. some_if (may_write h.phase) (drain_write h x.writes x)) w x.holder x (λ o. hold_write o x) refl (λ h. refl)
     (λ h f. when-goes (write_change h x.writes x) x (may_write h.phase) (drain_write h x.writes x) (λ t. write-goes h x.writes x refl f v))
 perform-goes w a.Evict x v =
-    if_held-goes (λ h. evict_change h x) (λ h. Some (evict (in_phase Evictions h x))) w x.holder x (λ o. hold_evict o x) refl (λ h. refl) (λ h f. evict-goes h x f v)
+    if_held-goes (λ h. evict_change h x) (λ h. Some (evict_effect (in_phase Evictions h x))) w x.holder x (λ o. hold_evict o x) refl (λ h. refl) (λ h f. evict-goes h x f v)
 perform-goes w a.End x v = end-goes w x

@@ -4,7 +4,7 @@ use Rattle.shell_buffers.specs.declared.stripes.TheConstants.{MAX_ITEMS}
 use Rattle.shell_buffers.specs.declared.write_tasks.TheConstants.{MAX_TASKS}
 use Rattle.step_record.specs.declared.item.Item.{Item}
 use Rattle.admission.specs.Frequency.{IsFrequency}
-use Rattle.segments.specs.Items.{same, times}
+use Rattle.segments.specs.Items.{is_same_item, occurrences}
 use Rattle.segments.specs.Queues.{Queues}
 use Rattle.shell_buffers.specs.declared.task.Task.{Task}
 use Rattle.shell_buffers.specs.declared.task.Task.TheVariants.{Add, Update, Remove}
@@ -16,7 +16,7 @@ use Rattle.shell_model.specs.declared.holder.Holder.{Holder}
 -- how often an Add of the item waits
 abbrev pub waiting_tasks : Item → List Task → ℕ
 waiting_tasks i [] = 0
-waiting_tasks i (Add j ∷ ts) = cond (same i j) 1 0 + waiting_tasks i ts
+waiting_tasks i (Add j ∷ ts) = cond (is_same_item i j) 1 0 + waiting_tasks i ts
 waiting_tasks i (Update j ∷ ts) = waiting_tasks i ts
 waiting_tasks i (Remove j ∷ ts) = waiting_tasks i ts
 
@@ -25,7 +25,7 @@ abbrev pub leaving : Item → List Task → ℕ
 leaving i [] = 0
 leaving i (Add j ∷ ts) = leaving i ts
 leaving i (Update j ∷ ts) = leaving i ts
-leaving i (Remove j ∷ ts) = cond (same i j) 1 0 + leaving i ts
+leaving i (Remove j ∷ ts) = cond (is_same_item i j) 1 0 + leaving i ts
 
 -- behind a Remove no Add of its item waits
 abbrev pub IsOrdered : List Task → Type 0
@@ -34,8 +34,8 @@ IsOrdered (Add j ∷ ts) = IsOrdered ts
 IsOrdered (Update j ∷ ts) = IsOrdered ts
 IsOrdered (Remove j ∷ ts) = (waiting_tasks j ts ≡ 0) × IsOrdered ts
 
-abbrev pub queued : Item → Queues → ℕ
-queued i q = times i q.window + times i q.probation + times i q.protected
+abbrev pub queue_occurrences : Item → Queues → ℕ
+queue_occurrences i q = occurrences i q.window + occurrences i q.probation + occurrences i q.protected
 
 abbrev pub AreAbove : ℕ → List Item → Type 0
 AreAbove k [] = Unit {0}
@@ -52,10 +52,10 @@ IsLeft (Some h) = h.left ≤ MAX_TASKS
 -- an item of the table is queued or waits for it, and what is queued or waits is in the table or is to be removed: each
 -- once
 pub record IsPlaced (table : List Item) (next : ℕ) (queues : Queues) (writes : List Task) : Type 0 where
-  pub stands : (i : Item) → times i table ≤ queued i queues + waiting_tasks i writes
-  pub known : (i : Item) → queued i queues + waiting_tasks i writes ≤ times i table + leaving i writes
-  pub once : (i : Item) → times i table + leaving i writes ≤ 1
-  pub below : (i : Item) → 1 ≤ times i table + leaving i writes → i.node < next
+  pub stands : (i : Item) → occurrences i table ≤ queue_occurrences i queues + waiting_tasks i writes
+  pub known : (i : Item) → queue_occurrences i queues + waiting_tasks i writes ≤ occurrences i table + leaving i writes
+  pub once : (i : Item) → occurrences i table + leaving i writes ≤ 1
+  pub below : (i : Item) → 1 ≤ occurrences i table + leaving i writes → i.node < next
   pub ascending : IsAscending table
   pub ordered : IsOrdered writes
 

@@ -9,9 +9,9 @@ use Rattle.segments.specs.Queues.{IsDistinct}
 use Rattle.replacement.specs.Rules.{three_queues}
 use Rattle.replacement.specs.Plan.{candidate_of, eviction_plan}
 use Rattle.replacement.specs.Table.{Response, eviction}
-use Rattle.replacement.specs.Moving.{response}
+use Rattle.replacement.specs.Moving.{response_of_plan}
 use Rattle.shell_model.specs.Frequency.{admits}
-use Rattle.shell_model.specs.Shell.{Shell, unlisted, evict}
+use Rattle.shell_model.specs.Shell.{Shell, unlisted, evict_effect}
 
 -- what is replied of a candidate, by the outcome and the item that left
 abbrev pub reply_by : Outcome → Option Item → Item → Reply
@@ -31,14 +31,14 @@ evicted_by (Some c) r x =
     (reply_by r.outcome r.left c, record x { queues = r.queues; table = unlisted_by r.left x.table })
 
 abbrev pub EvictionsAgree : Type 0
-EvictionsAgree = (x : Shell) → evict x ≡ evicted_by
+EvictionsAgree = (x : Shell) → evict_effect x ≡ evicted_by
     (candidate_of (three_queues x.config) x.queues)
     (eviction (three_queues x.config) (admits x.frequency) x.queues)
     x
 
 -- the same by the plan, in which a candidate goes straight to its place, or out
 abbrev pub ShellEvictionsPlanned : Type 0
-ShellEvictionsPlanned = (x : Shell) → IsDistinct x.queues → evict x ≡ evicted_by
+ShellEvictionsPlanned = (x : Shell) → IsDistinct x.queues → evict_effect x ≡ evicted_by
     (candidate_of (three_queues x.config) x.queues)
-    (response (eviction_plan (three_queues x.config) (admits x.frequency) x.queues) x.queues)
+    (response_of_plan (eviction_plan (three_queues x.config) (admits x.frequency) x.queues) x.queues)
     x

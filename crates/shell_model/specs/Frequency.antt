@@ -2,7 +2,7 @@
 -- stand for admission's, so that what is said of the shell need not look into counters and bits.
 use Rattle.std.specs.Prelude.{ℕ, nat_lt, Bool}
 use Rattle.admission.specs.declared.freq_record.FreqRecord.{FreqRecord}
-use Rattle.admission.specs.Frequency.{FrequencyData, estimate, recorded as recorded_key}
+use Rattle.admission.specs.Frequency.{FrequencyData, estimate, frequency_with as recorded_key}
 use Rattle.admission.specs.FreqRecord.{frequency_record as key_record, frequency_before, FitsRecord}
 
 unfoldable pub frequency_recorded : FrequencyData → ℕ → FrequencyData

@@ -14,9 +14,9 @@ use Rattle.step_record.specs.declared.drain.Drain.TheVariants as drain
 use Rattle.step_record.specs.declared.step.Reply.{Reply}
 use Rattle.step_record.specs.declared.step.Reply.TheVariants.{Kept, Present, Added, Removed, Drained, Applied, Cleared}
 use Rattle.step_record.specs.declared.step.Reply.TheVariants.{Evicted, Rejected, Idle, Again}
-use Rattle.step_record.specs.History.{after, IsLegal}
-use Rattle.segments.specs.Items.{times}
-use Rattle.segments.specs.Queues.{empty}
+use Rattle.step_record.specs.History.{data_after, IsLegal}
+use Rattle.segments.specs.Items.{occurrences}
+use Rattle.segments.specs.Queues.{empty_queues}
 use Rattle.admission.specs.Shape.{Shape, IsShape}
 use Rattle.admission.specs.Frequency.{frequency_of}
 use Rattle.shell_model.specs.declared.stats.ShellStats.{ShellStats}
@@ -25,13 +25,13 @@ use Rattle.shell_buffers.specs.declared.task.Task.TheVariants.{Add, Update, Remo
 use Rattle.shell_model.specs.declared.holder.Holder.{Holder}
 use Rattle.shell_model.specs.ShellStats.{is_hit_reply, is_miss_reply, is_kept_reply, is_full_reply, is_lost_reply}
 use Rattle.shell_model.specs.ShellStats.{is_added_reply, is_updated_reply}
-use Rattle.step_record.specs.Stats.{one}
+use Rattle.step_record.specs.Stats.{one_if}
 use Rattle.shell_model.specs.ShellStats.{is_refused_reply, is_eviction_reply, is_rejection_reply, is_begun_reply}
 use Rattle.shell_model.specs.ShellStats.{is_busy_reply, is_removed_reply}
 use Rattle.shell_buffers.specs.Buffers.{stripe_at}
 use Rattle.replacement.specs.Rules.{main_size}
 use Rattle.shell_model.specs.Shell.{Shell, act}
-use Rattle.shell_model.specs.Consistent.{queued, waiting_tasks, leaving, main_length}
+use Rattle.shell_model.specs.Consistent.{queue_occurrences, waiting_tasks, leaving, main_length}
 
 -- a step with its reply
 abbrev pub MadeStep : Type 0
@@ -54,12 +54,12 @@ pub record IsShapeOf (c : Config) (s : Shape) : Type 0 where
   pub spread : s.spread ≡ c.spread
 
 -- the empty state: a shell just opened, of which nothing was asked
-abbrev pub opened : Config → Shape → Shell
-opened c s = record {
+abbrev pub empty_shell : Config → Shape → Shell
+empty_shell c s = record {
   config = c;
   table = [];
   next = 0;
-  queues = empty;
+  queues = empty_queues;
   stripes = replicate c.stripes [];
   writes = [];
   frequency = frequency_of s [];
@@ -90,7 +90,7 @@ offered k (Offer s i) Kept = cond (eqb k s) (i ∷ []) []
 offered k b r = []
 
 abbrev pub drained : ℕ → Act → Reply → ℕ
-drained k (DrainRead s) (Drained i) = one (eqb k s)
+drained k (DrainRead s) (Drained i) = one_if (eqb k s)
 drained k b r = 0
 
 -- the tasks that steps put into the write queue, and how many they took out
@@ -179,38 +179,38 @@ seat_from (Some p) = Some (p.0, phase_after Reads p.1)
 
 -- each statistic is the number of the replies that it counts
 pub record AreReplies (s : ShellStats) (es : List MadeStep) : Type 0 where
-  pub hits : s.hits ≡ tally (λ b r. one (is_hit_reply r)) es
-  pub misses : s.misses ≡ tally (λ b r. one (is_miss_reply r)) es
-  pub kept : s.kept ≡ tally (λ b r. one (is_kept_reply r)) es
-  pub full : s.full ≡ tally (λ b r. one (is_full_reply r)) es
-  pub lost : s.lost ≡ tally (λ b r. one (is_lost_reply r)) es
-  pub added : s.added ≡ tally (λ b r. one (is_added_reply r)) es
-  pub updated : s.updated ≡ tally (λ b r. one (is_updated_reply r)) es
-  pub refused : s.refused ≡ tally (λ b r. one (is_refused_reply r)) es
-  pub evictions : s.evictions ≡ tally (λ b r. one (is_eviction_reply r)) es
-  pub rejections : s.rejections ≡ tally (λ b r. one (is_rejection_reply r)) es
-  pub begun : s.begun ≡ tally (λ b r. one (is_begun_reply r)) es
-  pub busy : s.busy ≡ tally (λ b r. one (is_busy_reply r)) es
-  pub removed : s.removed ≡ tally (λ b r. one (is_removed_reply r)) es
+  pub hits : s.hits ≡ tally (λ b r. one_if (is_hit_reply r)) es
+  pub misses : s.misses ≡ tally (λ b r. one_if (is_miss_reply r)) es
+  pub kept : s.kept ≡ tally (λ b r. one_if (is_kept_reply r)) es
+  pub full : s.full ≡ tally (λ b r. one_if (is_full_reply r)) es
+  pub lost : s.lost ≡ tally (λ b r. one_if (is_lost_reply r)) es
+  pub added : s.added ≡ tally (λ b r. one_if (is_added_reply r)) es
+  pub updated : s.updated ≡ tally (λ b r. one_if (is_updated_reply r)) es
+  pub refused : s.refused ≡ tally (λ b r. one_if (is_refused_reply r)) es
+  pub evictions : s.evictions ≡ tally (λ b r. one_if (is_eviction_reply r)) es
+  pub rejections : s.rejections ≡ tally (λ b r. one_if (is_rejection_reply r)) es
+  pub begun : s.begun ≡ tally (λ b r. one_if (is_begun_reply r)) es
+  pub busy : s.busy ≡ tally (λ b r. one_if (is_busy_reply r)) es
+  pub removed : s.removed ≡ tally (λ b r. one_if (is_removed_reply r)) es
 
 -- after the entries, from the empty state, the state is x
 pub record IsHistory (s : Shape) (es : List MadeStep) (x : Shell) : Type 0 where
   pub stripes : (k : ℕ) → stripe_at k x.stripes ≡ drop (tally (drained k) es) (collect (offered k) es)
   pub writes : x.writes ≡ drop (tally done es) (collect asked es)
   pub stats : AreReplies x.stats es
-  pub table : (i : Item) → (1 ≤ times i x.table)
-      ↔ ((1 ≤ times i (collect added es)) × (times i (collect evicted_items es) ≡ 0)
-      × (times i (collect removed_items es) ≡ 0))
-  pub stands : (i : Item) → 1 ≤ times i x.table
-      → (queued i x.queues + waiting_tasks i x.writes ≡ 1) × (leaving i x.writes ≡ 0)
-  pub others : (i : Item) → times i x.table ≡ 0 → 1 ≤ queued i x.queues + waiting_tasks i x.writes
+  pub table : (i : Item) → (1 ≤ occurrences i x.table)
+      ↔ ((1 ≤ occurrences i (collect added es)) × (occurrences i (collect evicted_items es) ≡ 0)
+      × (occurrences i (collect removed_items es) ≡ 0))
+  pub stands : (i : Item) → 1 ≤ occurrences i x.table
+      → (queue_occurrences i x.queues + waiting_tasks i x.writes ≡ 1) × (leaving i x.writes ≡ 0)
+  pub others : (i : Item) → occurrences i x.table ≡ 0 → 1 ≤ queue_occurrences i x.queues + waiting_tasks i x.writes
       → leaving i x.writes ≡ 1
   pub behind : (i : Item) (before rest : List Task) → x.writes ≡ before ++ Add i ∷ rest → leaving i before ≡ 0
   pub main : main_length x.queues ≤ main_size x.config
   pub frequency : x.frequency ≡ frequency_of s (collect keyed es)
-  pub below : (i : Item) → 1 ≤ times i x.table → i.node < x.next
+  pub below : (i : Item) → 1 ≤ occurrences i x.table → i.node < x.next
   pub holder : seat_of x.holder ≡ seat_from (open_began es)
 
 abbrev pub HistoryLaws : Type 0
 HistoryLaws = (c : Config) (s : Shape) (es : List MadeStep) → IsShapeOf c s
-    → IsLegal act (opened c s) es → IsHistory s es (after act (opened c s) es)
+    → IsLegal act (empty_shell c s) es → IsHistory s es (data_after act (empty_shell c s) es)

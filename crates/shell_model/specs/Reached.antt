@@ -2,7 +2,7 @@
 use Rattle.std.specs.Prelude.{◌≡◌, ℕ, ◌<◌, ◌≤◌, false, Option, Some, None, List, Ok}
 use Rattle.step_record.specs.declared.limits.TheConstants.{MAX_STEPS}
 use Rattle.step_record.specs.Config.{config_fault}
-use Rattle.step_record.specs.History.{after, IsLegal}
+use Rattle.step_record.specs.History.{data_after, IsLegal}
 use Rattle.step_record.specs.declared.step.Step.{Step}
 use Rattle.step_record.specs.declared.step.Reply.{Reply}
 use Rattle.step_record.specs.declared.step.Reply.TheVariants.{Began}
@@ -12,17 +12,17 @@ use Rattle.shell_model.specs.declared.record.ShellRecord.{ShellRecord}
 use Rattle.shell_model.specs.ShellStats.{AreAtMost}
 use Rattle.shell_model.specs.Shell.{Shell, act}
 use Rattle.shell_model.specs.Records.{undone_step, FitsStep, change_of}
-use Rattle.shell_model.specs.Laws.{MadeStep, IsShapeOf, opened, is_ending, seat_of, seat_from, open_began}
+use Rattle.shell_model.specs.Laws.{MadeStep, IsShapeOf, empty_shell, is_ending, seat_of, seat_from, open_began}
 use Rattle.step_record.specs.declared.item.Item.{Item}
-use Rattle.segments.specs.Items.{times}
+use Rattle.segments.specs.Items.{occurrences}
 
 pub record IsReachable (x : Shell) : Type 0 where
   pub checked : config_fault x.config ≡ Ok tt
   pub shape : Shape
   pub shape_is : IsShapeOf x.config shape
   pub entries : List MadeStep
-  pub legal : IsLegal act (opened x.config shape) entries
-  pub gives : x ≡ after act (opened x.config shape) entries
+  pub legal : IsLegal act (empty_shell x.config shape) entries
+  pub gives : x ≡ data_after act (empty_shell x.config shape) entries
 
 pub record ShellFits (r : ShellRecord) (x : Shell) : Type 0 where
   pub step : FitsStep r x
@@ -36,12 +36,12 @@ RecordLaw = (x y : Shell) (s : Step) (r : Reply) → IsReachable x → act x s �
 
 -- from any state that a shell stands for and that no one holds
 pub record IsLaterHistory (es : List MadeStep) (y : Shell) : Type 0 where
-  pub below : (i : Item) → 1 ≤ times i y.table → i.node < y.next
+  pub below : (i : Item) → 1 ≤ occurrences i y.table → i.node < y.next
   pub holder : seat_of y.holder ≡ seat_from (open_began es)
 
 abbrev pub LaterLaws : Type 0
 LaterLaws = (x : Shell) (es : List MadeStep) → IsReachable x → x.holder ≡ None
-    → IsLegal act x es → IsLaterHistory es (after act x es)
+    → IsLegal act x es → IsLaterHistory es (data_after act x es)
 
 -- no count passes the number of applied steps, which has a limit
 pub record IsBounded (x : Shell) : Type 0 where

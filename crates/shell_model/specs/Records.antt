@@ -13,7 +13,7 @@ use Rattle.segments.specs.declared.records.Queue.{Queue}
 use Rattle.segments.specs.declared.records.Queue.TheVariants.{Window}
 use Rattle.segments.specs.declared.records.MoveRecord.{MoveRecord}
 use Rattle.segments.specs.Items.{items_without}
-use Rattle.segments.specs.Queues.{Queues, place_of}
+use Rattle.segments.specs.Queues.{Queues, queue_holding}
 use Rattle.segments.specs.Moves.{move_record}
 use Rattle.replacement.specs.declared.record.Moves.{Moves}
 use Rattle.replacement.specs.Rules.{three_queues}
@@ -31,13 +31,13 @@ use Rattle.shell_model.specs.declared.record.Change.TheVariants.{Nothing, Offere
 use Rattle.shell_model.specs.declared.record.Change.TheVariants.{Began, Read, Passed, Applied, Cleared, Evicted, Ended}
 use Rattle.shell_model.specs.Frequency.{shell_frequency_record, frequency_unrecorded, FitsFrequency, admits}
 use Rattle.shell_model.specs.ShellStats.{shell_stats_before, IsReplyCounted}
-use Rattle.shell_buffers.specs.Buffers.{stripe_at, but_newest}
-use Rattle.shell_model.specs.Shell.{Shell, node_of, placed, is_listed, shell_protected_size, after_write, is_over}
+use Rattle.shell_buffers.specs.Buffers.{stripe_at, all_but_newest}
+use Rattle.shell_model.specs.Shell.{Shell, node_of, table_with, is_listed, shell_protected_size, after_write, is_over}
 use Rattle.shell_model.specs.Shell.{drain_at_end}
 
 -- newest in l: what stands last
 abbrev pub IsNewest : {A : Type 0} → A → List A → Type 0
-IsNewest a l = l ≡ but_newest l ++ a ∷ []
+IsNewest a l = l ≡ all_but_newest l ++ a ∷ []
 
 -- parts
 
@@ -53,14 +53,14 @@ pub record FitsTouched (t : UseRecord) (x : Shell) : Type 0 where
   pub frequency : FitsFrequency t.frequency x.frequency
   pub stays : t.moves.out ≡ None
 
-abbrev pub rephased : Phase → Option Holder → Option Holder
-rephased p None = None
-rephased p (Some h) = Some record { worker = h.worker; phase = p; left = h.left }
+abbrev pub holder_in_phase : Phase → Option Holder → Option Holder
+holder_in_phase p None = None
+holder_in_phase p (Some h) = Some record { worker = h.worker; phase = p; left = h.left }
 
 -- the phase as before, and a task more left
-abbrev pub refilled : Phase → Option Holder → Option Holder
-refilled p None = None
-refilled p (Some h) = Some record { worker = h.worker; phase = p; left = h.left + 1 }
+abbrev pub holder_with_task : Phase → Option Holder → Option Holder
+holder_with_task p None = None
+holder_with_task p (Some h) = Some record { worker = h.worker; phase = p; left = h.left + 1 }
 
 abbrev pub IsInPhase : Phase → Option Holder → Type 0
 IsInPhase p None = ⊥
@@ -72,7 +72,7 @@ HasLeft (Some h) = h.left < MAX_TASKS
 
 -- back in the table, where it was listed
 abbrev pub listed : Bool → Item → List Item → List Item
-listed true i t = placed i t
+listed true i t = table_with i t
 listed false i t = t
 
 -- what went out of the queues is back in the table, where it was listed
@@ -100,19 +100,23 @@ pub record FitsEviction (g : EvictionRecord) (x : Shell) : Type 0 where
 
 abbrev pub before_change : Change → Shell → Shell
 before_change Nothing x = x
-before_change (Offered s i) x = record x { stripes = set x.stripes s (but_newest (stripe_at s x.stripes)) }
-before_change (Updated i) x = record x { writes = but_newest x.writes }
-before_change (Added i) x = record x { writes = but_newest x.writes; table = items_without i x.table; next = x.next - 1 }
-before_change (Removed i) x = record x { writes = but_newest x.writes; table = placed i x.table }
+before_change (Offered s i) x = record x { stripes = set x.stripes s (all_but_newest (stripe_at s x.stripes)) }
+before_change (Updated i) x = record x { writes = all_but_newest x.writes }
+before_change (Added i) x = record x {
+  writes = all_but_newest x.writes;
+  table = items_without i x.table;
+  next = x.next - 1;
+}
+before_change (Removed i) x = record x { writes = all_but_newest x.writes; table = table_with i x.table }
 before_change (Requested before now) x = record x { drain = before }
 before_change (Began w before) x = record x { drain = before; holder = None }
 before_change (Read s i t) x = let y = before_use t x in record y { stripes = set x.stripes s (i ∷ stripe_at s x.stripes) }
-before_change (Passed before now) x = record x { holder = rephased before x.holder }
+before_change (Passed before now) x = record x { holder = holder_in_phase before x.holder }
 before_change (Applied before task t) x =
-    let y = before_use t x in record y { writes = task ∷ x.writes; holder = refilled before x.holder }
+    let y = before_use t x in record y { writes = task ∷ x.writes; holder = holder_with_task before x.holder }
 before_change (Cleared before i r) x =
-    record x { queues = undone_by r x.queues; writes = Remove i ∷ x.writes; holder = refilled before x.holder }
-before_change (Evicted before g) x = let y = unevicted g x in record y { holder = rephased before x.holder }
+    record x { queues = undone_by r x.queues; writes = Remove i ∷ x.writes; holder = holder_with_task before x.holder }
+before_change (Evicted before g) x = let y = unevicted g x in record y { holder = holder_in_phase before x.holder }
 before_change (Ended h before now) x = record x { drain = before; holder = Some h }
 
 abbrev pub FitsChange : Change → Shell → Type 0
@@ -162,7 +166,7 @@ hit_moves size i (Some p) q = moves_of (hit_plan size i p q) q
 abbrev pub touched_of : Item → Shell → UseRecord
 touched_of i x = record {
   frequency = shell_frequency_record x.frequency i.key;
-  moves = hit_moves (shell_protected_size x.config) i (place_of i x.queues) x.queues;
+  moves = hit_moves (shell_protected_size x.config) i (queue_holding i x.queues) x.queues;
 }
 
 abbrev pub added_of : Item → Shell → UseRecord
@@ -176,7 +180,7 @@ cleared_of i (Some p) q = Some (move_record i None q)
 abbrev pub task_change : Phase → Task → Shell → Change
 task_change before (Add i) x = Applied before (Add i) (added_of i x)
 task_change before (Update i) x = Applied before (Update i) (touched_of i x)
-task_change before (Remove i) x = Cleared before i (cleared_of i (place_of i x.queues) x.queues)
+task_change before (Remove i) x = Cleared before i (cleared_of i (queue_holding i x.queues) x.queues)
 
 abbrev pub put_change : ℕ → Option ℕ → Shell → Change
 put_change k (Some n) x = Updated record { key = k; node = n }

@@ -23,8 +23,9 @@ use Rattle.step_record.specs.declared.drain.Phase.{Phase}
 use Rattle.step_record.specs.declared.drain.Phase.TheVariants.{Reads, Writes, Evictions}
 use Rattle.segments.specs.declared.records.Queue.TheVariants.{Window, Probation}
 use Rattle.segments.specs.declared.records.Queue.{Queue}
-use Rattle.segments.specs.Items.{same, items_without, first}
-use Rattle.segments.specs.Queues.{Queues, place_of, pushed, taken, moved, total_items}
+use Rattle.segments.specs.Items.{is_same_item, items_without, oldest_of}
+use Rattle.segments.specs.Queues.{Queues, queue_holding, queues_after_push}
+use Rattle.segments.specs.Queues.{queues_without, queues_after_move, total_items}
 use Rattle.admission.specs.Frequency.{FrequencyData}
 use Rattle.replacement.specs.Rules.{three_queues}
 use Rattle.replacement.specs.Table.{after_hit}
@@ -63,9 +64,9 @@ abbrev pub node_of : ℕ → List Item → Option ℕ
 node_of k [] = None
 node_of k (x ∷ t) = cond (eqb k x.key) (Some x.node) (node_of k t)
 
-abbrev pub placed : Item → List Item → List Item
-placed i [] = i ∷ []
-placed i (x ∷ t) = cond (nat_lt i.key x.key) (i ∷ x ∷ t) (x ∷ placed i t)
+abbrev pub table_with : Item → List Item → List Item
+table_with i [] = i ∷ []
+table_with i (x ∷ t) = cond (nat_lt i.key x.key) (i ∷ x ∷ t) (x ∷ table_with i t)
 
 abbrev pub is_node : ℕ → Option ℕ → Bool
 is_node n None = false
@@ -83,19 +84,19 @@ unlisted i t = cond (is_listed i t) (items_without i t) t
 
 abbrev pub cleared_from : Item → Option Queue → Queues → Queues
 cleared_from i None q = q
-cleared_from i (Some p) q = taken i q
+cleared_from i (Some p) q = queues_without i q
 
 abbrev pub queues_cleared : Item → Queues → Queues
-queues_cleared i q = cleared_from i (place_of i q) q
+queues_cleared i q = cleared_from i (queue_holding i q) q
 
 -- each act's reply and effect, statistics aside
 
-abbrev pub look : Option ℕ → Reply
-look (Some n) = Hit n
-look None = Miss
+abbrev pub look_reply : Option ℕ → Reply
+look_reply (Some n) = Hit n
+look_reply None = Miss
 
-abbrev pub offer : ℕ → Item → Shell → Reply × Shell
-offer s i x =
+abbrev pub offer_effect : ℕ → Item → Shell → Reply × Shell
+offer_effect s i x =
     cond (nat_lt (length (stripe_at s x.stripes)) MAX_ITEMS)
     (Kept, record x { stripes = set x.stripes s (stripe_at s x.stripes ++ i ∷ []) })
     (Full, x)
@@ -105,14 +106,14 @@ put_at k (Some n) x = (Present n, record x { writes = x.writes ++ Update record 
 put_at k None x = (
   Added x.next,
   record x {
-    table = placed record { key = k; node = x.next } x.table;
+    table = table_with record { key = k; node = x.next } x.table;
     next = x.next + 1;
     writes = x.writes ++ Add record { key = k; node = x.next } ∷ [];
   },
 )
 
-abbrev pub put : ℕ → Shell → Reply × Shell
-put k x = cond (nat_lt (length x.writes) MAX_TASKS) (put_at k (node_of k x.table) x) (WritesFull, x)
+abbrev pub put_effect : ℕ → Shell → Reply × Shell
+put_effect k x = cond (nat_lt (length x.writes) MAX_TASKS) (put_at k (node_of k x.table) x) (WritesFull, x)
 
 abbrev pub removing : Item → Shell → Shell
 removing i x = record x { table = items_without i x.table; writes = x.writes ++ Remove i ∷ [] }
@@ -122,8 +123,8 @@ remove_at k None x = (Absent, x)
 remove_at k (Some n) x =
     cond (nat_lt (length x.writes) MAX_TASKS) (Removed n, removing record { key = k; node = n } x) (WritesFull, x)
 
-abbrev pub remove : ℕ → Shell → Reply × Shell
-remove k x = remove_at k (node_of k x.table) x
+abbrev pub remove_effect : ℕ → Shell → Reply × Shell
+remove_effect k x = remove_at k (node_of k x.table) x
 
 abbrev pub after_read : DrainState → Answer → Reply
 after_read drain.Idle answer.Kept = Go
@@ -139,16 +140,16 @@ after_write drain.Required = (Drain, drain.Required)
 after_write drain.ToIdle = (Go, drain.ToRequired)
 after_write drain.ToRequired = (Go, drain.ToRequired)
 
-abbrev pub begin : ℕ → Option Holder → Shell → Reply × Shell
-begin w (Some h) x = (Busy, x)
-begin w None x =
+abbrev pub begin_effect : ℕ → Option Holder → Shell → Reply × Shell
+begin_effect w (Some h) x = (Busy, x)
+begin_effect w None x =
     (Began, record x { drain = drain.ToIdle; holder = Some record { worker = w; phase = Reads; left = MAX_TASKS } })
 
 abbrev pub recording : ℕ → Shell → Shell
 recording k x = record x { frequency = frequency_recorded x.frequency k }
 
-abbrev pub touching : Item → Shell → Shell
-touching i x =
+abbrev pub shell_after_touch : Item → Shell → Shell
+shell_after_touch i x =
     record x {
       frequency = frequency_recorded x.frequency i.key;
       queues = after_hit (shell_protected_size x.config) i x.queues;
@@ -156,15 +157,20 @@ touching i x =
 
 abbrev pub drain_read : ℕ → List Item → Shell → Reply × Shell
 drain_read s [] x = (Empty, x)
-drain_read s (i ∷ rest) x = (Drained i, touching i (record x { stripes = set x.stripes s rest }))
+drain_read s (i ∷ rest) x = (Drained i, shell_after_touch i (record x { stripes = set x.stripes s rest }))
 
 abbrev pub in_phase : Phase → Holder → Shell → Shell
 in_phase p h x = record x { holder = Some record { worker = h.worker; phase = p; left = h.left } }
 
 abbrev pub apply_task : Task → Shell → Reply × Shell
-apply_task (Add i) x =
-    (Applied i, record x { frequency = frequency_recorded x.frequency i.key; queues = pushed Window i x.queues })
-apply_task (Update i) x = (Applied i, touching i x)
+apply_task (Add i) x = (
+  Applied i,
+  record x {
+    frequency = frequency_recorded x.frequency i.key;
+    queues = queues_after_push Window i x.queues;
+  },
+)
+apply_task (Update i) x = (Applied i, shell_after_touch i x)
 apply_task (Remove i) x = (Cleared i, record x { queues = queues_cleared i x.queues })
 
 abbrev pub drain_write : Holder → List Task → Shell → Reply × Shell
@@ -179,36 +185,36 @@ drain_write h (t ∷ rest) x =
 
 -- the item leaves the queues, and the table where it is listed there
 abbrev pub leave : Item → Shell → Shell
-leave i x = record x { queues = taken i x.queues; table = unlisted i x.table }
+leave i x = record x { queues = queues_without i x.queues; table = unlisted i x.table }
 
 -- the candidate stands in probation already, whose oldest is the victim
 abbrev pub shell_contest : Item → Option Item → Shell → Reply × Shell
 shell_contest candidate None x = (Shifted candidate, x)
 shell_contest candidate (Some victim) x =
-    cond (same candidate victim)
+    cond (is_same_item candidate victim)
     (Rejected candidate, leave candidate x)
     (cond (admits x.frequency candidate.key victim.key)
     (Evicted victim, leave victim x)
     (Rejected candidate, leave candidate x))
 
-abbrev pub shift : Item → Shell → Shell
-shift i x = record x { queues = moved i Probation x.queues }
+abbrev pub shift_effect : Item → Shell → Shell
+shift_effect i x = record x { queues = queues_after_move i Probation x.queues }
 
 abbrev pub evict_from : Item → Shell → Reply × Shell
 evict_from candidate x =
     cond (nat_lt x.config.capacity (total_items x.queues))
-    (shell_contest candidate (first x.queues.probation) x)
+    (shell_contest candidate (oldest_of x.queues.probation) x)
     (Shifted candidate, x)
 
 abbrev pub evict_oldest : Option Item → Shell → Reply × Shell
 evict_oldest None x = (Fits, x)
-evict_oldest (Some candidate) x = evict_from candidate (shift candidate x)
+evict_oldest (Some candidate) x = evict_from candidate (shift_effect candidate x)
 
 abbrev pub is_over : Shell → Bool
 is_over x = nat_lt (window_size x.config) (length x.queues.window)
 
-abbrev pub evict : Shell → Reply × Shell
-evict x = cond (is_over x) (evict_oldest (first x.queues.window) x) (Fits, x)
+abbrev pub evict_effect : Shell → Reply × Shell
+evict_effect x = cond (is_over x) (evict_oldest (oldest_of x.queues.window) x) (Fits, x)
 
 -- ToRequired: an AfterWrite came meanwhile
 abbrev pub drain_at_end : DrainState → Reply × DrainState
@@ -217,8 +223,8 @@ drain_at_end drain.Required = (Idle, drain.Idle)
 drain_at_end drain.ToIdle = (Idle, drain.Idle)
 drain_at_end drain.Idle = (Idle, drain.Idle)
 
-abbrev pub end : Shell → Reply × Shell
-end x =
+abbrev pub end_effect : Shell → Reply × Shell
+end_effect x =
     cond (is_over x)
     (NotYet, x)
     ((drain_at_end x.drain).0, record x { drain = (drain_at_end x.drain).1; holder = None })
@@ -242,45 +248,45 @@ held_by w (Some h) = cond (eqb w h.worker) (Some h) None
 abbrev pub is_stripe : ℕ → Shell → Bool
 is_stripe s x = nat_lt s (length x.stripes)
 
-abbrev pub when : {A : Type 0} → Bool → A → Option A
-when b a = cond b (Some a) None
+abbrev pub some_if : {A : Type 0} → Bool → A → Option A
+some_if b a = cond b (Some a) None
 
 abbrev pub hold_read : ℕ → Option Holder → Shell → Option (Reply × Shell)
 hold_read s None x = None
-hold_read s (Some h) x = when (is_stripe s x && may_read h.phase) (drain_read s (stripe_at s x.stripes) x)
+hold_read s (Some h) x = some_if (is_stripe s x && may_read h.phase) (drain_read s (stripe_at s x.stripes) x)
 
 abbrev pub hold_write : Option Holder → Shell → Option (Reply × Shell)
 hold_write None x = None
-hold_write (Some h) x = when (may_write h.phase) (drain_write h x.writes x)
+hold_write (Some h) x = some_if (may_write h.phase) (drain_write h x.writes x)
 
 abbrev pub hold_evict : Option Holder → Shell → Option (Reply × Shell)
 hold_evict None x = None
-hold_evict (Some h) x = Some (evict (in_phase Evictions h x))
+hold_evict (Some h) x = Some (evict_effect (in_phase Evictions h x))
 
 abbrev pub hold_end : Option Holder → Shell → Option (Reply × Shell)
 hold_end None x = None
-hold_end (Some h) x = Some (end x)
+hold_end (Some h) x = Some (end_effect x)
 
 -- what an act of worker w does, None where it may not come now
-abbrev pub perform : ℕ → Act → Shell → Option (Reply × Shell)
-perform w (Look k) x = Some (look (node_of k x.table), x)
-perform w (Offer s i) x = when (is_stripe s x && nat_lt i.node x.next) (offer s i x)
-perform w (Lose s i) x = when (is_stripe s x && nat_lt i.node x.next) (Lost, x)
-perform w (Put k) x = Some (put k x)
-perform w (RemoveKey k) x = Some (remove k x)
-perform w (AfterRead a) x = Some (after_read x.drain a, x)
-perform w AfterWrite x = Some ((after_write x.drain).0, record x { drain = (after_write x.drain).1 })
-perform w Begin x = Some (begin w x.holder x)
-perform w (DrainRead s) x = hold_read s (held_by w x.holder) x
-perform w DrainWrite x = hold_write (held_by w x.holder) x
-perform w Evict x = hold_evict (held_by w x.holder) x
-perform w End x = hold_end (held_by w x.holder) x
+abbrev pub act_effect : ℕ → Act → Shell → Option (Reply × Shell)
+act_effect w (Look k) x = Some (look_reply (node_of k x.table), x)
+act_effect w (Offer s i) x = some_if (is_stripe s x && nat_lt i.node x.next) (offer_effect s i x)
+act_effect w (Lose s i) x = some_if (is_stripe s x && nat_lt i.node x.next) (Lost, x)
+act_effect w (Put k) x = Some (put_effect k x)
+act_effect w (RemoveKey k) x = Some (remove_effect k x)
+act_effect w (AfterRead a) x = Some (after_read x.drain a, x)
+act_effect w AfterWrite x = Some ((after_write x.drain).0, record x { drain = (after_write x.drain).1 })
+act_effect w Begin x = Some (begin_effect w x.holder x)
+act_effect w (DrainRead s) x = hold_read s (held_by w x.holder) x
+act_effect w DrainWrite x = hold_write (held_by w x.holder) x
+act_effect w Evict x = hold_evict (held_by w x.holder) x
+act_effect w End x = hold_end (held_by w x.holder) x
 
 -- each reply is counted, and each step stands
-abbrev pub tallied : Option (Reply × Shell) → Option (Reply × Shell)
-tallied None = None
-tallied (Some p) =
+abbrev pub counted_reply : Option (Reply × Shell) → Option (Reply × Shell)
+counted_reply None = None
+counted_reply (Some p) =
     let x = p.1 in Some (p.0, record x { stats = shell_stats_after p.0 x.stats; applied = x.applied + 1 })
 
 abbrev pub act : Shell → Step → Option (Reply × Shell)
-act x s = cond (nat_lt x.applied MAX_STEPS) (tallied (perform s.worker s.act x)) None
+act x s = cond (nat_lt x.applied MAX_STEPS) (counted_reply (act_effect s.worker s.act x)) None

@@ -1,6 +1,6 @@
 -- The statistics: how often each kind of reply was given.
 use Rattle.std.specs.Prelude.{ℕ, ◌+◌, ◌-◌, ◌≤◌, Bool, true, false}
-use Rattle.step_record.specs.Stats.{one}
+use Rattle.step_record.specs.Stats.{one_if}
 use Rattle.step_record.specs.declared.step.Reply.{Reply}
 use Rattle.step_record.specs.declared.step.Reply.TheVariants.{Hit, Miss, Kept, Full, Lost, WritesFull, Present, Added}
 use Rattle.step_record.specs.declared.step.Reply.TheVariants.{Removed, Began, Busy, Evicted, Rejected}
@@ -61,53 +61,53 @@ is_removed_reply r = false
 
 abbrev pub shell_stats_after : Reply → ShellStats → ShellStats
 shell_stats_after r s = record {
-  hits = s.hits + one (is_hit_reply r);
-  misses = s.misses + one (is_miss_reply r);
-  kept = s.kept + one (is_kept_reply r);
-  full = s.full + one (is_full_reply r);
-  lost = s.lost + one (is_lost_reply r);
-  added = s.added + one (is_added_reply r);
-  updated = s.updated + one (is_updated_reply r);
-  refused = s.refused + one (is_refused_reply r);
-  evictions = s.evictions + one (is_eviction_reply r);
-  rejections = s.rejections + one (is_rejection_reply r);
-  begun = s.begun + one (is_begun_reply r);
-  busy = s.busy + one (is_busy_reply r);
-  removed = s.removed + one (is_removed_reply r);
+  hits = s.hits + one_if (is_hit_reply r);
+  misses = s.misses + one_if (is_miss_reply r);
+  kept = s.kept + one_if (is_kept_reply r);
+  full = s.full + one_if (is_full_reply r);
+  lost = s.lost + one_if (is_lost_reply r);
+  added = s.added + one_if (is_added_reply r);
+  updated = s.updated + one_if (is_updated_reply r);
+  refused = s.refused + one_if (is_refused_reply r);
+  evictions = s.evictions + one_if (is_eviction_reply r);
+  rejections = s.rejections + one_if (is_rejection_reply r);
+  begun = s.begun + one_if (is_begun_reply r);
+  busy = s.busy + one_if (is_busy_reply r);
+  removed = s.removed + one_if (is_removed_reply r);
 }
 
 abbrev pub shell_stats_before : Reply → ShellStats → ShellStats
 shell_stats_before r s = record {
-  hits = s.hits - one (is_hit_reply r);
-  misses = s.misses - one (is_miss_reply r);
-  kept = s.kept - one (is_kept_reply r);
-  full = s.full - one (is_full_reply r);
-  lost = s.lost - one (is_lost_reply r);
-  added = s.added - one (is_added_reply r);
-  updated = s.updated - one (is_updated_reply r);
-  refused = s.refused - one (is_refused_reply r);
-  evictions = s.evictions - one (is_eviction_reply r);
-  rejections = s.rejections - one (is_rejection_reply r);
-  begun = s.begun - one (is_begun_reply r);
-  busy = s.busy - one (is_busy_reply r);
-  removed = s.removed - one (is_removed_reply r);
+  hits = s.hits - one_if (is_hit_reply r);
+  misses = s.misses - one_if (is_miss_reply r);
+  kept = s.kept - one_if (is_kept_reply r);
+  full = s.full - one_if (is_full_reply r);
+  lost = s.lost - one_if (is_lost_reply r);
+  added = s.added - one_if (is_added_reply r);
+  updated = s.updated - one_if (is_updated_reply r);
+  refused = s.refused - one_if (is_refused_reply r);
+  evictions = s.evictions - one_if (is_eviction_reply r);
+  rejections = s.rejections - one_if (is_rejection_reply r);
+  begun = s.begun - one_if (is_begun_reply r);
+  busy = s.busy - one_if (is_busy_reply r);
+  removed = s.removed - one_if (is_removed_reply r);
 }
 
 -- each count that the reply raised is above 0
 pub record IsReplyCounted (r : Reply) (s : ShellStats) : Type 0 where
-  pub hits : one (is_hit_reply r) ≤ s.hits
-  pub misses : one (is_miss_reply r) ≤ s.misses
-  pub kept : one (is_kept_reply r) ≤ s.kept
-  pub full : one (is_full_reply r) ≤ s.full
-  pub lost : one (is_lost_reply r) ≤ s.lost
-  pub added : one (is_added_reply r) ≤ s.added
-  pub updated : one (is_updated_reply r) ≤ s.updated
-  pub refused : one (is_refused_reply r) ≤ s.refused
-  pub evictions : one (is_eviction_reply r) ≤ s.evictions
-  pub rejections : one (is_rejection_reply r) ≤ s.rejections
-  pub begun : one (is_begun_reply r) ≤ s.begun
-  pub busy : one (is_busy_reply r) ≤ s.busy
-  pub removed : one (is_removed_reply r) ≤ s.removed
+  pub hits : one_if (is_hit_reply r) ≤ s.hits
+  pub misses : one_if (is_miss_reply r) ≤ s.misses
+  pub kept : one_if (is_kept_reply r) ≤ s.kept
+  pub full : one_if (is_full_reply r) ≤ s.full
+  pub lost : one_if (is_lost_reply r) ≤ s.lost
+  pub added : one_if (is_added_reply r) ≤ s.added
+  pub updated : one_if (is_updated_reply r) ≤ s.updated
+  pub refused : one_if (is_refused_reply r) ≤ s.refused
+  pub evictions : one_if (is_eviction_reply r) ≤ s.evictions
+  pub rejections : one_if (is_rejection_reply r) ≤ s.rejections
+  pub begun : one_if (is_begun_reply r) ≤ s.begun
+  pub busy : one_if (is_busy_reply r) ≤ s.busy
+  pub removed : one_if (is_removed_reply r) ≤ s.removed
 
 -- no count stands higher
 pub record AreAtMost (n : ℕ) (s : ShellStats) : Type 0 where

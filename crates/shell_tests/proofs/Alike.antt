@@ -5,7 +5,7 @@ use Rattle.admission.specs.Frequency.{FrequencyData, frequency_of}
 use Rattle.replacement.specs.Shape.{shape_of}
 use Rattle.replacement.proofs.Shape.{own-shape}
 use Rattle.shell_model.specs.Shell.{Shell}
-use Rattle.shell_model.specs.Laws.{opened}
+use Rattle.shell_model.specs.Laws.{empty_shell}
 use Rattle.maintenance.specs.Opened.{IsOpened}
 
 own-frequency : (c : Config) (x : Shell) (h : IsOpened c x) → frequency_of h.shape [] ≡ frequency_of (shape_of c) []
@@ -13,4 +13,4 @@ own-frequency c x h = own-shape c [] (frequency_of h.shape []) record { shape = 
 
 pub alike : (c : Config) (x y : Shell) → IsOpened c x → IsOpened c y → y ≡ x
 alike c x y a b =
-    b.is ∙ ap (λ (f : FrequencyData). record (opened c a.shape) { frequency = f }) (own-frequency c y b ∙ sym (own-frequency c x a)) ∙ sym a.is
+    b.is ∙ ap (λ (f : FrequencyData). record (empty_shell c a.shape) { frequency = f }) (own-frequency c y b ∙ sym (own-frequency c x a)) ∙ sym a.is

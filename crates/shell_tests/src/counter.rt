@@ -49,7 +49,7 @@ impl Engine for Counter {
     ghost use Rattle.std.specs.Prelude.{◌+◌, ◌-◌, ◌≤◌, cond, eqb, Some, None};
     ghost use Rattle.step_record.specs.declared.limits.TheConstants.{MAX_STEPS};
     ghost use Rattle.std.proofs.Common.{rules};
-    ghost use Rattle.step_record.specs.Pace.{still, still-paced};
+    ghost use Rattle.step_record.specs.Pace.{pace_without_sketch, still-paced};
 
     type Step = ();
 
@@ -74,7 +74,7 @@ impl Engine for Counter {
 
     ghost words_of = { λ r. 0 };
 
-    ghost pace = { λ n. still };
+    ghost pace = { λ n. pace_without_sketch };
 
     fn apply(&mut self, _step: &()) -> Result<(u64, u64), StepFault> {
         if self.count == MAX_STEPS {

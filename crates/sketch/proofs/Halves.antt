@@ -10,8 +10,8 @@ use Rattle.sketch.specs.Counters.{nibble, counter_at}
 use Rattle.sketch.specs.Laws.{halved_word, odd_bits, lost_word, lost_of_word, unhalved_words}
 use Rattle.sketch.specs.Laws.{lost_bit}
 use Rattle.bits_and_lists.specs.Places.{by_place}
-use Rattle.sketch.specs.HalveRecord.{counter_kept, kept_at, halve_record_of, unhalved}
-use Rattle.sketch.specs.Sketch.{Table, halved, IsTable}
+use Rattle.sketch.specs.HalveRecord.{counter_kept, kept_at, halve_record_of, table_before_halving}
+use Rattle.sketch.specs.Sketch.{Table, halved_table, IsTable}
 use Rattle.std.proofs.lemmas.Nat.{and_le_r, shr-shr}
 use Rattle.sketch.proofs.Digits.{same_digits, nibble_is, nibble_lt, zero_nibble}
 use Rattle.sketch.proofs.Halving.{nibble_halved, nibble_odd, lost_digit, nibble_doubled}
@@ -81,7 +81,7 @@ low_digit ws j n w h =
     let a = h (16 * j + n) in rw (d, m) at a
 
 module _ (w : ℕ) (s : Spread) (some : 0 < w) (ws : List ℕ) (whole : w ≡ 4 * length ws) where
-  pub halve_after : table w s some (counter_at (map halved_word ws)) ≡ halved (table w s some (counter_at ws))
+  pub halve_after : table w s some (counter_at (map halved_word ws)) ≡ halved_table (table w s some (counter_at ws))
   halve_after = ap (λ (cs : List ℕ). let t : Table = record { width = w; spread = s; counters = cs } in t)
       (by_place_same (4 * w) (counter_at (map halved_word ws)) _ 0 (λ i h. halved_at ws i (omega (arith, whole)) ∙ ap (λ x. x / 2) (sym (get_or-by_place (4 * w) (counter_at ws) i 0 h))))
 
@@ -96,7 +96,7 @@ module _ (w : ℕ) (s : Spread) (some : 0 < w) (ws : List ℕ) (whole : w ≡ 4 
       ap (λ x. eqb x 1) (bit_lost ws n p few (omega (arith, whole)) ∙ ap (λ x. x % 2) (sym (get_or-by_place (4 * w) (counter_at ws) (counter_kept p) 0 (omega (arith, whole, few)))))))
 
   pub unhalve_after : (lost : List ℕ) → ((i : ℕ) → counter_at ws i ≤ 7) → length ws ≡ 4 * length lost
-      → table w s some (counter_at (by_place (length ws) (λ i. 2 * get_or ws i 0 + lost_of_word lost i))) ≡ unhalved record { lost = bits_of lost } (table w s some (counter_at ws))
+      → table w s some (counter_at (by_place (length ws) (λ i. 2 * get_or ws i 0 + lost_of_word lost i))) ≡ table_before_halving record { lost = bits_of lost } (table w s some (counter_at ws))
   unhalve_after lost low few = ap (λ (cs : List ℕ). let t : Table = record { width = w; spread = s; counters = cs } in t)
       (by_place_same (4 * w) _ _ 0 (λ i h.
       let v : i / 16 < length ws = omega (arith, whole) in

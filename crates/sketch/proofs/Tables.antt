@@ -8,8 +8,8 @@ use Rattle.sketch.specs.declared.touch_record.TouchRecord.{TouchRecord}
 use Rattle.sketch.specs.declared.touch_record.RaisedRows.{RaisedRows}
 use Rattle.sketch.specs.Columns.{column, column_below}
 use Rattle.bits_and_lists.specs.Places.{by_place}
-use Rattle.sketch.specs.Sketch.{Table, counter_of, is_of, at_key, touched, least}
-use Rattle.sketch.specs.TouchRecord.{touch_record_of, rose, untouched, FitsTouch}
+use Rattle.sketch.specs.Sketch.{Table, counter_of, is_of, at_key, touched_table, least_counter}
+use Rattle.sketch.specs.TouchRecord.{touch_record_of, rose, table_before_touch, FitsTouch}
 use Rattle.bits_and_lists.proofs.Places.{get_or-by_place, by_place_same}
 
 -- the least of two counters that rise is the least of the two, risen
@@ -78,10 +78,10 @@ module _ (w : ℕ) (s : Spread) (some : 0 < w) where
     own_before row h = get_or-by_place (4 * w) f (row * w + column s key row w) 0 (place_within key row h)
 
     -- the least of a key rises with its counters
-    pub touched_least : least key (touched key (table f)) ≡ min 15 (least key (table f) + 1)
+    pub touched_least : least_counter key (touched_table key (table f)) ≡ min 15 (least_counter key (table f) + 1)
     touched_least =
         let up : ℕ → ℕ → ℕ = λ row x. min 15 (x + 1) in
-        let rises : (row : ℕ) → row < 4 → counter_of key (touched key (table f)) row ≡ min 15 (counter_of key (table f) row + 1) = λ row h.
+        let rises : (row : ℕ) → row < 4 → counter_of key (touched_table key (table f)) row ≡ min 15 (counter_of key (table f) row + 1) = λ row h.
         own_counter key up f row h ∙ ap (up row) (sym (own_before row h)) in
         let at = counter_of key (table f) in
         rw (rises 0 (omega arith), rises 1 (omega arith), rises 2 (omega arith), rises 3 (omega arith))
@@ -101,17 +101,17 @@ module _ (w : ℕ) (s : Spread) (some : 0 < w) where
       } (touch_record_of key (table f)).rose
       flags_are = rw met refl
 
-      least_before : min (min (get_or were 0 0) (get_or were 1 0)) (min (get_or were 2 0) (get_or were 3 0)) ≡ least key (table f)
+      least_before : min (min (get_or were 0 0) (get_or were 1 0)) (min (get_or were 2 0) (get_or were 3 0)) ≡ least_counter key (table f)
       least_before = rw met refl
 
-      pub kept_is : (t : Table) (n : ℕ) → t ≡ touched key (table f)
-          → n ≡ min (min (min (get_or were 0 0) (get_or were 1 0)) (min (get_or were 2 0) (get_or were 3 0))) 14 + 1 → n ≡ least key t
+      pub kept_is : (t : Table) (n : ℕ) → t ≡ touched_table key (table f)
+          → n ≡ min (min (min (get_or were 0 0) (get_or were 1 0)) (min (get_or were 2 0) (get_or were 3 0))) 14 + 1 → n ≡ least_counter key t
       kept_is t n e m = rw (e, touched_least, m, least_before) (omega arith)
 
     flag : (row : ℕ) → row < 4 → rose (touch_record_of key (table f)) row ≡ nat_lt (f (row * w + column s key row w)) 15
     flag row h = get_or-by_place 4 (λ row. nat_lt (counter_of key (table f) row) 15) row false h ∙ ap (λ x. nat_lt x 15) (own_before row h)
 
-    pub touch_undone : ((i : ℕ) → f i ≤ 15) → untouched (touch_record_of key (table f)) (touched key (table f)) ≡ table f
+    pub touch_undone : ((i : ℕ) → f i ≤ 15) → table_before_touch (touch_record_of key (table f)) (touched_table key (table f)) ≡ table f
     touch_undone small = unkeyed key (λ row x. min 15 (x + 1)) f (λ row x. cond (rose (touch_record_of key (table f)) row) (x - 1) x) (λ i lt e.
         let d : i / w < 4 = div_below i w 4 some lt in
         let p : f (i / w * w + column s key (i / w) w) ≡ f i = ap f (sym (own_place key i e)) in
@@ -120,7 +120,7 @@ module _ (w : ℕ) (s : Spread) (some : 0 < w) where
           | inr q ↦ rw q (let ge15 : 15 ≤ f i = ltb-false _ _ q in omega (arith, small i))
         ]))
 
-    pub touch_fits : FitsTouch (touch_record_of key (table f)) (touched key (table f))
+    pub touch_fits : FitsTouch (touch_record_of key (table f)) (touched_table key (table f))
     touch_fits = record {
       raised = λ row h e. rw (own_counter key (λ row x. min 15 (x + 1)) f row h) (omega arith);
       full = λ row h e.

@@ -3,10 +3,10 @@ use Rattle.std.proofs.Common.{◌≡◌, ◌≢◌, ℕ, suc, zero, ◌+◌, ◌
 use Rattle.std.proofs.lemmas.Bool.{cases_eq, eq-eqb, ne_eqb}
 use Rattle.sketch.specs.declared.halve_record.HalveRecord.{HalveRecord}
 use Rattle.sketch.specs.declared.touch_record.TouchRecord.{TouchRecord}
-use Rattle.sketch.specs.Sketch.{Table, counter_of, is_of, touched, halved, least, IsTable}
+use Rattle.sketch.specs.Sketch.{Table, counter_of, is_of, touched_table, halved_table, least_counter, IsTable}
 use Rattle.sketch.specs.Columns.{column}
-use Rattle.sketch.specs.TouchRecord.{touch_record_of, untouched, FitsTouch}
-use Rattle.sketch.specs.HalveRecord.{counter_kept, kept_at, halve_record_of, unhalved, FitsHalve}
+use Rattle.sketch.specs.TouchRecord.{touch_record_of, table_before_touch, FitsTouch}
+use Rattle.sketch.specs.HalveRecord.{counter_kept, kept_at, halve_record_of, table_before_halving, FitsHalve}
 use Rattle.bits_and_lists.proofs.Places.{length-by_place, get_or-by_place, by_place_same, by_place_whole}
 use Rattle.sketch.proofs.RowLists.{small_by_place}
 use Rattle.sketch.proofs.Tables as tables
@@ -32,17 +32,17 @@ module _ (t : Table) (is : IsTable t) where
   rebuilt : tables.table t.width t.spread is.some (λ i. get_or t.counters i 0) ≡ t
   rebuilt = ap (λ (cs : List ℕ). let u : Table = record { width = t.width; spread = t.spread; counters = cs } in u) (by_place_whole t.counters (4 * t.width) 0 is.whole)
 
-  pub touch_undone : (key : ℕ) → untouched (touch_record_of key t) (touched key t) ≡ t
+  pub touch_undone : (key : ℕ) → table_before_touch (touch_record_of key t) (touched_table key t) ≡ t
   touch_undone key =
-      let P : Table → Type 0 = λ u. untouched (touch_record_of key u) (touched key u) ≡ u in
+      let P : Table → Type 0 = λ u. table_before_touch (touch_record_of key u) (touched_table key u) ≡ u in
       subst P rebuilt (tables.touch_undone t.width t.spread is.some key (λ i. get_or t.counters i 0) is.small)
 
-  pub touch_fits : (key : ℕ) → FitsTouch (touch_record_of key t) (touched key t)
+  pub touch_fits : (key : ℕ) → FitsTouch (touch_record_of key t) (touched_table key t)
   touch_fits key =
-      let P : Table → Type 0 = λ u. FitsTouch (touch_record_of key u) (touched key u) in
+      let P : Table → Type 0 = λ u. FitsTouch (touch_record_of key u) (touched_table key u) in
       subst P rebuilt (tables.touch_fits t.width t.spread is.some key (λ i. get_or t.counters i 0))
 
-  pub halve_undone : unhalved (halve_record_of t) (halved t) ≡ t
+  pub halve_undone : table_before_halving (halve_record_of t) (halved_table t) ≡ t
   halve_undone =
       ap (λ (cs : List ℕ). let u : Table = record { width = t.width; spread = t.spread; counters = cs } in u)
       (by_place_same (4 * t.width) _ (λ i. get_or t.counters i 0) 0 (λ i h.
@@ -52,7 +52,7 @@ module _ (t : Table) (is : IsTable t) where
       rw (get_or-by_place (4 * t.width) (λ i. get_or t.counters i 0 / 2) i 0 h, bit, back) (twice_and (get_or t.counters i 0))))
       ∙ rebuilt
 
-  pub halve_fits : FitsHalve (halve_record_of t) (halved t)
+  pub halve_fits : FitsHalve (halve_record_of t) (halved_table t)
   halve_fits = record {
     whole = length-by_place (4 * t.width) (λ p. eqb (get_or t.counters (counter_kept p) 0 % 2) 1);
     low = λ i h.
@@ -61,17 +61,17 @@ module _ (t : Table) (is : IsTable t) where
   }
 
   -- the same of a record and a table that are known by equations
-  pub untouched_is : (key : ℕ) (r : TouchRecord) (u : Table) → r ≡ touch_record_of key t → u ≡ touched key t → untouched r u ≡ t
+  pub untouched_is : (key : ℕ) (r : TouchRecord) (u : Table) → r ≡ touch_record_of key t → u ≡ touched_table key t → table_before_touch r u ≡ t
   untouched_is key r u e f = rw (e, f) (touch_undone key)
 
-  pub unhalved_is : (r : HalveRecord) (u : Table) → r ≡ halve_record_of t → u ≡ halved t → unhalved r u ≡ t
+  pub unhalved_is : (r : HalveRecord) (u : Table) → r ≡ halve_record_of t → u ≡ halved_table t → table_before_halving r u ≡ t
   unhalved_is r u e f = rw (e, f) halve_undone
 
-  pub least_small : (key : ℕ) → least key t ≤ 15
+  pub least_small : (key : ℕ) → least_counter key t ≤ 15
   least_small key = let first : counter_of key t 0 ≤ 15 = is.small (0 * t.width + column t.spread key 0 t.width) in omega (arith, first)
 
   -- what a touch or a halving leaves is a table again
-  pub touched_is : (key : ℕ) → IsTable (touched key t)
+  pub touched_is : (key : ℕ) → IsTable (touched_table key t)
   touched_is key = record {
     some = is.some;
     words = is.words;
@@ -79,7 +79,7 @@ module _ (t : Table) (is : IsTable t) where
     small = small_by_place (4 * t.width) (λ i. cond (is_of t.spread t.width key i) (min 15 (get_or t.counters i 0 + 1)) (get_or t.counters i 0)) (λ i h. one_of (is_of t.spread t.width key i) (get_or t.counters i 0) (is.small i));
   }
 
-  pub halved_is : IsTable (halved t)
+  pub halved_is : IsTable (halved_table t)
   halved_is = record {
     some = is.some;
     words = is.words;

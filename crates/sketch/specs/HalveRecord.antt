@@ -23,8 +23,8 @@ abbrev pub lost_by : HalveRecord → ℕ → ℕ
 lost_by r i = cond (slice_index_or r.lost (kept_at i) false) 1 0
 
 -- each counter is doubled, and what it lost is added
-abbrev pub unhalved : HalveRecord → Table → Table
-unhalved r t = changed t (λ i x. 2 * x + lost_by r i)
+abbrev pub table_before_halving : HalveRecord → Table → Table
+table_before_halving r t = changed t (λ i x. 2 * x + lost_by r i)
 
 -- there is a bit for each counter, and no counter is over 7
 pub record FitsHalve (r : HalveRecord) (t : Table) : Type 0 where

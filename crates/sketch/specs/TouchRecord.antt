@@ -14,8 +14,8 @@ abbrev pub rose : TouchRecord → ℕ → Bool
 rose r row = slice_index_or (r.rose.row_0 ∷ r.rose.row_1 ∷ r.rose.row_2 ∷ r.rose.row_3 ∷ []) row false
 
 -- the counters that rose fall by 1, and no other
-abbrev pub untouched : TouchRecord → Table → Table
-untouched r t = at_key r.key (λ row x. cond (rose r row) (x - 1) x) t
+abbrev pub table_before_touch : TouchRecord → Table → Table
+table_before_touch r t = at_key r.key (λ row x. cond (rose r row) (x - 1) x) t
 
 -- the counters that rose are above 0, and the key's others are 15
 pub record FitsTouch (r : TouchRecord) (t : Table) : Type 0 where

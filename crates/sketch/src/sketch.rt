@@ -3,9 +3,9 @@ ghost use Rattle.std.specs.Prelude.{◌≡◌, ◌<◌, ◌≤◌, ◌*◌, min,
 ghost use Rattle.std.specs.Int.{IsPowerOfTwo};
 ghost use Rattle.step_record.specs.declared.limits.TheConstants.{MAX_CAPACITY};
 ghost use Rattle.bits_and_lists.specs.Places.{by_place};
-ghost use Rattle.sketch.specs.Sketch.{counter as counter_of, touched, halved, least as least_of};
-ghost use Rattle.sketch.specs.TouchRecord.{touch_record_of, untouched, FitsTouch};
-ghost use Rattle.sketch.specs.HalveRecord.{halve_record_of, unhalved, FitsHalve};
+ghost use Rattle.sketch.specs.Sketch.{counter as counter_of, touched_table, halved_table, least_counter as least_of};
+ghost use Rattle.sketch.specs.TouchRecord.{touch_record_of, table_before_touch, FitsTouch};
+ghost use Rattle.sketch.specs.HalveRecord.{halve_record_of, table_before_halving, FitsHalve};
 
 use crate::columns::columns;
 use crate::counters::get;
@@ -34,7 +34,7 @@ pub struct Sketch {
 
 impl Model for Sketch {
     ghost use Rattle.std.specs.Prelude.{◌≡◌, ◌≤◌, ◌*◌, ◌/◌, length, IfSome};
-    ghost use Rattle.sketch.specs.Sketch.{Table, least as least_of};
+    ghost use Rattle.sketch.specs.Sketch.{Table, least_counter as least_of};
     ghost use Rattle.bits_and_lists.specs.Places.{by_place};
     ghost use Rattle.sketch.specs.Counters.{counter_at};
     ghost use Rattle.std.specs.Int.{IsPowerOfTwo};
@@ -103,10 +103,10 @@ impl Sketch {
     /// Raises the key's four counters, each unless it is 15, and returns the undo record: which of them rose.
     #[inline(always)]
     pub fn touch(&mut self, key: Key) -> TouchRecord
-        ensures after { self.new ≡ touched key self.old }
+        ensures after { self.new ≡ touched_table key self.old }
         ensures record_is { result ≡ touch_record_of key self.old }
         ensures fits { FitsTouch result self.new }
-        ensures undone { untouched result self.new ≡ self.old }
+        ensures undone { table_before_touch result self.new ≡ self.old }
     {
         let columns = columns(self.spread, key, self.width);
         let were = raise_rows(&mut self.words, self.width, columns);
@@ -127,7 +127,7 @@ impl Sketch {
     /// touch or halving that is not undone does.
     pub fn untouch(&mut self, done: TouchRecord)
         requires { FitsTouch done self.old }
-        ensures { self.new ≡ untouched done self.old }
+        ensures { self.new ≡ table_before_touch done self.old }
     {
         self.last_least = None;
         lower_rows(&mut self.words, self.width, self.spread, &done);
@@ -136,10 +136,10 @@ impl Sketch {
     /// Floors each counter to its half, and returns the undo record: the bits that are lost. The one error is out of
     /// memory for them; nothing is changed then.
     pub fn halve(&mut self) -> Result<HalveRecord, AllocError>
-        ensures after { OnOk result (self.new ≡ halved self.old) }
+        ensures after { OnOk result (self.new ≡ halved_table self.old) }
         ensures record_is { IfOk result (λ r. r ≡ halve_record_of self.old) }
         ensures fits { IfOk result (λ r. FitsHalve r self.new) }
-        ensures undone { IfOk result (λ r. unhalved r self.new ≡ self.old) }
+        ensures undone { IfOk result (λ r. table_before_halving r self.new ≡ self.old) }
         ensures err { OnErr result (self.new ≡ self.old) }
     {
         let mut lost = vec![in self.alloc; 0; self.words.len() / 4]?;
@@ -154,7 +154,7 @@ impl Sketch {
     /// last touch or halving that is not undone does.
     pub fn unhalve(&mut self, done: HalveRecord)
         requires { FitsHalve done self.old }
-        ensures { self.new ≡ unhalved done self.old }
+        ensures { self.new ≡ table_before_halving done self.old }
     {
         self.last_least = None;
         unhalve_words(&mut self.words, done.lost.as_words());

@@ -7,9 +7,9 @@ use Rattle.step_record.specs.declared.job.Job.{Job}
 use Rattle.step_record.specs.declared.job.Policy.TheVariants.{Lru}
 use Rattle.step_record.specs.declared.outcome.Outcome.{Outcome}
 use Rattle.step_record.specs.declared.outcome.Outcome.TheVariants.{Hit, Kept, Evicted, Rejected}
-use Rattle.step_record.specs.Stats.{is_hit, is_miss, is_eviction, is_rejection, stats_of, one}
-use Rattle.policies.specs.Lru.{distinct, since, hits, lru_outcome}
-use Rattle.policies.specs.QueueCache.{QueueState, accessed, frequency_after, state_after, outcomes_from, outcomes_after, outcome_after}
+use Rattle.step_record.specs.Stats.{is_hit, is_miss, is_eviction, is_rejection, stats_of, one_if}
+use Rattle.policies.specs.Lru.{distinct_keys, keys_since, is_lru_hit, lru_outcome}
+use Rattle.policies.specs.QueueCache.{QueueState, queue_state_after, frequency_after, state_after, outcomes_from, outcomes_after, outcome_after}
 use Rattle.policies.specs.Design.{knows_trace}
 use Rattle.policies.specs.AnyPolicy.{stats_on, outcomes_on}
 use Rattle.policies.proofs.Reached.{after-snoc, after-job}
@@ -20,18 +20,18 @@ use Rattle.stack_distances.proofs.Stack.{grows, since-short}
 
 -- ---- one access
 
-pub within-hits : (c : ℕ) (xs : List ℕ) (k : ℕ) → is_within c (distance xs k) ≡ hits c xs k
+pub within-hits : (c : ℕ) (xs : List ℕ) (k : ℕ) → is_within c (distance xs k) ≡ is_lru_hit c xs k
 within-hits c xs k =
-    elim (two (has_key k xs)) as (λ _. is_within c (cond (has_key k xs) (Some (suc (length (distinct (since k xs))))) None) ≡ (has_key k xs && nat_lt (length (distinct (since k xs))) c)) [
+    elim (two (has_key k xs)) as (λ _. is_within c (cond (has_key k xs) (Some (suc (length (distinct_keys (keys_since k xs))))) None) ≡ (has_key k xs && nat_lt (length (distinct_keys (keys_since k xs))) c)) [
       | inl h ↦ rw h refl
       | inr h ↦ rw h refl
     ]
 
-outcome-hit : (c : ℕ) (xs : List ℕ) (k : ℕ) → is_hit (lru_outcome c xs k) ≡ hits c xs k
+outcome-hit : (c : ℕ) (xs : List ℕ) (k : ℕ) → is_hit (lru_outcome c xs k) ≡ is_lru_hit c xs k
 outcome-hit c xs k =
-    elim (two (hits c xs k)) [
+    elim (two (is_lru_hit c xs k)) [
       | inl h ↦ rw h refl
-      | inr h ↦ rw h (elim (two (nat_lt (length (distinct xs)) c)) [ inl e ↦ rw e refl | inr e ↦ rw e refl ])
+      | inr h ↦ rw h (elim (two (nat_lt (length (distinct_keys xs)) c)) [ inl e ↦ rw e refl | inr e ↦ rw e refl ])
     ]
 
 pub lru-hits : (j : Job) (keys : List ℕ) (k : ℕ) → j.policy ≡ Lru → 1 ≤ j.config.capacity → is_hit (outcome_after j keys k) ≡ is_within j.config.capacity (distance keys k)
@@ -48,8 +48,8 @@ module _ (j : Job) (is_lru : j.policy ≡ Lru) (room : 1 ≤ j.config.capacity) 
   from-outcomes past [] = refl
   from-outcomes past (k ∷ ks) =
       let head : outcome_after j past k ≡ lru_outcome j.config.capacity past k = outcome-lru j is_lru room past k (after-job j past) in
-      let next : accessed (frequency_after j (past ++ k ∷ [])) k (state_after j past) ≡ state_after j (past ++ k ∷ []) = sym (after-snoc j past k) in
-      ap (λ (o : Outcome). o ∷ outcomes_from j (past ++ k ∷ []) (accessed (frequency_after j (past ++ k ∷ [])) k (state_after j past)) ks) head
+      let next : queue_state_after (frequency_after j (past ++ k ∷ [])) k (state_after j past) ≡ state_after j (past ++ k ∷ []) = sym (after-snoc j past k) in
+      ap (λ (o : Outcome). o ∷ outcomes_from j (past ++ k ∷ []) (queue_state_after (frequency_after j (past ++ k ∷ [])) k (state_after j past)) ks) head
       ∙ (ap (λ (d : QueueState). lru_outcome j.config.capacity past k ∷ outcomes_from j (past ++ k ∷ []) d ks) next
       ∙ ap (λ (os : List Outcome). lru_outcome j.config.capacity past k ∷ os) (from-outcomes (past ++ k ∷ []) ks))
 
@@ -59,7 +59,7 @@ module _ (j : Job) (is_lru : j.policy ≡ Lru) (room : 1 ≤ j.config.capacity) 
 
 -- ---- counts
 
-count-cons : {A : Type 0} (p : A → Bool) (x : A) (xs : List A) → count_by p (x ∷ xs) ≡ one (p x) + count_by p xs
+count-cons : {A : Type 0} (p : A → Bool) (x : A) (xs : List A) → count_by p (x ∷ xs) ≡ one_if (p x) + count_by p xs
 count-cons p x xs = sum_by-cons (λ y. cond (p y) 1 0) x xs
 
 count-hits : (c : ℕ) (past keys : List ℕ) → count_by is_hit (lru_outcomes c past keys) ≡ count_by (is_within c) (distances_after past keys)
@@ -67,11 +67,11 @@ count-hits c past [] = refl
 count-hits c past (k ∷ ks) =
     let head : is_hit (lru_outcome c past k) ≡ is_within c (distance past k) = outcome-hit c past k ∙ sym (within-hits c past k) in
     count-cons is_hit (lru_outcome c past k) (lru_outcomes c (past ++ k ∷ []) ks)
-    ∙ (ap (λ b. one b + count_by is_hit (lru_outcomes c (past ++ k ∷ []) ks)) head
-    ∙ (ap (λ n. one (is_within c (distance past k)) + n) (count-hits c (past ++ k ∷ []) ks)
+    ∙ (ap (λ b. one_if b + count_by is_hit (lru_outcomes c (past ++ k ∷ []) ks)) head
+    ∙ (ap (λ n. one_if (is_within c (distance past k)) + n) (count-hits c (past ++ k ∷ []) ks)
     ∙ sym (count-cons (is_within c) (distance past k) (distances_after (past ++ k ∷ []) ks))))
 
-either : (o : Outcome) → one (is_hit o) + one (is_miss o) ≡ 1
+either : (o : Outcome) → one_if (is_hit o) + one_if (is_miss o) ≡ 1
 either Hit = refl
 either Kept = refl
 either (Evicted k) = refl
@@ -87,45 +87,45 @@ outcomes-length c past (k ∷ ks) = ap suc (outcomes-length c (past ++ k ∷ [])
 
 never-rejects : (c : ℕ) (xs : List ℕ) (k : ℕ) → is_rejection (lru_outcome c xs k) ≡ false
 never-rejects c xs k =
-    elim (two (hits c xs k)) [
+    elim (two (is_lru_hit c xs k)) [
       | inl h ↦ rw h refl
-      | inr h ↦ rw h (elim (two (nat_lt (length (distinct xs)) c)) [ inl e ↦ rw e refl | inr e ↦ rw e refl ])
+      | inr h ↦ rw h (elim (two (nat_lt (length (distinct_keys xs)) c)) [ inl e ↦ rw e refl | inr e ↦ rw e refl ])
     ]
 
 no-rejections : (c : ℕ) (past keys : List ℕ) → count_by is_rejection (lru_outcomes c past keys) ≡ 0
 no-rejections c past [] = refl
 no-rejections c past (k ∷ ks) =
     count-cons is_rejection (lru_outcome c past k) (lru_outcomes c (past ++ k ∷ []) ks)
-    ∙ (ap (λ b. one b + count_by is_rejection (lru_outcomes c (past ++ k ∷ []) ks)) (never-rejects c past k)
+    ∙ (ap (λ b. one_if b + count_by is_rejection (lru_outcomes c (past ++ k ∷ []) ks)) (never-rejects c past k)
     ∙ (ap (λ n. 0 + n) (no-rejections c (past ++ k ∷ []) ks)))
 
 -- a miss without an eviction fills one place
-fills : (c : ℕ) (xs : List ℕ) (k : ℕ) → one (is_eviction (lru_outcome c xs k)) + min c (length (distinct (xs ++ k ∷ []))) ≡ one (is_miss (lru_outcome c xs k)) + min c (length (distinct xs))
+fills : (c : ℕ) (xs : List ℕ) (k : ℕ) → one_if (is_eviction (lru_outcome c xs k)) + min c (length (distinct_keys (xs ++ k ∷ []))) ≡ one_if (is_miss (lru_outcome c xs k)) + min c (length (distinct_keys xs))
 fills c xs k = rw (grows k xs) (elim (two (has_key k xs)) [
   | inl h ↦
-      let short : length (distinct (since k xs)) ≤ length (distinct xs) = since-short k xs in
-      rw h (elim (two (nat_lt (length (distinct (since k xs))) c)) [
+      let short : length (distinct_keys (keys_since k xs)) ≤ length (distinct_keys xs) = since-short k xs in
+      rw h (elim (two (nat_lt (length (distinct_keys (keys_since k xs))) c)) [
         | inl e ↦ rw e refl
-        | inr e ↦ let full : nat_lt (length (distinct xs)) c ≡ false = grind (arith, nat_tests) in rw (e, full) refl
+        | inr e ↦ let full : nat_lt (length (distinct_keys xs)) c ≡ false = grind (arith, nat_tests) in rw (e, full) refl
       ])
   | inr h ↦
-      rw h (elim (two (nat_lt (length (distinct xs)) c)) [
-        | inl e ↦ let room : length (distinct xs) < c = grind (arith, nat_tests) in rw e (omega arith)
-        | inr e ↦ let full : c ≤ length (distinct xs) = grind (arith, nat_tests) in rw e (omega arith)
+      rw h (elim (two (nat_lt (length (distinct_keys xs)) c)) [
+        | inl e ↦ let room : length (distinct_keys xs) < c = grind (arith, nat_tests) in rw e (omega arith)
+        | inr e ↦ let full : c ≤ length (distinct_keys xs) = grind (arith, nat_tests) in rw e (omega arith)
       ])
 ])
 
-evictions-misses : (c : ℕ) (past keys : List ℕ) → count_by is_eviction (lru_outcomes c past keys) + min c (length (distinct (past ++ keys))) ≡ count_by is_miss (lru_outcomes c past keys) + min c (length (distinct past))
+evictions-misses : (c : ℕ) (past keys : List ℕ) → count_by is_eviction (lru_outcomes c past keys) + min c (length (distinct_keys (past ++ keys))) ≡ count_by is_miss (lru_outcomes c past keys) + min c (length (distinct_keys past))
 evictions-misses c past [] = rw (append-nil past) refl
 evictions-misses c past (k ∷ ks) =
     let o : Outcome = lru_outcome c past k in
     let os : List Outcome = lru_outcomes c (past ++ k ∷ []) ks in
-    let rest : count_by is_eviction os + min c (length (distinct ((past ++ k ∷ []) ++ ks))) ≡ count_by is_miss os + min c (length (distinct (past ++ k ∷ []))) = evictions-misses c (past ++ k ∷ []) ks in
-    let here : one (is_eviction o) + min c (length (distinct (past ++ k ∷ []))) ≡ one (is_miss o) + min c (length (distinct past)) = fills c past k in
-    let whole : length (distinct ((past ++ k ∷ []) ++ ks)) ≡ length (distinct (past ++ k ∷ ks)) = ap (λ l. length (distinct l)) (append_assoc past (k ∷ []) ks) in
-    let ce : count_by is_eviction (o ∷ os) ≡ one (is_eviction o) + count_by is_eviction os = count-cons is_eviction o os in
-    let cm : count_by is_miss (o ∷ os) ≡ one (is_miss o) + count_by is_miss os = count-cons is_miss o os in
-    let n : min c (length (distinct ((past ++ k ∷ []) ++ ks))) ≡ min c (length (distinct (past ++ k ∷ ks))) = ap (min c) whole in
+    let rest : count_by is_eviction os + min c (length (distinct_keys ((past ++ k ∷ []) ++ ks))) ≡ count_by is_miss os + min c (length (distinct_keys (past ++ k ∷ []))) = evictions-misses c (past ++ k ∷ []) ks in
+    let here : one_if (is_eviction o) + min c (length (distinct_keys (past ++ k ∷ []))) ≡ one_if (is_miss o) + min c (length (distinct_keys past)) = fills c past k in
+    let whole : length (distinct_keys ((past ++ k ∷ []) ++ ks)) ≡ length (distinct_keys (past ++ k ∷ ks)) = ap (λ l. length (distinct_keys l)) (append_assoc past (k ∷ []) ks) in
+    let ce : count_by is_eviction (o ∷ os) ≡ one_if (is_eviction o) + count_by is_eviction os = count-cons is_eviction o os in
+    let cm : count_by is_miss (o ∷ os) ≡ one_if (is_miss o) + count_by is_miss os = count-cons is_miss o os in
+    let n : min c (length (distinct_keys ((past ++ k ∷ []) ++ ks))) ≡ min c (length (distinct_keys (past ++ k ∷ ks))) = ap (min c) whole in
     omega (arith, rest, here, ce, cm, n)
 
 -- ---- the statistics
@@ -137,9 +137,9 @@ stats-by c keys =
     let h : count_by is_hit os ≡ hits_within c keys = count-hits c [] keys in
     let hm : count_by is_hit os + count_by is_miss os ≡ length os = hits-misses os in
     let m : count_by is_miss os ≡ length keys - hits_within c keys = omega (arith, l, h, hm) in
-    let em : count_by is_eviction os + min c (length (distinct keys)) ≡ count_by is_miss os + min c 0 = evictions-misses c [] keys in
+    let em : count_by is_eviction os + min c (length (distinct_keys keys)) ≡ count_by is_miss os + min c 0 = evictions-misses c [] keys in
     let z : min c 0 ≡ 0 = omega arith in
-    let e : count_by is_eviction os ≡ length keys - hits_within c keys - min c (length (distinct keys)) = omega (arith, em, z, m) in
+    let e : count_by is_eviction os ≡ length keys - hits_within c keys - min c (length (distinct_keys keys)) = omega (arith, em, z, m) in
     let r : count_by is_rejection os ≡ 0 = no-rejections c [] keys in
     rw (l, h, m, e, r) refl
 
@@ -150,19 +150,19 @@ lru-counts j keys p room =
     ap stats_of by_queues ∙ (ap stats_of (all-outcomes j p room keys) ∙ stats-by j.config.capacity keys)
 
 -- a miss fills a place of the cache, or evicts
-pub hits-and-held : (c : ℕ) (keys : List ℕ) → hits_within c keys + min c (length (distinct keys)) ≤ length keys
+pub hits-and-held : (c : ℕ) (keys : List ℕ) → hits_within c keys + min c (length (distinct_keys keys)) ≤ length keys
 hits-and-held c keys =
     let os : List Outcome = lru_outcomes c [] keys in
     let l : length os ≡ length keys = outcomes-length c [] keys in
     let h : count_by is_hit os ≡ hits_within c keys = count-hits c [] keys in
     let hm : count_by is_hit os + count_by is_miss os ≡ length os = hits-misses os in
-    let em : count_by is_eviction os + min c (length (distinct keys)) ≡ count_by is_miss os + min c 0 = evictions-misses c [] keys in
+    let em : count_by is_eviction os + min c (length (distinct_keys keys)) ≡ count_by is_miss os + min c 0 = evictions-misses c [] keys in
     let z : min c 0 ≡ 0 = omega arith in
     omega (arith, l, h, hm, em, z)
 
 -- ---- larger capacities
 
-within-more : (c d : ℕ) (x : Option ℕ) → c ≤ d → one (is_within c x) ≤ one (is_within d x)
+within-more : (c d : ℕ) (x : Option ℕ) → c ≤ d → one_if (is_within c x) ≤ one_if (is_within d x)
 within-more c d None h = omega arith
 within-more c d (Some n) h =
     elim (two (nat_le n c)) [
@@ -171,4 +171,4 @@ within-more c d (Some n) h =
     ]
 
 pub hits-grow : (c d : ℕ) (keys : List ℕ) → c ≤ d → hits_within c keys ≤ hits_within d keys
-hits-grow c d keys h = sum_by-le-sum_by (λ x. one (is_within c x)) (λ x. one (is_within d x)) (distances keys) (λ x. within-more c d x h)
+hits-grow c d keys h = sum_by-le-sum_by (λ x. one_if (is_within c x)) (λ x. one_if (is_within d x)) (distances keys) (λ x. within-more c d x h)

@@ -6,7 +6,7 @@ use Rattle.std.proofs.lemmas.Bool.Decides.{nat_tests}
 use Rattle.std.proofs.lemmas.List.{length_push}
 use Rattle.std.proofs.lemmas.List.Sums.{sum_by_push, count_by-le-length}
 use Rattle.step_record.specs.Keys.{has_key}
-use Rattle.policies.specs.Lru.{distinct, since}
+use Rattle.policies.specs.Lru.{distinct_keys, keys_since}
 use Rattle.stack_distances.specs.Distances.{distance, distances_after, distances}
 use Rattle.stack_distances.specs.Sums.{sum_below}
 use Rattle.stack_distances.specs.Histogram.{one_further, last_place, are_last, is_at, IsHistogram}
@@ -41,7 +41,7 @@ pub record IsLast (k : ℕ) (xs : List ℕ) (p : ℕ) : Type 0 where
   pub within : p < length xs
   pub came : has_key k xs ≡ true
   pub marked : get_or (are_last xs) p false ≡ true
-  pub depth : length (distinct (drop p xs)) ≡ suc (length (distinct (since k xs)))
+  pub depth : length (distinct_keys (drop p xs)) ≡ suc (length (distinct_keys (keys_since k xs)))
 
 pub last-some : (k : ℕ) (xs : List ℕ) (p : ℕ) → last_place k xs ≡ Some p → IsLast k xs p
 last-some k [] p h = absurd (cc h)
@@ -153,17 +153,17 @@ sum-front : (f : ℕ → ℕ) (n : ℕ) → sum_below f (suc n) ≡ f 0 + sum_be
 sum-front f zero = omega arith
 sum-front f (suc n) = let rest : sum_below f (suc n) ≡ f 0 + sum_below (λ q. f (suc q)) n = sum-front f n in omega (arith, rest)
 
-stack-front : (a : ℕ) (xs : List ℕ) → length (distinct (a ∷ xs)) ≡ cond (not (has_key a xs)) 1 0 + length (distinct xs)
-stack-front a xs = elim (two (has_key a xs)) as (λ _. length (cond (has_key a xs) (distinct xs) (a ∷ distinct xs)) ≡ cond (not (has_key a xs)) 1 0 + length (distinct xs)) [ inl e ↦ rw e (omega arith) | inr e ↦ rw e (omega arith) ]
+stack-front : (a : ℕ) (xs : List ℕ) → length (distinct_keys (a ∷ xs)) ≡ cond (not (has_key a xs)) 1 0 + length (distinct_keys xs)
+stack-front a xs = elim (two (has_key a xs)) as (λ _. length (cond (has_key a xs) (distinct_keys xs) (a ∷ distinct_keys xs)) ≡ cond (not (has_key a xs)) 1 0 + length (distinct_keys xs)) [ inl e ↦ rw e (omega arith) | inr e ↦ rw e (omega arith) ]
 
 -- of the distinct keys, those whose last access is below p are marked there, and the others make up the stack from p on
-pub stack-below : (xs : List ℕ) (p : ℕ) → p ≤ length xs → sum_below (mark_in xs) p + length (distinct (drop p xs)) ≡ length (distinct xs)
+pub stack-below : (xs : List ℕ) (p : ℕ) → p ≤ length xs → sum_below (mark_in xs) p + length (distinct_keys (drop p xs)) ≡ length (distinct_keys xs)
 stack-below xs zero h = omega arith
 stack-below [] (suc p) h = absurd (omega arith)
 stack-below (a ∷ xs) (suc p) h =
     let front : sum_below (mark_in (a ∷ xs)) (suc p) ≡ cond (not (has_key a xs)) 1 0 + sum_below (mark_in xs) p = sum-front (mark_in (a ∷ xs)) p in
-    let rest : sum_below (mark_in xs) p + length (distinct (drop p xs)) ≡ length (distinct xs) = stack-below xs p (omega arith) in
-    let whole : length (distinct (a ∷ xs)) ≡ cond (not (has_key a xs)) 1 0 + length (distinct xs) = stack-front a xs in
+    let rest : sum_below (mark_in xs) p + length (distinct_keys (drop p xs)) ≡ length (distinct_keys xs) = stack-below xs p (omega arith) in
+    let whole : length (distinct_keys (a ∷ xs)) ≡ cond (not (has_key a xs)) 1 0 + length (distinct_keys xs) = stack-front a xs in
     omega (arith, front, rest, whole)
 
 one-le : (b : Bool) → cond b 1 0 ≤ 1
@@ -197,7 +197,7 @@ count-snoc p xs k = ap (λ (ds : List (Option ℕ)). count_by p ds) (distances-s
 distance-none : (xs : List ℕ) (k : ℕ) → has_key k xs ≡ false → distance xs k ≡ None
 distance-none xs k h = rw h refl
 
-distance-some : (xs : List ℕ) (k : ℕ) → has_key k xs ≡ true → distance xs k ≡ Some (suc (length (distinct (since k xs))))
+distance-some : (xs : List ℕ) (k : ℕ) → has_key k xs ≡ true → distance xs k ≡ Some (suc (length (distinct_keys (keys_since k xs))))
 distance-some xs k h = rw h refl
 
 -- ---- one access
@@ -226,7 +226,7 @@ module _ (xs : List ℕ) (k : ℕ) (places next : ℕ → Option ℕ) (marks new
       record {
         last = last-next;
         marked = λ q. marked q ∙ (ap (cond (eqb q (length xs)) true) (h.marked q) ∙ sym (marks-snoc k xs q ∙ ap (λ (o : Option ℕ). cond (eqb q (length xs)) true (cleared o q (get_or (are_last xs) q false))) no_place));
-        long = length_push counts 0 ∙ (let l : length counts ≡ length (distinct xs) = h.long in let g : length (distinct (xs ++ k ∷ [])) ≡ suc (length (distinct xs)) = grows k xs ∙ rw no refl in omega (arith, l, g));
+        long = length_push counts 0 ∙ (let l : length counts ≡ length (distinct_keys xs) = h.long in let g : length (distinct_keys (xs ++ k ∷ [])) ≡ suc (length (distinct_keys xs)) = grows k xs ∙ rw no refl in omega (arith, l, g));
         counted = λ d. push-zero counts d ∙ (h.counted d ∙ sym (count-snoc (is_at (suc d)) xs k ∙ (ap (λ (o : Option ℕ). count_by (is_at (suc d)) (distances xs) + cond (is_at (suc d) o) 1 0) (distance-none xs k no) ∙ omega arith)));
       }
 
@@ -241,13 +241,13 @@ module _ (xs : List ℕ) (k : ℕ) (places next : ℕ → Option ℕ) (marks new
     pub before-marked : marks p ≡ true
     before-marked = h.marked p ∙ before.marked
 
-    pub before-depth : (below : ℕ) → below ≡ sum_below (λ q. cond (marks q) 1 0) p → below + suc (length (distinct (since k xs))) ≡ length counts
+    pub before-depth : (below : ℕ) → below ≡ sum_below (λ q. cond (marks q) 1 0) p → below + suc (length (distinct_keys (keys_since k xs))) ≡ length counts
     before-depth below is =
         let same : sum_below (λ q. cond (marks q) 1 0) p ≡ sum_below (mark_in xs) p = sum-same (λ q. cond (marks q) 1 0) (mark_in xs) p (λ q. ap (λ b. cond b 1 0) (h.marked q)) in
         let w : p < length xs = before.within in
-        let cut : sum_below (mark_in xs) p + length (distinct (drop p xs)) ≡ length (distinct xs) = stack-below xs p (omega arith) in
-        let deep : length (distinct (drop p xs)) ≡ suc (length (distinct (since k xs))) = before.depth in
-        let l : length counts ≡ length (distinct xs) = h.long in
+        let cut : sum_below (mark_in xs) p + length (distinct_keys (drop p xs)) ≡ length (distinct_keys xs) = stack-below xs p (omega arith) in
+        let deep : length (distinct_keys (drop p xs)) ≡ suc (length (distinct_keys (keys_since k xs))) = before.depth in
+        let l : length counts ≡ length (distinct_keys xs) = h.long in
         omega (arith, is, same, cut, deep, l)
 
     pub count-small : (d : ℕ) → get_or counts d 0 ≤ length xs
@@ -257,7 +257,7 @@ module _ (xs : List ℕ) (k : ℕ) (places next : ℕ → Option ℕ) (marks new
         let l : length (distances xs) ≡ length xs = distances-long [] xs in
         omega (arith, c, few, l)
 
-    pub passed-again : (d y : ℕ) → d ≡ length (distinct (since k xs)) → d < length counts → y ≡ suc (get_or counts d 0) → ((q : ℕ) → new q ≡ cond (eqb q (length xs)) true (cond (eqb q p) false (marks q))) → IsHistogram (xs ++ k ∷ []) next new (set counts d y)
+    pub passed-again : (d y : ℕ) → d ≡ length (distinct_keys (keys_since k xs)) → d < length counts → y ≡ suc (get_or counts d 0) → ((q : ℕ) → new q ≡ cond (eqb q (length xs)) true (cond (eqb q p) false (marks q))) → IsHistogram (xs ++ k ∷ []) next new (set counts d y)
     passed-again d y deep in_it more marked =
         let place : last_place k xs ≡ Some p = sym (h.last k) ∙ some in
         let here : distance xs k ≡ Some (suc d) = distance-some xs k before.came ∙ ap (λ n. Some (suc n)) (sym deep) in

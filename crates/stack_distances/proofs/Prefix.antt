@@ -4,7 +4,7 @@ use Rattle.std.proofs.lemmas.Bool.{cases_lt}
 use Rattle.std.proofs.lemmas.Bool.Decides.{nat_tests}
 use Rattle.std.proofs.lemmas.List.Sums.{sum_by-cons}
 use Rattle.step_record.specs.Keys.{has_key}
-use Rattle.policies.specs.Lru.{distinct, since}
+use Rattle.policies.specs.Lru.{distinct_keys, keys_since}
 use Rattle.stack_distances.specs.Distances.{distance, distances_after, is_within, hits_within}
 use Rattle.stack_distances.specs.Histogram.{is_at}
 use Rattle.policies.proofs.Recency.{two}
@@ -52,13 +52,13 @@ no-hits keys = none-after [] keys
 
 -- ---- no distance is over the number of distinct keys
 
-deep : (k : ℕ) (xs : List ℕ) → has_key k xs ≡ true → suc (length (distinct (since k xs))) ≤ length (distinct xs)
+deep : (k : ℕ) (xs : List ℕ) → has_key k xs ≡ true → suc (length (distinct_keys (keys_since k xs))) ≤ length (distinct_keys xs)
 deep k [] h = absurd (cc h)
 deep k (a ∷ xs) h =
-    elim (two (has_key k xs)) as (λ _. suc (length (distinct (cond (has_key k xs) (since k xs) xs))) ≤ length (distinct (a ∷ xs))) [
+    elim (two (has_key k xs)) as (λ _. suc (length (distinct_keys (cond (has_key k xs) (keys_since k xs) xs))) ≤ length (distinct_keys (a ∷ xs))) [
       | inl c ↦
-          let tail : length (distinct xs) ≤ length (distinct (a ∷ xs)) = elim (two (has_key a xs)) as (λ _. length (distinct xs) ≤ length (cond (has_key a xs) (distinct xs) (a ∷ distinct xs))) [ inl e ↦ rw e (omega arith) | inr e ↦ rw e (omega arith) ] in
-          let rest : suc (length (distinct (since k xs))) ≤ length (distinct xs) = deep k xs c in
+          let tail : length (distinct_keys xs) ≤ length (distinct_keys (a ∷ xs)) = elim (two (has_key a xs)) as (λ _. length (distinct_keys xs) ≤ length (cond (has_key a xs) (distinct_keys xs) (a ∷ distinct_keys xs))) [ inl e ↦ rw e (omega arith) | inr e ↦ rw e (omega arith) ] in
+          let rest : suc (length (distinct_keys (keys_since k xs))) ≤ length (distinct_keys xs) = deep k xs c in
           rw c (omega (arith, tail, rest))
       | inr c ↦
           let e : eqb k a ≡ true = is-front (eqb k a) (rw c at h) in
@@ -71,38 +71,38 @@ deep k (a ∷ xs) h =
     is-front true h = refl
     is-front false h = absurd (cc h)
 
-full : (c : ℕ) (xs : List ℕ) (k : ℕ) → length (distinct xs) ≤ c → is_within c (distance xs k) ≡ has_key k xs
+full : (c : ℕ) (xs : List ℕ) (k : ℕ) → length (distinct_keys xs) ≤ c → is_within c (distance xs k) ≡ has_key k xs
 full c xs k h =
     elim (two (has_key k xs)) as (λ _. is_within c (distance xs k) ≡ has_key k xs) [
-      | inl e ↦ let d : suc (length (distinct (since k xs))) ≤ length (distinct xs) = deep k xs e in rw e (grind (arith, nat_tests))
+      | inl e ↦ let d : suc (length (distinct_keys (keys_since k xs))) ≤ length (distinct_keys xs) = deep k xs e in rw e (grind (arith, nat_tests))
       | inr e ↦ rw e refl
     ]
 
-one-grows : (past : List ℕ) (k : ℕ) → length (distinct past) ≤ length (distinct (past ++ k ∷ []))
-one-grows past k = rw (grows k past) (elim (two (has_key k past)) as (λ _. length (distinct past) ≤ cond (has_key k past) (length (distinct past)) (suc (length (distinct past)))) [ inl e ↦ rw e (omega arith) | inr e ↦ rw e (omega arith) ])
+one-grows : (past : List ℕ) (k : ℕ) → length (distinct_keys past) ≤ length (distinct_keys (past ++ k ∷ []))
+one-grows past k = rw (grows k past) (elim (two (has_key k past)) as (λ _. length (distinct_keys past) ≤ cond (has_key k past) (length (distinct_keys past)) (suc (length (distinct_keys past)))) [ inl e ↦ rw e (omega arith) | inr e ↦ rw e (omega arith) ])
 
-pub more-distinct : (past keys : List ℕ) → length (distinct past) ≤ length (distinct (past ++ keys))
+pub more-distinct : (past keys : List ℕ) → length (distinct_keys past) ≤ length (distinct_keys (past ++ keys))
 more-distinct past [] = rw (append-nil past) (omega arith)
 more-distinct past (k ∷ ks) =
-    let first : length (distinct past) ≤ length (distinct (past ++ k ∷ [])) = one-grows past k in
-    let rest : length (distinct (past ++ k ∷ [])) ≤ length (distinct ((past ++ k ∷ []) ++ ks)) = more-distinct (past ++ k ∷ []) ks in
-    let same : length (distinct ((past ++ k ∷ []) ++ ks)) ≡ length (distinct (past ++ k ∷ ks)) = ap (λ l. length (distinct l)) (append_assoc past (k ∷ []) ks) in
+    let first : length (distinct_keys past) ≤ length (distinct_keys (past ++ k ∷ [])) = one-grows past k in
+    let rest : length (distinct_keys (past ++ k ∷ [])) ≤ length (distinct_keys ((past ++ k ∷ []) ++ ks)) = more-distinct (past ++ k ∷ []) ks in
+    let same : length (distinct_keys ((past ++ k ∷ []) ++ ks)) ≡ length (distinct_keys (past ++ k ∷ ks)) = ap (λ l. length (distinct_keys l)) (append_assoc past (k ∷ []) ks) in
     omega (arith, first, rest, same)
 
-full-after : (c d : ℕ) (past keys : List ℕ) → length (distinct (past ++ keys)) ≤ c → length (distinct (past ++ keys)) ≤ d → count_by (is_within c) (distances_after past keys) ≡ count_by (is_within d) (distances_after past keys)
+full-after : (c d : ℕ) (past keys : List ℕ) → length (distinct_keys (past ++ keys)) ≤ c → length (distinct_keys (past ++ keys)) ≤ d → count_by (is_within c) (distances_after past keys) ≡ count_by (is_within d) (distances_after past keys)
 full-after c d past [] h g = refl
 full-after c d past (k ∷ ks) h g =
-    let fewer : length (distinct past) ≤ length (distinct (past ++ k ∷ ks)) = more-distinct past (k ∷ ks) in
-    let same : length (distinct ((past ++ k ∷ []) ++ ks)) ≡ length (distinct (past ++ k ∷ ks)) = ap (λ l. length (distinct l)) (append_assoc past (k ∷ []) ks) in
+    let fewer : length (distinct_keys past) ≤ length (distinct_keys (past ++ k ∷ ks)) = more-distinct past (k ∷ ks) in
+    let same : length (distinct_keys ((past ++ k ∷ []) ++ ks)) ≡ length (distinct_keys (past ++ k ∷ ks)) = ap (λ l. length (distinct_keys l)) (append_assoc past (k ∷ []) ks) in
     let rest : count_by (is_within c) (distances_after (past ++ k ∷ []) ks) ≡ count_by (is_within d) (distances_after (past ++ k ∷ []) ks) = full-after c d (past ++ k ∷ []) ks (omega (arith, same, h)) (omega (arith, same, g)) in
     let first : is_within c (distance past k) ≡ is_within d (distance past k) = full c past k (omega (arith, fewer, h)) ∙ sym (full d past k (omega (arith, fewer, g))) in
     let one : cond {A = ℕ} (is_within c (distance past k)) 1 0 ≡ cond {A = ℕ} (is_within d (distance past k)) 1 0 = ap (λ b. cond b 1 0) first in
     omega (arith, rest, one, count-cons (is_within c) (distance past k) (distances_after (past ++ k ∷ []) ks), count-cons (is_within d) (distance past k) (distances_after (past ++ k ∷ []) ks))
 
 -- past the number of distinct keys the hits stay
-pub hits-held : (c : ℕ) (keys : List ℕ) → hits_within (min (length (distinct keys)) c) keys ≡ hits_within c keys
+pub hits-held : (c : ℕ) (keys : List ℕ) → hits_within (min (length (distinct_keys keys)) c) keys ≡ hits_within c keys
 hits-held c keys =
-    elim (cases_lt c (length (distinct keys))) [
-      | inl l ↦ let m : min (length (distinct keys)) c ≡ c = omega arith in ap (λ n. hits_within n keys) m
-      | inr g ↦ let m : min (length (distinct keys)) c ≡ length (distinct keys) = omega arith in ap (λ n. hits_within n keys) m ∙ full-after (length (distinct keys)) c [] keys (omega arith) g
+    elim (cases_lt c (length (distinct_keys keys))) [
+      | inl l ↦ let m : min (length (distinct_keys keys)) c ≡ c = omega arith in ap (λ n. hits_within n keys) m
+      | inr g ↦ let m : min (length (distinct_keys keys)) c ≡ length (distinct_keys keys) = omega arith in ap (λ n. hits_within n keys) m ∙ full-after (length (distinct_keys keys)) c [] keys (omega arith) g
     ]

@@ -10,7 +10,7 @@ use Rattle.step_record.specs.declared.job.Policy.TheVariants.{Lru}
 use Rattle.step_record.specs.declared.stats.Stats.{Stats}
 use Rattle.bits_and_lists.specs.Places.{by_place}
 use Rattle.bits_and_lists.proofs.Places.{length-by_place, get_or-by_place}
-use Rattle.policies.specs.Lru.{distinct}
+use Rattle.policies.specs.Lru.{distinct_keys}
 use Rattle.policies.specs.AnyPolicy.{stats_on}
 use Rattle.stack_distances.specs.Distances.{distances, is_within, hits_within, stats_within}
 use Rattle.stack_distances.specs.Histogram.{is_at, IsHistogram}
@@ -23,12 +23,12 @@ use Rattle.stack_distances.proofs.Prefix.{within-more, no-hits, hits-held}
 
 -- below c the sums stand, and from c on the counts
 pub record IsSummed (keys hits : List ℕ) (sum c : ℕ) : Type 0 where
-  pub long : length hits ≡ length (distinct keys)
+  pub long : length hits ≡ length (distinct_keys keys)
   pub so_far : sum ≡ hits_within c keys
   pub below : (d : ℕ) → d < c → get_or hits d 0 ≡ hits_within (suc d) keys
   pub ahead : (d : ℕ) → c ≤ d → get_or hits d 0 ≡ count_by (is_at (suc d)) (distances keys)
 
-pub none-summed : (keys hits : List ℕ) → length hits ≡ length (distinct keys) → ((d : ℕ) → get_or hits d 0 ≡ count_by (is_at (suc d)) (distances keys)) → IsSummed keys hits 0 0
+pub none-summed : (keys hits : List ℕ) → length hits ≡ length (distinct_keys keys) → ((d : ℕ) → get_or hits d 0 ≡ count_by (is_at (suc d)) (distances keys)) → IsSummed keys hits 0 0
 none-summed keys hits l h = record {
   long = l;
   so_far = sym (no-hits keys);
@@ -71,7 +71,7 @@ more-summed keys hits sum c x in_it s e =
 
 pub curve-summed : (keys hits : List ℕ) (n sum c : ℕ) → n ≡ length keys → c ≡ length hits → IsSummed keys hits sum c → ◌≡◌ {A = CurveData} (record { accesses = n; hits = hits }) (curve_of keys)
 curve-summed keys hits n sum c e l s =
-    let same : hits ≡ by_place (length (distinct keys)) (λ d. hits_within (suc d) keys) = fill_by_all (λ d. hits_within (suc d) keys) hits (length (distinct keys)) 0 s.long (λ d lt. s.below d (omega (arith, lt, l, s.long))) in
+    let same : hits ≡ by_place (length (distinct_keys keys)) (λ d. hits_within (suc d) keys) = fill_by_all (λ d. hits_within (suc d) keys) hits (length (distinct_keys keys)) 0 s.long (λ d lt. s.below d (omega (arith, lt, l, s.long))) in
     rw (e, same) refl
 
 -- ---- reading
@@ -86,13 +86,13 @@ module _ (keys hits : List ℕ) (n c held h : ℕ) (gives : ◌≡◌ {A = Curve
   counted : n ≡ length keys
   counted = ap accesses_of gives
 
-  listed : hits ≡ by_place (length (distinct keys)) (λ d. hits_within (suc d) keys)
+  listed : hits ≡ by_place (length (distinct_keys keys)) (λ d. hits_within (suc d) keys)
   listed = ap hits_of gives
 
-  hits-long : length hits ≡ length (distinct keys)
-  hits-long = ap length listed ∙ length-by_place (length (distinct keys)) (λ d. hits_within (suc d) keys)
+  hits-long : length hits ≡ length (distinct_keys keys)
+  hits-long = ap length listed ∙ length-by_place (length (distinct_keys keys)) (λ d. hits_within (suc d) keys)
 
-  held-is : held ≡ min (length (distinct keys)) c
+  held-is : held ≡ min (length (distinct_keys keys)) c
   held-is = is_held ∙ ap (λ m. min m c) hits-long
 
   at-held : h ≡ hits_within held keys
@@ -102,8 +102,8 @@ module _ (keys hits : List ℕ) (n c held h : ℕ) (gives : ◌≡◌ {A = Curve
         | inr d ↦
             let ne : held ≢ 0 = d in
             let pos : suc (held - 1) ≡ held = omega arith in
-            let low : held - 1 < length (distinct keys) = omega (arith, held-is) in
-            some d ∙ (ap (λ l. get_or l (held - 1) 0) listed ∙ (get_or-by_place (length (distinct keys)) (λ d. hits_within (suc d) keys) (held - 1) 0 low ∙ ap (λ m. hits_within m keys) pos))
+            let low : held - 1 < length (distinct_keys keys) = omega (arith, held-is) in
+            some d ∙ (ap (λ l. get_or l (held - 1) 0) listed ∙ (get_or-by_place (length (distinct_keys keys)) (λ d. hits_within (suc d) keys) (held - 1) 0 low ∙ ap (λ m. hits_within m keys) pos))
       ]
 
   pub read-hits : h ≡ hits_within c keys
@@ -111,16 +111,16 @@ module _ (keys hits : List ℕ) (n c held h : ℕ) (gives : ◌≡◌ {A = Curve
 
   pub room : h + held ≤ n
   room =
-      let fits : hits_within c keys + min c (length (distinct keys)) ≤ length keys = hits-and-held c keys in
+      let fits : hits_within c keys + min c (length (distinct_keys keys)) ≤ length keys = hits-and-held c keys in
       let e : h ≡ hits_within c keys = read-hits in
-      let m : held ≡ min (length (distinct keys)) c = held-is in
+      let m : held ≡ min (length (distinct_keys keys)) c = held-is in
       let a : n ≡ length keys = counted in
       omega (arith, fits, e, m, a)
 
   stats-read : ◌≡◌ {A = Stats} (record { accesses = n; hits = h; misses = n - h; evictions = n - h - held; rejections = 0 }) (stats_within c keys)
   stats-read =
       let e : h ≡ hits_within c keys = read-hits in
-      let m : held ≡ min c (length (distinct keys)) = let k : held ≡ min (length (distinct keys)) c = held-is in omega (arith, k) in
+      let m : held ≡ min c (length (distinct_keys keys)) = let k : held ≡ min (length (distinct_keys keys)) c = held-is in omega (arith, k) in
       let a : n ≡ length keys = counted in
       rw (a, e, m) refl
 

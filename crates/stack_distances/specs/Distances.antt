@@ -3,12 +3,12 @@ use Rattle.std.specs.Prelude.{ℕ, suc, ◌-◌, min, nat_le, Bool, false, if◌
 use Rattle.std.specs.Prelude.{List, [], ◌∷◌, ◌++◌, length, count_by}
 use Rattle.step_record.specs.Keys.{has_key}
 use Rattle.step_record.specs.declared.stats.Stats.{Stats}
-use Rattle.policies.specs.Lru.{distinct, since}
+use Rattle.policies.specs.Lru.{distinct_keys, keys_since}
 
 -- The distance of an access to k after the accesses xs: how many distinct keys were accessed since the last access to
 -- k, k itself included. A first access has none.
 abbrev pub distance : List ℕ → ℕ → Option ℕ
-distance xs k = if has_key k xs then Some (suc (length (distinct (since k xs)))) else None
+distance xs k = if has_key k xs then Some (suc (length (distinct_keys (keys_since k xs)))) else None
 
 -- the distances of the accesses in order, after those that are past
 abbrev pub distances_after : List ℕ → List ℕ → List (Option ℕ)
@@ -35,6 +35,6 @@ stats_within c keys = record {
   accesses = length keys;
   hits = hits_within c keys;
   misses = length keys - hits_within c keys;
-  evictions = length keys - hits_within c keys - min c (length (distinct keys));
+  evictions = length keys - hits_within c keys - min c (length (distinct_keys keys));
   rejections = 0;
 }

@@ -2,7 +2,7 @@
 use Rattle.std.specs.Prelude.{◌≡◌, ℕ, suc, Bool, false, not, eqb, if◌then◌else◌, Option, Some, None}
 use Rattle.std.specs.Prelude.{List, [], ◌∷◌, length, count_by, slice_index, slice_index_or}
 use Rattle.step_record.specs.Keys.{has_key}
-use Rattle.policies.specs.Lru.{distinct}
+use Rattle.policies.specs.Lru.{distinct_keys}
 use Rattle.stack_distances.specs.Distances.{distances}
 
 -- one place further, or the first, if that is it
@@ -30,5 +30,5 @@ is_at d (Some e) = eqb d e
 pub record IsHistogram (xs : List ℕ) (places : ℕ → Option ℕ) (marks : ℕ → Bool) (counts : List ℕ) : Type 0 where
   pub last : (k : ℕ) → places k ≡ last_place k xs
   pub marked : (q : ℕ) → marks q ≡ slice_index_or (are_last xs) q false
-  pub long : length counts ≡ length (distinct xs)
+  pub long : length counts ≡ length (distinct_keys xs)
   pub counted : (d : ℕ) → slice_index counts d ≡ count_by (is_at (suc d)) (distances xs)

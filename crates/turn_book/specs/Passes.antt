@@ -2,7 +2,7 @@
 use Rattle.std.specs.Prelude.{◌≡◌, ℕ, suc, ◌+◌, ◌≤◌, List, [], ◌∷◌, ◌++◌, length, Option, Some}
 use Rattle.step_record.specs.History.{tail_after}
 use Rattle.atomic_table.specs.Seated.{TableId}
-use Rattle.turn_book.specs.Turns.{Begins, Every, AddsInTurn, made_by}
+use Rattle.turn_book.specs.Turns.{Begins, Every, AddsInTurn, entries_by}
 
 -- Which book it is: no two have one table, and it was opened with one value.
 pub record BookId (T : Type 0) : Type 0 where
@@ -67,7 +67,7 @@ module _ {T E O : Type 0} (origin : T → O) (entries : T → List E) (by : E �
     pub news : List E
     pub list_is : entries t ≡ entries o ++ news
     pub undone_is : undone t ≡ tail_after news (undone o)
-    pub own_is : made_by by p.worker news ≡ p.own
+    pub own_is : entries_by by p.worker news ≡ p.own
 
   -- the pass p has taken the turn t of a book that was opened with o
   pub record Takes (o : T) (p : PassState T E) (t : TurnState T E) : Type 0 where
@@ -85,7 +85,7 @@ module _ {T E O : Type 0} (origin : T → O) (entries : T → List E) (by : E �
   -- of each worker from lo on, the entries among these are the own list of its pass
   abbrev pub OwnAll : ℕ → List (PassState T E) → List E → Type 0
   OwnAll lo [] news = Unit {0}
-  OwnAll lo (p ∷ ps) news = (made_by by lo news ≡ p.own) × OwnAll (suc lo) ps news
+  OwnAll lo (p ∷ ps) news = (entries_by by lo news ≡ p.own) × OwnAll (suc lo) ps news
 
   -- What a book ends with, opened with o, from its passes: the value t has the opening origin. Past the opening
   -- entries those of worker w are the own list of the pass at place w, and no other worker has any. Its list begins
@@ -98,4 +98,4 @@ module _ {T E O : Type 0} (origin : T → O) (entries : T → List E) (by : E �
     pub undone_is : undone t ≡ tail_after news (undone o)
     pub own_is : OwnAll 0 ps news
     pub last_is : Every (λ p. Begins p.last (entries t)) ps
-    pub no_other : (w : ℕ) → length ps ≤ w → made_by by w news ≡ []
+    pub no_other : (w : ℕ) → length ps ≤ w → entries_by by w news ≡ []

@@ -1,7 +1,7 @@
 -- What workers write side by side.
 use Rattle.std.specs.Prelude.{◌≡◌, ℕ, zero, suc, ◌<◌, ◌≤◌, List, [], ◌∷◌, ◌++◌, length, get_or}
 use Rattle.std.specs.Global.{Vec}
-use Rattle.turn_book.specs.Turns.{made_by}
+use Rattle.turn_book.specs.Turns.{entries_by}
 use Rattle.turn_book.specs.Passes.{BookId, PassState}
 use Rattle.turn_example.specs.declared.log.Line.{Line}
 use Rattle.turn_example.specs.declared.log.Log.{Log}
@@ -13,7 +13,7 @@ numbered w (suc n) = numbered w n ++ record { worker = w; number = n } ∷ []
 
 -- the lines of worker w, in order
 abbrev pub lines_by : ℕ → List Line → List Line
-lines_by w ls = made_by (λ l. l.worker) w ls
+lines_by w ls = entries_by (λ l. l.worker) w ls
 
 -- The log keeps its name. Past the old lines, those of worker w are the list at place w, in order, and that is all of
 -- its lines numbered below n; and nobody else wrote any.

@@ -2,7 +2,7 @@
 use Rattle.std.proofs.Common.{◌≡◌, ℕ, ◌<◌, ◌≤◌, true, false, eqb, Option, Some, None, List, length, refl, ◌∙◌}
 use Rattle.std.proofs.lemmas.Bool.{eq-eqb}
 use Rattle.step_record.specs.declared.step.Call.{Call}
-use Rattle.step_record.specs.History.{after, IsLegal, Entries}
+use Rattle.step_record.specs.History.{data_after, IsLegal, Entries}
 use Rattle.shell_model.specs.declared.holder.Holder.{Holder}
 use Rattle.shell_model.specs.Shell.{Shell, act, held_by}
 use Rattle.shell_model.specs.Reached.{IsReachable}
@@ -26,7 +26,7 @@ pub shell_admits : (x : Shell) (w n : ℕ) → 1 ≤ n → IsReachable x → x.h
 shell_admits x w n o h free count = λ es legal b m below none. (
     let begin : Stands w n at_start x = starts w n x free count in
     let stand = stands_after w n at_start x es (reached-sound x h) begin legal in
-    taken w n (standing at_start (entries_of w es)) (after act x es) b stand (walks_fit w n o m.calls (entries_of w es) (record { step = step_of w b; reply = m.reply }) m.rest at_start refl m.walks) below none
+    taken w n (standing at_start (entries_of w es)) (data_after act x es) b stand (walks_fit w n o m.calls (entries_of w es) (record { step = step_of w b; reply = m.reply }) m.rest at_start refl m.walks) below none
     )
 
 -- the holder is nobody, where it is none of the workers
@@ -38,8 +38,8 @@ nobody (Some g) h =
 
 -- where each worker made whole walks, nobody holds the maintenance
 pub shell_freed : (x : Shell) (n : ℕ) → 1 ≤ n → IsReachable x → x.holder ≡ None → length x.stripes ≡ n → (es : Entries) → IsLegal act x es
-    → ((w : ℕ) → (calls : List Call) × AreWalks w n calls (entries_of w es)) → (after act x es).holder ≡ None
-shell_freed x n o h free count es legal walks = nobody (after act x es).holder (λ w. (
+    → ((w : ℕ) → (calls : List Call) × AreWalks w n calls (entries_of w es)) → (data_after act x es).holder ≡ None
+shell_freed x n o h free count es legal walks = nobody (data_after act x es).holder (λ w. (
     (stands_after w n at_start x es (reached-sound x h) (starts w n x free count) legal).holds
     ∙ walks_free w n o (walks w).0 (entries_of w es) at_start refl (walks w).1
     ))

@@ -12,8 +12,8 @@ use Rattle.walks.specs.declared.next.Next.{Next}
 use Rattle.walks.specs.declared.next.Next.TheVariants as next_act
 use Rattle.walks.specs.declared.place.Place.{Place}
 use Rattle.walks.specs.Walks.{step_of, IsWalk, AreWalks}
-use Rattle.walks.specs.Places.{Ahead, act_of_place, is_place}
-use Rattle.walks.specs.Nexts.{Asks}
+use Rattle.walks.specs.Places.{IsAheadOf, act_of_place, is_place}
+use Rattle.walks.specs.Nexts.{IsAskedNext}
 use Rattle.walks.specs.Made.{Made}
 use Rattle.walks.specs.Admits.{MayMake}
 use Rattle.walks.proofs.Finishing.{finish}
@@ -23,13 +23,13 @@ use Rattle.walks.proofs.Asking.{first_step, not_over, walks_more}
 entry_of : Step → Reply → Entry Step Reply
 entry_of t r = record { step = t; reply = r }
 
-starts : (w n : ℕ) (p : Place) (es : Entries) → Ahead w n p es → (r : Reply) × (rest : Entries) × (es ≡ entry_of (step_of w (act_of_place w n p)) r ∷ rest)
+starts : (w n : ℕ) (p : Place) (es : Entries) → IsAheadOf w n p es → (r : Reply) × (rest : Entries) × (es ≡ entry_of (step_of w (act_of_place w n p)) r ∷ rest)
 unfolding entry_of
 starts w n p [] h = absurd (not_over w n p h)
 starts w n p (y ∷ es) h = (y.reply, es, ap (λ t. entry_of t y.reply ∷ es) (first_step w n p y es h))
 
 pub may_make : (w n : ℕ) (c : Call) (before : List Call) (own own' list list' : Entries) (next : Next) (a : Act) (l : Local) → AreWalks w n before own → Made (Completes w n c next) own own' list list'
-    → next ≡ next_act.Do a l → Asks w n next → is_place l.stripes l.place ≡ true → MayMake w n own' a
+    → next ≡ next_act.Do a l → IsAskedNext w n next → is_place l.stripes l.place ≡ true → MayMake w n own' a
 unfolding entry_of
 may_make w n c before own own' list list' next a l h m is asks placed =
     let f = finish l.worker l.stripes l.place placed in

@@ -12,11 +12,11 @@ use Rattle.step_record.specs.declared.step.Reply.TheVariants as reply
 use Rattle.step_record.specs.declared.step.Step.{Step}
 use Rattle.step_record.specs.declared.drain.Phase.TheVariants.{Reads, Writes, Evictions}
 use Rattle.step_record.specs.History.{Entries}
-use Rattle.segments.specs.Items.{same, first}
+use Rattle.segments.specs.Items.{is_same_item, oldest_of}
 use Rattle.segments.specs.Queues.{total_items}
 use Rattle.shell_model.specs.declared.holder.Holder.{Holder}
 use Rattle.shell_model.specs.Frequency.{admits}
-use Rattle.shell_model.specs.Shell.{Shell, window_size, is_over, held_by, in_phase, shell_contest, shift, evict_from, evict_oldest, evict, drain_at_end, perform, tallied, act as acted}
+use Rattle.shell_model.specs.Shell.{Shell, window_size, is_over, held_by, in_phase, shell_contest, shift_effect, evict_from, evict_oldest, evict_effect, drain_at_end, act_effect, counted_reply, act as acted}
 use Rattle.shell_model.proofs.Making as k
 use Rattle.shell_model.proofs.Making.{Makes, MakesTo, perform-makes}
 use Rattle.shell_model.proofs.Histories.{counted_up}
@@ -26,15 +26,15 @@ use Rattle.walks.specs.declared.next.Next.TheVariants as next_act
 use Rattle.walks.specs.declared.place.Place.{Place}
 use Rattle.walks.specs.declared.place.Place.TheVariants as at
 use Rattle.walks.specs.Walks.{step_of, IsReading, IsWriting, IsEvicting, FollowsDrainRead, FollowsDrainWrite, FollowsEvict, FollowsEnd}
-use Rattle.walks.specs.Places.{Ahead, AheadAfter, act_of_place, is_place}
-use Rattle.walks.specs.Nexts.{Left, Asks}
+use Rattle.walks.specs.Places.{IsAheadOf, AheadAfter, act_of_place, is_place}
+use Rattle.walks.specs.Nexts.{IsRestOfWalk, IsAskedNext}
 use Rattle.walks.specs.Holders.{Suits, IsReady, IsReadyFor}
 use Rattle.walks.proofs.Finishing.{finish}
 
 -- what the shell does in an accepted step, the count of steps aside
 pub record Performs (x : Shell) (w : ℕ) (b : Act) (r : Reply) (y : Shell) : Type 0 where
   pub left : Shell
-  pub is : perform w b x ≡ Some (r, left)
+  pub is : act_effect w b x ≡ Some (r, left)
   pub counts : y ≡ counted_up r left
 
 reply_in : Reply → Option (Reply × Shell) → Reply
@@ -45,7 +45,7 @@ shell_in : Shell → Option (Reply × Shell) → Shell
 shell_in x None = x
 shell_in x (Some p) = p.1
 
-performed : (x : Shell) (w : ℕ) (b : Act) (r : Reply) (y : Shell) (p : Option (Reply × Shell)) → perform w b x ≡ p → tallied p ≡ Some (r, y) → Performs x w b r y
+performed : (x : Shell) (w : ℕ) (b : Act) (r : Reply) (y : Shell) (p : Option (Reply × Shell)) → act_effect w b x ≡ p → counted_reply p ≡ Some (r, y) → Performs x w b r y
 unfolding reply_in shell_in
 performed x w b r y None e i = absurd (cc (i))
 performed x w b r y (Some p) e i =
@@ -56,7 +56,7 @@ performed x w b r y (Some p) e i =
 pub performs : (x : Shell) (w : ℕ) (b : Act) (r : Reply) (y : Shell) → acted x (step_of w b) ≡ Some (r, y) → Performs x w b r y
 performs x w b r y h =
     elim (cases_Bool (nat_lt x.applied 4294967296)) [
-      | inl t ↦ performed x w b r y (perform w b x) refl (rw t at h)
+      | inl t ↦ performed x w b r y (act_effect w b x) refl (rw t at h)
       | inr t ↦ absurd (let no : None ≡ Some (r, y) = rw t at h in cc (no))
     ]
 
@@ -97,7 +97,7 @@ stripes-after w x b r z made = refl
 contest-fits : (c : Item) (o : Option Item) (x : Shell) → (shell_contest c o x).0 ≡ reply.Fits → ⊥
 contest-fits c None x h = absurd (cc (h))
 contest-fits c (Some v) x h =
-    elim (cases_Bool (same c v)) [
+    elim (cases_Bool (is_same_item c v)) [
       | inl e ↦ absurd (let no : reply.Rejected c ≡ reply.Fits = rw e at h in cc (no))
       | inr e ↦ (let g = rw e at h in elim (cases_Bool (admits x.frequency c.key v.key)) [
         | inl f ↦ absurd (let no : reply.Evicted v ≡ reply.Fits = rw f at g in cc (no))
@@ -108,22 +108,22 @@ contest-fits c (Some v) x h =
 from-fits : (c : Item) (x : Shell) → (evict_from c x).0 ≡ reply.Fits → ⊥
 from-fits c x h =
     elim (cases_Bool (nat_lt x.config.capacity (total_items x.queues))) [
-      | inl e ↦ contest-fits c (first x.queues.probation) x (rw e at h)
+      | inl e ↦ contest-fits c (oldest_of x.queues.probation) x (rw e at h)
       | inr e ↦ absurd (let no : reply.Shifted c ≡ reply.Fits = rw e at h in cc (no))
     ]
 
-no-first : (l : List Item) (n : ℕ) → first l ≡ None → nat_lt n (length l) ≡ false
+no-first : (l : List Item) (n : ℕ) → oldest_of l ≡ None → nat_lt n (length l) ≡ false
 no-first [] n h = grind (arith, nat_tests)
 no-first (i ∷ l) n h = absurd (cc (h))
 
-oldest-fits : (o : Option Item) (x : Shell) → first x.queues.window ≡ o → (evict_oldest o x).0 ≡ reply.Fits → is_over x ≡ false
+oldest-fits : (o : Option Item) (x : Shell) → oldest_of x.queues.window ≡ o → (evict_oldest o x).0 ≡ reply.Fits → is_over x ≡ false
 oldest-fits None x e h = no-first x.queues.window (window_size x.config) e
-oldest-fits (Some c) x e h = absurd (from-fits c (shift c x) h)
+oldest-fits (Some c) x e h = absurd (from-fits c (shift_effect c x) h)
 
-evict-fits : (x : Shell) → (evict x).0 ≡ reply.Fits → is_over (evict x).1 ≡ false
+evict-fits : (x : Shell) → (evict_effect x).0 ≡ reply.Fits → is_over (evict_effect x).1 ≡ false
 evict-fits x h =
     elim (cases_Bool (is_over x)) [
-      | inl e ↦ absurd (let g : (evict_oldest (first x.queues.window) x).0 ≡ reply.Fits = rw e at h in let no : true ≡ false = sym e ∙ oldest-fits (first x.queues.window) x refl g in cc (no))
+      | inl e ↦ absurd (let g : (evict_oldest (oldest_of x.queues.window) x).0 ≡ reply.Fits = rw e at h in let no : true ≡ false = sym e ∙ oldest-fits (oldest_of x.queues.window) x refl g in cc (no))
       | inr e ↦ rw (e, e) refl
     ]
 
@@ -131,7 +131,7 @@ pub mine : (w : ℕ) (x : Shell) (h : Holder) → x.holder ≡ Some h → h.work
 mine w x h e f = let q : eqb w h.worker ≡ true = eq-eqb w h.worker (sym f) in rw (e, q) refl
 
 -- what is ready is accepted
-pub accepts : (w : ℕ) (b : Act) (x : Shell) → IsReady w b x → IsSome (perform w b x)
+pub accepts : (w : ℕ) (b : Act) (x : Shell) → IsReady w b x → IsSome (act_effect w b x)
 accepts w (act.DrainRead s) x v =
     let h = v.holder in
     let there : nat_lt s (length x.stripes) ≡ true = (let l = v.suits.1 in grind (arith, nat_tests, l)) in
@@ -155,7 +155,7 @@ abbrev Leads : ℕ → Act → Entries → Type 0
 Leads w b [] = ⊥
 Leads w b (e ∷ es) = e.step ≡ step_of w b
 
-leads : (w n : ℕ) (p : Place) (es : Entries) → Ahead w n p es → Leads w (act_of_place w n p) es
+leads : (w n : ℕ) (p : Place) (es : Entries) → IsAheadOf w n p es → Leads w (act_of_place w n p) es
 leads w n (at.Look key) [] h = h
 leads w n (at.Look key) (e ∷ es) h = h.0
 leads w n (at.Offer i) [] h = h
@@ -189,7 +189,7 @@ one-act w a b [] h g = absurd h
 one-act w a b (e ∷ es) h g = ap (λ (s : Step). s.act) (sym h ∙ g)
 
 below : (w n : ℕ) (p : Place) (s : ℕ) → act_of_place w n p ≡ act.DrainRead s → is_place n p ≡ true → s < n
-below w n (at.DrainRead t j) s e h = let q : act.DrainRead t ≡ act.DrainRead s = e in let same : t ≡ s = cc (q) in rw (← same) (ltb-true t n (and_parts (nat_lt t n) (nat_lt j 16) h).0)
+below w n (at.DrainRead t j) s e h = let q : act.DrainRead t ≡ act.DrainRead s = e in let is_same_item : t ≡ s = cc (q) in rw (← is_same_item) (ltb-true t n (and_parts (nat_lt t n) (nat_lt j 16) h).0)
 below w n (at.Look key) s e h = absurd (cc (e))
 below w n (at.Offer i) s e h = absurd (cc (e))
 below w n (at.AfterRead q) s e h = absurd (cc (e))
@@ -202,7 +202,7 @@ below w n at.Evict s e h = absurd (cc (e))
 below w n at.End s e h = absurd (cc (e))
 
 -- entries that complete the walk of one that is to make the act, whose read buffer is one of n
-comes : (w n : ℕ) (a : Act) (l : Local) → Asks w n (next_act.Do a l) → (rest : Entries) × Ahead l.worker l.stripes l.place rest × Leads w a rest × ((s : ℕ) → a ≡ act.DrainRead s → s < n)
+comes : (w n : ℕ) (a : Act) (l : Local) → IsAskedNext w n (next_act.Do a l) → (rest : Entries) × IsAheadOf l.worker l.stripes l.place rest × Leads w a rest × ((s : ℕ) → a ≡ act.DrainRead s → s < n)
 comes w n a l asks =
     let f = finish l.worker l.stripes l.place l.placed in
     let one : Leads l.worker (act_of_place l.worker l.stripes l.place) f.0 = leads l.worker l.stripes l.place f.0 f.1 in
@@ -279,7 +279,7 @@ suits-evicts other r h y i f = absurd i
 some-same : (h g : Holder) → Some h ≡ Some g → h ≡ g
 some-same h g e = cc (e)
 
-pub made-by : (w : ℕ) (x : Shell) (b : Act) (r : Reply) (z : Shell) → perform w b x ≡ Some (r, z) → Makes w x b r z
+pub made-by : (w : ℕ) (x : Shell) (b : Act) (r : Reply) (z : Shell) → act_effect w b x ≡ Some (r, z) → Makes w x b r z
 made-by w x b r z e = let m : MakesTo w x b (Some (r, z)) = rw e at (perform-makes w x b) in m
 
 pub stripes_stay : (w : ℕ) (b : Act) (x y : Shell) (r : Reply) → acted x (step_of w b) ≡ Some (r, y) → length y.stripes ≡ length x.stripes
@@ -287,17 +287,17 @@ stripes_stay w b x y r e =
     let t : Performs x w b r y = performs x w b r y e in
     ap (λ (z : Shell). length z.stripes) t.counts ∙ stripes-after w x b r t.left (made-by w x b r t.left t.is)
 
-read-on : (w n s j : ℕ) (x y : Shell) (r : Reply) (next : Next) → IsReady w (act.DrainRead s) x → length x.stripes ≡ n → acted x (step_of w (act.DrainRead s)) ≡ Some (r, y) → Asks w n next
-    → ((es : Entries) → Left next es → AheadAfter w n (at.DrainRead s j) (Some r) es) → IsReadyFor w next y
+read-on : (w n s j : ℕ) (x y : Shell) (r : Reply) (next : Next) → IsReady w (act.DrainRead s) x → length x.stripes ≡ n → acted x (step_of w (act.DrainRead s)) ≡ Some (r, y) → IsAskedNext w n next
+    → ((es : Entries) → IsRestOfWalk next es → AheadAfter w n (at.DrainRead s j) (Some r) es) → IsReadyFor w next y
 read-on w n s j x y r next_act.Done v l e asks back = absurd (past-read w n s j r [] (back [] refl).1).1
 read-on w n s j x y r (next_act.Do a m) v l e asks back =
     let t : Performs x w (act.DrainRead s) r y = performs x w (act.DrainRead s) r y e in
     let u : t.left.holder ≡ x.holder = holds-after w x (act.DrainRead s) r t.left (made-by w x (act.DrainRead s) r t.left t.is) in
     let c = comes w n a m asks in
     let g = past-read w n s j r c.0 (back c.0 c.1).1 in
-    let same : a ≡ g.0 = one-act w a g.0 c.0 c.2 g.1 in
+    let is_same_item : a ≡ g.0 = one-act w a g.0 c.0 c.2 g.1 in
     let many : length y.stripes ≡ n = stripes_stay w (act.DrainRead s) x y r e ∙ l in
-    let i : IsReads a = subst IsReads (sym same) g.2 in
+    let i : IsReads a = subst IsReads (sym is_same_item) g.2 in
     record {
       holder = v.holder;
       holds = ap (λ (z : Shell). z.holder) t.counts ∙ u ∙ v.holds;
@@ -305,16 +305,16 @@ read-on w n s j x y r (next_act.Do a m) v l e asks back =
       suits = suits-reads a v.holder y i v.suits.0 (λ q d. subst (λ (m : ℕ). q < m) (sym many) (c.3 q d));
     }
 
-write-on : (w n : ℕ) (x y : Shell) (r : Reply) (next : Next) → IsReady w act.DrainWrite x → acted x (step_of w act.DrainWrite) ≡ Some (r, y) → Asks w n next
-    → ((es : Entries) → Left next es → AheadAfter w n at.DrainWrite (Some r) es) → IsReadyFor w next y
+write-on : (w n : ℕ) (x y : Shell) (r : Reply) (next : Next) → IsReady w act.DrainWrite x → acted x (step_of w act.DrainWrite) ≡ Some (r, y) → IsAskedNext w n next
+    → ((es : Entries) → IsRestOfWalk next es → AheadAfter w n at.DrainWrite (Some r) es) → IsReadyFor w next y
 write-on w n x y r next_act.Done v e asks back = absurd (past-write w n r [] (back [] refl).1).1
 write-on w n x y r (next_act.Do a m) v e asks back =
     let t : Performs x w act.DrainWrite r y = performs x w act.DrainWrite r y e in
     let u : HoldsAfter act.DrainWrite x t.left = holds-after w x act.DrainWrite r t.left (made-by w x act.DrainWrite r t.left t.is) in
     let c = comes w n a m asks in
     let g = past-write w n r c.0 (back c.0 c.1).1 in
-    let same : a ≡ g.0 = one-act w a g.0 c.0 c.2 g.1 in
-    let i : IsWrites a = subst IsWrites (sym same) g.2 in
+    let is_same_item : a ≡ g.0 = one-act w a g.0 c.0 c.2 g.1 in
+    let i : IsWrites a = subst IsWrites (sym is_same_item) g.2 in
     record {
       holder = u.1;
       holds = ap (λ (z : Shell). z.holder) t.counts ∙ u.3;
@@ -322,23 +322,23 @@ write-on w n x y r (next_act.Do a m) v e asks back =
       suits = suits-writes a u.1 y i u.5;
     }
 
-pub fits-end : (w : ℕ) (x z : Shell) (h : Holder) (r : Reply) → held_by w x.holder ≡ Some h → perform w act.Evict x ≡ Some (r, z) → r ≡ reply.Fits → is_over z ≡ false
+pub fits-end : (w : ℕ) (x z : Shell) (h : Holder) (r : Reply) → held_by w x.holder ≡ Some h → act_effect w act.Evict x ≡ Some (r, z) → r ≡ reply.Fits → is_over z ≡ false
 fits-end w x z h r m e f =
-    let g : Some (evict (in_phase Evictions h x)) ≡ Some (r, z) = rw m at e in
-    let one : evict (in_phase Evictions h x) ≡ (r, z) = cc (g) in
-    let first : (evict (in_phase Evictions h x)).0 ≡ reply.Fits = ap (λ (p : Reply × Shell). p.0) one ∙ f in
-    sym (ap (λ (p : Reply × Shell). is_over p.1) one) ∙ evict-fits (in_phase Evictions h x) first
+    let g : Some (evict_effect (in_phase Evictions h x)) ≡ Some (r, z) = rw m at e in
+    let one : evict_effect (in_phase Evictions h x) ≡ (r, z) = cc (g) in
+    let oldest_of : (evict_effect (in_phase Evictions h x)).0 ≡ reply.Fits = ap (λ (p : Reply × Shell). p.0) one ∙ f in
+    sym (ap (λ (p : Reply × Shell). is_over p.1) one) ∙ evict-fits (in_phase Evictions h x) oldest_of
 
-evict-on : (w n : ℕ) (x y : Shell) (r : Reply) (next : Next) → IsReady w act.Evict x → acted x (step_of w act.Evict) ≡ Some (r, y) → Asks w n next
-    → ((es : Entries) → Left next es → AheadAfter w n at.Evict (Some r) es) → IsReadyFor w next y
+evict-on : (w n : ℕ) (x y : Shell) (r : Reply) (next : Next) → IsReady w act.Evict x → acted x (step_of w act.Evict) ≡ Some (r, y) → IsAskedNext w n next
+    → ((es : Entries) → IsRestOfWalk next es → AheadAfter w n at.Evict (Some r) es) → IsReadyFor w next y
 evict-on w n x y r next_act.Done v e asks back = absurd (past-evict w n r [] (back [] refl).1).1
 evict-on w n x y r (next_act.Do a m) v e asks back =
     let t : Performs x w act.Evict r y = performs x w act.Evict r y e in
     let u : HoldsAfter act.Evict x t.left = holds-after w x act.Evict r t.left (made-by w x act.Evict r t.left t.is) in
     let c = comes w n a m asks in
     let g = past-evict w n r c.0 (back c.0 c.1).1 in
-    let same : a ≡ g.0 = one-act w a g.0 c.0 c.2 g.1 in
-    let i : IsEvicts a r = subst (λ (b : Act). IsEvicts b r) (sym same) g.2 in
+    let is_same_item : a ≡ g.0 = one-act w a g.0 c.0 c.2 g.1 in
+    let i : IsEvicts a r = subst (λ (b : Act). IsEvicts b r) (sym is_same_item) g.2 in
     record {
       holder = u.1;
       holds = ap (λ (z : Shell). z.holder) t.counts ∙ u.3;
@@ -346,8 +346,8 @@ evict-on w n x y r (next_act.Do a m) v e asks back =
       suits = suits-evicts a r u.1 y i (λ f. ap is_over t.counts ∙ fits-end w x t.left v.holder r (mine w x v.holder v.holds v.worker) t.is f);
     }
 
-end-on : (w n : ℕ) (x y : Shell) (r : Reply) (next : Next) → IsReady w act.End x → acted x (step_of w act.End) ≡ Some (r, y) → Asks w n next
-    → ((es : Entries) → Left next es → AheadAfter w n at.End (Some r) es) → IsReadyFor w next y
+end-on : (w n : ℕ) (x y : Shell) (r : Reply) (next : Next) → IsReady w act.End x → acted x (step_of w act.End) ≡ Some (r, y) → IsAskedNext w n next
+    → ((es : Entries) → IsRestOfWalk next es → AheadAfter w n at.End (Some r) es) → IsReadyFor w next y
 end-on w n x y r next_act.Done v e asks back =
     let t : Performs x w act.End r y = performs x w act.End r y e in
     let over : is_over x ≡ false = v.suits in
@@ -361,8 +361,8 @@ end-on w n x y r (next_act.Do a m) v e asks back =
     absurd no
 
 -- after a step that was ready, the next is ready too
-pub steps_on : (w n : ℕ) (p : Place) (x y : Shell) (r : Reply) (next : Next) → IsReady w (act_of_place w n p) x → length x.stripes ≡ n → acted x (step_of w (act_of_place w n p)) ≡ Some (r, y) → Asks w n next
-    → ((es : Entries) → Left next es → AheadAfter w n p (Some r) es) → IsReadyFor w next y
+pub steps_on : (w n : ℕ) (p : Place) (x y : Shell) (r : Reply) (next : Next) → IsReady w (act_of_place w n p) x → length x.stripes ≡ n → acted x (step_of w (act_of_place w n p)) ≡ Some (r, y) → IsAskedNext w n next
+    → ((es : Entries) → IsRestOfWalk next es → AheadAfter w n p (Some r) es) → IsReadyFor w next y
 steps_on w n (at.DrainRead s j) x y r next v l e asks back = read-on w n s j x y r next v l e asks back
 steps_on w n at.DrainWrite x y r next v l e asks back = write-on w n x y r next v e asks back
 steps_on w n at.Evict x y r next v l e asks back = evict-on w n x y r next v e asks back
@@ -376,63 +376,63 @@ steps_on w n at.AfterWrite x y r next v l e asks back = absurd v.suits
 steps_on w n at.Begin x y r next v l e asks back = absurd v.suits
 
 -- what is asked of the one whose next act is a
-asked : (w n : ℕ) (next : Next) (a : Act) (l : Local) → next ≡ next_act.Do a l → Asks w n next → Asks w n (next_act.Do a l)
-asked w n next a l e h = subst (λ (x : Next). Asks w n x) e h
+asked : (w n : ℕ) (next : Next) (a : Act) (l : Local) → next ≡ next_act.Do a l → IsAskedNext w n next → IsAskedNext w n (next_act.Do a l)
+asked w n next a l e h = subst (λ (x : Next). IsAskedNext w n x) e h
 
 pub ready_now : (w : ℕ) (next : Next) (a : Act) (l : Local) (x : Shell) → next ≡ next_act.Do a l → IsReadyFor w next x → IsReady w a x
 ready_now w next a l x e h = let v : IsReadyFor w (next_act.Do a l) x = subst (λ (m : Next). IsReadyFor w m x) e h in v
 
-step-same : (w n : ℕ) (a : Act) (l : Local) → Asks w n (next_act.Do a l) → step_of w a ≡ step_of l.worker (act_of_place l.worker l.stripes l.place)
+step-same : (w n : ℕ) (a : Act) (l : Local) → IsAskedNext w n (next_act.Do a l) → step_of w a ≡ step_of l.worker (act_of_place l.worker l.stripes l.place)
 step-same w n a l h = ap (λ (b : Act). step_of w b) (sym h.0) ∙ ap (λ (v : ℕ). step_of v (act_of_place l.worker l.stripes l.place)) (sym h.1)
 
 -- a loop over the rest of a round keeps that its next act is ready
-pub round_on : (w n : ℕ) (next after : Next) (a : Act) (l : Local) (x y : Shell) (r : Reply) → next ≡ next_act.Do a l → Asks w n next → IsReadyFor w next x → length x.stripes ≡ n
-    → acted x (step_of w a) ≡ Some (r, y) → Asks l.worker l.stripes after → ((es : Entries) → Left after es → AheadAfter l.worker l.stripes l.place (Some r) es) → IsReadyFor w after y
+pub round_on : (w n : ℕ) (next after : Next) (a : Act) (l : Local) (x y : Shell) (r : Reply) → next ≡ next_act.Do a l → IsAskedNext w n next → IsReadyFor w next x → length x.stripes ≡ n
+    → acted x (step_of w a) ≡ Some (r, y) → IsAskedNext l.worker l.stripes after → ((es : Entries) → IsRestOfWalk after es → AheadAfter l.worker l.stripes l.place (Some r) es) → IsReadyFor w after y
 round_on w n next after a l x y r d asks ready many e more back =
-    let h : Asks w n (next_act.Do a l) = asked w n next a l d asks in
+    let h : IsAskedNext w n (next_act.Do a l) = asked w n next a l d asks in
     let v : IsReady w a x = ready_now w next a l x d ready in
     let u : IsReady l.worker a x = subst (λ (m : ℕ). IsReady m a x) (sym h.1) v in
     let t : IsReady l.worker (act_of_place l.worker l.stripes l.place) x = subst (λ (b : Act). IsReady l.worker b x) (sym h.0) u in
     let f : acted x (step_of l.worker (act_of_place l.worker l.stripes l.place)) ≡ Some (r, y) = ap (acted x) (sym (step-same w n a l h)) ∙ e in
     subst (λ (m : ℕ). IsReadyFor m after y) h.1 (steps_on l.worker l.stripes l.place x y r after t (many ∙ sym h.2) f more back)
 
-pub asks_on : (w n : ℕ) (next after : Next) (a : Act) (l : Local) → next ≡ next_act.Do a l → Asks w n next → Asks l.worker l.stripes after → Asks w n after
+pub asks_on : (w n : ℕ) (next after : Next) (a : Act) (l : Local) → next ≡ next_act.Do a l → IsAskedNext w n next → IsAskedNext l.worker l.stripes after → IsAskedNext w n after
 asks_on w n next after a l d asks more =
-    let h : Asks w n (next_act.Do a l) = asked w n next a l d asks in
-    subst (λ (m : ℕ). Asks w m after) h.2 (subst (λ (v : ℕ). Asks v l.stripes after) h.1 more)
+    let h : IsAskedNext w n (next_act.Do a l) = asked w n next a l d asks in
+    subst (λ (m : ℕ). IsAskedNext w m after) h.2 (subst (λ (v : ℕ). IsAskedNext v l.stripes after) h.1 more)
 
 -- what completes the walk, behind these entries
 abbrev pub Goes : ℕ → ℕ → Place → Next → Entries → Type 0
-Goes w n p next es = (rest : Entries) → Left next rest → Ahead w n p (es ++ rest)
+Goes w n p next es = (rest : Entries) → IsRestOfWalk next rest → IsAheadOf w n p (es ++ rest)
 
 module _ (w n : ℕ) (p : Place) where
-  pub goes_on : (v m : ℕ) (next after : Next) (a : Act) (l : Local) (r : Reply) → next ≡ next_act.Do a l → Asks v m next
-      → ((rest : Entries) → Left after rest → AheadAfter l.worker l.stripes l.place (Some r) rest)
+  pub goes_on : (v m : ℕ) (next after : Next) (a : Act) (l : Local) (r : Reply) → next ≡ next_act.Do a l → IsAskedNext v m next
+      → ((rest : Entries) → IsRestOfWalk after rest → AheadAfter l.worker l.stripes l.place (Some r) rest)
       → (es : Entries) → Goes w n p next es → Goes w n p after (es ++ record { step = step_of v a; reply = r } ∷ [])
   goes_on v m next after a l r d asks back es all rest left =
-      let h : Asks v m (next_act.Do a l) = asked v m next a l d asks in
+      let h : IsAskedNext v m (next_act.Do a l) = asked v m next a l d asks in
       let e : Entry Step Reply = record { step = step_of v a; reply = r } in
       let now : Goes w n p (next_act.Do a l) es = subst (λ (x : Next). Goes w n p x es) d all in
-      let ahead : Ahead l.worker l.stripes l.place (e ∷ rest) = subst (λ (s : Step). Ahead l.worker l.stripes l.place (record { step = s; reply = r } ∷ rest)) (sym (step-same v m a l h)) (back rest left) in
-      subst (λ (x : Entries). Ahead w n p x) (sym (append_assoc es (e ∷ []) rest)) (now (e ∷ rest) ahead)
+      let ahead : IsAheadOf l.worker l.stripes l.place (e ∷ rest) = subst (λ (s : Step). IsAheadOf l.worker l.stripes l.place (record { step = s; reply = r } ∷ rest)) (sym (step-same v m a l h)) (back rest left) in
+      subst (λ (x : Entries). IsAheadOf w n p x) (sym (append_assoc es (e ∷ []) rest)) (now (e ∷ rest) ahead)
 
-  pub goes_over : (next : Next) → next ≡ next_act.Done → (es : Entries) → Goes w n p next es → Ahead w n p es
-  goes_over next d es all = subst (λ (x : Entries). Ahead w n p x) (append-nil es) (all [] (subst (λ (m : Next). Left m []) (sym d) refl))
+  pub goes_over : (next : Next) → next ≡ next_act.Done → (es : Entries) → Goes w n p next es → IsAheadOf w n p es
+  goes_over next d es all = subst (λ (x : Entries). IsAheadOf w n p x) (append-nil es) (all [] (subst (λ (m : Next). IsRestOfWalk m []) (sym d) refl))
 
-  pub goes_begun : (next : Next) (a : Act) (l : Local) → next ≡ next_act.Do a l → (es : Entries) → Goes w n p next es → (rest : Entries) × (rest ≢ []) × Ahead w n p (es ++ rest)
+  pub goes_begun : (next : Next) (a : Act) (l : Local) → next ≡ next_act.Do a l → (es : Entries) → Goes w n p next es → (rest : Entries) × (rest ≢ []) × IsAheadOf w n p (es ++ rest)
   goes_begun next a l d es all =
       let f = finish l.worker l.stripes l.place l.placed in
       let now : Goes w n p (next_act.Do a l) es = subst (λ (x : Next). Goes w n p x es) d all in
       (f.0, led-some l.worker (act_of_place l.worker l.stripes l.place) f.0 (leads l.worker l.stripes l.place f.0 f.1), now f.0 f.1)
 
-pub act_asked : (w n : ℕ) (next : Next) (a : Act) (l : Local) → next ≡ next_act.Do a l → Asks w n next → act_of_place l.worker l.stripes l.place ≡ a
+pub act_asked : (w n : ℕ) (next : Next) (a : Act) (l : Local) → next ≡ next_act.Do a l → IsAskedNext w n next → act_of_place l.worker l.stripes l.place ≡ a
 act_asked w n next a l d h = (asked w n next a l d h).0
 
 -- the first act of the rest is the one at which the holder stands
-pub ready_start : (l : Local) (next : Next) (x : Shell) → IsReady l.worker (act_of_place l.worker l.stripes l.place) x → Asks l.worker l.stripes next
-    → ((es : Entries) → Left next es → Ahead l.worker l.stripes l.place es) → IsReadyFor l.worker next x
+pub ready_start : (l : Local) (next : Next) (x : Shell) → IsReady l.worker (act_of_place l.worker l.stripes l.place) x → IsAskedNext l.worker l.stripes next
+    → ((es : Entries) → IsRestOfWalk next es → IsAheadOf l.worker l.stripes l.place es) → IsReadyFor l.worker next x
 ready_start l next_act.Done x v asks back = absurd (leads l.worker l.stripes l.place [] (back [] refl))
 ready_start l (next_act.Do a m) x v asks back =
     let c = comes l.worker l.stripes a m asks in
-    let same : a ≡ act_of_place l.worker l.stripes l.place = one-act l.worker a (act_of_place l.worker l.stripes l.place) c.0 c.2 (leads l.worker l.stripes l.place c.0 (back c.0 c.1)) in
-    subst (λ (b : Act). IsReady l.worker b x) (sym same) v
+    let is_same_item : a ≡ act_of_place l.worker l.stripes l.place = one-act l.worker a (act_of_place l.worker l.stripes l.place) c.0 c.2 (leads l.worker l.stripes l.place c.0 (back c.0 c.1)) in
+    subst (λ (b : Act). IsReady l.worker b x) (sym is_same_item) v

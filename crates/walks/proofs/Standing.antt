@@ -13,10 +13,10 @@ use Rattle.step_record.specs.declared.drain.Drain.{Drain}
 use Rattle.step_record.specs.declared.drain.Drain.TheVariants as drain
 use Rattle.step_record.specs.declared.drain.Phase.{Phase}
 use Rattle.step_record.specs.declared.drain.Phase.TheVariants.{Reads, Writes, Evictions}
-use Rattle.step_record.specs.History.{went, after, IsLegal, Entries}
+use Rattle.step_record.specs.History.{next_data, data_after, IsLegal, Entries}
 use Rattle.shell_model.specs.declared.holder.Holder.{Holder}
-use Rattle.shell_model.specs.Shell.{Shell, act, perform, held_by, hold_read, hold_write, hold_evict, hold_end, may_read, may_write, node_of, look, tallied}
-use Rattle.shell_model.specs.Shell.{is_over, end, drain_at_end}
+use Rattle.shell_model.specs.Shell.{Shell, act, act_effect, held_by, hold_read, hold_write, hold_evict, hold_end, may_read, may_write, node_of, look_reply, counted_reply}
+use Rattle.shell_model.specs.Shell.{is_over, end_effect, drain_at_end}
 use Rattle.shell_model.specs.Consistent.{IsConsistent}
 use Rattle.shell_model.proofs.Counting.{listed-times, node-listed}
 use Rattle.shell_model.proofs.Histories.{Steps, stepped, after-sound}
@@ -89,14 +89,14 @@ own_by v x (Some h) u e n k =
       | inr t ↦ absurd (k (rw t n))
     ]
 
-own_of_act : (v : ℕ) (x : Shell) (b : Act) → is_holding b ≡ true → (perform v b x ≡ None → ⊥) → Own v x
+own_of_act : (v : ℕ) (x : Shell) (b : Act) → is_holding b ≡ true → (act_effect v b x ≡ None → ⊥) → Own v x
 own_of_act v x (a.DrainRead s) h p = own_by v x x.holder (λ o. hold_read s o x) refl refl p
 own_of_act v x a.DrainWrite h p = own_by v x x.holder (λ o. hold_write o x) refl refl p
 own_of_act v x a.Evict h p = own_by v x x.holder (λ o. hold_evict o x) refl refl p
 own_of_act v x a.End h p = own_by v x x.holder (λ o. hold_end o x) refl refl p
 own_of_act v x b h p = absurd (cc (h))
 
-performed : (x : Shell) (s : Step) (p : Reply × Shell) → act x s ≡ Some p → perform s.worker s.act x ≡ None → ⊥
+performed : (x : Shell) (s : Step) (p : Reply × Shell) → act x s ≡ Some p → act_effect s.worker s.act x ≡ None → ⊥
 performed x s p h e =
     elim (cases_Bool (nat_lt x.applied 4294967296)) [
       | inl t ↦ (let no : None ≡ Some p = rw (t, e) at h in cc (no))
@@ -249,11 +249,11 @@ own_window w s x b r y m answered fit e =
       | inr g ↦ (let was : (p : Phase) × (s.at ≡ Some p) × (is_over x ≡ false) = fit g.1 in (was.0, g.2 ∙ was.1, window_stays w x b r y m g.0 ∙ was.2))
     ]
 
-look_of : (o : Option ℕ) (n : ℕ) → look o ≡ reply.Hit n → o ≡ Some n
+look_of : (o : Option ℕ) (n : ℕ) → look_reply o ≡ reply.Hit n → o ≡ Some n
 look_of None n e = absurd (cc (e))
 look_of (Some m) n e = cc
 
-tallied_reply : (o : Option (Reply × Shell)) (r : Reply) (z : Shell) → tallied o ≡ Some (r, z) → (p : Reply × Shell) × (o ≡ Some p) × (p.0 ≡ r)
+tallied_reply : (o : Option (Reply × Shell)) (r : Reply) (z : Shell) → counted_reply o ≡ Some (r, z) → (p : Reply × Shell) × (o ≡ Some p) × (p.0 ≡ r)
 tallied_reply None r z e = absurd (cc (e))
 tallied_reply (Some p) r z e = (p, refl, ap (λ (q : Reply × Shell). q.0) (some_same _ (r, z) e))
 
@@ -262,8 +262,8 @@ hit_below v x z key n c h =
     elim (cases_Bool (nat_lt x.applied 4294967296)) [
       | inr t ↦ absurd (let no : None ≡ Some (reply.Hit n, z) = rw t at h in cc (no))
       | inl t ↦
-          let g : tallied (Some (look (node_of key x.table), x)) ≡ Some (reply.Hit n, z) = rw t at h in
-          let p = tallied_reply (Some (look (node_of key x.table), x)) (reply.Hit n) z g in
+          let g : counted_reply (Some (look_reply (node_of key x.table), x)) ≡ Some (reply.Hit n, z) = rw t at h in
+          let p = tallied_reply (Some (look_reply (node_of key x.table), x)) (reply.Hit n) z g in
           let found : node_of key x.table ≡ Some n = look_of (node_of key x.table) n (ap (λ (q : Reply × Shell). q.0) (some_same _ p.0 p.1) ∙ p.2) in
           let i : Item = record { key = key; node = n } in
           let there = listed-times i x.table (node-listed i x.table found) in
@@ -282,8 +282,8 @@ some_not_none o x e n = (let no : Some x ≡ None = sym e ∙ n in cc (no))
 fits_told : (w : ℕ) (x z : Shell) (b : Act) (r : Reply) → act x (step_of w b) ≡ Some (r, z) → b ≡ a.Evict → r ≡ reply.Fits → is_over z ≡ false
 fits_told w x z b r h q t =
     let p : Performs x w b r z = performs x w b r z h in
-    let e : perform w a.Evict x ≡ Some (r, p.left) = ap (λ (c : Act). perform w c x) (sym q) ∙ p.is in
-    let o : Own w x = own_of_act w x a.Evict refl (some_not_none (perform w a.Evict x) (r, p.left) e) in
+    let e : act_effect w a.Evict x ≡ Some (r, p.left) = ap (λ (c : Act). act_effect w c x) (sym q) ∙ p.is in
+    let o : Own w x = own_of_act w x a.Evict refl (some_not_none (act_effect w a.Evict x) (r, p.left) e) in
     ap is_over p.counts ∙ fits-end w x p.left o.by r (mine w x o.by o.is (sym o.mine)) e t
 
 ended_at_last : (d : Drain) → (drain_at_end d).0 ≡ reply.NotYet → ⊥
@@ -296,13 +296,13 @@ ended_at_last drain.Idle e = cc (e)
 not_yet_told : (w : ℕ) (x z : Shell) (b : Act) (r : Reply) → act x (step_of w b) ≡ Some (r, z) → b ≡ a.End → r ≡ reply.NotYet → is_over x ≡ true
 not_yet_told w x z b r h q t =
     let p : Performs x w b r z = performs x w b r z h in
-    let e : perform w a.End x ≡ Some (r, p.left) = ap (λ (c : Act). perform w c x) (sym q) ∙ p.is in
-    let o : Own w x = own_of_act w x a.End refl (some_not_none (perform w a.End x) (r, p.left) e) in
+    let e : act_effect w a.End x ≡ Some (r, p.left) = ap (λ (c : Act). act_effect w c x) (sym q) ∙ p.is in
+    let o : Own w x = own_of_act w x a.End refl (some_not_none (act_effect w a.End x) (r, p.left) e) in
     elim (cases_Bool (is_over x)) [
       | inl over ↦ over
       | inr under ↦
-          let g : Some (end x) ≡ Some (r, p.left) = rw (mine w x o.by o.is (sym o.mine)) at e in
-          let same : (end x).0 ≡ reply.NotYet = ap (λ (q : Reply × Shell). q.0) (some_same (end x) (r, p.left) g) ∙ t in
+          let g : Some (end_effect x) ≡ Some (r, p.left) = rw (mine w x o.by o.is (sym o.mine)) at e in
+          let same : (end_effect x).0 ≡ reply.NotYet = ap (λ (q : Reply × Shell). q.0) (some_same (end_effect x) (r, p.left) g) ∙ t in
           absurd (ended_at_last x.drain (rw under at same))
     ]
 
@@ -341,10 +341,10 @@ other_step w n s x e z ne h st =
     }
 
 -- whatever the others do, a worker stands where its own steps led it
-pub stands_after : (w n : ℕ) (s : Standing) (x : Shell) (es : Entries) → IsConsistent x → Stands w n s x → IsLegal act x es → Stands w n (standing s (entries_of w es)) (after act x es)
+pub stands_after : (w n : ℕ) (s : Standing) (x : Shell) (es : Entries) → IsConsistent x → Stands w n s x → IsLegal act x es → Stands w n (standing s (entries_of w es)) (data_after act x es)
 stands_after w n s x [] c st l = st
 stands_after w n s x (e ∷ es) c st l =
-    let z : Shell = went (act x e.step) x in
+    let z : Shell = next_data (act x e.step) x in
     let sound : IsConsistent z = after-sound x (e ∷ []) c (l.0, tt) in
     elim (cases_Bool (eqb e.step.worker w)) [
       | inl t ↦
@@ -370,7 +370,7 @@ held_of : (o : Option Holder) (p : Phase) → phase_of o ≡ Some p → (h : Hol
 held_of None p e = absurd (cc (e))
 held_of (Some h) p e = (h, refl, some_same h.phase p e)
 
-accepts : (w n : ℕ) (s : Standing) (x : Shell) (b : Act) → Stands w n s x → ActFits n b s → perform w b x ≡ None → ⊥
+accepts : (w n : ℕ) (s : Standing) (x : Shell) (b : Act) → Stands w n s x → ActFits n b s → act_effect w b x ≡ None → ⊥
 accepts w n s x (a.Offer st i) h f e =
     let count = h.stripes in
     let below = f.0 in
@@ -398,11 +398,11 @@ accepts w n s x a.End h f e =
     absurd (let no : Some _ ≡ None = rw g.1 at e in cc (no))
 accepts w n s x b h f e = absurd (cc (e))
 
-tallied_none : (o : Option (Reply × Shell)) → tallied o ≡ None → o ≡ None
+tallied_none : (o : Option (Reply × Shell)) → counted_reply o ≡ None → o ≡ None
 tallied_none None e = refl
 tallied_none (Some p) e = absurd (cc (e))
 
 pub taken : (w n : ℕ) (s : Standing) (x : Shell) (b : Act) → Stands w n s x → ActFits n b s → x.applied < 4294967296 → act x (step_of w b) ≡ None → ⊥
 taken w n s x b h f below e =
     let t : nat_lt x.applied 4294967296 ≡ true = grind (arith, nat_tests, below) in
-    accepts w n s x b h f (tallied_none (perform w b x) (rw t at e))
+    accepts w n s x b h f (tallied_none (act_effect w b x) (rw t at e))

@@ -5,7 +5,7 @@ use Rattle.step_record.specs.declared.step.Act.{Act}
 use Rattle.step_record.specs.declared.step.Call.{Call}
 use Rattle.step_record.specs.declared.step.Reply.{Reply}
 use Rattle.step_record.specs.declared.step.Step.{Step}
-use Rattle.step_record.specs.History.{after, IsLegal, Entries}
+use Rattle.step_record.specs.History.{data_after, IsLegal, Entries}
 use Rattle.walks.specs.Walks.{step_of, AreWalks}
 use Rattle.walks.specs.Made.{entries_of}
 
@@ -21,10 +21,11 @@ pub record MayMake (w n : ℕ) (own : Entries) (a : Act) : Type 0 where
 abbrev pub AdmitsWalks : {D : Type 0} → (D → Step → Option (Reply × D)) → (D → ℕ) → ℕ → ℕ → D → Type 0
 AdmitsWalks perform count w n x =
     (es : Entries) → IsLegal perform x es → (a : Act) → MayMake w n (entries_of w es) a
-    → count (after perform x es) < MAX_STEPS → perform (after perform x es) (step_of w a) ≢ None
+    → count (data_after perform x es) < MAX_STEPS → perform (data_after perform x es) (step_of w a) ≢ None
 
 -- From x on, after any legal entries of which those of the step's worker are its own, the machine takes the step.
 abbrev pub IsTaken : {D : Type 0} → (D → Step → Option (Reply × D)) → (D → ℕ) → D → Entries → Step → Type 0
 IsTaken perform count x own step =
-    (es : Entries) → IsLegal perform x es → entries_of step.worker es ≡ own → count (after perform x es) < MAX_STEPS
-    → perform (after perform x es) step ≢ None
+    (es : Entries) → IsLegal perform x es → entries_of step.worker es ≡ own
+    → count (data_after perform x es) < MAX_STEPS
+    → perform (data_after perform x es) step ≢ None

@@ -28,28 +28,28 @@ act_of_place w n at.Evict = act.Evict
 act_of_place w n at.End = act.End
 
 -- the entries that complete the walk, from that act on
-abbrev pub Ahead : ℕ → ℕ → Place → Entries → Type 0
-Ahead w n (at.Look k) es = Opens w n (act.Look k) (FollowsLook w n k) es
-Ahead w n (at.Offer i) es = IsOffer w n i es
-Ahead w n (at.AfterRead a) es = IsReport w n (act.AfterRead a) es
-Ahead w n (at.Put k) es = IsPut w n k es
-Ahead w n (at.Remove k) es = Opens w n (act.Remove k) (FollowsRemove w n) es
-Ahead w n at.AfterWrite es = IsReport w n act.AfterWrite es
-Ahead w n at.Begin es = IsRound w n es
-Ahead w n (at.DrainRead s j) es = IsReading w n s j es
-Ahead w n at.DrainWrite es = IsWriting w n es
-Ahead w n at.Evict es = IsEvicting w n es
-Ahead w n at.End es = IsEnding w n es
+abbrev pub IsAheadOf : ℕ → ℕ → Place → Entries → Type 0
+IsAheadOf w n (at.Look k) es = Opens w n (act.Look k) (FollowsLook w n k) es
+IsAheadOf w n (at.Offer i) es = IsOffer w n i es
+IsAheadOf w n (at.AfterRead a) es = IsReport w n (act.AfterRead a) es
+IsAheadOf w n (at.Put k) es = IsPut w n k es
+IsAheadOf w n (at.Remove k) es = Opens w n (act.Remove k) (FollowsRemove w n) es
+IsAheadOf w n at.AfterWrite es = IsReport w n act.AfterWrite es
+IsAheadOf w n at.Begin es = IsRound w n es
+IsAheadOf w n (at.DrainRead s j) es = IsReading w n s j es
+IsAheadOf w n at.DrainWrite es = IsWriting w n es
+IsAheadOf w n at.Evict es = IsEvicting w n es
+IsAheadOf w n at.End es = IsEnding w n es
 
 -- nothing where the walk is over
 abbrev pub AheadIf : ℕ → ℕ → Option Place → Entries → Type 0
 AheadIf w n None es = es ≡ []
-AheadIf w n (Some p) es = Ahead w n p es
+AheadIf w n (Some p) es = IsAheadOf w n p es
 
 -- what may still come, after the reply where there is one
 abbrev pub AheadAfter : ℕ → ℕ → Place → Option Reply → Entries → Type 0
-AheadAfter w n p None es = Ahead w n p es
-AheadAfter w n p (Some r) es = Ahead w n p (record { step = step_of w (act_of_place w n p); reply = r } ∷ es)
+AheadAfter w n p None es = IsAheadOf w n p es
+AheadAfter w n p (Some r) es = IsAheadOf w n p (record { step = step_of w (act_of_place w n p); reply = r } ∷ es)
 
 -- a reply, where there is one, belongs to the act
 abbrev pub IsReplyTo : Act → Option Reply → Type 0

@@ -21,7 +21,7 @@ pub struct Local {
 impl Local {
     ghost use Rattle.std.specs.Prelude.{◌↔◌};
     ghost use Rattle.walks.specs.Walks.{IsWalk};
-    ghost use Rattle.walks.specs.Places.{Ahead, phase_place};
+    ghost use Rattle.walks.specs.Places.{IsAheadOf, phase_place};
 
     /// At the beginning of the walk of a call, of a cache with so many read buffers: 1 to [`MAX_STRIPES`].
     ///
@@ -29,7 +29,7 @@ impl Local {
     pub fn start(worker: Worker, stripes: u8, call: Call) -> Local
         requires { (1 ≤ stripes) × (stripes ≤ MAX_STRIPES) }
         ensures ahead { (es : Entries) → IsWalk worker stripes call es
-            ↔ Ahead result.worker result.stripes result.place es }
+            ↔ IsAheadOf result.worker result.stripes result.place es }
         ensures same { (result.worker ≡ worker) × (result.stripes ≡ stripes) }
     {
         let place = match call {

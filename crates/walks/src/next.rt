@@ -2,7 +2,7 @@
 ghost use Rattle.std.specs.Prelude.{◌≡◌, ◌↔◌, Option, Some, None};
 ghost use Rattle.step_record.specs.History.{Entries};
 ghost use Rattle.walks.specs.Places.{AheadAfter, IsReplyTo, act_of_place};
-ghost use Rattle.walks.specs.Nexts.{Left, Asks};
+ghost use Rattle.walks.specs.Nexts.{IsRestOfWalk, IsAskedNext};
 
 use super::local::Local;
 use super::place::{Place, act_of, after};
@@ -21,8 +21,8 @@ pub enum Next {
 /// the first one of its walk.
 pub fn next_step(local: Local, reply: Option<Reply>) -> Next
     requires { IsReplyTo (act_of_place local.worker local.stripes local.place) reply }
-    ensures left { (es : Entries) → AheadAfter local.worker local.stripes local.place reply es ↔ Left result es }
-    ensures asks { Asks local.worker local.stripes result }
+    ensures left { (es : Entries) → AheadAfter local.worker local.stripes local.place reply es ↔ IsRestOfWalk result es }
+    ensures asks { IsAskedNext local.worker local.stripes result }
 {
     let worker = local.worker;
     let stripes = local.stripes;

@@ -5,7 +5,7 @@ ghost use Rattle.step_record.specs.History.{Entries};
 ghost use Rattle.walks.specs.Walks.{IsWriting, IsReading, FollowsLook, FollowsOffer, FollowsPut};
 ghost use Rattle.walks.specs.Walks.{FollowsRemove, FollowsReport, FollowsBegin, FollowsDrainRead, FollowsDrainWrite};
 ghost use Rattle.walks.specs.Walks.{FollowsEvict, FollowsEnd, IsEvicting};
-ghost use Rattle.walks.specs.Places.{Ahead, AheadIf, AheadAfter, act_of_place, is_place, is_place_if};
+ghost use Rattle.walks.specs.Places.{IsAheadOf, AheadIf, AheadAfter, act_of_place, is_place, is_place_if};
 
 use shell_buffers::MAX_ITEMS;
 use step_record::{Act, Answer, Item, Key, Reply, Worker};
@@ -28,7 +28,7 @@ pub enum Place {
 
 fn after_look(key: Key, reply: Reply) -> Place
     requires { is_answer (Act.Look key) reply ≡ true }
-    ensures ahead { (w : ℕ) (n : ℕ) (es : Entries) → FollowsLook w n key reply es ↔ Ahead w n result es }
+    ensures ahead { (w : ℕ) (n : ℕ) (es : Entries) → FollowsLook w n key reply es ↔ IsAheadOf w n result es }
     ensures place { (n : ℕ) → is_place n result ≡ true }
 {
     match reply {
@@ -42,7 +42,7 @@ fn after_look(key: Key, reply: Reply) -> Place
 
 fn after_offer(item: Item, stripe: u8, reply: Reply) -> Place
     requires { is_answer (Act.Offer stripe item) reply ≡ true }
-    ensures ahead { (w : ℕ) (n : ℕ) (es : Entries) → FollowsOffer w n reply es ↔ Ahead w n result es }
+    ensures ahead { (w : ℕ) (n : ℕ) (es : Entries) → FollowsOffer w n reply es ↔ IsAheadOf w n result es }
     ensures place { (n : ℕ) → is_place n result ≡ true }
 {
     match reply {
@@ -58,7 +58,7 @@ fn after_offer(item: Item, stripe: u8, reply: Reply) -> Place
 
 fn after_put(key: Key, reply: Reply) -> Place
     requires { is_answer (Act.Put key) reply ≡ true }
-    ensures ahead { (w : ℕ) (n : ℕ) (es : Entries) → FollowsPut w n reply es ↔ Ahead w n result es }
+    ensures ahead { (w : ℕ) (n : ℕ) (es : Entries) → FollowsPut w n reply es ↔ IsAheadOf w n result es }
     ensures place { (n : ℕ) → is_place n result ≡ true }
 {
     match reply {
@@ -126,7 +126,7 @@ fn after_begin(stripes: u8, reply: Reply) -> Option<Place>
 fn after_stripe(stripes: u8, stripe: u8) -> Place
     requires { stripe < stripes }
     ensures ahead { (w : ℕ) (es : Entries) → MatchBool (stripe + 1 == stripes) (IsWriting w stripes es)
-        (IsReading w stripes (stripe + 1) 0 es) ↔ Ahead w stripes result es }
+        (IsReading w stripes (stripe + 1) 0 es) ↔ IsAheadOf w stripes result es }
     ensures place { is_place stripes result ≡ true }
 {
     if stripe + 1 == stripes {
@@ -145,7 +145,7 @@ fn after_drained(stripes: u8, stripe: u8, drained: u8) -> Place
     requires drained { drained < MAX_ITEMS }
     ensures ahead { (w : ℕ) (es : Entries) → MatchBool (drained + 1 == MAX_ITEMS)
         (MatchBool (stripe + 1 == stripes) (IsWriting w stripes es) (IsReading w stripes (stripe + 1) 0 es))
-        (IsReading w stripes stripe (drained + 1) es) ↔ Ahead w stripes result es }
+        (IsReading w stripes stripe (drained + 1) es) ↔ IsAheadOf w stripes result es }
     ensures place { is_place stripes result ≡ true }
 {
     if usize::from(drained) + 1 == MAX_ITEMS {
@@ -166,7 +166,7 @@ fn after_drain_read(stripes: u8, stripe: u8, drained: u8, reply: Reply) -> Place
         (MatchBool (drained + 1 == MAX_ITEMS) (MatchBool (stripe + 1 == stripes) (IsWriting w stripes es)
         (IsReading w stripes (stripe + 1) 0 es)) (IsReading w stripes stripe (drained + 1) es))
         (MatchBool (stripe + 1 == stripes) (IsWriting w stripes es) (IsReading w stripes (stripe + 1) 0 es)) reply
-        ↔ Ahead w stripes result es }
+        ↔ IsAheadOf w stripes result es }
     ensures place { is_place stripes result ≡ true }
 {
     match reply {
@@ -179,7 +179,7 @@ fn after_drain_read(stripes: u8, stripe: u8, drained: u8, reply: Reply) -> Place
 fn after_drain_write(reply: Reply) -> Place
     requires { is_answer Act.DrainWrite reply ≡ true }
     ensures ahead { (w : ℕ) (n : ℕ) (es : Entries) → FollowsDrainWrite w n (IsWriting w n es) reply es
-        ↔ Ahead w n result es }
+        ↔ IsAheadOf w n result es }
     ensures place { (n : ℕ) → is_place n result ≡ true }
 {
     match reply {
@@ -194,7 +194,7 @@ fn after_drain_write(reply: Reply) -> Place
 fn after_evict(reply: Reply) -> Place
     requires { is_answer Act.Evict reply ≡ true }
     ensures ahead { (w : ℕ) (n : ℕ) (es : Entries) → FollowsEvict w n (IsEvicting w n es) reply es
-        ↔ Ahead w n result es }
+        ↔ IsAheadOf w n result es }
     ensures place { (n : ℕ) → is_place n result ≡ true }
 {
     match reply {

@@ -3,7 +3,7 @@ use Rattle.std.proofs.Common.{◌≡◌, ℕ, ◌<◌, ◌≤◌, nat_lt, List, 
 use Rattle.std.proofs.lemmas.Bool.{cases_Bool}
 use Rattle.std.proofs.lemmas.Bool.Decides.{nat_tests}
 use Rattle.step_record.specs.declared.step.Call.{Call}
-use Rattle.step_record.specs.History.{after, IsLegal, Entries}
+use Rattle.step_record.specs.History.{data_after, IsLegal, Entries}
 use Rattle.shell_model.specs.Shell.{Shell, act}
 use Rattle.shell_model.specs.Reached.{IsReachable}
 use Rattle.walks.specs.Walks.{AreWalks}
@@ -15,7 +15,7 @@ use Rattle.workers.proofs.Turning.{legal_split, after_append}
 
 -- A run of whole walks leaves the maintenance free, where it began so.
 pub run_frees : (s t : ShellSession) (n : ℕ) (pieces : List (List Call)) (lists : List Entries) → 1 ≤ n → IsReachable s.engine → s.engine.holder ≡ None → length s.engine.stripes ≡ n
-    → s.engine ≡ after act s.opening s.kept → IsRun (λ w. AreWalks w n) pieces s t lists → IsLegal act t.opening t.kept → t.engine ≡ after act t.opening t.kept → t.engine.holder ≡ None
+    → s.engine ≡ data_after act s.opening s.kept → IsRun (λ w. AreWalks w n) pieces s t lists → IsLegal act t.opening t.kept → t.engine ≡ data_after act t.opening t.kept → t.engine.holder ≡ None
 run_frees s t n pieces lists o h free count stood run legal stands =
     let whole : IsLegal act s.opening (s.kept ++ run.news) = subst (λ (es : Entries). IsLegal act s.opening es) run.entered (subst (λ (y : Shell). IsLegal act y t.kept) run.opening legal) in
     let later : IsLegal act s.engine run.news = subst (λ (y : Shell). IsLegal act y run.news) (sym stood) (legal_split act s.opening s.kept run.news whole) in
@@ -25,7 +25,7 @@ run_frees s t n pieces lists o h free count stood run legal stands =
       | inr e ↦ (let le : length pieces ≤ w = grind (arith, nat_tests, e) in ([], run.no_other w le))
     ]
     ) in
-    let end : t.engine ≡ after act s.engine run.news =
-    stands ∙ ap (λ (y : Shell). after act y t.kept) run.opening ∙ ap (λ (es : Entries). after act s.opening es) run.entered ∙ after_append act s.opening s.kept run.news
-    ∙ ap (λ (y : Shell). after act y run.news) (sym stood) in
+    let end : t.engine ≡ data_after act s.engine run.news =
+    stands ∙ ap (λ (y : Shell). data_after act y t.kept) run.opening ∙ ap (λ (es : Entries). data_after act s.opening es) run.entered ∙ after_append act s.opening s.kept run.news
+    ∙ ap (λ (y : Shell). data_after act y run.news) (sym stood) in
     ap (λ (y : Shell). y.holder) end ∙ shell_freed s.engine n o h free count run.news later walks

@@ -5,7 +5,7 @@ use Rattle.std.proofs.lemmas.List.{append_cancel_left}
 use Rattle.step_record.specs.declared.entry.Entry.{Entry}
 use Rattle.step_record.specs.declared.step.Reply.{Reply}
 use Rattle.step_record.specs.declared.step.Step.{Step}
-use Rattle.step_record.specs.History.{went, after, IsLegal, Entries}
+use Rattle.step_record.specs.History.{next_data, data_after, IsLegal, Entries}
 use Rattle.walks.specs.Made.{entries_of}
 use Rattle.walks.specs.Admits.{IsTaken}
 use Rattle.journal.specs.declared.fault.SessionFault.{SessionFault}
@@ -13,7 +13,7 @@ use Rattle.journal.specs.declared.fault.SessionFault.TheVariants as fault
 use Rattle.workers.specs.Causes.{the_cause}
 use Rattle.workers.specs.Draws.{IsWithin}
 use Rattle.workers.specs.declared.run.Cause.TheVariants as cause
-use Rattle.turn_book.specs.Turns.{AddsInTurn, made_by}
+use Rattle.turn_book.specs.Turns.{AddsInTurn, entries_by}
 use Rattle.turn_book.specs.Passes.{TurnState, PassState, Gives}
 
 module _ {T E O : Type 0} (origin : T → O) (entries : T → List E) (by : E → ℕ) (undone : T → List E) where
@@ -38,25 +38,25 @@ pub on_err_at : {T F : Type 0} (r : Result T F) (P : Type 0) (x : F) → r ≡ E
 on_err_at {T} {F} r P x e h = let R : Result T F → Type 0 = λ y. OnErr y P in subst R e h
 
 module _ {D S R : Type 0} (act : D → S → Option (R × D)) where
-  pub legal_split : (x : D) (es fs : List (Entry S R)) → IsLegal act x (es ++ fs) → IsLegal act (after act x es) fs
+  pub legal_split : (x : D) (es fs : List (Entry S R)) → IsLegal act x (es ++ fs) → IsLegal act (data_after act x es) fs
   legal_split x [] fs l = l
-  legal_split x (e ∷ es) fs l = legal_split (went (act x e.step) x) es fs l.1
+  legal_split x (e ∷ es) fs l = legal_split (next_data (act x e.step) x) es fs l.1
 
-  pub after_append : (x : D) (es fs : List (Entry S R)) → after act x (es ++ fs) ≡ after act (after act x es) fs
+  pub after_append : (x : D) (es fs : List (Entry S R)) → data_after act x (es ++ fs) ≡ data_after act (data_after act x es) fs
   after_append x [] fs = refl
-  after_append x (e ∷ es) fs = after_append (went (act x e.step) x) es fs
+  after_append x (e ∷ es) fs = after_append (next_data (act x e.step) x) es fs
 
 -- a step that the machine takes is not refused in a turn
 pub not_refused : {D : Type 0} (act : D → Step → Option (Reply × D)) (count : D → ℕ) (first begin x y : D) (old kept : Entries) (step : Step) (own news : Entries)
-    → IsTaken act count (after act first old) own step → begin ≡ first → kept ≡ old ++ news → entries_of step.worker news ≡ own
-    → IsLegal act begin kept → y ≡ after act begin kept → y ≡ x → act x step ≡ None → count x < 2 ^ 32 → ⊥
+    → IsTaken act count (data_after act first old) own step → begin ≡ first → kept ≡ old ++ news → entries_of step.worker news ≡ own
+    → IsLegal act begin kept → y ≡ data_after act begin kept → y ≡ x → act x step ≡ None → count x < 2 ^ 32 → ⊥
 not_refused act count first begin x y old kept step own news takes begins list mine legal stands shown none below =
     let whole : IsLegal act first (old ++ news) = subst (λ l. IsLegal act first l) list (subst (λ z. IsLegal act z kept) begins legal) in
-    let at : x ≡ after act (after act first old) news = sym shown ∙ stands ∙ ap (λ z. after act z kept) begins ∙ ap (λ l. after act first l) list ∙ after_append act first old news in
+    let at : x ≡ data_after act (data_after act first old) news = sym shown ∙ stands ∙ ap (λ z. data_after act z kept) begins ∙ ap (λ l. data_after act first l) list ∙ after_append act first old news in
     takes news (legal_split act first old news whole) mine (subst (λ z. count z < 2 ^ 32) at below) (subst (λ z. act z step ≡ None) at none)
 
 -- what a worker made is among all that was made
-pub few_made : {E : Type 0} (by : E → ℕ) (w : ℕ) (es : List E) → length (made_by by w es) ≤ length es
+pub few_made : {E : Type 0} (by : E → ℕ) (w : ℕ) (es : List E) → length (entries_by by w es) ≤ length es
 few_made by w [] = omega arith
 few_made by w (e ∷ es) =
     let few = few_made by w es in

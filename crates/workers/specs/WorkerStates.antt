@@ -11,7 +11,7 @@ use Rattle.turn_book.specs.Passes.{BookId}
 use Rattle.workers.specs.declared.run.Cause.TheVariants.{JournalFull}
 use Rattle.workers.specs.declared.worker_state.WorkerState.{WorkerState}
 use Rattle.workers.specs.Runs.{AreWalksUpTo}
-use Rattle.step_record.specs.History.{after}
+use Rattle.step_record.specs.History.{data_after}
 use Rattle.shell_model.specs.Shell.{Shell, act}
 use Rattle.walks.specs.Admits.{AdmitsWalks}
 
@@ -40,4 +40,4 @@ AreNumbered lo (d ∷ ds) = (d.worker ≡ lo) × AreNumbered (suc lo) ds
 
 -- the shell takes each step that the walks of any worker ask, from where the session stood
 abbrev pub AdmitsAll : ℕ → ShellSession → Type 0
-AdmitsAll n s = (w : ℕ) → AdmitsWalks act (λ x. x.applied) w n (after act s.opening s.kept)
+AdmitsAll n s = (w : ℕ) → AdmitsWalks act (λ x. x.applied) w n (data_after act s.opening s.kept)

@@ -9,7 +9,7 @@ ghost use Rattle.walks.specs.Walks.{AreWalks};
 ghost use Rattle.workers.specs.WorkerStates.{AdmitsAll};
 ghost use Rattle.workers.specs.Draws.{IsWithin};
 ghost use Rattle.workers.specs.Runs.{IsRun, IsRunUpTo};
-ghost use Rattle.step_record.specs.History.{after, IsLegal};
+ghost use Rattle.step_record.specs.History.{data_after, IsLegal};
 ghost use Rattle.shell_model.specs.Shell.{act};
 ghost use Rattle.workers.specs.DriveFaults.{CanRun, LeavesFault};
 
@@ -174,7 +174,7 @@ fn run_book<G: Gate, R: Threads + Wait + Sync>(
     ensures run { IsRunUpTo result.2 stripes (map (λ p. p.items) pieces.now) book.opening result.0
         (map (λ l. l.items) result.1.items) }
     ensures legal { IsLegal act result.0.opening result.0.kept }
-    ensures stands { result.0.engine ≡ after act result.0.opening result.0.kept }
+    ensures stands { result.0.engine ≡ data_after act result.0.opening result.0.kept }
 {
     let Room {
         states,

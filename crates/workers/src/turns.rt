@@ -4,7 +4,7 @@ ghost use Rattle.std.specs.Prelude.{MatchResult, Err};
 ghost use Rattle.step_record.specs.declared.limits.TheConstants.{MAX_STRIPES};
 ghost use Rattle.step_record.specs.Answers.{AnswersItsActs, is_answer};
 ghost use Rattle.turn_book.specs.Passes.{id_of};
-ghost use Rattle.step_record.specs.History.{after};
+ghost use Rattle.step_record.specs.History.{data_after};
 ghost use Rattle.step_record.specs.declared.step.Call.{Call};
 ghost use Rattle.walks.specs.Walks.{IsWalk, AreWalks, step_of};
 ghost use Rattle.walks.specs.Admits.{AdmitsWalks, IsTaken};
@@ -35,7 +35,7 @@ pub(crate) fn work_in_turns<E: Engine<Step = Step, Reply = Reply> + Drop, G: Gat
     requires worker { pass.worker ≡ worker }
     requires answers { AnswersItsActs E.act }
     requires admits { AdmitsWalks E.act E.count worker stripes
-        (after E.act book.now.opening.opening book.now.opening.kept) }
+        (data_after E.act book.now.opening.opening book.now.opening.kept) }
     requires walks { (before : List Call) × AreWalks worker stripes before pass.own }
     requires stripes { (1 ≤ stripes) × (stripes ≤ MAX_STRIPES) }
     requires within { IsWithin book.now.opening.limit pass }
@@ -75,7 +75,7 @@ fn walk_in_turns<E: Engine<Step = Step, Reply = Reply> + Drop, R: Wait>(
     requires worker { pass.worker ≡ worker }
     requires answers { AnswersItsActs E.act }
     requires admits { AdmitsWalks E.act E.count worker stripes
-        (after E.act book.now.opening.opening book.now.opening.kept) }
+        (data_after E.act book.now.opening.opening book.now.opening.kept) }
     requires walks { (before : List Call) × AreWalks worker stripes before pass.own }
     requires stripes { (1 ≤ stripes) × (stripes ≤ MAX_STRIPES) }
     requires within { IsWithin book.now.opening.limit pass }
@@ -122,7 +122,7 @@ fn turn<E: Engine<Step = Step, Reply = Reply> + Drop, R: Wait>(
     requires worker { pass.worker ≡ step.worker }
     requires answers { AnswersItsActs E.act }
     requires takes { IsTaken E.act E.count
-        (after E.act book.now.opening.opening book.now.opening.kept) pass.own step }
+        (data_after E.act book.now.opening.opening book.now.opening.kept) pass.own step }
     requires within { IsWithin book.now.opening.limit pass }
     requires turns { book.now.opening.limit ≤ book.now.turns }
     ensures same { result.0.book ≡ pass.book }

@@ -1,5 +1,5 @@
 use Rattle.std.proofs.Common.{◌≡◌, ◌∙◌, length, take, IfSome, IfNone, ap, subst, arith}
-use Rattle.policies.specs.AnyPolicy.{Stands, outcomes_on}
+use Rattle.policies.specs.AnyPolicy.{HasAccessed, outcomes_on}
 use Rattle.debug_policies.specs.Part.{IsNoted, IsFirstOther}
 use Rattle.debug_policies.proofs.Walked.{agree-more, parts-first, agree-everywhere}
 use Rattle.debug_policies.proofs.divergence.walk_both.Goals as goal
@@ -22,7 +22,7 @@ stretches-preserved c =
     let noted = c.note_hits.new.noted in
     let start = c.stretches.start in
     let end = c.min-end.result in
-    let stands = subst (λ r. IfNone r (Stands c.args.second.now trace (take end trace) c.compare_hits.new.cache)) c.in-None.is c.in_ok-place.ensures.stands in
+    let stands = subst (λ r. IfNone r (HasAccessed c.args.second.now trace (take end trace) c.compare_hits.new.cache)) c.in-None.is c.in_ok-place.ensures.stands in
     let agree = subst (λ r. IfNone r (IsNoted noted outcomes start end)) c.in-None.is c.in_ok-place.ensures.agree in
     let long : length c.keys-len.result.now ≡ length trace = ap length c.keys-len.ensures.keys in
     let least = c.min-end.ensures in (

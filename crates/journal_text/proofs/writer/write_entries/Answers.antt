@@ -2,7 +2,7 @@ use Rattle.std.proofs.Common.{◌≡◌, ◌∙◌, ◌+◌, ◌-◌, ◌++◌, 
 use Rattle.std.proofs.lemmas.List.Elements.{All-nil, All-push}
 use Rattle.std.specs.Prelude.{slice_get}
 use Rattle.journal_text.specs.Journal.{begun, entry_line}
-use Rattle.journal_text.specs.Table.{entry_words, Fit}
+use Rattle.journal_text.specs.Table.{entry_words, FitWords}
 use Rattle.journal_text.specs.Writing.{AreFit}
 use Rattle.journal_text.specs.declared.version.Version.TheVariants.{Two}
 use Rattle.journal_text.proofs.Fronts.{begun_more}
@@ -24,7 +24,7 @@ pub loop-n-init : goal.loop-n-init
 loop-n-init g c = record {
   written = started (g.W.Write.contents c.args.writer.now) c.push_header.new.text.items (begun Two []) c.push_header.ensures.items;
   room = omega (arith, c.push_header.ensures.capacity, c.requires.room);
-  fit = All-nil (λ e. Fit (entry_words e));
+  fit = All-nil (λ e. FitWords (entry_words e));
 }
 
 pub loop-n-preserved : goal.loop-n-preserved
@@ -42,5 +42,5 @@ loop-n-preserved g c =
       written = gathered old new c.make_room.new.text.items c.push_entry_line.new.text.items (entry_line e) (begun Two front) (begun Two (take (n + 1) kept))
           c.push_entry_line.ensures.items (ap (begun Two) next ∙ begun_more Two front e) passed_on;
       room = omega (arith, c.push_entry_line.ensures.capacity, c.in_ok-make_room.ensures.capacity);
-      fit = subst AreFit (sym next) (All-push (λ e. Fit (entry_words e)) front e c.loop-n.invariant.fit c.push_entry_line.ensures.fit);
+      fit = subst AreFit (sym next) (All-push (λ e. FitWords (entry_words e)) front e c.loop-n.invariant.fit c.push_entry_line.ensures.fit);
     }

@@ -2,7 +2,7 @@ use Rattle.std.proofs.Common.{◌≡◌, ℕ, ◌*◌, ◌++◌, ◌≤◌, List
 use Rattle.std.proofs.lemmas.Grind.{div_ceil_times}
 use Rattle.std.proofs.lemmas.List.{take_all}
 use Rattle.step_record.specs.declared.limits.TheConstants.{MAX_BATCH}
-use Rattle.policies.specs.AnyPolicy.{Stands}
+use Rattle.policies.specs.AnyPolicy.{HasAccessed}
 use Rattle.policy_actors.proofs.Batches.{next-piece, taken-more}
 use Rattle.policy_actors.proofs.Pieces.{next_rest}
 use Rattle.policy_actors.proofs.actor_cache.access_in_batches.Goals as goal
@@ -27,7 +27,7 @@ loop-number-preserved g c =
     let piece = c.cut.ensures.front ∙ ap (λ (l : List ℕ). take MAX_BATCH l) c.loop-number.invariant.0 in (
       c.cut.ensures.back ∙ next_rest keys _ MAX_BATCH k c.loop-number.invariant.0,
       λ j trace done s.
-          subst (λ l. Stands j trace l c.access_all.new.cache)
+          subst (λ l. HasAccessed j trace l c.access_all.new.cache)
           (append_assoc done (take (k * MAX_BATCH) keys) c.cut.result.0.now ∙ ap (λ (l : List ℕ). done ++ l) (taken-more MAX_BATCH k keys _ piece))
           (c.in_ok-access_all.ensures j trace (done ++ take (k * MAX_BATCH) keys) (c.loop-number.invariant.1 j trace done s)),
     )
@@ -37,4 +37,4 @@ returns g c = λ j trace done s.
     let keys = c.args.keys.now in let k = c.loop-number.number in
     let last : c.div_ceil-number-end.result ≡ k = omega arith in
     let all = subst (λ (n : ℕ). length keys ≤ n * MAX_BATCH) (sym c.div_ceil-number-end.ensures ∙ last) (div_ceil_times (length keys) MAX_BATCH (omega arith)).0 in
-    subst (λ (l : List ℕ). Stands j trace (done ++ l) c.loop-number.cache) (take_all (k * MAX_BATCH) keys all) (c.loop-number.invariant.1 j trace done s)
+    subst (λ (l : List ℕ). HasAccessed j trace (done ++ l) c.loop-number.cache) (take_all (k * MAX_BATCH) keys all) (c.loop-number.invariant.1 j trace done s)

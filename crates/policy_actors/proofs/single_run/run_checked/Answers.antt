@@ -1,5 +1,5 @@
 use Rattle.std.proofs.Common.{◌≡◌, [], ◌∙◌, sym, append-nil, subst, IfSome}
-use Rattle.policies.specs.AnyPolicy.{Stands}
+use Rattle.policies.specs.AnyPolicy.{HasAccessed}
 use Rattle.stack_distances.specs.Curve.{curve_of}
 use Rattle.policy_actors.proofs.single_run.run_checked.Goals as goal
 
@@ -26,4 +26,4 @@ pub returns-2 : goal.returns-2
 returns-2 g c =
     let trace = c.args.input.now.trace.now in
     let e = c.in_ok-access_in_batches.ensures c.args.job.now trace [] c.in_ok-cache.ensures.stands in
-    c.report_by.ensures trace (subst (λ l. Stands c.args.job.now trace l c.access_in_batches.new.cache) c.keys.ensures.keys e)
+    c.report_by.ensures trace (subst (λ l. HasAccessed c.args.job.now trace l c.access_in_batches.new.cache) c.keys.ensures.keys e)

@@ -1,8 +1,8 @@
 use Rattle.std.proofs.Common.{◌≡◌, ◌-◌, ◌++◌, length}
 use Rattle.step_record.specs.History.{Entries}
-use Rattle.walks.specs.Nexts.{Left, Asks}
+use Rattle.walks.specs.Nexts.{IsRestOfWalk, IsAskedNext}
 use Rattle.quiet_run.specs.Outcomes.{outcome_from}
-use Rattle.walks.specs.Places.{Ahead}
+use Rattle.walks.specs.Places.{IsAheadOf}
 use Rattle.quiet_run.specs.Settle.{AddsSteps}
 use Rattle.walks.specs.Holders.{IsReadyFor}
 use Rattle.quiet_run.proofs.round.finish_round.Given as goal
@@ -11,8 +11,8 @@ abbrev pub invariant-loop-next : goal.invariant-loop-next
 invariant-loop-next l = record {
   opening : l.session.opening ≡ l.fn.session.opening;
   limit : l.session.limit ≡ l.fn.session.limit;
-  adds : AddsSteps (λ es. ((rest : Entries) → Left l.next rest → Ahead l.fn.local.worker l.fn.local.stripes l.fn.local.place (es ++ rest)) × (l.outcome ≡ outcome_from l.fn.start es)) l.fn.session l.session;
-  asks : Asks l.fn.local.worker l.fn.local.stripes l.next;
+  adds : AddsSteps (λ es. ((rest : Entries) → IsRestOfWalk l.next rest → IsAheadOf l.fn.local.worker l.fn.local.stripes l.fn.local.place (es ++ rest)) × (l.outcome ≡ outcome_from l.fn.start es)) l.fn.session l.session;
+  asks : IsAskedNext l.fn.local.worker l.fn.local.stripes l.next;
   worker : l.worker ≡ l.fn.local.worker;
   stripes : length l.session.engine.stripes ≡ l.fn.local.stripes;
   ready : IsReadyFor l.fn.local.worker l.next l.session.engine;

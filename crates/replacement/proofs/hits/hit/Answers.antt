@@ -1,20 +1,20 @@
 use Rattle.std.proofs.Common.{◌∙◌, ap, refl, sym, subst}
-use Rattle.segments.specs.Queues.{Queues, IsDistinct, refreshed_to}
+use Rattle.segments.specs.Queues.{Queues, IsDistinct, queue_after_access}
 use Rattle.replacement.specs.Plan.{settling}
-use Rattle.replacement.specs.Moving.{transferred}
+use Rattle.replacement.specs.Moving.{queues_after_transfer}
 use Rattle.replacement.proofs.Carrying.{moved-distinct}
 use Rattle.replacement.proofs.Served.{hit-undone}
 use Rattle.replacement.proofs.hits.hit.Goals as goal
 
 pub settle-last-requires : goal.settle-last-requires
 settle-last-requires c =
-    subst IsDistinct (sym c.in_ok-queue.ensures.lists) (moved-distinct c.args.item (refreshed_to c.in_ok-queue.queue) c.args.segments.now.lists c.in_ok-queue.ensures.distinct)
+    subst IsDistinct (sym c.in_ok-queue.ensures.lists) (moved-distinct c.args.item (queue_after_access c.in_ok-queue.queue) c.args.segments.now.lists c.in_ok-queue.ensures.distinct)
 
 pub returns-clause-record : goal.returns-clause-record
 returns-clause-record c = record {
   queue = c.in_ok-queue.queue;
   place = c.in_ok-queue.ensures.place;
-  lists = c.settle-last.ensures.lists ∙ ap (λ (x : Queues). transferred (settling c.args.size c.in_ok-queue.queue x) x) c.in_ok-queue.ensures.lists;
+  lists = c.settle-last.ensures.lists ∙ ap (λ (x : Queues). queues_after_transfer (settling c.args.size c.in_ok-queue.queue x) x) c.in_ok-queue.ensures.lists;
   moves = rw (c.in_ok-queue.ensures.record, c.settle-last.ensures.record, c.in_ok-queue.ensures.lists) refl;
 }
 

@@ -1,5 +1,5 @@
 use Rattle.std.proofs.Common.{◌∙◌, Some, ap, sym}
-use Rattle.segments.specs.Queues.{pushed, taken, moved}
+use Rattle.segments.specs.Queues.{queues_after_push, queues_without, queues_after_move}
 use Rattle.segments.specs.Moves.{move_record}
 use Rattle.segments.proofs.QueueLists.{still-absent}
 use Rattle.replacement.specs.Moving.{removed}
@@ -11,9 +11,9 @@ returns-clause-lists c =
     let s = c.args.segments.now.lists in
     let oldest = c.in-Some.done.0.item in
     let gone = popped-taken c.args.queue oldest s c.requires.distinct c.in-Some.ensures.item in
-    c.in-Some.ensures.lists ∙ (ap (pushed c.args.queue c.args.item) gone
-    ∙ (pushed-moved c.args.item c.args.queue (taken oldest s) (still-absent c.args.item oldest s c.requires.absent)
-    ∙ ap (λ o. moved c.args.item c.args.queue (removed o s)) (sym c.in-Some.ensures.item)))
+    c.in-Some.ensures.lists ∙ (ap (queues_after_push c.args.queue c.args.item) gone
+    ∙ (pushed-moved c.args.item c.args.queue (queues_without oldest s) (still-absent c.args.item oldest s c.requires.absent)
+    ∙ ap (λ o. queues_after_move c.args.item c.args.queue (removed o s)) (sym c.in-Some.ensures.item)))
 
 pub returns-clause-put : goal.returns-clause-put
 returns-clause-put c =

@@ -5,7 +5,7 @@ use Rattle.turn_book.specs.Faults.{IsOpenCause}
 use Rattle.turn_book.specs.declared.book.TheConstants.{MAX_TURNS}
 use Rattle.workers.specs.DriveFaults.{CanRun}
 use Rattle.workers.specs.Runs.{IsRunUpTo}
-use Rattle.step_record.specs.History.{after}
+use Rattle.step_record.specs.History.{data_after}
 use Rattle.shell_model.specs.Shell.{act}
 use Rattle.walks.specs.Admits.{AdmitsWalks}
 use Rattle.walks.proofs.Admitting.{shell_admits}
@@ -32,7 +32,7 @@ run_book-session-requires-clause-turns g c κs within =
 pub run_book-session-requires-clause-admits : goal.run_book-session-requires-clause-admits
 run_book-session-requires-clause-admits g c κs within = λ w.
     let free = free_of _ _ (sym c.holder.ensures ∙ c.in_default.is) in
-    let stood = c.engine-shell.ensures.engine ∙ c.engine-shell.ensures.sound.stands ∙ ap (λ s. after act s.opening s.kept) (sym c.in-Ok-open.ensures.opens.0) in
+    let stood = c.engine-shell.ensures.engine ∙ c.engine-shell.ensures.sound.stands ∙ ap (λ s. data_after act s.opening s.kept) (sym c.in-Ok-open.ensures.opens.0) in
     subst (λ y. AdmitsWalks act (λ z. z.applied) w c.stripes-stripes.result y) stood
     (shell_admits c.engine-shell.result.now w c.stripes-stripes.result c.stripes-stripes.ensures.range.0 c.stripes-stripes.ensures.reached free c.stripes-stripes.ensures.count)
 

@@ -3,7 +3,7 @@ use Rattle.step_record.specs.History.{Entries}
 use Rattle.walks.specs.Walks.{IsWalk}
 use Rattle.walks.specs.Made.{Made}
 use Rattle.workers.specs.Draws.{IsWithin}
-use Rattle.walks.specs.Nexts.{Left, Asks}
+use Rattle.walks.specs.Nexts.{IsRestOfWalk, IsAskedNext}
 use Rattle.workers.proofs.turns.walk_in_turns.Given as goal
 
 abbrev pub invariant-loop : goal.invariant-loop
@@ -13,6 +13,6 @@ invariant-loop g l = record {
   same : l.pass.book ≡ l.fn.pass.book;
   worker : l.pass.worker ≡ l.fn.worker;
   within : IsWithin l.book.opening.limit l.pass;
-  made : Made (λ es. (rest : Entries) → Left l.next rest → IsWalk l.fn.worker l.fn.stripes l.fn.call (es ++ rest)) l.fn.pass.own l.pass.own l.fn.list.items l.list.items;
-  asks : Asks l.fn.worker l.fn.stripes l.next;
+  made : Made (λ es. (rest : Entries) → IsRestOfWalk l.next rest → IsWalk l.fn.worker l.fn.stripes l.fn.call (es ++ rest)) l.fn.pass.own l.pass.own l.fn.list.items l.list.items;
+  asks : IsAskedNext l.fn.worker l.fn.stripes l.next;
 }

@@ -1,6 +1,6 @@
 use Rattle.std.proofs.Common.{◌≡◌, ℕ, ◌+◌, ◌<◌, ◌*◌, List, length, arith, ap, ◌∙◌, sym, subst}
 use Rattle.std.proofs.lemmas.List.Sorted.{IsNonDecreasingBy-from_sort}
-use Rattle.step_record.specs.Stats.{one}
+use Rattle.step_record.specs.Stats.{one_if}
 use Rattle.clairvoyant.specs.Belady.{belady_residents}
 use Rattle.clairvoyant.proofs.Belady.{residents-seen}
 use Rattle.clairvoyant.proofs.Listing.{times, is_listed, listed-held, listed-other, listed-residents}
@@ -16,7 +16,7 @@ loop-rank-preserved c =
     let q = c.loop-rank.rank in
     let keys = c.loop-rank.keys.items in
     let within : q < 2 * length t = omega (arith, c.loop-rank-test.true, c.len-size.ensures.len) in
-    let P : List ℕ → Type 0 = λ l. (k : ℕ) → times k l ≡ one (is_listed t i r (q + 1) k) in
+    let P : List ℕ → Type 0 = λ l. (k : ℕ) → times k l ≡ one_if (is_listed t i r (q + 1) k) in
     record {
       all = elim c.if-has.branch [
         | then-has+in_ok-push w ↦ subst P (sym (ap (λ v. v.items) w.keys-is ∙ w.in_ok-push.ensures.items))
@@ -34,7 +34,7 @@ returns c =
     let r = belady_residents s.core.capacity t i in
     let keys = c.loop-rank.keys.items in
     let end : c.loop-rank.rank ≡ 2 * length t = omega (arith, c.loop-rank-test.false, c.loop-rank.auto.rank-end, c.len-size.ensures.len) in
-    let P : ℕ → Type 0 = λ n. (k : ℕ) → times k keys ≡ one (is_listed t i r n k) in
+    let P : ℕ → Type 0 = λ n. (k : ℕ) → times k keys ≡ one_if (is_listed t i r n k) in
     listed-residents s.core.capacity t i keys c.sort_unstable.new.self.items c.self.invariant.reached.within (subst P end c.loop-rank.invariant.all) c.sort_unstable.ensures.permutation
     (IsNonDecreasingBy-from_sort (λ x. x) c.sort_unstable.new.self.items c.sort_unstable.ensures.sorted)
     ∙ ap (λ d. d.residents) c.self.view_is

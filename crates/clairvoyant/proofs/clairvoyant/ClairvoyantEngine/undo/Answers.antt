@@ -1,7 +1,7 @@
 use Rattle.std.proofs.Common.{◌≡◌, ℕ, suc, ◌-◌, arith, subst, sym, ap, ◌∙◌}
 use Rattle.clairvoyant.specs.RankSet.{IsTied}
 use Rattle.clairvoyant.specs.Belady.{belady_residents}
-use Rattle.step_record.specs.Stats.{IsCounted, uncounted}
+use Rattle.step_record.specs.Stats.{IsCounted, stats_without}
 use Rattle.clairvoyant.specs.UseRecord.{clairvoyant_undone}
 use Rattle.clairvoyant.proofs.Undoing.{fits-shown, back-counted, back-shown, back-keeping}
 use Rattle.clairvoyant.proofs.clairvoyant.ClairvoyantEngine.undo.Goals as goal
@@ -43,10 +43,10 @@ pub invariant_of-self : goal.invariant_of-self
 invariant_of-self c =
     let s = c.self.inside in
     let f = fits-shown s.core.capacity s.core.uses s.stats c.args.done c.args.self.now c.self.view_is c.requires in
-    back-keeping s.core.capacity s.core.uses s.stats c.args.done c.self.invariant.reached f _ _ (c.uncount.ensures ∙ ap (λ o. uncounted o s.stats) c.outcome.ensures) c.unserve.ensures
+    back-keeping s.core.capacity s.core.uses s.stats c.args.done c.self.invariant.reached f _ _ (c.uncount.ensures ∙ ap (λ o. stats_without o s.stats) c.outcome.ensures) c.unserve.ensures
 
 pub returns-clause-ok : goal.returns-clause-ok
 returns-clause-ok c =
     let s = c.self.inside in
     let f = fits-shown s.core.capacity s.core.uses s.stats c.args.done c.args.self.now c.self.view_is c.requires in
-    back-shown s.core.capacity s.core.uses s.stats c.args.done c.self.invariant.reached f _ (c.uncount.ensures ∙ ap (λ o. uncounted o s.stats) c.outcome.ensures) ∙ ap (clairvoyant_undone c.args.done) c.self.view_is
+    back-shown s.core.capacity s.core.uses s.stats c.args.done c.self.invariant.reached f _ (c.uncount.ensures ∙ ap (λ o. stats_without o s.stats) c.outcome.ensures) ∙ ap (clairvoyant_undone c.args.done) c.self.view_is

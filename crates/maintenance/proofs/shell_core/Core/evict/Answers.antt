@@ -1,6 +1,6 @@
 use Rattle.std.proofs.Common.{◌≡◌, Some, refl, ap, sym, subst, ◌∙◌}
 use Rattle.segments.specs.Queues.{IsDistinct}
-use Rattle.shell_model.specs.Shell.{Shell, evict, in_phase}
+use Rattle.shell_model.specs.Shell.{Shell, evict_effect, in_phase}
 use Rattle.step_record.specs.declared.drain.Phase.TheVariants as phase
 use Rattle.step_record.specs.declared.step.Reply.{Reply}
 use Rattle.replacement.specs.Rules.{three_queues}
@@ -11,11 +11,11 @@ use Rattle.maintenance.specs.Evicted.{item_out}
 use Rattle.maintenance.proofs.Evicted.{evicted-is}
 use Rattle.maintenance.proofs.shell_core.Core.evict.Goals as goal
 
-carried : (c : goal.After-reply_to) → evict (in_phase phase.Evictions c.args.holder c.args.self.now)
+carried : (c : goal.After-reply_to) → evict_effect (in_phase phase.Evictions c.args.holder c.args.self.now)
     ≡ (reply_by c.carry_out-effect.result.outcome (item_out c.carry_out-effect.result.moves.out) c.in-Some.candidate, c.unlist-listed.new.self)
 carried c =
     let e = c.self.view_is ∙ c.enter.ensures in
-    ap evict (sym e)
+    ap evict_effect (sym e)
     ∙ (evicted-is (the_view c.self.inside) c.in-Some.candidate c.self.inside.rules c.carry_out-effect.result.outcome c.carry_out-effect.result.moves
     c.carry_out-effect.new.queues.lists (unlisted_by (item_out c.carry_out-effect.result.moves.out) c.self.inside.table)
     (subst (λ (x : Shell). IsDistinct x.queues) (sym e) c.requires.distinct)

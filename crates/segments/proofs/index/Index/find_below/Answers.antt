@@ -2,7 +2,7 @@ use Rattle.std.proofs.Common.{◌≡◌, ◌+◌, ◌-◌, ◌^◌, ◌∙◌, s
 use Rattle.segments.specs.declared.records.Queue.TheVariants.{Window}
 use Rattle.segments.specs.declared.slot.Slot.{Slot}
 use Rattle.segments.specs.Ring.{items, chains, slot_item}
-use Rattle.segments.specs.Items.{same}
+use Rattle.segments.specs.Items.{is_same_item}
 use Rattle.segments.proofs.Trees.{field_at, ended, opened}
 use Rattle.segments.proofs.Finding.{any_default}
 use Rattle.segments.proofs.Sorting.{met, went-right, went-left}
@@ -18,13 +18,13 @@ returns-then-at-eq0 c = sym (c.loop-depth.invariant.found ∙ (rw (c.if-at-eq0.t
 pub returns-then-is_same : goal.returns-then-is_same
 returns-then-is_same c =
     let o = opened c.args.self.now.heads.items (chains c.args.slots.now) (2 ^ c.args.self.now.bits) c.loop-depth.at (length c.args.slots.now - c.loop-depth.depth) (length c.args.slots.now - (c.loop-depth.depth + 1)) (omega arith) (λ z. omega (arith, z)) c.loop-depth.invariant.tree in
-    let e : same c.args.item (slot_item (items c.args.slots.now) c.loop-depth.at) ≡ true = rw (field_at (λ (s : Slot). s.item) c.args.slots.now c.loop-depth.at nothing) (sym c.is_same.ensures ∙ c.if-is_same.true) in
+    let e : is_same_item c.args.item (slot_item (items c.args.slots.now) c.loop-depth.at) ≡ true = rw (field_at (λ (s : Slot). s.item) c.args.slots.now c.loop-depth.at nothing) (sym c.is_same.ensures ∙ c.if-is_same.true) in
     sym (c.loop-depth.invariant.found ∙ met _ _ _ _ _ _ o c.loop-depth.depth c.args.item (items c.args.slots.now) e)
 
 pub loop-depth-preserved : goal.loop-depth-preserved
 loop-depth-preserved c =
     let o = opened c.args.self.now.heads.items (chains c.args.slots.now) (2 ^ c.args.self.now.bits) c.loop-depth.at (length c.args.slots.now - c.loop-depth.depth) (length c.args.slots.now - (c.loop-depth.depth + 1)) (omega arith) (λ z. omega (arith, z)) c.loop-depth.invariant.tree in
-    let e : same c.args.item (slot_item (items c.args.slots.now) c.loop-depth.at) ≡ false = rw (field_at (λ (s : Slot). s.item) c.args.slots.now c.loop-depth.at nothing) (sym c.is_same.ensures ∙ c.if-is_same.false) in
+    let e : is_same_item c.args.item (slot_item (items c.args.slots.now) c.loop-depth.at) ≡ false = rw (field_at (λ (s : Slot). s.item) c.args.slots.now c.loop-depth.at nothing) (sym c.is_same.ensures ∙ c.if-is_same.false) in
     let room = o.room in
     elim c.if-turns_right.branch [
       | then-turns_right w ↦

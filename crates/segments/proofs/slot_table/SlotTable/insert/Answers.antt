@@ -1,7 +1,7 @@
 use Rattle.std.proofs.Common.{◌≡◌, ◌∙◌, ◌≤◌, ◌++◌, ap, sym, subst, arith, List, ℕ, length, take, drop, None, get_or-set_other}
 use Rattle.segments.specs.declared.lengths.Lengths.{Lengths}
 use Rattle.segments.specs.declared.slot.Slot.{Slot}
-use Rattle.segments.specs.Queues.{place_of}
+use Rattle.segments.specs.Queues.{queue_holding}
 use Rattle.segments.specs.Ring.{items, chains, newers, olders, ring_of, IsRing, Order, ring, used, order_in, order_of, sent, lists}
 use Rattle.segments.specs.Index.{IsIndexed}
 use Rattle.segments.specs.SlotTable.{IsInSlots, spare_in, raised, one_less, lengths_of}
@@ -81,7 +81,7 @@ invariant_of-self c =
       others = λ j d. rw c.set_item.ensures.items (get_or-set_other (items c.deref_mut-slots.result.now) c.newest_free-at.result j c.args.item _ d);
       counted = λ j. used-more j c.newest_free-at.result c.args.before c.args.queue (order_of c.deref_mut-slots.result.now) (free-unused c.deref_mut-slots.result.now (order_of c.deref_mut-slots.result.now) h.queued c.newest_free-at.result n);
     } in
-    let absent : place_of c.args.item (lists c.deref_mut-slots.result.now) ≡ None = rw e c.requires.absent in
+    let absent : queue_holding c.args.item (lists c.deref_mut-slots.result.now) ≡ None = rw e c.requires.absent in
     let held = subst (IsInSlots c.send.new.slots c.add.new.self.heads.items c.add.new.self.bits) (sym eo)
     (held-inserted c.deref_mut-slots.result.now c.send.new.slots c.add.new.self.heads.items c.add.new.self.bits (order_of c.deref_mut-slots.result.now) h.queued c.newest_free-at.result n c.args.queue c.args.before c.args.item
     r

@@ -2,7 +2,7 @@ use Rattle.std.proofs.Common.{◌≡◌, ◌∙◌, ◌≤◌, ◌++◌, sym, ap
 use Rattle.step_record.specs.declared.item.Item.{Item}
 use Rattle.segments.specs.declared.lengths.Lengths.{Lengths}
 use Rattle.segments.specs.declared.slot.Slot.{Slot}
-use Rattle.segments.specs.Queues.{place_of}
+use Rattle.segments.specs.Queues.{queue_holding}
 use Rattle.segments.specs.Ring.{items, chains, count, newers, olders, ring_of, IsRing, Order, ring, order_in, used, section, order_of, sent, freed, lists}
 use Rattle.segments.specs.Index.{IsIndexed}
 use Rattle.segments.specs.SlotTable.{IsInSlots, lengths_of}
@@ -154,7 +154,7 @@ invariant_of-self c =
     let eo = order-is (newers c.send.new.slots) (olders c.send.new.slots) (sent at c.args.queue before o) ring2 in
     let it : items c.send.new.slots ≡ set (items slots) at c.args.item =
     c.send.ensures.items ∙ (c.add.ensures.only.items ∙ (c.set_item.ensures.items ∙ ap (λ (l : List Item). set l at c.args.item) c.remove.ensures.only.items)) in
-    let absent : place_of c.args.item (lists slots) ≡ None = rw e c.requires.absent in
+    let absent : queue_holding c.args.item (lists slots) ≡ None = rw e c.requires.absent in
     let x : IsIndexed c.remove.new.self.heads.items (chains c.set_item.new.slots) (items c.remove.new.slots) c.remove.new.self.bits (used (freed at o)) = rw c.set_item.ensures.chains c.remove.ensures.indexed in
     let y = c.add.ensures.indexed (items c.remove.new.slots) (used (freed at o)) (used (sent at c.args.queue before o)) x
     (joins slots o h.queued at u c.args.queue before c.args.item (items c.remove.new.slots) (items c.set_item.new.slots) c.remove.ensures.only.items c.set_item.ensures.items) in
@@ -183,7 +183,7 @@ returns-clause-spare c =
     let eo = order-is (newers c.send.new.slots) (olders c.send.new.slots) (sent at c.args.queue before o) ring2 in
     let it : items c.send.new.slots ≡ set (items slots) at c.args.item =
     c.send.ensures.items ∙ (c.add.ensures.only.items ∙ (c.set_item.ensures.items ∙ ap (λ (l : List Item). set l at c.args.item) c.remove.ensures.only.items)) in
-    let absent : place_of c.args.item (lists slots) ≡ None = rw e c.requires.absent in
+    let absent : queue_holding c.args.item (lists slots) ≡ None = rw e c.requires.absent in
     let whole : take c.self.inside.slots.len (c.send.new.slots ++ drop (length c.send.new.slots) c.self.inside.slots.items) ≡ c.send.new.slots = take-front _ _ _ (omega arith) in
     let counted = lengths-renewed c.args.queue at before o h.queued.linked.once s in
     let f = ap (λ (l : Lengths). l.free) (ap lengths_of eo ∙ counted) in
@@ -204,6 +204,6 @@ returns-clause-lists c =
     let eo = order-is (newers c.send.new.slots) (olders c.send.new.slots) (sent at c.args.queue before o) ring2 in
     let it : items c.send.new.slots ≡ set (items slots) at c.args.item =
     c.send.ensures.items ∙ (c.add.ensures.only.items ∙ (c.set_item.ensures.items ∙ ap (λ (l : List Item). set l at c.args.item) c.remove.ensures.only.items)) in
-    let absent : place_of c.args.item (lists slots) ≡ None = rw e c.requires.absent in
+    let absent : queue_holding c.args.item (lists slots) ≡ None = rw e c.requires.absent in
     let whole : take c.self.inside.slots.len (c.send.new.slots ++ drop (length c.send.new.slots) c.self.inside.slots.items) ≡ c.send.new.slots = take-front _ _ _ (omega arith) in
     rw (whole, ← e) (renew-lists slots o h.queued at u c.send.new.slots c.args.item it c.args.queue before c.slot_behind.ensures eo)

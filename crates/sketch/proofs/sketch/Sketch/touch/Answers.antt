@@ -4,7 +4,7 @@ use Rattle.std.proofs.lemmas.List.{with_items_is}
 use Rattle.sketch.specs.declared.touch_record.TouchRecord.{TouchRecord}
 use Rattle.sketch.specs.declared.touch_record.RaisedRows.{RaisedRows}
 use Rattle.sketch.specs.Counters.{counter_at}
-use Rattle.sketch.specs.Sketch.{touched, IsTable}
+use Rattle.sketch.specs.Sketch.{touched_table, IsTable}
 use Rattle.sketch.proofs.Halves.{table_is}
 use Rattle.sketch.proofs.Tables.{keyed, own_column, flags_are, kept_is}
 use Rattle.sketch.proofs.Undoing.{untouched_is, touch_fits}
@@ -31,7 +31,7 @@ pub invariant_of-self : goal.invariant_of-self
 invariant_of-self c =
     let some : 0 < c.self.inside.width = omega (arith, c.self.invariant.0) in
     let were = rw c.deref_mut.ensures.value at c.raise_rows-were.ensures.were in
-    let after = returns-clause-after c ∙ ap (touched c.args.key) (sym c.self.view_is) in
+    let after = returns-clause-after c ∙ ap (touched_table c.args.key) (sym c.self.view_is) in
     let n : length c.raise_rows-were.new.words ≡ c.self.inside.words.len = omega (arith, c.raise_rows-were.auto.words, c.deref_mut.ensures.len) in
     let items : length (with_items c.self.inside.words c.raise_rows-were.new.words).items ≡ length c.raise_rows-were.new.words = ap length (with_items_is c.self.inside.words c.raise_rows-were.new.words n) in (
       c.self.invariant.0,

@@ -5,7 +5,7 @@ use Rattle.bits_and_lists.specs.Places.{by_place}
 use Rattle.bits_and_lists.specs.Bits.{bit_of}
 use Rattle.bits_and_lists.proofs.Places.{length-by_place, get_or-by_place}
 use Rattle.sketch.specs.Counters.{counter_at}
-use Rattle.sketch.specs.HalveRecord.{unhalved}
+use Rattle.sketch.specs.HalveRecord.{table_before_halving}
 use Rattle.sketch.proofs.Halves.{unhalve_after, low_everywhere}
 use Rattle.sketch.proofs.sketch.Sketch.unhalve.Goals as goal
 
@@ -36,4 +36,4 @@ returns c =
     (λ i h. let e = get_or-by_place (4 * c.self.inside.width) (counter_at c.self.inside.words.items) i 0 h in let f = fit i h in omega (arith, e, f)) in
     rw (← c.self.view_is, items, words)
     (unhalve_after c.self.inside.width c.self.inside.spread some c.self.inside.words.items c.self.invariant.2 c.as_words.result.now low (omega (arith, whole, e, count, c.self.invariant.2))
-    ∙ ap (λ (bs : List Bool). unhalved record { lost = bs } record { width = c.self.inside.width; spread = c.self.inside.spread; counters = by_place (4 * c.self.inside.width) (counter_at c.self.inside.words.items) }) c.as_words.ensures)
+    ∙ ap (λ (bs : List Bool). table_before_halving record { lost = bs } record { width = c.self.inside.width; spread = c.self.inside.spread; counters = by_place (4 * c.self.inside.width) (counter_at c.self.inside.words.items) }) c.as_words.ensures)

@@ -1,7 +1,7 @@
 use Rattle.std.proofs.Common.{◌≡◌, ◌*◌, ◌≤◌, length, take, nat_eq}
 use Rattle.step_record.specs.declared.limits.TheConstants.{MAX_ACCESSES}
 use Rattle.bits_and_lists.specs.Bits.{bit_of}
-use Rattle.policies.specs.Lru.{distinct}
+use Rattle.policies.specs.Lru.{distinct_keys}
 use Rattle.key_places.specs.KeyPlaces.{place_of}
 use Rattle.stack_distances.specs.Histogram.{IsHistogram}
 use Rattle.stack_distances.proofs.Reading.{IsSummed}
@@ -19,6 +19,6 @@ abbrev pub invariant-loop-c : goal.invariant-loop-c
 invariant-loop-c l = record {
   same : l.keys ≡ l.trace;
   few : length l.keys ≤ MAX_ACCESSES;
-  end : l.c-end ≡ length (distinct l.trace);
+  end : l.c-end ≡ length (distinct_keys l.trace);
   summed : IsSummed l.trace l.hits.items l.sum l.c;
 }

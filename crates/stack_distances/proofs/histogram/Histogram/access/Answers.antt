@@ -2,7 +2,7 @@ use Rattle.std.proofs.Common.{◌≡◌, ◌+◌, ◌-◌, ◌*◌, ◌<◌, ◌
 use Rattle.std.proofs.lemmas.List.{get_or_past, get_or_read, length-take-le, take_more}
 use Rattle.bits_and_lists.specs.Bits.{bit_of}
 use Rattle.key_places.specs.KeyPlaces.{place_of}
-use Rattle.policies.specs.Lru.{distinct, since}
+use Rattle.policies.specs.Lru.{distinct_keys, keys_since}
 use Rattle.stack_distances.specs.Sums.{mark_of, sum_below}
 use Rattle.stack_distances.specs.Histogram.{are_last, IsHistogram}
 use Rattle.stack_distances.proofs.Bits.{take-mark}
@@ -37,7 +37,7 @@ module _ (keys : List ℕ) (place : ℕ) (places next : ℕ → Option ℕ) (wor
     marked-there : bit_of words p ≡ true
     marked-there = before-marked (take place keys) (get_or keys place 0) places next (bit_of words) (bit_of words) counts passed puts p some
 
-    depth : (below : ℕ) → below ≡ sum_below (mark_of words) p → below + suc (length (distinct (since (get_or keys place 0) (take place keys)))) ≡ length counts
+    depth : (below : ℕ) → below ≡ sum_below (mark_of words) p → below + suc (length (distinct_keys (keys_since (get_or keys place 0) (take place keys)))) ≡ length counts
     depth below is = before-depth (take place keys) (get_or keys place 0) places next (bit_of words) (bit_of words) counts passed puts p some below is
 
     small : (d : ℕ) → get_or counts d 0 ≤ 16777216
@@ -58,7 +58,7 @@ module _ (keys : List ℕ) (place : ℕ) (places next : ℕ → Option ℕ) (wor
 
     again : (below y : ℕ) (new : ℕ → Bool) → below ≡ sum_below (mark_of words) p → y ≡ suc (get_or counts (length counts - below - 1) 0) → ((q : ℕ) → new q ≡ cond (eqb q place) true (cond (eqb q p) false (bit_of words q))) → IsHistogram (take (place + 1) keys) next new (set counts (length counts - below - 1) y)
     again below y new is more marked =
-        let deep : below + suc (length (distinct (since (get_or keys place 0) (take place keys)))) ≡ length counts = depth below is in
+        let deep : below + suc (length (distinct_keys (keys_since (get_or keys place 0) (take place keys)))) ≡ length counts = depth below is in
         rw (take_more keys place 0 in_it)
         (passed-again (take place keys) (get_or keys place 0) places next (bit_of words) new counts passed puts p some (length counts - below - 1) y (omega (arith, deep)) (omega (arith, deep)) more
         (λ q. marked q ∙ ap (λ n. cond (eqb q n) true (cond (eqb q p) false (bit_of words q))) (sym long)))
