@@ -105,7 +105,11 @@ fn pieces_of<R: Read>(
 }
 
 // Writes the journal of a run, also of one that was stopped, and reports why it did not make all walks.
-fn write_run<W: Write>(alloc: Global, run: &Result<Driven, DriveFault>, out: &mut W) -> Result<(), Fault>
+fn write_run<W: Write>(
+    alloc: Global,
+    run: &Result<Driven, DriveFault>,
+    out: &mut W,
+) -> Result<(), Fault>
     requires { IfErr run.now IsOfRun }
     ensures fault { IfErr result IsOfEnd }
     ensures few { OnOk result (IsOkAnd run.now (λ driven. length driven.session.kept ≤ driven.session.limit)) }

@@ -7,15 +7,15 @@
 #![tactic(auto)]
 
 mod fault;
+mod grammar;
 mod line;
-mod replay;
+mod line_text;
 mod name;
 mod numeral;
 mod reader;
-mod grammar;
+mod replay;
 mod steps;
 mod table;
-mod line_text;
 mod theorems;
 mod version;
 mod word;

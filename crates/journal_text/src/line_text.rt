@@ -144,7 +144,10 @@ fn push_act(text: &mut Vec<u8>, act: Act)
         Act::Offer { stripe, item } => push_offer(text, JournalName::Offer, stripe, item),
         Act::Lose { stripe, item } => push_offer(text, JournalName::Lose, stripe, item),
         Act::Put { key } => push_words(text, &[Word::Named(JournalName::Put), Word::Wide(key)]),
-        Act::Remove { key } => push_words(text, &[Word::Named(JournalName::Remove), Word::Wide(key)]),
+        Act::Remove { key } => push_words(
+            text,
+            &[Word::Named(JournalName::Remove), Word::Wide(key)],
+        ),
         Act::AfterRead { answer } => {
             let answer = Word::Named(answer_name(answer));
             push_words(text, &[Word::Named(JournalName::AfterRead), answer]);
@@ -152,7 +155,10 @@ fn push_act(text: &mut Vec<u8>, act: Act)
         Act::AfterWrite => push_words(text, &[Word::Named(JournalName::AfterWrite)]),
         Act::Begin => push_words(text, &[Word::Named(JournalName::Begin)]),
         Act::DrainRead { stripe } => {
-            push_words(text, &[Word::Named(JournalName::DrainRead), Word::Stripe(stripe)]);
+            push_words(
+                text,
+                &[Word::Named(JournalName::DrainRead), Word::Stripe(stripe)],
+            );
         }
         Act::DrainWrite => push_words(text, &[Word::Named(JournalName::DrainWrite)]),
         Act::Evict => push_words(text, &[Word::Named(JournalName::Evict)]),

@@ -6,8 +6,8 @@ ghost use Rattle.journal_text.specs.ReplyItem.{reply_item};
 ghost use Rattle.journal_text.specs.Table.{text_of, IsLine};
 ghost use Rattle.journal_text.specs.declared.line.Line.TheVariants.{Made};
 
-use super::name::JournalName;
 use super::grammar::line;
+use super::name::JournalName;
 use super::table::reply_name;
 use super::{JournalFault, Line, Version};
 use journal::{Session, SessionFault};

@@ -8,10 +8,10 @@ mod drains;
 mod evictions;
 mod key_records;
 mod moves;
+mod node_table;
 mod shell;
 mod shell_core;
 mod step;
-mod node_table;
 mod undo;
 
 pub use shell::Shell;

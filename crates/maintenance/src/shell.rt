@@ -9,8 +9,8 @@ ghost use Rattle.shell_model.specs.Shell.{node_of};
 ghost use Rattle.shell_model.specs.Reached.{IsReachable};
 ghost use Rattle.maintenance.specs.Opened.{IsOpened, holder_parts};
 
-use crate::shell_core::Core;
 use crate::node_table::NodeTable;
+use crate::shell_core::Core;
 use admission::Frequency;
 use replacement::Rules;
 use segments::{Queue, Segments};

@@ -28,8 +28,10 @@ abbrev pub queue_act : QueueState → ℕ → Option (Outcome × QueueState)
 queue_act d k =
     if d.stats.accesses == MAX_STEPS
     then None
-    else Some ((access_response (recorded_in k d.frequency) k d).outcome,
-        queue_state_after (recorded_in k d.frequency) k d)
+    else Some (
+      (access_response (recorded_in k d.frequency) k d).outcome,
+      queue_state_after (recorded_in k d.frequency) k d,
+    )
 
 -- ---- its record
 

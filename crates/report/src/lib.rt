@@ -6,9 +6,9 @@
 #![tactic(auto)]
 
 mod fault;
-mod rows;
 mod report;
+mod rows;
 
 pub use fault::WriteFault;
-pub use rows::write_reports;
 pub use report::Report;
+pub use rows::write_reports;

@@ -102,8 +102,11 @@ abbrev pub before_change : Change → Shell → Shell
 before_change Nothing x = x
 before_change (Offered s i) x = record x { stripes = set x.stripes s (all_but_newest (stripe_at s x.stripes)) }
 before_change (Updated i) x = record x { writes = all_but_newest x.writes }
-before_change (Added i) x = record x { writes = all_but_newest x.writes; table = items_without i x.table;
-    next = x.next - 1 }
+before_change (Added i) x = record x {
+  writes = all_but_newest x.writes;
+  table = items_without i x.table;
+  next = x.next - 1;
+}
 before_change (Removed i) x = record x { writes = all_but_newest x.writes; table = table_with i x.table }
 before_change (Requested before now) x = record x { drain = before }
 before_change (Began w before) x = record x { drain = before; holder = None }

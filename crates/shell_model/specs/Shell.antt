@@ -163,9 +163,13 @@ abbrev pub in_phase : Phase → Holder → Shell → Shell
 in_phase p h x = record x { holder = Some record { worker = h.worker; phase = p; left = h.left } }
 
 abbrev pub apply_task : Task → Shell → Reply × Shell
-apply_task (Add i) x =
-    (Applied i, record x { frequency = frequency_recorded x.frequency i.key;
-        queues = queues_after_push Window i x.queues })
+apply_task (Add i) x = (
+  Applied i,
+  record x {
+    frequency = frequency_recorded x.frequency i.key;
+    queues = queues_after_push Window i x.queues;
+  },
+)
 apply_task (Update i) x = (Applied i, shell_after_touch i x)
 apply_task (Remove i) x = (Cleared i, record x { queues = queues_cleared i x.queues })
 

@@ -3,9 +3,9 @@
 #![tactic(auto)]
 
 mod blanks;
-mod separators;
 mod digits;
+mod separators;
 
 pub use blanks::trimmed;
-pub use separators::{cut, place_of};
 pub use digits::number;
+pub use separators::{cut, place_of};

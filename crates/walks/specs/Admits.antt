@@ -27,5 +27,5 @@ AdmitsWalks perform count w n x =
 abbrev pub IsTaken : {D : Type 0} → (D → Step → Option (Reply × D)) → (D → ℕ) → D → Entries → Step → Type 0
 IsTaken perform count x own step =
     (es : Entries) → IsLegal perform x es → entries_of step.worker es ≡ own
-        → count (data_after perform x es) < MAX_STEPS
+    → count (data_after perform x es) < MAX_STEPS
     → perform (data_after perform x es) step ≢ None
