@@ -29,7 +29,7 @@ back (d ∷ ds) h =
     let parts = and_parts (is_ascii_digit d) (all_ascii_digits ds) h in
     cond-false _ _ _ (and_left (is_blank d) _ (no_blank d parts.0)) ∙ ap (λ t. d ∷ t) (back ds parts.1)
 
-trimmed : (ds : List ℕ) → all_ascii_digits ds ≡ true → trimmed_text ds ≡ ds
+pub trimmed : (ds : List ℕ) → all_ascii_digits ds ≡ true → trimmed_text ds ≡ ds
 unfolding trimmed_text
 trimmed ds h = ap without_back (front ds h) ∙ back ds h
 

@@ -1,52 +1,87 @@
 -- What a scan that took the lines before a place of some bytes comes to.
-use Rattle.std.proofs.Common.{◌≡◌, ◌∙◌, ◌<◌, ◌≤◌, ◌+◌, ◌-◌, ◌⊎◌, ℕ, List, [], ◌++◌, length, drop, take, sym, ap, subst, arith, inl, inr, Ok, Some, None, length-drop, drop-drop}
+use Rattle.std.proofs.Common.{◌≡◌, ◌∙◌, ◌<◌, ◌≤◌, ◌+◌, ◌-◌, ◌⊎◌, ℕ, List, [], ◌∷◌, ◌++◌, length, drop, take, get_or, refl, sym, ap, subst, arith, inl, inr, Ok, Some, None, length-drop, drop-drop}
 use Rattle.std.proofs.lemmas.Bool.{cond-false, le-ltb}
 use Rattle.std.proofs.lemmas.List.{append-nil}
 use Rattle.step_record.specs.declared.limits.TheConstants.{MAX_ACCESSES}
 use Rattle.text_lines.proofs.Feeds.{cut_line}
+use Rattle.trace_read.proofs.LineFeeds.{feed_at}
+use Rattle.trace_read.specs.DigitRuns.{NoFeedBetween}
 use Rattle.text_lines.specs.Feeds.{feed_in}
 use Rattle.trace_read.proofs.Steps.{ended_ahead, of_line, refused_here}
 use Rattle.trace_read.specs.Lines.{line_of, run_of}
-use Rattle.trace_read.specs.Reading.{fault_after, keys_or_none, IsOfLine, IsRead, IsStopped}
+use Rattle.trace_read.specs.Reading.{fault_after, keys_or_none, IsRead, IsStopped, IsTraceRefused}
 use Rattle.trace_read.specs.declared.format.Format.{Format}
 use Rattle.trace_read.specs.declared.format.Format.TheVariants.{Arc, Lirs}
-use Rattle.trace_read.specs.Scanned.{fault_ahead, keys_ahead, IsEnded, IsScan, IsTakenTo}
+use Rattle.trace_read.specs.Scanned.{fault_ahead, keys_ahead, IsEnded, IsRefusedFrom, IsScan, IsTaken}
 use Rattle.trace_read.specs.declared.fault.TraceFault.{TraceFault}
 use Rattle.trace_read.specs.declared.fault.TraceFault.TheVariants.{OutOfMemory}
 use Rattle.trace_read.specs.declared.scan.Scan.{Scan}
 
-module _ (first now : Scan) (bytes : List ℕ) (start end : ℕ) (taken : IsTakenTo first bytes start now)
-    (order : start ≤ end) (within : end < length bytes) (feed : end - start ≡ feed_in (drop start bytes)) where
+pub nothing_taken : (s : Scan) (bytes : List ℕ) (start : ℕ) → IsScan s → s.cut.items ≡ [] → start ≤ length bytes → IsTaken s bytes start start s
+nothing_taken s bytes start scan none within = record {
+  scan = scan;
+  cut = none;
+  format = refl;
+  order = (omega arith, within);
+  lines = omega arith;
+  fault = λ more. refl;
+  keys = λ more. refl;
+}
+
+pub taken_then : (first mid last : Scan) (bytes : List ℕ) (start middle end : ℕ) → IsTaken first bytes start middle mid → IsTaken mid bytes middle end last → IsTaken first bytes start end last
+taken_then first mid last bytes start middle end one two = record {
+  scan = two.scan;
+  cut = two.cut;
+  format = two.format ∙ one.format;
+  order = (omega (arith, one.order, two.order), two.order.1);
+  lines = omega (arith, one.lines, two.lines);
+  fault = λ more. two.fault more ∙ one.fault more;
+  keys = λ more. two.keys more ∙ one.keys more;
+}
+
+pub refused_then : (first mid : Scan) (bytes : List ℕ) (start middle : ℕ) (e : TraceFault) → IsTaken first bytes start middle mid → IsRefusedFrom mid bytes middle e → IsRefusedFrom first bytes start e
+refused_then first mid bytes start middle e one refused = elim refused [
+  | inl none ↦ inl none
+  | inr fault ↦ inr (fault.0, λ more. sym (one.fault more) ∙ fault.1 more)
+]
+
+-- a line between two places
+module _ (now : Scan) (bytes : List ℕ) (start end : ℕ) (scan : IsScan now) (none : now.cut.items ≡ []) (order : start ≤ end) (within : end < length bytes)
+    (no_feed : NoFeedBetween bytes start end) (here : get_or bytes end 0 ≡ 10) where
   abbrev rest : List ℕ
   rest = drop start bytes
 
   lt : end - start < length rest
   lt = omega (arith, length-drop start bytes)
 
+  feed : end - start ≡ feed_in rest
+  feed = feed_at bytes start end order within no_feed here
+
   behind : drop (end - start + 1) rest ≡ drop (end + 1) bytes
   behind = drop-drop (end - start + 1) start bytes ∙ ap (λ k. drop k bytes) (omega arith)
 
-  pub taken_on : (next : Scan) → IsScan next → IsEnded now (take (end - start) rest) next → IsTakenTo first bytes (end + 1) next
-  taken_on next scan ended =
+  pub line_taken : (next : Scan) → IsScan next → IsEnded now (take (end - start) rest) next → IsTaken now bytes start (end + 1) next
+  line_taken next kept ended =
       let step = λ (more : List ℕ). ended_ahead now _ _ (rest ++ more) (drop (end - start + 1) rest ++ more) ended
-      (cut_line now.cut.items rest more (end - start) taken.scan.cut feed lt) in
+      (cut_line now.cut.items rest more (end - start) scan.cut feed lt) in
       record {
-        scan = scan;
+        scan = kept;
         cut = ended.cut;
-        lines = omega (arith, length-drop start bytes, length-drop (end + 1) bytes, ended.line, taken.lines);
-        fault = λ more. ap (λ l. fault_ahead next (l ++ more)) (sym behind) ∙ (step more).0 ∙ taken.fault more;
-        keys = λ more. ap (λ l. keys_ahead next (l ++ more)) (sym behind) ∙ (step more).1 ∙ taken.keys more;
+        format = ended.format;
+        order = (omega arith, omega arith);
+        lines = omega (arith, ended.line);
+        fault = λ more. ap (λ l. fault_ahead next (l ++ more)) (sym behind) ∙ (step more).0;
+        keys = λ more. ap (λ l. keys_ahead next (l ++ more)) (sym behind) ∙ (step more).1;
       }
 
-  pub taken_stop : (e : TraceFault) → IsStopped now.format now.line now.keys.items (now.cut.items ++ take (end - start) rest) e
-      → (e ≡ OutOfMemory) ⊎ (IsOfLine e × ((more : List ℕ) → fault_ahead first (bytes ++ more) ≡ Some e))
-  taken_stop e stopped = elim stopped [
-    | inl none ↦ inl none
+  pub line_refused : (e : TraceFault) → IsStopped now.format now.line now.keys.items (now.cut.items ++ take (end - start) rest) e → IsRefusedFrom now bytes start e
+  line_refused e stopped = elim stopped [
+    | inl memory ↦ inl memory
     | inr fault ↦
-        let refused : (more : List ℕ) → fault_ahead first (bytes ++ more) ≡ Some e = λ more.
-        let is = cut_line now.cut.items rest more (end - start) taken.scan.cut feed lt in
-        sym (taken.fault more) ∙ refused_here now.format now.line now.keys.items _ [] (now.cut.items ++ (rest ++ more)) _ _ is fault in
-        inr (of_line first.format _ first.line _ _ (refused []), refused)
+        let refused : (more : List ℕ) → fault_ahead now (rest ++ more) ≡ Some e = λ more.
+        let is = cut_line now.cut.items rest more (end - start) scan.cut feed lt in
+        refused_here now.format now.line now.keys.items _ [] (now.cut.items ++ (rest ++ more)) _ _ is fault in
+        inr (of_line now.format _ now.line _ _ (refused []), refused)
   ]
 
 -- a line that gives nothing
@@ -56,6 +91,15 @@ nothing_read format n old cut text lirs none few is =
     subst (λ f. IsRead f n old (cut ++ text) old) (sym lirs) (subst (λ c. IsRead Lirs n old (c ++ text) old) (sym none) (record {
       sound = ap (fault_after n (length old)) is ∙ cond-false _ _ _ (le-ltb MAX_ACCESSES (length old + 0) (omega arith));
       added = sym (ap (λ r. old ++ keys_or_none r) is ∙ append-nil old);
+    }))
+
+-- a line that names one key
+pub key_read : (format : Format) (n key : ℕ) (old cut text new : List ℕ) → format ≡ Lirs → cut ≡ [] → length old < MAX_ACCESSES → line_of Lirs text ≡ Ok (key ∷ [])
+    → new ≡ old ++ key ∷ [] → IsRead format n old (cut ++ text) new
+key_read format n key old cut text new lirs none few is added =
+    subst (λ f. IsRead f n old (cut ++ text) new) (sym lirs) (subst (λ c. IsRead Lirs n old (c ++ text) new) (sym none) (record {
+      sound = ap (fault_after n (length old)) is ∙ cond-false _ _ _ (le-ltb MAX_ACCESSES (length old + 1) (omega arith));
+      added = added ∙ ap (λ r. old ++ keys_or_none r) (sym is);
     }))
 
 -- a line that stands for a run
@@ -76,3 +120,13 @@ run_stopped format n start count old cut text e arc none is stopped =
       | inl memory ↦ inl memory.0
       | inr fault ↦ inr (ap (fault_after n (length old)) is ∙ fault)
     ]))
+
+-- what a line without a cut part comes to
+pub whole_read : (format : Format) (n : ℕ) (old cut text new : List ℕ) → format ≡ Lirs → cut ≡ [] → IsRead Lirs n old text new → IsRead format n old (cut ++ text) new
+whole_read format n old cut text new lirs none read = subst (λ f. IsRead f n old (cut ++ text) new) (sym lirs) (subst (λ c. IsRead Lirs n old (c ++ text) new) (sym none) read)
+
+pub whole_stopped : (format : Format) (n : ℕ) (old cut text : List ℕ) (e : TraceFault) → format ≡ Lirs → cut ≡ [] → IsTraceRefused Lirs n old text e → IsStopped format n old (cut ++ text) e
+whole_stopped format n old cut text e lirs none refused = subst (λ f. IsStopped f n old (cut ++ text) e) (sym lirs) (subst (λ c. IsStopped Lirs n old (c ++ text) e) (sym none) (elim refused [
+  | inl memory ↦ inl memory.0
+  | inr fault ↦ inr fault
+]))

@@ -1,9 +1,10 @@
 -- What a scan of the lines comes to, whatever bytes still follow.
-use Rattle.std.specs.Prelude.{◌≡◌, ℕ, ◌+◌, ◌*◌, ◌≤◌, List, [], ◌++◌, Option, length, drop}
+use Rattle.std.specs.Prelude.{◌≡◌, ℕ, ◌+◌, ◌*◌, ◌≤◌, ◌⊎◌, List, [], ◌++◌, Option, Some, length, drop}
 use Rattle.step_record.specs.declared.limits.TheConstants.{MAX_ACCESSES}
 use Rattle.text_lines.specs.Feeds.{lines_of, HasNoFeed}
-use Rattle.trace_read.specs.Reading.{all_keys, first_fault, IsRead}
+use Rattle.trace_read.specs.Reading.{all_keys, first_fault, IsOfLine, IsRead}
 use Rattle.trace_read.specs.declared.fault.TraceFault.{TraceFault}
+use Rattle.trace_read.specs.declared.fault.TraceFault.TheVariants.{OutOfMemory}
 use Rattle.trace_read.specs.declared.scan.Scan.{Scan}
 
 -- the fault of the whole file, and its accesses, where these bytes still follow
@@ -30,13 +31,21 @@ pub record IsEnded (old : Scan) (text : List ℕ) (new : Scan) : Type 0 where
   pub line : new.line ≡ old.line + 1
   pub format : new.format ≡ old.format
 
--- the scan took the lines before a place of these bytes, and comes with the rest to what all of them came to before
-pub record IsTakenTo (old : Scan) (bytes : List ℕ) (place : ℕ) (new : Scan) : Type 0 where
+-- the scan took the lines between two places of these bytes, and comes with the rest to what all from the first place on
+-- came to before
+pub record IsTaken (old : Scan) (bytes : List ℕ) (start place : ℕ) (new : Scan) : Type 0 where
   pub scan : IsScan new
   pub cut : new.cut.items ≡ []
-  pub lines : new.line + length (drop place bytes) ≤ old.line + length bytes
-  pub fault : (more : List ℕ) → fault_ahead new (drop place bytes ++ more) ≡ fault_ahead old (bytes ++ more)
-  pub keys : (more : List ℕ) → keys_ahead new (drop place bytes ++ more) ≡ keys_ahead old (bytes ++ more)
+  pub format : new.format ≡ old.format
+  pub order : (start ≤ place) × (place ≤ length bytes)
+  pub lines : new.line + start ≤ old.line + place
+  pub fault : (more : List ℕ) → fault_ahead new (drop place bytes ++ more) ≡ fault_ahead old (drop start bytes ++ more)
+  pub keys : (more : List ℕ) → keys_ahead new (drop place bytes ++ more) ≡ keys_ahead old (drop start bytes ++ more)
+
+-- out of memory, or the fault of a line from this place on
+abbrev pub IsRefusedFrom : Scan → List ℕ → ℕ → TraceFault → Type 0
+IsRefusedFrom old bytes start e = (e ≡ OutOfMemory)
+    ⊎ (IsOfLine e × ((more : List ℕ) → fault_ahead old (drop start bytes ++ more) ≡ Some e))
 
 -- there is room for the accesses of lines of so many bytes, by the limit and in memory: each has two bytes of its own
 abbrev pub HasRoom : ℕ → ℕ → ℕ → Type 0

@@ -10,10 +10,10 @@
 #![tactic(auto)]
 
 mod arc;
+mod digit_runs;
 mod digits;
 mod fault;
 mod format;
-mod line_ends;
 mod lirs;
 mod pieces;
 mod plain;

@@ -1,23 +1,120 @@
 //! The lines of a trace file, one after another, as its bytes come in.
 ghost use Rattle.std.specs.Prelude.{◌≡◌, ◌≤◌, ◌<◌, ◌+◌, ◌-◌, ◌^◌, ◌∷◌, ◌++◌, ◌⊎◌, ℕ, List, [], Some, None, Ok, OnOk};
-ghost use Rattle.std.specs.Prelude.{IfOk, IfErr, IfSome, IsTrue, false, MatchOption, length, take, drop, vec_len, vec_capacity};
-ghost use Rattle.trace_read.specs.Lines.{line_of};
-ghost use Rattle.trace_read.specs.declared.line_ends.TheConstants.{BEHIND};
+ghost use Rattle.std.specs.Prelude.{IfOk, IfErr, IfSome, IsTrue, MatchOption, OnSome, get_or, length, take, drop, vec_len, vec_capacity};
+ghost use Rattle.trace_read.specs.DigitRuns.{DigitsBetween, IsDigitRuns, IsFound};
+ghost use Rattle.trace_read.specs.Lines.{line_of, AreStarLines};
+ghost use Rattle.trace_read.specs.declared.digit_runs.TheConstants.{BEHIND};
 ghost use Rattle.step_record.specs.declared.limits.TheConstants.{MAX_ACCESSES};
 ghost use Rattle.trace_read.specs.Reading.{fault_in, keys_in, IsOfLine, IsRead, IsTraceRefused, IsStopped};
-ghost use Rattle.trace_read.specs.Scanned.{fault_ahead, keys_ahead, IsEnded, IsScan, HasRoom, IsPieceTaken, IsTakenTo};
+ghost use Rattle.trace_read.specs.Scanned.{fault_ahead, keys_ahead, IsEnded, IsScan, HasRoom, IsPieceTaken, IsRefusedFrom, IsTaken};
 ghost use Rattle.text_lines.specs.Feeds.{feed_in};
 
-use super::arc::{add_arc, add_run, usual_run};
-use super::digits::{long_number, short_number};
+use super::arc::{add_arc, push_reserved_run, usual_line};
+use super::digit_runs::{DigitRun, DigitRuns};
+use super::digits::{any_number, long_number, short_number};
 use super::format::Format;
-use super::line_ends::LineEnds;
 use super::lirs::{add_key, add_lirs};
 use super::plain::{PlainLine, plain_line};
 use super::{Trace, TraceFault};
 use std::alloc::{AllocError, Global};
+use std::mem;
 use step_record::{Key, MAX_ACCESSES};
 use text_lines::place_of;
+
+// Adds the accesses of a line to those of the lines before it.
+fn add_line(format: Format, text: &[u8], line: u64, keys: &mut Vec<Key>) -> Result<(), TraceFault>
+    requires { vec_len keys.old ≤ MAX_ACCESSES }
+    ensures ok { OnOk result (IsRead format line keys.old.items text.now keys.new.items) }
+    ensures within { OnOk result (vec_len keys.new ≤ MAX_ACCESSES) }
+    ensures err { IfErr result (IsTraceRefused format line keys.old.items text.now) }
+{
+    match format {
+        Format::Lirs => add_lirs(text, line, keys),
+        Format::Arc => add_arc(text, line, keys),
+    }
+}
+
+// The access of the line that this run of digits is, where a line feed ends it and it is of at most sixteen.
+#[inline(always)]
+fn usual_key(bytes: &[u8], run: DigitRun) -> Option<Key>
+    requires places { (run.start ≤ run.end) × (run.end + BEHIND ≤ length bytes.now) }
+    requires digits { DigitsBetween bytes.now run.start run.end }
+    ensures some { OnSome result (run.start < run.end) }
+    ensures feed { OnSome result (get_or bytes.now run.end 0 ≡ 10) }
+    ensures line { IfSome result (λ key. line_of Format.Lirs (take (run.end - run.start) (drop run.start bytes.now)) ≡ Ok (key ∷ [])) }
+{
+    let count = run.end - run.start;
+    if bytes[run.end] != b'\n' {
+        return None;
+    }
+    if count.wrapping_sub(1) < 8 {
+        return Some(short_number(&bytes[run.start..], count));
+    }
+    if count.wrapping_sub(9) < 8 {
+        return Some(long_number(&bytes[run.start..], count));
+    }
+    None
+}
+
+// The access of the line that begins with this run of digits, where it is of at most nineteen and nothing but a carriage
+// return stands between it and the line's end.
+#[inline(always)]
+fn key_of_digits(bytes: &[u8], run: DigitRun, end: usize) -> Option<Key>
+    requires places { (run.start ≤ run.end) × (run.end + BEHIND ≤ length bytes.now) }
+    requires digits { DigitsBetween bytes.now run.start run.end }
+    requires end { (run.end ≤ end) × (end < length bytes.now) }
+    ensures some { OnSome result (run.start < end) }
+    ensures line { IfSome result (λ key. line_of Format.Lirs (take (end - run.start) (drop run.start bytes.now)) ≡ Ok (key ∷ [])) }
+{
+    let count = run.end - run.start;
+    if count.wrapping_sub(1) >= 19 || !is_return_at_most(bytes, run.end, end) {
+        return None;
+    }
+    Some(any_number(&bytes[run.start..], count))
+}
+
+// Whether nothing but a carriage return stands between these places.
+#[inline(always)]
+fn is_return_at_most(bytes: &[u8], start: usize, end: usize) -> bool
+    requires { (start ≤ end) × (end < length bytes.now) }
+    ensures { IsTrue result → (end ≡ start) ⊎ ((end ≡ start + 1) × (get_or bytes.now start 0 ≡ 13)) }
+{
+    end == start || end - start == 1 && bytes[start] == b'\r'
+}
+
+// How many lines of a lone `*` stand from this place on.
+#[inline(always)]
+fn star_lines(bytes: &[u8], start: usize) -> usize
+    requires { start ≤ length bytes.now }
+    ensures { AreStarLines bytes.now start result }
+{
+    let mut count = 0;
+    'stars: while bytes.len() - (start + 2 * count) >= 2 {
+        let place = start + 2 * count;
+        if bytes[place] != b'*' || bytes[place + 1] != b'\n' {
+            break;
+        }
+        count += 1;
+    }
+    count
+}
+
+// Reserves room for the accesses of LIRS lines of so many bytes in all. False, and no room, where they might pass
+// `MAX_ACCESSES`.
+fn reserve_for(keys: &mut Vec<Key>, bytes: usize) -> Result<bool, AllocError>
+    requires { vec_len keys.old ≤ MAX_ACCESSES }
+    ensures items { keys.new.items ≡ keys.old.items }
+    ensures len { vec_len keys.new ≡ vec_len keys.old }
+    ensures room { IfOk result (λ more. IsTrue more → HasRoom bytes (vec_len keys.new) (vec_capacity keys.new)) }
+{
+    // Each access has a digit of its own and a line feed.
+    let most = bytes / 2 + 1;
+    if most > MAX_ACCESSES - keys.len() {
+        return Ok(false);
+    }
+    keys.reserve(most)?;
+    Ok(true)
+}
 
 /// A scan of the lines of a trace file, whose bytes come in pieces. It keeps no byte but those of
 /// the line that the last piece cut in two.
@@ -26,6 +123,7 @@ use text_lines::place_of;
 /// no contract names the bytes that it took.
 #[derive(Debug, Drop)]
 pub struct Scan {
+    alloc: Global,
     format: Format,
     keys: Vec<Key>,
     // The number of the line that comes to its end next.
@@ -43,6 +141,7 @@ impl Scan {
         ensures line { result.line ≡ 1 }
     {
         Scan {
+            alloc,
             format,
             keys: Vec::new(alloc),
             line: 1,
@@ -89,12 +188,13 @@ impl Scan {
             mut keys,
             line,
             cut,
+            ..
         } = self;
         add_line(format, cut.as_slice(), line, &mut keys)?;
         Ok(Trace::new(keys))
     }
 
-    // Adds the accesses of the next line, where it ends in these bytes, and returns the place of its end.
+    // Adds the accesses of the next line, where it ends in these bytes, and tells the place of its end.
     fn end_next(&mut self, bytes: &[u8]) -> Result<Option<usize>, TraceFault>
         requires scan { IsScan self.old }
         requires lines { self.old.line + length bytes.now < 2 ^ 64 }
@@ -139,11 +239,8 @@ impl Scan {
         requires scan { IsScan self.old }
         requires cut { self.old.cut.items ≡ [] }
         requires lines { self.old.line + length bytes.now < 2 ^ 64 }
-        ensures taken { IfOk result (λ n. IsTakenTo self.old bytes.now n self.new) }
-        ensures within { IfOk result (λ n. n ≤ length bytes.now) }
-        ensures err { IfErr result (λ e. (e ≡ TraceFault.OutOfMemory)
-            ⊎ (IsOfLine e
-            × ((rest : List ℕ) → fault_ahead self.old (bytes.now ++ rest) ≡ Some e))) }
+        ensures taken { IfOk result (λ n. IsTaken self.old bytes.now 0 n self.new) }
+        ensures err { IfErr result (IsRefusedFrom self.old bytes.now 0) }
     {
         match self.format {
             Format::Lirs => self.take_lirs(bytes),
@@ -158,114 +255,96 @@ impl Scan {
         requires format { self.old.format ≡ Format.Lirs }
         requires cut { self.old.cut.items ≡ [] }
         requires lines { self.old.line + length bytes.now < 2 ^ 64 }
-        ensures taken { IfOk result (λ n. IsTakenTo self.old bytes.now n self.new) }
-        ensures within { IfOk result (λ n. n ≤ length bytes.now) }
-        ensures err { IfErr result (λ e. (e ≡ TraceFault.OutOfMemory)
-            ⊎ (IsOfLine e
-            × ((rest : List ℕ) → fault_ahead self.old (bytes.now ++ rest) ≡ Some e))) }
+        ensures taken { IfOk result (λ n. IsTaken self.old bytes.now 0 n self.new) }
+        ensures err { IfErr result (IsRefusedFrom self.old bytes.now 0) }
     {
         if !reserve_for(&mut self.keys, bytes.len())? {
             return Ok(0);
         }
-        let mut ends = LineEnds::of(bytes);
-        'lines: while let Some(line) = ends.next() {
-            if !self.take_usual(bytes, line.start, line.end) {
-                if !self.take_other(bytes, line.start, line.end)? {
-                    return Ok(line.end + 1);
-                }
+        let mut runs = DigitRuns::at(bytes, 0);
+        'lines: while let Some(run) = self.take_usual(bytes, &mut runs) {
+            if !self.take_other(bytes, run, &mut runs)? {
+                return Ok(runs.start);
             }
         }
-        Ok(ends.start)
+        Ok(runs.start)
     }
 
-    // Takes the line between two places of these bytes in the general way. True where there is room for the accesses of
-    // the lines behind it.
-    #[cold]
+    // Takes the lines from the next run of digits on that are a number of at most sixteen digits each, and returns the run
+    // that the first other line begins with. There is room for their accesses.
     #[inline(never)]
-    fn take_other(&mut self, bytes: &[u8], start: usize, end: usize) -> Result<bool, TraceFault>
+    fn take_usual<'a>(&mut self, bytes: &'a [u8], runs: &mut DigitRuns<'a>) -> Option<DigitRun>
         requires scan { IsScan self.old }
         requires format { self.old.format ≡ Format.Lirs }
         requires cut { self.old.cut.items ≡ [] }
-        requires line { self.old.line < 2 ^ 64 - 1 }
-        requires places { (start ≤ end) × (end < length bytes.now) }
-        ensures scan { OnOk result (IsScan self.new) }
-        ensures ended { OnOk result (IsEnded self.old (take (end - start) (drop start bytes.now)) self.new) }
-        ensures room { IfOk result (λ more. IsTrue more
-            → HasRoom (length bytes.now - (end + 1)) (vec_len self.new.keys) (vec_capacity self.new.keys)) }
-        ensures err { IfErr result (IsStopped self.old.format self.old.line self.old.keys.items
-            (self.old.cut.items ++ take (end - start) (drop start bytes.now))) }
+        requires runs { IsDigitRuns runs.old × (runs.old.bytes.now ≡ bytes.now) }
+        requires lines { self.old.line + length bytes.now < 2 ^ 64 + runs.old.start }
+        requires room { HasRoom (length bytes.now - runs.old.start) (vec_len self.old.keys) (vec_capacity self.old.keys) }
+        ensures all { result ≡ None → IsTaken self.old bytes.now runs.old.start runs.new.start self.new }
+        ensures some { IfSome result (λ run. IsTaken self.old bytes.now runs.old.start run.start self.new) }
+        ensures found { IfSome result (λ run. IsFound bytes.now run runs.new) }
+        ensures room { IfSome result (λ run.
+            HasRoom (length bytes.now - run.start) (vec_len self.new.keys) (vec_capacity self.new.keys)) }
     {
-        self.end_line(&bytes[start..end])?;
-        let more = reserve_for(&mut self.keys, bytes.len() - (end + 1))?;
+        // What the loop changes is in locals, and it calls no function: so they are in registers.
+        let mut keys = mem::replace(&mut self.keys, Vec::new(self.alloc));
+        let first = keys.len();
+        let mut ahead = *runs;
+        'lines: while let Some(run) = ahead.next() {
+            let Some(key) = usual_key(bytes, run) else {
+                self.line += (keys.len() - first) as u64;
+                self.keys = keys;
+                *runs = ahead;
+                return Some(run);
+            };
+            keys.push_reserved(key);
+        }
+        self.line += (keys.len() - first) as u64;
+        self.keys = keys;
+        *runs = ahead;
+        None
+    }
+
+    // Takes the line that begins with this run of digits, the one before `runs`, in the general way, or some lines of a
+    // lone `*`. False where the line ends in the last few bytes, or there might be no room for the accesses behind it.
+    fn take_other<'a>(
+        &mut self,
+        bytes: &'a [u8],
+        run: DigitRun,
+        runs: &mut DigitRuns<'a>,
+    ) -> Result<bool, TraceFault>
+        requires scan { IsScan self.old }
+        requires format { self.old.format ≡ Format.Lirs }
+        requires cut { self.old.cut.items ≡ [] }
+        requires found { IsFound bytes.now run runs.old }
+        requires lines { self.old.line + length bytes.now < 2 ^ 64 + run.start }
+        requires room { HasRoom (length bytes.now - run.start) (vec_len self.old.keys) (vec_capacity self.old.keys) }
+        ensures taken { OnOk result (IsTaken self.old bytes.now run.start runs.new.start self.new) }
+        ensures runs { OnOk result (IsDigitRuns runs.new × (runs.new.bytes.now ≡ bytes.now)) }
+        ensures more { IfOk result (λ more. IsTrue more → (run.start < runs.new.start)
+            × HasRoom (length bytes.now - runs.new.start) (vec_len self.new.keys) (vec_capacity self.new.keys)) }
+        ensures err { IfErr result (IsRefusedFrom self.old bytes.now run.start) }
+    {
+        let stars = star_lines(bytes, run.start);
+        if stars > 0 {
+            self.line += stars as u64;
+            *runs = DigitRuns::at(bytes, run.start + 2 * stars);
+            return Ok(true);
+        }
+        let Some(line) = runs.line_end(run) else {
+            *runs = DigitRuns::at(bytes, run.start);
+            return Ok(false);
+        };
+        *runs = line.runs;
+        if let Some(key) = key_of_digits(bytes, run, line.end) {
+            self.keys.push_reserved(key);
+            self.line += 1;
+            return Ok(true);
+        }
+        add_lirs(&bytes[run.start..line.end], self.line, &mut self.keys)?;
+        self.line += 1;
+        let more = reserve_for(&mut self.keys, bytes.len() - (line.end + 1))?;
         Ok(more)
-    }
-
-    // Takes the line between two places of these bytes, and returns true, where it is a number of at most sixteen digits
-    // or a lone `*`. There is room for its access, and some bytes stand behind it.
-    #[inline(always)]
-    fn take_usual(&mut self, bytes: &[u8], start: usize, end: usize) -> bool
-        requires scan { IsScan self.old }
-        requires format { self.old.format ≡ Format.Lirs }
-        requires cut { self.old.cut.items ≡ [] }
-        requires line { self.old.line < 2 ^ 64 - 1 }
-        requires places { (start ≤ end) × (end + BEHIND ≤ length bytes.now) }
-        requires few { vec_len self.old.keys < MAX_ACCESSES }
-        requires room { vec_len self.old.keys < vec_capacity self.old.keys }
-        ensures scan { IsScan self.new }
-        ensures format { self.new.format ≡ Format.Lirs }
-        ensures ended { IsTrue result → IsEnded self.old (take (end - start) (drop start bytes.now)) self.new }
-        ensures some { IsTrue result → start < end }
-        ensures kept { result ≡ false → self.new ≡ self.old }
-        ensures len { vec_len self.new.keys ≤ vec_len self.old.keys + 1 }
-        ensures room { vec_capacity self.new.keys ≡ vec_capacity self.old.keys }
-    {
-        let count = end - start;
-        // One test lets numbers of two to eight digits pass.
-        if count.wrapping_sub(2) >= 7 {
-            if count != 1 {
-                return self.take_long(&bytes[start..], count);
-            }
-            if bytes[start] == b'*' {
-                self.line += 1;
-                return true;
-            }
-        }
-        let Some(key) = short_number(&bytes[start..], count) else {
-            return false;
-        };
-        self.keys.push_reserved(key);
-        self.line += 1;
-        true
-    }
-
-    // Takes the line of the first `count` bytes, and returns true, where it is a number of nine to sixteen digits. There
-    // is room for its access.
-    #[inline(never)]
-    fn take_long(&mut self, text: &[u8], count: usize) -> bool
-        requires scan { IsScan self.old }
-        requires format { self.old.format ≡ Format.Lirs }
-        requires cut { self.old.cut.items ≡ [] }
-        requires line { self.old.line < 2 ^ 64 - 1 }
-        requires text { count + BEHIND ≤ length text.now }
-        requires few { vec_len self.old.keys < MAX_ACCESSES }
-        requires room { vec_len self.old.keys < vec_capacity self.old.keys }
-        ensures scan { IsScan self.new }
-        ensures format { self.new.format ≡ Format.Lirs }
-        ensures ended { IsTrue result → IsEnded self.old (take count text.now) self.new }
-        ensures some { IsTrue result → 0 < count }
-        ensures kept { result ≡ false → self.new ≡ self.old }
-        ensures len { vec_len self.new.keys ≤ vec_len self.old.keys + 1 }
-        ensures room { vec_capacity self.new.keys ≡ vec_capacity self.old.keys }
-    {
-        if count < 9 || count > 16 {
-            return false;
-        }
-        let Some(key) = long_number(text, count) else {
-            return false;
-        };
-        self.keys.push_reserved(key);
-        self.line += 1;
-        true
     }
 
     // `take_lines` of the ARC format.
@@ -275,38 +354,51 @@ impl Scan {
         requires format { self.old.format ≡ Format.Arc }
         requires cut { self.old.cut.items ≡ [] }
         requires lines { self.old.line + length bytes.now < 2 ^ 64 }
-        ensures taken { IfOk result (λ n. IsTakenTo self.old bytes.now n self.new) }
-        ensures within { IfOk result (λ n. n ≤ length bytes.now) }
-        ensures err { IfErr result (λ e. (e ≡ TraceFault.OutOfMemory)
-            ⊎ (IsOfLine e
-            × ((rest : List ℕ) → fault_ahead self.old (bytes.now ++ rest) ≡ Some e))) }
+        ensures taken { IfOk result (λ n. IsTaken self.old bytes.now 0 n self.new) }
+        ensures err { IfErr result (IsRefusedFrom self.old bytes.now 0) }
     {
-        let mut ends = LineEnds::of(bytes);
-        'lines: while let Some(line) = ends.next() {
-            self.take_run(bytes, line.start, line.end)?;
+        let mut runs = DigitRuns::at(bytes, 0);
+        'lines: while let Some(first) = self.take_runs(bytes, &mut runs) {
+            let Some(line) = runs.line_end(first) else {
+                return Ok(first.start);
+            };
+            self.end_line(&bytes[first.start..line.end])?;
+            runs = line.runs;
         }
-        Ok(ends.start)
+        Ok(runs.start)
     }
 
-    // Takes the line between two places of these bytes.
-    #[inline(always)]
-    fn take_run(&mut self, bytes: &[u8], start: usize, end: usize) -> Result<(), TraceFault>
+    // Takes the lines of the usual form from the next run of digits on, where there is room for their accesses, and
+    // returns the run that the first other line begins with.
+    #[inline(never)]
+    fn take_runs<'a>(&mut self, bytes: &'a [u8], runs: &mut DigitRuns<'a>) -> Option<DigitRun>
         requires scan { IsScan self.old }
         requires format { self.old.format ≡ Format.Arc }
         requires cut { self.old.cut.items ≡ [] }
-        requires line { self.old.line < 2 ^ 64 - 1 }
-        requires places { (start ≤ end) × (end + BEHIND ≤ length bytes.now) }
-        ensures scan { OnOk result (IsScan self.new) }
-        ensures ended { OnOk result (IsEnded self.old (take (end - start) (drop start bytes.now)) self.new) }
-        ensures err { IfErr result (IsStopped self.old.format self.old.line self.old.keys.items
-            (self.old.cut.items ++ take (end - start) (drop start bytes.now))) }
+        requires runs { IsDigitRuns runs.old × (runs.old.bytes.now ≡ bytes.now) }
+        requires lines { self.old.line + length bytes.now < 2 ^ 64 + runs.old.start }
+        ensures all { result ≡ None → IsTaken self.old bytes.now runs.old.start runs.new.start self.new }
+        ensures some { IfSome result (λ run. IsTaken self.old bytes.now runs.old.start run.start self.new) }
+        ensures found { IfSome result (λ run. IsFound bytes.now run runs.new) }
     {
-        let Some(found) = usual_run(&bytes[start..], end - start) else {
-            return self.end_line(&bytes[start..end]);
-        };
-        add_run(found.start, found.count, self.line, &mut self.keys)?;
-        self.line += 1;
-        Ok(())
+        let mut keys = mem::replace(&mut self.keys, Vec::new(self.alloc));
+        let mut line = self.line;
+        let mut ahead = *runs;
+        'lines: while let Some(first) = ahead.next() {
+            let Some(next) = usual_line(bytes, first, ahead, &keys) else {
+                self.keys = keys;
+                self.line = line;
+                *runs = ahead;
+                return Some(first);
+            };
+            push_reserved_run(next.run.start, next.run.count, &mut keys);
+            line += 1;
+            ahead = next.end.runs;
+        }
+        self.keys = keys;
+        self.line = line;
+        *runs = ahead;
+        None
     }
 
     // Adds the accesses of the line that ends with the text.
@@ -331,34 +423,4 @@ impl Scan {
         self.line += 1;
         Ok(())
     }
-}
-
-// Adds the accesses of a line to those of the lines before it.
-fn add_line(format: Format, text: &[u8], line: u64, keys: &mut Vec<Key>) -> Result<(), TraceFault>
-    requires { vec_len keys.old ≤ MAX_ACCESSES }
-    ensures ok { OnOk result (IsRead format line keys.old.items text.now keys.new.items) }
-    ensures within { OnOk result (vec_len keys.new ≤ MAX_ACCESSES) }
-    ensures err { IfErr result (IsTraceRefused format line keys.old.items text.now) }
-{
-    match format {
-        Format::Lirs => add_lirs(text, line, keys),
-        Format::Arc => add_arc(text, line, keys),
-    }
-}
-
-// Reserves room for the accesses of LIRS lines of so many bytes in all. False, and no room, where they might pass
-// `MAX_ACCESSES`.
-fn reserve_for(keys: &mut Vec<Key>, bytes: usize) -> Result<bool, AllocError>
-    requires { vec_len keys.old ≤ MAX_ACCESSES }
-    ensures items { keys.new.items ≡ keys.old.items }
-    ensures len { vec_len keys.new ≡ vec_len keys.old }
-    ensures room { IfOk result (λ more. IsTrue more → HasRoom bytes (vec_len keys.new) (vec_capacity keys.new)) }
-{
-    // Each access has a digit of its own and a line feed.
-    let most = bytes / 2 + 1;
-    if most > MAX_ACCESSES - keys.len() {
-        return Ok(false);
-    }
-    keys.reserve(most)?;
-    Ok(true)
 }

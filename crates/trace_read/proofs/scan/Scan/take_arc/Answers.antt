@@ -1,35 +1,33 @@
-use Rattle.std.proofs.Common.{◌≡◌, ◌∙◌, ◌-◌, ap, arith, drop, length, subst, sym}
-use Rattle.text_lines.specs.Feeds.{feed_in}
+use Rattle.std.proofs.Common.{◌+◌, arith, subst, sym}
 use Rattle.trace_read.proofs.Steps.{errs}
-use Rattle.trace_read.proofs.Taken.{taken_on, taken_stop}
-use Rattle.trace_read.specs.Scanned.{IsTakenTo}
+use Rattle.trace_read.proofs.Taken.{line_refused, line_taken, refused_then, taken_then}
+use Rattle.trace_read.specs.DigitRuns.{IsLineEnd}
+use Rattle.trace_read.specs.Scanned.{IsTaken}
 use Rattle.trace_read.proofs.scan.Scan.take_arc.Goals as goal
 
 pub lines-preserved : goal.lines-preserved
 lines-preserved c =
     let i = c.lines.invariant in
-    let e = c.in-Some.ensures in
-    let line = c.in-Some.line in
+    let first = c.in-Some.first in
     let bytes = c.args.bytes.now in
-    let size : length c.lines.ends.bytes.now ≡ length bytes = ap length i.bytes in
-    let taken = subst (λ n. IsTakenTo c.args.self.now bytes n c.lines.self) (sym e.start.0) i.taken in
-    let feed : line.end - line.start ≡ feed_in (drop line.start bytes) = e.feed ∙ ap (λ b. feed_in (drop line.start b)) i.bytes in
-    let next = taken_on c.args.self.now c.lines.self bytes line.start line.end taken e.within.0 (omega (arith, e.within.1, size)) feed _ c.in_ok-take_run.ensures.scan c.in_ok-take_run.ensures.ended in
+    let line = c.in-Some-line_end.line in
+    let l = subst (λ b. IsLineEnd b first.start line) c.in-Some.ensures.found.same c.in-Some-line_end.ensures.line in
+    let read = c.in_ok-end_line.ensures in
+    let before = taken_then c.args.self.now c.lines.self c.take_runs.new.self bytes 0 c.lines.runs.start first.start i.taken c.in-Some.ensures.some in
+    let next = line_taken c.take_runs.new.self bytes first.start line.end before.scan before.cut l.order (omega (arith, l.within)) l.none l.feed _ read.scan read.ended in
     record {
-      taken = subst (λ n. IsTakenTo c.args.self.now bytes n c.take_run.new.self) (sym e.start.1) next;
-      ends = e.ends;
-      bytes = e.bytes ∙ i.bytes;
-      format = c.in_ok-take_run.ensures.ended.format ∙ i.format;
+      taken = subst (λ n. IsTaken c.args.self.now bytes 0 n c.end_line.new.self) (sym l.behind) (taken_then _ _ _ bytes 0 first.start (line.end + 1) before next);
+      runs = l.runs;
+      same = l.same;
     }
 
-pub returns-in_err-take_run-clause-err : goal.returns-in_err-take_run-clause-err
-returns-in_err-take_run-clause-err c =
+pub returns-in_err-end_line-clause-err : goal.returns-in_err-end_line-clause-err
+returns-in_err-end_line-clause-err c =
     let i = c.lines.invariant in
-    let e = c.in-Some.ensures in
-    let line = c.in-Some.line in
+    let first = c.in-Some.first in
     let bytes = c.args.bytes.now in
-    let size : length c.lines.ends.bytes.now ≡ length bytes = ap length i.bytes in
-    let taken = subst (λ n. IsTakenTo c.args.self.now bytes n c.lines.self) (sym e.start.0) i.taken in
-    let feed : line.end - line.start ≡ feed_in (drop line.start bytes) = e.feed ∙ ap (λ b. feed_in (drop line.start b)) i.bytes in
-    errs c.from_residual.result _ _ c.from_residual.ensures.1
-    (taken_stop c.args.self.now c.lines.self bytes line.start line.end taken e.within.0 (omega (arith, e.within.1, size)) feed _ c.in_err-take_run.ensures.err)
+    let line = c.in-Some-line_end.line in
+    let l = subst (λ b. IsLineEnd b first.start line) c.in-Some.ensures.found.same c.in-Some-line_end.ensures.line in
+    let before = taken_then c.args.self.now c.lines.self c.take_runs.new.self bytes 0 c.lines.runs.start first.start i.taken c.in-Some.ensures.some in
+    errs c.from_residual.result _ _ c.from_residual.ensures.1 (refused_then c.args.self.now c.take_runs.new.self bytes 0 first.start _ before
+    (line_refused c.take_runs.new.self bytes first.start line.end before.scan before.cut l.order (omega (arith, l.within)) l.none l.feed _ c.in_err-end_line.ensures.err))

@@ -1,17 +1,15 @@
 use Rattle.std.proofs.Common.{◌≡◌, ◌-◌, length}
-use Rattle.trace_read.specs.LineEnds.{IsLineEnds}
-use Rattle.trace_read.specs.Scanned.{IsTakenTo}
-use Rattle.trace_read.specs.declared.format.Format.TheVariants.{Arc}
+use Rattle.trace_read.specs.DigitRuns.{IsDigitRuns}
+use Rattle.trace_read.specs.Scanned.{IsTaken}
 use Rattle.trace_read.proofs.scan.Scan.take_arc.Given as goal
 
-pub record Taking (A B C D : Type 0) : Type 0 where
+pub record Taking (A B C : Type 0) : Type 0 where
   pub taken : A
-  pub ends : B
-  pub bytes : C
-  pub format : D
+  pub runs : B
+  pub same : C
 
 abbrev pub invariant-lines : goal.invariant-lines
-invariant-lines l = Taking (IsTakenTo l.fn.self l.bytes l.ends.start l.self) (IsLineEnds l.ends) (l.ends.bytes.now ≡ l.bytes) (l.self.format ≡ Arc)
+invariant-lines l = Taking (IsTaken l.fn.self l.bytes 0 l.runs.start l.self) (IsDigitRuns l.runs) (l.runs.bytes.now ≡ l.bytes)
 
 abbrev pub decreases-lines : goal.decreases-lines
-decreases-lines l = length l.bytes - l.ends.start
+decreases-lines l = length l.bytes - l.runs.start

@@ -1,0 +1,30 @@
+use Rattle.std.proofs.Common.{◌≡◌, ◌≤◌, ◌+◌, ◌-◌, ◌∙◌, ap, arith, drop, get_or, get_or-drop, drop-drop, length, length-drop, subst, sym, take}
+use Rattle.std.specs.Str.{all_ascii_digits}
+use Rattle.std.specs.Str.Parse.{digits_value}
+use Rattle.trace_read.proofs.RunLines.{run_at}
+use Rattle.trace_read.specs.DigitRuns.{IsLineEnd}
+use Rattle.trace_read.specs.Lines.{is_gap}
+use Rattle.trace_read.proofs.arc.usual_line.Goals as goal
+
+pub returns-clause-line : goal.returns-clause-line
+returns-clause-line c =
+    let bytes = c.args.bytes.now in
+    let first = c.args.first in
+    let numbers = c.in-Some.numbers in
+    let second = numbers.second in
+    let end = c.in-Some-line_end.end.end in
+    let t = c.in-Some.ensures in
+    let l = subst (λ b. IsLineEnd b second.start c.in-Some-line_end.end) t.found.same c.in-Some-line_end.ensures.line in
+    let text = drop first.start bytes in
+    let n = first.end - first.start in
+    let m = second.end - second.start in
+    let past = c.in-Some-line_end.ensures.past in
+    let within : n + 1 + m ≤ end - first.start = omega (arith, past, t.behind, t.start.some, t.count.some) in
+    let long : end - first.start ≤ length text = omega (arith, l.within, length-drop first.start bytes) in
+    let tail : drop (n + 1) text ≡ drop second.start bytes = drop-drop (n + 1) first.start bytes ∙ ap (λ k. drop k bytes) (omega (arith, t.behind, t.start.some)) in
+    let gap = ap is_gap (get_or-drop first.start bytes n 0 ∙ ap (λ k. get_or bytes k 0) {y = first.end} (omega (arith, t.start.some))) ∙ t.gap in
+    let behind : first.start + (n + 1 + m) ≡ second.end = omega (arith, t.behind, t.start.some, t.count.some) in
+    run_at text (end - first.start) n m (omega (arith, t.start.some)) (omega (arith, t.count.some)) within long numbers.run.start numbers.run.count (omega (arith, t.start.below)) (omega (arith, t.count.below))
+    t.start.digits t.start.value gap (ap (λ l. all_ascii_digits (take m l)) tail ∙ t.count.digits) (t.count.value ∙ ap (λ l. digits_value 10 (take m l)) (sym tail))
+    (λ less. ap is_gap (get_or-drop first.start bytes (n + 1 + m) 0 ∙ ap (λ k. get_or bytes k 0) behind)
+    ∙ t.ends (l.none second.end (omega (arith, t.count.some)) (omega (arith, less, behind, t.start.some))))

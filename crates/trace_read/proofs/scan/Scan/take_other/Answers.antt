@@ -1,0 +1,73 @@
+use Rattle.std.proofs.Common.{◌<◌, ◌≤◌, ◌+◌, ap, arith, length, refl, subst, sym}
+use Rattle.step_record.specs.declared.limits.TheConstants.{MAX_ACCESSES}
+use Rattle.trace_read.proofs.Steps.{errs}
+use Rattle.trace_read.proofs.StarLines.{stars_taken}
+use Rattle.trace_read.proofs.Taken.{key_read, line_refused, line_taken, nothing_taken, whole_read, whole_stopped}
+use Rattle.trace_read.specs.DigitRuns.{IsLineEnd}
+use Rattle.trace_read.specs.Reading.{IsRead}
+use Rattle.trace_read.specs.declared.scan.Scan.{Scan}
+use Rattle.trace_read.specs.Scanned.{IsTaken}
+use Rattle.trace_read.proofs.scan.Scan.take_other.Goals as goal
+
+pub returns-in_err-add_lirs-clause-err : goal.returns-in_err-add_lirs-clause-err
+returns-in_err-add_lirs-clause-err c =
+    let bytes = c.args.bytes.now in
+    let scan = c.args.self.now in
+    let start = c.args.run.start in
+    let l = subst (λ b. IsLineEnd b start c.in-Some.line) c.requires.found.same c.in-Some.ensures.line in
+    errs c.from_residual.result _ _ c.from_residual.ensures.1
+    (line_refused scan bytes start c.in-Some.line.end c.requires.scan c.requires.cut l.order (omega (arith, l.within)) l.none l.feed _
+    (whole_stopped scan.format scan.line scan.keys.items scan.cut.items _ _ c.requires.format c.requires.cut c.in_err-add_lirs.ensures.err))
+
+pub returns-clause-taken : goal.returns-clause-taken
+returns-clause-taken c =
+    let bytes = c.args.bytes.now in
+    let start = c.args.run.start in
+    let line = c.in-Some.line in
+    let scan = c.args.self.now in
+    let l = subst (λ b. IsLineEnd b start line) c.requires.found.same c.in-Some.ensures.line in
+    let items = c.reserve_for.ensures.items in
+    let last : Scan = record { alloc = scan.alloc; format = scan.format; keys = c.reserve_for.new.keys; line = scan.line + 1; cut = scan.cut } in
+    let next = line_taken scan bytes start line.end c.requires.scan c.requires.cut l.order (omega (arith, l.within)) l.none l.feed last
+    (record { few = omega (arith, c.in_ok-add_lirs.ensures.within, c.add_lirs.new.keys.ok.0, ap length items); cut = c.requires.scan.cut })
+    (record {
+      read = subst (IsRead scan.format scan.line scan.keys.items _) (sym items)
+          (whole_read scan.format scan.line scan.keys.items scan.cut.items _ _ c.requires.format c.requires.cut c.in_ok-add_lirs.ensures.ok);
+      cut = c.requires.cut;
+      line = refl;
+      format = refl;
+    }) in
+    subst (λ n. IsTaken scan bytes start n last) (sym l.behind) next
+
+pub returns-then-stars-gt0-clause-taken : goal.returns-then-stars-gt0-clause-taken
+returns-then-stars-gt0-clause-taken c =
+    let scan = c.args.self.now in
+    let bytes = c.args.bytes.now in
+    let start = c.args.run.start in
+    let count = c.star_lines-stars.result in
+    let within : start ≤ length bytes = omega (arith, c.requires.found.order, c.requires.found.within) in
+    let here = nothing_taken scan bytes start c.requires.scan c.requires.cut within in
+    let next : Scan = record { alloc = scan.alloc; format = scan.format; keys = scan.keys; line = scan.line + count; cut = scan.cut } in
+    subst (λ n. IsTaken scan bytes start n next) (sym c.at.ensures.start) (stars_taken scan scan bytes start start count here c.requires.format c.star_lines-stars.ensures)
+
+pub returns-in-Some-key_of_digits-clause-taken : goal.returns-in-Some-key_of_digits-clause-taken
+returns-in-Some-key_of_digits-clause-taken c =
+    let bytes = c.args.bytes.now in
+    let start = c.args.run.start in
+    let line = c.in-Some.line in
+    let scan = c.args.self.now in
+    let key = c.in-Some-key_of_digits.ensures in
+    let l = subst (λ b. IsLineEnd b start line) c.requires.found.same c.in-Some.ensures.line in
+    let room : scan.keys.len < MAX_ACCESSES = omega (arith, l.within, key.some, c.requires.room.0) in
+    let few : length scan.keys.items < MAX_ACCESSES = omega (arith, room, scan.keys.ok.0) in
+    let more : length c.push_reserved.new.self.items ≤ MAX_ACCESSES = omega (arith, room, c.push_reserved.ensures.len, c.push_reserved.new.self.ok.0) in
+    let last : Scan = record { alloc = scan.alloc; format = scan.format; keys = c.push_reserved.new.self; line = scan.line + 1; cut = scan.cut } in
+    let next = line_taken scan bytes start line.end c.requires.scan c.requires.cut l.order (omega (arith, l.within)) l.none l.feed last
+    (record { few = more; cut = c.requires.scan.cut })
+    (record {
+      read = key_read scan.format scan.line c.in-Some-key_of_digits.key scan.keys.items scan.cut.items _ c.push_reserved.new.self.items c.requires.format c.requires.cut few key.line c.push_reserved.ensures.items;
+      cut = c.requires.cut;
+      line = refl;
+      format = refl;
+    }) in
+    subst (λ n. IsTaken scan bytes start n last) (sym l.behind) next
