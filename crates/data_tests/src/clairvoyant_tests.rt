@@ -9,7 +9,7 @@ use std::process::Abort;
 use std::test::Fail;
 use step_record::{Engine, Key, Outcome, Stats, StepFault, Trace};
 
-fn opened(alloc: Global, keys: &[Key], capacity: u32) -> Result<Clairvoyant, Fail>
+pub(crate) fn opened(alloc: Global, keys: &[Key], capacity: u32) -> Result<Clairvoyant, Fail>
     requires { (1 ≤ capacity) × (capacity ≤ MAX_CAPACITY) }
 {
     let keys = Vec::from_slice(alloc, keys)?;
@@ -223,7 +223,7 @@ fn next(seed: u64) -> u64 {
 }
 
 /// A trace of 14 accesses to 8 keys.
-fn small_trace(seed: u64) -> [Key; 14] {
+pub(crate) fn small_trace(seed: u64) -> [Key; 14] {
     let mut keys = [0; 14];
     let mut drawn = seed;
     for key in keys.iter_mut() {

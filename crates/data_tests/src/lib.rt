@@ -1,5 +1,5 @@
-//! Tests of the data structures: queues of items, buffers, ranks, places of keys, next uses, and the curve of Lru. They stand in a
-//! crate of their own so that the gate proves each of those crates once.
+//! Tests of the data structures: queues of items, buffers, ranks, places of keys, next uses, the curve of Lru, and the
+//! optimal policy beside Lru. They stand in a crate of their own so that the gate proves each of those crates once.
 #![tactic(auto)]
 
 #[cfg(test)]
@@ -8,6 +8,8 @@ mod assertions;
 mod clairvoyant_tests;
 #[cfg(test)]
 mod key_places_tests;
+#[cfg(test)]
+mod optimal_tests;
 #[cfg(test)]
 mod rank_tree_tests;
 #[cfg(test)]

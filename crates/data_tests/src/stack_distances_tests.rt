@@ -3,24 +3,19 @@ ghost use Rattle.std.specs.Prelude.{◌≡◌, ◌≤◌, Ok, length};
 ghost use Rattle.step_record.specs.Config.{config_fault};
 
 use super::assertions::assert_equal;
+use super::optimal_tests::PLAIN;
 use policies::AnyPolicy;
 use stack_distances::Curve;
 use std::alloc::{AllocError, Global};
 use std::process::Abort;
 use std::test::Fail;
-use step_record::{Config, Job, Key, Policy, Spread, Stats, Trace};
+use step_record::{Config, Job, Key, Policy, Stats, Trace};
 
 // What a cache of Lru counts that makes the accesses one by one.
 fn one_by_one(rt: &impl Abort, alloc: Global, capacity: u32, trace: &Trace) -> Result<Stats, Fail> {
     let job = Job {
         policy: Policy::Lru,
-        config: Config {
-            capacity,
-            main_percent: 99,
-            spread: Spread::Plain,
-            stripes: 1,
-            journal_limit: 1,
-        },
+        config: Config { capacity, ..PLAIN },
     };
     assert!(rt; job.config.check().is_ok());
     let mut cache = AnyPolicy::open(alloc, &job, trace)?;

@@ -1,37 +1,25 @@
-ghost use Rattle.std.specs.Prelude.{◌≡◌, ◌≤◌, IfOk};
+ghost use Rattle.std.specs.Prelude.{◌≡◌, IfOk};
 
+use super::assertions::assert_equal;
 use clairvoyant::{Clairvoyant, NextUse};
 use journal::{Session, SessionFault};
-use policies::Lru;
 use std::alloc::Global;
 use std::process::Abort;
 use std::test::Fail;
-use step_record::{Config, Engine, Key, Outcome, Spread, Trace};
+use step_record::{Key, Outcome, Trace};
 
-const CONFIG: Config = Config {
-    capacity: 2,
-    main_percent: 99,
-    spread: Spread::Plain,
-    stripes: 1,
-    journal_limit: 5,
-};
-
-fn opened(alloc: Global, keys: &[Key], capacity: u32) -> Result<Clairvoyant, Fail>
-    requires { (1 ≤ capacity) × (capacity ≤ 1048576) }
+// The optimal policy over the accesses 1, 2, 3, 1 and 2, with room for two keys.
+fn opened(alloc: Global) -> Result<Clairvoyant, Fail>
     ensures { IfOk result (λ c. c.stats.accesses ≡ 0) }
 {
-    let keys = Vec::from_slice(alloc, keys)?;
-    if keys.len() > 16_777_216 {
-        return Err("a trace that is too long".into());
-    }
-    let trace = Trace::new(keys);
+    let trace = Trace::new(vec![in alloc; 1, 2, 3, 1, 2]?);
     let uses = NextUse::build(alloc, &trace)?;
-    let cache = Clairvoyant::open(alloc, uses, capacity)?;
+    let cache = Clairvoyant::open(alloc, uses, 2)?;
     Ok(cache)
 }
 
 fn assert_hits(rt: &impl Abort, session: &Session<Clairvoyant>, hits: u64) {
-    assert_eq!(rt; session.engine().stats().hits, hits);
+    assert_equal(rt, session.engine().stats().hits, hits);
 }
 
 fn assert_step(
@@ -40,20 +28,20 @@ fn assert_step(
     key: Key,
     wanted: Result<Outcome, SessionFault>,
 ) {
-    assert_eq!(rt; session.step(key), wanted);
+    assert_equal(rt, session.step(key), wanted);
 }
 
 fn go_back_and_forward(rt: &impl Abort, session: &mut Session<Clairvoyant>) {
-    assert_eq!(rt; session.back(3), Ok(()));
+    assert_equal(rt, session.back(3), Ok(()));
     assert_hits(rt, session, 0);
-    assert_eq!(rt; session.forward(3), Ok(()));
+    assert_equal(rt, session.forward(3), Ok(()));
     assert_hits(rt, session, 2);
 }
 
 // Takes the accesses of the trace, goes back, and forward.
 fn walk(rt: &impl Abort, session: &mut Session<Clairvoyant>) {
     assert_step(rt, session, 2, Err(SessionFault::NotNow));
-    assert_eq!(rt; session.len(), 0);
+    assert_equal(rt, session.len(), 0);
     for (key, outcome) in [
         (1, Outcome::Kept),
         (2, Outcome::Kept),
@@ -68,64 +56,8 @@ fn walk(rt: &impl Abort, session: &mut Session<Clairvoyant>) {
 
 #[test]
 fn a_session_takes_the_accesses_of_the_trace_alone(rt: HostRuntime) -> Result<(), Fail> {
-    let cache = opened(rt.alloc(), &[1, 2, 3, 1, 2], 2)?;
+    let cache = opened(rt.alloc())?;
     let mut session = Session::open(rt.alloc(), cache, 5);
     walk(&rt, &mut session);
-    Ok(())
-}
-
-fn next(seed: u64) -> u64 {
-    seed.wrapping_mul(6364136223846793005)
-        .wrapping_add(1442695040888963407)
-}
-
-/// A trace of 14 accesses to 8 keys.
-fn small_trace(seed: u64) -> [Key; 14] {
-    let mut keys = [0; 14];
-    let mut drawn = seed;
-    for key in keys.iter_mut() {
-        drawn = next(drawn);
-        *key = (drawn >> 33) % 8;
-    }
-    keys
-}
-
-// How often the optimal policy hits.
-fn optimal_hits(rt: &impl Abort, alloc: Global, keys: &[Key], capacity: u32) -> Result<u64, Fail>
-    requires { (1 ≤ capacity) × (capacity ≤ 1048576) }
-{
-    let mut cache = opened(alloc, keys, capacity)?;
-    for key in keys {
-        assert!(rt; cache.apply(key).is_ok());
-    }
-    Ok(cache.stats().hits)
-}
-
-fn apply_all(lru: &mut Lru, keys: &[Key]) -> Result<(), Fail> {
-    for key in keys {
-        lru.apply(key)?;
-    }
-    Ok(())
-}
-
-// How often LRU hits.
-fn lru_hits(rt: &impl Abort, alloc: Global, keys: &[Key], capacity: u32) -> Result<u64, Fail> {
-    let config = Config { capacity, ..CONFIG };
-    assert!(rt; config.check() == Ok(()));
-    let mut lru = Lru::open(alloc, &config)?;
-    apply_all(&mut lru, keys)?;
-    Ok(lru.stats().hits)
-}
-
-#[test]
-fn lru_never_hits_more_often(rt: HostRuntime) -> Result<(), Fail> {
-    for seed in 0..300_u64 {
-        let keys = small_trace(seed);
-        for capacity in 1..6_u32 {
-            let optimal = optimal_hits(&rt, rt.alloc(), &keys, capacity)?;
-            let lru = lru_hits(&rt, rt.alloc(), &keys, capacity)?;
-            assert!(rt; lru <= optimal, "{keys:?} at capacity {capacity}");
-        }
-    }
     Ok(())
 }

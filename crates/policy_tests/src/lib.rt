@@ -1,7 +1,9 @@
-//! Tests of the policies: worked examples, an eviction undone by each, sessions over each, walked back and forth, the
-//! optimal policy beside LRU, and a quiet run of the concurrent cache beside W-TinyLFU.
+//! Tests of the policies: worked examples, an eviction undone by each, sessions over each, walked back and forth, a session
+//! over the optimal policy, and a quiet run of the concurrent cache beside W-TinyLFU.
 #![tactic(auto)]
 
+#[cfg(test)]
+mod assertions;
 #[cfg(test)]
 mod clairvoyant_tests;
 #[cfg(test)]

@@ -1,3 +1,4 @@
+use super::assertions::assert_equal;
 use journal::Session;
 use policies::Lru;
 use std::alloc::Global;
@@ -28,8 +29,8 @@ fn made(rt: &impl Abort, alloc: Global, keys: &[Key]) -> Result<Lru, Fail> {
 fn assert_same(rt: &impl Abort, alloc: Global, one: &Lru, other: &Lru) -> Result<(), Fail> {
     let residents = one.residents(alloc)?;
     let expected = other.residents(alloc)?;
-    assert_eq!(rt; residents.as_slice(), expected.as_slice());
-    assert_eq!(rt; one.stats(), other.stats());
+    assert_equal(rt, residents.as_slice(), expected.as_slice());
+    assert_equal(rt, one.stats(), other.stats());
     Ok(())
 }
 
@@ -41,7 +42,7 @@ fn go_back(rt: &impl Abort, alloc: Global, session: &mut Session<Lru>) -> Result
         assert_same(rt, alloc, session.engine(), &shorter)?;
     }
     session.forward(12)?;
-    assert_eq!(rt; session.engine().stats().accesses, 12);
+    assert_equal(rt, session.engine().stats().accesses, 12);
     Ok(())
 }
 

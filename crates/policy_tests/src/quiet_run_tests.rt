@@ -2,11 +2,11 @@
 ghost use Rattle.std.specs.Prelude.{◌≡◌, Ok};
 ghost use Rattle.step_record.specs.Config.{config_fault};
 
-use drive::run_quiet;
+use super::assertions::{assert_equal, assert_shown};
 use journal::Session;
 use maintenance::Shell;
 use policies::WindowTinyLfu;
-use quiet_run::{QuietFault, SettleFault};
+use quiet_run::{QuietFault, SettleFault, run_quiet};
 use segments::Queue;
 use std::alloc::{AllocError, Global};
 use std::process::Abort;
@@ -138,9 +138,9 @@ fn run_of_policy(alloc: Global, config: &Config, keys: &[Key]) -> Result<Shown, 
 }
 
 fn assert_same(rt: &impl Abort, one: &Shown, other: &Shown) {
-    assert_eq!(rt; one.outcomes.as_slice(), other.outcomes.as_slice());
-    assert_eq!(rt; one.held.as_slice(), other.held.as_slice());
-    assert_eq!(rt; one.estimates.as_slice(), other.estimates.as_slice());
+    assert_equal(rt, one.outcomes.as_slice(), other.outcomes.as_slice());
+    assert_equal(rt, one.held.as_slice(), other.held.as_slice());
+    assert_equal(rt, one.estimates.as_slice(), other.estimates.as_slice());
 }
 
 // Draws keys: two in three are from a few, so that there are hits at each capacity.
@@ -166,7 +166,7 @@ fn assert_agree(rt: &impl Abort, alloc: Global, capacity: u32) -> Result<(), Fai
     let keys = drawn_keys(alloc, u64::from(capacity), 300)?;
     let quiet = run_of_shell(alloc, &config, &keys)?;
     let policy = run_of_policy(alloc, &config, &keys)?;
-    assert_eq!(rt; quiet.outcomes.len(), 300);
+    assert_equal(rt, quiet.outcomes.len(), 300);
     assert_same(rt, &quiet, &policy);
     Ok(())
 }
@@ -183,25 +183,19 @@ fn a_quiet_run_is_window_tiny_lfu(rt: HostRuntime) -> Result<(), Fail> {
 
 #[test]
 fn an_unfinished_maintenance_is_shown_by_its_cause(rt: HostRuntime) -> Result<(), Fail> {
-    for (fault, text) in [
+    let table = [
         (SettleFault::OutOfMemory { done: 7 }, "OutOfMemory"),
         (SettleFault::JournalFull { done: 7 }, "JournalFull"),
-    ] {
-        let shown = format!(in rt.alloc(); "{fault}")?;
-        assert_eq!(rt; shown.as_str(), text);
-    }
-    Ok(())
+    ];
+    assert_shown(&rt, rt.alloc(), &table)
 }
 
 #[test]
 fn an_unfinished_quiet_run_is_shown_by_its_cause(rt: HostRuntime) -> Result<(), Fail> {
-    for (fault, text) in [
+    let table = [
         (QuietFault::OutOfMemory { done: 7 }, "OutOfMemory"),
         (QuietFault::JournalFull { done: 7 }, "JournalFull"),
         (QuietFault::Held, "Held"),
-    ] {
-        let shown = format!(in rt.alloc(); "{fault}")?;
-        assert_eq!(rt; shown.as_str(), text);
-    }
-    Ok(())
+    ];
+    assert_shown(&rt, rt.alloc(), &table)
 }

@@ -1,6 +1,7 @@
 ghost use Rattle.std.specs.Prelude.{◌≡◌, IfOk};
 ghost use Rattle.policies.specs.AnyPolicy.{stats_in};
 
+use super::assertions::assert_equal;
 use journal::Session;
 use policies::{AnyPolicy, WindowTinyLfu};
 use std::alloc::Global;
@@ -35,7 +36,11 @@ fn assert_holds(
     of_key_5: (u8, u32, u8, bool),
     words: u64,
 ) {
-    assert_eq!(rt; (shown(session), session.held()), (Some(of_key_5), words));
+    assert_equal(
+        rt,
+        (shown(session), session.held()),
+        (Some(of_key_5), words),
+    );
 }
 
 fn step_often(session: &mut Session<WindowTinyLfu>, times: u32) -> Result<(), Fail> {
@@ -55,7 +60,7 @@ fn walk_across(rt: &impl Abort, session: &mut Session<WindowTinyLfu>) -> Result<
     assert_holds(rt, session, (13, 14, 14, true), 0);
     session.forward(6)?;
     step_often(session, 10)?;
-    assert_eq!(rt; session.held(), 4);
+    assert_equal(rt, session.held(), 4);
     Ok(())
 }
 
@@ -122,15 +127,16 @@ fn assert_same_residents(
 ) -> Result<(), Fail> {
     let shown = cache.residents(alloc)?;
     let wanted = fresh.residents(alloc)?;
-    assert_eq!(rt; shown.as_slice(), wanted.as_slice());
+    assert_equal(rt, shown.as_slice(), wanted.as_slice());
     Ok(())
 }
 
 fn assert_same_frequency(rt: &impl Abort, cache: &AnyPolicy, fresh: &AnyPolicy) {
     for key in 0..80_u64 {
-        assert_eq!(rt;
+        assert_equal(
+            rt,
             cache.frequency().map(|f| f.estimate(key)),
-            fresh.frequency().map(|f| f.estimate(key))
+            fresh.frequency().map(|f| f.estimate(key)),
         );
     }
 }
@@ -141,7 +147,7 @@ fn assert_alike(
     cache: &AnyPolicy,
     fresh: &AnyPolicy,
 ) -> Result<(), Fail> {
-    assert_eq!(rt; cache.stats(), fresh.stats());
+    assert_equal(rt, cache.stats(), fresh.stats());
     assert_same_residents(rt, alloc, cache, fresh)?;
     assert_same_frequency(rt, cache, fresh);
     Ok(())
@@ -195,7 +201,7 @@ fn compare_kept(
     walk: &Walk,
 ) -> Result<(), Fail> {
     let made = walk.session.len().min(walk.keys.len());
-    assert_eq!(rt; made, walk.session.len());
+    assert_equal(rt, made, walk.session.len());
     compare(
         rt,
         alloc,

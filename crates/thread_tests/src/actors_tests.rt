@@ -1,6 +1,7 @@
 //! Small traces whose reports were worked out by hand, and threads that wait for one another.
+use super::assertions::{assert_equal, assert_shown};
 use super::gates::{Hold, Turns};
-use super::jobs::{counted, failed, job};
+use super::jobs::{counted, failed, fault_of, job};
 use policy_actors::{ActorFault, run_actors, run_one, sweep, sweep_batches, sweep_each};
 use report::Report;
 use std::alloc::Global;
@@ -8,7 +9,7 @@ use std::process::Abort;
 use std::sync::Wait;
 use std::test::Fail;
 use std::thread::Threads;
-use step_record::{Job, OpenGate, Policy, Trace};
+use step_record::{Gate, Job, OpenGate, Policy, Trace};
 
 fn jobs() -> [Job; 4] {
     [
@@ -45,28 +46,36 @@ fn all_wanted() -> [Report; 4] {
     ]
 }
 
+// Runs jobs on actors, and sees their reports.
+fn assert_run<G: Gate, R: Threads + Wait + Sync + Abort>(
+    rt: &R,
+    alloc: Global,
+    trace: &Trace,
+    (jobs, batch): (&[Job], u32),
+    gate: &G,
+    wanted: &[Report],
+) -> Result<(), Fail> {
+    let reports = run_actors(rt, alloc, trace, jobs, batch, gate).map_err(failed)?;
+    assert_equal(rt, reports.as_slice(), wanted);
+    Ok(())
+}
+
 // Runs the first jobs on actors, and sees that they ran side by side.
-fn run<R: Threads + Wait + Sync + Abort>(
+fn assert_side_by_side<R: Threads + Wait + Sync + Abort>(
     rt: &R,
     alloc: Global,
     actors: usize,
     batch: u32,
     batches: u64,
 ) -> Result<(), Fail> {
-    let trace = trace(alloc)?;
+    assert!(rt; actors <= 4);
     let gate = Hold::new(actors as u64, u64::MAX);
-    let all = jobs();
-    let Some(some) = all.get(..actors) else {
-        return Err(Fail::from("no jobs"));
-    };
-    let reports = match run_actors(rt, alloc, &trace, some, batch, &gate) {
-        Ok(reports) => reports,
-        Err(fault) => return Err(failed(fault)),
-    };
-    let want = all_wanted();
-    assert_eq!(rt; Some(reports.as_slice()), want.get(..actors));
+    let (jobs, wanted) = (jobs(), all_wanted());
+    let trace = trace(alloc)?;
+    let run = (&jobs[..actors], batch);
+    assert_run(rt, alloc, &trace, run, &gate, &wanted[..actors])?;
     assert!(rt; !gate.is_late());
-    assert_eq!(rt; gate.over(), batches.wrapping_mul(actors as u64));
+    assert_equal(rt, gate.over(), batches.wrapping_mul(actors as u64));
     Ok(())
 }
 
@@ -74,7 +83,7 @@ fn run<R: Threads + Wait + Sync + Abort>(
 fn actors_run_side_by_side(rt: HostRuntime) -> Result<(), Fail> {
     for actors in [1, 2, 4] {
         for (batch, batches) in [(1, 5), (3, 2), (5, 1)] {
-            run(&rt, rt.alloc(), actors, batch, batches)?;
+            assert_side_by_side(&rt, rt.alloc(), actors, batch, batches)?;
         }
     }
     Ok(())
@@ -82,36 +91,22 @@ fn actors_run_side_by_side(rt: HostRuntime) -> Result<(), Fail> {
 
 #[test]
 fn sixty_four_actors_of_an_empty_trace(rt: HostRuntime) -> Result<(), Fail> {
-    let alloc = rt.alloc();
     let gate = Hold::new(64, u64::MAX);
-    let empty = Trace::new(Vec::new(alloc));
-    match run_actors(
-        &rt,
-        alloc,
-        &empty,
-        &[job(Policy::TinyLfuLru, 2); 64],
-        3,
-        &gate,
-    ) {
-        Ok(reports) => assert_eq!(rt; reports.len(), 64),
-        Err(fault) => return Err(failed(fault)),
-    }
+    let empty = Trace::new(Vec::new(rt.alloc()));
+    let jobs = [job(Policy::TinyLfuLru, 2); 64];
+    let wanted = [counted(Policy::TinyLfuLru, 2, [0; 5]); 64];
+    assert_run(&rt, rt.alloc(), &empty, (&jobs, 3), &gate, &wanted)?;
     assert!(rt; !gate.is_late());
-    assert_eq!(rt; gate.over(), 64);
+    assert_equal(&rt, gate.over(), 64);
     Ok(())
 }
 
 // Many batches and many actors over a thousand accesses of one key, each actor's batches in their order.
 #[test]
 fn each_actor_takes_its_batches_in_turn(rt: HostRuntime) -> Result<(), Fail> {
-    let alloc = rt.alloc();
-    let many = Trace::new(vec![in alloc; 7; 1_000]?);
-    let jobs = [job(Policy::Lru, 2); 64];
+    let many = Trace::new(vec![in rt.alloc(); 7; 1_000]?);
     for (actors, batch, batches) in [(1, 1, 1_000), (2, 1, 1_000), (63, 999, 2), (64, 334, 3)] {
-        let Some(some) = jobs.get(..actors) else {
-            return Err(Fail::from("no jobs"));
-        };
-        take_in_turn(&rt, alloc, &many, some, batch, batches)?;
+        take_in_turn(&rt, rt.alloc(), &many, (actors, batch), batches)?;
     }
     Ok(())
 }
@@ -120,18 +115,15 @@ fn take_in_turn<R: Threads + Wait + Sync + Abort>(
     rt: &R,
     alloc: Global,
     trace: &Trace,
-    jobs: &[Job],
-    batch: u32,
+    (actors, batch): (usize, u32),
     batches: u64,
 ) -> Result<(), Fail> {
-    let gate = Turns::new(alloc, jobs.len())?;
-    let reports = match run_actors(rt, alloc, trace, jobs, batch, &gate) {
-        Ok(reports) => reports,
-        Err(fault) => return Err(failed(fault)),
-    };
-    let want = counted(Policy::Lru, 2, [1_000, 999, 1, 0, 0]);
-    assert_eq!(rt; reports.len(), jobs.len());
-    assert!(rt; reports.iter().all(|report| *report == want));
+    assert!(rt; actors <= 64);
+    let jobs = [job(Policy::Lru, 2); 64];
+    let wanted = [counted(Policy::Lru, 2, [1_000, 999, 1, 0, 0]); 64];
+    let gate = Turns::new(alloc, actors)?;
+    let run = (&jobs[..actors], batch);
+    assert_run(rt, alloc, trace, run, &gate, &wanted[..actors])?;
     assert!(rt; gate.is_over(batches));
     Ok(())
 }
@@ -140,14 +132,13 @@ fn take_in_turn<R: Threads + Wait + Sync + Abort>(
 // be given its own.
 #[test]
 fn a_held_actor_does_not_keep_batches_from_another(rt: HostRuntime) -> Result<(), Fail> {
-    let alloc = rt.alloc();
-    let long = Trace::new(vec![in alloc; 7; 16_400]?);
+    let long = Trace::new(vec![in rt.alloc(); 7; 16_400]?);
     let gate = Hold::new(2, 1);
-    if let Err(fault) = run_actors(&rt, alloc, &long, &[job(Policy::Lru, 2); 2], 1, &gate) {
-        return Err(failed(fault));
-    }
+    let jobs = [job(Policy::Lru, 2); 2];
+    let wanted = [counted(Policy::Lru, 2, [16_400, 16_399, 1, 0, 0]); 2];
+    assert_run(&rt, rt.alloc(), &long, (&jobs, 1), &gate, &wanted)?;
     assert!(rt; !gate.is_late());
-    assert_eq!(rt; gate.over(), 32_800);
+    assert_equal(&rt, gate.over(), 32_800);
     Ok(())
 }
 
@@ -155,104 +146,85 @@ fn a_held_actor_does_not_keep_batches_from_another(rt: HostRuntime) -> Result<()
 fn faults_come_in_their_order(rt: HostRuntime) -> Result<(), Fail> {
     let alloc = rt.alloc();
     let trace = trace(alloc)?;
-    let good = job(Policy::Lru, 2);
-    let bad = job(Policy::Lru, 0);
+    let (good, bad) = (job(Policy::Lru, 2), job(Policy::Lru, 0));
     let many = [bad; 65];
-    assert!(rt;
-        matches!(
-            run_actors(&rt, alloc, &trace, &many, 0, &OpenGate),
-            Err(ActorFault::Batch)
-        )
-    );
-    assert!(rt;
-        matches!(
-            run_actors(&rt, alloc, &trace, &[], 65_537, &OpenGate),
-            Err(ActorFault::Batch)
-        )
-    );
-    assert!(rt;
-        matches!(
-            run_actors(&rt, alloc, &trace, &many, 1, &OpenGate),
-            Err(ActorFault::Actors)
-        )
-    );
-    assert!(rt;
-        matches!(
-            run_actors(&rt, alloc, &trace, &[good, bad, bad], 1, &OpenGate),
-            Err(ActorFault::Config { index: 1 })
-        )
-    );
-    assert!(rt;
-        matches!(
-            run_one(alloc, &trace, &bad),
-            Err(ActorFault::Config { index: 0 })
-        )
-    );
-    assert!(rt;
-        matches!(
-            sweep(&rt, alloc, &trace, &good, &[1, 0]),
-            Err(ActorFault::Config { index: 1 })
-        )
-    );
-    match run_actors(&rt, alloc, &trace, &[], 65_536, &OpenGate) {
-        Ok(reports) => assert!(rt; reports.is_empty()),
-        Err(fault) => return Err(failed(fault)),
+    let none: &[Job] = &[];
+    for (jobs, batch, fault) in [
+        (many.as_slice(), 0, Some(ActorFault::Batch)),
+        (none, 65_537, Some(ActorFault::Batch)),
+        (many.as_slice(), 1, Some(ActorFault::Actors)),
+        (&[good, bad, bad], 1, Some(ActorFault::Config { index: 1 })),
+        (none, 65_536, None),
+    ] {
+        let run = run_actors(&rt, alloc, &trace, jobs, batch, &OpenGate);
+        assert_equal(&rt, fault_of(run)?, fault);
     }
+    let alone = run_one(alloc, &trace, &bad);
+    assert_equal(&rt, fault_of(alone)?, Some(ActorFault::Config { index: 0 }));
+    let swept = sweep(&rt, alloc, &trace, &good, &[1, 0]);
+    assert_equal(&rt, fault_of(swept)?, Some(ActorFault::Config { index: 1 }));
+    Ok(())
+}
+
+// Runs a job alone, and sees its report.
+fn assert_alone(
+    rt: &impl Abort,
+    alloc: Global,
+    trace: &Trace,
+    job: &Job,
+    wanted: Report,
+) -> Result<(), Fail> {
+    let report = run_one(alloc, trace, job).map_err(failed)?;
+    assert_equal(rt, report, wanted);
     Ok(())
 }
 
 #[test]
 fn single_runs(rt: HostRuntime) -> Result<(), Fail> {
-    let alloc = rt.alloc();
-    let some = trace(alloc)?;
-    let all = jobs();
-    let want = all_wanted();
-    for (one, report) in all.iter().zip(want.iter()) {
-        match run_one(alloc, &some, one) {
-            Ok(got) => assert_eq!(rt; got, *report),
-            Err(fault) => return Err(failed(fault)),
-        }
+    let some = trace(rt.alloc())?;
+    for (one, report) in jobs().iter().zip(all_wanted().iter()) {
+        assert_alone(&rt, rt.alloc(), &some, one, *report)?;
     }
-    let other = Trace::new(vec![in alloc; 1, 1, 2, 3]?);
-    match run_one(alloc, &other, &job(Policy::TinyLfuSegmented, 2)) {
-        Ok(got) => assert_eq!(rt; got, counted(Policy::TinyLfuSegmented, 2, [4, 1, 3, 1, 1])),
-        Err(fault) => return Err(failed(fault)),
-    }
-    Ok(())
+    let other = Trace::new(vec![in rt.alloc(); 1, 1, 2, 3]?);
+    let one = job(Policy::TinyLfuSegmented, 2);
+    let wanted = counted(Policy::TinyLfuSegmented, 2, [4, 1, 3, 1, 1]);
+    assert_alone(&rt, rt.alloc(), &other, &one, wanted)
 }
 
-fn compare_sweep<R: Threads + Sync + Abort>(
+// Sweeps over capacities, and sees the reports.
+fn assert_sweep<R: Threads + Sync + Abort>(
     rt: &R,
     alloc: Global,
     trace: &Trace,
     policy: Policy,
-    want: &[Report],
+    wanted: &[Report],
 ) -> Result<(), Fail> {
-    match sweep(rt, alloc, trace, &job(policy, 7), &[1, 2, 3]) {
-        Ok(reports) => assert_eq!(rt; reports.as_slice(), want),
-        Err(fault) => return Err(failed(fault)),
-    }
+    let swept = sweep(rt, alloc, trace, &job(policy, 7), &[1, 2, 3]);
+    let reports = swept.map_err(failed)?;
+    assert_equal(rt, reports.as_slice(), wanted);
     Ok(())
 }
 
 #[test]
 fn sweeps(rt: HostRuntime) -> Result<(), Fail> {
-    let alloc = rt.alloc();
-    let some = Trace::new(vec![in alloc; 1, 2, 3, 1, 4, 2]?);
-    let want = [
+    let some = Trace::new(vec![in rt.alloc(); 1, 2, 3, 1, 4, 2]?);
+    let wanted = [
         counted(Policy::Lru, 1, [6, 0, 6, 5, 0]),
         counted(Policy::Lru, 2, [6, 0, 6, 4, 0]),
         counted(Policy::Lru, 3, [6, 1, 5, 2, 0]),
     ];
-    compare_sweep(&rt, alloc, &some, Policy::Lru, &want)?;
-    // The capacities share the next uses.
-    let other = Trace::new(vec![in alloc; 1, 2, 3, 1, 2]?);
-    let want = [
+    assert_sweep(&rt, rt.alloc(), &some, Policy::Lru, &wanted)
+}
+
+#[test]
+fn the_capacities_of_a_sweep_share_the_next_uses(rt: HostRuntime) -> Result<(), Fail> {
+    let other = Trace::new(vec![in rt.alloc(); 1, 2, 3, 1, 2]?);
+    let wanted = [
         counted(Policy::Clairvoyant, 1, [5, 1, 4, 3, 2]),
         counted(Policy::Clairvoyant, 2, [5, 2, 3, 1, 1]),
         counted(Policy::Clairvoyant, 3, [5, 2, 3, 0, 0]),
     ];
-    compare_sweep(&rt, alloc, &other, Policy::Clairvoyant, &want)
+    assert_sweep(&rt, rt.alloc(), &other, Policy::Clairvoyant, &wanted)
 }
 
 // What Lru counts over the accesses 1, 2, 3, 1, 4, 2: the distances are none, none, none, 3, none, 4.
@@ -291,13 +263,11 @@ fn many_capacities_of_lru(rt: HostRuntime) -> Result<(), Fail> {
         1,
         1 << 20,
     ];
-    let reports = match sweep(&rt, alloc, &some, &job(Policy::Lru, 7), &capacities) {
-        Ok(reports) => reports,
-        Err(fault) => return Err(failed(fault)),
-    };
-    assert_eq!(rt; reports.len(), capacities.len());
+    let swept = sweep(&rt, alloc, &some, &job(Policy::Lru, 7), &capacities);
+    let reports = swept.map_err(failed)?;
+    assert_equal(&rt, reports.len(), capacities.len());
     for (report, capacity) in reports.iter().zip(capacities.iter()) {
-        assert_eq!(rt; *report, lru_counted(*capacity));
+        assert_equal(&rt, *report, lru_counted(*capacity));
     }
     Ok(())
 }
@@ -320,10 +290,9 @@ fn sweeps_of_several_policies(rt: HostRuntime) -> Result<(), Fail> {
         counted(Policy::Lru, 3, [5, 2, 3, 0, 0]),
         counted(Policy::Lru, 1, [5, 0, 5, 4, 0]),
     ];
-    match sweep_each(&rt, alloc, &some, &jobs, &[3, 1], &OpenGate) {
-        Ok(reports) => assert_eq!(rt; reports.as_slice(), want.as_slice()),
-        Err(fault) => return Err(failed(fault)),
-    }
+    let swept = sweep_each(&rt, alloc, &some, &jobs, &[3, 1], &OpenGate);
+    let reports = swept.map_err(failed)?;
+    assert_equal(&rt, reports.as_slice(), want.as_slice());
     Ok(())
 }
 
@@ -333,16 +302,15 @@ fn a_sweep_of_over_a_hundred_reports(rt: HostRuntime) -> Result<(), Fail> {
     let alloc = rt.alloc();
     let some = Trace::new(vec![in alloc; 7; 3]?);
     let jobs = [job(Policy::SegmentedLru, 9); 64];
-    let reports = match sweep_each(&rt, alloc, &some, &jobs, &[1, 2], &OpenGate) {
-        Ok(reports) => reports,
-        Err(fault) => return Err(failed(fault)),
-    };
-    assert_eq!(rt; reports.len(), 128);
+    let swept = sweep_each(&rt, alloc, &some, &jobs, &[1, 2], &OpenGate);
+    let reports = swept.map_err(failed)?;
+    assert_equal(&rt, reports.len(), 128);
     for (i, report) in reports.iter().enumerate() {
         let capacity = if i % 2 == 0 { 1 } else { 2 };
-        assert_eq!(rt;
+        assert_equal(
+            &rt,
             *report,
-            counted(Policy::SegmentedLru, capacity, [3, 2, 1, 0, 0])
+            counted(Policy::SegmentedLru, capacity, [3, 2, 1, 0, 0]),
         );
     }
     Ok(())
@@ -357,11 +325,10 @@ fn a_sweep_shows_its_batches(rt: HostRuntime) -> Result<(), Fail> {
     let many = [2u32; 16];
     for (capacities, wanted) in [(&many[..2], 8), (&many[..], 32)] {
         let gate = Hold::new(0, 0);
-        assert_eq!(rt; sweep_batches(&some, &jobs, capacities), wanted);
-        if let Err(fault) = sweep_each(&rt, alloc, &some, &jobs, capacities, &gate) {
-            return Err(failed(fault));
-        }
-        assert_eq!(rt; gate.over(), wanted);
+        assert_equal(&rt, sweep_batches(&some, &jobs, capacities), wanted);
+        let swept = sweep_each(&rt, alloc, &some, &jobs, capacities, &gate);
+        drop(swept.map_err(failed)?);
+        assert_equal(&rt, gate.over(), wanted);
     }
     Ok(())
 }
@@ -371,31 +338,21 @@ fn faults_of_a_sweep_come_in_their_order(rt: HostRuntime) -> Result<(), Fail> {
     let alloc = rt.alloc();
     let some = trace(alloc)?;
     let good = job(Policy::Lru, 2);
-    assert!(rt;
-        matches!(
-            sweep_each(&rt, alloc, &some, &[good; 65], &[0], &OpenGate),
-            Err(ActorFault::Actors)
-        )
-    );
-    assert!(rt;
-        matches!(
-            sweep_each(&rt, alloc, &some, &[good, good], &[1, 2, 0, 0], &OpenGate),
-            Err(ActorFault::Config { index: 2 })
-        )
-    );
+    let many = sweep_each(&rt, alloc, &some, &[good; 65], &[0], &OpenGate);
+    assert_equal(&rt, fault_of(many)?, Some(ActorFault::Actors));
+    let pair = [good, good];
+    let none = sweep_each(&rt, alloc, &some, &pair, &[1, 2, 0, 0], &OpenGate);
+    assert_equal(&rt, fault_of(none)?, Some(ActorFault::Config { index: 2 }));
     Ok(())
 }
 
 #[test]
 fn a_fault_is_shown_by_its_name(rt: HostRuntime) -> Result<(), Fail> {
-    for (fault, text) in [
+    let table = [
         (ActorFault::OutOfMemory, "OutOfMemory"),
         (ActorFault::Batch, "Batch"),
         (ActorFault::Config { index: 3 }, "Config"),
         (ActorFault::Actors, "Actors"),
-    ] {
-        let shown = format!(in rt.alloc(); "{fault}")?;
-        assert_eq!(rt; shown.as_str(), text);
-    }
-    Ok(())
+    ];
+    assert_shown(&rt, rt.alloc(), &table)
 }

@@ -1,4 +1,5 @@
 //! Many workers side by side, whose entries are read by the rule of walks alone.
+use super::assertions::assert_equal;
 use super::gates::{Hold, Turns};
 use super::sessions::{SMALL, assert_own_lists, driven, fresh};
 use maintenance::Shell;
@@ -62,7 +63,7 @@ fn reply_of(
     act: Act,
 ) -> Reply {
     let entry = list.get(*at).expect(rt, "an entry");
-    assert_eq!(rt; entry.step.worker.number(), who.worker);
+    assert_equal(rt, entry.step.worker.number(), who.worker);
     assert!(rt; entry.step.act == act);
     *at = at.wrapping_add(1);
     entry.reply
@@ -192,7 +193,7 @@ fn assert_walks(rt: &impl Abort, list: &[Entry<Step, Reply>], who: Walker) {
             Call::Remove(key) => read_removal(rt, list, &mut at, who, key),
         }
     }
-    assert_eq!(rt; at, list.len());
+    assert_equal(rt, at, list.len());
 }
 
 // The lists are the walks of all workers.
@@ -208,14 +209,14 @@ fn assert_all_walks(rt: &impl Abort, lists: &[Vec<Entry<Step, Reply>>], crowd: C
         assert_walks(rt, list.as_slice(), who);
         number = number.wrapping_add(1);
     }
-    assert_eq!(rt; number, crowd.workers);
+    assert_equal(rt, number, crowd.workers);
 }
 
 // The cache that is left: nobody holds the maintenance, and each read was counted.
 fn assert_left(rt: &impl Abort, shell: &Shell, reads: u64) {
     assert!(rt; shell.holder().is_none());
     let stats = shell.stats();
-    assert_eq!(rt; stats.hits.wrapping_add(stats.misses), reads);
+    assert_equal(rt, stats.hits.wrapping_add(stats.misses), reads);
 }
 
 // The cache of a crowd.
@@ -279,7 +280,7 @@ fn sixty_four_workers_are_held_at_once(rt: HostRuntime) -> Result<(), Fail> {
     if gate.is_late() {
         return Err(Fail::from("workers one after the other, or out of memory for a thread"));
     }
-    assert_eq!(rt; gate.over(), 1_024);
+    assert_equal(&rt, gate.over(), 1_024);
     Ok(())
 }
 

@@ -1,20 +1,17 @@
 //! The jobs of the tests, and the reports that they are to give.
+use super::sessions::SMALL;
 use policy_actors::ActorFault;
 use report::Report;
 use std::test::Fail;
 use step_record::{Config, Job, Policy, Spread};
 
 pub(crate) fn job(policy: Policy, capacity: u32) -> Job {
-    Job {
-        policy,
-        config: Config {
-            capacity,
-            main_percent: 99,
-            spread: Spread::Plain,
-            stripes: 1,
-            journal_limit: 1,
-        },
-    }
+    let config = Config {
+        capacity,
+        spread: Spread::Plain,
+        ..SMALL
+    };
+    Job { policy, config }
 }
 
 // A report with these accesses, hits, misses, evictions and rejections.
@@ -38,5 +35,13 @@ pub(crate) fn failed(fault: ActorFault) -> Fail {
         ActorFault::Batch => Fail::from("Batch"),
         ActorFault::Config { .. } => Fail::from("Config"),
         ActorFault::Actors => Fail::from("Actors"),
+    }
+}
+
+// Why no reports were made; that no memory was left fails the test.
+pub(crate) fn fault_of<T: Drop>(made: Result<T, ActorFault>) -> Result<Option<ActorFault>, Fail> {
+    match made.err() {
+        Some(ActorFault::OutOfMemory) => Err(failed(ActorFault::OutOfMemory)),
+        fault => Ok(fault),
     }
 }

@@ -6,6 +6,8 @@
 #[cfg(test)]
 mod actors_tests;
 #[cfg(test)]
+mod assertions;
+#[cfg(test)]
 mod crowd_tests;
 #[cfg(test)]
 mod gate_tests;

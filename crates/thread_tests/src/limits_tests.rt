@@ -1,4 +1,5 @@
 //! Runs whose journal becomes full, and runs of a session with undone steps.
+use super::assertions::assert_equal;
 use super::gates::Hold;
 use super::sessions::{SMALL, assert_own_lists, failed, fresh, pieces_of};
 use drive::{Cause, SettleFault, settle};
@@ -30,13 +31,13 @@ const ONE_READ: [(Act, Reply); 9] = [
     (Act::End, Reply::Idle),
 ];
 
-// A run that was not stopped for memory, with its last steps undone.
+// A run through a gate that was not stopped for memory, with its last steps undone.
 fn rewound<G: Gate, R: Threads + Wait + Sync + Abort>(
     rt: &R,
+    gate: &G,
     alloc: Global,
     session: Session<Shell>,
     pieces: Vec<Vec<Call>>,
-    gate: &G,
     k: usize,
 ) -> Result<Rewound, Fail> {
     let run = drive_and_undo(rt, alloc, session, pieces, gate, k).map_err(failed)?;
@@ -44,7 +45,7 @@ fn rewound<G: Gate, R: Threads + Wait + Sync + Abort>(
         drop(run);
         return Err(Fail::from("out of memory"));
     }
-    assert_eq!(rt; run.undone, Ok(()));
+    assert_equal(rt, run.undone, Ok(()));
     Ok(run)
 }
 
@@ -65,7 +66,7 @@ fn assert_begins(rt: &impl Abort, session: &Session<Shell>, applied: usize) {
         let entry = session.entry(n);
         assert!(rt; entry.map(|entry| (entry.step.act, entry.reply)) == wanted);
     }
-    assert_eq!(rt; session.len(), applied);
+    assert_equal(rt, session.len(), applied);
 }
 
 // The journal of a limit of 1 to 9 is full: worker 0 holds the maintenance from its fourth step to its eighth, and
@@ -80,20 +81,20 @@ fn assert_not_settled(rt: &impl Abort, session: &mut Session<Shell>, limit: usiz
     } else {
         (None, Ok(0))
     };
-    assert_eq!(rt; holder, holds);
-    assert_eq!(rt; settle(session), settled);
-    assert_eq!(rt; session.len(), limit);
+    assert_equal(rt, holder, holds);
+    assert_equal(rt, settle(session), settled);
+    assert_equal(rt, session.len(), limit);
 }
 
 // A cache in which no step was made.
 fn assert_new(rt: &impl Abort, shell: &Shell) {
     assert!(rt; shell.holder().is_none());
-    assert_eq!(rt; shell.drain(), Drain::Idle);
+    assert_equal(rt, shell.drain(), Drain::Idle);
     assert!(rt; shell.tasks().is_empty());
     assert!(rt; shell.node_of(1).is_none());
-    assert_eq!(rt; shell.next_node(), 0);
+    assert_equal(rt, shell.next_node(), 0);
     let stats = shell.stats();
-    assert_eq!(rt; (stats.hits, stats.misses), (0, 0));
+    assert_equal(rt, (stats.hits, stats.misses), (0, 0));
 }
 
 // All steps are undone: the session stands where it began.
@@ -104,9 +105,9 @@ fn assert_goes_back(
 ) -> Result<(), Fail> {
     match session.back(steps) {
         Err(BackFault::OutOfMemory { undone: _ }) => return Err(Fail::from("out of memory")),
-        answer => assert_eq!(rt; answer, Ok(())),
+        answer => assert_equal(rt, answer, Ok(())),
     }
-    assert_eq!(rt; (session.len(), session.ahead()), (0, steps));
+    assert_equal(rt, (session.len(), session.ahead()), (0, steps));
     assert_new(rt, session.engine());
     Ok(())
 }
@@ -119,8 +120,8 @@ fn assert_cut_off<R: Threads + Wait + Sync + Abort>(
 ) -> Result<(), Fail> {
     let pieces = pieces_of(alloc, &[&[Call::Read(1), Call::Read(2)]])?;
     let session = fresh(rt, alloc, &SMALL, limit)?;
-    let mut run = rewound(rt, alloc, session, pieces, &OpenGate, 0)?;
-    assert_eq!(rt; run.cause, Some(Cause::JournalFull));
+    let mut run = rewound(rt, &OpenGate, alloc, session, pieces, 0)?;
+    assert_equal(rt, run.cause, Some(Cause::JournalFull));
     assert_own_lists(rt, &run.session, run.lists.as_slice());
     assert_begins(rt, &run.session, limit);
     assert_not_settled(rt, &mut run.session, limit);
@@ -148,10 +149,10 @@ fn count_looks(list: &[Entry<Step, Reply>]) -> usize {
 
 // A full session, and two lists in each of which reads are wanting.
 fn assert_both_cut(rt: &impl Abort, run: &Rewound, limit: usize) {
-    assert_eq!(rt; run.cause, Some(Cause::JournalFull));
+    assert_equal(rt, run.cause, Some(Cause::JournalFull));
     assert_own_lists(rt, &run.session, run.lists.as_slice());
     assert!(rt; run.session.is_full());
-    assert_eq!(rt; (run.session.len(), run.lists.len()), (limit, 2));
+    assert_equal(rt, (run.session.len(), run.lists.len()), (limit, 2));
     for list in &run.lists {
         assert!(rt; count_looks(list.as_slice()) < 50);
     }
@@ -167,7 +168,7 @@ fn assert_two_refused<R: Threads + Wait + Sync + Abort>(
     let pieces = pieces_of(alloc, &[&[Call::Read(1); 50], &[Call::Read(2); 50]])?;
     let session = fresh(rt, alloc, &SMALL, limit)?;
     let gate = Hold::new(2, 1);
-    let run = rewound(rt, alloc, session, pieces, &gate, 0)?;
+    let run = rewound(rt, &gate, alloc, session, pieces, 0)?;
     if gate.is_late() {
         drop(run);
         return Err(Fail::from("workers one after the other, or out of memory for a thread"));
@@ -196,7 +197,7 @@ fn undone<R: Threads + Wait + Sync + Abort>(
 ) -> Result<Session<Shell>, Fail> {
     let pieces = pieces_of(alloc, &[&[Call::Read(1)]])?;
     let session = fresh(rt, alloc, &SMALL, 100)?;
-    let run = rewound(rt, alloc, session, pieces, &OpenGate, k)?;
+    let run = rewound(rt, &OpenGate, alloc, session, pieces, k)?;
     Ok(session_of(run))
 }
 
@@ -206,9 +207,9 @@ fn a_run_without_calls_leaves_the_undone_steps(rt: HostRuntime) -> Result<(), Fa
     for (left, k) in [(9, 0), (3, 6), (0, 9)] {
         let idle = pieces_of(rt.alloc(), &[&[], &[]])?;
         let session = undone(&rt, rt.alloc(), k)?;
-        let run = rewound(&rt, rt.alloc(), session, idle, &OpenGate, 0)?;
+        let run = rewound(&rt, &OpenGate, rt.alloc(), session, idle, 0)?;
         assert_begins(&rt, &run.session, left);
-        assert_eq!(rt; run.session.ahead(), k);
+        assert_equal(&rt, run.session.ahead(), k);
     }
     Ok(())
 }
@@ -226,14 +227,14 @@ fn assert_goes_on(rt: &impl Abort, session: &Session<Shell>) {
         let entry = session.entry(n).expect(rt, "an entry");
         assert!(rt; entry.step.act == act && entry.reply == reply);
     }
-    assert_eq!(rt; session.ahead(), 0);
+    assert_equal(rt, session.ahead(), 0);
 }
 
 #[test]
 fn a_run_takes_the_place_of_the_undone_steps(rt: HostRuntime) -> Result<(), Fail> {
     let again = pieces_of(rt.alloc(), &[&[Call::Read(1)]])?;
     let session = undone(&rt, rt.alloc(), 6)?;
-    let run = rewound(&rt, rt.alloc(), session, again, &OpenGate, 0)?;
+    let run = rewound(&rt, &OpenGate, rt.alloc(), session, again, 0)?;
     assert_goes_on(&rt, &run.session);
     Ok(())
 }

@@ -1,4 +1,5 @@
 //! Maintenance that is settled, and quiet runs that are cut off.
+use super::assertions::assert_equal;
 use super::sessions::{SMALL, fresh};
 use journal::{BackFault, Session, SessionFault};
 use maintenance::Shell;
@@ -62,7 +63,7 @@ fn make_all(
     steps: &[(Act, Reply)],
 ) -> Result<(), Fail> {
     for (act, reply) in steps {
-        assert_eq!(rt; make(rt, session, *act)?, *reply);
+        assert_equal(rt, make(rt, session, *act)?, *reply);
     }
     Ok(())
 }
@@ -75,7 +76,7 @@ fn settled(
     let start = session.len() as u64;
     let answer = settle(session);
     if let Err(SettleFault::OutOfMemory { done }) = answer {
-        assert_eq!(rt; session.len() as u64, start.wrapping_add(done));
+        assert_equal(rt, session.len() as u64, start.wrapping_add(done));
         return Err(Fail::from("out of memory"));
     }
     Ok(answer)
@@ -83,7 +84,7 @@ fn settled(
 
 // Sees that the last entries of a session are these steps.
 fn assert_ends(rt: &impl Abort, session: &Session<Shell>, start: usize, steps: &[(Act, Reply)]) {
-    assert_eq!(rt; session.len(), start.wrapping_add(steps.len()));
+    assert_equal(rt, session.len(), start.wrapping_add(steps.len()));
     let mut at = start;
     for (act, reply) in steps {
         at = at.wrapping_add(1);
@@ -91,7 +92,7 @@ fn assert_ends(rt: &impl Abort, session: &Session<Shell>, start: usize, steps: &
             step: step(rt, *act),
             reply: *reply,
         };
-        assert_eq!(rt; session.entry(at).copied(), Some(entry));
+        assert_equal(rt, session.entry(at).copied(), Some(entry));
     }
 }
 
@@ -109,8 +110,8 @@ fn assert_settled(
     } else {
         Ok(left.len() as u64)
     };
-    assert_eq!(rt; settled(rt, session)?, wanted);
-    assert_eq!(rt; session.engine().holder().is_some(), room < left.len());
+    assert_equal(rt, settled(rt, session)?, wanted);
+    assert_equal(rt, session.engine().holder().is_some(), room < left.len());
     assert_ends(rt, session, start, &left[..room]);
     Ok(())
 }
@@ -134,11 +135,11 @@ fn assert_settles(
 fn assert_nothing_settled(rt: &impl Abort, session: &mut Session<Shell>) -> Result<(), Fail> {
     match session.back(1) {
         Err(BackFault::OutOfMemory { undone: _ }) => return Err(Fail::from("out of memory")),
-        answer => assert_eq!(rt; answer, Ok(())),
+        answer => assert_equal(rt, answer, Ok(())),
     }
-    assert_eq!(rt; session.engine().drain(), Drain::Required);
-    assert_eq!(rt; settle(session), Ok(0));
-    assert_eq!(rt; (session.len(), session.ahead()), (3, 1));
+    assert_equal(rt, session.engine().drain(), Drain::Required);
+    assert_equal(rt, settle(session), Ok(0));
+    assert_equal(rt, (session.len(), session.ahead()), (3, 1));
     Ok(())
 }
 
@@ -146,7 +147,7 @@ fn assert_nothing_settled(rt: &impl Abort, session: &mut Session<Shell>) -> Resu
 fn settling_without_a_holder_makes_no_step(rt: HostRuntime) -> Result<(), Fail> {
     let mut session = begun(&rt, rt.alloc(), 4)?;
     let answer = session.step(step(&rt, Act::End));
-    assert_eq!(rt; answer, Err(SessionFault::JournalFull));
+    assert_equal(&rt, answer, Err(SessionFault::JournalFull));
     assert_nothing_settled(&rt, &mut session)
 }
 
@@ -177,9 +178,13 @@ fn assert_cut_twice(
     second: QuietFault,
 ) -> Result<(), Fail> {
     let done = limit as u64;
-    assert_eq!(rt; cut_off(alloc, session)?, QuietFault::JournalFull { done });
-    assert_eq!(rt; cut_off(alloc, session)?, second);
-    assert_eq!(rt; session.len(), limit);
+    assert_equal(
+        rt,
+        cut_off(alloc, session)?,
+        QuietFault::JournalFull { done },
+    );
+    assert_equal(rt, cut_off(alloc, session)?, second);
+    assert_equal(rt, session.len(), limit);
     Ok(())
 }
 
@@ -213,14 +218,14 @@ fn assert_outcomes(
     wanted: &[Outcome],
 ) -> Result<(), Fail> {
     match run_quiet(alloc, session, &KEYS) {
-        Ok(outcomes) => assert_eq!(rt; outcomes.as_slice(), wanted),
+        Ok(outcomes) => assert_equal(rt, outcomes.as_slice(), wanted),
         Err(QuietFault::OutOfMemory { done }) => {
-            assert_eq!(rt; session.len() as u64, done);
+            assert_equal(rt, session.len() as u64, done);
             return Err(Fail::from("out of memory"));
         }
         Err(_) => return Err(Fail::from("a run with enough room")),
     }
-    assert_eq!(rt; session.len(), 47);
+    assert_equal(rt, session.len(), 47);
     Ok(())
 }
 

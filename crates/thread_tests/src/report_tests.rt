@@ -1,5 +1,6 @@
 //! The reports of small traces, made in two ways and compared with values that were worked out by hand.
-use super::jobs::{counted, failed, job};
+use super::assertions::assert_equal;
+use super::jobs::{counted, failed, fault_of, job};
 use headline::{BothWays, capacities_both_ways, jobs_both_ways};
 use policy_actors::ActorFault;
 use report::Report;
@@ -13,14 +14,10 @@ fn compare<R: Abort>(
     made: Result<BothWays, ActorFault>,
     wanted: &[Report],
 ) -> Result<(), Fail> {
-    match made {
-        Ok(reports) => {
-            assert_eq!(rt; reports.alone.as_slice(), wanted);
-            assert_eq!(rt; reports.together.as_slice(), wanted);
-            Ok(())
-        }
-        Err(fault) => Err(failed(fault)),
-    }
+    let reports = made.map_err(failed)?;
+    assert_equal(rt, reports.alone.as_slice(), wanted);
+    assert_equal(rt, reports.together.as_slice(), wanted);
+    Ok(())
 }
 
 #[test]
@@ -62,17 +59,9 @@ fn faults_of_both_ways(rt: HostRuntime) -> Result<(), Fail> {
     let trace = Trace::new(vec![in rt.alloc(); 1]?);
     let good = job(Policy::Lru, 1);
     let bad = job(Policy::Lru, 0);
-    assert!(rt;
-        matches!(
-            jobs_both_ways(&rt, rt.alloc(), &trace, &[bad], 0, &OpenGate),
-            Err(ActorFault::Batch)
-        )
-    );
-    assert!(rt;
-        matches!(
-            capacities_both_ways(&rt, rt.alloc(), &trace, &good, &[1, 0]),
-            Err(ActorFault::Config { index: 1 })
-        )
-    );
+    let jobs = jobs_both_ways(&rt, rt.alloc(), &trace, &[bad], 0, &OpenGate);
+    assert_equal(&rt, fault_of(jobs)?, Some(ActorFault::Batch));
+    let swept = capacities_both_ways(&rt, rt.alloc(), &trace, &good, &[1, 0]);
+    assert_equal(&rt, fault_of(swept)?, Some(ActorFault::Config { index: 1 }));
     Ok(())
 }

@@ -1,4 +1,5 @@
 //! Sessions of the concurrent cache, the calls of their workers, and what a run of them leaves.
+use super::assertions::assert_equal;
 use drive::{Cause, DriveFault, Driven, drive};
 use journal::Session;
 use maintenance::Shell;
@@ -112,5 +113,5 @@ pub(crate) fn assert_own_lists(
     for list in lists {
         total = total.wrapping_add(list.len());
     }
-    assert_eq!(rt; total, session.len());
+    assert_equal(rt, total, session.len());
 }

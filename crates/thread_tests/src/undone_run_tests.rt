@@ -1,4 +1,5 @@
 //! A run on threads of which more steps are to be undone than there are.
+use super::assertions::assert_equal;
 use super::sessions::{SMALL, failed, fresh, one_read_each};
 use drive::Cause;
 use headline::{Rewound, drive_and_undo};
@@ -28,7 +29,7 @@ fn assert_whole(rt: &impl Abort, run: &Rewound) -> Result<(), Fail> {
         return Err(Fail::from("out of memory"));
     }
     assert!(rt; run.undone == Err(BackFault::PastStart));
-    assert_eq!(rt; run.session.len(), 9);
+    assert_equal(rt, run.session.len(), 9);
     Ok(())
 }
 

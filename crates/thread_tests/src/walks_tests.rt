@@ -1,4 +1,5 @@
 //! Walks, step by step.
+use super::assertions::assert_equal;
 use std::process::Abort;
 use step_record::{Act, Answer, Call, Item, Reply, Worker};
 use walks::{Local, Next, next_step};
@@ -13,7 +14,7 @@ fn assert_walk(rt: &impl Abort, worker: u8, call: Call, walk: &[(Act, Reply)]) {
         let place = local.expect(rt, "a walk that is not over");
         match next_step(place, None) {
             Next::Do(asked, place) => {
-                assert_eq!(rt; asked, *act);
+                assert_equal(rt, asked, *act);
                 assert!(rt; asked.is_answered_by(reply));
                 local = match next_step(place, Some(*reply)) {
                     Next::Do(_, place) => Some(place),
@@ -28,26 +29,22 @@ fn assert_walk(rt: &impl Abort, worker: u8, call: Call, walk: &[(Act, Reply)]) {
 
 #[test]
 fn a_miss_adds_the_key_and_makes_a_round(rt: HostRuntime) {
-    assert_walk(
-        &rt,
-        0,
-        Call::Read(1),
-        &[
-            (Act::Look { key: 1 }, Reply::Miss),
-            (Act::Put { key: 1 }, Reply::Added { node: 0 }),
-            (Act::AfterWrite, Reply::Drain),
-            (Act::Begin, Reply::Began),
-            (Act::DrainRead { stripe: 0 }, Reply::Drained { item: ITEM }),
-            (Act::DrainRead { stripe: 0 }, Reply::Empty),
-            (Act::DrainRead { stripe: 1 }, Reply::Empty),
-            (Act::DrainWrite, Reply::Applied { item: ITEM }),
-            (Act::DrainWrite, Reply::Enough),
-            (Act::Evict, Reply::Shifted { item: ITEM }),
-            (Act::Evict, Reply::Rejected { item: ITEM }),
-            (Act::Evict, Reply::Fits),
-            (Act::End, Reply::Idle),
-        ],
-    );
+    let walk = [
+        (Act::Look { key: 1 }, Reply::Miss),
+        (Act::Put { key: 1 }, Reply::Added { node: 0 }),
+        (Act::AfterWrite, Reply::Drain),
+        (Act::Begin, Reply::Began),
+        (Act::DrainRead { stripe: 0 }, Reply::Drained { item: ITEM }),
+        (Act::DrainRead { stripe: 0 }, Reply::Empty),
+        (Act::DrainRead { stripe: 1 }, Reply::Empty),
+        (Act::DrainWrite, Reply::Applied { item: ITEM }),
+        (Act::DrainWrite, Reply::Enough),
+        (Act::Evict, Reply::Shifted { item: ITEM }),
+        (Act::Evict, Reply::Rejected { item: ITEM }),
+        (Act::Evict, Reply::Fits),
+        (Act::End, Reply::Idle),
+    ];
+    assert_walk(&rt, 0, Call::Read(1), &walk);
 }
 
 #[test]
@@ -73,40 +70,28 @@ fn a_hit_offers_its_item_to_the_stripe_of_the_worker(rt: HostRuntime) {
 
 #[test]
 fn a_worker_that_finds_another_at_the_maintenance_goes_on(rt: HostRuntime) {
-    assert_walk(
-        &rt,
-        0,
-        Call::Read(1),
-        &[
-            (Act::Look { key: 1 }, Reply::Miss),
-            (Act::Put { key: 1 }, Reply::WritesFull),
-            (Act::Begin, Reply::Busy),
-        ],
-    );
+    let walk = [
+        (Act::Look { key: 1 }, Reply::Miss),
+        (Act::Put { key: 1 }, Reply::WritesFull),
+        (Act::Begin, Reply::Busy),
+    ];
+    assert_walk(&rt, 0, Call::Read(1), &walk);
 }
 
 #[test]
 fn a_removal_makes_a_round_where_the_key_left(rt: HostRuntime) {
-    assert_walk(
-        &rt,
-        0,
-        Call::Remove(1),
-        &[
-            (Act::Remove { key: 1 }, Reply::Removed { node: 0 }),
-            (Act::AfterWrite, Reply::Drain),
-            (Act::Begin, Reply::Began),
-            (Act::DrainRead { stripe: 0 }, Reply::Empty),
-            (Act::DrainRead { stripe: 1 }, Reply::Empty),
-            (Act::DrainWrite, Reply::Cleared { item: ITEM }),
-            (Act::DrainWrite, Reply::Empty),
-            (Act::Evict, Reply::Fits),
-            (Act::End, Reply::Again),
-        ],
-    );
-    assert_walk(
-        &rt,
-        0,
-        Call::Remove(1),
-        &[(Act::Remove { key: 1 }, Reply::Absent)],
-    );
+    let walk = [
+        (Act::Remove { key: 1 }, Reply::Removed { node: 0 }),
+        (Act::AfterWrite, Reply::Drain),
+        (Act::Begin, Reply::Began),
+        (Act::DrainRead { stripe: 0 }, Reply::Empty),
+        (Act::DrainRead { stripe: 1 }, Reply::Empty),
+        (Act::DrainWrite, Reply::Cleared { item: ITEM }),
+        (Act::DrainWrite, Reply::Empty),
+        (Act::Evict, Reply::Fits),
+        (Act::End, Reply::Again),
+    ];
+    assert_walk(&rt, 0, Call::Remove(1), &walk);
+    let absent = [(Act::Remove { key: 1 }, Reply::Absent)];
+    assert_walk(&rt, 0, Call::Remove(1), &absent);
 }

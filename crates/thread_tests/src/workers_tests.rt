@@ -1,4 +1,5 @@
 //! Runs of workers on threads, some held back until all have begun.
+use super::assertions::assert_equal;
 use super::gates::Hold;
 use super::sessions::{
     SMALL, assert_own_lists, driven, failed, fault_text, fresh, one_read_each, pieces_of,
@@ -33,8 +34,8 @@ fn assert_counts(rt: &impl Abort, driven: &Driven, counts: (u64, u64, u64)) {
     assert_own_lists(rt, &driven.session, driven.lists.as_slice());
     let shell = driven.session.engine();
     let stats = shell.stats();
-    assert_eq!(rt; (stats.hits, stats.misses, stats.removed), counts);
-    assert_eq!(rt; stats.evictions, 0);
+    assert_equal(rt, (stats.hits, stats.misses, stats.removed), counts);
+    assert_equal(rt, stats.evictions, 0);
     assert!(rt; shell.holder().is_none());
 }
 
@@ -64,10 +65,10 @@ fn eight_workers_run_side_by_side(rt: HostRuntime) -> Result<(), Fail> {
 }
 
 fn assert_added_anew(rt: &impl Abort, driven: &Driven) {
-    assert_eq!(rt; driven.session.len(), 26);
+    assert_equal(rt, driven.session.len(), 26);
     assert_own_lists(rt, &driven.session, driven.lists.as_slice());
     let stats = driven.session.engine().stats();
-    assert_eq!(rt; (stats.misses, stats.removed), (2, 1));
+    assert_equal(rt, (stats.misses, stats.removed), (2, 1));
 }
 
 #[test]
@@ -111,8 +112,8 @@ fn stopped<R: Threads + Wait + Sync + Abort>(
 #[test]
 fn a_full_journal_stops_a_worker_at_its_maintenance(rt: HostRuntime) -> Result<(), Fail> {
     let session = stopped(&rt, rt.alloc())?;
-    assert_eq!(rt; session.len(), 4);
-    assert_eq!(rt; session.engine().drain(), Drain::ToIdle);
+    assert_equal(&rt, session.len(), 4);
+    assert_equal(&rt, session.engine().drain(), Drain::ToIdle);
     Ok(())
 }
 
@@ -143,7 +144,7 @@ fn a_maintenance_under_way_is_settled_first(rt: HostRuntime) -> Result<(), Fail>
     let idle = pieces_of(rt.alloc(), &[&[]])?;
     let session = stopped(&rt, rt.alloc())?;
     let refusal = refused(drive(&rt, rt.alloc(), session, idle, &OpenGate))?;
-    assert_eq!(rt; refusal, Refusal::Held(4));
+    assert_equal(&rt, refusal, Refusal::Held(4));
     Ok(())
 }
 
@@ -162,7 +163,7 @@ fn no_worker_or_too_many_is_a_fault(rt: HostRuntime) -> Result<(), Fail> {
         let pieces = idle_workers(rt.alloc(), workers)?;
         let session = fresh(&rt, rt.alloc(), &SMALL, 9)?;
         let refusal = refused(drive(&rt, rt.alloc(), session, pieces, &OpenGate))?;
-        assert_eq!(rt; refusal, Refusal::Workers(0));
+        assert_equal(&rt, refusal, Refusal::Workers(0));
     }
     Ok(())
 }
