@@ -1,7 +1,7 @@
 use Rattle.std.proofs.Common.{◌≡◌, ◌^◌}
 use Rattle.segments.specs.Ring.{items, chains}
 use Rattle.segments.specs.Index.{IsTree, tree_below, found}
-use Rattle.segments.proofs.index.Index.find_below.Given as goal
+use Rattle.segments.proofs.index.Index.find_along.Given as goal
 
 abbrev pub invariant-loop-depth : goal.invariant-loop-depth
 invariant-loop-depth l = record {
