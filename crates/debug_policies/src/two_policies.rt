@@ -1,5 +1,5 @@
 //! Two policies over one trace, as the debugger walks them.
-ghost use Rattle.std.specs.Prelude.{◌≡◌, nat_lt, Ok, IfOk};
+ghost use Rattle.std.specs.Prelude.{◌≡◌, Ok, IfOk};
 ghost use Rattle.step_record.specs.Config.{config_fault};
 ghost use Rattle.debug_policies.specs.TwoPolicies.{access_facts, just_one, left_on_access, policies_timeline, IsPartWalk};
 
@@ -83,8 +83,8 @@ impl<'a> Timeline for TwoPolicies<'a> {
         let second_age = self.second.age();
         let first = self.first.next()?;
         let second = self.second.next()?;
-        let first_fell = is_less(self.first.age(), first_age);
-        let second_fell = is_less(self.second.age(), second_age);
+        let first_fell = self.first.age() < first_age;
+        let second_fell = self.second.age() < second_age;
         Ok(access_facts(key, first, second, first_fell, second_fell))
     }
 
@@ -124,13 +124,6 @@ fn access_facts(
         parted: just_one(hits(first), hits(second)),
         dropped: false,
     }
-}
-
-// Whether the first age is less.
-fn is_less(age: u32, other: u32) -> bool
-    ensures { result ≡ nat_lt age other }
-{
-    age < other
 }
 
 // The key that left, or was not kept.

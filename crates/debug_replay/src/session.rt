@@ -1,5 +1,5 @@
 //! The session of a concurrent cache, as the debugger walks it.
-ghost use Rattle.std.specs.Prelude.{◌≡◌, nat_lt};
+ghost use Rattle.std.specs.Prelude.{◌≡◌};
 ghost use Rattle.debug_replay.specs.Replay.{step_facts, hit_key, is_dropped, left_on_step};
 
 use crate::shell_text::push_shell;
@@ -54,7 +54,7 @@ impl<'a> Timeline for Replay<'a> {
         if self.session.forward(1).is_err() {
             return Err(AllocError);
         }
-        let halved = is_less(self.session.engine().frequency().age(), age);
+        let halved = self.session.engine().frequency().age() < age;
         match self.session.entry(self.session.len()) {
             Some(entry) => Ok(step_facts(&entry.step.act, &entry.reply, halved)),
             None => unreachable!(),
@@ -117,11 +117,4 @@ fn is_dropped(reply: &Reply) -> bool
     ensures { result ≡ is_dropped reply.now }
 {
     matches!(reply, Reply::Full | Reply::Lost)
-}
-
-// Whether the first age is less.
-fn is_less(age: u32, other: u32) -> bool
-    ensures { result ≡ nat_lt age other }
-{
-    age < other
 }

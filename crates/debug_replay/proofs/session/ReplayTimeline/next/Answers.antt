@@ -20,7 +20,7 @@ returns-clause-facts c =
     c.age.ensures ∙ ap (λ (f : FrequencyData). f.age) c.frequency-2.ensures ∙ ap (λ (x : Shell). x.frequency.age) c.engine-2.ensures.engine in
     let place : c.len.result - 1 ≡ n = omega (arith, c.len.ensures.len, to.applied) in
     c.step_facts.ensures
-    ∙ facts_are old.opening old.engine new.engine new.kept steps n (c.len.result - 1) c.in-Some.entry.now c.is_less-halved.result
+    ∙ facts_are old.opening old.engine new.engine new.kept steps n (c.len.result - 1) c.in-Some.entry.now (nat_lt c.age.result c.age-age.result)
     (stands_here old.opening old.engine old.kept old.tail c.engine.ensures.sound.stands)
     (stands_there old.opening new.opening new.engine new.kept steps n to.opening to.kept c.engine-2.ensures.sound.stands)
-    (c.is_less-halved.ensures ∙ ap (λ a. nat_lt a c.age-age.result) now ∙ ap (nat_lt new.engine.frequency.age) age) to.kept place c.in-Some.ensures
+    (ap (λ a. nat_lt a c.age-age.result) now ∙ ap (nat_lt new.engine.frequency.age) age) to.kept place c.in-Some.ensures
