@@ -104,9 +104,7 @@ fn outcomes_of(
 ) -> Result<Vec<Outcome>, Fail> {
     let mut outcomes = Vec::new(alloc);
     for key in keys {
-        let Ok((outcome, _record)) = cache.apply(key) else {
-            return Err(Fail::from("an access that was refused"));
-        };
+        let (outcome, _record) = cache.apply(key)?;
         outcomes.push(outcome)?;
     }
     Ok(outcomes)
