@@ -14,7 +14,7 @@ ghost use Rattle.shell_buffers.specs.declared.task.Task.TheVariants as task;
 use crate::key_records::record_key;
 use crate::moves::{clear, hit};
 use crate::shell_core::Core;
-use replacement::Moves;
+use replacement::{KeptMoves, Moves};
 use segments::Queue;
 use shell_buffers::Task;
 use shell_model::{Change, Holder, UseRecord};
@@ -31,7 +31,10 @@ impl Core {
     {
         let frequency = record_key(&mut self.frequency, item.key)?;
         let moves = hit(&mut self.queues, self.rules.protected, item);
-        Ok(UseRecord { frequency, moves })
+        Ok(UseRecord {
+            frequency,
+            moves: KeptMoves::of(moves),
+        })
     }
 
     // An item that is queued nowhere is recorded, and comes into the window.
@@ -49,7 +52,10 @@ impl Core {
             last: Some(joined),
             ..Moves::NONE
         };
-        Ok(UseRecord { frequency, moves })
+        Ok(UseRecord {
+            frequency,
+            moves: KeptMoves::of(moves),
+        })
     }
 
     fn apply_add(&mut self, before: Phase, item: Item) -> Result<(Reply, Change), AllocError>

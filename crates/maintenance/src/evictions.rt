@@ -4,6 +4,7 @@ ghost use Rattle.shell_buffers.specs.declared.write_tasks.TheConstants.{MAX_TASK
 ghost use Rattle.step_record.specs.declared.drain.Phase.TheVariants as phase;
 ghost use Rattle.segments.specs.Queues.{IsDistinct};
 ghost use Rattle.replacement.specs.Moving.{queues_after, moves_of};
+ghost use Rattle.replacement.specs.KeptMoves.{IsKeepable};
 ghost use Rattle.shell_model.specs.Shell.{evict_effect, in_phase};
 ghost use Rattle.shell_model.specs.Evicting.{reply_by, unlisted_by};
 ghost use Rattle.shell_model.specs.Records.{leaves_table, evict_change};
@@ -11,7 +12,7 @@ ghost use Rattle.maintenance.specs.Evicted.{planned, item_out};
 
 use crate::shell_core::Core;
 use admission::Frequency;
-use replacement::{Effect, Rules};
+use replacement::{Effect, KeptMoves, Rules};
 use segments::{MoveRecord, Segments};
 use shell_model::{Change, EvictionRecord, Holder};
 use step_record::{Item, Outcome, Phase, Reply};
@@ -34,6 +35,7 @@ fn carry_out(queues: &mut Segments, frequency: &Frequency, rules: &Rules) -> Eff
         ≡ queues_after (planned rules.now frequency.now queues.old.lists) queues.old.lists }
     ensures moves { result.moves ≡ moves_of (planned rules.now frequency.now queues.old.lists) queues.old.lists }
     ensures outcome { result.outcome ≡ (planned rules.now frequency.now queues.old.lists).outcome }
+    ensures keepable { IsKeepable result.moves }
 {
     replacement::evict(queues, Some(frequency), rules)
 }
@@ -75,7 +77,7 @@ impl Core {
         let effect = carry_out(&mut self.queues, &self.frequency, &self.rules);
         let listed = self.unlist(effect.moves.out);
         let eviction = EvictionRecord {
-            moves: effect.moves,
+            moves: KeptMoves::of(effect.moves),
             listed,
         };
         (

@@ -22,7 +22,7 @@ impl Core {
         ensures { self.new ≡ before_use used self.old }
     {
         let UseRecord { frequency, moves } = used;
-        replacement::undo(&mut self.queues, moves);
+        replacement::undo(&mut self.queues, moves.moves());
         unrecord_key(&mut self.frequency, frequency);
     }
 
@@ -128,16 +128,16 @@ impl Core {
         Ok(())
     }
 
-    fn undo_evicted(&mut self, before: Phase, eviction: EvictionRecord) -> Result<(), AllocError>
-        requires { FitsChange (Evicted before eviction) self.old }
-        ensures ok { OnOk result (self.new ≡ before_change (Evicted before eviction) self.old) }
+    fn undo_evicted(&mut self, before: Phase, eviction: &EvictionRecord) -> Result<(), AllocError>
+        requires { FitsChange (Evicted before eviction.now) self.old }
+        ensures ok { OnOk result (self.new ≡ before_change (Evicted before eviction.now) self.old) }
         ensures err { OnErr result (self.new ≡ self.old) }
-        ensures asks { OnErr result (eviction.moves.out ≢ None) }
+        ensures asks { OnErr result (eviction.now.moves.out ≢ None) }
     {
-        let EvictionRecord { moves, listed } = eviction;
+        let moves = eviction.moves.moves();
         if let Some(out) = moves.out {
             self.queues.reserve()?;
-            if listed {
+            if eviction.listed {
                 self.table.place(out.item)?;
             }
         }
@@ -180,7 +180,7 @@ impl Core {
                 }
             }
             Change::Evicted { before, eviction } => {
-                if self.undo_evicted(before, eviction).is_err() {
+                if self.undo_evicted(before, &eviction).is_err() {
                     return Err(Change::Evicted { before, eviction });
                 }
             }

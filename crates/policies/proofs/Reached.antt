@@ -25,7 +25,8 @@ use Rattle.replacement.specs.Table.{Response, access}
 use Rattle.replacement.proofs.Shape.{shape-is}
 use Rattle.policies.specs.Design.{is_counting, rules_of}
 use Rattle.policies.specs.QueueCache.{QueueState, nodeless_item, access_response, queue_state_after, frequency_by, frequency_after, state_from, empty_queue_state, state_after, outcome_after, StandsFor}
-use Rattle.policies.specs.QueueStep.{IsReached, recorded_in, queue_act, FitsCounting, unrecorded, counting_words, pace_by}
+use Rattle.policies.specs.QueueStep.{IsReached, recorded_in, queue_act, FitsCounting, unrecorded, pace_by}
+use Rattle.admission.specs.KeptCounting.{counting_words}
 use Rattle.policies.specs.QueueFields.{FewHalvings}
 
 from-snoc : (j : Job) (past : List ℕ) (d : QueueState) (keys : List ℕ) (k : ℕ) → state_from j past d (keys ++ k ∷ []) ≡ queue_state_after (frequency_after j ((past ++ keys) ++ k ∷ [])) k (state_from j past d keys)

@@ -18,7 +18,7 @@ use Rattle.policies.specs.Design.{rules_of}
 use Rattle.policies.specs.QueueCache.{nodeless_item}
 use Rattle.policies.specs.QueueStep.{recorded_in, counting_record, queue_record_of}
 
-abbrev record_with : Option FreqRecord → Moves → Outcome → AccessRecord
+abbrev pub record_with : Option FreqRecord → Moves → Outcome → AccessRecord
 record_with c m o = record { counting = c; moves = m; outcome = o }
 
 pub access-recorded : (j : Job) (r : Rules) (q p : Queues) (f g : Option FrequencyData) (s : Stats) (k : ℕ) (c : Option FreqRecord) (w : Effect)

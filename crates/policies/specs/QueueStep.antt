@@ -7,7 +7,7 @@ use Rattle.step_record.specs.Pace.{Pace, pace_without_sketch}
 use Rattle.admission.specs.declared.freq_record.FreqRecord.{FreqRecord}
 use Rattle.admission.specs.Frequency.{FrequencyData, frequency_with, pace_of as frequency_pace}
 use Rattle.admission.specs.FreqRecord.{frequency_record as freq_record_of, frequency_before as freq_undone, FitsRecord}
-use Rattle.admission.specs.FreqRecord.{size_of as freq_words}
+use Rattle.admission.specs.KeptCounting.{counting_words}
 use Rattle.replacement.specs.declared.record.Moves.{Moves}
 use Rattle.replacement.specs.Admission.{admits_in}
 use Rattle.replacement.specs.Plan.{plan}
@@ -92,10 +92,6 @@ abbrev pub queue_asks : AccessRecord → Type 0
 queue_asks r = r.moves.out ≢ None
 
 -- ---- its words, and how the frequency ages
-
-abbrev pub counting_words : Option FreqRecord → ℕ
-counting_words None = 0
-counting_words (Some r) = freq_words r
 
 abbrev pub queue_words : AccessRecord → ℕ
 queue_words r = counting_words r.counting

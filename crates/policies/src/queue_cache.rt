@@ -13,8 +13,8 @@ ghost use Rattle.policies.specs.QueueFields.{FewHalvings};
 
 use crate::design::QueueDesign;
 use crate::record::AccessRecord;
-use admission::{FreqRecord, Frequency};
-use replacement::{Rules, access, open_frequency, undo};
+use admission::{FreqRecord, Frequency, KeptCounting};
+use replacement::{KeptMoves, Rules, access, open_frequency, undo};
 use segments::{Queue, Segments};
 use std::alloc::{AllocError, Global};
 use std::marker::{Model, PhantomData};
@@ -197,8 +197,8 @@ impl<P: Drop> Engine for QueueCache<P> {
         let effect = access::<Recorder>(&mut self.segments, frequency, &self.rules, item);
         self.stats.count(effect.outcome);
         let record = AccessRecord {
-            counting,
-            moves: effect.moves,
+            counting: KeptCounting::of(counting),
+            moves: KeptMoves::of(effect.moves),
             outcome: effect.outcome,
         };
         Ok((effect.outcome, record))
@@ -212,17 +212,18 @@ impl<P: Drop> Engine for QueueCache<P> {
         // Only an item that left asks for room to come back.
         ensures asks { OnErr result (queue_asks done) }
     {
-        if done.moves.out.is_some() && self.segments.reserve().is_err() {
+        let moves = done.moves.moves();
+        if moves.out.is_some() && self.segments.reserve().is_err() {
             return Err(done);
         }
         let AccessRecord {
             counting,
-            moves,
+            moves: _,
             outcome,
         } = done;
         self.stats.uncount(outcome);
         undo(&mut self.segments, moves);
-        unrecord_in(&mut self.frequency, counting);
+        unrecord_in(&mut self.frequency, counting.into_record());
         Ok(())
     }
 
@@ -234,10 +235,7 @@ impl<P: Drop> Engine for QueueCache<P> {
         ensures words { result ≡ queue_words done.now }
         ensures bounded { result ≤ MAX_STEPS }
     {
-        match &done.counting {
-            Some(counting) => counting.words(),
-            None => 0,
-        }
+        done.counting.words()
     }
 
     ghost counted = { act_counts };

@@ -1,13 +1,13 @@
 //! The undo record of an access.
-use admission::FreqRecord;
-use replacement::Moves;
+use admission::KeptCounting;
+use replacement::KeptMoves;
 use step_record::Outcome;
 
 /// The undo record of an access to a cache of queues: that of the recording of its key, where keys are counted, what
 /// was moved, and the outcome that was counted. It holds lists only where the recording brought a halving.
 #[derive(Drop)]
 pub struct AccessRecord {
-    pub(crate) counting: Option<FreqRecord>,
-    pub(crate) moves: Moves,
+    pub(crate) counting: KeptCounting,
+    pub(crate) moves: KeptMoves,
     pub(crate) outcome: Outcome,
 }

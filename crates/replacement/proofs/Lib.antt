@@ -2,3 +2,4 @@ pub mod Shape
 pub mod Carrying
 pub mod Planned
 pub mod Served
+pub mod Oldest

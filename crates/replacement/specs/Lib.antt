@@ -5,4 +5,5 @@ pub mod Table
 pub mod Plan
 pub mod Moving
 pub mod Effects
+pub mod KeptMoves
 pub mod Theorems

@@ -6,6 +6,7 @@ ghost use Rattle.replacement.specs.Table.{access};
 ghost use Rattle.replacement.specs.Plan.{plan};
 ghost use Rattle.replacement.specs.Moving.{moves_of, undone_moves, FitsMoves};
 ghost use Rattle.replacement.specs.Effects.{IsEffect};
+ghost use Rattle.replacement.specs.KeptMoves.{IsKeepable};
 
 use crate::hits::hit_by;
 use crate::misses::{direct, windowed};
@@ -37,6 +38,7 @@ pub fn access<C>(
         (λ f. f.now) frequency.entry)) item segments.old.lists) segments.old.lists }
     ensures fits { FitsMoves result.moves segments.new.lists }
     ensures undone { undone_moves result.moves segments.new.lists ≡ segments.old.lists }
+    ensures keepable { IsKeepable result.moves }
     // what holds of every Segments: no item stands twice
     ensures distinct { IsDistinct segments.old.lists }
 {
@@ -55,6 +57,7 @@ fn access_planned<C>(
     ensures effect { IsEffect (plan rules.now (admits_in
         (option_map (λ f. f.now) frequency.entry)) item segments.old.lists)
         segments.old.lists segments.new.lists result }
+    ensures keepable { IsKeepable result.moves }
     ensures distinct { IsDistinct segments.old.lists }
 {
     if let Some(moves) = hit_by(segments, rules, item) {

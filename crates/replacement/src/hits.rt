@@ -5,6 +5,7 @@ ghost use Rattle.replacement.specs.Table.{after_hit};
 ghost use Rattle.replacement.specs.Plan.{demotion, settling};
 ghost use Rattle.replacement.specs.Moving.{queues_after_transfer, transfer_record, undone_moves, FitsMoves};
 ghost use Rattle.replacement.specs.Effects.{IsHit, IsHitBy};
+ghost use Rattle.replacement.specs.KeptMoves.{IsOldest, IsKeepable};
 
 use crate::record::Moves;
 use crate::rules::{HitRule, Rules};
@@ -21,6 +22,7 @@ pub fn hit(segments: &mut Segments, size: usize, item: Item) -> Option<Moves>
     ensures record { IfSome result (λ m. IsHit size item segments.old.lists segments.new.lists m) }
     ensures fits { IfSome result (λ m. FitsMoves m segments.new.lists) }
     ensures undone { IfSome result (λ m. undone_moves m segments.new.lists ≡ segments.old.lists) }
+    ensures keepable { IfSome result (λ m. IsKeepable m) }
     ensures spare { segments.old.spare ≤ segments.new.spare }
     // what holds of every Segments: no item stands twice
     ensures distinct { IsDistinct segments.old.lists }
@@ -39,6 +41,7 @@ pub fn hit(segments: &mut Segments, size: usize, item: Item) -> Option<Moves>
 pub(crate) fn hit_by(segments: &mut Segments, rules: &Rules, item: Item) -> Option<Moves>
     ensures hit { IfSome result (λ m.
         IsHitBy rules.now.hits rules.now.protected item segments.old.lists segments.new.lists m) }
+    ensures keepable { IfSome result (λ m. IsKeepable m) }
     ensures absent { IfNone result (queue_holding item segments.old.lists ≡ None) }
     ensures none { IfNone result (segments.new.lists ≡ segments.old.lists) }
     ensures spare { segments.old.spare ≤ segments.new.spare }
@@ -59,6 +62,7 @@ fn settle(segments: &mut Segments, size: usize, queue: Queue) -> Option<MoveReco
     requires { IsDistinct segments.old.lists }
     ensures lists { segments.new.lists ≡ queues_after_transfer (settling size queue segments.old.lists) segments.old.lists }
     ensures record { result ≡ transfer_record (settling size queue segments.old.lists) segments.old.lists }
+    ensures oldest { IsOldest result }
     ensures spare { segments.old.spare ≤ segments.new.spare }
 {
     match queue {
@@ -73,6 +77,7 @@ fn demote(segments: &mut Segments, size: usize) -> Option<MoveRecord>
     requires { IsDistinct segments.old.lists }
     ensures lists { segments.new.lists ≡ queues_after_transfer (demotion size segments.old.lists) segments.old.lists }
     ensures record { result ≡ transfer_record (demotion size segments.old.lists) segments.old.lists }
+    ensures oldest { IsOldest result }
     ensures spare { segments.old.spare ≤ segments.new.spare }
 {
     if segments.len(Queue::Protected) <= size {

@@ -9,6 +9,7 @@
 mod accesses;
 mod admission_filter;
 mod hits;
+mod kept_moves;
 mod misses;
 mod queue_moves;
 mod record;
@@ -19,6 +20,7 @@ mod theorems;
 pub use accesses::access;
 pub use admission_filter::open_frequency;
 pub use hits::hit;
+pub use kept_moves::KeptMoves;
 pub use misses::evict;
 pub use record::{Effect, Moves};
 pub use rollback::undo;

@@ -6,6 +6,7 @@ ghost use Rattle.replacement.specs.Table.{eviction};
 ghost use Rattle.replacement.specs.Plan.{direct_plan, eviction_plan, joining_first};
 ghost use Rattle.replacement.specs.Moving.{moves_of, undone_moves, FitsMoves};
 ghost use Rattle.replacement.specs.Effects.{IsEffect};
+ghost use Rattle.replacement.specs.KeptMoves.{IsDrop, IsKeepable};
 
 use crate::admission_filter::admits;
 use crate::queue_moves::{drop_oldest, join, renew_oldest, send_oldest};
@@ -31,6 +32,7 @@ pub fn evict(segments: &mut Segments, frequency: Option<&Frequency>, rules: &Rul
         (option_map (λ f. f.now) frequency.entry)) segments.old.lists) segments.old.lists }
     ensures fits { FitsMoves result.moves segments.new.lists }
     ensures undone { undone_moves result.moves segments.new.lists ≡ segments.old.lists }
+    ensures keepable { IsKeepable result.moves }
 {
     evict_planned(segments, frequency, rules)
 }
@@ -46,7 +48,8 @@ pub(crate) fn windowed(
     requires absent { queue_holding item segments.old.lists ≡ None }
     requires distinct { IsDistinct segments.old.lists }
     requires room { 1 ≤ segments.old.spare }
-    ensures { IsEffect (joining_first item
+    ensures keepable { IsKeepable result.moves }
+    ensures effect { IsEffect (joining_first item
         (eviction_plan rules.now (admits_in (option_map (λ f. f.now) frequency.entry))
         (queues_after_move item Queue.Window segments.old.lists)))
         segments.old.lists segments.new.lists result }
@@ -69,7 +72,8 @@ pub(crate) fn direct(
     requires absent { queue_holding item segments.old.lists ≡ None }
     requires distinct { IsDistinct segments.old.lists }
     requires room { 1 ≤ segments.old.spare }
-    ensures { IsEffect (direct_plan rules.now (admits_in
+    ensures keepable { IsKeepable result.moves }
+    ensures effect { IsEffect (direct_plan rules.now (admits_in
         (option_map (λ f. f.now) frequency.entry)) queue item segments.old.lists)
         segments.old.lists segments.new.lists result }
 {
@@ -135,7 +139,9 @@ pub(crate) fn evict_planned(
     rules: &Rules,
 ) -> Effect
     requires distinct { IsDistinct segments.old.lists }
-    ensures { IsEffect (eviction_plan rules.now (admits_in
+    ensures keepable { IsKeepable result.moves }
+    ensures drop { IsDrop result.moves.out }
+    ensures effect { IsEffect (eviction_plan rules.now (admits_in
         (option_map (λ f. f.now) frequency.entry)) segments.old.lists)
         segments.old.lists segments.new.lists result }
 {

@@ -5,6 +5,7 @@ ghost use Rattle.segments.specs.Queues.{queue_of, queue_holding, queues_after_mo
 ghost use Rattle.segments.specs.Moves.{move_record};
 ghost use Rattle.replacement.specs.Plan.{transfer};
 ghost use Rattle.replacement.specs.Moving.{queues_after_transfer, removed, transfer_record, removal_record};
+ghost use Rattle.replacement.specs.KeptMoves.{IsOldest, IsDrop};
 
 use segments::{MoveRecord, Queue, Segments};
 use step_record::Item;
@@ -17,6 +18,7 @@ pub(crate) fn join(segments: &mut Segments, queue: Queue, item: Item) -> MoveRec
     requires distinct { IsDistinct segments.old.lists }
     ensures lists { segments.new.lists ≡ queues_after_move item queue segments.old.lists }
     ensures record { result ≡ move_record item (Some queue) segments.old.lists }
+    ensures oldest { IsOldest (Some result) }
     ensures distinct { IsDistinct segments.new.lists }
     ensures spare { segments.old.spare ≤ segments.new.spare + 1 }
 {
@@ -31,6 +33,7 @@ pub(crate) fn drop_oldest(segments: &mut Segments, queue: Queue) -> MoveRecord
     ensures lists { segments.new.lists ≡ removed (oldest_of (queue_of queue segments.old.lists)) segments.old.lists }
     ensures rest { segments.new.lists ≡ queues_after_pop queue segments.old.lists }
     ensures record { Some result ≡ removal_record (oldest_of (queue_of queue segments.old.lists)) segments.old.lists }
+    ensures drop { IsDrop (Some result) }
     ensures distinct { IsDistinct segments.new.lists }
     ensures spare { segments.old.spare + 1 ≤ segments.new.spare }
 {
@@ -56,6 +59,8 @@ pub(crate) fn renew_oldest(
     ensures out { Some result.0 ≡ removal_record (oldest_of (queue_of queue segments.old.lists)) segments.old.lists }
     ensures put { result.1 ≡ move_record item (Some queue)
         (removed (oldest_of (queue_of queue segments.old.lists)) segments.old.lists) }
+    ensures drop { IsDrop (Some result.0) }
+    ensures oldest { IsOldest (Some result.1) }
     ensures spare { segments.old.spare ≤ segments.new.spare }
 {
     match segments.renew_oldest(queue, item) {
@@ -73,6 +78,7 @@ pub(crate) fn send_oldest(segments: &mut Segments, from: Queue, to: Queue) -> Mo
         ≡ queues_after_transfer (transfer to (oldest_of (queue_of from segments.old.lists))) segments.old.lists }
     ensures record { Some result
         ≡ transfer_record (transfer to (oldest_of (queue_of from segments.old.lists))) segments.old.lists }
+    ensures oldest { IsOldest (Some result) }
     ensures spare { segments.old.spare ≤ segments.new.spare }
 {
     match segments.send_oldest(from, to) {

@@ -1,7 +1,7 @@
 //! The undo record of a step.
 use crate::holder::Holder;
 use admission::FreqRecord;
-use replacement::Moves;
+use replacement::KeptMoves;
 use segments::MoveRecord;
 use shell_buffers::Task;
 use step_record::{Drain, Item, Phase, Reply, Worker};
@@ -11,13 +11,13 @@ use step_record::{Drain, Item, Phase, Reply, Worker};
 #[derive(Drop)]
 pub struct UseRecord {
     pub frequency: FreqRecord,
-    pub moves: Moves,
+    pub moves: KeptMoves,
 }
 
 /// What an eviction moved in the queues, and whether the item that left them left the table too.
-#[derive(Clone, Copy, Debug, PartialEq, Eq)]
+#[derive(Drop)]
 pub struct EvictionRecord {
-    pub moves: Moves,
+    pub moves: KeptMoves,
     pub listed: bool,
 }
 

@@ -19,4 +19,4 @@ mod touch_record;
 pub use columns::column;
 pub use halve_record::HalveRecord;
 pub use sketch::Sketch;
-pub use touch_record::TouchRecord;
+pub use touch_record::{RaisedRows, TouchRecord};

@@ -7,17 +7,19 @@ use step_record::Key;
 /// Which of a key's four counters a touch raised: all that it takes to undo it. It holds no list.
 #[derive(Clone, Copy, Debug, PartialEq, Eq)]
 pub struct TouchRecord {
-    pub(crate) key: Key,
-    pub(crate) rose: RaisedRows,
+    /// The key.
+    pub key: Key,
+    /// Where its counters rose.
+    pub rose: RaisedRows,
 }
 
 /// A flag for each row of a sketch: whether the key's counter there rose.
 #[derive(Clone, Copy, Debug, PartialEq, Eq)]
 pub struct RaisedRows {
-    pub(crate) row_0: bool,
-    pub(crate) row_1: bool,
-    pub(crate) row_2: bool,
-    pub(crate) row_3: bool,
+    pub row_0: bool,
+    pub row_1: bool,
+    pub row_2: bool,
+    pub row_3: bool,
 }
 
 impl TouchRecord {

@@ -11,9 +11,9 @@ returns-in-Some-clause-effect g c =
 pub returns-in-Windowed-clause-effect : goal.returns-in-Windowed-clause-effect
 returns-in-Windowed-clause-effect g c =
     miss-effect c.args.rules.now (admits_in (option_map (λ f. f.now) c.args.frequency)) c.args.item c.args.segments.now.lists c.hit_by.new.segments.lists c.windowed.new.segments.lists c.windowed.result c.in_default.ensures.absent c.in_default.ensures.none
-    (placed-effect Windowed c.args.rules.now (admits_in (option_map (λ f. f.now) c.args.frequency)) c.args.item c.hit_by.new.segments.lists c.windowed.new.segments.lists c.windowed.result c.in-Windowed.is c.windowed.ensures)
+    (placed-effect Windowed c.args.rules.now (admits_in (option_map (λ f. f.now) c.args.frequency)) c.args.item c.hit_by.new.segments.lists c.windowed.new.segments.lists c.windowed.result c.in-Windowed.is c.windowed.ensures.effect)
 
 pub returns-in-Direct-clause-effect : goal.returns-in-Direct-clause-effect
 returns-in-Direct-clause-effect g c =
     miss-effect c.args.rules.now (admits_in (option_map (λ f. f.now) c.args.frequency)) c.args.item c.args.segments.now.lists c.hit_by.new.segments.lists c.direct.new.segments.lists c.direct.result c.in_default.ensures.absent c.in_default.ensures.none
-    (placed-effect (Direct c.in-Direct.queue) c.args.rules.now (admits_in (option_map (λ f. f.now) c.args.frequency)) c.args.item c.hit_by.new.segments.lists c.direct.new.segments.lists c.direct.result c.in-Direct.is c.direct.ensures)
+    (placed-effect (Direct c.in-Direct.queue) c.args.rules.now (admits_in (option_map (λ f. f.now) c.args.frequency)) c.args.item c.hit_by.new.segments.lists c.direct.new.segments.lists c.direct.result c.in-Direct.is c.direct.ensures.effect)

@@ -4,6 +4,7 @@ use Rattle.replacement.specs.Plan.{settling}
 use Rattle.replacement.specs.Moving.{queues_after_transfer}
 use Rattle.replacement.proofs.Carrying.{moved-distinct}
 use Rattle.replacement.proofs.Served.{hit-undone}
+use Rattle.replacement.proofs.Oldest.{renewed-first}
 use Rattle.replacement.proofs.hits.hit.Goals as goal
 
 pub settle-last-requires : goal.settle-last-requires
@@ -25,3 +26,9 @@ returns-clause-fits c =
 pub returns-clause-undone : goal.returns-clause-undone
 returns-clause-undone c =
     (hit-undone c.args.size c.args.item c.args.segments.now.lists c.settle-last.new.segments.lists _ c.in_ok-queue.ensures.distinct (returns-clause-record c)).back
+
+pub returns-clause-keepable : goal.returns-clause-keepable
+returns-clause-keepable c = (
+  renewed-first (queue_after_access c.in_ok-queue.queue) c.in_ok-queue.queue c.args.item c.args.segments.now.lists c.in_ok-queue.first c.in_ok-queue.ensures.record c.in_ok-queue.ensures.place,
+  c.settle-last.ensures.oldest,
+)

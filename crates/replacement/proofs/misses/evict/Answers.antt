@@ -8,20 +8,20 @@ use Rattle.replacement.proofs.misses.evict.Goals as goal
 
 pub returns-clause-outcome : goal.returns-clause-outcome
 returns-clause-outcome c =
-    c.evict_planned.ensures.outcome
+    c.evict_planned.ensures.effect.outcome
     ∙ ap (λ (x : Response). x.outcome) (sym (evictions-planned c.args.rules.now (admits_in (option_map (λ f. f.now) c.args.frequency)) c.args.segments.now.lists c.requires.distinct))
 
 pub returns-clause-lists : goal.returns-clause-lists
 returns-clause-lists c =
-    c.evict_planned.ensures.lists
+    c.evict_planned.ensures.effect.lists
     ∙ ap (λ (x : Response). x.queues) (sym (evictions-planned c.args.rules.now (admits_in (option_map (λ f. f.now) c.args.frequency)) c.args.segments.now.lists c.requires.distinct))
 
 pub returns-clause-fits : goal.returns-clause-fits
 returns-clause-fits c =
     (undoes (eviction_plan c.args.rules.now (admits_in (option_map (λ f. f.now) c.args.frequency)) c.args.segments.now.lists) c.args.segments.now.lists c.evict_planned.new.segments.lists c.evict_planned.result.moves c.requires.distinct
-    c.evict_planned.ensures.lists c.evict_planned.ensures.moves).fits
+    c.evict_planned.ensures.effect.lists c.evict_planned.ensures.effect.moves).fits
 
 pub returns-clause-undone : goal.returns-clause-undone
 returns-clause-undone c =
     (undoes (eviction_plan c.args.rules.now (admits_in (option_map (λ f. f.now) c.args.frequency)) c.args.segments.now.lists) c.args.segments.now.lists c.evict_planned.new.segments.lists c.evict_planned.result.moves c.requires.distinct
-    c.evict_planned.ensures.lists c.evict_planned.ensures.moves).back
+    c.evict_planned.ensures.effect.lists c.evict_planned.ensures.effect.moves).back

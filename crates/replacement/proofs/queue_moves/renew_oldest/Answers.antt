@@ -4,6 +4,7 @@ use Rattle.segments.specs.Moves.{move_record}
 use Rattle.segments.proofs.QueueLists.{still-absent}
 use Rattle.replacement.specs.Moving.{removed}
 use Rattle.replacement.proofs.Carrying.{popped-taken, pushed-moved}
+use Rattle.replacement.proofs.Oldest.{dropped-oldest, joined-oldest}
 use Rattle.replacement.proofs.queue_moves.renew_oldest.Goals as goal
 
 pub returns-clause-lists : goal.returns-clause-lists
@@ -21,3 +22,16 @@ returns-clause-put c =
     let gone = popped-taken c.args.queue c.in-Some.done.0.item s c.requires.distinct c.in-Some.ensures.item in
     c.in-Some.ensures.put ∙ (ap (move_record c.args.item (Some c.args.queue)) gone
     ∙ ap (λ o. move_record c.args.item (Some c.args.queue) (removed o s)) (sym c.in-Some.ensures.item))
+
+pub returns-clause-drop : goal.returns-clause-drop
+returns-clause-drop c =
+    dropped-oldest c.args.queue c.in-Some.done.0.item c.args.segments.now.lists c.in-Some.done.0 c.requires.distinct c.in-Some.ensures.item c.in-Some.ensures.out
+
+pub returns-clause-oldest : goal.returns-clause-oldest
+returns-clause-oldest c =
+    let s = c.args.segments.now.lists in
+    let oldest = c.in-Some.done.0.item in
+    let gone = popped-taken c.args.queue oldest s c.requires.distinct c.in-Some.ensures.item in
+    joined-oldest c.args.queue c.args.item (queues_without oldest s) c.in-Some.done.1
+    (c.in-Some.ensures.put ∙ ap (move_record c.args.item (Some c.args.queue)) gone)
+    (still-absent c.args.item oldest s c.requires.absent)

@@ -5,10 +5,11 @@ use Rattle.step_record.specs.declared.drain.Phase.TheVariants as phase
 use Rattle.step_record.specs.declared.step.Reply.{Reply}
 use Rattle.replacement.specs.Rules.{three_queues}
 use Rattle.replacement.specs.Plan.{candidate_of}
+use Rattle.shell_model.specs.Records.{evict_change}
 use Rattle.shell_model.specs.Evicting.{reply_by, unlisted_by}
 use Rattle.maintenance.specs.contracts.shell_core.Core.{the_view}
 use Rattle.maintenance.specs.Evicted.{item_out}
-use Rattle.maintenance.proofs.Evicted.{evicted-is}
+use Rattle.maintenance.proofs.Evicted.{evicted-is, eviction-changes, changes-in}
 use Rattle.maintenance.proofs.shell_core.Core.evict.Goals as goal
 
 carried : (c : goal.After-reply_to) → evict_effect (in_phase phase.Evictions c.args.holder c.args.self.now)
@@ -33,3 +34,15 @@ returns-clause-reply c = c.reply_to.ensures ∙ ap (λ (r : Reply × Shell). r.0
 
 pub returns-clause-state : goal.returns-clause-state
 returns-clause-state c = ap (λ (r : Reply × Shell). r.1) (sym (carried c))
+
+pub returns-clause-change : goal.returns-clause-change
+returns-clause-change c =
+    let e = c.self.view_is ∙ c.enter.ensures in
+    rw c.of.ensures
+    (eviction-changes (the_view c.self.inside) c.args.holder c.in-Some.candidate c.self.inside.rules c.carry_out-effect.result.moves c.unlist-listed.result
+    c.self.invariant.3
+    (subst (λ (x : Shell). Some c.in-Some.candidate ≡ candidate_of (three_queues x.config) x.queues) (sym c.self.view_is)
+    (sym c.in-Some.is ∙ c.candidate.ensures))
+    c.carry_out-effect.ensures.moves
+    c.unlist-listed.ensures.listed
+    ∙ (ap (evict_change c.args.holder) e ∙ changes-in phase.Evictions c.args.holder c.args.self.now))

@@ -1,0 +1,60 @@
+-- Moves of the oldest item of a queue, and of one that stands in none.
+use Rattle.std.proofs.Common.{◌≡◌, ◌≤◌, Option, Some, None, List, [], ◌∷◌, refl, subst, arith}
+use Rattle.std.specs.Prelude.{MatchOption, IfSome}
+use Rattle.step_record.specs.declared.item.Item.{Item}
+use Rattle.segments.specs.declared.records.Queue.{Queue}
+use Rattle.segments.specs.declared.records.MoveRecord.{MoveRecord}
+use Rattle.segments.specs.Items.{occurrences, oldest_of, last_item, before}
+use Rattle.segments.specs.Queues.{Queues, queue_of, queue_holding, IsDistinct}
+use Rattle.segments.specs.Moves.{move_record}
+use Rattle.segments.proofs.ItemLists.{same-refl}
+use Rattle.segments.proofs.QueueLists.{placed}
+use Rattle.replacement.specs.KeptMoves.{IsOldest, IsDrop, IsFirst}
+
+first-times : (l : List Item) (i : Item) → oldest_of l ≡ Some i → 1 ≤ occurrences i l
+first-times [] i e = absurd (cc (e))
+first-times (x ∷ l) i e =
+    let s : x ≡ i = cc (e) in
+    let r = same-refl x in
+    subst (λ y. 1 ≤ occurrences y (x ∷ l)) s (rw r (omega arith))
+
+none-before : (l : List Item) (i : Item) → oldest_of l ≡ Some i → last_item (before i l) ≡ None
+none-before [] i e = absurd (cc (e))
+none-before (x ∷ l) i e =
+    let s : x ≡ i = cc (e) in
+    let r = same-refl x in
+    subst (λ y. last_item (before y (x ∷ l)) ≡ None) s (rw r refl)
+
+-- the oldest of a queue goes to the recent end of one
+pub sent-oldest : (q to : Queue) (i : Item) (s : Queues) (r : MoveRecord) → IsDistinct s → oldest_of (queue_of q s) ≡ Some i
+    → r ≡ move_record i (Some to) s → IsOldest (Some r)
+sent-oldest q to i s r d e h =
+    let p = placed q i s d (first-times (queue_of q s) i e) in
+    rw (h, p) (none-before (queue_of q s) i e, tt)
+
+pub sent-if : (q to : Queue) (o : Option MoveRecord) (s : Queues) → IsDistinct s
+    → MatchOption o (queue_of q s ≡ []) (λ r. oldest_of (queue_of q s) ≡ Some r.item)
+    → IfSome o (λ r. r ≡ move_record r.item (Some to) s) → IsOldest o
+sent-if q to None s d e h = tt
+sent-if q to (Some r) s d e h = sent-oldest q to r.item s r d e h
+
+-- the oldest of a queue goes out
+pub dropped-oldest : (q : Queue) (i : Item) (s : Queues) (r : MoveRecord) → IsDistinct s → oldest_of (queue_of q s) ≡ Some i
+    → r ≡ move_record i None s → IsDrop (Some r)
+dropped-oldest q i s r d e h =
+    let p = placed q i s d (first-times (queue_of q s) i e) in
+    rw (h, p) ((none-before (queue_of q s) i e, tt), refl)
+
+-- an item that stands in no queue comes to the recent end of one
+pub joined-oldest : (q : Queue) (i : Item) (s : Queues) (r : MoveRecord) → r ≡ move_record i (Some q) s → queue_holding i s ≡ None → IsOldest (Some r)
+joined-oldest q i s r h p = rw (h, p) (refl, tt)
+
+-- another may go out behind it
+pub joined-first : (q : Queue) (i : Item) (s : Queues) (r : MoveRecord) (out : Option MoveRecord)
+    → r ≡ move_record i (Some q) s → queue_holding i s ≡ None → IsDrop out → IsFirst (Some r) out
+joined-first q i s r out h p d = rw (h, p) (tt, d)
+
+-- an item of the queues goes to a recent end, and none goes out behind it
+pub renewed-first : (to q : Queue) (i : Item) (s : Queues) (r : MoveRecord)
+    → r ≡ move_record i (Some to) s → queue_holding i s ≡ Some q → IsFirst (Some r) None
+renewed-first to q i s r h p = rw (h, p) refl

@@ -1,0 +1,6 @@
+use Rattle.replacement.proofs.Oldest.{dropped-oldest}
+use Rattle.replacement.proofs.queue_moves.drop_oldest.Goals as goal
+
+pub returns-clause-drop : goal.returns-clause-drop
+returns-clause-drop c =
+    dropped-oldest c.args.queue c.in-Some.field-0-0 c.args.segments.now.lists c.in-Some.done c.requires.distinct c.in-Some.ensures.item c.in-Some.ensures.record

@@ -1,0 +1,106 @@
+-- How the moves of an access are kept: which moves have a packed form, and what the form shows.
+use Rattle.std.specs.Prelude.{◌≡◌, Bool, true, false, Option, Some, None}
+use Rattle.step_record.specs.declared.item.Item.{Item}
+use Rattle.segments.specs.declared.records.Queue.{Queue}
+use Rattle.segments.specs.declared.records.Queue.TheVariants as queue
+use Rattle.segments.specs.declared.records.Place.{Place}
+use Rattle.segments.specs.declared.records.MoveRecord.{MoveRecord}
+use Rattle.replacement.specs.declared.record.Moves.{Moves}
+use Rattle.replacement.specs.declared.kept_moves.Spot.{Spot}
+use Rattle.replacement.specs.declared.kept_moves.Spot.TheVariants.{Nowhere, Window, Probation, Protected}
+use Rattle.replacement.specs.declared.kept_moves.PackedMoves.{PackedMoves}
+use Rattle.replacement.specs.declared.kept_moves.PackedMoves.TheVariants.{Renewed, Replaced}
+use Rattle.replacement.specs.declared.kept_moves.KeptMoves.TheInside.{Inside}
+
+-- ---- parts
+
+abbrev pub queue_at : Spot → Option Queue
+queue_at Nowhere = None
+queue_at Window = Some queue.Window
+queue_at Probation = Some queue.Probation
+queue_at Protected = Some queue.Protected
+
+abbrev pub item_if : Bool → Item → Option Item
+item_if false i = None
+item_if true i = Some i
+
+abbrev pub queue_in : Option Place → Option Queue
+queue_in None = None
+queue_in (Some p) = Some p.queue
+
+abbrev pub older_in : Option Place → Option Item
+older_in None = None
+older_in (Some p) = p.older
+
+abbrev pub newer_in : Option Place → Option Item
+newer_in None = None
+newer_in (Some p) = p.newer
+
+-- the oldest place of a queue, before the item that is the next
+abbrev pub oldest_place : Option Queue → Option Item → Option Place
+oldest_place None newer = None
+oldest_place (Some q) newer = Some record { queue = q; older = None; newer = newer }
+
+-- the move of an item that was the oldest of its queue, or stood in none; nothing moved from nowhere to nowhere
+abbrev pub oldest_move : Item → Option Queue → Option Item → Option Queue → Option MoveRecord
+oldest_move i None newer None = None
+oldest_move i (Some q) newer None = Some record { item = i; from = oldest_place (Some q) newer; to = None }
+oldest_move i from newer (Some q) = Some record { item = i; from = oldest_place from newer; to = Some q }
+
+-- ---- which moves have a packed form
+
+-- it leads from a queue, or to one
+abbrev pub IsChange : Option Queue → Option Queue → Type 0
+IsChange None None = ⊥
+IsChange from to = Unit {0}
+
+-- no item stood before the one that moved
+abbrev pub IsOldest : Option MoveRecord → Type 0
+IsOldest None = Unit {0}
+IsOldest (Some r) = (older_in r.from ≡ None) × IsChange (queue_in r.from) r.to
+
+abbrev pub target_of : Option MoveRecord → Option Queue
+target_of None = None
+target_of (Some r) = r.to
+
+-- the oldest item of a queue went out
+abbrev pub IsDrop : Option MoveRecord → Type 0
+IsDrop o = IsOldest o × (target_of o ≡ None)
+
+-- what was moved first, from a queue or from none, and what went out behind it: nothing did where an item of the queues
+-- was moved first
+abbrev pub IsBefore : Option Place → Option Queue → Option MoveRecord → Type 0
+IsBefore None to out = IsChange None to × IsDrop out
+IsBefore (Some p) to out = out ≡ None
+
+abbrev pub IsFirst : Option MoveRecord → Option MoveRecord → Type 0
+IsFirst None out = IsDrop out
+IsFirst (Some r) out = IsBefore r.from r.to out
+
+-- moves as an access or an eviction makes them
+abbrev pub IsKeepable : Moves → Type 0
+IsKeepable m = IsFirst m.first m.out × IsOldest m.last
+
+-- ---- what a packed form shows
+
+abbrev pub moves_in : PackedMoves → Moves
+moves_in (Renewed from has_older has_newer to last_from last_has_newer last_to
+    item older newer last last_newer) = record {
+      first = Some record {
+        item = item;
+        from = Some record { queue = from; older = item_if has_older older; newer = item_if has_newer newer };
+        to = queue_at to;
+      };
+      out = None;
+      last = oldest_move last (queue_at last_from) (item_if last_has_newer last_newer) (queue_at last_to);
+    }
+moves_in (Replaced first_to out_from out_has_newer last_from last_has_newer last_to
+    first out out_newer last last_newer) = record {
+      first = oldest_move first None None (queue_at first_to);
+      out = oldest_move out (queue_at out_from) (item_if out_has_newer out_newer) None;
+      last = oldest_move last (queue_at last_from) (item_if last_has_newer last_newer) (queue_at last_to);
+    }
+
+-- It is made of its packed form alone: a further field, which no contract would see, has no place here.
+abbrev pub IsPackedAlone : Inside → Type 0
+IsPackedAlone k = k ≡ record { packed = k.packed }
