@@ -1,4 +1,5 @@
 //! Lines of the grammar, and dialogues over inputs and outputs that fail, worked out by hand.
+use super::assertions::assert_equal;
 use debug_commands::{
     Breakpoint, Command, DebugFault, Dialect, Line, StepFacts, Timeline, answer_commands, line,
 };
@@ -391,6 +392,6 @@ fn commands_of_many_bytes(rt: HostRuntime) {
         let mut sink = sink_of(STEADY);
         let (answer, end) = ended(rt.alloc(), &mut source_of(text, again, STEADY), &mut sink);
         assert_eq!(rt; answer, result, "of {again} last bytes");
-        assert_eq!(rt; end, at);
+        assert_equal(&rt, end, at);
     }
 }

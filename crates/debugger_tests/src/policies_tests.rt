@@ -1,4 +1,5 @@
 //! Small traces whose outcomes were worked out by hand.
+use super::assertions::assert_equal;
 use super::pipe::{Pipe, ROOM};
 use debug_policies::{DebugFault, part, run_debug};
 use job_checks::ActorFault;
@@ -86,7 +87,7 @@ fn a_refused_configuration_is_reported_by_its_index(rt: HostRuntime) -> Result<(
     let bad = job(Policy::Lru, 0);
     for (first, second, index) in [(bad, bad, 0), (bad, good, 0), (good, bad, 1)] {
         match part(alloc, &trace, &first, &second) {
-            Err(fault) => assert_eq!(rt; fault, ActorFault::Config { index }),
+            Err(fault) => assert_equal(&rt, fault, ActorFault::Config { index }),
             Ok(_) => return Err(Fail::from("no fault")),
         }
     }
@@ -120,7 +121,7 @@ fn assert_said_of(
     (commands, text): (&[u8], &[u8]),
 ) -> Result<(), Fail> {
     let out = said_of(alloc, keys, first, second, commands)?;
-    assert_eq!(rt; out.as_slice(), text);
+    assert_equal(rt, out.as_slice(), text);
     Ok(())
 }
 
@@ -268,7 +269,7 @@ fn assert_refused(
     let mut input = Pipe::of(alloc, COMMANDS, 0)?;
     let mut output = Pipe::of(alloc, COMMANDS, 0)?;
     let refused = run_debug(alloc, trace, first, second, &mut input, &mut output);
-    assert_eq!(rt; refused, Err(DebugFault::Config { index }));
+    assert_equal(rt, refused, Err(DebugFault::Config { index }));
     Ok(())
 }
 

@@ -1,4 +1,5 @@
 //! Small sessions, worked out by hand: that of one access of one worker, and others.
+use super::assertions::assert_equal;
 use super::pipe::{Pipe, ROOM};
 use debug_replay::{DebugFault, run_replay};
 use journal::Session;
@@ -62,7 +63,7 @@ fn assert_said(
     text: &str,
 ) -> Result<(), Fail> {
     let out = said(alloc, capacity, journal, commands)?;
-    assert_eq!(rt; out.as_slice(), text.as_bytes());
+    assert_equal(rt, out.as_slice(), text.as_bytes());
     Ok(())
 }
 
@@ -153,7 +154,7 @@ fn walk(
     if answer == Err(DebugFault::OutOfMemory) {
         return Err(Fail::from("out of memory"));
     }
-    assert_eq!(rt; output.taken.as_slice(), text);
+    assert_equal(rt, output.taken.as_slice(), text);
     Ok(answer)
 }
 
@@ -166,8 +167,8 @@ fn assert_walk(
     (wanted, place): (Result<(), DebugFault>, (usize, usize)),
 ) -> Result<(), Fail> {
     let answer = walk(rt, alloc, session, commands, answers)?;
-    assert_eq!(rt; answer, wanted);
-    assert_eq!(rt; (session.len(), session.ahead()), place);
+    assert_equal(rt, answer, wanted);
+    assert_equal(rt, (session.len(), session.ahead()), place);
     Ok(())
 }
 

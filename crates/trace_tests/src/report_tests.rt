@@ -1,4 +1,5 @@
 //! Reports as text, into writers that are interrupted or fail.
+use super::assertions::{assert_equal, assert_shown};
 use report::{Report, WriteFault, write_reports};
 use std::io::{Error, ErrorKind, Result, Write};
 use std::test::Fail;
@@ -101,9 +102,9 @@ impl Write for Pipe {
 fn the_text_of_reports(rt: HostRuntime) -> std::result::Result<(), Fail> {
     let mut out = Vec::with_capacity(rt.alloc(), TEXT.len())?;
     write_reports(rt.alloc(), &[COUNTED, EMPTY, LARGE], &mut out)?;
-    assert_eq!(rt; out.as_slice(), TEXT.as_bytes());
-    assert_eq!(rt; COUNTED.rate(), 1666);
-    assert_eq!(rt; EMPTY.rate(), 0);
+    assert_equal(&rt, out.as_slice(), TEXT.as_bytes());
+    assert_equal(&rt, COUNTED.rate(), 1666);
+    assert_equal(&rt, EMPTY.rate(), 0);
     Ok(())
 }
 
@@ -113,8 +114,8 @@ fn a_writer_of_single_bytes_gets_the_same_text_and_a_flush(
 ) -> std::result::Result<(), Fail> {
     let mut pipe = Pipe::of(Vec::with_capacity(rt.alloc(), TEXT.len())?, TEXT.len());
     write_reports(rt.alloc(), &[COUNTED, EMPTY, LARGE], &mut pipe)?;
-    assert_eq!(rt; pipe.taken.as_slice(), TEXT.as_bytes());
-    assert_eq!(rt; pipe.flushed, TEXT.len());
+    assert_equal(&rt, pipe.taken.as_slice(), TEXT.as_bytes());
+    assert_equal(&rt, pipe.flushed, TEXT.len());
     Ok(())
 }
 
@@ -143,12 +144,9 @@ fn all_lines_share_their_interruptions(rt: HostRuntime) -> std::result::Result<(
 
 #[test]
 fn a_fault_is_shown_by_its_name(rt: HostRuntime) -> std::result::Result<(), Fail> {
-    for (fault, text) in [
+    let table = [
         (WriteFault::OutOfMemory, "OutOfMemory"),
         (WriteFault::Write, "Write"),
-    ] {
-        let shown = format!(in rt.alloc(); "{fault}")?;
-        assert_eq!(rt; shown.as_str(), text);
-    }
-    Ok(())
+    ];
+    assert_shown(&rt, rt.alloc(), &table)
 }
