@@ -31,16 +31,18 @@ pub record IsEnded (old : Scan) (text : List ℕ) (new : Scan) : Type 0 where
   pub line : new.line ≡ old.line + 1
   pub format : new.format ≡ old.format
 
--- the scan took the lines between two places of these bytes, and comes with the rest to what all from the first place on
--- came to before
+-- the scan took the lines between two places of these bytes, and comes with the rest to what all from the first place
+-- on came to before
 pub record IsTaken (old : Scan) (bytes : List ℕ) (start place : ℕ) (new : Scan) : Type 0 where
   pub scan : IsScan new
   pub cut : new.cut.items ≡ []
   pub format : new.format ≡ old.format
   pub order : (start ≤ place) × (place ≤ length bytes)
   pub lines : new.line + start ≤ old.line + place
-  pub fault : (more : List ℕ) → fault_ahead new (drop place bytes ++ more) ≡ fault_ahead old (drop start bytes ++ more)
-  pub keys : (more : List ℕ) → keys_ahead new (drop place bytes ++ more) ≡ keys_ahead old (drop start bytes ++ more)
+  pub fault : (more : List ℕ)
+      → fault_ahead new (drop place bytes ++ more) ≡ fault_ahead old (drop start bytes ++ more)
+  pub keys : (more : List ℕ)
+      → keys_ahead new (drop place bytes ++ more) ≡ keys_ahead old (drop start bytes ++ more)
 
 -- out of memory, or the fault of a line from this place on
 abbrev pub IsRefusedFrom : Scan → List ℕ → ℕ → TraceFault → Type 0

@@ -97,7 +97,7 @@ impl<'a> DigitRuns<'a> {
         Some(run)
     }
 
-    /// The end of the line that this run, the one before these, begins or is in; `None` where it is in the last few bytes.
+    /// The end of the line that this run, the one before these, is in; `None` where it is in the last few bytes.
     #[inline(always)]
     pub fn line_end(self, run: DigitRun) -> Option<LineEnd<'a>>
         requires { IsFound self.bytes.now run self }

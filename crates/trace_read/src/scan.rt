@@ -41,7 +41,8 @@ fn usual_key(bytes: &[u8], run: DigitRun) -> Option<Key>
     requires digits { DigitsBetween bytes.now run.start run.end }
     ensures some { OnSome result (run.start < run.end) }
     ensures feed { OnSome result (get_or bytes.now run.end 0 ≡ 10) }
-    ensures line { IfSome result (λ key. line_of Format.Lirs (take (run.end - run.start) (drop run.start bytes.now)) ≡ Ok (key ∷ [])) }
+    ensures line { IfSome result (λ key.
+        line_of Format.Lirs (take (run.end - run.start) (drop run.start bytes.now)) ≡ Ok (key ∷ [])) }
 {
     let count = run.end - run.start;
     if bytes[run.end] != b'\n' {
@@ -56,15 +57,16 @@ fn usual_key(bytes: &[u8], run: DigitRun) -> Option<Key>
     None
 }
 
-// The access of the line that begins with this run of digits, where it is of at most nineteen and nothing but a carriage
-// return stands between it and the line's end.
+// The access of the line that begins with this run of digits, where it is of at most nineteen and nothing but a
+// carriage return stands between it and the line's end.
 #[inline(always)]
 fn key_of_digits(bytes: &[u8], run: DigitRun, end: usize) -> Option<Key>
     requires places { (run.start ≤ run.end) × (run.end + BEHIND ≤ length bytes.now) }
     requires digits { DigitsBetween bytes.now run.start run.end }
     requires end { (run.end ≤ end) × (end < length bytes.now) }
     ensures some { OnSome result (run.start < end) }
-    ensures line { IfSome result (λ key. line_of Format.Lirs (take (end - run.start) (drop run.start bytes.now)) ≡ Ok (key ∷ [])) }
+    ensures line { IfSome result (λ key.
+        line_of Format.Lirs (take (end - run.start) (drop run.start bytes.now)) ≡ Ok (key ∷ [])) }
 {
     let count = run.end - run.start;
     if count.wrapping_sub(1) >= 19 || !is_return_at_most(bytes, run.end, end) {
@@ -270,8 +272,8 @@ impl Scan {
         Ok(runs.start)
     }
 
-    // Takes the lines from the next run of digits on that are a number of at most sixteen digits each, and returns the run
-    // that the first other line begins with. There is room for their accesses.
+    // Takes the lines from the next run of digits on that are a number of at most sixteen digits each, and returns the
+    // run that the first other line begins with. There is room for their accesses.
     #[inline(never)]
     fn take_usual<'a>(&mut self, bytes: &'a [u8], runs: &mut DigitRuns<'a>) -> Option<DigitRun>
         requires scan { IsScan self.old }
@@ -286,7 +288,7 @@ impl Scan {
         ensures room { IfSome result (λ run.
             HasRoom (length bytes.now - run.start) (vec_len self.new.keys) (vec_capacity self.new.keys)) }
     {
-        // What the loop changes is in locals, and it calls no function: so they are in registers.
+        // The loop changes locals alone and calls nothing, so that they are in registers.
         let mut keys = mem::replace(&mut self.keys, Vec::new(self.alloc));
         let first = keys.len();
         let mut ahead = *runs;
