@@ -98,15 +98,3 @@ pub fn finish(cache: Option<AnyPolicy>, job: &Job) -> Option<Report>
         None => None,
     }
 }
-
-// Reads ahead what the next accesses read first, once for each few of them.
-#[inline(always)]
-fn warm_at(cache: &mut AnyPolicy, keys: &[Key], i: usize)
-    requires { i ≤ length keys.now }
-    ensures { cache.new ≡ cache.old }
-{
-    if i % AHEAD == 0 {
-        let end = keys.len().min(i + AHEAD);
-        cache.warm(&keys[i..end]);
-    }
-}

@@ -96,7 +96,8 @@ fn direct_to(
     requires absent { queue_holding item segments.old.lists ≡ None }
     requires distinct { IsDistinct segments.old.lists }
     requires room { 1 ≤ segments.old.spare }
-    ensures { IsEffect (direct_plan rules.now (admits_in
+    ensures keepable { IsKeepable result.moves }
+    ensures effect { IsEffect (direct_plan rules.now (admits_in
         (option_map (λ f. f.now) frequency.entry)) queue item segments.old.lists)
         segments.old.lists segments.new.lists result }
 {
