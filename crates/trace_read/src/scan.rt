@@ -21,103 +21,6 @@ use std::mem;
 use step_record::{Key, MAX_ACCESSES};
 use text_lines::place_of;
 
-// Adds the accesses of a line to those of the lines before it.
-fn add_line(format: Format, text: &[u8], line: u64, keys: &mut Vec<Key>) -> Result<(), TraceFault>
-    requires { vec_len keys.old ≤ MAX_ACCESSES }
-    ensures ok { OnOk result (IsRead format line keys.old.items text.now keys.new.items) }
-    ensures within { OnOk result (vec_len keys.new ≤ MAX_ACCESSES) }
-    ensures err { IfErr result (IsTraceRefused format line keys.old.items text.now) }
-{
-    match format {
-        Format::Lirs => add_lirs(text, line, keys),
-        Format::Arc => add_arc(text, line, keys),
-    }
-}
-
-// The access of the line that this run of digits is, where a line feed ends it and it is of at most sixteen.
-#[inline(always)]
-fn usual_key(bytes: &[u8], run: DigitRun) -> Option<Key>
-    requires places { (run.start ≤ run.end) × (run.end + BEHIND ≤ length bytes.now) }
-    requires digits { DigitsBetween bytes.now run.start run.end }
-    ensures some { OnSome result (run.start < run.end) }
-    ensures feed { OnSome result (get_or bytes.now run.end 0 ≡ 10) }
-    ensures line { IfSome result (λ key.
-        line_of Format.Lirs (take (run.end - run.start) (drop run.start bytes.now)) ≡ Ok (key ∷ [])) }
-{
-    let count = run.end - run.start;
-    if bytes[run.end] != b'\n' {
-        return None;
-    }
-    if count.wrapping_sub(1) < 8 {
-        return Some(short_number(&bytes[run.start..], count));
-    }
-    if count.wrapping_sub(9) < 8 {
-        return Some(long_number(&bytes[run.start..], count));
-    }
-    None
-}
-
-// The access of the line that begins with this run of digits, where it is of at most nineteen and nothing but a
-// carriage return stands between it and the line's end.
-#[inline(always)]
-fn key_of_digits(bytes: &[u8], run: DigitRun, end: usize) -> Option<Key>
-    requires places { (run.start ≤ run.end) × (run.end + BEHIND ≤ length bytes.now) }
-    requires digits { DigitsBetween bytes.now run.start run.end }
-    requires end { (run.end ≤ end) × (end < length bytes.now) }
-    ensures some { OnSome result (run.start < end) }
-    ensures line { IfSome result (λ key.
-        line_of Format.Lirs (take (end - run.start) (drop run.start bytes.now)) ≡ Ok (key ∷ [])) }
-{
-    let count = run.end - run.start;
-    if count.wrapping_sub(1) >= 19 || !is_return_at_most(bytes, run.end, end) {
-        return None;
-    }
-    Some(any_number(&bytes[run.start..], count))
-}
-
-// Whether nothing but a carriage return stands between these places.
-#[inline(always)]
-fn is_return_at_most(bytes: &[u8], start: usize, end: usize) -> bool
-    requires { (start ≤ end) × (end < length bytes.now) }
-    ensures { IsTrue result → (end ≡ start) ⊎ ((end ≡ start + 1) × (get_or bytes.now start 0 ≡ 13)) }
-{
-    end == start || end - start == 1 && bytes[start] == b'\r'
-}
-
-// How many lines of a lone `*` stand from this place on.
-#[inline(always)]
-fn star_lines(bytes: &[u8], start: usize) -> usize
-    requires { start ≤ length bytes.now }
-    ensures { AreStarLines bytes.now start result }
-{
-    let mut count = 0;
-    'stars: while bytes.len() - (start + 2 * count) >= 2 {
-        let place = start + 2 * count;
-        if bytes[place] != b'*' || bytes[place + 1] != b'\n' {
-            break;
-        }
-        count += 1;
-    }
-    count
-}
-
-// Reserves room for the accesses of LIRS lines of so many bytes in all. False, and no room, where they might pass
-// `MAX_ACCESSES`.
-fn reserve_for(keys: &mut Vec<Key>, bytes: usize) -> Result<bool, AllocError>
-    requires { vec_len keys.old ≤ MAX_ACCESSES }
-    ensures items { keys.new.items ≡ keys.old.items }
-    ensures len { vec_len keys.new ≡ vec_len keys.old }
-    ensures room { IfOk result (λ more. IsTrue more → HasRoom bytes (vec_len keys.new) (vec_capacity keys.new)) }
-{
-    // Each access has a digit of its own and a line feed.
-    let most = bytes / 2 + 1;
-    if most > MAX_ACCESSES - keys.len() {
-        return Ok(false);
-    }
-    keys.reserve(most)?;
-    Ok(true)
-}
-
 /// A scan of the lines of a trace file, whose bytes come in pieces. It keeps no byte but those of
 /// the line that the last piece cut in two.
 ///
@@ -196,7 +99,7 @@ impl Scan {
         Ok(Trace::new(keys))
     }
 
-    // Adds the accesses of the next line, where it ends in these bytes, and tells the place of its end.
+    // Adds the accesses of the next line, where it ends in these bytes, and returns the place of its end.
     fn end_next(&mut self, bytes: &[u8]) -> Result<Option<usize>, TraceFault>
         requires scan { IsScan self.old }
         requires lines { self.old.line + length bytes.now < 2 ^ 64 }
@@ -425,4 +328,101 @@ impl Scan {
         self.line += 1;
         Ok(())
     }
+}
+
+// Adds the accesses of a line to those of the lines before it.
+fn add_line(format: Format, text: &[u8], line: u64, keys: &mut Vec<Key>) -> Result<(), TraceFault>
+    requires { vec_len keys.old ≤ MAX_ACCESSES }
+    ensures ok { OnOk result (IsRead format line keys.old.items text.now keys.new.items) }
+    ensures within { OnOk result (vec_len keys.new ≤ MAX_ACCESSES) }
+    ensures err { IfErr result (IsTraceRefused format line keys.old.items text.now) }
+{
+    match format {
+        Format::Lirs => add_lirs(text, line, keys),
+        Format::Arc => add_arc(text, line, keys),
+    }
+}
+
+// The access of the line that this run of digits is, where a line feed ends it and it is of at most sixteen.
+#[inline(always)]
+fn usual_key(bytes: &[u8], run: DigitRun) -> Option<Key>
+    requires places { (run.start ≤ run.end) × (run.end + BEHIND ≤ length bytes.now) }
+    requires digits { DigitsBetween bytes.now run.start run.end }
+    ensures some { OnSome result (run.start < run.end) }
+    ensures feed { OnSome result (get_or bytes.now run.end 0 ≡ 10) }
+    ensures line { IfSome result (λ key.
+        line_of Format.Lirs (take (run.end - run.start) (drop run.start bytes.now)) ≡ Ok (key ∷ [])) }
+{
+    let count = run.end - run.start;
+    if bytes[run.end] != b'\n' {
+        return None;
+    }
+    if count.wrapping_sub(1) < 8 {
+        return Some(short_number(&bytes[run.start..], count));
+    }
+    if count.wrapping_sub(9) < 8 {
+        return Some(long_number(&bytes[run.start..], count));
+    }
+    None
+}
+
+// The access of the line that begins with this run of digits, where it is of at most nineteen and nothing but a
+// carriage return stands between it and the line's end.
+#[inline(always)]
+fn key_of_digits(bytes: &[u8], run: DigitRun, end: usize) -> Option<Key>
+    requires places { (run.start ≤ run.end) × (run.end + BEHIND ≤ length bytes.now) }
+    requires digits { DigitsBetween bytes.now run.start run.end }
+    requires end { (run.end ≤ end) × (end < length bytes.now) }
+    ensures some { OnSome result (run.start < end) }
+    ensures line { IfSome result (λ key.
+        line_of Format.Lirs (take (end - run.start) (drop run.start bytes.now)) ≡ Ok (key ∷ [])) }
+{
+    let count = run.end - run.start;
+    if count.wrapping_sub(1) >= 19 || !is_return_at_most(bytes, run.end, end) {
+        return None;
+    }
+    Some(any_number(&bytes[run.start..], count))
+}
+
+// Whether nothing but a carriage return stands between these places.
+#[inline(always)]
+fn is_return_at_most(bytes: &[u8], start: usize, end: usize) -> bool
+    requires { (start ≤ end) × (end < length bytes.now) }
+    ensures { IsTrue result → (end ≡ start) ⊎ ((end ≡ start + 1) × (get_or bytes.now start 0 ≡ 13)) }
+{
+    end == start || end - start == 1 && bytes[start] == b'\r'
+}
+
+// How many lines of a lone `*` stand from this place on.
+#[inline(always)]
+fn star_lines(bytes: &[u8], start: usize) -> usize
+    requires { start ≤ length bytes.now }
+    ensures { AreStarLines bytes.now start result }
+{
+    let mut count = 0;
+    'stars: while bytes.len() - (start + 2 * count) >= 2 {
+        let place = start + 2 * count;
+        if bytes[place] != b'*' || bytes[place + 1] != b'\n' {
+            break;
+        }
+        count += 1;
+    }
+    count
+}
+
+// Reserves room for the accesses of LIRS lines of so many bytes in all. False, and no room, where they might pass
+// `MAX_ACCESSES`.
+fn reserve_for(keys: &mut Vec<Key>, bytes: usize) -> Result<bool, AllocError>
+    requires { vec_len keys.old ≤ MAX_ACCESSES }
+    ensures items { keys.new.items ≡ keys.old.items }
+    ensures len { vec_len keys.new ≡ vec_len keys.old }
+    ensures room { IfOk result (λ more. IsTrue more → HasRoom bytes (vec_len keys.new) (vec_capacity keys.new)) }
+{
+    // Each access has a digit of its own and a line feed.
+    let most = bytes / 2 + 1;
+    if most > MAX_ACCESSES - keys.len() {
+        return Ok(false);
+    }
+    keys.reserve(most)?;
+    Ok(true)
 }
