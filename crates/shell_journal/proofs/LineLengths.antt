@@ -21,7 +21,7 @@ use Rattle.journal_text.specs.Names.{spelling}
 use Rattle.journal_text.specs.ReplyItem.{reply_item}
 use Rattle.journal_text.specs.Table.{act_words, answer_name, entry_words, is_answer_in, is_in_version, item_words, reply_name, reply_numbers, reply_words, spaced, spaced_words, text_of, word_text, FitWords, IsLine}
 use Rattle.journal_text.specs.declared.line.Line.TheVariants.{Made}
-use Rattle.journal_text.specs.declared.name.JournalName.{Name}
+use Rattle.journal_text.specs.declared.name.JournalName.{JournalName}
 use Rattle.journal_text.specs.declared.name.JournalName.TheVariants as name
 use Rattle.journal_text.specs.declared.version.Version.TheVariants.{Two}
 use Rattle.journal_text.specs.declared.word.Word.{Word}
@@ -31,11 +31,11 @@ use Rattle.shell_journal.proofs.NodeBounds.{act_node, IsLow}
 
 -- ---- words
 
-is-short : (n : Name) → nat_le (length (spelling n)) 10 ≡ true
+is-short : (n : JournalName) → nat_le (length (spelling n)) 10 ≡ true
 is-short name.Look = refl
 is-short n = refl
 
-pub short-name : (n : Name) → length (spelling n) ≤ 10
+pub short-name : (n : JournalName) → length (spelling n) ≤ 10
 short-name n = let h = is-short n in grind (arith, nat_tests, h)
 
 -- a space and a word more
@@ -73,14 +73,14 @@ act_width (a.Remove k) = 32
 act_width (a.AfterRead b) = 22
 act_width b = 15
 
-keyed-length : (n : Name) (k : ℕ) → k < 2 ^ 64 → length (spaced (Named n ∷ Wide k ∷ [])) ≤ 32
+keyed-length : (n : JournalName) (k : ℕ) → k < 2 ^ 64 → length (spaced (Named n ∷ Wide k ∷ [])) ≤ 32
 keyed-length n k h = omega (arith, one-more (Named n) (Wide k ∷ []), one-more (Wide k) [], none-more, short-name n, key-length k h)
 
-offer-length : (n : Name) (s : ℕ) (i : Item) → s < 256 → i.key < 2 ^ 64 → i.node ≤ MAX_STEPS → length (spaced (Named n ∷ Stripe s ∷ item_words i)) ≤ 47
+offer-length : (n : JournalName) (s : ℕ) (i : Item) → s < 256 → i.key < 2 ^ 64 → i.node ≤ MAX_STEPS → length (spaced (Named n ∷ Stripe s ∷ item_words i)) ≤ 47
 offer-length n s i h k l =
     omega (arith, one-more (Named n) (Stripe s ∷ item_words i), one-more (Stripe s) (item_words i), short-name n, stripe-length s h, item-length i k l)
 
-alone-length : (n : Name) → length (spaced (Named n ∷ [])) ≤ 11
+alone-length : (n : JournalName) → length (spaced (Named n ∷ [])) ≤ 11
 alone-length n = omega (arith, one-more (Named n) [], none-more, short-name n)
 
 act-length : (b : Act) → FitWords (act_words b) → act_node b ≤ MAX_STEPS → length (spaced (act_words b)) ≤ act_width b
