@@ -4,6 +4,7 @@ ghost use Rattle.maintenance.specs.Opened.{IsOpened};
 ghost use Rattle.shell_model.specs.Reached.{IsReachable};
 ghost use Rattle.step_record.specs.declared.limits.TheConstants.{MAX_JOURNAL_LIMIT};
 
+use super::assertions::assert_equal;
 use super::sessions::CONFIG;
 use super::shell_line::assert_shows_as;
 use journal::Session;
@@ -34,7 +35,7 @@ fn make(rt: &impl Abort, session: &mut Session<Shell>, act: Act, reply: Reply) -
     ensures limit { session.new.limit ≡ session.old.limit }
 {
     let worker = Worker::new(0).expect(rt, "a worker below the limit");
-    assert_eq!(rt; session.step(Step { worker, act })?, reply);
+    assert_equal(rt, session.step(Step { worker, act })?, reply);
     Ok(())
 }
 
@@ -67,9 +68,9 @@ fn assert_copied(
     requires room { length session.now.kept ≤ copy.old.limit }
 {
     copy_journal(alloc, session, copy)?;
-    assert_eq!(rt; copy.len(), 3);
+    assert_equal(rt, copy.len(), 3);
     let put = copy.entry(2).map(|entry| entry.reply);
-    assert_eq!(rt; put, Some(Reply::Added { node: 0 }));
+    assert_equal(rt, put, Some(Reply::Added { node: 0 }));
     assert_shows_as(rt, alloc, copy.engine(), session.engine())
 }
 

@@ -1,3 +1,4 @@
+use super::assertions::assert_equal;
 use super::ends::{Mishaps, Sink, Source};
 use super::sessions::{CONFIG, ask, opened, read};
 use super::text_tests::{WRITTEN, assert_reading};
@@ -77,7 +78,7 @@ fn fail_write(
     };
     assert_eq!(rt; answer, wanted, "at call {failing}");
     let taken = failing.min(WRITTEN_LENGTH);
-    assert_eq!(rt; sink.taken.as_slice(), &WRITTEN.as_bytes()[..taken]);
+    assert_equal(rt, sink.taken.as_slice(), &WRITTEN.as_bytes()[..taken]);
     Ok(())
 }
 
@@ -85,7 +86,7 @@ fn fail_write(
 fn write_nothing(rt: &impl Abort, alloc: Global, session: &Session<Shell>) -> Result<(), Fail> {
     let mut shut = sink(alloc, 0, 0, Mishaps::interrupted(0))?;
     let answer = write_journal(alloc, session, &mut shut);
-    assert_eq!(rt; answer, Err(WriteFault::Write));
+    assert_equal(rt, answer, Err(WriteFault::Write));
     Ok(())
 }
 
@@ -114,7 +115,7 @@ const LONG_LENGTH: usize = 19 + 4000 * 35 + 11;
 fn look(rt: &impl Abort, session: &mut Session<Shell>) -> Result<(), Fail> {
     for _ in 0..LINES {
         let reply = ask(rt, session, 0, Act::Look { key: u64::MAX });
-        assert_eq!(rt; reply, Ok(Reply::Miss));
+        assert_equal(rt, reply, Ok(Reply::Miss));
     }
     Ok(())
 }
@@ -165,7 +166,7 @@ fn write_each(
         (Mishaps::interrupted(250_000), Err(WriteFault::Write)),
     ] {
         let answer = assert_writes(rt, alloc, session, text, mishaps)?;
-        assert_eq!(rt; answer, wanted);
+        assert_equal(rt, answer, wanted);
     }
     Ok(())
 }

@@ -1,4 +1,5 @@
 //! Calls at both ends of their ranges, with ample memory: none of them may answer that it is out of memory.
+use super::assertions::assert_equal;
 use super::sessions::{CONFIG, ask, opened};
 use journal::Session;
 use maintenance::Shell;
@@ -11,8 +12,8 @@ use step_record::{Act, Config, Drain, Reply};
 fn assert_empty(rt: &impl Abort, alloc: Global, config: &Config) -> Result<(), Fail> {
     assert!(rt; config.check() == Ok(()));
     let shell = Shell::new(alloc, config)?;
-    assert_eq!(rt; shell.stripes(), config.stripes);
-    assert_eq!(rt; shell.drain(), Drain::Idle);
+    assert_equal(rt, shell.stripes(), config.stripes);
+    assert_equal(rt, shell.drain(), Drain::Idle);
     assert!(rt; shell.table(alloc)?.is_empty());
     assert!(rt; shell.tasks().is_empty());
     Ok(())
@@ -45,22 +46,23 @@ fn a_new_cache_of_the_least_and_the_most_entries(rt: HostRuntime) -> Result<(), 
 fn put_new_keys(rt: &impl Abort, session: &mut Session<Shell>) {
     for node in 0..64 {
         let key = u64::from(node) + 1;
-        assert_eq!(rt;
+        assert_equal(
+            rt,
             ask(rt, session, 0, Act::Put { key }),
-            Ok(Reply::Added { node })
+            Ok(Reply::Added { node }),
         );
     }
-    assert_eq!(rt; session.engine().tasks().len(), 64);
+    assert_equal(rt, session.engine().tasks().len(), 64);
 }
 
 // A put of a key that is there waits too, until 128 writes do.
 fn put_a_present_key(rt: &impl Abort, session: &mut Session<Shell>) {
     let put = Act::Put { key: 1 };
     for _again in 0..64 {
-        assert_eq!(rt; ask(rt, session, 0, put), Ok(Reply::Present { node: 0 }));
+        assert_equal(rt, ask(rt, session, 0, put), Ok(Reply::Present { node: 0 }));
     }
-    assert_eq!(rt; session.engine().tasks().len(), 128);
-    assert_eq!(rt; ask(rt, session, 0, put), Ok(Reply::WritesFull));
+    assert_equal(rt, session.engine().tasks().len(), 128);
+    assert_equal(rt, ask(rt, session, 0, put), Ok(Reply::WritesFull));
 }
 
 #[test]

@@ -2,6 +2,7 @@
 //! those of calls that were never refused.
 ghost use Rattle.std.specs.Prelude.{◌≡◌, IfOk, OnOk};
 
+use super::assertions::assert_equal;
 use super::sessions::CONFIG;
 use maintenance::Shell;
 use segments::Queue;
@@ -183,7 +184,7 @@ fn assert_table(
     wanted: &[Item],
 ) -> Result<(), Fail> {
     let items = table(alloc, shell)?;
-    assert_eq!(rt; items.as_slice(), wanted);
+    assert_equal(rt, items.as_slice(), wanted);
     Ok(())
 }
 
@@ -194,7 +195,7 @@ fn assert_queue(
     wanted: &[Item],
 ) -> Result<(), Fail> {
     let items = list(alloc, shell, queue)?;
-    assert_eq!(rt; items.as_slice(), wanted);
+    assert_equal(rt, items.as_slice(), wanted);
     Ok(())
 }
 
@@ -203,7 +204,7 @@ fn assert_shown(rt: &impl Abort, alloc: Global, shell: &Shell, shown: &Shown) ->
     assert_table(rt, alloc, shell, shown.table)?;
     assert_queue(rt, alloc, (shell, Queue::Window), shown.window)?;
     assert_queue(rt, alloc, (shell, Queue::Probation), &[])?;
-    assert_eq!(rt; shell.frequency().age() as usize, shown.age);
+    assert_equal(rt, shell.frequency().age() as usize, shown.age);
     Ok(())
 }
 

@@ -1,3 +1,4 @@
+use super::assertions::assert_equal;
 use super::sessions::{CONFIG, ask, opened, read, visit};
 use journal::{Session, SessionFault};
 use maintenance::Shell;
@@ -84,28 +85,16 @@ fn assert_visits(
     lines: &[(usize, &str)],
 ) -> Result<(), Fail> {
     let mut session = read(rt, alloc, config, journal)?;
-    assert_eq!(rt; session.len(), steps);
+    assert_equal(rt, session.len(), steps);
     visit(rt, alloc, &mut session, lines)
 }
 
 const READS: &str = "cachesim journal 2
 0 put 1 = added 0
-0 offer 0 1 0 = kept
-0 offer 0 1 0 = kept
-0 offer 0 1 0 = kept
-0 offer 0 1 0 = kept
-0 offer 0 1 0 = kept
-0 offer 0 1 0 = kept
-0 offer 0 1 0 = kept
-0 offer 0 1 0 = kept
-0 offer 0 1 0 = kept
-0 offer 0 1 0 = kept
-0 offer 0 1 0 = kept
-0 offer 0 1 0 = kept
-0 offer 0 1 0 = kept
-0 offer 0 1 0 = kept
-0 offer 0 1 0 = kept
-0 offer 0 1 0 = kept
+0 offer 0 1 0 = kept\n0 offer 0 1 0 = kept\n0 offer 0 1 0 = kept\n0 offer 0 1 0 = kept\n\
+0 offer 0 1 0 = kept\n0 offer 0 1 0 = kept\n0 offer 0 1 0 = kept\n0 offer 0 1 0 = kept\n\
+0 offer 0 1 0 = kept\n0 offer 0 1 0 = kept\n0 offer 0 1 0 = kept\n0 offer 0 1 0 = kept\n\
+0 offer 0 1 0 = kept\n0 offer 0 1 0 = kept\n0 offer 0 1 0 = kept\n0 offer 0 1 0 = kept\n\
 0 offer 0 1 0 = full
 0 afterread full = drain
 steps 19
@@ -141,7 +130,7 @@ const LATE_SHOWN: [(usize, &str); 3] = [
 
 fn visit_late(rt: &impl Abort, alloc: Global, session: &mut Session<Shell>) -> Result<(), Fail> {
     visit(rt, alloc, session, &LATE_SHOWN)?;
-    assert_eq!(rt; (session.len(), session.ahead()), (0, 3));
+    assert_equal(rt, (session.len(), session.ahead()), (0, 3));
     visit(rt, alloc, session, &LATE_SHOWN[..1])
 }
 
@@ -281,14 +270,14 @@ fn an_eviction_of_a_removed_item_leaves_the_newer_node(rt: HostRuntime) -> Resul
 fn fill_the_write_queue(rt: &impl Abort, session: &mut Session<Shell>) {
     for key in 1..129 {
         let reply = ask(rt, session, 0, Act::Put { key });
-        assert_eq!(rt; reply, Ok(Reply::Added { node: key - 1 }));
+        assert_equal(rt, reply, Ok(Reply::Added { node: key - 1 }));
     }
 }
 
 fn assert_full(rt: &impl Abort, shell: &Shell) {
-    assert_eq!(rt; shell.node_of(1), Some(0));
-    assert_eq!(rt; shell.tasks().len(), 128);
-    assert_eq!(rt; shell.stats().refused, 1);
+    assert_equal(rt, shell.node_of(1), Some(0));
+    assert_equal(rt, shell.tasks().len(), 128);
+    assert_equal(rt, shell.stats().refused, 1);
 }
 
 #[test]

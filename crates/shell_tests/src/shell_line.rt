@@ -1,4 +1,5 @@
 //! What a shell shows, as one line.
+use super::assertions::assert_equal;
 use maintenance::Shell;
 use segments::Queue;
 use shell_buffers::Task;
@@ -26,7 +27,7 @@ fn shown(alloc: Global, shell: &Shell) -> Result<String, Fail> {
 /// Sees that a shell shows this.
 pub fn assert_shows(rt: &impl Abort, alloc: Global, shell: &Shell, line: &str) -> Result<(), Fail> {
     let text = shown(alloc, shell)?;
-    assert_eq!(rt; text.as_str(), line);
+    assert_equal(rt, text.as_str(), line);
     Ok(())
 }
 

@@ -1,6 +1,7 @@
 ghost use Rattle.std.specs.Prelude.{◌≡◌, ◌≤◌, []};
 ghost use Rattle.step_record.specs.declared.limits.TheConstants.{MAX_JOURNAL_LIMIT};
 
+use super::assertions::{assert_equal, assert_shown};
 use super::sessions::{CONFIG, opened, read};
 use super::shell_line::{assert_shows, assert_shows_as};
 use journal::Session;
@@ -11,43 +12,32 @@ use std::io::Read;
 use std::process::Abort;
 use std::test::Fail;
 
+// The first six steps of a round between these two texts.
+macro_rules! six_steps {
+    ($front:literal, $rest:literal) => {
+        concat!(
+            $front,
+            "0 look 1 = miss\n0 put 1 = added 0\n0 afterwrite = drain\n0 begin = began\n",
+            "0 drainread 0 = empty\n0 drainwrite = applied 1 0\n",
+            $rest
+        )
+    };
+}
+
 /// A round as it is written.
-pub const WRITTEN: &str = "cachesim journal 2
-0 look 1 = miss
-0 put 1 = added 0
-0 afterwrite = drain
-0 begin = began
-0 drainread 0 = empty
-0 drainwrite = applied 1 0
-0 drainwrite = empty
-0 evict = fits
-0 end = idle
-steps 9
-";
+pub const WRITTEN: &str = six_steps!(
+    "cachesim journal 2\n",
+    "0 drainwrite = empty\n0 evict = fits\n0 end = idle\nsteps 9\n"
+);
 
 // The round in the version that has no count.
-const UNCOUNTED: &str = "cachesim journal 1
-0 look 1 = miss
-0 put 1 = added 0
-0 afterwrite = drain
-0 begin = began
-0 drainread 0 = empty
-0 drainwrite = applied 1 0
-0 drainwrite = empty
-0 evict = fits
-0 end = idle
-";
+const UNCOUNTED: &str = six_steps!(
+    "cachesim journal 1\n",
+    "0 drainwrite = empty\n0 evict = fits\n0 end = idle\n"
+);
 
 // The first six steps of the round as they are written.
-const SIX: &str = "cachesim journal 2
-0 look 1 = miss
-0 put 1 = added 0
-0 afterwrite = drain
-0 begin = began
-0 drainread 0 = empty
-0 drainwrite = applied 1 0
-steps 6
-";
+const SIX: &str = six_steps!("cachesim journal 2\n", "steps 6\n");
 
 // Room for the longest journal here: 6000 lines of fewer than 64 bytes. A vector that grows while
 // it is written to would answer `Write` where it is out of memory.
@@ -113,7 +103,7 @@ fn assert_text(
     wanted: &[u8],
 ) -> Result<(), Fail> {
     let text = written(alloc, session)?;
-    assert_eq!(rt; text.as_slice(), wanted);
+    assert_equal(rt, text.as_slice(), wanted);
     Ok(())
 }
 
@@ -143,14 +133,9 @@ fn the_applied_steps_are_written_and_read_back(rt: HostRuntime) -> Result<(), Fa
 }
 
 // A key is read, removed and read again, each with a round.
-const THREE_ROUNDS: &str = "cachesim journal 2
-0 look 1 = miss
-0 put 1 = added 0
-0 afterwrite = drain
-0 begin = began
-0 drainread 0 = empty
-0 drainwrite = applied 1 0
-0 drainwrite = empty
+const THREE_ROUNDS: &str = six_steps!(
+    "cachesim journal 2\n",
+    "0 drainwrite = empty
 0 evict = fits
 0 end = idle
 0 remove 1 = removed 0
@@ -171,7 +156,8 @@ const THREE_ROUNDS: &str = "cachesim journal 2
 0 evict = fits
 0 end = idle
 steps 26
-";
+"
+);
 
 fn assert_three_rounds(
     rt: &impl Abort,
@@ -348,7 +334,7 @@ fn a_text_is_read_or_its_first_fault_is_named(rt: HostRuntime) -> Result<(), Fai
 fn a_full_session_names_the_line_past_its_limit(rt: HostRuntime) -> Result<(), Fail> {
     for text in [UNCOUNTED, WRITTEN] {
         let read = reading(&rt, rt.alloc(), &mut text.as_bytes(), 3)?;
-        assert_eq!(rt; read, (Err(JournalFault::JournalFull { step: 4 }), 3));
+        assert_equal(&rt, read, (Err(JournalFault::JournalFull { step: 4 }), 3));
     }
     Ok(())
 }
@@ -389,12 +375,9 @@ fn a_text_that_is_cut_leaves_the_steps_of_its_whole_lines(rt: HostRuntime) -> Re
 
 #[test]
 fn an_unwritten_journal_is_shown_by_its_cause(rt: HostRuntime) -> Result<(), Fail> {
-    for (fault, text) in [
+    let table = [
         (WriteFault::OutOfMemory, "OutOfMemory"),
         (WriteFault::Write, "Write"),
-    ] {
-        let shown = format!(in rt.alloc(); "{fault}")?;
-        assert_eq!(rt; shown.as_str(), text);
-    }
-    Ok(())
+    ];
+    assert_shown(&rt, rt.alloc(), &table)
 }
