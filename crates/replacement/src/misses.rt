@@ -60,33 +60,9 @@ pub(crate) fn windowed(
     effect
 }
 
-// A new item seeks a place in a queue. Each queue has code of its own, in which its length and ends are no choice.
+// A new item seeks a place in a queue.
 #[inline(always)]
 pub(crate) fn direct(
-    segments: &mut Segments,
-    frequency: Option<&Frequency>,
-    rules: &Rules,
-    queue: Queue,
-    item: Item,
-) -> Effect
-    requires absent { queue_holding item segments.old.lists ≡ None }
-    requires distinct { IsDistinct segments.old.lists }
-    requires room { 1 ≤ segments.old.spare }
-    ensures keepable { IsKeepable result.moves }
-    ensures effect { IsEffect (direct_plan rules.now (admits_in
-        (option_map (λ f. f.now) frequency.entry)) queue item segments.old.lists)
-        segments.old.lists segments.new.lists result }
-{
-    match queue {
-        Queue::Window => direct_to(segments, frequency, rules, Queue::Window, item),
-        Queue::Probation => direct_to(segments, frequency, rules, Queue::Probation, item),
-        Queue::Protected => direct_to(segments, frequency, rules, Queue::Protected, item),
-    }
-}
-
-// The same, where the queue is known.
-#[inline(always)]
-fn direct_to(
     segments: &mut Segments,
     frequency: Option<&Frequency>,
     rules: &Rules,
