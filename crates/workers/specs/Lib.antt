@@ -3,3 +3,4 @@ pub mod Runs
 pub mod DriveFaults
 pub mod Draws
 pub mod Causes
+pub mod Walkers

@@ -1,16 +1,15 @@
 //! What one worker does over a session that workers take in turns.
 ghost use Rattle.std.specs.Prelude.{◌≡◌, ◌≢◌, ◌≤◌, List, ◌∷◌, ◌++◌, [], true, length, OnOk, OnErr, IfOk};
 ghost use Rattle.std.specs.Prelude.{MatchResult, Err};
-ghost use Rattle.step_record.specs.declared.limits.TheConstants.{MAX_STRIPES};
 ghost use Rattle.step_record.specs.Answers.{AnswersItsActs, is_answer};
 ghost use Rattle.turn_book.specs.Passes.{id_of};
 ghost use Rattle.step_record.specs.History.{data_after};
-ghost use Rattle.step_record.specs.declared.step.Call.{Call};
 ghost use Rattle.walks.specs.Walks.{IsWalk, AreWalks, step_of};
-ghost use Rattle.walks.specs.Admits.{AdmitsWalks, IsTaken};
+ghost use Rattle.walks.specs.Admits.{IsTaken};
 ghost use Rattle.workers.specs.Draws.{IsWithin};
 ghost use Rattle.walks.specs.Made.{Made, IsUnfinished};
 ghost use Rattle.workers.specs.Causes.{the_cause};
+ghost use Rattle.workers.specs.Walkers.{CanWalk};
 
 use super::run::Cause;
 use journal::{Session, SessionFault};
@@ -31,15 +30,8 @@ pub(crate) fn work_in_turns<E: Engine<Step = Step, Reply = Reply> + Drop, G: Gat
     stripes: u8,
     calls: &[Call],
 ) -> (Pass<Session<E>>, Result<(), Cause>)
-    requires own { pass.book ≡ id_of book.now }
-    requires worker { pass.worker ≡ worker }
     requires answers { AnswersItsActs E.act }
-    requires admits { AdmitsWalks E.act E.count worker stripes
-        (data_after E.act book.now.opening.opening book.now.opening.kept) }
-    requires walks { (before : List Call) × AreWalks worker stripes before pass.own }
-    requires stripes { (1 ≤ stripes) × (stripes ≤ MAX_STRIPES) }
-    requires within { IsWithin book.now.opening.limit pass }
-    requires turns { book.now.opening.limit ≤ book.now.turns }
+    requires walker { CanWalk E.act E.count book.now pass worker stripes }
     ensures same { result.0.book ≡ pass.book }
     ensures worker { result.0.worker ≡ worker }
     ensures ok { OnOk result.1 (Made (AreWalks worker stripes calls.now) pass.own result.0.own list.old.items
@@ -71,15 +63,8 @@ fn walk_in_turns<E: Engine<Step = Step, Reply = Reply> + Drop, R: Wait>(
     stripes: u8,
     call: Call,
 ) -> (Pass<Session<E>>, Result<(), Cause>)
-    requires own { pass.book ≡ id_of book.now }
-    requires worker { pass.worker ≡ worker }
     requires answers { AnswersItsActs E.act }
-    requires admits { AdmitsWalks E.act E.count worker stripes
-        (data_after E.act book.now.opening.opening book.now.opening.kept) }
-    requires walks { (before : List Call) × AreWalks worker stripes before pass.own }
-    requires stripes { (1 ≤ stripes) × (stripes ≤ MAX_STRIPES) }
-    requires within { IsWithin book.now.opening.limit pass }
-    requires turns { book.now.opening.limit ≤ book.now.turns }
+    requires walker { CanWalk E.act E.count book.now pass worker stripes }
     ensures same { result.0.book ≡ pass.book }
     ensures worker { result.0.worker ≡ worker }
     ensures ok { OnOk result.1 (Made (IsWalk worker stripes call) pass.own result.0.own list.old.items list.new.items) }

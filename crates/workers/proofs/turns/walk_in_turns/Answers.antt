@@ -10,8 +10,8 @@ loop-init g c = record {
   can = tt;
   finite = tt;
   same = refl;
-  worker = c.requires.worker;
-  within = c.requires.within;
+  worker = c.requires.walker.worker_is;
+  within = c.requires.walker.within;
   made = nothing (Completes c.args.worker c.args.stripes c.args.call c.next_step-next.result) _ _ (λ rest left. (c.start.ensures.ahead rest).1 ((c.next_step-next.ensures.left rest).1 left));
   asks = asks_same c.args.worker c.args.stripes c.args.call _ _ c.next_step-next.result c.start.ensures.same.0 c.start.ensures.same.1 c.next_step-next.ensures.asks;
 }
@@ -46,5 +46,5 @@ returns-in-Err-clause-err g c =
 
 pub turn-given-requires-clause-takes : goal.turn-given-requires-clause-takes
 turn-given-requires-clause-takes g c = λ es legal own below.
-    c.requires.admits es legal c.in-Do.act (subst (λ l. MayMake c.args.worker c.args.stripes l c.in-Do.act) (sym own)
-    (may_make c.args.worker c.args.stripes c.args.call c.requires.walks.0 _ _ _ _ c.loop.next c.in-Do.act c.in-Do.local c.requires.walks.1 c.loop.invariant.made c.in-Do.is c.loop.invariant.asks c.in-Do.local.placed)) below
+    c.requires.walker.admits es legal c.in-Do.act (subst (λ l. MayMake c.args.worker c.args.stripes l c.in-Do.act) (sym own)
+    (may_make c.args.worker c.args.stripes c.args.call c.requires.walker.walks.0 _ _ _ _ c.loop.next c.in-Do.act c.in-Do.local c.requires.walker.walks.1 c.loop.invariant.made c.in-Do.is c.loop.invariant.asks c.in-Do.local.placed)) below

@@ -15,6 +15,20 @@ loop-n-preserved g c = record {
   made = joined _ _ _ _ _ _ _ _ _ c.loop-n.invariant.made (on_ok_at _ _ _ c.in_default.is c.walk_in_turns-given.ensures.ok) (one_walk c.args.worker c.args.stripes c.args.calls.now _ _ _ (drop_item c.args.calls.now c.loop-n.n _ c.loop-n-test.true));
 }
 
+-- the worker can go on behind each walk
+pub walk_in_turns-given-requires-clause-walker : goal.walk_in_turns-given-requires-clause-walker
+walk_in_turns-given-requires-clause-walker g c =
+    let walker = c.requires.walker in
+    record {
+      own = c.loop-n.invariant.same ∙ walker.own;
+      worker_is = c.loop-n.invariant.worker;
+      admits = walker.admits;
+      walks = c.loop-n.invariant.walks;
+      stripes_in = walker.stripes_in;
+      within = c.loop-n.invariant.within;
+      turns = walker.turns;
+    }
+
 pub returns-in-Err-clause-err : goal.returns-in-Err-clause-err
 returns-in-Err-clause-err g c =
     joined _ _ _ _ _ _ _ _ _ c.loop-n.invariant.made (on_err_at _ _ _ c.in-Err.is c.walk_in_turns-given.ensures.err) (cut_walk c.args.worker c.args.stripes c.args.calls.now _ _ _ (drop_item c.args.calls.now c.loop-n.n _ c.loop-n-test.true))

@@ -1,0 +1,26 @@
+-- What a worker has that walks in turns.
+use Rattle.std.specs.Prelude.{◌≡◌, ℕ, ◌≤◌, List, Option}
+use Rattle.step_record.specs.declared.entry.Entry.{Entry}
+use Rattle.step_record.specs.declared.limits.TheConstants.{MAX_STRIPES}
+use Rattle.step_record.specs.declared.step.Call.{Call}
+use Rattle.step_record.specs.declared.step.Reply.{Reply}
+use Rattle.step_record.specs.declared.step.Step.{Step}
+use Rattle.step_record.specs.History.{data_after}
+use Rattle.journal.specs.Session.{SessionState}
+use Rattle.turn_book.specs.Passes.{BookState, PassState, id_of}
+use Rattle.walks.specs.Admits.{AdmitsWalks}
+use Rattle.walks.specs.Walks.{AreWalks}
+use Rattle.workers.specs.Draws.{IsWithin}
+
+-- The pass is the worker's, of this book, and the worker stands between two walks. The engine takes each step that its
+-- walks ask, from where the session stood, and the pass may draw a turn for each step that the journal has room for.
+pub record CanWalk {E D : Type 0} (perform : D → Step → Option (Reply × D)) (count : D → ℕ)
+    (book : BookState (SessionState E D Step Reply))
+    (pass : PassState (SessionState E D Step Reply) (Entry Step Reply)) (worker stripes : ℕ) : Type 0 where
+  pub own : pass.book ≡ id_of book
+  pub worker_is : pass.worker ≡ worker
+  pub admits : AdmitsWalks perform count worker stripes (data_after perform book.opening.opening book.opening.kept)
+  pub walks : (before : List Call) × AreWalks worker stripes before pass.own
+  pub stripes_in : (1 ≤ stripes) × (stripes ≤ MAX_STRIPES)
+  pub within : IsWithin book.opening.limit pass
+  pub turns : book.opening.limit ≤ book.turns
