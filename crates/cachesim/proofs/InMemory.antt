@@ -1,18 +1,10 @@
 -- From what the program promises of any files to what it answers about one whose bytes are known.
-use Rattle.std.proofs.Common.{◌≡◌, ◌∙◌, ◌⊎◌, ap, subst, sym, arith, inl, inr, ℕ, List, [], ◌∷◌, Option, Some, codes}
+use Rattle.std.proofs.Common.{◌≡◌, ◌∙◌, ap, subst, sym, arith, inl, inr, ℕ, List, [], Option, Some, codes, get_or}
 use Rattle.std.specs.Option.{option_map_or}
 use Rattle.clap.specs.Words.{Kinds, Row, Text}
 use Rattle.cachesim.specs.Debugged.{KnownFiles}
 use Rattle.cachesim.specs.InMemory.{AnswersAboutFile, AnswersAboutJournal, AnswersAboutTrace}
-use Rattle.cachesim.specs.Run.{AsksHelp, Debugged, DoneBy, Drove, Parted, Ran, Replayed, Swept}
-
-abbrev head : Text → ℕ
-head [] = 0
-head (x ∷ xs) = x
-
-abbrev second : Text → ℕ
-second [] = 0
-second (x ∷ xs) = head xs
+use Rattle.cachesim.specs.Run.{AsksHelp, Debugged, Done, DoneBy, Replayed}
 
 -- no two subcommands were called
 not_both : (P : Type 0) (s : Option (Text × List Row)) (one other : Text) (rows more : List Row) → s ≡ Some (one, rows) → s ≡ Some (other, more) → ¬ (one ≡ other) → P
@@ -30,18 +22,9 @@ module _ (s : Option (Text × List Row)) (file : List ℕ) (input before after :
   abbrev files : KnownFiles
   files path = Some file
 
-  abbrev Did : Type 0
-  Did = Ran s input before after ⊎ Swept s input before after ⊎ Parted s input before after ⊎ Drove s input before after
-      ⊎ Debugged files s input before after ⊎ Replayed files s input before after
-
   of_trace : (rows : List Row) → s ≡ Some (codes "debug", rows) → Debugged files s input before after → AnswersAboutTrace rows file input before after
   of_trace rows e d = subst (λ rs. AnswersAboutTrace rs file input before after) (rows_same s (codes "debug") d.rows rows d.is_debug e) (record {
-    config = d.config;
-    config_is = d.config_is;
-    first = d.first;
-    first_is = d.first_is;
-    second = d.second;
-    second_is = d.second_is;
+    policies = d.policies;
     faultless = d.debugging.0;
     answers = d.debugging.1;
   })
@@ -54,20 +37,20 @@ module _ (s : Option (Text × List Row)) (file : List ℕ) (input before after :
     replayed = d.replaying;
   })
 
-  debugged : (rows : List Row) → s ≡ Some (codes "debug", rows) → Did → AnswersAboutTrace rows file input before after
-  debugged rows e (inl r) = not_both (AnswersAboutTrace rows file input before after) s (codes "run") (codes "debug") r.rows rows r.is_run e (λ n. let h : 114 ≡ 100 = ap head n in absurd (omega arith))
-  debugged rows e (inr (inl r)) = not_both (AnswersAboutTrace rows file input before after) s (codes "sweep") (codes "debug") r.rows rows r.is_sweep e (λ n. let h : 115 ≡ 100 = ap head n in absurd (omega arith))
-  debugged rows e (inr (inr (inl r))) = not_both (AnswersAboutTrace rows file input before after) s (codes "part") (codes "debug") r.rows rows r.is_part e (λ n. let h : 112 ≡ 100 = ap head n in absurd (omega arith))
-  debugged rows e (inr (inr (inr (inl r)))) = not_both (AnswersAboutTrace rows file input before after) s (codes "drive") (codes "debug") r.rows rows r.is_drive e (λ n. let h : 114 ≡ 101 = ap second n in absurd (omega arith))
+  debugged : (rows : List Row) → s ≡ Some (codes "debug", rows) → Done files s input before after → AnswersAboutTrace rows file input before after
+  debugged rows e (inl r) = not_both (AnswersAboutTrace rows file input before after) s (codes "run") (codes "debug") r.rows rows r.is_run e (λ n. let h : 114 ≡ 100 = ap (λ t. get_or t 0 0) n in absurd (omega arith))
+  debugged rows e (inr (inl r)) = not_both (AnswersAboutTrace rows file input before after) s (codes "sweep") (codes "debug") r.rows rows r.is_sweep e (λ n. let h : 115 ≡ 100 = ap (λ t. get_or t 0 0) n in absurd (omega arith))
+  debugged rows e (inr (inr (inl r))) = not_both (AnswersAboutTrace rows file input before after) s (codes "part") (codes "debug") r.rows rows r.is_part e (λ n. let h : 112 ≡ 100 = ap (λ t. get_or t 0 0) n in absurd (omega arith))
+  debugged rows e (inr (inr (inr (inl r)))) = not_both (AnswersAboutTrace rows file input before after) s (codes "drive") (codes "debug") r.rows rows r.is_drive e (λ n. let h : 114 ≡ 101 = ap (λ t. get_or t 1 0) n in absurd (omega arith))
   debugged rows e (inr (inr (inr (inr (inl r))))) = of_trace rows e r
-  debugged rows e (inr (inr (inr (inr (inr r))))) = not_both (AnswersAboutTrace rows file input before after) s (codes "replay") (codes "debug") r.rows rows r.is_replay e (λ n. let h : 114 ≡ 100 = ap head n in absurd (omega arith))
+  debugged rows e (inr (inr (inr (inr (inr r))))) = not_both (AnswersAboutTrace rows file input before after) s (codes "replay") (codes "debug") r.rows rows r.is_replay e (λ n. let h : 114 ≡ 100 = ap (λ t. get_or t 0 0) n in absurd (omega arith))
 
-  replayed : (rows : List Row) → s ≡ Some (codes "replay", rows) → Did → AnswersAboutJournal rows file input before after
-  replayed rows e (inl r) = not_both (AnswersAboutJournal rows file input before after) s (codes "run") (codes "replay") r.rows rows r.is_run e (λ n. let h : 117 ≡ 101 = ap second n in absurd (omega arith))
-  replayed rows e (inr (inl r)) = not_both (AnswersAboutJournal rows file input before after) s (codes "sweep") (codes "replay") r.rows rows r.is_sweep e (λ n. let h : 115 ≡ 114 = ap head n in absurd (omega arith))
-  replayed rows e (inr (inr (inl r))) = not_both (AnswersAboutJournal rows file input before after) s (codes "part") (codes "replay") r.rows rows r.is_part e (λ n. let h : 112 ≡ 114 = ap head n in absurd (omega arith))
-  replayed rows e (inr (inr (inr (inl r)))) = not_both (AnswersAboutJournal rows file input before after) s (codes "drive") (codes "replay") r.rows rows r.is_drive e (λ n. let h : 100 ≡ 114 = ap head n in absurd (omega arith))
-  replayed rows e (inr (inr (inr (inr (inl r))))) = not_both (AnswersAboutJournal rows file input before after) s (codes "debug") (codes "replay") r.rows rows r.is_debug e (λ n. let h : 100 ≡ 114 = ap head n in absurd (omega arith))
+  replayed : (rows : List Row) → s ≡ Some (codes "replay", rows) → Done files s input before after → AnswersAboutJournal rows file input before after
+  replayed rows e (inl r) = not_both (AnswersAboutJournal rows file input before after) s (codes "run") (codes "replay") r.rows rows r.is_run e (λ n. let h : 117 ≡ 101 = ap (λ t. get_or t 1 0) n in absurd (omega arith))
+  replayed rows e (inr (inl r)) = not_both (AnswersAboutJournal rows file input before after) s (codes "sweep") (codes "replay") r.rows rows r.is_sweep e (λ n. let h : 115 ≡ 114 = ap (λ t. get_or t 0 0) n in absurd (omega arith))
+  replayed rows e (inr (inr (inl r))) = not_both (AnswersAboutJournal rows file input before after) s (codes "part") (codes "replay") r.rows rows r.is_part e (λ n. let h : 112 ≡ 114 = ap (λ t. get_or t 0 0) n in absurd (omega arith))
+  replayed rows e (inr (inr (inr (inl r)))) = not_both (AnswersAboutJournal rows file input before after) s (codes "drive") (codes "replay") r.rows rows r.is_drive e (λ n. let h : 100 ≡ 114 = ap (λ t. get_or t 0 0) n in absurd (omega arith))
+  replayed rows e (inr (inr (inr (inr (inl r))))) = not_both (AnswersAboutJournal rows file input before after) s (codes "debug") (codes "replay") r.rows rows r.is_debug e (λ n. let h : 100 ≡ 114 = ap (λ t. get_or t 0 0) n in absurd (omega arith))
   replayed rows e (inr (inr (inr (inr (inr r))))) = of_journal rows e r
 
 pub answered : (words : List Text) (file : List ℕ) (input before after : Option (List ℕ)) → DoneBy words (λ path. Some file) input before after

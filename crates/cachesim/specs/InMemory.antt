@@ -2,25 +2,20 @@
 use Rattle.std.specs.Prelude.{◌≡◌, ℕ, List, [], Option, Some, None, codes}
 use Rattle.clap.specs.Words.{Row, Text, fault_of, subcommand_of}
 use Rattle.step_record.specs.declared.config.Config.{Config}
-use Rattle.step_record.specs.declared.job.Policy.{Policy}
 use Rattle.trace_read.specs.Reading.{fault_in, keys_in}
 use Rattle.command_line.specs.Program.{AreLists, Lists, call_words, program_app}
-use Rattle.command_line.specs.Program.{concurrent_in, config_in, format_in, policy_in, stripes_in}
+use Rattle.command_line.specs.Program.{concurrent_in, format_in, stripes_in}
 use Rattle.debug_policies.specs.TwoPolicies.{policies_timeline}
 use Rattle.cachesim.specs.Debugged.{Answering, IsReplayed}
+use Rattle.cachesim.specs.Run.{PolicyPair, first_job, second_job}
 
 -- The bytes of the file have no fault as a trace of the format that the matches name, and those written answer the
 -- commands of the input about the two policies that they name, over the accesses of the trace.
 pub record AnswersAboutTrace (rows : List Row) (file : List ℕ) (input before after : Option (List ℕ)) : Type 0 where
-  pub config : Config
-  pub config_is : config_in rows ≡ Some config
-  pub first : Policy
-  pub first_is : policy_in (codes "first") rows ≡ Some first
-  pub second : Policy
-  pub second_is : policy_in (codes "second") rows ≡ Some second
+  pub policies : PolicyPair rows
   pub faultless : fault_in (format_in rows) file ≡ None
   pub answers : Answering (policies_timeline (keys_in (format_in rows) file)
-      (record { policy = first; config = config }) (record { policy = second; config = config })) 0 input before after
+      (first_job policies) (second_job policies)) 0 input before after
 
 -- The bytes of the file are a journal of the cache that the matches name, and those written answer the commands of the
 -- input about its steps.

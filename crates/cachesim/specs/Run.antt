@@ -47,18 +47,28 @@ pub record Swept (subcommand : Option (Text × List Row)) (input before after : 
   pub capacities_are : capacities_in rows ≡ Some capacities
   pub reports : Reports (format_in rows) (jobs_over (jobs_by_policy config policies) capacities) input before after
 
--- `part` was called, and has written where the two policies that its matches name part
-pub record Parted (subcommand : Option (Text × List Row)) (input before after : Option (List ℕ)) : Type 0 where
-  pub rows : List Row
-  pub is_part : subcommand ≡ Some (codes "part", rows)
+-- two policies that the matches name, on one configuration
+pub record PolicyPair (rows : List Row) : Type 0 where
   pub config : Config
   pub config_is : config_in rows ≡ Some config
   pub first : Policy
   pub first_is : policy_in (codes "first") rows ≡ Some first
   pub second : Policy
   pub second_is : policy_in (codes "second") rows ≡ Some second
-  pub parting : Parting (format_in rows) (record { policy = first; config = config })
-      (record { policy = second; config = config }) input before after
+
+-- the job of the first policy, and that of the second
+abbrev pub first_job : {rows : List Row} → PolicyPair rows → Job
+first_job pair = record { policy = pair.first; config = pair.config }
+
+abbrev pub second_job : {rows : List Row} → PolicyPair rows → Job
+second_job pair = record { policy = pair.second; config = pair.config }
+
+-- `part` was called, and has written where the two policies that its matches name part
+pub record Parted (subcommand : Option (Text × List Row)) (input before after : Option (List ℕ)) : Type 0 where
+  pub rows : List Row
+  pub is_part : subcommand ≡ Some (codes "part", rows)
+  pub policies : PolicyPair rows
+  pub parting : Parting (format_in rows) (first_job policies) (second_job policies) input before after
 
 -- `drive` was called, and has written the journal of its workers' walks, from the empty cache on
 pub record Drove (subcommand : Option (Text × List Row)) (input before after : Option (List ℕ)) : Type 0 where
@@ -77,16 +87,10 @@ pub record Debugged (files : KnownFiles) (subcommand : Option (Text × List Row)
     : Type 0 where
   pub rows : List Row
   pub is_debug : subcommand ≡ Some (codes "debug", rows)
-  pub config : Config
-  pub config_is : config_in rows ≡ Some config
-  pub first : Policy
-  pub first_is : policy_in (codes "first") rows ≡ Some first
-  pub second : Policy
-  pub second_is : policy_in (codes "second") rows ≡ Some second
+  pub policies : PolicyPair rows
   pub trace : Text
   pub trace_is : first_of (codes "trace") rows ≡ Some trace
-  pub debugging : Debugging (format_in rows) (record { policy = first; config = config })
-      (record { policy = second; config = config }) (files trace) input before after
+  pub debugging : Debugging (format_in rows) (first_job policies) (second_job policies) (files trace) input before after
 
 -- `replay` was called, and has answered the commands about the journal of the file that its matches name
 pub record Replayed (files : KnownFiles) (subcommand : Option (Text × List Row)) (input before after : Option (List ℕ))
@@ -111,17 +115,21 @@ AsksHelp kinds = (kind : ErrorKind) × is_help kind × IsAmong kind kinds
 abbrev pub RefusesWords : Kinds → Type 0
 RefusesWords kinds = (kind : ErrorKind) × (¬ is_help kind) × IsAmong kind kinds
 
--- done: clap takes the words and the reports are written, or the words ask for help
+-- the subcommand was called, and has done what it is for
+abbrev pub Done : KnownFiles → Option (Text × List Row) → Option (List ℕ) → Option (List ℕ) → Option (List ℕ) → Type 0
+Done files subcommand input before after = Ran subcommand input before after
+    ⊎ Swept subcommand input before after
+    ⊎ Parted subcommand input before after
+    ⊎ Drove subcommand input before after
+    ⊎ Debugged files subcommand input before after
+    ⊎ Replayed files subcommand input before after
+
+-- done: clap takes the words and the subcommand has done what it is for, or the words ask for help
 pub record DoneBy (words : List Text) (files : KnownFiles) (input before after : Option (List ℕ)) : Type 0 where
   pub lists : Lists
   pub are : AreLists lists
   pub done : ((fault_of (program_app lists) (call_words words) ≡ [])
-      × (Ran (subcommand_of (program_app lists) (call_words words)) input before after
-      ⊎ Swept (subcommand_of (program_app lists) (call_words words)) input before after
-      ⊎ Parted (subcommand_of (program_app lists) (call_words words)) input before after
-      ⊎ Drove (subcommand_of (program_app lists) (call_words words)) input before after
-      ⊎ Debugged files (subcommand_of (program_app lists) (call_words words)) input before after
-      ⊎ Replayed files (subcommand_of (program_app lists) (call_words words)) input before after))
+      × Done files (subcommand_of (program_app lists) (call_words words)) input before after)
       ⊎ AsksHelp (fault_of (program_app lists) (call_words words))
 
 -- a usage error: clap refuses the words, or they lack a number in its range or a known policy, or their number of read
