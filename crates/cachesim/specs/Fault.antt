@@ -1,8 +1,6 @@
 -- What a fault of a lower crate is to the program.
-use Rattle.report.specs.declared.fault.WriteFault.{WriteFault}
-use Rattle.report.specs.declared.fault.WriteFault.TheVariants as write
-use Rattle.journal_text.specs.declared.fault.WriteFault.{WriteFault as JournalWriteFault}
-use Rattle.journal_text.specs.declared.fault.WriteFault.TheVariants as journal
+use Rattle.streams.specs.declared.WriteFault.{WriteFault}
+use Rattle.streams.specs.declared.WriteFault.TheVariants as write
 use Rattle.journal_text.specs.declared.fault.JournalFault.{JournalFault}
 use Rattle.journal_text.specs.declared.fault.JournalFault.TheVariants as reading
 use Rattle.workers.specs.declared.run.Cause.{Cause}
@@ -20,10 +18,6 @@ use Rattle.cachesim.specs.declared.fault.Fault.TheVariants.{NoFile, OutOfMemory,
 abbrev pub of_write : WriteFault → Fault
 of_write write.OutOfMemory = OutOfMemory
 of_write write.Write = Write
-
-abbrev pub of_journal : JournalWriteFault → Fault
-of_journal journal.OutOfMemory = OutOfMemory
-of_journal journal.Write = Write
 
 abbrev pub of_cause : Cause → Fault
 of_cause cause.Memory = OutOfMemory

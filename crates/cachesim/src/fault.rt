@@ -1,15 +1,15 @@
 //! Why a subcommand printed no result.
 ghost use Rattle.std.specs.Prelude.{◌≡◌};
-ghost use Rattle.cachesim.specs.Fault.{of_actor, of_cause, of_debug, of_file, of_journal, of_reading, of_write};
+ghost use Rattle.cachesim.specs.Fault.{of_actor, of_cause, of_debug, of_file, of_reading, of_write};
 ghost use Rattle.cachesim.specs.declared.fault.Fault.TheVariants.{OutOfMemory, Trace};
 
 use crate::files::FileFault;
 use debug_commands::DebugFault;
 use journal_text::JournalFault;
 use policy_actors::ActorFault;
-use report::WriteFault;
 use std::alloc::AllocError;
 use std::fmt;
+use streams::WriteFault;
 use thiserror::Error;
 use trace_read::TraceFault;
 use workers::Cause;
@@ -84,17 +84,6 @@ impl From<WriteFault> for Fault {
         match fault {
             WriteFault::OutOfMemory => Fault::OutOfMemory,
             WriteFault::Write => Fault::Write,
-        }
-    }
-}
-
-impl From<journal_text::WriteFault> for Fault {
-    ghost from_gives = { λ fault e. e ≡ of_journal fault };
-
-    fn from(fault: journal_text::WriteFault) -> Fault {
-        match fault {
-            journal_text::WriteFault::OutOfMemory => Fault::OutOfMemory,
-            journal_text::WriteFault::Write => Fault::Write,
         }
     }
 }

@@ -1,11 +1,9 @@
-//! Why a journal was not read, or not written.
+//! Why a journal was not read.
 ghost use Rattle.std.specs.Prelude.{◌≡◌};
 ghost use Rattle.journal_text.specs.Unread.{fault_of};
-ghost use Rattle.journal_text.specs.declared.fault.WriteFault.TheVariants.{OutOfMemory, Write};
 
-use std::alloc::AllocError;
 use std::fmt;
-use streams::{ReadAllFault, WriteAllFault};
+use streams::ReadAllFault;
 use thiserror::Error;
 
 /// Why a journal was not read. Steps count from 1. It is displayed by its name, with the step where it
@@ -65,33 +63,5 @@ impl From<ReadAllFault> for JournalFault {
             ReadAllFault::TooLarge => JournalFault::TooLarge,
             ReadAllFault::Read => JournalFault::Read,
         }
-    }
-}
-
-/// Why a journal was not written.
-#[derive(Clone, Copy, Debug, PartialEq, Eq, Error)]
-pub enum WriteFault {
-    /// Out of memory for the buffer. Nothing was written.
-    #[error("OutOfMemory")]
-    OutOfMemory,
-    /// A write or a flush failed, took no byte, or was the millionth to be interrupted. Output may
-    /// be partial.
-    #[error("Write")]
-    Write,
-}
-
-impl From<AllocError> for WriteFault {
-    ghost from_gives = { λ _ e. e ≡ OutOfMemory };
-
-    fn from(_error: AllocError) -> WriteFault {
-        WriteFault::OutOfMemory
-    }
-}
-
-impl From<WriteAllFault> for WriteFault {
-    ghost from_gives = { λ _ e. e ≡ Write };
-
-    fn from(_fault: WriteAllFault) -> WriteFault {
-        WriteFault::Write
     }
 }

@@ -22,9 +22,10 @@ mod word;
 mod words;
 mod writer;
 
-pub use fault::{JournalFault, WriteFault};
+pub use fault::JournalFault;
 pub use line::Line;
 pub use reader::{MAX_JOURNAL_BYTES, read_journal};
+pub use streams::WriteFault;
 pub use theorems::{one_journal, one_line, read_back};
 pub use version::Version;
 pub use writer::write_journal;

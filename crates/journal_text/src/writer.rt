@@ -20,7 +20,8 @@ use streams::{Patience, WriteAllFault, flush, write_some};
 const BUFFER: usize = 65_536;
 
 /// Writes the journal of the applied steps, in version 2, and flushes. The undone steps are not in
-/// it. The text goes through a buffer, whose memory is taken before the first write.
+/// it. The text goes through a buffer, whose memory is taken before the first write: `OutOfMemory`
+/// has written nothing, and after `Write` output may be partial.
 pub fn write_journal<E: Engine<Step = Step, Reply = Reply>, W: Write>(
     alloc: Global,
     session: &Session<E>,

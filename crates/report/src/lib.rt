@@ -5,10 +5,9 @@
 //! down, and is never computed by floating point.
 #![tactic(auto)]
 
-mod fault;
 mod report;
 mod rows;
 
-pub use fault::WriteFault;
 pub use report::Report;
 pub use rows::write_reports;
+pub use streams::WriteFault;
