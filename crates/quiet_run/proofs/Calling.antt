@@ -308,6 +308,11 @@ pub map_ok : {T F : Type 0} (r : Result T F) (P Q : T → Type 0) → ((x : T) �
 map_ok (Ok x) P Q f h = f x h
 map_ok (Err e) P Q f h = tt
 
+-- an error leaves what holds for each number
+pub on_err_each : {T F : Type 0} (r : Result T F) (P : ℕ → Type 0) → ((n : ℕ) → P n) → OnErr r ((n : ℕ) → P n)
+on_err_each (Ok x) P h = tt
+on_err_each (Err x) P h = h
+
 pub map_err : {T F : Type 0} (r : Result T F) (P Q : Type 0) → (P → Q) → OnErr r P → OnErr r Q
 map_err (Ok x) P Q f h = tt
 map_err (Err e) P Q f h = f h

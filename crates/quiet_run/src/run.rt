@@ -147,7 +147,7 @@ fn quiet_key(
     ensures err { OnErr result (AddsSteps (IsUnfinished (IsQuietWalk stripes key)) session.old session.new) }
     ensures cause { IfErr result (λ f. IsRefusalCause f session.new) }
 {
-    let outcome = announce(session, worker, stripes, key)?;
+    let outcome = announce(session, worker, key)?;
     make_step(session, worker, Act::Begin)?;
     finish_round(
         session,
@@ -157,32 +157,27 @@ fn quiet_key(
 }
 
 // Looks a key up, and offers or adds it.
-fn announce(
-    session: &mut Session<Shell>,
-    worker: Worker,
-    stripes: u8,
-    key: Key,
-) -> Result<Outcome, Refusal>
+fn announce(session: &mut Session<Shell>, worker: Worker, key: Key) -> Result<Outcome, Refusal>
     requires worker { worker ≡ 0 }
-    requires stripes { length session.old.engine.stripes ≡ stripes }
-    requires some { 1 ≤ stripes }
+    requires some { 1 ≤ length session.old.engine.stripes }
     ensures opening { session.new.opening ≡ session.old.opening }
     ensures limit { session.new.limit ≡ session.old.limit }
-    ensures ok { IfOk result (λ o. AddsSteps (λ es. ((rest : Entries) → IsRound 0 stripes rest
-        → IsQuietWalk stripes key (es ++ rest)) × (o ≡ outcome_from Kept es)) session.old session.new) }
+    // These are the first steps of the key's walk, whatever the number of stripes.
+    ensures ok { IfOk result (λ o. (n : ℕ) → AddsSteps (λ es. ((rest : Entries) → IsRound 0 n rest
+        → IsQuietWalk n key (es ++ rest)) × (o ≡ outcome_from Kept es)) session.old session.new) }
     ensures holder { session.new.engine.holder ≡ session.old.engine.holder }
-    ensures stripes { length session.new.engine.stripes ≡ stripes }
-    ensures err { OnErr result (AddsSteps (IsUnfinished (IsQuietWalk stripes key)) session.old session.new) }
+    ensures stripes { length session.new.engine.stripes ≡ length session.old.engine.stripes }
+    ensures err { OnErr result ((n : ℕ) → AddsSteps (IsUnfinished (IsQuietWalk n key)) session.old session.new) }
     ensures cause { IfErr result (λ f. IsRefusalCause f session.new) }
 {
     match make_own(session, worker, Act::Look { key })? {
         Reply::Hit { node } => {
             session.engine().reachable();
-            offer(session, worker, stripes, Item { key, node })?;
+            offer(session, worker, Item { key, node })?;
             Ok(Outcome::Hit)
         }
         Reply::Miss => {
-            put(session, worker, stripes, key)?;
+            put(session, worker, key)?;
             Ok(Outcome::Kept)
         }
         _ => unreachable!(),
@@ -190,21 +185,16 @@ fn announce(
 }
 
 // Offers an item that was hit to the first read buffer, and reports the answer.
-fn offer(
-    session: &mut Session<Shell>,
-    worker: Worker,
-    stripes: u8,
-    item: Item,
-) -> Result<(), Refusal>
+fn offer(session: &mut Session<Shell>, worker: Worker, item: Item) -> Result<(), Refusal>
     requires worker { worker ≡ 0 }
     requires accepted { IsSome (act_effect worker (Act.Offer 0 item) session.old.engine) }
     ensures opening { session.new.opening ≡ session.old.opening }
     ensures limit { session.new.limit ≡ session.old.limit }
-    ensures ok { OnOk result (AddsSteps (λ es. ((rest : Entries) → IsRound 0 stripes rest
-        → IsQuietOffer stripes item (es ++ rest)) × ((o : Outcome) → outcome_from o es ≡ o)) session.old session.new) }
+    ensures ok { OnOk result ((n : ℕ) → AddsSteps (λ es. ((rest : Entries) → IsRound 0 n rest
+        → IsQuietOffer n item (es ++ rest)) × ((o : Outcome) → outcome_from o es ≡ o)) session.old session.new) }
     ensures holder { session.new.engine.holder ≡ session.old.engine.holder }
     ensures stripes { length session.new.engine.stripes ≡ length session.old.engine.stripes }
-    ensures err { OnErr result (AddsSteps (IsUnfinished (IsQuietOffer stripes item)) session.old session.new) }
+    ensures err { OnErr result ((n : ℕ) → AddsSteps (IsUnfinished (IsQuietOffer n item)) session.old session.new) }
     ensures cause { IfErr result (λ f. IsRefusalCause f session.new) }
 {
     let reply = make_own(session, worker, Act::Offer { stripe: 0, item })?;
@@ -226,15 +216,15 @@ fn answer_in(item: Item, reply: Reply) -> Answer
 }
 
 // Adds a key that was missed, and reports that unless the write queue was full.
-fn put(session: &mut Session<Shell>, worker: Worker, stripes: u8, key: Key) -> Result<(), Refusal>
+fn put(session: &mut Session<Shell>, worker: Worker, key: Key) -> Result<(), Refusal>
     requires worker { worker ≡ 0 }
     ensures opening { session.new.opening ≡ session.old.opening }
     ensures limit { session.new.limit ≡ session.old.limit }
-    ensures ok { OnOk result (AddsSteps (λ es. ((rest : Entries) → IsRound 0 stripes rest
-        → IsQuietPut stripes key (es ++ rest)) × ((o : Outcome) → outcome_from o es ≡ o)) session.old session.new) }
+    ensures ok { OnOk result ((n : ℕ) → AddsSteps (λ es. ((rest : Entries) → IsRound 0 n rest
+        → IsQuietPut n key (es ++ rest)) × ((o : Outcome) → outcome_from o es ≡ o)) session.old session.new) }
     ensures holder { session.new.engine.holder ≡ session.old.engine.holder }
     ensures stripes { length session.new.engine.stripes ≡ length session.old.engine.stripes }
-    ensures err { OnErr result (AddsSteps (IsUnfinished (IsQuietPut stripes key)) session.old session.new) }
+    ensures err { OnErr result ((n : ℕ) → AddsSteps (IsUnfinished (IsQuietPut n key)) session.old session.new) }
     ensures cause { IfErr result (λ f. IsRefusalCause f session.new) }
 {
     let reply = make_own(session, worker, Act::Put { key })?;
