@@ -1,12 +1,12 @@
 //! The first access at which one policy hits and the other does not.
-ghost use Rattle.std.specs.Prelude.{◌≡◌, ◌≢◌, ◌≤◌, ◌-◌, ◌++◌, Ok, Some, None, [], ◌∷◌, length, take};
+ghost use Rattle.std.specs.Prelude.{◌≡◌, ◌≢◌, ◌≤◌, ◌<◌, ◌+◌, ◌-◌, ◌++◌, Ok, Some, None, [], ◌∷◌, length, take};
 ghost use Rattle.std.specs.Prelude.{IfOk, OnOk, IfSome, IfNone};
 ghost use Rattle.step_record.specs.Config.{config_fault};
 ghost use Rattle.step_record.specs.Stats.{is_hit};
 ghost use Rattle.policies.specs.AnyPolicy.{HasAccessed, outcomes_on};
 ghost use Rattle.policies.specs.AnyStep.{any_act};
 ghost use Rattle.job_checks.specs.FaultyJobs.{faulty_in, ReturnsFault};
-ghost use Rattle.debug_policies.specs.Part.{part_line, IsPart, IsNoted, IsFirstOther};
+ghost use Rattle.debug_policies.specs.Part.{part_line, is_hit_at, IsPart, IsNoted, IsFirstOther};
 
 use debug_commands::{push_bytes, push_count};
 use job_checks::ActorFault;
@@ -139,14 +139,9 @@ fn note_hits(
     ensures noted { OnOk result (IsNoted noted.new (outcomes_on _job.now trace.now) start end) }
     ensures room { length noted.new ≡ length noted.old }
 {
-    any_accepts();
-    any_stands();
-    any_answers();
-    let keys = trace.keys();
     for i in start..end {
-        cache.warm_at(keys, i);
-        let outcome = access::<Noting>(cache, keys[i])?;
-        noted[i - start] = hits(outcome);
+        let hit = hit_at::<Noting>(cache, _job, trace, i)?;
+        noted[i - start] = hit;
     }
     Ok(())
 }
@@ -168,18 +163,31 @@ fn compare_hits(
     ensures agree { IfOk result (λ r. IfNone r (IsNoted noted.now (outcomes_on _job.now trace.now) start end)) }
     ensures part { IfOk result (λ r. IfSome r (IsFirstOther noted.now (outcomes_on _job.now trace.now) start end)) }
 {
-    any_accepts();
-    any_stands();
-    any_answers();
-    let keys = trace.keys();
     for i in start..end {
-        cache.warm_at(keys, i);
-        let outcome = access::<Comparing>(cache, keys[i])?;
-        if hits(outcome) != noted[i - start] {
+        let hit = hit_at::<Comparing>(cache, _job, trace, i)?;
+        if hit != noted[i - start] {
             return Ok(Some(i));
         }
     }
     Ok(None)
+}
+
+// Makes the access at a place, counted from 0, in a cache that made those before it, and says whether it hit. The one
+// error is out of memory.
+#[inline(always)]
+fn hit_at<C>(cache: &mut AnyPolicy, _job: &Job, trace: &Trace, i: usize) -> Result<bool, AllocError>
+    requires below { i < length trace.now }
+    requires stands { HasAccessed _job.now trace.now (take i trace.now) cache.old }
+    ensures stands { OnOk result (HasAccessed _job.now trace.now (take (i + 1) trace.now) cache.new) }
+    ensures hit { IfOk result (λ hit. hit ≡ is_hit_at (outcomes_on _job.now trace.now) (i + 1)) }
+{
+    any_accepts();
+    any_stands();
+    any_answers();
+    let keys = trace.keys();
+    cache.warm_at(keys, i);
+    let outcome = access::<C>(cache, keys[i])?;
+    Ok(hits(outcome))
 }
 
 // Makes an access that the cache accepts. The one error is out of memory.
