@@ -1,8 +1,7 @@
 //! The journal of a concurrent cache, written as text and read back.
-ghost use Rattle.std.specs.Prelude.{◌≡◌, ◌≤◌, [], length};
-ghost use Rattle.step_record.specs.declared.limits.TheConstants.{MAX_JOURNAL_LIMIT};
+ghost use Rattle.std.specs.Prelude.{◌≡◌};
 ghost use Rattle.journal_text.specs.Faults.{Accepts};
-ghost use Rattle.shell_model.specs.Reached.{IsReachable};
+ghost use Rattle.shell_journal.specs.Copy.{CanHold};
 
 use crate::theorems::text_size;
 use journal::Session;
@@ -21,12 +20,7 @@ pub fn copy_journal(
     session: &Session<Shell>,
     copy: &mut Session<Shell>,
 ) -> Result<(), JournalFault>
-    requires reachable { IsReachable session.now.opening }
-    requires few { length session.now.kept ≤ MAX_JOURNAL_LIMIT }
-    requires alike { copy.old.opening ≡ session.now.opening }
-    requires kept { copy.old.kept ≡ [] }
-    requires tail { copy.old.tail ≡ [] }
-    requires room { length session.now.kept ≤ copy.old.limit }
+    requires { CanHold session.now copy.old }
     // The new session then holds the same entries, unless memory or the reader failed.
     ensures taken { Accepts result copy.new.kept session.now.kept }
     ensures opening { copy.new.opening ≡ copy.old.opening }
