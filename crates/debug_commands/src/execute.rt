@@ -1,6 +1,6 @@
 //! What is answered to a line.
-ghost use Rattle.std.specs.Prelude.{◌≡◌, ◌≤◌, ◌-◌, ◌++◌, ℕ, List, OnOk, IfOk};
-ghost use Rattle.debug_commands.specs.Answers.{answer_to, position_line, response_to, stop_after, stop_line};
+ghost use Rattle.std.specs.Prelude.{◌≡◌, ◌-◌, ◌++◌, ℕ, List, OnOk, IfOk};
+ghost use Rattle.debug_commands.specs.Answers.{answer_to, response_to, stop_after, stop_line};
 ghost use Rattle.debug_commands.specs.Answering.{IsAnswer};
 ghost use Rattle.debug_commands.specs.Timeline.{TimelineData};
 ghost use Rattle.debug_commands.specs.declared.breakpoint.Breakpoint.{Breakpoint};
@@ -93,7 +93,8 @@ fn step<T: Timeline>(
     if n > (timeline.end() - at) as u64 {
         return push_bytes(text, b"fault: PastEnd\n");
     }
-    go(alloc, timeline, at + n as usize, text)
+    timeline.forward(alloc, n as usize)?;
+    push_at(text, at + n as usize)
 }
 
 // Goes so many steps back.
@@ -117,7 +118,8 @@ fn back<T: Timeline>(
     if n > at as u64 {
         return push_bytes(text, b"fault: PastStart\n");
     }
-    go(alloc, timeline, at - n as usize, text)
+    timeline.back(alloc, n as usize)?;
+    push_at(text, at - n as usize)
 }
 
 // Goes to where so many steps are made.
@@ -140,25 +142,13 @@ fn goto<T: Timeline>(
     if n > timeline.end() as u64 {
         return push_bytes(text, b"fault: PastEnd\n");
     }
-    go(alloc, timeline, n as usize, text)
-}
-
-// Goes to a position that there is.
-fn go<T: Timeline>(
-    alloc: Global,
-    timeline: &mut T,
-    n: usize,
-    text: &mut Vec<u8>,
-) -> Result<(), AllocError>
-    requires whole { T.IsWhole timeline.old }
-    requires within { n ≤ (T.timeline timeline.old).end }
-    ensures source { T.source timeline.new ≡ T.source timeline.old }
-    ensures whole { OnOk result (T.IsWhole timeline.new) }
-    ensures same { OnOk result (T.timeline timeline.new ≡ T.timeline timeline.old) }
-    ensures position { OnOk result (T.position timeline.new ≡ n) }
-    ensures text { OnOk result (text.new.items ≡ text.old.items ++ position_line n) }
-{
-    timeline.goto(alloc, n)?;
+    let at = timeline.position();
+    let n = n as usize;
+    if n < at {
+        timeline.back(alloc, at - n)?;
+    } else {
+        timeline.forward(alloc, n - at)?;
+    }
     push_at(text, n)
 }
 

@@ -42,8 +42,15 @@ impl<'a> Timeline for Replay<'a> {
         self.session.len()
     }
 
-    fn goto(&mut self, _alloc: Global, n: usize) -> Result<(), AllocError> {
-        match self.session.goto(n) {
+    fn back(&mut self, _alloc: Global, n: usize) -> Result<(), AllocError> {
+        match self.session.back(n) {
+            Ok(()) => Ok(()),
+            Err(_) => Err(AllocError),
+        }
+    }
+
+    fn forward(&mut self, _alloc: Global, n: usize) -> Result<(), AllocError> {
+        match self.session.forward(n) {
             Ok(()) => Ok(()),
             Err(_) => Err(AllocError),
         }
