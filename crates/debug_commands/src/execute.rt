@@ -16,6 +16,7 @@ use std::alloc::{AllocError, Global};
 pub const MAX_BREAKPOINTS: usize = 64;
 
 /// Adds the answer to a line.
+#[tactic(auto, unfolding(crate::specs::Answers::response_to))]
 pub fn answer<T: Timeline>(
     alloc: Global,
     timeline: &mut T,
@@ -32,43 +33,19 @@ pub fn answer<T: Timeline>(
         text.old.items text.new.items (T.position timeline.new) breaks.new.items) }
 {
     match line {
-        Line::Empty => Ok(()),
+        Line::Empty | Line::Known(Command::Quit) => Ok(()),
         Line::Unknown => push_bytes(text, b"fault: Command\n"),
-        Line::Known(command) => respond(alloc, timeline, breaks, command, text),
-    }
-}
-
-// Adds the answer to a command.
-#[tactic(auto, unfolding(crate::specs::Answers::response_to))]
-fn respond<T: Timeline>(
-    alloc: Global,
-    timeline: &mut T,
-    breaks: &mut Vec<Breakpoint>,
-    command: Command,
-    text: &mut Vec<u8>,
-) -> Result<(), AllocError>
-    requires { T.IsWhole timeline.old }
-    ensures source { T.source timeline.new ≡ T.source timeline.old }
-    ensures whole { OnOk result (T.IsWhole timeline.new) }
-    ensures same { OnOk result (T.timeline timeline.new ≡ T.timeline timeline.old) }
-    ensures answer { OnOk result (IsAnswer
-        (response_to (T.timeline timeline.old)
-        (record { at = T.position timeline.old; breaks = breaks.old.items }) command)
-        text.old.items text.new.items (T.position timeline.new) breaks.new.items) }
-{
-    match command {
-        Command::Step(n) => step(alloc, timeline, n, text),
-        Command::Back(n) => back(alloc, timeline, n, text),
-        Command::Goto(n) => goto(alloc, timeline, n, text),
-        Command::Run => run(alloc, timeline, breaks.as_slice(), text),
-        Command::Break(point) => set(breaks, point, text),
-        Command::Clear => {
+        Line::Known(Command::Step(n)) => step(alloc, timeline, n, text),
+        Line::Known(Command::Back(n)) => back(alloc, timeline, n, text),
+        Line::Known(Command::Goto(n)) => goto(alloc, timeline, n, text),
+        Line::Known(Command::Run) => run(alloc, timeline, breaks.as_slice(), text),
+        Line::Known(Command::Break(point)) => set(breaks, point, text),
+        Line::Known(Command::Clear) => {
             breaks.clear();
             push_bytes(text, b"ok\n")
         }
-        Command::Show => timeline.show(alloc, text),
-        Command::Own => timeline.own(alloc, text),
-        Command::Quit => Ok(()),
+        Line::Known(Command::Show) => timeline.show(alloc, text),
+        Line::Known(Command::Own) => timeline.own(alloc, text),
     }
 }
 
