@@ -21,7 +21,7 @@ use Rattle.debug_commands.specs.declared.command.Command.TheVariants as command
 use Rattle.debug_commands.specs.declared.command.Dialect.{Dialect}
 use Rattle.debug_commands.specs.declared.command.Line.{Line}
 use Rattle.debug_commands.specs.declared.command.Line.TheVariants.{Empty, Unknown, Known}
-use Rattle.debug_commands.specs.declared.lines.TheConstants.{MAX_COMMAND_BYTES}
+use Rattle.debug_commands.specs.declared.dialogue.TheConstants.{MAX_COMMAND_BYTES}
 
 -- a text before a dialogue
 abbrev pub behind : List ℕ → Dialogue → Dialogue

@@ -9,7 +9,7 @@ use Rattle.debug_commands.specs.Timeline.{TimelineData}
 use Rattle.debug_commands.specs.declared.command.Command.TheVariants.{Quit}
 use Rattle.debug_commands.specs.declared.command.Line.{Line}
 use Rattle.debug_commands.specs.declared.command.Line.TheVariants.{Known}
-use Rattle.debug_commands.specs.declared.lines.TheConstants.{MAX_COMMAND_BYTES}
+use Rattle.debug_commands.specs.declared.dialogue.TheConstants.{MAX_COMMAND_BYTES}
 
 abbrev pub is_quit : Line → Bool
 is_quit (Known Quit) = true

@@ -1,18 +1,22 @@
-//! The reading and answering of commands.
-ghost use Rattle.std.specs.Prelude.{◌≡◌, ℕ, Err, IfSome, OnOk, true, false};
-ghost use Rattle.std.specs.Io.KnownBytes.{Appends};
+//! The reading and answering of commands, a line at a time.
+ghost use Rattle.std.specs.Prelude.{◌≡◌, ◌+◌, ◌++◌, ℕ, [], Ok, Err, IfOk, IfSome, OnOk, length, true, false};
+ghost use Rattle.std.specs.Io.KnownBytes.{Appends, Consumes, IsAtEnd};
 ghost use Rattle.debug_commands.specs.Dialogue.{dialogue_of, is_quit, IsLineHeld};
+ghost use Rattle.debug_commands.specs.Reading.{feed, IsTooLarge};
+ghost use Rattle.text_lines.specs.Feeds.{HasNoFeed};
 
 use crate::breakpoint::Breakpoint;
 use crate::command::{Command, Line};
 use crate::execute::answer;
 use crate::fault::DebugFault;
 use crate::grammar;
-use crate::lines::{MAX_COMMAND_BYTES, read_line};
 use crate::timeline::Timeline;
 use std::alloc::Global;
 use std::io::{Read, Write};
-use streams::{Patience, WriteAllFault, flush, write_some};
+use streams::{Patience, WriteAllFault, flush, read_some, write_some};
+
+/// As many bytes of commands as are read at most, line feeds included: 2^20.
+pub const MAX_COMMAND_BYTES: usize = 1 << 20;
 
 /// Reads commands line by line and writes the answer to each before the next one is read, up to `quit` or the end of
 /// the input. The output is flushed after each answer. Reads share their interruptions, and so do writes and flushes.
@@ -59,6 +63,42 @@ pub fn answer_commands<T: Timeline, R: Read, W: Write>(
         if is_quit(said) {
             return Ok(());
         }
+    }
+}
+
+// Reads the next line into an empty buffer, without its line feed, and returns whether it had one: the last line may
+// lack it. It reads no byte past the line feed, so that a line is answered before the next one is asked for. `room` is
+// how many bytes may still be read, and falls by those that were.
+fn read_line<R: Read>(
+    input: &mut R,
+    text: &mut Vec<u8>,
+    room: &mut usize,
+    patience: &mut Patience,
+) -> Result<bool, DebugFault>
+    requires { text.old.items ≡ [] }
+    ensures read { IfOk result (λ fed.
+        Consumes (R.remaining input.old) (R.remaining input.new) (text.new.items ++ feed fed)) }
+    ensures feeds { OnOk result (HasNoFeed text.new.items) }
+    ensures room { IfOk result (λ fed. room.new + length text.new.items + length (feed fed) ≡ room.old) }
+    ensures end { result ≡ Ok false → IsAtEnd (R.remaining input.new) }
+    ensures large { result ≡ Err DebugFault.TooLarge
+        → IsTooLarge room.old (R.remaining input.old) (R.remaining input.new) }
+    ensures config { (i : ℕ) → result ≡ Err (DebugFault.Config i) → ⊥ }
+{
+    let mut byte = [0u8; 1];
+    'bytes: loop {
+        let count = read_some(input, &mut byte, patience)?;
+        if count == 0 {
+            return Ok(false);
+        }
+        if *room == 0 {
+            return Err(DebugFault::TooLarge);
+        }
+        *room -= 1;
+        if byte[0] == b'\n' {
+            return Ok(true);
+        }
+        text.extend_from_slice(&byte)?;
     }
 }
 

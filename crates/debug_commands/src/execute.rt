@@ -1,6 +1,6 @@
 //! What is answered to a line.
-ghost use Rattle.std.specs.Prelude.{◌≡◌, ◌≤◌, ◌-◌, ◌++◌, ℕ, List, OnOk, IfOk};
-ghost use Rattle.debug_commands.specs.Answers.{answer_to, position_line, response_to, stop_after, stop_line};
+ghost use Rattle.std.specs.Prelude.{◌≡◌, ◌-◌, ◌++◌, ℕ, List, OnOk, IfOk};
+ghost use Rattle.debug_commands.specs.Answers.{answer_to, response_to, stop_after, stop_line};
 ghost use Rattle.debug_commands.specs.Answering.{IsAnswer};
 ghost use Rattle.debug_commands.specs.Timeline.{TimelineData};
 ghost use Rattle.debug_commands.specs.declared.breakpoint.Breakpoint.{Breakpoint};
@@ -16,6 +16,7 @@ use std::alloc::{AllocError, Global};
 pub const MAX_BREAKPOINTS: usize = 64;
 
 /// Adds the answer to a line.
+#[tactic(auto, unfolding(crate::specs::Answers::response_to))]
 pub fn answer<T: Timeline>(
     alloc: Global,
     timeline: &mut T,
@@ -32,43 +33,19 @@ pub fn answer<T: Timeline>(
         text.old.items text.new.items (T.position timeline.new) breaks.new.items) }
 {
     match line {
-        Line::Empty => Ok(()),
+        Line::Empty | Line::Known(Command::Quit) => Ok(()),
         Line::Unknown => push_bytes(text, b"fault: Command\n"),
-        Line::Known(command) => respond(alloc, timeline, breaks, command, text),
-    }
-}
-
-// Adds the answer to a command.
-#[tactic(auto, unfolding(crate::specs::Answers::response_to))]
-fn respond<T: Timeline>(
-    alloc: Global,
-    timeline: &mut T,
-    breaks: &mut Vec<Breakpoint>,
-    command: Command,
-    text: &mut Vec<u8>,
-) -> Result<(), AllocError>
-    requires { T.IsWhole timeline.old }
-    ensures source { T.source timeline.new ≡ T.source timeline.old }
-    ensures whole { OnOk result (T.IsWhole timeline.new) }
-    ensures same { OnOk result (T.timeline timeline.new ≡ T.timeline timeline.old) }
-    ensures answer { OnOk result (IsAnswer
-        (response_to (T.timeline timeline.old)
-        (record { at = T.position timeline.old; breaks = breaks.old.items }) command)
-        text.old.items text.new.items (T.position timeline.new) breaks.new.items) }
-{
-    match command {
-        Command::Step(n) => step(alloc, timeline, n, text),
-        Command::Back(n) => back(alloc, timeline, n, text),
-        Command::Goto(n) => goto(alloc, timeline, n, text),
-        Command::Run => run(alloc, timeline, breaks.as_slice(), text),
-        Command::Break(point) => set(breaks, point, text),
-        Command::Clear => {
+        Line::Known(Command::Step(n)) => step(alloc, timeline, n, text),
+        Line::Known(Command::Back(n)) => back(alloc, timeline, n, text),
+        Line::Known(Command::Goto(n)) => goto(alloc, timeline, n, text),
+        Line::Known(Command::Run) => run(alloc, timeline, breaks.as_slice(), text),
+        Line::Known(Command::Break(point)) => set(breaks, point, text),
+        Line::Known(Command::Clear) => {
             breaks.clear();
             push_bytes(text, b"ok\n")
         }
-        Command::Show => timeline.show(alloc, text),
-        Command::Own => timeline.own(alloc, text),
-        Command::Quit => Ok(()),
+        Line::Known(Command::Show) => timeline.show(alloc, text),
+        Line::Known(Command::Own) => timeline.own(alloc, text),
     }
 }
 
@@ -93,7 +70,8 @@ fn step<T: Timeline>(
     if n > (timeline.end() - at) as u64 {
         return push_bytes(text, b"fault: PastEnd\n");
     }
-    go(alloc, timeline, at + n as usize, text)
+    timeline.forward(alloc, n as usize)?;
+    push_at(text, at + n as usize)
 }
 
 // Goes so many steps back.
@@ -117,7 +95,8 @@ fn back<T: Timeline>(
     if n > at as u64 {
         return push_bytes(text, b"fault: PastStart\n");
     }
-    go(alloc, timeline, at - n as usize, text)
+    timeline.back(alloc, n as usize)?;
+    push_at(text, at - n as usize)
 }
 
 // Goes to where so many steps are made.
@@ -140,25 +119,13 @@ fn goto<T: Timeline>(
     if n > timeline.end() as u64 {
         return push_bytes(text, b"fault: PastEnd\n");
     }
-    go(alloc, timeline, n as usize, text)
-}
-
-// Goes to a position that there is.
-fn go<T: Timeline>(
-    alloc: Global,
-    timeline: &mut T,
-    n: usize,
-    text: &mut Vec<u8>,
-) -> Result<(), AllocError>
-    requires whole { T.IsWhole timeline.old }
-    requires within { n ≤ (T.timeline timeline.old).end }
-    ensures source { T.source timeline.new ≡ T.source timeline.old }
-    ensures whole { OnOk result (T.IsWhole timeline.new) }
-    ensures same { OnOk result (T.timeline timeline.new ≡ T.timeline timeline.old) }
-    ensures position { OnOk result (T.position timeline.new ≡ n) }
-    ensures text { OnOk result (text.new.items ≡ text.old.items ++ position_line n) }
-{
-    timeline.goto(alloc, n)?;
+    let at = timeline.position();
+    let n = n as usize;
+    if n < at {
+        timeline.back(alloc, at - n)?;
+    } else {
+        timeline.forward(alloc, n - at)?;
+    }
     push_at(text, n)
 }
 

@@ -13,7 +13,6 @@ mod dialogue;
 mod execute;
 mod fault;
 mod grammar;
-mod lines;
 mod name;
 mod text;
 mod timeline;
@@ -21,9 +20,8 @@ mod words;
 
 pub use breakpoint::{Breakpoint, StepFacts};
 pub use command::{Command, Dialect, Line};
-pub use dialogue::answer_commands;
+pub use dialogue::{MAX_COMMAND_BYTES, answer_commands};
 pub use fault::DebugFault;
 pub use grammar::line;
-pub use lines::MAX_COMMAND_BYTES;
 pub use text::{push_bytes, push_count, push_number};
 pub use timeline::Timeline;

@@ -1,5 +1,5 @@
 //! What the debugger walks.
-ghost use Rattle.std.specs.Prelude.{◌≡◌, ◌≤◌, ◌<◌, ◌+◌, ◌++◌, ℕ, IfOk, OnOk};
+ghost use Rattle.std.specs.Prelude.{◌≡◌, ◌≤◌, ◌<◌, ◌+◌, ◌-◌, ◌++◌, ℕ, IfOk, OnOk};
 ghost use Rattle.debug_commands.specs.Timeline.{TimelineData};
 
 use crate::breakpoint::StepFacts;
@@ -38,14 +38,23 @@ pub trait Timeline {
         ensures position { result ≡ position self.now }
         ensures within { result ≤ (timeline self.now).end };
 
-    /// Makes or undoes steps until `n` are made.
-    fn goto(&mut self, alloc: Global, n: usize) -> Result<(), AllocError>
+    /// Undoes the last `n` of the steps that are made.
+    fn back(&mut self, alloc: Global, n: usize) -> Result<(), AllocError>
         requires whole { IsWhole self.old }
-        requires within { n ≤ (timeline self.old).end }
+        requires within { n ≤ position self.old }
         ensures source { source self.new ≡ source self.old }
         ensures whole { OnOk result (IsWhole self.new) }
         ensures same { OnOk result (timeline self.new ≡ timeline self.old) }
-        ensures position { OnOk result (position self.new ≡ n) };
+        ensures position { OnOk result (position self.new ≡ position self.old - n) };
+
+    /// Makes the next `n` steps.
+    fn forward(&mut self, alloc: Global, n: usize) -> Result<(), AllocError>
+        requires whole { IsWhole self.old }
+        requires within { position self.old + n ≤ (timeline self.old).end }
+        ensures source { source self.new ≡ source self.old }
+        ensures whole { OnOk result (IsWhole self.new) }
+        ensures same { OnOk result (timeline self.new ≡ timeline self.old) }
+        ensures position { OnOk result (position self.new ≡ position self.old + n) };
 
     /// Makes the next step, and returns what breakpoints look at in it.
     fn next(&mut self, alloc: Global) -> Result<StepFacts, AllocError>

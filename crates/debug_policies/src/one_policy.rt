@@ -8,7 +8,7 @@ ghost use Rattle.debug_policies.specs.OnePolicy.{age_at, counts_line, holds_line
 ghost use Rattle.debug_policies.specs.OnePolicy.{spaced_key};
 
 use debug_commands::{push_bytes, push_count, push_number};
-use journal::{GotoFault, Session, SessionFault};
+use journal::{BackFault, Session, SessionFault};
 use policies::{AnyPolicy, any_accepts, any_answers, any_stands};
 use std::alloc::{AllocError, Global};
 use std::marker::Model;
@@ -72,22 +72,29 @@ impl<'a> OnePolicy<'a> {
         make(&mut self.session, key)
     }
 
-    /// Makes or undoes accesses until `n` are made. The one error is that an allocation failed.
-    pub fn goto(&mut self, n: usize) -> Result<(), AllocError>
-        requires { n ≤ length self.old.trace }
+    /// Undoes the last `n` of the accesses that are made. The one error is that an allocation failed.
+    pub fn back(&mut self, n: usize) -> Result<(), AllocError>
+        requires { n ≤ self.old.at }
         ensures job { self.new.job ≡ self.old.job }
         ensures trace { self.new.trace ≡ self.old.trace }
-        ensures at { OnOk result (self.new.at ≡ n) }
+        ensures at { OnOk result (self.new.at ≡ self.old.at - n) }
     {
         any_stands();
-        if n < self.session.len() {
-            return match self.session.goto(n) {
-                Ok(()) => Ok(()),
-                Err(GotoFault::OutOfMemory { .. }) => Err(AllocError),
-                Err(GotoFault::PastEnd) => unreachable!(),
-            };
+        match self.session.back(n) {
+            Ok(()) => Ok(()),
+            Err(BackFault::OutOfMemory { .. }) => Err(AllocError),
+            Err(BackFault::PastStart) => unreachable!(),
         }
-        'accesses: while self.position() < n {
+    }
+
+    /// Makes the next `n` accesses. The one error is that an allocation failed.
+    pub fn forward(&mut self, n: usize) -> Result<(), AllocError>
+        requires { self.old.at + n ≤ length self.old.trace }
+        ensures job { self.new.job ≡ self.old.job }
+        ensures trace { self.new.trace ≡ self.old.trace }
+        ensures at { OnOk result (self.new.at ≡ self.old.at + n) }
+    {
+        for _access in 0..n {
             self.next()?;
         }
         Ok(())

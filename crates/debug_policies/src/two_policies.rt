@@ -72,9 +72,14 @@ impl<'a> Timeline for TwoPolicies<'a> {
         self.first.position()
     }
 
-    fn goto(&mut self, _alloc: Global, n: usize) -> Result<(), AllocError> {
-        self.first.goto(n)?;
-        self.second.goto(n)
+    fn back(&mut self, _alloc: Global, n: usize) -> Result<(), AllocError> {
+        self.first.back(n)?;
+        self.second.back(n)
+    }
+
+    fn forward(&mut self, _alloc: Global, n: usize) -> Result<(), AllocError> {
+        self.first.forward(n)?;
+        self.second.forward(n)
     }
 
     fn next(&mut self, _alloc: Global) -> Result<StepFacts, AllocError> {

@@ -1,15 +1,17 @@
-//! The debugger of a concurrent cache's journal.
+//! The debugger of a concurrent cache's journal, which walks a session.
 ghost use Rattle.std.specs.Prelude.{◌≡◌, ◌++◌, ℕ, Err, IfSome, OnOk, length, true, false};
 ghost use Rattle.debug_commands.specs.Dialogue.{dialogue_of, IsLineHeld};
 ghost use Rattle.journal.specs.Session.{IsMovedTo};
-ghost use Rattle.debug_replay.specs.Replay.{replay_timeline};
+ghost use Rattle.debug_replay.specs.Replay.{replay_timeline, step_facts, hit_key, is_dropped, left_on_step};
 
-use crate::session::Replay;
-use debug_commands::{DebugFault, answer_commands};
+use crate::shell_text::push_shell;
+use debug_commands::{DebugFault, Dialect, StepFacts, Timeline, answer_commands, push_bytes};
 use journal::Session;
+use journal_text::write_journal;
 use maintenance::Shell;
-use std::alloc::Global;
+use std::alloc::{AllocError, Global};
 use std::io::{Read, Write};
+use step_record::{Act, Key, Reply};
 
 /// Reads commands line by line and answers each at once, about the session of a concurrent cache: what it holds after
 /// any number of its steps, the undone ones included. It ends at `quit` or the end of the input, and leaves the session
@@ -39,4 +41,120 @@ pub fn run_replay<R: Read, W: Write>(
     ensures config { (i : ℕ) → result ≡ Err (DebugFault.Config i) → ⊥ }
 {
     answer_commands(alloc, &mut Replay { session }, commands, out)
+}
+
+// The session, as the debugger walks it.
+#[derive(Drop)]
+struct Replay<'a> {
+    session: &'a mut Session<Shell>,
+}
+
+impl<'a> Timeline for Replay<'a> {
+    ghost use Rattle.std.specs.Prelude.{◌++◌, length, ⊤};
+    ghost use Rattle.debug_replay.specs.Replay.{replay_timeline, walked_in, Walked};
+
+    ghost Source = { Walked };
+
+    ghost source = { λ w. walked_in w.session };
+
+    ghost timeline = { λ w. replay_timeline w.session.now.opening (w.session.now.kept ++ w.session.now.tail) };
+
+    ghost position = { λ w. length w.session.now.kept };
+
+    ghost IsWhole = { λ w. ⊤ };
+
+    fn dialect(&self) -> Dialect {
+        Dialect::Journal
+    }
+
+    fn end(&self) -> usize {
+        self.session.len() + self.session.ahead()
+    }
+
+    fn position(&self) -> usize {
+        self.session.len()
+    }
+
+    fn back(&mut self, _alloc: Global, n: usize) -> Result<(), AllocError> {
+        match self.session.back(n) {
+            Ok(()) => Ok(()),
+            Err(_) => Err(AllocError),
+        }
+    }
+
+    fn forward(&mut self, _alloc: Global, n: usize) -> Result<(), AllocError> {
+        match self.session.forward(n) {
+            Ok(()) => Ok(()),
+            Err(_) => Err(AllocError),
+        }
+    }
+
+    fn next(&mut self, _alloc: Global) -> Result<StepFacts, AllocError> {
+        let age = self.session.engine().frequency().age();
+        if self.session.forward(1).is_err() {
+            return Err(AllocError);
+        }
+        let halved = self.session.engine().frequency().age() < age;
+        match self.session.entry(self.session.len()) {
+            Some(entry) => Ok(step_facts(&entry.step.act, &entry.reply, halved)),
+            None => unreachable!(),
+        }
+    }
+
+    fn show(&self, alloc: Global, text: &mut Vec<u8>) -> Result<(), AllocError> {
+        push_shell(alloc, self.session.engine(), text)
+    }
+
+    fn own(&self, alloc: Global, text: &mut Vec<u8>) -> Result<(), AllocError> {
+        let mut journal = Vec::new(alloc);
+        match write_journal(alloc, self.session, &mut journal) {
+            Ok(()) => push_bytes(text, journal.as_slice()),
+            Err(_) => Err(AllocError),
+        }
+    }
+}
+
+// What breakpoints look at in a step.
+fn step_facts(act: &Act, reply: &Reply, halved: bool) -> StepFacts
+    ensures { result ≡ step_facts act.now reply.now halved }
+{
+    StepFacts {
+        hit: hit_key(act, reply),
+        left: left_on_step(reply),
+        also_left: None,
+        halved,
+        parted: false,
+        dropped: is_dropped(reply),
+    }
+}
+
+// The key of a look that found it.
+fn hit_key(act: &Act, reply: &Reply) -> Option<Key>
+    ensures { result ≡ hit_key act.now reply.now }
+{
+    match act {
+        Act::Look { key } => match reply {
+            Reply::Hit { .. } => Some(*key),
+            _ => None,
+        },
+        _ => None,
+    }
+}
+
+// The key that an eviction took out.
+fn left_on_step(reply: &Reply) -> Option<Key>
+    ensures { result ≡ left_on_step reply.now }
+{
+    match reply {
+        Reply::Evicted { item } => Some(item.key),
+        Reply::Rejected { item } => Some(item.key),
+        _ => None,
+    }
+}
+
+// Whether the reply drops an offer.
+fn is_dropped(reply: &Reply) -> bool
+    ensures { result ≡ is_dropped reply.now }
+{
+    matches!(reply, Reply::Full | Reply::Lost)
 }

@@ -6,7 +6,6 @@
 #![tactic(auto)]
 
 mod debugger;
-mod session;
 mod shell_text;
 mod texts;
 

@@ -162,8 +162,13 @@ impl Timeline for Count {
         self.at
     }
 
-    fn goto(&mut self, _alloc: Global, n: usize) -> std::result::Result<(), AllocError> {
-        self.at = n;
+    fn back(&mut self, _alloc: Global, n: usize) -> std::result::Result<(), AllocError> {
+        self.at -= n;
+        Ok(())
+    }
+
+    fn forward(&mut self, _alloc: Global, n: usize) -> std::result::Result<(), AllocError> {
+        self.at += n;
         Ok(())
     }
 

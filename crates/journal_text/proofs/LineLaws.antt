@@ -13,8 +13,8 @@ use Rattle.std.specs.List.{All, join_with_byte, list_any}
 use Rattle.std.specs.Str.Parse.{AllDigits}
 use Rattle.journal_text.specs.Names.{spelling}
 use Rattle.journal_text.specs.Reading.{numeral_of, name_at, wide_at, small_at, act_at, reply_at, only_equals, only_steps, entry_in, count_in, made_in, or_count, journal_line_in, words_of}
-use Rattle.journal_text.specs.declared.word.Word.{Word}
-use Rattle.journal_text.specs.declared.word.Word.TheVariants.{Named, Worker, Stripe, Wide}
+use Rattle.journal_text.specs.declared.line_text.Word.{Word}
+use Rattle.journal_text.specs.declared.line_text.Word.TheVariants.{Named, Worker, Stripe, Wide}
 use Rattle.journal_text.specs.Table.{word_text, spaced_words, FitsWord, FitWords, act_words, reply_words, entry_words, count_words, text_of, is_answer_in, IsLine}
 use Rattle.journal_text.specs.declared.line.Line.{Line}
 use Rattle.journal_text.specs.declared.line.Line.TheVariants.{Made, Steps}

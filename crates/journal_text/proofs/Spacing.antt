@@ -5,8 +5,8 @@ use Rattle.std.specs.Fmt.{decimal}
 use Rattle.journal_text.specs.Journal.{ended_line}
 use Rattle.journal_text.specs.Table.{word_text, spaced_words, spaced, act_words, reply_name, reply_numbers, entry_words}
 use Rattle.journal_text.specs.declared.name.JournalName.TheVariants as name
-use Rattle.journal_text.specs.declared.word.Word.{Word}
-use Rattle.journal_text.specs.declared.word.Word.TheVariants.{Named, Worker}
+use Rattle.journal_text.specs.declared.line_text.Word.{Word}
+use Rattle.journal_text.specs.declared.line_text.Word.TheVariants.{Named, Worker}
 use Rattle.step_record.specs.declared.entry.Entry.{Entry}
 use Rattle.step_record.specs.declared.step.Reply.{Reply}
 use Rattle.step_record.specs.declared.step.Step.{Step}

@@ -11,7 +11,7 @@ use Rattle.journal_text.specs.declared.line.Line.TheVariants.{Made, Steps}
 use Rattle.journal_text.specs.declared.version.Version.{Version}
 use Rattle.journal_text.specs.declared.version.Version.TheVariants.{One, Two}
 use Rattle.journal_text.specs.declared.name.JournalName.TheVariants as name
-use Rattle.journal_text.specs.declared.word.Word.TheVariants.{Named, Wide, Worker}
+use Rattle.journal_text.specs.declared.line_text.Word.TheVariants.{Named, Wide, Worker}
 use Rattle.journal_text.proofs.Fronts.{header_lacks, same_line}
 use Rattle.journal_text.proofs.LineLaws.{line_again, spelled_lacks}
 use Rattle.step_record.specs.declared.entry.Entry.{Entry}

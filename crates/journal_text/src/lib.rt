@@ -11,14 +11,12 @@ mod grammar;
 mod line;
 mod line_text;
 mod name;
-mod numeral;
 mod reader;
 mod replay;
 mod steps;
 mod table;
 mod theorems;
 mod version;
-mod word;
 mod words;
 mod writer;
 

@@ -10,13 +10,21 @@ ghost use Rattle.journal_text.specs.declared.line_text.TheConstants.{MAX_LINE};
 
 use super::name::JournalName;
 use super::table::reply_name;
-use super::word::Word;
 use itoa::Buffer;
 use step_record::{Act, Answer, Entry, Item, Reply, Step};
 
 /// The room that is asked for a line and its line feed. A line has nine words at most, each of
 /// at most 20 bytes and with one byte behind it.
 pub const MAX_LINE: usize = 192;
+
+/// A word of a line: a name, the number of a worker or a stripe, or a key, a node or a count.
+#[derive(Clone, Copy, Debug, PartialEq, Eq)]
+pub enum Word {
+    Named(JournalName),
+    Worker(u8),
+    Stripe(u8),
+    Wide(u64),
+}
 
 /// Adds an entry with its line feed. Its words fit, since its numbers are of their types.
 pub fn push_entry_line(text: &mut Vec<u8>, entry: &Entry<Step, Reply>)

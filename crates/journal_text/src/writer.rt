@@ -35,28 +35,13 @@ pub fn write_journal<E: Engine<Step = Step, Reply = Reply>, W: Write>(
     ensures out_of_memory { result ≡ Err WriteFault.OutOfMemory → W.contents writer.new ≡ W.contents writer.old }
 {
     let mut text = Vec::with_capacity(alloc, BUFFER)?;
-    write_text(session, writer, &mut text)?;
-    Ok(())
-}
-
-// Writes the text by way of the buffer.
-fn write_text<E: Engine<Step = Step, Reply = Reply>, W: Write>(
-    session: &Session<E>,
-    writer: &mut W,
-    text: &mut Vec<u8>,
-) -> Result<(), WriteAllFault>
-    requires empty { text.old.items ≡ [] }
-    requires room { BUFFER ≤ vec_capacity text.old }
-    ensures text { OnOk result
-        (Appends (W.contents writer.old) (W.contents writer.new) (journal_of Two session.now.kept)) }
-    ensures lines { OnOk result (AnswersItsActs E.act → AreLines Two session.now.kept) }
-{
     let mut patience = Patience::new();
-    write_entries(session, writer, text, &mut patience)?;
-    make_room(writer, text, &mut patience)?;
-    push_count_line(text, session.len() as u64);
+    write_entries(session, writer, &mut text, &mut patience)?;
+    make_room(writer, &mut text, &mut patience)?;
+    push_count_line(&mut text, session.len() as u64);
     write_some(writer, text.as_slice(), &mut patience)?;
-    flush(writer, &mut patience)
+    flush(writer, &mut patience)?;
+    Ok(())
 }
 
 // Writes the header and the lines of the entries; the last of them may wait in the buffer.

@@ -9,7 +9,7 @@ use Rattle.journal_text.specs.Names.{spelling}
 use Rattle.journal_text.specs.Table.{count_words, spaced, spaced_words, text_of}
 use Rattle.journal_text.specs.declared.name.JournalName.TheVariants as name
 use Rattle.journal_text.specs.declared.version.Version.TheVariants.{Two}
-use Rattle.journal_text.specs.declared.word.Word.TheVariants.{Named, Wide}
+use Rattle.journal_text.specs.declared.line_text.Word.TheVariants.{Named, Wide}
 use Rattle.journal_text.proofs.Spacing.{spelled_spaced}
 use Rattle.shell_journal.proofs.LineLengths.{lines-length, none-more, one-more, short-name}
 use Rattle.shell_journal.proofs.NodeBounds.{nodes-low}

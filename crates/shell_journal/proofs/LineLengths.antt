@@ -24,8 +24,8 @@ use Rattle.journal_text.specs.declared.line.Line.TheVariants.{Made}
 use Rattle.journal_text.specs.declared.name.JournalName.{JournalName}
 use Rattle.journal_text.specs.declared.name.JournalName.TheVariants as name
 use Rattle.journal_text.specs.declared.version.Version.TheVariants.{Two}
-use Rattle.journal_text.specs.declared.word.Word.{Word}
-use Rattle.journal_text.specs.declared.word.Word.TheVariants.{Named, Worker, Stripe, Wide}
+use Rattle.journal_text.specs.declared.line_text.Word.{Word}
+use Rattle.journal_text.specs.declared.line_text.Word.TheVariants.{Named, Worker, Stripe, Wide}
 use Rattle.journal_text.proofs.Spacing.{spaced_append, spaced_none, spelled_spaced}
 use Rattle.shell_journal.proofs.NodeBounds.{act_node, IsLow}
 

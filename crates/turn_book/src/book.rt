@@ -1,6 +1,6 @@
 //! The book: a table of two words and one slot. Word 0 is the next ticket, word 1 the ticket whose turn it is, and
 //! the slot has the value between two turns.
-ghost use Rattle.std.specs.Prelude.{◌≡◌, ◌≤◌, ◌<◌, ◌+◌, ◌∷◌, ◌++◌, List, map, length, vec_len, vec_capacity, [], IfOk};
+ghost use Rattle.std.specs.Prelude.{◌≡◌, ◌≤◌, ◌<◌, List, map, length, vec_len, vec_capacity, [], IfOk};
 ghost use Rattle.std.specs.Prelude.{IfErr, OnOk};
 ghost use Rattle.step_record.specs.declared.worker.TheConstants.{MAX_WORKERS};
 ghost use Rattle.turn_book.specs.declared.book.TheConstants.{MAX_TURNS};
@@ -260,9 +260,9 @@ fn deal<T: Kept>(
 {
     for w in 1..workers {
         let pass = cut(board, &mut seat);
-        add(&mut passes, pass);
+        passes.push_reserved(pass);
     }
-    add(&mut passes, fresh(seat));
+    passes.push_reserved(fresh(seat));
     passes
 }
 
@@ -286,16 +286,6 @@ fn fresh<T: Kept>(seat: Place<T>) -> Pass<T>
     ensures { result ≡ pass_in seat.table_id seat.me.0 0 }
 {
     Pass { seat, drawn: 0 }
-}
-
-// Puts a pass behind the others, for which there is room.
-fn add<T: Kept>(passes: &mut Vec<Pass<T>>, pass: Pass<T>)
-    requires { vec_len passes.old < vec_capacity passes.old }
-    ensures items { passes.new.items ≡ passes.old.items ++ pass ∷ [] }
-    ensures len { vec_len passes.new ≡ vec_len passes.old + 1 }
-    ensures capacity { vec_capacity passes.old ≤ vec_capacity passes.new }
-{
-    passes.push(pass).unwrap();
 }
 
 // Joins the seats of all passes.

@@ -9,7 +9,6 @@
 
 mod book;
 mod fault;
-mod lends;
 mod pass;
 mod rule;
 mod view;

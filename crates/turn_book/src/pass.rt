@@ -1,4 +1,6 @@
-//! What a worker has: a pass, and while its turn lasts a turn.
+//! What a worker has: a pass, and while its turn lasts a turn, which lends it the value.
+ghost use Rattle.std.specs.Prelude.{◌≡◌};
+
 use crate::view::View;
 use atomic_table::Seat;
 use std::marker::Model;
@@ -41,4 +43,17 @@ impl<T: Kept> Model for Turn<T> {
     ghost view = { λ t. turn_in t.seat.table_id t.seat.me.0 t.drawn t.taken.value t.value };
 
     ghost invariant = { λ t. IsTurnAt t.seat.table_id t.seat.me t.drawn t.taken.value };
+}
+
+impl<T: Kept> Turn<T> {
+    ghost use Rattle.std.specs.Borrow.{sem};
+    ghost use Rattle.turn_book.specs.Lending.{lends_value};
+
+    /// The value, to read and to write while the turn lasts.
+    pub fn value(&mut self) -> &mut T
+        ensures* writes_back { sem 𝓛 (lends_value T.row T.Entry.row T.Kept self.entry result) }
+        ensures value { result.now ≡ self.old.value }
+    {
+        &mut self.value
+    }
 }

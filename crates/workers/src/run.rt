@@ -13,7 +13,7 @@ ghost use Rattle.step_record.specs.History.{data_after, IsLegal};
 ghost use Rattle.shell_model.specs.Shell.{act};
 ghost use Rattle.workers.specs.DriveFaults.{CanRun, LeavesFault};
 
-use super::worker_state::{WorkerState, assign_passes, collect_passes, first_refusal, work_all};
+use super::worker_state::{WorkerState, assign_passes, collect_passes, work_all};
 use journal::Session;
 use maintenance::Shell;
 use std::alloc::{AllocError, Global};
@@ -183,8 +183,7 @@ fn run_book<G: Gate, R: Threads + Wait + Sync>(
     } = room;
     let states = assign_passes(alloc, &book, passes, states);
     let states = work_all(rt, gate, &book, pieces, stripes, states);
-    let cause = first_refusal(states.as_slice());
-    let (passes, lists) = collect_passes(states, collected, lists);
+    let (passes, lists, cause) = collect_passes(states, collected, lists);
     let session = book.close(passes);
     session.len();
     (session, lists, cause)

@@ -30,45 +30,6 @@ pub(crate) struct WorkerState {
     pub(crate) refusal: Option<Cause>,
 }
 
-// Makes the walks of one worker's calls.
-fn work_at<G: Gate, R: Wait>(
-    rt: &R,
-    gate: &G,
-    book: &TurnBook<Session<Shell>>,
-    pieces: &[Vec<Call>],
-    stripes: u8,
-    state: &mut WorkerState,
-)
-    requires stripes { (1 ≤ stripes) × (stripes ≤ MAX_STRIPES) }
-    requires admits { AdmitsAll stripes book.now.opening }
-    requires holds { HoldsPass (id_of book.now) state.old }
-    requires fresh { state.old.list.items ≡ [] }
-    requires within { IfSome state.old.pass (λ p. IsWithin book.now.opening.limit p) }
-    requires turns { book.now.opening.limit ≤ book.now.turns }
-    requires below { state.old.worker < length pieces.now }
-    ensures holds { HoldsPass (id_of book.now) state.new }
-    ensures worked { HasWorked stripes book.now.opening.limit (calls_of pieces.now) state.new }
-    ensures worker { state.new.worker ≡ state.old.worker }
-{
-    let Some(pass) = state.pass.take() else {
-        unreachable!()
-    };
-    let worker = state.worker;
-    let calls = pieces[usize::from(worker.number())].as_slice();
-    let (pass, answer) = work_in_turns(
-        rt,
-        gate,
-        book,
-        pass,
-        &mut state.list,
-        worker,
-        stripes,
-        calls,
-    );
-    state.pass = Some(pass);
-    state.refusal = answer.err();
-}
-
 // The state of each worker, with its pass, in memory that is there.
 pub(crate) fn assign_passes(
     alloc: Global,
@@ -129,44 +90,50 @@ pub(crate) fn work_all<G: Gate, R: Threads + Wait + Sync>(
         ensures { HoldsPass (id_of book.entry.now) state.exit.now
             × HasWorked stripes book.entry.now.opening.limit (calls_of pieces.entry.now) state.exit.now
             × (state.exit.now.worker ≡ state.entry.now.worker) }
-    { work_at(rt, gate, book, pieces, stripes, state) };
+    {
+        let Some(pass) = state.pass.take() else {
+            unreachable!()
+        };
+        let worker = state.worker;
+        let calls = pieces[usize::from(worker.number())].as_slice();
+        let list = &mut state.list;
+        let (pass, answer) = work_in_turns(rt, gate, book, pass, list, worker, stripes, calls);
+        state.pass = Some(pass);
+        state.refusal = answer.err();
+    };
     thread::for_each_mut(rt, states.as_mut_slice(), threads, &each);
     states
 }
 
-// Why the first worker that was refused a step was refused it, in the order of their numbers.
-pub(crate) fn first_refusal(states: &[WorkerState]) -> Option<Cause>
-    ensures { result ≡ first_cause (map (λ d. d.refusal) states.now) }
-{
-    for state in states {
-        if let Some(cause) = state.refusal {
-            return Some(cause);
-        }
-    }
-    None
-}
-
-// The passes and the lists of all workers, in memory that is there.
+// The passes and the lists of all workers, in memory that is there, and why the first worker that was refused a step was
+// refused it, in the order of their numbers.
 pub(crate) fn collect_passes(
     states: Vec<WorkerState>,
     mut passes: Vec<Pass<Session<Shell>>>,
     mut lists: Vec<Vec<Entry<Step, Reply>>>,
-) -> (Vec<Pass<Session<Shell>>>, Vec<Vec<Entry<Step, Reply>>>)
+) -> (
+    Vec<Pass<Session<Shell>>>,
+    Vec<Vec<Entry<Step, Reply>>>,
+    Option<Cause>,
+)
     requires holds { Every (λ d. IsSome d.pass) states.items }
     requires passes { (passes.items ≡ []) × (length states.items ≤ vec_capacity passes) }
     requires lists { (lists.items ≡ []) × (length states.items ≤ vec_capacity lists) }
     ensures passes { map (λ p. Some p) result.0.items ≡ map (λ d. d.pass) states.items }
     ensures lists { result.1.items ≡ map (λ d. d.list) states.items }
+    ensures cause { result.2 ≡ first_cause (map (λ d. d.refusal) states.items) }
 {
+    let mut cause = None;
     for state in states {
         let WorkerState {
             pass,
             worker: _,
             list,
-            refusal: _,
+            refusal,
         } = state;
         passes.push_reserved(pass.unwrap());
         lists.push_reserved(list);
+        cause = cause.or(refusal);
     }
-    (passes, lists)
+    (passes, lists, cause)
 }

@@ -1,7 +1,7 @@
 use Rattle.std.proofs.Common.{◌∷◌, []}
 use Rattle.journal_text.specs.Table.{text_of, count_words, spaced_words}
 use Rattle.journal_text.specs.declared.name.JournalName.TheVariants as name
-use Rattle.journal_text.specs.declared.word.Word.TheVariants.{Named, Wide}
+use Rattle.journal_text.specs.declared.line_text.Word.TheVariants.{Named, Wide}
 use Rattle.journal_text.proofs.Spacing.{line_ended, words_more}
 use Rattle.journal_text.proofs.line_text.push_count_line.Goals as goal
 

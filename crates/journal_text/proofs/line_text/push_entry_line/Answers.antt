@@ -2,7 +2,7 @@ use Rattle.std.proofs.Common.{◌∙◌, ◌++◌, ◌∷◌, [], ap}
 use Rattle.std.specs.Fmt.{decimal}
 use Rattle.journal_text.specs.Table.{text_of, entry_words, spaced, spaced_words}
 use Rattle.journal_text.specs.declared.name.JournalName.TheVariants as name
-use Rattle.journal_text.specs.declared.word.Word.TheVariants.{Named}
+use Rattle.journal_text.specs.declared.line_text.Word.TheVariants.{Named}
 use Rattle.journal_text.proofs.Spacing.{entry_more, line_ended}
 use Rattle.journal_text.proofs.line_text.push_entry_line.Goals as goal
 

@@ -23,7 +23,7 @@ cut-pass-requires g c =
 pub loop-w-preserved : goal.loop-w-preserved
 loop-w-preserved g c =
     let i = c.loop-w.invariant in
-    let a = c.add.ensures in
+    let a = c.push_reserved.ensures in
     let cut = c.cut-pass.ensures in
     let len = i.room.0 in
     let cap = i.room.1 in
@@ -52,9 +52,9 @@ returns-clause-parts g c =
     let some = c.requires.some in
     let auto = c.loop-w.auto.w-end (omega arith) in
     let test = c.loop-w-test.false in
-    dealt_all c.loop-w.seat.table_id _ _ _ _ _ _ _ c.add-2.ensures.items (omega arith) c.fresh.ensures i.dealing
+    dealt_all c.loop-w.seat.table_id _ _ _ _ _ _ _ c.push_reserved-2.ensures.items (omega arith) c.fresh.ensures i.dealing
 
 pub returns-clause-own : goal.returns-clause-own
 returns-clause-own g c =
     let i = c.loop-w.invariant in
-    every_more _ _ _ _ c.add-2.ensures.items i.own (ap (λ p. p.book) c.fresh.ensures ∙ (λ j. record { table = i.same j; opening = i.begun j }))
+    every_more _ _ _ _ c.push_reserved-2.ensures.items i.own (ap (λ p. p.book) c.fresh.ensures ∙ (λ j. record { table = i.same j; opening = i.begun j }))

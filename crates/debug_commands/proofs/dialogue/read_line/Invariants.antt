@@ -1,7 +1,7 @@
 use Rattle.std.proofs.Common.{◌≡◌, ◌+◌, length}
 use Rattle.std.specs.Io.KnownBytes.{Consumes}
 use Rattle.text_lines.specs.Feeds.{HasNoFeed}
-use Rattle.debug_commands.proofs.lines.read_line.Given as goal
+use Rattle.debug_commands.proofs.dialogue.read_line.Given as goal
 
 abbrev pub invariant-bytes : goal.invariant-bytes
 invariant-bytes g l = record {

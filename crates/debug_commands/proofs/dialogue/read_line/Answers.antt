@@ -1,6 +1,6 @@
 use Rattle.std.proofs.Common.{◌≡◌, ◌∙◌, ◌+◌, ℕ, List, length, get_or, ap, arith, length-append}
 use Rattle.debug_commands.proofs.OneByte.{feeds_more, line_more, one_more}
-use Rattle.debug_commands.proofs.lines.read_line.Goals as goal
+use Rattle.debug_commands.proofs.dialogue.read_line.Goals as goal
 
 pub returns-then-room-eq0-clause-large : goal.returns-then-room-eq0-clause-large
 returns-then-room-eq0-clause-large g c _ =

@@ -1,11 +1,12 @@
-use Rattle.std.proofs.Common.{sym, subst, ℕ, Result, Ok, Err}
+use Rattle.std.proofs.Common.{rules, ◌≡◌, sym, subst, ℕ, Result, Ok, Err}
 use Rattle.std.specs.Prelude.{OnOk}
-use Rattle.debug_commands.specs.Answers.{response_to}
+use Rattle.debug_commands.specs.Answers.{answer_to, response_to}
 use Rattle.debug_commands.specs.Answering.{IsAnswer}
 use Rattle.debug_commands.specs.Timeline.{TimelineData}
-use Rattle.debug_commands.specs.declared.command.Command.{Command}
 use Rattle.debug_commands.specs.declared.command.Command.TheVariants as command
-use Rattle.debug_commands.proofs.execute.respond.Goals as goal
+use Rattle.debug_commands.specs.declared.command.Line.{Line}
+use Rattle.debug_commands.specs.declared.command.Line.TheVariants.{Known}
+use Rattle.debug_commands.proofs.execute.answer.Goals as goal
 
 -- what holds at every timeline and position holds at this one
 at_this : {A E : Type 0} (r : Result A E) (P : TimelineData → ℕ → Type 0) → OnOk r ((t : TimelineData) (at : ℕ) → P t at)
@@ -13,14 +14,15 @@ at_this : {A E : Type 0} (r : Result A E) (P : TimelineData → ℕ → Type 0) 
 at_this (Ok u) P h t at = h t at
 at_this (Err e) P h t at = tt
 
-pub returns-in-Break-clause-answer : goal.returns-in-Break-clause-answer
-returns-in-Break-clause-answer g c =
+pub returns-in-Known-Break-clause-answer : goal.returns-in-Known-Break-clause-answer
+returns-in-Known-Break-clause-answer g c =
     let breaks = c.args.breaks.now.items in
     let before = c.args.text.now.items in
     let after = c.set.new.text.items in
     let points = c.set.new.breaks.items in
     let t : TimelineData = g.T.Timeline.timeline c.args.timeline.now in
     let at : ℕ = g.T.Timeline.position c.args.timeline.now in
-    subst (λ (x : Command). OnOk c.set.result (IsAnswer (response_to t (record { at = at; breaks = breaks }) x) before after at points)) (sym c.in-Break.is)
-    (at_this c.set.result (λ t at. IsAnswer (response_to t (record { at = at; breaks = breaks }) (command.Break c.in-Break.point)) before after at points)
+    let is : c.args.line ≡ Known (command.Break c.in-Known-Break.point) = search rules in
+    subst (λ (x : Line). OnOk c.set.result (IsAnswer (answer_to t (record { at = at; breaks = breaks }) x) before after at points)) (sym is)
+    (at_this c.set.result (λ t at. IsAnswer (response_to t (record { at = at; breaks = breaks }) (command.Break c.in-Known-Break.point)) before after at points)
     c.set.ensures t at)

@@ -5,7 +5,7 @@ use Rattle.journal.specs.Session.{IsMovedTo}
 use Rattle.admission.specs.Frequency.{FrequencyData}
 use Rattle.shell_model.specs.Shell.{Shell}
 use Rattle.debug_replay.proofs.Walks.{facts_are, ok_on, stands_here, stands_there}
-use Rattle.debug_replay.proofs.session.ReplayTimeline.next.Goals as goal
+use Rattle.debug_replay.proofs.debugger.ReplayTimeline.next.Goals as goal
 
 pub returns-clause-facts : goal.returns-clause-facts
 returns-clause-facts c =

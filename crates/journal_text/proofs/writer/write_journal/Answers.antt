@@ -1,0 +1,28 @@
+use Rattle.std.proofs.Common.{◌≡◌, ◌∙◌, ◌++◌, length, ap, refl, subst}
+use Rattle.std.specs.Io.KnownBytes.{Appends}
+use Rattle.journal_text.specs.Journal.{begun, ended_line, journal_of}
+use Rattle.journal_text.specs.Table.{text_of}
+use Rattle.journal_text.specs.declared.line.Line.TheVariants.{Steps}
+use Rattle.journal_text.specs.declared.version.Version.TheVariants.{Two}
+use Rattle.journal_text.proofs.Written.{finished, gathered, lines_of_two, passed}
+use Rattle.journal_text.proofs.writer.write_journal.Goals as goal
+
+pub returns-clause-text : goal.returns-clause-text
+returns-clause-text g c =
+    let kept = c.args.session.now.kept in
+    let old = g.W.Write.contents c.args.writer.now in
+    let first = g.W.Write.contents c.write_entries.new.writer in
+    let mid = g.W.Write.contents c.make_room.new.writer in
+    let new = g.W.Write.contents c.write_some.new.writer in
+    let last = g.W.Write.contents c.flush.new.writer in
+    let before = passed old first mid c.write_entries.new.text.items c.make_room.new.text.items (begun Two kept) c.in_ok-write_entries.ensures.written c.in_ok-make_room.ensures.written in
+    let count : c.push_count_line.new.text.items ≡ c.make_room.new.text.items ++ ended_line (text_of (Steps (length kept))) =
+    c.push_count_line.ensures.items ∙ ap (λ n. c.make_room.new.text.items ++ ended_line (text_of (Steps n))) c.len.ensures.len in
+    let all = gathered old mid c.make_room.new.text.items c.push_count_line.new.text.items (ended_line (text_of (Steps (length kept)))) (begun Two kept) (journal_of Two kept)
+    count refl before in
+    finished old mid new last c.push_count_line.new.text.items (journal_of Two kept) all
+    (subst (Appends mid new) c.as_slice.ensures.value c.in_ok-write_some.ensures.bytes) c.in_ok-flush.ensures.bytes
+
+pub returns-clause-lines : goal.returns-clause-lines
+returns-clause-lines g c = λ answers.
+    lines_of_two g.E.Engine.act c.args.session.now.opening c.args.session.now.kept answers c.len.ensures.sound.legal c.in_ok-write_entries.ensures.fit
