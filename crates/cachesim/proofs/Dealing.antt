@@ -6,7 +6,6 @@ use Rattle.step_record.specs.declared.step.Call.{Call}
 use Rattle.step_record.specs.declared.step.Call.TheVariants.{Read}
 use Rattle.step_record.specs.declared.step.Reply.{Reply}
 use Rattle.step_record.specs.declared.step.Step.{Step}
-use Rattle.step_record.specs.History.{Entries}
 use Rattle.journal.specs.Session.{SessionState}
 use Rattle.walks.specs.Walks.{AreWalks}
 use Rattle.walks.specs.Made.{entries_of}
@@ -76,17 +75,16 @@ dealt_more f workers i keys ps p d some lt many is own w below =
     ∙ dealt_one workers i keys (map f ps) (f p) some lt (length-map ps f ∙ many) (is ∙ ap (λ l. l ++ Read (get_or keys i 0) ∷ []) (sym (get_or-map f ps (i % workers) d [] worker))) own w below
 
 -- a run over dealt pieces makes the walks of the accesses
-pub reads_walked : {E D : Type 0} (workers n : ℕ) (keys : List ℕ) (pieces : List (List Call)) (old new : SessionState E D Step Reply) (lists : List Entries)
-    → IsDealt workers keys pieces → old.kept ≡ [] → IsRun (λ w. AreWalks w n) pieces old new lists → AreOfReads workers n keys new.kept
-reads_walked workers n keys pieces old new lists dealt none run =
+pub reads_walked : {E D : Type 0} (workers n : ℕ) (keys : List ℕ) (pieces : List (List Call)) (old new : SessionState E D Step Reply)
+    → IsDealt workers keys pieces → old.kept ≡ [] → IsRun (λ w. AreWalks w n) pieces old new → AreOfReads workers n keys new.kept
+reads_walked workers n keys pieces old new dealt none run =
     let all : new.kept ≡ run.news = run.entered ∙ ap (λ l. l ++ run.news) none in
     let many : length pieces ≡ workers = dealt.many in
     record {
       own = λ w lt. (
           let below : w < length pieces = omega (arith, lt, many) in
           subst (λ es. AreWalks w n (reads_of workers w 0 keys) (entries_of w es)) (sym all)
-          (subst (λ es. AreWalks w n (reads_of workers w 0 keys) es) (sym (run.own w below))
-          (subst (λ cs. AreWalks w n cs (get_or lists w [])) (dealt.own w lt) (run.made w below)))
+          (subst (λ cs. AreWalks w n cs (entries_of w run.news)) (dealt.own w lt) (run.made w below))
           );
       no_other = λ w le. ap (entries_of w) all ∙ run.no_other w (omega (arith, le, many));
     }

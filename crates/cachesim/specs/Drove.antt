@@ -41,4 +41,4 @@ abbrev pub IsOfRun : DriveFault → Type 0
 IsOfRun (Workers session) = ⊥
 IsOfRun (Held worker session) = ⊥
 IsOfRun (OutOfMemory session) = Unit {0}
-IsOfRun (Stopped session lists cause) = Unit {0}
+IsOfRun (Stopped driven cause) = Unit {0}

@@ -121,14 +121,8 @@ fn write_run<W: Write>(
             driven.session.len();
             Ok(write_journal(alloc, &driven.session, out)?)
         }
-        Err(
-            DriveFault::Stopped {
-                session,
-                lists: _,
-                cause,
-            },
-        ) => {
-            write_journal(alloc, session, out)?;
+        Err(DriveFault::Stopped { driven, cause }) => {
+            write_journal(alloc, &driven.session, out)?;
             Err(Fault::from(*cause))
         }
         Err(DriveFault::OutOfMemory { session: _ }) => Err(Fault::OutOfMemory),

@@ -12,6 +12,7 @@ use Rattle.journal.specs.declared.fault.BackFault.{BackFault}
 use Rattle.journal.specs.declared.fault.BackFault.TheVariants as back
 use Rattle.workers.specs.declared.run.Cause.{Cause}
 use Rattle.walks.specs.Walks.{AreWalks}
+use Rattle.walks.specs.Made.{entries_of}
 use Rattle.workers.specs.Runs.{IsRun, IsRunUpTo, AreWalksUpTo, first_cause}
 use Rattle.workers.specs.WorkerStates.{ShellSession}
 use Rattle.workers.proofs.Turning.{legal_split, after_append}
@@ -73,8 +74,8 @@ none_at (p ∷ ps) zero = refl
 none_at (p ∷ ps) (suc w) = none_at ps w
 
 -- a run of whole walks is one in which no worker was refused a step
-pub whole_up_to : (n : ℕ) (pieces : List (List Call)) (old new : ShellSession) (lists : List Entries) → IsRun (λ w. AreWalks w n) pieces old new lists → IsRunUpTo None n pieces old new lists
-whole_up_to n pieces old new lists run = record {
+pub whole_up_to : (n : ℕ) (pieces : List (List Call)) (old new : ShellSession) → IsRun (λ w. AreWalks w n) pieces old new → IsRunUpTo None n pieces old new
+whole_up_to n pieces old new run = record {
   refusals = none_of pieces;
   of_each = none_length pieces;
   first = none_first pieces;
@@ -84,26 +85,22 @@ whole_up_to n pieces old new lists run = record {
     news = run.news;
     entered = run.entered;
     tail = run.tail;
-    as_many = run.as_many;
-    own = run.own;
-    made = λ w lt. subst (λ r. AreWalksUpTo r n w (get_or pieces w []) (get_or lists w [])) (sym (none_at pieces w)) (run.made w lt);
+    made = λ w lt. subst (λ r. AreWalksUpTo r n w (get_or pieces w []) (entries_of w run.news)) (sym (none_at pieces w)) (run.made w lt);
     no_other = run.no_other;
   };
   full = λ w e. absurd (cc (sym (none_at pieces w) ∙ e));
 }
 
-pub rewound : (n k : ℕ) (pieces : List (List Call)) (cause : Option Cause) (o : Result (Unit {0}) BackFault) (old whole new : ShellSession) (lists : List Entries)
-    → IsRunUpTo cause n pieces old whole lists → IsLegal act whole.opening whole.kept → new.opening ≡ whole.opening → new.kept ≡ take (length whole.kept - undone_of k o) whole.kept
+pub rewound : (n k : ℕ) (pieces : List (List Call)) (cause : Option Cause) (o : Result (Unit {0}) BackFault) (old whole new : ShellSession)
+    → IsRunUpTo cause n pieces old whole → IsLegal act whole.opening whole.kept → new.opening ≡ whole.opening → new.kept ≡ take (length whole.kept - undone_of k o) whole.kept
     → new.tail ≡ drop (length whole.kept - undone_of k o) (whole.kept ++ whole.tail)
-    → new.engine ≡ data_after act new.opening new.kept → (o ≡ Err back.PastStart ↔ length whole.kept < k) → OnErr o (undone_of k o < k) → IsRewound n k pieces cause o old new lists
-rewound n k pieces cause o old whole new lists up legal opening left redo state past fewer = let run = up.run in record {
+    → new.engine ≡ data_after act new.opening new.kept → (o ≡ Err back.PastStart ↔ length whole.kept < k) → OnErr o (undone_of k o < k) → IsRewound n k pieces cause o old new
+rewound n k pieces cause o old whole new up legal opening left redo state past fewer = let run = up.run in record {
   run = run.news;
-  as_many = run.as_many;
-  listed = run.own;
   refusals = up.refusals;
   of_each = up.of_each;
   first = up.first;
-  made = λ w lt. subst (λ es. AreWalksUpTo (get_or up.refusals w None) n w (get_or pieces w []) es) (sym (run.own w lt)) (run.made w lt);
+  made = run.made;
   no_other = run.no_other;
   full = λ w e. sym (ap (λ (es : Entries). length es) run.entered) ∙ up.full w e ∙ run.limit;
   answered = answered old.opening (old.kept ++ run.news) (subst (λ es. IsLegal act old.opening es) run.entered (subst (λ x. IsLegal act x whole.kept) run.opening legal));

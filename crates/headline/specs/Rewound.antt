@@ -30,20 +30,18 @@ undone_of k (Err (back.OutOfMemory undone)) = undone
 
 -- a fault of a run in which no step was made
 abbrev pub HasNoSteps : DriveFault → Type 0
-HasNoSteps (drive.Stopped s lists cause) = ⊥
+HasNoSteps (drive.Stopped driven cause) = ⊥
 HasNoSteps _ = Unit {0}
 
--- The run is one list of steps behind the old ones. Of these, those of each worker are its own list, in order, which
--- are the walks of its calls, up to the step that it was refused, where it was; and nobody else made any. The cause is
--- that of the refused worker with the lowest number, and a full journal is one only where it is full. Each reply is the
--- definition's on the steps before it. And once the last steps are undone, the state is the one that the definition
+-- The run is one list of steps behind the old ones. Of these, those of each worker are, in order, the walks of its
+-- calls, up to the step that it was refused, where it was; and nobody else made any. The cause is that of the refused
+-- worker with the lowest number, and a full journal is one only where it is full. Each reply is the definition's on the
+-- steps before it. And once the last steps are undone, the state is the one that the definition
 -- gives on the others. The steps that can be redone are those that were undone, and behind them the ones that could be
 -- before, where no step was made. Where the last k are not all undone, fewer than k are.
 pub record IsRewound (n k : ℕ) (pieces : List (List Call)) (cause : Option Cause) (undone : Result (Unit {0}) BackFault)
-    (old new : ShellSession) (lists : List Entries) : Type 0 where
+    (old new : ShellSession) : Type 0 where
   pub run : Entries
-  pub as_many : length lists ≡ length pieces
-  pub listed : (w : ℕ) → w < length pieces → entries_of w run ≡ get_or lists w []
   pub refusals : List (Option Cause)
   pub of_each : length refusals ≡ length pieces
   pub first : cause ≡ first_cause refusals

@@ -11,15 +11,13 @@ use maintenance::Shell;
 use std::alloc::Global;
 use std::sync::Wait;
 use std::thread::Threads;
-use step_record::{Call, Entry, Gate, Reply, Step};
+use step_record::{Call, Gate};
 
 /// A run of workers on threads, of which the last steps were undone.
 #[derive(Drop)]
 pub struct Rewound {
     /// The session, with the steps that are left.
     pub session: Session<Shell>,
-    /// The entries of each worker in the run, in its order, at its number.
-    pub lists: Vec<Vec<Entry<Step, Reply>>>,
     /// Why a worker was refused a step, where one was.
     pub cause: Option<Cause>,
     /// Why the steps were not undone, or not all of them.
@@ -41,32 +39,20 @@ pub fn drive_and_undo<G: Gate, R: Threads + Wait + Sync>(
     k: usize,
 ) -> Result<Rewound, DriveFault>
     ensures rewound { IfOk result (λ r. IsRewound session.engine.config.stripes k (map (λ p. p.items) pieces.items)
-        r.cause r.undone session r.session (map (λ l. l.items) r.lists.items)) }
+        r.cause r.undone session r.session) }
     ensures fault { IfErr result (λ f. LeavesFault f (map (λ p. p.items) pieces.items) session) }
     // A stopped run is no fault.
     ensures before { IfErr result HasNoSteps }
 {
     match drive(rt, alloc, session, pieces, gate) {
-        Ok(driven) => Ok(undo(driven.session, driven.lists, None, k)),
-        Err(
-            DriveFault::Stopped {
-                session,
-                lists,
-                cause,
-            },
-        ) => Ok(undo(session, lists, Some(cause), k)),
+        Ok(driven) => Ok(undo(driven.session, None, k)),
+        Err(DriveFault::Stopped { driven, cause }) => Ok(undo(driven.session, Some(cause), k)),
         Err(fault) => Err(fault),
     }
 }
 
 // Undoes the last steps of a session in which a run was made.
-fn undo(
-    mut session: Session<Shell>,
-    lists: Vec<Vec<Entry<Step, Reply>>>,
-    cause: Option<Cause>,
-    k: usize,
-) -> Rewound
-    ensures lists { result.lists.items ≡ lists.items }
+fn undo(mut session: Session<Shell>, cause: Option<Cause>, k: usize) -> Rewound
     ensures cause { result.cause ≡ cause }
     ensures opening { result.session.opening ≡ session.opening }
     ensures left { result.session.kept ≡ take (length session.kept - undone_of k result.undone) session.kept }
@@ -79,7 +65,6 @@ fn undo(
     let undone = session.back(k);
     Rewound {
         session,
-        lists,
         cause,
         undone,
     }

@@ -1,7 +1,7 @@
 //! Many workers side by side, whose entries are read by the rule of walks alone.
 use super::assertions::assert_equal;
 use super::gates::{Hold, Turns};
-use super::sessions::{SMALL, assert_own_lists, driven, fresh};
+use super::sessions::{SMALL, assert_own_lists, driven, fresh, lists_of};
 use maintenance::Shell;
 use std::alloc::{AllocError, Global};
 use std::process::Abort;
@@ -238,8 +238,9 @@ fn assert_crowd<G: Gate, R: Threads + Wait + Sync + Abort>(
     let pieces = pieces(alloc, crowd)?;
     let session = fresh(rt, alloc, &config(crowd.stripes), 8_000_000)?;
     let driven = driven(rt, alloc, session, pieces, gate)?;
-    assert_all_walks(rt, driven.lists.as_slice(), crowd);
-    assert_own_lists(rt, &driven.session, driven.lists.as_slice());
+    let lists = lists_of(alloc, &driven, crowd.workers)?;
+    assert_all_walks(rt, lists.as_slice(), crowd);
+    assert_own_lists(rt, &driven.session, lists.as_slice());
     assert_left(rt, driven.session.engine(), crowd.reads);
     Ok(())
 }

@@ -1,7 +1,7 @@
 //! Runs whose journal becomes full, and runs of a session with undone steps.
 use super::assertions::assert_equal;
 use super::gates::Hold;
-use super::sessions::{SMALL, assert_own_lists, failed, fresh, pieces_of};
+use super::sessions::{SMALL, failed, fresh, pieces_of};
 use drive::{Cause, SettleFault, settle};
 use headline::{Rewound, drive_and_undo};
 use journal::{BackFault, Session};
@@ -11,7 +11,7 @@ use std::process::Abort;
 use std::sync::Wait;
 use std::test::Fail;
 use std::thread::Threads;
-use step_record::{Act, Call, Drain, Entry, Gate, Item, OpenGate, Reply, Step};
+use step_record::{Act, Call, Drain, Gate, Item, OpenGate, Reply};
 
 // What one worker makes of a read of key 1 in a new cache: a miss, and a round of maintenance.
 const ONE_READ: [(Act, Reply); 9] = [
@@ -122,7 +122,6 @@ fn assert_cut_off<R: Threads + Wait + Sync + Abort>(
     let session = fresh(rt, alloc, &SMALL, limit)?;
     let mut run = rewound(rt, &OpenGate, alloc, session, pieces, 0)?;
     assert_equal(rt, run.cause, Some(Cause::JournalFull));
-    assert_own_lists(rt, &run.session, run.lists.as_slice());
     assert_begins(rt, &run.session, limit);
     assert_not_settled(rt, &mut run.session, limit);
     assert_goes_back(rt, &mut run.session, limit)
@@ -137,24 +136,26 @@ fn a_run_is_cut_off_at_each_step_of_a_read(rt: HostRuntime) -> Result<(), Fail> 
 }
 
 // How many of a worker's entries begin a read.
-fn count_looks(list: &[Entry<Step, Reply>]) -> usize {
+fn count_looks(session: &Session<Shell>, worker: u8) -> usize {
     let mut looks: usize = 0;
-    for entry in list {
-        if matches!(entry.step.act, Act::Look { .. }) {
+    for n in 1..=session.len() {
+        if let Some(entry) = session.entry(n)
+            && entry.step.worker.number() == worker
+            && matches!(entry.step.act, Act::Look { .. })
+        {
             looks = looks.wrapping_add(1);
         }
     }
     looks
 }
 
-// A full session, and two lists in each of which reads are wanting.
+// A full session, in which reads of both workers are wanting.
 fn assert_both_cut(rt: &impl Abort, run: &Rewound, limit: usize) {
     assert_equal(rt, run.cause, Some(Cause::JournalFull));
-    assert_own_lists(rt, &run.session, run.lists.as_slice());
     assert!(rt; run.session.is_full());
-    assert_equal(rt, (run.session.len(), run.lists.len()), (limit, 2));
-    for list in &run.lists {
-        assert!(rt; count_looks(list.as_slice()) < 50);
+    assert_equal(rt, run.session.len(), limit);
+    for worker in 0..2 {
+        assert!(rt; count_looks(&run.session, worker) < 50);
     }
 }
 

@@ -8,7 +8,7 @@ use std::process::Abort;
 use std::sync::Wait;
 use std::test::Fail;
 use std::thread::Threads;
-use step_record::{Call, Config, Entry, Gate, Key, Reply, Spread, Step};
+use step_record::{Call, Config, Entry, Gate, Key, Reply, Spread, Step, Worker};
 
 // A small cache with one read buffer.
 pub(crate) const SMALL: Config = Config {
@@ -58,8 +58,7 @@ pub(crate) fn fault_text(fault: &DriveFault) -> &'static str {
     match fault {
         DriveFault::OutOfMemory { session: _ } => "out of memory",
         DriveFault::Stopped {
-            session: _,
-            lists: _,
+            driven: _,
             cause: Cause::Memory,
         } => "out of memory",
         _ => "not driven",
@@ -82,6 +81,21 @@ pub(crate) fn driven<G: Gate, R: Threads + Wait + Sync>(
     gate: &G,
 ) -> Result<Driven, Fail> {
     drive(rt, alloc, session, pieces, gate).map_err(failed)
+}
+
+// The list of each worker's entries in a run, at its number.
+pub(crate) fn lists_of(
+    alloc: Global,
+    driven: &Driven,
+    workers: u8,
+) -> Result<Vec<Vec<Entry<Step, Reply>>>, AllocError> {
+    let mut lists = Vec::new(alloc);
+    for number in 0..workers {
+        if let Some(worker) = Worker::new(number) {
+            lists.push(driven.list(alloc, worker)?)?;
+        }
+    }
+    Ok(lists)
 }
 
 // The entry at which the list of an entry's worker has come to be, by how many of each list were read.

@@ -13,11 +13,10 @@ fn left_by(answer: Result<Driven, DriveFault>) -> Result<Session<Shell>, Fail> {
         Ok(driven) => Ok(driven.session),
         Err(
             DriveFault::Stopped {
-                session,
-                lists: _,
+                driven,
                 cause: Cause::Memory,
             },
-        ) => Ok(session),
+        ) => Ok(driven.session),
         Err(fault) => Err(failed(fault)),
     }
 }

@@ -2,7 +2,7 @@
 use super::assertions::assert_equal;
 use super::gates::Hold;
 use super::sessions::{
-    SMALL, assert_own_lists, driven, failed, fault_text, fresh, one_read_each, pieces_of,
+    SMALL, assert_own_lists, driven, failed, fault_text, fresh, lists_of, one_read_each, pieces_of,
 };
 use drive::{Cause, DriveFault, Driven, drive};
 use journal::Session;
@@ -12,7 +12,7 @@ use std::process::Abort;
 use std::sync::Wait;
 use std::test::Fail;
 use std::thread::Threads;
-use step_record::{Call, Drain, OpenGate};
+use step_record::{Call, Drain, Entry, OpenGate, Reply, Step};
 
 // Runs the pieces, each call held until all workers have begun theirs.
 fn held_run<R: Threads + Wait + Sync + Abort>(
@@ -30,8 +30,13 @@ fn held_run<R: Threads + Wait + Sync + Abort>(
 }
 
 // A run's lists are the session's, and the cache counted so many hits, misses and removals.
-fn assert_counts(rt: &impl Abort, driven: &Driven, counts: (u64, u64, u64)) {
-    assert_own_lists(rt, &driven.session, driven.lists.as_slice());
+fn assert_counts(
+    rt: &impl Abort,
+    driven: &Driven,
+    lists: &[Vec<Entry<Step, Reply>>],
+    counts: (u64, u64, u64),
+) {
+    assert_own_lists(rt, &driven.session, lists);
     let shell = driven.session.engine();
     let stats = shell.stats();
     assert_equal(rt, (stats.hits, stats.misses, stats.removed), counts);
@@ -46,9 +51,11 @@ fn assert_held_run<R: Threads + Wait + Sync + Abort>(
     pieces: Vec<Vec<Call>>,
     counts: (u64, u64, u64),
 ) -> Result<(), Fail> {
+    let workers = u8::try_from(pieces.len())?;
     let session = fresh(rt, alloc, &SMALL, 1000)?;
     let driven = held_run(rt, alloc, session, pieces)?;
-    assert_counts(rt, &driven, counts);
+    let lists = lists_of(alloc, &driven, workers)?;
+    assert_counts(rt, &driven, lists.as_slice(), counts);
     Ok(())
 }
 
@@ -64,9 +71,9 @@ fn eight_workers_run_side_by_side(rt: HostRuntime) -> Result<(), Fail> {
     assert_held_run(&rt, rt.alloc(), eight, (0, 8, 0))
 }
 
-fn assert_added_anew(rt: &impl Abort, driven: &Driven) {
+fn assert_added_anew(rt: &impl Abort, driven: &Driven, lists: &[Vec<Entry<Step, Reply>>]) {
     assert_equal(rt, driven.session.len(), 26);
-    assert_own_lists(rt, &driven.session, driven.lists.as_slice());
+    assert_own_lists(rt, &driven.session, lists);
     let stats = driven.session.engine().stats();
     assert_equal(rt, (stats.misses, stats.removed), (2, 1));
 }
@@ -77,21 +84,18 @@ fn a_removed_key_is_added_anew(rt: HostRuntime) -> Result<(), Fail> {
     let pieces = pieces_of(alloc, &[&[Call::Read(1), Call::Remove(1), Call::Read(1)]])?;
     let session = fresh(&rt, alloc, &SMALL, 100)?;
     let driven = driven(&rt, alloc, session, pieces, &OpenGate)?;
-    assert_added_anew(&rt, &driven);
+    let lists = lists_of(alloc, &driven, 1)?;
+    assert_added_anew(&rt, &driven, lists.as_slice());
     Ok(())
 }
 
 // What a run leaves that was stopped at a full journal.
-fn stopped_at_the_limit(rt: &impl Abort, fault: DriveFault) -> Result<Session<Shell>, Fail> {
+fn stopped_at_the_limit(fault: DriveFault) -> Result<Driven, Fail> {
     match fault {
         DriveFault::Stopped {
-            session,
-            lists,
+            driven,
             cause: Cause::JournalFull,
-        } => {
-            assert_own_lists(rt, &session, lists.as_slice());
-            Ok(session)
-        }
+        } => Ok(driven),
         fault => Err(failed(fault)),
     }
 }
@@ -106,7 +110,10 @@ fn stopped<R: Threads + Wait + Sync + Abort>(
     let Err(fault) = drive(rt, alloc, session, pieces, &OpenGate) else {
         return Err(Fail::from("not stopped"));
     };
-    stopped_at_the_limit(rt, fault)
+    let driven = stopped_at_the_limit(fault)?;
+    let lists = lists_of(alloc, &driven, 1)?;
+    assert_own_lists(rt, &driven.session, lists.as_slice());
+    Ok(driven.session)
 }
 
 #[test]

@@ -28,10 +28,10 @@ unfolding entry_of
 starts w n p [] h = absurd (not_over w n p h)
 starts w n p (y ∷ es) h = (y.reply, es, ap (λ t. entry_of t y.reply ∷ es) (first_step w n p y es h))
 
-pub may_make : (w n : ℕ) (c : Call) (before : List Call) (own own' list list' : Entries) (next : Next) (a : Act) (l : Local) → AreWalks w n before own → Made (Completes w n c next) own own' list list'
+pub may_make : (w n : ℕ) (c : Call) (before : List Call) (own own' : Entries) (next : Next) (a : Act) (l : Local) → AreWalks w n before own → Made (Completes w n c next) own own'
     → next ≡ next_act.Do a l → IsAskedNext w n next → is_place l.stripes l.place ≡ true → MayMake w n own' a
 unfolding entry_of
-may_make w n c before own own' list list' next a l h m is asks placed =
+may_make w n c before own own' next a l h m is asks placed =
     let f = finish l.worker l.stripes l.place placed in
     let s = starts l.worker l.stripes l.place f.0 f.1 in
     let asked = asked_of w n c next a l is asks in
@@ -47,5 +47,5 @@ may_make w n c before own own' list list' next a l h m is asks placed =
     }
 
 -- one walk more is made
-pub walked : (w n : ℕ) (c : Call) (before : List Call) (own own' list list' : Entries) → AreWalks w n before own → Made (IsWalk w n c) own own' list list' → (calls : List Call) × AreWalks w n calls own'
-walked w n c before own own' list list' h m = (before ++ c ∷ [], subst (AreWalks w n (before ++ c ∷ [])) (sym m.entered) (walks_more w n before c own m.made h m.holds))
+pub walked : (w n : ℕ) (c : Call) (before : List Call) (own own' : Entries) → AreWalks w n before own → Made (IsWalk w n c) own own' → (calls : List Call) × AreWalks w n calls own'
+walked w n c before own own' h m = (before ++ c ∷ [], subst (AreWalks w n (before ++ c ∷ [])) (sym m.entered) (walks_more w n before c own m.made h m.holds))

@@ -8,11 +8,10 @@ use Rattle.walks.specs.Made.{Made, IsUnfinished}
 use Rattle.walks.proofs.Finishing.{finish_calls}
 
 -- entries after entries
-pub joined : (P Q R : Entries → Type 0) (k k1 k2 o o1 o2 : Entries) → Made P k k1 o o1 → Made Q k1 k2 o1 o2 → ((a b : Entries) → P a → Q b → R (a ++ b)) → Made R k k2 o o2
-joined P Q R k k1 k2 o o1 o2 m n f = record {
+pub joined : (P Q R : Entries → Type 0) (o o1 o2 : Entries) → Made P o o1 → Made Q o1 o2 → ((a b : Entries) → P a → Q b → R (a ++ b)) → Made R o o2
+joined P Q R o o1 o2 m n f = record {
   made = m.made ++ n.made;
-  entered = n.entered ∙ ap (λ l. l ++ n.made) m.entered ∙ append_assoc k m.made n.made;
-  owned = n.owned ∙ ap (λ l. l ++ n.made) m.owned ∙ append_assoc o m.made n.made;
+  entered = n.entered ∙ ap (λ l. l ++ n.made) m.entered ∙ append_assoc o m.made n.made;
   holds = f m.made n.made m.holds n.holds;
 }
 

@@ -19,20 +19,19 @@ use Rattle.walks.proofs.Asking.{not_over}
 use Rattle.walks.proofs.Finishing.{finish}
 
 -- with no entry
-pub nothing : (P : Entries → Type 0) (kept own : Entries) → P [] → Made P kept kept own own
-nothing P kept own h = record { made = []; entered = sym (append-nil kept); owned = sym (append-nil own); holds = h }
+pub nothing : (P : Entries → Type 0) (own : Entries) → P [] → Made P own own
+nothing P own h = record { made = []; entered = sym (append-nil own); holds = h }
 
 -- the same entries, of which something else is said
-pub known : (P Q : Entries → Type 0) (kept kept' own own' : Entries) → ((es : Entries) → P es → Q es) → Made P kept kept' own own' → Made Q kept kept' own own'
-known P Q kept kept' own own' f m = record { made = m.made; entered = m.entered; owned = m.owned; holds = f m.made m.holds }
+pub known : (P Q : Entries → Type 0) (own own' : Entries) → ((es : Entries) → P es → Q es) → Made P own own' → Made Q own own'
+known P Q own own' f m = record { made = m.made; entered = m.entered; holds = f m.made m.holds }
 
 -- one entry more
-pub one_more : (P Q : Entries → Type 0) (kept kept1 kept2 own own1 own2 : Entries) (e : Entry Step Reply)
-    → Made P kept kept1 own own1 → kept2 ≡ kept1 ++ e ∷ [] → own2 ≡ own1 ++ e ∷ [] → ((es : Entries) → P es → Q (es ++ e ∷ [])) → Made Q kept kept2 own own2
-one_more P Q kept kept1 kept2 own own1 own2 e m k o f = record {
+pub one_more : (P Q : Entries → Type 0) (own own1 own2 : Entries) (e : Entry Step Reply)
+    → Made P own own1 → own2 ≡ own1 ++ e ∷ [] → ((es : Entries) → P es → Q (es ++ e ∷ [])) → Made Q own own2
+one_more P Q own own1 own2 e m o f = record {
   made = m.made ++ e ∷ [];
-  entered = k ∙ ap (λ l. l ++ e ∷ []) m.entered ∙ append_assoc kept m.made (e ∷ []);
-  owned = o ∙ ap (λ l. l ++ e ∷ []) m.owned ∙ append_assoc own m.made (e ∷ []);
+  entered = o ∙ ap (λ l. l ++ e ∷ []) m.entered ∙ append_assoc own m.made (e ∷ []);
   holds = f m.made m.holds;
 }
 
@@ -70,18 +69,18 @@ module _ (w : ℕ) (n : ℕ) (c : Call) where
 
   -- a walk that stopped where the act a was to be made
   pub stopped : (next : Next) (a : Act) (l : Local) → next ≡ next_act.Do a l → is_place l.stripes l.place ≡ true
-      → (kept kept' kept'' own own' own'' : Entries) → kept'' ≡ kept' → own'' ≡ own' → Made (Completes next) kept kept' own own' → Made (IsUnfinished (IsWalk w n c)) kept kept'' own own''
-  stopped next a l e h kept kept' kept'' own own' own'' k o m =
+      → (own own' own'' : Entries) → own'' ≡ own' → Made (Completes next) own own' → Made (IsUnfinished (IsWalk w n c)) own own''
+  stopped next a l e h own own' own'' o m =
       let P : Next → Type 0 = λ x. Completes x m.made in
-      record { made = m.made; entered = k ∙ m.entered; owned = o ∙ m.owned; holds = begun a l h m.made (subst P e m.holds) }
+      record { made = m.made; entered = o ∙ m.entered; holds = begun a l h m.made (subst P e m.holds) }
 
   -- a walk with one entry more
   pub stepped : (next next' : Next) (a : Act) (l : Local) (r : Reply) → next ≡ next_act.Do a l → IsAskedNext w n next
       → ((rest : Entries) → IsRestOfWalk next' rest → AheadAfter l.worker l.stripes l.place (Some r) rest)
-      → (kept kept1 kept2 own own1 own2 : Entries) → kept2 ≡ kept1 ++ record { step = record { worker = w; act = a }; reply = r } ∷ [] → own2 ≡ own1 ++ record { step = record { worker = w; act = a }; reply = r } ∷ []
-      → Made (Completes next) kept kept1 own own1 → Made (Completes next') kept kept2 own own2
-  stepped next next' a l r d asks back kept kept1 kept2 own own1 own2 k o m =
-      one_more (Completes next) (Completes next') kept kept1 kept2 own own1 own2 (record { step = record { worker = w; act = a }; reply = r }) m k o
+      → (own own1 own2 : Entries) → own2 ≡ own1 ++ record { step = record { worker = w; act = a }; reply = r } ∷ []
+      → Made (Completes next) own own1 → Made (Completes next') own own2
+  stepped next next' a l r d asks back own own1 own2 o m =
+      one_more (Completes next) (Completes next') own own1 own2 (record { step = record { worker = w; act = a }; reply = r }) m o
       (λ es all. let P : Next → Type 0 = λ x. Completes x es in goes_on a l r next' (asked_of next a l d asks) back es (subst P d all))
 
   pub asks_same : (lw : ℕ) (ln : ℕ) (next : Next) → lw ≡ w → ln ≡ n → IsAskedNext lw ln next → IsAskedNext w n next
@@ -96,7 +95,3 @@ on_err (Err x) P h = h
 
 pub answered : (a b : Act) (r : Reply) → a ≡ b → is_answer b r ≡ true → is_answer a r ≡ true
 answered a b r e h = let P : Act → Type 0 = λ x. is_answer x r ≡ true in subst P (sym e) h
-
--- one entry more in the worker's own list
-pub listed : (own own1 own2 : Entries) (e e' : Entry Step Reply) → own2 ≡ own1 ++ e ∷ [] → e ≡ e' → own1 ≡ own → own2 ≡ own ++ e' ∷ []
-listed own own1 own2 e e' added same kept = added ∙ ap (λ x. own1 ++ x ∷ []) same ∙ ap (λ l. l ++ e' ∷ []) kept

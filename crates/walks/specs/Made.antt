@@ -1,4 +1,4 @@
--- What a worker made, and how it stands in its own list and in the journal.
+-- What a worker made, and how it stands in a list of entries.
 use Rattle.std.specs.Prelude.{◌≡◌, ◌≢◌, ℕ, ◌==◌, [], ◌++◌}
 use Rattle.std.specs.List.{filter}
 use Rattle.step_record.specs.History.{Entries}
@@ -7,11 +7,10 @@ use Rattle.step_record.specs.History.{Entries}
 abbrev pub entries_of : ℕ → Entries → Entries
 entries_of w es = filter (λ e. e.step.worker == w) es
 
--- the same entries came to the end of the journal and of the worker's own list
-pub record Made (IsMade : Entries → Type 0) (kept kept' own own' : Entries) : Type 0 where
+-- the entries that came to the end of a list
+pub record Made (IsMade : Entries → Type 0) (own own' : Entries) : Type 0 where
   pub made : Entries
-  pub entered : kept' ≡ kept ++ made
-  pub owned : own' ≡ own ++ made
+  pub entered : own' ≡ own ++ made
   pub holds : IsMade made
 
 -- the first entries of such a list, and not all of it

@@ -12,7 +12,7 @@ use Rattle.turn_book.specs.Passes.{BookId, PassState, InOrder, OwnAll, Ends}
 use Rattle.workers.specs.declared.worker_state.WorkerState.{WorkerState}
 use Rattle.workers.specs.declared.run.Cause.{Cause}
 use Rattle.workers.specs.declared.run.Cause.TheVariants.{JournalFull}
-use Rattle.workers.specs.WorkerStates.{ShellSession, HoldsPass, AreNumbered, HasWorked}
+use Rattle.workers.specs.WorkerStates.{ShellSession, HoldsPass, AreNumbered, HasWorked, entries_with}
 use Rattle.walks.specs.Made.{entries_of}
 use Rattle.workers.specs.Runs.{IsRun, IsRunUpTo, AreWalksUpTo, first_cause}
 
@@ -20,10 +20,10 @@ abbrev pub ShellPass : Type 0
 ShellPass = PassState ShellSession (Entry Step Reply)
 
 abbrev pub list_of : WorkerState → Entries
-list_of d = d.list.items
+list_of d = entries_with d.pass
 
 abbrev IsHis : BookId ShellSession → WorkerState → ShellPass → Type 0
-IsHis b d p = (p.book ≡ b) × (p.worker ≡ d.worker) × (p.own ≡ d.list.items)
+IsHis b d p = (p.book ≡ b) × (p.worker ≡ d.worker)
 
 -- the passes are those of the workers, in order
 pub record Collected (b : BookId ShellSession) (lo : ℕ) (ds : List WorkerState) (ps : List ShellPass) : Type 0 where
@@ -45,7 +45,7 @@ collected b (d ∷ ds) (p ∷ ps) lo e h c =
       books = (fit.0, r.books);
       order = (fit.1 ∙ c.0, r.order);
       same = ap suc r.same;
-      owns = ap (λ l. l ∷ map (λ p. p.own) ps) fit.2 ∙ ap (λ ls. d.list.items ∷ ls) r.owns;
+      owns = ap (λ o. entries_with o ∷ map (λ p. p.own) ps) first ∙ ap (λ ls. list_of d ∷ ls) r.owns;
     }
 
 abbrev pub refusal_of : WorkerState → Option Cause
@@ -75,10 +75,10 @@ every_both P Q R [] f h k = tt
 every_both P Q R (x ∷ xs) f h k = (f x h.0 k.0, every_both P Q R xs f h.1 k.1)
 
 -- what is said of each worker, its refusal and its list, by its number
-made_at : (Q : ℕ → Option Cause → Entries → Type 0) (ds : List WorkerState) (lo : ℕ) → Every (λ d. Q d.worker d.refusal d.list.items) ds → AreNumbered lo ds
+made_at : (Q : ℕ → Option Cause → Entries → Type 0) (ds : List WorkerState) (lo : ℕ) → Every (λ d. Q d.worker d.refusal (list_of d)) ds → AreNumbered lo ds
     → (w : ℕ) → w < length ds → Q (lo + w) (get_or (map refusal_of ds) w None) (get_or (map list_of ds) w [])
 made_at Q [] lo h c w lt = absurd (omega arith)
-made_at Q (d ∷ ds) lo h c zero lt = subst (λ k. Q k d.refusal d.list.items) (let e = c.0 in omega arith) h.0
+made_at Q (d ∷ ds) lo h c zero lt = subst (λ k. Q k d.refusal (list_of d)) (let e = c.0 in omega arith) h.0
 made_at Q (d ∷ ds) lo h c (suc w) lt = subst (λ k. Q k (get_or (map refusal_of ds) w None) (get_or (map list_of ds) w [])) (omega arith) (made_at Q ds (suc lo) h.1 c.1 w (omega arith))
 
 abbrev origin_of : ShellSession → Shell × ℕ
@@ -99,45 +99,40 @@ length_map f [] = refl
 length_map f (x ∷ xs) = ap suc (length_map f xs)
 
 -- the run, where each worker made what is said of it and its refusal
-run_from : (Is : Option Cause → ℕ → List Call → Entries → Type 0) (pieces : List (List Call)) (o t : ShellSession) (ps : List ShellPass) (ds : List WorkerState) (lists : List Entries)
-    → Ends origin_of (λ s. s.kept) (λ e. e.step.worker) (λ s. s.tail) o ps t → map (λ p. p.own) ps ≡ map list_of ds → lists ≡ map list_of ds → AreNumbered 0 ds → length ds ≡ length pieces
-    → Every (λ d. Is d.refusal d.worker (get_or pieces d.worker []) d.list.items) ds → IsRun (λ w. Is (get_or (map refusal_of ds) w None) w) pieces o t lists
-run_from Is pieces o t ps ds lists ends owns listed counts same made =
+run_from : (Is : Option Cause → ℕ → List Call → Entries → Type 0) (pieces : List (List Call)) (o t : ShellSession) (ps : List ShellPass) (ds : List WorkerState)
+    → Ends origin_of (λ s. s.kept) (λ e. e.step.worker) (λ s. s.tail) o ps t → map (λ p. p.own) ps ≡ map list_of ds → AreNumbered 0 ds → length ds ≡ length pieces
+    → Every (λ d. Is d.refusal d.worker (get_or pieces d.worker []) (list_of d)) ds → IsRun (λ w. Is (get_or (map refusal_of ds) w None) w) pieces o t
+run_from Is pieces o t ps ds ends owns counts same made =
     let many = length_map list_of ds in
     let seen = length_map (λ p. p.own) ps in
     let both = ap length owns in
-    let lists_many = ap length listed in
     record {
       opening = ap (λ p. p.0) ends.same_origin;
       limit = ap (λ p. p.1) ends.same_origin;
       news = ends.news;
       entered = ends.list_is;
       tail = ends.undone_is;
-      as_many = omega arith;
-      own = λ w lt. ap (λ k. entries_of k ends.news) (let z : w ≡ 0 + w = omega arith in z) ∙ own_at ps (map list_of ds) 0 ends.news owns ends.own_is w (omega arith) ∙ ap (λ ls. get_or ls w []) (sym listed);
       made = λ w lt. (
           let Q : ℕ → Option Cause → Entries → Type 0 = λ k r l. Is r k (get_or pieces k []) l in
-          subst (λ ls. Q w (get_or (map refusal_of ds) w None) (get_or ls w [])) (sym listed)
-          (subst (λ k. Q k (get_or (map refusal_of ds) w None) (get_or (map list_of ds) w [])) (let z : 0 + w ≡ w = omega arith in z) (made_at Q ds 0 made counts w (omega arith)))
+          let at : 0 + w ≡ w = omega arith in
+          let own : entries_of w ends.news ≡ get_or (map list_of ds) w [] = ap (λ k. entries_of k ends.news) (sym at) ∙ own_at ps (map list_of ds) 0 ends.news owns ends.own_is w (omega arith) in
+          subst (Q w (get_or (map refusal_of ds) w None)) (sym own)
+          (subst (λ k. Q k (get_or (map refusal_of ds) w None) (get_or (map list_of ds) w [])) at (made_at Q ds 0 made counts w (omega arith)))
           );
       no_other = λ w le. ends.no_other w (omega arith);
     }
 
 -- the run up to the steps that workers were refused
-pub run_up_to : (n : ℕ) (cause : Option Cause) (pieces : List (List Call)) (o t : ShellSession) (ps : List ShellPass) (ds : List WorkerState) (lists : List Entries)
+pub run_up_to : (n : ℕ) (cause : Option Cause) (pieces : List (List Call)) (o t : ShellSession) (ps : List ShellPass) (ds : List WorkerState)
     → Ends origin_of (λ s. s.kept) (λ e. e.step.worker) (λ s. s.tail) o ps t → length t.kept ≤ t.limit
-    → map (λ p. Some p) ps ≡ map (λ d. d.pass) ds → map (λ p. p.own) ps ≡ map list_of ds → lists ≡ map list_of ds → AreNumbered 0 ds → length ds ≡ length pieces
-    → Every (HasWorked n o.limit (λ w. get_or pieces w [])) ds → cause ≡ first_cause (map refusal_of ds) → IsRunUpTo cause n pieces o t lists
-run_up_to n cause pieces o t ps ds lists ends room passes owns listed counts same worked first =
+    → map (λ p. Some p) ps ≡ map (λ d. d.pass) ds → map (λ p. p.own) ps ≡ map list_of ds → AreNumbered 0 ds → length ds ≡ length pieces
+    → Every (HasWorked n o.limit (λ w. get_or pieces w [])) ds → cause ≡ first_cause (map refusal_of ds) → IsRunUpTo cause n pieces o t
+run_up_to n cause pieces o t ps ds ends room passes owns counts same worked first =
     let limit : t.limit ≡ o.limit = ap (λ p. p.1) ends.same_origin in
     record {
       refusals = map refusal_of ds;
       of_each = length_map refusal_of ds ∙ same;
       first = first;
-      run = run_from (λ r w. AreWalksUpTo r n w) pieces o t ps ds lists ends owns listed counts same (every_map _ _ ds (λ d h. h.walks) worked);
+      run = run_from (λ r w. AreWalksUpTo r n w) pieces o t ps ds ends owns counts same (every_map _ _ ds (λ d h. h.walks) worked);
       full = λ w e. (let full = full_at n o.limit (λ w. get_or pieces w []) t.kept ds ps passes worked ends.last_is w e in omega (arith, full, room, limit));
     }
-
-pub map_both : {X Y Z : Type 0} (g : Y → Z) (f : X → Y) (xs : List X) → map g (map f xs) ≡ map (λ x. g (f x)) xs
-map_both g f [] = refl
-map_both g f (x ∷ xs) = ap (λ r. g (f x) ∷ r) (map_both g f xs)

@@ -14,14 +14,14 @@ use Rattle.workers.specs.WorkerStates.{ShellSession}
 use Rattle.workers.proofs.Turning.{legal_split, after_append}
 
 -- A run of whole walks leaves the maintenance free, where it began so.
-pub run_frees : (s t : ShellSession) (n : ℕ) (pieces : List (List Call)) (lists : List Entries) → 1 ≤ n → IsReachable s.engine → s.engine.holder ≡ None → length s.engine.stripes ≡ n
-    → s.engine ≡ data_after act s.opening s.kept → IsRun (λ w. AreWalks w n) pieces s t lists → IsLegal act t.opening t.kept → t.engine ≡ data_after act t.opening t.kept → t.engine.holder ≡ None
-run_frees s t n pieces lists o h free count stood run legal stands =
+pub run_frees : (s t : ShellSession) (n : ℕ) (pieces : List (List Call)) → 1 ≤ n → IsReachable s.engine → s.engine.holder ≡ None → length s.engine.stripes ≡ n
+    → s.engine ≡ data_after act s.opening s.kept → IsRun (λ w. AreWalks w n) pieces s t → IsLegal act t.opening t.kept → t.engine ≡ data_after act t.opening t.kept → t.engine.holder ≡ None
+run_frees s t n pieces o h free count stood run legal stands =
     let whole : IsLegal act s.opening (s.kept ++ run.news) = subst (λ (es : Entries). IsLegal act s.opening es) run.entered (subst (λ (y : Shell). IsLegal act y t.kept) run.opening legal) in
     let later : IsLegal act s.engine run.news = subst (λ (y : Shell). IsLegal act y run.news) (sym stood) (legal_split act s.opening s.kept run.news whole) in
     let walks : (w : ℕ) → (calls : List Call) × AreWalks w n calls (entries_of w run.news) = λ w. (
     elim (cases_Bool (nat_lt w (length pieces))) [
-      | inl e ↦ (let lt : w < length pieces = grind (arith, nat_tests, e) in (get_or pieces w [], subst (AreWalks w n (get_or pieces w [])) (sym (run.own w lt)) (run.made w lt)))
+      | inl e ↦ (let lt : w < length pieces = grind (arith, nat_tests, e) in (get_or pieces w [], run.made w lt))
       | inr e ↦ (let le : length pieces ≤ w = grind (arith, nat_tests, e) in ([], run.no_other w le))
     ]
     ) in

@@ -4,7 +4,7 @@ use Rattle.std.specs.Prelude.{option_map}
 use Rattle.step_record.specs.declared.step.Call.{Call}
 use Rattle.step_record.specs.declared.step.Reply.{Reply}
 use Rattle.step_record.specs.declared.step.Step.{Step}
-use Rattle.step_record.specs.History.{Entries}
+use Rattle.walks.specs.Made.{entries_of}
 use Rattle.journal.specs.Session.{SessionState}
 use Rattle.shell_model.specs.declared.holder.Holder.{Holder}
 use Rattle.walks.specs.Walks.{AreWalks}
@@ -23,21 +23,19 @@ none_refused (Some cause ∷ causes) e w = absurd (cc (e))
 
 module _ {E D : Type 0} where
   -- the run from the session that the book was opened with
-  pub moved_run : (cause : Option Cause) (n n' : ℕ) (ps ps' : List (List Call)) (o o' t : SessionState E D Step Reply) (ls : List Entries)
-      → n ≡ n' → ps ≡ ps' → o ≡ o' → IsRunUpTo cause n ps o t ls → IsRunUpTo cause n' ps' o' t ls
-  moved_run cause n n' ps ps' o o' t ls a b c h =
-      subst (λ m. IsRunUpTo cause m ps' o' t ls) a (subst (λ p. IsRunUpTo cause n p o' t ls) b (subst (λ s. IsRunUpTo cause n ps s t ls) c h))
+  pub moved_run : (cause : Option Cause) (n n' : ℕ) (ps ps' : List (List Call)) (o o' t : SessionState E D Step Reply)
+      → n ≡ n' → ps ≡ ps' → o ≡ o' → IsRunUpTo cause n ps o t → IsRunUpTo cause n' ps' o' t
+  moved_run cause n n' ps ps' o o' t a b c h =
+      subst (λ m. IsRunUpTo cause m ps' o' t) a (subst (λ p. IsRunUpTo cause n p o' t) b (subst (λ s. IsRunUpTo cause n ps s t) c h))
 
   -- a run without a cause is one of whole walks
-  pub whole_run : (cause : Option Cause) (n : ℕ) (ps : List (List Call)) (o t : SessionState E D Step Reply) (ls : List Entries) → cause ≡ None → IsRunUpTo cause n ps o t ls → IsRun (λ w. AreWalks w n) ps o t ls
-  whole_run cause n ps o t ls none h = record {
+  pub whole_run : (cause : Option Cause) (n : ℕ) (ps : List (List Call)) (o t : SessionState E D Step Reply) → cause ≡ None → IsRunUpTo cause n ps o t → IsRun (λ w. AreWalks w n) ps o t
+  whole_run cause n ps o t none h = record {
     opening = h.run.opening;
     limit = h.run.limit;
     news = h.run.news;
     entered = h.run.entered;
     tail = h.run.tail;
-    as_many = h.run.as_many;
-    own = h.run.own;
-    made = λ w lt. subst (λ r. AreWalksUpTo r n w (get_or ps w []) (get_or ls w [])) (none_refused h.refusals (sym h.first ∙ none) w) (h.run.made w lt);
+    made = λ w lt. subst (λ r. AreWalksUpTo r n w (get_or ps w []) (entries_of w h.run.news)) (none_refused h.refusals (sym h.first ∙ none) w) (h.run.made w lt);
     no_other = h.run.no_other;
   }

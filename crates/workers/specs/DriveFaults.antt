@@ -1,6 +1,5 @@
 -- When a run of workers ends in a fault, and what each fault leaves.
-use Rattle.std.specs.Prelude.{◌≡◌, ◌<◌, ◌≤◌, List, Some, None, length, map}
-use Rattle.std.specs.Vec.{vec_items}
+use Rattle.std.specs.Prelude.{◌≡◌, ◌<◌, ◌≤◌, List, Some, None, length}
 use Rattle.step_record.specs.declared.step.Call.{Call}
 use Rattle.step_record.specs.declared.step.Reply.{Reply}
 use Rattle.step_record.specs.declared.step.Step.{Step}
@@ -25,6 +24,6 @@ LeavesFault (Workers s) pieces old = (s ≡ old) × (1 ≤ length pieces → MAX
 LeavesFault (Held w s) pieces old = (s ≡ old) × (1 ≤ length pieces) × (length pieces ≤ MAX_WORKERS)
     × (worker_of old.engine.holder ≡ Some w)
 LeavesFault (OutOfMemory s) pieces old = (s ≡ old) × CanRun pieces old.engine
-LeavesFault (Stopped s lists cause) pieces old =
-    CanRun pieces old.engine × IsLegal act s.opening s.kept
-    × IsRunUpTo (Some cause) old.engine.config.stripes pieces old s (map (λ l. vec_items l) lists.items)
+LeavesFault (Stopped d cause) pieces old =
+    CanRun pieces old.engine × IsLegal act d.session.opening d.session.kept
+    × IsRunUpTo (Some cause) old.engine.config.stripes pieces old d.session × (d.earlier ≡ length old.kept)

@@ -10,20 +10,16 @@ use Rattle.walks.specs.Made.{entries_of, IsUnfinished}
 use Rattle.workers.specs.declared.run.Cause.{Cause}
 use Rattle.workers.specs.declared.run.Cause.TheVariants.{JournalFull}
 
--- Past the old entries, the new session has those that the workers made: those of worker w are just its own list, in
--- order, which is as IsMade says for its calls; and nobody else made any. What was left to redo is left where no step
--- was made, and else nothing is.
+-- Past the old entries, the new session has those that the workers made: those of worker w, in order, are as IsMade says
+-- for its calls; and nobody else made any. What was left to redo is left where no step was made, and else nothing is.
 pub record IsRun {E D : Type 0} (IsMade : ℕ → List Call → Entries → Type 0) (pieces : List (List Call))
-    (old new : SessionState E D Step Reply)
-    (lists : List Entries) : Type 0 where
+    (old new : SessionState E D Step Reply) : Type 0 where
   pub opening : new.opening ≡ old.opening
   pub limit : new.limit ≡ old.limit
   pub news : Entries
   pub entered : new.kept ≡ old.kept ++ news
   pub tail : new.tail ≡ tail_after news old.tail
-  pub as_many : length lists ≡ length pieces
-  pub own : (w : ℕ) → w < length pieces → entries_of w news ≡ get_or lists w []
-  pub made : (w : ℕ) → w < length pieces → IsMade w (get_or pieces w []) (get_or lists w [])
+  pub made : (w : ℕ) → w < length pieces → IsMade w (get_or pieces w []) (entries_of w news)
   pub no_other : (w : ℕ) → length pieces ≤ w → entries_of w news ≡ []
 
 -- why the first refused worker was refused, of all in order
@@ -40,10 +36,9 @@ AreWalksUpTo (Some cause) n w calls es = IsUnfinished (AreWalks w n calls) es
 -- A run in which each worker went on up to its first refused step, or made whole walks where there is none. Its cause
 -- is that of the refused worker with the lowest number. A full journal is a cause only where the session is full.
 pub record IsRunUpTo {E D : Type 0} (cause : Option Cause) (stripes : ℕ) (pieces : List (List Call))
-    (old new : SessionState E D Step Reply)
-    (lists : List Entries) : Type 0 where
+    (old new : SessionState E D Step Reply) : Type 0 where
   pub refusals : List (Option Cause)
   pub of_each : length refusals ≡ length pieces
   pub first : cause ≡ first_cause refusals
-  pub run : IsRun (λ w. AreWalksUpTo (get_or refusals w None) stripes w) pieces old new lists
+  pub run : IsRun (λ w. AreWalksUpTo (get_or refusals w None) stripes w) pieces old new
   pub full : (w : ℕ) → get_or refusals w None ≡ Some JournalFull → length new.kept ≡ new.limit

@@ -1,17 +1,18 @@
 -- Workers at their places, and what they made there.
-use Rattle.std.specs.Prelude.{◌≡◌, ℕ, suc, List, [], ◌∷◌, map, length, get_or, Some, IfSome}
+use Rattle.std.specs.Prelude.{◌≡◌, ℕ, suc, List, [], ◌∷◌, map, length, get_or, Option, Some, None, IfSome}
 use Rattle.std.specs.Option.{IsSome}
 use Rattle.std.specs.Global.{Vec}
 use Rattle.std.specs.Vec.{vec_items}
+use Rattle.step_record.specs.declared.entry.Entry.{Entry}
 use Rattle.step_record.specs.declared.step.Call.{Call}
 use Rattle.step_record.specs.declared.step.Reply.{Reply}
 use Rattle.step_record.specs.declared.step.Step.{Step}
 use Rattle.journal.specs.Session.{SessionState}
-use Rattle.turn_book.specs.Passes.{BookId}
+use Rattle.turn_book.specs.Passes.{BookId, PassState}
 use Rattle.workers.specs.declared.run.Cause.TheVariants.{JournalFull}
 use Rattle.workers.specs.declared.worker_state.WorkerState.{WorkerState}
 use Rattle.workers.specs.Runs.{AreWalksUpTo}
-use Rattle.step_record.specs.History.{data_after}
+use Rattle.step_record.specs.History.{data_after, Entries}
 use Rattle.shell_model.specs.Shell.{Shell, act}
 use Rattle.walks.specs.Admits.{AdmitsWalks}
 
@@ -22,15 +23,20 @@ calls_of pieces w = get_or (map (λ p. vec_items p) pieces) w []
 abbrev pub ShellSession : Type 0
 ShellSession = SessionState Shell Shell Step Reply
 
--- the worker has its pass of this book, and in its list what the pass made
+-- the worker has its pass of this book
 pub record HoldsPass (b : BookId ShellSession) (d : WorkerState) : Type 0 where
   pub has : IsSome d.pass
-  pub own : IfSome d.pass (λ p. (p.book ≡ b) × (p.worker ≡ d.worker) × (p.own ≡ d.list.items))
+  pub own : IfSome d.pass (λ p. (p.book ≡ b) × (p.worker ≡ d.worker))
 
--- Its list is its walks up to the step that it was refused, where it was; and where a full journal was why, it last saw
+-- the entries that a worker made with its pass
+abbrev pub entries_with : Option (PassState ShellSession (Entry Step Reply)) → Entries
+entries_with None = []
+entries_with (Some p) = p.own
+
+-- It made its walks up to the step that it was refused, where it was; and where a full journal was why, it last saw
 -- as many entries as the limit.
 pub record HasWorked (n limit : ℕ) (calls : ℕ → List Call) (d : WorkerState) : Type 0 where
-  pub walks : AreWalksUpTo d.refusal n d.worker (calls d.worker) d.list.items
+  pub walks : AreWalksUpTo d.refusal n d.worker (calls d.worker) (entries_with d.pass)
   pub full : d.refusal ≡ Some JournalFull → IfSome d.pass (λ p. length p.last ≡ limit)
 
 -- the workers from lo on, in order

@@ -1,11 +1,13 @@
 //! Workers on threads, over one session of the concurrent cache.
 //!
-//! `drive` has each worker enter one walk for each of its calls, in order, both into the session, which the workers take
-//! in turns, and into its own list, or the beginning of such walks where it was refused a step.
+//! `drive` has each worker enter one walk for each of its calls, in order, into the session, which the workers take in
+//! turns, or the beginning of such walks where it was refused a step. `Driven::list` lists one worker's entries.
 #![tactic(auto)]
 
+mod driven;
 mod run;
 mod turns;
 mod worker_state;
 
-pub use run::{Cause, DriveFault, Driven, drive};
+pub use driven::Driven;
+pub use run::{Cause, DriveFault, drive};

@@ -13,21 +13,15 @@ ghost use Rattle.step_record.specs.History.{data_after, IsLegal};
 ghost use Rattle.shell_model.specs.Shell.{act};
 ghost use Rattle.workers.specs.DriveFaults.{CanRun, LeavesFault};
 
+use super::driven::Driven;
 use super::worker_state::{WorkerState, assign_passes, collect_passes, work_all};
 use journal::Session;
 use maintenance::Shell;
 use std::alloc::{AllocError, Global};
 use std::sync::Wait;
 use std::thread::Threads;
-use step_record::{Call, Entry, Gate, MAX_WORKERS, Reply, Step, Worker};
+use step_record::{Call, Gate, MAX_WORKERS, Worker};
 use turn_book::{MAX_TURNS, OpenFault, Pass, TurnBook};
-
-/// What a run of workers made: the session, and the entries of each worker, in its order, at its number.
-#[derive(Drop)]
-pub struct Driven {
-    pub session: Session<Shell>,
-    pub lists: Vec<Vec<Entry<Step, Reply>>>,
-}
 
 /// Why a worker was refused a step.
 #[derive(Clone, Copy, Debug, PartialEq, Eq)]
@@ -55,11 +49,10 @@ pub enum DriveFault {
         session: Session<Shell>,
     },
     /// A worker was refused a step, and ended there, while the others went on: whoever was refused none made all of its
-    /// walks. The lists are those of a run, those of refused workers without their ends; the cause is that of the
+    /// walks. The entries are those of a run, those of refused workers without their ends; the cause is that of the
     /// refused worker with the lowest number.
     Stopped {
-        session: Session<Shell>,
-        lists: Vec<Vec<Entry<Step, Reply>>>,
+        driven: Driven,
         cause: Cause,
     },
 }
@@ -76,10 +69,11 @@ pub fn drive<G: Gate, R: Threads + Wait + Sync>(
     pieces: Vec<Vec<Call>>,
     gate: &G,
 ) -> Result<Driven, DriveFault>
-    // Past the old entries, those of each worker are its list: one walk for each of its calls, in order. What was left
-    // to redo is left where no step was made, and else nothing is.
+    // Past the old entries, those of each worker are one walk for each of its calls, in order. What was left to redo is
+    // left where no step was made, and else nothing is.
     ensures run { IfOk result (λ d. IsRun (λ w. AreWalks w session.engine.config.stripes)
-        (map (λ p. p.items) pieces.items) session d.session (map (λ l. l.items) d.lists.items)) }
+        (map (λ p. p.items) pieces.items) session d.session) }
+    ensures earlier { IfOk result (λ d. d.earlier ≡ length session.kept) }
     ensures legal { IfOk result (λ d. IsLegal act d.session.opening d.session.kept) }
     // Nobody holds the maintenance.
     ensures free { IfOk result (λ d. d.session.engine.holder ≡ None) }
@@ -98,11 +92,11 @@ pub fn drive<G: Gate, R: Threads + Wait + Sync>(
     let Ok(room) = Room::new(alloc, workers) else {
         return Err(DriveFault::OutOfMemory { session });
     };
+    let earlier = session.len();
     match TurnBook::open(alloc, session, workers as u8, MAX_TURNS) {
         Ok((book, passes)) => {
-            let (session, lists, cause) = run_book(
+            let (session, cause) = run_book(
                 rt,
-                alloc,
                 gate,
                 book,
                 passes,
@@ -110,13 +104,10 @@ pub fn drive<G: Gate, R: Threads + Wait + Sync>(
                 stripes,
                 room,
             );
+            let driven = Driven { session, earlier };
             match cause {
-                None => Ok(Driven { session, lists }),
-                Some(cause) => Err(DriveFault::Stopped {
-                    session,
-                    lists,
-                    cause,
-                }),
+                None => Ok(driven),
+                Some(cause) => Err(DriveFault::Stopped { driven, cause }),
             }
         }
         Err(OpenFault::OutOfMemory(session)) => Err(DriveFault::OutOfMemory { session }),
@@ -125,41 +116,36 @@ pub fn drive<G: Gate, R: Threads + Wait + Sync>(
     }
 }
 
-// Memory for all that a run holds beside the session and the lists.
+// Memory for all that a run holds beside the session.
 #[derive(Drop)]
 pub(crate) struct Room {
     pub(crate) states: Vec<WorkerState>,
     pub(crate) passes: Vec<Pass<Session<Shell>>>,
-    pub(crate) lists: Vec<Vec<Entry<Step, Reply>>>,
 }
 
 impl Room {
     // Room for so many workers.
     fn new(alloc: Global, workers: usize) -> Result<Room, AllocError>
-        ensures empty { IfOk result (λ r. (r.states.items ≡ []) × (r.passes.items ≡ []) × (r.lists.items ≡ [])) }
-        ensures room { IfOk result (λ r. (workers ≤ vec_capacity r.states) × (workers ≤ vec_capacity r.passes)
-            × (workers ≤ vec_capacity r.lists)) }
+        ensures empty { IfOk result (λ r. (r.states.items ≡ []) × (r.passes.items ≡ [])) }
+        ensures room { IfOk result (λ r. (workers ≤ vec_capacity r.states) × (workers ≤ vec_capacity r.passes)) }
     {
         Ok(Room {
             states: Vec::with_capacity(alloc, workers)?,
             passes: Vec::with_capacity(alloc, workers)?,
-            lists: Vec::with_capacity(alloc, workers)?,
         })
     }
 }
 
-// Has the workers work, and closes the book: the session, each worker's list, and why the first refused worker was
-// refused a step.
+// Has the workers work, and closes the book: the session, and why the first refused worker was refused a step.
 fn run_book<G: Gate, R: Threads + Wait + Sync>(
     rt: &R,
-    alloc: Global,
     gate: &G,
     book: TurnBook<Session<Shell>>,
     passes: Vec<Pass<Session<Shell>>>,
     pieces: &[Vec<Call>],
     stripes: u8,
     room: Room,
-) -> (Session<Shell>, Vec<Vec<Entry<Step, Reply>>>, Option<Cause>)
+) -> (Session<Shell>, Option<Cause>)
     requires stripes { (1 ≤ stripes) × (stripes ≤ MAX_STRIPES) }
     requires admits { AdmitsAll stripes book.opening }
     requires workers { (length pieces.now ≡ book.workers) × (1 ≤ length pieces.now)
@@ -168,23 +154,20 @@ fn run_book<G: Gate, R: Threads + Wait + Sync>(
     requires own { Every (λ p. p.book ≡ id_of book) passes.items }
     requires empty { Every (λ p. (p.own ≡ []) × IsWithin book.opening.limit p) passes.items }
     requires turns { book.opening.limit ≤ book.turns }
-    requires fresh { (room.states.items ≡ []) × (room.passes.items ≡ []) × (room.lists.items ≡ []) }
-    requires room { (length pieces.now ≤ vec_capacity room.states) × (length pieces.now ≤ vec_capacity room.passes)
-        × (length pieces.now ≤ vec_capacity room.lists) }
-    ensures run { IsRunUpTo result.2 stripes (map (λ p. p.items) pieces.now) book.opening result.0
-        (map (λ l. l.items) result.1.items) }
+    requires fresh { (room.states.items ≡ []) × (room.passes.items ≡ []) }
+    requires room { (length pieces.now ≤ vec_capacity room.states) × (length pieces.now ≤ vec_capacity room.passes) }
+    ensures run { IsRunUpTo result.1 stripes (map (λ p. p.items) pieces.now) book.opening result.0 }
     ensures legal { IsLegal act result.0.opening result.0.kept }
     ensures stands { result.0.engine ≡ data_after act result.0.opening result.0.kept }
 {
     let Room {
         states,
         passes: collected,
-        lists,
     } = room;
-    let states = assign_passes(alloc, &book, passes, states);
+    let states = assign_passes(&book, passes, states);
     let states = work_all(rt, gate, &book, pieces, stripes, states);
-    let (passes, lists, cause) = collect_passes(states, collected, lists);
+    let (passes, cause) = collect_passes(states, collected);
     let session = book.close(passes);
     session.len();
-    (session, lists, cause)
+    (session, cause)
 }

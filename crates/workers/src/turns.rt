@@ -4,7 +4,7 @@ ghost use Rattle.std.specs.Prelude.{MatchResult, Err};
 ghost use Rattle.step_record.specs.Answers.{AnswersItsActs, is_answer};
 ghost use Rattle.turn_book.specs.Passes.{id_of};
 ghost use Rattle.step_record.specs.History.{data_after};
-ghost use Rattle.walks.specs.Walks.{IsWalk, AreWalks, step_of};
+ghost use Rattle.walks.specs.Walks.{IsWalk, AreWalks};
 ghost use Rattle.walks.specs.Admits.{IsTaken};
 ghost use Rattle.workers.specs.Draws.{IsWithin};
 ghost use Rattle.walks.specs.Made.{Made, IsUnfinished};
@@ -14,7 +14,7 @@ ghost use Rattle.workers.specs.Walkers.{CanWalk};
 use super::run::Cause;
 use journal::{Session, SessionFault};
 use std::sync::Wait;
-use step_record::{Act, Call, Engine, Entry, Gate, Reply, Step, Worker};
+use step_record::{Call, Engine, Gate, Reply, Step, Worker};
 use turn_book::{Pass, TurnBook};
 use walks::{Local, Next, next_step};
 
@@ -25,7 +25,6 @@ pub(crate) fn work_in_turns<E: Engine<Step = Step, Reply = Reply> + Drop, G: Gat
     gate: &G,
     book: &TurnBook<Session<E>>,
     mut pass: Pass<Session<E>>,
-    list: &mut Vec<Entry<Step, Reply>>,
     worker: Worker,
     stripes: u8,
     calls: &[Call],
@@ -34,16 +33,14 @@ pub(crate) fn work_in_turns<E: Engine<Step = Step, Reply = Reply> + Drop, G: Gat
     requires walker { CanWalk E.act E.count book.now pass worker stripes }
     ensures same { result.0.book ≡ pass.book }
     ensures worker { result.0.worker ≡ worker }
-    ensures ok { OnOk result.1 (Made (AreWalks worker stripes calls.now) pass.own result.0.own list.old.items
-        list.new.items) }
-    ensures err { OnErr result.1 (Made (IsUnfinished (AreWalks worker stripes calls.now)) pass.own result.0.own
-        list.old.items list.new.items) }
+    ensures ok { OnOk result.1 (Made (AreWalks worker stripes calls.now) pass.own result.0.own) }
+    ensures err { OnErr result.1 (Made (IsUnfinished (AreWalks worker stripes calls.now)) pass.own result.0.own) }
     ensures full { result.1 ≡ Err Cause.JournalFull → length result.0.last ≡ book.now.opening.limit }
     ensures within { OnOk result.1 (IsWithin book.now.opening.limit result.0) }
 {
     for (n, call) in calls.iter().enumerate() {
         gate.before(worker.number(), n as u64);
-        let (given, answer) = walk_in_turns(rt, book, pass, list, worker, stripes, *call);
+        let (given, answer) = walk_in_turns(rt, book, pass, worker, stripes, *call);
         pass = given;
         if let Err(cause) = answer {
             return (pass, Err(cause));
@@ -58,7 +55,6 @@ fn walk_in_turns<E: Engine<Step = Step, Reply = Reply> + Drop, R: Wait>(
     rt: &R,
     book: &TurnBook<Session<E>>,
     mut pass: Pass<Session<E>>,
-    list: &mut Vec<Entry<Step, Reply>>,
     worker: Worker,
     stripes: u8,
     call: Call,
@@ -67,9 +63,8 @@ fn walk_in_turns<E: Engine<Step = Step, Reply = Reply> + Drop, R: Wait>(
     requires walker { CanWalk E.act E.count book.now pass worker stripes }
     ensures same { result.0.book ≡ pass.book }
     ensures worker { result.0.worker ≡ worker }
-    ensures ok { OnOk result.1 (Made (IsWalk worker stripes call) pass.own result.0.own list.old.items list.new.items) }
-    ensures err { OnErr result.1 (Made (IsUnfinished (IsWalk worker stripes call)) pass.own result.0.own list.old.items
-        list.new.items) }
+    ensures ok { OnOk result.1 (Made (IsWalk worker stripes call) pass.own result.0.own) }
+    ensures err { OnErr result.1 (Made (IsUnfinished (IsWalk worker stripes call)) pass.own result.0.own) }
     ensures full { result.1 ≡ Err Cause.JournalFull → length result.0.last ≡ book.now.opening.limit }
     ensures within { OnOk result.1 (IsWithin book.now.opening.limit result.0) }
 {
@@ -78,17 +73,10 @@ fn walk_in_turns<E: Engine<Step = Step, Reply = Reply> + Drop, R: Wait>(
         let Next::Do(act, local) = next else {
             return (pass, Ok(()));
         };
-        if list.reserve(1).is_err() {
-            return (pass, Err(Cause::Memory));
-        }
-        let step = Step { worker, act };
-        let (given, answer) = turn(rt, book, pass, step);
+        let (given, answer) = turn(rt, book, pass, Step { worker, act });
         pass = given;
         match answer {
-            Ok(reply) => {
-                list.push_reserved(entry_of(worker, act, reply));
-                next = next_step(local, Some(reply));
-            }
+            Ok(reply) => next = next_step(local, Some(reply)),
             Err(cause) => return (pass, Err(cause)),
         }
     }
@@ -137,15 +125,5 @@ fn cause_of(fault: SessionFault) -> Cause
         SessionFault::OutOfMemory => Cause::Memory,
         SessionFault::JournalFull => Cause::JournalFull,
         SessionFault::NotNow => unreachable!(),
-    }
-}
-
-// The entry of the worker's act with its reply.
-fn entry_of(worker: Worker, act: Act, reply: Reply) -> Entry<Step, Reply>
-    ensures { result ≡ record { step = step_of worker act; reply = reply } }
-{
-    Entry {
-        step: Step { worker, act },
-        reply,
     }
 }

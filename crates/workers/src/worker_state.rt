@@ -13,26 +13,22 @@ use super::run::Cause;
 use super::turns::work_in_turns;
 use journal::Session;
 use maintenance::Shell;
-use std::alloc::Global;
 use std::sync::Wait;
 use std::thread;
 use std::thread::Threads;
-use step_record::{Call, Entry, Gate, Reply, Step, Worker};
+use step_record::{Call, Gate, Worker};
 use turn_book::{Pass, TurnBook};
 
-/// What one worker has: its pass, which is with it but while it works, the entries that it made, and why it was refused
-/// a step, where it was.
+/// What one worker has: its pass, which is with it but while it works, and why it was refused a step, where it was.
 #[derive(Drop)]
 pub(crate) struct WorkerState {
     pub(crate) pass: Option<Pass<Session<Shell>>>,
     pub(crate) worker: Worker,
-    pub(crate) list: Vec<Entry<Step, Reply>>,
     pub(crate) refusal: Option<Cause>,
 }
 
 // The state of each worker, with its pass, in memory that is there.
 pub(crate) fn assign_passes(
-    alloc: Global,
     book: &TurnBook<Session<Shell>>,
     passes: Vec<Pass<Session<Shell>>>,
     mut states: Vec<WorkerState>,
@@ -41,8 +37,8 @@ pub(crate) fn assign_passes(
     requires own { Every (λ p. p.book ≡ id_of book.now) passes.items }
     requires empty { Every (λ p. (p.own ≡ []) × IsWithin book.now.opening.limit p) passes.items }
     requires room { (states.items ≡ []) × (length passes.items ≤ vec_capacity states) }
-    ensures holds { Every (λ d. HoldsPass (id_of book.now) d × (d.list.items ≡ [])
-        × IfSome d.pass (λ p. IsWithin book.now.opening.limit p)) result.items }
+    ensures holds { Every (λ d. HoldsPass (id_of book.now) d
+        × IfSome d.pass (λ p. (p.own ≡ []) × IsWithin book.now.opening.limit p)) result.items }
     ensures counts { AreNumbered 0 result.items × (length result.items ≡ length passes.items) }
 {
     for pass in passes {
@@ -52,7 +48,6 @@ pub(crate) fn assign_passes(
         states.push_reserved(WorkerState {
             pass: Some(pass),
             worker,
-            list: Vec::new(alloc),
             refusal: None,
         });
     }
@@ -71,8 +66,8 @@ pub(crate) fn work_all<G: Gate, R: Threads + Wait + Sync>(
     requires stripes { (1 ≤ stripes) × (stripes ≤ MAX_STRIPES) }
     requires admits { AdmitsAll stripes book.now.opening }
     requires turns { book.now.opening.limit ≤ book.now.turns }
-    requires holds { Every (λ d. HoldsPass (id_of book.now) d × (d.list.items ≡ [])
-        × IfSome d.pass (λ p. IsWithin book.now.opening.limit p)) states.items }
+    requires holds { Every (λ d. HoldsPass (id_of book.now) d
+        × IfSome d.pass (λ p. (p.own ≡ []) × IsWithin book.now.opening.limit p)) states.items }
     requires counts { AreNumbered 0 states.items × (length states.items ≡ length pieces.now) }
     ensures holds { Every (λ d. HoldsPass (id_of book.now) d
         × HasWorked stripes book.now.opening.limit (calls_of pieces.now) d) result.items }
@@ -85,7 +80,7 @@ pub(crate) fn work_all<G: Gate, R: Threads + Wait + Sync>(
     let each = |_i: usize, state: &mut WorkerState|
         requires { (1 ≤ stripes) × (stripes ≤ MAX_STRIPES) × AdmitsAll stripes book.now.opening
             × (book.now.opening.limit ≤ book.now.turns) × HoldsPass (id_of book.now) state.now
-            × (state.now.list.items ≡ []) × IfSome state.now.pass (λ p. IsWithin book.now.opening.limit p)
+            × IfSome state.now.pass (λ p. (p.own ≡ []) × IsWithin book.now.opening.limit p)
             × (state.now.worker < length pieces.now) }
         ensures { HoldsPass (id_of book.entry.now) state.exit.now
             × HasWorked stripes book.entry.now.opening.limit (calls_of pieces.entry.now) state.exit.now
@@ -96,8 +91,7 @@ pub(crate) fn work_all<G: Gate, R: Threads + Wait + Sync>(
         };
         let worker = state.worker;
         let calls = pieces[usize::from(worker.number())].as_slice();
-        let list = &mut state.list;
-        let (pass, answer) = work_in_turns(rt, gate, book, pass, list, worker, stripes, calls);
+        let (pass, answer) = work_in_turns(rt, gate, book, pass, worker, stripes, calls);
         state.pass = Some(pass);
         state.refusal = answer.err();
     };
@@ -105,35 +99,26 @@ pub(crate) fn work_all<G: Gate, R: Threads + Wait + Sync>(
     states
 }
 
-// The passes and the lists of all workers, in memory that is there, and why the first worker that was refused a step was
-// refused it, in the order of their numbers.
+// The passes of all workers, in memory that is there, and why the first worker that was refused a step was refused it, in
+// the order of their numbers.
 pub(crate) fn collect_passes(
     states: Vec<WorkerState>,
     mut passes: Vec<Pass<Session<Shell>>>,
-    mut lists: Vec<Vec<Entry<Step, Reply>>>,
-) -> (
-    Vec<Pass<Session<Shell>>>,
-    Vec<Vec<Entry<Step, Reply>>>,
-    Option<Cause>,
-)
+) -> (Vec<Pass<Session<Shell>>>, Option<Cause>)
     requires holds { Every (λ d. IsSome d.pass) states.items }
-    requires passes { (passes.items ≡ []) × (length states.items ≤ vec_capacity passes) }
-    requires lists { (lists.items ≡ []) × (length states.items ≤ vec_capacity lists) }
+    requires room { (passes.items ≡ []) × (length states.items ≤ vec_capacity passes) }
     ensures passes { map (λ p. Some p) result.0.items ≡ map (λ d. d.pass) states.items }
-    ensures lists { result.1.items ≡ map (λ d. d.list) states.items }
-    ensures cause { result.2 ≡ first_cause (map (λ d. d.refusal) states.items) }
+    ensures cause { result.1 ≡ first_cause (map (λ d. d.refusal) states.items) }
 {
     let mut cause = None;
     for state in states {
         let WorkerState {
             pass,
             worker: _,
-            list,
             refusal,
         } = state;
         passes.push_reserved(pass.unwrap());
-        lists.push_reserved(list);
         cause = cause.or(refusal);
     }
-    (passes, lists, cause)
+    (passes, cause)
 }

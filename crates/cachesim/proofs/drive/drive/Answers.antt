@@ -25,7 +25,7 @@ could_begin : (fault : DriveFault) (pieces : List (List Call)) (session : Sessio
 could_begin (Workers s) pieces session left some few free = let many = left.1 some in absurd (omega (many, few, arith))
 could_begin (Held w s) pieces session left some few free = absurd (cc (sym (ap worker_of free) ∙ left.3))
 could_begin (OutOfMemory s) pieces session left some few free = tt
-could_begin (Stopped s lists cause) pieces session left some few free = tt
+could_begin (Stopped driven cause) pieces session left some few free = tt
 
 -- what follows from what is said of the value in an `Ok`
 held : {X Y G : Type 0} (r : Result X Y) {O P Q R : X → Type 0} → IsOkAnd r O → IsOkAnd r P → IfOk r Q → IfOk r R
@@ -51,7 +51,7 @@ returns-clause-ok g c =
       steps = driven.session.kept;
       legal = subst (λ o. IsLegal act o driven.session.kept) run.opening legal;
       walks = IfSome_then input c.in_ok-pieces.ensures.dealt
-          (λ bytes h. subst (λ n. AreOfReads workers n (keys_in c.args.arguments.now.format bytes) driven.session.kept) stripes (reads_walked workers c.in_ok-session.session.engine.config.stripes (keys_in c.args.arguments.now.format bytes) _ c.in_ok-session.session driven.session _ h.1 first.none run));
+          (λ bytes h. subst (λ n. AreOfReads workers n (keys_in c.args.arguments.now.format bytes) driven.session.kept) stripes (reads_walked workers c.in_ok-session.session.engine.config.stripes (keys_in c.args.arguments.now.format bytes) _ c.in_ok-session.session driven.session h.1 first.none run));
       few = subst (λ l. length driven.session.kept ≤ l) (run.limit ∙ c.in_ok-session.ensures.limit) few;
       written = written;
     })) c.end.ensures.few c.end.ensures.written

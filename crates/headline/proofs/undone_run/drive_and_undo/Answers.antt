@@ -1,5 +1,4 @@
-use Rattle.std.proofs.Common.{List, Option, Some, None, ap, map, subst, sym, vec_items}
-use Rattle.step_record.specs.History.{Entries}
+use Rattle.std.proofs.Common.{Option, Some, None, map, subst, sym, vec_items}
 use Rattle.workers.specs.declared.run.Cause.{Cause}
 use Rattle.workers.specs.DriveFaults.{LeavesFault}
 use Rattle.headline.specs.Rewound.{IsRewound}
@@ -12,9 +11,9 @@ returns-in-Ok-clause-rewound g c =
     let r = c.undo.result in
     let n = c.args.session.engine.config.stripes in
     let pieces = map (λ p. vec_items p) c.args.pieces.items in
-    let whole = rewound n c.args.k pieces None r.undone c.args.session c.in-Ok.driven.session r.session (map (λ l. vec_items l) c.in-Ok.driven.lists.items) (whole_up_to n pieces c.args.session c.in-Ok.driven.session (map (λ l. vec_items l) c.in-Ok.driven.lists.items) c.in-Ok.ensures.run) c.in-Ok.ensures.legal u.opening u.left u.redo u.state u.past u.fewer in
-    subst (λ (ls : List Entries). IsRewound n c.args.k pieces r.cause r.undone c.args.session r.session ls) (sym (ap (map (λ l. vec_items l)) u.lists))
-    (subst (λ (o : Option Cause). IsRewound n c.args.k pieces o r.undone c.args.session r.session (map (λ l. vec_items l) c.in-Ok.driven.lists.items)) (sym u.cause) whole)
+    let s = c.in-Ok.driven.session in
+    let whole = rewound n c.args.k pieces None r.undone c.args.session s r.session (whole_up_to n pieces c.args.session s c.in-Ok.ensures.run) c.in-Ok.ensures.legal u.opening u.left u.redo u.state u.past u.fewer in
+    subst (λ (o : Option Cause). IsRewound n c.args.k pieces o r.undone c.args.session r.session) (sym u.cause) whole
 
 pub returns-in-Err-Stopped-clause-rewound : goal.returns-in-Err-Stopped-clause-rewound
 returns-in-Err-Stopped-clause-rewound g c =
@@ -22,9 +21,7 @@ returns-in-Err-Stopped-clause-rewound g c =
     let r = c.undo-in-Err-Stopped.result in
     let n = c.args.session.engine.config.stripes in
     let pieces = map (λ p. vec_items p) c.args.pieces.items in
-    let s = c.in-Err-Stopped.session in
-    let lists = map (λ l. vec_items l) c.in-Err-Stopped.lists.items in
+    let s = c.in-Err-Stopped.driven.session in
     let left = subst (λ f. LeavesFault f pieces c.args.session) c.in-Err-Stopped.field-0-is c.in-Err-Stopped.ensures.fault in
-    let whole = rewound n c.args.k pieces (Some c.in-Err-Stopped.cause) r.undone c.args.session s r.session lists left.2 left.1 u.opening u.left u.redo u.state u.past u.fewer in
-    subst (λ (ls : List Entries). IsRewound n c.args.k pieces r.cause r.undone c.args.session r.session ls) (sym (ap (map (λ l. vec_items l)) u.lists))
-    (subst (λ (o : Option Cause). IsRewound n c.args.k pieces o r.undone c.args.session r.session lists) (sym u.cause) whole)
+    let whole = rewound n c.args.k pieces (Some c.in-Err-Stopped.cause) r.undone c.args.session s r.session left.2 left.1 u.opening u.left u.redo u.state u.past u.fewer in
+    subst (λ (o : Option Cause). IsRewound n c.args.k pieces o r.undone c.args.session r.session) (sym u.cause) whole

@@ -56,15 +56,15 @@ pub returns-in-None-clause-run : goal.returns-in-None-clause-run
 returns-in-None-clause-run g c =
     let stripes = c.stripes-stripes.ensures.stripes ∙ ap (λ x. x.config.stripes) c.engine-shell.ensures.engine in
     let pieces = ap (map (λ p. vec_items p)) c.as_slice.ensures.value in
-    whole_run _ _ _ _ _ _ c.in-None.is (moved_run _ _ _ _ _ _ _ _ _ stripes pieces c.in-Ok-open.ensures.opens.0 c.run_book-session.ensures.run)
+    whole_run _ _ _ _ _ c.in-None.is (moved_run _ _ _ _ _ _ _ _ stripes pieces c.in-Ok-open.ensures.opens.0 c.run_book-session.ensures.run)
 
 pub returns-in-None-clause-free : goal.returns-in-None-clause-free
 returns-in-None-clause-free g c =
     let shell = c.engine-shell.ensures.engine in
     let stripes = c.stripes-stripes.ensures in
     let free = free_of _ _ (sym c.holder.ensures ∙ c.in_default.is) in
-    let run = whole_run _ _ _ _ _ _ c.in-None.is (moved_run _ _ _ _ _ _ _ _ _ refl refl c.in-Ok-open.ensures.opens.0 c.run_book-session.ensures.run) in
-    run_frees c.args.session c.run_book-session.result.0 c.stripes-stripes.result _ _ stripes.range.0 (subst IsReachable shell stripes.reached) (ap (λ x. x.holder) (sym shell) ∙ free)
+    let run = whole_run _ _ _ _ _ c.in-None.is (moved_run _ _ _ _ _ _ _ _ refl refl c.in-Ok-open.ensures.opens.0 c.run_book-session.ensures.run) in
+    run_frees c.args.session c.run_book-session.result.0 c.stripes-stripes.result _ stripes.range.0 (subst IsReachable shell stripes.reached) (ap (λ x. x.holder) (sym shell) ∙ free)
     (ap (λ x. length x.stripes) (sym shell) ∙ stripes.count) c.engine-shell.ensures.sound.stands run c.run_book-session.ensures.legal c.run_book-session.ensures.stands
 
 pub returns-in-None-clause-accepted : goal.returns-in-None-clause-accepted
@@ -74,11 +74,11 @@ pub returns-in-Ok-open-clause-fault : goal.returns-in-Ok-open-clause-fault
 returns-in-Ok-open-clause-fault g c =
     let stripes = c.stripes-stripes.ensures.stripes ∙ ap (λ x. x.config.stripes) c.engine-shell.ensures.engine in
     let pieces = ap (map (λ p. vec_items p)) c.as_slice.ensures.value in
-    let run = moved_run _ _ _ _ _ _ _ _ _ stripes pieces c.in-Ok-open.ensures.opens.0 c.run_book-session.ensures.run in
-    let lists = map (λ l. vec_items l) c.run_book-session.result.1.items in (
+    let run = moved_run _ _ _ _ _ _ _ _ stripes pieces c.in-Ok-open.ensures.opens.0 c.run_book-session.ensures.run in (
       can-run g (goal.at.returns-in-Ok-open-clause-fault g c).After-run_book-session,
       c.run_book-session.ensures.legal,
-      subst (λ o. IsRunUpTo o c.args.session.engine.config.stripes (map (λ p. vec_items p) c.args.pieces.items) c.args.session c.run_book-session.result.0 lists) c.in-Some-cause.is run,
+      subst (λ o. IsRunUpTo o c.args.session.engine.config.stripes (map (λ p. vec_items p) c.args.pieces.items) c.args.session c.run_book-session.result.0) c.in-Some-cause.is run,
+      c.len-earlier.ensures.len,
     )
 
 pub unreachable-requires : goal.unreachable-requires

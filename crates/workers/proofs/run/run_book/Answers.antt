@@ -1,7 +1,7 @@
 use Rattle.std.proofs.Common.{◌≤◌, sym, ap, ◌∙◌, map, length, vec_items, arith}
 use Rattle.std.proofs.lemmas.List.{length-map}
 use Rattle.turn_book.specs.Passes.{id_of}
-use Rattle.workers.proofs.Collecting.{collected, every_map, run_up_to, map_both}
+use Rattle.workers.proofs.Collecting.{collected, every_map, run_up_to}
 use Rattle.workers.proofs.run.run_book.Goals as goal
 
 pub close-session-requires-clause-own : goal.close-session-requires-clause-own
@@ -30,9 +30,7 @@ returns-clause-run g c =
     let r = collected (id_of c.args.book) c.work_all-states.result.items c.collect_passes-passes.result.0.items 0 c.collect_passes-passes.ensures.passes
     (every_map _ _ _ (λ d h. h.0) c.work_all-states.ensures.holds) c.work_all-states.ensures.counts.0 in
     let pieces = map (λ p. vec_items p) c.args.pieces.now in
-    let lists = map (λ l. vec_items l) c.collect_passes-passes.result.1.items in
     let room : length c.close-session.result.kept ≤ c.close-session.result.limit = let sound = c.len.ensures.sound.room in omega arith in
-    run_up_to c.args.stripes c.collect_passes-passes.result.2 pieces c.args.book.opening c.close-session.result _ c.work_all-states.result.items lists c.close-session.ensures room c.collect_passes-passes.ensures.passes r.owns
-    (ap (map (λ l. vec_items l)) c.collect_passes-passes.ensures.lists ∙ map_both (λ l. vec_items l) (λ d. d.list) c.work_all-states.result.items)
+    run_up_to c.args.stripes c.collect_passes-passes.result.1 pieces c.args.book.opening c.close-session.result _ c.work_all-states.result.items c.close-session.ensures room c.collect_passes-passes.ensures.passes r.owns
     c.work_all-states.ensures.counts.0 (c.work_all-states.ensures.counts.1 ∙ sym (length-map c.args.pieces.now (λ p. vec_items p)))
     (every_map _ _ _ (λ d h. h.1) c.work_all-states.ensures.holds) c.collect_passes-passes.ensures.cause

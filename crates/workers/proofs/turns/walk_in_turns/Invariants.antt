@@ -13,6 +13,6 @@ invariant-loop g l = record {
   same : l.pass.book ≡ l.fn.pass.book;
   worker : l.pass.worker ≡ l.fn.worker;
   within : IsWithin l.book.opening.limit l.pass;
-  made : Made (λ es. (rest : Entries) → IsRestOfWalk l.next rest → IsWalk l.fn.worker l.fn.stripes l.fn.call (es ++ rest)) l.fn.pass.own l.pass.own l.fn.list.items l.list.items;
+  made : Made (λ es. (rest : Entries) → IsRestOfWalk l.next rest → IsWalk l.fn.worker l.fn.stripes l.fn.call (es ++ rest)) l.fn.pass.own l.pass.own;
   asks : IsAskedNext l.fn.worker l.fn.stripes l.next;
 }

@@ -12,5 +12,5 @@ invariant-loop-n g l = record {
   worker : l.pass.worker ≡ l.fn.worker;
   within : IsWithin l.book.opening.limit l.pass;
   walks : (before : List Call) × AreWalks l.fn.worker l.fn.stripes before l.pass.own;
-  made : Made (λ es. (rest : Entries) → AreWalks l.fn.worker l.fn.stripes (drop l.n l.calls) rest → AreWalks l.fn.worker l.fn.stripes l.calls (es ++ rest)) l.fn.pass.own l.pass.own l.fn.list.items l.list.items;
+  made : Made (λ es. (rest : Entries) → AreWalks l.fn.worker l.fn.stripes (drop l.n l.calls) rest → AreWalks l.fn.worker l.fn.stripes l.calls (es ++ rest)) l.fn.pass.own l.pass.own;
 }

@@ -27,7 +27,7 @@ loop-pass-preserved c =
       order = subst (λ n. InOrder n (into_iter_items c.next.new.self)) (omega arith) order.1;
       own = own.1;
       empty = empty.1;
-      holds = every_more _ _ _ _ added i.holds (record { has = refl; own = (own.0, order.0 ∙ sym named, empty.0.0 ∙ sym c.new-in-loop-pass.ensures.items) }, c.new-in-loop-pass.ensures.items, empty.0.1);
+      holds = every_more _ _ _ _ added i.holds (record { has = refl; own = (own.0, order.0 ∙ sym named) }, empty.0);
       counts = counts_more _ _ _ added i.counts named;
       total = omega arith;
       room = search rules;

@@ -12,7 +12,7 @@ invariant-loop-pass l = record {
   order : InOrder (length l.states.items) (into_iter_items l.pass-iterator);
   own : Every (λ p. p.book ≡ id_of l.book) (into_iter_items l.pass-iterator);
   empty : Every (λ p. (p.own ≡ []) × IsWithin l.book.opening.limit p) (into_iter_items l.pass-iterator);
-  holds : Every (λ d. HoldsPass (id_of l.book) d × (d.list.items ≡ []) × IfSome d.pass (λ p. IsWithin l.book.opening.limit p)) l.states.items;
+  holds : Every (λ d. HoldsPass (id_of l.book) d × IfSome d.pass (λ p. (p.own ≡ []) × IsWithin l.book.opening.limit p)) l.states.items;
   counts : AreNumbered 0 l.states.items;
   total : length l.states.items + length (into_iter_items l.pass-iterator) ≡ length l.fn.passes.items;
   room : length l.fn.passes.items ≤ vec_capacity l.states;

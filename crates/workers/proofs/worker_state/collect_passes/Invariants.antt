@@ -10,7 +10,5 @@ invariant-loop-state l = record {
   holds : Every (λ d. IsSome d.pass) (into_iter_items l.state-iterator);
   passes : map (λ p. Some p) l.passes.items ++ map (λ d. d.pass) (into_iter_items l.state-iterator) ≡ map (λ d. d.pass) l.fn.states.items;
   cause : option_or l.cause (first_cause (map (λ d. d.refusal) (into_iter_items l.state-iterator))) ≡ first_cause (map (λ d. d.refusal) l.fn.states.items);
-  lists : l.lists.items ++ map (λ d. d.list) (into_iter_items l.state-iterator) ≡ map (λ d. d.list) l.fn.states.items;
-  seats_room : length l.passes.items + length (into_iter_items l.state-iterator) ≤ vec_capacity l.passes;
-  lists_room : length l.lists.items + length (into_iter_items l.state-iterator) ≤ vec_capacity l.lists;
+  room : length l.passes.items + length (into_iter_items l.state-iterator) ≤ vec_capacity l.passes;
 }

@@ -13,10 +13,10 @@ use Rattle.workers.proofs.worker_state.work_all.Goals as goal
 
 pub for_each_mut-requires-clause-accepts : goal.for_each_mut-requires-clause-accepts
 for_each_mut-requires-clause-accepts g c κs within =
-    let every = every_both _ _ (λ d. HoldsPass (id_of c.args.book.now) d × (d.list.items ≡ []) × IfSome d.pass (λ p. IsWithin c.args.book.now.opening.limit p) × (d.worker < length c.args.pieces.now)) c.args.states.items (λ d h lt. (h.0, h.1, h.2, lt))
+    let every = every_both _ _ (λ d. HoldsPass (id_of c.args.book.now) d × IfSome d.pass (λ p. (p.own ≡ []) × IsWithin c.args.book.now.opening.limit p) × (d.worker < length c.args.pieces.now)) c.args.states.items (λ d h lt. (h.0, h.1, lt))
     c.requires.holds (every_below c.args.states.items (length c.args.pieces.now) c.requires.counts.0 c.requires.counts.1) in
-    let all : All (λ d. HoldsPass (id_of c.args.book.now) d × (d.list.items ≡ []) × IfSome d.pass (λ p. IsWithin c.args.book.now.opening.limit p) × (d.worker < length c.args.pieces.now)) c.as_mut_slice.result.now =
-    all_of_every _ _ (subst (Every (λ d. HoldsPass (id_of c.args.book.now) d × (d.list.items ≡ []) × IfSome d.pass (λ p. IsWithin c.args.book.now.opening.limit p) × (d.worker < length c.args.pieces.now))) (sym c.as_mut_slice.ensures.value) every) in
+    let all : All (λ d. HoldsPass (id_of c.args.book.now) d × IfSome d.pass (λ p. (p.own ≡ []) × IsWithin c.args.book.now.opening.limit p) × (d.worker < length c.args.pieces.now)) c.as_mut_slice.result.now =
+    all_of_every _ _ (subst (Every (λ d. HoldsPass (id_of c.args.book.now) d × IfSome d.pass (λ p. (p.own ≡ []) × IsWithin c.args.book.now.opening.limit p) × (d.worker < length c.args.pieces.now))) (sym c.as_mut_slice.ensures.value) every) in
     grind (serving, all)
 
 pub returns-clause-holds : goal.returns-clause-holds
