@@ -58,7 +58,9 @@ pub fn drive<T: Threads + Wait + Sync, R: Read, W: Write>(
     let pieces = pieces_of(alloc, input, arguments.format, arguments.workers)?;
     let session = open(alloc, &arguments.config)?;
     let run = workers::drive(rt, alloc, session, pieces, &OpenGate);
-    end(alloc, run, out)
+    let written = write_run(alloc, &run, out);
+    drop(run);
+    written
 }
 
 // A list of no call for each worker.
@@ -134,17 +136,4 @@ fn write_run<W: Write>(
             },
         ) => unreachable!(),
     }
-}
-
-// Ends a run so.
-fn end<W: Write>(alloc: Global, run: Result<Driven, DriveFault>, out: &mut W) -> Result<(), Fault>
-    requires { IfErr run IsOfRun }
-    ensures fault { IfErr result IsOfEnd }
-    ensures few { OnOk result (IsOkAnd run (λ driven. length driven.session.kept ≤ driven.session.limit)) }
-    ensures written { OnOk result (IsOkAnd run (λ driven.
-        Appends (W.contents out.old) (W.contents out.new) (journal_of Two driven.session.kept))) }
-{
-    let written = write_run(alloc, &run, out);
-    drop(run);
-    written
 }

@@ -4,7 +4,7 @@ ghost use Rattle.clap.specs.Words.{first_of, found_of, rows_of};
 ghost use Rattle.step_record.specs.Config.{config_fault};
 ghost use Rattle.command_line.specs.Choices.{policies_named as policies_by};
 ghost use Rattle.command_line.specs.Parsed.{IsRunCalled, LacksRun};
-ghost use Rattle.command_line.specs.Program.{batch_in, checked, config_at, config_in, config_of, format_in, number_in};
+ghost use Rattle.command_line.specs.Program.{batch_in, config_at, config_in, format_in, number_in};
 ghost use Rattle.command_line.specs.Program.{policies_in, policy_in, spread_in, up_to as within};
 
 use crate::choices::{format_named, policy_named, spread_named};
@@ -48,24 +48,6 @@ pub struct RunArguments {
     pub format: Format,
 }
 
-// The configuration, where all its numbers are in their ranges.
-fn config(capacity: u32, main_percent: u8, spread: Spread) -> Option<Config>
-    ensures named { result ≡ checked (config_of capacity main_percent spread) }
-    ensures checked { IfSome result (λ config. config_fault config ≡ Ok tt) }
-{
-    let config = Config {
-        capacity,
-        main_percent,
-        spread,
-        stripes: 1,
-        journal_limit: 1_048_576,
-    };
-    match config.check() {
-        Ok(()) => Some(config),
-        Err(_) => None,
-    }
-}
-
 // The number of 32 bits that an option names.
 pub(crate) fn number(matches: &ArgMatches<'_>, id: &str) -> Option<u32>
     ensures { result ≡ number_in 4294967295 id.now (rows_of (found_of matches.now)) }
@@ -95,7 +77,17 @@ pub(crate) fn config_with(matches: &ArgMatches<'_>, capacity: u32) -> Option<Con
     let Some(main_percent) = small_number(matches, "main") else {
         return None;
     };
-    config(capacity, main_percent, spread(matches))
+    let config = Config {
+        capacity,
+        main_percent,
+        spread: spread(matches),
+        stripes: 1,
+        journal_limit: 1_048_576,
+    };
+    match config.check() {
+        Ok(()) => Some(config),
+        Err(_) => None,
+    }
 }
 
 // The configuration that the matches name, its capacity with it, where it is accepted.

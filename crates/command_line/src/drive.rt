@@ -3,7 +3,7 @@ ghost use Rattle.std.specs.Prelude.{◌≡◌, Ok, IfSome, MatchResult};
 ghost use Rattle.clap.specs.Words.{found_of, rows_of};
 ghost use Rattle.step_record.specs.Config.{config_fault};
 ghost use Rattle.command_line.specs.Parsed.{IsDrive, LacksDrive};
-ghost use Rattle.command_line.specs.Program.{concurrent_in, max_number, number_in, stripes_from, stripes_in};
+ghost use Rattle.command_line.specs.Program.{concurrent_in, max_number, number_in, stripes_in};
 ghost use Rattle.command_line.specs.Program.{workers_in};
 
 use crate::arguments::{config_named, format, number, small_number};
@@ -30,24 +30,17 @@ fn wide_number(matches: &ArgMatches<'_>, id: &str) -> Option<u64>
     matches.get_one::<u64>(id)
 }
 
-// The number of read buffers, where it is one of a cache.
-fn buffers(number: u64) -> Option<u8>
-    ensures { result ≡ stripes_from number }
-{
-    if number.is_power_of_two() && number <= u64::from(MAX_STRIPES) {
-        return Some(number as u8);
-    }
-    None
-}
-
-// The number of read buffers that the matches name.
+// The number of read buffers that the matches name, where it is one of a cache.
 pub(crate) fn stripes(matches: &ArgMatches<'_>) -> Option<u8>
     ensures { result ≡ stripes_in (rows_of (found_of matches.now)) }
 {
     let Some(number) = wide_number(matches, "stripes") else {
         return None;
     };
-    buffers(number)
+    if number.is_power_of_two() && number <= u64::from(MAX_STRIPES) {
+        return Some(number as u8);
+    }
+    None
 }
 
 // The configuration of a concurrent cache that the matches name, where it is accepted.

@@ -44,7 +44,7 @@ returns-clause-ok g c =
     let workers = c.args.arguments.now.workers in
     let stripes = ap (λ x. x.config.stripes) (first.same ∙ first.opened.is) in
     let input = g.R.Read.remaining c.args.input.now in
-    on_ok_both c.end.result (λ few done. held c.drive-run.result few done c.drive-run.ensures.run c.drive-run.ensures.legal (λ driven few written run legal. record {
+    on_ok_both c.write_run-written.result (λ few done. held c.drive-run.result few done c.drive-run.ensures.run c.drive-run.ensures.legal (λ driven few written run legal. record {
       faultless = IfSome_then input c.in_ok-pieces.ensures.dealt (λ bytes h. h.0);
       opening = c.in_ok-session.session.opening;
       opened = first.opened;
@@ -54,19 +54,19 @@ returns-clause-ok g c =
           (λ bytes h. subst (λ n. AreOfReads workers n (keys_in c.args.arguments.now.format bytes) driven.session.kept) stripes (reads_walked workers c.in_ok-session.session.engine.config.stripes (keys_in c.args.arguments.now.format bytes) _ c.in_ok-session.session driven.session h.1 first.none run));
       few = subst (λ l. length driven.session.kept ≤ l) (run.limit ∙ c.in_ok-session.ensures.limit) few;
       written = written;
-    })) c.end.ensures.few c.end.ensures.written
+    })) c.write_run-written.ensures.few c.write_run-written.ensures.written
 
 pub returns-clause-kept : goal.returns-clause-kept
-returns-clause-kept g c = IfErr-weaker c.end.result _ _ (λ fault ended before. absurd (late_end fault ended before)) c.end.ensures.fault
+returns-clause-kept g c = IfErr-weaker c.write_run-written.result _ _ (λ fault ended before. absurd (late_end fault ended before)) c.write_run-written.ensures.fault
 
 pub returns-clause-fault : goal.returns-clause-fault
 returns-clause-fault g c =
     let input = g.R.Read.remaining c.args.input.now in
     let read = IfSome_then input c.in_ok-pieces.ensures.dealt (λ bytes h. h.0) in
-    IfErr-weaker c.end.result _ _ (λ fault ended. of_end c.args.arguments.now.format input fault ended read) c.end.ensures.fault
+    IfErr-weaker c.write_run-written.result _ _ (λ fault ended. of_end c.args.arguments.now.format input fault ended read) c.write_run-written.ensures.fault
 
-pub end-requires : goal.end-requires
-end-requires g c =
+pub write_run-written-requires : goal.write_run-written-requires
+write_run-written-requires g c =
     let first = c.in_ok-session.ensures.first in
     let pieces = map (λ p. p.items) c.in_ok-pieces.pieces.items in
     let n : length pieces ≡ c.args.arguments.now.workers = c.in_ok-pieces.ensures.many in
