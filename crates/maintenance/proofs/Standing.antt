@@ -6,9 +6,11 @@ use Rattle.step_record.specs.declared.step.Step.{Step}
 use Rattle.step_record.specs.declared.step.Reply.{Reply}
 use Rattle.step_record.specs.Pace.{words_of_halvings}
 use Rattle.admission.specs.Frequency.{pace_of}
+use Rattle.shell_model.specs.declared.stats.Counted.{Counted}
 use Rattle.shell_model.specs.declared.record.Change.{Change}
 use Rattle.shell_model.specs.declared.record.ShellRecord.{ShellRecord}
 use Rattle.shell_model.specs.Shell.{Shell, act}
+use Rattle.shell_model.specs.ShellStats.{counted_of}
 use Rattle.shell_model.specs.Records.{undone_step, change_of, record_size}
 use Rattle.shell_model.specs.Reached.{IsReachable, ShellFits}
 use Rattle.shell_model.proofs.Reached.{record-law, reached-on}
@@ -22,21 +24,21 @@ stands-after x y s (Err f) h some err = subst IsReachable (sym err) h
 stands-after x y s (Ok r) h some err = reached-on x y s r.0 h some
 
 -- the record that the definition gives is the one that is returned
-same-record : (m : ShellRecord) (r : Reply) (c : Change) → m.reply ≡ r → m.change ≡ c → (let d : ShellRecord = record { reply = r; change = c } in d) ≡ m
-same-record m r c e f =
-    ap (λ (d : Change). let k : ShellRecord = record { reply = r; change = d } in k) (sym f) ∙ ap (λ (q : Reply). let k : ShellRecord = record { reply = q; change = m.change } in k) (sym e)
+same-record : (m : ShellRecord) (n : Counted) (c : Change) → m.counted ≡ n → m.change ≡ c → (let d : ShellRecord = record { counted = n; change = c } in d) ≡ m
+same-record m n c e f =
+    ap (λ (d : Change). let k : ShellRecord = record { counted = n; change = d } in k) (sym f) ∙ ap (λ (q : Counted). let k : ShellRecord = record { counted = q; change = m.change } in k) (sym e)
 
-pub fits-after : (x y : Shell) (s : Step) (o : Answer) → IsReachable x → IfOk o (λ r. act x s ≡ Some (r.0, y)) → IfOk o (λ r. r.1.reply ≡ r.0) → IfOk o (λ r. r.1.change ≡ change_of s.worker s.act x) → IfOk o (λ r. ShellFits r.1 y)
-fits-after x y s (Err f) h some reply change = tt
-fits-after x y s (Ok r) h some reply change =
-    subst (λ (k : ShellRecord). ShellFits k y) (same-record r.1 r.0 (change_of s.worker s.act x) reply change) (record-law x y s r.0 h some).0
+pub fits-after : (x y : Shell) (s : Step) (o : Answer) → IsReachable x → IfOk o (λ r. act x s ≡ Some (r.0, y)) → IfOk o (λ r. r.1.counted ≡ counted_of r.0) → IfOk o (λ r. r.1.change ≡ change_of s.worker s.act x) → IfOk o (λ r. ShellFits r.1 y)
+fits-after x y s (Err f) h some counted change = tt
+fits-after x y s (Ok r) h some counted change =
+    subst (λ (k : ShellRecord). ShellFits k y) (same-record r.1 (counted_of r.0) (change_of s.worker s.act x) counted change) (record-law x y s r.0 h some).0
 
-pub undone-after : (x y : Shell) (s : Step) (o : Answer) → IsReachable x → IfOk o (λ r. act x s ≡ Some (r.0, y)) → IfOk o (λ r. r.1.reply ≡ r.0) → IfOk o (λ r. r.1.change ≡ change_of s.worker s.act x) → IfOk o (λ r. undone_step r.1 y ≡ x)
-undone-after x y s (Err f) h some reply change = tt
-undone-after x y s (Ok r) h some reply change =
-    subst (λ (k : ShellRecord). undone_step k y ≡ x) (same-record r.1 r.0 (change_of s.worker s.act x) reply change) (record-law x y s r.0 h some).1
+pub undone-after : (x y : Shell) (s : Step) (o : Answer) → IsReachable x → IfOk o (λ r. act x s ≡ Some (r.0, y)) → IfOk o (λ r. r.1.counted ≡ counted_of r.0) → IfOk o (λ r. r.1.change ≡ change_of s.worker s.act x) → IfOk o (λ r. undone_step r.1 y ≡ x)
+undone-after x y s (Err f) h some counted change = tt
+undone-after x y s (Ok r) h some counted change =
+    subst (λ (k : ShellRecord). undone_step k y ≡ x) (same-record r.1 (counted_of r.0) (change_of s.worker s.act x) counted change) (record-law x y s r.0 h some).1
 
-pub words-after : (x y : Shell) (s : Step) (o : Answer) → IsReachable x → IfOk o (λ r. act x s ≡ Some (r.0, y)) → IfOk o (λ r. r.1.reply ≡ r.0) → IfOk o (λ r. r.1.change ≡ change_of s.worker s.act x)
+pub words-after : (x y : Shell) (s : Step) (o : Answer) → IsReachable x → IfOk o (λ r. act x s ≡ Some (r.0, y)) → IfOk o (λ r. r.1.counted ≡ counted_of r.0) → IfOk o (λ r. r.1.change ≡ change_of s.worker s.act x)
     → IfOk o (λ r. words_of_halvings (pace_of y.frequency) ≡ words_of_halvings (pace_of (undone_step r.1 y).frequency) + record_size r.1)
-words-after x y s (Err f) h some reply change = tt
-words-after x y s (Ok r) h some reply change = let g : ShellFits r.1 y = fits-after x y s (Ok r) h some reply change in step_weighs r.1 y g.step
+words-after x y s (Err f) h some counted change = tt
+words-after x y s (Ok r) h some counted change = let g : ShellFits r.1 y = fits-after x y s (Ok r) h some counted change in step_weighs r.1 y g.step

@@ -14,6 +14,7 @@ ghost use Rattle.shell_buffers.specs.declared.task.Task.TheVariants as task;
 use crate::key_records::record_key;
 use crate::moves::{clear, hit};
 use crate::shell_core::Core;
+use admission::KeptRecord;
 use replacement::{KeptMoves, Moves};
 use segments::Queue;
 use shell_buffers::Task;
@@ -32,7 +33,7 @@ impl Core {
         let frequency = record_key(&mut self.frequency, item.key)?;
         let moves = hit(&mut self.queues, self.rules.protected, item);
         Ok(UseRecord {
-            frequency,
+            frequency: KeptRecord::of(frequency),
             moves: KeptMoves::of(moves),
         })
     }
@@ -53,7 +54,7 @@ impl Core {
             ..Moves::NONE
         };
         Ok(UseRecord {
-            frequency,
+            frequency: KeptRecord::of(frequency),
             moves: KeptMoves::of(moves),
         })
     }
@@ -67,10 +68,14 @@ impl Core {
         ensures err { OnErr result (self.new ≡ self.old) }
     {
         let used = self.enter_window(item)?;
-        let task = Task::Add(item);
         Ok((
             Reply::Applied { item },
-            Change::Applied { before, task, used },
+            Change::Applied {
+                before,
+                is_new: true,
+                item,
+                used,
+            },
         ))
     }
 
@@ -82,10 +87,14 @@ impl Core {
         ensures err { OnErr result (self.new ≡ self.old) }
     {
         let used = self.touch(item)?;
-        let task = Task::Update(item);
         Ok((
             Reply::Applied { item },
-            Change::Applied { before, task, used },
+            Change::Applied {
+                before,
+                is_new: false,
+                item,
+                used,
+            },
         ))
     }
 

@@ -4,11 +4,11 @@ ghost use Rattle.step_record.specs.declared.limits.TheConstants.{MAX_STEPS};
 ghost use Rattle.step_record.specs.declared.step.Act.TheVariants.{DrainRead, DrainWrite};
 ghost use Rattle.shell_model.specs.Shell.{act_effect, act as acted};
 ghost use Rattle.shell_model.specs.Records.{change_of};
-ghost use Rattle.shell_model.specs.ShellStats.{AreAtMost};
+ghost use Rattle.shell_model.specs.ShellStats.{AreAtMost, counted_of};
 ghost use Rattle.shell_model.specs.Consistent.{IsConsistent};
 
 use crate::shell_core::Core;
-use shell_model::{Change, ShellRecord};
+use shell_model::{Change, Counted, ShellRecord};
 use std::alloc::AllocError;
 use step_record::{Act, MAX_STEPS, Phase, Reply, Step, StepFault, Worker};
 
@@ -105,7 +105,7 @@ impl Core {
         requires counts { AreAtMost MAX_STEPS self.old.stats }
         requires few { self.old.frequency.halvings ≤ MAX_STEPS }
         ensures some { IfOk result (λ r. acted self.old step ≡ Some (r.0, self.new)) }
-        ensures reply { IfOk result (λ r. r.1.reply ≡ r.0) }
+        ensures counted { IfOk result (λ r. r.1.counted ≡ counted_of r.0) }
         ensures change { IfOk result (λ r. r.1.change ≡ change_of step.worker step.act self.old) }
         ensures not_now { result ≡ Err StepFault.NotNow ↔ acted self.old step ≡ None }
         ensures err { OnErr result (self.new ≡ self.old) }
@@ -119,7 +119,8 @@ impl Core {
             Ok(Some((reply, change))) => {
                 self.stats.count(reply);
                 self.applied += 1;
-                Ok((reply, ShellRecord { reply, change }))
+                let counted = Counted::of(reply);
+                Ok((reply, ShellRecord { counted, change }))
             }
         }
     }

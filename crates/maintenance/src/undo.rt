@@ -3,7 +3,7 @@ ghost use Rattle.std.specs.Prelude.{◌≡◌, ◌≢◌, ◌<◌, Some, None, I
 ghost use Rattle.replacement.specs.Moving.{undone_by, FitsBy};
 ghost use Rattle.shell_model.specs.Records.{before_use, FitsTouched, holder_in_phase, holder_with_task, HasLeft};
 ghost use Rattle.shell_model.specs.Records.{before_change, FitsChange, undone_step, FitsStep};
-ghost use Rattle.shell_model.specs.Records.{change_asks, step_asks};
+ghost use Rattle.shell_model.specs.Records.{change_asks, step_asks, written_task as task_of};
 ghost use Rattle.shell_model.specs.Consistent.{IsLeft};
 ghost use Rattle.shell_model.specs.declared.record.Change.TheVariants.{Nothing, Offered, Updated, Added, Removed, Read};
 ghost use Rattle.shell_model.specs.declared.record.Change.TheVariants.{Applied, Cleared, Evicted, Ended};
@@ -23,7 +23,7 @@ impl Core {
     {
         let UseRecord { frequency, moves } = used;
         replacement::undo(&mut self.queues, moves.moves());
-        unrecord_key(&mut self.frequency, frequency);
+        unrecord_key(&mut self.frequency, frequency.into_record());
     }
 
     // The phase as before.
@@ -102,12 +102,12 @@ impl Core {
         self.stripes.untake(stripe, item);
     }
 
-    fn undo_applied(&mut self, before: Phase, task: Task, used: UseRecord)
-        requires { FitsChange (Applied before task used) self.old }
-        ensures { self.new ≡ before_change (Applied before task used) self.old }
+    fn undo_applied(&mut self, before: Phase, is_new: bool, item: Item, used: UseRecord)
+        requires { FitsChange (Applied before is_new item used) self.old }
+        ensures { self.new ≡ before_change (Applied before is_new item used) self.old }
     {
         self.untouch(used);
-        self.writes.untake(task);
+        self.writes.untake(written_task(is_new, item));
         self.refill(before);
     }
 
@@ -173,7 +173,12 @@ impl Core {
             }
             Change::Read { stripe, item, used } => self.undo_read(stripe, item, used),
             Change::Passed { before, now: _ } => self.rephase(before),
-            Change::Applied { before, task, used } => self.undo_applied(before, task, used),
+            Change::Applied {
+                before,
+                is_new,
+                item,
+                used,
+            } => self.undo_applied(before, is_new, item, used),
             Change::Cleared { before, item, out } => {
                 if self.undo_cleared(before, item, out).is_err() {
                     return Err(Change::Cleared { before, item, out });
@@ -205,14 +210,25 @@ impl Core {
         ensures returned { IfErr result (λ r. r ≡ made) }
         ensures asks { OnErr result (step_asks made) }
     {
-        let ShellRecord { reply, change } = made;
+        let ShellRecord { counted, change } = made;
         match self.undo_change(change) {
-            Err(change) => Err(ShellRecord { reply, change }),
+            Err(change) => Err(ShellRecord { counted, change }),
             Ok(()) => {
-                self.stats.uncount(reply);
+                self.stats.uncount(counted);
                 self.applied -= 1;
                 Ok(())
             }
         }
+    }
+}
+
+// The task of an item that was written, by whether it is new in the table.
+fn written_task(is_new: bool, item: Item) -> Task
+    ensures { result ≡ task_of is_new item }
+{
+    if is_new {
+        Task::Add(item)
+    } else {
+        Task::Update(item)
     }
 }

@@ -1,14 +1,16 @@
 -- The record of a step fits what it left, and undoes it.
 use Rattle.std.proofs.Common.{◌≡◌, ℕ, ◌+◌, ◌-◌, ◌≤◌, cond, nat_lt, Option, Some, None, ◌∙◌, refl, arith, inl, inr}
 use Rattle.std.proofs.lemmas.Bool.{cases_Bool}
+use native.Mathlib.Numerals.{unary_clauses}
 use Rattle.step_record.specs.declared.step.Reply.{Reply}
+use Rattle.step_record.specs.declared.step.Reply.TheVariants as reply
 use Rattle.step_record.specs.declared.step.Step.{Step}
 use Rattle.shell_model.specs.declared.stats.ShellStats.{ShellStats}
 use Rattle.shell_model.specs.declared.record.ShellRecord.{ShellRecord}
 use Rattle.shell_model.specs.declared.record.Change.{Change}
 use Rattle.shell_model.specs.declared.record.Change.TheVariants.{Nothing, Offered, Updated, Added, Removed, Requested, Began, Read, Passed, Applied, Cleared, Evicted, Ended}
 use Rattle.shell_model.specs.Shell.{Shell, act_effect, counted_reply, act}
-use Rattle.shell_model.specs.ShellStats.{shell_stats_after, shell_stats_before, IsReplyCounted, is_hit_reply, is_miss_reply, is_kept_reply, is_full_reply, is_lost_reply, is_added_reply, is_updated_reply, is_refused_reply, is_eviction_reply, is_rejection_reply, is_begun_reply, is_busy_reply, is_removed_reply}
+use Rattle.shell_model.specs.ShellStats.{shell_stats_after, shell_stats_before, counted_of, IsCounted, is_hit_reply, is_miss_reply, is_kept_reply, is_full_reply, is_lost_reply, is_added_reply, is_updated_reply, is_refused_reply, is_eviction_reply, is_rejection_reply, is_begun_reply, is_busy_reply, is_removed_reply}
 use Rattle.step_record.specs.Stats.{one_if}
 use Rattle.shell_model.specs.Records.{before_change, FitsChange, undone_step, FitsStep, change_of}
 use Rattle.shell_model.specs.Consistent.{IsConsistent}
@@ -17,8 +19,32 @@ use Rattle.shell_model.proofs.Undoing.{GoesTo, perform-goes}
 plus-less : (a b : ℕ) → a + b - b ≡ a
 plus-less a b = omega arith
 
-pub uncounted-counted : (r : Reply) (s : ShellStats) → shell_stats_before r (shell_stats_after r s) ≡ s
-uncounted-counted r s =
+-- what the reply added is taken away again
+stats-less : Reply → ShellStats → ShellStats
+stats-less r s = record {
+  hits = s.hits - one_if (is_hit_reply r);
+  misses = s.misses - one_if (is_miss_reply r);
+  kept = s.kept - one_if (is_kept_reply r);
+  full = s.full - one_if (is_full_reply r);
+  lost = s.lost - one_if (is_lost_reply r);
+  added = s.added - one_if (is_added_reply r);
+  updated = s.updated - one_if (is_updated_reply r);
+  refused = s.refused - one_if (is_refused_reply r);
+  evictions = s.evictions - one_if (is_eviction_reply r);
+  rejections = s.rejections - one_if (is_rejection_reply r);
+  begun = s.begun - one_if (is_begun_reply r);
+  busy = s.busy - one_if (is_busy_reply r);
+  removed = s.removed - one_if (is_removed_reply r);
+}
+
+by-count : (r : Reply) (s : ShellStats) → shell_stats_before (counted_of r) s ≡ stats-less r s
+unfolding stats-less
+by-count (reply.Hit n) s = simp unary_clauses
+by-count _ s = simp unary_clauses
+
+uncounted-less : (r : Reply) (s : ShellStats) → stats-less r (shell_stats_after r s) ≡ s
+unfolding stats-less
+uncounted-less r s =
     rw (
       plus-less s.hits (one_if (is_hit_reply r)),
       plus-less s.misses (one_if (is_miss_reply r)),
@@ -35,25 +61,24 @@ uncounted-counted r s =
       plus-less s.removed (one_if (is_removed_reply r)),
     ) refl
 
-more : (a b : ℕ) → b ≤ a + b
-more a b = omega arith
+pub uncounted-counted : (r : Reply) (s : ShellStats) → shell_stats_before (counted_of r) (shell_stats_after r s) ≡ s
+uncounted-counted r s = by-count r (shell_stats_after r s) ∙ uncounted-less r s
 
-pub counted-fits : (r : Reply) (s : ShellStats) → IsReplyCounted r (shell_stats_after r s)
-counted-fits r s = record {
-  hits = more _ _;
-  misses = more _ _;
-  kept = more _ _;
-  full = more _ _;
-  lost = more _ _;
-  added = more _ _;
-  updated = more _ _;
-  refused = more _ _;
-  evictions = more _ _;
-  rejections = more _ _;
-  begun = more _ _;
-  busy = more _ _;
-  removed = more _ _;
-}
+pub counted-fits : (r : Reply) (s : ShellStats) → IsCounted (counted_of r) (shell_stats_after r s)
+counted-fits (reply.Rejected i) s = (omega arith, omega arith)
+counted-fits (reply.Hit n) s = omega arith
+counted-fits reply.Miss s = omega arith
+counted-fits reply.Kept s = omega arith
+counted-fits reply.Full s = omega arith
+counted-fits reply.Lost s = omega arith
+counted-fits (reply.Added n) s = omega arith
+counted-fits (reply.Present n) s = omega arith
+counted-fits reply.WritesFull s = omega arith
+counted-fits (reply.Removed n) s = omega arith
+counted-fits (reply.Evicted i) s = omega arith
+counted-fits reply.Began s = omega arith
+counted-fits reply.Busy s = omega arith
+counted-fits _ s = tt
 
 tallied-fits : (c : Change) (y : Shell) (s : ShellStats) (n : ℕ) → FitsChange c y → FitsChange c record y { stats = s; applied = n }
 tallied-fits Nothing y s n h = tt
@@ -65,7 +90,7 @@ tallied-fits (Requested b c) y s n h = h
 tallied-fits (Began w b) y s n h = h
 tallied-fits (Read k i t) y s n h = (record { moves = h.0.moves; frequency = h.0.frequency; stays = h.0.stays }, h.1, h.2)
 tallied-fits (Passed b c) y s n h = h
-tallied-fits (Applied b k t) y s n h = (record { moves = h.0.moves; frequency = h.0.frequency; stays = h.0.stays }, h.1, h.2, h.3)
+tallied-fits (Applied b q i t) y s n h = (record { moves = h.0.moves; frequency = h.0.frequency; stays = h.0.stays }, h.1, h.2, h.3)
 tallied-fits (Cleared b i r) y s n h = h
 tallied-fits (Evicted b g) y s n h = (record { moves = h.0.moves; table = h.0.table }, h.1)
 tallied-fits (Ended k b c) y s n h = h
@@ -80,7 +105,7 @@ tallied-back (Requested b c) y s n = refl
 tallied-back (Began w b) y s n = refl
 tallied-back (Read k i t) y s n = refl
 tallied-back (Passed b c) y s n = refl
-tallied-back (Applied b k t) y s n = refl
+tallied-back (Applied b q i t) y s n = refl
 tallied-back (Cleared b i r) y s n = refl
 tallied-back (Evicted b g) y s n = refl
 tallied-back (Ended k b c) y s n = refl
@@ -95,14 +120,14 @@ same-tally (Requested b c) y = refl
 same-tally (Began w b) y = refl
 same-tally (Read k i t) y = refl
 same-tally (Passed b c) y = refl
-same-tally (Applied b k t) y = refl
+same-tally (Applied b q i t) y = refl
 same-tally (Cleared b i r) y = refl
 same-tally (Evicted b g) y = refl
 same-tally (Ended k b c) y = refl
 
 abbrev pub IsUndone : Change → Shell → Option (Reply × Shell) → Type 0
 IsUndone c x None = Unit {0}
-IsUndone c x (Some p) = let r : ShellRecord = record { reply = p.0; change = c } in FitsStep r p.1 × (undone_step r p.1 ≡ x)
+IsUndone c x (Some p) = let r : ShellRecord = record { counted = counted_of p.0; change = c } in FitsStep r p.1 × (undone_step r p.1 ≡ x)
 
 tallied-undone : (c : Change) (x : Shell) (p : Option (Reply × Shell)) → GoesTo c x p → IsUndone c x (counted_reply p)
 tallied-undone c x None g = tt

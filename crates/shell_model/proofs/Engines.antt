@@ -79,7 +79,7 @@ key-weighs f r h = weight_falls f r h
 
 change-weighs : (c : Change) (x : Shell) → FitsChange c x → words_of_halvings (pace_of x.frequency) ≡ words_of_halvings (pace_of (before_change c x).frequency) + change_size c
 change-weighs (Read s i u) x h = key-weighs x.frequency u.frequency h.0.frequency
-change-weighs (Applied p t u) x h = key-weighs x.frequency u.frequency h.0.frequency
+change-weighs (Applied p n i u) x h = key-weighs x.frequency u.frequency h.0.frequency
 change-weighs Nothing x h = omega arith
 change-weighs c x h = omega arith
 

@@ -30,7 +30,7 @@ use Rattle.shell_model.specs.declared.record.Change.{Change}
 use Rattle.shell_model.specs.declared.record.Change.TheVariants.{Nothing, Offered, Updated, Added, Removed, Requested}
 use Rattle.shell_model.specs.declared.record.Change.TheVariants.{Began, Read, Passed, Applied, Cleared, Evicted, Ended}
 use Rattle.shell_model.specs.Frequency.{shell_frequency_record, frequency_unrecorded, FitsFrequency, admits}
-use Rattle.shell_model.specs.ShellStats.{shell_stats_before, IsReplyCounted}
+use Rattle.shell_model.specs.ShellStats.{shell_stats_before, IsCounted}
 use Rattle.shell_buffers.specs.Buffers.{stripe_at, all_but_newest}
 use Rattle.shell_model.specs.Shell.{Shell, node_of, table_with, is_listed, shell_protected_size, after_write, is_over}
 use Rattle.shell_model.specs.Shell.{drain_at_end}
@@ -98,6 +98,11 @@ pub record FitsEviction (g : EvictionRecord) (x : Shell) : Type 0 where
 
 -- changes
 
+-- the task of an item that was written, by whether it is new in the table
+abbrev pub written_task : Bool → Item → Task
+written_task true i = Add i
+written_task false i = Update i
+
 abbrev pub before_change : Change → Shell → Shell
 before_change Nothing x = x
 before_change (Offered s i) x = record x { stripes = set x.stripes s (all_but_newest (stripe_at s x.stripes)) }
@@ -112,8 +117,8 @@ before_change (Requested before now) x = record x { drain = before }
 before_change (Began w before) x = record x { drain = before; holder = None }
 before_change (Read s i t) x = let y = before_use t x in record y { stripes = set x.stripes s (i ∷ stripe_at s x.stripes) }
 before_change (Passed before now) x = record x { holder = holder_in_phase before x.holder }
-before_change (Applied before task t) x =
-    let y = before_use t x in record y { writes = task ∷ x.writes; holder = holder_with_task before x.holder }
+before_change (Applied before is_new i t) x =
+    let y = before_use t x in record y { writes = written_task is_new i ∷ x.writes; holder = holder_with_task before x.holder }
 before_change (Cleared before i r) x =
     record x { queues = undone_by r x.queues; writes = Remove i ∷ x.writes; holder = holder_with_task before x.holder }
 before_change (Evicted before g) x = let y = unevicted g x in record y { holder = holder_in_phase before x.holder }
@@ -130,7 +135,7 @@ FitsChange (Began w before) x =
     (x.drain ≡ ToIdle) × (x.holder ≡ Some record { worker = w; phase = Reads; left = MAX_TASKS })
 FitsChange (Read s i t) x = FitsTouched t x × (s < length x.stripes) × (length (stripe_at s x.stripes) < MAX_ITEMS)
 FitsChange (Passed before now) x = IsInPhase now x.holder
-FitsChange (Applied before task t) x =
+FitsChange (Applied before is_new i t) x =
     FitsTouched t x × (length x.writes < MAX_TASKS) × IsInPhase Writes x.holder × HasLeft x.holder
 FitsChange (Cleared before i r) x =
     FitsBy r x.queues × (length x.writes < MAX_TASKS) × IsInPhase Writes x.holder × HasLeft x.holder
@@ -139,10 +144,10 @@ FitsChange (Ended h before now) x = (x.drain ≡ now) × (x.holder ≡ None)
 
 abbrev pub undone_step : ShellRecord → Shell → Shell
 undone_step r x =
-    let y = before_change r.change x in record y { stats = shell_stats_before r.reply x.stats; applied = x.applied - 1 }
+    let y = before_change r.change x in record y { stats = shell_stats_before r.counted x.stats; applied = x.applied - 1 }
 
 pub record FitsStep (r : ShellRecord) (x : Shell) : Type 0 where
-  pub stats : IsReplyCounted r.reply x.stats
+  pub stats : IsCounted r.counted x.stats
   pub applied : 1 ≤ x.applied
   pub change : FitsChange r.change x
 
@@ -178,8 +183,8 @@ cleared_of i None q = None
 cleared_of i (Some p) q = Some (move_record i None q)
 
 abbrev pub task_change : Phase → Task → Shell → Change
-task_change before (Add i) x = Applied before (Add i) (added_of i x)
-task_change before (Update i) x = Applied before (Update i) (touched_of i x)
+task_change before (Add i) x = Applied before true i (added_of i x)
+task_change before (Update i) x = Applied before false i (touched_of i x)
 task_change before (Remove i) x = Cleared before i (cleared_of i (queue_holding i x.queues) x.queues)
 
 abbrev pub put_change : ℕ → Option ℕ → Shell → Change
@@ -243,7 +248,7 @@ change_of w a.End x = cond (is_over x) Nothing (if_held (λ h. Ended h x.drain (
 
 abbrev pub change_size : Change → ℕ
 change_size (Read s i u) = size_of u.frequency
-change_size (Applied before task u) = size_of u.frequency
+change_size (Applied before is_new i u) = size_of u.frequency
 change_size c = 0
 
 abbrev pub record_size : ShellRecord → ℕ

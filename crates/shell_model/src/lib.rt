@@ -9,4 +9,4 @@ pub mod theorems;
 
 pub use holder::Holder;
 pub use record::{Change, EvictionRecord, ShellRecord, UseRecord};
-pub use stats::ShellStats;
+pub use stats::{Counted, ShellStats};

@@ -1,16 +1,16 @@
 //! The undo record of a step.
 use crate::holder::Holder;
-use admission::FreqRecord;
+use crate::stats::Counted;
+use admission::KeptRecord;
 use replacement::KeptMoves;
 use segments::MoveRecord;
-use shell_buffers::Task;
-use step_record::{Drain, Item, Phase, Reply, Worker};
+use step_record::{Drain, Item, Phase, Worker};
 
 /// A key that was recorded, and the moves that came with it: where its item went, and what that pushed out of
 /// protected.
 #[derive(Drop)]
 pub struct UseRecord {
-    pub frequency: FreqRecord,
+    pub frequency: KeptRecord,
     pub moves: KeptMoves,
 }
 
@@ -64,10 +64,11 @@ pub enum Change {
         before: Phase,
         now: Phase,
     },
-    /// A task of an addition or an update was applied.
+    /// A task of an addition, where it is new, or of an update was applied.
     Applied {
         before: Phase,
-        task: Task,
+        is_new: bool,
+        item: Item,
         used: UseRecord,
     },
     /// A task of a removal was applied.
@@ -89,10 +90,10 @@ pub enum Change {
     },
 }
 
-/// The undo record of a step: its reply, which the statistics counted, and what else it changed. It holds no list but
-/// that of a halving of the frequency.
+/// The undo record of a step: which count its reply raised, and what else it changed. It holds no list but that of a
+/// halving of the frequency.
 #[derive(Drop)]
 pub struct ShellRecord {
-    pub reply: Reply,
+    pub counted: Counted,
     pub change: Change,
 }

@@ -1,7 +1,7 @@
 //! What a shell counts.
 ghost use Rattle.std.specs.Prelude.{◌≡◌};
 ghost use Rattle.step_record.specs.declared.limits.TheConstants.{MAX_STEPS};
-ghost use Rattle.shell_model.specs.ShellStats.{shell_stats_after, shell_stats_before, IsReplyCounted, AreAtMost};
+ghost use Rattle.shell_model.specs.ShellStats.{shell_stats_after, shell_stats_before, counted_of, IsCounted, AreAtMost};
 
 use step_record::Reply;
 
@@ -83,32 +83,93 @@ impl ShellStats {
         }
     }
 
-    /// Takes the last reply back, which was counted.
-    pub fn uncount(&mut self, reply: Reply)
-        requires { IsReplyCounted reply self.old }
-        ensures { self.new ≡ shell_stats_before reply self.old }
+    /// Takes back the count that the last reply raised.
+    pub fn uncount(&mut self, counted: Counted)
+        requires { IsCounted counted self.old }
+        ensures { self.new ≡ shell_stats_before counted self.old }
     {
-        match reply {
-            Reply::Hit { .. } => self.hits -= 1,
-            Reply::Miss => self.misses -= 1,
-            Reply::Kept => self.kept -= 1,
-            Reply::Full => self.full -= 1,
-            Reply::Lost => self.lost -= 1,
-            Reply::Added { .. } => self.added -= 1,
-            Reply::Present { .. } => self.updated -= 1,
-            Reply::WritesFull => self.refused -= 1,
-            Reply::Removed { .. } => self.removed -= 1,
-            Reply::Evicted { .. } => self.evictions -= 1,
-            Reply::Rejected { .. } => {
+        match counted {
+            Counted::Nothing => {}
+            Counted::Hit => self.hits -= 1,
+            Counted::Miss => self.misses -= 1,
+            Counted::Kept => self.kept -= 1,
+            Counted::Full => self.full -= 1,
+            Counted::Lost => self.lost -= 1,
+            Counted::Added => self.added -= 1,
+            Counted::Updated => self.updated -= 1,
+            Counted::Refused => self.refused -= 1,
+            Counted::Removed => self.removed -= 1,
+            Counted::Evicted => self.evictions -= 1,
+            Counted::Rejected => {
                 self.evictions -= 1;
                 self.rejections -= 1;
             }
-            Reply::Began => self.begun -= 1,
-            Reply::Busy => self.busy -= 1,
-            Reply::Absent | Reply::Go | Reply::Drain | Reply::Empty | Reply::Enough => {}
-            Reply::Drained { .. } | Reply::Applied { .. } | Reply::Cleared { .. } => {}
-            Reply::Shifted { .. } | Reply::Fits => {}
-            Reply::Idle | Reply::Again | Reply::NotYet => {}
+            Counted::Began => self.begun -= 1,
+            Counted::Busy => self.busy -= 1,
+        }
+    }
+}
+
+/// Which count a reply raises: all that it takes to take it back.
+#[derive(Clone, Copy, Debug, PartialEq, Eq)]
+pub enum Counted {
+    /// None.
+    Nothing,
+    /// That of the hits.
+    Hit,
+    /// That of the misses.
+    Miss,
+    /// That of the offers kept.
+    Kept,
+    /// That of the offers dropped because the read buffer was full.
+    Full,
+    /// That of the offers dropped because the read buffer was contended.
+    Lost,
+    /// That of the keys added.
+    Added,
+    /// That of the keys updated.
+    Updated,
+    /// That of the puts and removals refused.
+    Refused,
+    /// That of the keys removed.
+    Removed,
+    /// That of the evictions.
+    Evicted,
+    /// Those of the evictions and of the rejections.
+    Rejected,
+    /// That of the maintenances begun.
+    Began,
+    /// That of the attempts to begin while another worker held the maintenance.
+    Busy,
+}
+
+impl Counted {
+    /// The count that a reply raises.
+    pub fn of(reply: Reply) -> Counted
+        ensures { result ≡ counted_of reply }
+    {
+        match reply {
+            Reply::Hit { .. } => Counted::Hit,
+            Reply::Miss => Counted::Miss,
+            Reply::Kept => Counted::Kept,
+            Reply::Full => Counted::Full,
+            Reply::Lost => Counted::Lost,
+            Reply::Added { .. } => Counted::Added,
+            Reply::Present { .. } => Counted::Updated,
+            Reply::WritesFull => Counted::Refused,
+            Reply::Removed { .. } => Counted::Removed,
+            Reply::Evicted { .. } => Counted::Evicted,
+            Reply::Rejected { .. } => Counted::Rejected,
+            Reply::Began => Counted::Began,
+            Reply::Busy => Counted::Busy,
+            Reply::Absent | Reply::Go | Reply::Drain | Reply::Empty | Reply::Enough => {
+                Counted::Nothing
+            }
+            Reply::Drained { .. } | Reply::Applied { .. } | Reply::Cleared { .. } => {
+                Counted::Nothing
+            }
+            Reply::Shifted { .. } | Reply::Fits => Counted::Nothing,
+            Reply::Idle | Reply::Again | Reply::NotYet => Counted::Nothing,
         }
     }
 }

@@ -20,10 +20,10 @@ pub invariant_of-self : goal.invariant_of-self
 invariant_of-self c = stands-after c.self.inside.core _ c.args.step.now _ c.self.invariant c.apply.ensures.some c.apply.ensures.err
 
 pub returns-clause-fits : goal.returns-clause-fits
-returns-clause-fits c = fits-after c.self.inside.core _ c.args.step.now _ c.self.invariant c.apply.ensures.some c.apply.ensures.reply c.apply.ensures.change
+returns-clause-fits c = fits-after c.self.inside.core _ c.args.step.now _ c.self.invariant c.apply.ensures.some c.apply.ensures.counted c.apply.ensures.change
 
 pub returns-clause-undone : goal.returns-clause-undone
-returns-clause-undone c = rw (← c.self.view_is) (undone-after c.self.inside.core _ c.args.step.now _ c.self.invariant c.apply.ensures.some c.apply.ensures.reply c.apply.ensures.change)
+returns-clause-undone c = rw (← c.self.view_is) (undone-after c.self.inside.core _ c.args.step.now _ c.self.invariant c.apply.ensures.some c.apply.ensures.counted c.apply.ensures.change)
 
 pub returns-clause-words : goal.returns-clause-words
-returns-clause-words c = words-after c.self.inside.core _ c.args.step.now _ c.self.invariant c.apply.ensures.some c.apply.ensures.reply c.apply.ensures.change
+returns-clause-words c = words-after c.self.inside.core _ c.args.step.now _ c.self.invariant c.apply.ensures.some c.apply.ensures.counted c.apply.ensures.change
