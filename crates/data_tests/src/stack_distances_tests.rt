@@ -1,11 +1,11 @@
-//! Curves beside caches of Lru that make the accesses one by one.
+//! Curves and passes over the reuses, beside caches of Lru that make the accesses one by one.
 ghost use Rattle.std.specs.Prelude.{◌≡◌, ◌≤◌, Ok, length};
 ghost use Rattle.step_record.specs.Config.{config_fault};
 
 use super::assertions::assert_equal;
 use super::optimal_tests::PLAIN;
 use policies::AnyPolicy;
-use stack_distances::Curve;
+use stack_distances::{Curve, Reuses};
 use std::alloc::{AllocError, Global};
 use std::process::Abort;
 use std::test::Fail;
@@ -25,14 +25,16 @@ fn one_by_one(rt: &impl Abort, alloc: Global, capacity: u32, trace: &Trace) -> R
     Ok(cache.stats())
 }
 
-// Compares the curve of the accesses with the caches at each capacity below `end`.
+// Compares the curve and the reuses of the accesses with the caches at each capacity below `end`.
 fn compare(rt: &impl Abort, alloc: Global, keys: Vec<Key>, end: u32) -> Result<(), Fail> {
     assert!(rt; keys.len() <= 4_096);
     let trace = Trace::new(keys);
     let curve = Curve::of_trace(alloc, &trace)?;
+    let reuses = Reuses::of_trace(alloc, &trace)?;
     for capacity in 1..end {
         let wanted = one_by_one(rt, alloc, capacity, &trace)?;
         assert_equal(rt, curve.stats(capacity), wanted);
+        assert_equal(rt, reuses.stats(capacity), wanted);
     }
     Ok(())
 }
@@ -61,21 +63,54 @@ fn an_empty_trace_has_no_hits(rt: HostRuntime) -> Result<(), Fail> {
 }
 
 #[test]
-fn the_hits_of_a_short_trace(rt: HostRuntime) -> Result<(), Fail> {
-    // The distances: none, none, none, 3, 2, 3, 1.
-    let mut keys = Vec::new(rt.alloc());
+fn an_empty_trace_has_no_reuses(rt: HostRuntime) -> Result<(), Fail> {
+    let trace = Trace::new(Vec::new(rt.alloc()));
+    let reuses = Reuses::of_trace(rt.alloc(), &trace)?;
+    assert_equal(&rt, reuses.stats(1), Stats::NONE);
+    assert_equal(&rt, reuses.stats(1 << 20), Stats::NONE);
+    Ok(())
+}
+
+// A trace of seven accesses, whose distances are none, none, none, 3, 2, 3, 1.
+fn short_trace(rt: &impl Abort, alloc: Global) -> Result<Trace, AllocError> {
+    let mut keys = Vec::new(alloc);
     for key in [7u64, 8, 9, 7, 9, 8, 8] {
         keys.push(key)?;
     }
     assert!(rt; keys.len() <= 7);
-    let trace = Trace::new(keys);
+    Ok(Trace::new(keys))
+}
+
+// What Lru counts of them at some capacities: hits, misses and evictions.
+const SHORT_COUNTS: [(u32, u64, u64, u64); 4] = [
+    (1, 1, 6, 5),
+    (2, 2, 5, 3),
+    (3, 4, 3, 0),
+    (9, 4, 3, 0),
+];
+
+#[test]
+fn the_reuses_of_a_short_trace(rt: HostRuntime) -> Result<(), Fail> {
+    let trace = short_trace(&rt, rt.alloc())?;
+    let reuses = Reuses::of_trace(rt.alloc(), &trace)?;
+    for (capacity, hits, misses, evictions) in SHORT_COUNTS {
+        assert!(rt; capacity >= 1);
+        let stats = reuses.stats(capacity);
+        assert_equal(&rt, (stats.accesses, stats.rejections), (7, 0));
+        assert_equal(
+            &rt,
+            (stats.hits, stats.misses, stats.evictions),
+            (hits, misses, evictions),
+        );
+    }
+    Ok(())
+}
+
+#[test]
+fn the_hits_of_a_short_trace(rt: HostRuntime) -> Result<(), Fail> {
+    let trace = short_trace(&rt, rt.alloc())?;
     let curve = Curve::of_trace(rt.alloc(), &trace)?;
-    for (capacity, hits, misses, evictions) in [
-        (1u32, 1u64, 6u64, 5u64),
-        (2, 2, 5, 3),
-        (3, 4, 3, 0),
-        (9, 4, 3, 0),
-    ] {
+    for (capacity, hits, misses, evictions) in SHORT_COUNTS {
         assert!(rt; capacity >= 1);
         let stats = curve.stats(capacity);
         assert_equal(&rt, (stats.accesses, stats.rejections), (7, 0));

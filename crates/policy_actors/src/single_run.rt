@@ -11,7 +11,7 @@ use clairvoyant::NextUse;
 use job_checks::ActorFault;
 use policies::AnyPolicy;
 use report::Report;
-use stack_distances::Curve;
+use stack_distances::{Curve, Reuses};
 use std::alloc::{AllocError, Global};
 use step_record::{Gate, Job, OpenGate, Policy, Trace};
 
@@ -22,32 +22,45 @@ pub fn run_one(alloc: Global, trace: &Trace, job: &Job) -> Result<Report, ActorF
     ensures report { IfOk result (λ r. r ≡ report_on job.now trace.now) }
     ensures fault { ReturnsFault (faulty_in (job.now ∷ [])) result }
 {
-    let input = Input::new(trace, None, None);
+    let input = Input::new(trace, None, None, None);
     run_over(alloc, &input, job, &OpenGate)
 }
 
-/// A trace, with what was found of it beforehand: the next uses of its keys, and the curve of Lru.
+/// A trace, with what was found of it beforehand: the next uses of its keys, and for Lru the reuses or the curve.
 #[derive(Drop)]
 pub struct Input<'a> {
     pub trace: &'a Trace,
     pub uses: Option<&'a NextUse>,
+    pub reuses: Option<&'a Reuses<'a>>,
     pub curve: Option<&'a Curve>,
     pub ghost known: { IfSome uses (λ u. u.now ≡ trace.now) } by { Prim.hlevel props },
+    pub ghost noted: { IfSome reuses (λ r. r.now ≡ trace.now) } by { Prim.hlevel props },
     pub ghost found: { IfSome curve (λ c. c.now ≡ curve_of trace.now) } by { Prim.hlevel props },
 }
 
 impl<'a> Input<'a> {
-    pub fn new(trace: &'a Trace, uses: Option<&'a NextUse>, curve: Option<&'a Curve>) -> Input<'a>
+    pub fn new(
+        trace: &'a Trace,
+        uses: Option<&'a NextUse>,
+        reuses: Option<&'a Reuses<'a>>,
+        curve: Option<&'a Curve>,
+    ) -> Input<'a>
         requires known { IfSome uses (λ u. u.now ≡ trace.now) }
+        requires noted { IfSome reuses (λ r. r.now ≡ trace.now) }
         requires found { IfSome curve (λ c. c.now ≡ curve_of trace.now) }
         ensures { result.trace.now ≡ trace.now }
     {
-        Input { trace, uses, curve }
+        Input {
+            trace,
+            uses,
+            reuses,
+            curve,
+        }
     }
 }
 
 /// The report of a job over the input. The gate is called before and after each batch of `MAX_BATCH` accesses, unless
-/// the report is read off the curve. Errors: those of `run_one`.
+/// the report is made from the reuses or the curve. Errors: those of `run_one`.
 pub fn run_over<G: Gate>(
     alloc: Global,
     input: &Input<'_>,
@@ -79,6 +92,11 @@ fn run_checked<G: Gate>(
     {
         return Ok(read_report(curve, job));
     }
+    if job.policy == Policy::Lru
+        && let Some(reuses) = input.reuses
+    {
+        return Ok(window_report(reuses, job));
+    }
     let trace = input.trace;
     let mut cache = AnyPolicy::open_with(alloc, job, trace, input.uses)?;
     access_in_batches(&mut cache, trace.keys(), gate)?;
@@ -92,4 +110,13 @@ fn read_report(curve: &Curve, job: &Job) -> Report
     ensures { (trace : List ℕ) → curve.now ≡ curve_of trace → result ≡ report_on job.now trace }
 {
     Report::of(job, curve.stats(job.config.capacity))
+}
+
+// The report of a job of Lru, from the reuses of the trace.
+fn window_report(reuses: &Reuses<'_>, job: &Job) -> Report
+    requires lru { job.now.policy ≡ Policy.Lru }
+    requires checked { config_fault job.now.config ≡ Ok tt }
+    ensures { result ≡ report_on job.now reuses.now }
+{
+    Report::of(job, reuses.stats(job.config.capacity))
 }

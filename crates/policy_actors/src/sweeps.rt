@@ -11,14 +11,14 @@ use clairvoyant::NextUse;
 use job_checks::{ActorFault, check_capacities, with_capacity};
 use rayon::prelude::*;
 use report::Report;
-use stack_distances::Curve;
+use stack_distances::{Curve, Reuses};
 use std::alloc::{AllocError, Global};
 use std::thread::Threads;
 use step_record::{Gate, Job, MAX_BATCH, OpenGate, Policy, Trace};
 
 // From so many capacities on, the reports of Lru are read off the curve of the trace. Finding the curve takes the
-// processor as long as some three runs; but runs go side by side, so on four threads it is there before sixteen are.
-const READ_FROM: usize = 16;
+// processor as long as finding the reuses and passing over them at some thirty capacities.
+const READ_FROM: usize = 32;
 
 /// The reports of the job at each capacity, in the order of the capacities; `rayon` runs them side by side where there
 /// are threads. The next uses that Belady's policy goes by are found once.
@@ -41,9 +41,9 @@ pub fn sweep<R: Threads + Sync>(
 
 /// The reports of each job at each capacity: those of the first job in the order of the capacities, then those of the
 /// second, and so on. `rayon` runs them side by side where there are threads. What several of them go by is found once:
-/// the next uses for Belady's policy, and for many capacities of Lru the curve of the trace.
+/// the next uses for Belady's policy, and for Lru the reuses of the trace, or for many capacities its curve.
 ///
-/// The gate is called before and after each batch of `MAX_BATCH` accesses of a report that is not read off that curve, on
+/// The gate is called before and after each batch of `MAX_BATCH` accesses of a report of another policy than Lru, on
 /// the thread that makes them, as worker 0, with the batch's number.
 ///
 /// Errors: `Actors` for more than `MAX_ACTORS` jobs, `Config` with the index of the first capacity with which
@@ -75,7 +75,7 @@ pub fn sweep_batches(trace: &Trace, jobs: &[Job], capacities: &[u32]) -> u64 {
     let each = trace.len().div_ceil(MAX_BATCH as usize);
     let mut reports = 0usize;
     for job in jobs {
-        if job.policy != Policy::Lru || !is_worth_a_curve(capacities) {
+        if job.policy != Policy::Lru {
             reports = reports.saturating_add(capacities.len());
         }
     }
@@ -95,8 +95,9 @@ fn reports<R: Threads + Sync, G: Gate>(
         v.items ≡ map (λ j. report_on j trace.now) (jobs_over jobs.now capacities.now)) }
 {
     let uses = next_uses(alloc, trace, jobs)?;
+    let reuses = reuses(alloc, trace, jobs, capacities)?;
     let curve = curve(alloc, trace, jobs, capacities)?;
-    let input = Input::new(trace, uses.as_ref(), curve.as_ref());
+    let input = Input::new(trace, uses.as_ref(), reuses.as_ref(), curve.as_ref());
     run_rows(rt, alloc, &input, jobs, capacities, gate)
 }
 
@@ -109,6 +110,22 @@ fn next_uses(alloc: Global, trace: &Trace, jobs: &[Job]) -> Result<Option<NextUs
     }
     let uses = NextUse::build(alloc, trace)?;
     Ok(Some(uses))
+}
+
+// The reuses of the trace, where the reports of a job are to be made from them.
+fn reuses<'a>(
+    alloc: Global,
+    trace: &'a Trace,
+    jobs: &[Job],
+    capacities: &[u32],
+) -> Result<Option<Reuses<'a>>, AllocError>
+    ensures { IfOk result (λ reuses. IfSome reuses (λ r. r ≡ trace.now)) }
+{
+    if is_worth_a_curve(capacities) || !names(jobs, Policy::Lru) {
+        return Ok(None);
+    }
+    let reuses = Reuses::of_trace(alloc, trace)?;
+    Ok(Some(reuses))
 }
 
 // The curve of the trace, where the reports of a job are to be read off it.

@@ -31,7 +31,7 @@ last-none k (a ∷ xs) h =
 unsome : (a b : ℕ) → Some a ≡ Some b → a ≡ b
 unsome a b h = cc h
 
-further-some : (b : Bool) (o : Option ℕ) (p : ℕ) → one_further b o ≡ Some p → ((q : ℕ) × (o ≡ Some q) × (p ≡ suc q)) ⊎ ((o ≡ None) × (b ≡ true) × (p ≡ 0))
+pub further-some : (b : Bool) (o : Option ℕ) (p : ℕ) → one_further b o ≡ Some p → ((q : ℕ) × (o ≡ Some q) × (p ≡ suc q)) ⊎ ((o ≡ None) × (b ≡ true) × (p ≡ 0))
 further-some true None p h = inr (refl, refl, sym (unsome 0 p h))
 further-some false None p h = absurd (cc h)
 further-some b (Some q) p h = inl (q, refl, sym (unsome (suc q) p h))
@@ -191,7 +191,7 @@ pub distances-long : (past xs : List ℕ) → length (distances_after past xs) �
 distances-long past [] = refl
 distances-long past (a ∷ xs) = ap suc (distances-long (past ++ a ∷ []) xs)
 
-count-snoc : (p : Option ℕ → Bool) (xs : List ℕ) (k : ℕ) → count_by p (distances (xs ++ k ∷ [])) ≡ count_by p (distances xs) + cond (p (distance xs k)) 1 0
+pub count-snoc : (p : Option ℕ → Bool) (xs : List ℕ) (k : ℕ) → count_by p (distances (xs ++ k ∷ [])) ≡ count_by p (distances xs) + cond (p (distance xs k)) 1 0
 count-snoc p xs k = ap (λ (ds : List (Option ℕ)). count_by p ds) (distances-snoc xs k) ∙ sum_by_push (λ x. cond (p x) 1 0) (distances xs) (distance xs k)
 
 distance-none : (xs : List ℕ) (k : ℕ) → has_key k xs ≡ false → distance xs k ≡ None

@@ -5,3 +5,5 @@ pub mod Bits
 pub mod Histories
 pub mod Prefix
 pub mod Reading
+pub mod Windows
+pub mod Reusing

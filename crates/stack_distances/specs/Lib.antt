@@ -3,3 +3,4 @@ pub mod Theorems
 pub mod Sums
 pub mod Histogram
 pub mod Curve
+pub mod Window

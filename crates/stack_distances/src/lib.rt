@@ -1,5 +1,5 @@
-//! The statistics of Lru at every capacity from one pass over a trace, by stack distances (Mattson, Gecsei, Slutz and
-//! Traiger, "Evaluation techniques for storage hierarchies", 1970).
+//! The statistics of Lru over a trace, without a cache: at every capacity from one pass, by stack distances (Mattson,
+//! Gecsei, Slutz and Traiger, "Evaluation techniques for storage hierarchies", 1970), or at one from a short pass.
 //!
 //! Lru has the inclusion property: a cache of capacity c holds the c keys that were accessed last, so a larger cache
 //! holds what a smaller one does. Each access has therefore one number, its stack distance, that decides at every
@@ -7,9 +7,13 @@
 //! included. A histogram of the distances, with running sums, has the hits at each capacity; the field calls it, over
 //! the number of accesses, a hit ratio curve, and its complement the miss ratio curve.
 //!
+//! At a few capacities a pass for each is shorter: Lru holds the keys of a window of the trace that ends at the latest
+//! access, and begins further on where a miss finds it full. With the places of each key's accesses found once
+//! ([`Reuses`]), such a pass looks no key up and writes nothing.
+//!
 //! The crate promises that an access is a hit of Lru exactly where its distance is at most the capacity, and that a
-//! [`Curve`] of a trace gives, at each capacity, the statistics that the definition of Lru gives over that trace. Only
-//! making a curve asks for memory.
+//! [`Curve`] and the [`Reuses`] of a trace give, at each capacity, the statistics that the definition of Lru gives over
+//! that trace. Only making a curve or the reuses asks for memory.
 #![tactic(auto)]
 
 mod counts;
@@ -17,9 +21,12 @@ mod curve;
 mod histogram;
 mod limits;
 mod marks;
+mod reuses;
 mod sum_layer;
 mod theorems;
 mod total;
+mod window;
 
 pub use curve::Curve;
+pub use reuses::Reuses;
 pub use theorems::{hits_grow, lru_counts, lru_hits};

@@ -239,37 +239,57 @@ fn lru_counted(capacity: u32) -> Report {
     counted(Policy::Lru, capacity, [6, hits, misses, evictions, 0])
 }
 
-// Capacities that rise, fall and come again: so many that the reports are read off the curve.
-#[test]
-fn many_capacities_of_lru(rt: HostRuntime) -> Result<(), Fail> {
-    let alloc = rt.alloc();
+// Capacities that rise, fall and come again.
+const CAPACITIES: [u32; 17] = [
+    1,
+    1 << 20,
+    3,
+    2,
+    1,
+    3,
+    3,
+    4,
+    5,
+    6,
+    7,
+    64,
+    63,
+    4,
+    2,
+    1,
+    1 << 20,
+];
+
+// Compares a sweep of Lru with what it counts at each capacity.
+fn assert_sweep_of_lru<R: Abort + Threads + Sync>(
+    rt: &R,
+    alloc: Global,
+    capacities: &[u32],
+) -> Result<(), Fail> {
     let some = Trace::new(vec![in alloc; 1, 2, 3, 1, 4, 2]?);
-    let capacities = [
-        1,
-        1 << 20,
-        3,
-        2,
-        1,
-        3,
-        3,
-        4,
-        5,
-        6,
-        7,
-        64,
-        63,
-        4,
-        2,
-        1,
-        1 << 20,
-    ];
-    let swept = sweep(&rt, alloc, &some, &job(Policy::Lru, 7), &capacities);
+    let swept = sweep(rt, alloc, &some, &job(Policy::Lru, 7), capacities);
     let reports = swept.map_err(failed)?;
-    assert_equal(&rt, reports.len(), capacities.len());
+    assert_equal(rt, reports.len(), capacities.len());
     for (report, capacity) in reports.iter().zip(capacities.iter()) {
-        assert_equal(&rt, *report, lru_counted(*capacity));
+        assert_equal(rt, *report, lru_counted(*capacity));
     }
     Ok(())
+}
+
+#[test]
+fn several_capacities_of_lru(rt: HostRuntime) -> Result<(), Fail> {
+    assert_sweep_of_lru(&rt, rt.alloc(), &CAPACITIES)
+}
+
+// So many that the reports are read off the curve.
+#[test]
+fn many_capacities_of_lru(rt: HostRuntime) -> Result<(), Fail> {
+    let mut capacities = Vec::new(rt.alloc());
+    for capacity in CAPACITIES {
+        capacities.push(capacity)?;
+        capacities.push(capacity)?;
+    }
+    assert_sweep_of_lru(&rt, rt.alloc(), capacities.as_slice())
 }
 
 // Each policy at each capacity before the next policy, one of them twice.
@@ -316,14 +336,14 @@ fn a_sweep_of_over_a_hundred_reports(rt: HostRuntime) -> Result<(), Fail> {
     Ok(())
 }
 
-// The gate is called for as many batches as were announced: for none of Lru where its reports are read off the curve.
+// The gate is called for as many batches as were announced: for none of Lru, which makes no access one by one.
 #[test]
 fn a_sweep_shows_its_batches(rt: HostRuntime) -> Result<(), Fail> {
     let alloc = rt.alloc();
     let some = Trace::new(vec![in alloc; 1; 65_537]?);
     let jobs = [job(Policy::Lru, 7), job(Policy::SegmentedLru, 7)];
-    let many = [2u32; 16];
-    for (capacities, wanted) in [(&many[..2], 8), (&many[..], 32)] {
+    let many = [2u32; 32];
+    for (capacities, wanted) in [(&many[..2], 4), (&many[..], 64)] {
         let gate = Hold::new(0, 0);
         assert_equal(&rt, sweep_batches(&some, &jobs, capacities), wanted);
         let swept = sweep_each(&rt, alloc, &some, &jobs, capacities, &gate);

@@ -1,6 +1,7 @@
-use Rattle.std.proofs.Common.{◌≡◌, [], ◌∙◌, sym, append-nil, subst, IfSome}
+use Rattle.std.proofs.Common.{◌≡◌, [], ◌∙◌, ap, sym, append-nil, subst, IfSome}
 use Rattle.policies.specs.AnyPolicy.{HasAccessed}
 use Rattle.stack_distances.specs.Curve.{curve_of}
+use Rattle.policy_actors.specs.Reports.{report_on}
 use Rattle.policy_actors.proofs.single_run.run_checked.Goals as goal
 
 pub returns : goal.returns
@@ -24,6 +25,12 @@ access_in_batches-requires g c = (
 
 pub returns-2 : goal.returns-2
 returns-2 g c =
+    let input = c.args.input.now in
+    let same = subst (λ o. IfSome o (λ r. r.now ≡ input.trace.now)) c.in-Some-reuses.is input.noted in
+    c.window_report.ensures ∙ ap (report_on c.args.job.now) same
+
+pub returns-3 : goal.returns-3
+returns-3 g c =
     let trace = c.args.input.now.trace.now in
     let e = c.in_ok-access_in_batches.ensures c.args.job.now trace [] c.in_ok-cache.ensures.stands in
     c.report_by.ensures trace (subst (λ l. HasAccessed c.args.job.now trace l c.access_in_batches.new.cache) c.keys.ensures.keys e)
