@@ -1,15 +1,18 @@
-//! The debugger of two policies over one trace.
-ghost use Rattle.std.specs.Prelude.{◌≡◌, Err, IfErr, IfSome, OnOk, [], ◌∷◌, ℕ, true, false};
+//! The debugger of two policies over one trace, and the two as it walks them.
+ghost use Rattle.std.specs.Prelude.{◌≡◌, Ok, Err, IfOk, IfErr, IfSome, OnOk, [], ◌∷◌, ℕ, true, false};
 ghost use Rattle.debug_commands.specs.Dialogue.{dialogue_of, IsLineHeld};
 ghost use Rattle.job_checks.specs.FaultyJobs.{faulty_in};
+ghost use Rattle.step_record.specs.Config.{config_fault};
 ghost use Rattle.debug_policies.specs.Refused.{ReturnsConfig, UntouchedAtConfig};
-ghost use Rattle.debug_policies.specs.TwoPolicies.{policies_timeline};
+ghost use Rattle.debug_policies.specs.TwoPolicies.{access_facts, just_one, left_on_access, policies_timeline, IsPartWalk};
 
-use crate::two_policies::both_at_start;
-use debug_commands::{DebugFault, answer_commands};
-use std::alloc::Global;
+use crate::divergence::{hits, part, push_part};
+use crate::one_policy::OnePolicy;
+use debug_commands::{DebugFault, Dialect, StepFacts, Timeline, answer_commands};
+use policies::any_covers_trace;
+use std::alloc::{AllocError, Global};
 use std::io::{Read, Write};
-use step_record::{Job, Trace};
+use step_record::{Job, Key, Outcome, Trace};
 
 /// Reads commands line by line and answers each at once, about two policies over a trace: where they part, and what
 /// they hold after any number of accesses. It ends at `quit` or the end of the input.
@@ -45,4 +48,142 @@ pub fn run_debug<R: Read, W: Write>(
     }
     let mut both = both_at_start(alloc, trace, first, second)?;
     answer_commands(alloc, &mut both, commands, out)
+}
+
+// Two policies over one trace, both with as many accesses made.
+#[derive(Drop)]
+struct TwoPolicies<'a> {
+    trace: &'a Trace,
+    first_job: Job,
+    second_job: Job,
+    first: OnePolicy<'a>,
+    second: OnePolicy<'a>,
+}
+
+// Both policies before the first access. It requires configurations that `Config::check` accepts. The one error is
+// that an allocation failed.
+fn both_at_start<'a>(
+    alloc: Global,
+    trace: &'a Trace,
+    first: &Job,
+    second: &Job,
+) -> Result<TwoPolicies<'a>, AllocError>
+    requires first { config_fault first.now.config ≡ Ok tt }
+    requires second { config_fault second.now.config ≡ Ok tt }
+    ensures trace { IfOk result (λ w. w.trace.now ≡ trace.now) }
+    ensures first { IfOk result (λ w. w.first_job ≡ first.now) }
+    ensures second { IfOk result (λ w. w.second_job ≡ second.now) }
+    ensures at { IfOk result (λ w. w.first.at ≡ 0) }
+    ensures walk { IfOk result (λ w. IsPartWalk w.trace.now w.first_job w.second_job w.first w.second) }
+{
+    Ok(TwoPolicies {
+        trace,
+        first_job: *first,
+        second_job: *second,
+        first: OnePolicy::open(alloc, first, trace)?,
+        second: OnePolicy::open(alloc, second, trace)?,
+    })
+}
+
+impl<'a> Timeline for TwoPolicies<'a> {
+    ghost use Rattle.std.specs.Prelude.{ℕ, List};
+    ghost use Rattle.step_record.specs.declared.job.Job.{Job};
+    ghost use Rattle.debug_policies.specs.TwoPolicies.{policies_timeline, IsPartWalk};
+
+    ghost Source = { List ℕ × Job × Job };
+
+    ghost source = { λ w. (w.trace.now, w.first_job, w.second_job) };
+
+    ghost timeline = { λ w. policies_timeline w.trace.now w.first_job w.second_job };
+
+    ghost position = { λ w. w.first.at };
+
+    ghost IsWhole = { λ w. IsPartWalk w.trace.now w.first_job w.second_job w.first w.second };
+
+    fn dialect(&self) -> Dialect {
+        Dialect::Policies
+    }
+
+    fn end(&self) -> usize {
+        self.trace.len()
+    }
+
+    fn position(&self) -> usize {
+        self.first.position()
+    }
+
+    fn back(&mut self, _alloc: Global, n: usize) -> Result<(), AllocError> {
+        self.first.back(n)?;
+        self.second.back(n)
+    }
+
+    fn forward(&mut self, _alloc: Global, n: usize) -> Result<(), AllocError> {
+        self.first.forward(n)?;
+        self.second.forward(n)
+    }
+
+    fn next(&mut self, _alloc: Global) -> Result<StepFacts, AllocError> {
+        let key = self.trace.keys()[self.first.position()];
+        let first_age = self.first.age();
+        let second_age = self.second.age();
+        let first = self.first.next()?;
+        let second = self.second.next()?;
+        let first_fell = self.first.age() < first_age;
+        let second_fell = self.second.age() < second_age;
+        Ok(access_facts(key, first, second, first_fell, second_fell))
+    }
+
+    fn show(&self, alloc: Global, text: &mut Vec<u8>) -> Result<(), AllocError> {
+        self.first.show(alloc, b"a", text)?;
+        self.second.show(alloc, b"b", text)
+    }
+
+    fn own(&self, alloc: Global, text: &mut Vec<u8>) -> Result<(), AllocError> {
+        any_covers_trace();
+        match part(alloc, self.trace, &self.first_job, &self.second_job) {
+            Ok(found) => push_part(text, found),
+            Err(_) => Err(AllocError),
+        }
+    }
+}
+
+// What breakpoints look at in an access of both policies.
+fn access_facts(
+    key: Key,
+    first: Outcome,
+    second: Outcome,
+    first_halved: bool,
+    second_halved: bool,
+) -> StepFacts
+    ensures { result ≡ access_facts key first second first_halved second_halved }
+{
+    StepFacts {
+        hit: if hits(first) || hits(second) {
+            Some(key)
+        } else {
+            None
+        },
+        left: left_on_access(first),
+        also_left: left_on_access(second),
+        halved: first_halved || second_halved,
+        parted: just_one(hits(first), hits(second)),
+        dropped: false,
+    }
+}
+
+// The key that left, or was not kept.
+fn left_on_access(outcome: Outcome) -> Option<Key>
+    ensures { result ≡ left_on_access outcome }
+{
+    match outcome {
+        Outcome::Evicted(key) | Outcome::Rejected(key) => Some(key),
+        Outcome::Hit | Outcome::Kept => None,
+    }
+}
+
+// Whether just one of the two holds.
+fn just_one(first: bool, second: bool) -> bool
+    ensures { result ≡ just_one first second }
+{
+    if first { !second } else { second }
 }

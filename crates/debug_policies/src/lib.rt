@@ -9,7 +9,6 @@
 mod debugger;
 mod divergence;
 mod one_policy;
-mod two_policies;
 
 pub use debug_commands::DebugFault;
 pub use debugger::run_debug;

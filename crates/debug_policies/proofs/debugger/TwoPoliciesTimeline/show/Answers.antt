@@ -4,7 +4,7 @@ use Rattle.step_record.specs.declared.job.Job.{Job}
 use Rattle.debug_policies.specs.OnePolicy.{policy_lines, OnePolicyState}
 use Rattle.debug_policies.proofs.Facts.{at_place}
 use Rattle.debug_policies.proofs.Texts.{at_last, piece}
-use Rattle.debug_policies.proofs.two_policies.TwoPoliciesTimeline.show.Goals as goal
+use Rattle.debug_policies.proofs.debugger.TwoPoliciesTimeline.show.Goals as goal
 
 pub returns : goal.returns
 returns c =

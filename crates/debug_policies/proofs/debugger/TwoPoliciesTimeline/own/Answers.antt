@@ -5,7 +5,7 @@ use Rattle.debug_policies.specs.Part.{part_line}
 use Rattle.debug_policies.specs.TwoPolicies.{first_parting}
 use Rattle.debug_policies.proofs.Facts.{part_is}
 use Rattle.debug_policies.proofs.Texts.{at_last}
-use Rattle.debug_policies.proofs.two_policies.TwoPoliciesTimeline.own.Goals as goal
+use Rattle.debug_policies.proofs.debugger.TwoPoliciesTimeline.own.Goals as goal
 
 pub returns-in-Ok : goal.returns-in-Ok
 returns-in-Ok c =
