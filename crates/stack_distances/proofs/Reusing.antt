@@ -9,7 +9,7 @@ use Rattle.policies.proofs.Recency.{two}
 use Rattle.stack_distances.specs.Histogram.{last_place}
 use Rattle.stack_distances.proofs.Histories.{last-none, IsLast, last-some, further-some, last-snoc}
 use Rattle.stack_distances.proofs.Stack.{has-snoc}
-use Rattle.stack_distances.proofs.Windows.{came-there}
+use Rattle.stack_distances.proofs.Windows.{came-there, past-length, front-at, none-behind}
 
 -- ---- from where on a key came
 
@@ -50,22 +50,13 @@ pub record IsNoted (keys : List ℕ) (place : ℕ) (before after : List ℕ) : T
   pub fresh : (i : ℕ) → i < length keys → place ≤ i → length keys ≤ get_or after i 0
 
 module _ (keys before after : List ℕ) (place : ℕ) (in_it : place < length keys) (b : IsNoted keys place before after) where
-  past-long : length (take place keys) ≡ place
-  past-long = length-take-le place keys (omega (arith, in_it))
-
-  next-long : length (take (place + 1) keys) ≡ place + 1
-  next-long = length-take-le (place + 1) keys (omega (arith, in_it))
-
   cut-past : (i : ℕ) → i < place → drop i (take place keys) ≡ get_or keys i 0 ∷ drop (suc i) (take place keys)
-  cut-past i h =
-      let l : length (take place keys) ≡ place = past-long in
-      let short : i < length (take place keys) = omega (arith, l, h) in
-      drop-cons (take place keys) i 0 short ∙ ap (λ a. a ∷ drop (suc i) (take place keys)) (get_or-take place keys i 0 h)
+  cut-past i h = front-at keys place i h (omega (arith, in_it))
 
   -- with the access at the place
   again-next : (i : ℕ) → i < place → has_key (get_or keys i 0) (drop (suc i) (take (place + 1) keys)) ≡ cond (nat_lt (get_or after i 0) place) true (eqb (get_or keys i 0) (get_or keys place 0))
   again-next i h =
-      let l : length (take place keys) ≡ place = past-long in
+      let l : length (take place keys) ≡ place = past-length keys place in_it in
       let short : suc i ≤ length (take place keys) = omega (arith, l, h) in
       let was : has_key (get_or keys i 0) (drop (suc i) (take place keys)) ≡ nat_lt (get_or after i 0) place = sym (b.comes i place h (omega arith)) in
       ap (λ (xs : List ℕ). has_key (get_or keys i 0) (drop (suc i) xs)) (take_more keys place 0 in_it)
@@ -74,10 +65,7 @@ module _ (keys before after : List ℕ) (place : ℕ) (in_it : place < length ke
       ∙ ap (λ (v : Bool). cond v true (eqb (get_or keys i 0) (get_or keys place 0))) was))
 
   none-next : has_key (get_or keys place 0) (drop (suc place) (take (place + 1) keys)) ≡ false
-  none-next =
-      let l : length (take (place + 1) keys) ≡ place + 1 = next-long in
-      let none : drop (suc place) (take (place + 1) keys) ≡ [] = drop_of_length-le (take (place + 1) keys) {i = suc place} (omega (arith, l)) in
-      ap (has_key (get_or keys place 0)) none
+  none-next = none-behind keys place (get_or keys place 0) in_it
 
   -- a place that was noted before is below this one
   same-test : (i : ℕ) → i < length keys → nat_lt (get_or after i 0) (place + 1) ≡ nat_lt (get_or after i 0) place
@@ -143,7 +131,7 @@ module _ (keys before after : List ℕ) (place : ℕ) (in_it : place < length ke
     pub noted-low : p < place
     noted-low =
         let r : IsLast (get_or keys place 0) (take place keys) p = last-some (get_or keys place 0) (take place keys) p some in
-        let l : length (take place keys) ≡ place = past-long in
+        let l : length (take place keys) ≡ place = past-length keys place in_it in
         let w : p < length (take place keys) = r.within in
         omega (arith, l, w)
 

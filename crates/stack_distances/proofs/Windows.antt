@@ -115,22 +115,28 @@ miss-beyond c (suc f) xs k full h =
 
 -- ---- from a place on
 
+pub past-length : (keys : List ℕ) (place : ℕ) → place < length keys → length (take place keys) ≡ place
+past-length keys place in_it = length-take-le place keys (omega (arith, in_it))
+
+pub front-at : (keys : List ℕ) (n s : ℕ) → s < n → n ≤ length keys → drop s (take n keys) ≡ get_or keys s 0 ∷ drop (suc s) (take n keys)
+front-at keys n s h all =
+    let l : length (take n keys) ≡ n = length-take-le n keys all in
+    let short : s < length (take n keys) = omega (arith, l, h) in
+    drop-cons (take n keys) s 0 short ∙ ap (λ a. a ∷ drop (suc s) (take n keys)) (get_or-take n keys s 0 h)
+
+-- no key comes behind the last place
+pub none-behind : (keys : List ℕ) (place k : ℕ) → place < length keys → has_key k (drop (suc place) (take (place + 1) keys)) ≡ false
+none-behind keys place k in_it =
+    let l : length (take (place + 1) keys) ≡ place + 1 = length-take-le (place + 1) keys (omega (arith, in_it)) in
+    let none : drop (suc place) (take (place + 1) keys) ≡ [] = drop_of_length-le (take (place + 1) keys) {i = suc place} (omega (arith, l)) in
+    ap (has_key k) none
+
 module _ (keys before after : List ℕ) (r : AreReuses keys before after) (place : ℕ) (in_it : place < length keys) where
-  past-long : length (take place keys) ≡ place
-  past-long = length-take-le place keys (omega (arith, in_it))
-
-  next-long : length (take (place + 1) keys) ≡ place + 1
-  next-long = length-take-le (place + 1) keys (omega (arith, in_it))
-
   next-past : take (place + 1) keys ≡ take place keys ++ get_or keys place 0 ∷ []
   next-past = take_more keys place 0 in_it
 
   cut-front : (s : ℕ) → s ≤ place → drop s (take (place + 1) keys) ≡ get_or keys s 0 ∷ drop (suc s) (take (place + 1) keys)
-  cut-front s h =
-      let l : length (take (place + 1) keys) ≡ place + 1 = next-long in
-      let short : s < length (take (place + 1) keys) = omega (arith, l, h) in
-      let lower : s < place + 1 = omega (arith, h) in
-      drop-cons (take (place + 1) keys) s 0 short ∙ ap (λ a. a ∷ drop (suc s) (take (place + 1) keys)) (get_or-take (place + 1) keys s 0 lower)
+  cut-front s h = front-at keys (place + 1) s (omega (arith, h)) (omega (arith, in_it))
 
   comes-again : (s : ℕ) → s ≤ place → nat_lt (get_or after s 0) (place + 1) ≡ has_key (get_or keys s 0) (drop (suc s) (take (place + 1) keys))
   comes-again s h = r.comes s (place + 1) (omega (arith, h)) (omega (arith, in_it))
@@ -155,16 +161,13 @@ module _ (keys before after : List ℕ) (r : AreReuses keys before after) (place
       past-fresh s h (sym (comes-again s h) ∙ no)
 
   pub past-newest : length (distinct_keys (drop (place + 1) (take (place + 1) keys))) + 1 ≡ length (distinct_keys (drop place (take (place + 1) keys)))
-  past-newest =
-      let l : length (take (place + 1) keys) ≡ place + 1 = next-long in
-      let none : drop (suc place) (take (place + 1) keys) ≡ [] = drop_of_length-le (take (place + 1) keys) {i = suc place} (omega (arith, l)) in
-      past-fresh place (omega arith) (ap (has_key (get_or keys place 0)) none)
+  past-newest = past-fresh place (omega arith) (none-behind keys place (get_or keys place 0) in_it)
 
   -- ---- one access
 
   grown : (f : ℕ) → f ≤ place → length (distinct_keys (drop f (take (place + 1) keys))) ≡ cond (has_key (get_or keys place 0) (drop f (take place keys))) (length (distinct_keys (drop f (take place keys)))) (suc (length (distinct_keys (drop f (take place keys)))))
   grown f h =
-      let l : length (take place keys) ≡ place = past-long in
+      let l : length (take place keys) ≡ place = past-length keys place in_it in
       let within : f ≤ length (take place keys) = omega (arith, l, h) in
       ap (λ l. length (distinct_keys (drop f l))) next-past
       ∙ (ap (λ l. length (distinct_keys l)) (drop-append-le f (take place keys) (get_or keys place 0 ∷ []) within) ∙ grows (get_or keys place 0) (drop f (take place keys)))
@@ -185,7 +188,7 @@ module _ (keys before after : List ℕ) (r : AreReuses keys before after) (place
     pub hits-small : w.hits ≤ place
     hits-small =
         let few : hits_within w.capacity (take place keys) ≤ length (take place keys) = sum-small (take place keys) w.capacity in
-        let l : length (take place keys) ≡ place = past-long in
+        let l : length (take place keys) ≡ place = past-length keys place in_it in
         let was : w.hits ≡ hits_within w.capacity (take place keys) = h.hits in
         omega (arith, few, l, was)
 
