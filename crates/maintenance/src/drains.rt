@@ -7,9 +7,10 @@ ghost use Rattle.shell_model.specs.Shell.{shell_after_touch, apply_task, drain_r
 ghost use Rattle.shell_model.specs.Shell.{is_over};
 ghost use Rattle.shell_model.specs.Records.{touched_of, added_of, task_change, read_change, write_change};
 ghost use Rattle.shell_model.specs.Consistent.{IsConsistent};
-ghost use Rattle.shell_model.specs.declared.record.Change.TheVariants.{Nothing, Ended};
+ghost use Rattle.shell_model.specs.declared.record.Change.TheVariants.{Nothing, Passed, Ended};
 ghost use Rattle.segments.specs.Queues.{queue_holding};
 ghost use Rattle.shell_buffers.specs.declared.task.Task.TheVariants as task;
+ghost use Rattle.step_record.specs.declared.drain.Phase.TheVariants as phase;
 
 use crate::key_records::record_key;
 use crate::moves::{clear, hit};
@@ -139,6 +140,20 @@ impl Core {
         });
     }
 
+    // The maintenance is at the write queue, where it applies no task.
+    fn pass_to_writes(&mut self, holder: Holder) -> Change
+        requires { holder.left ≤ MAX_TASKS }
+        ensures state { self.new ≡ in_phase phase.Writes holder self.old }
+        ensures change { result ≡ Passed holder.phase phase.Writes }
+    {
+        let before = holder.phase;
+        self.enter(holder, Phase::Writes);
+        Change::Passed {
+            before,
+            now: Phase::Writes,
+        }
+    }
+
     pub(crate) fn drain_write(&mut self, holder: Holder) -> Result<(Reply, Change), AllocError>
         requires holds { self.old.holder ≡ Some holder }
         requires sound { IsConsistent self.old }
@@ -149,17 +164,11 @@ impl Core {
         ensures err { OnErr result (self.new ≡ self.old) }
     {
         let before = holder.phase;
-        let passed = Change::Passed {
-            before,
-            now: Phase::Writes,
-        };
         let [task, ..] = self.writes.tasks() else {
-            self.enter(holder, Phase::Writes);
-            return Ok((Reply::Empty, passed));
+            return Ok((Reply::Empty, self.pass_to_writes(holder)));
         };
         if holder.left == 0 {
-            self.enter(holder, Phase::Writes);
-            return Ok((Reply::Enough, passed));
+            return Ok((Reply::Enough, self.pass_to_writes(holder)));
         }
         let made = match *task {
             Task::Add(item) => self.apply_add(before, item)?,
