@@ -2,11 +2,11 @@
 ghost use Rattle.std.specs.Prelude.{◌≡◌, Ok};
 ghost use Rattle.step_record.specs.Config.{config_fault};
 
-use super::assertions::{assert_equal, assert_shown};
+use super::assertions::assert_equal;
 use journal::Session;
 use maintenance::Shell;
 use policies::WindowTinyLfu;
-use quiet_run::{QuietFault, SettleFault, run_quiet};
+use quiet_run::run_quiet;
 use segments::Queue;
 use std::alloc::{AllocError, Global};
 use std::process::Abort;
@@ -177,23 +177,4 @@ fn a_quiet_run_is_window_tiny_lfu(rt: HostRuntime) -> Result<(), Fail> {
         assert_agree(&rt, rt.alloc(), capacity)?;
     }
     Ok(())
-}
-
-#[test]
-fn an_unfinished_maintenance_is_shown_by_its_cause(rt: HostRuntime) -> Result<(), Fail> {
-    let table = [
-        (SettleFault::OutOfMemory { done: 7 }, "OutOfMemory"),
-        (SettleFault::JournalFull { done: 7 }, "JournalFull"),
-    ];
-    assert_shown(&rt, rt.alloc(), &table)
-}
-
-#[test]
-fn an_unfinished_quiet_run_is_shown_by_its_cause(rt: HostRuntime) -> Result<(), Fail> {
-    let table = [
-        (QuietFault::OutOfMemory { done: 7 }, "OutOfMemory"),
-        (QuietFault::JournalFull { done: 7 }, "JournalFull"),
-        (QuietFault::Held, "Held"),
-    ];
-    assert_shown(&rt, rt.alloc(), &table)
 }

@@ -1,8 +1,8 @@
 //! A session over the concurrent cache, copied by way of its text.
 ghost use Rattle.std.specs.Prelude.{◌≡◌, ◌≤◌, [], IfOk, OnOk, length};
 ghost use Rattle.maintenance.specs.Opened.{IsOpened};
+ghost use Rattle.shell_journal.specs.Copy.{CanHold};
 ghost use Rattle.shell_model.specs.Reached.{IsReachable};
-ghost use Rattle.step_record.specs.declared.limits.TheConstants.{MAX_JOURNAL_LIMIT};
 
 use super::assertions::assert_equal;
 use super::sessions::CONFIG;
@@ -60,12 +60,7 @@ fn assert_copied(
     session: &Session<Shell>,
     copy: &mut Session<Shell>,
 ) -> Result<(), Fail>
-    requires reachable { IsReachable session.now.opening }
-    requires few { length session.now.kept ≤ MAX_JOURNAL_LIMIT }
-    requires alike { copy.old.opening ≡ session.now.opening }
-    requires kept { copy.old.kept ≡ [] }
-    requires tail { copy.old.tail ≡ [] }
-    requires room { length session.now.kept ≤ copy.old.limit }
+    requires { CanHold session.now copy.old }
 {
     copy_journal(alloc, session, copy)?;
     assert_equal(rt, copy.len(), 3);

@@ -1,9 +1,8 @@
 //! Sessions over an engine that is refused memory at calls that are set by number.
-use super::assertions::{assert_equal, assert_shown};
+use super::assertions::assert_equal;
 use super::counter::Counter;
 use journal::{BackFault, ForwardFault, GotoFault, Session, SessionFault};
 use std::process::Abort;
-use std::test::Fail;
 use step_record::Engine;
 
 // Sees how many steps are applied, and how many are undone.
@@ -106,29 +105,4 @@ fn a_full_session_and_walks_past_its_ends(rt: HostRuntime) {
     assert_equal(&rt, session.step(()), Ok(3));
     assert_place(&rt, &session, (3, 0));
     assert_equal(&rt, session.held(), 0);
-}
-
-#[test]
-fn each_fault_of_a_session_is_shown_by_its_name(rt: HostRuntime) -> Result<(), Fail> {
-    let steps = [
-        (SessionFault::OutOfMemory, "OutOfMemory"),
-        (SessionFault::NotNow, "NotNow"),
-        (SessionFault::JournalFull, "JournalFull"),
-    ];
-    assert_shown(&rt, rt.alloc(), &steps)?;
-    let back = [
-        (BackFault::OutOfMemory { undone: 7 }, "OutOfMemory"),
-        (BackFault::PastStart, "PastStart"),
-    ];
-    assert_shown(&rt, rt.alloc(), &back)?;
-    let forward = [
-        (ForwardFault::OutOfMemory { done: 7 }, "OutOfMemory"),
-        (ForwardFault::PastEnd, "PastEnd"),
-    ];
-    assert_shown(&rt, rt.alloc(), &forward)?;
-    let moves = [
-        (GotoFault::OutOfMemory { at: 7 }, "OutOfMemory"),
-        (GotoFault::PastEnd, "PastEnd"),
-    ];
-    assert_shown(&rt, rt.alloc(), &moves)
 }

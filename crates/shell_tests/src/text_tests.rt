@@ -1,11 +1,11 @@
 ghost use Rattle.std.specs.Prelude.{◌≡◌, ◌≤◌, []};
 ghost use Rattle.step_record.specs.declared.limits.TheConstants.{MAX_JOURNAL_LIMIT};
 
-use super::assertions::{assert_equal, assert_shown};
+use super::assertions::assert_equal;
 use super::sessions::{CONFIG, opened, read};
 use super::shell_line::{assert_shows, assert_shows_as};
 use journal::Session;
-use journal_text::{JournalFault, WriteFault, read_journal, write_journal};
+use journal_text::{JournalFault, read_journal, write_journal};
 use maintenance::Shell;
 use std::alloc::Global;
 use std::io::Read;
@@ -371,13 +371,4 @@ fn cut_everywhere(
 fn a_text_that_is_cut_leaves_the_steps_of_its_whole_lines(rt: HostRuntime) -> Result<(), Fail> {
     cut_everywhere(&rt, rt.alloc(), UNCOUNTED.as_bytes(), false)?;
     cut_everywhere(&rt, rt.alloc(), WRITTEN.as_bytes(), true)
-}
-
-#[test]
-fn an_unwritten_journal_is_shown_by_its_cause(rt: HostRuntime) -> Result<(), Fail> {
-    let table = [
-        (WriteFault::OutOfMemory, "OutOfMemory"),
-        (WriteFault::Write, "Write"),
-    ];
-    assert_shown(&rt, rt.alloc(), &table)
 }

@@ -1,5 +1,5 @@
 //! Small traces whose reports were worked out by hand, and threads that wait for one another.
-use super::assertions::{assert_equal, assert_shown};
+use super::assertions::assert_equal;
 use super::gates::{Hold, Turns};
 use super::jobs::{counted, failed, fault_of, job};
 use policy_actors::{ActorFault, run_actors, run_one, sweep, sweep_batches, sweep_each};
@@ -364,15 +364,4 @@ fn faults_of_a_sweep_come_in_their_order(rt: HostRuntime) -> Result<(), Fail> {
     let none = sweep_each(&rt, alloc, &some, &pair, &[1, 2, 0, 0], &OpenGate);
     assert_equal(&rt, fault_of(none)?, Some(ActorFault::Config { index: 2 }));
     Ok(())
-}
-
-#[test]
-fn a_fault_is_shown_by_its_name(rt: HostRuntime) -> Result<(), Fail> {
-    let table = [
-        (ActorFault::OutOfMemory, "OutOfMemory"),
-        (ActorFault::Batch, "Batch"),
-        (ActorFault::Config { index: 3 }, "Config"),
-        (ActorFault::Actors, "Actors"),
-    ];
-    assert_shown(&rt, rt.alloc(), &table)
 }

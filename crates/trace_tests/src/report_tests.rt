@@ -1,5 +1,5 @@
 //! Reports as text, into writers that are interrupted or fail.
-use super::assertions::{assert_equal, assert_shown};
+use super::assertions::assert_equal;
 use report::{Report, WriteFault, write_reports};
 use std::io::{Error, ErrorKind, Result, Write};
 use std::test::Fail;
@@ -140,13 +140,4 @@ fn all_lines_share_their_interruptions(rt: HostRuntime) -> std::result::Result<(
         assert_eq!(rt; result, expected, "after {interruptions} twice");
     }
     Ok(())
-}
-
-#[test]
-fn a_fault_is_shown_by_its_name(rt: HostRuntime) -> std::result::Result<(), Fail> {
-    let table = [
-        (WriteFault::OutOfMemory, "OutOfMemory"),
-        (WriteFault::Write, "Write"),
-    ];
-    assert_shown(&rt, rt.alloc(), &table)
 }

@@ -1,7 +1,20 @@
-use Rattle.std.proofs.Common.{sym, ◌∙◌}
+use Rattle.std.proofs.Common.{sym, ◌∙◌, subst, arith, rules}
+use Rattle.shell_model.specs.Reached.{IsReachable}
 use Rattle.shell_tests.proofs.Alike.{alike}
 use Rattle.shell_tests.proofs.copy_tests.a_session_is_copied_by_its_text.Goals as goal
 
-pub assert_copied-requires-clause-alike : goal.assert_copied-requires-clause-alike
-assert_copied-requires-clause-alike g c =
-    alike _ c.in_ok-session.session.opening c.in_ok-copy.copy.opening c.in_ok-session.ensures.opened c.in_ok-copy.ensures.opened ∙ sym c.in_ok-make_miss.ensures.opening
+pub assert_copied-requires : goal.assert_copied-requires
+assert_copied-requires g c =
+    let made = c.in_ok-make_miss.ensures in
+    let few = made.few in
+    let limit = made.limit in
+    let three = c.in_ok-session.ensures.limit in
+    let room = c.in_ok-copy.ensures.limit in
+    record {
+      reachable = subst IsReachable (sym made.opening) c.in_ok-session.ensures.reachable;
+      few = omega (arith, few, limit, three);
+      alike = alike _ c.in_ok-session.session.opening c.in_ok-copy.copy.opening c.in_ok-session.ensures.opened c.in_ok-copy.ensures.opened ∙ sym made.opening;
+      kept = c.in_ok-copy.ensures.kept;
+      tail = c.in_ok-copy.ensures.tail;
+      room = omega (arith, few, limit, three, room);
+    }
