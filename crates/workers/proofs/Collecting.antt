@@ -32,7 +32,7 @@ pub record Collected (b : BookId ShellSession) (lo : ℕ) (ds : List WorkerState
   pub same : length ps ≡ length ds
   pub owns : map (λ p. p.own) ps ≡ map list_of ds
 
-pub collected : (b : BookId ShellSession) (ds : List WorkerState) (ps : List ShellPass) (lo : ℕ) → map (λ p. Some p) ps ≡ map (λ d. d.pass) ds → Every (HoldsPass b) ds → AreNumbered lo ds → Collected b lo ds ps
+collected : (b : BookId ShellSession) (ds : List WorkerState) (ps : List ShellPass) (lo : ℕ) → map (λ p. Some p) ps ≡ map (λ d. d.pass) ds → Every (HoldsPass b) ds → AreNumbered lo ds → Collected b lo ds ps
 collected b [] [] lo e h c = record { books = tt; order = tt; same = refl; owns = refl }
 collected b [] (p ∷ ps) lo e h c = absurd (cc)
 collected b (d ∷ ds) [] lo e h c = absurd (cc)
@@ -69,6 +69,11 @@ full_at n limit calls kept (d ∷ ds) (p ∷ ps) e h s (suc w) f =
 pub every_map : {X : Type 0} (P Q : X → Type 0) (xs : List X) → ((x : X) → P x → Q x) → Every P xs → Every Q xs
 every_map P Q [] f h = tt
 every_map P Q (x ∷ xs) f h = (f x h.0, every_map P Q xs f h.1)
+
+-- the passes of workers that have worked are theirs
+pub came_back : (b : BookId ShellSession) (n limit : ℕ) (calls : ℕ → List Call) (ds : List WorkerState) (ps : List ShellPass) → map (λ p. Some p) ps ≡ map (λ d. d.pass) ds
+    → Every (λ d. HoldsPass b d × HasWorked n limit calls d) ds → AreNumbered 0 ds → Collected b 0 ds ps
+came_back b n limit calls ds ps e h c = collected b ds ps 0 e (every_map _ _ ds (λ d h. h.0) h) c
 
 pub every_both : {X : Type 0} (P Q R : X → Type 0) (xs : List X) → ((x : X) → P x → Q x → R x) → Every P xs → Every Q xs → Every R xs
 every_both P Q R [] f h k = tt

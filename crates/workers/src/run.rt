@@ -1,15 +1,9 @@
 //! Workers on threads, over one session of the concurrent cache.
-ghost use Rattle.std.specs.Prelude.{◌≡◌, ◌<◌, ◌≤◌, None, [], IfOk, IfErr, OnOk};
+ghost use Rattle.std.specs.Prelude.{◌≡◌, ◌≤◌, None, [], IfOk, IfErr, OnOk};
 ghost use Rattle.std.specs.Prelude.{length, map, vec_capacity};
-ghost use Rattle.step_record.specs.declared.limits.TheConstants.{MAX_STRIPES};
-ghost use Rattle.step_record.specs.declared.worker.TheConstants.{MAX_WORKERS};
-ghost use Rattle.turn_book.specs.Turns.{Every};
-ghost use Rattle.turn_book.specs.Passes.{InOrder, id_of};
 ghost use Rattle.walks.specs.Walks.{AreWalks};
-ghost use Rattle.workers.specs.WorkerStates.{AdmitsAll};
-ghost use Rattle.workers.specs.Draws.{IsWithin};
-ghost use Rattle.workers.specs.Runs.{IsRun, IsRunUpTo};
-ghost use Rattle.step_record.specs.History.{data_after, IsLegal};
+ghost use Rattle.workers.specs.Runs.{IsRun};
+ghost use Rattle.step_record.specs.History.{IsLegal};
 ghost use Rattle.shell_model.specs.Shell.{act};
 ghost use Rattle.workers.specs.DriveFaults.{CanRun, LeavesFault};
 
@@ -95,15 +89,15 @@ pub fn drive<G: Gate, R: Threads + Wait + Sync>(
     let earlier = session.len();
     match TurnBook::open(alloc, session, workers as u8, MAX_TURNS) {
         Ok((book, passes)) => {
-            let (session, cause) = run_book(
-                rt,
-                gate,
-                book,
-                passes,
-                pieces.as_slice(),
-                stripes,
-                room,
-            );
+            let Room {
+                states,
+                passes: collected,
+            } = room;
+            let states = assign_passes(&book, passes, states);
+            let states = work_all(rt, gate, &book, pieces.as_slice(), stripes, states);
+            let (passes, cause) = collect_passes(states, collected);
+            let session = book.close(passes);
+            session.len();
             let driven = Driven { session, earlier };
             match cause {
                 None => Ok(driven),
@@ -134,40 +128,4 @@ impl Room {
             passes: Vec::with_capacity(alloc, workers)?,
         })
     }
-}
-
-// Has the workers work, and closes the book: the session, and why the first refused worker was refused a step.
-fn run_book<G: Gate, R: Threads + Wait + Sync>(
-    rt: &R,
-    gate: &G,
-    book: TurnBook<Session<Shell>>,
-    passes: Vec<Pass<Session<Shell>>>,
-    pieces: &[Vec<Call>],
-    stripes: u8,
-    room: Room,
-) -> (Session<Shell>, Option<Cause>)
-    requires stripes { (1 ≤ stripes) × (stripes ≤ MAX_STRIPES) }
-    requires admits { AdmitsAll stripes book.opening }
-    requires workers { (length pieces.now ≡ book.workers) × (1 ≤ length pieces.now)
-        × (length pieces.now ≤ MAX_WORKERS) }
-    requires order { InOrder 0 passes.items × (length passes.items ≡ length pieces.now) }
-    requires own { Every (λ p. p.book ≡ id_of book) passes.items }
-    requires empty { Every (λ p. (p.own ≡ []) × IsWithin book.opening.limit p) passes.items }
-    requires turns { book.opening.limit ≤ book.turns }
-    requires fresh { (room.states.items ≡ []) × (room.passes.items ≡ []) }
-    requires room { (length pieces.now ≤ vec_capacity room.states) × (length pieces.now ≤ vec_capacity room.passes) }
-    ensures run { IsRunUpTo result.1 stripes (map (λ p. p.items) pieces.now) book.opening result.0 }
-    ensures legal { IsLegal act result.0.opening result.0.kept }
-    ensures stands { result.0.engine ≡ data_after act result.0.opening result.0.kept }
-{
-    let Room {
-        states,
-        passes: collected,
-    } = room;
-    let states = assign_passes(&book, passes, states);
-    let states = work_all(rt, gate, &book, pieces, stripes, states);
-    let (passes, cause) = collect_passes(states, collected);
-    let session = book.close(passes);
-    session.len();
-    (session, cause)
 }

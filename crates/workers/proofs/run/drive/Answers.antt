@@ -1,4 +1,4 @@
-use Rattle.std.proofs.Common.{rules, arith, ◌≤◌, ◌<◌, map, vec_items, length, refl, sym, ap, subst, ◌∙◌}
+use Rattle.std.proofs.Common.{rules, arith, ◌≤◌, ◌<◌, map, vec_items, length, sym, ap, subst, ◌∙◌}
 use Rattle.std.proofs.lemmas.List.{length-map}
 use Rattle.step_record.specs.declared.worker.TheConstants.{MAX_WORKERS}
 use Rattle.turn_book.specs.Faults.{IsOpenCause}
@@ -11,14 +11,14 @@ use Rattle.walks.specs.Admits.{AdmitsWalks}
 use Rattle.walks.proofs.Admitting.{shell_admits}
 use Rattle.workers.proofs.Freeing.{run_frees}
 use Rattle.shell_model.specs.Reached.{IsReachable}
-use Rattle.workers.proofs.Collecting.{every_map}
+use Rattle.workers.proofs.Collecting.{came_back, every_map, run_up_to}
 use Rattle.workers.proofs.RunResults.{moved_run, whole_run, free_of}
 use Rattle.workers.proofs.Turning.{within_first}
 use Rattle.workers.proofs.run.drive.Goals as goal
-use Rattle.workers.proofs.run.drive.Goals.{After-run_book-session}
+use Rattle.workers.proofs.run.drive.Goals.{After-len}
 
 -- what was looked at before the run began: so many workers can run
-can-run : (g : _) (c : goal.After-run_book-session g) → CanRun (map (λ p. vec_items p) c.args.pieces.items) c.args.session.engine
+can-run : (g : _) (c : goal.After-len g) → CanRun (map (λ p. vec_items p) c.args.pieces.items) c.args.session.engine
 can-run g c =
     let many = length-map c.args.pieces.items (λ p. vec_items p) in
     let ok = c.args.pieces.ok.0 in
@@ -32,52 +32,85 @@ can-run g c =
       free = ap (λ x. x.holder) (sym c.engine-shell.ensures.engine) ∙ free;
     }
 
-pub run_book-session-requires-clause-empty : goal.run_book-session-requires-clause-empty
-run_book-session-requires-clause-empty g c κs within =
+-- the run from the session that was handed in
+run-of : (g : _) (c : goal.After-len g) → IsRunUpTo c.collect_passes-passes.result.1 c.args.session.engine.config.stripes (map (λ p. vec_items p) c.args.pieces.items) c.args.session c.close-session.result
+run-of g c =
+    let r = came_back _ _ _ _ _ _ c.collect_passes-passes.ensures.passes c.work_all-states.ensures.holds c.work_all-states.ensures.counts.0 in
+    let pieces = map (λ p. vec_items p) c.as_slice.result.now in
+    let stripes = c.stripes-stripes.ensures.stripes ∙ ap (λ x. x.config.stripes) c.engine-shell.ensures.engine in
+    let room : length c.close-session.result.kept ≤ c.close-session.result.limit = let sound = c.len.ensures.sound.room in omega arith in
+    moved_run _ _ _ _ _ _ _ _ stripes (ap (map (λ p. vec_items p)) c.as_slice.ensures.value) c.in-Ok-open.ensures.opens.0
+    (run_up_to c.stripes-stripes.result c.collect_passes-passes.result.1 pieces c.in-Ok-open.book.opening c.close-session.result _ c.work_all-states.result.items c.close-session.ensures room c.collect_passes-passes.ensures.passes r.owns
+    c.work_all-states.ensures.counts.0 (c.work_all-states.ensures.counts.1 ∙ sym (length-map c.as_slice.result.now (λ p. vec_items p)))
+    (every_map _ _ _ (λ d h. h.1) c.work_all-states.ensures.holds) c.collect_passes-passes.ensures.cause)
+
+pub assign_passes-states-requires-clause-empty : goal.assign_passes-states-requires-clause-empty
+assign_passes-states-requires-clause-empty g c =
     let room = c.engine-shell.ensures.sound.room in
     let limit = ap (λ s. s.limit) c.in-Ok-open.ensures.opens.0 in
     every_map _ _ _ (λ p h. (h.0, within_first _ p c.args.session.kept h.0 h.1 h.2 (omega (arith, room, limit)))) c.in-Ok-open.ensures.fresh
 
-pub run_book-session-requires-clause-turns : goal.run_book-session-requires-clause-turns
-run_book-session-requires-clause-turns g c κs within =
+pub work_all-states-requires-clause-turns : goal.work_all-states-requires-clause-turns
+work_all-states-requires-clause-turns g c κs within =
     let limit = ap (λ s. s.limit) c.in-Ok-open.ensures.opens.0 in
     let turns = c.in-Ok-open.ensures.opens.2 in
     let few = c.engine-shell.ensures.sound.countable in
     omega (arith, limit, turns, few)
 
-pub run_book-session-requires-clause-admits : goal.run_book-session-requires-clause-admits
-run_book-session-requires-clause-admits g c κs within = λ w.
+pub work_all-states-requires-clause-admits : goal.work_all-states-requires-clause-admits
+work_all-states-requires-clause-admits g c κs within = λ w.
     let free = free_of _ _ (sym c.holder.ensures ∙ c.in_default.is) in
     let stood = c.engine-shell.ensures.engine ∙ c.engine-shell.ensures.sound.stands ∙ ap (λ s. data_after act s.opening s.kept) (sym c.in-Ok-open.ensures.opens.0) in
     subst (λ y. AdmitsWalks act (λ z. z.applied) w c.stripes-stripes.result y) stood
     (shell_admits c.engine-shell.result.now w c.stripes-stripes.result c.stripes-stripes.ensures.range.0 c.stripes-stripes.ensures.reached free c.stripes-stripes.ensures.count)
 
+pub close-session-requires-clause-own : goal.close-session-requires-clause-own
+close-session-requires-clause-own g c =
+    (came_back _ _ _ _ _ _ c.collect_passes-passes.ensures.passes c.work_all-states.ensures.holds c.work_all-states.ensures.counts.0).books
+
+pub close-session-requires-clause-all : goal.close-session-requires-clause-all
+close-session-requires-clause-all g c =
+    let r = came_back _ _ _ _ _ _ c.collect_passes-passes.ensures.passes c.work_all-states.ensures.holds c.work_all-states.ensures.counts.0 in
+    let same = r.same in
+    let many = c.work_all-states.ensures.counts.1 in
+    let pieces = ap length c.as_slice.ensures.value in
+    let ok = c.args.pieces.ok.0 in
+    let len = c.len-workers.ensures in
+    let workers = c.in-Ok-open.ensures.opens.1 in
+    (r.order, omega arith)
+
+pub close-session-requires-clause-some : goal.close-session-requires-clause-some
+close-session-requires-clause-some g c =
+    let same = (came_back _ _ _ _ _ _ c.collect_passes-passes.ensures.passes c.work_all-states.ensures.holds c.work_all-states.ensures.counts.0).same in
+    let many = c.work_all-states.ensures.counts.1 in
+    let pieces = ap length c.as_slice.ensures.value in
+    let len = c.len-workers.ensures in
+    let some : 1 ≤ c.len-workers.result = search rules in
+    let held = c.args.pieces.ok.0 in
+    let ok = c.collect_passes-passes.result.0.ok.0 in
+    omega arith
+
 pub returns-in-None-clause-run : goal.returns-in-None-clause-run
-returns-in-None-clause-run g c =
-    let stripes = c.stripes-stripes.ensures.stripes ∙ ap (λ x. x.config.stripes) c.engine-shell.ensures.engine in
-    let pieces = ap (map (λ p. vec_items p)) c.as_slice.ensures.value in
-    whole_run _ _ _ _ _ c.in-None.is (moved_run _ _ _ _ _ _ _ _ stripes pieces c.in-Ok-open.ensures.opens.0 c.run_book-session.ensures.run)
+returns-in-None-clause-run g c = whole_run _ _ _ _ _ c.in-None.is (run-of g (goal.at.returns-in-None-clause-run g c).After-len)
 
 pub returns-in-None-clause-free : goal.returns-in-None-clause-free
 returns-in-None-clause-free g c =
     let shell = c.engine-shell.ensures.engine in
     let stripes = c.stripes-stripes.ensures in
     let free = free_of _ _ (sym c.holder.ensures ∙ c.in_default.is) in
-    let run = whole_run _ _ _ _ _ c.in-None.is (moved_run _ _ _ _ _ _ _ _ refl refl c.in-Ok-open.ensures.opens.0 c.run_book-session.ensures.run) in
-    run_frees c.args.session c.run_book-session.result.0 c.stripes-stripes.result _ stripes.range.0 (subst IsReachable shell stripes.reached) (ap (λ x. x.holder) (sym shell) ∙ free)
-    (ap (λ x. length x.stripes) (sym shell) ∙ stripes.count) c.engine-shell.ensures.sound.stands run c.run_book-session.ensures.legal c.run_book-session.ensures.stands
+    let run = whole_run _ _ _ _ _ c.in-None.is (run-of g (goal.at.returns-in-None-clause-free g c).After-len) in
+    run_frees c.args.session c.close-session.result c.args.session.engine.config.stripes _ (subst (λ n. 1 ≤ n) (stripes.stripes ∙ ap (λ x. x.config.stripes) shell) stripes.range.0) (subst IsReachable shell stripes.reached) (ap (λ x. x.holder) (sym shell) ∙ free)
+    (ap (λ x. length x.stripes) (sym shell) ∙ stripes.count ∙ stripes.stripes ∙ ap (λ x. x.config.stripes) shell) c.engine-shell.ensures.sound.stands run c.len.ensures.sound.legal c.len.ensures.sound.stands
 
 pub returns-in-None-clause-accepted : goal.returns-in-None-clause-accepted
-returns-in-None-clause-accepted g c = can-run g (goal.at.returns-in-None-clause-accepted g c).After-run_book-session
+returns-in-None-clause-accepted g c = can-run g (goal.at.returns-in-None-clause-accepted g c).After-len
 
 pub returns-in-Ok-open-clause-fault : goal.returns-in-Ok-open-clause-fault
 returns-in-Ok-open-clause-fault g c =
-    let stripes = c.stripes-stripes.ensures.stripes ∙ ap (λ x. x.config.stripes) c.engine-shell.ensures.engine in
-    let pieces = ap (map (λ p. vec_items p)) c.as_slice.ensures.value in
-    let run = moved_run _ _ _ _ _ _ _ _ stripes pieces c.in-Ok-open.ensures.opens.0 c.run_book-session.ensures.run in (
-      can-run g (goal.at.returns-in-Ok-open-clause-fault g c).After-run_book-session,
-      c.run_book-session.ensures.legal,
-      subst (λ o. IsRunUpTo o c.args.session.engine.config.stripes (map (λ p. vec_items p) c.args.pieces.items) c.args.session c.run_book-session.result.0) c.in-Some-cause.is run,
+    let here = (goal.at.returns-in-Ok-open-clause-fault g c).After-len in (
+      can-run g here,
+      c.len.ensures.sound.legal,
+      subst (λ o. IsRunUpTo o c.args.session.engine.config.stripes (map (λ p. vec_items p) c.args.pieces.items) c.args.session c.close-session.result) c.in-Some-cause.is (run-of g here),
       c.len-earlier.ensures.len,
     )
 
