@@ -17,8 +17,9 @@ use std::thread::Threads;
 use step_record::{Gate, Job, MAX_BATCH, OpenGate, Policy, Trace};
 
 // From so many capacities on, the reports of Lru are read off the curve of the trace. Finding the curve takes the
-// processor as long as finding the reuses and passing over them at some thirty capacities.
-const READ_FROM: usize = 32;
+// processor as long as finding the reuses and passing over them at some seven capacities; but passes go side by side, so
+// on four threads they are done first up to some 26.
+const READ_FROM: usize = 16;
 
 /// The reports of the job at each capacity, in the order of the capacities; `rayon` runs them side by side where there
 /// are threads. The next uses that Belady's policy goes by are found once.
