@@ -111,6 +111,13 @@ module _ (bytes : List ℕ) (start from to others : ℕ) (order : start ≤ from
       later : (t : ℕ) → from + (t + 1) ≡ from + t + 1
       later t = omega arith
 
+-- the bits behind the first
+pub marks_behind : (bytes : List ℕ) (from to others : ℕ) → MarksOthers bytes from to others → MarksOthers bytes (from + 1) to (others / 2)
+marks_behind bytes from to others marks =
+    let fewer : to - from - 1 ≡ to - (from + 1) = omega arith in
+    ap (λ m. m / 2 ^ 1) marks ∙ bits_after 1 (map is_other (chunk from (to - from) bytes))
+    ∙ ap mask_l (bits_of_drop is_other 1 (to - from) (drop from bytes) ∙ (λ i. map is_other (take (fewer i) (drop-drop 1 from bytes i))))
+
 -- where no bit is left, all bytes are digits
 pub none_left : (bytes : List ℕ) (start from to : ℕ) → from ≤ to → to ≤ length bytes → DigitsBetween bytes start from → MarksOthers bytes from to 0 → DigitsBetween bytes start to
 none_left bytes start from to inside within none marks k low high = elim (cases_lt k from) [

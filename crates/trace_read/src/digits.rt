@@ -82,6 +82,7 @@ fn value_of_eight(word: u64) -> u64
         → result ≡ number_from_digits 10 ds }
 {
     let pairs = (word.wrapping_mul((10 << 8) + 1) >> 8) & 0x00ff_00ff_00ff_00ff;
-    let fours = (pairs.wrapping_mul((100 << 16) + 1) >> 16) & 0x0000_ffff_0000_ffff;
-    fours.wrapping_mul((10_000 << 32) + 1) >> 32
+    // The first four digits are in the second sixteen bits, the last four in the last.
+    let fours = pairs.wrapping_mul((100 << 16) + 1);
+    (fours >> 16) % (1 << 16) * 10_000 + (fours >> 48)
 }
