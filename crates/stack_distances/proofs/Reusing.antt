@@ -1,9 +1,8 @@
 -- A pass over a trace that notes where each access's key came before and comes again.
-use Rattle.std.proofs.Common.{◌≡◌, ◌≢◌, ℕ, suc, zero, ◌+◌, ◌<◌, ◌≤◌, Bool, true, false, cond, eqb, nat_lt, Option, Some, None, List, [], ◌∷◌, length, take, drop, get_or, set, nat_eq, ap, ◌∙◌, sym, refl, arith, inl, inr, drop-cons, get_or-set_other, get_or-set_same}
-use Rattle.std.proofs.Math.ListN.{drop_of_length-le}
+use Rattle.std.proofs.Common.{◌≡◌, ◌≢◌, ℕ, suc, zero, ◌+◌, ◌<◌, ◌≤◌, Bool, true, false, cond, eqb, nat_lt, Option, Some, None, List, [], ◌∷◌, length, take, drop, get_or, set, nat_eq, ap, ◌∙◌, sym, refl, arith, inl, inr, get_or-set_other, get_or-set_same}
 use Rattle.std.proofs.lemmas.Bool.{cases_eq, eqb-true, eq-eqb}
 use Rattle.std.proofs.lemmas.Bool.Decides.{nat_tests}
-use Rattle.std.proofs.lemmas.List.{get_or-take, drop-append-le, length-take-le, take_more}
+use Rattle.std.proofs.lemmas.List.{drop-append-le, length-take-le, take_more}
 use Rattle.step_record.specs.Keys.{has_key}
 use Rattle.policies.proofs.Recency.{two}
 use Rattle.stack_distances.specs.Histogram.{last_place}

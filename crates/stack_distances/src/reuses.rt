@@ -1,6 +1,5 @@
 //! The hits of Lru at a capacity, by a window over the trace.
 ghost use Rattle.std.specs.Prelude.{◌≡◌, ◌+◌, ◌<◌, ◌≤◌, IfOk, length, take, drop};
-ghost use Rattle.step_record.specs.declared.limits.TheConstants.{MAX_ACCESSES};
 ghost use Rattle.step_record.specs.declared.job.Job.{Job};
 ghost use Rattle.policies.specs.AnyPolicy.{stats_on};
 ghost use Rattle.policies.specs.Lru.{distinct_keys};
