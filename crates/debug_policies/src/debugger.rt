@@ -4,7 +4,8 @@ ghost use Rattle.debug_commands.specs.Dialogue.{dialogue_of, IsLineHeld};
 ghost use Rattle.job_checks.specs.FaultyJobs.{faulty_in};
 ghost use Rattle.step_record.specs.Config.{config_fault};
 ghost use Rattle.debug_policies.specs.Refused.{ReturnsConfig, UntouchedAtConfig};
-ghost use Rattle.debug_policies.specs.TwoPolicies.{access_facts, just_one, left_on_access, policies_timeline, IsPartWalk};
+ghost use Rattle.debug_policies.specs.TwoPolicies.{access_facts, just_one, left_on_access, policies_timeline};
+ghost use Rattle.debug_policies.specs.TwoPolicies.{IsPartWalk};
 
 use crate::divergence::{hits, part, push_part};
 use crate::one_policy::OnePolicy;

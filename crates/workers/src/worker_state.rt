@@ -99,8 +99,8 @@ pub(crate) fn work_all<G: Gate, R: Threads + Wait + Sync>(
     states
 }
 
-// The passes of all workers, in memory that is there, and why the first worker that was refused a step was refused it, in
-// the order of their numbers.
+// The passes of all workers, in memory that is there, and why the first worker that was refused a step, in the order of
+// their numbers, was refused it.
 pub(crate) fn collect_passes(
     states: Vec<WorkerState>,
     mut passes: Vec<Pass<Session<Shell>>>,
