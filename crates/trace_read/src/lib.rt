@@ -22,5 +22,5 @@ mod scan;
 
 pub use fault::TraceFault;
 pub use format::Format;
-pub use reader::read_trace;
+pub use reader::{Follower, read_followed, read_trace};
 pub use step_record::Trace;
