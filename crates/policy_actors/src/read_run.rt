@@ -123,6 +123,31 @@ fn run_fed_by<S: Source + Send + Sync + 'static, T: Threads + Wait + Sync, R: Re
         → IfOk result.1 (λ v. v.items ≡ map (λ j. report_on j all) jobs.now) }
     ensures read { IsReadTo format (R.remaining reader.old) (R.remaining reader.new) result.0 }
 {
+    let (reader, outcome) = run_fed_with::<S, T, R, G>(rt, alloc, reader, format, jobs, size, gate);
+    let _ = reader;
+    outcome
+}
+
+// The same, and the reader.
+fn run_fed_with<'r, S: Source + Send + Sync + 'static, T: Threads + Wait + Sync, R: Read, G: Gate>(
+    rt: &T,
+    alloc: Global,
+    reader: &'r mut R,
+    format: Format,
+    jobs: &[Job],
+    size: usize,
+    gate: &G,
+) -> (&'r mut R, (Result<(), TraceFault>, Result<Vec<Report>, AllocError>))
+    requires file { AreOfFile format (R.remaining reader.old) S.known }
+    requires size { (size ≡ S.size) × (0 < size) }
+    requires few { length jobs.now ≤ MAX_ACTORS }
+    requires checked { faulty_in jobs.now ≡ None }
+    requires queues { AreOfQueues jobs.now }
+    ensures same { result.0.ghost_name ≡ reader.entry.ghost_name }
+    ensures reports { (all : List ℕ) → S.known ≡ Some all
+        → IfOk result.1.1 (λ v. v.items ≡ map (λ j. report_on j all) jobs.now) }
+    ensures read { IsReadTo format (R.remaining reader.old) (R.remaining result.0.now) result.1.0 }
+{
     let backlog = Backlog::new();
     let common = Common::new(None, &backlog, MAX_ACCESSES / size + 1, size);
     let feeder: ReadFeeder<'_, '_, R, S> = ReadFeeder {
@@ -133,6 +158,6 @@ fn run_fed_by<S: Source + Send + Sync + 'static, T: Threads + Wait + Sync, R: Re
         backlog: &backlog,
         marker: PhantomData,
     };
-    let ((_, read), reports) = run_fed(rt, alloc, common, jobs, gate, feeder);
-    (read, reports)
+    let ((reader, read), reports) = run_fed(rt, alloc, common, jobs, gate, feeder);
+    (reader, (read, reports))
 }
