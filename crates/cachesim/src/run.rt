@@ -75,7 +75,15 @@ fn reports<T: Threads + Wait + Sync, R: Read, P: Watch>(
 {
     if can_run_reading(arguments.batch, jobs) {
         watch.begin(Work::of_unknown_length("run"));
-        let reports = run_reading(rt, alloc, input, arguments.format, jobs, arguments.batch, watch);
+        let reports = run_reading(
+            rt,
+            alloc,
+            input,
+            arguments.format,
+            jobs,
+            arguments.batch,
+            watch,
+        );
         watch.end();
         Ok(reports?)
     } else {

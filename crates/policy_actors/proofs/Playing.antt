@@ -39,21 +39,27 @@ module _ (known : Option (List ℕ)) (j : Job) (size k : ℕ) (b : Batch) (is : 
   next : (d : AnyPolicy) → IsAfter known j size k d → IsNext b.keys d
   next d s = ⊎_elim
       (λ any. record {
-        job = j; trace = s.done ++ b.keys; before = s.done; rest = [];
+        job = j;
+        trace = s.done ++ b.keys;
+        before = s.done;
+        rest = [];
         stands = any (s.done ++ b.keys);
         ahead = ap (λ (l : List ℕ). s.done ++ l) (sym (append-nil b.keys));
         few = few_more s.done s.within s.few;
       })
       (λ (t : (trace : List ℕ) × (known ≡ Some trace) × (length trace ≤ MAX_ACCESSES) × HasAccessed j trace s.done d).
-        let first : s.done ≡ take (k * size) t.0 = subst (λ o. IfSome o (λ a. s.done ≡ take (k * size) a)) t.1 s.first in
-        record {
-          job = j; trace = t.0; before = s.done; rest = drop size (drop (k * size) t.0);
-          stands = t.3;
-          ahead = sym (take-append-drop (k * size) t.0) ∙ ap (λ (l : List ℕ). l ++ drop (k * size) t.0) (sym first)
-              ∙ ap (λ (l : List ℕ). s.done ++ l) (sym (take-append-drop size (drop (k * size) t.0))
-              ∙ ap (λ (l : List ℕ). l ++ drop size (drop (k * size) t.0)) (sym (piece_of t.0 t.1)));
-          few = t.2;
-        })
+      let first : s.done ≡ take (k * size) t.0 = subst (λ o. IfSome o (λ a. s.done ≡ take (k * size) a)) t.1 s.first in
+      record {
+        job = j;
+        trace = t.0;
+        before = s.done;
+        rest = drop size (drop (k * size) t.0);
+        stands = t.3;
+        ahead = sym (take-append-drop (k * size) t.0) ∙ ap (λ (l : List ℕ). l ++ drop (k * size) t.0) (sym first)
+            ∙ ap (λ (l : List ℕ). s.done ++ l) (sym (take-append-drop size (drop (k * size) t.0))
+            ∙ ap (λ (l : List ℕ). l ++ drop size (drop (k * size) t.0)) (sym (piece_of t.0 t.1)));
+        few = t.2;
+      })
       s.played
 
   -- it is ready for the next batch
@@ -89,8 +95,8 @@ module _ (known : Option (List ℕ)) (j : Job) (size k : ℕ) (b : Batch) (is : 
       let first : s.done ≡ take ((k + 1) * size) all = subst (λ o. IfSome o (λ a. s.done ≡ take ((k + 1) * size) a)) e s.first in
       let done : s.done ≡ all = first ∙ all-taken size k all (ends.0 last) in
       subst (λ (l : List ℕ). HasAccessed j all l d) done (⊎_elim (λ any. any all)
-          (λ (t : (trace : List ℕ) × (known ≡ Some trace) × (length trace ≤ MAX_ACCESSES) × HasAccessed j trace s.done d).
-            let same : t.0 ≡ all = cc in subst (λ (l : List ℕ). HasAccessed j l s.done d) same t.3) s.played)
+      (λ (t : (trace : List ℕ) × (known ≡ Some trace) × (length trace ≤ MAX_ACCESSES) × HasAccessed j trace s.done d).
+      let same : t.0 ≡ all = cc in subst (λ (l : List ℕ). HasAccessed j l s.done d) same t.3) s.played)
 
   -- after the last batch it stands for all that was fed
   pub ended : (m : Option AnyPolicy) → IfSome m (IsAfter known j size (k + 1)) → IsTrue b.last → (all : List ℕ) → known ≡ Some all → IfSome m (HasAccessed j all all)

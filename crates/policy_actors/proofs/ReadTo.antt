@@ -12,7 +12,10 @@ module _ {T U : Type 0} (format : Format) (old new : Option (List ℕ)) where
   -- the fault of the reading is that of the run
   pub with_fault : (r : Result T TraceFault) (e : TraceFault) → r ≡ Err e → IsReadTo format old new r → IsReadTo {T = U} format old new (Err e)
   with_fault r e is h = let k : IsReadTo {T = T} format old new (Err e) = subst (λ (x : Result T TraceFault). IsReadTo format old new x) is h in record {
-    ok = tt; end = tt; faulty = k.faulty; all = k.all;
+    ok = tt;
+    end = tt;
+    faulty = k.faulty;
+    all = k.all;
     large = λ q. let s : e ≡ TooLarge = cc in k.large (ap Err s);
     within = λ n. k.within (λ q. let s : e ≡ TooLarge = cc in n (ap Err s));
   }
@@ -20,14 +23,20 @@ module _ {T U : Type 0} (format : Format) (old new : Option (List ℕ)) where
   -- it was read to its end, and then
   pub with_end : (r : Result T TraceFault) (t : T) (v : U) → r ≡ Ok t → IsReadTo format old new r → IsReadTo {T = U} format old new (Ok v)
   with_end r t v is h = let k : IsReadTo {T = T} format old new (Ok t) = subst (λ (x : Result T TraceFault). IsReadTo format old new x) is h in record {
-    ok = k.ok; end = k.end; faulty = tt; all = tt;
+    ok = k.ok;
+    end = k.end;
+    faulty = tt;
+    all = tt;
     large = λ q. absurd (cc q);
     within = λ n. k.within (λ q. absurd (cc q));
   }
 
   pub without_memory : (r : Result T TraceFault) (t : T) → r ≡ Ok t → IsReadTo format old new r → IsReadTo {T = U} format old new (Err OutOfMemory)
   without_memory r t is h = let k : IsReadTo {T = T} format old new (Ok t) = subst (λ (x : Result T TraceFault). IsReadTo format old new x) is h in record {
-    ok = tt; end = tt; faulty = λ q. absurd q; all = λ q. absurd q;
+    ok = tt;
+    end = tt;
+    faulty = λ q. absurd q;
+    all = λ q. absurd q;
     large = λ q. absurd (cc q);
     within = λ n. k.within (λ q. absurd (cc q));
   }

@@ -16,16 +16,16 @@ pub skipped : (keys : List ℕ) (start end size m : ℕ) → start ≤ end → e
     → take (end - (start + m)) (drop (start + m) keys) ≡ drop size (take (end - start) (drop start keys))
 skipped keys start end size m order within is = ⊎_elim
     (λ (gt : end - start < size).
-        let e : end - (start + m) ≡ 0 = omega arith in
-        ap (λ (n : ℕ). take n (drop (start + m) keys)) e
-        ∙ sym (nothing_left (end - start) size (drop start keys) (omega arith) (omega (arith, length-drop start keys))))
+    let e : end - (start + m) ≡ 0 = omega arith in
+    ap (λ (n : ℕ). take n (drop (start + m) keys)) e
+    ∙ sym (nothing_left (end - start) size (drop start keys) (omega arith) (omega (arith, length-drop start keys))))
     (λ (le : size ≤ end - start).
-        let same : m ≡ size = omega arith in
-        let e : end - (start + m) ≡ (end - start) - size = omega arith in
-        ap (λ (n : ℕ). take n (drop (start + m) keys)) e
-        ∙ ap (λ (n : ℕ). take ((end - start) - size) (drop (start + n) keys)) same
-        ∙ ap (take ((end - start) - size)) (sym (drop-drop size start keys))
-        ∙ sym (drop_front (end - start) size (drop start keys) le))
+    let same : m ≡ size = omega arith in
+    let e : end - (start + m) ≡ (end - start) - size = omega arith in
+    ap (λ (n : ℕ). take n (drop (start + m) keys)) e
+    ∙ ap (λ (n : ℕ). take ((end - start) - size) (drop (start + n) keys)) same
+    ∙ ap (take ((end - start) - size)) (sym (drop-drop size start keys))
+    ∙ sym (drop_front (end - start) size (drop start keys) le))
     (cases_lt (end - start) size)
 
 module _ (place size : ℕ) (keys : List ℕ) where
@@ -34,12 +34,12 @@ module _ (place size : ℕ) (keys : List ℕ) where
   piece_left None h = tt
   piece_left (Some all) h = ⊎_elim
       (λ (gt : length keys < size).
-          let none : drop size keys ≡ [] = drop_all size keys (omega arith) in
-          none ∙ ap (λ (l : List ℕ). take (length l) (drop (place + size) all)) (sym none))
+      let none : drop size keys ≡ [] = drop_all size keys (omega arith) in
+      none ∙ ap (λ (l : List ℕ). take (length l) (drop (place + size) all)) (sym none))
       (λ (le : size ≤ length keys).
-          ap (drop size) h ∙ drop_front (length keys) size (drop place all) le
-          ∙ ap (take (length keys - size)) (drop-drop size place all)
-          ∙ ap (λ (n : ℕ). take n (drop (place + size) all)) (sym (length-drop size keys)))
+      ap (drop size) h ∙ drop_front (length keys) size (drop place all) le
+      ∙ ap (take (length keys - size)) (drop-drop size place all)
+      ∙ ap (λ (n : ℕ). take n (drop (place + size) all)) (sym (length-drop size keys)))
       (cases_lt (length keys) size)
 
   pub end_left : (is_end : Bool) (known : Option (List ℕ)) → IfSome known (λ all. is_end ≡ true → keys ≡ drop place all)

@@ -24,8 +24,8 @@ mod sweeps;
 mod unsent;
 
 pub use job_checks::ActorFault;
-pub use rounds::{BatchEnds, feed_in_rounds};
 pub use read_run::{can_run_reading, run_reading};
+pub use rounds::{BatchEnds, feed_in_rounds};
 pub use run::{MAX_ACTORS, run_actors};
 pub use single_run::run_one;
 pub use sweeps::{sweep, sweep_batches, sweep_each};

@@ -137,7 +137,10 @@ fn run_fed_with<'r, S: Source + Send + Sync + 'static, T: Threads + Wait + Sync,
     jobs: &[Job],
     size: usize,
     gate: &G,
-) -> (&'r mut R, (Result<(), TraceFault>, Result<Vec<Report>, AllocError>))
+) -> (
+    &'r mut R,
+    (Result<(), TraceFault>, Result<Vec<Report>, AllocError>),
+)
     requires file { AreOfFile format (R.remaining reader.old) S.known }
     requires size { (size ≡ S.size) × (0 < size) }
     requires few { length jobs.now ≤ MAX_ACTORS }

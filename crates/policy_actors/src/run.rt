@@ -101,7 +101,12 @@ fn run_over<S: Source + Send + Sync + 'static, R: Threads + Wait + Sync, G: Gate
     let uses = SharedUses::<S>::new();
     let backlog = Backlog::new();
     let feeder = TraceFeeder::<S>::new(trace, size);
-    let common = Common::new(Some(WholeTrace { trace, uses: &uses }), &backlog, feeder.batches, size);
+    let common = Common::new(
+        Some(WholeTrace { trace, uses: &uses }),
+        &backlog,
+        feeder.batches,
+        size,
+    );
     run_fed(rt, alloc, common, jobs, gate, feeder).1
 }
 

@@ -98,9 +98,25 @@ fn pieces_and_batches_change_no_report(rt: HostRuntime) -> Result<(), Fail> {
     for (size, batch) in [(1, 1), (2, 3), (64, 5), (64, 65_536)] {
         let run = (jobs().as_slice(), batch);
         let lirs = Pieces::of("1\n1\n\n*\n2\n3\r\n1", size, 1);
-        assert_reading(&rt, rt.alloc(), lirs, Format::Lirs, run, &OpenGate, Ok(&wanted()))?;
+        assert_reading(
+            &rt,
+            rt.alloc(),
+            lirs,
+            Format::Lirs,
+            run,
+            &OpenGate,
+            Ok(&wanted()),
+        )?;
         let arc = Pieces::of("1 1 0 0\n1 3 0 0\n1 1\n", size, 1);
-        assert_reading(&rt, rt.alloc(), arc, Format::Arc, run, &OpenGate, Ok(&wanted()))?;
+        assert_reading(
+            &rt,
+            rt.alloc(),
+            arc,
+            Format::Arc,
+            run,
+            &OpenGate,
+            Ok(&wanted()),
+        )?;
     }
     Ok(())
 }
@@ -114,7 +130,15 @@ fn an_empty_text_is_one_empty_batch(rt: HostRuntime) -> Result<(), Fail> {
     ];
     let gate = Turns::new(rt.alloc(), 2)?;
     let empty = Pieces::of("", 1, 1);
-    assert_reading(&rt, rt.alloc(), empty, Format::Lirs, (&jobs, 3), &gate, Ok(&wanted))?;
+    assert_reading(
+        &rt,
+        rt.alloc(),
+        empty,
+        Format::Lirs,
+        (&jobs, 3),
+        &gate,
+        Ok(&wanted),
+    )?;
     assert!(rt; gate.is_over(1));
     Ok(())
 }
@@ -129,7 +153,15 @@ fn no_fault_of_the_trace_is_a_report(rt: HostRuntime) -> Result<(), Fail> {
         let run = (jobs().as_slice(), 1);
         let mut reader = Pieces::of(text, 2, 1);
         reader.fails = fails;
-        assert_reading(&rt, rt.alloc(), reader, Format::Lirs, run, &OpenGate, Err(fault))?;
+        assert_reading(
+            &rt,
+            rt.alloc(),
+            reader,
+            Format::Lirs,
+            run,
+            &OpenGate,
+            Err(fault),
+        )?;
     }
     Ok(())
 }
@@ -142,7 +174,15 @@ fn a_long_text_is_made_in_turn(rt: HostRuntime) -> Result<(), Fail> {
     for (batch, batches) in [(1_000, 300), (1_024, 293), (40_000, 8), (65_536, 5)] {
         let gate = Turns::new(rt.alloc(), 2)?;
         let long = Pieces::of("1\n2\n3\n", 6, 100_000);
-        assert_reading(&rt, rt.alloc(), long, Format::Lirs, (&jobs, batch), &gate, Ok(&wanted))?;
+        assert_reading(
+            &rt,
+            rt.alloc(),
+            long,
+            Format::Lirs,
+            (&jobs, batch),
+            &gate,
+            Ok(&wanted),
+        )?;
         assert!(rt; gate.is_over(batches));
     }
     Ok(())
