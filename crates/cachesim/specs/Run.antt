@@ -10,6 +10,7 @@ use Rattle.step_record.specs.declared.job.Policy.{Policy}
 use Rattle.trace_read.specs.Reading.{fault_in, keys_in}
 use Rattle.trace_read.specs.declared.format.Format.{Format}
 use Rattle.report.specs.Text.{reports_text}
+use Rattle.report.specs.declared.report.Report.{Report}
 use Rattle.command_line.specs.Parsed.{HasOddStripes, IsIncomplete}
 use Rattle.command_line.specs.Program.{AreLists, Lists, call_words, program_app}
 use Rattle.command_line.specs.Program.{capacities_in, concurrent_in, config_at, config_in, format_in}
@@ -24,6 +25,10 @@ use Rattle.cachesim.specs.Part.{Parting}
 abbrev pub Reports : Format → List Job → Option (List ℕ) → Option (List ℕ) → Option (List ℕ) → Type 0
 Reports format jobs input before after = IfSome input (λ bytes. (fault_in format bytes ≡ None)
     × Appends before after (reports_text (reports_on jobs (keys_in format bytes))))
+
+-- the bytes have no fault, and these are the jobs' reports on the accesses in them
+abbrev pub AreReportsOn : Format → List Job → List Report → List ℕ → Type 0
+AreReportsOn format jobs reports bytes = (fault_in format bytes ≡ None) × (reports ≡ reports_on jobs (keys_in format bytes))
 
 -- `run` was called, and has written the reports of what its matches name
 pub record Ran (subcommand : Option (Text × List Row)) (input before after : Option (List ℕ)) : Type 0 where

@@ -3,11 +3,12 @@ ghost use Rattle.std.specs.Prelude.{◌≡◌, ◌≢◌, ◌⊎◌, IfErr, IfOk
 ghost use Rattle.policy_actors.specs.Faults.{actor_fault};
 ghost use Rattle.cachesim.specs.Found.{IsFoundIn, IsOfJobs, IsOfMachine};
 ghost use Rattle.cachesim.specs.Jobs.{jobs_by_policy, reports_on};
-ghost use Rattle.cachesim.specs.Run.{Reports};
+ghost use Rattle.cachesim.specs.Run.{AreReportsOn, Reports};
+ghost use Rattle.job_checks.specs.FaultyJobs.{ReturnsFault};
 
 use crate::fault::Fault;
 use command_line::RunArguments;
-use policy_actors::{ActorFault, run_actors};
+use policy_actors::{ActorFault, can_run_reading, run_actors, run_reading};
 use progress::{Watch, Work};
 use report::{Report, write_reports};
 use std::alloc::{AllocError, Global};
@@ -51,31 +52,61 @@ pub fn run<T: Threads + Wait + Sync, R: Read, W: Write, P: Watch>(
         (IsFoundIn arguments.now.format (IsOfJobs (actor_fault arguments.now.batch
         (jobs_by_policy arguments.now.config arguments.now.policies.items))) fault)) }
 {
-    let trace = read_trace(alloc, input, arguments.format)?;
-    let reports = reports(rt, alloc, &trace, arguments, watch)?;
+    let jobs = jobs(alloc, arguments.config, arguments.policies.as_slice())?;
+    let reports = reports(rt, alloc, arguments, jobs.as_slice(), input, watch)?;
     write_reports(alloc, reports.as_slice(), out)?;
     Ok(())
 }
 
-// The reports of the policies that the arguments name, each run on a thread of its own.
-fn reports<T: Threads + Wait + Sync, P: Watch>(
+// The reports of the jobs, each run on a thread of its own: while the trace is read, where no policy goes by the whole
+// trace.
+fn reports<T: Threads + Wait + Sync, R: Read, P: Watch>(
+    rt: &T,
+    alloc: Global,
+    arguments: &RunArguments,
+    jobs: &[Job],
+    input: &mut R,
+    watch: &P,
+) -> Result<Vec<Report>, Fault>
+    ensures reports { IfOk result (λ reports. IfSome (R.remaining input.old)
+        (AreReportsOn arguments.now.format jobs.now reports.items)) }
+    ensures fault { IfErr result (λ fault. IsOfMachine fault ⊎ IfSome (R.remaining input.old)
+        (IsFoundIn arguments.now.format (IsOfJobs (actor_fault arguments.now.batch jobs.now)) fault)) }
+{
+    if can_run_reading(arguments.batch, jobs) {
+        watch.begin(Work::of_unknown_length("run"));
+        let reports = run_reading(
+            rt,
+            alloc,
+            input,
+            arguments.format,
+            jobs,
+            arguments.batch,
+            watch,
+        );
+        watch.end();
+        Ok(reports?)
+    } else {
+        let trace = read_trace(alloc, input, arguments.format)?;
+        let reports = reports_on(rt, alloc, &trace, jobs, arguments.batch, watch)?;
+        Ok(reports)
+    }
+}
+
+// The reports of the jobs over a trace, each run on a thread of its own.
+fn reports_on<T: Threads + Wait + Sync, P: Watch>(
     rt: &T,
     alloc: Global,
     trace: &Trace,
-    arguments: &RunArguments,
+    jobs: &[Job],
+    batch: u32,
     watch: &P,
 ) -> Result<Vec<Report>, ActorFault>
-    ensures reports { IfOk result (λ reports. reports.items
-        ≡ reports_on (jobs_by_policy arguments.now.config arguments.now.policies.items) trace.now) }
-    ensures fault { IfErr result (λ fault. (fault ≡ ActorFault.OutOfMemory) ⊎ (actor_fault arguments.now.batch
-        (jobs_by_policy arguments.now.config arguments.now.policies.items) ≡ Some fault)) }
-    ensures few { OnOk result
-        (actor_fault arguments.now.batch (jobs_by_policy arguments.now.config arguments.now.policies.items) ≡ None) }
+    ensures reports { IfOk result (λ v. v.items ≡ reports_on jobs.now trace.now) }
+    ensures fault { ReturnsFault (actor_fault batch jobs.now) result }
 {
-    let jobs = jobs(alloc, arguments.config, arguments.policies.as_slice())?;
-    let batch = arguments.batch;
     watch.begin(Work::in_batches("run", jobs.len(), trace.len(), batch));
-    let reports = run_actors(rt, alloc, trace, jobs.as_slice(), batch, watch);
+    let reports = run_actors(rt, alloc, trace, jobs, batch, watch);
     watch.end();
     reports
 }

@@ -64,7 +64,7 @@ fn reports<T: Threads + Sync, P: Watch>(
     let capacities = arguments.capacities.as_slice();
     watch.begin(Work {
         name: "sweep",
-        batches: sweep_batches(trace, jobs.as_slice(), capacities),
+        batches: Some(sweep_batches(trace, jobs.as_slice(), capacities)),
     });
     let reports = sweep_each(rt, alloc, trace, jobs.as_slice(), capacities, watch);
     watch.end();

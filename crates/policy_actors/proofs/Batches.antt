@@ -1,27 +1,7 @@
 -- The batches of a trace, as accesses of a cache.
-use Rattle.std.proofs.Common.{◌≡◌, ℕ, ◌+◌, ◌*◌, ◌≤◌, List, ◌++◌, length, take, drop, Option, Some, None, IfSome, sym, ap, ◌∙◌, arith, take-append-drop, append_assoc}
+use Rattle.std.proofs.Common.{◌≡◌, ℕ, ◌+◌, ◌*◌, ◌≤◌, List, ◌++◌, length, take, drop, sym, ap, ◌∙◌, arith, take-append-drop, append_assoc}
 use Rattle.std.proofs.Math.Seq.{take-add}
 use Rattle.std.proofs.lemmas.List.{take_all}
-use Rattle.step_record.specs.declared.job.Job.{Job}
-use Rattle.step_record.specs.declared.limits.TheConstants.{MAX_ACCESSES}
-use Rattle.policies.specs.declared.any_policy.AnyPolicy.{AnyPolicy}
-use Rattle.policies.specs.AnyPolicy.{HasAccessed}
-use Rattle.policy_actors.specs.Accesses.{IsNext}
-
--- a cache that stands for the batches before is ready for the next
-pub ready : (m : Option AnyPolicy) (j : Job) (size k : ℕ) (keys piece : List ℕ) → piece ≡ take size (drop (k * size) keys) → length keys ≤ MAX_ACCESSES
-    → IfSome m (HasAccessed j keys (take (k * size) keys)) → IfSome m (IsNext piece)
-ready None j size k keys piece is few s = tt
-ready (Some d) j size k keys piece is few s = record {
-  job = j;
-  trace = keys;
-  before = take (k * size) keys;
-  rest = drop size (drop (k * size) keys);
-  stands = s;
-  ahead = sym (take-append-drop (k * size) keys)
-      ∙ ap (λ l. take (k * size) keys ++ l) (sym (take-append-drop size (drop (k * size) keys)) ∙ ap (λ l. l ++ drop size (drop (k * size) keys)) (sym is));
-  few = few;
-}
 
 pub taken-more : (size k : ℕ) (keys piece : List ℕ) → piece ≡ take size (drop (k * size) keys) → take (k * size) keys ++ piece ≡ take ((k + 1) * size) keys
 taken-more size k keys piece is =

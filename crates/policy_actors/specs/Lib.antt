@@ -1,6 +1,9 @@
 pub mod Reports
 pub mod Faults
 pub mod Accesses
+pub mod Keys
+pub mod Played
+pub mod ReadRun
 pub mod Rule
 pub mod Rounds
 pub mod Actors

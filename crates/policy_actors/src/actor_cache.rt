@@ -1,5 +1,5 @@
 //! An actor's cache: the accesses of a trace, batch by batch, and the report at its end.
-ghost use Rattle.std.specs.Prelude.{◌≡◌, [], ◌++◌, ℕ, List, take, drop, OnOk, IfSome};
+ghost use Rattle.std.specs.Prelude.{◌≡◌, [], ◌++◌, ℕ, List, take, drop, None, OnOk, IfSome};
 ghost use Rattle.step_record.specs.declared.job.Job.{Job};
 ghost use Rattle.policies.specs.AnyPolicy.{HasAccessed};
 ghost use Rattle.policy_actors.specs.Accesses.{IsNext};
@@ -68,8 +68,9 @@ pub fn cut(rest: &[Key], size: usize) -> (&[Key], &[Key])
 /// Makes the accesses of a batch. A cache that ran out of memory is dropped, and stays so.
 pub fn access_batch(cache: &mut Option<AnyPolicy>, keys: &[Key])
     requires { IfSome cache.old (IsNext keys.now) }
-    ensures { (j : Job) (trace done : List ℕ) → IfSome cache.old (HasAccessed j trace done)
+    ensures accessed { (j : Job) (trace done : List ℕ) → IfSome cache.old (HasAccessed j trace done)
         → IfSome cache.new (HasAccessed j trace (done ++ keys.now)) }
+    ensures gone { cache.old ≡ None → cache.new ≡ None }
 {
     let Some(open) = cache else {
         return;

@@ -1,12 +1,27 @@
 //! The next uses of a trace, found once for all actors that go by them.
-ghost use Rattle.std.specs.Prelude.{◌≡◌, IfSome};
+ghost use Rattle.std.specs.Prelude.{◌≡◌, IfSome, Some};
 
 use crate::rule::Source;
 use clairvoyant::NextUse;
-use std::alloc::Global;
+use std::alloc::{AllocError, Global};
 use std::marker::PhantomData;
 use std::sync::{OnceLock, Wait};
 use step_record::Trace;
+
+/// The whole trace that is fed, with the next uses of it, which the actors share.
+pub struct WholeTrace<'a, S: Source> {
+    pub trace: &'a Trace,
+    pub uses: &'a SharedUses<S>,
+    pub ghost known: { S.known ≡ Some trace.now },
+}
+
+impl<'a, S: Source> Copy for WholeTrace<'a, S> {}
+
+impl<'a, S: Source> Clone for WholeTrace<'a, S> {
+    fn clone(&self) -> Result<Self, AllocError> {
+        Ok(*self)
+    }
+}
 
 /// The next uses of the trace that is fed, once an actor has asked for them.
 #[derive(Drop)]
@@ -18,7 +33,7 @@ pub struct SharedUses<S: Source> {
 struct Found<S: Source> {
     uses: NextUse,
     marker: PhantomData<S>,
-    ghost known: { uses ≡ S.keys },
+    ghost known: { S.known ≡ Some uses },
 }
 
 impl<S: Source> SharedUses<S> {
@@ -31,13 +46,13 @@ impl<S: Source> SharedUses<S> {
     /// The next uses. The first actor to ask finds them, and others that ask meanwhile wait. `None` if it was out of
     /// memory.
     pub fn get<R: Wait>(&self, rt: &R, alloc: Global, trace: &Trace) -> Option<&NextUse>
-        requires { trace.now ≡ S.keys }
-        ensures { IfSome result (λ uses. uses.now ≡ S.keys) }
+        requires { S.known ≡ Some trace.now }
+        ensures { IfSome result (λ uses. S.known ≡ Some uses.now) }
     {
         let found = self.found.get_or_init(
             rt,
             || -> Option<Found<S>>
-                requires { trace.now ≡ S.keys }
+                requires { S.known ≡ Some trace.now }
             { find(alloc, trace) },
         );
         match found {
@@ -48,7 +63,7 @@ impl<S: Source> SharedUses<S> {
 }
 
 fn find<S: Source>(alloc: Global, trace: &Trace) -> Option<Found<S>>
-    requires { trace.now ≡ S.keys }
+    requires { S.known ≡ Some trace.now }
 {
     match NextUse::build(alloc, trace) {
         Ok(uses) => Some(Found {

@@ -1,22 +1,23 @@
 //! The rule of an actor's channel.
-ghost use Rattle.std.specs.Prelude.{ℕ, List, ⊤};
+ghost use Rattle.std.specs.Prelude.{ℕ, List, Option, ⊤};
 
+use crate::keys::Keys;
 use crossbeam_channel::protocol::{Lesson, Outcome, Protocol, Split};
 use crossbeam_channel::{Pass, RuledReceiver, RuledSender};
 use std::marker::{Brand, PhantomData};
-use step_record::Key;
 
-/// What is fed: the keys, so many to a batch. It stands for values that are known at run time only.
+/// What is fed: the keys, where they are known when the actors start, and how many go to a batch. It stands for values
+/// that are known at run time only.
 pub trait Source {
-    ghost keys: { List ℕ };
+    ghost known: { Option (List ℕ) };
 
     ghost size: { ℕ };
 }
 
 impl Source for Brand {
-    ghost use Rattle.std.specs.Prelude.{[]};
+    ghost use Rattle.std.specs.Prelude.{None};
 
-    ghost keys = { [] };
+    ghost known = { None };
 
     ghost size = { 0 };
 }
@@ -26,7 +27,7 @@ impl Source for Brand {
 pub struct Batch<'a> {
     pub number: u64,
     pub last: bool,
-    pub keys: &'a [Key],
+    pub keys: Keys<'a>,
 }
 
 // What a pass may do, and how many batches it has given and taken. No value of it is made.
@@ -45,7 +46,7 @@ impl<'a, S: Source> Protocol<Batch<'a>, Log> for BatchesInOrder<S> {
     ghost use Rattle.std.specs.Prelude.{true};
     ghost use Rattle.policy_actors.specs.Rule.{log, AreKept};
 
-    ghost holds = { AreKept S.keys S.size };
+    ghost holds = { AreKept S.known S.size };
 
     ghost first = { log true true 0 0 };
 }
@@ -82,7 +83,7 @@ impl<'a, S: Source> Outcome<Batch<'a>, Log> for Took<S> {
     ghost use Rattle.std.specs.Prelude.{◌≡◌, ◌+◌};
     ghost use Rattle.policy_actors.specs.Rule.{log, IsBatch};
 
-    ghost then = { λ v x w. (w ≡ log v.gives v.takes v.given (v.taken + 1)) × IsBatch S.keys S.size v.taken x };
+    ghost then = { λ v x w. (w ≡ log v.gives v.takes v.given (v.taken + 1)) × IsBatch S.known S.size v.taken x };
 }
 
 impl<'a, S: Source> Lesson<Batch<'a>, Log> for Took<S> {

@@ -1,18 +1,20 @@
 //! Each job on a thread of its own.
 ghost use Rattle.std.specs.Prelude.{◌≡◌, ◌<◌, ◌≤◌, [], ◌∷◌, ◌++◌, map, length};
-ghost use Rattle.std.specs.Prelude.{Ok, None, IfOk, OnOk, IfSome};
+ghost use Rattle.std.specs.Prelude.{ℕ, List, false, Ok, None, Some, IfOk, OnOk, IfSome, MatchOption, ⊤};
 ghost use denote.Param.Send.{IsSync};
 ghost use Rattle.step_record.specs.Config.{config_fault};
 ghost use Rattle.policy_actors.specs.declared.run.TheConstants.{MAX_ACTORS};
-ghost use Rattle.policy_actors.specs.Actors.{jobs_of};
+ghost use Rattle.policies.specs.Design.{knows_trace};
+ghost use Rattle.policy_actors.specs.Actors.{AreOfQueues, jobs_of};
 ghost use Rattle.policy_actors.specs.Faults.{actor_fault};
 ghost use Rattle.job_checks.specs.FaultyJobs.{faulty_in, ReturnsFault};
 ghost use Rattle.policy_actors.specs.Reports.{report_on};
 
 use crate::actor::act;
-use crate::mail::{Feed, channel};
-use crate::next_uses::SharedUses;
-use crate::rounds::feed_in_rounds;
+use crate::backlog::Backlog;
+use crate::feeder::{Feeder, TraceFeeder};
+use crate::mail::{Outbox, channel};
+use crate::next_uses::{SharedUses, WholeTrace};
 use crate::rule::Source;
 use job_checks::{ActorFault, check_jobs};
 use report::Report;
@@ -34,10 +36,10 @@ pub struct Promised<S: Source> {
 }
 
 impl<S: Source> Promise<Option<Report>> for Promised<S> {
-    ghost use Rattle.std.specs.Prelude.{◌≡◌, IfSome};
+    ghost use Rattle.std.specs.Prelude.{◌≡◌, ℕ, List, Some, IfSome};
     ghost use Rattle.policy_actors.specs.Reports.{report_on};
 
-    ghost kept_by = { λ p r. IfSome r (λ x. x ≡ report_on p.job S.keys) };
+    ghost kept_by = { λ p r. (all : List ℕ) → S.known ≡ Some all → IfSome r (λ x. x ≡ report_on p.job all) };
 }
 
 type Handle<S> = thread::PromisedHandle<Option<Report>, Promised<S>>;
@@ -62,19 +64,27 @@ pub fn run_actors<R: Threads + Wait + Sync, G: Gate>(
     ensures reports { IfOk result (λ v. v.items ≡ map (λ j. report_on j trace.now) jobs.now) }
     ensures fault { ReturnsFault (actor_fault batch jobs.now) result }
 {
+    check_run(batch, jobs)?;
+    let reports = run_over::<Brand, R, G>(rt, alloc, trace, batch as usize, jobs, gate)?;
+    Ok(reports)
+}
+
+/// Whether jobs can be run with so many accesses to a batch. The errors are those of `run_actors`, but for
+/// `OutOfMemory`, which does not come.
+pub fn check_run(batch: u32, jobs: &[Job]) -> Result<(), ActorFault>
+    ensures { ReturnsFault (actor_fault batch jobs.now) result }
+{
     if batch == 0 || batch > MAX_BATCH {
         return Err(ActorFault::Batch);
     }
     if jobs.len() > MAX_ACTORS {
         return Err(ActorFault::Actors);
     }
-    check_jobs(jobs)?;
-    let reports = run_jobs::<Brand, R, G>(rt, alloc, trace, batch as usize, jobs, gate)?;
-    Ok(reports)
+    check_jobs(jobs)
 }
 
 // Runs jobs that were checked before, so that out of memory is the one error.
-fn run_jobs<S: Source + Send + Sync + 'static, R: Threads + Wait + Sync, G: Gate>(
+fn run_over<S: Source + Send + Sync + 'static, R: Threads + Wait + Sync, G: Gate>(
     rt: &R,
     alloc: Global,
     trace: &Trace,
@@ -82,61 +92,131 @@ fn run_jobs<S: Source + Send + Sync + 'static, R: Threads + Wait + Sync, G: Gate
     jobs: &[Job],
     gate: &G,
 ) -> Result<Vec<Report>, AllocError>
-    requires trace { trace.now ≡ S.keys }
+    requires trace { S.known ≡ Some trace.now }
     requires size { (size ≡ S.size) × (0 < size) }
     requires few { length jobs.now ≤ MAX_ACTORS }
     requires checked { faulty_in jobs.now ≡ None }
-    ensures { IfOk result (λ v. v.items ≡ map (λ j. report_on j S.keys) jobs.now) }
+    ensures { IfOk result (λ v. v.items ≡ map (λ j. report_on j trace.now) jobs.now) }
 {
     let uses = SharedUses::<S>::new();
-    run_fed::<S, R, G>(rt, alloc, Feed::new(trace, size), &uses, jobs, gate)
+    let backlog = Backlog::new();
+    let feeder = TraceFeeder::<S>::new(trace, size);
+    let common = Common::new(
+        Some(WholeTrace { trace, uses: &uses }),
+        &backlog,
+        feeder.batches,
+        size,
+    );
+    run_fed(rt, alloc, common, jobs, gate, feeder).1
 }
 
-// Starts the actors, feeds them, and joins them.
-fn run_fed<S: Source + Send + Sync + 'static, R: Threads + Wait + Sync, G: Gate>(
+/// What the actors of a run have in common.
+pub struct Common<'a, S: Source> {
+    pub whole: Option<WholeTrace<'a, S>>,
+    pub backlog: &'a Backlog,
+    // How many batches may come, and how many accesses to each.
+    batches: usize,
+    size: usize,
+    ghost some: { 0 < batches },
+    ghost batch: { (size ≡ S.size) × (0 < size) },
+}
+
+impl<'a, S: Source> Common<'a, S> {
+    pub fn new(
+        whole: Option<WholeTrace<'a, S>>,
+        backlog: &'a Backlog,
+        batches: usize,
+        size: usize,
+    ) -> Common<'a, S>
+        requires some { 0 < batches }
+        requires size { (size ≡ S.size) × (0 < size) }
+        ensures { result.whole ≡ whole.entry }
+    {
+        Common {
+            whole,
+            backlog,
+            batches,
+            size,
+        }
+    }
+}
+
+impl<'a, S: Source> Copy for Common<'a, S> {}
+
+impl<'a, S: Source> Clone for Common<'a, S> {
+    fn clone(&self) -> Result<Self, AllocError> {
+        Ok(*self)
+    }
+}
+
+/// Starts the actors, has them fed, and joins them: what there is to say of the feeding, and the reports.
+pub fn run_fed<
+    'a,
+    S: Source + Send + Sync + 'static,
+    R: Threads + Wait + Sync,
+    G: Gate,
+    F: Feeder<Vec<Outbox<'a, S>>, Outcome = O>,
+    O: Drop,
+>(
     rt: &R,
     alloc: Global,
-    feed: Feed<'_, S>,
-    uses: &SharedUses<S>,
+    common: Common<'a, S>,
     jobs: &[Job],
     gate: &G,
-) -> Result<Vec<Report>, AllocError>
+    feeder: F,
+) -> (O, Result<Vec<Report>, AllocError>)
     requires few { length jobs.now ≤ MAX_ACTORS }
     requires checked { faulty_in jobs.now ≡ None }
-    ensures { IfOk result (λ v. v.items ≡ map (λ j. report_on j S.keys) jobs.now) }
+    requires whole { MatchOption common.whole (AreOfQueues jobs.now) (λ _. ⊤) }
+    requires feeder { F.ready feeder }
+    ensures fed { F.gives feeder result.0 }
+    ensures reports { (all : List ℕ) → S.known ≡ Some all
+        → IfOk result.1 (λ v. v.items ≡ map (λ j. report_on j all) jobs.now) }
 {
     thread::scope(
         thread::scope_env(),
         rt,
-        move |scope| -> Result<Vec<Report>, AllocError>
-            requires { IsSync R.row × IsSync G.row × (length jobs.now ≤ MAX_ACTORS) × (faulty_in jobs.now ≡ None) }
-            ensures { IfOk result (λ v. v.items ≡ map (λ j. report_on j S.keys) jobs.entry.now) }
+        move |scope| -> (O, Result<Vec<Report>, AllocError>)
+            requires { IsSync R.row × IsSync G.row × (length jobs.now ≤ MAX_ACTORS) × (faulty_in jobs.now ≡ None)
+                × MatchOption common.whole (AreOfQueues jobs.now) (λ _. ⊤) × F.ready feeder }
+            ensures { F.gives feeder result.0
+                × ((all : List ℕ) → S.known ≡ Some all
+                → IfOk result.1 (λ v. v.items ≡ map (λ j. report_on j all) jobs.entry.now)) }
         {
+            let common = common;
+            let whole = common.whole;
+            let backlog = common.backlog;
             let mut handles = Vec::new(alloc);
             let mut ends = Vec::new(alloc);
             for i in 0..jobs.len() {
                 let job = jobs[i];
                 let who = i as u8;
-                let (outbox, inbox) = channel(alloc, feed)?;
+                let Ok((outbox, inbox)) = channel(alloc, common.batches, common.size) else {
+                    return (feeder.leave(), Err(AllocError));
+                };
                 let promised: Promised<S> = Promised {
                     job,
                     marker: PhantomData,
                 };
-                let handle = scope.spawn_with(
+                let Ok(handle) = scope.spawn_with(
                     promised,
                     move || -> Option<Report>
-                        requires { (inbox.taken ≡ 0) × (config_fault job.config ≡ Ok tt) }
-                        ensures { IfSome result (λ x. x ≡ report_on job S.keys) }
-                    { act::<S, R, G>(rt, alloc, inbox, uses, job, who, gate) },
-                )?;
-                add(&mut handles, handle)?;
-                ends.push(outbox)?;
+                        requires { (inbox.taken ≡ 0) × (config_fault job.config ≡ Ok tt)
+                            × MatchOption whole (knows_trace job.policy ≡ false) (λ _. ⊤) }
+                        ensures { (all : List ℕ) → S.known ≡ Some all → IfSome result (λ x. x ≡ report_on job all) }
+                    { act::<S, R, G>(rt, alloc, inbox, whole, job, who, gate, backlog) },
+                ) else {
+                    return (feeder.leave(), Err(AllocError));
+                };
+                let Ok(()) = add(&mut handles, handle) else {
+                    return (feeder.leave(), Err(AllocError));
+                };
+                let Ok(()) = ends.push(outbox) else {
+                    return (feeder.leave(), Err(AllocError));
+                };
             }
-            if !feed_in_rounds(rt, &mut ends, feed.batches as u64) {
-                return Err(AllocError);
-            }
-            drop(ends);
-            join_all(rt, alloc, handles)
+            let outcome = feeder.feed(rt, ends);
+            (outcome, join_all(rt, alloc, handles))
         },
     )
 }
@@ -154,7 +234,8 @@ fn join_all<S: Source, R: Threads>(
     alloc: Global,
     handles: Vec<Handle<S>>,
 ) -> Result<Vec<Report>, AllocError>
-    ensures { IfOk result (λ v. v.items ≡ map (λ j. report_on j S.keys) (jobs_of handles.items)) }
+    ensures { (all : List ℕ) → S.known ≡ Some all
+        → IfOk result (λ v. v.items ≡ map (λ j. report_on j all) (jobs_of handles.items)) }
 {
     let mut reports = Vec::new(alloc);
     for handle in handles {

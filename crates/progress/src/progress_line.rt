@@ -21,8 +21,8 @@ pub trait Watch: Gate {
 pub struct Work {
     /// The name of the subcommand.
     pub name: &'static str,
-    /// Its batches in all.
-    pub batches: u64,
+    /// Its batches in all; `None` where that is not known before they are over.
+    pub batches: Option<u64>,
 }
 
 impl Work {
@@ -31,7 +31,23 @@ impl Work {
         let each = accesses.div_ceil((size as usize).max(1)).max(1);
         Work {
             name,
-            batches: policies.saturating_mul(each) as u64,
+            batches: Some(policies.saturating_mul(each) as u64),
+        }
+    }
+
+    /// Work of which it is not known beforehand how many batches it has.
+    pub fn of_unknown_length(name: &'static str) -> Work {
+        Work {
+            name,
+            batches: None,
+        }
+    }
+
+    // After how many batches the clock is read.
+    fn period(self) -> u64 {
+        match self.batches {
+            Some(batches) => batches / LOOKS,
+            None => UNKNOWN_PERIOD,
         }
     }
 }
@@ -50,6 +66,9 @@ const BUSY: u64 = u64::MAX;
 
 // About how often the clock is read in all, whatever the batches are.
 const LOOKS: u64 = 4096;
+
+// After how many batches the clock is read, where it is not known how many there are.
+const UNKNOWN_PERIOD: u64 = 16;
 
 /// The line, on the standard error of a runtime.
 #[derive(Drop)]
@@ -115,7 +134,7 @@ impl<'a, R: Clock + Eprint + Sync> Gate for ProgressLine<'a, R> {
             return;
         };
         let done = self.done.fetch_add(1, SeqCst).wrapping_add(1);
-        if done % (work.batches / LOOKS).max(1) == 0
+        if done % work.period().max(1) == 0
             && let Ok(gone) = start.elapsed(self.rt)
         {
             self.draw(*work, done, gone);
@@ -148,13 +167,21 @@ pub struct Line {
 impl fmt::Display for Line {
     fn fmt<W: fmt::Write>(&self, f: &mut fmt::Formatter<W>) -> fmt::Result {
         let name = self.work.name;
-        let percent = self.done.min(self.work.batches).saturating_mul(100)
-            / self.work.batches.max(1);
+        let done = self.done;
         let minutes = self.seconds / 60;
         let seconds = self.seconds % 60;
-        write!(
-            f,
-            "\r{name}: {percent} % of accesses, {minutes}:{seconds:02}{ERASED}"
-        )
+        match self.work.batches {
+            Some(batches) => {
+                let percent = done.min(batches).saturating_mul(100) / batches.max(1);
+                write!(
+                    f,
+                    "\r{name}: {percent} % of accesses, {minutes}:{seconds:02}{ERASED}"
+                )
+            }
+            None => write!(
+                f,
+                "\r{name}: {done} batches, {minutes}:{seconds:02}{ERASED}"
+            ),
+        }
     }
 }

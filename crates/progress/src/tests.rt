@@ -59,7 +59,12 @@ impl Eprint for Terminal {
 
 const RUN: Work = Work {
     name: "run",
-    batches: 10,
+    batches: Some(10),
+};
+
+const READING: Work = Work {
+    name: "run",
+    batches: None,
 };
 
 // How often a line is drawn and cleared over so many batches, each of which takes a tenth of a second.
@@ -92,14 +97,15 @@ fn a_line_is_drawn_from_half_a_second_on_and_cleared(rt: HostRuntime) {
 
 #[test]
 fn the_text_of_a_line(rt: HostRuntime) -> Result<(), Fail> {
-    for (done, seconds, wanted) in [
-        (0, 0, "\rrun: 0 % of accesses, 0:00\x1b[K"),
-        (9, 9, "\rrun: 90 % of accesses, 0:09\x1b[K"),
-        (10, 60, "\rrun: 100 % of accesses, 1:00\x1b[K"),
-        (11, 4271, "\rrun: 100 % of accesses, 71:11\x1b[K"),
+    for (work, done, seconds, wanted) in [
+        (RUN, 0, 0, "\rrun: 0 % of accesses, 0:00\x1b[K"),
+        (RUN, 9, 9, "\rrun: 90 % of accesses, 0:09\x1b[K"),
+        (RUN, 10, 60, "\rrun: 100 % of accesses, 1:00\x1b[K"),
+        (RUN, 11, 4271, "\rrun: 100 % of accesses, 71:11\x1b[K"),
+        (READING, 11, 61, "\rrun: 11 batches, 1:01\x1b[K"),
     ] {
         let line = Line {
-            work: RUN,
+            work,
             done,
             seconds,
         };

@@ -20,6 +20,8 @@ mod limits_tests;
 #[cfg(test)]
 mod quiet_run_tests;
 #[cfg(test)]
+mod reading_tests;
+#[cfg(test)]
 mod report_tests;
 #[cfg(test)]
 mod sessions;

@@ -5,6 +5,8 @@
 //! the accesses of all lines in order where no line is faulty, and else the fault of the first
 //! faulty line, with its number. The rules of both formats are this project's profile.
 //!
+//! `read_followed` shows a `Follower` the accesses so far after each piece.
+//!
 //! A file is read in one pass, piece by piece, and no bytes are kept but those of a line that a
 //! piece cut in two. `Read` and `TooLarge` come before the fault of a line.
 #![tactic(auto)]
@@ -22,5 +24,5 @@ mod scan;
 
 pub use fault::TraceFault;
 pub use format::Format;
-pub use reader::read_trace;
+pub use reader::{Follower, read_followed, read_trace};
 pub use step_record::Trace;

@@ -103,6 +103,13 @@ impl Scan {
         Ok(Trace::new(keys))
     }
 
+    /// The accesses so far.
+    pub fn keys(&self) -> &[Key]
+        ensures { result.now ≡ self.now.keys.items }
+    {
+        self.keys.as_slice()
+    }
+
     // Adds the accesses of the next line, where it ends in these bytes, and returns the place of its end.
     fn end_next(&mut self, bytes: &[u8]) -> Result<Option<usize>, TraceFault>
         requires scan { IsScan self.old }

@@ -1,29 +1,29 @@
-use Rattle.std.proofs.Common.{◌≡◌, IfSome, ◌*◌, ◌+◌, ◌≤◌, length, take, sym, ap, ◌∙◌, subst, [], arith}
-use Rattle.step_record.specs.declared.limits.TheConstants.{MAX_ACCESSES}
-use Rattle.policies.specs.AnyPolicy.{HasAccessed}
-use Rattle.policy_actors.proofs.Batches.{ready, taken-more, all-taken}
+use Rattle.std.proofs.Common.{ℕ, IfSome, sym, subst}
+use Rattle.policy_actors.specs.Played.{IsAfter}
+use Rattle.policy_actors.proofs.Playing.{ready, moved, ended}
 use Rattle.policy_actors.proofs.actor.act.Goals as goal
 
 pub access_batch-requires : goal.access_batch-requires
-access_batch-requires g c = let keys = g.S.Source.keys in
-    ready c.loop.cache c.args.job g.S.Source.size c.loop.inbox.taken keys _ c.in-Some-take.ensures.batch.piece (subst (λ l. length l ≤ MAX_ACCESSES) c.args.inbox.feed.whole c.args.inbox.feed.few) c.loop.invariant
+access_batch-requires g c = rw c.as_slice.ensures (ready g.S.Source.known c.args.job g.S.Source.size c.loop.inbox.taken c.in-Some-take.batch c.in-Some-take.ensures.batch c.loop.cache c.loop.invariant)
 
 pub returns-then-batch : goal.returns-then-batch
-returns-then-batch g c = let j = c.args.job in let keys = g.S.Source.keys in let size = g.S.Source.size in
-    let k = c.loop.inbox.taken in let is = c.in-Some-take.ensures.batch in
-    let got = c.access_batch.ensures j keys (take (k * size) keys) c.loop.invariant in
-    let whole : length keys ≤ k * size + size = is.last.0 c.if-batch.true in
-    c.finish.ensures keys (subst (λ l. IfSome c.access_batch.new.cache (HasAccessed j keys l)) (taken-more size k keys c.in-Some-take.batch.keys.now is.piece ∙ all-taken size k keys whole) got)
+returns-then-batch g c = let known = g.S.Source.known in let j = c.args.job in let size = g.S.Source.size in
+    let k = c.loop.inbox.taken in let b = c.in-Some-take.batch in let is = c.in-Some-take.ensures.batch in
+    let after = moved known j size k b is c.loop.cache c.access_batch.new.cache c.loop.invariant (rw c.as_slice.ensures at c.access_batch.ensures.accessed) c.access_batch.ensures.gone in
+    λ all e. c.finish.ensures all (ended known j size k b is c.access_batch.new.cache after c.if-batch.true all e)
 
 pub loop-preserved : goal.loop-preserved
-loop-preserved g c = let j = c.args.job in let keys = g.S.Source.keys in let size = g.S.Source.size in
-    let k = c.loop.inbox.taken in let e = c.in-Some-take.ensures in
-    let got = c.access_batch.ensures j keys (take (k * size) keys) c.loop.invariant in
-    subst (λ l. IfSome c.access_batch.new.cache (HasAccessed j keys l))
-    (taken-more size k keys c.in-Some-take.batch.keys.now e.batch.piece ∙ ap (λ m. take (m * size) keys) (sym e.taken)) got
+loop-preserved g c = let known = g.S.Source.known in let j = c.args.job in let size = g.S.Source.size in
+    let k = c.loop.inbox.taken in let b = c.in-Some-take.batch in let is = c.in-Some-take.ensures.batch in
+    subst (λ (n : ℕ). IfSome c.access_batch.new.cache (IsAfter known j size n)) (sym c.in-Some-take.ensures.taken)
+    (moved known j size k b is c.loop.cache c.access_batch.new.cache c.loop.invariant (rw c.as_slice.ensures at c.access_batch.ensures.accessed) c.access_batch.ensures.gone)
+
+pub loop-preserved-else-batch : goal.loop-preserved-else-batch
+loop-preserved-else-batch g c = let known = g.S.Source.known in let j = c.args.job in let size = g.S.Source.size in
+    let k = c.loop.inbox.taken in let b = c.in-Some-take.batch in let is = c.in-Some-take.ensures.batch in
+    subst (λ (n : ℕ). IfSome c.access_batch.new.cache (IsAfter known j size n)) (sym c.in-Some-take.ensures.taken)
+    (moved known j size k b is c.loop.cache c.access_batch.new.cache c.loop.invariant (rw c.as_slice.ensures at c.access_batch.ensures.accessed) c.access_batch.ensures.gone)
 
 pub loop-init : goal.loop-init
-loop-init g c = let j = c.args.job in let keys = g.S.Source.keys in let size = g.S.Source.size in
-    let z : 0 * size ≡ 0 = omega arith in
-    let none : take (c.args.inbox.taken * size) keys ≡ [] = ap (λ n. take (n * size) keys) c.requires.start ∙ ap (λ n. take n keys) z in
-    subst (λ l. IfSome c.open-cache.result (HasAccessed j keys l)) (sym none) c.open-cache.ensures
+loop-init g c =
+    subst (λ (n : ℕ). IfSome c.open-cache.result (IsAfter g.S.Source.known c.args.job g.S.Source.size n)) (sym c.requires.start) c.open-cache.ensures

@@ -1,6 +1,6 @@
-use Rattle.std.proofs.Common.{◌*◌, take, IfSome}
-use Rattle.policies.specs.AnyPolicy.{HasAccessed}
+use Rattle.std.proofs.Common.{IfSome}
+use Rattle.policy_actors.specs.Played.{IsAfter}
 use Rattle.policy_actors.proofs.actor.act.Given as goal
 
 abbrev pub invariant-loop : goal.invariant-loop
-invariant-loop g l = IfSome l.cache (HasAccessed l.fn.job g.S.Source.keys (take (l.inbox.taken * g.S.Source.size) g.S.Source.keys))
+invariant-loop g l = IfSome l.cache (IsAfter g.S.Source.known l.fn.job g.S.Source.size l.inbox.taken)

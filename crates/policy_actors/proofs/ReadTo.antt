@@ -1,0 +1,49 @@
+-- Of a reading, and of a run that stands on it.
+use Rattle.std.proofs.Common.{◌≡◌, ◌≢◌, ◌≤◌, ◌<◌, ℕ, List, Option, Some, None, Result, Ok, Err, IfOk, IfSome, length, ap, subst, refl}
+use Rattle.step_record.specs.declared.limits.TheConstants.{MAX_TRACE_BYTES}
+use Rattle.streams.specs.Since.{ReadAtMost}
+use Rattle.trace_read.specs.declared.format.Format.{Format}
+use Rattle.trace_read.specs.declared.fault.TraceFault.{TraceFault}
+use Rattle.trace_read.specs.declared.fault.TraceFault.TheVariants.{OutOfMemory, TooLarge}
+use Rattle.trace_read.specs.Reading.{keys_in, keys_of_file}
+use Rattle.policy_actors.specs.ReadRun.{IsReadTo}
+
+module _ {T U : Type 0} (format : Format) (old new : Option (List ℕ)) where
+  -- the fault of the reading is that of the run
+  pub with_fault : (r : Result T TraceFault) (e : TraceFault) → r ≡ Err e → IsReadTo format old new r → IsReadTo {T = U} format old new (Err e)
+  with_fault r e is h = let k : IsReadTo {T = T} format old new (Err e) = subst (λ (x : Result T TraceFault). IsReadTo format old new x) is h in record {
+    ok = tt;
+    end = tt;
+    faulty = k.faulty;
+    all = k.all;
+    large = λ q. let s : e ≡ TooLarge = cc in k.large (ap Err s);
+    within = λ n. k.within (λ q. let s : e ≡ TooLarge = cc in n (ap Err s));
+  }
+
+  -- it was read to its end, and then
+  pub with_end : (r : Result T TraceFault) (t : T) (v : U) → r ≡ Ok t → IsReadTo format old new r → IsReadTo {T = U} format old new (Ok v)
+  with_end r t v is h = let k : IsReadTo {T = T} format old new (Ok t) = subst (λ (x : Result T TraceFault). IsReadTo format old new x) is h in record {
+    ok = k.ok;
+    end = k.end;
+    faulty = tt;
+    all = tt;
+    large = λ q. absurd (cc q);
+    within = λ n. k.within (λ q. absurd (cc q));
+  }
+
+  pub without_memory : (r : Result T TraceFault) (t : T) → r ≡ Ok t → IsReadTo format old new r → IsReadTo {T = U} format old new (Err OutOfMemory)
+  without_memory r t is h = let k : IsReadTo {T = T} format old new (Ok t) = subst (λ (x : Result T TraceFault). IsReadTo format old new x) is h in record {
+    ok = tt;
+    end = tt;
+    faulty = λ q. absurd q;
+    all = λ q. absurd q;
+    large = λ q. absurd (cc q);
+    within = λ n. k.within (λ q. absurd (cc q));
+  }
+
+-- what holds for all accesses that are known holds for those of the bytes
+pub of_bytes : {V E : Type 0} (P : List ℕ → V → Type 0) (format : Format) (bytes : Option (List ℕ)) (r : Result V E)
+    → ((all : List ℕ) → keys_of_file format bytes ≡ Some all → IfOk r (P all)) → IfOk r (λ v. IfSome bytes (λ b. P (keys_in format b) v))
+of_bytes P format bytes (Err e) h = tt
+of_bytes P format None (Ok v) h = tt
+of_bytes P format (Some b) (Ok v) h = h (keys_in format b) refl

@@ -1,0 +1,189 @@
+//! Runs of actors while the trace is read, whose reports were worked out by hand.
+use super::assertions::assert_equal;
+use super::gates::Turns;
+use super::jobs::{counted, job};
+use policy_actors::{can_run_reading, run_reading};
+use report::Report;
+use std::alloc::Global;
+use std::io;
+use std::io::{Error, ErrorKind, Read};
+use std::process::Abort;
+use std::sync::Wait;
+use std::test::Fail;
+use std::thread::Threads;
+use step_record::{Gate, Job, OpenGate, Policy};
+use trace_read::{Format, TraceFault};
+
+/// A reader of a text so many times, in pieces of a size, that then ends or fails.
+#[derive(Drop)]
+struct Pieces<'a> {
+    text: &'a [u8],
+    size: usize,
+    place: usize,
+    times: u32,
+    fails: bool,
+}
+
+impl Pieces<'_> {
+    fn of(text: &str, size: usize, times: u32) -> Pieces<'_> {
+        Pieces {
+            text: text.as_bytes(),
+            size,
+            place: 0,
+            times,
+            fails: false,
+        }
+    }
+}
+
+impl Read for Pieces<'_> {
+    fn read(&mut self, buf: &mut [u8]) -> io::Result<usize> {
+        if self.place >= self.text.len() {
+            self.times = self.times.saturating_sub(1);
+            self.place = 0;
+        }
+        if self.times == 0 {
+            if self.fails {
+                return Err(Error::from(ErrorKind::BrokenPipe));
+            }
+            return Ok(0);
+        }
+        let rest = &self.text[self.place..];
+        let count = self.size.min(rest.len()).min(buf.len());
+        buf[..count].copy_from_slice(&rest[..count]);
+        self.place += count;
+        Ok(count)
+    }
+}
+
+// Runs the jobs while the text is read, and sees their reports or the fault.
+fn assert_reading<G: Gate, R: Threads + Wait + Sync + Abort>(
+    rt: &R,
+    alloc: Global,
+    mut reader: Pieces<'_>,
+    format: Format,
+    (jobs, batch): (&[Job], u32),
+    gate: &G,
+    wanted: Result<&[Report], TraceFault>,
+) -> Result<(), Fail> {
+    if !can_run_reading(batch, jobs) {
+        return Err(Fail::from("not such jobs"));
+    }
+    match run_reading(rt, alloc, &mut reader, format, jobs, batch, gate) {
+        Ok(reports) => assert_equal(rt, Ok(reports.as_slice()), wanted),
+        Err(fault) => assert_equal(rt, Err(fault), wanted),
+    }
+    Ok(())
+}
+
+fn jobs() -> [Job; 3] {
+    [
+        job(Policy::Lru, 2),
+        job(Policy::SegmentedLru, 2),
+        job(Policy::WindowTinyLfu, 2),
+    ]
+}
+
+// Of the accesses 1, 1, 2, 3, 1.
+fn wanted() -> [Report; 3] {
+    [
+        counted(Policy::Lru, 2, [5, 1, 4, 2, 0]),
+        counted(Policy::SegmentedLru, 2, [5, 2, 3, 1, 0]),
+        counted(Policy::WindowTinyLfu, 2, [5, 2, 3, 1, 1]),
+    ]
+}
+
+#[test]
+fn pieces_and_batches_change_no_report(rt: HostRuntime) -> Result<(), Fail> {
+    for (size, batch) in [(1, 1), (2, 3), (64, 5), (64, 65_536)] {
+        let run = (jobs().as_slice(), batch);
+        let lirs = Pieces::of("1\n1\n\n*\n2\n3\r\n1", size, 1);
+        assert_reading(
+            &rt,
+            rt.alloc(),
+            lirs,
+            Format::Lirs,
+            run,
+            &OpenGate,
+            Ok(&wanted()),
+        )?;
+        let arc = Pieces::of("1 1 0 0\n1 3 0 0\n1 1\n", size, 1);
+        assert_reading(
+            &rt,
+            rt.alloc(),
+            arc,
+            Format::Arc,
+            run,
+            &OpenGate,
+            Ok(&wanted()),
+        )?;
+    }
+    Ok(())
+}
+
+#[test]
+fn an_empty_text_is_one_empty_batch(rt: HostRuntime) -> Result<(), Fail> {
+    let jobs = [job(Policy::Lru, 2), job(Policy::TinyLfuLru, 2)];
+    let wanted = [
+        counted(Policy::Lru, 2, [0; 5]),
+        counted(Policy::TinyLfuLru, 2, [0; 5]),
+    ];
+    let gate = Turns::new(rt.alloc(), 2)?;
+    let empty = Pieces::of("", 1, 1);
+    assert_reading(
+        &rt,
+        rt.alloc(),
+        empty,
+        Format::Lirs,
+        (&jobs, 3),
+        &gate,
+        Ok(&wanted),
+    )?;
+    assert!(rt; gate.is_over(1));
+    Ok(())
+}
+
+#[test]
+fn no_fault_of_the_trace_is_a_report(rt: HostRuntime) -> Result<(), Fail> {
+    for (text, fails, fault) in [
+        ("1\n2\nx\n3\n", false, TraceFault::BadNumber { line: 3 }),
+        ("1\n2\nx\n3\n", true, TraceFault::Read),
+        ("1\n2\n", true, TraceFault::Read),
+    ] {
+        let run = (jobs().as_slice(), 1);
+        let mut reader = Pieces::of(text, 2, 1);
+        reader.fails = fails;
+        assert_reading(
+            &rt,
+            rt.alloc(),
+            reader,
+            Format::Lirs,
+            run,
+            &OpenGate,
+            Err(fault),
+        )?;
+    }
+    Ok(())
+}
+
+// A cycle of three keys in a cache of two misses each time, and each batch comes in its turn.
+#[test]
+fn a_long_text_is_made_in_turn(rt: HostRuntime) -> Result<(), Fail> {
+    let jobs = [job(Policy::Lru, 2); 2];
+    let wanted = [counted(Policy::Lru, 2, [300_000, 0, 300_000, 299_998, 0]); 2];
+    for (batch, batches) in [(1_000, 300), (1_024, 293), (40_000, 8), (65_536, 5)] {
+        let gate = Turns::new(rt.alloc(), 2)?;
+        let long = Pieces::of("1\n2\n3\n", 6, 100_000);
+        assert_reading(
+            &rt,
+            rt.alloc(),
+            long,
+            Format::Lirs,
+            (&jobs, batch),
+            &gate,
+            Ok(&wanted),
+        )?;
+        assert!(rt; gate.is_over(batches));
+    }
+    Ok(())
+}
