@@ -30,5 +30,5 @@ counting_words None = 0
 counting_words (Some r) = size_of r
 
 -- It is made of its packed form alone: a further field, which no contract would see, has no place here.
-abbrev pub IsPackedAlone : Inside → Type 0
-IsPackedAlone k = k ≡ record { packed = k.packed }
+abbrev pub HoldsPackedCounting : Inside → Type 0
+HoldsPackedCounting k = k ≡ record { packed = k.packed }

@@ -1,6 +1,6 @@
 //! The undo record of a recorded key, as it is kept until it is undone.
 ghost use Rattle.std.specs.Prelude.{◌≡◌, ◌≤◌, ◌*◌, Some};
-ghost use Rattle.bits_and_lists.specs.declared.bit_list.TheConstants.{MAX_WORDS};
+ghost use Rattle.bits_and_lists.specs.declared.bit_list.TheConstants.{MAX_LIST_WORDS};
 ghost use Rattle.admission.specs.KeptCounting.{counting_in, counting_words};
 
 use crate::door_record::{DoorRecord, SetProbes};
@@ -20,13 +20,13 @@ pub struct KeptCounting {
 impl Model for KeptCounting {
     ghost use Rattle.std.specs.Prelude.{Option};
     ghost use Rattle.admission.specs.declared.freq_record.FreqRecord.{FreqRecord as FreqRecordValue};
-    ghost use Rattle.admission.specs.KeptCounting.{counting_in, IsPackedAlone};
+    ghost use Rattle.admission.specs.KeptCounting.{counting_in, HoldsPackedCounting};
 
     ghost Value = { Option FreqRecordValue };
 
     ghost view = { λ k. counting_in k.packed };
 
-    ghost invariant = { IsPackedAlone };
+    ghost invariant = { HoldsPackedCounting };
 }
 
 /// The flags of the mark, the key, and what a halving lost.
@@ -77,7 +77,7 @@ impl KeptCounting {
     /// How many words the record holds in lists: 0 without a halving.
     pub fn words(&self) -> u64
         ensures words { result ≡ counting_words self.now }
-        ensures few { result ≤ 2 * MAX_WORDS }
+        ensures few { result ≤ 2 * MAX_LIST_WORDS }
     {
         match &self.packed {
             PackedCounting::Nothing => 0,

@@ -1,6 +1,6 @@
 //! The undo record of a recorded key, as it is kept where a key is always recorded.
 ghost use Rattle.std.specs.Prelude.{◌≡◌, ◌≤◌, ◌*◌};
-ghost use Rattle.bits_and_lists.specs.declared.bit_list.TheConstants.{MAX_WORDS};
+ghost use Rattle.bits_and_lists.specs.declared.bit_list.TheConstants.{MAX_LIST_WORDS};
 ghost use Rattle.admission.specs.FreqRecord.{size_of};
 
 use crate::freq_record::FreqRecord;
@@ -50,7 +50,7 @@ impl KeptRecord {
     /// How many words the record holds in lists: 0 without a halving.
     pub fn words(&self) -> u64
         ensures words { result ≡ size_of self.now }
-        ensures few { result ≤ 2 * MAX_WORDS }
+        ensures few { result ≤ 2 * MAX_LIST_WORDS }
     {
         self.counting.words()
     }

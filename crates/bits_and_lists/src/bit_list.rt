@@ -1,12 +1,12 @@
 //! A packed list of bits.
 ghost use Rattle.std.specs.Prelude.{◌≡◌, ◌≤◌, ◌/◌, length};
-ghost use Rattle.bits_and_lists.specs.declared.bit_list.TheConstants.{MAX_WORDS};
+ghost use Rattle.bits_and_lists.specs.declared.bit_list.TheConstants.{MAX_LIST_WORDS};
 ghost use Rattle.bits_and_lists.specs.Bits.{bits_of};
 
 use std::marker::Model;
 
 /// The most words that a [`BitList`] holds: 2^23 bits.
-pub const MAX_WORDS: usize = 1 << 17;
+pub const MAX_LIST_WORDS: usize = 1 << 17;
 
 /// A list of bits, 64 to a word, that does not change. Contracts see the list of the bits, and its invariant says that
 /// it holds nothing beside the words: an undo record that holds one holds no more than its bits.
@@ -29,7 +29,7 @@ impl Model for BitList {
 impl BitList {
     /// The bits of the words. Takes the words over and allocates nothing.
     pub fn of_words(words: Vec<u64>) -> BitList
-        requires { length words.items ≤ MAX_WORDS }
+        requires { length words.items ≤ MAX_LIST_WORDS }
         ensures { result ≡ bits_of words.items }
     {
         BitList { words }
@@ -52,7 +52,7 @@ impl BitList {
     /// How many words it holds.
     pub fn words(&self) -> u64
         ensures words { result ≡ length self.now / 64 }
-        ensures few { result ≤ MAX_WORDS }
+        ensures few { result ≤ MAX_LIST_WORDS }
     {
         self.words.len() as u64
     }

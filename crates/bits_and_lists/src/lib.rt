@@ -7,4 +7,4 @@
 mod bit_list;
 pub mod bits;
 
-pub use bit_list::{BitList, MAX_WORDS};
+pub use bit_list::{BitList, MAX_LIST_WORDS};

@@ -8,9 +8,9 @@ use Rattle.step_record.specs.declared.step.Reply.{Reply}
 use Rattle.step_record.specs.declared.step.Step.{Step}
 use Rattle.journal.specs.Session.{SessionState}
 use Rattle.walks.specs.Walks.{AreWalks}
-use Rattle.walks.specs.Made.{entries_of}
+use Rattle.walks.specs.WorkerEntries.{entries_of}
 use Rattle.workers.specs.Runs.{IsRun}
-use Rattle.cachesim.specs.Dealt.{reads_of, IsDealt, AreOfReads}
+use Rattle.cachesim.specs.WorkerReads.{reads_of, IsDealt, AreOfReads}
 
 -- the reads of one access
 abbrev read_at : ℕ → ℕ → ℕ → ℕ → List Call

@@ -6,7 +6,7 @@ use Rattle.clap.specs.declared.error.ErrorKind.TheVariants.{OutOfMemory}
 use Rattle.step_record.specs.declared.config.Config.{Config}
 use Rattle.step_record.specs.declared.job.Job.{Job}
 use Rattle.trace_read.specs.declared.format.Format.{Format}
-use Rattle.command_line.specs.Parsed.{IsPartCall, ParsedBy}
+use Rattle.command_line.specs.ParseResult.{IsPartCall, ParsedBy}
 use Rattle.command_line.specs.Program.{call_words, format_in, program_app}
 use Rattle.command_line.specs.declared.arguments.Arguments.{Arguments}
 use Rattle.command_line.specs.declared.arguments.Arguments.TheVariants.{Debug, Drive, Part, Replay, Run, Sweep}
@@ -18,11 +18,11 @@ use Rattle.command_line.specs.declared.debug.DebugArguments.{DebugArguments}
 use Rattle.command_line.specs.declared.drive.DriveArguments.{DriveArguments}
 use Rattle.command_line.specs.declared.replay.ReplayArguments.{ReplayArguments}
 use Rattle.std.specs.Prelude.{string_bytes}
-use Rattle.cachesim.specs.Debugged.{Debugging, KnownFiles, Replaying}
-use Rattle.cachesim.specs.Drove.{IsDriven}
+use Rattle.cachesim.specs.DebugOutput.{Debugging, KnownFiles, Replaying}
+use Rattle.cachesim.specs.DriveOutput.{IsDriven}
 use Rattle.policy_actors.specs.Sweep.{jobs_over}
 use Rattle.cachesim.specs.Jobs.{jobs_by_policy}
-use Rattle.cachesim.specs.Part.{Parting}
+use Rattle.cachesim.specs.PartOutput.{Parting}
 use Rattle.cachesim.specs.Run.{Done, DoneBy, PolicyPair, RefusedBy, Reports, first_job, is_help, second_job}
 
 among : (kinds : Kinds) (e : Error) → HasKind kinds e → kind_of e ≢ OutOfMemory → IsAmong (kind_of e) kinds

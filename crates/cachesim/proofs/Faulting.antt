@@ -2,11 +2,11 @@
 use Rattle.std.proofs.Common.{◌≡◌, ◌≢◌, ◌⊎◌, inl, inr, subst, List, ℕ, Option, Result, Ok, Err}
 use Rattle.std.specs.Prelude.{IfErr}
 use Rattle.clap.specs.Words.{Text}
-use Rattle.command_line.specs.Parsed.{ParsedBy}
+use Rattle.command_line.specs.ParseResult.{ParsedBy}
 use Rattle.command_line.specs.declared.arguments.Arguments.{Arguments}
-use Rattle.cachesim.specs.Debugged.{KnownFiles}
+use Rattle.cachesim.specs.DebugOutput.{KnownFiles}
 use Rattle.cachesim.specs.FaultLine.{IsReported}
-use Rattle.cachesim.specs.Found.{EndsInFault, IsBeforeOutput, IsFound, IsFoundBy, IsOfMachine}
+use Rattle.cachesim.specs.FaultCauses.{EndsInFault, IsBeforeOutput, IsFound, IsFoundBy, IsOfMachine}
 use Rattle.cachesim.specs.declared.fault.Fault.{Fault}
 use Rattle.cachesim.specs.declared.fault.Fault.TheVariants.{OutOfMemory, Write}
 

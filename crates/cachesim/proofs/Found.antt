@@ -4,11 +4,11 @@ use Rattle.std.specs.Prelude.{IfSome}
 use Rattle.std.proofs.lemmas.Option.{IfSome_then}
 use Rattle.step_record.specs.declared.config.Config.{Config}
 use Rattle.shell_model.specs.Shell.{Shell}
-use Rattle.maintenance.specs.Opened.{IsOpened}
-use Rattle.trace_read.specs.Reading.{fault_in}
+use Rattle.maintenance.specs.EmptyShell.{IsOpened}
+use Rattle.trace_read.specs.TraceText.{fault_in}
 use Rattle.trace_read.specs.declared.format.Format.{Format}
-use Rattle.cachesim.specs.Debugged.{KnownFiles}
-use Rattle.cachesim.specs.Found.{IsBeforeOutput, IsFoundIn, IsFoundInFile, IsOfEnd, IsOfMachine, IsOfReplay, IsOfReplayFrom}
+use Rattle.cachesim.specs.DebugOutput.{KnownFiles}
+use Rattle.cachesim.specs.FaultCauses.{IsBeforeOutput, IsFoundIn, IsFoundInFile, IsOfEnd, IsOfMachine, IsOfReplay, IsOfReplayFrom}
 use Rattle.cachesim.specs.declared.fault.Fault.{Fault}
 use Rattle.cachesim.specs.declared.fault.Fault.TheVariants as fault
 

@@ -2,7 +2,7 @@
 use Rattle.std.proofs.Common.{◌≡◌, ◌∙◌, ap, subst, sym, arith, inl, inr, ℕ, List, [], Option, Some, codes, get_or}
 use Rattle.std.specs.Option.{option_map_or}
 use Rattle.clap.specs.Words.{Kinds, Row, Text}
-use Rattle.cachesim.specs.Debugged.{KnownFiles}
+use Rattle.cachesim.specs.DebugOutput.{KnownFiles}
 use Rattle.cachesim.specs.InMemory.{AnswersAboutFile, AnswersAboutJournal, AnswersAboutTrace}
 use Rattle.cachesim.specs.Run.{AsksHelp, Debugged, Done, DoneBy, Replayed}
 

@@ -7,27 +7,27 @@ use Rattle.step_record.specs.declared.step.Reply.{Reply}
 use Rattle.step_record.specs.declared.step.Step.{Step}
 use Rattle.step_record.specs.History.{Entries}
 use Rattle.shell_model.specs.Shell.{Shell, act}
-use Rattle.maintenance.specs.Opened.{IsOpened}
+use Rattle.maintenance.specs.EmptyShell.{IsOpened}
 use Rattle.journal.specs.Session.{SessionState}
 use Rattle.journal_text.specs.Journal.{IsJournalText}
-use Rattle.debug_commands.specs.Dialogue.{dialogue_of, IsLineHeld}
+use Rattle.debug_commands.specs.Dialogue.{dialogue_of, WritesDialogue}
 use Rattle.debug_replay.specs.Replay.{replay_timeline}
-use Rattle.cachesim.specs.Debugged.{Answering, IsReplayedFrom, KnownFiles, Replaying}
+use Rattle.cachesim.specs.DebugOutput.{Answering, IsReplayedFrom, KnownFiles, Replaying}
 
 abbrev State : Type 0
 State = SessionState Shell Shell Step Reply
 
 answering : (opening : Shell) (steps more : Entries) (at position : ℕ) (input before after : Option (List ℕ)) → more ≡ steps
-    → IfSome input (λ commands. IsLineHeld (dialogue_of (replay_timeline opening more) at commands) true before after position)
+    → IfSome input (λ commands. WritesDialogue (dialogue_of (replay_timeline opening more) at commands) true before after position)
     → Answering (replay_timeline opening steps) at input before after
 answering opening steps more at position None before after e h = tt
 answering opening steps more at position (Some commands) before after e h =
-    (position, subst (λ es. IsLineHeld (dialogue_of (replay_timeline opening es) at commands) true before after position) e h)
+    (position, subst (λ es. WritesDialogue (dialogue_of (replay_timeline opening es) at commands) true before after position) e h)
 
 -- what a session holds that read the journal and answered the commands
 pub replayed_from : (journal : List ℕ) (input before after : Option (List ℕ)) (first now : State) (position : ℕ)
     → IsJournalText act first.opening first.limit journal now.kept → now.opening ≡ first.opening → now.tail ≡ []
-    → IfSome input (λ commands. IsLineHeld (dialogue_of (replay_timeline now.opening (now.kept ++ now.tail)) (length now.kept) commands) true before after position)
+    → IfSome input (λ commands. WritesDialogue (dialogue_of (replay_timeline now.opening (now.kept ++ now.tail)) (length now.kept) commands) true before after position)
     → IsReplayedFrom first.opening first.limit journal input before after
 replayed_from journal input before after first now position read same none h = record {
   steps = now.kept;

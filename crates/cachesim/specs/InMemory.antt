@@ -2,11 +2,11 @@
 use Rattle.std.specs.Prelude.{◌≡◌, ℕ, List, [], Option, Some, None, codes}
 use Rattle.clap.specs.Words.{Row, Text, fault_of, subcommand_of}
 use Rattle.step_record.specs.declared.config.Config.{Config}
-use Rattle.trace_read.specs.Reading.{fault_in, keys_in}
+use Rattle.trace_read.specs.TraceText.{fault_in, keys_in}
 use Rattle.command_line.specs.Program.{AreLists, Lists, call_words, program_app}
 use Rattle.command_line.specs.Program.{concurrent_in, format_in, stripes_in}
 use Rattle.debug_policies.specs.TwoPolicies.{policies_timeline}
-use Rattle.cachesim.specs.Debugged.{Answering, IsReplayed}
+use Rattle.cachesim.specs.DebugOutput.{Answering, IsReplayed}
 use Rattle.cachesim.specs.Run.{PolicyPair, first_job, second_job}
 
 -- The bytes of the file have no fault as a trace of the format that the matches name, and those written answer the

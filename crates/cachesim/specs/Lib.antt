@@ -1,10 +1,10 @@
-pub mod Debugged
-pub mod Drove
+pub mod DebugOutput
+pub mod DriveOutput
 pub mod Fault
 pub mod Jobs
-pub mod Part
+pub mod PartOutput
 pub mod Run
-pub mod Dealt
+pub mod WorkerReads
 pub mod FaultLine
-pub mod Found
+pub mod FaultCauses
 pub mod InMemory

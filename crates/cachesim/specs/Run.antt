@@ -7,19 +7,19 @@ use Rattle.clap.specs.declared.error.ErrorKind.TheVariants.{DisplayHelp, Display
 use Rattle.step_record.specs.declared.config.Config.{Config}
 use Rattle.step_record.specs.declared.job.Job.{Job}
 use Rattle.step_record.specs.declared.job.Policy.{Policy}
-use Rattle.trace_read.specs.Reading.{fault_in, keys_in}
+use Rattle.trace_read.specs.TraceText.{fault_in, keys_in}
 use Rattle.trace_read.specs.declared.format.Format.{Format}
 use Rattle.report.specs.Text.{reports_text}
 use Rattle.report.specs.declared.report.Report.{Report}
-use Rattle.command_line.specs.Parsed.{HasOddStripes, IsIncomplete}
+use Rattle.command_line.specs.ParseResult.{HasOddStripes, IsIncomplete}
 use Rattle.command_line.specs.Program.{AreLists, Lists, call_words, program_app}
 use Rattle.command_line.specs.Program.{capacities_in, concurrent_in, config_at, config_in, format_in}
 use Rattle.command_line.specs.Program.{policies_in, policy_in, stripes_in, workers_in}
-use Rattle.cachesim.specs.Debugged.{Debugging, KnownFiles, Replaying}
-use Rattle.cachesim.specs.Drove.{IsDriven}
+use Rattle.cachesim.specs.DebugOutput.{Debugging, KnownFiles, Replaying}
+use Rattle.cachesim.specs.DriveOutput.{IsDriven}
 use Rattle.policy_actors.specs.Sweep.{jobs_over}
 use Rattle.cachesim.specs.Jobs.{jobs_by_policy, reports_on}
-use Rattle.cachesim.specs.Part.{Parting}
+use Rattle.cachesim.specs.PartOutput.{Parting}
 
 -- the bytes read have no fault, and those written are the text of the jobs' reports
 abbrev pub Reports : Format → List Job → Option (List ℕ) → Option (List ℕ) → Option (List ℕ) → Type 0

@@ -3,7 +3,7 @@ ghost use Rattle.std.specs.Prelude.{◌≡◌, ◌≢◌, ◌≤◌, ◌⊎◌, 
 ghost use Rattle.clap.specs.Words.{kind_of};
 ghost use Rattle.streams.specs.Part.{AppendsPart};
 ghost use Rattle.cachesim.specs.FaultLine.{IsReported};
-ghost use Rattle.cachesim.specs.Found.{EndsInFault};
+ghost use Rattle.cachesim.specs.FaultCauses.{EndsInFault};
 ghost use Rattle.cachesim.specs.Run.{DoneBy, is_help, RefusedBy};
 ghost use Rattle.cachesim.specs.declared.command.TheConstants.{DONE, FAULT, REFUSED};
 

@@ -2,9 +2,9 @@
 ghost use Rattle.std.specs.Prelude.{◌≡◌, ◌⊎◌, [], ◌∷◌, IfErr, Ok, OnOk, string_bytes};
 ghost use Rattle.job_checks.specs.FaultyJobs.{faulty_in};
 ghost use Rattle.step_record.specs.Config.{config_fault};
-ghost use Rattle.cachesim.specs.Debugged.{Debugging, IsReplayedFrom, Replaying};
-ghost use Rattle.cachesim.specs.Found.{IsBeforeOutput, IsFoundIn, IsFoundInFile, IsOfDebugger, IsOfMachine, IsOfReplay};
-ghost use Rattle.cachesim.specs.Found.{IsOfReplayFrom};
+ghost use Rattle.cachesim.specs.DebugOutput.{Debugging, IsReplayedFrom, Replaying};
+ghost use Rattle.cachesim.specs.FaultCauses.{IsBeforeOutput, IsFoundIn, IsFoundInFile, IsOfDebugger, IsOfMachine, IsOfReplay};
+ghost use Rattle.cachesim.specs.FaultCauses.{IsOfReplayFrom};
 
 use crate::drive::open;
 use crate::fault::Fault;

@@ -4,12 +4,12 @@ ghost use Rattle.std.specs.Prelude.{map};
 ghost use Rattle.std.specs.Io.KnownBytes.{Appends};
 ghost use Rattle.step_record.specs.Config.{config_fault};
 ghost use Rattle.step_record.specs.declared.worker.TheConstants.{MAX_WORKERS};
-ghost use Rattle.trace_read.specs.Reading.{fault_in, keys_in};
+ghost use Rattle.trace_read.specs.TraceText.{fault_in, keys_in};
 ghost use Rattle.journal_text.specs.Journal.{journal_of};
 ghost use Rattle.journal_text.specs.declared.version.Version.TheVariants.{Two};
-ghost use Rattle.cachesim.specs.Dealt.{IsDealt};
-ghost use Rattle.cachesim.specs.Drove.{IsDriven, IsFirst, IsOfRun};
-ghost use Rattle.cachesim.specs.Found.{IsBeforeOutput, IsFoundIn, IsOfEnd, IsOfMachine};
+ghost use Rattle.cachesim.specs.WorkerReads.{IsDealt};
+ghost use Rattle.cachesim.specs.DriveOutput.{IsDriven, IsEmptySession, IsOfRun};
+ghost use Rattle.cachesim.specs.FaultCauses.{IsBeforeOutput, IsFoundIn, IsOfEnd, IsOfMachine};
 
 use crate::fault::Fault;
 use command_line::DriveArguments;
@@ -27,7 +27,7 @@ use workers::{DriveFault, Driven};
 /// A session of no step over an empty cache. The one error is out of memory.
 pub fn open(alloc: Global, config: &Config) -> Result<Session<Shell>, AllocError>
     requires { config_fault config.now ≡ Ok tt }
-    ensures first { IfOk result (IsFirst config.now) }
+    ensures first { IfOk result (IsEmptySession config.now) }
     ensures tail { IfOk result (λ session. session.tail ≡ []) }
     ensures limit { IfOk result (λ session. session.limit ≡ config.now.journal_limit) }
 {

@@ -1,6 +1,6 @@
 //! The files that the arguments of a call name.
 ghost use Rattle.std.specs.Prelude.{◌≡◌, IfOk, IfSome};
-ghost use Rattle.cachesim.specs.Debugged.{KnownFiles};
+ghost use Rattle.cachesim.specs.DebugOutput.{KnownFiles};
 
 use std::alloc::Global;
 

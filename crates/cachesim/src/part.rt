@@ -1,8 +1,8 @@
 //! The subcommand `part`: a trace to the access at which two policies part.
 ghost use Rattle.std.specs.Prelude.{◌≡◌, ◌≢◌, ◌⊎◌, [], ◌∷◌, IfErr, IfSome, OnOk};
 ghost use Rattle.job_checks.specs.FaultyJobs.{faulty_in};
-ghost use Rattle.cachesim.specs.Found.{IsFoundIn, IsOfJobs, IsOfMachine};
-ghost use Rattle.cachesim.specs.Part.{Parting};
+ghost use Rattle.cachesim.specs.FaultCauses.{IsFoundIn, IsOfJobs, IsOfMachine};
+ghost use Rattle.cachesim.specs.PartOutput.{Parting};
 
 use crate::fault::Fault;
 use command_line::PartArguments;

@@ -1,7 +1,7 @@
 //! The subcommand `sweep`: a trace to the reports of policies at several capacities.
 ghost use Rattle.std.specs.Prelude.{◌≡◌, ◌≢◌, ◌⊎◌, IfErr, IfOk, IfSome, None, OnOk, Some};
 ghost use Rattle.policy_actors.specs.Sweep.{jobs_over, sweep_fault};
-ghost use Rattle.cachesim.specs.Found.{IsFoundIn, IsOfJobs, IsOfMachine};
+ghost use Rattle.cachesim.specs.FaultCauses.{IsFoundIn, IsOfJobs, IsOfMachine};
 ghost use Rattle.cachesim.specs.Jobs.{jobs_by_policy, reports_on};
 ghost use Rattle.cachesim.specs.Run.{Reports};
 

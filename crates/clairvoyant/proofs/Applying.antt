@@ -2,12 +2,12 @@
 use Rattle.std.proofs.Common.{◌≡◌, ℕ, suc, ◌-◌, ◌<◌, Some, Bool, List, length, get_or, ap, ◌∙◌, sym, subst, arith, add-one}
 use Rattle.step_record.specs.declared.outcome.Outcome.{Outcome}
 use Rattle.step_record.specs.declared.stats.Stats.{Stats}
-use Rattle.clairvoyant.specs.declared.use_record.UseRecord.{UseRecord}
+use Rattle.clairvoyant.specs.declared.optimal_record.OptimalRecord.{OptimalRecord}
 use Rattle.clairvoyant.specs.Belady.{belady_residents, belady_outcome}
 use Rattle.clairvoyant.specs.RankSet.{IsTied}
 use Rattle.step_record.specs.Stats.{stats_with, stats_without}
 use Rattle.clairvoyant.specs.Clairvoyant.{ClairvoyantState, clairvoyant_at, IsBeladyReached, clairvoyant_act}
-use Rattle.clairvoyant.specs.UseRecord.{record_at, outcome_of, undone_keys, clairvoyant_undone, ClairvoyantFits}
+use Rattle.clairvoyant.specs.OptimalRecord.{record_at, outcome_of, undone_keys, clairvoyant_undone, ClairvoyantFits}
 use Rattle.clairvoyant.proofs.Records.{outcome-is, keys-back}
 use Rattle.clairvoyant.specs.Representation.{shown, IsRepresented}
 use Rattle.clairvoyant.proofs.Reached.{reached-next, act-next, uncount-by}
@@ -42,7 +42,7 @@ module _ (c : ℕ) (t : List ℕ) (s u : Stats) (o : Outcome) (lt : s.accesses <
       let P : ClairvoyantState → Type 0 = λ x. (x ≡ clairvoyant_at x.capacity x.trace x.stats.accesses) × (o ≡ belady_outcome x.capacity x.trace x.stats.accesses) × (shown c t u ≡ clairvoyant_at x.capacity x.trace (suc x.stats.accesses)) in
       subst P e (r.gives, is, next-seen)
 
-  module _ (done : UseRecord) (last : done ≡ record_at c t s.accesses) where
+  module _ (done : OptimalRecord) (last : done ≡ record_at c t s.accesses) where
     by : outcome_of done ≡ o
     by = ap outcome_of last ∙ outcome-is c t s.accesses ∙ sym is
 

@@ -1,7 +1,7 @@
 -- The ways of an access to the residents of the definition.
 use Rattle.std.proofs.Common.{◌≡◌, ℕ, suc, ◌-◌, ◌*◌, ◌<◌, ◌≤◌, Bool, true, false, cond, eqb, List, length, get_or, ap, ◌∙◌, sym, subst}
-use Rattle.clairvoyant.specs.declared.use_record.UseRecord.TheVariants.{Evicted, Rejected}
-use Rattle.clairvoyant.specs.UseRecord.{record_at}
+use Rattle.clairvoyant.specs.declared.optimal_record.OptimalRecord.TheVariants.{Evicted, Rejected}
+use Rattle.clairvoyant.specs.OptimalRecord.{record_at}
 use Rattle.clairvoyant.proofs.Records.{record-rejected, record-evicted}
 use Rattle.step_record.specs.Keys.{has_key, keys_without}
 use Rattle.clairvoyant.specs.Keys.{residents_with}

@@ -37,7 +37,7 @@ reached-small c t s r =
     let e : s ≡ stats_of (belady_outcomes c t s.accesses) = ap (λ d. d.stats) r.gives in
     let P : Stats → Type 0 = λ x. IsSmall x in subst P (sym e) (stats-small (belady_outcomes c t s.accesses) few)
 
--- ---- residents are the misses less the evictions
+-- ---- residents are the misses minus the evictions
 
 gone-both : (k v : ℕ) → (is_miss (belady_departure k v) ≡ true) × (is_eviction (belady_departure k v) ≡ true)
 gone-both k v = elim (cases_Bool (eqb k v)) as (λ _. (is_miss (belady_departure k v) ≡ true) × (is_eviction (belady_departure k v) ≡ true)) [ inl e ↦ rw e (refl, refl) | inr e ↦ rw e (refl, refl) ]

@@ -2,14 +2,14 @@
 use Rattle.std.proofs.Common.{◌≡◌, ℕ, suc, ◌<◌, ◌≤◌, ◌⊎◌, inl, inr, true, false, eqb, nat_lt, List, length, get_or, ap, ◌∙◌, sym, subst, refl}
 use Rattle.std.proofs.lemmas.Bool.{cases_Bool, eqb-true, eqb-false, ltb-true, ltb-false, lt-ltb, le-ltb, eq-eqb}
 use Rattle.step_record.specs.Keys.{has_key, keys_without}
-use Rattle.clairvoyant.specs.declared.use_record.Gone.{Gone}
-use Rattle.clairvoyant.specs.declared.use_record.UseRecord.{UseRecord}
-use Rattle.clairvoyant.specs.declared.use_record.UseRecord.TheVariants.{Hit, Kept, Evicted, Rejected}
+use Rattle.clairvoyant.specs.declared.optimal_record.EvictedKey.{EvictedKey}
+use Rattle.clairvoyant.specs.declared.optimal_record.OptimalRecord.{OptimalRecord}
+use Rattle.clairvoyant.specs.declared.optimal_record.OptimalRecord.TheVariants.{Hit, Kept, Evicted, Rejected}
 use Rattle.clairvoyant.specs.Keys.{residents_with}
 use Rattle.clairvoyant.specs.Uses.{rank}
 use Rattle.clairvoyant.specs.Belady.{farthest, belady_residents, belady_outcome, belady_departure}
 use Rattle.step_record.specs.declared.outcome.Outcome.TheVariants as o
-use Rattle.clairvoyant.specs.UseRecord.{record_at, outcome_of, undone_keys}
+use Rattle.clairvoyant.specs.OptimalRecord.{record_at, outcome_of, undone_keys}
 use Rattle.clairvoyant.proofs.Keys.{without-put}
 use Rattle.clairvoyant.proofs.Belady.{residents-ascending, farthest-among}
 use Rattle.clairvoyant.proofs.Serving.{served-hit, answer-hit, served-kept, answer-kept, served-full, answer-full, evicted-back}
@@ -111,7 +111,7 @@ module _ (c : ℕ) (t : List ℕ) (i : ℕ) where
         ]
       ]
 
-  pub known-evicted : (g : Gone) → Evicted g ≡ record_at c t i → IsEvicted c t i g.key × (g.rank ≡ rank t (suc i) g.key)
+  pub known-evicted : (g : EvictedKey) → Evicted g ≡ record_at c t i → IsEvicted c t i g.key × (g.rank ≡ rank t (suc i) g.key)
   known-evicted g h =
       elim ways [
         | inl w ↦ absurd (let no : Evicted g ≡ Hit = h ∙ w.is in cc (no))
@@ -129,7 +129,7 @@ module _ (c : ℕ) (t : List ℕ) (i : ℕ) where
         ]
       ]
     where
-      gone_in : Gone → UseRecord → Gone
+      gone_in : EvictedKey → OptimalRecord → EvictedKey
       gone_in d Hit = d
       gone_in d Kept = d
       gone_in d (Evicted x) = x

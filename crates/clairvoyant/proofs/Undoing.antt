@@ -3,19 +3,19 @@ use Rattle.std.proofs.Common.{◌≡◌, ℕ, suc, ◌-◌, ◌≤◌, Bool, Lis
 use Rattle.step_record.specs.declared.stats.Stats.{Stats}
 use Rattle.step_record.specs.Stats.{stats_with, stats_without, IsCounted, stats_of}
 use Rattle.step_record.proofs.Counting.{stats-snoc}
-use Rattle.clairvoyant.specs.declared.use_record.UseRecord.{UseRecord}
+use Rattle.clairvoyant.specs.declared.optimal_record.OptimalRecord.{OptimalRecord}
 use Rattle.clairvoyant.specs.Belady.{belady_residents, belady_outcome, belady_outcomes}
 use Rattle.clairvoyant.specs.RankSet.{IsTied}
 use Rattle.clairvoyant.specs.Clairvoyant.{ClairvoyantState, IsBeladyReached}
-use Rattle.clairvoyant.specs.UseRecord.{outcome_of, undone_keys, clairvoyant_undone, ClairvoyantFits}
+use Rattle.clairvoyant.specs.OptimalRecord.{outcome_of, undone_keys, clairvoyant_undone, ClairvoyantFits}
 use Rattle.clairvoyant.specs.Representation.{shown, IsRepresented}
 use Rattle.clairvoyant.proofs.Records.{outcome-is, keys-back}
 use Rattle.clairvoyant.proofs.Reached.{uncount-by, is-counted}
 
-pub fits-shown : (c : ℕ) (t : List ℕ) (s : Stats) (r : UseRecord) (d : ClairvoyantState) → shown c t s ≡ d → ClairvoyantFits r d → ClairvoyantFits r (shown c t s)
+pub fits-shown : (c : ℕ) (t : List ℕ) (s : Stats) (r : OptimalRecord) (d : ClairvoyantState) → shown c t s ≡ d → ClairvoyantFits r d → ClairvoyantFits r (shown c t s)
 fits-shown c t s r d e fits = let P : ClairvoyantState → Type 0 = ClairvoyantFits r in subst P (sym e) fits
 
-module _ (c : ℕ) (t : List ℕ) (s : Stats) (r : UseRecord) (reached : IsBeladyReached (shown c t s)) (fits : ClairvoyantFits r (shown c t s)) where
+module _ (c : ℕ) (t : List ℕ) (s : Stats) (r : OptimalRecord) (reached : IsBeladyReached (shown c t s)) (fits : ClairvoyantFits r (shown c t s)) where
   up : s.accesses ≡ suc (s.accesses - 1)
   up = let n : 1 ≤ s.accesses = fits.applied in omega arith
 

@@ -4,10 +4,10 @@ ghost use Rattle.std.specs.Prelude.{IfOk, IfErr, OnOk, OnErr, Ok, Some, None};
 ghost use Rattle.step_record.specs.declared.limits.TheConstants.{MAX_CAPACITY};
 ghost use Rattle.clairvoyant.specs.RankSet.{IsTied};
 ghost use Rattle.clairvoyant.specs.Belady.{belady_residents, belady_outcome};
-ghost use Rattle.clairvoyant.specs.UseRecord.{record_at};
+ghost use Rattle.clairvoyant.specs.OptimalRecord.{record_at};
 
 use crate::next_use::NextUse;
-use crate::use_record::{Gone, UseRecord};
+use crate::optimal_record::{EvictedKey, OptimalRecord};
 use rank_tree::Ranks;
 use std::alloc::{AllocError, Global};
 use std::marker::Model;
@@ -19,7 +19,7 @@ use step_record::{Engine, Key, Outcome, Stats, StepFault};
 /// last access is earliest leaves.
 #[derive(Drop)]
 pub struct Clairvoyant {
-    core: Core,
+    core: OptimalCore,
     ranks: Ranks,
     stats: Stats,
 }
@@ -37,15 +37,15 @@ impl Model for Clairvoyant {
 
 // The trace and the capacity, which no access changes.
 #[derive(Drop)]
-struct Core {
+struct OptimalCore {
     uses: NextUse,
     capacity: usize,
 }
 
-impl Core {
+impl OptimalCore {
     // Makes the access at a place: changes the ranks that are held, `held` of them before, and
     // returns its undo record.
-    fn serve(&self, ranks: &mut Ranks, held: usize, place: usize) -> UseRecord
+    fn serve(&self, ranks: &mut Ranks, held: usize, place: usize) -> OptimalRecord
         requires place { place < length self.now.uses }
         requires tied { IsTied self.now.uses place (belady_residents self.now.capacity self.now.uses place) ranks.old }
         requires held { held ≡ length (belady_residents self.now.capacity self.now.uses place) }
@@ -58,27 +58,27 @@ impl Core {
         if ranks.has(former) {
             ranks.take(former);
             ranks.put(rank as usize);
-            return UseRecord::Hit;
+            return OptimalRecord::Hit;
         }
         if held < self.capacity {
             ranks.put(rank as usize);
-            return UseRecord::Kept;
+            return OptimalRecord::Kept;
         }
         match ranks.least_below(rank as usize) {
             Some(least) => {
                 ranks.take(least);
                 ranks.put(rank as usize);
-                UseRecord::Evicted(Gone {
+                OptimalRecord::Evicted(EvictedKey {
                     key: self.uses.key_at(least),
                     rank: least as u32,
                 })
             }
-            None => UseRecord::Rejected(self.uses.key(place)),
+            None => OptimalRecord::Rejected(self.uses.key(place)),
         }
     }
 
     // Takes back what the access at a place did to the ranks that are held.
-    fn unserve(&self, ranks: &mut Ranks, place: usize, done: UseRecord)
+    fn unserve(&self, ranks: &mut Ranks, place: usize, done: OptimalRecord)
         requires place { place < length self.now.uses }
         requires tied { IsTied self.now.uses (suc place)
             (belady_residents self.now.capacity self.now.uses (suc place)) ranks.old }
@@ -87,16 +87,16 @@ impl Core {
     {
         let rank = self.uses.rank(place) as usize;
         match done {
-            UseRecord::Hit => {
+            OptimalRecord::Hit => {
                 ranks.take(rank);
                 ranks.put(2 * self.uses.len() - 1 - place);
             }
-            UseRecord::Kept => ranks.take(rank),
-            UseRecord::Evicted(gone) => {
+            OptimalRecord::Kept => ranks.take(rank),
+            OptimalRecord::Evicted(gone) => {
                 ranks.take(rank);
                 ranks.put(gone.rank as usize);
             }
-            UseRecord::Rejected(_) => {}
+            OptimalRecord::Rejected(_) => {}
         }
     }
 }
@@ -104,8 +104,8 @@ impl Core {
 impl Clairvoyant {
     ghost use Rattle.clairvoyant.specs.Clairvoyant.{clairvoyant_at};
 
-    /// An empty cache at the start of a trace, for 1 to `MAX_CAPACITY` keys. The only error is want of
-    /// memory; a cache that is open asks for no more.
+    /// An empty cache at the start of a trace, for 1 to `MAX_CAPACITY` keys. The only error is that an allocation
+    /// failed; a cache that is open asks for no more.
     pub fn open(alloc: Global, uses: NextUse, capacity: u32) -> Result<Clairvoyant, AllocError>
         requires { (1 ≤ capacity) × (capacity ≤ MAX_CAPACITY) }
         ensures { IfOk result (λ l. l ≡ clairvoyant_at capacity uses 0) }
@@ -113,7 +113,7 @@ impl Clairvoyant {
         let ranks = Ranks::new(alloc, 2 * uses.len())?;
         let capacity = capacity as usize;
         Ok(Clairvoyant {
-            core: Core { uses, capacity },
+            core: OptimalCore { uses, capacity },
             ranks,
             stats: Stats::NONE,
         })
@@ -144,7 +144,7 @@ impl Clairvoyant {
 
 impl Engine for Clairvoyant {
     ghost use Rattle.clairvoyant.specs.Clairvoyant.{clairvoyant_at, clairvoyant_act};
-    ghost use Rattle.clairvoyant.specs.UseRecord.{clairvoyant_undone, ClairvoyantFits};
+    ghost use Rattle.clairvoyant.specs.OptimalRecord.{clairvoyant_undone, ClairvoyantFits};
     ghost use Rattle.clairvoyant.specs.StepCount.{act_counts, act_ends};
     ghost use Rattle.step_record.specs.Pace.{pace_without_sketch, still-paced};
 
@@ -152,7 +152,7 @@ impl Engine for Clairvoyant {
 
     type Reply = Outcome;
 
-    type Record = UseRecord;
+    type Record = OptimalRecord;
 
     type Data = Clairvoyant;
 
@@ -173,7 +173,7 @@ impl Engine for Clairvoyant {
 
     ghost pace = { λ d. pace_without_sketch };
 
-    fn apply(&mut self, step: &Key) -> Result<(Outcome, UseRecord), StepFault>
+    fn apply(&mut self, step: &Key) -> Result<(Outcome, OptimalRecord), StepFault>
         ensures accepted { IfOk result (λ r. clairvoyant_act self.old step.now ≡ Some (r.0, self.new)) }
         ensures fits { IfOk result (λ r. ClairvoyantFits r.1 self.new) }
         ensures undone { IfOk result (λ r. clairvoyant_undone r.1 self.new ≡ self.old) }
@@ -204,7 +204,7 @@ impl Engine for Clairvoyant {
         Ok((outcome, record))
     }
 
-    fn undo(&mut self, done: UseRecord) -> Result<(), UseRecord>
+    fn undo(&mut self, done: OptimalRecord) -> Result<(), OptimalRecord>
         requires { ClairvoyantFits done self.old }
         ensures ok { OnOk result (self.new ≡ clairvoyant_undone done self.old) }
         ensures err { OnErr result (self.new ≡ self.old) }
@@ -222,7 +222,7 @@ impl Engine for Clairvoyant {
         self.stats.accesses
     }
 
-    fn words(_done: &UseRecord) -> u64 {
+    fn words(_done: &OptimalRecord) -> u64 {
         0
     }
 

@@ -10,11 +10,10 @@
 
 mod clairvoyant;
 mod next_use;
+mod optimal_record;
 mod packed_keys;
-mod theorems;
-mod use_record;
+pub mod theorems;
 
 pub use clairvoyant::Clairvoyant;
 pub use next_use::NextUse;
-pub use theorems::{clairvoyant_accepts, clairvoyant_stands};
-pub use use_record::{Gone, UseRecord};
+pub use optimal_record::{EvictedKey, OptimalRecord};

@@ -1,7 +1,7 @@
 //! A trace with the next use of each access, found beforehand.
 ghost use Rattle.std.specs.Prelude.{◌≡◌, ℕ, suc, ◌-◌, ◌*◌, ◌<◌, ◌≤◌, IfOk, IfSome, length, slice_index};
 ghost use Rattle.step_record.specs.declared.limits.TheConstants.{MAX_ACCESSES};
-ghost use Rattle.clairvoyant.specs.Uses.{IsFound, next, rank, rank_by, key_at};
+ghost use Rattle.clairvoyant.specs.Uses.{AreRanksOf, next, rank, rank_by, key_at};
 
 use crate::packed_keys::PackedKeys;
 use key_places::KeyPlaces;
@@ -20,12 +20,12 @@ use step_record::{Key, Trace};
 /// It is found once, and any number of caches, on any threads, can read it.
 #[derive(Drop)]
 pub struct NextUse {
-    found: Arc<Found>,
+    found: Arc<RankedTrace>,
 }
 
 // The keys of the accesses, and the rank of each one's key after it.
 #[derive(Drop)]
-struct Found {
+struct RankedTrace {
     keys: PackedKeys,
     ranks: Vec<u32>,
 }
@@ -33,25 +33,25 @@ struct Found {
 impl Model for NextUse {
     ghost use Rattle.std.specs.Prelude.{ℕ, List};
     ghost use Rattle.std.specs.Arc.{arc_value};
-    ghost use Rattle.clairvoyant.specs.Uses.{IsFound};
+    ghost use Rattle.clairvoyant.specs.Uses.{AreRanksOf};
     ghost use Rattle.clairvoyant.specs.PackedKeys.{unpacked};
 
     ghost Value = { List ℕ };
 
     ghost view = { λ u. unpacked (arc_value u.found).keys };
 
-    ghost invariant = { λ u. IsFound (unpacked (arc_value u.found).keys) (arc_value u.found).ranks.items };
+    ghost invariant = { λ u. AreRanksOf (unpacked (arc_value u.found).keys) (arc_value u.found).ranks.items };
 }
 
 impl NextUse {
-    /// The trace with each next use, found in one pass from its end. The only error is want of
-    /// memory.
+    /// The trace with each next use, found in one pass from its end. The only error is that an allocation
+    /// failed.
     pub fn build(alloc: Global, trace: &Trace) -> Result<NextUse, AllocError>
         ensures { IfOk result (λ u. u ≡ trace.now) }
     {
         let ranks = ranks_of(alloc, trace.keys())?;
         let keys = PackedKeys::pack(alloc, trace.keys())?;
-        let found = Arc::new(alloc, Found { keys, ranks })?;
+        let found = Arc::new(alloc, RankedTrace { keys, ranks })?;
         Ok(NextUse { found })
     }
 
@@ -122,7 +122,7 @@ impl NextUse {
 // of the trace can be packed where they were.
 fn ranks_of(alloc: Global, keys: &[Key]) -> Result<Vec<u32>, AllocError>
     requires { length keys.now ≤ MAX_ACCESSES }
-    ensures { IfOk result (λ ranks. IsFound keys.now ranks.items) }
+    ensures { IfOk result (λ ranks. AreRanksOf keys.now ranks.items) }
 {
     let len = keys.len();
     let mut ranks: Vec<u32> = vec![in alloc; 0; len]?;

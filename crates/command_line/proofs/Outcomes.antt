@@ -4,7 +4,7 @@ use Rattle.std.specs.Prelude.{IsErrAnd, MatchResult}
 use Rattle.clap.specs.Words.{App, HasKind, Text, fault_of, subcommand_of, subcommand_rows_of}
 use Rattle.clap.specs.declared.Error.{Error}
 use Rattle.clap.specs.declared.ArgMatches.{ArgMatches}
-use Rattle.command_line.specs.Parsed.{HasOddStripes, IsAsked, IsIncomplete, IsLacking, ParsedBy}
+use Rattle.command_line.specs.ParseResult.{HasOddStripes, IsAsked, IsIncomplete, IsLacking, ParsedBy}
 use Rattle.command_line.specs.Program.{AreLists, Lists, call_words, program_app}
 use Rattle.command_line.specs.declared.arguments.Arguments.{Arguments}
 use Rattle.command_line.specs.declared.fault.ParseFault.{ParseFault}

@@ -9,7 +9,7 @@ use Rattle.clap.specs.Simple.{subcommand_rows}
 use Rattle.clap.specs.declared.parser.matches.ArgMatches.{ArgMatches}
 use Rattle.clap.specs.declared.parser.matches.ArgMatches.TheViews.{out-SubCommand}
 use Rattle.clap.specs.declared.parser.matches.SubCommand.{SubCommand}
-use Rattle.command_line.specs.Parsed.{IsIncomplete, IsLacking, IsNotCalled, LacksDebug, LacksDrive, LacksDriven, LacksPart, LacksReplay, LacksReplayed, LacksRun, LacksSweep}
+use Rattle.command_line.specs.ParseResult.{IsIncomplete, IsLacking, IsNotCalled, LacksDebug, LacksDrive, LacksDriven, LacksPart, LacksReplay, LacksReplayed, LacksRun, LacksSweep}
 use Rattle.command_line.specs.Program.{stripes_in}
 use Rattle.command_line.specs.declared.fault.ParseFault.{ParseFault}
 use Rattle.command_line.specs.declared.fault.ParseFault.TheVariants.{Incomplete, OutOfMemory, Refused, Stripes}

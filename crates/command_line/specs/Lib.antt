@@ -1,3 +1,3 @@
 pub mod Choices
-pub mod Parsed
+pub mod ParseResult
 pub mod Program

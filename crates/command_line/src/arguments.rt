@@ -3,7 +3,7 @@ ghost use Rattle.std.specs.Prelude.{◌≡◌, Ok, Some, IfOk, IfSome, MatchOpti
 ghost use Rattle.clap.specs.Words.{first_of, found_of, rows_of};
 ghost use Rattle.step_record.specs.Config.{config_fault};
 ghost use Rattle.command_line.specs.Choices.{policies_named as policies_by};
-ghost use Rattle.command_line.specs.Parsed.{IsRunCalled, LacksRun};
+ghost use Rattle.command_line.specs.ParseResult.{IsRunCalled, LacksRun};
 ghost use Rattle.command_line.specs.Program.{batch_in, config_at, config_in, format_in, number_in};
 ghost use Rattle.command_line.specs.Program.{policies_in, policy_in, spread_in, up_to as within};
 

@@ -401,8 +401,8 @@ fn drive_command<'a>(
     let drive = described(alloc, "drive", DRIVE);
     let configured = configured(alloc, drive, spreads);
     let formed = with(configured, format_arg(alloc, formats));
-    let manned = with(formed, workers_arg(alloc));
-    concurrent(alloc, manned)
+    let with_workers = with(formed, workers_arg(alloc));
+    concurrent(alloc, with_workers)
 }
 
 // `cachesim` itself, which has a version and wants a subcommand.

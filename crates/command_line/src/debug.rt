@@ -1,7 +1,7 @@
 //! What the matches of `debug` name.
 ghost use Rattle.std.specs.Prelude.{IfOk, MatchOption};
 ghost use Rattle.clap.specs.Words.{found_of, rows_of};
-ghost use Rattle.command_line.specs.Parsed.{IsDebug, LacksDebug};
+ghost use Rattle.command_line.specs.ParseResult.{IsDebug, LacksDebug};
 
 use crate::arguments::path;
 use crate::part::{PartArguments, part_arguments};

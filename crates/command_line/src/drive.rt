@@ -2,7 +2,7 @@
 ghost use Rattle.std.specs.Prelude.{◌≡◌, Ok, IfSome, MatchResult};
 ghost use Rattle.clap.specs.Words.{found_of, rows_of};
 ghost use Rattle.step_record.specs.Config.{config_fault};
-ghost use Rattle.command_line.specs.Parsed.{IsDrive, LacksDrive};
+ghost use Rattle.command_line.specs.ParseResult.{IsDrive, LacksDrive};
 ghost use Rattle.command_line.specs.Program.{concurrent_in, max_number, number_in, stripes_in};
 ghost use Rattle.command_line.specs.Program.{workers_in};
 
@@ -79,8 +79,8 @@ fn workers(matches: &ArgMatches<'_>) -> Option<u8>
     Some(workers)
 }
 
-/// The arguments of `drive` that the matches name. `Stripes` where the number of read buffers is
-/// none of a cache; `Incomplete` where the matches lack another number in its range.
+/// The arguments of `drive` that the matches name. `Stripes` where the number of read buffers is not a power of two from 1 to
+/// 64; `Incomplete` where the matches lack another number in its range.
 pub(crate) fn drive_arguments(matches: &ArgMatches<'_>) -> Result<DriveArguments, ParseFault>
     ensures { MatchResult result
         (IsDrive (rows_of (found_of matches.now)))

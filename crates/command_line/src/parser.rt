@@ -1,7 +1,7 @@
 //! The words of a call, to its arguments.
 ghost use Rattle.std.specs.Prelude.{◌≡◌, Some, IfOk, MatchOption, MatchResult, map};
 ghost use Rattle.clap.specs.Words.{found_of, rows_of, subcommand_rows_of};
-ghost use Rattle.command_line.specs.Parsed.{IsAsked, IsLacking, IsNotCalled, ParsedBy};
+ghost use Rattle.command_line.specs.ParseResult.{IsAsked, IsLacking, IsNotCalled, ParsedBy};
 ghost use Rattle.command_line.specs.Program.{call_words as called_by};
 
 use crate::arguments::{Arguments, run_arguments};

@@ -1,7 +1,7 @@
 //! What the matches of `part` name.
 ghost use Rattle.std.specs.Prelude.{MatchOption};
 ghost use Rattle.clap.specs.Words.{found_of, rows_of};
-ghost use Rattle.command_line.specs.Parsed.{IsPartCall, LacksPart};
+ghost use Rattle.command_line.specs.ParseResult.{IsPartCall, LacksPart};
 
 use crate::arguments::{config_named, format, policy};
 use clap::ArgMatches;

@@ -1,7 +1,7 @@
 //! What the matches of `replay` name.
 ghost use Rattle.std.specs.Prelude.{MatchResult};
 ghost use Rattle.clap.specs.Words.{found_of, rows_of};
-ghost use Rattle.command_line.specs.Parsed.{IsReplay, LacksReplay};
+ghost use Rattle.command_line.specs.ParseResult.{IsReplay, LacksReplay};
 
 use crate::arguments::path;
 use crate::drive::{concurrent_config, stripes};
@@ -19,8 +19,8 @@ pub struct ReplayArguments {
     pub journal: String,
 }
 
-/// The arguments of `replay` that the matches name. `Stripes` where the number of read buffers is
-/// none of a cache; `Incomplete` where the matches lack another number in its range or a file;
+/// The arguments of `replay` that the matches name. `Stripes` where the number of read buffers is not a power of two from 1 to
+/// 64; `Incomplete` where the matches lack another number in its range or a file;
 /// `OutOfMemory`, for the name of the file, only where the number of read buffers is one of a cache.
 pub(crate) fn replay_arguments(
     alloc: Global,

@@ -2,7 +2,7 @@
 ghost use Rattle.std.specs.Prelude.{◌≡◌, Ok, Some, IfOk, MatchOption, map, option_map};
 ghost use Rattle.clap.specs.Words.{found_of, rows_of};
 ghost use Rattle.command_line.specs.Choices.{all_named};
-ghost use Rattle.command_line.specs.Parsed.{IsSweep, LacksSweep};
+ghost use Rattle.command_line.specs.ParseResult.{IsSweep, LacksSweep};
 ghost use Rattle.command_line.specs.Program.{capacities_in, capacity_named as capacity_by, number_up_to};
 
 use crate::arguments::{config_with, format, policies, up_to};

@@ -8,19 +8,19 @@ use Rattle.std.proofs.lemmas.List.Splits.{slice_split-cons_no}
 use Rattle.std.specs.Io.KnownBytes.{Appends, Consumes, IsAtEnd}
 use Rattle.std.specs.List.{onto_first}
 use Rattle.std.specs.Prelude.{IfSome}
-use Rattle.debug_commands.specs.Answering.{IsAnswer}
+use Rattle.debug_commands.specs.AnswerText.{IsAnswer}
 use Rattle.debug_commands.specs.Answers.{TimelinePlace, CommandResponse, answer_to, response_to}
 use Rattle.debug_commands.specs.Commands.{command_line_of}
-use Rattle.debug_commands.specs.Dialogue.{Dialogue, answers, dialogue_from, dialogue_of, ends, is_quit, IsLineHeld}
-use Rattle.debug_commands.specs.Reading.{feed, IsTooLarge}
+use Rattle.debug_commands.specs.Dialogue.{Dialogue, answers, dialogue_from, dialogue_of, ends, is_quit, WritesDialogue}
+use Rattle.debug_commands.specs.InputBytes.{feed, IsTooLarge}
 use Rattle.text_lines.proofs.Feeds.{has_lines, lines_fed, one_unfed}
 use Rattle.text_lines.specs.Feeds.{lines_of, HasNoFeed}
 use Rattle.debug_commands.specs.Timeline.{TimelineData}
 use Rattle.debug_commands.specs.declared.breakpoint.Breakpoint.{Breakpoint}
 use Rattle.debug_commands.specs.declared.command.Command.TheVariants as command
 use Rattle.debug_commands.specs.declared.command.Dialect.{Dialect}
-use Rattle.debug_commands.specs.declared.command.Line.{Line}
-use Rattle.debug_commands.specs.declared.command.Line.TheVariants.{Empty, Unknown, Known}
+use Rattle.debug_commands.specs.declared.command.InputLine.{InputLine}
+use Rattle.debug_commands.specs.declared.command.InputLine.TheVariants.{Empty, Unknown, Known}
 use Rattle.debug_commands.specs.declared.dialogue.TheConstants.{MAX_COMMAND_BYTES}
 
 -- a text before a dialogue
@@ -152,7 +152,7 @@ goes_on {t} {first} {p} {room} {less} {given} {left} {rest} {had} {has} {more} {
 over : (t : TimelineData) (first : ℕ) (p : TimelinePlace) (room : ℕ) (given left rest had has more : Option (List ℕ)) (used : List ℕ) (d : Dialogue)
     → IsAhead t first p room given left had has → Consumes left rest used → Appends has more d.text
     → IfSome rest (λ bytes. dialogue_from t room (lines_of (used ++ bytes)) p ≡ d)
-    → IfSome given (λ bytes. IsLineHeld (dialogue_of t first bytes) d.fits had more d.at)
+    → IfSome given (λ bytes. WritesDialogue (dialogue_of t first bytes) d.fits had more d.at)
 over t first p room None left rest had has more used d a c w e = tt
 over t first p room (Some xs) None rest had has more used d a c w e = absurd a.consumed
 over t first p room (Some xs) (Some ys) None had has more used d a c w e = absurd c
@@ -176,7 +176,7 @@ at_the_end (Some xs) P e h = subst P (sym e) h
 -- the last line was answered, which had no line feed
 pub ends_at_last : {t : TimelineData} {first : ℕ} {p : TimelinePlace} {room less : ℕ} {given left rest had has more : Option (List ℕ)} {fed : Bool} {l text : List ℕ}
     {at : ℕ} {breaks : List Breakpoint} → Round t first p room less given left rest had has more fed l text at breaks → fed ≡ false → IsAtEnd rest
-    → IfSome given (λ bytes. IsLineHeld (dialogue_of t first bytes) true had more at)
+    → IfSome given (λ bytes. WritesDialogue (dialogue_of t first bytes) true had more at)
 ends_at_last {t} {first} {p} {room} {less} {given} {left} {rest} {had} {has} {more} {fed} {l} {text} {at} {breaks} round no_feed end =
     let d : Dialogue = record { text = text; at = at; fits = true } in
     let r = answer_to t p (command_line_of t.dialect l) in
@@ -190,7 +190,7 @@ ends_at_last {t} {first} {p} {room} {less} {given} {left} {rest} {had} {has} {mo
     over t first p room given left rest had has more (l ++ []) d round.ahead (unfed_read fed left rest l no_feed round.read) round.sent
     (at_the_end rest (λ bytes. dialogue_from t room (lines_of ((l ++ []) ++ bytes)) p ≡ d) end is)
 
-quit_line : (t : TimelineData) (p : TimelinePlace) (line : Line) → is_quit line ≡ true → answer_to t p line ≡ record { text = []; place = p }
+quit_line : (t : TimelineData) (p : TimelinePlace) (line : InputLine) → is_quit line ≡ true → answer_to t p line ≡ record { text = []; place = p }
 unfolding response_to
 quit_line t p Empty h = absurd (true≢false (sym h))
 quit_line t p Unknown h = absurd (true≢false (sym h))
@@ -201,7 +201,7 @@ quit_line t p (Known command.Run) h = absurd (true≢false (sym h))
 quit_line t p (Known (command.Break b)) h = absurd (true≢false (sym h))
 quit_line t p (Known command.Clear) h = absurd (true≢false (sym h))
 quit_line t p (Known command.Show) h = absurd (true≢false (sym h))
-quit_line t p (Known command.Own) h = absurd (true≢false (sym h))
+quit_line t p (Known command.Special) h = absurd (true≢false (sym h))
 quit_line t p (Known command.Quit) h = refl
 
 quit_answer : (t : TimelineData) (p : TimelinePlace) (l : List ℕ) → is_quit (command_line_of t.dialect l) ≡ true
@@ -211,7 +211,7 @@ quit_answer t p l h = quit_line t p (command_line_of t.dialect l) h
 -- a `quit` was read
 pub ends_at_quit : {t : TimelineData} {first : ℕ} {p : TimelinePlace} {room less : ℕ} {given left rest had has more : Option (List ℕ)} {fed : Bool} {l text : List ℕ}
     {at : ℕ} {breaks : List Breakpoint} → Round t first p room less given left rest had has more fed l text at breaks → fed ≡ true
-    → is_quit (command_line_of t.dialect l) ≡ true → IfSome given (λ bytes. IsLineHeld (dialogue_of t first bytes) true had more at)
+    → is_quit (command_line_of t.dialect l) ≡ true → IfSome given (λ bytes. WritesDialogue (dialogue_of t first bytes) true had more at)
 ends_at_quit {t} {first} {p} {room} {less} {given} {left} {rest} {had} {has} {more} {fed} {l} {text} {at} {breaks} round has_feed quits =
     let d : Dialogue = record { text = text; at = at; fits = true } in
     let e : less + length l + 1 ≡ room = fed_room fed less (length l) room has_feed round.spent in
@@ -262,7 +262,7 @@ large_by t p room byte front rest false is h full =
 -- a line was too large, and the lines before it were answered
 pub ends_at_large : {t : TimelineData} {first : ℕ} {p : TimelinePlace} {room : ℕ} {given left rest had has : Option (List ℕ)}
     → IsAhead t first p room given left had has → IsTooLarge room left rest
-    → IfSome given (λ bytes. IsLineHeld (dialogue_of t first bytes) false had has p.at)
+    → IfSome given (λ bytes. WritesDialogue (dialogue_of t first bytes) false had has p.at)
 ends_at_large {t} {first} {p} {room} {given} {left} {rest} {had} {has} a large =
     over t first p room given left rest had has has (large.front ++ large.byte ∷ []) (ends p false) a large.consumed (Appends-none has)
     (always rest (λ bytes. dialogue_from t room (lines_of ((large.front ++ large.byte ∷ []) ++ bytes)) p ≡ ends p false)
@@ -270,14 +270,14 @@ ends_at_large {t} {first} {p} {room} {given} {left} {rest} {had} {has} a large =
 
 -- ---- what the calls of a round say
 
-pub said_is : {u t : TimelineData} {d : Dialect} {slice l : List ℕ} {line : Line} → u ≡ t → d ≡ u.dialect → slice ≡ l → line ≡ command_line_of d slice
+pub said_is : {u t : TimelineData} {d : Dialect} {slice l : List ℕ} {line : InputLine} → u ≡ t → d ≡ u.dialect → slice ≡ l → line ≡ command_line_of d slice
     → line ≡ command_line_of t.dialect l
 said_is {u} {t} {d} {slice} {l} same dialect is said =
     said ∙ ap (λ x. command_line_of x slice) (dialect ∙ ap (λ (x : TimelineData). x.dialect) same) ∙ ap (command_line_of t.dialect) is
 
 -- the line as it was read from the buffer, and its answer, are those of the timeline at the start
 pub a_round : {t u : TimelineData} {first : ℕ} {p : TimelinePlace} {room less : ℕ} {given left had has : Option (List ℕ)} {fed : Bool} {l slice before text shown : List ℕ}
-    {at : ℕ} {breaks : List Breakpoint} {d : Dialect} {line : Line} (rest more : Option (List ℕ))
+    {at : ℕ} {breaks : List Breakpoint} {d : Dialect} {line : InputLine} (rest more : Option (List ℕ))
     → IsAhead t first p room given left had has → u ≡ t → d ≡ u.dialect → slice ≡ l → line ≡ command_line_of d slice
     → before ≡ [] → IsAnswer (answer_to u p line) before text at breaks
     → Consumes left rest (l ++ feed fed) → HasNoFeed l → less + length l + length (feed fed) ≡ room → shown ≡ text → Appends has more shown

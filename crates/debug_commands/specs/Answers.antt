@@ -10,8 +10,8 @@ use Rattle.debug_commands.specs.declared.breakpoint.Breakpoint.{Breakpoint}
 use Rattle.debug_commands.specs.declared.breakpoint.StepFacts.{StepFacts}
 use Rattle.debug_commands.specs.declared.command.Command.{Command}
 use Rattle.debug_commands.specs.declared.command.Command.TheVariants as command
-use Rattle.debug_commands.specs.declared.command.Line.{Line}
-use Rattle.debug_commands.specs.declared.command.Line.TheVariants.{Empty, Unknown, Known}
+use Rattle.debug_commands.specs.declared.command.InputLine.{InputLine}
+use Rattle.debug_commands.specs.declared.command.InputLine.TheVariants.{Empty, Unknown, Known}
 
 -- between two commands: how many steps are made, and the breakpoints in the order in which they were set
 pub record TimelinePlace : Type 0 where
@@ -72,12 +72,12 @@ response_to t p (command.Break b) =
     if length p.breaks == MAX_BREAKPOINTS then stays p (codes "fault: Breaks\n") else sets p (p.breaks ++ b ∷ [])
 response_to t p command.Clear = sets p []
 response_to t p command.Show = stays p (t.shown p.at)
-response_to t p command.Own = stays p (t.own p.at)
+response_to t p command.Special = stays p (t.own p.at)
 response_to t p command.Quit = stays p []
 
 -- ---- the answer to a line
 
-abbrev pub answer_to : TimelineData → TimelinePlace → Line → CommandResponse
+abbrev pub answer_to : TimelineData → TimelinePlace → InputLine → CommandResponse
 answer_to t p Empty = stays p []
 answer_to t p Unknown = stays p (codes "fault: Command\n")
 answer_to t p (Known c) = response_to t p c

@@ -11,8 +11,8 @@ use Rattle.debug_commands.specs.declared.command.Command.{Command}
 use Rattle.debug_commands.specs.declared.command.Command.TheVariants as command
 use Rattle.debug_commands.specs.declared.command.Dialect.{Dialect}
 use Rattle.debug_commands.specs.declared.command.Dialect.TheVariants.{Policies, Journal}
-use Rattle.debug_commands.specs.declared.command.Line.{Line}
-use Rattle.debug_commands.specs.declared.command.Line.TheVariants.{Empty, Unknown, Known}
+use Rattle.debug_commands.specs.declared.command.InputLine.{InputLine}
+use Rattle.debug_commands.specs.declared.command.InputLine.TheVariants.{Empty, Unknown, Known}
 use Rattle.debug_commands.specs.declared.name.Name.{Name}
 use Rattle.debug_commands.specs.declared.name.Name.TheVariants as name
 
@@ -45,8 +45,8 @@ command_named d name.Run ws = Some (command.Run, ws)
 command_named d name.Break ws = point_at d ws >>= λ b. Some (command.Break b.0, b.1)
 command_named d name.Clear ws = Some (command.Clear, ws)
 command_named d name.Show ws = Some (command.Show, ws)
-command_named Policies name.Part ws = Some (command.Own, ws)
-command_named Journal name.Save ws = Some (command.Own, ws)
+command_named Policies name.Part ws = Some (command.Special, ws)
+command_named Journal name.Save ws = Some (command.Special, ws)
 command_named d name.Quit ws = Some (command.Quit, ws)
 command_named d _ ws = None
 
@@ -56,14 +56,14 @@ command_at d ws = command_name_at ws >>= λ n. command_named d n.0 n.1
 unfoldable pub command_in : Dialect → List (List ℕ) → Option Command
 command_in d ws = command_at d ws >>= at_end
 
-abbrev pub known_or : Option Command → Line
+abbrev pub known_or : Option Command → InputLine
 known_or None = Unknown
 known_or (Some c) = Known c
 
-unfoldable pub line_in : Dialect → List (List ℕ) → Line
+unfoldable pub line_in : Dialect → List (List ℕ) → InputLine
 line_in d [] = Empty
 line_in d (w ∷ ws) = known_or (command_in d (w ∷ ws))
 
 -- what a line says, without its line feed
-abbrev pub command_line_of : Dialect → List ℕ → Line
+abbrev pub command_line_of : Dialect → List ℕ → InputLine
 command_line_of d text = line_in d (words_in (trimmed_text text))

@@ -7,11 +7,11 @@ use Rattle.debug_commands.specs.Answers.{TimelinePlace, CommandResponse, answer_
 use Rattle.debug_commands.specs.Commands.{command_line_of}
 use Rattle.debug_commands.specs.Timeline.{TimelineData}
 use Rattle.debug_commands.specs.declared.command.Command.TheVariants.{Quit}
-use Rattle.debug_commands.specs.declared.command.Line.{Line}
-use Rattle.debug_commands.specs.declared.command.Line.TheVariants.{Known}
+use Rattle.debug_commands.specs.declared.command.InputLine.{InputLine}
+use Rattle.debug_commands.specs.declared.command.InputLine.TheVariants.{Known}
 use Rattle.debug_commands.specs.declared.dialogue.TheConstants.{MAX_COMMAND_BYTES}
 
-abbrev pub is_quit : Line → Bool
+abbrev pub is_quit : InputLine → Bool
 is_quit (Known Quit) = true
 is_quit _ = false
 
@@ -44,7 +44,7 @@ abbrev pub dialogue_of : TimelineData → ℕ → List ℕ → Dialogue
 dialogue_of t at bytes = dialogue_from t MAX_COMMAND_BYTES (lines_of bytes) (record { at = at; breaks = [] })
 
 -- the output got the text, the position is its last, and it came to its end, or to a line that was too large
-pub record IsLineHeld (d : Dialogue) (whole : Bool) (old new : Option (List ℕ)) (position : ℕ) : Type 0 where
+pub record WritesDialogue (d : Dialogue) (whole : Bool) (old new : Option (List ℕ)) (position : ℕ) : Type 0 where
   pub fits : d.fits ≡ whole
   pub text : Appends old new d.text
   pub at : position ≡ d.at

@@ -5,7 +5,7 @@ pub mod Breakpoints
 pub mod Timeline
 pub mod Texts
 pub mod Answers
-pub mod Answering
-pub mod Reading
+pub mod AnswerText
+pub mod InputBytes
 pub mod Dialogue
 pub mod FaultText

@@ -4,7 +4,7 @@ use crate::breakpoint::Breakpoint;
 
 /// What a line says.
 #[derive(Clone, Copy, Debug, PartialEq, Eq)]
-pub enum Line {
+pub enum InputLine {
     /// Nothing: blanks alone.
     Empty,
     /// No command.
@@ -31,7 +31,7 @@ pub enum Command {
     /// What is seen at the position.
     Show,
     /// The command that only this dialect has: `part` or `save`.
-    Own,
+    Special,
     /// Ends the run.
     Quit,
 }

@@ -1,12 +1,12 @@
 //! The reading and answering of commands, a line at a time.
 ghost use Rattle.std.specs.Prelude.{◌≡◌, ◌+◌, ◌++◌, ℕ, [], Ok, Err, IfOk, IfSome, OnOk, length, true, false};
 ghost use Rattle.std.specs.Io.KnownBytes.{Appends, Consumes, IsAtEnd};
-ghost use Rattle.debug_commands.specs.Dialogue.{dialogue_of, is_quit, IsLineHeld};
-ghost use Rattle.debug_commands.specs.Reading.{feed, IsTooLarge};
+ghost use Rattle.debug_commands.specs.Dialogue.{dialogue_of, is_quit, WritesDialogue};
+ghost use Rattle.debug_commands.specs.InputBytes.{feed, IsTooLarge};
 ghost use Rattle.text_lines.specs.Feeds.{HasNoFeed};
 
 use crate::breakpoint::Breakpoint;
-use crate::command::{Command, Line};
+use crate::command::{Command, InputLine};
 use crate::execute::answer;
 use crate::fault::DebugFault;
 use crate::grammar;
@@ -32,11 +32,11 @@ pub fn answer_commands<T: Timeline, R: Read, W: Write>(
     requires { T.IsWhole timeline.old }
     // With its end it has written what the definition gives for the bytes of the input.
     ensures done { OnOk result (IfSome (R.remaining input.old) (λ bytes.
-        IsLineHeld (dialogue_of (T.timeline timeline.old) (T.position timeline.old) bytes) true
+        WritesDialogue (dialogue_of (T.timeline timeline.old) (T.position timeline.old) bytes) true
         (W.contents out.old) (W.contents out.new) (T.position timeline.new))) }
     // So it has where a line was too large, for the lines before that.
     ensures large { result ≡ Err DebugFault.TooLarge → IfSome (R.remaining input.old) (λ bytes.
-        IsLineHeld (dialogue_of (T.timeline timeline.old) (T.position timeline.old) bytes) false
+        WritesDialogue (dialogue_of (T.timeline timeline.old) (T.position timeline.old) bytes) false
         (W.contents out.old) (W.contents out.new) (T.position timeline.new)) }
     // What is walked stays, whatever comes.
     ensures source { T.source timeline.new ≡ T.source timeline.old }
@@ -103,10 +103,10 @@ fn read_line<R: Read>(
 }
 
 // Whether the line ends the run.
-fn is_quit(line: Line) -> bool
+fn is_quit(line: InputLine) -> bool
     ensures { result ≡ is_quit line }
 {
-    matches!(line, Line::Known(Command::Quit))
+    matches!(line, InputLine::Known(Command::Quit))
 }
 
 // Writes an answer and flushes.

@@ -1,13 +1,13 @@
 //! What is answered to a line.
 ghost use Rattle.std.specs.Prelude.{◌≡◌, ◌-◌, ◌++◌, ℕ, List, OnOk, IfOk};
 ghost use Rattle.debug_commands.specs.Answers.{answer_to, response_to, stop_after, stop_line};
-ghost use Rattle.debug_commands.specs.Answering.{IsAnswer};
+ghost use Rattle.debug_commands.specs.AnswerText.{IsAnswer};
 ghost use Rattle.debug_commands.specs.Timeline.{TimelineData};
 ghost use Rattle.debug_commands.specs.declared.breakpoint.Breakpoint.{Breakpoint};
 ghost use Rattle.debug_commands.specs.declared.command.Command.TheVariants as command;
 
 use crate::breakpoint::{Breakpoint, first_holding};
-use crate::command::{Command, Line};
+use crate::command::{Command, InputLine};
 use crate::text::{push_at, push_bytes};
 use crate::timeline::Timeline;
 use std::alloc::{AllocError, Global};
@@ -21,7 +21,7 @@ pub fn answer<T: Timeline>(
     alloc: Global,
     timeline: &mut T,
     breaks: &mut Vec<Breakpoint>,
-    line: Line,
+    line: InputLine,
     text: &mut Vec<u8>,
 ) -> Result<(), AllocError>
     requires { T.IsWhole timeline.old }
@@ -33,19 +33,19 @@ pub fn answer<T: Timeline>(
         text.old.items text.new.items (T.position timeline.new) breaks.new.items) }
 {
     match line {
-        Line::Empty | Line::Known(Command::Quit) => Ok(()),
-        Line::Unknown => push_bytes(text, b"fault: Command\n"),
-        Line::Known(Command::Step(n)) => step(alloc, timeline, n, text),
-        Line::Known(Command::Back(n)) => back(alloc, timeline, n, text),
-        Line::Known(Command::Goto(n)) => goto(alloc, timeline, n, text),
-        Line::Known(Command::Run) => run(alloc, timeline, breaks.as_slice(), text),
-        Line::Known(Command::Break(point)) => set(breaks, point, text),
-        Line::Known(Command::Clear) => {
+        InputLine::Empty | InputLine::Known(Command::Quit) => Ok(()),
+        InputLine::Unknown => push_bytes(text, b"fault: Command\n"),
+        InputLine::Known(Command::Step(n)) => step(alloc, timeline, n, text),
+        InputLine::Known(Command::Back(n)) => back(alloc, timeline, n, text),
+        InputLine::Known(Command::Goto(n)) => goto(alloc, timeline, n, text),
+        InputLine::Known(Command::Run) => run(alloc, timeline, breaks.as_slice(), text),
+        InputLine::Known(Command::Break(point)) => set(breaks, point, text),
+        InputLine::Known(Command::Clear) => {
             breaks.clear();
             push_bytes(text, b"ok\n")
         }
-        Line::Known(Command::Show) => timeline.show(alloc, text),
-        Line::Known(Command::Own) => timeline.own(alloc, text),
+        InputLine::Known(Command::Show) => timeline.show(alloc, text),
+        InputLine::Known(Command::Special) => timeline.own(alloc, text),
     }
 }
 

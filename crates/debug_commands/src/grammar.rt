@@ -4,23 +4,23 @@ ghost use Rattle.debug_commands.specs.Commands.{command_in, command_line_of, com
 ghost use Rattle.text_lines.specs.Reads.{with_rest};
 
 use crate::breakpoint::Breakpoint;
-use crate::command::{Command, Dialect, Line};
+use crate::command::{Command, Dialect, InputLine};
 use crate::name::Name;
 use crate::words::Words;
 use text_lines::trimmed;
 
 /// What a line says, which is given without its line feed.
 #[tactic(auto, unfolding(crate::specs::Commands::line_in))]
-pub fn line(dialect: Dialect, text: &[u8]) -> Line
+pub fn line(dialect: Dialect, text: &[u8]) -> InputLine
     ensures { result ≡ command_line_of dialect text.now }
 {
     let mut words = Words::of(trimmed(text));
     let Some(first) = words.next() else {
-        return Line::Empty;
+        return InputLine::Empty;
     };
     match command(dialect, first, &mut words) {
-        Some(command) => Line::Known(command),
-        None => Line::Unknown,
+        Some(command) => InputLine::Known(command),
+        None => InputLine::Unknown,
     }
 }
 
@@ -50,12 +50,12 @@ fn named_command(dialect: Dialect, name: Name, words: &mut Words) -> Option<Comm
         Name::Clear => Some(Command::Clear),
         Name::Show => Some(Command::Show),
         Name::Part => match dialect {
-            Dialect::Policies => Some(Command::Own),
+            Dialect::Policies => Some(Command::Special),
             Dialect::Journal => None,
         },
         Name::Save => match dialect {
             Dialect::Policies => None,
-            Dialect::Journal => Some(Command::Own),
+            Dialect::Journal => Some(Command::Special),
         },
         Name::Quit => Some(Command::Quit),
         _ => None,

@@ -19,7 +19,7 @@ mod timeline;
 mod words;
 
 pub use breakpoint::{Breakpoint, StepFacts};
-pub use command::{Command, Dialect, Line};
+pub use command::{Command, Dialect, InputLine};
 pub use dialogue::{MAX_COMMAND_BYTES, answer_commands};
 pub use fault::DebugFault;
 pub use grammar::line;

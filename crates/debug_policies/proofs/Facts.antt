@@ -6,12 +6,12 @@ use Rattle.step_record.specs.declared.job.Job.{Job}
 use Rattle.step_record.specs.declared.outcome.Outcome.{Outcome}
 use Rattle.step_record.specs.declared.outcome.Outcome.TheVariants.{Kept}
 use Rattle.step_record.specs.Stats.{is_hit}
-use Rattle.debug_commands.specs.Dialogue.{dialogue_of, IsLineHeld}
+use Rattle.debug_commands.specs.Dialogue.{dialogue_of, WritesDialogue}
 use Rattle.debug_commands.specs.Timeline.{TimelineData}
 use Rattle.debug_commands.specs.declared.fault.DebugFault.{DebugFault}
 use Rattle.debug_commands.specs.declared.fault.DebugFault.TheVariants as debug
 use Rattle.job_checks.specs.FaultyJobs.{config_or}
-use Rattle.debug_policies.specs.Refused.{ReturnsConfig, UntouchedAtConfig}
+use Rattle.debug_policies.specs.ConfigFault.{ReturnsConfig, UntouchedAtConfig}
 use Rattle.debug_policies.specs.OnePolicy.{OnePolicyState}
 use Rattle.debug_policies.specs.Part.{IsPart}
 use Rattle.debug_policies.specs.TwoPolicies.{first_parting, just_one}
@@ -69,20 +69,20 @@ part_is os ps (Some (suc i)) long h =
 -- ---- the debugger
 
 some_held : (known : Option (List ℕ)) (t u : TimelineData) (n : ℕ) (fits : Bool) (had has : Option (List ℕ)) (at : ℕ) → t ≡ u → n ≡ 0
-    → IfSome known (λ bytes. IsLineHeld (dialogue_of t n bytes) fits had has at)
-    → IfSome known (λ bytes. (x : ℕ) × IsLineHeld (dialogue_of u 0 bytes) fits had has x)
+    → IfSome known (λ bytes. WritesDialogue (dialogue_of t n bytes) fits had has at)
+    → IfSome known (λ bytes. (x : ℕ) × WritesDialogue (dialogue_of u 0 bytes) fits had has x)
 some_held None t u n fits had has at same start h = tt
 some_held (Some xs) t u n fits had has at same start h =
-    (at, subst (λ k. IsLineHeld (dialogue_of u k xs) fits had has at) start (subst (λ x. IsLineHeld (dialogue_of x n xs) fits had has at) same h))
+    (at, subst (λ k. WritesDialogue (dialogue_of u k xs) fits had has at) start (subst (λ x. WritesDialogue (dialogue_of x n xs) fits had has at) same h))
 
 pub large_held : (known : Option (List ℕ)) (t u : TimelineData) (n : ℕ) (fits : Bool) (had has : Option (List ℕ)) (at : ℕ) → t ≡ u → n ≡ 0
-    → IfSome known (λ bytes. IsLineHeld (dialogue_of t n bytes) fits had has at)
-    → IfSome known (λ bytes. (x : ℕ) × IsLineHeld (dialogue_of u 0 bytes) fits had has x)
+    → IfSome known (λ bytes. WritesDialogue (dialogue_of t n bytes) fits had has at)
+    → IfSome known (λ bytes. (x : ℕ) × WritesDialogue (dialogue_of u 0 bytes) fits had has x)
 large_held known t u n fits had has at same start h = some_held known t u n fits had has at same start h
 
 pub done_held : (r : Result (Unit {0}) DebugFault) (known : Option (List ℕ)) (t u : TimelineData) (n : ℕ) (fits : Bool) (had has : Option (List ℕ)) (at : ℕ) → t ≡ u
-    → n ≡ 0 → OnOk r (IfSome known (λ bytes. IsLineHeld (dialogue_of t n bytes) fits had has at))
-    → OnOk r (IfSome known (λ bytes. (x : ℕ) × IsLineHeld (dialogue_of u 0 bytes) fits had has x))
+    → n ≡ 0 → OnOk r (IfSome known (λ bytes. WritesDialogue (dialogue_of t n bytes) fits had has at))
+    → OnOk r (IfSome known (λ bytes. (x : ℕ) × WritesDialogue (dialogue_of u 0 bytes) fits had has x))
 done_held (Ok x) known t u n fits had has at same start h = some_held known t u n fits had has at same start h
 done_held (Err e) known t u n fits had has at same start h = tt
 

@@ -1,4 +1,4 @@
 pub mod Part
 pub mod OnePolicy
 pub mod TwoPolicies
-pub mod Refused
+pub mod ConfigFault

@@ -20,7 +20,7 @@ abbrev pub IsPart : List Outcome → List Outcome → Option ℕ → Type 0
 IsPart first second (Some n) = (is_hit_at first n ≢ is_hit_at second n) × AgreeBelow n first second
 IsPart first second None = (n : ℕ) → is_hit_at first n ≡ is_hit_at second n
 
--- the flags tell of the accesses from one place to another, counted from 0, which of them hit
+-- the flags are those of the accesses from one place to another, counted from 0, which of them hit
 abbrev pub IsNoted : List Bool → List Outcome → ℕ → ℕ → Type 0
 IsNoted noted outcomes start end =
     (i : ℕ) → start ≤ i → i < end → slice_index_or noted (i - start) false ≡ is_hit_at outcomes (i + 1)

@@ -1,16 +1,16 @@
 //! The debugger of two policies over one trace, and the two as it walks them.
 ghost use Rattle.std.specs.Prelude.{◌≡◌, Ok, Err, IfOk, IfErr, IfSome, OnOk, [], ◌∷◌, ℕ, true, false};
-ghost use Rattle.debug_commands.specs.Dialogue.{dialogue_of, IsLineHeld};
+ghost use Rattle.debug_commands.specs.Dialogue.{dialogue_of, WritesDialogue};
 ghost use Rattle.job_checks.specs.FaultyJobs.{faulty_in};
 ghost use Rattle.step_record.specs.Config.{config_fault};
-ghost use Rattle.debug_policies.specs.Refused.{ReturnsConfig, UntouchedAtConfig};
+ghost use Rattle.debug_policies.specs.ConfigFault.{ReturnsConfig, UntouchedAtConfig};
 ghost use Rattle.debug_policies.specs.TwoPolicies.{access_facts, just_one, left_on_access, policies_timeline};
 ghost use Rattle.debug_policies.specs.TwoPolicies.{IsPartWalk};
 
 use crate::divergence::{hits, part, push_part};
 use crate::one_policy::OnePolicy;
 use debug_commands::{DebugFault, Dialect, StepFacts, Timeline, answer_commands};
-use policies::any_covers_trace;
+use policies::theorems;
 use std::alloc::{AllocError, Global};
 use std::io::{Read, Write};
 use step_record::{Job, Key, Outcome, Trace};
@@ -31,11 +31,11 @@ pub fn run_debug<R: Read, W: Write>(
 ) -> Result<(), DebugFault>
     // With its end it has written what the definition gives for the bytes of the commands.
     ensures done { OnOk result (IfSome (R.remaining commands.old) (λ bytes. (position : ℕ) ×
-        IsLineHeld (dialogue_of (policies_timeline trace.now first.now second.now) 0 bytes) true
+        WritesDialogue (dialogue_of (policies_timeline trace.now first.now second.now) 0 bytes) true
         (W.contents out.old) (W.contents out.new) position)) }
     // So it has where a line was too large, for the lines before that.
     ensures large { result ≡ Err DebugFault.TooLarge → IfSome (R.remaining commands.old) (λ bytes. (position : ℕ) ×
-        IsLineHeld (dialogue_of (policies_timeline trace.now first.now second.now) 0 bytes) false
+        WritesDialogue (dialogue_of (policies_timeline trace.now first.now second.now) 0 bytes) false
         (W.contents out.old) (W.contents out.new) position) }
     // A refused configuration is reported, and no other; nothing is read or written then.
     ensures config { ReturnsConfig (faulty_in (first.now ∷ second.now ∷ [])) result }
@@ -140,7 +140,7 @@ impl<'a> Timeline for TwoPolicies<'a> {
     }
 
     fn own(&self, alloc: Global, text: &mut Vec<u8>) -> Result<(), AllocError> {
-        any_covers_trace();
+        theorems::any_covers_trace();
         match part(alloc, self.trace, &self.first_job, &self.second_job) {
             Ok(found) => push_part(text, found),
             Err(_) => Err(AllocError),

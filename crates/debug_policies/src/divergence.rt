@@ -10,7 +10,7 @@ ghost use Rattle.debug_policies.specs.Part.{part_line, is_hit_at, IsPart, IsNote
 
 use debug_commands::{push_bytes, push_count};
 use job_checks::ActorFault;
-use policies::{AnyPolicy, any_accepts, any_answers, any_covers_trace, any_stands};
+use policies::{AnyPolicy, theorems};
 use std::alloc::{AllocError, Global};
 use step_record::{Job, Key, Outcome, StepFault, Trace};
 
@@ -106,8 +106,8 @@ fn walk_both(
     requires other { HasAccessed second.now trace.now [] other.old }
     ensures { IfOk result (IsPart (outcomes_on first.now trace.now) (outcomes_on second.now trace.now)) }
 {
-    any_stands();
-    any_covers_trace();
+    theorems::any_stands();
+    theorems::any_covers_trace();
     let mut noted = [false; BLOCK];
     let len = trace.keys().len();
     let mut start = 0;
@@ -181,11 +181,11 @@ fn hit_at<C>(cache: &mut AnyPolicy, _job: &Job, trace: &Trace, i: usize) -> Resu
     ensures stands { OnOk result (HasAccessed _job.now trace.now (take (i + 1) trace.now) cache.new) }
     ensures hit { IfOk result (λ hit. hit ≡ is_hit_at (outcomes_on _job.now trace.now) (i + 1)) }
 {
-    any_accepts();
-    any_stands();
-    any_answers();
+    theorems::any_accepts();
+    theorems::any_stands();
+    theorems::any_answers();
     let keys = trace.keys();
-    cache.warm_at(keys, i);
+    cache.prefetch_at(keys, i);
     let outcome = access::<C>(cache, keys[i])?;
     Ok(hits(outcome))
 }

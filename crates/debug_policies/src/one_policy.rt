@@ -9,7 +9,7 @@ ghost use Rattle.debug_policies.specs.OnePolicy.{spaced_key};
 
 use debug_commands::{push_bytes, push_count, push_number};
 use journal::{BackFault, Session, SessionFault};
-use policies::{AnyPolicy, any_accepts, any_answers, any_stands};
+use policies::{AnyPolicy, theorems};
 use std::alloc::{AllocError, Global};
 use std::marker::Model;
 use step_record::{Job, Key, MAX_JOURNAL_LIMIT, Outcome, Stats, Trace};
@@ -65,9 +65,9 @@ impl<'a> OnePolicy<'a> {
         ensures at { OnOk result (self.new.at ≡ self.old.at + 1) }
         ensures outcome { IfOk result (λ o. o ≡ outcome_at self.old.job self.old.trace (self.old.at + 1)) }
     {
-        any_stands();
-        any_accepts();
-        any_answers();
+        theorems::any_stands();
+        theorems::any_accepts();
+        theorems::any_answers();
         let key = self.trace.keys()[self.session.len()];
         make(&mut self.session, key)
     }
@@ -79,7 +79,7 @@ impl<'a> OnePolicy<'a> {
         ensures trace { self.new.trace ≡ self.old.trace }
         ensures at { OnOk result (self.new.at ≡ self.old.at - n) }
     {
-        any_stands();
+        theorems::any_stands();
         match self.session.back(n) {
             Ok(()) => Ok(()),
             Err(BackFault::OutOfMemory { .. }) => Err(AllocError),

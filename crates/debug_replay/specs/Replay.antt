@@ -16,7 +16,7 @@ use Rattle.debug_commands.specs.declared.command.Dialect.TheVariants.{Journal}
 use Rattle.journal_text.specs.Journal.{journal_of}
 use Rattle.journal_text.specs.declared.version.Version.TheVariants.{Two}
 use Rattle.shell_model.specs.Shell.{Shell, act}
-use Rattle.debug_replay.specs.Shown.{shown_text}
+use Rattle.debug_replay.specs.ShownState.{shown_text}
 
 -- the key of a look that found it
 abbrev pub hit_key : Act → Reply → Option ℕ

@@ -1,6 +1,6 @@
 //! The debugger of a concurrent cache's journal, which walks a session.
 ghost use Rattle.std.specs.Prelude.{◌≡◌, ◌++◌, ℕ, Err, IfSome, OnOk, length, true, false};
-ghost use Rattle.debug_commands.specs.Dialogue.{dialogue_of, IsLineHeld};
+ghost use Rattle.debug_commands.specs.Dialogue.{dialogue_of, WritesDialogue};
 ghost use Rattle.journal.specs.Session.{IsMovedTo};
 ghost use Rattle.debug_replay.specs.Replay.{replay_timeline, step_facts, hit_key, is_dropped, left_on_step};
 
@@ -27,12 +27,12 @@ pub fn run_replay<R: Read, W: Write>(
 ) -> Result<(), DebugFault>
     // With its end it has written what the definition gives for the bytes of the commands, and the session stands at
     // the position that they lead to.
-    ensures done { OnOk result (IfSome (R.remaining commands.old) (λ bytes. IsLineHeld
+    ensures done { OnOk result (IfSome (R.remaining commands.old) (λ bytes. WritesDialogue
         (dialogue_of (replay_timeline session.old.opening (session.old.kept ++ session.old.tail))
         (length session.old.kept) bytes)
         true (W.contents out.old) (W.contents out.new) (length session.new.kept))) }
     // So it has where a line was too large, for the lines before that.
-    ensures large { result ≡ Err DebugFault.TooLarge → IfSome (R.remaining commands.old) (λ bytes. IsLineHeld
+    ensures large { result ≡ Err DebugFault.TooLarge → IfSome (R.remaining commands.old) (λ bytes. WritesDialogue
         (dialogue_of (replay_timeline session.old.opening (session.old.kept ++ session.old.tail))
         (length session.old.kept) bytes)
         false (W.contents out.old) (W.contents out.new) (length session.new.kept)) }

@@ -1,8 +1,8 @@
 //! What is shown of a concurrent cache.
 ghost use Rattle.std.specs.Prelude.{◌≡◌, ◌++◌, OnOk};
-ghost use Rattle.debug_replay.specs.Shown.{age_line, drain_line, evictions_text, holder_line, lists_text, looks_text};
-ghost use Rattle.debug_replay.specs.Shown.{maintenance_text, offers_text, queues_text, shown_text, state_text};
-ghost use Rattle.debug_replay.specs.Shown.{stats_line, stripe_line, stripe_lines, writes_text};
+ghost use Rattle.debug_replay.specs.ShownState.{age_line, drain_line, evictions_text, holder_line, lists_text, looks_text};
+ghost use Rattle.debug_replay.specs.ShownState.{maintenance_text, offers_text, queues_text, shown_text, state_text};
+ghost use Rattle.debug_replay.specs.ShownState.{stats_line, stripe_line, stripe_lines, writes_text};
 
 use crate::texts::{
     drain_word, phase_word, push_count_line, push_items, push_items_line, push_tasks_line,

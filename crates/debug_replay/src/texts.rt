@@ -1,8 +1,8 @@
 //! The pieces of what is shown.
 ghost use Rattle.std.specs.Prelude.{◌≡◌, ◌++◌, OnOk};
 ghost use Rattle.std.specs.List.{flat_map};
-ghost use Rattle.debug_replay.specs.Shown.{count_line, drain_word, item_text, items_line, number_text};
-ghost use Rattle.debug_replay.specs.Shown.{phase_word, task_text, tasks_line};
+ghost use Rattle.debug_replay.specs.ShownState.{count_line, drain_word, item_text, items_line, number_text};
+ghost use Rattle.debug_replay.specs.ShownState.{phase_word, task_text, tasks_line};
 
 use debug_commands::{push_bytes, push_count, push_number};
 use shell_buffers::Task;

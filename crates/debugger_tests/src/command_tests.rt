@@ -1,53 +1,56 @@
 //! Lines of the grammar, and dialogues over inputs and outputs that fail, worked out by hand.
 use super::assertions::assert_equal;
 use debug_commands::{
-    Breakpoint, Command, DebugFault, Dialect, Line, StepFacts, Timeline, answer_commands, line,
+    Breakpoint, Command, DebugFault, Dialect, InputLine, StepFacts, Timeline, answer_commands, line,
 };
 use std::alloc::{AllocError, Global};
 use std::io::{Error, ErrorKind, Read, Result, Write};
 use std::process::Abort;
 use std::test::Fail;
 
-fn assert_line(rt: &impl Abort, dialect: Dialect, text: &str, said: Line) {
+fn assert_line(rt: &impl Abort, dialect: Dialect, text: &str, said: InputLine) {
     assert_eq!(rt; line(dialect, text.as_bytes()), said, "{text}");
 }
 
 #[test]
 fn a_line_is_one_command_or_none(rt: HostRuntime) {
     for (text, said) in [
-        ("step 007", Line::Known(Command::Step(7))),
+        ("step 007", InputLine::Known(Command::Step(7))),
         (
             " \t back  18446744073709551615 \r",
-            Line::Known(Command::Back(18446744073709551615)),
+            InputLine::Known(Command::Back(18446744073709551615)),
         ),
-        ("goto 0", Line::Known(Command::Goto(0))),
+        ("goto 0", InputLine::Known(Command::Goto(0))),
         (
             "break hit 3",
-            Line::Known(Command::Break(Breakpoint::Hit(3))),
+            InputLine::Known(Command::Break(Breakpoint::Hit(3))),
         ),
         (
             "break  evict 03",
-            Line::Known(Command::Break(Breakpoint::Evict(3))),
+            InputLine::Known(Command::Break(Breakpoint::Evict(3))),
         ),
         (
             "break halve",
-            Line::Known(Command::Break(Breakpoint::Halve)),
+            InputLine::Known(Command::Break(Breakpoint::Halve)),
         ),
-        ("break part", Line::Known(Command::Break(Breakpoint::Part))),
-        ("run", Line::Known(Command::Run)),
-        ("clear", Line::Known(Command::Clear)),
-        ("show", Line::Known(Command::Show)),
-        ("part", Line::Known(Command::Own)),
-        ("quit", Line::Known(Command::Quit)),
-        ("", Line::Empty),
-        (" \t\r ", Line::Empty),
-        ("break", Line::Unknown),
-        ("break now", Line::Unknown),
-        ("hit 3", Line::Unknown),
-        ("break drop", Line::Unknown),
-        ("save", Line::Unknown),
-        ("Run", Line::Unknown),
-        ("7", Line::Unknown),
+        (
+            "break part",
+            InputLine::Known(Command::Break(Breakpoint::Part)),
+        ),
+        ("run", InputLine::Known(Command::Run)),
+        ("clear", InputLine::Known(Command::Clear)),
+        ("show", InputLine::Known(Command::Show)),
+        ("part", InputLine::Known(Command::Special)),
+        ("quit", InputLine::Known(Command::Quit)),
+        ("", InputLine::Empty),
+        (" \t\r ", InputLine::Empty),
+        ("break", InputLine::Unknown),
+        ("break now", InputLine::Unknown),
+        ("hit 3", InputLine::Unknown),
+        ("break drop", InputLine::Unknown),
+        ("save", InputLine::Unknown),
+        ("Run", InputLine::Unknown),
+        ("7", InputLine::Unknown),
     ] {
         assert_line(&rt, Dialect::Policies, text, said);
     }
@@ -55,12 +58,12 @@ fn a_line_is_one_command_or_none(rt: HostRuntime) {
 
 #[test]
 fn each_dialect_has_words_of_its_own(rt: HostRuntime) {
-    let drop = Line::Known(Command::Break(Breakpoint::Drop));
+    let drop = InputLine::Known(Command::Break(Breakpoint::Drop));
     for (text, said) in [
-        ("save", Line::Known(Command::Own)),
+        ("save", InputLine::Known(Command::Special)),
         ("break drop", drop),
-        ("part", Line::Unknown),
-        ("break part", Line::Unknown),
+        ("part", InputLine::Unknown),
+        ("break part", InputLine::Unknown),
     ] {
         assert_line(&rt, Dialect::Journal, text, said);
     }
@@ -76,7 +79,7 @@ fn assert_unknown(
     for word in words {
         for tail in tails {
             let text = format!(in alloc; "{word}{tail}")?;
-            assert_line(rt, Dialect::Policies, text.as_str(), Line::Unknown);
+            assert_line(rt, Dialect::Policies, text.as_str(), InputLine::Unknown);
         }
     }
     Ok(())
@@ -112,7 +115,7 @@ fn malformed_commands_are_unknown(rt: HostRuntime) -> std::result::Result<(), Fa
     let behind = ["s", " 1", " now", "\tnow", " ."];
     assert_unknown(&rt, rt.alloc(), &bare, &behind)?;
     for text in ["save 1", "save now", "break drop 1"] {
-        assert_line(&rt, Dialect::Journal, text, Line::Unknown);
+        assert_line(&rt, Dialect::Journal, text, InputLine::Unknown);
     }
     Ok(())
 }

@@ -12,11 +12,11 @@ use Rattle.journal.specs.declared.fault.BackFault.{BackFault}
 use Rattle.journal.specs.declared.fault.BackFault.TheVariants as back
 use Rattle.workers.specs.declared.run.Cause.{Cause}
 use Rattle.walks.specs.Walks.{AreWalks}
-use Rattle.walks.specs.Made.{entries_of}
+use Rattle.walks.specs.WorkerEntries.{entries_of}
 use Rattle.workers.specs.Runs.{IsRun, IsRunUpTo, AreWalksUpTo, first_cause}
 use Rattle.workers.specs.WorkerStates.{ShellSession}
 use Rattle.workers.proofs.Turning.{legal_split, after_append}
-use Rattle.headline.specs.Rewound.{IsAnswered, IsRewound, undone_of}
+use Rattle.headline.specs.UndoneRun.{IsAnswered, IsRewound, undone_of}
 
 drop_first : {X : Type 0} (xs ys : List X) → drop (length xs) (xs ++ ys) ≡ ys
 drop_first xs ys = drop-append-le (length xs) xs ys (omega arith) ∙ ap (λ l. l ++ ys) (drop-length xs)

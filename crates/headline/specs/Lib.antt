@@ -1,1 +1,1 @@
-pub mod Rewound
+pub mod UndoneRun

@@ -10,7 +10,7 @@ use Rattle.journal_text.specs.declared.reader.TheConstants.{MAX_JOURNAL_BYTES}
 use Rattle.journal_text.specs.Table.{text_of, IsLine}
 use Rattle.journal_text.specs.declared.fault.JournalFault.{JournalFault}
 use Rattle.journal_text.specs.declared.fault.JournalFault.TheVariants as fault
-use Rattle.journal_text.specs.declared.line.Line.TheVariants.{Made, Steps}
+use Rattle.journal_text.specs.declared.line.JournalLine.TheVariants.{Made, Steps}
 use Rattle.journal_text.specs.declared.version.Version.{Version}
 use Rattle.journal_text.specs.declared.version.Version.TheVariants.{One, Two}
 use Rattle.journal_text.proofs.Fronts.{header_lacks, no_line, same_line}

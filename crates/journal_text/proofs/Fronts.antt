@@ -3,12 +3,12 @@ use Rattle.std.proofs.Common.{◌≡◌, ◌≢◌, ◌∙◌, ◌<◌, ◌+◌,
 use Rattle.std.proofs.lemmas.List.Elements.{All-from_recursion, All-push}
 use Rattle.std.proofs.lemmas.List.{append-nil, flat_map_more}
 use Rattle.std.specs.Prelude.{IfErr, IsErrAnd, OnOk}
-use Rattle.journal_text.specs.Faults.{IsFault, IsUnread, IsWrong, Took}
+use Rattle.journal_text.specs.Faults.{IsFault, IsUnread, IsWrong, TakesLine}
 use Rattle.journal_text.specs.Journal.{begun, ended_line, entry_line, header, journal_of, AreLines, IsTextOf}
 use Rattle.journal_text.specs.Table.{text_of, IsLine}
 use Rattle.journal_text.specs.declared.fault.JournalFault.{JournalFault}
 use Rattle.journal_text.specs.declared.fault.JournalFault.TheVariants as fault
-use Rattle.journal_text.specs.declared.line.Line.TheVariants.{Made, Steps}
+use Rattle.journal_text.specs.declared.line.JournalLine.TheVariants.{Made, Steps}
 use Rattle.journal_text.specs.declared.version.Version.{Version}
 use Rattle.journal_text.specs.declared.version.Version.TheVariants.{One, Two}
 use Rattle.step_record.specs.declared.entry.Entry.{Entry}
@@ -46,32 +46,32 @@ header_lacks Two = All-from_recursion (λ b. (b == 10) ≡ false) (header Two) (
 -- ---- the lines behind the header
 
 -- an entry more was taken, and its line is gone
-pub line_gone : (v : Version) (old new : Entries) (text rest behind whole : List ℕ) (closed : Bool) → closed ≡ false → Took closed v text old new
+pub line_gone : (v : Version) (old new : Entries) (text rest behind whole : List ℕ) (closed : Bool) → closed ≡ false → TakesLine closed v text old new
     → begun v old ++ rest ≡ whole → rest ≡ ended_line text ++ behind → begun v new ++ behind ≡ whole
 line_gone v old new text rest behind whole closed more took before line =
-    let t = subst (λ b. Took b v text old new) more took in
+    let t = subst (λ b. TakesLine b v text old new) more took in
     ap (λ k. begun v k ++ behind) t.3 ∙ ap (λ t. t ++ behind) (begun_more v old t.0) ∙ append_assoc (begun v old) (entry_line t.0) behind
     ∙ ap (λ x. begun v old ++ (ended_line x ++ behind)) t.2 ∙ ap (λ r. begun v old ++ r) (sym line) ∙ before
 
 -- and it is a line of the table too
-pub line_more : (v : Version) (old new : Entries) (text : List ℕ) (closed : Bool) → closed ≡ false → Took closed v text old new → AreLines v old → AreLines v new
+pub line_more : (v : Version) (old new : Entries) (text : List ℕ) (closed : Bool) → closed ≡ false → TakesLine closed v text old new → AreLines v old → AreLines v new
 line_more v old new text closed more took lines =
-    let t = subst (λ b. Took b v text old new) more took in
+    let t = subst (λ b. TakesLine b v text old new) more took in
     subst (AreLines v) (sym t.3) (All-push (λ e. IsLine v (Made e)) old t.0 lines t.1)
 
 -- the count was taken: what came are the entries of version 2 and their count
-pub closed_text : (v : Version) (old new : Entries) (text rest behind whole : List ℕ) (closed : Bool) → closed ≡ true → Took closed v text old new
+pub closed_text : (v : Version) (old new : Entries) (text rest behind whole : List ℕ) (closed : Bool) → closed ≡ true → TakesLine closed v text old new
     → begun v old ++ rest ≡ whole → rest ≡ ended_line text ++ behind → whole ≡ journal_of Two new ++ behind
 closed_text v old new text rest behind whole closed done took before line =
-    let t = subst (λ b. Took b v text old new) done took in
+    let t = subst (λ b. TakesLine b v text old new) done took in
     let front : begun v old ≡ begun Two new = ap (λ u. begun u old) t.0 ∙ ap (begun Two) (sym t.2) in
     let count : text ≡ text_of (Steps (length new)) = sym t.1 ∙ ap (λ k. text_of (Steps (length k))) (sym t.2) in
     sym before ∙ ap (λ f. f ++ rest) front ∙ ap (λ r. begun Two new ++ r) (line ∙ ap (λ x. ended_line x ++ behind) count)
     ∙ sym (append_assoc (begun Two new) (ended_line (text_of (Steps (length new)))) behind)
 
-pub closed_lines : (v : Version) (old new : Entries) (text : List ℕ) (closed : Bool) → closed ≡ true → Took closed v text old new → AreLines v old → AreLines Two new
+pub closed_lines : (v : Version) (old new : Entries) (text : List ℕ) (closed : Bool) → closed ≡ true → TakesLine closed v text old new → AreLines v old → AreLines Two new
 closed_lines v old new text closed done took lines =
-    let t = subst (λ b. Took b v text old new) done took in
+    let t = subst (λ b. TakesLine b v text old new) done took in
     subst (AreLines Two) (sym t.2) (subst (λ w. AreLines w old) t.0 lines)
 
 -- ---- faults

@@ -12,12 +12,12 @@ use Rattle.std.specs.Fmt.{decimal}
 use Rattle.std.specs.List.{All, join_with_byte, list_any}
 use Rattle.std.specs.Str.Parse.{AllDigits}
 use Rattle.journal_text.specs.Names.{spelling}
-use Rattle.journal_text.specs.Reading.{numeral_of, name_at, wide_at, small_at, act_at, reply_at, only_equals, only_steps, entry_in, count_in, made_in, or_count, journal_line_in, words_of}
+use Rattle.journal_text.specs.LineGrammar.{numeral_of, name_at, wide_at, small_at, act_at, reply_at, only_equals, only_steps, entry_in, count_in, made_in, or_count, journal_line_in, words_of}
 use Rattle.journal_text.specs.declared.line_text.Word.{Word}
 use Rattle.journal_text.specs.declared.line_text.Word.TheVariants.{Named, Worker, Stripe, Wide}
 use Rattle.journal_text.specs.Table.{word_text, spaced_words, FitsWord, FitWords, act_words, reply_words, entry_words, count_words, text_of, is_answer_in, IsLine}
-use Rattle.journal_text.specs.declared.line.Line.{Line}
-use Rattle.journal_text.specs.declared.line.Line.TheVariants.{Made, Steps}
+use Rattle.journal_text.specs.declared.line.JournalLine.{JournalLine}
+use Rattle.journal_text.specs.declared.line.JournalLine.TheVariants.{Made, Steps}
 use Rattle.journal_text.specs.declared.name.JournalName.{JournalName}
 use Rattle.journal_text.specs.declared.name.JournalName.TheVariants as name
 use Rattle.journal_text.specs.declared.version.Version.{Version}
@@ -224,7 +224,7 @@ none_made n h =
     rw none refl
 
 -- Each line of the table is read.
-pub line_again : (v : Version) (l : Line) → IsLine v l → journal_line_in v (text_of l) ≡ Some l
+pub line_again : (v : Version) (l : JournalLine) → IsLine v l → journal_line_in v (text_of l) ≡ Some l
 unfolding journal_line_in IsLine text_of
 line_again One (Made e) h = made_back One e h.0 h.1
 line_again Two (Made e) h =
@@ -236,38 +236,38 @@ line_again Two (Steps n) h =
     let some : count_in (words_of (spaced_words (count_words n))) ≡ Some n = ap count_in words ∙ count_back n h in
     ap (λ o. or_count o (count_in (words_of (spaced_words (count_words n))))) (none_made n h) ∙ ap (or_count None) some
 
-answered : (v : Version) (e : Entry Step Reply) (l : Line) (b : Bool) → is_answer_in v e.step.act e.reply ≡ b → cond b (Some (Made e)) None ≡ Some l
+answered : (v : Version) (e : Entry Step Reply) (l : JournalLine) (b : Bool) → is_answer_in v e.step.act e.reply ≡ b → cond b (Some (Made e)) None ≡ Some l
     → (is_answer_in v e.step.act e.reply ≡ true) × (Made e ≡ l)
 answered v e l true a h = (a, some_same h)
 answered v e l false a h = absurd (cc)
 
-made_taken : (v : Version) (text : List ℕ) (l : Line) → made_in v text ≡ Some l → IsLine v l × (text_of l ≡ text)
+made_taken : (v : Version) (text : List ℕ) (l : JournalLine) → made_in v text ≡ Some l → IsLine v l × (text_of l ≡ text)
 unfolding made_in IsLine text_of
 made_taken v text l h =
     let b = bound (entry_in (words_of text)) _ l h in
     let e = b.0 in
     let t = entry_taken (words_of text) e b.1 in
     let a = answered v e l _ refl b.2 in
-    let P : Line → Type 0 = λ m. IsLine v m × (text_of m ≡ text) in
+    let P : JournalLine → Type 0 = λ m. IsLine v m × (text_of m ≡ text) in
     subst P a.1 ((t.1, a.0), sym (ap (join_with_byte 32) t.0) ∙ join_with_byte-slice_split 32 text)
 
-count_line : (text : List ℕ) (l : Line) (o : Option ℕ) → count_in (words_of text) ≡ o → or_count None o ≡ Some l
+count_line : (text : List ℕ) (l : JournalLine) (o : Option ℕ) → count_in (words_of text) ≡ o → or_count None o ≡ Some l
     → IsLine Two l × (text_of l ≡ text)
 unfolding IsLine text_of
 count_line text l None e h = absurd (cc)
 count_line text l (Some n) e h =
     let t = count_taken (words_of text) n e in
-    let P : Line → Type 0 = λ m. IsLine Two m × (text_of m ≡ text) in
+    let P : JournalLine → Type 0 = λ m. IsLine Two m × (text_of m ≡ text) in
     let same : Steps n ≡ l = some_same h in
     subst P same (t.1, sym (ap (join_with_byte 32) t.0) ∙ join_with_byte-slice_split 32 text)
 
-line_of_two : (text : List ℕ) (l : Line) (o : Option Line) → made_in Two text ≡ o
+line_of_two : (text : List ℕ) (l : JournalLine) (o : Option JournalLine) → made_in Two text ≡ o
     → or_count o (count_in (words_of text)) ≡ Some l → IsLine Two l × (text_of l ≡ text)
 line_of_two text l None e h = count_line text l _ refl h
 line_of_two text l (Some m) e h = made_taken Two text l (e ∙ h)
 
 -- What is read is a line of the table.
-pub line_taken : (v : Version) (text : List ℕ) (l : Line) → journal_line_in v text ≡ Some l → IsLine v l × (text_of l ≡ text)
+pub line_taken : (v : Version) (text : List ℕ) (l : JournalLine) → journal_line_in v text ≡ Some l → IsLine v l × (text_of l ≡ text)
 unfolding journal_line_in
 line_taken One text l h = made_taken One text l h
 line_taken Two text l h = line_of_two text l _ refl h

@@ -5,7 +5,7 @@ use Rattle.std.proofs.lemmas.Bool.Decides.{nat_tests}
 use Rattle.std.specs.Fmt.{decimal}
 use Rattle.std.specs.Prelude.{nat_lt}
 use Rattle.journal_text.specs.Names.{journal_name_of, spelling}
-use Rattle.journal_text.specs.Reading.{numeral_of, name_at, wide_at, small_at, item_at, answer_at, answer_named, act_at, act_named, reply_at, reply_named}
+use Rattle.journal_text.specs.LineGrammar.{numeral_of, name_at, wide_at, small_at, item_at, answer_at, answer_named, act_at, act_named, reply_at, reply_named}
 use Rattle.journal_text.specs.declared.line_text.Word.{Word}
 use Rattle.journal_text.specs.Table.{word_text, FitWords, answer_name, act_words, reply_words}
 use Rattle.journal_text.specs.declared.name.JournalName.{JournalName}

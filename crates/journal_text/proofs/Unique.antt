@@ -4,10 +4,10 @@ use Rattle.std.proofs.lemmas.List.{append-nil, append_cancel_left}
 use Rattle.std.proofs.lemmas.List.Elements.{All-head, All-tail}
 use Rattle.std.specs.List.{flat_map}
 use Rattle.journal_text.specs.Journal.{begun, closing_line, ended_line, entry_line, header, journal_of, AreLines}
-use Rattle.journal_text.specs.Reading.{journal_line_in}
+use Rattle.journal_text.specs.LineGrammar.{journal_line_in}
 use Rattle.journal_text.specs.Table.{text_of, IsLine}
-use Rattle.journal_text.specs.declared.line.Line.{Line}
-use Rattle.journal_text.specs.declared.line.Line.TheVariants.{Made, Steps}
+use Rattle.journal_text.specs.declared.line.JournalLine.{JournalLine}
+use Rattle.journal_text.specs.declared.line.JournalLine.TheVariants.{Made, Steps}
 use Rattle.journal_text.specs.declared.version.Version.{Version}
 use Rattle.journal_text.specs.declared.version.Version.TheVariants.{One, Two}
 use Rattle.journal_text.specs.declared.name.JournalName.TheVariants as name
@@ -24,17 +24,17 @@ same_some : {A : Type 0} {x y : A} → Some x ≡ Some y → x ≡ y
 same_some h = cc
 
 -- one line has one spelling, and one text is the spelling of one line
-pub one_line : (v : Version) (l m : Line) → IsLine v l → IsLine v m → text_of l ≡ text_of m → l ≡ m
+pub one_line : (v : Version) (l m : JournalLine) → IsLine v l → IsLine v m → text_of l ≡ text_of m → l ≡ m
 one_line v l m h k e = same_some (sym (line_again v l h) ∙ ap (journal_line_in v) e ∙ line_again v m k)
 
-pub line_lacks : (v : Version) (l : Line) → IsLine v l → HasNoFeed (text_of l)
+pub line_lacks : (v : Version) (l : JournalLine) → IsLine v l → HasNoFeed (text_of l)
 unfolding IsLine text_of
 line_lacks v (Made e) h = spelled_lacks (Worker e.step.worker) _ h.0
 line_lacks One (Steps n) h = absurd h
 line_lacks Two (Steps n) h = spelled_lacks (Named name.Steps) (Wide n ∷ []) (tt, (h, tt))
 
 -- the first of two lines that end is one line, and what is behind it is one rest
-pub front_line : (v : Version) (l m : Line) (x y : List ℕ) → IsLine v l → IsLine v m → ended_line (text_of l) ++ x ≡ ended_line (text_of m) ++ y → (l ≡ m) × (x ≡ y)
+pub front_line : (v : Version) (l m : JournalLine) (x y : List ℕ) → IsLine v l → IsLine v m → ended_line (text_of l) ++ x ≡ ended_line (text_of m) ++ y → (l ≡ m) × (x ≡ y)
 front_line v l m x y h k e =
     let text = (same_line (text_of l) (text_of m) x y (line_lacks v l h) (line_lacks v m k) e).0 in
     (one_line v l m h k text, append_cancel_left (ended_line (text_of l)) x y (e ∙ ap (λ t. ended_line t ++ y) (sym text)))

@@ -5,8 +5,8 @@ use Rattle.std.proofs.lemmas.List.Elements.{All-cons, All-head, All-nil, All-tai
 use Rattle.std.specs.Io.KnownBytes.{append_known, Appends, Keeps}
 use Rattle.journal_text.specs.Journal.{AreLines}
 use Rattle.journal_text.specs.Table.{entry_words, is_answer_in, FitWords, IsLine}
-use Rattle.journal_text.specs.Writing.{AreFit, IsTextWritten}
-use Rattle.journal_text.specs.declared.line.Line.TheVariants.{Made}
+use Rattle.journal_text.specs.TextBuffer.{AreFit, IsTextWritten}
+use Rattle.journal_text.specs.declared.line.JournalLine.TheVariants.{Made}
 use Rattle.journal_text.specs.declared.version.Version.TheVariants.{Two}
 use Rattle.step_record.specs.Answers.{is_answer, AnswersItsActs}
 use Rattle.step_record.specs.History.{next_data, IsLegal, Entries}

@@ -5,8 +5,8 @@ use Rattle.journal_text.specs.Journal.{begun, ended_line, header, journal_of, Ar
 use Rattle.journal_text.specs.Table.{text_of, IsLine}
 use Rattle.journal_text.specs.declared.fault.JournalFault.{JournalFault}
 use Rattle.journal_text.specs.declared.fault.JournalFault.TheVariants as fault
-use Rattle.journal_text.specs.declared.line.Line.{Line}
-use Rattle.journal_text.specs.declared.line.Line.TheVariants.{Made, Steps}
+use Rattle.journal_text.specs.declared.line.JournalLine.{JournalLine}
+use Rattle.journal_text.specs.declared.line.JournalLine.TheVariants.{Made, Steps}
 use Rattle.journal_text.specs.declared.reader.TheConstants.{MAX_JOURNAL_BYTES}
 use Rattle.journal_text.specs.declared.version.Version.{Version}
 use Rattle.journal_text.specs.declared.version.Version.TheVariants.{One, Two}
@@ -40,7 +40,7 @@ module _ {D : Type 0} (act : D → Step → Option (Reply × D)) (x : D) (limit 
   abbrev pub IsWrong : JournalFault → Version → Entries → List ℕ → Entries → Type 0
   -- it is no line of the table
   IsWrong (fault.Line n) v es text kept =
-      (n ≡ length es + 1) × (kept ≡ es) × ((l : Line) → IsLine v l → text_of l ≡ text → ⊥)
+      (n ≡ length es + 1) × (kept ≡ es) × ((l : JournalLine) → IsLine v l → text_of l ≡ text → ⊥)
   -- its step is made, and got another reply
   IsWrong (fault.FalseReply n) v es text kept =
       (n ≡ length es + 1) × ((e : Entry Step Reply) × (r : Reply) × IsLineOf v e text
@@ -89,10 +89,10 @@ module _ {D : Type 0} (act : D → Step → Option (Reply × D)) (x : D) (limit 
   IsFault fault.TooLarge bytes kept = (kept ≡ []) × (MAX_JOURNAL_BYTES < length bytes)
 
 -- A line was taken: its entry is added, or it is the right count.
-abbrev pub Took : Bool → Version → List ℕ → Entries → Entries → Type 0
-Took false v text old new =
+abbrev pub TakesLine : Bool → Version → List ℕ → Entries → Entries → Type 0
+TakesLine false v text old new =
     (e : Entry Step Reply) × IsLine v (Made e) × (text_of (Made e) ≡ text) × (new ≡ old ++ e ∷ [])
-Took true v text old new = (v ≡ Two) × (text_of (Steps (length old)) ≡ text) × (new ≡ old)
+TakesLine true v text old new = (v ≡ Two) × (text_of (Steps (length old)) ≡ text) × (new ≡ old)
 
 -- faults that are found before a step is made
 abbrev pub IsUnread : JournalFault → Type 0

@@ -3,7 +3,7 @@
 use Rattle.std.specs.Prelude.{◌≡◌, ◌≤◌, ℕ, Option, List, [], ◌++◌, length, codes}
 use Rattle.std.specs.List.{All, flat_map}
 use Rattle.journal_text.specs.Table.{text_of, IsLine}
-use Rattle.journal_text.specs.declared.line.Line.TheVariants.{Made, Steps}
+use Rattle.journal_text.specs.declared.line.JournalLine.TheVariants.{Made, Steps}
 use Rattle.journal_text.specs.declared.reader.TheConstants.{MAX_JOURNAL_BYTES}
 use Rattle.journal_text.specs.declared.version.Version.{Version}
 use Rattle.journal_text.specs.declared.version.Version.TheVariants.{One, Two}

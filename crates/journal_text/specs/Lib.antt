@@ -1,9 +1,9 @@
 pub mod Names
 pub mod Table
-pub mod Reading
+pub mod LineGrammar
 pub mod Journal
 pub mod Faults
-pub mod Unread
+pub mod ReadFaults
 pub mod ReplyItem
-pub mod Writing
+pub mod TextBuffer
 pub mod FaultText

@@ -7,8 +7,8 @@ use Rattle.journal_text.specs.declared.name.JournalName.{JournalName}
 use Rattle.journal_text.specs.declared.name.JournalName.TheVariants as name
 use Rattle.journal_text.specs.declared.version.Version.{Version}
 use Rattle.journal_text.specs.declared.version.Version.TheVariants.{One, Two}
-use Rattle.journal_text.specs.declared.line.Line.{Line}
-use Rattle.journal_text.specs.declared.line.Line.TheVariants as line
+use Rattle.journal_text.specs.declared.line.JournalLine.{JournalLine}
+use Rattle.journal_text.specs.declared.line.JournalLine.TheVariants as line
 use Rattle.journal_text.specs.declared.line_text.Word.{Word}
 use Rattle.journal_text.specs.declared.line_text.Word.TheVariants.{Named, Worker, Stripe, Wide}
 use Rattle.step_record.specs.Answers.{is_answer}
@@ -136,16 +136,16 @@ FitsWord (Wide n) = n < 2 ^ 64
 abbrev pub FitWords : List Word → Type 0
 FitWords words = AllByRecursion FitsWord words
 
-abbrev pub line_words : Line → List Word
+abbrev pub line_words : JournalLine → List Word
 line_words (line.Made e) = entry_words e
 line_words (line.Steps n) = count_words n
 
 -- the one text of a line, without its line feed
-unfoldable pub text_of : Line → List ℕ
+unfoldable pub text_of : JournalLine → List ℕ
 text_of line = spaced_words (line_words line)
 
 -- a line of the table; version 2 alone has the count of its steps
-unfoldable pub IsLine : Version → Line → Type 0
+unfoldable pub IsLine : Version → JournalLine → Type 0
 IsLine v (line.Made e) = FitWords (entry_words e) × (is_answer_in v e.step.act e.reply ≡ true)
 IsLine One (line.Steps n) = ⊥
 IsLine Two (line.Steps n) = n < 2 ^ 64

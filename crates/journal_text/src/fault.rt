@@ -1,6 +1,6 @@
 //! Why a journal was not read.
 ghost use Rattle.std.specs.Prelude.{◌≡◌};
-ghost use Rattle.journal_text.specs.Unread.{fault_of};
+ghost use Rattle.journal_text.specs.ReadFaults.{fault_of};
 
 use std::fmt;
 use streams::ReadAllFault;

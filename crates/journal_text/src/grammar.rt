@@ -1,29 +1,29 @@
 //! A line, word by word.
 ghost use Rattle.std.specs.Prelude.{◌≡◌, Some, IfSome};
 ghost use Rattle.journal_text.specs.Table.{text_of, IsLine};
-ghost use Rattle.journal_text.specs.declared.line.Line.{Line};
-ghost use Rattle.journal_text.specs.Reading.{act_at, count_in, entry_in, journal_line_in, made_in};
-ghost use Rattle.journal_text.specs.Reading.{reply_at, words_of};
+ghost use Rattle.journal_text.specs.declared.line.JournalLine.{JournalLine};
+ghost use Rattle.journal_text.specs.LineGrammar.{act_at, count_in, entry_in, journal_line_in, made_in};
+ghost use Rattle.journal_text.specs.LineGrammar.{reply_at, words_of};
 ghost use Rattle.text_lines.specs.Reads.{with_rest};
 
 use super::name::JournalName;
 use super::table::is_answer_in;
 use super::words::JournalWords;
-use super::{Line, Version};
+use super::{JournalLine, Version};
 use step_record::{Act, Entry, Reply, Step};
 
 /// The line of the table that the text is, without its line feed.
-pub fn line(version: Version, text: &[u8]) -> Option<Line>
+pub fn line(version: Version, text: &[u8]) -> Option<JournalLine>
     // What is read is a line of the table, in its one spelling.
     ensures found { IfSome result (λ l. IsLine version l × (text_of l ≡ text.now)) }
     // Each line of the table is read; so where none is, no line of the table is spelled so.
-    ensures only { (l : Line) → IsLine version l → text_of l ≡ text.now → result ≡ Some l }
+    ensures only { (l : JournalLine) → IsLine version l → text_of l ≡ text.now → result ≡ Some l }
 {
     line_read(version, text)
 }
 
 // The act that stands next.
-#[tactic(auto, unfolding(crate::specs::Reading::act_at))]
+#[tactic(auto, unfolding(crate::specs::LineGrammar::act_at))]
 fn act(words: &mut JournalWords) -> Option<Act>
     ensures { with_rest words.new result ≡ act_at words.old }
 {
@@ -55,7 +55,7 @@ fn act(words: &mut JournalWords) -> Option<Act>
 }
 
 // The reply that stands next.
-#[tactic(auto, unfolding(crate::specs::Reading::reply_at))]
+#[tactic(auto, unfolding(crate::specs::LineGrammar::reply_at))]
 fn reply(words: &mut JournalWords) -> Option<Reply>
     ensures { with_rest words.new result ≡ reply_at words.old }
 {
@@ -111,7 +111,7 @@ fn reply(words: &mut JournalWords) -> Option<Reply>
 }
 
 // The entry that the words are.
-#[tactic(auto, unfolding(crate::specs::Reading::entry_in))]
+#[tactic(auto, unfolding(crate::specs::LineGrammar::entry_in))]
 fn entry(text: &[u8]) -> Option<Entry<Step, Reply>>
     ensures { result ≡ entry_in (words_of text.now) }
 {
@@ -132,7 +132,7 @@ fn entry(text: &[u8]) -> Option<Entry<Step, Reply>>
 }
 
 // The count of steps that the words are.
-#[tactic(auto, unfolding(crate::specs::Reading::count_in))]
+#[tactic(auto, unfolding(crate::specs::LineGrammar::count_in))]
 fn count(text: &[u8]) -> Option<u64>
     ensures { result ≡ count_in (words_of text.now) }
 {
@@ -148,27 +148,27 @@ fn count(text: &[u8]) -> Option<u64>
 }
 
 // The line that the text is, where it is no count.
-#[tactic(auto, unfolding(crate::specs::Reading::made_in))]
-fn made(version: Version, text: &[u8]) -> Option<Line>
+#[tactic(auto, unfolding(crate::specs::LineGrammar::made_in))]
+fn made(version: Version, text: &[u8]) -> Option<JournalLine>
     ensures { result ≡ made_in version text.now }
 {
     let entry = entry(text)?;
     if !is_answer_in(version, &entry.step.act, &entry.reply) {
         return None;
     }
-    Some(Line::Made(entry))
+    Some(JournalLine::Made(entry))
 }
 
 // The line that the text is, as it is read.
-#[tactic(auto, unfolding(crate::specs::Reading::journal_line_in))]
-fn line_read(version: Version, text: &[u8]) -> Option<Line>
+#[tactic(auto, unfolding(crate::specs::LineGrammar::journal_line_in))]
+fn line_read(version: Version, text: &[u8]) -> Option<JournalLine>
     ensures { result ≡ journal_line_in version text.now }
 {
     match version {
         Version::One => made(version, text),
         Version::Two => match made(version, text) {
             Some(line) => Some(line),
-            None => Some(Line::Steps(count(text)?)),
+            None => Some(JournalLine::Steps(count(text)?)),
         },
     }
 }

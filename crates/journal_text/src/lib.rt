@@ -15,15 +15,14 @@ mod reader;
 mod replay;
 mod steps;
 mod table;
-mod theorems;
+pub mod theorems;
 mod version;
 mod words;
 mod writer;
 
 pub use fault::JournalFault;
-pub use line::Line;
+pub use line::JournalLine;
 pub use reader::{MAX_JOURNAL_BYTES, read_journal};
 pub use streams::WriteFault;
-pub use theorems::{one_journal, one_line, read_back};
 pub use version::Version;
 pub use writer::write_journal;

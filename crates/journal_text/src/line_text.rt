@@ -4,7 +4,7 @@ ghost use Rattle.std.specs.Fmt.{decimal};
 ghost use Rattle.journal_text.specs.Table.{act_words, answer_name, entry_words, item_words, offer_words};
 ghost use Rattle.journal_text.specs.Table.{reply_numbers, spaced, spaced_words, text_of, word_text, FitWords};
 ghost use Rattle.journal_text.specs.Journal.{begun, ended_line};
-ghost use Rattle.journal_text.specs.declared.line.Line.TheVariants.{Made, Steps};
+ghost use Rattle.journal_text.specs.declared.line.JournalLine.TheVariants.{Made, Steps};
 ghost use Rattle.journal_text.specs.declared.version.Version.TheVariants.{Two};
 ghost use Rattle.journal_text.specs.declared.line_text.TheConstants.{MAX_LINE};
 

@@ -1,15 +1,15 @@
 //! The step of a line, made in a session.
 ghost use Rattle.std.specs.Prelude.{◌≡◌, ◌≢◌, true, false, ◌∷◌, [], ◌++◌, ◌+◌, ◌≤◌, length, IfErr, IfOk, OnOk};
-ghost use Rattle.journal_text.specs.Faults.{IsWrong, KeepsSession, Took};
+ghost use Rattle.journal_text.specs.Faults.{IsWrong, KeepsSession, TakesLine};
 ghost use Rattle.step_record.specs.History.{IsLegal};
 ghost use Rattle.journal_text.specs.ReplyItem.{reply_item};
 ghost use Rattle.journal_text.specs.Table.{text_of, IsLine};
-ghost use Rattle.journal_text.specs.declared.line.Line.TheVariants.{Made};
+ghost use Rattle.journal_text.specs.declared.line.JournalLine.TheVariants.{Made};
 
 use super::grammar::line;
 use super::name::JournalName;
 use super::table::reply_name;
-use super::{JournalFault, Line, Version};
+use super::{JournalFault, JournalLine, Version};
 use journal::{Session, SessionFault};
 use step_record::{Engine, Entry, Item, Reply, Step};
 
@@ -20,17 +20,17 @@ pub fn take<E: Engine<Step = Step, Reply = Reply>>(
     text: &[u8],
     session: &mut Session<E>,
 ) -> Result<bool, JournalFault>
-    ensures ok { IfOk result (λ closed. Took closed version text.now session.old.kept session.new.kept) }
+    ensures ok { IfOk result (λ closed. TakesLine closed version text.now session.old.kept session.new.kept) }
     ensures err { IfErr result (λ f.
         IsWrong E.act session.old.opening session.old.limit f version session.old.kept text.now session.new.kept) }
     ensures session { KeepsSession E.act session.old session.new }
 {
     match line(version, text) {
-        Some(Line::Made(entry)) => {
+        Some(JournalLine::Made(entry)) => {
             make(version, entry, session)?;
             Ok(false)
         }
-        Some(Line::Steps(count)) => {
+        Some(JournalLine::Steps(count)) => {
             if count != session.len() as u64 {
                 return Err(JournalFault::Count);
             }

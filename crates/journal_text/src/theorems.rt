@@ -3,7 +3,7 @@ ghost use Rattle.std.specs.Prelude.{◌≡◌, ◌<◌, ◌≤◌, ◌^◌, ℕ,
 ghost use Rattle.journal.specs.Session.{IsSoundSession, SessionState};
 ghost use Rattle.journal_text.specs.Journal.{journal_of, AreLines, IsJournalText};
 ghost use Rattle.journal_text.specs.Table.{text_of, IsLine};
-ghost use Rattle.journal_text.specs.declared.line.Line.{Line};
+ghost use Rattle.journal_text.specs.declared.line.JournalLine.{JournalLine};
 ghost use Rattle.journal_text.specs.declared.reader.TheConstants.{MAX_JOURNAL_BYTES};
 ghost use Rattle.journal_text.specs.declared.version.Version.{Version};
 ghost use Rattle.journal_text.specs.declared.version.Version.TheVariants.{Two};
@@ -15,7 +15,7 @@ use step_record::{Engine, Reply, Step};
 
 /// No text is that of two lines of the grammar.
 pub fn one_line()
-    ensures { (v : Version) (l m : Line) → IsLine v l → IsLine v m → text_of l ≡ text_of m → l ≡ m }
+    ensures { (v : Version) (l m : JournalLine) → IsLine v l → IsLine v m → text_of l ≡ text_of m → l ≡ m }
 {}
 
 /// No text is the journal of two lists of entries.

@@ -3,7 +3,7 @@ ghost use Rattle.std.specs.Prelude.{◌≡◌, ◌≤◌, ◌+◌, Err, OnOk, []
 ghost use Rattle.std.specs.Io.KnownBytes.{append_known, Appends, Keeps};
 ghost use Rattle.step_record.specs.Answers.{AnswersItsActs};
 ghost use Rattle.journal_text.specs.Journal.{begun, journal_of, AreLines};
-ghost use Rattle.journal_text.specs.Writing.{AreFit, IsTextWritten};
+ghost use Rattle.journal_text.specs.TextBuffer.{AreFit, IsTextWritten};
 ghost use Rattle.journal_text.specs.declared.line_text.TheConstants.{MAX_LINE};
 ghost use Rattle.journal_text.specs.declared.writer.TheConstants.{BUFFER};
 ghost use Rattle.journal_text.specs.declared.version.Version.TheVariants.{Two};

@@ -12,7 +12,7 @@ use Rattle.shell_model.specs.declared.record.ShellRecord.{ShellRecord}
 use Rattle.shell_model.specs.Shell.{Shell, act}
 use Rattle.shell_model.specs.ShellStats.{counted_of}
 use Rattle.shell_model.specs.Records.{undone_step, change_of, record_size}
-use Rattle.shell_model.specs.Reached.{IsReachable, ShellFits}
+use Rattle.shell_model.specs.ReachableShell.{IsReachable, ShellFits}
 use Rattle.shell_model.proofs.Reached.{record-law, reached-on}
 use Rattle.shell_model.proofs.Engines.{step_weighs}
 

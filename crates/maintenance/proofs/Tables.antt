@@ -12,7 +12,7 @@ use Rattle.step_record.specs.declared.item.Item.{Item}
 use Rattle.segments.specs.Items.{is_same_item, occurrences, items_without}
 use Rattle.segments.proofs.ItemLists.{without-none}
 use Rattle.shell_model.specs.Shell.{node_of, table_with, is_listed}
-use Rattle.shell_model.specs.Consistent.{AreAbove, IsAscending}
+use Rattle.shell_model.specs.Consistency.{AreAbove, IsAscending}
 use Rattle.shell_model.proofs.Counting.{above-none}
 use Rattle.maintenance.specs.NodeTable.{table_items}
 

@@ -1,3 +1,3 @@
-pub mod Opened
+pub mod EmptyShell
 pub mod NodeTable
-pub mod Evicted
+pub mod EvictionPlan

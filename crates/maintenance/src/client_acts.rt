@@ -5,13 +5,13 @@ ghost use Rattle.shell_model.specs.Shell.{put_effect, remove_effect, begin_effec
 ghost use Rattle.shell_model.specs.Records.{change_of};
 ghost use Rattle.step_record.specs.declared.step.Act.TheVariants as act;
 
-use crate::shell_core::Core;
+use crate::shell_core::ShellCore;
 use shell_buffers::{MAX_TASKS, Task};
 use shell_model::{Change, Holder};
 use std::alloc::AllocError;
 use step_record::{Answer, Drain, Item, Key, Phase, Reply, Worker};
 
-impl Core {
+impl ShellCore {
     pub(crate) fn look(&self, key: Key) -> Reply
         ensures { result ≡ Rattle.shell_model.specs.Shell.look_reply
             (Rattle.shell_model.specs.Shell.node_of key self.now.table) }

@@ -6,7 +6,7 @@ ghost use Rattle.shell_buffers.specs.Buffers.{stripe_at};
 ghost use Rattle.shell_model.specs.Shell.{shell_after_touch, apply_task, drain_read, drain_write, in_phase, end_effect, drain_at_end};
 ghost use Rattle.shell_model.specs.Shell.{is_over};
 ghost use Rattle.shell_model.specs.Records.{touched_of, added_of, task_change, read_change, write_change};
-ghost use Rattle.shell_model.specs.Consistent.{IsConsistent};
+ghost use Rattle.shell_model.specs.Consistency.{IsConsistent};
 ghost use Rattle.shell_model.specs.declared.record.Change.TheVariants.{Nothing, Passed, Ended};
 ghost use Rattle.segments.specs.Queues.{queue_holding};
 ghost use Rattle.shell_buffers.specs.declared.task.Task.TheVariants as task;
@@ -14,7 +14,7 @@ ghost use Rattle.step_record.specs.declared.drain.Phase.TheVariants as phase;
 
 use crate::key_records::record_key;
 use crate::moves::{clear, hit};
-use crate::shell_core::Core;
+use crate::shell_core::ShellCore;
 use admission::KeptRecord;
 use replacement::{KeptMoves, Moves};
 use segments::Queue;
@@ -23,7 +23,7 @@ use shell_model::{Change, Holder, UseRecord};
 use std::alloc::AllocError;
 use step_record::{Drain, Item, Phase, Reply};
 
-impl Core {
+impl ShellCore {
     // A key is recorded, and its item moves where it is queued.
     fn touch(&mut self, item: Item) -> Result<UseRecord, AllocError>
         requires { self.old.frequency.halvings ≤ MAX_STEPS }

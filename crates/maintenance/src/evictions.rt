@@ -3,14 +3,14 @@ ghost use Rattle.std.specs.Prelude.{◌≡◌, ◌≤◌};
 ghost use Rattle.shell_buffers.specs.declared.write_tasks.TheConstants.{MAX_TASKS};
 ghost use Rattle.step_record.specs.declared.drain.Phase.TheVariants as phase;
 ghost use Rattle.segments.specs.Queues.{IsDistinct};
-ghost use Rattle.replacement.specs.Moving.{queues_after, moves_of};
+ghost use Rattle.replacement.specs.PlanMoves.{queues_after, moves_of};
 ghost use Rattle.replacement.specs.KeptMoves.{IsKeepable};
 ghost use Rattle.shell_model.specs.Shell.{evict_effect, in_phase};
-ghost use Rattle.shell_model.specs.Evicting.{reply_by, unlisted_by};
+ghost use Rattle.shell_model.specs.ShellEviction.{reply_by, unlisted_by};
 ghost use Rattle.shell_model.specs.Records.{leaves_table, evict_change};
-ghost use Rattle.maintenance.specs.Evicted.{planned, item_out};
+ghost use Rattle.maintenance.specs.EvictionPlan.{planned, item_out};
 
-use crate::shell_core::Core;
+use crate::shell_core::ShellCore;
 use admission::Frequency;
 use replacement::{Effect, KeptMoves, Rules};
 use segments::{MoveRecord, Segments};
@@ -40,7 +40,7 @@ fn carry_out(queues: &mut Segments, frequency: &Frequency, rules: &Rules) -> Eff
     replacement::evict(queues, Some(frequency), rules)
 }
 
-impl Core {
+impl ShellCore {
     // What went out of the queues leaves the table, where it is listed there.
     fn unlist(&mut self, out: Option<MoveRecord>) -> bool
         ensures state { self.new ≡ record self.old { table = unlisted_by (item_out out) self.old.table } }

@@ -19,7 +19,7 @@ impl Model for NodeTable {
     ghost use Rattle.std.specs.Prelude.{List};
     ghost use Rattle.step_record.specs.declared.item.Item.{Item as ItemValue};
     ghost use Rattle.maintenance.specs.NodeTable.{table_items};
-    ghost use Rattle.shell_model.specs.Consistent.{IsAscending};
+    ghost use Rattle.shell_model.specs.Consistency.{IsAscending};
 
     ghost Value = { List ItemValue };
 

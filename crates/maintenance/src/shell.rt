@@ -6,11 +6,11 @@ ghost use Rattle.step_record.specs.Config.{config_fault};
 ghost use Rattle.segments.specs.Queues.{queue_of};
 ghost use Rattle.shell_buffers.specs.Buffers.{stripe_at};
 ghost use Rattle.shell_model.specs.Shell.{node_of};
-ghost use Rattle.shell_model.specs.Reached.{IsReachable};
-ghost use Rattle.maintenance.specs.Opened.{IsOpened, holder_parts};
+ghost use Rattle.shell_model.specs.ReachableShell.{IsReachable};
+ghost use Rattle.maintenance.specs.EmptyShell.{IsOpened, holder_parts};
 
 use crate::node_table::NodeTable;
-use crate::shell_core::Core;
+use crate::shell_core::ShellCore;
 use admission::Frequency;
 use replacement::Rules;
 use segments::{Queue, Segments};
@@ -27,12 +27,12 @@ use step_record::{Config, Drain, Engine, Item, Key, Node, Phase, Reply, Step, St
 /// Contracts see its state, which some list of accepted steps leads to from a shell just opened.
 #[derive(Drop)]
 pub struct Shell {
-    core: Core,
+    core: ShellCore,
 }
 
 impl Model for Shell {
     ghost use Rattle.shell_model.specs.Shell.{Shell as State};
-    ghost use Rattle.shell_model.specs.Reached.{IsReachable};
+    ghost use Rattle.shell_model.specs.ReachableShell.{IsReachable};
 
     ghost Value = { State };
 
@@ -52,7 +52,7 @@ impl Shell {
         let writes = WriteTasks::new(alloc)?;
         let frequency = Frequency::new(alloc, config.capacity, config.spread)?;
         Ok(Shell {
-            core: Core {
+            core: ShellCore {
                 config,
                 rules: Rules::three_queues(&config),
                 table: NodeTable::new(alloc),
@@ -167,7 +167,7 @@ impl Shell {
 impl Engine for Shell {
     ghost use Rattle.shell_model.specs.Shell.{act};
     ghost use Rattle.shell_model.specs.Records.{undone_step, step_asks, record_size};
-    ghost use Rattle.shell_model.specs.Reached.{ShellFits};
+    ghost use Rattle.shell_model.specs.ReachableShell.{ShellFits};
     ghost use Rattle.admission.specs.Frequency.{pace_of};
     ghost use Rattle.shell_model.proofs.Engines.{act_counts, act_ends, act_paced};
 

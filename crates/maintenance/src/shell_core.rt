@@ -17,7 +17,7 @@ use step_record::{Config, Drain, Item};
 /// The state of a shell. What is assumed of it here is only what keeps its numbers in range; the shell around it keeps
 /// that it is reachable.
 #[derive(Drop)]
-pub(crate) struct Core {
+pub(crate) struct ShellCore {
     pub(crate) config: Config,
     pub(crate) rules: Rules,
     pub(crate) table: NodeTable,
@@ -32,11 +32,11 @@ pub(crate) struct Core {
     pub(crate) applied: u64,
 }
 
-impl Model for Core {
+impl Model for ShellCore {
     ghost use Rattle.std.specs.Prelude.{◌≡◌, ◌≤◌};
     ghost use Rattle.step_record.specs.declared.limits.TheConstants.{MAX_STEPS};
     ghost use Rattle.shell_model.specs.Shell.{Shell};
-    ghost use Rattle.shell_model.specs.Consistent.{IsLeft};
+    ghost use Rattle.shell_model.specs.Consistency.{IsLeft};
     ghost use Rattle.replacement.specs.Rules.{three_queues};
 
     ghost Value = { Shell };
@@ -59,7 +59,7 @@ impl Model for Core {
         × (s.rules ≡ three_queues s.config) };
 }
 
-impl Core {
+impl ShellCore {
     // Whether the window is over its size.
     pub(crate) fn is_over(&self) -> bool
         ensures { result ≡ is_over self.now }

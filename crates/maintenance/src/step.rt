@@ -5,14 +5,14 @@ ghost use Rattle.step_record.specs.declared.step.Act.TheVariants.{DrainRead, Dra
 ghost use Rattle.shell_model.specs.Shell.{act_effect, act as acted};
 ghost use Rattle.shell_model.specs.Records.{change_of};
 ghost use Rattle.shell_model.specs.ShellStats.{AreAtMost, counted_of};
-ghost use Rattle.shell_model.specs.Consistent.{IsConsistent};
+ghost use Rattle.shell_model.specs.Consistency.{IsConsistent};
 
-use crate::shell_core::Core;
+use crate::shell_core::ShellCore;
 use shell_model::{Change, Counted, ShellRecord};
 use std::alloc::AllocError;
 use step_record::{Act, MAX_STEPS, Phase, Reply, Step, StepFault, Worker};
 
-impl Core {
+impl ShellCore {
     // One act, or `None` where it may not come now.
     fn perform(&mut self, worker: Worker, act: Act) -> Result<Option<(Reply, Change)>, AllocError>
         requires sound { IsConsistent self.old }

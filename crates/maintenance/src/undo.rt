@@ -1,22 +1,22 @@
 //! Undoing one step.
 ghost use Rattle.std.specs.Prelude.{◌≡◌, ◌≢◌, ◌<◌, Some, None, IfErr, OnOk, OnErr};
-ghost use Rattle.replacement.specs.Moving.{undone_by, FitsBy};
+ghost use Rattle.replacement.specs.PlanMoves.{undone_by, FitsBy};
 ghost use Rattle.shell_model.specs.Records.{before_use, FitsTouched, holder_in_phase, holder_with_task, HasLeft};
 ghost use Rattle.shell_model.specs.Records.{before_change, FitsChange, undone_step, FitsStep};
 ghost use Rattle.shell_model.specs.Records.{change_asks, step_asks, written_task as task_of};
-ghost use Rattle.shell_model.specs.Consistent.{IsLeft};
+ghost use Rattle.shell_model.specs.Consistency.{IsLeft};
 ghost use Rattle.shell_model.specs.declared.record.Change.TheVariants.{Nothing, Offered, Updated, Added, Removed, Read};
 ghost use Rattle.shell_model.specs.declared.record.Change.TheVariants.{Applied, Cleared, Evicted, Ended};
 
 use crate::key_records::unrecord_key;
-use crate::shell_core::Core;
+use crate::shell_core::ShellCore;
 use segments::MoveRecord;
 use shell_buffers::Task;
 use shell_model::{Change, EvictionRecord, Holder, ShellRecord, UseRecord};
 use std::alloc::AllocError;
 use step_record::{Item, Phase};
 
-impl Core {
+impl ShellCore {
     fn untouch(&mut self, used: UseRecord)
         requires { FitsTouched used self.old }
         ensures { self.new ≡ before_use used self.old }

@@ -21,7 +21,7 @@ use Rattle.replacement.specs.declared.rules.Rules.{Rules}
 use Rattle.replacement.specs.Admission.{admits_in}
 use Rattle.replacement.specs.Table.{Response, rejection, kept_in, contest, trial_of, eviction, response_with_victim, response_without_trial, miss_by, miss, access_in, access}
 use Rattle.replacement.specs.Plan.{Plan, hit_plan_by, plan}
-use Rattle.replacement.specs.Moving.{removal_record, moves_of, queues_after_transfer}
+use Rattle.replacement.specs.PlanMoves.{removal_record, moves_of, queues_after_transfer}
 use Rattle.replacement.proofs.Carrying.{carries}
 use Rattle.replacement.proofs.Planned.{plan-at, access-at, accesses-planned}
 use Rattle.policies.specs.Design.{rules_of}

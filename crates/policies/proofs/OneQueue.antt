@@ -21,7 +21,7 @@ use Rattle.replacement.proofs.Planned.{access-at}
 use Rattle.policies.specs.Lru.{lru_residents, lru_outcome, distinct_keys}
 use Rattle.policies.specs.Design.{design_of, rules_in, rules_of, is_counting}
 use Rattle.policies.specs.QueueCache.{QueueState, nodeless_item, queue_state_after, frequency_by, frequency_after, state_from, empty_queue_state, state_after, outcome_after}
-use Rattle.policies.specs.InWindow.{in_window}
+use Rattle.policies.specs.SingleQueue.{single_queue}
 use Rattle.policies.proofs.Recency.{IsDistinct, moved, answer, two, without-none, distinct-distinct, residents-snoc, outcome-residents}
 
 pos : (n : ℕ) → nat_lt 0 (1 + n) ≡ true
@@ -51,29 +51,29 @@ length-keys : (l : List ℕ) → length (map nodeless_item l) ≡ length l
 length-keys [] = refl
 length-keys (a ∷ l) = ap suc (length-keys l)
 
-total-in : (l : List ℕ) → total_items (in_window l) ≡ length l
+total-in : (l : List ℕ) → total_items (single_queue l) ≡ length l
 total-in l = omega (arith, length-keys l)
 
 abbrev one : ℕ → Rules
 one c = record { capacity = c; window = 0; protected = 0; placement = Direct Window; hits = Renews }
 
 record IsLru (c k : ℕ) (l : List ℕ) (r : Response) : Type 0 where
-  lists : r.queues ≡ in_window (moved c l k)
+  lists : r.queues ≡ single_queue (moved c l k)
   outcome : r.outcome ≡ answer c l k
 
-lru-hit : (c k : ℕ) (l : List ℕ) → has_key k l ≡ true → IsLru c k l record { outcome = Hit; left = None; queues = hit_in 0 (nodeless_item k) (Some Window) (in_window l) }
+lru-hit : (c k : ℕ) (l : List ℕ) → has_key k l ≡ true → IsLru c k l record { outcome = Hit; left = None; queues = hit_in 0 (nodeless_item k) (Some Window) (single_queue l) }
 lru-hit c k l h = record {
   lists = rw (h, without-map k l, map-snoc (without_key k l) k) refl;
   outcome = rw h refl;
 }
 
-lru-room : (c k : ℕ) (l : List ℕ) → has_key k l ≡ false → nat_lt (length l) c ≡ true → IsLru c k l (kept_in (queues_after_push Window (nodeless_item k) (in_window l)))
+lru-room : (c k : ℕ) (l : List ℕ) → has_key k l ≡ false → nat_lt (length l) c ≡ true → IsLru c k l (kept_in (queues_after_push Window (nodeless_item k) (single_queue l)))
 lru-room c k l h f = record {
   lists = rw (h, f, map-snoc l k) refl;
   outcome = rw (h, f) refl;
 }
 
-lru-full : (c k : ℕ) (l : List ℕ) → has_key k l ≡ false → nat_lt (length l) c ≡ false → IsDistinct l → 1 ≤ c → IsLru c k l (response_with_victim (admits_in None) Window (nodeless_item k) (oldest_of (map nodeless_item l)) (in_window l))
+lru-full : (c k : ℕ) (l : List ℕ) → has_key k l ≡ false → nat_lt (length l) c ≡ false → IsDistinct l → 1 ≤ c → IsLru c k l (response_with_victim (admits_in None) Window (nodeless_item k) (oldest_of (map nodeless_item l)) (single_queue l))
 lru-full c k [] h f d w = absurd (let t : nat_lt 0 c ≡ true = grind (arith, nat_tests) in let no : true ≡ false = sym t ∙ f in cc (no))
 lru-full c k (a ∷ l) h f d w =
     let self : eqb a a ≡ true = eq-eqb a a refl in
@@ -82,23 +82,23 @@ lru-full c k (a ∷ l) h f d w =
       outcome = rw (h, f) refl;
     }
 
-lru-direct : (c k : ℕ) (l : List ℕ) → has_key k l ≡ false → IsDistinct l → 1 ≤ c → IsLru c k l (response_without_trial (one c) (admits_in None) Window (nodeless_item k) (in_window l))
+lru-direct : (c k : ℕ) (l : List ℕ) → has_key k l ≡ false → IsDistinct l → 1 ≤ c → IsLru c k l (response_without_trial (one c) (admits_in None) Window (nodeless_item k) (single_queue l))
 lru-direct c k l h d w =
-    let full : Bool → Response = λ b. cond b (kept_in (queues_after_push Window (nodeless_item k) (in_window l))) (response_with_victim (admits_in None) Window (nodeless_item k) (oldest_of (map nodeless_item l)) (in_window l)) in
+    let full : Bool → Response = λ b. cond b (kept_in (queues_after_push Window (nodeless_item k) (single_queue l))) (response_with_victim (admits_in None) Window (nodeless_item k) (oldest_of (map nodeless_item l)) (single_queue l)) in
     elim (two (nat_lt (length l) c)) [
       | inl f ↦ subst (λ (b : Bool). IsLru c k l (full b)) (sym (ap (λ n. nat_lt n c) (total-in l) ∙ f)) (lru-room c k l h f)
       | inr f ↦ subst (λ (b : Bool). IsLru c k l (full b)) (sym (ap (λ n. nat_lt n c) (total-in l) ∙ f)) (lru-full c k l h f d w)
     ]
 
-lru-access : (c k : ℕ) (l : List ℕ) → IsDistinct l → 1 ≤ c → IsLru c k l (access (one c) (admits_in None) (nodeless_item k) (in_window l))
+lru-access : (c k : ℕ) (l : List ℕ) → IsDistinct l → 1 ≤ c → IsLru c k l (access (one c) (admits_in None) (nodeless_item k) (single_queue l))
 lru-access c k l d w =
     elim (two (has_key k l)) [
       | inl h ↦
-          let there : queue_holding (nodeless_item k) (in_window l) ≡ Some Window = rw (has-map k l, h) refl in
-          subst (IsLru c k l) (sym (access-at (one c) (admits_in None) (nodeless_item k) (in_window l) (Some Window) there)) (lru-hit c k l h)
+          let there : queue_holding (nodeless_item k) (single_queue l) ≡ Some Window = rw (has-map k l, h) refl in
+          subst (IsLru c k l) (sym (access-at (one c) (admits_in None) (nodeless_item k) (single_queue l) (Some Window) there)) (lru-hit c k l h)
       | inr h ↦
-          let there : queue_holding (nodeless_item k) (in_window l) ≡ None = rw (has-map k l, h) refl in
-          subst (IsLru c k l) (sym (access-at (one c) (admits_in None) (nodeless_item k) (in_window l) None there)) (lru-direct c k l h d w)
+          let there : queue_holding (nodeless_item k) (single_queue l) ≡ None = rw (has-map k l, h) refl in
+          subst (IsLru c k l) (sym (access-at (one c) (admits_in None) (nodeless_item k) (single_queue l) None there)) (lru-direct c k l h d w)
     ]
 
 distinct-drop : (n : ℕ) (l : List ℕ) → IsDistinct l → IsDistinct (drop n l)
@@ -118,8 +118,8 @@ residents-one (suc c) k xs h = residents-snoc c k xs
 
 module _ (j : Job) (is_lru : j.policy ≡ Lru) (room : 1 ≤ j.config.capacity) where
   -- the response of an Lru cache whose queue has the last distinct keys
-  response-lru : (past : List ℕ) (d : QueueState) (k : ℕ) (ks : List ℕ) → d.job ≡ j → d.queues ≡ in_window (lru_residents j.config.capacity past)
-      → access (rules_of d.job) (admits_in (frequency_after j ks)) (nodeless_item k) d.queues ≡ access (one j.config.capacity) (admits_in None) (nodeless_item k) (in_window (lru_residents j.config.capacity past))
+  response-lru : (past : List ℕ) (d : QueueState) (k : ℕ) (ks : List ℕ) → d.job ≡ j → d.queues ≡ single_queue (lru_residents j.config.capacity past)
+      → access (rules_of d.job) (admits_in (frequency_after j ks)) (nodeless_item k) d.queues ≡ access (one j.config.capacity) (admits_in None) (nodeless_item k) (single_queue (lru_residents j.config.capacity past))
   response-lru past d k ks ej eq =
       let r : rules_of d.job ≡ one j.config.capacity = ap rules_of ej ∙ ap (λ p. rules_in (design_of p) j.config) is_lru in
       let f : frequency_after j ks ≡ None = ap (λ p. frequency_by (is_counting p) (shape_of j.config) ks) is_lru in
@@ -127,23 +127,23 @@ module _ (j : Job) (is_lru : j.policy ≡ Lru) (room : 1 ≤ j.config.capacity) 
       ∙ (ap (λ (x : Option FrequencyData). access (one j.config.capacity) (admits_in x) (nodeless_item k) d.queues) f
       ∙ ap (λ (x : Queues). access (one j.config.capacity) (admits_in None) (nodeless_item k) x) eq)
 
-  step-lru : (past : List ℕ) (d : QueueState) (k : ℕ) (ks : List ℕ) → d.job ≡ j → d.queues ≡ in_window (lru_residents j.config.capacity past)
-      → (queue_state_after (frequency_after j ks) k d).queues ≡ in_window (lru_residents j.config.capacity (past ++ k ∷ []))
+  step-lru : (past : List ℕ) (d : QueueState) (k : ℕ) (ks : List ℕ) → d.job ≡ j → d.queues ≡ single_queue (lru_residents j.config.capacity past)
+      → (queue_state_after (frequency_after j ks) k d).queues ≡ single_queue (lru_residents j.config.capacity (past ++ k ∷ []))
   step-lru past d k ks ej eq =
       let p = response-lru past d k ks ej eq in
       let l = lru-access j.config.capacity k (lru_residents j.config.capacity past) (residents-distinct j.config.capacity past) room in
-      ap (λ (x : Response). x.queues) p ∙ (l.lists ∙ ap in_window (sym (residents-one j.config.capacity k past room)))
+      ap (λ (x : Response). x.queues) p ∙ (l.lists ∙ ap single_queue (sym (residents-one j.config.capacity k past room)))
 
-  from-lru : (past : List ℕ) (d : QueueState) (keys : List ℕ) → d.job ≡ j → d.queues ≡ in_window (lru_residents j.config.capacity past)
-      → (state_from j past d keys).queues ≡ in_window (lru_residents j.config.capacity (past ++ keys))
+  from-lru : (past : List ℕ) (d : QueueState) (keys : List ℕ) → d.job ≡ j → d.queues ≡ single_queue (lru_residents j.config.capacity past)
+      → (state_from j past d keys).queues ≡ single_queue (lru_residents j.config.capacity (past ++ keys))
   from-lru past d [] ej eq = rw (append-nil past) eq
   from-lru past d (a ∷ keys) ej eq =
       from-lru (past ++ a ∷ []) (queue_state_after (frequency_after j (past ++ a ∷ [])) a d) keys ej (step-lru past d a (past ++ a ∷ []) ej eq)
       ∙ rw (append_assoc past (a ∷ []) keys) refl
 
-  pub after-lru : (keys : List ℕ) → (state_after j keys).queues ≡ in_window (lru_residents j.config.capacity keys)
+  pub after-lru : (keys : List ℕ) → (state_after j keys).queues ≡ single_queue (lru_residents j.config.capacity keys)
   unfolding state_after
-  after-lru keys = from-lru [] (empty_queue_state j) keys refl (ap in_window (sym (residents-none j.config.capacity)))
+  after-lru keys = from-lru [] (empty_queue_state j) keys refl (ap single_queue (sym (residents-none j.config.capacity)))
 
   pub outcome-lru : (keys : List ℕ) (k : ℕ) → (state_after j keys).job ≡ j → outcome_after j keys k ≡ lru_outcome j.config.capacity keys k
   outcome-lru keys k ej =

@@ -12,7 +12,7 @@ use Rattle.replacement.specs.declared.record.Effect.{Effect}
 use Rattle.replacement.specs.Admission.{admits_in}
 use Rattle.replacement.specs.Table.{Response, access}
 use Rattle.replacement.specs.Plan.{plan}
-use Rattle.replacement.specs.Moving.{moves_of}
+use Rattle.replacement.specs.PlanMoves.{moves_of}
 use Rattle.policies.specs.declared.record.AccessRecord.{AccessRecord}
 use Rattle.policies.specs.Design.{rules_of}
 use Rattle.policies.specs.QueueCache.{nodeless_item}

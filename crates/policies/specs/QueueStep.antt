@@ -11,7 +11,7 @@ use Rattle.admission.specs.KeptCounting.{counting_words}
 use Rattle.replacement.specs.declared.record.Moves.{Moves}
 use Rattle.replacement.specs.Admission.{admits_in}
 use Rattle.replacement.specs.Plan.{plan}
-use Rattle.replacement.specs.Moving.{moves_of, undone_moves, FitsMoves}
+use Rattle.replacement.specs.PlanMoves.{moves_of, undone_moves, FitsMoves}
 use Rattle.policies.specs.declared.record.AccessRecord.{AccessRecord}
 use Rattle.policies.specs.Design.{rules_of}
 use Rattle.policies.specs.QueueCache.{QueueState, nodeless_item, access_response, queue_state_after, StandsFor}

@@ -8,7 +8,7 @@ use Rattle.step_record.specs.declared.outcome.Outcome.TheVariants.{Hit}
 use Rattle.step_record.specs.Stats.{stats_of}
 use Rattle.policies.specs.declared.any_policy.AnyPolicy.{AnyPolicy}
 use Rattle.policies.specs.Lru.{lru_residents, lru_outcome}
-use Rattle.policies.specs.InWindow.{in_window}
+use Rattle.policies.specs.SingleQueue.{single_queue}
 use Rattle.policies.specs.QueueCache.{QueueState, access_response, state_after, outcome_after, outcomes_after}
 use Rattle.policies.specs.QueueCache.{StandsFor}
 use Rattle.policies.specs.QueueStep.{recorded_in, queue_act, queue_record_of, IsReached}
@@ -45,7 +45,7 @@ RecordsShowLeaver = (d : QueueState) (k : ℕ) → IsReached d
 -- the whole list gives.
 abbrev pub LruStands : Type 0
 LruStands = (j : Job) (keys : List ℕ) (k : ℕ) → j.policy ≡ Lru → 1 ≤ j.config.capacity
-    → ((state_after j keys).queues ≡ in_window (lru_residents j.config.capacity keys))
+    → ((state_after j keys).queues ≡ single_queue (lru_residents j.config.capacity keys))
     × (outcome_after j keys k ≡ lru_outcome j.config.capacity keys k)
 
 -- A cache of any policy that made some accesses made one more after an accepted step.

@@ -7,7 +7,7 @@ use crate::design::{Design, design_of};
 use crate::queue_cache::{ByJob, QueueCache};
 use crate::record::AccessRecord;
 use admission::Frequency;
-use clairvoyant::{Clairvoyant, NextUse, UseRecord};
+use clairvoyant::{Clairvoyant, NextUse, OptimalRecord};
 use std::alloc::{AllocError, Global};
 use step_record::{Engine, Job, Key, Outcome, Stats, StepFault, Trace};
 
@@ -29,7 +29,7 @@ pub enum AnyRecord {
     /// Of a policy of queues.
     Queues(AccessRecord),
     /// Of Belady's optimal policy.
-    Optimal(UseRecord),
+    Optimal(OptimalRecord),
 }
 
 impl AnyPolicy {
@@ -78,24 +78,24 @@ impl AnyPolicy {
 
     /// Reads ahead what accesses to these keys read first. It changes nothing.
     #[inline(always)]
-    pub fn warm(&mut self, keys: &[Key])
+    pub fn prefetch(&mut self, keys: &[Key])
         ensures { self.new ≡ self.old }
     {
         match self {
-            AnyPolicy::Queues(cache) => cache.warm(keys),
+            AnyPolicy::Queues(cache) => cache.prefetch(keys),
             AnyPolicy::Optimal(_) => {}
         }
     }
 
     /// The same from the key at `i` on, once for each few keys: to be called before each access of a loop over them.
     #[inline(always)]
-    pub fn warm_at(&mut self, keys: &[Key], i: usize)
+    pub fn prefetch_at(&mut self, keys: &[Key], i: usize)
         requires { i ≤ length keys.now }
         ensures { self.new ≡ self.old }
     {
         if i % AHEAD == 0 {
             let end = keys.len().min(i + AHEAD);
-            self.warm(&keys[i..end]);
+            self.prefetch(&keys[i..end]);
         }
     }
 

@@ -15,7 +15,7 @@ mod lru;
 mod queue_cache;
 mod record;
 mod segmented_lru;
-mod theorems;
+pub mod theorems;
 mod tiny_lfu;
 mod window_tiny_lfu;
 
@@ -25,10 +25,5 @@ pub use lru::{Lru, LruMark};
 pub use queue_cache::{ByJob, QueueCache};
 pub use record::AccessRecord;
 pub use segmented_lru::{SegmentedLru, SegmentedLruMark};
-pub use theorems::{
-    any_accepts, any_answers, any_covers_trace, any_hits_keep_all, any_is_one, any_reports,
-    any_stands, hits_keep_all, lru_stands, queues_accept, queues_count, queues_stand,
-    records_show_leaver,
-};
 pub use tiny_lfu::{TinyLfu, TinyLfuMark};
 pub use window_tiny_lfu::{WindowTinyLfu, WindowTinyLfuMark};

@@ -21,7 +21,7 @@ use std::marker::{Model, PhantomData};
 use step_record::{Config, Engine, Item, Job, Key, MAX_STEPS, Outcome, Stats, StepFault};
 
 // Queues of so many keys are read ahead.
-const WARM_FROM: usize = 4096;
+const PREFETCH_FROM: usize = 4096;
 
 /// Marks a cache whose policy is known by its job alone.
 #[derive(Drop)]
@@ -80,11 +80,11 @@ impl<P: Drop> QueueCache<P> {
     /// Reads ahead what accesses to these keys read first. It changes nothing, and pays where the queues are larger
     /// than the processor's caches.
     #[inline(always)]
-    pub fn warm(&mut self, keys: &[Key])
+    pub fn prefetch(&mut self, keys: &[Key])
         ensures { self.new ≡ self.old }
     {
-        if self.rules.capacity >= WARM_FROM {
-            self.segments.warm(keys, 0);
+        if self.rules.capacity >= PREFETCH_FROM {
+            self.segments.prefetch(keys, 0);
         }
     }
 

@@ -4,8 +4,6 @@ ghost use Rattle.policies.specs.Theorems.{QueuesStand, QueuesAccept, QueuesCount
 ghost use Rattle.policies.specs.Theorems.{LruStands, AnyHitsKeepAll};
 ghost use Rattle.policies.specs.Theorems.{AnyStands, AnyAccepts, AnyIsOne, AnyReports, AnyAnswers, AnyCoversTrace};
 
-use clairvoyant::{clairvoyant_accepts, clairvoyant_stands};
-
 /// An accepted step of a cache of queues answers what the definition gives over the whole list of accesses, and leaves
 /// that list with the key at its end.
 pub fn queues_stand()
@@ -42,14 +40,14 @@ pub fn lru_stands()
 pub fn any_stands()
     ensures { AnyStands }
 {
-    clairvoyant_stands();
+    clairvoyant::theorems::clairvoyant_stands();
 }
 
 /// A cache of any policy that made the first accesses of a trace accepts the next of them.
 pub fn any_accepts()
     ensures { AnyAccepts }
 {
-    clairvoyant_accepts();
+    clairvoyant::theorems::clairvoyant_accepts();
 }
 
 /// What a cache of any policy shows after some accesses is determined by the job, the trace and the accesses.
@@ -66,7 +64,7 @@ pub fn any_reports()
 pub fn any_answers()
     ensures { AnyAnswers }
 {
-    clairvoyant_stands();
+    clairvoyant::theorems::clairvoyant_stands();
 }
 
 /// A job over a trace has one outcome for each access.

@@ -1,11 +1,11 @@
 -- Of a reading, and of a run that stands on it.
 use Rattle.std.proofs.Common.{◌≡◌, ◌≢◌, ◌≤◌, ◌<◌, ℕ, List, Option, Some, None, Result, Ok, Err, IfOk, IfSome, length, ap, subst, refl}
 use Rattle.step_record.specs.declared.limits.TheConstants.{MAX_TRACE_BYTES}
-use Rattle.streams.specs.Since.{ReadAtMost}
+use Rattle.streams.specs.GivenBytes.{ReadAtMost}
 use Rattle.trace_read.specs.declared.format.Format.{Format}
 use Rattle.trace_read.specs.declared.fault.TraceFault.{TraceFault}
 use Rattle.trace_read.specs.declared.fault.TraceFault.TheVariants.{OutOfMemory, TooLarge}
-use Rattle.trace_read.specs.Reading.{keys_in, keys_of_file}
+use Rattle.trace_read.specs.TraceText.{keys_in, keys_of_file}
 use Rattle.policy_actors.specs.ReadRun.{IsReadTo}
 
 module _ {T U : Type 0} (format : Format) (old new : Option (List ℕ)) where

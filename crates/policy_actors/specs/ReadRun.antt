@@ -2,11 +2,11 @@
 use Rattle.std.specs.Prelude.{◌≡◌, ◌≢◌, ◌≤◌, ◌<◌, Option, Some, None, List, ℕ, Result, Err, IfErr, OnOk, IfSome, length}
 use Rattle.std.specs.Io.KnownBytes.{IsAtEnd}
 use Rattle.step_record.specs.declared.limits.TheConstants.{MAX_TRACE_BYTES}
-use Rattle.streams.specs.Since.{ReadAtMost}
+use Rattle.streams.specs.GivenBytes.{ReadAtMost}
 use Rattle.trace_read.specs.declared.format.Format.{Format}
 use Rattle.trace_read.specs.declared.fault.TraceFault.{TraceFault}
 use Rattle.trace_read.specs.declared.fault.TraceFault.TheVariants.{TooLarge}
-use Rattle.trace_read.specs.Reading.{fault_in, IsOfLine}
+use Rattle.trace_read.specs.TraceText.{fault_in, IsOfLine}
 
 -- the bytes of a reader were read to their end and have no fault, or this is the fault; as `read_trace` has it
 pub record IsReadTo {T : Type 0} (format : Format) (old new : Option (List ℕ)) (result : Result T TraceFault) : Type 0 where

@@ -13,11 +13,11 @@ jobs_over [] capacities = []
 jobs_over (job ∷ jobs) capacities = map (at_capacity job) capacities ++ jobs_over jobs capacities
 
 -- the fault of the first job that has one at these capacities
-abbrev pub first_fault : List Job → List ℕ → Option ActorFault
-first_fault [] capacities = None
-first_fault (job ∷ jobs) capacities =
-    option_or (faulty_in (map (at_capacity job) capacities)) (first_fault jobs capacities)
+abbrev pub first_config_fault : List Job → List ℕ → Option ActorFault
+first_config_fault [] capacities = None
+first_config_fault (job ∷ jobs) capacities =
+    option_or (faulty_in (map (at_capacity job) capacities)) (first_config_fault jobs capacities)
 
 -- the number of jobs is looked at first, and then their configurations
 abbrev pub sweep_fault : List Job → List ℕ → Option ActorFault
-sweep_fault jobs capacities = cond (nat_le (length jobs) MAX_ACTORS) (first_fault jobs capacities) (Some Actors)
+sweep_fault jobs capacities = cond (nat_le (length jobs) MAX_ACTORS) (first_config_fault jobs capacities) (Some Actors)

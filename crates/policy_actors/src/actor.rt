@@ -9,7 +9,7 @@ use crate::actor_cache::{access_batch, finish};
 use crate::backlog::Backlog;
 use crate::mail::Inbox;
 use crate::next_uses::WholeTrace;
-use crate::rule::Source;
+use crate::rule::FeedSource;
 use policies::AnyPolicy;
 use report::Report;
 use std::alloc::Global;
@@ -19,7 +19,7 @@ use step_record::{Gate, Job, Policy, Trace};
 /// Takes batches up to the last one. With `Some`, the report is that of all that was fed, where that was known. An actor
 /// that ran out of memory goes on taking batches, so that its feeder is not held up, and has no report; nor has one
 /// whose feeder ended early. A policy that goes by the whole trace requires it.
-pub fn act<'a, S: Source, R: Wait, G: Gate>(
+pub fn act<'a, S: FeedSource, R: Wait, G: Gate>(
     rt: &R,
     alloc: Global,
     mut inbox: Inbox<'a, S>,
@@ -51,7 +51,7 @@ pub fn act<'a, S: Source, R: Wait, G: Gate>(
 }
 
 // A new cache for the job; `None` if out of memory. Belady's policy goes by the next uses that the actors share.
-fn open<'a, S: Source, R: Wait>(
+fn open<'a, S: FeedSource, R: Wait>(
     rt: &R,
     alloc: Global,
     job: &Job,
@@ -68,7 +68,7 @@ fn open<'a, S: Source, R: Wait>(
 }
 
 // A new cache for a job over the whole trace.
-fn open_over<'a, S: Source, R: Wait>(
+fn open_over<'a, S: FeedSource, R: Wait>(
     rt: &R,
     alloc: Global,
     job: &Job,
@@ -89,7 +89,7 @@ fn open_over<'a, S: Source, R: Wait>(
 }
 
 // A new cache for a job that goes by no trace.
-fn open_queues<S: Source>(alloc: Global, job: &Job) -> Option<AnyPolicy>
+fn open_queues<S: FeedSource>(alloc: Global, job: &Job) -> Option<AnyPolicy>
     requires checked { config_fault job.now.config ≡ Ok tt }
     requires queues { knows_trace job.now.policy ≡ false }
     ensures { IfSome result (IsAfter S.known job.now S.size 0) }

@@ -5,7 +5,7 @@ ghost use Rattle.policies.specs.AnyPolicy.{HasAccessed};
 ghost use Rattle.policy_actors.specs.Accesses.{IsNext};
 ghost use Rattle.policy_actors.specs.Reports.{report_on};
 
-use policies::{AnyPolicy, any_accepts, any_reports, any_stands};
+use policies::{AnyPolicy, theorems};
 use report::Report;
 use std::alloc::{AllocError, Global};
 use step_record::{Gate, Job, Key, MAX_BATCH, StepFault, Trace};
@@ -17,10 +17,10 @@ pub fn access_all(cache: &mut AnyPolicy, keys: &[Key]) -> Result<(), AllocError>
     ensures { (j : Job) (trace done : List ℕ) → HasAccessed j trace done cache.old
         → OnOk result (HasAccessed j trace (done ++ keys.now) cache.new) }
 {
-    any_stands();
-    any_accepts();
+    theorems::any_stands();
+    theorems::any_accepts();
     for i in 0..keys.len() {
-        cache.warm_at(keys, i);
+        cache.prefetch_at(keys, i);
         match cache.access::<Report>(keys[i]) {
             Ok(_) => {}
             Err(StepFault::OutOfMemory) => return Err(AllocError),
@@ -85,7 +85,7 @@ pub fn access_batch(cache: &mut Option<AnyPolicy>, keys: &[Key])
 pub fn report_by(cache: &AnyPolicy, job: &Job) -> Report
     ensures { (trace : List ℕ) → HasAccessed job.now trace trace cache.now → result ≡ report_on job.now trace }
 {
-    any_reports();
+    theorems::any_reports();
     Report::of(job, cache.stats())
 }
 

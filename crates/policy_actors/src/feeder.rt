@@ -6,7 +6,7 @@ ghost use Rattle.policy_actors.specs.Rule.{AreAt};
 use crate::keys::Keys;
 use crate::mail::Outbox;
 use crate::rounds::feed_in_rounds;
-use crate::rule::Source;
+use crate::rule::FeedSource;
 use std::marker::PhantomData;
 use std::sync::Wait;
 use step_record::{Key, Trace};
@@ -33,7 +33,7 @@ pub trait Feeder<E>: Drop {
 
 /// Feeds a trace.
 #[derive(Drop)]
-pub struct TraceFeeder<'a, S: Source> {
+pub struct TraceFeeder<'a, S: FeedSource> {
     keys: &'a [Key],
     size: usize,
     pub batches: usize,
@@ -44,7 +44,7 @@ pub struct TraceFeeder<'a, S: Source> {
     ghost covered: { length keys.now ≤ batches * size },
 }
 
-impl<'a, S: Source> TraceFeeder<'a, S> {
+impl<'a, S: FeedSource> TraceFeeder<'a, S> {
     /// `size` accesses to a batch; the last one may be shorter, and an empty trace is one empty batch.
     pub fn new(trace: &'a Trace, size: usize) -> TraceFeeder<'a, S>
         requires trace { S.known ≡ Some trace.now }
@@ -61,7 +61,7 @@ impl<'a, S: Source> TraceFeeder<'a, S> {
     }
 }
 
-impl<'a, S: Source> Feeder<Vec<Outbox<'a, S>>> for TraceFeeder<'a, S> {
+impl<'a, S: FeedSource> Feeder<Vec<Outbox<'a, S>>> for TraceFeeder<'a, S> {
     type Outcome = ();
 
     ghost use Rattle.std.specs.Prelude.{⊤};
@@ -84,7 +84,7 @@ impl<'a, S: Source> Feeder<Vec<Outbox<'a, S>>> for TraceFeeder<'a, S> {
 
 /// Gives each end these keys, which stand at this place of what is fed, to send. False where an end has others to send
 /// before them.
-pub fn load_all<'a, S: Source>(
+pub fn load_all<'a, S: FeedSource>(
     ends: &mut Vec<Outbox<'a, S>>,
     keys: &Keys<'a>,
     place: usize,

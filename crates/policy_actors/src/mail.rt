@@ -3,11 +3,13 @@ ghost use Rattle.std.specs.Prelude.{◌≡◌, ◌+◌, ◌*◌, ◌<◌, ◌≤
 ghost use Rattle.crossbeam_channel.specs.Claims.{view, IsSeatAt};
 ghost use Rattle.crossbeam_channel.specs.Ends.{sends_on, receives_on};
 ghost use Rattle.step_record.specs.declared.limits.TheConstants.{MAX_ACCESSES};
-ghost use Rattle.policy_actors.specs.Rule.{log, AreAt, IsBatch};
+ghost use Rattle.policy_actors.specs.Rule.{channel_log, AreAt, IsBatch};
 
 use crate::keys::Keys;
 use crate::rounds::BatchEnds;
-use crate::rule::{Batch, BatchesInOrder, Gave, Log, Receiver, Roles, Sender, Source, Token, Took};
+use crate::rule::{
+    Batch, BatchesInOrder, ChannelLog, FeedSource, Gave, Receiver, Roles, Sender, Token, Took,
+};
 use crate::unsent::Unsent;
 use crossbeam_channel::bounded_with;
 use std::alloc::{AllocError, Global};
@@ -21,17 +23,17 @@ const MAX_WAITING: usize = MAX_ACCESSES / 1024;
 
 /// The sending end of an actor's channel, with what is left to send of the keys that it was given.
 #[derive(Drop)]
-pub struct Outbox<'a, S: Source> {
+pub struct Outbox<'a, S: FeedSource> {
     sender: Sender<'a, S>,
     pass: Token<'a>,
     pub sent: u64,
     unsent: Unsent<'a, S>,
     ghost seated: { IsSeatAt (sends_on sender) pass },
-    ghost viewed: { view pass ≡ log true false sent 0 },
+    ghost viewed: { view pass ≡ channel_log true false sent 0 },
     ghost placed: { unsent.place ≡ sent * unsent.size },
 }
 
-impl<'a, S: Source> Outbox<'a, S> {
+impl<'a, S: FeedSource> Outbox<'a, S> {
     /// Takes these keys, which stand at this place of what is fed, as those to send next. False where others before
     /// them are not sent yet.
     pub fn load(&mut self, keys: &Keys<'a>, place: usize, is_end: bool) -> bool
@@ -67,15 +69,15 @@ impl<'a, S: Source> Outbox<'a, S> {
 
 /// The receiving end of an actor's channel.
 #[derive(Drop)]
-pub struct Inbox<'a, S: Source> {
+pub struct Inbox<'a, S: FeedSource> {
     receiver: Receiver<'a, S>,
     pass: Token<'a>,
     pub taken: u64,
     ghost seated: { IsSeatAt (receives_on receiver) pass },
-    ghost viewed: { view pass ≡ log false true 0 taken },
+    ghost viewed: { view pass ≡ channel_log false true 0 taken },
 }
 
-impl<'a, S: Source> Inbox<'a, S> {
+impl<'a, S: FeedSource> Inbox<'a, S> {
     // Takes the next batch. `None` where the feeder is gone.
     pub fn take<R: Wait>(&mut self, rt: &R) -> Option<Batch<'a>>
         ensures batch { IfSome result (IsBatch S.known S.size self.old.taken) }
@@ -93,7 +95,7 @@ impl<'a, S: Source> Inbox<'a, S> {
 }
 
 /// A channel with room for so many batches, up to `MAX_WAITING`, of so many keys each.
-pub fn channel<'a, S: Source>(
+pub fn channel<'a, S: FeedSource>(
     alloc: Global,
     batches: usize,
     size: usize,
@@ -102,10 +104,12 @@ pub fn channel<'a, S: Source>(
     requires size { (size ≡ S.size) × (0 < size) }
     ensures { IfOk result (λ r. (r.0.sent ≡ 0) × (r.1.taken ≡ 0)) }
 {
-    let (sender, receiver, mut pass) = bounded_with::<Batch<'a>, Log, BatchesInOrder<S>, Global>(
-        alloc,
-        batches.min(MAX_WAITING),
-    )?;
+    let (sender, receiver, mut pass) = bounded_with::<
+        Batch<'a>,
+        ChannelLog,
+        BatchesInOrder<S>,
+        Global,
+    >(alloc, batches.min(MAX_WAITING))?;
     let theirs = sender.another::<Roles>(&mut pass);
     let outbox = Outbox {
         sender,
@@ -121,7 +125,7 @@ pub fn channel<'a, S: Source>(
     Ok((outbox, inbox))
 }
 
-impl<'a, S: Source> BatchEnds for Vec<Outbox<'a, S>> {
+impl<'a, S: FeedSource> BatchEnds for Vec<Outbox<'a, S>> {
     ghost use Rattle.std.specs.Prelude.{◌≡◌, ◌+◌, length, map, slice_set, slice_index};
 
     ghost ends = { λ v. length v.items };

@@ -1,7 +1,7 @@
 //! The next uses of a trace, found once for all actors that go by them.
 ghost use Rattle.std.specs.Prelude.{◌≡◌, IfSome, Some};
 
-use crate::rule::Source;
+use crate::rule::FeedSource;
 use clairvoyant::NextUse;
 use std::alloc::{AllocError, Global};
 use std::marker::PhantomData;
@@ -9,15 +9,15 @@ use std::sync::{OnceLock, Wait};
 use step_record::Trace;
 
 /// The whole trace that is fed, with the next uses of it, which the actors share.
-pub struct WholeTrace<'a, S: Source> {
+pub struct WholeTrace<'a, S: FeedSource> {
     pub trace: &'a Trace,
     pub uses: &'a SharedUses<S>,
     pub ghost known: { S.known ≡ Some trace.now },
 }
 
-impl<'a, S: Source> Copy for WholeTrace<'a, S> {}
+impl<'a, S: FeedSource> Copy for WholeTrace<'a, S> {}
 
-impl<'a, S: Source> Clone for WholeTrace<'a, S> {
+impl<'a, S: FeedSource> Clone for WholeTrace<'a, S> {
     fn clone(&self) -> Result<Self, AllocError> {
         Ok(*self)
     }
@@ -25,18 +25,18 @@ impl<'a, S: Source> Clone for WholeTrace<'a, S> {
 
 /// The next uses of the trace that is fed, once an actor has asked for them.
 #[derive(Drop)]
-pub struct SharedUses<S: Source> {
-    found: OnceLock<Option<Found<S>>>,
+pub struct SharedUses<S: FeedSource> {
+    found: OnceLock<Option<FoundUses<S>>>,
 }
 
 #[derive(Drop)]
-struct Found<S: Source> {
+struct FoundUses<S: FeedSource> {
     uses: NextUse,
     marker: PhantomData<S>,
     ghost known: { S.known ≡ Some uses },
 }
 
-impl<S: Source> SharedUses<S> {
+impl<S: FeedSource> SharedUses<S> {
     pub fn new() -> SharedUses<S> {
         SharedUses {
             found: OnceLock::new(),
@@ -51,7 +51,7 @@ impl<S: Source> SharedUses<S> {
     {
         let found = self.found.get_or_init(
             rt,
-            || -> Option<Found<S>>
+            || -> Option<FoundUses<S>>
                 requires { S.known ≡ Some trace.now }
             { find(alloc, trace) },
         );
@@ -62,11 +62,11 @@ impl<S: Source> SharedUses<S> {
     }
 }
 
-fn find<S: Source>(alloc: Global, trace: &Trace) -> Option<Found<S>>
+fn find<S: FeedSource>(alloc: Global, trace: &Trace) -> Option<FoundUses<S>>
     requires { S.known ≡ Some trace.now }
 {
     match NextUse::build(alloc, trace) {
-        Ok(uses) => Some(Found {
+        Ok(uses) => Some(FoundUses {
             uses,
             marker: PhantomData,
         }),

@@ -1,7 +1,7 @@
 //! Feeds a trace to the actors while it is read.
 ghost use Rattle.std.specs.Prelude.{◌≡◌, ◌+◌, ◌*◌, ◌<◌, ◌≤◌, Some, IfSome, length, take, drop};
 ghost use Rattle.step_record.specs.declared.limits.TheConstants.{MAX_ACCESSES};
-ghost use Rattle.trace_read.specs.Reading.{AreOfFile};
+ghost use Rattle.trace_read.specs.TraceText.{AreOfFile};
 ghost use Rattle.policy_actors.specs.Rule.{AreAt};
 ghost use Rattle.policy_actors.specs.ReadRun.{IsReadTo};
 
@@ -10,7 +10,7 @@ use crate::feeder::{Feeder, load_all};
 use crate::keys::Keys;
 use crate::mail::Outbox;
 use crate::rounds::feed_in_rounds;
-use crate::rule::Source;
+use crate::rule::FeedSource;
 use std::alloc::Global;
 use std::io::Read;
 use std::marker::PhantomData;
@@ -28,7 +28,7 @@ const MAX_LUMP: usize = 262_144;
 
 /// Feeds the trace that a reader gives.
 #[derive(Drop)]
-pub struct ReadFeeder<'r, 'b, R, S: Source> {
+pub struct ReadFeeder<'r, 'b, R, S: FeedSource> {
     pub alloc: Global,
     pub reader: &'r mut R,
     pub format: Format,
@@ -37,10 +37,10 @@ pub struct ReadFeeder<'r, 'b, R, S: Source> {
     pub marker: PhantomData<S>,
 }
 
-impl<'a, 'r, 'b, R: Read, S: Source> Feeder<Vec<Outbox<'a, S>>> for ReadFeeder<'r, 'b, R, S> {
+impl<'a, 'r, 'b, R: Read, S: FeedSource> Feeder<Vec<Outbox<'a, S>>> for ReadFeeder<'r, 'b, R, S> {
     type Outcome = (&'r mut R, Result<(), TraceFault>);
 
-    ghost use Rattle.trace_read.specs.Reading.{AreOfFile};
+    ghost use Rattle.trace_read.specs.TraceText.{AreOfFile};
     ghost use Rattle.policy_actors.specs.ReadRun.{IsReadTo};
 
     ghost ready = { λ f. (0 < f.size) × AreOfFile f.format (R.remaining f.reader.now) S.known };
@@ -92,7 +92,7 @@ impl<'a, 'r, 'b, R: Read, S: Source> Feeder<Vec<Outbox<'a, S>>> for ReadFeeder<'
 }
 
 // Reads the trace, handing over what is read, and feeds the rest of it.
-fn feed_read<'a, S: Source, R: Read, W: Wait>(
+fn feed_read<'a, S: FeedSource, R: Read, W: Wait>(
     mut handover: Handover<'a, '_, S, W>,
     reader: &mut R,
     format: Format,
@@ -108,7 +108,7 @@ fn feed_read<'a, S: Source, R: Read, W: Wait>(
 
 // What was handed over of the accesses that are read.
 #[derive(Drop)]
-struct Handover<'a, 'b, S: Source, W: Wait> {
+struct Handover<'a, 'b, S: FeedSource, W: Wait> {
     rt: &'b W,
     alloc: Global,
     ends: Vec<Outbox<'a, S>>,
@@ -123,7 +123,7 @@ struct Handover<'a, 'b, S: Source, W: Wait> {
     ghost some: { 0 < size },
 }
 
-impl<'a, 'b, S: Source, W: Wait> Follower for Handover<'a, 'b, S, W> {
+impl<'a, 'b, S: FeedSource, W: Wait> Follower for Handover<'a, 'b, S, W> {
     ghost file = { λ h. S.known };
 
     fn follow(&mut self, keys: &[Key]) {
@@ -136,7 +136,7 @@ impl<'a, 'b, S: Source, W: Wait> Follower for Handover<'a, 'b, S, W> {
     }
 }
 
-impl<'a, 'b, S: Source, W: Wait> Handover<'a, 'b, S, W> {
+impl<'a, 'b, S: FeedSource, W: Wait> Handover<'a, 'b, S, W> {
     // How many batches to hand over, where so many accesses are read: whole ones, with an access behind them.
     fn rounds(&self, read: usize) -> usize
         ensures { 0 < result → self.now.place + result * self.now.size < read }

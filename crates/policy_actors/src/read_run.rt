@@ -7,11 +7,11 @@ ghost use Rattle.policy_actors.specs.ReadRun.{IsReadTo};
 ghost use Rattle.policy_actors.specs.Reports.{report_on};
 ghost use Rattle.policies.specs.Design.{knows_trace};
 ghost use Rattle.job_checks.specs.FaultyJobs.{faulty_in};
-ghost use Rattle.trace_read.specs.Reading.{AreOfFile, keys_in};
+ghost use Rattle.trace_read.specs.TraceText.{AreOfFile, keys_in};
 
 use crate::backlog::Backlog;
 use crate::read_feeder::ReadFeeder;
-use crate::rule::Source;
+use crate::rule::FeedSource;
 use crate::run::{Common, check_run, run_fed};
 use report::Report;
 use std::alloc::{AllocError, Global};
@@ -76,7 +76,7 @@ fn goes_by_trace(policy: Policy) -> bool
 }
 
 // `run_reading`, for a source that stands for the accesses of the file.
-fn run_read<S: Source + Send + Sync + 'static, T: Threads + Wait + Sync, R: Read, G: Gate>(
+fn run_read<S: FeedSource + Send + Sync + 'static, T: Threads + Wait + Sync, R: Read, G: Gate>(
     rt: &T,
     alloc: Global,
     reader: &mut R,
@@ -105,7 +105,7 @@ fn run_read<S: Source + Send + Sync + 'static, T: Threads + Wait + Sync, R: Read
 }
 
 // What becomes of the reading, and the reports of the actors.
-fn run_fed_by<S: Source + Send + Sync + 'static, T: Threads + Wait + Sync, R: Read, G: Gate>(
+fn run_fed_by<S: FeedSource + Send + Sync + 'static, T: Threads + Wait + Sync, R: Read, G: Gate>(
     rt: &T,
     alloc: Global,
     reader: &mut R,
@@ -129,7 +129,13 @@ fn run_fed_by<S: Source + Send + Sync + 'static, T: Threads + Wait + Sync, R: Re
 }
 
 // The same, and the reader.
-fn run_fed_with<'r, S: Source + Send + Sync + 'static, T: Threads + Wait + Sync, R: Read, G: Gate>(
+fn run_fed_with<
+    'r,
+    S: FeedSource + Send + Sync + 'static,
+    T: Threads + Wait + Sync,
+    R: Read,
+    G: Gate,
+>(
     rt: &T,
     alloc: Global,
     reader: &'r mut R,

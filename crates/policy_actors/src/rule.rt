@@ -8,13 +8,13 @@ use std::marker::{Brand, PhantomData};
 
 /// What is fed: the keys, where they are known when the actors start, and how many go to a batch. It stands for values
 /// that are known at run time only.
-pub trait Source {
+pub trait FeedSource {
     ghost known: { Option (List ℕ) };
 
     ghost size: { ℕ };
 }
 
-impl Source for Brand {
+impl FeedSource for Brand {
     ghost use Rattle.std.specs.Prelude.{None};
 
     ghost known = { None };
@@ -31,7 +31,7 @@ pub struct Batch<'a> {
 }
 
 // What a pass may do, and how many batches it has given and taken. No value of it is made.
-pub struct Log {
+pub struct ChannelLog {
     pub gives: bool,
     pub takes: bool,
     pub given: u64,
@@ -42,36 +42,36 @@ pub struct BatchesInOrder<S> {
     marker: PhantomData<S>,
 }
 
-impl<'a, S: Source> Protocol<Batch<'a>, Log> for BatchesInOrder<S> {
+impl<'a, S: FeedSource> Protocol<Batch<'a>, ChannelLog> for BatchesInOrder<S> {
     ghost use Rattle.std.specs.Prelude.{true};
-    ghost use Rattle.policy_actors.specs.Rule.{log, AreKept};
+    ghost use Rattle.policy_actors.specs.Rule.{channel_log, AreKept};
 
     ghost holds = { AreKept S.known S.size };
 
-    ghost first = { log true true 0 0 };
+    ghost first = { channel_log true true 0 0 };
 }
 
 pub struct Roles;
 
-impl Split<Log> for Roles {
+impl Split<ChannelLog> for Roles {
     ghost use Rattle.std.specs.Prelude.{true, false};
-    ghost use Rattle.policy_actors.specs.Rule.{log};
+    ghost use Rattle.policy_actors.specs.Rule.{channel_log};
 
-    ghost left = { λ v. log true false v.given 0 };
+    ghost left = { λ v. channel_log true false v.given 0 };
 
-    ghost right = { λ v. log false true 0 v.taken };
+    ghost right = { λ v. channel_log false true 0 v.taken };
 }
 
 pub struct Gave;
 
-impl<'a> Outcome<Batch<'a>, Log> for Gave {
+impl<'a> Outcome<Batch<'a>, ChannelLog> for Gave {
     ghost use Rattle.std.specs.Prelude.{◌≡◌, ◌+◌};
-    ghost use Rattle.policy_actors.specs.Rule.{log};
+    ghost use Rattle.policy_actors.specs.Rule.{channel_log};
 
-    ghost then = { λ v x w. w ≡ log v.gives v.takes (v.given + 1) v.taken };
+    ghost then = { λ v x w. w ≡ channel_log v.gives v.takes (v.given + 1) v.taken };
 }
 
-impl<'a> Lesson<Batch<'a>, Log> for Gave {
+impl<'a> Lesson<Batch<'a>, ChannelLog> for Gave {
     ghost fact = { λ v items. ⊤ };
 }
 
@@ -79,19 +79,19 @@ pub struct Took<S> {
     marker: PhantomData<S>,
 }
 
-impl<'a, S: Source> Outcome<Batch<'a>, Log> for Took<S> {
+impl<'a, S: FeedSource> Outcome<Batch<'a>, ChannelLog> for Took<S> {
     ghost use Rattle.std.specs.Prelude.{◌≡◌, ◌+◌};
-    ghost use Rattle.policy_actors.specs.Rule.{log, IsBatch};
+    ghost use Rattle.policy_actors.specs.Rule.{channel_log, IsBatch};
 
-    ghost then = { λ v x w. (w ≡ log v.gives v.takes v.given (v.taken + 1)) × IsBatch S.known S.size v.taken x };
+    ghost then = { λ v x w. (w ≡ channel_log v.gives v.takes v.given (v.taken + 1)) × IsBatch S.known S.size v.taken x };
 }
 
-impl<'a, S: Source> Lesson<Batch<'a>, Log> for Took<S> {
+impl<'a, S: FeedSource> Lesson<Batch<'a>, ChannelLog> for Took<S> {
     ghost fact = { λ v items. ⊤ };
 }
 
-pub type Sender<'a, S> = RuledSender<Batch<'a>, Log, BatchesInOrder<S>>;
+pub type Sender<'a, S> = RuledSender<Batch<'a>, ChannelLog, BatchesInOrder<S>>;
 
-pub type Receiver<'a, S> = RuledReceiver<Batch<'a>, Log, BatchesInOrder<S>>;
+pub type Receiver<'a, S> = RuledReceiver<Batch<'a>, ChannelLog, BatchesInOrder<S>>;
 
-pub type Token<'a> = Pass<Batch<'a>, Log>;
+pub type Token<'a> = Pass<Batch<'a>, ChannelLog>;

@@ -15,7 +15,7 @@ use crate::backlog::Backlog;
 use crate::feeder::{Feeder, TraceFeeder};
 use crate::mail::{Outbox, channel};
 use crate::next_uses::{SharedUses, WholeTrace};
-use crate::rule::Source;
+use crate::rule::FeedSource;
 use job_checks::{ActorFault, check_jobs};
 use report::Report;
 use std::alloc::{AllocError, Global};
@@ -30,12 +30,12 @@ pub const MAX_ACTORS: usize = 64;
 
 /// What an actor's thread promises: with a report, it is that of the whole trace.
 #[derive(Drop)]
-pub struct Promised<S: Source> {
+pub struct Promised<S: FeedSource> {
     pub job: Job,
     marker: PhantomData<S>,
 }
 
-impl<S: Source> Promise<Option<Report>> for Promised<S> {
+impl<S: FeedSource> Promise<Option<Report>> for Promised<S> {
     ghost use Rattle.std.specs.Prelude.{◌≡◌, ℕ, List, Some, IfSome};
     ghost use Rattle.policy_actors.specs.Reports.{report_on};
 
@@ -84,7 +84,7 @@ pub fn check_run(batch: u32, jobs: &[Job]) -> Result<(), ActorFault>
 }
 
 // Runs jobs that were checked before, so that out of memory is the one error.
-fn run_over<S: Source + Send + Sync + 'static, R: Threads + Wait + Sync, G: Gate>(
+fn run_over<S: FeedSource + Send + Sync + 'static, R: Threads + Wait + Sync, G: Gate>(
     rt: &R,
     alloc: Global,
     trace: &Trace,
@@ -111,7 +111,7 @@ fn run_over<S: Source + Send + Sync + 'static, R: Threads + Wait + Sync, G: Gate
 }
 
 /// What the actors of a run have in common.
-pub struct Common<'a, S: Source> {
+pub struct Common<'a, S: FeedSource> {
     pub whole: Option<WholeTrace<'a, S>>,
     pub backlog: &'a Backlog,
     // How many batches may come, and how many accesses to each.
@@ -121,7 +121,7 @@ pub struct Common<'a, S: Source> {
     ghost batch: { (size ≡ S.size) × (0 < size) },
 }
 
-impl<'a, S: Source> Common<'a, S> {
+impl<'a, S: FeedSource> Common<'a, S> {
     pub fn new(
         whole: Option<WholeTrace<'a, S>>,
         backlog: &'a Backlog,
@@ -141,9 +141,9 @@ impl<'a, S: Source> Common<'a, S> {
     }
 }
 
-impl<'a, S: Source> Copy for Common<'a, S> {}
+impl<'a, S: FeedSource> Copy for Common<'a, S> {}
 
-impl<'a, S: Source> Clone for Common<'a, S> {
+impl<'a, S: FeedSource> Clone for Common<'a, S> {
     fn clone(&self) -> Result<Self, AllocError> {
         Ok(*self)
     }
@@ -152,7 +152,7 @@ impl<'a, S: Source> Clone for Common<'a, S> {
 /// Starts the actors, has them fed, and joins them: what there is to say of the feeding, and the reports.
 pub fn run_fed<
     'a,
-    S: Source + Send + Sync + 'static,
+    S: FeedSource + Send + Sync + 'static,
     R: Threads + Wait + Sync,
     G: Gate,
     F: Feeder<Vec<Outbox<'a, S>>, Outcome = O>,
@@ -221,7 +221,7 @@ pub fn run_fed<
     )
 }
 
-fn add<S: Source>(handles: &mut Vec<Handle<S>>, handle: Handle<S>) -> Result<(), AllocError>
+fn add<S: FeedSource>(handles: &mut Vec<Handle<S>>, handle: Handle<S>) -> Result<(), AllocError>
     ensures { OnOk result (jobs_of handles.new.items ≡ jobs_of handles.old.items ++ handle.promise.job ∷ []) }
 {
     handles.push(handle)?;
@@ -229,7 +229,7 @@ fn add<S: Source>(handles: &mut Vec<Handle<S>>, handle: Handle<S>) -> Result<(),
 }
 
 // The reports of all actors, in order, where each has one.
-fn join_all<S: Source, R: Threads>(
+fn join_all<S: FeedSource, R: Threads>(
     rt: &R,
     alloc: Global,
     handles: Vec<Handle<S>>,

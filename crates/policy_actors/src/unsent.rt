@@ -5,12 +5,12 @@ ghost use Rattle.step_record.specs.declared.limits.TheConstants.{MAX_ACCESSES};
 ghost use Rattle.policy_actors.specs.Rule.{AreAt, IsBatch};
 
 use crate::keys::Keys;
-use crate::rule::{Batch, Source};
+use crate::rule::{Batch, FeedSource};
 use std::marker::PhantomData;
 
 /// Keys that an actor was not sent yet, at their place in all that is fed.
 #[derive(Drop)]
-pub struct Unsent<'a, S: Source> {
+pub struct Unsent<'a, S: FeedSource> {
     keys: Keys<'a>,
     pub place: usize,
     pub size: usize,
@@ -26,7 +26,7 @@ pub struct Unsent<'a, S: Source> {
         (λ all. is_end ≡ false → 0 < length keys → place + length keys < length all) } by { Prim.hlevel props },
 }
 
-impl<'a, S: Source> Unsent<'a, S> {
+impl<'a, S: FeedSource> Unsent<'a, S> {
     /// Nothing yet, where a batch is `size` keys.
     pub fn new(size: usize) -> Unsent<'a, S>
         requires { (size ≡ S.size) × (0 < size) }

@@ -114,7 +114,7 @@ impl<'a, R: Clock + Eprint> ProgressLine<'a, R> {
         {
             return;
         }
-        let _ = self.rt.eprint(Line {
+        let _ = self.rt.eprint(ProgressText {
             work,
             done,
             seconds,
@@ -156,7 +156,7 @@ impl<'a, R: Clock + Eprint + Sync> Watch for ProgressLine<'a, R> {
 
 /// The text of the line. It is written over the line that stands there, and the rest of that is erased.
 #[derive(Clone, Copy)]
-pub struct Line {
+pub struct ProgressText {
     pub work: Work,
     /// How many of its batches are over.
     pub done: u64,
@@ -164,7 +164,7 @@ pub struct Line {
     pub seconds: u64,
 }
 
-impl fmt::Display for Line {
+impl fmt::Display for ProgressText {
     fn fmt<W: fmt::Write>(&self, f: &mut fmt::Formatter<W>) -> fmt::Result {
         let name = self.work.name;
         let done = self.done;

@@ -1,5 +1,5 @@
 //! The line of progress: its text, and when it is drawn and cleared.
-use super::progress_line::{Line, ProgressLine, Watch, Work};
+use super::progress_line::{ProgressLine, ProgressText, Watch, Work};
 use std::fmt::{Display, Write};
 use std::rt::Clock;
 use std::sync::atomic::AtomicU64;
@@ -104,7 +104,7 @@ fn the_text_of_a_line(rt: HostRuntime) -> Result<(), Fail> {
         (RUN, 11, 4271, "\rrun: 100 % of accesses, 71:11\x1b[K"),
         (READING, 11, 61, "\rrun: 11 batches, 1:01\x1b[K"),
     ] {
-        let line = Line {
+        let line = ProgressText {
             work,
             done,
             seconds,

@@ -11,16 +11,16 @@ use Rattle.step_record.specs.declared.drain.Phase.TheVariants.{Reads, Writes, Ev
 use Rattle.step_record.specs.History.{Entries, tail_after}
 use Rattle.step_record.proofs.Undone.{tail_joined}
 use Rattle.shell_model.specs.declared.holder.Holder.{Holder}
-use Rattle.shell_model.specs.Reached.{worker_of}
+use Rattle.shell_model.specs.ReachableShell.{worker_of}
 use Rattle.shell_model.specs.Shell.{Shell}
-use Rattle.maintenance.specs.Opened.{holder_parts}
+use Rattle.maintenance.specs.EmptyShell.{holder_parts}
 use Rattle.walks.specs.Holders.{IsReady, IsReadyFor}
 use Rattle.walks.specs.declared.next.Next.{Next}
 use Rattle.walks.specs.declared.next.Next.TheVariants as next_act
 use Rattle.walks.specs.declared.local.Local.{Local}
-use Rattle.walks.specs.declared.place.Place.{Place}
-use Rattle.walks.specs.Places.{IsAheadOf, phase_place}
-use Rattle.quiet_run.specs.Outcomes.{outcome_after, outcome_from}
+use Rattle.walks.specs.declared.place.WalkPlace.{WalkPlace}
+use Rattle.walks.specs.WalkPlaces.{IsAheadOf, phase_place}
+use Rattle.quiet_run.specs.Outcomes.{outcome_with_reply, outcome_from}
 use Rattle.quiet_run.specs.Settle.{ShellSession, AddsSteps, IsRestOfRound, IsRest}
 
 pub adds_none : (P : Entries → Type 0) (old new : ShellSession) → new.kept ≡ old.kept → new.tail ≡ old.tail → P [] → AddsSteps P old new
@@ -44,9 +44,9 @@ adds_more P Q old now new e m k t f = record {
 pub adds_same : (P Q : Entries → Type 0) (old now new : ShellSession) → AddsSteps P old now → new.kept ≡ now.kept → new.tail ≡ now.tail → ((es : Entries) → P es → Q es) → AddsSteps Q old new
 adds_same P Q old now new m k t f = record { made = m.made; entered = k ∙ m.entered; tail = t ∙ m.tail; holds = f m.made m.holds }
 
-pub told_last : (o : Outcome) (es : Entries) (e : Entry Step Reply) → outcome_from o (es ++ e ∷ []) ≡ outcome_after (outcome_from o es) e.reply
+pub told_last : (o : Outcome) (es : Entries) (e : Entry Step Reply) → outcome_from o (es ++ e ∷ []) ≡ outcome_with_reply (outcome_from o es) e.reply
 told_last o [] e = refl
-told_last o (f ∷ es) e = told_last (outcome_after o f.reply) es e
+told_last o (f ∷ es) e = told_last (outcome_with_reply o f.reply) es e
 
 -- how many they are
 pub adds_counted : (P Q : Entries → Type 0) (n : ℕ) (old new : ShellSession) → AddsSteps P old new → n ≡ length new.kept - length old.kept → ((es : Entries) → P es → Q es) → AddsSteps (λ es. Q es × (n ≡ length es)) old new
@@ -83,7 +83,7 @@ pub held_rest : (l : Local) (n : ℕ) (o : Option Holder) (w : ℕ) (p : Phase) 
     → (es : Entries) → IsAheadOf l.worker l.stripes l.place es → IsRest n o es
 held_rest l n o w p left e a b c es h =
     held-rest n o w p left es e
-    (subst (λ (q : Place). IsAheadOf w n q es) c (subst (λ (m : ℕ). IsAheadOf w m l.place es) b (subst (λ (v : ℕ). IsAheadOf v l.stripes l.place es) a h)))
+    (subst (λ (q : WalkPlace). IsAheadOf w n q es) c (subst (λ (m : ℕ). IsAheadOf w m l.place es) b (subst (λ (v : ℕ). IsAheadOf v l.stripes l.place es) a h)))
 
 pub adds_joined : (P Q R : Entries → Type 0) (old now new : ShellSession) → AddsSteps P old now → AddsSteps Q now new → ((a b : Entries) → P a → Q b → R (a ++ b)) → AddsSteps R old new
 adds_joined P Q R old now new m n f = record {
@@ -102,4 +102,4 @@ adds_one old new e k t = record { made = e ∷ []; entered = k; tail = t; holds 
 
 pub told_joined : (o : Outcome) (a b : Entries) → outcome_from o (a ++ b) ≡ outcome_from (outcome_from o a) b
 told_joined o [] b = refl
-told_joined o (e ∷ a) b = told_joined (outcome_after o e.reply) a b
+told_joined o (e ∷ a) b = told_joined (outcome_with_reply o e.reply) a b

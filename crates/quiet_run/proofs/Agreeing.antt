@@ -6,7 +6,7 @@ use Rattle.replacement.specs.Plan.{candidate_of}
 use Rattle.replacement.specs.Table.{eviction}
 use Rattle.shell_model.specs.Frequency.{admits}
 use Rattle.shell_model.specs.Shell.{Shell, evict_effect}
-use Rattle.shell_model.specs.Evicting.{evicted_by}
+use Rattle.shell_model.specs.ShellEviction.{evicted_by}
 use Rattle.shell_model.proofs.Evicting.{evictions-agree}
 
 pub evictions-law : (x : Shell) → evict_effect x ≡ evicted_by

@@ -18,21 +18,21 @@ use Rattle.step_record.specs.Answers.{is_answer}
 use Rattle.step_record.specs.History.{Entries}
 use Rattle.segments.specs.Items.{occurrences}
 use Rattle.shell_model.specs.declared.holder.Holder.{Holder}
-use Rattle.shell_model.specs.Reached.{IsReachable}
+use Rattle.shell_model.specs.ReachableShell.{IsReachable}
 use Rattle.shell_model.specs.Shell.{Shell, node_of, look_reply, begin_effect, act_effect, act as acted}
-use Rattle.shell_model.specs.Consistent.{IsConsistent}
+use Rattle.shell_model.specs.Consistency.{IsConsistent}
 use Rattle.shell_model.proofs.Counting.{node-listed, listed-times}
 use Rattle.shell_model.proofs.Engines.{answers_law}
 use Rattle.shell_model.proofs.Reached.{reached-sound}
 use Rattle.shell_model.proofs.Making as k
 use Rattle.shell_model.proofs.Making.{Makes}
 use Rattle.walks.specs.declared.local.Local.{Local}
-use Rattle.walks.specs.declared.place.Place.{Place}
-use Rattle.walks.specs.declared.place.Place.TheVariants as at
-use Rattle.walks.specs.Places.{IsAheadOf, act_of_place}
+use Rattle.walks.specs.declared.place.WalkPlace.{WalkPlace}
+use Rattle.walks.specs.declared.place.WalkPlace.TheVariants as at
+use Rattle.walks.specs.WalkPlaces.{IsAheadOf, act_of_place}
 use Rattle.walks.specs.Walks.{step_of, IsReading, IsRound}
-use Rattle.quiet_run.specs.Outcomes.{outcome_after, outcome_from}
-use Rattle.walks.specs.Made.{IsUnfinished}
+use Rattle.quiet_run.specs.Outcomes.{outcome_with_reply, outcome_from}
+use Rattle.walks.specs.WorkerEntries.{IsUnfinished}
 use Rattle.quiet_run.specs.Settle.{ShellSession, AddsSteps}
 use Rattle.walks.specs.Holders.{IsReady}
 use Rattle.quiet_run.specs.QuietWalks.{IsCallers, FollowsQuietReport, IsQuietReport, FollowsQuietOffer, IsQuietOffer, FollowsQuietPut, IsQuietPut, FollowsQuietLook, IsQuietWalk}
@@ -118,7 +118,7 @@ the_round = said act.Begin reply.Busy ∷ []
 is-round : (n : ℕ) → IsRound 0 n the_round
 is-round n = (refl, refl)
 
-hit-stays : (r : Reply) → outcome_after outcome.Hit r ≡ outcome.Hit
+hit-stays : (r : Reply) → outcome_with_reply outcome.Hit r ≡ outcome.Hit
 hit-stays (reply.Hit n) = refl
 hit-stays (reply.Evicted i) = refl
 hit-stays (reply.Rejected i) = refl
@@ -126,25 +126,25 @@ hit-stays r = refl
 
 -- the replies that leave the outcome as it is
 
-silent-offer : (i : Item) (r : Reply) → is_answer (act.Offer 0 i) r ≡ true → (o : Outcome) → outcome_after o r ≡ o
+silent-offer : (i : Item) (r : Reply) → is_answer (act.Offer 0 i) r ≡ true → (o : Outcome) → outcome_with_reply o r ≡ o
 silent-offer i (reply.Hit n) h o = absurd (cc (h))
 silent-offer i (reply.Evicted j) h o = absurd (cc (h))
 silent-offer i (reply.Rejected j) h o = absurd (cc (h))
 silent-offer i r h o = refl
 
-silent-read : (q : Answer) (r : Reply) → is_answer (act.AfterRead q) r ≡ true → (o : Outcome) → outcome_after o r ≡ o
+silent-read : (q : Answer) (r : Reply) → is_answer (act.AfterRead q) r ≡ true → (o : Outcome) → outcome_with_reply o r ≡ o
 silent-read q (reply.Hit n) h o = absurd (cc (h))
 silent-read q (reply.Evicted j) h o = absurd (cc (h))
 silent-read q (reply.Rejected j) h o = absurd (cc (h))
 silent-read q r h o = refl
 
-silent-put : (key : ℕ) (r : Reply) → is_answer (act.Put key) r ≡ true → (o : Outcome) → outcome_after o r ≡ o
+silent-put : (key : ℕ) (r : Reply) → is_answer (act.Put key) r ≡ true → (o : Outcome) → outcome_with_reply o r ≡ o
 silent-put key (reply.Hit n) h o = absurd (cc (h))
 silent-put key (reply.Evicted j) h o = absurd (cc (h))
 silent-put key (reply.Rejected j) h o = absurd (cc (h))
 silent-put key r h o = refl
 
-silent-write : (r : Reply) → is_answer act.AfterWrite r ≡ true → (o : Outcome) → outcome_after o r ≡ o
+silent-write : (r : Reply) → is_answer act.AfterWrite r ≡ true → (o : Outcome) → outcome_with_reply o r ≡ o
 silent-write (reply.Hit n) h o = absurd (cc (h))
 silent-write (reply.Evicted j) h o = absurd (cc (h))
 silent-write (reply.Rejected j) h o = absurd (cc (h))
@@ -189,7 +189,7 @@ pub offer_made : (n w : ℕ) (i : Item) (q : Answer) (r s : Reply) → w ≡ 0 �
     → is_answer (act.Offer 0 i) r ≡ true → is_answer (act.AfterRead q) s ≡ true → Offers n i (record { step = step_of w (act.Offer 0 i); reply = r } ∷ record { step = step_of w (act.AfterRead q); reply = s } ∷ [])
 offer_made n w i q r s z f a b = (
   (λ rest g. (as-zero w (act.Offer 0 i) z, f n (record { step = step_of w (act.AfterRead q); reply = s } ∷ rest) (as-zero w (act.AfterRead q) z, after-read n q s rest b g))),
-  (λ o. silent-read q s b (outcome_after o r) ∙ silent-offer i r a o),
+  (λ o. silent-read q s b (outcome_with_reply o r) ∙ silent-offer i r a o),
 )
 
 pub offer_cut : (n : ℕ) (i : Item) (old new : ShellSession) → AddsSteps (λ es. es ≡ []) old new → AddsSteps (IsUnfinished (IsQuietOffer n i)) old new
@@ -209,7 +209,7 @@ pub put_made : (n w key : ℕ) (r s : Reply) → w ≡ 0 → ((m : ℕ) (es : En
     → is_answer (act.Put key) r ≡ true → is_answer act.AfterWrite s ≡ true → Puts n key (record { step = step_of w (act.Put key); reply = r } ∷ record { step = step_of w act.AfterWrite; reply = s } ∷ [])
 put_made n w key r s z f a b = (
   (λ rest g. (as-zero w (act.Put key) z, f n (record { step = step_of w act.AfterWrite; reply = s } ∷ rest) (as-zero w act.AfterWrite z, after-write n s rest b g))),
-  (λ o. silent-write s b (outcome_after o r) ∙ silent-put key r a o),
+  (λ o. silent-write s b (outcome_with_reply o r) ∙ silent-put key r a o),
 )
 
 pub put_full : (n w key : ℕ) (r : Reply) (old new : ShellSession) → w ≡ 0 → ((m : ℕ) (es : Entries) → IsRound 0 m es → FollowsQuietPut m r es) → is_answer (act.Put key) r ≡ true
@@ -320,7 +320,7 @@ map_err (Err e) P Q f h = f h
 pub reads_ahead : (l : Local) (w n : ℕ) → l.worker ≡ w → l.stripes ≡ n → l.place ≡ at.DrainRead 0 0 → w ≡ 0 → (es : Entries) → IsAheadOf l.worker l.stripes l.place es → IsReading 0 n 0 0 es
 reads_ahead l w n a b c z es h =
     subst (λ (v : ℕ). IsReading v n 0 0 es) z
-    (subst (λ (m : ℕ). IsReading w m 0 0 es) b (subst (λ (v : ℕ). IsReading v l.stripes 0 0 es) a (subst (λ (p : Place). IsAheadOf l.worker l.stripes p es) c h)))
+    (subst (λ (m : ℕ). IsReading w m 0 0 es) b (subst (λ (v : ℕ). IsReading v l.stripes 0 0 es) a (subst (λ (p : WalkPlace). IsAheadOf l.worker l.stripes p es) c h)))
 
 pub ready_reads : (l : Local) (w : ℕ) (y : Shell) → l.worker ≡ w → l.place ≡ at.DrainRead 0 0 → IsReady w (act.DrainRead 0) y → IsReady l.worker (act_of_place l.worker l.stripes l.place) y
-ready_reads l w y a c h = subst (λ (p : Place). IsReady l.worker (act_of_place l.worker l.stripes p) y) (sym c) (subst (λ (v : ℕ). IsReady v (act.DrainRead 0) y) (sym a) h)
+ready_reads l w y a c h = subst (λ (p : WalkPlace). IsReady l.worker (act_of_place l.worker l.stripes p) y) (sym c) (subst (λ (v : ℕ). IsReady v (act.DrainRead 0) y) (sym a) h)

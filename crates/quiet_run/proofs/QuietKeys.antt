@@ -22,7 +22,7 @@ use Rattle.replacement.specs.Table.{after_hit}
 use Rattle.shell_model.specs.Shell.{Shell, window_size, shell_protected_size, node_of, table_with}
 use Rattle.walks.specs.Walks.{IsRound, FollowsBegin, IsWriting, FollowsDrainWrite}
 use Rattle.quiet_run.specs.QuietWalks.{FollowsQuietReport, FollowsQuietOffer, FollowsQuietPut, FollowsQuietLook, IsQuietWalk}
-use Rattle.shell_model.specs.Evicting.{unlisted_by}
+use Rattle.shell_model.specs.ShellEviction.{unlisted_by}
 use Rattle.quiet_run.proofs.QuietSteps.{Leads, opens, state, held, Leaves}
 use Rattle.quiet_run.proofs.QuietRounds.{fits, evicted, evicts, writing-opens, write-empty, Drains, reading-opens, reads}
 

@@ -29,8 +29,8 @@ use Rattle.shell_model.specs.ShellStats.{shell_stats_after}
 use Rattle.shell_model.specs.Shell.{Shell, window_size, may_write}
 use Rattle.shell_model.proofs.Undoing.{first-queued}
 use Rattle.walks.specs.Walks.{Opens, IsEnding, FollowsEnd, IsEvicting, FollowsEvict, IsWriting, FollowsDrainWrite, IsReading, FollowsDrainRead}
-use Rattle.quiet_run.specs.Outcomes.{outcome_after}
-use Rattle.shell_model.specs.Evicting.{reply_by, unlisted_by}
+use Rattle.quiet_run.specs.Outcomes.{outcome_with_reply}
+use Rattle.shell_model.specs.ShellEviction.{reply_by, unlisted_by}
 use Rattle.quiet_run.proofs.Agreeing.{evictions-law}
 use Rattle.quiet_run.proofs.QuietSteps.{Leads, opens, over, state, held, Leaves}
 
@@ -66,7 +66,7 @@ fits c t n q l f p left s m o Q v k =
 -- one eviction that takes the candidate out of the window
 record IsTried (n : ℕ) (c : Item) (q : Queues) (r : Response) : Type 1 where
   more : (More : Type 0) (es : Entries) → FollowsEvict 0 n More (reply_by r.outcome r.left c) es → More
-  outcome_is : outcome_after outcome.Kept (reply_by r.outcome r.left c) ≡ r.outcome
+  outcome_is : outcome_with_reply outcome.Kept (reply_by r.outcome r.left c) ≡ r.outcome
   shorter : length r.queues.window + 1 ≤ length q.window
 
 contest-tried : (n : ℕ) (admits : ℕ → ℕ → Bool) (c : Item) (o : Option Item) (q : Queues) → 1 ≤ occurrences c q.window → IsTried n c q (contest admits c o (queues_after_move c Probation q))

@@ -15,15 +15,15 @@ use Rattle.policies.specs.QueueCache.{QueueState, access_response, queue_state_a
 use Rattle.policies.specs.QueueStep.{recorded_in}
 use Rattle.policies.proofs.Reached.{has-room, after-frequency, after-job}
 use Rattle.shell_model.specs.Shell.{Shell, act}
-use Rattle.shell_model.specs.Consistent.{IsConsistent}
-use Rattle.shell_model.specs.Reached.{IsReachable}
+use Rattle.shell_model.specs.Consistency.{IsConsistent}
+use Rattle.shell_model.specs.ReachableShell.{IsReachable}
 use Rattle.shell_model.specs.Laws.{MadeStep, IsShapeOf, empty_shell}
 use Rattle.shell_model.proofs.Reached.{reached-sound}
 use Rattle.shell_model.proofs.Striped.{stripes_checked}
-use Rattle.maintenance.specs.Opened.{IsOpened}
+use Rattle.maintenance.specs.EmptyShell.{IsOpened}
 use Rattle.journal.specs.Session.{IsSoundSession}
 use Rattle.quiet_run.specs.QuietWalks.{IsQuietWalk, AreQuietWalks}
-use Rattle.quiet_run.specs.Quiet.{IsQuiet, window_tiny_lfu}
+use Rattle.quiet_run.specs.Quiet.{IsQuiet, quiet_job}
 use Rattle.quiet_run.specs.Settle.{ShellSession, AddsSteps}
 use Rattle.quiet_run.specs.QuietRuns.{IsPolicysRun, QuietGoesOn}
 use Rattle.quiet_run.proofs.QuietServing.{key-served}
@@ -37,16 +37,16 @@ legal-split x [] fs l = (tt, l)
 legal-split x (e ∷ es) fs l = let p = legal-split (next_data (act x e.step) x) es fs l.1 in ((l.0, p.0), p.1)
 
 -- the frequency with the key is that of the keys with it
-frequency-next : (c : Config) → config_fault c ≡ Ok tt → (past : List ℕ) (d : QueueState) (k : ℕ) → d.frequency ≡ frequency_after (window_tiny_lfu c) past
-    → recorded_in k d.frequency ≡ frequency_after (window_tiny_lfu c) (past ++ k ∷ [])
+frequency-next : (c : Config) → config_fault c ≡ Ok tt → (past : List ℕ) (d : QueueState) (k : ℕ) → d.frequency ≡ frequency_after (quiet_job c) past
+    → recorded_in k d.frequency ≡ frequency_after (quiet_job c) (past ++ k ∷ [])
 frequency-next c h past d k e =
     let is : IsShape (shape_of c) = shape-is c (has-room c h) in
     ap (recorded_in k) e ∙ ap (λ (f : FrequencyData). Some f) (recorded_freq (shape_of c) is.some (omega (arith, is.width.1)) (omega (arith, is.size.1)) past k)
 
 pub runs : (c : Config) → config_fault c ≡ Ok tt → (ks past : List ℕ) (x : Shell) (d : QueueState) (os : List Outcome) (es : Entries)
-    → x.config ≡ c → IsConsistent x → IsQuiet x d → d.frequency ≡ frequency_after (window_tiny_lfu c) past
+    → x.config ≡ c → IsConsistent x → IsQuiet x d → d.frequency ≡ frequency_after (quiet_job c) past
     → AreQuietWalks c.stripes ks os es → IsLegal act x es
-    → (os ≡ outcomes_from (window_tiny_lfu c) past d ks) × IsQuiet (data_after act x es) (state_from (window_tiny_lfu c) past d ks)
+    → (os ≡ outcomes_from (quiet_job c) past d ks) × IsQuiet (data_after act x es) (state_from (quiet_job c) past d ks)
 runs c h [] past x d [] es b v q f w l = (refl, subst (λ (y : Entries). IsQuiet (data_after act x y) d) (sym w) q)
 runs c h [] past x d (o ∷ os) es b v q f w l = absurd w
 runs c h (k ∷ ks) past x d [] es b v q f w l = absurd w
@@ -54,19 +54,19 @@ runs c h (k ∷ ks) past x d (o ∷ os) es b v q f (walk, rest, cut, walks, outc
     let p = legal-split x walk rest (subst (λ (y : Entries). IsLegal act x y) cut l) in
     let n : 1 ≤ x.config.stripes = subst (λ (y : Config). 1 ≤ y.stripes) (sym b) (stripes_checked c h).0 in
     let m = key-served x d k walk v q n (subst (λ (y : Config). IsQuietWalk y.stripes k walk) (sym b) walks) p.0 in
-    let g : recorded_in k d.frequency ≡ frequency_after (window_tiny_lfu c) (past ++ k ∷ []) = frequency-next c h past d k f in
-    let d2 : QueueState = queue_state_after (frequency_after (window_tiny_lfu c) (past ++ k ∷ [])) k d in
-    let first : o ≡ (access_response (frequency_after (window_tiny_lfu c) (past ++ k ∷ [])) k d).outcome = outcome_is ∙ m.0 ∙ ap (λ (y : Option FrequencyData). (access_response y k d).outcome) g in
+    let g : recorded_in k d.frequency ≡ frequency_after (quiet_job c) (past ++ k ∷ []) = frequency-next c h past d k f in
+    let d2 : QueueState = queue_state_after (frequency_after (quiet_job c) (past ++ k ∷ [])) k d in
+    let first : o ≡ (access_response (frequency_after (quiet_job c) (past ++ k ∷ [])) k d).outcome = outcome_is ∙ m.0 ∙ ap (λ (y : Option FrequencyData). (access_response y k d).outcome) g in
     let quiet : IsQuiet (data_after act x walk) d2 = subst (λ (y : Option FrequencyData). IsQuiet (data_after act x walk) (queue_state_after y k d)) g m.1.quiet in
     let r = runs c h ks (past ++ k ∷ []) (data_after act x walk) d2 os rest (m.1.config ∙ b) m.1.consistent quiet refl more p.1 in
-    let all = outcomes_from (window_tiny_lfu c) (past ++ k ∷ []) d2 ks in (
-      ap (λ (y : Outcome). y ∷ os) first ∙ ap (λ (y : List Outcome). (access_response (frequency_after (window_tiny_lfu c) (past ++ k ∷ [])) k d).outcome ∷ y) r.0,
-      subst (λ (y : Shell). IsQuiet y (state_from (window_tiny_lfu c) (past ++ k ∷ []) d2 ks)) (sym (after-append x walk rest) ∙ ap (data_after act x) (sym cut)) r.1,
+    let all = outcomes_from (quiet_job c) (past ++ k ∷ []) d2 ks in (
+      ap (λ (y : Outcome). y ∷ os) first ∙ ap (λ (y : List Outcome). (access_response (frequency_after (quiet_job c) (past ++ k ∷ [])) k d).outcome ∷ y) r.0,
+      subst (λ (y : Shell). IsQuiet y (state_from (quiet_job c) (past ++ k ∷ []) d2 ks)) (sym (after-append x walk rest) ∙ ap (data_after act x) (sym cut)) r.1,
     )
 
 -- from a new shell
 
-opened-quiet : (c : Config) (s : Shape) → frequency_of s [] ≡ frequency_of (shape_of c) [] → IsQuiet (empty_shell c s) (opened_policy (window_tiny_lfu c))
+opened-quiet : (c : Config) (s : Shape) → frequency_of s [] ≡ frequency_of (shape_of c) [] → IsQuiet (empty_shell c s) (opened_policy (quiet_job c))
 opened-quiet c s e = record {
   job = refl;
   queues = refl;
@@ -88,9 +88,9 @@ pub new-run : (x : Shell) (c : Config) (ks : List ℕ) (os : List Outcome) (es :
 unfolding outcomes_after state_after
 new-run x c ks os es r n w l =
     let same : x.config ≡ c = ap (λ (y : Shell). y.config) n.is in
-    let quiet : IsQuiet x (opened_policy (window_tiny_lfu c)) =
-    subst (λ (y : Shell). IsQuiet y (opened_policy (window_tiny_lfu c))) (sym n.is) (opened-quiet c n.shape (own-frequency c n.shape n.shape_is)) in
-    runs c (subst (λ (y : Config). config_fault y ≡ Ok tt) same r.checked) ks [] x (opened_policy (window_tiny_lfu c)) os es same (reached-sound x r) quiet refl
+    let quiet : IsQuiet x (opened_policy (quiet_job c)) =
+    subst (λ (y : Shell). IsQuiet y (opened_policy (quiet_job c))) (sym n.is) (opened-quiet c n.shape (own-frequency c n.shape n.shape_is)) in
+    runs c (subst (λ (y : Config). config_fault y ≡ Ok tt) same r.checked) ks [] x (opened_policy (quiet_job c)) os es same (reached-sound x r) quiet refl
     (subst (λ (y : Config). AreQuietWalks y.stripes ks os es) same w) l
 
 -- ---- from a cache that made some accesses
@@ -114,22 +114,22 @@ states-append j past d (k ∷ ks) more =
     ∙ ap (λ (y : List ℕ). state_from j y (state_from j (past ++ k ∷ []) e ks) more) (append_assoc past (k ∷ []) ks)
 
 goes-by : (c : Config) (past ks : List ℕ) (os : List Outcome) (z : Shell)
-    → (os ≡ outcomes_from (window_tiny_lfu c) past (state_after (window_tiny_lfu c) past) ks) × IsQuiet z (state_from (window_tiny_lfu c) past (state_after (window_tiny_lfu c) past) ks)
+    → (os ≡ outcomes_from (quiet_job c) past (state_after (quiet_job c) past) ks) × IsQuiet z (state_from (quiet_job c) past (state_after (quiet_job c) past) ks)
     → QuietGoesOn c past ks os z
 unfolding outcomes_after state_after
 goes-by c past ks os z m =
-    let j : Job = window_tiny_lfu c in (
+    let j : Job = quiet_job c in (
       outcomes-append j [] (opened_policy j) past ks ∙ ap (λ (y : List Outcome). outcomes_from j [] (opened_policy j) past ++ y) (sym m.0),
       subst (IsQuiet z) (sym (states-append j [] (opened_policy j) past ks)) m.1,
     )
 
-pub later-run : (x : Shell) (c : Config) (past ks : List ℕ) (os : List Outcome) (es : Entries) → IsReachable x → IsQuiet x (state_after (window_tiny_lfu c) past)
+pub later-run : (x : Shell) (c : Config) (past ks : List ℕ) (os : List Outcome) (es : Entries) → IsReachable x → IsQuiet x (state_after (quiet_job c) past)
     → AreQuietWalks x.config.stripes ks os es → IsLegal act x es → QuietGoesOn c past ks os (data_after act x es)
 later-run x c past ks os es r q w l =
-    let j : Job = window_tiny_lfu c in
-    let same : x.config ≡ c = ap (λ (y : Job). y.config) (sym q.job ∙ after-job (window_tiny_lfu c) past) in
+    let j : Job = quiet_job c in
+    let same : x.config ≡ c = ap (λ (y : Job). y.config) (sym q.job ∙ after-job (quiet_job c) past) in
     goes-by c past ks os (data_after act x es)
-    (runs c (subst (λ (y : Config). config_fault y ≡ Ok tt) same r.checked) ks past x (state_after (window_tiny_lfu c) past) os es same (reached-sound x r) q (after-frequency (window_tiny_lfu c) past)
+    (runs c (subst (λ (y : Config). config_fault y ≡ Ok tt) same r.checked) ks past x (state_after (quiet_job c) past) os es same (reached-sound x r) q (after-frequency (quiet_job c) past)
     (subst (λ (y : Config). AreQuietWalks y.stripes ks os es) same w) l)
 
 -- ---- in a session
@@ -169,7 +169,7 @@ new-session ks os old new s t r o m c n k =
     subst (IsPolicysRun c ks os) (sym l.gives) (new-run old.engine c ks os l.made r start l.holds l.legal)
 
 pub later-session : (ks : List ℕ) (os : List Outcome) (old new : ShellSession) → IsSound old → IsSound new → IsReachable old.engine → new.opening ≡ old.opening
-    → AddsSteps (AreQuietWalks old.engine.config.stripes ks os) old new → (c : Config) (past : List ℕ) → IsQuiet old.engine (state_after (window_tiny_lfu c) past) → QuietGoesOn c past ks os new.engine
+    → AddsSteps (AreQuietWalks old.engine.config.stripes ks os) old new → (c : Config) (past : List ℕ) → IsQuiet old.engine (state_after (quiet_job c) past) → QuietGoesOn c past ks os new.engine
 later-session ks os old new s t r o m c past q =
     let l = adds-lead (AreQuietWalks old.engine.config.stripes ks os) old new s t o m in
     subst (QuietGoesOn c past ks os) (sym l.gives) (later-run old.engine c past ks os l.made r q l.holds l.legal)

@@ -23,7 +23,7 @@ use Rattle.shell_model.specs.declared.holder.Holder.{Holder}
 use Rattle.shell_model.specs.declared.stats.ShellStats.{ShellStats}
 use Rattle.shell_model.specs.Frequency.{frequency_recorded}
 use Rattle.shell_model.specs.Shell.{Shell, window_size, shell_protected_size, node_of, act}
-use Rattle.shell_model.specs.Consistent.{IsConsistent, IsPlaced, queue_occurrences}
+use Rattle.shell_model.specs.Consistency.{IsConsistent, IsPlaced, queue_occurrences}
 use Rattle.shell_model.proofs.Counting.{listed-times, node-listed}
 use Rattle.shell_model.proofs.Histories.{after-sound}
 use Rattle.shell_model.proofs.Reached.{reached-sound}
@@ -31,7 +31,7 @@ use Rattle.shell_model.proofs.Striped.{stripes_checked}
 use Rattle.quiet_run.specs.Outcomes.{outcome_from}
 use Rattle.quiet_run.specs.QuietWalks.{IsQuietWalk}
 use Rattle.quiet_run.specs.Nodes.{nodeless_queues, nodeless_response}
-use Rattle.quiet_run.specs.Quiet.{IsQuiet, window_tiny_lfu}
+use Rattle.quiet_run.specs.Quiet.{IsQuiet, quiet_job}
 use Rattle.quiet_run.specs.QuietRuns.{KeysAgree}
 use Rattle.quiet_run.proofs.Residents.{resident, keys-once, distinct-in, lacks, not-queued, place-some, place-none, hit-window}
 use Rattle.quiet_run.proofs.Serving.{hit-response, miss-response, responses, frequencies}
@@ -42,7 +42,7 @@ use Rattle.quiet_run.proofs.QuietKeys.{hits, misses}
 -- what a key leaves, of which the table is known besides
 record IsLeft (c : Config) (z : Shell) (d : QueueState) : Type 0 where
   config : z.config ≡ c
-  job : d.job ≡ window_tiny_lfu c
+  job : d.job ≡ quiet_job c
   queues : d.queues ≡ nodeless_queues z.queues
   frequency : d.frequency ≡ Some z.frequency
   window : length z.queues.window ≤ window_size c
@@ -78,7 +78,7 @@ all-empty (suc n) (suc k) = all-empty n k
 
 key-hit : (j : ℕ) (c : Config) (t : List Item) (n : ℕ) (q : Queues) (f : FrequencyData) (s : ShellStats) (m : ℕ) (d : QueueState) (k nd : ℕ)
     → IsPlaced t n q [] → node_of k t ≡ Some nd → c.stripes ≡ suc j → length q.window ≤ window_size c
-    → d.job ≡ window_tiny_lfu c → d.queues ≡ nodeless_queues q → d.frequency ≡ Some f
+    → d.job ≡ quiet_job c → d.queues ≡ nodeless_queues q → d.frequency ≡ Some f
     → Serves (state c t n q ([] ∷ nones j) [] f drain.Idle None s m) d k
 key-hit j c t n q f s m d k nd p e b v w g r =
     let i : Item = record { key = k; node = nd } in
@@ -110,7 +110,7 @@ key-hit j c t n q f s m d k nd p e b v w g r =
 
 key-miss : (j : ℕ) (c : Config) (t : List Item) (n : ℕ) (q : Queues) (f : FrequencyData) (s : ShellStats) (m : ℕ) (d : QueueState) (k : ℕ)
     → IsPlaced t n q [] → node_of k t ≡ None → c.stripes ≡ suc j → length q.window ≤ window_size c
-    → d.job ≡ window_tiny_lfu c → d.queues ≡ nodeless_queues q → d.frequency ≡ Some f
+    → d.job ≡ quiet_job c → d.queues ≡ nodeless_queues q → d.frequency ≡ Some f
     → Serves (state c t n q ([] ∷ nones j) [] f drain.Idle None s m) d k
 key-miss j c t n q f s m d k p e b v w g r =
     let i : Item = record { key = k; node = n } in
@@ -138,7 +138,7 @@ key-miss j c t n q f s m d k p e b v w g r =
 
 key-at : (j : ℕ) (c : Config) (t : List Item) (n : ℕ) (q : Queues) (f : FrequencyData) (s : ShellStats) (m : ℕ) (d : QueueState) (k : ℕ) (o : Option ℕ)
     → IsPlaced t n q [] → node_of k t ≡ o → c.stripes ≡ suc j → length q.window ≤ window_size c
-    → d.job ≡ window_tiny_lfu c → d.queues ≡ nodeless_queues q → d.frequency ≡ Some f
+    → d.job ≡ quiet_job c → d.queues ≡ nodeless_queues q → d.frequency ≡ Some f
     → Serves (state c t n q ([] ∷ nones j) [] f drain.Idle None s m) d k
 key-at j c t n q f s m d k (Some nd) p e b v w g r = key-hit j c t n q f s m d k nd p e b v w g r
 key-at j c t n q f s m d k None p e b v w g r = key-miss j c t n q f s m d k p e b v w g r
@@ -174,7 +174,7 @@ quiet-left : (c : Config) (z : Shell) (e : QueueState) → IsConsistent z → Is
 quiet-left c z e v l =
     let p : IsPlaced z.table z.next z.queues [] = rw l.writes at v.placed in
     record {
-      job = l.job ∙ ap window_tiny_lfu (sym l.config);
+      job = l.job ∙ ap quiet_job (sym l.config);
       queues = l.queues;
       frequency = l.frequency;
       table = resident z.table z.next z.queues p;

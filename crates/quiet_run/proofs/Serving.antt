@@ -16,7 +16,7 @@ use Rattle.policies.specs.QueueStep.{recorded_in}
 use Rattle.shell_model.specs.Frequency.{frequency_recorded}
 use Rattle.shell_model.specs.Shell.{shell_protected_size}
 use Rattle.quiet_run.specs.Nodes.{nodeless_queues, nodeless_response, IsOnly, HasKeysOnce}
-use Rattle.quiet_run.specs.Quiet.{window_tiny_lfu}
+use Rattle.quiet_run.specs.Quiet.{quiet_job}
 use Rattle.quiet_run.proofs.Accessing.{accesses-law}
 
 abbrev response : Outcome → Option Item → Queues → Response
@@ -37,7 +37,7 @@ miss-response c admits i q e = ap (λ (o : Option Queue). access_in (three_queue
 
 -- the policy's response is that over the items, nodes aside
 pub responses : (c : Config) (i : Item) (q : Queues) (f : FrequencyData) (d : QueueState)
-    → d.job ≡ window_tiny_lfu c → d.queues ≡ nodeless_queues q → d.frequency ≡ Some f
+    → d.job ≡ quiet_job c → d.queues ≡ nodeless_queues q → d.frequency ≡ Some f
     → IsDistinct q → HasKeysOnce q → IsOnly i q
     → access_response (recorded_in i.key d.frequency) i.key d ≡ nodeless_response (access (three_queues c) (admits_in (Some (frequency_recorded f i.key))) i q)
 unfolding frequency_recorded

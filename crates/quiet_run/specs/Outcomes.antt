@@ -11,12 +11,12 @@ unless_hit outcome.Hit p = outcome.Hit
 unless_hit o p = p
 
 -- a Hit stays; else the key that left last counts
-abbrev pub outcome_after : Outcome → Reply → Outcome
-outcome_after o (reply.Hit n) = outcome.Hit
-outcome_after o (reply.Evicted i) = unless_hit o (outcome.Evicted i.key)
-outcome_after o (reply.Rejected i) = unless_hit o (outcome.Rejected i.key)
-outcome_after o r = o
+abbrev pub outcome_with_reply : Outcome → Reply → Outcome
+outcome_with_reply o (reply.Hit n) = outcome.Hit
+outcome_with_reply o (reply.Evicted i) = unless_hit o (outcome.Evicted i.key)
+outcome_with_reply o (reply.Rejected i) = unless_hit o (outcome.Rejected i.key)
+outcome_with_reply o r = o
 
 abbrev pub outcome_from : Outcome → Entries → Outcome
 outcome_from o [] = o
-outcome_from o (e ∷ es) = outcome_from (outcome_after o e.reply) es
+outcome_from o (e ∷ es) = outcome_from (outcome_with_reply o e.reply) es

@@ -8,17 +8,17 @@ use Rattle.step_record.specs.declared.drain.Drain.TheVariants.{Idle}
 use Rattle.segments.specs.Items.{occurrences}
 use Rattle.policies.specs.QueueCache.{QueueState}
 use Rattle.shell_model.specs.Shell.{Shell, window_size}
-use Rattle.shell_model.specs.Consistent.{queue_occurrences}
+use Rattle.shell_model.specs.Consistency.{queue_occurrences}
 use Rattle.quiet_run.specs.Nodes.{nodeless_queues, HasKeysOnce}
 
 -- the policy of the same configuration
-abbrev pub window_tiny_lfu : Config → Job
-window_tiny_lfu c = record { policy = WindowTinyLfu; config = c }
+abbrev pub quiet_job : Config → Job
+quiet_job c = record { policy = WindowTinyLfu; config = c }
 
 -- The shell x holds what the policy's cache d holds, and nothing waits in it: the three queues have the same keys in
 -- the same order, the table lists just what is queued, each key once, and the frequency is the same.
 pub record IsQuiet (x : Shell) (d : QueueState) : Type 0 where
-  pub job : d.job ≡ window_tiny_lfu x.config
+  pub job : d.job ≡ quiet_job x.config
   pub queues : d.queues ≡ nodeless_queues x.queues
   pub frequency : d.frequency ≡ Some x.frequency
   pub table : (i : Item) → occurrences i x.table ≡ queue_occurrences i x.queues

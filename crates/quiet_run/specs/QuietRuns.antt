@@ -7,21 +7,21 @@ use Rattle.step_record.specs.History.{data_after, IsLegal, Entries}
 use Rattle.policies.specs.QueueCache.{QueueState, outcomes_after, state_after}
 use Rattle.policies.specs.QueueStep.{queue_act}
 use Rattle.shell_model.specs.Shell.{Shell, act}
-use Rattle.shell_model.specs.Reached.{IsReachable}
-use Rattle.quiet_run.specs.Quiet.{IsQuiet, window_tiny_lfu}
+use Rattle.shell_model.specs.ReachableShell.{IsReachable}
+use Rattle.quiet_run.specs.Quiet.{IsQuiet, quiet_job}
 use Rattle.quiet_run.specs.Outcomes.{outcome_from}
 use Rattle.quiet_run.specs.QuietWalks.{IsQuietWalk}
 
 -- the outcomes are those of the policy over the keys, and the shell x holds what the policy's cache holds after them
 abbrev pub IsPolicysRun : Config → List ℕ → List Outcome → Shell → Type 0
 IsPolicysRun c keys os x =
-    (os ≡ outcomes_after (window_tiny_lfu c) keys) × IsQuiet x (state_after (window_tiny_lfu c) keys)
+    (os ≡ outcomes_after (quiet_job c) keys) × IsQuiet x (state_after (quiet_job c) keys)
 
 -- the same of keys that came after those of the past
 abbrev pub QuietGoesOn : Config → List ℕ → List ℕ → List Outcome → Shell → Type 0
 QuietGoesOn c past keys os x =
-    (outcomes_after (window_tiny_lfu c) (past ++ keys) ≡ outcomes_after (window_tiny_lfu c) past ++ os)
-    × IsQuiet x (state_after (window_tiny_lfu c) (past ++ keys))
+    (outcomes_after (quiet_job c) (past ++ keys) ≡ outcomes_after (quiet_job c) past ++ os)
+    × IsQuiet x (state_after (quiet_job c) (past ++ keys))
 
 -- Where the shell is quiet beside a cache of the policy, the walk of a key comes to the outcome of the policy's step,
 -- and leaves the shell quiet beside what the step leaves.

@@ -14,7 +14,7 @@ use Rattle.quiet_run.specs.declared.run.QuietFault.{QuietFault}
 use Rattle.quiet_run.specs.declared.run.QuietFault.TheVariants as fault
 use Rattle.walks.specs.Walks.{Opens, IsRound}
 use Rattle.quiet_run.specs.Outcomes.{outcome_from}
-use Rattle.walks.specs.Made.{IsUnfinished}
+use Rattle.walks.specs.WorkerEntries.{IsUnfinished}
 use Rattle.quiet_run.specs.Settle.{ShellSession, AddsSteps}
 
 -- n is the number of stripes

@@ -12,7 +12,7 @@ use Rattle.quiet_run.specs.declared.round.Refusal.{Refusal}
 use Rattle.quiet_run.specs.declared.round.Refusal.TheVariants as refusal
 use Rattle.quiet_run.specs.declared.round.SettleFault.{SettleFault}
 use Rattle.quiet_run.specs.declared.round.SettleFault.TheVariants as fault
-use Rattle.walks.specs.Made.{IsUnfinished}
+use Rattle.walks.specs.WorkerEntries.{IsUnfinished}
 use Rattle.walks.specs.Walks.{IsReading, IsWriting, IsEvicting}
 
 abbrev pub ShellSession : Type 0

@@ -3,11 +3,11 @@ ghost use Rattle.std.specs.Prelude.{◌≡◌, ◌≤◌, None, Some, Err, IsSom
 ghost use Rattle.std.specs.Prelude.{◌∷◌, ◌++◌, []};
 ghost use Rattle.journal.specs.Session.{IsSameSession};
 ghost use Rattle.shell_model.specs.Shell.{act_effect, act as acted};
-ghost use Rattle.shell_model.specs.Reached.{worker_of};
+ghost use Rattle.shell_model.specs.ReachableShell.{worker_of};
 ghost use Rattle.walks.specs.Walks.{step_of};
-ghost use Rattle.walks.specs.Places.{IsAheadOf, act_of_place};
-ghost use Rattle.quiet_run.specs.Outcomes.{outcome_after, outcome_from};
-ghost use Rattle.walks.specs.Made.{IsUnfinished};
+ghost use Rattle.walks.specs.WalkPlaces.{IsAheadOf, act_of_place};
+ghost use Rattle.quiet_run.specs.Outcomes.{outcome_with_reply, outcome_from};
+ghost use Rattle.walks.specs.WorkerEntries.{IsUnfinished};
 ghost use Rattle.quiet_run.specs.Settle.{AddsSteps, IsRest, BeginsRest, steps_before};
 ghost use Rattle.quiet_run.specs.Settle.{IsRefusalCause, IsFullAt};
 ghost use Rattle.walks.specs.Holders.{IsReady};
@@ -129,7 +129,7 @@ pub(crate) fn make_step(
 
 // The outcome of a key after one more reply: a hit stays, else the key that left last counts.
 pub(crate) fn outcome_with(outcome: Outcome, reply: Reply) -> Outcome
-    ensures { result ≡ outcome_after outcome reply }
+    ensures { result ≡ outcome_with_reply outcome reply }
 {
     match (outcome, reply) {
         (_, Reply::Hit { .. }) => Outcome::Hit,

@@ -9,11 +9,11 @@ ghost use Rattle.step_record.specs.Answers.{is_answer};
 ghost use Rattle.step_record.specs.History.{Entries};
 ghost use Rattle.policies.specs.QueueCache.{state_after};
 ghost use Rattle.shell_model.specs.Shell.{act_effect, act as acted};
-ghost use Rattle.quiet_run.specs.Quiet.{IsQuiet, window_tiny_lfu};
-ghost use Rattle.maintenance.specs.Opened.{IsOpened};
+ghost use Rattle.quiet_run.specs.Quiet.{IsQuiet, quiet_job};
+ghost use Rattle.maintenance.specs.EmptyShell.{IsOpened};
 ghost use Rattle.walks.specs.Walks.{IsRound, step_of};
 ghost use Rattle.quiet_run.specs.Outcomes.{outcome_from};
-ghost use Rattle.walks.specs.Made.{IsUnfinished};
+ghost use Rattle.walks.specs.WorkerEntries.{IsUnfinished};
 ghost use Rattle.quiet_run.specs.Settle.{AddsSteps, IsRefusalCause};
 ghost use Rattle.quiet_run.specs.QuietWalks.{AreQuietWalks, BeginQuietWalks, FollowsQuietOffer, FollowsQuietPut, IsCallers};
 ghost use Rattle.quiet_run.specs.QuietWalks.{IsQuietOffer, IsQuietPut, IsQuietReport, IsQuietWalk, LeavesQuietFault};
@@ -63,7 +63,7 @@ pub fn run_quiet(
     ensures new { (c : Config) → IsOpened c session.old.opening → session.old.kept ≡ [] →
         IfOk result (λ os. IsPolicysRun c keys.now os.items session.new.engine) }
     // So it goes on from a cache that holds what W-TinyLFU holds after the accesses of the past.
-    ensures later { (c : Config) (past : List ℕ) → IsQuiet session.old.engine (state_after (window_tiny_lfu c) past) →
+    ensures later { (c : Config) (past : List ℕ) → IsQuiet session.old.engine (state_after (quiet_job c) past) →
         IfOk result (λ os. QuietGoesOn c past keys.now os.items session.new.engine) }
     // The first steps of these walks, but not all.
     ensures err { IfErr result (LeavesQuietFault session.old.engine.config.stripes keys.now session.old session.new) }

@@ -7,7 +7,7 @@ use Rattle.std.proofs.lemmas.Nat.Bits.{bit_at_set_same, bit_at-zero}
 use Rattle.std.proofs.lemmas.List.{get_or_past}
 use Rattle.bits_and_lists.specs.Bits.{bit_of}
 use Rattle.bits_and_lists.proofs.OneBit.{bit_put, bit_taken}
-use Rattle.rank_tree.specs.Bits.{IsAbove}
+use Rattle.rank_tree.specs.Bits.{IsBitLayer}
 
 eqb-sym : (a b : ℕ) → eqb a b ≡ eqb b a
 eqb-sym a b = elim (cases_eq a b) [ inl e ↦ eq-eqb a b e ∙ sym (eq-eqb b a (sym e)) | inr n ↦ ne_eqb a b n ∙ sym (ne_eqb b a (λ h. n (sym h))) ]
@@ -18,7 +18,7 @@ set-some ws q = ne_eqb (bit_or (get_or ws (q / 64) 0) (1 * 2 ^ (q % 64) % 2 ^ 64
     (λ h. let no : 1 ≡ 0 = sym (bit_at_set_same w64 (get_or ws (q / 64) 0) (q % 64) (omega arith)) ∙ ap (λ y. bit_at y (q % 64)) h ∙ bit_at-zero (q % 64) in omega arith)
 
 -- the layer above, where one word was written
-pub above-put : (ws : List ℕ) (n : ℕ) (old new : ℕ → Bool) (j x : ℕ) → IsAbove ws n old → j < length ws → eqb x 0 ≡ false → ((w : ℕ) → new w ≡ cond (eqb w j) true (old w)) → (w : ℕ) → new w ≡ not (eqb (get_or (set ws j x) w 0) 0)
+pub above-put : (ws : List ℕ) (n : ℕ) (old new : ℕ → Bool) (j x : ℕ) → IsBitLayer ws n old → j < length ws → eqb x 0 ≡ false → ((w : ℕ) → new w ≡ cond (eqb w j) true (old w)) → (w : ℕ) → new w ≡ not (eqb (get_or (set ws j x) w 0) 0)
 above-put ws n old new j x up within some puts w =
     elim (cases_eq w j) [
       | inl e ↦
@@ -76,13 +76,13 @@ module _ (ws : List ℕ) (w x tz : ℕ) (in_it : w < length ws) (read : x ≡ ge
       ]
 
 -- the layer above, where one word was written that is not 0, or is 0, or stays what the layer above has of it
-pub above-after : (ws : List ℕ) (n m : ℕ) (old new : ℕ → Bool) (j x : ℕ) → IsAbove ws n old → j < length ws → eqb x 0 ≡ false → m ≡ n → ((w : ℕ) → new w ≡ cond (eqb w j) true (old w)) → IsAbove (set ws j x) m new
+pub above-after : (ws : List ℕ) (n m : ℕ) (old new : ℕ → Bool) (j x : ℕ) → IsBitLayer ws n old → j < length ws → eqb x 0 ≡ false → m ≡ n → ((w : ℕ) → new w ≡ cond (eqb w j) true (old w)) → IsBitLayer (set ws j x) m new
 above-after ws n m old new j x up within some same puts = record {
   long = let l : length (set ws j x) ≡ length ws = simp length-set refl in omega (arith, same, up.long);
   some = above-put ws n old new j x up within some puts;
 }
 
-pub above-empty : (ws : List ℕ) (n m : ℕ) (old new : ℕ → Bool) (j x : ℕ) → IsAbove ws n old → j < length ws → x ≡ 0 → m ≡ n → ((w : ℕ) → new w ≡ cond (eqb w j) false (old w)) → IsAbove (set ws j x) m new
+pub above-empty : (ws : List ℕ) (n m : ℕ) (old new : ℕ → Bool) (j x : ℕ) → IsBitLayer ws n old → j < length ws → x ≡ 0 → m ≡ n → ((w : ℕ) → new w ≡ cond (eqb w j) false (old w)) → IsBitLayer (set ws j x) m new
 above-empty ws n m old new j x up within none same takes = record {
   long = let l : length (set ws j x) ≡ length ws = simp length-set refl in omega (arith, same, up.long);
   some = λ w. elim (cases_eq w j) [
@@ -98,7 +98,7 @@ above-empty ws n m old new j x up within none same takes = record {
   ];
 }
 
-pub above-still : (ws : List ℕ) (n : ℕ) (held : ℕ → Bool) (j x : ℕ) → IsAbove ws n held → j < length ws → eqb x 0 ≡ eqb (get_or ws j 0) 0 → IsAbove (set ws j x) n held
+pub above-still : (ws : List ℕ) (n : ℕ) (held : ℕ → Bool) (j x : ℕ) → IsBitLayer ws n held → j < length ws → eqb x 0 ≡ eqb (get_or ws j 0) 0 → IsBitLayer (set ws j x) n held
 above-still ws n held j x up within same = record {
   long = let l : length (set ws j x) ≡ length ws = simp length-set refl in omega (arith, up.long);
   some = λ w. elim (cases_eq w j) [
@@ -114,7 +114,7 @@ above-still ws n held j x up within same = record {
 }
 
 -- where the layer above holds a place, there is a word there
-pub word-there : (ws : List ℕ) (n : ℕ) (held : ℕ → Bool) (w : ℕ) → IsAbove ws n held → held w ≡ true → w < length ws
+pub word-there : (ws : List ℕ) (n : ℕ) (held : ℕ → Bool) (w : ℕ) → IsBitLayer ws n held → held w ≡ true → w < length ws
 word-there ws n held w up h =
     elim (cases_lt w (length ws)) [
       | inl l ↦ l

@@ -2,7 +2,7 @@
 use Rattle.std.specs.Prelude.{◌≡◌, ℕ, ◌≤◌, Bool, false, not, eqb, List, length, slice_index, slice_index_or}
 
 -- the layer above holds the places of the words that are not 0
-pub record IsAbove (words : List ℕ) (n : ℕ) (held : ℕ → Bool) : Type 0 where
+pub record IsBitLayer (words : List ℕ) (n : ℕ) (held : ℕ → Bool) : Type 0 where
   pub long : length words ≤ n
   pub some : (w : ℕ) → held w ≡ not (eqb (slice_index words w) 0)
 

@@ -1,24 +1,24 @@
 //! A set as bits in words, over a smaller set.
 ghost use Rattle.std.specs.Prelude.{◌≡◌, ◌*◌, ◌≤◌, length};
 ghost use Rattle.bits_and_lists.specs.Bits.{bit_of};
-ghost use Rattle.rank_tree.specs.declared.limits.TheConstants.{WORD_BITS, MAX_WORDS};
-ghost use Rattle.rank_tree.specs.Bits.{IsAbove};
+ghost use Rattle.rank_tree.specs.declared.limits.TheConstants.{WORD_BITS, MAX_SET_WORDS};
+ghost use Rattle.rank_tree.specs.Bits.{IsBitLayer};
 
 use crate::limits::WORD_BITS;
-use crate::places::Places;
+use crate::places::NumberSet;
 use bits_and_lists::bits;
 use std::alloc::{AllocError, Global};
 
 /// Words of bits, under a set of the places of those that are not 0.
 #[derive(Drop)]
-pub(crate) struct Layer<U: Places> {
+pub(crate) struct Layer<U: NumberSet> {
     words: Vec<u64>,
     upper: U,
-    ghost above: { IsAbove words.items (U.size upper) (U.held upper) },
-    ghost few: { length words.items ≤ MAX_WORDS },
+    ghost above: { IsBitLayer words.items (U.size upper) (U.held upper) },
+    ghost few: { length words.items ≤ MAX_SET_WORDS },
 }
 
-impl<U: Places> Places for Layer<U> {
+impl<U: NumberSet> NumberSet for Layer<U> {
     ghost most = { WORD_BITS * U.most };
 
     ghost size = { λ l. WORD_BITS * length l.words.items };
@@ -58,7 +58,7 @@ impl<U: Places> Places for Layer<U> {
     }
 }
 
-impl<U: Places> Layer<U> {
+impl<U: NumberSet> Layer<U> {
     ghost use Rattle.std.specs.Prelude.{◌<◌};
 
     /// Whether a number is in the set.

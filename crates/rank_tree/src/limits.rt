@@ -7,4 +7,4 @@ pub const MAX_SIZE: usize = 1 << 30;
 pub(crate) const WORD_BITS: usize = 64;
 
 /// The most words of a layer: a bit of one for each number of the largest set.
-pub(crate) const MAX_WORDS: usize = MAX_SIZE / WORD_BITS;
+pub(crate) const MAX_SET_WORDS: usize = MAX_SIZE / WORD_BITS;

@@ -5,7 +5,7 @@ ghost use Rattle.rank_tree.specs.declared.limits.TheConstants.{MAX_SIZE};
 use std::alloc::{AllocError, Global};
 
 /// A set of the numbers below a size.
-pub(crate) trait Places: Drop {
+pub(crate) trait NumberSet: Drop {
     /// The largest size that a set can be asked for.
     ghost most: { ℕ };
 

@@ -4,7 +4,7 @@ ghost use Rattle.rank_tree.specs.declared.limits.TheConstants.{MAX_SIZE};
 ghost use Rattle.rank_tree.specs.Bits.{is_in_set};
 
 use crate::layer::Layer;
-use crate::places::Places;
+use crate::places::NumberSet;
 use crate::single::Single;
 use std::alloc::{AllocError, Global};
 use std::marker::Model;

@@ -1,7 +1,7 @@
 //! The set at the top.
 ghost use Rattle.std.specs.Prelude.{◌&&◌, eqb};
 
-use crate::places::Places;
+use crate::places::NumberSet;
 use std::alloc::{AllocError, Global};
 
 /// A set of the number 0 alone.
@@ -10,7 +10,7 @@ pub(crate) struct Single {
     any: bool,
 }
 
-impl Places for Single {
+impl NumberSet for Single {
     ghost most = { 1 };
 
     ghost size = { λ s. 1 };

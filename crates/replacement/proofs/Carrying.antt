@@ -10,7 +10,7 @@ use Rattle.segments.proofs.MoveLaws.{Leads, move_leads, out_leads}
 use Rattle.segments.proofs.QueueLists.{absent, is_absent, absent-taken, taken-absent, distinct-taken, distinct-put, put-last, taken-first}
 use Rattle.replacement.specs.declared.record.Moves.{Moves}
 use Rattle.replacement.specs.Plan.{Transfer, Plan}
-use Rattle.replacement.specs.Moving.{queues_after_transfer, removed, queues_after, transfer_record, removal_record, moves_of, undone_by, undone_moves, FitsBy, needed_by, FitsMoves}
+use Rattle.replacement.specs.PlanMoves.{queues_after_transfer, removed, queues_after, transfer_record, removal_record, moves_of, undone_by, undone_moves, FitsBy, needed_by, FitsMoves}
 
 pub moved-distinct : (i : Item) (q : Queue) (s : Queues) → IsDistinct s → IsDistinct (queues_after_move i q s)
 moved-distinct i q s d =

@@ -9,7 +9,7 @@ use Rattle.segments.specs.Queues.{Queues, queue_of, queue_holding, IsDistinct}
 use Rattle.segments.specs.Moves.{move_record}
 use Rattle.segments.proofs.ItemLists.{same-refl}
 use Rattle.segments.proofs.QueueLists.{placed}
-use Rattle.replacement.specs.KeptMoves.{IsOldest, IsDrop, IsFirst}
+use Rattle.replacement.specs.KeptMoves.{IsOldest, IsDrop, IsFirstMove}
 
 first-times : (l : List Item) (i : Item) → oldest_of l ≡ Some i → 1 ≤ occurrences i l
 first-times [] i e = absurd (cc (e))
@@ -51,10 +51,10 @@ joined-oldest q i s r h p = rw (h, p) (refl, tt)
 
 -- another may go out behind it
 pub joined-first : (q : Queue) (i : Item) (s : Queues) (r : MoveRecord) (out : Option MoveRecord)
-    → r ≡ move_record i (Some q) s → queue_holding i s ≡ None → IsDrop out → IsFirst (Some r) out
+    → r ≡ move_record i (Some q) s → queue_holding i s ≡ None → IsDrop out → IsFirstMove (Some r) out
 joined-first q i s r out h p d = rw (h, p) (tt, d)
 
 -- an item of the queues goes to a recent end, and none goes out behind it
 pub renewed-first : (to q : Queue) (i : Item) (s : Queues) (r : MoveRecord)
-    → r ≡ move_record i (Some to) s → queue_holding i s ≡ Some q → IsFirst (Some r) None
+    → r ≡ move_record i (Some to) s → queue_holding i s ≡ Some q → IsFirstMove (Some r) None
 renewed-first to q i s r h p = rw (h, p) refl

@@ -17,7 +17,7 @@ use Rattle.replacement.specs.declared.rules.HitRule.TheVariants.{Renews, Stays}
 use Rattle.replacement.specs.declared.rules.Rules.{Rules}
 use Rattle.replacement.specs.Table.{Response, kept_in, with_recent, queues_after_demotion, hit_response, hit_by, rejection, contest, trial_of, eviction, response_with_victim, response_without_trial, miss_by, miss, access_in, access}
 use Rattle.replacement.specs.Plan.{Plan, Transfer, transfer, demotion, hit_plan_by, stay_plan, contest_plan, direct_plan, candidate_of, eviction_of, eviction_plan, joining_first, miss_plan_by, miss_plan, plan_in, plan}
-use Rattle.replacement.specs.Moving.{queues_after_transfer, removed, response_of_plan}
+use Rattle.replacement.specs.PlanMoves.{queues_after_transfer, removed, response_of_plan}
 use Rattle.replacement.specs.Theorems.{HitsPlanned, EvictionsPlanned, AccessesPlanned}
 use Rattle.segments.proofs.QueueLists.{still-absent}
 use Rattle.replacement.proofs.Carrying.{moved-distinct, pushed-moved}

@@ -8,7 +8,7 @@ use Rattle.replacement.specs.declared.record.Effect.{Effect}
 use Rattle.replacement.specs.declared.rules.HitRule.{HitRule}
 use Rattle.replacement.specs.declared.rules.HitRule.TheVariants.{Renews}
 use Rattle.replacement.specs.Plan.{Plan, hit_plan_by}
-use Rattle.replacement.specs.Moving.{queues_after, moves_of}
+use Rattle.replacement.specs.PlanMoves.{queues_after, moves_of}
 
 -- the plan led from the one to the other queues, and the effect is its record and outcome
 pub record IsEffect (p : Plan) (before after : Queues) (e : Effect) : Type 0 where

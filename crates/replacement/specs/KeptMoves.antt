@@ -3,7 +3,7 @@ use Rattle.std.specs.Prelude.{◌≡◌, Bool, true, false, Option, Some, None}
 use Rattle.step_record.specs.declared.item.Item.{Item}
 use Rattle.segments.specs.declared.records.Queue.{Queue}
 use Rattle.segments.specs.declared.records.Queue.TheVariants as queue
-use Rattle.segments.specs.declared.records.Place.{Place}
+use Rattle.segments.specs.declared.records.QueuePlace.{QueuePlace}
 use Rattle.segments.specs.declared.records.MoveRecord.{MoveRecord}
 use Rattle.replacement.specs.declared.record.Moves.{Moves}
 use Rattle.replacement.specs.declared.kept_moves.Spot.{Spot}
@@ -24,20 +24,20 @@ abbrev pub item_if : Bool → Item → Option Item
 item_if false i = None
 item_if true i = Some i
 
-abbrev pub queue_in : Option Place → Option Queue
+abbrev pub queue_in : Option QueuePlace → Option Queue
 queue_in None = None
 queue_in (Some p) = Some p.queue
 
-abbrev pub older_in : Option Place → Option Item
+abbrev pub older_in : Option QueuePlace → Option Item
 older_in None = None
 older_in (Some p) = p.older
 
-abbrev pub newer_in : Option Place → Option Item
+abbrev pub newer_in : Option QueuePlace → Option Item
 newer_in None = None
 newer_in (Some p) = p.newer
 
 -- the oldest place of a queue, before the item that is the next
-abbrev pub oldest_place : Option Queue → Option Item → Option Place
+abbrev pub oldest_place : Option Queue → Option Item → Option QueuePlace
 oldest_place None newer = None
 oldest_place (Some q) newer = Some record { queue = q; older = None; newer = newer }
 
@@ -69,17 +69,17 @@ IsDrop o = IsOldest o × (target_of o ≡ None)
 
 -- what was moved first, from a queue or from none, and what went out behind it: nothing did where an item of the queues
 -- was moved first
-abbrev pub IsBefore : Option Place → Option Queue → Option MoveRecord → Type 0
+abbrev pub IsBefore : Option QueuePlace → Option Queue → Option MoveRecord → Type 0
 IsBefore None to out = IsChange None to × IsDrop out
 IsBefore (Some p) to out = out ≡ None
 
-abbrev pub IsFirst : Option MoveRecord → Option MoveRecord → Type 0
-IsFirst None out = IsDrop out
-IsFirst (Some r) out = IsBefore r.from r.to out
+abbrev pub IsFirstMove : Option MoveRecord → Option MoveRecord → Type 0
+IsFirstMove None out = IsDrop out
+IsFirstMove (Some r) out = IsBefore r.from r.to out
 
 -- moves as an access or an eviction makes them
 abbrev pub IsKeepable : Moves → Type 0
-IsKeepable m = IsFirst m.first m.out × IsOldest m.last
+IsKeepable m = IsFirstMove m.first m.out × IsOldest m.last
 
 -- ---- what a packed form shows
 
@@ -102,5 +102,5 @@ moves_in (Replaced first_to out_from out_has_newer last_from last_has_newer last
     }
 
 -- It is made of its packed form alone: a further field, which no contract would see, has no place here.
-abbrev pub IsPackedAlone : Inside → Type 0
-IsPackedAlone k = k ≡ record { packed = k.packed }
+abbrev pub HoldsPackedMoves : Inside → Type 0
+HoldsPackedMoves k = k ≡ record { packed = k.packed }

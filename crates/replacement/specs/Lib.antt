@@ -3,7 +3,7 @@ pub mod Admission
 pub mod Rules
 pub mod Table
 pub mod Plan
-pub mod Moving
+pub mod PlanMoves
 pub mod Effects
 pub mod KeptMoves
 pub mod Theorems

@@ -6,7 +6,7 @@ use Rattle.segments.specs.Queues.{Queues, IsDistinct}
 use Rattle.replacement.specs.declared.rules.Rules.{Rules}
 use Rattle.replacement.specs.Table.{hit_in, eviction, access}
 use Rattle.replacement.specs.Plan.{hit_plan, eviction_plan, plan}
-use Rattle.replacement.specs.Moving.{queues_after, response_of_plan}
+use Rattle.replacement.specs.PlanMoves.{queues_after, response_of_plan}
 
 -- a hit
 abbrev pub HitsPlanned : Type 0

@@ -4,7 +4,7 @@ ghost use Rattle.segments.specs.Queues.{IsDistinct};
 ghost use Rattle.replacement.specs.Admission.{admits_in};
 ghost use Rattle.replacement.specs.Table.{access};
 ghost use Rattle.replacement.specs.Plan.{plan};
-ghost use Rattle.replacement.specs.Moving.{moves_of, undone_moves, FitsMoves};
+ghost use Rattle.replacement.specs.PlanMoves.{moves_of, undone_moves, FitsMoves};
 ghost use Rattle.replacement.specs.Effects.{IsEffect};
 ghost use Rattle.replacement.specs.KeptMoves.{IsKeepable};
 

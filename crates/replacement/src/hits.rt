@@ -3,7 +3,7 @@ ghost use Rattle.std.specs.Prelude.{◌≡◌, ◌≤◌, ◌↔◌, Option, Som
 ghost use Rattle.segments.specs.Queues.{queue_holding, IsDistinct};
 ghost use Rattle.replacement.specs.Table.{after_hit};
 ghost use Rattle.replacement.specs.Plan.{demotion, settling};
-ghost use Rattle.replacement.specs.Moving.{queues_after_transfer, transfer_record, undone_moves, FitsMoves};
+ghost use Rattle.replacement.specs.PlanMoves.{queues_after_transfer, transfer_record, undone_moves, FitsMoves};
 ghost use Rattle.replacement.specs.Effects.{IsHit, IsHitBy};
 ghost use Rattle.replacement.specs.KeptMoves.{IsOldest, IsKeepable};
 

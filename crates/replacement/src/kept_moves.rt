@@ -6,7 +6,7 @@ ghost use Rattle.replacement.specs.KeptMoves.{oldest_place as oldest_place_of, o
 ghost use Rattle.replacement.specs.KeptMoves.{IsOldest, IsKeepable, moves_in, target_of};
 
 use crate::record::Moves;
-use segments::{MoveRecord, Place, Queue};
+use segments::{MoveRecord, Queue, QueuePlace};
 use std::marker::Model;
 use step_record::Item;
 
@@ -19,13 +19,13 @@ pub struct KeptMoves {
 
 impl Model for KeptMoves {
     ghost use Rattle.replacement.specs.declared.record.Moves.{Moves as MovesValue};
-    ghost use Rattle.replacement.specs.KeptMoves.{moves_in, IsPackedAlone};
+    ghost use Rattle.replacement.specs.KeptMoves.{moves_in, HoldsPackedMoves};
 
     ghost Value = { MovesValue };
 
     ghost view = { λ k. moves_in k.packed };
 
-    ghost invariant = { IsPackedAlone };
+    ghost invariant = { HoldsPackedMoves };
 }
 
 /// A queue, or none, in one byte.
@@ -130,7 +130,7 @@ fn packed(moves: Moves) -> PackedMoves
 
 // An item of the queues that was moved first, with what was moved last.
 #[inline(always)]
-fn renewed(item: Item, place: Place, to: Option<Queue>, last: OldestMove) -> PackedMoves
+fn renewed(item: Item, place: QueuePlace, to: Option<Queue>, last: OldestMove) -> PackedMoves
     ensures { moves_in result ≡ record {
       first = Some record { item = item; from = Some place; to = to };
       out = None;
@@ -210,7 +210,7 @@ fn oldest_move(done: Option<MoveRecord>) -> OldestMove
 
 // The queue that a place is in.
 #[inline(always)]
-fn queue_of_place(place: Option<Place>) -> Option<Queue>
+fn queue_of_place(place: Option<QueuePlace>) -> Option<Queue>
     ensures { result ≡ queue_in place }
 {
     match place {
@@ -221,7 +221,7 @@ fn queue_of_place(place: Option<Place>) -> Option<Queue>
 
 // The item right behind a place.
 #[inline(always)]
-fn newer_item(place: Option<Place>) -> Option<Item>
+fn newer_item(place: Option<QueuePlace>) -> Option<Item>
     ensures { result ≡ newer_in place }
 {
     match place {
@@ -277,11 +277,11 @@ fn queue_at(spot: Spot) -> Option<Queue>
 
 // The oldest place of a queue, before an item.
 #[inline(always)]
-fn oldest_place(from: Option<Queue>, newer: Option<Item>) -> Option<Place>
+fn oldest_place(from: Option<Queue>, newer: Option<Item>) -> Option<QueuePlace>
     ensures { result ≡ oldest_place_of from newer }
 {
     let queue = from?;
-    Some(Place {
+    Some(QueuePlace {
         queue,
         older: None,
         newer,
@@ -326,7 +326,7 @@ fn first_in(packed: PackedMoves) -> Option<MoveRecord>
             ..
         } => Some(MoveRecord {
             item,
-            from: Some(Place {
+            from: Some(QueuePlace {
                 queue: from,
                 older: item_if(has_older, older),
                 newer: item_if(has_newer, newer),

@@ -15,7 +15,7 @@ mod queue_moves;
 mod record;
 mod rollback;
 mod rules;
-mod theorems;
+pub mod theorems;
 
 pub use accesses::access;
 pub use admission_filter::open_frequency;
@@ -25,4 +25,3 @@ pub use misses::evict;
 pub use record::{Effect, Moves};
 pub use rollback::undo;
 pub use rules::{HitRule, Placement, Rules};
-pub use theorems::{accesses_planned, evictions_planned, hits_planned};

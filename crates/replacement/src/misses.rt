@@ -4,7 +4,7 @@ ghost use Rattle.segments.specs.Queues.{queue_holding, queues_after_move, IsDist
 ghost use Rattle.replacement.specs.Admission.{admits_in};
 ghost use Rattle.replacement.specs.Table.{eviction};
 ghost use Rattle.replacement.specs.Plan.{direct_plan, eviction_plan, joining_first};
-ghost use Rattle.replacement.specs.Moving.{moves_of, undone_moves, FitsMoves};
+ghost use Rattle.replacement.specs.PlanMoves.{moves_of, undone_moves, FitsMoves};
 ghost use Rattle.replacement.specs.Effects.{IsEffect};
 ghost use Rattle.replacement.specs.KeptMoves.{IsDrop, IsKeepable};
 

@@ -4,7 +4,7 @@ ghost use Rattle.segments.specs.Items.{oldest_of};
 ghost use Rattle.segments.specs.Queues.{queue_of, queue_holding, queues_after_move, queues_after_pop, IsDistinct};
 ghost use Rattle.segments.specs.Moves.{move_record};
 ghost use Rattle.replacement.specs.Plan.{transfer};
-ghost use Rattle.replacement.specs.Moving.{queues_after_transfer, removed, transfer_record, removal_record};
+ghost use Rattle.replacement.specs.PlanMoves.{queues_after_transfer, removed, transfer_record, removal_record};
 ghost use Rattle.replacement.specs.KeptMoves.{IsOldest, IsDrop};
 
 use segments::{MoveRecord, Queue, Segments};

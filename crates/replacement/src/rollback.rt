@@ -1,6 +1,6 @@
 //! Undoing what was moved.
 ghost use Rattle.std.specs.Prelude.{◌≡◌, ◌≤◌, ◌+◌};
-ghost use Rattle.replacement.specs.Moving.{undone_by, FitsBy, needed_by, undone_moves, FitsMoves};
+ghost use Rattle.replacement.specs.PlanMoves.{undone_by, FitsBy, needed_by, undone_moves, FitsMoves};
 
 use crate::record::Moves;
 use segments::{MoveRecord, Segments};

@@ -3,7 +3,7 @@ ghost use Rattle.std.specs.Prelude.{◌≡◌, Err, IfOk, OnOk, map, string_byte
 ghost use Rattle.std.specs.Fmt.{decimal};
 ghost use Rattle.std.specs.Io.KnownBytes.{Appends};
 ghost use Rattle.csv.specs.Writing.{default_writer, row_text, text_written};
-ghost use Rattle.report.specs.Ready.{IsWriterReady};
+ghost use Rattle.report.specs.ReadyWriter.{IsWriterReady};
 ghost use Rattle.report.specs.Text.{header_fields, line_text, rate_text_of, report_line, reports_text};
 ghost use Rattle.streams.specs.Part.{AppendsPart};
 

@@ -18,8 +18,8 @@ use step_record::{Item, Key, Node};
 pub struct Segments {
     alloc: Global,
     table: SlotTable,
-    /// A sum over what `warm` read, kept so that the compiler cannot drop the reads.
-    warmth: u32,
+    /// A sum over what `prefetch` read, kept so that the compiler cannot drop the reads.
+    prefetched: u32,
 }
 
 impl Model for Segments {
@@ -60,17 +60,17 @@ impl Segments {
         Segments {
             alloc,
             table: SlotTable::for_items(alloc, items),
-            warmth: 0,
+            prefetched: 0,
         }
     }
 
     /// Prefetches what a search for each of these keys with this node reads first. Unlike the reads of a search, these
     /// do not depend on one another, so the processor overlaps them. Changes nothing that a caller can see.
     #[inline(never)]
-    pub fn warm(&mut self, keys: &[Key], node: Node)
+    pub fn prefetch(&mut self, keys: &[Key], node: Node)
         ensures { self.new ≡ self.old }
     {
-        self.warmth ^= self.table.touch(keys, node);
+        self.prefetched ^= self.table.touch(keys, node);
     }
 
     /// Makes room for at least one more item; where there is room, it allocates nothing and returns Ok. The one error

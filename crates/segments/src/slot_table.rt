@@ -11,7 +11,7 @@ use crate::growth::grow;
 use crate::index::Index;
 use crate::lengths::Lengths;
 use crate::links::{items_in, newest_free, oldest_slot, place_of_slot, release, send, slot_behind};
-use crate::records::{Place, Queue};
+use crate::records::{Queue, QueuePlace};
 use crate::slot::{Slot, set_item};
 use std::alloc::{AllocError, Global};
 use std::marker::Model;
@@ -174,7 +174,7 @@ impl SlotTable {
     }
 
     // The slot behind a place: that of its newer neighbour, or the one that closes the queue.
-    fn slot_at_place(&self, place: Place) -> u32
+    fn slot_at_place(&self, place: QueuePlace) -> u32
         ensures last { place.newer ≡ None → result ≡ closing place.queue }
         ensures newer { (n : Item) → place.newer ≡ Some n → queue_holding n (lists self.now) ≢ None
             → IsSlotOf result n self.now }
@@ -211,7 +211,7 @@ impl SlotTable {
 
     /// Moves a slot in use to the place before another one of a queue, and says where it stood.
     #[inline(always)]
-    pub(crate) fn shift(&mut self, at: u32, queue: Queue, before: u32) -> Place
+    pub(crate) fn shift(&mut self, at: u32, queue: Queue, before: u32) -> QueuePlace
         requires used { 1 ≤ count at (used (order_of self.old)) }
         requires place { IsPlace before queue (order_without at (order_of self.old)) }
         ensures spare { spare_in self.new ≡ spare_in self.old }
@@ -232,7 +232,7 @@ impl SlotTable {
 
     /// Gives a slot of a queue an item that is not there, and moves it to the queue's recent end. Says where it stood.
     #[inline(always)]
-    pub(crate) fn renew(&mut self, at: u32, queue: Queue, item: Item) -> Place
+    pub(crate) fn renew(&mut self, at: u32, queue: Queue, item: Item) -> QueuePlace
         requires stands { 1 ≤ count at (section queue (order_of self.old)) }
         requires absent { queue_holding item (lists self.old) ≡ None }
         ensures spare { spare_in self.new ≡ spare_in self.old }
@@ -249,7 +249,7 @@ impl SlotTable {
     }
 
     /// Puts an item that is not there into its place.
-    pub(crate) fn insert_at(&mut self, item: Item, place: Place)
+    pub(crate) fn insert_at(&mut self, item: Item, place: QueuePlace)
         requires room { 1 ≤ spare_in self.old }
         requires absent { queue_holding item (lists self.old) ≡ None }
         requires gap { IsGap place.older place.newer (queue_of place.queue (lists self.old)) }
@@ -261,7 +261,7 @@ impl SlotTable {
     }
 
     /// Moves a slot in use into a place.
-    pub(crate) fn shift_to(&mut self, at: u32, place: Place)
+    pub(crate) fn shift_to(&mut self, at: u32, place: QueuePlace)
         requires used { 1 ≤ count at (used (order_of self.old)) }
         requires gap { IsGap place.older place.newer (queue_of place.queue
             (queues_without (item_in at self.old) (lists self.old))) }
@@ -276,7 +276,7 @@ impl SlotTable {
 
     /// Frees a slot in use, and says where it stood.
     #[inline(always)]
-    pub(crate) fn remove(&mut self, at: u32) -> Place
+    pub(crate) fn remove(&mut self, at: u32) -> QueuePlace
         requires used { 1 ≤ count at (used (order_of self.old)) }
         ensures spare { spare_in self.new ≡ spare_in self.old + 1 }
         ensures place { Some result ≡ place_at (item_in at self.old) (lists self.old) }

@@ -4,7 +4,7 @@ use Rattle.std.specs.Prelude.{is_err, OnOk}
 use Rattle.step_record.specs.declared.limits.TheConstants.{MAX_JOURNAL_LIMIT}
 use Rattle.step_record.specs.History.{IsLegal, Entries}
 use Rattle.shell_model.specs.Shell.{Shell, act}
-use Rattle.shell_model.specs.Reached.{IsReachable}
+use Rattle.shell_model.specs.ReachableShell.{IsReachable}
 use Rattle.journal_text.specs.Journal.{journal_of, AreLines, IsJournalText}
 use Rattle.journal_text.specs.declared.reader.TheConstants.{MAX_JOURNAL_BYTES}
 use Rattle.journal_text.specs.declared.version.Version.TheVariants.{Two}

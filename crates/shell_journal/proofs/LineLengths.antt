@@ -20,7 +20,7 @@ use Rattle.journal_text.specs.Journal.{entry_line, AreLines}
 use Rattle.journal_text.specs.Names.{spelling}
 use Rattle.journal_text.specs.ReplyItem.{reply_item}
 use Rattle.journal_text.specs.Table.{act_words, answer_name, entry_words, is_answer_in, is_in_version, item_words, reply_name, reply_numbers, reply_words, spaced, spaced_words, text_of, word_text, FitWords, IsLine}
-use Rattle.journal_text.specs.declared.line.Line.TheVariants.{Made}
+use Rattle.journal_text.specs.declared.line.JournalLine.TheVariants.{Made}
 use Rattle.journal_text.specs.declared.name.JournalName.{JournalName}
 use Rattle.journal_text.specs.declared.name.JournalName.TheVariants as name
 use Rattle.journal_text.specs.declared.version.Version.TheVariants.{Two}

@@ -17,9 +17,9 @@ use Rattle.shell_buffers.specs.declared.task.Task.{Task}
 use Rattle.shell_buffers.specs.declared.task.Task.TheVariants.{Add, Update, Remove}
 use Rattle.shell_buffers.specs.Buffers.{stripe_at}
 use Rattle.shell_model.specs.Shell.{Shell, node_of, look_reply, put_effect, put_at, offer_effect, some_if, is_stripe, act_effect, counted_reply, act}
-use Rattle.shell_model.specs.Consistent.{IsConsistent, queue_occurrences}
+use Rattle.shell_model.specs.Consistency.{IsConsistent, queue_occurrences}
 use Rattle.shell_model.specs.Laws.{MadeStep, empty_shell}
-use Rattle.shell_model.specs.Reached.{IsReachable, IsBounded}
+use Rattle.shell_model.specs.ReachableShell.{IsReachable, IsBounded}
 use Rattle.admission.specs.Shape.{Shape}
 use Rattle.shell_model.proofs.Counting.{node-listed, listed-times}
 use Rattle.shell_model.proofs.Undoing.{first-queued, shifted-queued}

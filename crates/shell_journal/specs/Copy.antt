@@ -4,7 +4,7 @@ use Rattle.step_record.specs.declared.limits.TheConstants.{MAX_JOURNAL_LIMIT}
 use Rattle.step_record.specs.declared.step.Reply.{Reply}
 use Rattle.step_record.specs.declared.step.Step.{Step}
 use Rattle.journal.specs.Session.{SessionState}
-use Rattle.shell_model.specs.Reached.{IsReachable}
+use Rattle.shell_model.specs.ReachableShell.{IsReachable}
 use Rattle.shell_model.specs.Shell.{Shell}
 
 -- The session was opened on a cache as there can be one and is no longer than any session; the other was opened alike,

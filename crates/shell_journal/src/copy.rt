@@ -3,11 +3,9 @@ ghost use Rattle.std.specs.Prelude.{◌≡◌};
 ghost use Rattle.journal_text.specs.Faults.{Accepts};
 ghost use Rattle.shell_journal.specs.Copy.{CanHold};
 
-use crate::theorems::text_size;
 use journal::Session;
 use journal_text::{JournalFault, read_journal, write_journal};
 use maintenance::Shell;
-use shell_model::theorems::replies_belong;
 use std::alloc::Global;
 
 /// Writes the applied steps of a session as text, and reads the text into a new session, which was opened alike and
@@ -25,8 +23,8 @@ pub fn copy_journal(
     ensures taken { Accepts result copy.new.kept session.now.kept }
     ensures opening { copy.new.opening ≡ copy.old.opening }
 {
-    text_size();
-    replies_belong();
+    crate::theorems::text_size();
+    shell_model::theorems::replies_belong();
     let _steps = session.len();
     let mut text = Vec::new(alloc);
     if write_journal(alloc, session, &mut text).is_err() {

@@ -5,7 +5,6 @@
 #![tactic(auto)]
 
 mod copy;
-mod theorems;
+pub mod theorems;
 
 pub use copy::copy_journal;
-pub use theorems::text_size;

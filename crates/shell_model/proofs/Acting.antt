@@ -13,7 +13,7 @@ use Rattle.shell_model.specs.Shell.{Shell, act_effect, counted_reply, act}
 use Rattle.shell_model.specs.ShellStats.{shell_stats_after, shell_stats_before, counted_of, IsCounted, is_hit_reply, is_miss_reply, is_kept_reply, is_full_reply, is_lost_reply, is_added_reply, is_updated_reply, is_refused_reply, is_eviction_reply, is_rejection_reply, is_begun_reply, is_busy_reply, is_removed_reply}
 use Rattle.step_record.specs.Stats.{one_if}
 use Rattle.shell_model.specs.Records.{before_change, FitsChange, undone_step, FitsStep, change_of}
-use Rattle.shell_model.specs.Consistent.{IsConsistent}
+use Rattle.shell_model.specs.Consistency.{IsConsistent}
 use Rattle.shell_model.proofs.Undoing.{GoesTo, perform-goes}
 
 plus-less : (a b : ℕ) → a + b - b ≡ a

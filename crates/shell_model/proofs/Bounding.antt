@@ -15,7 +15,7 @@ use Rattle.shell_model.specs.ShellStats.{shell_stats_after, AreAtMost, is_hit_re
 use Rattle.step_record.specs.Stats.{one_if}
 use Rattle.shell_model.specs.Shell.{Shell, act}
 use Rattle.shell_model.specs.Laws.{MadeStep, IsShapeOf, empty_shell}
-use Rattle.shell_model.specs.Reached.{IsBounded, BoundLaw}
+use Rattle.shell_model.specs.ReachableShell.{IsBounded, BoundLaw}
 use Rattle.shell_model.proofs.Making as k
 use Rattle.shell_model.proofs.Making.{Makes}
 use Rattle.shell_model.proofs.Histories.{Steps, stepped, stats-step}

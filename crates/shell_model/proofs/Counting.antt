@@ -10,7 +10,7 @@ use Rattle.segments.specs.Queues.{Queues, queue_holding, queues_after_push, queu
 use Rattle.segments.proofs.ItemLists.{same-true, same-refl, times-append, without-none}
 use Rattle.segments.proofs.MoveLaws.{Stands, in_window, in_probation, in_protected, nowhere, stands, taken-none}
 use Rattle.shell_model.specs.Shell.{table_with, node_of, is_listed, unlisted, queues_cleared, cleared_from}
-use Rattle.shell_model.specs.Consistent.{queue_occurrences, AreAbove, IsAscending}
+use Rattle.shell_model.specs.Consistency.{queue_occurrences, AreAbove, IsAscending}
 
 abbrev pub once : Item → Item → ℕ
 once i j = cond (is_same_item i j) 1 0

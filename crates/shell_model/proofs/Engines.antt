@@ -21,7 +21,7 @@ use Rattle.shell_model.specs.Frequency.{frequency_recorded, frequency_unrecorded
 use Rattle.shell_model.specs.Shell.{Shell, act_effect, act, held_by, hold_end}
 use Rattle.shell_model.specs.Records.{before_change, undone_step, FitsChange, FitsStep, change_size, record_size}
 use Rattle.shell_model.specs.Laws.{MadeStep, is_ending}
-use Rattle.shell_model.specs.Reached.{worker_of, HoldLaws}
+use Rattle.shell_model.specs.ReachableShell.{worker_of, HoldLaws}
 use Rattle.shell_model.proofs.Making as k
 use Rattle.shell_model.proofs.Making.{Makes}
 use Rattle.shell_model.proofs.Histories.{Steps, stepped}

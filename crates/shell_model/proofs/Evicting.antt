@@ -11,7 +11,7 @@ use Rattle.replacement.specs.Table.{Response, contest as contest_in, trial, tria
 use Rattle.replacement.proofs.Planned.{evictions-planned}
 use Rattle.shell_model.specs.Frequency.{admits}
 use Rattle.shell_model.specs.Shell.{Shell, window_size, shell_contest, shift_effect, evict_from, evict_oldest, evict_effect}
-use Rattle.shell_model.specs.Evicting.{EvictionsAgree, ShellEvictionsPlanned, evicted_by}
+use Rattle.shell_model.specs.ShellEviction.{EvictionsAgree, ShellEvictionsPlanned, evicted_by}
 
 -- a candidate stands in probation, so there is a victim
 last-some : (l : List Item) (c : Item) → (v : Item) × (oldest_of (l ++ c ∷ []) ≡ Some v)

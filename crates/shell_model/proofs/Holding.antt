@@ -16,7 +16,7 @@ use Rattle.shell_model.specs.declared.holder.Holder.{Holder}
 use Rattle.shell_model.specs.ShellStats.{is_hit_reply, is_miss_reply, is_kept_reply, is_full_reply, is_lost_reply, is_added_reply, is_updated_reply, is_refused_reply, is_eviction_reply, is_rejection_reply, is_begun_reply, is_busy_reply, is_removed_reply}
 use Rattle.shell_buffers.specs.Buffers.{stripe_at}
 use Rattle.shell_model.specs.Shell.{Shell, may_write, act}
-use Rattle.shell_model.specs.Consistent.{IsConsistent}
+use Rattle.shell_model.specs.Consistency.{IsConsistent}
 use Rattle.shell_model.specs.Laws.{MadeStep, collect, IsShapeOf, empty_shell, added, is_ending, is_drain_write, is_evict, some_end, some_act, phase_after, open_from, open_began, seat_of, seat_from, AreReplies, HistoryLaws}
 use Rattle.shell_model.proofs.Making as k
 use Rattle.shell_model.proofs.Making.{Makes}

@@ -25,7 +25,7 @@ use Rattle.shell_model.specs.declared.holder.Holder.{Holder}
 use Rattle.shell_model.specs.Frequency.{admits}
 use Rattle.shell_buffers.specs.Buffers.{stripe_at}
 use Rattle.shell_model.specs.Shell.{Shell, node_of, table_with, queues_cleared, window_size, shell_protected_size, offer_effect, put_effect, put_at, removing, remove_at, begin_effect, is_over, held_by, shift_effect, in_phase, drain_read, drain_write, apply_task, shell_contest, leave, evict_from, evict_oldest, evict_effect, end_effect, some_if, may_read, may_write, is_stripe, hold_read, hold_write, hold_evict, hold_end, act_effect, counted_reply, act}
-use Rattle.shell_model.specs.Consistent.{IsConsistent, IsPlaced, main_length, queue_occurrences, waiting_tasks, leaving, IsOrdered, AreAbove, IsAscending, IsLeft}
+use Rattle.shell_model.specs.Consistency.{IsConsistent, IsPlaced, main_length, queue_occurrences, waiting_adds, leaving, IsOrdered, AreAbove, IsAscending, IsLeft}
 use Rattle.admission.specs.Frequency.{IsFrequency}
 use Rattle.shell_model.proofs.Frequency.{recorded-whole}
 use Rattle.shell_model.proofs.Counting.{once, unless-same, queued-kept, queued-taken, queued-pushed, distinct-moved, times-placed, listed-times, node-listed, unlisted-is, cleared-is}
@@ -135,9 +135,9 @@ ascending-without v (x ∷ t) h =
 
 -- the write queue
 
-pub waiting-append : (j : Item) (l m : List Task) → waiting_tasks j (l ++ m) ≡ waiting_tasks j l + waiting_tasks j m
+pub waiting-append : (j : Item) (l m : List Task) → waiting_adds j (l ++ m) ≡ waiting_adds j l + waiting_adds j m
 waiting-append j [] m = omega arith
-waiting-append j (Add i ∷ l) m = let h : waiting_tasks j (l ++ m) ≡ waiting_tasks j l + waiting_tasks j m = waiting-append j l m in omega (arith, h)
+waiting-append j (Add i ∷ l) m = let h : waiting_adds j (l ++ m) ≡ waiting_adds j l + waiting_adds j m = waiting-append j l m in omega (arith, h)
 waiting-append j (Update i ∷ l) m = waiting-append j l m
 waiting-append j (Remove i ∷ l) m = waiting-append j l m
 
@@ -148,13 +148,13 @@ leaving-append j (Update i ∷ l) m = leaving-append j l m
 leaving-append j (Remove i ∷ l) m = let h : leaving j (l ++ m) ≡ leaving j l + leaving j m = leaving-append j l m in omega (arith, h)
 
 -- a task comes in behind: no Add whose item's Remove waits
-pub ordered-push : (l : List Task) (t : Task) → IsOrdered (t ∷ []) → ((j : Item) → 1 ≤ leaving j l → waiting_tasks j (t ∷ []) ≡ 0) → IsOrdered l → IsOrdered (l ++ t ∷ [])
+pub ordered-push : (l : List Task) (t : Task) → IsOrdered (t ∷ []) → ((j : Item) → 1 ≤ leaving j l → waiting_adds j (t ∷ []) ≡ 0) → IsOrdered l → IsOrdered (l ++ t ∷ [])
 ordered-push [] t s f o = s
 ordered-push (Add k ∷ l) t s f o = ordered-push l t s f o
 ordered-push (Update k ∷ l) t s f o = ordered-push l t s f o
 ordered-push (Remove k ∷ l) t s f o =
     let one : 1 ≤ cond (is_same_item k k) 1 0 + leaving k l = (let e = same-refl k in rw e (omega arith)) in
-    let none : waiting_tasks k (t ∷ []) ≡ 0 = f k one in
+    let none : waiting_adds k (t ∷ []) ≡ 0 = f k one in
     (rw (waiting-append k l (t ∷ [])) (omega (arith, o.0, none)), ordered-push l t s (λ j h. f j (omega (arith, h))) o.1)
 
 -- where an Add stands, no Remove of its item stands before it
@@ -167,9 +167,9 @@ ordered-behind i (Remove j ∷ l) m o =
     elim (cases_Bool (is_same_item i j)) as (λ _. cond (is_same_item i j) 1 0 + leaving i l ≡ 0) [
       | inl e ↦
           let s : i ≡ j = same-true i j e in
-          let none : waiting_tasks i (l ++ Add i ∷ m) ≡ 0 = ap (λ (y : Item). waiting_tasks y (l ++ Add i ∷ m)) s ∙ o.0 in
-          let sum : waiting_tasks i (l ++ Add i ∷ m) ≡ waiting_tasks i l + (cond (is_same_item i i) 1 0 + waiting_tasks i m) = waiting-append i l (Add i ∷ m) in
-          let sum2 : waiting_tasks i (l ++ Add i ∷ m) ≡ waiting_tasks i l + (1 + waiting_tasks i m) = rw (same-refl i) at sum in
+          let none : waiting_adds i (l ++ Add i ∷ m) ≡ 0 = ap (λ (y : Item). waiting_adds y (l ++ Add i ∷ m)) s ∙ o.0 in
+          let sum : waiting_adds i (l ++ Add i ∷ m) ≡ waiting_adds i l + (cond (is_same_item i i) 1 0 + waiting_adds i m) = waiting-append i l (Add i ∷ m) in
+          let sum2 : waiting_adds i (l ++ Add i ∷ m) ≡ waiting_adds i l + (1 + waiting_adds i m) = rw (same-refl i) at sum in
           absurd (omega (arith, none, sum2))
       | inr e ↦ rw e (omega (arith, rest))
     ]
@@ -177,7 +177,7 @@ ordered-behind i (Remove j ∷ l) m o =
 -- the parts that place items
 
 -- nothing comes or goes
-placed-same : (t : List Item) (n : ℕ) (q r : Queues) (l m : List Task) → ((j : Item) → queue_occurrences j r + waiting_tasks j m ≡ queue_occurrences j q + waiting_tasks j l) → ((j : Item) → leaving j m ≡ leaving j l) → IsOrdered m → IsPlaced t n q l → IsPlaced t n r m
+placed-same : (t : List Item) (n : ℕ) (q r : Queues) (l m : List Task) → ((j : Item) → queue_occurrences j r + waiting_adds j m ≡ queue_occurrences j q + waiting_adds j l) → ((j : Item) → leaving j m ≡ leaving j l) → IsOrdered m → IsPlaced t n q l → IsPlaced t n r m
 placed-same t n q r l m f g o p = record {
   stands = λ j. omega (arith, p.stands j, f j);
   known = λ j. omega (arith, p.known j, f j, g j);
@@ -227,7 +227,7 @@ placed-add t n k q l none p i e =
 placed-remove : (t : List Item) (n : ℕ) (q : Queues) (l : List Task) (i : Item) → 1 ≤ occurrences i t → IsPlaced t n q l → IsPlaced (items_without i t) n q (l ++ Remove i ∷ [])
 placed-remove t n q l i h p = record {
   stands = λ j. rw (waiting-append j l (Remove i ∷ [])) (omega (arith, times-without i j t, p.stands j));
-  known = λ j. rw (waiting-append j l (Remove i ∷ []), leaving-append j l (Remove i ∷ []), unless-same j i t) (elim (cases_Bool (is_same_item j i)) as (λ _. queue_occurrences j q + (waiting_tasks j l + 0) ≤ cond (is_same_item j i) 0 (occurrences j t) + (leaving j l + (cond (is_same_item j i) 1 0 + 0))) [
+  known = λ j. rw (waiting-append j l (Remove i ∷ []), leaving-append j l (Remove i ∷ []), unless-same j i t) (elim (cases_Bool (is_same_item j i)) as (λ _. queue_occurrences j q + (waiting_adds j l + 0) ≤ cond (is_same_item j i) 0 (occurrences j t) + (leaving j l + (cond (is_same_item j i) 1 0 + 0))) [
     | inl e ↦ rw e (omega (arith, p.known j, p.once j))
     | inr e ↦ rw e (omega (arith, p.known j))
   ]);
@@ -257,18 +257,18 @@ placed-add-done t n q l i p = placed-same t n q (queues_after_push Window i q) (
 
 placed-clear : (t : List Item) (n : ℕ) (q : Queues) (l : List Task) (i : Item) → IsPlaced t n q (Remove i ∷ l) → IsPlaced t n (queues_without i q) l
 placed-clear t n q l i p = record {
-  stands = λ j. rw (queued-taken j i q) (elim (cases_Bool (is_same_item j i)) as (λ _. occurrences j t ≤ cond (is_same_item j i) 0 (queue_occurrences j q) + waiting_tasks j l) [
+  stands = λ j. rw (queued-taken j i q) (elim (cases_Bool (is_same_item j i)) as (λ _. occurrences j t ≤ cond (is_same_item j i) 0 (queue_occurrences j q) + waiting_adds j l) [
     | inl e ↦
         let a : occurrences j t + (cond (is_same_item j i) 1 0 + leaving j l) ≤ 1 = p.once j in
         let b : occurrences j t + (1 + leaving j l) ≤ 1 = rw e at a in
         omega (arith, b)
     | inr e ↦ rw e (p.stands j)
   ]);
-  known = λ j. rw (queued-taken j i q) (elim (cases_Bool (is_same_item j i)) as (λ _. cond (is_same_item j i) 0 (queue_occurrences j q) + waiting_tasks j l ≤ occurrences j t + leaving j l) [
-    | inl e ↦ let s : j ≡ i = same-true j i e in let none : waiting_tasks j l ≡ 0 = rw s p.ordered.0 in rw e (omega (arith, none))
+  known = λ j. rw (queued-taken j i q) (elim (cases_Bool (is_same_item j i)) as (λ _. cond (is_same_item j i) 0 (queue_occurrences j q) + waiting_adds j l ≤ occurrences j t + leaving j l) [
+    | inl e ↦ let s : j ≡ i = same-true j i e in let none : waiting_adds j l ≡ 0 = rw s p.ordered.0 in rw e (omega (arith, none))
     | inr e ↦
-        let a : queue_occurrences j q + waiting_tasks j l ≤ occurrences j t + (cond (is_same_item j i) 1 0 + leaving j l) = p.known j in
-        let b : queue_occurrences j q + waiting_tasks j l ≤ occurrences j t + (0 + leaving j l) = rw e at a in
+        let a : queue_occurrences j q + waiting_adds j l ≤ occurrences j t + (cond (is_same_item j i) 1 0 + leaving j l) = p.known j in
+        let b : queue_occurrences j q + waiting_adds j l ≤ occurrences j t + (0 + leaving j l) = rw e at a in
         rw e (omega (arith, b))
   ]);
   once = λ j. omega (arith, p.once j);
@@ -279,11 +279,11 @@ placed-clear t n q l i p = record {
 
 placed-leave : (t : List Item) (n : ℕ) (q : Queues) (l : List Task) (v : Item) → 1 ≤ queue_occurrences v q → IsPlaced t n q l → IsPlaced (items_without v t) n (queues_without v q) l
 placed-leave t n q l v h p = record {
-  stands = λ j. rw (queued-taken j v q, unless-same j v t) (elim (cases_Bool (is_same_item j v)) as (λ _. cond (is_same_item j v) 0 (occurrences j t) ≤ cond (is_same_item j v) 0 (queue_occurrences j q) + waiting_tasks j l) [
+  stands = λ j. rw (queued-taken j v q, unless-same j v t) (elim (cases_Bool (is_same_item j v)) as (λ _. cond (is_same_item j v) 0 (occurrences j t) ≤ cond (is_same_item j v) 0 (queue_occurrences j q) + waiting_adds j l) [
     | inl e ↦ rw e (omega arith)
     | inr e ↦ rw e (p.stands j)
   ]);
-  known = λ j. rw (queued-taken j v q, unless-same j v t) (elim (cases_Bool (is_same_item j v)) as (λ _. cond (is_same_item j v) 0 (queue_occurrences j q) + waiting_tasks j l ≤ cond (is_same_item j v) 0 (occurrences j t) + leaving j l) [
+  known = λ j. rw (queued-taken j v q, unless-same j v t) (elim (cases_Bool (is_same_item j v)) as (λ _. cond (is_same_item j v) 0 (queue_occurrences j q) + waiting_adds j l ≤ cond (is_same_item j v) 0 (occurrences j t) + leaving j l) [
     | inl e ↦ let s : j ≡ v = same-true j v e in let a : 1 ≤ queue_occurrences j q = rw s h in rw e (omega (arith, a, p.known j, p.once j))
     | inr e ↦ rw e (p.known j)
   ]);

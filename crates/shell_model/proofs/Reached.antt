@@ -8,10 +8,10 @@ use Rattle.step_record.specs.declared.step.Step.{Step}
 use Rattle.step_record.specs.declared.step.Reply.{Reply}
 use Rattle.shell_model.specs.declared.record.ShellRecord.{ShellRecord}
 use Rattle.shell_model.specs.Shell.{Shell, act}
-use Rattle.shell_model.specs.Consistent.{IsConsistent}
+use Rattle.shell_model.specs.Consistency.{IsConsistent}
 use Rattle.shell_model.specs.Records.{change_of}
 use Rattle.shell_model.specs.Laws.{MadeStep, IsShapeOf, empty_shell, some_end, open_began}
-use Rattle.shell_model.specs.Reached.{IsReachable, RecordLaw, LaterLaws}
+use Rattle.shell_model.specs.ReachableShell.{IsReachable, RecordLaw, LaterLaws}
 use Rattle.shell_model.specs.ShellStats.{counted_of}
 use Rattle.shell_model.proofs.Acting.{IsUndone, act-undone}
 use Rattle.shell_model.proofs.Making as k

@@ -12,7 +12,7 @@ use Rattle.step_record.specs.Config.{is_from_one, config_fault}
 use Rattle.step_record.specs.History.{next_data, data_after, IsLegal}
 use Rattle.shell_model.specs.Shell.{Shell, act}
 use Rattle.shell_model.specs.Laws.{MadeStep, empty_shell}
-use Rattle.shell_model.specs.Reached.{IsReachable}
+use Rattle.shell_model.specs.ReachableShell.{IsReachable}
 use Rattle.shell_model.proofs.Making as k
 use Rattle.shell_model.proofs.Making.{Makes}
 use Rattle.shell_model.proofs.Histories.{Steps, stepped}

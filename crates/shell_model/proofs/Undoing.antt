@@ -20,7 +20,7 @@ use Rattle.replacement.specs.declared.record.Moves.{Moves}
 use Rattle.replacement.specs.Rules.{three_queues}
 use Rattle.replacement.specs.Table.{hit_in}
 use Rattle.replacement.specs.Plan.{Plan, hit_plan, stay_plan, candidate_of, eviction_plan}
-use Rattle.replacement.specs.Moving.{queues_after_transfer, queues_after, response_of_plan, removal_record, moves_of, undone_by, undone_moves, FitsBy, FitsMoves}
+use Rattle.replacement.specs.PlanMoves.{queues_after_transfer, queues_after, response_of_plan, removal_record, moves_of, undone_by, undone_moves, FitsBy, FitsMoves}
 use Rattle.replacement.proofs.Carrying.{carries}
 use Rattle.replacement.proofs.Planned.{hits-planned}
 use Rattle.shell_buffers.specs.declared.task.Task.{Task}
@@ -32,9 +32,9 @@ use Rattle.shell_model.specs.declared.record.Change.TheVariants.{Nothing, Offere
 use Rattle.shell_model.specs.Frequency.{frequency_unrecorded, admits}
 use Rattle.shell_buffers.specs.Buffers.{stripe_at, all_but_newest}
 use Rattle.shell_model.specs.Shell.{Shell, node_of, is_listed, unlisted, shell_protected_size, cleared_from, offer_effect, put_effect, put_at, removing, remove_at, begin_effect, is_over, held_by, in_phase, drain_at_end, shell_after_touch, drain_read, drain_write, apply_task, evict_effect, end_effect, some_if, may_read, may_write, is_stripe, hold_read, hold_write, hold_evict, hold_end, act_effect}
-use Rattle.shell_model.specs.Evicting.{unlisted_by, evicted_by}
+use Rattle.shell_model.specs.ShellEviction.{unlisted_by, evicted_by}
 use Rattle.shell_model.specs.Records.{IsNewest, FitsTouched, entered, IsOut, before_change, FitsChange, hit_moves, touched_of, added_of, cleared_of, task_change, put_change, remove_change, begin_change, read_change, write_change, leaves_table, planned_change, evict_change, if_held, change_of}
-use Rattle.shell_model.specs.Consistent.{IsConsistent, queue_occurrences, waiting_tasks, leaving, IsAscending}
+use Rattle.shell_model.specs.Consistency.{IsConsistent, queue_occurrences, waiting_adds, leaving, IsAscending}
 use Rattle.shell_model.proofs.Counting.{queued-moved, without-placed, node_of-placed, placed-without, node_of-without, listed-times, node-listed}
 use Rattle.shell_model.proofs.Evicting.{evictions-by-plan}
 use Rattle.shell_model.proofs.Frequency.{fits_recorded, unrecorded-recorded}
@@ -188,9 +188,9 @@ hold_read-goes s w (Some h) x v =
 
 pub queued-waits : (i : Item) (rest : List Task) (x : Shell) → x.writes ≡ Add i ∷ rest → IsConsistent x → queue_occurrences i x.queues ≡ 0
 queued-waits i rest x e w =
-    let a : queue_occurrences i x.queues + waiting_tasks i x.writes ≤ 1 = omega (arith, w.placed.known i, w.placed.once i) in
-    let b : queue_occurrences i x.queues + (cond (is_same_item i i) 1 0 + waiting_tasks i rest) ≤ 1 = rw e at a in
-    let c : queue_occurrences i x.queues + (1 + waiting_tasks i rest) ≤ 1 = rw (same-refl i) at b in
+    let a : queue_occurrences i x.queues + waiting_adds i x.writes ≤ 1 = omega (arith, w.placed.known i, w.placed.once i) in
+    let b : queue_occurrences i x.queues + (cond (is_same_item i i) 1 0 + waiting_adds i rest) ≤ 1 = rw e at a in
+    let c : queue_occurrences i x.queues + (1 + waiting_adds i rest) ≤ 1 = rw (same-refl i) at b in
     omega (arith, c)
 
 added-back : (i : Item) (rest : List Task) (x : Shell) → x.writes ≡ Add i ∷ rest → IsConsistent x → TouchBack (added_of i x) x (apply_task (Add i) x).1

@@ -31,7 +31,7 @@ use Rattle.shell_model.specs.ShellStats.{is_busy_reply, is_removed_reply}
 use Rattle.shell_buffers.specs.Buffers.{stripe_at}
 use Rattle.replacement.specs.Rules.{main_size}
 use Rattle.shell_model.specs.Shell.{Shell, act}
-use Rattle.shell_model.specs.Consistent.{queue_occurrences, waiting_tasks, leaving, main_length}
+use Rattle.shell_model.specs.Consistency.{queue_occurrences, waiting_adds, leaving, main_length}
 
 -- a step with its reply
 abbrev pub MadeStep : Type 0
@@ -202,8 +202,8 @@ pub record IsHistory (s : Shape) (es : List MadeStep) (x : Shell) : Type 0 where
       ↔ ((1 ≤ occurrences i (collect added es)) × (occurrences i (collect evicted_items es) ≡ 0)
       × (occurrences i (collect removed_items es) ≡ 0))
   pub stands : (i : Item) → 1 ≤ occurrences i x.table
-      → (queue_occurrences i x.queues + waiting_tasks i x.writes ≡ 1) × (leaving i x.writes ≡ 0)
-  pub others : (i : Item) → occurrences i x.table ≡ 0 → 1 ≤ queue_occurrences i x.queues + waiting_tasks i x.writes
+      → (queue_occurrences i x.queues + waiting_adds i x.writes ≡ 1) × (leaving i x.writes ≡ 0)
+  pub others : (i : Item) → occurrences i x.table ≡ 0 → 1 ≤ queue_occurrences i x.queues + waiting_adds i x.writes
       → leaving i x.writes ≡ 1
   pub behind : (i : Item) (before rest : List Task) → x.writes ≡ before ++ Add i ∷ rest → leaving i before ≡ 0
   pub main : main_length x.queues ≤ main_size x.config

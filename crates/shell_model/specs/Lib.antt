@@ -2,7 +2,7 @@ pub mod Frequency
 pub mod ShellStats
 pub mod Shell
 pub mod Records
-pub mod Consistent
-pub mod Evicting
+pub mod Consistency
+pub mod ShellEviction
 pub mod Laws
-pub mod Reached
+pub mod ReachableShell

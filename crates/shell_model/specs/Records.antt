@@ -18,7 +18,7 @@ use Rattle.segments.specs.Moves.{move_record}
 use Rattle.replacement.specs.declared.record.Moves.{Moves}
 use Rattle.replacement.specs.Rules.{three_queues}
 use Rattle.replacement.specs.Plan.{Plan, hit_plan, stay_plan, candidate_of, eviction_plan}
-use Rattle.replacement.specs.Moving.{moves_of, undone_by, undone_moves, FitsBy, FitsMoves}
+use Rattle.replacement.specs.PlanMoves.{moves_of, undone_by, undone_moves, FitsBy, FitsMoves}
 use Rattle.shell_buffers.specs.declared.task.Task.{Task}
 use Rattle.shell_buffers.specs.declared.task.Task.TheVariants.{Add, Update, Remove}
 use Rattle.admission.specs.FreqRecord.{size_of}

@@ -1,11 +1,11 @@
 //! What holds of every list of steps. Each of these functions does nothing: its contract is the theorem.
-ghost use Rattle.shell_model.specs.Evicting.{EvictionsAgree, ShellEvictionsPlanned};
+ghost use Rattle.shell_model.specs.ShellEviction.{EvictionsAgree, ShellEvictionsPlanned};
 ghost use Rattle.shell_model.specs.Laws.{HistoryLaws};
-ghost use Rattle.shell_model.specs.Reached.{RecordLaw, LaterLaws, BoundLaw, HoldLaws};
+ghost use Rattle.shell_model.specs.ReachableShell.{RecordLaw, LaterLaws, BoundLaw, HoldLaws};
 ghost use Rattle.shell_model.specs.Shell.{act};
 ghost use Rattle.step_record.specs.Answers.{AnswersItsActs};
 
-/// The replies so far tell the state of a shell that was opened empty: each read buffer is the offers kept less those
+/// The replies so far determine the state of a shell that was opened empty: each read buffer is the offers kept less those
 /// drained, the write queue is the tasks of puts and removals less those applied, each statistic is a count of replies,
 /// an item is in the table exactly where a put added it and no eviction or removal named it, it is queued or waits for
 /// that just once, the frequency is that of the keys applied, and the holder is the worker of the last Began.

@@ -6,7 +6,7 @@ use Rattle.replacement.specs.Shape.{shape_of}
 use Rattle.replacement.proofs.Shape.{own-shape}
 use Rattle.shell_model.specs.Shell.{Shell}
 use Rattle.shell_model.specs.Laws.{empty_shell}
-use Rattle.maintenance.specs.Opened.{IsOpened}
+use Rattle.maintenance.specs.EmptyShell.{IsOpened}
 
 own-frequency : (c : Config) (x : Shell) (h : IsOpened c x) → frequency_of h.shape [] ≡ frequency_of (shape_of c) []
 own-frequency c x h = own-shape c [] (frequency_of h.shape []) record { shape = h.shape; is = h.shape_is.is; capacity_is = h.shape_is.capacity; spread_is = h.shape_is.spread; stands = refl }

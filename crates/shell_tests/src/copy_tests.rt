@@ -1,8 +1,8 @@
 //! A session over the concurrent cache, copied by way of its text.
 ghost use Rattle.std.specs.Prelude.{◌≡◌, ◌≤◌, [], IfOk, OnOk, length};
-ghost use Rattle.maintenance.specs.Opened.{IsOpened};
+ghost use Rattle.maintenance.specs.EmptyShell.{IsOpened};
 ghost use Rattle.shell_journal.specs.Copy.{CanHold};
-ghost use Rattle.shell_model.specs.Reached.{IsReachable};
+ghost use Rattle.shell_model.specs.ReachableShell.{IsReachable};
 
 use super::assertions::assert_equal;
 use super::sessions::CONFIG;

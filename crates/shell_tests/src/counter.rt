@@ -1,11 +1,11 @@
-//! An engine for tests: it counts its steps, and is refused memory at calls that are set by number.
+//! An engine for tests: it counts its steps, and fails to allocate at calls that are set by number.
 ghost use Rattle.std.specs.Prelude.{◌≡◌};
 
 use std::marker::Model;
 use step_record::{Engine, MAX_STEPS, StepFault};
 
 /// A count of steps. Its calls of `apply` and `undo` count from 1, and those whose numbers are
-/// given are refused memory. A step is no value, the reply is the new count, and so is the record.
+/// given fail to allocate. A step is no value, the reply is the new count, and so is the record.
 #[derive(Debug, Drop)]
 pub struct Counter {
     count: u64,
@@ -36,7 +36,7 @@ impl Counter {
         }
     }
 
-    // Whether the call that begins now is one of those that are refused memory.
+    // Whether the call that begins now is one of those that fail to allocate.
     fn is_refused(&mut self) -> bool
         ensures { self.new ≡ self.old }
     {

@@ -1,4 +1,4 @@
-//! Sessions over an engine that is refused memory at calls that are set by number.
+//! Sessions over an engine that fails to allocate at calls that are set by number.
 use super::assertions::assert_equal;
 use super::counter::Counter;
 use journal::{BackFault, ForwardFault, GotoFault, Session, SessionFault};
@@ -17,7 +17,7 @@ fn step_to(rt: &impl Abort, session: &mut Session<Counter>, last: u64) {
     }
 }
 
-// Goes back twice, since the first is refused memory at its third step.
+// Goes back twice, since the first fails to allocate at its third step.
 fn assert_back(rt: &impl Abort, session: &mut Session<Counter>) {
     assert_equal(
         rt,
@@ -29,14 +29,14 @@ fn assert_back(rt: &impl Abort, session: &mut Session<Counter>) {
     assert_place(rt, session, (0, 5));
 }
 
-// Goes forward, refused memory at the second step.
+// Goes forward, failing to allocate at the second step.
 fn assert_forward(rt: &impl Abort, session: &mut Session<Counter>) {
     let answer = session.forward(5);
     assert_equal(rt, answer, Err(ForwardFault::OutOfMemory { done: 1 }));
     assert_place(rt, session, (1, 4));
 }
 
-// Goes to a number of steps, refused memory past the third.
+// Goes to a number of steps, failing to allocate past the third.
 fn assert_goto(rt: &impl Abort, session: &mut Session<Counter>) {
     assert_equal(rt, session.goto(4), Err(GotoFault::OutOfMemory { at: 3 }));
     assert_place(rt, session, (3, 2));

@@ -1,4 +1,4 @@
-//! Tests of sessions: over an engine that is refused memory at calls that are set by number, and over a `Shell`, made by
+//! Tests of sessions: over an engine that fails to allocate at calls that are set by number, and over a `Shell`, made by
 //! hand, undone, redone, written as text and read back.
 #![tactic(auto)]
 

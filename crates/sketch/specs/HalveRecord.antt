@@ -1,5 +1,5 @@
 -- A halving's record: what it is, when it fits a table, and what undoing it leaves. It keeps a bit for each counter;
--- the bits of 64 counters fill a word, where those of each sixteen stand four places apart (this project's profile).
+-- the bits of 64 counters fill a word, where those of each sixteen stand four places apart (defined by this project).
 use Rattle.std.specs.Prelude.{◌≡◌, ℕ, ◌+◌, ◌*◌, ◌/◌, ◌%◌, ◌<◌, ◌≤◌, false, cond, ◌==◌, length, slice_index}
 use Rattle.std.specs.Prelude.{slice_index_or}
 use Rattle.bits_and_lists.specs.Places.{by_place}

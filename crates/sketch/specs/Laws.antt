@@ -1,4 +1,4 @@
--- Words of counters, halved all at once, and the bits that are lost (this project's profile).
+-- Words of counters, halved all at once, and the bits that are lost (defined by this project).
 use Rattle.std.specs.Prelude.{ℕ, ◌+◌, ◌*◌, ◌/◌, ◌%◌, ◌^◌, List, length, slice_index, bit_and, bit_or}
 use Rattle.sketch.specs.Counters.{nibble}
 use Rattle.bits_and_lists.specs.Places.{by_place}

@@ -1,6 +1,6 @@
 //! The undo record of a halving.
 ghost use Rattle.std.specs.Prelude.{◌≡◌, ◌≤◌, ◌/◌, length};
-ghost use Rattle.bits_and_lists.specs.declared.bit_list.TheConstants.{MAX_WORDS};
+ghost use Rattle.bits_and_lists.specs.declared.bit_list.TheConstants.{MAX_LIST_WORDS};
 
 use bits_and_lists::BitList;
 
@@ -14,7 +14,7 @@ impl HalveRecord {
     /// How many words the record holds.
     pub fn words(&self) -> u64
         ensures words { result ≡ length self.now.lost / 64 }
-        ensures few { result ≤ MAX_WORDS }
+        ensures few { result ≤ MAX_LIST_WORDS }
     {
         self.lost.words()
     }

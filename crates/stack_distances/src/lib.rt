@@ -23,10 +23,9 @@ mod limits;
 mod marks;
 mod reuses;
 mod sum_layer;
-mod theorems;
+pub mod theorems;
 mod total;
 mod window;
 
 pub use curve::Curve;
 pub use reuses::Reuses;
-pub use theorems::{hits_grow, lru_counts, lru_hits};

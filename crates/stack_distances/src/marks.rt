@@ -3,7 +3,7 @@ ghost use Rattle.std.specs.Prelude.{◌≡◌, ℕ, ◌<◌, ◌≤◌, ◌*◌,
 ghost use Rattle.step_record.specs.declared.limits.TheConstants.{MAX_ACCESSES};
 ghost use Rattle.bits_and_lists.specs.Bits.{bit_of};
 ghost use Rattle.stack_distances.specs.declared.limits.TheConstants.{FAN_OUT};
-ghost use Rattle.stack_distances.specs.Sums.{IsAbove, mark_of, sum_below};
+ghost use Rattle.stack_distances.specs.Sums.{IsSumLayer, mark_of, sum_below};
 
 use crate::counts::Counts;
 use crate::limits::FAN_OUT;
@@ -18,7 +18,7 @@ use std::alloc::{AllocError, Global};
 pub(crate) struct Marks {
     words: Vec<u64>,
     counts: SumLayer<SumLayer<SumLayer<Total>>>,
-    ghost above: { IsAbove (mark_of words.items) (⟦<SumLayer<SumLayer<SumLayer<Total>>> as Counts>⟧.count counts) },
+    ghost above: { IsSumLayer (mark_of words.items) (⟦<SumLayer<SumLayer<SumLayer<Total>>> as Counts>⟧.count counts) },
     ghost long: { length words.items ≤ ⟦<SumLayer<SumLayer<SumLayer<Total>>> as Counts>⟧.size counts },
 }
 

@@ -1,7 +1,7 @@
 //! A layer of counts, under the sums of 64 of them each.
 ghost use Rattle.std.specs.Prelude.{◌≤◌, ◌*◌, length, slice_index};
 ghost use Rattle.stack_distances.specs.declared.limits.TheConstants.{FAN_OUT};
-ghost use Rattle.stack_distances.specs.Sums.{IsAbove};
+ghost use Rattle.stack_distances.specs.Sums.{IsSumLayer};
 
 use crate::counts::Counts;
 use crate::limits::FAN_OUT;
@@ -12,7 +12,7 @@ use std::alloc::{AllocError, Global};
 pub(crate) struct SumLayer<U: Counts> {
     counts: Vec<u32>,
     upper: U,
-    ghost above: { IsAbove (slice_index counts.items) (U.count upper) },
+    ghost above: { IsSumLayer (slice_index counts.items) (U.count upper) },
     ghost long: { length counts.items ≤ FAN_OUT * U.size upper },
 }
 

@@ -1,2 +1,2 @@
 pub mod Part
-pub mod Since
+pub mod GivenBytes

@@ -56,22 +56,22 @@ same_bool false true h = h
 same_bool false false h = refl
 
 -- the top bit of a lane of the comparison
-abbrev told : ℕ → Bool
-told x = top 7 (cond (leb 10 ((x + (256 - 48)) % 256)) 255 0)
+abbrev compared : ℕ → Bool
+compared x = top 7 (cond (leb 10 ((x + (256 - 48)) % 256)) 255 0)
 
-lanes_told : (xs : List ℕ) → AllBelowBase 256 xs
+lanes_compared : (xs : List ℕ) → AllBelowBase 256 xs
     → map (top 7) (zip2 (λ a b. cond (leb a b) 255 0) (replicate (length xs) 10) (zip2 (λ a b. (a + (256 - b)) % 256) xs (replicate (length xs) 48))) ≡ map is_other xs
-lanes_told [] fits = refl
-lanes_told (x ∷ xs) fits =
-    let here : told x ≡ is_other x = same_bool _ _ (tried 256 (λ y. cond (told y) (is_other y) (not (is_other y))) refl x fits.0) in
-    (λ i. here i ∷ lanes_told xs fits.1 i)
+lanes_compared [] fits = refl
+lanes_compared (x ∷ xs) fits =
+    let here : compared x ≡ is_other x = same_bool _ _ (tried 256 (λ y. cond (compared y) (is_other y) (not (is_other y))) refl x fits.0) in
+    (λ i. here i ∷ lanes_compared xs fits.1 i)
 
 pub others_are : (xs : List ℕ) (n : ℕ) → length xs ≡ n → n ≤ 64 → AllBelowBase 256 xs
     → mask_l (map (top 7) (zip2 (λ a b. cond (leb a b) 255 0) (replicate n 10) (zip2 (λ a b. (a + (256 - b)) % 256) xs (replicate n 48)))) % 2 ^ 64 ≡ mask_l (map is_other xs)
 others_are xs n long few fits =
     let count : length (map is_other xs) ≤ 64 = omega (arith, length-map xs is_other) in
     (λ i. mask_l (map (top 7) (zip2 (λ a b. cond (leb a b) 255 0) (replicate (sym long i) 10) (zip2 (λ a b. (a + (256 - b)) % 256) xs (replicate (sym long i) 48)))) % 2 ^ 64)
-    ∙ ap (λ l. mask_l l % 2 ^ 64) (lanes_told xs fits) ∙ mask_l-mod (map is_other xs) 64 count
+    ∙ ap (λ l. mask_l l % 2 ^ 64) (lanes_compared xs fits) ∙ mask_l-mod (map is_other xs) 64 count
 
 -- the bits of the first 64 bytes from a place on
 pub marks_first : (bytes : List ℕ) (at others : ℕ) → at + 64 ≤ length bytes → others ≡ mask_l (map is_other (take 64 (take (length bytes - at) (drop at bytes))))

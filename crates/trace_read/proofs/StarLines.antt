@@ -7,14 +7,14 @@ use Rattle.trace_read.proofs.Taken.{line_taken, nothing_read, taken_then}
 use Rattle.trace_read.specs.DigitRuns.{is_other, DigitsBetween}
 use Rattle.trace_read.specs.Lines.{is_feed, AreStarLines}
 use Rattle.text_lines.specs.Feeds.{HasNoFeed}
-use Rattle.trace_read.specs.Reading.{IsRead}
-use Rattle.trace_read.specs.Scanned.{IsEnded, IsScan, IsTaken}
+use Rattle.trace_read.specs.TraceText.{IsRead}
+use Rattle.trace_read.specs.ScanState.{IsEnded, IsScan, IsTakenUpTo}
 use Rattle.trace_read.specs.declared.format.Format.TheVariants.{Lirs}
 use Rattle.trace_read.specs.declared.scan.Scan.{Scan}
 
 pub star_taken : (now next : Scan) (bytes : List ℕ) (place : ℕ) → IsScan now → now.format ≡ Lirs → now.cut.items ≡ [] → place + 2 ≤ length bytes
     → get_or bytes place 0 ≡ 42 → get_or bytes (place + 1) 0 ≡ 10
-    → next.format ≡ now.format → next.keys ≡ now.keys → next.line ≡ now.line + 1 → next.cut ≡ now.cut → IsTaken now bytes place (place + 2) next
+    → next.format ≡ now.format → next.keys ≡ now.keys → next.line ≡ now.line + 1 → next.cut ≡ now.cut → IsTakenUpTo now bytes place (place + 2) next
 star_taken now next bytes place scan lirs none room star feed format keys line cut =
     let one : place + 1 - place ≡ 1 = omega arith in
     let none_before = no_feed_on bytes place place (λ k low high. absurd (omega arith)) (ap is_feed star) in
@@ -30,16 +30,16 @@ star_taken now next bytes place scan lirs none room star feed format keys line c
       line = line;
       format = format;
     } in
-    subst (λ n. IsTaken now bytes place n next) {x = place + 1 + 1} (omega arith) (line_taken now bytes place (place + 1) scan none (omega arith) (omega arith) none_before feed next kept ended)
+    subst (λ n. IsTakenUpTo now bytes place n next) {x = place + 1 + 1} (omega arith) (line_taken now bytes place (place + 1) scan none (omega arith) (omega arith) none_before feed next kept ended)
 
 -- some such lines
-pub stars_taken : (first now : Scan) (bytes : List ℕ) (start place count : ℕ) → IsTaken first bytes start place now → now.format ≡ Lirs → AreStarLines bytes place count
-    → IsTaken first bytes start (place + 2 * count) (record { alloc = now.alloc; format = now.format; keys = now.keys; line = now.line + count; cut = now.cut })
+pub stars_taken : (first now : Scan) (bytes : List ℕ) (start place count : ℕ) → IsTakenUpTo first bytes start place now → now.format ≡ Lirs → AreStarLines bytes place count
+    → IsTakenUpTo first bytes start (place + 2 * count) (record { alloc = now.alloc; format = now.format; keys = now.keys; line = now.line + count; cut = now.cut })
 stars_taken first now bytes start place zero taken lirs stars =
     let end : place ≡ place + 2 * 0 = omega arith in
     let line : now.line ≡ now.line + 0 = omega arith in
-    subst (λ n. IsTaken first bytes start n (record { alloc = now.alloc; format = now.format; keys = now.keys; line = now.line + 0; cut = now.cut })) end
-    (subst (λ l. IsTaken first bytes start place (record { alloc = now.alloc; format = now.format; keys = now.keys; line = l; cut = now.cut })) line taken)
+    subst (λ n. IsTakenUpTo first bytes start n (record { alloc = now.alloc; format = now.format; keys = now.keys; line = now.line + 0; cut = now.cut })) end
+    (subst (λ l. IsTakenUpTo first bytes start place (record { alloc = now.alloc; format = now.format; keys = now.keys; line = l; cut = now.cut })) line taken)
 stars_taken first now bytes start place (suc n) taken lirs stars =
     let fewer : AreStarLines bytes place n = record {
       within = omega (arith, stars.within);
@@ -53,8 +53,8 @@ stars_taken first now bytes start place (suc n) taken lirs stars =
     let all = taken_then first _ _ bytes start (place + 2 * n) (place + 2 * n + 2) before last in
     let end : place + 2 * n + 2 ≡ place + 2 * suc n = omega arith in
     let line : now.line + n + 1 ≡ now.line + suc n = omega arith in
-    subst (λ m. IsTaken first bytes start m (record { alloc = now.alloc; format = now.format; keys = now.keys; line = now.line + suc n; cut = now.cut })) end
-    (subst (λ l. IsTaken first bytes start (place + 2 * n + 2) (record { alloc = now.alloc; format = now.format; keys = now.keys; line = l; cut = now.cut })) line all)
+    subst (λ m. IsTakenUpTo first bytes start m (record { alloc = now.alloc; format = now.format; keys = now.keys; line = now.line + suc n; cut = now.cut })) end
+    (subst (λ l. IsTakenUpTo first bytes start (place + 2 * n + 2) (record { alloc = now.alloc; format = now.format; keys = now.keys; line = l; cut = now.cut })) line all)
 
 -- such lines begin with no digit
 pub none_before_star : (bytes : List ℕ) (start end count : ℕ) → start ≤ end → 0 < count → AreStarLines bytes start count → DigitsBetween bytes start end → end ≡ start

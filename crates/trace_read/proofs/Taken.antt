@@ -9,15 +9,15 @@ use Rattle.trace_read.specs.DigitRuns.{NoFeedBetween}
 use Rattle.text_lines.specs.Feeds.{feed_in}
 use Rattle.trace_read.proofs.Steps.{ended_ahead, of_line, refused_here}
 use Rattle.trace_read.specs.Lines.{line_of, run_of}
-use Rattle.trace_read.specs.Reading.{fault_after, keys_or_none, IsRead, IsStopped, IsTraceRefused}
+use Rattle.trace_read.specs.TraceText.{fault_after, keys_or_none, IsRead, IsStopped, IsTraceRefused}
 use Rattle.trace_read.specs.declared.format.Format.{Format}
 use Rattle.trace_read.specs.declared.format.Format.TheVariants.{Arc, Lirs}
-use Rattle.trace_read.specs.Scanned.{fault_ahead, keys_ahead, IsEnded, IsRefusedFrom, IsScan, IsTaken}
+use Rattle.trace_read.specs.ScanState.{fault_ahead, keys_ahead, IsEnded, IsRefusedFrom, IsScan, IsTakenUpTo}
 use Rattle.trace_read.specs.declared.fault.TraceFault.{TraceFault}
 use Rattle.trace_read.specs.declared.fault.TraceFault.TheVariants.{OutOfMemory}
 use Rattle.trace_read.specs.declared.scan.Scan.{Scan}
 
-pub nothing_taken : (s : Scan) (bytes : List ℕ) (start : ℕ) → IsScan s → s.cut.items ≡ [] → start ≤ length bytes → IsTaken s bytes start start s
+pub nothing_taken : (s : Scan) (bytes : List ℕ) (start : ℕ) → IsScan s → s.cut.items ≡ [] → start ≤ length bytes → IsTakenUpTo s bytes start start s
 nothing_taken s bytes start scan none within = record {
   scan = scan;
   cut = none;
@@ -28,7 +28,7 @@ nothing_taken s bytes start scan none within = record {
   keys = λ more. refl;
 }
 
-pub taken_then : (first mid last : Scan) (bytes : List ℕ) (start middle end : ℕ) → IsTaken first bytes start middle mid → IsTaken mid bytes middle end last → IsTaken first bytes start end last
+pub taken_then : (first mid last : Scan) (bytes : List ℕ) (start middle end : ℕ) → IsTakenUpTo first bytes start middle mid → IsTakenUpTo mid bytes middle end last → IsTakenUpTo first bytes start end last
 taken_then first mid last bytes start middle end one two = record {
   scan = two.scan;
   cut = two.cut;
@@ -39,7 +39,7 @@ taken_then first mid last bytes start middle end one two = record {
   keys = λ more. two.keys more ∙ one.keys more;
 }
 
-pub refused_then : (first mid : Scan) (bytes : List ℕ) (start middle : ℕ) (e : TraceFault) → IsTaken first bytes start middle mid → IsRefusedFrom mid bytes middle e → IsRefusedFrom first bytes start e
+pub refused_then : (first mid : Scan) (bytes : List ℕ) (start middle : ℕ) (e : TraceFault) → IsTakenUpTo first bytes start middle mid → IsRefusedFrom mid bytes middle e → IsRefusedFrom first bytes start e
 refused_then first mid bytes start middle e one refused = elim refused [
   | inl none ↦ inl none
   | inr fault ↦ inr (fault.0, λ more. sym (one.fault more) ∙ fault.1 more)
@@ -60,7 +60,7 @@ module _ (now : Scan) (bytes : List ℕ) (start end : ℕ) (scan : IsScan now) (
   behind : drop (end - start + 1) rest ≡ drop (end + 1) bytes
   behind = drop-drop (end - start + 1) start bytes ∙ ap (λ k. drop k bytes) (omega arith)
 
-  pub line_taken : (next : Scan) → IsScan next → IsEnded now (take (end - start) rest) next → IsTaken now bytes start (end + 1) next
+  pub line_taken : (next : Scan) → IsScan next → IsEnded now (take (end - start) rest) next → IsTakenUpTo now bytes start (end + 1) next
   line_taken next kept ended =
       let step = λ (more : List ℕ). ended_ahead now _ _ (rest ++ more) (drop (end - start + 1) rest ++ more) ended
       (cut_line now.cut.items rest more (end - start) scan.cut feed lt) in

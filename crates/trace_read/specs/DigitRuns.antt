@@ -8,7 +8,7 @@ use Rattle.trace_read.specs.declared.digit_runs.DigitRun.{DigitRun}
 use Rattle.trace_read.specs.declared.digit_runs.DigitRuns.{DigitRuns}
 use Rattle.trace_read.specs.declared.digit_runs.LineEnd.{LineEnd}
 
--- a byte that is no digit
+-- a byte that is not a digit
 abbrev pub is_other : ℕ → Bool
 is_other b = not (is_ascii_digit b)
 
@@ -37,7 +37,7 @@ pub record IsDigitRuns (s : DigitRuns) : Type 0 where
   pub marks : MarksOthers s.bytes.now s.from s.to s.others
 
 -- a run of digits that was found, and the runs behind it
-pub record IsFound (bytes : List ℕ) (run : DigitRun) (ahead : DigitRuns) : Type 0 where
+pub record IsNextRun (bytes : List ℕ) (run : DigitRun) (ahead : DigitRuns) : Type 0 where
   pub runs : IsDigitRuns ahead
   pub same : ahead.bytes.now ≡ bytes
   pub behind : ahead.start ≡ run.end + 1

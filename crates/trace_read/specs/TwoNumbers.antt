@@ -2,7 +2,7 @@
 use Rattle.std.specs.Prelude.{◌≡◌, ℕ, ◌+◌, ◌-◌, ◌<◌, ◌^◌, false, true, List, get_or, take, drop}
 use Rattle.std.specs.Str.{all_ascii_digits}
 use Rattle.std.specs.Str.Parse.{digits_value}
-use Rattle.trace_read.specs.DigitRuns.{IsFound}
+use Rattle.trace_read.specs.DigitRuns.{IsNextRun}
 use Rattle.trace_read.specs.Lines.{is_feed, is_gap}
 use Rattle.trace_read.specs.declared.arc.TwoNumbers.{TwoNumbers}
 use Rattle.trace_read.specs.declared.digit_runs.DigitRun.{DigitRun}
@@ -16,7 +16,7 @@ pub record IsNumberAt (bytes : List ℕ) (run : DigitRun) (number : ℕ) : Type 
 
 -- the first number, a space or a tab, and the second, with nothing or a gap behind it in its line
 pub record AreTwoNumbers (bytes : List ℕ) (first : DigitRun) (numbers : TwoNumbers) : Type 0 where
-  pub found : IsFound bytes numbers.second numbers.runs
+  pub found : IsNextRun bytes numbers.second numbers.runs
   pub behind : numbers.second.start ≡ first.end + 1
   pub start : IsNumberAt bytes first numbers.run.start
   pub count : IsNumberAt bytes numbers.second numbers.run.count

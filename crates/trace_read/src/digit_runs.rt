@@ -1,7 +1,7 @@
 //! Runs of digits and what ends them, 64 bytes at a time.
 ghost use Rattle.std.specs.Prelude.{◌≡◌, ◌≤◌, ◌+◌, ◌-◌, IfSome, IsTrue, None, length, map, take};
 ghost use Rattle.std.specs.Simd.Lanes.{mask_l};
-ghost use Rattle.trace_read.specs.DigitRuns.{is_other, DigitsBetween, IsDigitRuns, IsFound, IsLineEnd};
+ghost use Rattle.trace_read.specs.DigitRuns.{is_other, DigitsBetween, IsDigitRuns, IsNextRun, IsLineEnd};
 
 use std::simd::prelude::*;
 
@@ -29,7 +29,7 @@ impl DigitRun {
     }
 }
 
-/// Goes through the runs of digits of some bytes, each of which ends at a byte that is no digit, but for those that end
+/// Goes through the runs of digits of some bytes, each of which ends at a byte that is not a digit, but for those that end
 /// in the last few bytes. The ends within 64 bytes are found at once, so that no run waits for the one before it to be
 /// read.
 #[derive(Clone, Copy, Drop)]
@@ -37,7 +37,7 @@ pub struct DigitRuns<'a> {
     pub bytes: &'a [u8],
     /// Where the next run begins.
     pub start: usize,
-    // A bit for each byte between these two places: whether it is no digit. Between `start` and `from` all are digits.
+    // A bit for each byte between these two places: whether it is not a digit. Between `start` and `from` all are digits.
     from: usize,
     to: usize,
     others: u64,
@@ -120,7 +120,7 @@ impl<'a> DigitRuns<'a> {
     /// The end of the line that this run, the one before these, is in; `None` where it is in the last few bytes.
     #[inline(always)]
     pub fn line_end(self, run: DigitRun) -> Option<LineEnd<'a>>
-        requires { IsFound self.bytes.now run self }
+        requires { IsNextRun self.bytes.now run self }
         ensures line { IfSome result (IsLineEnd self.entry.bytes.now run.start) }
         ensures past { IfSome result (λ l. run.end ≤ l.end) }
     {
@@ -136,7 +136,7 @@ impl<'a> DigitRuns<'a> {
     }
 }
 
-// The bytes that are no digits among the first 64: a bit for each byte, the lowest for the first.
+// The bytes that are not digits among the first 64: a bit for each byte, the lowest for the first.
 #[inline(always)]
 fn others_in(bytes: &[u8]) -> u64
     requires { 64 ≤ length bytes.now }

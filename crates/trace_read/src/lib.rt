@@ -3,7 +3,7 @@
 //! Two formats of recorded block traces are read, LIRS and ARC. The bytes are cut into lines at
 //! each line feed, and each line by itself gives some accesses or is faulty. `read_trace` gives
 //! the accesses of all lines in order where no line is faulty, and else the fault of the first
-//! faulty line, with its number. The rules of both formats are this project's profile.
+//! faulty line, with its number. The rules of both formats are defined by this project.
 //!
 //! `read_followed` shows a `Follower` the accesses so far after each piece.
 //!

@@ -1,12 +1,12 @@
 //! The lines of a trace file, one after another, as its bytes come in.
 ghost use Rattle.std.specs.Prelude.{◌≡◌, ◌≤◌, ◌<◌, ◌+◌, ◌-◌, ◌^◌, ◌∷◌, ◌++◌, ◌⊎◌, ℕ, List, [], Some, None, Ok, OnOk};
 ghost use Rattle.std.specs.Prelude.{IfOk, IfErr, IfSome, IsTrue, MatchOption, OnSome, get_or, length, take, drop, vec_len, vec_capacity};
-ghost use Rattle.trace_read.specs.DigitRuns.{DigitsBetween, IsDigitRuns, IsFound};
+ghost use Rattle.trace_read.specs.DigitRuns.{DigitsBetween, IsDigitRuns, IsNextRun};
 ghost use Rattle.trace_read.specs.Lines.{line_of, AreStarLines};
 ghost use Rattle.trace_read.specs.declared.digit_runs.TheConstants.{BEHIND};
 ghost use Rattle.step_record.specs.declared.limits.TheConstants.{MAX_ACCESSES};
-ghost use Rattle.trace_read.specs.Reading.{fault_in, keys_in, IsOfLine, IsRead, IsTraceRefused, IsStopped};
-ghost use Rattle.trace_read.specs.Scanned.{fault_ahead, keys_ahead, IsEnded, IsScan, HasRoom, IsPieceTaken, IsRefusedFrom, IsTaken};
+ghost use Rattle.trace_read.specs.TraceText.{fault_in, keys_in, IsOfLine, IsRead, IsTraceRefused, IsStopped};
+ghost use Rattle.trace_read.specs.ScanState.{fault_ahead, keys_ahead, IsEnded, IsScan, HasRoom, IsPieceTaken, IsRefusedFrom, IsTakenUpTo};
 ghost use Rattle.text_lines.specs.Feeds.{feed_in};
 
 use super::arc::{add_arc, push_reserved_run, usual_line};
@@ -155,7 +155,7 @@ impl Scan {
         requires scan { IsScan self.old }
         requires cut { self.old.cut.items ≡ [] }
         requires lines { self.old.line + length bytes.now < 2 ^ 64 }
-        ensures taken { IfOk result (λ n. IsTaken self.old bytes.now 0 n self.new) }
+        ensures taken { IfOk result (λ n. IsTakenUpTo self.old bytes.now 0 n self.new) }
         ensures err { IfErr result (IsRefusedFrom self.old bytes.now 0) }
     {
         match self.format {
@@ -171,7 +171,7 @@ impl Scan {
         requires format { self.old.format ≡ Format.Lirs }
         requires cut { self.old.cut.items ≡ [] }
         requires lines { self.old.line + length bytes.now < 2 ^ 64 }
-        ensures taken { IfOk result (λ n. IsTaken self.old bytes.now 0 n self.new) }
+        ensures taken { IfOk result (λ n. IsTakenUpTo self.old bytes.now 0 n self.new) }
         ensures err { IfErr result (IsRefusedFrom self.old bytes.now 0) }
     {
         if !reserve_for(&mut self.keys, bytes.len())? {
@@ -198,9 +198,9 @@ impl Scan {
         requires lines { self.old.line + length runs.old.bytes.now < 2 ^ 64 + runs.old.start }
         requires room { HasRoom (length runs.old.bytes.now - runs.old.start)
             (vec_len self.old.keys) (vec_capacity self.old.keys) }
-        ensures all { result ≡ None → IsTaken self.old runs.old.bytes.now runs.old.start runs.new.start self.new }
-        ensures some { IfSome result (λ run. IsTaken self.old runs.old.bytes.now runs.old.start run.start self.new) }
-        ensures found { IfSome result (λ run. IsFound runs.old.bytes.now run runs.new) }
+        ensures all { result ≡ None → IsTakenUpTo self.old runs.old.bytes.now runs.old.start runs.new.start self.new }
+        ensures some { IfSome result (λ run. IsTakenUpTo self.old runs.old.bytes.now runs.old.start run.start self.new) }
+        ensures found { IfSome result (λ run. IsNextRun runs.old.bytes.now run runs.new) }
         ensures room { IfSome result (λ run.
             HasRoom (length runs.old.bytes.now - run.start) (vec_len self.new.keys) (vec_capacity self.new.keys)) }
     {
@@ -223,9 +223,9 @@ impl Scan {
         requires lines { self.old.line + length runs.old.bytes.now < 2 ^ 64 + runs.old.start }
         requires room { HasRoom (length runs.old.bytes.now - runs.old.start)
             (vec_len self.old.keys) (vec_capacity self.old.keys) }
-        ensures all { result ≡ None → IsTaken self.old runs.old.bytes.now runs.old.start runs.new.start self.new }
-        ensures some { IfSome result (λ run. IsTaken self.old runs.old.bytes.now runs.old.start run.start self.new) }
-        ensures found { IfSome result (λ run. IsFound runs.old.bytes.now run runs.new) }
+        ensures all { result ≡ None → IsTakenUpTo self.old runs.old.bytes.now runs.old.start runs.new.start self.new }
+        ensures some { IfSome result (λ run. IsTakenUpTo self.old runs.old.bytes.now runs.old.start run.start self.new) }
+        ensures found { IfSome result (λ run. IsNextRun runs.old.bytes.now run runs.new) }
         ensures room { IfSome result (λ run.
             HasRoom (length runs.old.bytes.now - run.start) (vec_len self.new.keys) (vec_capacity self.new.keys)) }
     {
@@ -268,10 +268,10 @@ impl Scan {
         requires scan { IsScan self.old }
         requires format { self.old.format ≡ Format.Lirs }
         requires cut { self.old.cut.items ≡ [] }
-        requires found { IsFound bytes.now run runs.old }
+        requires found { IsNextRun bytes.now run runs.old }
         requires lines { self.old.line + length bytes.now < 2 ^ 64 + run.start }
         requires room { HasRoom (length bytes.now - run.start) (vec_len self.old.keys) (vec_capacity self.old.keys) }
-        ensures taken { OnOk result (IsTaken self.old bytes.now run.start runs.new.start self.new) }
+        ensures taken { OnOk result (IsTakenUpTo self.old bytes.now run.start runs.new.start self.new) }
         ensures runs { OnOk result (IsDigitRuns runs.new × (runs.new.bytes.now ≡ bytes.now)) }
         ensures more { IfOk result (λ more. IsTrue more → (run.start < runs.new.start)
             × HasRoom (length bytes.now - runs.new.start) (vec_len self.new.keys) (vec_capacity self.new.keys)) }
@@ -306,7 +306,7 @@ impl Scan {
         requires format { self.old.format ≡ Format.Arc }
         requires cut { self.old.cut.items ≡ [] }
         requires lines { self.old.line + length bytes.now < 2 ^ 64 }
-        ensures taken { IfOk result (λ n. IsTaken self.old bytes.now 0 n self.new) }
+        ensures taken { IfOk result (λ n. IsTakenUpTo self.old bytes.now 0 n self.new) }
         ensures err { IfErr result (IsRefusedFrom self.old bytes.now 0) }
     {
         let mut runs = DigitRuns::at(bytes, 0);
@@ -329,9 +329,9 @@ impl Scan {
         requires cut { self.old.cut.items ≡ [] }
         requires runs { IsDigitRuns runs.old × (runs.old.bytes.now ≡ bytes.now) }
         requires lines { self.old.line + length bytes.now < 2 ^ 64 + runs.old.start }
-        ensures all { result ≡ None → IsTaken self.old bytes.now runs.old.start runs.new.start self.new }
-        ensures some { IfSome result (λ run. IsTaken self.old bytes.now runs.old.start run.start self.new) }
-        ensures found { IfSome result (λ run. IsFound bytes.now run runs.new) }
+        ensures all { result ≡ None → IsTakenUpTo self.old bytes.now runs.old.start runs.new.start self.new }
+        ensures some { IfSome result (λ run. IsTakenUpTo self.old bytes.now runs.old.start run.start self.new) }
+        ensures found { IfSome result (λ run. IsNextRun bytes.now run runs.new) }
     {
         let mut keys = mem::replace(&mut self.keys, Vec::new(self.alloc));
         let mut line = self.line;

@@ -12,7 +12,7 @@ ghost use Rattle.turn_book.specs.Turns.{parts_from, beginner};
 
 use crate::fault::OpenFault;
 use crate::pass::{Pass, Turn};
-use crate::rule::{ByWorker, Draw, Look, PassOn, Turns};
+use crate::rule::{Draw, Look, PassOn, PassParts, Turns};
 use crate::view::{Terms, View};
 use crate::waiting::WaitingArray;
 use atomic_table::{Seat, Table};
@@ -27,7 +27,7 @@ pub const MAX_TURNS: u64 = 1 << 32;
 
 pub(crate) type Board<T> = Table<Option<T>, View<T, <T as Kept>::Entry>, Terms<T>, Turns, Global>;
 
-pub(crate) type Place<T> = Seat<Option<T>, View<T, <T as Kept>::Entry>>;
+pub(crate) type BookSeat<T> = Seat<Option<T>, View<T, <T as Kept>::Entry>>;
 
 /// A value that workers take in turns, in the order in which they asked: a ticket lock. The entries that the value
 /// gained since it was opened are those that the passes made in their turns, each pass's in its order.
@@ -179,7 +179,7 @@ impl<T: Kept> TurnBook<T> {
 }
 
 // Makes the table. Where the allocation fails, the value comes back.
-fn lay<T: Kept>(alloc: Global, value: T, workers: u8) -> Result<(Board<T>, Place<T>), T>
+fn lay<T: Kept>(alloc: Global, value: T, workers: u8) -> Result<(Board<T>, BookSeat<T>), T>
     ensures counts { IfOk result (λ r. (r.0.shared.table_id.words ≡ 2) × (r.0.shared.table_id.slots ≡ 1)
         × (r.0.shared.key.workers ≡ workers) × (r.0.shared.key.opening.value ≡ value)) }
     ensures seat { IfOk result (λ r. (r.1.table_id ≡ r.0.shared.table_id)
@@ -205,7 +205,7 @@ fn lay<T: Kept>(alloc: Global, value: T, workers: u8) -> Result<(Board<T>, Place
 }
 
 // Draws the next ticket.
-fn draw<T: Kept>(board: &Board<T>, seat: &mut Place<T>, drawn: u64) -> u64
+fn draw<T: Kept>(board: &Board<T>, seat: &mut BookSeat<T>, drawn: u64) -> u64
     requires board { IsBoard board.now.shared.table_id board.now.shared.key.workers }
     requires own { seat.old.table_id ≡ board.now.shared.table_id }
     requires pass { IsPass seat.old.me drawn }
@@ -221,7 +221,7 @@ fn wait<T: Kept, R: Wait>(
     board: &Board<T>,
     rt: &R,
     waiting: &WaitingArray,
-    seat: &mut Place<T>,
+    seat: &mut BookSeat<T>,
     ticket: u64,
 )
     requires board { IsBoard board.now.shared.table_id board.now.shared.key.workers }
@@ -245,7 +245,7 @@ fn wait<T: Kept, R: Wait>(
 // Deals a pass to each worker, in order.
 fn deal<T: Kept>(
     board: &Board<T>,
-    mut seat: Place<T>,
+    mut seat: BookSeat<T>,
     mut passes: Vec<Pass<T>>,
     workers: u8,
 ) -> Vec<Pass<T>>
@@ -267,7 +267,7 @@ fn deal<T: Kept>(
 }
 
 // Cuts off the first worker's part.
-fn cut<T: Kept>(board: &Board<T>, seat: &mut Place<T>) -> Pass<T>
+fn cut<T: Kept>(board: &Board<T>, seat: &mut BookSeat<T>) -> Pass<T>
     requires board { IsBoard board.now.shared.table_id board.now.shared.key.workers }
     requires own { seat.old.table_id ≡ board.now.shared.table_id }
     requires cuts { Cuts seat.old.me }
@@ -276,12 +276,12 @@ fn cut<T: Kept>(board: &Board<T>, seat: &mut Place<T>) -> Pass<T>
     ensures pass { pass_view result ≡ right_of seat.old.me.0 }
     ensures book { result.book ≡ record { table = seat.old.table_id; opening = seat.old.me.0.opening } }
 {
-    let other = board.shared.split_seat::<ByWorker>(seat);
+    let other = board.shared.split_seat::<PassParts>(seat);
     fresh(other)
 }
 
 // The pass of a seat that has drawn nothing.
-fn fresh<T: Kept>(seat: Place<T>) -> Pass<T>
+fn fresh<T: Kept>(seat: BookSeat<T>) -> Pass<T>
     requires { IsPassAt seat.table_id seat.me 0 }
     ensures { result ≡ pass_in seat.table_id seat.me.0 0 }
 {
@@ -289,7 +289,7 @@ fn fresh<T: Kept>(seat: Place<T>) -> Pass<T>
 }
 
 // Joins the seats of all passes.
-fn gather<T: Kept>(board: &Board<T>, mut passes: Vec<Pass<T>>) -> Place<T>
+fn gather<T: Kept>(board: &Board<T>, mut passes: Vec<Pass<T>>) -> BookSeat<T>
     requires board { IsBoard board.now.shared.table_id board.now.shared.key.workers }
     requires some { 0 < vec_len passes }
     requires own { Every (λ p. p.book ≡ book_id board.now.shared.table_id board.now.shared.key.opening.value)
@@ -300,13 +300,13 @@ fn gather<T: Kept>(board: &Board<T>, mut passes: Vec<Pass<T>>) -> Place<T>
     let mut seat = seat_of(passes.pop().unwrap());
     while let Some(pass) = passes.pop() {
         let other = seat_of(pass);
-        board.shared.join_seat::<ByWorker>(&mut seat, other);
+        board.shared.join_seat::<PassParts>(&mut seat, other);
     }
     seat
 }
 
 // The seat of a pass.
-fn seat_of<T: Kept>(pass: Pass<T>) -> Place<T>
+fn seat_of<T: Kept>(pass: Pass<T>) -> BookSeat<T>
     ensures same { result.table_id ≡ pass.book.table }
     ensures seat { result.me ≡ (pass_view pass, []) }
 {

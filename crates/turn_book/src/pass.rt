@@ -47,7 +47,7 @@ impl<T: Kept> Model for Turn<T> {
 
 impl<T: Kept> Turn<T> {
     ghost use Rattle.std.specs.Borrow.{sem};
-    ghost use Rattle.turn_book.specs.Lending.{lends_value};
+    ghost use Rattle.turn_book.specs.LentTurn.{lends_value};
 
     /// The value, to read and to write while the turn lasts.
     pub fn value(&mut self) -> &mut T

@@ -42,9 +42,9 @@ impl<T: Kept> Play<Option<T>, View<T, T::Entry>> for PassOn {
 }
 
 /// Seats are split and joined by the parts of the workers.
-pub struct ByWorker;
+pub struct PassParts;
 
-impl<T, E> Split<View<T, E>> for ByWorker {
+impl<T, E> Split<View<T, E>> for PassParts {
     ghost use Rattle.turn_book.specs.Turns.{left_of, right_of};
 
     ghost left = { left_of };
@@ -52,7 +52,7 @@ impl<T, E> Split<View<T, E>> for ByWorker {
     ghost right = { right_of };
 }
 
-impl<T, E> Join<View<T, E>> for ByWorker {
+impl<T, E> Join<View<T, E>> for PassParts {
     ghost use Rattle.turn_book.specs.Turns.{both_of, spent};
 
     ghost both = { both_of };

@@ -1,2 +1,2 @@
 pub mod LogTurn
-pub mod Written
+pub mod LogLines

@@ -8,6 +8,6 @@ mod log_turn;
 mod tests;
 mod writers;
 
-pub use log::{Line, Log};
+pub use log::{Log, LogLine};
 pub use log_turn::{AppendFault, append};
 pub use writers::{Written, write_log};

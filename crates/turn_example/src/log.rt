@@ -3,7 +3,7 @@ use step_record::Kept;
 
 /// A line of a log: the worker that wrote it, and its number.
 #[derive(Clone, Copy, Debug, PartialEq, Eq)]
-pub struct Line {
+pub struct LogLine {
     pub worker: u8,
     pub number: u64,
 }
@@ -12,13 +12,13 @@ pub struct Line {
 #[derive(Drop)]
 pub struct Log {
     pub name: u64,
-    pub lines: Vec<Line>,
+    pub lines: Vec<LogLine>,
 }
 
 impl Kept for Log {
     ghost use Rattle.std.specs.Prelude.{ℕ, []};
 
-    type Entry = Line;
+    type Entry = LogLine;
 
     ghost Origin = { ℕ };
 

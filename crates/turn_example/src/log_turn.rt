@@ -3,7 +3,7 @@ ghost use Rattle.std.specs.Prelude.{◌≡◌, [], ◌∷◌, IfOk, IfErr};
 ghost use Rattle.turn_book.specs.Passes.{id_of};
 ghost use Rattle.turn_example.specs.LogTurn.{Appends, IsAppendRefused};
 
-use crate::log::{Line, Log};
+use crate::log::{Log, LogLine};
 use std::sync::Wait;
 use turn_book::{Pass, TurnBook};
 
@@ -21,7 +21,7 @@ pub fn append<R: Wait>(
     rt: &R,
     book: &TurnBook<Log>,
     pass: Pass<Log>,
-    line: Line,
+    line: LogLine,
 ) -> Result<Pass<Log>, AppendFault>
     requires own { pass.book ≡ id_of book.now }
     requires worker { pass.worker ≡ line.worker }

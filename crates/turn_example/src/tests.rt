@@ -16,7 +16,7 @@ use std::thread::Threads;
 use step_record::Gate;
 use turn_book::{MAX_TURNS, OpenFault, Pass, TurnBook};
 
-const FIRST: Line = Line {
+const FIRST: LogLine = LogLine {
     worker: 9,
     number: 8,
 };
@@ -70,7 +70,7 @@ fn turn<R: Wait>(
     rt: &R,
     book: &TurnBook<Log>,
     pass: Pass<Log>,
-    line: Line,
+    line: LogLine,
 ) -> (Pass<Log>, &'static str)
     requires own { pass.book ≡ id_of book.now }
     requires worker { pass.worker ≡ line.worker }
@@ -102,7 +102,7 @@ fn alone<R: Wait>(rt: &R, alloc: Global) -> Result<(&'static str, &'static str, 
     let Some((pass, worker)) = last else {
         return Err(AllocError);
     };
-    let line = Line { worker, number: 0 };
+    let line = LogLine { worker, number: 0 };
     let (pass, first) = turn(rt, &book, pass, line);
     let (pass, second) = turn(rt, &book, pass, line);
     Ok((first, second, closed(alloc, book, pass)?))
@@ -115,7 +115,7 @@ fn a_pass_is_spent_after_its_only_turn(rt: HostRuntime) -> Result<(), Fail> {
         return Err(Fail::from(first));
     }
     assert_eq!(rt; (first, second), ("written", "spent"));
-    let only = Line {
+    let only = LogLine {
         worker: 0,
         number: 0,
     };

@@ -5,9 +5,9 @@ ghost use Rattle.step_record.specs.declared.worker.TheConstants.{MAX_WORKERS};
 ghost use Rattle.turn_book.specs.declared.book.TheConstants.{MAX_TURNS};
 ghost use Rattle.turn_book.specs.Turns.{Every};
 ghost use Rattle.turn_book.specs.Passes.{id_of, InOrder};
-ghost use Rattle.turn_example.specs.Written.{IsFresh, IsWritten, Wrote, WroteAll};
+ghost use Rattle.turn_example.specs.LogLines.{IsFresh, IsWritten, Wrote, WroteAll};
 
-use crate::log::{Line, Log};
+use crate::log::{Log, LogLine};
 use crate::log_turn::{AppendFault, append};
 use std::alloc::{AllocError, Global};
 use std::sync::Wait;
@@ -20,7 +20,7 @@ use turn_book::{Pass, TurnBook};
 #[derive(Drop)]
 pub struct Written {
     pub log: Log,
-    pub lists: Vec<Vec<Line>>,
+    pub lists: Vec<Vec<LogLine>>,
 }
 
 /// Workers write their lines numbered below `lines`, each on a thread of its own where one can be made. Each line is
@@ -55,7 +55,7 @@ fn write_all<G: Gate, R: Threads + Wait + Sync>(
     book: &TurnBook<Log>,
     passes: Vec<Pass<Log>>,
     lines: u64,
-) -> Result<(Vec<Pass<Log>>, Vec<Vec<Line>>), AllocError>
+) -> Result<(Vec<Pass<Log>>, Vec<Vec<LogLine>>), AllocError>
     requires fresh { Every (IsFresh (id_of book.now)) passes.items }
     requires order { InOrder 0 passes.items × (vec_len passes ≤ MAX_WORKERS) }
     requires turns { lines ≤ book.now.turns }
@@ -68,13 +68,13 @@ fn write_all<G: Gate, R: Threads + Wait + Sync>(
     };
     let (others, own) = thread::join(
         rt,
-        move || -> Result<(Vec<Pass<Log>>, Vec<Vec<Line>>), AllocError>
+        move || -> Result<(Vec<Pass<Log>>, Vec<Vec<LogLine>>), AllocError>
             requires { IsSync R.row × IsSync G.row × Every (IsFresh (id_of book.now)) passes.items
                 × InOrder 0 passes.items × (vec_len passes ≤ MAX_WORKERS) × (lines ≤ book.now.turns) }
             ensures { IfOk result (λ r. WroteAll (id_of book.entry.now) lines 0 r.0.items r.1.items
                 × (vec_len r.0 ≡ vec_len passes)) }
         { write_all(rt, alloc, gate, book, passes, lines) },
-        move || -> Result<(Pass<Log>, Vec<Line>), AllocError>
+        move || -> Result<(Pass<Log>, Vec<LogLine>), AllocError>
             requires { IsSync R.row × IsSync G.row × IsFresh (id_of book.now) pass × (pass.worker ≡ worker)
                 × (lines ≤ book.now.turns) }
             ensures { IfOk result (λ r. Wrote (id_of book.entry.now) lines worker r.0 r.1) }
@@ -114,7 +114,7 @@ fn write_own<G: Gate, R: Wait>(
     mut pass: Pass<Log>,
     worker: u8,
     lines: u64,
-) -> Result<(Pass<Log>, Vec<Line>), AllocError>
+) -> Result<(Pass<Log>, Vec<LogLine>), AllocError>
     requires fresh { IsFresh (id_of book.now) pass }
     requires worker { pass.worker ≡ worker }
     requires turns { lines ≤ book.now.turns }
@@ -123,7 +123,7 @@ fn write_own<G: Gate, R: Wait>(
     let mut list = Vec::new(alloc);
     for number in 0..lines {
         gate.before(worker, number);
-        let line = Line { worker, number };
+        let line = LogLine { worker, number };
         list.push(line)?;
         pass = match append(rt, book, pass, line) {
             Ok(pass) => pass,
@@ -139,11 +139,11 @@ fn write_own<G: Gate, R: Wait>(
 fn joined(
     book: &TurnBook<Log>,
     mut passes: Vec<Pass<Log>>,
-    mut lists: Vec<Vec<Line>>,
+    mut lists: Vec<Vec<LogLine>>,
     pass: Pass<Log>,
-    list: Vec<Line>,
+    list: Vec<LogLine>,
     lines: u64,
-) -> Result<(Vec<Pass<Log>>, Vec<Vec<Line>>), AllocError>
+) -> Result<(Vec<Pass<Log>>, Vec<Vec<LogLine>>), AllocError>
     requires others { WroteAll (id_of book.now) lines 0 passes.items lists.items }
     requires own { Wrote (id_of book.now) lines (vec_len passes) pass list }
     ensures wrote { IfOk result (λ r. WroteAll (id_of book.now) lines 0 r.0.items r.1.items) }

@@ -5,11 +5,11 @@ use Rattle.step_record.specs.declared.step.Call.{Call}
 use Rattle.step_record.specs.History.{data_after, IsLegal, Entries}
 use Rattle.shell_model.specs.declared.holder.Holder.{Holder}
 use Rattle.shell_model.specs.Shell.{Shell, act, held_by}
-use Rattle.shell_model.specs.Reached.{IsReachable}
+use Rattle.shell_model.specs.ReachableShell.{IsReachable}
 use Rattle.shell_model.proofs.Reached.{reached-sound}
 use Rattle.walks.specs.Walks.{step_of, AreWalks}
-use Rattle.walks.specs.Made.{entries_of}
-use Rattle.walks.specs.Admits.{AdmitsWalks}
+use Rattle.walks.specs.WorkerEntries.{entries_of}
+use Rattle.walks.specs.AdmittedSteps.{AdmitsWalks}
 use Rattle.walks.proofs.Standing.{Standing, Stands, phase_of, standing, stands_after, taken}
 use Rattle.walks.proofs.Asking.{walks_fit, walks_free}
 

@@ -10,12 +10,12 @@ use Rattle.step_record.specs.History.{Entries}
 use Rattle.walks.specs.declared.local.Local.{Local}
 use Rattle.walks.specs.declared.next.Next.{Next}
 use Rattle.walks.specs.declared.next.Next.TheVariants as next_act
-use Rattle.walks.specs.declared.place.Place.{Place}
+use Rattle.walks.specs.declared.place.WalkPlace.{WalkPlace}
 use Rattle.walks.specs.Walks.{step_of, IsWalk, AreWalks}
-use Rattle.walks.specs.Places.{IsAheadOf, act_of_place, is_place}
-use Rattle.walks.specs.Nexts.{IsAskedNext}
-use Rattle.walks.specs.Made.{Made}
-use Rattle.walks.specs.Admits.{MayMake}
+use Rattle.walks.specs.WalkPlaces.{IsAheadOf, act_of_place, is_place}
+use Rattle.walks.specs.NextActs.{IsAskedNext}
+use Rattle.walks.specs.WorkerEntries.{Made}
+use Rattle.walks.specs.AdmittedSteps.{MayMake}
 use Rattle.walks.proofs.Finishing.{finish}
 use Rattle.walks.proofs.Walking.{Completes, same_step, asked_of}
 use Rattle.walks.proofs.Asking.{first_step, not_over, walks_more}
@@ -23,7 +23,7 @@ use Rattle.walks.proofs.Asking.{first_step, not_over, walks_more}
 entry_of : Step → Reply → Entry Step Reply
 entry_of t r = record { step = t; reply = r }
 
-starts : (w n : ℕ) (p : Place) (es : Entries) → IsAheadOf w n p es → (r : Reply) × (rest : Entries) × (es ≡ entry_of (step_of w (act_of_place w n p)) r ∷ rest)
+starts : (w n : ℕ) (p : WalkPlace) (es : Entries) → IsAheadOf w n p es → (r : Reply) × (rest : Entries) × (es ≡ entry_of (step_of w (act_of_place w n p)) r ∷ rest)
 unfolding entry_of
 starts w n p [] h = absurd (not_over w n p h)
 starts w n p (y ∷ es) h = (y.reply, es, ap (λ t. entry_of t y.reply ∷ es) (first_step w n p y es h))

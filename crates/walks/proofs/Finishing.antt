@@ -12,10 +12,10 @@ use Rattle.step_record.specs.declared.step.Reply.{Reply}
 use Rattle.step_record.specs.declared.step.Reply.TheVariants as reply
 use Rattle.step_record.specs.declared.step.Step.{Step}
 use Rattle.step_record.specs.History.{Entries}
-use Rattle.walks.specs.declared.place.Place.{Place}
-use Rattle.walks.specs.declared.place.Place.TheVariants as at
+use Rattle.walks.specs.declared.place.WalkPlace.{WalkPlace}
+use Rattle.walks.specs.declared.place.WalkPlace.TheVariants as at
 use Rattle.walks.specs.Walks.{step_of, IsWalk, AreWalks, IsReading, IsWriting, IsEvicting, IsEnding}
-use Rattle.walks.specs.Places.{IsAheadOf, is_place}
+use Rattle.walks.specs.WalkPlaces.{IsAheadOf, is_place}
 
 module _ (w : ℕ) (n : ℕ) where
   abbrev said : Act → Reply → Entry Step Reply
@@ -70,7 +70,7 @@ module _ (w : ℕ) (n : ℕ) where
   abbrev the_offer : Item → Entries
   the_offer i = said (act.Offer (w % n) i) reply.Kept ∷ the_report (act.AfterRead answer.Kept)
 
-  pub finish : (p : Place) → is_place n p ≡ true → (es : Entries) × IsAheadOf w n p es
+  pub finish : (p : WalkPlace) → is_place n p ≡ true → (es : Entries) × IsAheadOf w n p es
   finish (at.Look k) h = (said (act.Look k) (reply.Hit 0) ∷ the_offer (record { key = k; node = 0 }), (refl, (refl, (refl, refl))))
   finish (at.Offer i) h = (the_offer i, (refl, (refl, refl)))
   finish (at.AfterRead a) h = (the_report (act.AfterRead a), (refl, refl))

@@ -23,11 +23,11 @@ use Rattle.shell_model.proofs.Histories.{counted_up, tallied-from}
 use Rattle.walks.specs.declared.local.Local.{Local}
 use Rattle.walks.specs.declared.next.Next.{Next}
 use Rattle.walks.specs.declared.next.Next.TheVariants as next_act
-use Rattle.walks.specs.declared.place.Place.{Place}
-use Rattle.walks.specs.declared.place.Place.TheVariants as at
+use Rattle.walks.specs.declared.place.WalkPlace.{WalkPlace}
+use Rattle.walks.specs.declared.place.WalkPlace.TheVariants as at
 use Rattle.walks.specs.Walks.{step_of, IsReading, IsWriting, IsEvicting, FollowsDrainRead, FollowsDrainWrite, FollowsEvict, FollowsEnd}
-use Rattle.walks.specs.Places.{IsAheadOf, AheadAfter, act_of_place, is_place}
-use Rattle.walks.specs.Nexts.{IsRestOfWalk, IsAskedNext}
+use Rattle.walks.specs.WalkPlaces.{IsAheadOf, AheadAfter, act_of_place, is_place}
+use Rattle.walks.specs.NextActs.{IsRestOfWalk, IsAskedNext}
 use Rattle.walks.specs.Holders.{Suits, IsReady, IsReadyFor}
 use Rattle.walks.proofs.Finishing.{finish}
 
@@ -139,7 +139,7 @@ abbrev Leads : ℕ → Act → Entries → Type 0
 Leads w b [] = ⊥
 Leads w b (e ∷ es) = e.step ≡ step_of w b
 
-leads : (w n : ℕ) (p : Place) (es : Entries) → IsAheadOf w n p es → Leads w (act_of_place w n p) es
+leads : (w n : ℕ) (p : WalkPlace) (es : Entries) → IsAheadOf w n p es → Leads w (act_of_place w n p) es
 leads w n (at.Look key) [] h = h
 leads w n (at.Look key) (e ∷ es) h = h.0
 leads w n (at.Offer i) [] h = h
@@ -172,7 +172,7 @@ one-act : (w : ℕ) (a b : Act) (es : Entries) → Leads w a es → Leads w b es
 one-act w a b [] h g = absurd h
 one-act w a b (e ∷ es) h g = ap (λ (s : Step). s.act) (sym h ∙ g)
 
-below : (w n : ℕ) (p : Place) (s : ℕ) → act_of_place w n p ≡ act.DrainRead s → is_place n p ≡ true → s < n
+below : (w n : ℕ) (p : WalkPlace) (s : ℕ) → act_of_place w n p ≡ act.DrainRead s → is_place n p ≡ true → s < n
 below w n (at.DrainRead t j) s e h = let q : act.DrainRead t ≡ act.DrainRead s = e in let is_same_item : t ≡ s = cc (q) in rw (← is_same_item) (ltb-true t n (and_parts (nat_lt t n) (nat_lt j 16) h).0)
 below w n (at.Look key) s e h = absurd (cc (e))
 below w n (at.Offer i) s e h = absurd (cc (e))
@@ -345,7 +345,7 @@ end-on w n x y r (next_act.Do a m) v e asks back =
     absurd no
 
 -- after a step that was ready, the next is ready too
-pub steps_on : (w n : ℕ) (p : Place) (x y : Shell) (r : Reply) (next : Next) → IsReady w (act_of_place w n p) x → length x.stripes ≡ n → acted x (step_of w (act_of_place w n p)) ≡ Some (r, y) → IsAskedNext w n next
+pub steps_on : (w n : ℕ) (p : WalkPlace) (x y : Shell) (r : Reply) (next : Next) → IsReady w (act_of_place w n p) x → length x.stripes ≡ n → acted x (step_of w (act_of_place w n p)) ≡ Some (r, y) → IsAskedNext w n next
     → ((es : Entries) → IsRestOfWalk next es → AheadAfter w n p (Some r) es) → IsReadyFor w next y
 steps_on w n (at.DrainRead s j) x y r next v l e asks back = read-on w n s j x y r next v l e asks back
 steps_on w n at.DrainWrite x y r next v l e asks back = write-on w n x y r next v e asks back
@@ -386,10 +386,10 @@ asks_on w n next after a l d asks more =
     subst (λ (m : ℕ). IsAskedNext w m after) h.2 (subst (λ (v : ℕ). IsAskedNext v l.stripes after) h.1 more)
 
 -- what completes the walk, behind these entries
-abbrev pub Goes : ℕ → ℕ → Place → Next → Entries → Type 0
+abbrev pub Goes : ℕ → ℕ → WalkPlace → Next → Entries → Type 0
 Goes w n p next es = (rest : Entries) → IsRestOfWalk next rest → IsAheadOf w n p (es ++ rest)
 
-module _ (w n : ℕ) (p : Place) where
+module _ (w n : ℕ) (p : WalkPlace) where
   pub goes_on : (v m : ℕ) (next after : Next) (a : Act) (l : Local) (r : Reply) → next ≡ next_act.Do a l → IsAskedNext v m next
       → ((rest : Entries) → IsRestOfWalk after rest → AheadAfter l.worker l.stripes l.place (Some r) rest)
       → (es : Entries) → Goes w n p next es → Goes w n p after (es ++ record { step = step_of v a; reply = r } ∷ [])

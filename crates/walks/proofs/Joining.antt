@@ -4,7 +4,7 @@ use Rattle.std.proofs.lemmas.List.{append_assoc, append-nil}
 use Rattle.step_record.specs.declared.step.Call.{Call}
 use Rattle.step_record.specs.History.{Entries}
 use Rattle.walks.specs.Walks.{IsWalk, AreWalks}
-use Rattle.walks.specs.Made.{Made, IsUnfinished}
+use Rattle.walks.specs.WorkerEntries.{Made, IsUnfinished}
 use Rattle.walks.proofs.Finishing.{finish_calls}
 
 -- entries after entries

@@ -17,13 +17,13 @@ use Rattle.step_record.specs.History.{next_data, data_after, IsLegal, Entries}
 use Rattle.shell_model.specs.declared.holder.Holder.{Holder}
 use Rattle.shell_model.specs.Shell.{Shell, act, act_effect, held_by, hold_read, hold_write, hold_evict, hold_end, may_read, may_write, node_of, look_reply, counted_reply}
 use Rattle.shell_model.specs.Shell.{is_over, end_effect, drain_at_end}
-use Rattle.shell_model.specs.Consistent.{IsConsistent}
+use Rattle.shell_model.specs.Consistency.{IsConsistent}
 use Rattle.shell_model.proofs.Counting.{listed-times, node-listed}
 use Rattle.shell_model.proofs.Histories.{Steps, stepped, after-sound}
 use Rattle.shell_model.proofs.Making as k
 use Rattle.shell_model.proofs.Making.{Makes}
 use Rattle.walks.specs.Walks.{step_of}
-use Rattle.walks.specs.Made.{entries_of}
+use Rattle.walks.specs.WorkerEntries.{entries_of}
 use Rattle.walks.proofs.Holding.{Performs, performs, fits-end, mine}
 
 -- the phase of the maintenance that the worker holds, the node that it last found, and whether its last eviction

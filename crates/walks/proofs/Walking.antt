@@ -12,9 +12,9 @@ use Rattle.walks.specs.declared.local.Local.{Local}
 use Rattle.walks.specs.declared.next.Next.{Next}
 use Rattle.walks.specs.declared.next.Next.TheVariants as next_act
 use Rattle.walks.specs.Walks.{step_of, IsWalk}
-use Rattle.walks.specs.Places.{IsAheadOf, AheadAfter, act_of_place, is_place}
-use Rattle.walks.specs.Nexts.{IsRestOfWalk, IsAskedNext}
-use Rattle.walks.specs.Made.{Made, IsUnfinished}
+use Rattle.walks.specs.WalkPlaces.{IsAheadOf, AheadAfter, act_of_place, is_place}
+use Rattle.walks.specs.NextActs.{IsRestOfWalk, IsAskedNext}
+use Rattle.walks.specs.WorkerEntries.{Made, IsUnfinished}
 use Rattle.walks.proofs.Asking.{not_over}
 use Rattle.walks.proofs.Finishing.{finish}
 

@@ -1,6 +1,6 @@
 pub mod Walks
-pub mod Places
-pub mod Nexts
-pub mod Made
-pub mod Admits
+pub mod WalkPlaces
+pub mod NextActs
+pub mod WorkerEntries
+pub mod AdmittedSteps
 pub mod Holders

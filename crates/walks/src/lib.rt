@@ -14,4 +14,4 @@ mod place;
 
 pub use local::Local;
 pub use next::{Next, next_step};
-pub use place::Place;
+pub use place::WalkPlace;

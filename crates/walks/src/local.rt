@@ -2,9 +2,9 @@
 ghost use Rattle.std.specs.Prelude.{◌≡◌, ◌≤◌, true};
 ghost use Rattle.step_record.specs.declared.limits.TheConstants.{MAX_STRIPES};
 ghost use Rattle.step_record.specs.History.{Entries};
-ghost use Rattle.walks.specs.Places.{is_place};
+ghost use Rattle.walks.specs.WalkPlaces.{is_place};
 
-use super::place::Place;
+use super::place::WalkPlace;
 use step_record::{Call, Phase, Worker};
 
 /// A worker in the walk of one call: the act that it was asked to make last, or is to make first.
@@ -12,7 +12,7 @@ use step_record::{Call, Phase, Worker};
 pub struct Local {
     pub worker: Worker,
     pub stripes: u8,
-    pub place: Place,
+    pub place: WalkPlace,
     pub ghost some: { 1 ≤ stripes },
     pub ghost few: { stripes ≤ MAX_STRIPES },
     pub ghost placed: { is_place stripes place ≡ true },
@@ -21,7 +21,7 @@ pub struct Local {
 impl Local {
     ghost use Rattle.std.specs.Prelude.{◌↔◌};
     ghost use Rattle.walks.specs.Walks.{IsWalk};
-    ghost use Rattle.walks.specs.Places.{IsAheadOf, phase_place};
+    ghost use Rattle.walks.specs.WalkPlaces.{IsAheadOf, phase_place};
 
     /// At the beginning of the walk of a call, of a cache with so many read buffers: 1 to [`MAX_STRIPES`].
     ///
@@ -33,8 +33,8 @@ impl Local {
         ensures same { (result.worker ≡ worker) × (result.stripes ≡ stripes) }
     {
         let place = match call {
-            Call::Read(key) => Place::Look { key },
-            Call::Remove(key) => Place::Remove { key },
+            Call::Read(key) => WalkPlace::Look { key },
+            Call::Remove(key) => WalkPlace::Remove { key },
         };
         Local {
             worker,
@@ -53,12 +53,12 @@ impl Local {
         ensures same { (result.worker ≡ worker) × (result.stripes ≡ stripes) }
     {
         let place = match phase {
-            Phase::Reads => Place::DrainRead {
+            Phase::Reads => WalkPlace::DrainRead {
                 stripe: 0,
                 drained: 0,
             },
-            Phase::Writes => Place::DrainWrite,
-            Phase::Evictions => Place::Evict,
+            Phase::Writes => WalkPlace::DrainWrite,
+            Phase::Evictions => WalkPlace::Evict,
         };
         Local {
             worker,

@@ -1,11 +1,11 @@
 //! What a worker does next.
 ghost use Rattle.std.specs.Prelude.{◌≡◌, ◌↔◌, Option, Some, None};
 ghost use Rattle.step_record.specs.History.{Entries};
-ghost use Rattle.walks.specs.Places.{AheadAfter, IsReplyTo, act_of_place};
-ghost use Rattle.walks.specs.Nexts.{IsRestOfWalk, IsAskedNext};
+ghost use Rattle.walks.specs.WalkPlaces.{AheadAfter, IsReplyTo, act_of_place};
+ghost use Rattle.walks.specs.NextActs.{IsRestOfWalk, IsAskedNext};
 
 use super::local::Local;
-use super::place::{Place, act_of, after};
+use super::place::{WalkPlace, act_of, after};
 use step_record::{Act, Reply};
 
 /// What a worker does next: an act, with where it then stands, or nothing more for its call.

@@ -13,7 +13,7 @@ use Rattle.workers.specs.declared.worker_state.WorkerState.{WorkerState}
 use Rattle.workers.specs.declared.run.Cause.{Cause}
 use Rattle.workers.specs.declared.run.Cause.TheVariants.{JournalFull}
 use Rattle.workers.specs.WorkerStates.{ShellSession, HoldsPass, AreNumbered, HasWorked, entries_with}
-use Rattle.walks.specs.Made.{entries_of}
+use Rattle.walks.specs.WorkerEntries.{entries_of}
 use Rattle.workers.specs.Runs.{IsRun, IsRunUpTo, AreWalksUpTo, first_cause}
 
 abbrev pub ShellPass : Type 0

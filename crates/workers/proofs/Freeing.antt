@@ -5,9 +5,9 @@ use Rattle.std.proofs.lemmas.Bool.Decides.{nat_tests}
 use Rattle.step_record.specs.declared.step.Call.{Call}
 use Rattle.step_record.specs.History.{data_after, IsLegal, Entries}
 use Rattle.shell_model.specs.Shell.{Shell, act}
-use Rattle.shell_model.specs.Reached.{IsReachable}
+use Rattle.shell_model.specs.ReachableShell.{IsReachable}
 use Rattle.walks.specs.Walks.{AreWalks}
-use Rattle.walks.specs.Made.{entries_of}
+use Rattle.walks.specs.WorkerEntries.{entries_of}
 use Rattle.walks.proofs.Admitting.{shell_freed}
 use Rattle.workers.specs.Runs.{IsRun}
 use Rattle.workers.specs.WorkerStates.{ShellSession}

@@ -4,7 +4,7 @@ use Rattle.std.specs.Prelude.{option_map}
 use Rattle.step_record.specs.declared.step.Call.{Call}
 use Rattle.step_record.specs.declared.step.Reply.{Reply}
 use Rattle.step_record.specs.declared.step.Step.{Step}
-use Rattle.walks.specs.Made.{entries_of}
+use Rattle.walks.specs.WorkerEntries.{entries_of}
 use Rattle.journal.specs.Session.{SessionState}
 use Rattle.shell_model.specs.declared.holder.Holder.{Holder}
 use Rattle.walks.specs.Walks.{AreWalks}

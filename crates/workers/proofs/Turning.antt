@@ -6,8 +6,8 @@ use Rattle.step_record.specs.declared.entry.Entry.{Entry}
 use Rattle.step_record.specs.declared.step.Reply.{Reply}
 use Rattle.step_record.specs.declared.step.Step.{Step}
 use Rattle.step_record.specs.History.{next_data, data_after, IsLegal, Entries}
-use Rattle.walks.specs.Made.{entries_of}
-use Rattle.walks.specs.Admits.{IsTaken}
+use Rattle.walks.specs.WorkerEntries.{entries_of}
+use Rattle.walks.specs.AdmittedSteps.{AdmitsNext}
 use Rattle.journal.specs.declared.fault.SessionFault.{SessionFault}
 use Rattle.journal.specs.declared.fault.SessionFault.TheVariants as fault
 use Rattle.workers.specs.Causes.{the_cause}
@@ -48,7 +48,7 @@ module _ {D S R : Type 0} (act : D → S → Option (R × D)) where
 
 -- a step that the machine takes is not refused in a turn
 pub not_refused : {D : Type 0} (act : D → Step → Option (Reply × D)) (count : D → ℕ) (first begin x y : D) (old kept : Entries) (step : Step) (own news : Entries)
-    → IsTaken act count (data_after act first old) own step → begin ≡ first → kept ≡ old ++ news → entries_of step.worker news ≡ own
+    → AdmitsNext act count (data_after act first old) own step → begin ≡ first → kept ≡ old ++ news → entries_of step.worker news ≡ own
     → IsLegal act begin kept → y ≡ data_after act begin kept → y ≡ x → act x step ≡ None → count x < 2 ^ 32 → ⊥
 not_refused act count first begin x y old kept step own news takes begins list mine legal stands shown none below =
     let whole : IsLegal act first (old ++ news) = subst (λ l. IsLegal act first l) list (subst (λ z. IsLegal act z kept) begins legal) in

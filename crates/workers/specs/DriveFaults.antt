@@ -6,7 +6,7 @@ use Rattle.step_record.specs.declared.step.Step.{Step}
 use Rattle.step_record.specs.declared.worker.TheConstants.{MAX_WORKERS}
 use Rattle.step_record.specs.History.{IsLegal}
 use Rattle.shell_model.specs.Shell.{Shell, act}
-use Rattle.shell_model.specs.Reached.{worker_of}
+use Rattle.shell_model.specs.ReachableShell.{worker_of}
 use Rattle.journal.specs.Session.{SessionState}
 use Rattle.workers.specs.Runs.{IsRunUpTo}
 use Rattle.workers.specs.declared.run.DriveFault.{DriveFault}

@@ -6,7 +6,7 @@ use Rattle.step_record.specs.declared.step.Step.{Step}
 use Rattle.step_record.specs.History.{Entries, tail_after}
 use Rattle.journal.specs.Session.{SessionState}
 use Rattle.walks.specs.Walks.{AreWalks}
-use Rattle.walks.specs.Made.{entries_of, IsUnfinished}
+use Rattle.walks.specs.WorkerEntries.{entries_of, IsUnfinished}
 use Rattle.workers.specs.declared.run.Cause.{Cause}
 use Rattle.workers.specs.declared.run.Cause.TheVariants.{JournalFull}
 

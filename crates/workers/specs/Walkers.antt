@@ -8,7 +8,7 @@ use Rattle.step_record.specs.declared.step.Step.{Step}
 use Rattle.step_record.specs.History.{data_after}
 use Rattle.journal.specs.Session.{SessionState}
 use Rattle.turn_book.specs.Passes.{BookState, PassState, id_of}
-use Rattle.walks.specs.Admits.{AdmitsWalks}
+use Rattle.walks.specs.AdmittedSteps.{AdmitsWalks}
 use Rattle.walks.specs.Walks.{AreWalks}
 use Rattle.workers.specs.Draws.{IsWithin}
 

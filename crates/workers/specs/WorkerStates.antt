@@ -14,7 +14,7 @@ use Rattle.workers.specs.declared.worker_state.WorkerState.{WorkerState}
 use Rattle.workers.specs.Runs.{AreWalksUpTo}
 use Rattle.step_record.specs.History.{data_after, Entries}
 use Rattle.shell_model.specs.Shell.{Shell, act}
-use Rattle.walks.specs.Admits.{AdmitsWalks}
+use Rattle.walks.specs.AdmittedSteps.{AdmitsWalks}
 
 -- the calls of each worker, by its number
 abbrev pub calls_of : List (Vec Call) → ℕ → List Call

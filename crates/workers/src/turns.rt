@@ -5,9 +5,9 @@ ghost use Rattle.step_record.specs.Answers.{AnswersItsActs, is_answer};
 ghost use Rattle.turn_book.specs.Passes.{id_of};
 ghost use Rattle.step_record.specs.History.{data_after};
 ghost use Rattle.walks.specs.Walks.{IsWalk, AreWalks};
-ghost use Rattle.walks.specs.Admits.{IsTaken};
+ghost use Rattle.walks.specs.AdmittedSteps.{AdmitsNext};
 ghost use Rattle.workers.specs.Draws.{IsWithin};
-ghost use Rattle.walks.specs.Made.{Made, IsUnfinished};
+ghost use Rattle.walks.specs.WorkerEntries.{Made, IsUnfinished};
 ghost use Rattle.workers.specs.Causes.{the_cause};
 ghost use Rattle.workers.specs.Walkers.{CanWalk};
 
@@ -94,7 +94,7 @@ fn turn<E: Engine<Step = Step, Reply = Reply> + Drop, R: Wait>(
     requires own { pass.book ≡ id_of book.now }
     requires worker { pass.worker ≡ step.worker }
     requires answers { AnswersItsActs E.act }
-    requires takes { IsTaken E.act E.count
+    requires takes { AdmitsNext E.act E.count
         (data_after E.act book.now.opening.opening book.now.opening.kept) pass.own step }
     requires within { IsWithin book.now.opening.limit pass }
     requires turns { book.now.opening.limit ≤ book.now.turns }

@@ -3,7 +3,7 @@ use Rattle.std.specs.Io.KnownBytes.{Keeps}
 use Rattle.streams.proofs.flush.Given as goal
 
 pub record Trying (A B : Type 0) : Type 0 where
-  pub borne : A
+  pub counted : A
   pub kept : B
 
 abbrev pub invariant-flushes : goal.invariant-flushes

@@ -19,5 +19,5 @@ writes-preserved-in-Ok g c =
       within = search arith;
       sent = more _ _ _ c.writes.sent c.in-Ok.count c.args.bytes.now _ rest c.writes.invariant.sent
           c.in-Ok.ensures.bytes;
-      borne = c.writes.invariant.borne;
+      counted = c.writes.invariant.counted;
     }

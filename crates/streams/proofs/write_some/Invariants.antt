@@ -5,7 +5,7 @@ use Rattle.streams.proofs.write_some.Given as goal
 pub record Writing (A B C : Type 0) : Type 0 where
   pub within : A
   pub sent : B
-  pub borne : C
+  pub counted : C
 
 abbrev pub invariant-writes : goal.invariant-writes
 invariant-writes g l = Writing (l.sent ≤ length l.bytes)

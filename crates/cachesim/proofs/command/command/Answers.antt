@@ -1,17 +1,17 @@
 use Rattle.std.proofs.Common.{◌≡◌, ◌∙◌, ap, subst, sym, refl, rules, List, ℕ, map, Result, Ok, Err}
 use Rattle.std.specs.Borrow.{Bor}
-use Rattle.command_line.specs.Parsed.{ParsedBy}
+use Rattle.command_line.specs.ParseResult.{ParsedBy}
 use Rattle.command_line.specs.declared.arguments.Arguments.{Arguments}
 use Rattle.command_line.specs.declared.fault.ParseFault.{ParseFault}
 use Rattle.command_line.specs.declared.arguments.Arguments.TheVariants as asked
 use Rattle.command_line.specs.declared.fault.ParseFault.TheVariants.{Stripes}
 use Rattle.std.specs.Prelude.{OnOk}
 use Rattle.std.specs.Prelude.{string_bytes}
-use Rattle.cachesim.specs.Debugged.{Debugging, KnownFiles, Replaying}
+use Rattle.cachesim.specs.DebugOutput.{Debugging, KnownFiles, Replaying}
 use Rattle.policy_actors.specs.Sweep.{jobs_over}
 use Rattle.cachesim.specs.Jobs.{jobs_by_policy}
-use Rattle.cachesim.specs.Drove.{IsDriven}
-use Rattle.cachesim.specs.Part.{Parting}
+use Rattle.cachesim.specs.DriveOutput.{IsDriven}
+use Rattle.cachesim.specs.PartOutput.{Parting}
 use Rattle.cachesim.specs.Run.{Reports}
 use Rattle.cachesim.specs.declared.fault.Fault.{Fault}
 use Rattle.cachesim.proofs.Ending.{debug_done, drive_done, odd_by, part_done, refused_by, replay_done, run_done, sweep_done}

@@ -1,7 +1,7 @@
 use Rattle.std.proofs.Common.{◌∙◌, ◌%◌, [], ◌∷◌, ◌++◌, get_or, map, set, ap, vec_items}
 use Rattle.step_record.specs.declared.step.Call.TheVariants.{Read}
 use Rattle.std.proofs.lemmas.List.{length-map, length-set, take_all}
-use Rattle.cachesim.specs.Dealt.{reads_of}
+use Rattle.cachesim.specs.WorkerReads.{reads_of}
 use Rattle.cachesim.proofs.Dealing.{dealt_more}
 use Rattle.cachesim.proofs.drive.deal.Goals as goal
 

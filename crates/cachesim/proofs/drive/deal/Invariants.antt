@@ -1,5 +1,5 @@
 use Rattle.std.proofs.Common.{◌≡◌, ℕ, ◌<◌, [], length, map, get_or, take, vec_items}
-use Rattle.cachesim.specs.Dealt.{reads_of}
+use Rattle.cachesim.specs.WorkerReads.{reads_of}
 use Rattle.cachesim.proofs.drive.deal.Given as goal
 
 abbrev pub invariant-loop-i : goal.invariant-loop-i

@@ -4,18 +4,18 @@ use Rattle.std.proofs.lemmas.Option.{IfSome_then}
 use Rattle.std.proofs.lemmas.Result.{IfErr-weaker}
 use Rattle.step_record.specs.History.{IsLegal}
 use Rattle.shell_model.specs.Shell.{Shell, act}
-use Rattle.shell_model.specs.Reached.{worker_of}
+use Rattle.shell_model.specs.ReachableShell.{worker_of}
 use Rattle.step_record.specs.declared.step.Call.{Call}
 use Rattle.step_record.specs.declared.step.Reply.{Reply}
 use Rattle.step_record.specs.declared.step.Step.{Step}
 use Rattle.step_record.specs.declared.worker.TheConstants.{MAX_WORKERS}
-use Rattle.trace_read.specs.Reading.{keys_in}
+use Rattle.trace_read.specs.TraceText.{keys_in}
 use Rattle.journal.specs.Session.{SessionState}
 use Rattle.workers.specs.DriveFaults.{LeavesFault}
 use Rattle.workers.specs.declared.run.DriveFault.{DriveFault}
 use Rattle.workers.specs.declared.run.DriveFault.TheVariants.{Workers, Held, OutOfMemory, Stopped}
-use Rattle.cachesim.specs.Drove.{IsOfRun}
-use Rattle.cachesim.specs.Dealt.{AreOfReads}
+use Rattle.cachesim.specs.DriveOutput.{IsOfRun}
+use Rattle.cachesim.specs.WorkerReads.{AreOfReads}
 use Rattle.cachesim.proofs.Dealing.{reads_walked}
 use Rattle.cachesim.proofs.Found.{late_end, of_end}
 use Rattle.cachesim.proofs.drive.drive.Goals as goal

@@ -1,6 +1,6 @@
 use Rattle.std.proofs.Common.{map, subst, ◌∙◌}
 use Rattle.std.proofs.lemmas.Option.{IfSome_then}
-use Rattle.cachesim.specs.Dealt.{IsDealt}
+use Rattle.cachesim.specs.WorkerReads.{IsDealt}
 use Rattle.cachesim.proofs.drive.pieces_of.Goals as goal
 
 pub returns-clause-dealt : goal.returns-clause-dealt

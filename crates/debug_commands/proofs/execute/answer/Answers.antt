@@ -1,11 +1,11 @@
 use Rattle.std.proofs.Common.{rules, ◌≡◌, sym, subst, ℕ, Result, Ok, Err}
 use Rattle.std.specs.Prelude.{OnOk}
 use Rattle.debug_commands.specs.Answers.{answer_to, response_to}
-use Rattle.debug_commands.specs.Answering.{IsAnswer}
+use Rattle.debug_commands.specs.AnswerText.{IsAnswer}
 use Rattle.debug_commands.specs.Timeline.{TimelineData}
 use Rattle.debug_commands.specs.declared.command.Command.TheVariants as command
-use Rattle.debug_commands.specs.declared.command.Line.{Line}
-use Rattle.debug_commands.specs.declared.command.Line.TheVariants.{Known}
+use Rattle.debug_commands.specs.declared.command.InputLine.{InputLine}
+use Rattle.debug_commands.specs.declared.command.InputLine.TheVariants.{Known}
 use Rattle.debug_commands.proofs.execute.answer.Goals as goal
 
 -- what holds at every timeline and position holds at this one
@@ -23,6 +23,6 @@ returns-in-Known-Break-clause-answer g c =
     let t : TimelineData = g.T.Timeline.timeline c.args.timeline.now in
     let at : ℕ = g.T.Timeline.position c.args.timeline.now in
     let is : c.args.line ≡ Known (command.Break c.in-Known-Break.point) = search rules in
-    subst (λ (x : Line). OnOk c.set.result (IsAnswer (answer_to t (record { at = at; breaks = breaks }) x) before after at points)) (sym is)
+    subst (λ (x : InputLine). OnOk c.set.result (IsAnswer (answer_to t (record { at = at; breaks = breaks }) x) before after at points)) (sym is)
     (at_this c.set.result (λ t at. IsAnswer (response_to t (record { at = at; breaks = breaks }) (command.Break c.in-Known-Break.point)) before after at points)
     c.set.ensures t at)

@@ -1,5 +1,5 @@
 use Rattle.std.proofs.Common.{◌≡◌, ◌++◌}
-use Rattle.debug_replay.specs.Shown.{stripe_lines}
+use Rattle.debug_replay.specs.ShownState.{stripe_lines}
 use Rattle.debug_replay.proofs.shell_text.push_stripes.Given as goal
 
 abbrev pub invariant-loop-stripe : goal.invariant-loop-stripe

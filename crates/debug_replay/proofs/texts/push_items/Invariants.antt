@@ -1,6 +1,6 @@
 use Rattle.std.proofs.Common.{◌≡◌, ◌++◌, take}
 use Rattle.std.specs.List.{flat_map}
-use Rattle.debug_replay.specs.Shown.{item_text}
+use Rattle.debug_replay.specs.ShownState.{item_text}
 use Rattle.debug_replay.proofs.texts.push_items.Given as goal
 
 abbrev pub invariant-loop-item : goal.invariant-loop-item

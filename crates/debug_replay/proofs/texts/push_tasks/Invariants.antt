@@ -1,6 +1,6 @@
 use Rattle.std.proofs.Common.{◌≡◌, ◌++◌, take}
 use Rattle.std.specs.List.{flat_map}
-use Rattle.debug_replay.specs.Shown.{task_text}
+use Rattle.debug_replay.specs.ShownState.{task_text}
 use Rattle.debug_replay.proofs.texts.push_tasks.Given as goal
 
 abbrev pub invariant-loop-task : goal.invariant-loop-task

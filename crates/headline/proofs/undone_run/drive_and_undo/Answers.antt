@@ -1,7 +1,7 @@
 use Rattle.std.proofs.Common.{Option, Some, None, map, subst, sym, vec_items}
 use Rattle.workers.specs.declared.run.Cause.{Cause}
 use Rattle.workers.specs.DriveFaults.{LeavesFault}
-use Rattle.headline.specs.Rewound.{IsRewound}
+use Rattle.headline.specs.UndoneRun.{IsRewound}
 use Rattle.headline.proofs.Rewinding.{rewound, whole_up_to}
 use Rattle.headline.proofs.undone_run.drive_and_undo.Goals as goal
 

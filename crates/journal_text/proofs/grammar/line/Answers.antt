@@ -1,14 +1,14 @@
 use Rattle.std.proofs.Common.{◌≡◌, ◌∙◌, Some, None, sym, ap, ℕ, List}
 use Rattle.std.specs.Prelude.{IfSome}
 use Rattle.std.specs.declared.option.Option.{Option}
-use Rattle.journal_text.specs.Reading.{journal_line_in}
+use Rattle.journal_text.specs.LineGrammar.{journal_line_in}
 use Rattle.journal_text.specs.Table.{text_of, IsLine}
-use Rattle.journal_text.specs.declared.line.Line.{Line}
+use Rattle.journal_text.specs.declared.line.JournalLine.{JournalLine}
 use Rattle.journal_text.specs.declared.version.Version.{Version}
 use Rattle.journal_text.proofs.LineLaws.{line_again, line_taken}
 use Rattle.journal_text.proofs.grammar.line.Goals as goal
 
-found : (v : Version) (text : List ℕ) (o : Option Line) → o ≡ journal_line_in v text → IfSome o (λ l. IsLine v l × (text_of l ≡ text))
+found : (v : Version) (text : List ℕ) (o : Option JournalLine) → o ≡ journal_line_in v text → IfSome o (λ l. IsLine v l × (text_of l ≡ text))
 found v text None e = tt
 found v text (Some l) e = line_taken v text l (sym e)
 

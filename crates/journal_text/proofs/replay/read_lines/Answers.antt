@@ -3,7 +3,7 @@ use Rattle.std.proofs.lemmas.List.Elements.{All-nil}
 use Rattle.step_record.specs.History.{IsLegal}
 use Rattle.journal_text.specs.Journal.{begun, AreLines}
 use Rattle.journal_text.specs.Table.{IsLine}
-use Rattle.journal_text.specs.declared.line.Line.TheVariants.{Made}
+use Rattle.journal_text.specs.declared.line.JournalLine.TheVariants.{Made}
 use Rattle.journal_text.proofs.Fronts.{begun_none, line_gone, line_more}
 use Rattle.journal_text.proofs.replay.read_lines.Goals as goal
 

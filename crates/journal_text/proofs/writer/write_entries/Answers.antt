@@ -3,7 +3,7 @@ use Rattle.std.proofs.lemmas.List.Elements.{All-nil, All-push}
 use Rattle.std.specs.Prelude.{slice_get}
 use Rattle.journal_text.specs.Journal.{begun, entry_line}
 use Rattle.journal_text.specs.Table.{entry_words, FitWords}
-use Rattle.journal_text.specs.Writing.{AreFit}
+use Rattle.journal_text.specs.TextBuffer.{AreFit}
 use Rattle.journal_text.specs.declared.version.Version.TheVariants.{Two}
 use Rattle.journal_text.proofs.Fronts.{begun_more}
 use Rattle.journal_text.proofs.Written.{gathered, passed, started}

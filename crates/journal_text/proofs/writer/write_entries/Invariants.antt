@@ -1,6 +1,6 @@
 use Rattle.std.proofs.Common.{◌≤◌, take, vec_capacity}
 use Rattle.journal_text.specs.Journal.{begun}
-use Rattle.journal_text.specs.Writing.{AreFit, IsTextWritten}
+use Rattle.journal_text.specs.TextBuffer.{AreFit, IsTextWritten}
 use Rattle.journal_text.specs.declared.version.Version.TheVariants.{Two}
 use Rattle.journal_text.specs.declared.writer.TheConstants.{BUFFER}
 use Rattle.journal_text.proofs.writer.write_entries.Given as goal

@@ -2,7 +2,7 @@ use Rattle.std.proofs.Common.{◌≡◌, ◌∙◌, ◌++◌, length, ap, refl, 
 use Rattle.std.specs.Io.KnownBytes.{Appends}
 use Rattle.journal_text.specs.Journal.{begun, ended_line, journal_of}
 use Rattle.journal_text.specs.Table.{text_of}
-use Rattle.journal_text.specs.declared.line.Line.TheVariants.{Steps}
+use Rattle.journal_text.specs.declared.line.JournalLine.TheVariants.{Steps}
 use Rattle.journal_text.specs.declared.version.Version.TheVariants.{Two}
 use Rattle.journal_text.proofs.Written.{finished, gathered, lines_of_two, passed}
 use Rattle.journal_text.proofs.writer.write_journal.Goals as goal

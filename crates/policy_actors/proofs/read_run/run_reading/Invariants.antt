@@ -1,4 +1,4 @@
-use Rattle.trace_read.specs.Reading.{keys_of_file}
+use Rattle.trace_read.specs.TraceText.{keys_of_file}
 use Rattle.policy_actors.proofs.read_run.run_reading.Given as goal
 
 abbrev pub ghosts-run_read : goal.ghosts-run_read

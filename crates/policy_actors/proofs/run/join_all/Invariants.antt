@@ -5,5 +5,5 @@ use Rattle.policy_actors.specs.Reports.{report_on}
 use Rattle.policy_actors.proofs.run.join_all.Given as goal
 
 abbrev pub invariant-loop-handle : goal.invariant-loop-handle
-invariant-loop-handle g l = (all : List ℕ) → g.S.Source.known ≡ Some all
+invariant-loop-handle g l = (all : List ℕ) → g.S.FeedSource.known ≡ Some all
     → vec_items l.reports ++ map (λ j. report_on j all) (jobs_of (into_iter_items l.handle-iterator)) ≡ map (λ j. report_on j all) (jobs_of (vec_items l.fn.handles))

@@ -1,7 +1,7 @@
 use Rattle.std.proofs.Common.{refl, sym, ap, ◌∙◌}
 use Rattle.shell_model.proofs.Engines.{answers_law}
 use Rattle.walks.specs.Walks.{step_of}
-use Rattle.quiet_run.specs.Outcomes.{outcome_after}
+use Rattle.quiet_run.specs.Outcomes.{outcome_with_reply}
 use Rattle.walks.proofs.Walking.{on_err, answered}
 use Rattle.walks.proofs.Holding.{ready_start, round_on, asks_on, act_asked, goes_on, goes_over, goes_begun, stripes_stay}
 use Rattle.quiet_run.proofs.Adding.{still_held, adds_none, adds_more, adds_same, told_last}
@@ -39,7 +39,7 @@ loop-next-preserved c = record {
       (λ es h. (
         goes_on c.args.local.worker c.args.local.stripes c.args.local.place c.args.local.worker c.args.local.stripes c.loop-next.next c.next_step-next-in-Do.result c.in-Do.act c.in-Do.at c.in_ok-reply.reply c.in-Do.is c.loop-next.invariant.asks
             (λ rest left. (c.next_step-next-in-Do.ensures.left rest).1 left) es h.0,
-        c.outcome_with-outcome.ensures ∙ ap (λ o. outcome_after o c.in_ok-reply.reply) h.1 ∙ sym (told_last c.args.start es (record { step = step_of c.args.local.worker c.in-Do.act; reply = c.in_ok-reply.reply })),
+        c.outcome_with-outcome.ensures ∙ ap (λ o. outcome_with_reply o c.in_ok-reply.reply) h.1 ∙ sym (told_last c.args.start es (record { step = step_of c.args.local.worker c.in-Do.act; reply = c.in_ok-reply.reply })),
       ));
   asks = asks_on c.args.local.worker c.args.local.stripes c.loop-next.next c.next_step-next-in-Do.result c.in-Do.act c.in-Do.at c.in-Do.is c.loop-next.invariant.asks c.next_step-next-in-Do.ensures.asks;
   worker = refl;

@@ -1,8 +1,8 @@
 use Rattle.std.proofs.Common.{◌≡◌, ◌-◌, ◌++◌, length}
 use Rattle.step_record.specs.History.{Entries}
-use Rattle.walks.specs.Nexts.{IsRestOfWalk, IsAskedNext}
+use Rattle.walks.specs.NextActs.{IsRestOfWalk, IsAskedNext}
 use Rattle.quiet_run.specs.Outcomes.{outcome_from}
-use Rattle.walks.specs.Places.{IsAheadOf}
+use Rattle.walks.specs.WalkPlaces.{IsAheadOf}
 use Rattle.quiet_run.specs.Settle.{AddsSteps}
 use Rattle.walks.specs.Holders.{IsReadyFor}
 use Rattle.quiet_run.proofs.round.finish_round.Given as goal

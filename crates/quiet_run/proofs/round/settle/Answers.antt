@@ -1,6 +1,6 @@
 use Rattle.std.proofs.Common.{ℕ, ◌-◌, length, Some, option_map, sym, ap, ◌∙◌}
 use Rattle.shell_model.specs.Shell.{Shell}
-use Rattle.maintenance.specs.Opened.{holder_parts}
+use Rattle.maintenance.specs.EmptyShell.{holder_parts}
 use Rattle.quiet_run.proofs.Adding.{adds_counted, held_rest, held_worker}
 use Rattle.quiet_run.proofs.round.settle.Goals as goal
 

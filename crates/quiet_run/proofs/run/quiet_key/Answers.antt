@@ -1,7 +1,7 @@
 use Rattle.std.proofs.Common.{◌≡◌, ◌∙◌, refl, sym, subst, ◌≤◌, ℕ, [], ◌++◌}
 use Rattle.walks.specs.Walks.{IsReading}
 use Rattle.quiet_run.specs.Outcomes.{outcome_from}
-use Rattle.walks.specs.Made.{IsUnfinished}
+use Rattle.walks.specs.WorkerEntries.{IsUnfinished}
 use Rattle.walks.proofs.Walking.{on_err}
 use Rattle.quiet_run.proofs.Adding.{adds_none, adds_one, adds_known}
 use Rattle.quiet_run.proofs.Calling.{begins, key_cut, round_cut, round_made, map_ok, map_err, reads_ahead, ready_reads}

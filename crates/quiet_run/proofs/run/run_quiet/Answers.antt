@@ -1,6 +1,6 @@
 use Rattle.std.proofs.Common.{ℕ, ap, subst, ◌∙◌}
 use Rattle.shell_model.specs.Shell.{Shell}
-use Rattle.shell_model.specs.Reached.{IsReachable}
+use Rattle.shell_model.specs.ReachableShell.{IsReachable}
 use Rattle.quiet_run.specs.Settle.{AddsSteps}
 use Rattle.quiet_run.specs.QuietWalks.{AreQuietWalks}
 use Rattle.quiet_run.proofs.QuietRuns.{new-session, later-session}

@@ -1,7 +1,7 @@
 use Rattle.std.proofs.Common.{◌∙◌, ap, refl, sym, subst}
 use Rattle.segments.specs.Queues.{Queues, IsDistinct, queue_after_access}
 use Rattle.replacement.specs.Plan.{settling}
-use Rattle.replacement.specs.Moving.{queues_after_transfer}
+use Rattle.replacement.specs.PlanMoves.{queues_after_transfer}
 use Rattle.replacement.proofs.Carrying.{moved-distinct}
 use Rattle.replacement.proofs.Served.{hit-undone}
 use Rattle.replacement.proofs.Oldest.{renewed-first}

@@ -2,7 +2,7 @@ use Rattle.std.proofs.Common.{◌∙◌, Some, ap, sym}
 use Rattle.segments.specs.Queues.{queues_after_push, queues_without, queues_after_move}
 use Rattle.segments.specs.Moves.{move_record}
 use Rattle.segments.proofs.QueueLists.{still-absent}
-use Rattle.replacement.specs.Moving.{removed}
+use Rattle.replacement.specs.PlanMoves.{removed}
 use Rattle.replacement.proofs.Carrying.{popped-taken, pushed-moved}
 use Rattle.replacement.proofs.Oldest.{dropped-oldest, joined-oldest}
 use Rattle.replacement.proofs.queue_moves.renew_oldest.Goals as goal

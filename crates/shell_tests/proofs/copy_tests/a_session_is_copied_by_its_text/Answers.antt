@@ -1,5 +1,5 @@
 use Rattle.std.proofs.Common.{sym, ◌∙◌, subst, arith, rules}
-use Rattle.shell_model.specs.Reached.{IsReachable}
+use Rattle.shell_model.specs.ReachableShell.{IsReachable}
 use Rattle.shell_tests.proofs.Alike.{alike}
 use Rattle.shell_tests.proofs.copy_tests.a_session_is_copied_by_its_text.Goals as goal
 

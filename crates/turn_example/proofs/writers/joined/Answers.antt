@@ -1,6 +1,6 @@
 use Rattle.std.proofs.Common.{subst}
 use Rattle.turn_book.specs.Passes.{id_of}
-use Rattle.turn_example.specs.Written.{Wrote}
+use Rattle.turn_example.specs.LogLines.{Wrote}
 use Rattle.turn_example.proofs.Gathered.{wrote_more}
 use Rattle.turn_example.proofs.writers.joined.Goals as goal
 

@@ -1,6 +1,6 @@
 use Rattle.std.proofs.Common.{subst, map, vec_items, arith}
 use Rattle.turn_book.specs.Passes.{id_of}
-use Rattle.turn_example.specs.Written.{IsWritten}
+use Rattle.turn_example.specs.LogLines.{IsWritten}
 use Rattle.turn_example.proofs.Gathered.{books_of, order_of, written_of}
 use Rattle.turn_example.proofs.writers.write_log.Goals as goal
 

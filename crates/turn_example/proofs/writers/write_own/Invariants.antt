@@ -1,5 +1,5 @@
 use Rattle.std.proofs.Common.{◌≡◌}
-use Rattle.turn_example.specs.Written.{Wrote}
+use Rattle.turn_example.specs.LogLines.{Wrote}
 use Rattle.turn_book.specs.Passes.{id_of}
 use Rattle.turn_example.proofs.writers.write_own.Given as goal
 

@@ -1,6 +1,6 @@
 use Rattle.std.proofs.Common.{◌≡◌, true, subst}
 use Rattle.step_record.specs.Answers.{is_answer}
-use Rattle.walks.specs.Places.{act_of_place}
+use Rattle.walks.specs.WalkPlaces.{act_of_place}
 use Rattle.walks.proofs.place.after.Goals as goal
 
 pub after_offer-requires : goal.after_offer-requires

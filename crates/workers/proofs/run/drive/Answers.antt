@@ -7,10 +7,10 @@ use Rattle.workers.specs.DriveFaults.{CanRun}
 use Rattle.workers.specs.Runs.{IsRunUpTo}
 use Rattle.step_record.specs.History.{data_after}
 use Rattle.shell_model.specs.Shell.{act}
-use Rattle.walks.specs.Admits.{AdmitsWalks}
+use Rattle.walks.specs.AdmittedSteps.{AdmitsWalks}
 use Rattle.walks.proofs.Admitting.{shell_admits}
 use Rattle.workers.proofs.Freeing.{run_frees}
-use Rattle.shell_model.specs.Reached.{IsReachable}
+use Rattle.shell_model.specs.ReachableShell.{IsReachable}
 use Rattle.workers.proofs.Collecting.{came_back, every_map, run_up_to}
 use Rattle.workers.proofs.RunResults.{moved_run, whole_run, free_of}
 use Rattle.workers.proofs.Turning.{within_first}

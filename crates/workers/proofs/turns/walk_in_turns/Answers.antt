@@ -1,5 +1,5 @@
 use Rattle.std.proofs.Common.{refl, sym, subst, ◌∙◌}
-use Rattle.walks.specs.Admits.{MayMake}
+use Rattle.walks.specs.AdmittedSteps.{MayMake}
 use Rattle.walks.proofs.Coming.{may_make}
 use Rattle.walks.proofs.Walking.{nothing, stopped, stepped, over, known, asks_same, asked_of, Completes}
 use Rattle.workers.proofs.Turning.{at_ok, at_err, on_ok_at}

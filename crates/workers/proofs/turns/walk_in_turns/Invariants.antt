@@ -1,9 +1,9 @@
 use Rattle.std.proofs.Common.{◌≡◌, ◌++◌}
 use Rattle.step_record.specs.History.{Entries}
 use Rattle.walks.specs.Walks.{IsWalk}
-use Rattle.walks.specs.Made.{Made}
+use Rattle.walks.specs.WorkerEntries.{Made}
 use Rattle.workers.specs.Draws.{IsWithin}
-use Rattle.walks.specs.Nexts.{IsRestOfWalk, IsAskedNext}
+use Rattle.walks.specs.NextActs.{IsRestOfWalk, IsAskedNext}
 use Rattle.workers.proofs.turns.walk_in_turns.Given as goal
 
 abbrev pub invariant-loop : goal.invariant-loop

@@ -2,7 +2,7 @@ use Rattle.std.proofs.Common.{◌≡◌, ◌++◌, List, drop}
 use Rattle.step_record.specs.declared.step.Call.{Call}
 use Rattle.step_record.specs.History.{Entries}
 use Rattle.walks.specs.Walks.{AreWalks}
-use Rattle.walks.specs.Made.{Made}
+use Rattle.walks.specs.WorkerEntries.{Made}
 use Rattle.workers.specs.Draws.{IsWithin}
 use Rattle.workers.proofs.turns.work_in_turns.Given as goal
 

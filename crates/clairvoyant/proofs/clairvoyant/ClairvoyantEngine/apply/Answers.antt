@@ -1,6 +1,6 @@
 use Rattle.std.proofs.Common.{◌∙◌, sym, ap, arith}
 use Rattle.clairvoyant.specs.Clairvoyant.{ClairvoyantState}
-use Rattle.clairvoyant.specs.UseRecord.{outcome_of, record_at}
+use Rattle.clairvoyant.specs.OptimalRecord.{outcome_of, record_at}
 use Rattle.clairvoyant.proofs.Records.{outcome-is}
 use Rattle.clairvoyant.proofs.Reached.{reached-held}
 use Rattle.clairvoyant.proofs.Applying.{next-keeping, next-accepted, next-stands, next-undone, next-fits}

@@ -2,7 +2,7 @@ use Rattle.std.proofs.Common.{◌≡◌, ℕ, suc, ◌-◌, arith, subst, sym, a
 use Rattle.clairvoyant.specs.RankSet.{IsTied}
 use Rattle.clairvoyant.specs.Belady.{belady_residents}
 use Rattle.step_record.specs.Stats.{IsCounted, stats_without}
-use Rattle.clairvoyant.specs.UseRecord.{clairvoyant_undone}
+use Rattle.clairvoyant.specs.OptimalRecord.{clairvoyant_undone}
 use Rattle.clairvoyant.proofs.Undoing.{fits-shown, back-counted, back-shown, back-keeping}
 use Rattle.clairvoyant.proofs.clairvoyant.ClairvoyantEngine.undo.Goals as goal
 

@@ -1,6 +1,6 @@
 use Rattle.std.proofs.Common.{◌≡◌, length, ap, subst, ◌∙◌, sym}
 use Rattle.shell_model.specs.Shell.{Shell}
-use Rattle.shell_model.specs.Reached.{IsReachable}
+use Rattle.shell_model.specs.ReachableShell.{IsReachable}
 use Rattle.shell_model.proofs.Striped.{striped-law, stripes_checked}
 use Rattle.maintenance.specs.declared.shell.Shell.TheInside.{Inside}
 use Rattle.maintenance.proofs.shell.Shell.stripes.Goals as goal

@@ -5,7 +5,7 @@ use Rattle.policy_actors.proofs.mail.VecOutboxBatchEnds.give.Goals as goal
 
 pub returns-clause-next : goal.returns-clause-next
 returns-clause-next g c = λ given.
-    let sent : Outbox g.row.S.Denot g.S.Source → ℕ = λ e. e.sent in
+    let sent : Outbox g.row.S.Denot g.S.FeedSource → ℕ = λ e. e.sent in
     let items = c.args.self.now.items in let i = c.args.end in
     let before = ap sent c.index_mut.ensures.value ∙ sym (get_or-map sent items i c.index_mut.result.now 0 c.requires) in
     map-set sent items i c.give.new.self

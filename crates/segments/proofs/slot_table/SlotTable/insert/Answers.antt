@@ -12,7 +12,7 @@ use Rattle.segments.proofs.Kept.{free-raised, held-room, kept-on, distinct-in}
 use Rattle.segments.proofs.slot_table.SlotTable.insert.Goals as goal
 use Rattle.segments.proofs.slot_table.SlotTable.insert.Goals.{After-deref_mut-slots, After-send, After-raise}
 
--- the slots, as they are lent, have room
+-- the slots, as they are borrowed, have room
 room-there : (c : goal.After-deref_mut-slots) → 1 ≤ spare_in c.deref_mut-slots.result.now
 room-there c = subst (λ (s : List Slot). 1 ≤ spare_in s) (sym (c.deref_mut-slots.ensures.value ∙ c.self.view_is)) c.requires.room
 

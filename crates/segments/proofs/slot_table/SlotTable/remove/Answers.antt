@@ -11,7 +11,7 @@ use Rattle.segments.proofs.Kept.{free-lowered, held-used, used-slot, kept-on}
 use Rattle.segments.proofs.slot_table.SlotTable.remove.Goals as goal
 use Rattle.segments.proofs.slot_table.SlotTable.remove.Goals.{After-deref_mut-slots, After-release, After-lower}
 
--- the slots, as they are lent, have the slot in use
+-- the slots, as they are borrowed, have the slot in use
 used-there : (c : goal.After-deref_mut-slots) → 1 ≤ count c.args.at (used (order_of c.deref_mut-slots.result.now))
 used-there c = rw (c.deref_mut-slots.ensures.value ∙ c.self.view_is) c.requires.used
 

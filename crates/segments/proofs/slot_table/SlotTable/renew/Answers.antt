@@ -15,7 +15,7 @@ use Rattle.segments.proofs.Renewing.{unused, lengths-renewed, joins, held-renewe
 use Rattle.segments.proofs.slot_table.SlotTable.renew.Goals as goal
 use Rattle.segments.proofs.slot_table.SlotTable.renew.Goals.{After-deref_mut-slots, After-send}
 
--- the slots, as they are lent, have the slot in the queue
+-- the slots, as they are borrowed, have the slot in the queue
 stands-there : (c : goal.After-deref_mut-slots) → 1 ≤ count c.args.at (section c.args.queue (order_of c.deref_mut-slots.result.now))
 stands-there c = rw (c.deref_mut-slots.ensures.value ∙ c.self.view_is) c.requires.stands
 

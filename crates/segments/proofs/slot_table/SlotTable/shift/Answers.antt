@@ -12,7 +12,7 @@ use Rattle.segments.proofs.Kept.{free-raised, free-lowered, held-used, used-slot
 use Rattle.segments.proofs.slot_table.SlotTable.shift.Goals as goal
 use Rattle.segments.proofs.slot_table.SlotTable.shift.Goals.{After-deref_mut-slots, After-send, After-raise}
 
--- the slots, as they are lent, have the slot in use
+-- the slots, as they are borrowed, have the slot in use
 used-there : (c : goal.After-deref_mut-slots) → 1 ≤ count c.args.at (used (order_of c.deref_mut-slots.result.now))
 used-there c = rw (c.deref_mut-slots.ensures.value ∙ c.self.view_is) c.requires.used
 

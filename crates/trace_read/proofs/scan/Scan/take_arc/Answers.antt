@@ -2,7 +2,7 @@ use Rattle.std.proofs.Common.{◌+◌, arith, subst, sym}
 use Rattle.trace_read.proofs.Steps.{errs}
 use Rattle.trace_read.proofs.Taken.{line_refused, line_taken, refused_then, taken_then}
 use Rattle.trace_read.specs.DigitRuns.{IsLineEnd}
-use Rattle.trace_read.specs.Scanned.{IsTaken}
+use Rattle.trace_read.specs.ScanState.{IsTakenUpTo}
 use Rattle.trace_read.proofs.scan.Scan.take_arc.Goals as goal
 
 pub lines-preserved : goal.lines-preserved
@@ -16,7 +16,7 @@ lines-preserved c =
     let before = taken_then c.args.self.now c.lines.self c.take_runs.new.self bytes 0 c.lines.runs.start first.start i.taken c.in-Some.ensures.some in
     let next = line_taken c.take_runs.new.self bytes first.start line.end before.scan before.cut l.order (omega (arith, l.within)) l.none l.feed _ read.scan read.ended in
     record {
-      taken = subst (λ n. IsTaken c.args.self.now bytes 0 n c.end_line.new.self) (sym l.behind) (taken_then _ _ _ bytes 0 first.start (line.end + 1) before next);
+      taken = subst (λ n. IsTakenUpTo c.args.self.now bytes 0 n c.end_line.new.self) (sym l.behind) (taken_then _ _ _ bytes 0 first.start (line.end + 1) before next);
       runs = l.runs;
       same = l.same;
     }

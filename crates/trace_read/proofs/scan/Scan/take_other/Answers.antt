@@ -4,9 +4,9 @@ use Rattle.trace_read.proofs.Steps.{errs}
 use Rattle.trace_read.proofs.StarLines.{stars_taken}
 use Rattle.trace_read.proofs.Taken.{key_read, line_refused, line_taken, nothing_taken, whole_read, whole_stopped}
 use Rattle.trace_read.specs.DigitRuns.{IsLineEnd}
-use Rattle.trace_read.specs.Reading.{IsRead}
+use Rattle.trace_read.specs.TraceText.{IsRead}
 use Rattle.trace_read.specs.declared.scan.Scan.{Scan}
-use Rattle.trace_read.specs.Scanned.{IsTaken}
+use Rattle.trace_read.specs.ScanState.{IsTakenUpTo}
 use Rattle.trace_read.proofs.scan.Scan.take_other.Goals as goal
 
 pub returns-in_err-add_lirs-clause-err : goal.returns-in_err-add_lirs-clause-err
@@ -37,7 +37,7 @@ returns-clause-taken c =
       line = refl;
       format = refl;
     }) in
-    subst (λ n. IsTaken scan bytes start n last) (sym l.behind) next
+    subst (λ n. IsTakenUpTo scan bytes start n last) (sym l.behind) next
 
 pub returns-then-stars-gt0-clause-taken : goal.returns-then-stars-gt0-clause-taken
 returns-then-stars-gt0-clause-taken c =
@@ -48,7 +48,7 @@ returns-then-stars-gt0-clause-taken c =
     let within : start ≤ length bytes = omega (arith, c.requires.found.order, c.requires.found.within) in
     let here = nothing_taken scan bytes start c.requires.scan c.requires.cut within in
     let next : Scan = record { alloc = scan.alloc; format = scan.format; keys = scan.keys; line = scan.line + count; cut = scan.cut } in
-    subst (λ n. IsTaken scan bytes start n next) (sym c.at.ensures.start) (stars_taken scan scan bytes start start count here c.requires.format c.star_lines-stars.ensures)
+    subst (λ n. IsTakenUpTo scan bytes start n next) (sym c.at.ensures.start) (stars_taken scan scan bytes start start count here c.requires.format c.star_lines-stars.ensures)
 
 pub returns-in-Some-key_of_digits-clause-taken : goal.returns-in-Some-key_of_digits-clause-taken
 returns-in-Some-key_of_digits-clause-taken c =
@@ -70,4 +70,4 @@ returns-in-Some-key_of_digits-clause-taken c =
       line = refl;
       format = refl;
     }) in
-    subst (λ n. IsTaken scan bytes start n last) (sym l.behind) next
+    subst (λ n. IsTakenUpTo scan bytes start n last) (sym l.behind) next

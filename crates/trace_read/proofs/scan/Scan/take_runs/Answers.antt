@@ -2,7 +2,7 @@ use Rattle.std.proofs.Common.{◌∙◌, ◌≤◌, ◌+◌, ◌++◌, ap, arith
 use Rattle.step_record.specs.declared.limits.TheConstants.{MAX_ACCESSES}
 use Rattle.trace_read.proofs.Runs.{run_fits}
 use Rattle.trace_read.proofs.Taken.{line_taken, run_read, taken_then}
-use Rattle.trace_read.specs.Scanned.{IsTaken}
+use Rattle.trace_read.specs.ScanState.{IsTakenUpTo}
 use Rattle.trace_read.specs.declared.scan.Scan.{Scan}
 use Rattle.trace_read.proofs.scan.Scan.take_runs.Goals as goal
 
@@ -20,7 +20,7 @@ lines-preserved c =
     let l = usual.end in
     let now : Scan = record { alloc = scan.alloc; format = scan.format; keys = c.lines.keys; line = c.lines.line; cut = scan.cut } in
     let next : Scan = record { alloc = scan.alloc; format = scan.format; keys = c.push_reserved_run.new.keys; line = c.lines.line + 1; cut = scan.cut } in
-    let here = subst (λ n. IsTaken first bytes c.args.runs.now.start n now) (sym e.start.0) i.taken in
+    let here = subst (λ n. IsTakenUpTo first bytes c.args.runs.now.start n now) (sym e.start.0) i.taken in
     let few : length c.lines.keys.items + run.count ≤ MAX_ACCESSES = omega (arith, usual.few, c.lines.keys.ok.0) in
     let more : length c.push_reserved_run.new.keys.items ≤ MAX_ACCESSES = omega (arith, usual.few, c.push_reserved_run.ensures.len, c.push_reserved_run.new.keys.ok.0) in
     let f = run_fits c.lines.line (length c.lines.keys.items) run.start run.count usual.fits few in
@@ -35,7 +35,7 @@ lines-preserved c =
       format = refl;
     }) in
     record {
-      taken = subst (λ n. IsTaken first bytes c.args.runs.now.start n next) (sym l.behind) (taken_then first now next bytes c.args.runs.now.start begin.start (end + 1) here taken);
+      taken = subst (λ n. IsTakenUpTo first bytes c.args.runs.now.start n next) (sym l.behind) (taken_then first now next bytes c.args.runs.now.start begin.start (end + 1) here taken);
       runs = l.runs;
       same = l.same;
     }

@@ -1,6 +1,6 @@
 use Rattle.std.proofs.Common.{◌≡◌, ◌+◌, ◌-◌, ◌≤◌, length, vec_capacity, vec_len}
 use Rattle.trace_read.specs.DigitRuns.{IsDigitRuns}
-use Rattle.trace_read.specs.Scanned.{HasRoom, IsTaken}
+use Rattle.trace_read.specs.ScanState.{HasRoom, IsTakenUpTo}
 use Rattle.trace_read.proofs.scan.Scan.take_usual.Given as goal
 
 pub record Taking (A B C D E : Type 0) : Type 0 where
@@ -12,7 +12,7 @@ pub record Taking (A B C D E : Type 0) : Type 0 where
 
 abbrev pub invariant-lines : goal.invariant-lines
 invariant-lines g l = Taking
-    (IsTaken l.fn.self l.bytes l.fn.runs.start l.ahead.start (record { alloc = l.self.alloc; format = l.self.format; keys = l.keys; line = l.self.line + (vec_len l.keys - l.first); cut = l.self.cut }))
+    (IsTakenUpTo l.fn.self l.bytes l.fn.runs.start l.ahead.start (record { alloc = l.self.alloc; format = l.self.format; keys = l.keys; line = l.self.line + (vec_len l.keys - l.first); cut = l.self.cut }))
     (IsDigitRuns l.ahead) (l.ahead.bytes.now ≡ l.bytes) (HasRoom (length l.bytes - l.ahead.start) (vec_len l.keys) (vec_capacity l.keys)) (l.first ≤ vec_len l.keys)
 
 abbrev pub decreases-lines : goal.decreases-lines

@@ -1,8 +1,0 @@
--- The queues of a policy of one queue.
-use Rattle.std.specs.Prelude.{ℕ, List, [], map}
-use Rattle.segments.specs.Queues.{Queues}
-use Rattle.policies.specs.QueueCache.{nodeless_item}
-
--- the keys stand in the one queue, in this order
-abbrev pub in_window : List ℕ → Queues
-in_window l = record { window = map nodeless_item l; probation = []; protected = [] }

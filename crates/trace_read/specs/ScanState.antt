@@ -1,0 +1,54 @@
+-- What a scan of the lines comes to, whatever bytes still follow.
+use Rattle.std.specs.Prelude.{◌≡◌, ℕ, ◌+◌, ◌*◌, ◌≤◌, ◌⊎◌, List, [], ◌++◌, Option, Some, length, drop}
+use Rattle.step_record.specs.declared.limits.TheConstants.{MAX_ACCESSES}
+use Rattle.text_lines.specs.Feeds.{lines_of, HasNoFeed}
+use Rattle.trace_read.specs.TraceText.{all_keys, first_fault, IsOfLine, IsRead}
+use Rattle.trace_read.specs.declared.fault.TraceFault.{TraceFault}
+use Rattle.trace_read.specs.declared.fault.TraceFault.TheVariants.{OutOfMemory}
+use Rattle.trace_read.specs.declared.scan.Scan.{Scan}
+
+-- the fault of the whole file, and its accesses, where these bytes still follow
+abbrev pub fault_ahead : Scan → List ℕ → Option TraceFault
+fault_ahead s rest = first_fault s.format s.line (length s.keys.items) (lines_of (s.cut.items ++ rest))
+
+abbrev pub keys_ahead : Scan → List ℕ → List ℕ
+keys_ahead s rest = s.keys.items ++ all_keys s.format (lines_of (s.cut.items ++ rest))
+
+-- what every scan keeps to
+pub record IsScan (s : Scan) : Type 0 where
+  pub few : length s.keys.items ≤ MAX_ACCESSES
+  pub cut : HasNoFeed s.cut.items
+
+-- the scan that took a piece comes to what the piece and the rest came to before
+pub record IsPieceTaken (old : Scan) (piece : List ℕ) (new : Scan) : Type 0 where
+  pub fault : (rest : List ℕ) → fault_ahead new rest ≡ fault_ahead old (piece ++ rest)
+  pub keys : (rest : List ℕ) → keys_ahead new rest ≡ keys_ahead old (piece ++ rest)
+
+-- a line came to its end with this text
+pub record IsEnded (old : Scan) (text : List ℕ) (new : Scan) : Type 0 where
+  pub read : IsRead old.format old.line old.keys.items (old.cut.items ++ text) new.keys.items
+  pub cut : new.cut.items ≡ []
+  pub line : new.line ≡ old.line + 1
+  pub format : new.format ≡ old.format
+
+-- the scan took the lines between two places of these bytes, and comes with the rest to what all from the first place
+-- on came to before
+pub record IsTakenUpTo (old : Scan) (bytes : List ℕ) (start place : ℕ) (new : Scan) : Type 0 where
+  pub scan : IsScan new
+  pub cut : new.cut.items ≡ []
+  pub format : new.format ≡ old.format
+  pub order : (start ≤ place) × (place ≤ length bytes)
+  pub lines : new.line + start ≤ old.line + place
+  pub fault : (more : List ℕ)
+      → fault_ahead new (drop place bytes ++ more) ≡ fault_ahead old (drop start bytes ++ more)
+  pub keys : (more : List ℕ)
+      → keys_ahead new (drop place bytes ++ more) ≡ keys_ahead old (drop start bytes ++ more)
+
+-- out of memory, or the fault of a line from this place on
+abbrev pub IsRefusedFrom : Scan → List ℕ → ℕ → TraceFault → Type 0
+IsRefusedFrom old bytes start e = (e ≡ OutOfMemory)
+    ⊎ (IsOfLine e × ((more : List ℕ) → fault_ahead old (drop start bytes ++ more) ≡ Some e))
+
+-- there is room for the accesses of lines of so many bytes, by the limit and in memory: each has two bytes of its own
+abbrev pub HasRoom : ℕ → ℕ → ℕ → Type 0
+HasRoom bytes len capacity = (len * 2 + bytes ≤ 2 * MAX_ACCESSES) × (len * 2 + bytes ≤ 2 * capacity)
