@@ -120,7 +120,7 @@ fn write_run<W: Write>(
 {
     match run {
         Ok(driven) => {
-            driven.session.len();
+            driven.session.sound();
             Ok(write_journal(alloc, &driven.session, out)?)
         }
         Err(DriveFault::Stopped { driven, cause }) => {

@@ -89,19 +89,19 @@ const SHORT_COUNTS: [(u32, u64, u64, u64); 4] = [
     (9, 4, 3, 0),
 ];
 
+// The statistics are those of the seven accesses of the short trace, with these hits, misses and evictions.
+fn assert_short(rt: &impl Abort, stats: Stats, counts: (u64, u64, u64)) {
+    assert_equal(rt, (stats.accesses, stats.rejections), (7, 0));
+    assert_equal(rt, (stats.hits, stats.misses, stats.evictions), counts);
+}
+
 #[test]
 fn the_reuses_of_a_short_trace(rt: HostRuntime) -> Result<(), Fail> {
     let trace = short_trace(&rt, rt.alloc())?;
     let reuses = Reuses::of_trace(rt.alloc(), &trace)?;
     for (capacity, hits, misses, evictions) in SHORT_COUNTS {
         assert!(rt; capacity >= 1);
-        let stats = reuses.stats(capacity);
-        assert_equal(&rt, (stats.accesses, stats.rejections), (7, 0));
-        assert_equal(
-            &rt,
-            (stats.hits, stats.misses, stats.evictions),
-            (hits, misses, evictions),
-        );
+        assert_short(&rt, reuses.stats(capacity), (hits, misses, evictions));
     }
     Ok(())
 }
@@ -112,13 +112,7 @@ fn the_hits_of_a_short_trace(rt: HostRuntime) -> Result<(), Fail> {
     let curve = Curve::of_trace(rt.alloc(), &trace)?;
     for (capacity, hits, misses, evictions) in SHORT_COUNTS {
         assert!(rt; capacity >= 1);
-        let stats = curve.stats(capacity);
-        assert_equal(&rt, (stats.accesses, stats.rejections), (7, 0));
-        assert_equal(
-            &rt,
-            (stats.hits, stats.misses, stats.evictions),
-            (hits, misses, evictions),
-        );
+        assert_short(&rt, curve.stats(capacity), (hits, misses, evictions));
     }
     Ok(())
 }

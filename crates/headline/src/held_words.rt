@@ -12,6 +12,6 @@ pub fn words_held(session: &Session<WindowTinyLfu>) -> u64
         (result ≡ (g.halvings - f.halvings) * halving_words f)
         × (g.halvings - f.halvings ≤ 1 + length session.now.kept / (5 * f.capacity)) }
 {
-    let _steps = session.len();
+    session.sound();
     session.held()
 }

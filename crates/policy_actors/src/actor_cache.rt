@@ -21,7 +21,7 @@ pub fn access_all(cache: &mut AnyPolicy, keys: &[Key]) -> Result<(), AllocError>
     theorems::any_accepts();
     for i in 0..keys.len() {
         cache.prefetch_at(keys, i);
-        match cache.access::<Report>(keys[i]) {
+        match cache.access::<Counted>(keys[i]) {
             Ok(_) => {}
             Err(StepFault::OutOfMemory) => return Err(AllocError),
             Err(StepFault::NotNow) => unreachable!(),
@@ -99,3 +99,6 @@ pub fn finish(cache: Option<AnyPolicy>, job: &Job) -> Option<Report>
         None => None,
     }
 }
+
+// The caller whose accesses are only counted: it has code of its own for them, which is part of its loop.
+struct Counted;

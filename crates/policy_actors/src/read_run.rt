@@ -3,7 +3,7 @@ ghost use Rattle.std.specs.Prelude.{◌≡◌, ◌<◌, ◌≤◌, ℕ, List, ma
 ghost use Rattle.policy_actors.specs.declared.run.TheConstants.{MAX_ACTORS};
 ghost use Rattle.policy_actors.specs.Actors.{AreOfQueues};
 ghost use Rattle.policy_actors.specs.Faults.{actor_fault};
-ghost use Rattle.policy_actors.specs.ReadRun.{IsReadTo};
+ghost use Rattle.policy_actors.specs.ReadRun.{CanRunReading, IsReadTo};
 ghost use Rattle.policy_actors.specs.Reports.{report_on};
 ghost use Rattle.policies.specs.Design.{knows_trace};
 ghost use Rattle.job_checks.specs.FaultyJobs.{faulty_in};
@@ -85,11 +85,7 @@ fn run_read<S: FeedSource + Send + Sync + 'static, T: Threads + Wait + Sync, R: 
     size: usize,
     gate: &G,
 ) -> Result<Vec<Report>, TraceFault>
-    requires file { AreOfFile format (R.remaining reader.old) S.known }
-    requires size { (size ≡ S.size) × (0 < size) }
-    requires few { length jobs.now ≤ MAX_ACTORS }
-    requires checked { faulty_in jobs.now ≡ None }
-    requires queues { AreOfQueues jobs.now }
+    requires ready { CanRunReading format (R.remaining reader.old) S.known size S.size jobs.now }
     ensures reports { (all : List ℕ) → S.known ≡ Some all
         → IfOk result (λ v. v.items ≡ map (λ j. report_on j all) jobs.now) }
     ensures read { IsReadTo format (R.remaining reader.old) (R.remaining reader.new) result }
@@ -114,11 +110,7 @@ fn run_fed_by<S: FeedSource + Send + Sync + 'static, T: Threads + Wait + Sync, R
     size: usize,
     gate: &G,
 ) -> (Result<(), TraceFault>, Result<Vec<Report>, AllocError>)
-    requires file { AreOfFile format (R.remaining reader.old) S.known }
-    requires size { (size ≡ S.size) × (0 < size) }
-    requires few { length jobs.now ≤ MAX_ACTORS }
-    requires checked { faulty_in jobs.now ≡ None }
-    requires queues { AreOfQueues jobs.now }
+    requires ready { CanRunReading format (R.remaining reader.old) S.known size S.size jobs.now }
     ensures reports { (all : List ℕ) → S.known ≡ Some all
         → IfOk result.1 (λ v. v.items ≡ map (λ j. report_on j all) jobs.now) }
     ensures read { IsReadTo format (R.remaining reader.old) (R.remaining reader.new) result.0 }
@@ -147,11 +139,7 @@ fn run_fed_with<
     &'r mut R,
     (Result<(), TraceFault>, Result<Vec<Report>, AllocError>),
 )
-    requires file { AreOfFile format (R.remaining reader.old) S.known }
-    requires size { (size ≡ S.size) × (0 < size) }
-    requires few { length jobs.now ≤ MAX_ACTORS }
-    requires checked { faulty_in jobs.now ≡ None }
-    requires queues { AreOfQueues jobs.now }
+    requires ready { CanRunReading format (R.remaining reader.old) S.known size S.size jobs.now }
     ensures same { result.0.ghost_name ≡ reader.entry.ghost_name }
     ensures reports { (all : List ℕ) → S.known ≡ Some all
         → IfOk result.1.1 (λ v. v.items ≡ map (λ j. report_on j all) jobs.now) }

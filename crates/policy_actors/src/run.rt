@@ -83,33 +83,6 @@ pub fn check_run(batch: u32, jobs: &[Job]) -> Result<(), ActorFault>
     check_jobs(jobs)
 }
 
-// Runs jobs that were checked before, so that out of memory is the one error.
-fn run_over<S: FeedSource + Send + Sync + 'static, R: Threads + Wait + Sync, G: Gate>(
-    rt: &R,
-    alloc: Global,
-    trace: &Trace,
-    size: usize,
-    jobs: &[Job],
-    gate: &G,
-) -> Result<Vec<Report>, AllocError>
-    requires trace { S.known ≡ Some trace.now }
-    requires size { (size ≡ S.size) × (0 < size) }
-    requires few { length jobs.now ≤ MAX_ACTORS }
-    requires checked { faulty_in jobs.now ≡ None }
-    ensures { IfOk result (λ v. v.items ≡ map (λ j. report_on j trace.now) jobs.now) }
-{
-    let uses = SharedUses::<S>::new();
-    let backlog = Backlog::new();
-    let feeder = TraceFeeder::<S>::new(trace, size);
-    let common = Common::new(
-        Some(WholeTrace { trace, uses: &uses }),
-        &backlog,
-        feeder.batches,
-        size,
-    );
-    run_fed(rt, alloc, common, jobs, gate, feeder).1
-}
-
 /// What the actors of a run have in common.
 pub struct Common<'a, S: FeedSource> {
     pub whole: Option<WholeTrace<'a, S>>,
@@ -219,6 +192,33 @@ pub fn run_fed<
             (outcome, join_all(rt, alloc, handles))
         },
     )
+}
+
+// Runs jobs that were checked before, so that out of memory is the one error.
+fn run_over<S: FeedSource + Send + Sync + 'static, R: Threads + Wait + Sync, G: Gate>(
+    rt: &R,
+    alloc: Global,
+    trace: &Trace,
+    size: usize,
+    jobs: &[Job],
+    gate: &G,
+) -> Result<Vec<Report>, AllocError>
+    requires trace { S.known ≡ Some trace.now }
+    requires size { (size ≡ S.size) × (0 < size) }
+    requires few { length jobs.now ≤ MAX_ACTORS }
+    requires checked { faulty_in jobs.now ≡ None }
+    ensures { IfOk result (λ v. v.items ≡ map (λ j. report_on j trace.now) jobs.now) }
+{
+    let uses = SharedUses::<S>::new();
+    let backlog = Backlog::new();
+    let feeder = TraceFeeder::<S>::new(trace, size);
+    let common = Common::new(
+        Some(WholeTrace { trace, uses: &uses }),
+        &backlog,
+        feeder.batches,
+        size,
+    );
+    run_fed(rt, alloc, common, jobs, gate, feeder).1
 }
 
 fn add<S: FeedSource>(handles: &mut Vec<Handle<S>>, handle: Handle<S>) -> Result<(), AllocError>

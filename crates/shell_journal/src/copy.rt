@@ -25,7 +25,7 @@ pub fn copy_journal(
 {
     crate::theorems::text_size();
     shell_model::theorems::replies_belong();
-    let _steps = session.len();
+    session.sound();
     let mut text = Vec::new(alloc);
     if write_journal(alloc, session, &mut text).is_err() {
         return Err(JournalFault::OutOfMemory);

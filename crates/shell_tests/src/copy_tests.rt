@@ -45,11 +45,11 @@ fn make_miss(rt: &impl Abort, session: &mut Session<Shell>) -> Result<(), Fail>
     ensures limit { session.new.limit ≡ session.old.limit }
     ensures few { OnOk result (length session.new.kept ≤ session.new.limit) }
 {
-    let _steps = session.len();
+    session.sound();
     make(rt, session, Act::Look { key: 1 }, Reply::Miss)?;
     make(rt, session, Act::Put { key: 1 }, Reply::Added { node: 0 })?;
     make(rt, session, Act::AfterWrite, Reply::Drain)?;
-    let _steps = session.len();
+    session.sound();
     Ok(())
 }
 

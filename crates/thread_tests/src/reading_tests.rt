@@ -95,8 +95,9 @@ fn wanted() -> [Report; 3] {
 
 #[test]
 fn pieces_and_batches_change_no_report(rt: HostRuntime) -> Result<(), Fail> {
+    let jobs = jobs();
     for (size, batch) in [(1, 1), (2, 3), (64, 5), (64, 65_536)] {
-        let run = (jobs().as_slice(), batch);
+        let run = (jobs.as_slice(), batch);
         let lirs = Pieces::of("1\n1\n\n*\n2\n3\r\n1", size, 1);
         assert_reading(
             &rt,
@@ -145,12 +146,13 @@ fn an_empty_text_is_one_empty_batch(rt: HostRuntime) -> Result<(), Fail> {
 
 #[test]
 fn no_fault_of_the_trace_is_a_report(rt: HostRuntime) -> Result<(), Fail> {
+    let jobs = jobs();
     for (text, fails, fault) in [
         ("1\n2\nx\n3\n", false, TraceFault::BadNumber { line: 3 }),
         ("1\n2\nx\n3\n", true, TraceFault::Read),
         ("1\n2\n", true, TraceFault::Read),
     ] {
-        let run = (jobs().as_slice(), 1);
+        let run = (jobs.as_slice(), 1);
         let mut reader = Pieces::of(text, 2, 1);
         reader.fails = fails;
         assert_reading(

@@ -97,7 +97,7 @@ pub fn drive<G: Gate, R: Threads + Wait + Sync>(
             let states = work_all(rt, gate, &book, pieces.as_slice(), stripes, states);
             let (passes, cause) = collect_passes(states, collected);
             let session = book.close(passes);
-            session.len();
+            session.sound();
             let driven = Driven { session, earlier };
             match cause {
                 None => Ok(driven),

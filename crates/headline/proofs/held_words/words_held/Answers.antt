@@ -4,5 +4,5 @@ use Rattle.headline.proofs.held_words.words_held.Goals as goal
 
 pub returns : goal.returns
 returns c = λ f g opening now.
-    let h = held-by-halvings c.args.session.now.opening c.args.session.now.engine (length c.args.session.now.kept) c.args.session.now.held f g c.len-steps.ensures.sound.holds opening now in
+    let h = held-by-halvings c.args.session.now.opening c.args.session.now.engine (length c.args.session.now.kept) c.args.session.now.held f g c.sound.ensures.holds opening now in
     (c.held.ensures ∙ h.0, h.1)

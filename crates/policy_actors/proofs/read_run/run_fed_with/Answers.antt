@@ -14,7 +14,7 @@ run_fed-reader-requires g c κs = (
           search rules,
           (
             (refl, tt),
-            (c.requires.few, (c.requires.checked, (rw c.new-common.ensures c.requires.queues, (c.requires.size.1, c.requires.file)))),
+            (c.requires.ready.few, (c.requires.ready.checked, (rw c.new-common.ensures c.requires.ready.queues, (c.requires.ready.size_is.1, c.requires.ready.of_file)))),
           ),
         ),
       ),

@@ -17,7 +17,7 @@ returns-clause-taken c =
     of_ok c.write_journal.result (c.write_journal.new.writer.items ≡ c.new-text.result.items ++ journal_of Two s.kept) good c.write_journal.ensures.text in
     let text : c.as_slice-reader.result.now ≡ journal_of Two s.kept =
     c.as_slice-reader.ensures.value ∙ wrote ∙ ap (λ (t : List ℕ). t ++ journal_of Two s.kept) c.new-text.ensures.items in
-    let legal = c.len-steps.ensures.sound.legal in
+    let legal = c.sound.ensures.legal in
     c.read_journal.ensures.accepts s.kept
     (subst (λ (x : Shell). IsJournalText act x c.args.copy.now.limit c.as_slice-reader.result.now s.kept) (sym c.requires.alike)
     (journal_taken s.opening c.args.copy.now.limit c.as_slice-reader.result.now s.kept c.text_size.ensures c.requires.reachable legal lines c.requires.few c.requires.room text))

@@ -15,10 +15,10 @@ use Rattle.workers.proofs.Collecting.{came_back, every_map, run_up_to}
 use Rattle.workers.proofs.RunResults.{moved_run, whole_run, free_of}
 use Rattle.workers.proofs.Turning.{within_first}
 use Rattle.workers.proofs.run.drive.Goals as goal
-use Rattle.workers.proofs.run.drive.Goals.{After-len}
+use Rattle.workers.proofs.run.drive.Goals.{After-sound}
 
 -- what was looked at before the run began: so many workers can run
-can-run : (g : _) (c : goal.After-len g) → CanRun (map (λ p. vec_items p) c.args.pieces.items) c.args.session.engine
+can-run : (g : _) (c : goal.After-sound g) → CanRun (map (λ p. vec_items p) c.args.pieces.items) c.args.session.engine
 can-run g c =
     let many = length-map c.args.pieces.items (λ p. vec_items p) in
     let ok = c.args.pieces.ok.0 in
@@ -33,12 +33,12 @@ can-run g c =
     }
 
 -- the run from the session that was handed in
-run-of : (g : _) (c : goal.After-len g) → IsRunUpTo c.collect_passes-passes.result.1 c.args.session.engine.config.stripes (map (λ p. vec_items p) c.args.pieces.items) c.args.session c.close-session.result
+run-of : (g : _) (c : goal.After-sound g) → IsRunUpTo c.collect_passes-passes.result.1 c.args.session.engine.config.stripes (map (λ p. vec_items p) c.args.pieces.items) c.args.session c.close-session.result
 run-of g c =
     let r = came_back _ _ _ _ _ _ c.collect_passes-passes.ensures.passes c.work_all-states.ensures.holds c.work_all-states.ensures.counts.0 in
     let pieces = map (λ p. vec_items p) c.as_slice.result.now in
     let stripes = c.stripes-stripes.ensures.stripes ∙ ap (λ x. x.config.stripes) c.engine-shell.ensures.engine in
-    let room : length c.close-session.result.kept ≤ c.close-session.result.limit = let sound = c.len.ensures.sound.room in omega arith in
+    let room : length c.close-session.result.kept ≤ c.close-session.result.limit = let sound = c.sound.ensures.room in omega arith in
     moved_run _ _ _ _ _ _ _ _ stripes (ap (map (λ p. vec_items p)) c.as_slice.ensures.value) c.in-Ok-open.ensures.opens.0
     (run_up_to c.stripes-stripes.result c.collect_passes-passes.result.1 pieces c.in-Ok-open.book.opening c.close-session.result _ c.work_all-states.result.items c.close-session.ensures room c.collect_passes-passes.ensures.passes r.owns
     c.work_all-states.ensures.counts.0 (c.work_all-states.ensures.counts.1 ∙ sym (length-map c.as_slice.result.now (λ p. vec_items p)))
@@ -91,25 +91,25 @@ close-session-requires-clause-some g c =
     omega arith
 
 pub returns-in-None-clause-run : goal.returns-in-None-clause-run
-returns-in-None-clause-run g c = whole_run _ _ _ _ _ c.in-None.is (run-of g (goal.at.returns-in-None-clause-run g c).After-len)
+returns-in-None-clause-run g c = whole_run _ _ _ _ _ c.in-None.is (run-of g (goal.at.returns-in-None-clause-run g c).After-sound)
 
 pub returns-in-None-clause-free : goal.returns-in-None-clause-free
 returns-in-None-clause-free g c =
     let shell = c.engine-shell.ensures.engine in
     let stripes = c.stripes-stripes.ensures in
     let free = free_of _ _ (sym c.holder.ensures ∙ c.in_default.is) in
-    let run = whole_run _ _ _ _ _ c.in-None.is (run-of g (goal.at.returns-in-None-clause-free g c).After-len) in
+    let run = whole_run _ _ _ _ _ c.in-None.is (run-of g (goal.at.returns-in-None-clause-free g c).After-sound) in
     run_frees c.args.session c.close-session.result c.args.session.engine.config.stripes _ (subst (λ n. 1 ≤ n) (stripes.stripes ∙ ap (λ x. x.config.stripes) shell) stripes.range.0) (subst IsReachable shell stripes.reached) (ap (λ x. x.holder) (sym shell) ∙ free)
-    (ap (λ x. length x.stripes) (sym shell) ∙ stripes.count ∙ stripes.stripes ∙ ap (λ x. x.config.stripes) shell) c.engine-shell.ensures.sound.stands run c.len.ensures.sound.legal c.len.ensures.sound.stands
+    (ap (λ x. length x.stripes) (sym shell) ∙ stripes.count ∙ stripes.stripes ∙ ap (λ x. x.config.stripes) shell) c.engine-shell.ensures.sound.stands run c.sound.ensures.legal c.sound.ensures.stands
 
 pub returns-in-None-clause-accepted : goal.returns-in-None-clause-accepted
-returns-in-None-clause-accepted g c = can-run g (goal.at.returns-in-None-clause-accepted g c).After-len
+returns-in-None-clause-accepted g c = can-run g (goal.at.returns-in-None-clause-accepted g c).After-sound
 
 pub returns-in-Ok-open-clause-fault : goal.returns-in-Ok-open-clause-fault
 returns-in-Ok-open-clause-fault g c =
-    let here = (goal.at.returns-in-Ok-open-clause-fault g c).After-len in (
+    let here = (goal.at.returns-in-Ok-open-clause-fault g c).After-sound in (
       can-run g here,
-      c.len.ensures.sound.legal,
+      c.sound.ensures.legal,
       subst (λ o. IsRunUpTo o c.args.session.engine.config.stripes (map (λ p. vec_items p) c.args.pieces.items) c.args.session c.close-session.result) c.in-Some-cause.is (run-of g here),
       c.len-earlier.ensures.len,
     )
