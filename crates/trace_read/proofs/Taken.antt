@@ -22,6 +22,7 @@ nothing_taken s bytes start scan none within = record {
   scan = scan;
   cut = none;
   format = refl;
+  given = refl;
   order = (omega arith, within);
   lines = omega arith;
   fault = λ more. refl;
@@ -33,6 +34,7 @@ taken_then first mid last bytes start middle end one two = record {
   scan = two.scan;
   cut = two.cut;
   format = two.format ∙ one.format;
+  given = two.given ∙ one.given;
   order = (omega (arith, one.order, two.order), two.order.1);
   lines = omega (arith, one.lines, two.lines);
   fault = λ more. two.fault more ∙ one.fault more;
@@ -68,65 +70,66 @@ module _ (now : Scan) (bytes : List ℕ) (start end : ℕ) (scan : IsScan now) (
         scan = kept;
         cut = ended.cut;
         format = ended.format;
+        given = ended.given;
         order = (omega arith, omega arith);
         lines = omega (arith, ended.line);
         fault = λ more. ap (λ l. fault_ahead next (l ++ more)) (sym behind) ∙ (step more).0;
         keys = λ more. ap (λ l. keys_ahead next (l ++ more)) (sym behind) ∙ (step more).1;
       }
 
-  pub line_refused : (e : TraceFault) → IsStopped now.format now.line now.keys.items (now.cut.items ++ take (end - start) rest) e → IsRefusedFrom now bytes start e
+  pub line_refused : (e : TraceFault) → IsStopped now.format now.line now.given now.keys.items (now.cut.items ++ take (end - start) rest) e → IsRefusedFrom now bytes start e
   line_refused e stopped = elim stopped [
     | inl memory ↦ inl memory
     | inr fault ↦
         let refused : (more : List ℕ) → fault_ahead now (rest ++ more) ≡ Some e = λ more.
         let is = cut_line now.cut.items rest more (end - start) scan.cut feed lt in
-        refused_here now.format now.line now.keys.items _ [] (now.cut.items ++ (rest ++ more)) _ _ is fault in
+        refused_here now.format now.line now.given now.keys.items _ [] (now.cut.items ++ (rest ++ more)) _ _ is fault in
         inr (of_line now.format _ now.line _ _ (refused []), refused)
   ]
 
 -- a line that gives nothing
-pub nothing_read : (format : Format) (n : ℕ) (old cut text : List ℕ) → format ≡ Lirs → cut ≡ [] → length old ≤ MAX_ACCESSES → line_of Lirs text ≡ Ok []
-    → IsRead format n old (cut ++ text) old
-nothing_read format n old cut text lirs none few is =
-    subst (λ f. IsRead f n old (cut ++ text) old) (sym lirs) (subst (λ c. IsRead Lirs n old (c ++ text) old) (sym none) (record {
-      sound = ap (fault_after n (length old)) is ∙ cond-false _ _ _ (le-ltb MAX_ACCESSES (length old + 0) (omega arith));
+pub nothing_read : (format : Format) (n given : ℕ) (old cut text : List ℕ) → format ≡ Lirs → cut ≡ [] → given + length old ≤ MAX_ACCESSES → line_of Lirs text ≡ Ok []
+    → IsRead format n given old (cut ++ text) old
+nothing_read format n given old cut text lirs none few is =
+    subst (λ f. IsRead f n given old (cut ++ text) old) (sym lirs) (subst (λ c. IsRead Lirs n given old (c ++ text) old) (sym none) (record {
+      sound = ap (fault_after n (given + length old)) is ∙ cond-false _ _ _ (le-ltb MAX_ACCESSES (given + length old + 0) (omega arith));
       added = sym (ap (λ r. old ++ keys_or_none r) is ∙ append-nil old);
     }))
 
 -- a line that names one key
-pub key_read : (format : Format) (n key : ℕ) (old cut text new : List ℕ) → format ≡ Lirs → cut ≡ [] → length old < MAX_ACCESSES → line_of Lirs text ≡ Ok (key ∷ [])
-    → new ≡ old ++ key ∷ [] → IsRead format n old (cut ++ text) new
-key_read format n key old cut text new lirs none few is added =
-    subst (λ f. IsRead f n old (cut ++ text) new) (sym lirs) (subst (λ c. IsRead Lirs n old (c ++ text) new) (sym none) (record {
-      sound = ap (fault_after n (length old)) is ∙ cond-false _ _ _ (le-ltb MAX_ACCESSES (length old + 1) (omega arith));
+pub key_read : (format : Format) (n given key : ℕ) (old cut text new : List ℕ) → format ≡ Lirs → cut ≡ [] → given + length old < MAX_ACCESSES → line_of Lirs text ≡ Ok (key ∷ [])
+    → new ≡ old ++ key ∷ [] → IsRead format n given old (cut ++ text) new
+key_read format n given key old cut text new lirs none few is added =
+    subst (λ f. IsRead f n given old (cut ++ text) new) (sym lirs) (subst (λ c. IsRead Lirs n given old (c ++ text) new) (sym none) (record {
+      sound = ap (fault_after n (given + length old)) is ∙ cond-false _ _ _ (le-ltb MAX_ACCESSES (given + length old + 1) (omega arith));
       added = added ∙ ap (λ r. old ++ keys_or_none r) (sym is);
     }))
 
 -- a line that stands for a run
-pub run_read : (format : Format) (n start count : ℕ) (old cut text new : List ℕ) → format ≡ Arc → cut ≡ [] → line_of Arc text ≡ run_of (Some start) (Some count)
-    → fault_after n (length old) (run_of (Some start) (Some count)) ≡ None → new ≡ old ++ keys_or_none (run_of (Some start) (Some count))
-    → IsRead format n old (cut ++ text) new
-run_read format n start count old cut text new arc none is sound added =
-    subst (λ f. IsRead f n old (cut ++ text) new) (sym arc) (subst (λ c. IsRead Arc n old (c ++ text) new) (sym none) (record {
-      sound = ap (fault_after n (length old)) is ∙ sound;
+pub run_read : (format : Format) (n given start count : ℕ) (old cut text new : List ℕ) → format ≡ Arc → cut ≡ [] → line_of Arc text ≡ run_of (Some start) (Some count)
+    → fault_after n (given + length old) (run_of (Some start) (Some count)) ≡ None → new ≡ old ++ keys_or_none (run_of (Some start) (Some count))
+    → IsRead format n given old (cut ++ text) new
+run_read format n given start count old cut text new arc none is sound added =
+    subst (λ f. IsRead f n given old (cut ++ text) new) (sym arc) (subst (λ c. IsRead Arc n given old (c ++ text) new) (sym none) (record {
+      sound = ap (fault_after n (given + length old)) is ∙ sound;
       added = added ∙ ap (λ r. old ++ keys_or_none r) (sym is);
     }))
 
-pub run_stopped : (format : Format) (n start count : ℕ) (old cut text : List ℕ) (e : TraceFault) → format ≡ Arc → cut ≡ [] → line_of Arc text ≡ run_of (Some start) (Some count)
-    → ((e ≡ OutOfMemory) × (fault_after n (length old) (run_of (Some start) (Some count)) ≡ None)) ⊎ (fault_after n (length old) (run_of (Some start) (Some count)) ≡ Some e)
-    → IsStopped format n old (cut ++ text) e
-run_stopped format n start count old cut text e arc none is stopped =
-    subst (λ f. IsStopped f n old (cut ++ text) e) (sym arc) (subst (λ c. IsStopped Arc n old (c ++ text) e) (sym none) (elim stopped [
+pub run_stopped : (format : Format) (n given start count : ℕ) (old cut text : List ℕ) (e : TraceFault) → format ≡ Arc → cut ≡ [] → line_of Arc text ≡ run_of (Some start) (Some count)
+    → ((e ≡ OutOfMemory) × (fault_after n (given + length old) (run_of (Some start) (Some count)) ≡ None)) ⊎ (fault_after n (given + length old) (run_of (Some start) (Some count)) ≡ Some e)
+    → IsStopped format n given old (cut ++ text) e
+run_stopped format n given start count old cut text e arc none is stopped =
+    subst (λ f. IsStopped f n given old (cut ++ text) e) (sym arc) (subst (λ c. IsStopped Arc n given old (c ++ text) e) (sym none) (elim stopped [
       | inl memory ↦ inl memory.0
-      | inr fault ↦ inr (ap (fault_after n (length old)) is ∙ fault)
+      | inr fault ↦ inr (ap (fault_after n (given + length old)) is ∙ fault)
     ]))
 
 -- what a line without a cut part comes to
-pub whole_read : (format : Format) (n : ℕ) (old cut text new : List ℕ) → format ≡ Lirs → cut ≡ [] → IsRead Lirs n old text new → IsRead format n old (cut ++ text) new
-whole_read format n old cut text new lirs none read = subst (λ f. IsRead f n old (cut ++ text) new) (sym lirs) (subst (λ c. IsRead Lirs n old (c ++ text) new) (sym none) read)
+pub whole_read : (format : Format) (n given : ℕ) (old cut text new : List ℕ) → format ≡ Lirs → cut ≡ [] → IsRead Lirs n given old text new → IsRead format n given old (cut ++ text) new
+whole_read format n given old cut text new lirs none read = subst (λ f. IsRead f n given old (cut ++ text) new) (sym lirs) (subst (λ c. IsRead Lirs n given old (c ++ text) new) (sym none) read)
 
-pub whole_stopped : (format : Format) (n : ℕ) (old cut text : List ℕ) (e : TraceFault) → format ≡ Lirs → cut ≡ [] → IsTraceRefused Lirs n old text e → IsStopped format n old (cut ++ text) e
-whole_stopped format n old cut text e lirs none refused = subst (λ f. IsStopped f n old (cut ++ text) e) (sym lirs) (subst (λ c. IsStopped Lirs n old (c ++ text) e) (sym none) (elim refused [
+pub whole_stopped : (format : Format) (n given : ℕ) (old cut text : List ℕ) (e : TraceFault) → format ≡ Lirs → cut ≡ [] → IsTraceRefused Lirs n given old text e → IsStopped format n given old (cut ++ text) e
+whole_stopped format n given old cut text e lirs none refused = subst (λ f. IsStopped f n given old (cut ++ text) e) (sym lirs) (subst (λ c. IsStopped Lirs n given old (c ++ text) e) (sym none) (elim refused [
   | inl memory ↦ inl memory.0
   | inr fault ↦ inr fault
 ]))

@@ -1,5 +1,5 @@
 -- What a scan of the lines comes to, whatever bytes still follow.
-use Rattle.std.specs.Prelude.{◌≡◌, ℕ, ◌+◌, ◌*◌, ◌≤◌, ◌⊎◌, List, [], ◌++◌, Option, Some, length, drop}
+use Rattle.std.specs.Prelude.{◌≡◌, ℕ, ◌+◌, ◌-◌, ◌*◌, ◌≤◌, ◌⊎◌, List, [], ◌++◌, Option, Some, length, drop}
 use Rattle.step_record.specs.declared.limits.TheConstants.{MAX_ACCESSES}
 use Rattle.text_lines.specs.Feeds.{lines_of, HasNoFeed}
 use Rattle.trace_read.specs.TraceText.{all_keys, first_fault, IsOfLine, IsRead}
@@ -7,29 +7,37 @@ use Rattle.trace_read.specs.declared.fault.TraceFault.{TraceFault}
 use Rattle.trace_read.specs.declared.fault.TraceFault.TheVariants.{OutOfMemory}
 use Rattle.trace_read.specs.declared.scan.Scan.{Scan}
 
--- the fault of the whole file, and its accesses, where these bytes still follow
+-- the fault of the whole file, and its accesses but for those that were given away, where these bytes still follow
 abbrev pub fault_ahead : Scan → List ℕ → Option TraceFault
-fault_ahead s rest = first_fault s.format s.line (length s.keys.items) (lines_of (s.cut.items ++ rest))
+fault_ahead s rest = first_fault s.format s.line (s.given + length s.keys.items) (lines_of (s.cut.items ++ rest))
 
 abbrev pub keys_ahead : Scan → List ℕ → List ℕ
 keys_ahead s rest = s.keys.items ++ all_keys s.format (lines_of (s.cut.items ++ rest))
 
 -- what every scan keeps to
 pub record IsScan (s : Scan) : Type 0 where
-  pub few : length s.keys.items ≤ MAX_ACCESSES
+  pub few : s.given + length s.keys.items ≤ MAX_ACCESSES
   pub cut : HasNoFeed s.cut.items
 
 -- the scan that took a piece comes to what the piece and the rest came to before
 pub record IsPieceTaken (old : Scan) (piece : List ℕ) (new : Scan) : Type 0 where
   pub fault : (rest : List ℕ) → fault_ahead new rest ≡ fault_ahead old (piece ++ rest)
   pub keys : (rest : List ℕ) → keys_ahead new rest ≡ keys_ahead old (piece ++ rest)
+  pub given : new.given ≡ old.given
+
+-- the scan gave some of its accesses away, from the first on
+pub record IsGiven (old new : Scan) : Type 0 where
+  pub order : (old.given ≤ new.given) × (new.given ≤ old.given + length old.keys.items)
+  pub fault : (rest : List ℕ) → fault_ahead new rest ≡ fault_ahead old rest
+  pub keys : (rest : List ℕ) → keys_ahead new rest ≡ drop (new.given - old.given) (keys_ahead old rest)
 
 -- a line came to its end with this text
 pub record IsEnded (old : Scan) (text : List ℕ) (new : Scan) : Type 0 where
-  pub read : IsRead old.format old.line old.keys.items (old.cut.items ++ text) new.keys.items
+  pub read : IsRead old.format old.line old.given old.keys.items (old.cut.items ++ text) new.keys.items
   pub cut : new.cut.items ≡ []
   pub line : new.line ≡ old.line + 1
   pub format : new.format ≡ old.format
+  pub given : new.given ≡ old.given
 
 -- the scan took the lines between two places of these bytes, and comes with the rest to what all from the first place
 -- on came to before
@@ -37,6 +45,7 @@ pub record IsTakenUpTo (old : Scan) (bytes : List ℕ) (start place : ℕ) (new 
   pub scan : IsScan new
   pub cut : new.cut.items ≡ []
   pub format : new.format ≡ old.format
+  pub given : new.given ≡ old.given
   pub order : (start ≤ place) × (place ≤ length bytes)
   pub lines : new.line + start ≤ old.line + place
   pub fault : (more : List ℕ)
@@ -50,5 +59,5 @@ IsRefusedFrom old bytes start e = (e ≡ OutOfMemory)
     ⊎ (IsOfLine e × ((more : List ℕ) → fault_ahead old (drop start bytes ++ more) ≡ Some e))
 
 -- there is room for the accesses of lines of so many bytes, by the limit and in memory: each has two bytes of its own
-abbrev pub HasRoom : ℕ → ℕ → ℕ → Type 0
-HasRoom bytes len capacity = (len * 2 + bytes ≤ 2 * MAX_ACCESSES) × (len * 2 + bytes ≤ 2 * capacity)
+abbrev pub HasRoom : ℕ → ℕ → ℕ → ℕ → Type 0
+HasRoom bytes given len capacity = ((given + len) * 2 + bytes ≤ 2 * MAX_ACCESSES) × (len * 2 + bytes ≤ 2 * capacity)

@@ -5,7 +5,8 @@
 //! the accesses of all lines in order where no line is faulty, and else the fault of the first
 //! faulty line, with its number. The rules of both formats are defined by this project.
 //!
-//! `read_followed` shows a `Follower` the accesses so far after each piece.
+//! `read_followed` lets a `Follower` take accesses after each piece, from the first on, and gives the
+//! ones that it left.
 //!
 //! A file is read in one pass, piece by piece, and no bytes are kept but those of a line that a
 //! piece cut in two. `Read` and `TooLarge` come before the fault of a line.
@@ -15,6 +16,7 @@ mod arc;
 mod digit_runs;
 mod digits;
 mod fault;
+mod follower;
 mod format;
 mod lirs;
 mod pieces;
@@ -23,6 +25,7 @@ mod reader;
 mod scan;
 
 pub use fault::TraceFault;
+pub use follower::Follower;
 pub use format::Format;
-pub use reader::{Follower, read_followed, read_trace};
+pub use reader::{read_followed, read_trace};
 pub use step_record::Trace;

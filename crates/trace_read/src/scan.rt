@@ -6,12 +6,13 @@ ghost use Rattle.trace_read.specs.Lines.{line_of, AreStarLines};
 ghost use Rattle.trace_read.specs.declared.digit_runs.TheConstants.{BEHIND};
 ghost use Rattle.step_record.specs.declared.limits.TheConstants.{MAX_ACCESSES};
 ghost use Rattle.trace_read.specs.TraceText.{fault_in, keys_in, IsOfLine, IsRead, IsTraceRefused, IsStopped};
-ghost use Rattle.trace_read.specs.ScanState.{fault_ahead, keys_ahead, IsEnded, IsScan, HasRoom, IsPieceTaken, IsRefusedFrom, IsTakenUpTo};
+ghost use Rattle.trace_read.specs.ScanState.{fault_ahead, keys_ahead, IsEnded, IsGiven, IsScan, HasRoom, IsPieceTaken, IsRefusedFrom, IsTakenUpTo};
 ghost use Rattle.text_lines.specs.Feeds.{feed_in};
 
 use super::arc::{add_arc, push_reserved_run, usual_line};
 use super::digit_runs::{DigitRun, DigitRuns};
 use super::digits::{any_number, long_number, short_number};
+use super::follower::Follower;
 use super::format::Format;
 use super::lirs::{add_key, add_lirs};
 use super::plain::{PlainLine, plain_line};
@@ -34,7 +35,9 @@ const STARS_FROM: usize = 128;
 pub struct Scan {
     alloc: Global,
     format: Format,
+    // The accesses that were read and not given away, and how many were.
     keys: Vec<Key>,
+    given: usize,
     // The number of the line that comes to its end next.
     line: u64,
     // What is there of that line.
@@ -48,11 +51,13 @@ impl Scan {
         ensures fault { (rest : List ℕ) → fault_ahead result rest ≡ fault_in format rest }
         ensures keys { (rest : List ℕ) → keys_ahead result rest ≡ keys_in format rest }
         ensures line { result.line ≡ 1 }
+        ensures given { result.given ≡ 0 }
     {
         Scan {
             alloc,
             format,
             keys: Vec::new(alloc),
+            given: 0,
             line: 1,
             cut: Vec::new(alloc),
         }
@@ -83,31 +88,43 @@ impl Scan {
         }
     }
 
-    /// The accesses that the bytes name, where no more of them come. The faults are those of
-    /// `take`, of the last line.
+    /// The accesses that the bytes name and that were not given away, where no more bytes come. The faults are those
+    /// of `take`, of the last line.
     pub fn end(self) -> Result<Trace, TraceFault>
         requires { IsScan self }
         ensures ok { IfOk result (λ t.
             (fault_ahead self [] ≡ None) × (t ≡ keys_ahead self [])) }
+        ensures few { IfOk result (λ t. self.given + length t ≤ MAX_ACCESSES) }
         ensures err { IfErr result (λ e. ((e ≡ TraceFault.OutOfMemory) × (fault_ahead self [] ≡ None))
             ⊎ (IsOfLine e × (fault_ahead self [] ≡ Some e))) }
     {
         let Scan {
             format,
             mut keys,
+            given,
             line,
             cut,
             ..
         } = self;
-        add_line(format, cut.as_slice(), line, &mut keys)?;
+        add_line(format, cut.as_slice(), line, given, &mut keys)?;
         Ok(Trace::new(keys))
     }
 
-    /// The accesses so far.
-    pub fn keys(&self) -> &[Key]
-        ensures { result.now ≡ self.now.keys.items }
+    /// Lets the follower take accesses, which are no longer in the scan then.
+    pub fn give<F: Follower>(&mut self, follower: &mut F)
+        requires scan { IsScan self.old }
+        requires given { F.taken follower.old ≡ self.old.given }
+        requires next { IfSome (F.file follower.old) (λ all.
+            self.old.keys.items ≡ take (length self.old.keys.items) (drop self.old.given all)) }
+        ensures scan { IsScan self.new }
+        ensures given { F.taken follower.new ≡ self.new.given }
+        ensures left { IsGiven self.old self.new }
+        ensures line { self.new.line ≡ self.old.line }
+        ensures file { F.file follower.new ≡ F.file follower.old }
     {
-        self.keys.as_slice()
+        let held = self.keys.len();
+        follower.follow(&mut self.keys);
+        self.given += held - self.keys.len();
     }
 
     // Adds the accesses of the next line, where it ends in these bytes, and returns the place of its end.
@@ -119,11 +136,11 @@ impl Scan {
             ((feed_in bytes.now ≡ length bytes.now) × (self.new ≡ self.old))
             (λ k. (k ≡ feed_in bytes.now) × (k < length bytes.now) × IsEnded self.old (take k bytes.now) self.new)) }
         ensures err { IfErr result (λ e. (feed_in bytes.now < length bytes.now)
-            × IsStopped self.old.format self.old.line self.old.keys.items
+            × IsStopped self.old.format self.old.line self.old.given self.old.keys.items
             (self.old.cut.items ++ take (feed_in bytes.now) bytes.now) e) }
     {
         if let Some(plain) = self.plain_line(bytes) {
-            add_key(plain.key, self.line, &mut self.keys)?;
+            add_key(plain.key, self.line, self.given, &mut self.keys)?;
             self.line += 1;
             return Ok(Some(plain.end));
         }
@@ -174,7 +191,7 @@ impl Scan {
         ensures taken { IfOk result (λ n. IsTakenUpTo self.old bytes.now 0 n self.new) }
         ensures err { IfErr result (IsRefusedFrom self.old bytes.now 0) }
     {
-        if !reserve_for(&mut self.keys, bytes.len())? {
+        if !reserve_for(self.given, &mut self.keys, bytes.len())? {
             return Ok(0);
         }
         let mut runs = DigitRuns::at(bytes, 0);
@@ -197,12 +214,13 @@ impl Scan {
         requires runs { IsDigitRuns runs.old }
         requires lines { self.old.line + length runs.old.bytes.now < 2 ^ 64 + runs.old.start }
         requires room { HasRoom (length runs.old.bytes.now - runs.old.start)
-            (vec_len self.old.keys) (vec_capacity self.old.keys) }
+            self.old.given (vec_len self.old.keys) (vec_capacity self.old.keys) }
         ensures all { result ≡ None → IsTakenUpTo self.old runs.old.bytes.now runs.old.start runs.new.start self.new }
         ensures some { IfSome result (λ run. IsTakenUpTo self.old runs.old.bytes.now runs.old.start run.start self.new) }
         ensures found { IfSome result (λ run. IsNextRun runs.old.bytes.now run runs.new) }
         ensures room { IfSome result (λ run.
-            HasRoom (length runs.old.bytes.now - run.start) (vec_len self.new.keys) (vec_capacity self.new.keys)) }
+            HasRoom (length runs.old.bytes.now - run.start)
+            self.new.given (vec_len self.new.keys) (vec_capacity self.new.keys)) }
     {
         if stars {
             self.take_usual::<true>(runs)
@@ -222,12 +240,13 @@ impl Scan {
         requires runs { IsDigitRuns runs.old }
         requires lines { self.old.line + length runs.old.bytes.now < 2 ^ 64 + runs.old.start }
         requires room { HasRoom (length runs.old.bytes.now - runs.old.start)
-            (vec_len self.old.keys) (vec_capacity self.old.keys) }
+            self.old.given (vec_len self.old.keys) (vec_capacity self.old.keys) }
         ensures all { result ≡ None → IsTakenUpTo self.old runs.old.bytes.now runs.old.start runs.new.start self.new }
         ensures some { IfSome result (λ run. IsTakenUpTo self.old runs.old.bytes.now runs.old.start run.start self.new) }
         ensures found { IfSome result (λ run. IsNextRun runs.old.bytes.now run runs.new) }
         ensures room { IfSome result (λ run.
-            HasRoom (length runs.old.bytes.now - run.start) (vec_len self.new.keys) (vec_capacity self.new.keys)) }
+            HasRoom (length runs.old.bytes.now - run.start)
+            self.new.given (vec_len self.new.keys) (vec_capacity self.new.keys)) }
     {
         // The loop changes locals alone and calls nothing, so that they are in registers.
         let mut ahead = *runs;
@@ -270,11 +289,13 @@ impl Scan {
         requires cut { self.old.cut.items ≡ [] }
         requires found { IsNextRun bytes.now run runs.old }
         requires lines { self.old.line + length bytes.now < 2 ^ 64 + run.start }
-        requires room { HasRoom (length bytes.now - run.start) (vec_len self.old.keys) (vec_capacity self.old.keys) }
+        requires room { HasRoom (length bytes.now - run.start)
+            self.old.given (vec_len self.old.keys) (vec_capacity self.old.keys) }
         ensures taken { OnOk result (IsTakenUpTo self.old bytes.now run.start runs.new.start self.new) }
         ensures runs { OnOk result (IsDigitRuns runs.new × (runs.new.bytes.now ≡ bytes.now)) }
         ensures more { IfOk result (λ more. IsTrue more → (run.start < runs.new.start)
-            × HasRoom (length bytes.now - runs.new.start) (vec_len self.new.keys) (vec_capacity self.new.keys)) }
+            × HasRoom (length bytes.now - runs.new.start)
+            self.new.given (vec_len self.new.keys) (vec_capacity self.new.keys)) }
         ensures err { IfErr result (IsRefusedFrom self.old bytes.now run.start) }
     {
         let stars = star_lines(bytes, run.start);
@@ -293,9 +314,14 @@ impl Scan {
             self.line += 1;
             return Ok(true);
         }
-        add_lirs(&bytes[run.start..line.end], self.line, &mut self.keys)?;
+        add_lirs(
+            &bytes[run.start..line.end],
+            self.line,
+            self.given,
+            &mut self.keys,
+        )?;
         self.line += 1;
-        let more = reserve_for(&mut self.keys, bytes.len() - (line.end + 1))?;
+        let more = reserve_for(self.given, &mut self.keys, bytes.len() - (line.end + 1))?;
         Ok(more)
     }
 
@@ -333,11 +359,12 @@ impl Scan {
         ensures some { IfSome result (λ run. IsTakenUpTo self.old bytes.now runs.old.start run.start self.new) }
         ensures found { IfSome result (λ run. IsNextRun bytes.now run runs.new) }
     {
+        let limit = MAX_ACCESSES - self.given;
         let mut keys = mem::replace(&mut self.keys, Vec::new(self.alloc));
         let mut line = self.line;
         let mut ahead = *runs;
         'lines: while let Some(first) = ahead.next() {
-            let Some(next) = usual_line(bytes, first, ahead, &keys) else {
+            let Some(next) = usual_line(bytes, first, ahead, limit, &keys) else {
                 self.keys = keys;
                 self.line = line;
                 *runs = ahead;
@@ -359,17 +386,23 @@ impl Scan {
         requires line { self.old.line < 2 ^ 64 - 1 }
         ensures scan { OnOk result (IsScan self.new) }
         ensures ended { OnOk result (IsEnded self.old text.now self.new) }
-        ensures err { IfErr result (IsStopped self.old.format self.old.line self.old.keys.items
+        ensures err { IfErr result (IsStopped self.old.format self.old.line self.old.given self.old.keys.items
             (self.old.cut.items ++ text.now)) }
         // A line that no piece cut takes no memory but for its accesses.
         ensures whole { self.old.cut.items ≡ [] → IfErr result (IsTraceRefused self.old.format
-            self.old.line self.old.keys.items text.now) }
+            self.old.line self.old.given self.old.keys.items text.now) }
     {
         if self.cut.is_empty() {
-            add_line(self.format, text, self.line, &mut self.keys)?;
+            add_line(self.format, text, self.line, self.given, &mut self.keys)?;
         } else {
             self.cut.extend_from_slice(text)?;
-            add_line(self.format, self.cut.as_slice(), self.line, &mut self.keys)?;
+            add_line(
+                self.format,
+                self.cut.as_slice(),
+                self.line,
+                self.given,
+                &mut self.keys,
+            )?;
             self.cut.clear();
         }
         self.line += 1;
@@ -377,16 +410,22 @@ impl Scan {
     }
 }
 
-// Adds the accesses of a line to those of the lines before it.
-fn add_line(format: Format, text: &[u8], line: u64, keys: &mut Vec<Key>) -> Result<(), TraceFault>
-    requires { vec_len keys.old ≤ MAX_ACCESSES }
-    ensures ok { OnOk result (IsRead format line keys.old.items text.now keys.new.items) }
-    ensures within { OnOk result (vec_len keys.new ≤ MAX_ACCESSES) }
-    ensures err { IfErr result (IsTraceRefused format line keys.old.items text.now) }
+// Adds the accesses of a line to those of the lines before it, of which so many were given away.
+fn add_line(
+    format: Format,
+    text: &[u8],
+    line: u64,
+    given: usize,
+    keys: &mut Vec<Key>,
+) -> Result<(), TraceFault>
+    requires { given + vec_len keys.old ≤ MAX_ACCESSES }
+    ensures ok { OnOk result (IsRead format line given keys.old.items text.now keys.new.items) }
+    ensures within { OnOk result (given + vec_len keys.new ≤ MAX_ACCESSES) }
+    ensures err { IfErr result (IsTraceRefused format line given keys.old.items text.now) }
 {
     match format {
-        Format::Lirs => add_lirs(text, line, keys),
-        Format::Arc => add_arc(text, line, keys),
+        Format::Lirs => add_lirs(text, line, given, keys),
+        Format::Arc => add_arc(text, line, given, keys),
     }
 }
 
@@ -469,16 +508,16 @@ fn star_lines(bytes: &[u8], start: usize) -> usize
 }
 
 // Reserves room for the accesses of LIRS lines of so many bytes in all. False, and no room, where they might pass
-// `MAX_ACCESSES`.
-fn reserve_for(keys: &mut Vec<Key>, bytes: usize) -> Result<bool, AllocError>
-    requires { vec_len keys.old ≤ MAX_ACCESSES }
+// `MAX_ACCESSES` with those before them, of which so many were given away.
+fn reserve_for(given: usize, keys: &mut Vec<Key>, bytes: usize) -> Result<bool, AllocError>
+    requires { given + vec_len keys.old ≤ MAX_ACCESSES }
     ensures items { keys.new.items ≡ keys.old.items }
     ensures len { vec_len keys.new ≡ vec_len keys.old }
-    ensures room { IfOk result (λ more. IsTrue more → HasRoom bytes (vec_len keys.new) (vec_capacity keys.new)) }
+    ensures room { IfOk result (λ more. IsTrue more → HasRoom bytes given (vec_len keys.new) (vec_capacity keys.new)) }
 {
     // Each access has a digit of its own and a line feed.
     let most = bytes / 2 + 1;
-    if most > MAX_ACCESSES - keys.len() {
+    if most > MAX_ACCESSES - given - keys.len() {
         return Ok(false);
     }
     keys.reserve(most)?;

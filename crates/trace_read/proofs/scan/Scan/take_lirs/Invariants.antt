@@ -11,7 +11,7 @@ pub record Taking (A B C D : Type 0) : Type 0 where
 
 abbrev pub invariant-lines : goal.invariant-lines
 invariant-lines l = Taking (IsTakenUpTo l.fn.self l.bytes 0 l.runs.start l.self) (IsDigitRuns l.runs) (l.runs.bytes.now ≡ l.bytes)
-    (HasRoom (length l.bytes - l.runs.start) (vec_len l.self.keys) (vec_capacity l.self.keys))
+    (HasRoom (length l.bytes - l.runs.start) l.self.given (vec_len l.self.keys) (vec_capacity l.self.keys))
 
 abbrev pub decreases-lines : goal.decreases-lines
 decreases-lines l = length l.bytes - l.runs.start

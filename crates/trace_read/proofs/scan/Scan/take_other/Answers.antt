@@ -17,7 +17,7 @@ returns-in_err-add_lirs-clause-err c =
     let l = subst (λ b. IsLineEnd b start c.in-Some.line) c.requires.found.same c.in-Some.ensures.line in
     errs c.from_residual.result _ _ c.from_residual.ensures.1
     (line_refused scan bytes start c.in-Some.line.end c.requires.scan c.requires.cut l.order (omega (arith, l.within)) l.none l.feed _
-    (whole_stopped scan.format scan.line scan.keys.items scan.cut.items _ _ c.requires.format c.requires.cut c.in_err-add_lirs.ensures.err))
+    (whole_stopped scan.format scan.line scan.given scan.keys.items scan.cut.items _ _ c.requires.format c.requires.cut c.in_err-add_lirs.ensures.err))
 
 pub returns-clause-taken : goal.returns-clause-taken
 returns-clause-taken c =
@@ -27,15 +27,16 @@ returns-clause-taken c =
     let scan = c.args.self.now in
     let l = subst (λ b. IsLineEnd b start line) c.requires.found.same c.in-Some.ensures.line in
     let items = c.reserve_for.ensures.items in
-    let last : Scan = record { alloc = scan.alloc; format = scan.format; keys = c.reserve_for.new.keys; line = scan.line + 1; cut = scan.cut } in
+    let last : Scan = record { alloc = scan.alloc; format = scan.format; keys = c.reserve_for.new.keys; given = scan.given; line = scan.line + 1; cut = scan.cut } in
     let next = line_taken scan bytes start line.end c.requires.scan c.requires.cut l.order (omega (arith, l.within)) l.none l.feed last
     (record { few = omega (arith, c.in_ok-add_lirs.ensures.within, c.add_lirs.new.keys.ok.0, ap length items); cut = c.requires.scan.cut })
     (record {
-      read = subst (IsRead scan.format scan.line scan.keys.items _) (sym items)
-          (whole_read scan.format scan.line scan.keys.items scan.cut.items _ _ c.requires.format c.requires.cut c.in_ok-add_lirs.ensures.ok);
+      read = subst (IsRead scan.format scan.line scan.given scan.keys.items _) (sym items)
+          (whole_read scan.format scan.line scan.given scan.keys.items scan.cut.items _ _ c.requires.format c.requires.cut c.in_ok-add_lirs.ensures.ok);
       cut = c.requires.cut;
       line = refl;
       format = refl;
+      given = refl;
     }) in
     subst (λ n. IsTakenUpTo scan bytes start n last) (sym l.behind) next
 
@@ -47,7 +48,7 @@ returns-then-stars-gt0-clause-taken c =
     let count = c.star_lines-stars.result in
     let within : start ≤ length bytes = omega (arith, c.requires.found.order, c.requires.found.within) in
     let here = nothing_taken scan bytes start c.requires.scan c.requires.cut within in
-    let next : Scan = record { alloc = scan.alloc; format = scan.format; keys = scan.keys; line = scan.line + count; cut = scan.cut } in
+    let next : Scan = record { alloc = scan.alloc; format = scan.format; keys = scan.keys; given = scan.given; line = scan.line + count; cut = scan.cut } in
     subst (λ n. IsTakenUpTo scan bytes start n next) (sym c.at.ensures.start) (stars_taken scan scan bytes start start count here c.requires.format c.star_lines-stars.ensures)
 
 pub returns-in-Some-key_of_digits-clause-taken : goal.returns-in-Some-key_of_digits-clause-taken
@@ -58,16 +59,17 @@ returns-in-Some-key_of_digits-clause-taken c =
     let scan = c.args.self.now in
     let key = c.in-Some-key_of_digits.ensures in
     let l = subst (λ b. IsLineEnd b start line) c.requires.found.same c.in-Some.ensures.line in
-    let room : scan.keys.len < MAX_ACCESSES = omega (arith, l.within, key.some, c.requires.room.0) in
-    let few : length scan.keys.items < MAX_ACCESSES = omega (arith, room, scan.keys.ok.0) in
-    let more : length c.push_reserved.new.self.items ≤ MAX_ACCESSES = omega (arith, room, c.push_reserved.ensures.len, c.push_reserved.new.self.ok.0) in
-    let last : Scan = record { alloc = scan.alloc; format = scan.format; keys = c.push_reserved.new.self; line = scan.line + 1; cut = scan.cut } in
+    let room : scan.given + scan.keys.len < MAX_ACCESSES = omega (arith, l.within, key.some, c.requires.room.0) in
+    let few : scan.given + length scan.keys.items < MAX_ACCESSES = omega (arith, room, scan.keys.ok.0) in
+    let more : scan.given + length c.push_reserved.new.self.items ≤ MAX_ACCESSES = omega (arith, room, c.push_reserved.ensures.len, c.push_reserved.new.self.ok.0) in
+    let last : Scan = record { alloc = scan.alloc; format = scan.format; keys = c.push_reserved.new.self; given = scan.given; line = scan.line + 1; cut = scan.cut } in
     let next = line_taken scan bytes start line.end c.requires.scan c.requires.cut l.order (omega (arith, l.within)) l.none l.feed last
     (record { few = more; cut = c.requires.scan.cut })
     (record {
-      read = key_read scan.format scan.line c.in-Some-key_of_digits.key scan.keys.items scan.cut.items _ c.push_reserved.new.self.items c.requires.format c.requires.cut few key.line c.push_reserved.ensures.items;
+      read = key_read scan.format scan.line scan.given c.in-Some-key_of_digits.key scan.keys.items scan.cut.items _ c.push_reserved.new.self.items c.requires.format c.requires.cut few key.line c.push_reserved.ensures.items;
       cut = c.requires.cut;
       line = refl;
       format = refl;
+      given = refl;
     }) in
     subst (λ n. IsTakenUpTo scan bytes start n last) (sym l.behind) next

@@ -17,15 +17,15 @@ lines-preserved g c =
     let scan = c.lines.self in
     let bytes = c.args.runs.now.bytes.now in
     let key = c.in-Some-usual_key.ensures in
-    let now : Scan = record { alloc = scan.alloc; format = scan.format; keys = c.lines.keys; line = scan.line + (c.lines.keys.len - c.len-first.result); cut = scan.cut } in
-    let next : Scan = record { alloc = scan.alloc; format = scan.format; keys = c.push_reserved.new.self; line = scan.line + (c.push_reserved.new.self.len - c.len-first.result); cut = scan.cut } in
+    let now : Scan = record { alloc = scan.alloc; format = scan.format; keys = c.lines.keys; given = scan.given; line = scan.line + (c.lines.keys.len - c.len-first.result); cut = scan.cut } in
+    let next : Scan = record { alloc = scan.alloc; format = scan.format; keys = c.push_reserved.new.self; given = scan.given; line = scan.line + (c.push_reserved.new.self.len - c.len-first.result); cut = scan.cut } in
     let size : length c.lines.ahead.bytes.now ≡ length bytes = ap length i.same in
     let here = subst (λ n. IsTakenUpTo first bytes c.args.runs.now.start n now) (sym e.start.0) i.taken in
     let none = digits_no_feed bytes run.start run.end (subst (λ b. DigitsBetween b run.start run.end) i.same e.digits) in
-    let room : c.lines.keys.len < MAX_ACCESSES = omega (arith, e.start.0, e.within, size, key.some, i.room.0) in
-    let few : length c.lines.keys.items < MAX_ACCESSES = omega (arith, room, c.lines.keys.ok.0) in
-    let more : length c.push_reserved.new.self.items ≤ MAX_ACCESSES = omega (arith, room, c.push_reserved.ensures.len, c.push_reserved.new.self.ok.0) in
-    let read = key_read scan.format now.line c.in-Some-usual_key.key c.lines.keys.items scan.cut.items _ c.push_reserved.new.self.items (i.taken.format ∙ c.requires.format) i.taken.cut few key.line c.push_reserved.ensures.items in
+    let room : scan.given + c.lines.keys.len < MAX_ACCESSES = omega (arith, e.start.0, e.within, size, key.some, i.room.0) in
+    let few : scan.given + length c.lines.keys.items < MAX_ACCESSES = omega (arith, room, c.lines.keys.ok.0) in
+    let more : scan.given + length c.push_reserved.new.self.items ≤ MAX_ACCESSES = omega (arith, room, c.push_reserved.ensures.len, c.push_reserved.new.self.ok.0) in
+    let read = key_read scan.format now.line scan.given c.in-Some-usual_key.key c.lines.keys.items scan.cut.items _ c.push_reserved.new.self.items (i.taken.format ∙ c.requires.format) i.taken.cut few key.line c.push_reserved.ensures.items in
     let taken = line_taken now bytes run.start run.end i.taken.scan i.taken.cut e.within.0 (omega (arith, e.within.1, size)) none key.feed next
     (record { few = more; cut = i.taken.scan.cut })
     (record {
@@ -33,6 +33,7 @@ lines-preserved g c =
       cut = i.taken.cut;
       line = omega (arith, c.push_reserved.ensures.len, i.before);
       format = refl;
+      given = refl;
     }) in
     record {
       taken = subst (λ n. IsTakenUpTo first bytes c.args.runs.now.start n next) (sym e.start.1) (taken_then first now next bytes c.args.runs.now.start run.start (run.end + 1) here taken);
@@ -58,15 +59,15 @@ lines-preserved-in_default-usual_key g c =
     let more = keys.len - c.len-first.result in
     let past = c.in-Some-past_empty.ensures in
     let star = c.if-is_star_line.ensures refl in
-    let now : Scan = record { alloc = scan.alloc; format = scan.format; keys = keys; line = scan.line + more; cut = scan.cut } in
+    let now : Scan = record { alloc = scan.alloc; format = scan.format; keys = keys; given = scan.given; line = scan.line + more; cut = scan.cut } in
     let here = subst (λ n. IsTakenUpTo first bytes start n now) (sym e.start.0) i.taken in
     let empty = none_before_star bytes run.start run.end 1 e.within.0 (omega arith) star (subst (λ b. DigitsBetween b run.start run.end) i.same e.digits) in
     let taken = stars_taken first now bytes start run.start 1 here (i.taken.format ∙ c.requires.format) star in
     let line : scan.line + more + 1 ≡ scan.line + 1 + more = omega arith in
     let end : run.start + 2 * 1 ≡ c.in-Some-past_empty.behind.start = omega (arith, past.start, e.start, empty) in
     record {
-      taken = subst (λ n. IsTakenUpTo first bytes start n (record { alloc = scan.alloc; format = scan.format; keys = keys; line = scan.line + 1 + more; cut = scan.cut })) end
-          (subst (λ l. IsTakenUpTo first bytes start (run.start + 2 * 1) (record { alloc = scan.alloc; format = scan.format; keys = keys; line = l; cut = scan.cut })) line taken);
+      taken = subst (λ n. IsTakenUpTo first bytes start n (record { alloc = scan.alloc; format = scan.format; keys = keys; given = scan.given; line = scan.line + 1 + more; cut = scan.cut })) end
+          (subst (λ l. IsTakenUpTo first bytes start (run.start + 2 * 1) (record { alloc = scan.alloc; format = scan.format; keys = keys; given = scan.given; line = l; cut = scan.cut })) line taken);
       runs = past.runs;
       same = past.bytes ∙ e.bytes ∙ i.same;
       room = (omega (arith, end, e.start.0, i.room.0), omega (arith, end, e.start.0, i.room.1));

@@ -12,8 +12,8 @@ pub record Taking (A B C D E : Type 0) : Type 0 where
 
 abbrev pub invariant-lines : goal.invariant-lines
 invariant-lines g l = Taking
-    (IsTakenUpTo l.fn.self l.bytes l.fn.runs.start l.ahead.start (record { alloc = l.self.alloc; format = l.self.format; keys = l.keys; line = l.self.line + (vec_len l.keys - l.first); cut = l.self.cut }))
-    (IsDigitRuns l.ahead) (l.ahead.bytes.now ≡ l.bytes) (HasRoom (length l.bytes - l.ahead.start) (vec_len l.keys) (vec_capacity l.keys)) (l.first ≤ vec_len l.keys)
+    (IsTakenUpTo l.fn.self l.bytes l.fn.runs.start l.ahead.start (record { alloc = l.self.alloc; format = l.self.format; keys = l.keys; given = l.self.given; line = l.self.line + (vec_len l.keys - l.first); cut = l.self.cut }))
+    (IsDigitRuns l.ahead) (l.ahead.bytes.now ≡ l.bytes) (HasRoom (length l.bytes - l.ahead.start) l.self.given (vec_len l.keys) (vec_capacity l.keys)) (l.first ≤ vec_len l.keys)
 
 abbrev pub decreases-lines : goal.decreases-lines
 decreases-lines g l = length l.bytes - l.ahead.start

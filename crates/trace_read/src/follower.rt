@@ -1,0 +1,25 @@
+//! What follows a trace while it is read.
+ghost use Rattle.std.specs.Prelude.{◌≡◌, ◌≤◌, ◌+◌, ◌-◌, ℕ, List, Option, IfSome, length, take, drop};
+ghost use Rattle.step_record.specs.declared.limits.TheConstants.{MAX_ACCESSES};
+
+use step_record::Key;
+
+/// What follows a trace while it is read, and takes accesses of it.
+pub trait Follower {
+    // the accesses of the whole file, where it goes by them
+    ghost file: { Self → Option (List ℕ) };
+
+    // how many accesses it has taken
+    ghost taken: { Self → ℕ };
+
+    /// Takes as many as it wants of the accesses that were read and not taken yet, from the first on, and leaves the
+    /// others. It is called after each piece.
+    fn follow(&mut self, keys: &mut Vec<Key>)
+        requires few { taken self.old + length keys.old.items ≤ MAX_ACCESSES }
+        requires next { IfSome (file self.old) (λ all.
+            keys.old.items ≡ take (length keys.old.items) (drop (taken self.old) all)) }
+        ensures file { file self.new ≡ file self.old }
+        ensures order { taken self.old ≤ taken self.new }
+        ensures taken { taken self.new + length keys.new.items ≡ taken self.old + length keys.old.items }
+        ensures left { keys.new.items ≡ drop (taken self.new - taken self.old) keys.old.items };
+}
