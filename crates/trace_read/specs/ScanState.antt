@@ -1,10 +1,14 @@
 -- What a scan of the lines comes to, whatever bytes still follow.
-use Rattle.std.specs.Prelude.{◌≡◌, ℕ, ◌+◌, ◌-◌, ◌*◌, ◌≤◌, ◌⊎◌, List, [], ◌++◌, Option, Some, length, drop}
+use Rattle.std.specs.Prelude.{◌≡◌, ℕ, ◌+◌, ◌-◌, ◌*◌, ◌^◌, ◌≤◌, ◌<◌, ◌⊎◌, vec_capacity, vec_len, List, [], ◌++◌, Option, Some, None, IfSome, length, drop}
 use Rattle.step_record.specs.declared.limits.TheConstants.{MAX_ACCESSES}
 use Rattle.text_lines.specs.Feeds.{lines_of, HasNoFeed}
+use Rattle.trace_read.specs.DigitRuns.{IsNextRun}
 use Rattle.trace_read.specs.TraceText.{all_keys, first_fault, IsOfLine, IsRead}
+use Rattle.trace_read.specs.declared.digit_runs.DigitRun.{DigitRun}
+use Rattle.trace_read.specs.declared.digit_runs.DigitRuns.{DigitRuns}
 use Rattle.trace_read.specs.declared.fault.TraceFault.{TraceFault}
 use Rattle.trace_read.specs.declared.fault.TraceFault.TheVariants.{OutOfMemory}
+use Rattle.trace_read.specs.declared.format.Format.TheVariants.{Lirs}
 use Rattle.trace_read.specs.declared.scan.Scan.{Scan}
 
 -- the fault of the whole file, and its accesses but for those that were given away, where these bytes still follow
@@ -61,3 +65,19 @@ IsRefusedFrom old bytes start e = (e ≡ OutOfMemory)
 -- there is room for the accesses of lines of so many bytes, by the limit and in memory: each has two bytes of its own
 abbrev pub HasRoom : ℕ → ℕ → ℕ → ℕ → Type 0
 HasRoom bytes given len capacity = ((given + len) * 2 + bytes ≤ 2 * MAX_ACCESSES) × (len * 2 + bytes ≤ 2 * capacity)
+
+-- LIRS lines may be taken from this place of the bytes on, with room for the accesses of all of them
+pub record CanTakeLines (s : Scan) (bytes : List ℕ) (start : ℕ) : Type 0 where
+  pub scan : IsScan s
+  pub format : s.format ≡ Lirs
+  pub cut : s.cut.items ≡ []
+  pub lines : s.line + length bytes < 2 ^ 64 + start
+  pub room : HasRoom (length bytes - start) s.given (vec_len s.keys) (vec_capacity s.keys)
+
+-- the lines were taken up to the one that begins with the run that was found, or up to the runs that are left
+pub record IsStretchTaken (old new : Scan) (ahead left : DigitRuns) (found : Option DigitRun) : Type 0 where
+  pub all : found ≡ None → IsTakenUpTo old ahead.bytes.now ahead.start left.start new
+  pub some : IfSome found (λ run. IsTakenUpTo old ahead.bytes.now ahead.start run.start new)
+  pub next : IfSome found (λ run. IsNextRun ahead.bytes.now run left)
+  pub room : IfSome found (λ run.
+      HasRoom (length ahead.bytes.now - run.start) new.given (vec_len new.keys) (vec_capacity new.keys))

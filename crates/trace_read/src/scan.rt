@@ -6,7 +6,7 @@ ghost use Rattle.trace_read.specs.Lines.{line_of, AreStarLines};
 ghost use Rattle.trace_read.specs.declared.digit_runs.TheConstants.{BEHIND};
 ghost use Rattle.step_record.specs.declared.limits.TheConstants.{MAX_ACCESSES};
 ghost use Rattle.trace_read.specs.TraceText.{fault_in, keys_in, IsOfLine, IsRead, IsTraceRefused, IsStopped};
-ghost use Rattle.trace_read.specs.ScanState.{fault_ahead, keys_ahead, IsEnded, IsGiven, IsScan, HasRoom, IsPieceTaken, IsRefusedFrom, IsTakenUpTo};
+ghost use Rattle.trace_read.specs.ScanState.{fault_ahead, keys_ahead, CanTakeLines, IsEnded, IsGiven, IsScan, IsStretchTaken, HasRoom, IsPieceTaken, IsRefusedFrom, IsTakenUpTo};
 ghost use Rattle.text_lines.specs.Feeds.{feed_in};
 
 use super::arc::{add_arc, push_reserved_run, usual_line};
@@ -208,19 +208,9 @@ impl Scan {
     // `take_usual`, with lines of a lone `*` or without.
     #[inline(always)]
     fn take_stretch(&mut self, runs: &mut DigitRuns<'_>, stars: bool) -> Option<DigitRun>
-        requires scan { IsScan self.old }
-        requires format { self.old.format ≡ Format.Lirs }
-        requires cut { self.old.cut.items ≡ [] }
         requires runs { IsDigitRuns runs.old }
-        requires lines { self.old.line + length runs.old.bytes.now < 2 ^ 64 + runs.old.start }
-        requires room { HasRoom (length runs.old.bytes.now - runs.old.start)
-            self.old.given (vec_len self.old.keys) (vec_capacity self.old.keys) }
-        ensures all { result ≡ None → IsTakenUpTo self.old runs.old.bytes.now runs.old.start runs.new.start self.new }
-        ensures some { IfSome result (λ run. IsTakenUpTo self.old runs.old.bytes.now runs.old.start run.start self.new) }
-        ensures found { IfSome result (λ run. IsNextRun runs.old.bytes.now run runs.new) }
-        ensures room { IfSome result (λ run.
-            HasRoom (length runs.old.bytes.now - run.start)
-            self.new.given (vec_len self.new.keys) (vec_capacity self.new.keys)) }
+        requires lines { CanTakeLines self.old runs.old.bytes.now runs.old.start }
+        ensures { IsStretchTaken self.old self.new runs.old runs.new result }
     {
         if stars {
             self.take_usual::<true>(runs)
@@ -234,19 +224,9 @@ impl Scan {
     // accesses.
     #[inline(never)]
     fn take_usual<const STARS: bool>(&mut self, runs: &mut DigitRuns<'_>) -> Option<DigitRun>
-        requires scan { IsScan self.old }
-        requires format { self.old.format ≡ Format.Lirs }
-        requires cut { self.old.cut.items ≡ [] }
         requires runs { IsDigitRuns runs.old }
-        requires lines { self.old.line + length runs.old.bytes.now < 2 ^ 64 + runs.old.start }
-        requires room { HasRoom (length runs.old.bytes.now - runs.old.start)
-            self.old.given (vec_len self.old.keys) (vec_capacity self.old.keys) }
-        ensures all { result ≡ None → IsTakenUpTo self.old runs.old.bytes.now runs.old.start runs.new.start self.new }
-        ensures some { IfSome result (λ run. IsTakenUpTo self.old runs.old.bytes.now runs.old.start run.start self.new) }
-        ensures found { IfSome result (λ run. IsNextRun runs.old.bytes.now run runs.new) }
-        ensures room { IfSome result (λ run.
-            HasRoom (length runs.old.bytes.now - run.start)
-            self.new.given (vec_len self.new.keys) (vec_capacity self.new.keys)) }
+        requires lines { CanTakeLines self.old runs.old.bytes.now runs.old.start }
+        ensures { IsStretchTaken self.old self.new runs.old runs.new result }
     {
         // The loop changes locals alone and calls nothing, so that they are in registers.
         let mut ahead = *runs;
@@ -284,13 +264,8 @@ impl Scan {
         run: DigitRun,
         runs: &mut DigitRuns<'a>,
     ) -> Result<bool, TraceFault>
-        requires scan { IsScan self.old }
-        requires format { self.old.format ≡ Format.Lirs }
-        requires cut { self.old.cut.items ≡ [] }
         requires found { IsNextRun bytes.now run runs.old }
-        requires lines { self.old.line + length bytes.now < 2 ^ 64 + run.start }
-        requires room { HasRoom (length bytes.now - run.start)
-            self.old.given (vec_len self.old.keys) (vec_capacity self.old.keys) }
+        requires lines { CanTakeLines self.old bytes.now run.start }
         ensures taken { OnOk result (IsTakenUpTo self.old bytes.now run.start runs.new.start self.new) }
         ensures runs { OnOk result (IsDigitRuns runs.new × (runs.new.bytes.now ≡ bytes.now)) }
         ensures more { IfOk result (λ more. IsTrue more → (run.start < runs.new.start)

@@ -16,8 +16,8 @@ returns-in_err-add_lirs-clause-err c =
     let start = c.args.run.start in
     let l = subst (λ b. IsLineEnd b start c.in-Some.line) c.requires.found.same c.in-Some.ensures.line in
     errs c.from_residual.result _ _ c.from_residual.ensures.1
-    (line_refused scan bytes start c.in-Some.line.end c.requires.scan c.requires.cut l.order (omega (arith, l.within)) l.none l.feed _
-    (whole_stopped scan.format scan.line scan.given scan.keys.items scan.cut.items _ _ c.requires.format c.requires.cut c.in_err-add_lirs.ensures.err))
+    (line_refused scan bytes start c.in-Some.line.end c.requires.lines.scan c.requires.lines.cut l.order (omega (arith, l.within)) l.none l.feed _
+    (whole_stopped scan.format scan.line scan.given scan.keys.items scan.cut.items _ _ c.requires.lines.format c.requires.lines.cut c.in_err-add_lirs.ensures.err))
 
 pub returns-clause-taken : goal.returns-clause-taken
 returns-clause-taken c =
@@ -28,12 +28,12 @@ returns-clause-taken c =
     let l = subst (λ b. IsLineEnd b start line) c.requires.found.same c.in-Some.ensures.line in
     let items = c.reserve_for.ensures.items in
     let last : Scan = record { alloc = scan.alloc; format = scan.format; keys = c.reserve_for.new.keys; given = scan.given; line = scan.line + 1; cut = scan.cut } in
-    let next = line_taken scan bytes start line.end c.requires.scan c.requires.cut l.order (omega (arith, l.within)) l.none l.feed last
-    (record { few = omega (arith, c.in_ok-add_lirs.ensures.within, c.add_lirs.new.keys.ok.0, ap length items); cut = c.requires.scan.cut })
+    let next = line_taken scan bytes start line.end c.requires.lines.scan c.requires.lines.cut l.order (omega (arith, l.within)) l.none l.feed last
+    (record { few = omega (arith, c.in_ok-add_lirs.ensures.within, c.add_lirs.new.keys.ok.0, ap length items); cut = c.requires.lines.scan.cut })
     (record {
       read = subst (IsRead scan.format scan.line scan.given scan.keys.items _) (sym items)
-          (whole_read scan.format scan.line scan.given scan.keys.items scan.cut.items _ _ c.requires.format c.requires.cut c.in_ok-add_lirs.ensures.ok);
-      cut = c.requires.cut;
+          (whole_read scan.format scan.line scan.given scan.keys.items scan.cut.items _ _ c.requires.lines.format c.requires.lines.cut c.in_ok-add_lirs.ensures.ok);
+      cut = c.requires.lines.cut;
       line = refl;
       format = refl;
       given = refl;
@@ -47,9 +47,9 @@ returns-then-stars-gt0-clause-taken c =
     let start = c.args.run.start in
     let count = c.star_lines-stars.result in
     let within : start ≤ length bytes = omega (arith, c.requires.found.order, c.requires.found.within) in
-    let here = nothing_taken scan bytes start c.requires.scan c.requires.cut within in
+    let here = nothing_taken scan bytes start c.requires.lines.scan c.requires.lines.cut within in
     let next : Scan = record { alloc = scan.alloc; format = scan.format; keys = scan.keys; given = scan.given; line = scan.line + count; cut = scan.cut } in
-    subst (λ n. IsTakenUpTo scan bytes start n next) (sym c.at.ensures.start) (stars_taken scan scan bytes start start count here c.requires.format c.star_lines-stars.ensures)
+    subst (λ n. IsTakenUpTo scan bytes start n next) (sym c.at.ensures.start) (stars_taken scan scan bytes start start count here c.requires.lines.format c.star_lines-stars.ensures)
 
 pub returns-in-Some-key_of_digits-clause-taken : goal.returns-in-Some-key_of_digits-clause-taken
 returns-in-Some-key_of_digits-clause-taken c =
@@ -59,15 +59,15 @@ returns-in-Some-key_of_digits-clause-taken c =
     let scan = c.args.self.now in
     let key = c.in-Some-key_of_digits.ensures in
     let l = subst (λ b. IsLineEnd b start line) c.requires.found.same c.in-Some.ensures.line in
-    let room : scan.given + scan.keys.len < MAX_ACCESSES = omega (arith, l.within, key.some, c.requires.room.0) in
+    let room : scan.given + scan.keys.len < MAX_ACCESSES = omega (arith, l.within, key.some, c.requires.lines.room.0) in
     let few : scan.given + length scan.keys.items < MAX_ACCESSES = omega (arith, room, scan.keys.ok.0) in
     let more : scan.given + length c.push_reserved.new.self.items ≤ MAX_ACCESSES = omega (arith, room, c.push_reserved.ensures.len, c.push_reserved.new.self.ok.0) in
     let last : Scan = record { alloc = scan.alloc; format = scan.format; keys = c.push_reserved.new.self; given = scan.given; line = scan.line + 1; cut = scan.cut } in
-    let next = line_taken scan bytes start line.end c.requires.scan c.requires.cut l.order (omega (arith, l.within)) l.none l.feed last
-    (record { few = more; cut = c.requires.scan.cut })
+    let next = line_taken scan bytes start line.end c.requires.lines.scan c.requires.lines.cut l.order (omega (arith, l.within)) l.none l.feed last
+    (record { few = more; cut = c.requires.lines.scan.cut })
     (record {
-      read = key_read scan.format scan.line scan.given c.in-Some-key_of_digits.key scan.keys.items scan.cut.items _ c.push_reserved.new.self.items c.requires.format c.requires.cut few key.line c.push_reserved.ensures.items;
-      cut = c.requires.cut;
+      read = key_read scan.format scan.line scan.given c.in-Some-key_of_digits.key scan.keys.items scan.cut.items _ c.push_reserved.new.self.items c.requires.lines.format c.requires.lines.cut few key.line c.push_reserved.ensures.items;
+      cut = c.requires.lines.cut;
       line = refl;
       format = refl;
       given = refl;

@@ -25,7 +25,7 @@ lines-preserved g c =
     let room : scan.given + c.lines.keys.len < MAX_ACCESSES = omega (arith, e.start.0, e.within, size, key.some, i.room.0) in
     let few : scan.given + length c.lines.keys.items < MAX_ACCESSES = omega (arith, room, c.lines.keys.ok.0) in
     let more : scan.given + length c.push_reserved.new.self.items ≤ MAX_ACCESSES = omega (arith, room, c.push_reserved.ensures.len, c.push_reserved.new.self.ok.0) in
-    let read = key_read scan.format now.line scan.given c.in-Some-usual_key.key c.lines.keys.items scan.cut.items _ c.push_reserved.new.self.items (i.taken.format ∙ c.requires.format) i.taken.cut few key.line c.push_reserved.ensures.items in
+    let read = key_read scan.format now.line scan.given c.in-Some-usual_key.key c.lines.keys.items scan.cut.items _ c.push_reserved.new.self.items (i.taken.format ∙ c.requires.lines.format) i.taken.cut few key.line c.push_reserved.ensures.items in
     let taken = line_taken now bytes run.start run.end i.taken.scan i.taken.cut e.within.0 (omega (arith, e.within.1, size)) none key.feed next
     (record { few = more; cut = i.taken.scan.cut })
     (record {
@@ -62,7 +62,7 @@ lines-preserved-in_default-usual_key g c =
     let now : Scan = record { alloc = scan.alloc; format = scan.format; keys = keys; given = scan.given; line = scan.line + more; cut = scan.cut } in
     let here = subst (λ n. IsTakenUpTo first bytes start n now) (sym e.start.0) i.taken in
     let empty = none_before_star bytes run.start run.end 1 e.within.0 (omega arith) star (subst (λ b. DigitsBetween b run.start run.end) i.same e.digits) in
-    let taken = stars_taken first now bytes start run.start 1 here (i.taken.format ∙ c.requires.format) star in
+    let taken = stars_taken first now bytes start run.start 1 here (i.taken.format ∙ c.requires.lines.format) star in
     let line : scan.line + more + 1 ≡ scan.line + 1 + more = omega arith in
     let end : run.start + 2 * 1 ≡ c.in-Some-past_empty.behind.start = omega (arith, past.start, e.start, empty) in
     record {
