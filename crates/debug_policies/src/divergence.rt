@@ -2,11 +2,12 @@
 ghost use Rattle.std.specs.Prelude.{◌≡◌, ◌≢◌, ◌≤◌, ◌<◌, ◌+◌, ◌-◌, ◌++◌, Ok, Some, None, [], ◌∷◌, length, take};
 ghost use Rattle.std.specs.Prelude.{IfOk, OnOk, IfSome, IfNone};
 ghost use Rattle.step_record.specs.Config.{config_fault};
+ghost use Rattle.step_record.specs.declared.job.Job.{Job};
 ghost use Rattle.step_record.specs.Stats.{is_hit};
 ghost use Rattle.policies.specs.AnyPolicy.{HasAccessed, outcomes_on};
 ghost use Rattle.policies.specs.AnyStep.{any_act};
 ghost use Rattle.job_checks.specs.FaultyJobs.{faulty_in, ReturnsFault};
-ghost use Rattle.debug_policies.specs.Part.{part_line, is_hit_at, IsPart, IsNoted, IsFirstOther};
+ghost use Rattle.debug_policies.specs.Part.{part_line, is_hit_at, IsPart, IsNoted, IsFirstOther, IsPrepared};
 
 use debug_commands::{push_bytes, push_count};
 use job_checks::ActorFault;
@@ -75,36 +76,35 @@ fn walk(alloc: Global, trace: &Trace, first: &Job, second: &Job) -> Result<Optio
     ensures { IfOk result (IsPart (outcomes_on first.now trace.now) (outcomes_on second.now trace.now)) }
 {
     let mut one = AnyPolicy::open(alloc, first, trace)?;
-    walk_beside(alloc, trace, first, second, &mut one)
+    walk_beside(alloc, trace, second, &mut one)
 }
 
 // Opens the cache of the second job, beside that of the first, and walks.
 fn walk_beside(
     alloc: Global,
     trace: &Trace,
-    first: &Job,
     second: &Job,
     one: &mut AnyPolicy,
 ) -> Result<Option<u64>, AllocError>
-    requires one { HasAccessed first.now trace.now [] one.old }
+    requires one { IsPrepared trace.now 0 one.old }
     requires second { config_fault second.now.config ≡ Ok tt }
-    ensures { IfOk result (IsPart (outcomes_on first.now trace.now) (outcomes_on second.now trace.now)) }
+    ensures { (j : Job) → HasAccessed j trace.now [] one.old
+        → IfOk result (IsPart (outcomes_on j trace.now) (outcomes_on second.now trace.now)) }
 {
     let mut other = AnyPolicy::open(alloc, second, trace)?;
-    walk_both(trace, first, second, one, &mut other)
+    walk_both(trace, one, &mut other)
 }
 
 // Makes the accesses of the trace in both caches, up to the first at which just one of them hits.
 fn walk_both(
     trace: &Trace,
-    first: &Job,
-    second: &Job,
     one: &mut AnyPolicy,
     other: &mut AnyPolicy,
 ) -> Result<Option<u64>, AllocError>
-    requires one { HasAccessed first.now trace.now [] one.old }
-    requires other { HasAccessed second.now trace.now [] other.old }
-    ensures { IfOk result (IsPart (outcomes_on first.now trace.now) (outcomes_on second.now trace.now)) }
+    requires one { IsPrepared trace.now 0 one.old }
+    requires other { IsPrepared trace.now 0 other.old }
+    ensures { (j k : Job) → HasAccessed j trace.now [] one.old → HasAccessed k trace.now [] other.old
+        → IfOk result (IsPart (outcomes_on j trace.now) (outcomes_on k trace.now)) }
 {
     theorems::any_stands();
     theorems::any_covers_trace();
@@ -113,8 +113,8 @@ fn walk_both(
     let mut start = 0;
     'stretches: while start < len {
         let end = len.min(start + BLOCK);
-        note_hits(one, first, trace, start, end, &mut noted)?;
-        match compare_hits(other, second, trace, start, end, &noted)? {
+        note_hits(one, trace, start, end, &mut noted)?;
+        match compare_hits(other, trace, start, end, &noted)? {
             Some(place) => return Ok(Some(place as u64 + 1)),
             None => start = end,
         }
@@ -125,7 +125,6 @@ fn walk_both(
 // Makes the accesses from one place of the trace up to another, and notes which of them hit.
 fn note_hits(
     cache: &mut AnyPolicy,
-    _job: &Job,
     trace: &Trace,
     start: usize,
     end: usize,
@@ -134,13 +133,15 @@ fn note_hits(
     requires order { start ≤ end }
     requires within { end ≤ length trace.now }
     requires room { end - start ≤ length noted.old }
-    requires stands { HasAccessed _job.now trace.now (take start trace.now) cache.old }
-    ensures stands { OnOk result (HasAccessed _job.now trace.now (take end trace.now) cache.new) }
-    ensures noted { OnOk result (IsNoted noted.new (outcomes_on _job.now trace.now) start end) }
+    requires stands { IsPrepared trace.now start cache.old }
+    ensures stands { (j : Job) → HasAccessed j trace.now (take start trace.now) cache.old
+        → OnOk result (HasAccessed j trace.now (take end trace.now) cache.new) }
+    ensures noted { (j : Job) → HasAccessed j trace.now (take start trace.now) cache.old
+        → OnOk result (IsNoted noted.new (outcomes_on j trace.now) start end) }
     ensures room { length noted.new ≡ length noted.old }
 {
     for i in start..end {
-        let hit = hit_at::<Noting>(cache, _job, trace, i)?;
+        let hit = hit_at::<Noting>(cache, trace, i)?;
         noted[i - start] = hit;
     }
     Ok(())
@@ -149,7 +150,6 @@ fn note_hits(
 // Makes the same accesses in the other cache, up to the first of which just one hits, whose place it returns.
 fn compare_hits(
     cache: &mut AnyPolicy,
-    _job: &Job,
     trace: &Trace,
     start: usize,
     end: usize,
@@ -158,13 +158,16 @@ fn compare_hits(
     requires order { start ≤ end }
     requires within { end ≤ length trace.now }
     requires room { end - start ≤ length noted.now }
-    requires stands { HasAccessed _job.now trace.now (take start trace.now) cache.old }
-    ensures stands { IfOk result (λ r. IfNone r (HasAccessed _job.now trace.now (take end trace.now) cache.new)) }
-    ensures agree { IfOk result (λ r. IfNone r (IsNoted noted.now (outcomes_on _job.now trace.now) start end)) }
-    ensures part { IfOk result (λ r. IfSome r (IsFirstOther noted.now (outcomes_on _job.now trace.now) start end)) }
+    requires stands { IsPrepared trace.now start cache.old }
+    ensures stands { (j : Job) → HasAccessed j trace.now (take start trace.now) cache.old
+        → IfOk result (λ r. IfNone r (HasAccessed j trace.now (take end trace.now) cache.new)) }
+    ensures agree { (j : Job) → HasAccessed j trace.now (take start trace.now) cache.old
+        → IfOk result (λ r. IfNone r (IsNoted noted.now (outcomes_on j trace.now) start end)) }
+    ensures part { (j : Job) → HasAccessed j trace.now (take start trace.now) cache.old
+        → IfOk result (λ r. IfSome r (IsFirstOther noted.now (outcomes_on j trace.now) start end)) }
 {
     for i in start..end {
-        let hit = hit_at::<Comparing>(cache, _job, trace, i)?;
+        let hit = hit_at::<Comparing>(cache, trace, i)?;
         if hit != noted[i - start] {
             return Ok(Some(i));
         }
@@ -175,11 +178,13 @@ fn compare_hits(
 // Makes the access at a place, counted from 0, in a cache that made those before it, and says whether it hit. The one
 // error is out of memory.
 #[inline(always)]
-fn hit_at<C>(cache: &mut AnyPolicy, _job: &Job, trace: &Trace, i: usize) -> Result<bool, AllocError>
+fn hit_at<C>(cache: &mut AnyPolicy, trace: &Trace, i: usize) -> Result<bool, AllocError>
     requires below { i < length trace.now }
-    requires stands { HasAccessed _job.now trace.now (take i trace.now) cache.old }
-    ensures stands { OnOk result (HasAccessed _job.now trace.now (take (i + 1) trace.now) cache.new) }
-    ensures hit { IfOk result (λ hit. hit ≡ is_hit_at (outcomes_on _job.now trace.now) (i + 1)) }
+    requires stands { IsPrepared trace.now i cache.old }
+    ensures stands { (j : Job) → HasAccessed j trace.now (take i trace.now) cache.old
+        → OnOk result (HasAccessed j trace.now (take (i + 1) trace.now) cache.new) }
+    ensures hit { (j : Job) → HasAccessed j trace.now (take i trace.now) cache.old
+        → IfOk result (λ hit. hit ≡ is_hit_at (outcomes_on j trace.now) (i + 1)) }
 {
     theorems::any_accepts();
     theorems::any_stands();

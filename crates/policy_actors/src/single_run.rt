@@ -95,7 +95,7 @@ fn run_checked<G: Gate>(
     if job.policy == Policy::Lru
         && let Some(reuses) = input.reuses
     {
-        return Ok(window_report(reuses, job));
+        return window_report(alloc, reuses, job);
     }
     let trace = input.trace;
     let mut cache = AnyPolicy::open_with(alloc, job, trace, input.uses)?;
@@ -112,11 +112,12 @@ fn read_report(curve: &Curve, job: &Job) -> Report
     Report::of(job, curve.stats(job.config.capacity))
 }
 
-// The report of a job of Lru, from the reuses of the trace.
-fn window_report(reuses: &Reuses<'_>, job: &Job) -> Report
+// The report of a job of Lru, from the reuses of the trace. The one error is out of memory.
+fn window_report(alloc: Global, reuses: &Reuses<'_>, job: &Job) -> Result<Report, AllocError>
     requires lru { job.now.policy ≡ Policy.Lru }
     requires checked { config_fault job.now.config ≡ Ok tt }
-    ensures { result ≡ report_on job.now reuses.now }
+    ensures { IfOk result (λ r. r ≡ report_on job.now reuses.now) }
 {
-    Report::of(job, reuses.stats(job.config.capacity))
+    let stats = reuses.stats(alloc, job.config.capacity)?;
+    Ok(Report::of(job, stats))
 }

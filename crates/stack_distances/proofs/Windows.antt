@@ -1,22 +1,24 @@
 -- The window of a trace whose keys Lru holds, one access after another.
-use Rattle.std.proofs.Common.{◌≡◌, ◌≢◌, ℕ, suc, zero, ◌+◌, ◌<◌, ◌≤◌, min, true, false, cond, eqb, nat_lt, nat_le, List, [], ◌∷◌, ◌++◌, length, take, drop, get_or, ap, ◌∙◌, sym, refl, arith, inl, inr, drop-cons}
-use Rattle.std.proofs.lemmas.Bool.{cases_eq, eqb-true}
+use Rattle.std.proofs.Common.{◌≡◌, ◌≢◌, ℕ, suc, zero, ◌+◌, ◌-◌, ◌*◌, ◌<◌, ◌≤◌, min, Bool, true, false, ◌||◌, cond, eqb, nat_lt, nat_le, List, [], ◌∷◌, ◌++◌, length, take, drop, get_or, ap, ◌∙◌, sym, refl, arith, inl, inr, drop-cons}
+use Rattle.std.proofs.lemmas.Bool.{cases_eq, cases_lt, eqb-true, eq-eqb, ne_eqb}
 use Rattle.std.proofs.lemmas.Bool.Decides.{nat_tests}
 use Rattle.std.proofs.lemmas.List.{get_or-take, drop-append-le, length-take-le, take_more, take_all}
 use Rattle.std.proofs.Math.ListN.{drop_of_length-le}
 use Rattle.step_record.specs.Keys.{has_key}
+use Rattle.step_record.specs.declared.limits.TheConstants.{MAX_ACCESSES}
+use Rattle.bits_and_lists.specs.Bits.{bit_of}
 use Rattle.step_record.specs.declared.job.Job.{Job}
 use Rattle.step_record.specs.declared.job.Policy.TheVariants.{Lru}
 use Rattle.policies.specs.Lru.{distinct_keys, keys_since}
 use Rattle.policies.specs.AnyPolicy.{stats_on}
 use Rattle.policies.proofs.Recency.{two}
 use Rattle.stack_distances.specs.Distances.{distance, is_within, hits_within, stats_within}
-use Rattle.stack_distances.specs.Window.{AreReuses, IsWindow, stats_in}
+use Rattle.stack_distances.specs.Window.{AreReuses, IsWindow, IsFirstClear, stats_in}
 use Rattle.stack_distances.specs.declared.window.Window.{Window}
 use Rattle.stack_distances.proofs.Counting.{lru-counts, hits-and-held}
 use Rattle.stack_distances.proofs.Histories.{count-snoc}
 use Rattle.stack_distances.proofs.Reading.{sum-small}
-use Rattle.stack_distances.proofs.Stack.{grows}
+use Rattle.stack_distances.proofs.Stack.{grows, has-snoc}
 
 -- ---- the distinct keys from a place on
 
@@ -131,22 +133,102 @@ none-behind keys place k in_it =
     let none : drop (suc place) (take (place + 1) keys) ≡ [] = drop_of_length-le (take (place + 1) keys) {i = suc place} (omega (arith, l)) in
     ap (has_key k) none
 
-module _ (keys before after : List ℕ) (r : AreReuses keys before after) (place : ℕ) (in_it : place < length keys) where
+-- what comes from a place on, with one access more
+drop-next : (keys : List ℕ) (place f : ℕ) → place < length keys → f ≤ place → drop f (take (place + 1) keys) ≡ drop f (take place keys) ++ get_or keys place 0 ∷ []
+drop-next keys place f in_it h =
+    let l : length (take place keys) ≡ place = past-length keys place in_it in
+    ap (drop f) (take_more keys place 0 in_it) ∙ drop-append-le f (take place keys) (get_or keys place 0 ∷ []) (omega (arith, l, h))
+
+past-end : (keys : List ℕ) (n f : ℕ) → n ≤ length keys → n ≤ f → drop f (take n keys) ≡ []
+past-end keys n f all h =
+    let l : length (take n keys) ≡ n = length-take-le n keys all in
+    drop_of_length-le (take n keys) {i = f} (omega (arith, l, h))
+
+cond-same : (v w : Bool) → (v ≡ false → w ≡ false) → cond v true w ≡ v
+cond-same true w h = refl
+cond-same false w h = h refl
+
+cond-either : (v w : Bool) → w ≡ true → cond v true w ≡ true
+cond-either true w h = refl
+cond-either false w h = h
+
+or-true : (v w : Bool) → w ≡ true → (v || w) ≡ true
+or-true true w h = refl
+or-true false w h = h
+
+or-false : (v w : Bool) → w ≡ false → (v || w) ≡ v
+or-false true w h = refl
+or-false false w h = h
+
+eqb-flip : (x y : ℕ) → eqb x y ≡ eqb y x
+eqb-flip x y = grind (arith, nat_tests)
+
+module _ (keys before : List ℕ) (r : AreReuses keys before) (place : ℕ) (in_it : place < length keys) where
   next-past : take (place + 1) keys ≡ take place keys ++ get_or keys place 0 ∷ []
   next-past = take_more keys place 0 in_it
 
   cut-front : (s : ℕ) → s ≤ place → drop s (take (place + 1) keys) ≡ get_or keys s 0 ∷ drop (suc s) (take (place + 1) keys)
   cut-front s h = front-at keys (place + 1) s (omega (arith, h)) (omega (arith, in_it))
 
-  comes-again : (s : ℕ) → s ≤ place → nat_lt (get_or after s 0) (place + 1) ≡ has_key (get_or keys s 0) (drop (suc s) (take (place + 1) keys))
-  comes-again s h = r.comes s (place + 1) (omega (arith, h)) (omega (arith, in_it))
+  came-since : (f : ℕ) → nat_lt f (get_or before place 0) ≡ has_key (get_or keys place 0) (drop f (take place keys))
+  came-since f = r.came place f in_it
+
+  -- its key came last below its place
+  pub came-below : get_or before place 0 ≤ place
+  came-below =
+      let none : has_key (get_or keys place 0) (drop place (take place keys)) ≡ false = ap (has_key (get_or keys place 0)) (past-end keys place place (omega (arith, in_it)) (omega arith)) in
+      let test : nat_lt place (get_or before place 0) ≡ false = came-since place ∙ none in
+      grind (arith, nat_tests)
+
+  -- ---- which keys come again
+
+  -- with the access at the place
+  again-next : (i : ℕ) → i < place → has_key (get_or keys i 0) (drop (suc i) (take (place + 1) keys)) ≡ cond (has_key (get_or keys i 0) (drop (suc i) (take place keys))) true (eqb (get_or keys i 0) (get_or keys place 0))
+  again-next i h = ap (has_key (get_or keys i 0)) (drop-next keys place (suc i) in_it (omega (arith, h))) ∙ has-snoc (get_or keys i 0) (get_or keys place 0) (drop (suc i) (take place keys))
+
+  never-next : (i : ℕ) → place ≤ i → has_key (get_or keys i 0) (drop (suc i) (take (place + 1) keys)) ≡ has_key (get_or keys i 0) (drop (suc i) (take place keys))
+  never-next i h = ap (has_key (get_or keys i 0)) (past-end keys (place + 1) (suc i) (omega (arith, in_it)) (omega (arith, h)) ∙ sym (past-end keys place (suc i) (omega (arith, in_it)) (omega (arith, h))))
+
+  -- the same key, at a place before this one, is not behind the last place of the key
+  same-below : (i : ℕ) → i < place → eqb (get_or keys i 0) (get_or keys place 0) ≡ true → i < get_or before place 0
+  same-below i low same =
+      let flip : eqb (get_or keys place 0) (get_or keys i 0) ≡ true = eqb-flip (get_or keys place 0) (get_or keys i 0) ∙ same in
+      let there : has_key (get_or keys place 0) (drop i (take place keys)) ≡ true = ap (has_key (get_or keys place 0)) (front-at keys place i low (omega (arith, in_it))) ∙ rw flip refl in
+      let test : nat_lt i (get_or before place 0) ≡ true = came-since i ∙ there in
+      grind (arith, nat_tests)
+
+  -- the last place of the key has it
+  last-same : (i : ℕ) → i + 1 ≡ get_or before place 0 → eqb (get_or keys i 0) (get_or keys place 0) ≡ true
+  last-same i is =
+      let below : get_or before place 0 ≤ place = came-below in
+      let low : i < place = omega (arith, below, is) in
+      let yes : nat_lt i (get_or before place 0) ≡ true = grind (arith, nat_tests) in
+      let no : nat_lt (suc i) (get_or before place 0) ≡ false = grind (arith, nat_tests) in
+      let there : has_key (get_or keys place 0) (get_or keys i 0 ∷ drop (suc i) (take place keys)) ≡ true = sym (ap (has_key (get_or keys place 0)) (front-at keys place i low (omega (arith, in_it)))) ∙ (sym (came-since i) ∙ yes) in
+      let behind : has_key (get_or keys place 0) (drop (suc i) (take place keys)) ≡ false = sym (came-since (suc i)) ∙ no in
+      elim (two (eqb (get_or keys place 0) (get_or keys i 0))) [
+        | inl y ↦ eqb-flip (get_or keys i 0) (get_or keys place 0) ∙ y
+        | inr n ↦ let gone : has_key (get_or keys place 0) (get_or keys i 0 ∷ drop (suc i) (take place keys)) ≡ false = rw n behind in absurd (cc (there, gone))
+      ]
+
+  -- another place comes again for this access only where it came again before
+  not-last : (i : ℕ) → i < place → i + 1 ≢ get_or before place 0 → has_key (get_or keys i 0) (drop (suc i) (take (place + 1) keys)) ≡ has_key (get_or keys i 0) (drop (suc i) (take place keys))
+  not-last i low ne = again-next i low ∙ cond-same (has_key (get_or keys i 0) (drop (suc i) (take place keys))) (eqb (get_or keys i 0) (get_or keys place 0)) (λ none. elim (two (eqb (get_or keys i 0) (get_or keys place 0))) [
+    | inl y ↦
+        let same : get_or keys i 0 ≡ get_or keys place 0 = eqb-true (get_or keys i 0) (get_or keys place 0) y in
+        let below : i < get_or before place 0 = same-below i low y in
+        let yes : nat_lt (suc i) (get_or before place 0) ≡ true = (let n : i + 1 ≢ get_or before place 0 = ne in let more : suc i < get_or before place 0 = omega (arith, below, n) in grind (arith, nat_tests)) in
+        let there : has_key (get_or keys i 0) (drop (suc i) (take place keys)) ≡ true = ap (λ (x : ℕ). has_key x (drop (suc i) (take place keys))) same ∙ (sym (came-since (suc i)) ∙ yes) in
+        absurd (cc (there, none))
+    | inr n ↦ n
+  ])
+
+  -- ---- the window's begin, moved
 
   -- past a key that comes again, and past one that does not
-  pub past-stale : (s : ℕ) → s ≤ place → get_or after s 0 ≤ place → length (distinct_keys (drop (s + 1) (take (place + 1) keys))) ≡ length (distinct_keys (drop s (take (place + 1) keys)))
-  past-stale s h old =
+  past-stale : (s : ℕ) → s ≤ place → has_key (get_or keys s 0) (drop (suc s) (take (place + 1) keys)) ≡ true → length (distinct_keys (drop (s + 1) (take (place + 1) keys))) ≡ length (distinct_keys (drop s (take (place + 1) keys)))
+  past-stale s h again =
       let e : s + 1 ≡ suc s = omega arith in
-      let low : nat_lt (get_or after s 0) (place + 1) ≡ true = grind (arith, nat_tests) in
-      let again : has_key (get_or keys s 0) (drop (suc s) (take (place + 1) keys)) ≡ true = sym (comes-again s h) ∙ low in
       rw e (sym (ap (λ l. length (distinct_keys l)) (cut-front s h) ∙ front-again (get_or keys s 0) (drop (suc s) (take (place + 1) keys)) again))
 
   past-fresh : (s : ℕ) → s ≤ place → has_key (get_or keys s 0) (drop (suc s) (take (place + 1) keys)) ≡ false → length (distinct_keys (drop (s + 1) (take (place + 1) keys))) + 1 ≡ length (distinct_keys (drop s (take (place + 1) keys)))
@@ -155,13 +237,14 @@ module _ (keys before after : List ℕ) (r : AreReuses keys before after) (place
       let m : length (distinct_keys (drop s (take (place + 1) keys))) ≡ suc (length (distinct_keys (drop (suc s) (take (place + 1) keys)))) = ap (λ l. length (distinct_keys l)) (cut-front s h) ∙ front-last (get_or keys s 0) (drop (suc s) (take (place + 1) keys)) gone in
       rw e (omega (arith, m))
 
-  pub past-live : (s : ℕ) → s ≤ place → place < get_or after s 0 → length (distinct_keys (drop (s + 1) (take (place + 1) keys))) + 1 ≡ length (distinct_keys (drop s (take (place + 1) keys)))
-  past-live s h later =
-      let no : nat_lt (get_or after s 0) (place + 1) ≡ false = grind (arith, nat_tests) in
-      past-fresh s h (sym (comes-again s h) ∙ no)
-
-  pub past-newest : length (distinct_keys (drop (place + 1) (take (place + 1) keys))) + 1 ≡ length (distinct_keys (drop place (take (place + 1) keys)))
-  past-newest = past-fresh place (omega arith) (none-behind keys place (get_or keys place 0) in_it)
+  -- past several that come again
+  past-run : (f n : ℕ) → f + n ≤ place → ((i : ℕ) → f ≤ i → i < f + n → has_key (get_or keys i 0) (drop (suc i) (take (place + 1) keys)) ≡ true) → length (distinct_keys (drop (f + n) (take (place + 1) keys))) ≡ length (distinct_keys (drop f (take (place + 1) keys)))
+  past-run f zero h again = let e : f + 0 ≡ f = omega arith in ap (λ (s : ℕ). length (distinct_keys (drop s (take (place + 1) keys)))) e
+  past-run f (suc n) h again =
+      let e : f + suc n ≡ (f + n) + 1 = omega arith in
+      ap (λ (s : ℕ). length (distinct_keys (drop s (take (place + 1) keys)))) e
+      ∙ (past-stale (f + n) (omega (arith, h)) (again (f + n) (omega arith) (omega arith))
+      ∙ past-run f n (omega (arith, h)) (λ i from below. again i from (omega (arith, below))))
 
   -- ---- one access
 
@@ -181,9 +264,6 @@ module _ (keys before after : List ℕ) (r : AreReuses keys before after) (place
   hits-next : (c : ℕ) → hits_within c (take (place + 1) keys) ≡ hits_within c (take place keys) + cond (is_within c (distance (take place keys) (get_or keys place 0))) 1 0
   hits-next c = ap (hits_within c) next-past ∙ count-snoc (is_within c) (take place keys) (get_or keys place 0)
 
-  came-since : (f : ℕ) → nat_lt f (get_or before place 0) ≡ has_key (get_or keys place 0) (drop f (take place keys))
-  came-since f = r.came place f in_it
-
   module _ (w : Window) (h : IsWindow keys place w) where
     pub hits-small : w.hits ≤ place
     hits-small =
@@ -192,8 +272,37 @@ module _ (keys before after : List ℕ) (r : AreReuses keys before after) (place
         let was : w.hits ≡ hits_within w.capacity (take place keys) = h.hits in
         omega (arith, few, l, was)
 
-    pub hit-window : w.first < get_or before place 0 → IsWindow keys (place + 1) (record { capacity = w.capacity; first = w.first; held = w.held; hits = w.hits + 1 })
-    hit-window later =
+    -- the bits of a place that hits
+    hit-bit : w.first < get_or before place 0 → (i : ℕ) → w.first ≤ i → (bit_of w.renewed.items i || eqb (get_or before place 0 - 1) i) ≡ has_key (get_or keys i 0) (drop (suc i) (take (place + 1) keys))
+    hit-bit later i from =
+        let was : bit_of w.renewed.items i ≡ has_key (get_or keys i 0) (drop (suc i) (take place keys)) = h.renewed i from in
+        let below : get_or before place 0 ≤ place = came-below in
+        elim (cases_eq (get_or before place 0 - 1) i) [
+          | inl e ↦
+              let is : i + 1 ≡ get_or before place 0 = omega (arith, e, later) in
+              let low : i < place = omega (arith, is, below) in
+              or-true (bit_of w.renewed.items i) (eqb (get_or before place 0 - 1) i) (eq-eqb (get_or before place 0 - 1) i e)
+              ∙ sym (again-next i low ∙ cond-either (has_key (get_or keys i 0) (drop (suc i) (take place keys))) (eqb (get_or keys i 0) (get_or keys place 0)) (last-same i is))
+          | inr d ↦
+              let ne : i + 1 ≢ get_or before place 0 = (λ e. d (omega (arith, e))) in
+              let same : has_key (get_or keys i 0) (drop (suc i) (take (place + 1) keys)) ≡ has_key (get_or keys i 0) (drop (suc i) (take place keys)) = elim (cases_lt i place) [
+                | inl low ↦ not-last i low ne
+                | inr high ↦ never-next i (omega (arith, high))
+              ] in
+              or-false (bit_of w.renewed.items i) (eqb (get_or before place 0 - 1) i) (ne_eqb (get_or before place 0 - 1) i d) ∙ (was ∙ sym same)
+        ]
+
+    -- and those of one that misses
+    missed-bit : get_or before place 0 ≤ w.first → (i : ℕ) → w.first ≤ i → bit_of w.renewed.items i ≡ has_key (get_or keys i 0) (drop (suc i) (take (place + 1) keys))
+    missed-bit early i from =
+        let ne : i + 1 ≢ get_or before place 0 = (λ e. omega (arith, e, early, from)) in
+        h.renewed i from ∙ sym (elim (cases_lt i place) [
+          | inl low ↦ not-last i low ne
+          | inr high ↦ never-next i (omega (arith, high))
+        ])
+
+    pub hit-window : (v : Window) → w.first < get_or before place 0 → v.capacity ≡ w.capacity → v.first ≡ w.first → v.held ≡ w.held → v.hits ≡ w.hits + 1 → length v.renewed.items ≡ length w.renewed.items → ((i : ℕ) → bit_of v.renewed.items i ≡ (bit_of w.renewed.items i || eqb (get_or before place 0 - 1) i)) → IsWindow keys (place + 1) v
+    hit-window v later capacity first held hits size sets =
         let low : nat_lt w.first (get_or before place 0) ≡ true = grind (arith, nat_tests) in
         let came : has_key (get_or keys place 0) (drop w.first (take place keys)) ≡ true = sym (came-since w.first) ∙ low in
         let fits : length (distinct_keys (drop w.first (take place keys))) ≤ w.capacity = omega (arith, h.held, h.fits) in
@@ -201,12 +310,16 @@ module _ (keys before after : List ℕ) (r : AreReuses keys before after) (place
         let one : cond {A = ℕ} (is_within w.capacity (distance (take place keys) (get_or keys place 0))) 1 0 ≡ 1 = ap (λ b. cond b 1 0) yes in
         let more : hits_within w.capacity (take (place + 1) keys) ≡ hits_within w.capacity (take place keys) + cond (is_within w.capacity (distance (take place keys) (get_or keys place 0))) 1 0 = hits-next w.capacity in
         let was : w.hits ≡ hits_within w.capacity (take place keys) = h.hits in
+        let counted : v.hits ≡ hits_within w.capacity (take (place + 1) keys) = omega (arith, one, more, was, hits) in
         record {
-          begun = omega (arith, h.begun);
-          held = h.held ∙ sym (same-held w.first h.begun came);
-          fits = h.fits;
-          full = h.full;
-          hits = omega (arith, one, more, was);
+          begun = omega (arith, h.begun, first);
+          held = held ∙ (h.held ∙ (sym (same-held w.first h.begun came) ∙ ap (λ (f : ℕ). length (distinct_keys (drop f (take (place + 1) keys)))) (sym first)));
+          fits = omega (arith, h.fits, held, capacity);
+          full = λ some. held ∙ (h.full (omega (arith, some, first)) ∙ sym capacity);
+          hits = counted ∙ ap (λ (c : ℕ). hits_within c (take (place + 1) keys)) (sym capacity);
+          room = omega (arith, h.room, size);
+          few = omega (arith, h.few, size);
+          renewed = λ i from. sets i ∙ hit-bit later i (omega (arith, from, first));
         }
 
     missed : get_or before place 0 ≤ w.first → has_key (get_or keys place 0) (drop w.first (take place keys)) ≡ false
@@ -220,7 +333,7 @@ module _ (keys before after : List ℕ) (r : AreReuses keys before after) (place
         let was : w.hits ≡ hits_within w.capacity (take place keys) = h.hits in
         omega (arith, none, more, was)
 
-    pub filled-window : get_or before place 0 ≤ w.first → w.held < w.capacity → IsWindow keys (place + 1) (record { capacity = w.capacity; first = w.first; held = w.held + 1; hits = w.hits })
+    pub filled-window : get_or before place 0 ≤ w.first → w.held < w.capacity → IsWindow keys (place + 1) (record { capacity = w.capacity; first = w.first; held = w.held + 1; hits = w.hits; renewed = w.renewed })
     filled-window early room =
         let more : length (distinct_keys (drop w.first (take (place + 1) keys))) ≡ suc (length (distinct_keys (drop w.first (take place keys)))) = more-held w.first h.begun (missed early) in
         let was : w.held ≡ length (distinct_keys (drop w.first (take place keys))) = h.held in
@@ -230,30 +343,62 @@ module _ (keys before after : List ℕ) (r : AreReuses keys before after) (place
           fits = omega (arith, room);
           full = λ some. let all : w.held ≡ w.capacity = h.full some in absurd (omega (arith, all, room));
           hits = same-hits early;
+          room = h.room;
+          few = h.few;
+          renewed = missed-bit early;
         }
 
-    pub moved-window : (to : ℕ) → get_or before place 0 ≤ w.first → w.capacity ≤ w.held → to ≤ place + 1 → length (distinct_keys (drop to (take (place + 1) keys))) + 1 ≡ length (distinct_keys (drop w.first (take (place + 1) keys))) → IsWindow keys (place + 1) (record { capacity = w.capacity; first = to; held = w.held; hits = w.hits })
-    moved-window to early crowded within one =
-        let more : length (distinct_keys (drop w.first (take (place + 1) keys))) ≡ suc (length (distinct_keys (drop w.first (take place keys)))) = more-held w.first h.begun (missed early) in
-        let was : w.held ≡ length (distinct_keys (drop w.first (take place keys))) = h.held in
-        let fits : w.held ≤ w.capacity = h.fits in
-        record {
-          begun = within;
-          held = omega (arith, more, was, one);
-          fits = h.fits;
-          full = λ some. omega (arith, fits, crowded);
-          hits = same-hits early;
-        }
+    -- ---- the oldest key leaves
+    module _ (early : get_or before place 0 ≤ w.first) (crowded : w.capacity ≤ w.held) (o : ℕ) (c : IsFirstClear w.renewed.items w.first o) where
+      pub oldest-low : o ≤ place
+      oldest-low =
+          elim (cases_lt place o) [
+            | inl less ↦
+                let yes : bit_of w.renewed.items place ≡ true = c.set place h.begun less in
+                let no : bit_of w.renewed.items place ≡ false = missed-bit early place h.begun ∙ none-behind keys place (get_or keys place 0) in_it in
+                absurd (cc (yes, no))
+            | inr more ↦ omega (arith, more)
+          ]
+
+      one-less : length (distinct_keys (drop (o + 1) (take (place + 1) keys))) + 1 ≡ length (distinct_keys (drop w.first (take (place + 1) keys)))
+      one-less =
+          let low : o ≤ place = oldest-low in
+          let e : w.first + (o - w.first) ≡ o = omega (arith, c.behind) in
+          let gone : has_key (get_or keys o 0) (drop (suc o) (take (place + 1) keys)) ≡ false = sym (missed-bit early o c.behind) ∙ c.clear in
+          let run : length (distinct_keys (drop (w.first + (o - w.first)) (take (place + 1) keys))) ≡ length (distinct_keys (drop w.first (take (place + 1) keys))) =
+          past-run w.first (o - w.first) (omega (arith, e, low)) (λ i from below. sym (missed-bit early i from) ∙ c.set i from (omega (arith, e, below))) in
+          past-fresh o low gone ∙ (ap (λ (s : ℕ). length (distinct_keys (drop s (take (place + 1) keys)))) (sym e) ∙ run)
+
+      pub moved-window : IsWindow keys (place + 1) (record { capacity = w.capacity; first = o + 1; held = w.held; hits = w.hits; renewed = w.renewed })
+      moved-window =
+          let more : length (distinct_keys (drop w.first (take (place + 1) keys))) ≡ suc (length (distinct_keys (drop w.first (take place keys)))) = more-held w.first h.begun (missed early) in
+          let one : length (distinct_keys (drop (o + 1) (take (place + 1) keys))) + 1 ≡ length (distinct_keys (drop w.first (take (place + 1) keys))) = one-less in
+          let was : w.held ≡ length (distinct_keys (drop w.first (take place keys))) = h.held in
+          let fits : w.held ≤ w.capacity = h.fits in
+          let low : o ≤ place = oldest-low in
+          record {
+            begun = omega (arith, low);
+            held = omega (arith, more, was, one);
+            fits = h.fits;
+            full = λ some. omega (arith, fits, crowded);
+            hits = same-hits early;
+            room = h.room;
+            few = h.few;
+            renewed = λ i from. missed-bit early i (omega (arith, from, c.behind));
+          }
 
 -- ---- the whole trace
 
-pub empty-window : (keys : List ℕ) (c : ℕ) → IsWindow keys 0 (record { capacity = c; first = 0; held = 0; hits = 0 })
-empty-window keys c = record {
-  begun = omega arith;
-  held = refl;
-  fits = omega arith;
-  full = λ some. absurd (omega (arith, some));
-  hits = refl;
+pub empty-window : (keys : List ℕ) (w : Window) → w.first ≡ 0 → w.held ≡ 0 → w.hits ≡ 0 → length keys ≤ 64 * length w.renewed.items → length w.renewed.items ≤ MAX_ACCESSES → ((i : ℕ) → bit_of w.renewed.items i ≡ false) → IsWindow keys 0 w
+empty-window keys w first held hits room few none = record {
+  begun = omega (arith, first);
+  held = held ∙ sym (ap (λ (f : ℕ). length (distinct_keys (drop f (take 0 keys)))) first);
+  fits = omega (arith, held);
+  full = λ some. absurd (omega (arith, some, first));
+  hits = hits;
+  room = room;
+  few = few;
+  renewed = λ i from. none i;
 }
 
 module _ (keys : List ℕ) (w : Window) (place : ℕ) (all : length keys ≤ place) (h : IsWindow keys place w) where

@@ -1,31 +1,39 @@
--- The places of each key's accesses before and after one, and the window of the trace whose keys Lru holds.
-use Rattle.std.specs.Prelude.{◌≡◌, ℕ, suc, ◌-◌, ◌<◌, ◌≤◌, nat_lt, List, length, take, drop, slice_index}
+-- The place where the key of each access came last, and the window of the trace whose keys Lru holds.
+use Rattle.std.specs.Prelude.{◌≡◌, ℕ, suc, ◌-◌, ◌*◌, ◌<◌, ◌≤◌, nat_lt, true, false, List, length, take, drop}
+use Rattle.std.specs.Prelude.{slice_index}
 use Rattle.step_record.specs.declared.limits.TheConstants.{MAX_ACCESSES}
 use Rattle.step_record.specs.Keys.{has_key}
 use Rattle.step_record.specs.declared.stats.Stats.{Stats}
+use Rattle.bits_and_lists.specs.Bits.{bit_of}
 use Rattle.policies.specs.Lru.{distinct_keys}
 use Rattle.stack_distances.specs.Distances.{hits_within}
 use Rattle.stack_distances.specs.declared.window.Window.{Window}
 
--- For each access i one number is above f exactly where its key came at the place f or later, and before i. Another is
--- below j exactly where its key comes again before the place j.
-pub record AreReuses (keys before after : List ℕ) : Type 0 where
+-- For each access i one number is above f exactly where its key came at the place f or later, and before i.
+pub record AreReuses (keys before : List ℕ) : Type 0 where
   pub few : length keys ≤ MAX_ACCESSES
   pub befores : length before ≡ length keys
-  pub afters : length after ≡ length keys
   pub came : (i f : ℕ) → i < length keys →
       nat_lt f (slice_index before i) ≡ has_key (slice_index keys i) (drop f (take i keys))
-  pub comes : (i j : ℕ) → i < j → j ≤ length keys →
-      nat_lt (slice_index after i) j ≡ has_key (slice_index keys i) (drop (suc i) (take j keys))
 
 -- The window begins at a place of the trace and ends before another one. It has as many distinct keys as fit, and no
--- fewer than that unless it begins where the trace does.
+-- fewer than that unless it begins where the trace does. Of each access in it one bit says whether its key came again.
 pub record IsWindow (keys : List ℕ) (place : ℕ) (w : Window) : Type 0 where
   pub begun : w.first ≤ place
   pub held : w.held ≡ length (distinct_keys (drop w.first (take place keys)))
   pub fits : w.held ≤ w.capacity
   pub full : 1 ≤ w.first → w.held ≡ w.capacity
   pub hits : w.hits ≡ hits_within w.capacity (take place keys)
+  pub room : length keys ≤ 64 * length w.renewed.items
+  pub few : length w.renewed.items ≤ MAX_ACCESSES
+  pub renewed : (i : ℕ) → w.first ≤ i →
+      bit_of w.renewed.items i ≡ has_key (slice_index keys i) (drop (suc i) (take place keys))
+
+-- The bits from one place up to another are set, and that of the other is not.
+pub record IsFirstClear (words : List ℕ) (from place : ℕ) : Type 0 where
+  pub behind : from ≤ place
+  pub clear : bit_of words place ≡ false
+  pub set : (i : ℕ) → from ≤ i → i < place → bit_of words i ≡ true
 
 -- what was counted: each miss brought a key in, and all but those of the window were evicted
 abbrev pub stats_in : Window → ℕ → Stats

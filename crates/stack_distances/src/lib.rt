@@ -8,12 +8,12 @@
 //! the number of accesses, a hit ratio curve, and its complement the miss ratio curve.
 //!
 //! At a few capacities a pass for each is shorter: Lru holds the keys of a window of the trace that ends at the latest
-//! access, and begins further on where a miss finds it full. With the places of each key's accesses found once
-//! ([`Reuses`]), such a pass looks no key up and writes nothing.
+//! access, and begins further on where a miss finds it full. With the place of each key's last access found once
+//! ([`Reuses`]), such a pass looks no key up, and writes a bit for each hit.
 //!
 //! The crate promises that an access is a hit of Lru exactly where its distance is at most the capacity, and that a
 //! [`Curve`] and the [`Reuses`] of a trace give, at each capacity, the statistics that the definition of Lru gives over
-//! that trace. Only making a curve or the reuses asks for memory.
+//! that trace. Making a curve or the reuses asks for memory, and so does a pass over the reuses: a bit for each access.
 #![tactic(auto)]
 
 mod counts;

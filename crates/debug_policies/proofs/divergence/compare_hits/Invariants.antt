@@ -1,9 +1,10 @@
 use Rattle.std.proofs.Common.{take}
+use Rattle.step_record.specs.declared.job.Job.{Job}
 use Rattle.policies.specs.AnyPolicy.{HasAccessed, outcomes_on}
 use Rattle.debug_policies.specs.Part.{IsNoted}
 use Rattle.debug_policies.proofs.divergence.compare_hits.Given as goal
 
 abbrev pub invariant-loop-i : goal.invariant-loop-i
 invariant-loop-i l =
-    HasAccessed l._job l.trace (take l.i l.trace) l.cache
-    × IsNoted l.noted (outcomes_on l._job l.trace) l.start l.i
+    ((j : Job) → HasAccessed j l.trace (take l.start l.trace) l.initial.cache → HasAccessed j l.trace (take l.i l.trace) l.cache)
+    × ((j : Job) → HasAccessed j l.trace (take l.start l.trace) l.initial.cache → IsNoted l.noted (outcomes_on j l.trace) l.start l.i)

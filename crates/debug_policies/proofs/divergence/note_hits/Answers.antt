@@ -1,8 +1,11 @@
-use Rattle.std.proofs.Common.{◌≡◌, ◌∙◌, ◌-◌, ◌<◌, ◌≤◌, length, set, arith}
+use Rattle.std.proofs.Common.{◌≡◌, ℕ, ◌∙◌, ◌-◌, ◌<◌, ◌≤◌, length, take, set, subst, arith}
 use Rattle.std.proofs.Math.ListN.{length-set}
-use Rattle.policies.specs.AnyPolicy.{outcomes_on}
+use Rattle.policies.specs.AnyPolicy.{HasAccessed, outcomes_on}
 use Rattle.debug_policies.proofs.Walked.{noted-more}
 use Rattle.debug_policies.proofs.divergence.note_hits.Goals as goal
+
+pub hit_at-requires-clause-stands : goal.hit_at-requires-clause-stands
+hit_at-requires-clause-stands c = (let some = c.requires.stands in record { job = some.job; stands = c.loop-i.invariant.0 some.job some.stands })
 
 pub loop-i-preserved : goal.loop-i-preserved
 loop-i-preserved c =
@@ -12,7 +15,12 @@ loop-i-preserved c =
     let size = c.loop-i.invariant.2 in
     let within : i - c.args.start < length c.loop-i.noted = omega (arith, c.requires.room, size, from, c.loop-i-test.true) in
     let long : length (set c.loop-i.noted (i - c.args.start) hit) ≡ length c.loop-i.noted = length-set c.loop-i.noted _ _ in (
-      c.in_ok-hit.ensures.stands,
-      noted-more c.loop-i.noted (outcomes_on c.args._job.now c.args.trace.now) c.args.start i hit from within c.in_ok-hit.ensures.hit c.loop-i.invariant.1,
+      (λ j s. c.in_ok-hit.ensures.stands j (c.loop-i.invariant.0 j s)),
+      (λ j s. noted-more c.loop-i.noted (outcomes_on j c.args.trace.now) c.args.start i hit from within (c.in_ok-hit.ensures.hit j (c.loop-i.invariant.0 j s)) (c.loop-i.invariant.1 j s)),
       long ∙ size,
     )
+
+pub returns-clause-stands : goal.returns-clause-stands
+returns-clause-stands c = λ j s.
+    let all : c.loop-i.i ≡ c.args.end = omega (arith, c.requires.order, c.loop-i.auto.i, c.loop-i-test.false) in
+    subst (λ (n : ℕ). HasAccessed j c.args.trace.now (take n c.args.trace.now) c.loop-i.cache) all (c.loop-i.invariant.0 j s)

@@ -4,39 +4,54 @@ use Rattle.debug_policies.specs.Part.{IsNoted, IsFirstOther}
 use Rattle.debug_policies.proofs.Walked.{agree-more, parts-first, agree-everywhere}
 use Rattle.debug_policies.proofs.divergence.walk_both.Goals as goal
 
-pub returns-in-Some : goal.returns-in-Some
-returns-in-Some c =
+pub note_hits-requires-clause-stands : goal.note_hits-requires-clause-stands
+note_hits-requires-clause-stands c = (let some = c.requires.one in record { job = some.job; stands = c.stretches.invariant.0 some.job some.stands })
+
+pub compare_hits-requires-clause-stands : goal.compare_hits-requires-clause-stands
+compare_hits-requires-clause-stands c = (let some = c.requires.other in record { job = some.job; stands = c.stretches.invariant.1 some.job some.stands })
+
+pub overflow_add-result : goal.overflow_add-result
+overflow_add-result c =
     let trace = c.args.trace.now in
-    let outcomes = outcomes_on c.args.second.now trace in
+    let k = c.requires.other.job in
+    let found = c.in_ok-place.ensures.part k (c.stretches.invariant.1 k c.requires.other.stands) in
+    let part = subst (λ r. IfSome r (IsFirstOther c.note_hits.new.noted (outcomes_on k trace) c.stretches.start c.min-end.result)) c.in-Some.is found in
+    let below = part.below in
+    let least = c.min-end.ensures in
+    omega (arith, below, least, c.keys-len.ensures.few)
+
+pub returns-in-Some : goal.returns-in-Some
+returns-in-Some c = λ j k s t.
+    let trace = c.args.trace.now in
+    let outcomes = outcomes_on k trace in
     let noted = c.note_hits.new.noted in
     let start = c.stretches.start in
     let end = c.min-end.result in
-    let part = subst (λ r. IfSome r (IsFirstOther noted outcomes start end)) c.in-Some.is c.in_ok-place.ensures.part in
-    parts-first noted (outcomes_on c.args.first.now trace) outcomes start end c.in-Some.place c.stretches.invariant.2
-    c.in_ok-note_hits.ensures.noted part
+    let part = subst (λ r. IfSome r (IsFirstOther noted outcomes start end)) c.in-Some.is (c.in_ok-place.ensures.part k (c.stretches.invariant.1 k t)) in
+    parts-first noted (outcomes_on j trace) outcomes start end c.in-Some.place (c.stretches.invariant.2 j k s t)
+    (c.in_ok-note_hits.ensures.noted j (c.stretches.invariant.0 j s)) part
 
 pub stretches-preserved : goal.stretches-preserved
 stretches-preserved c =
     let trace = c.args.trace.now in
-    let outcomes = outcomes_on c.args.second.now trace in
     let noted = c.note_hits.new.noted in
     let start = c.stretches.start in
     let end = c.min-end.result in
-    let stands = subst (λ r. IfNone r (HasAccessed c.args.second.now trace (take end trace) c.compare_hits.new.cache)) c.in-None.is c.in_ok-place.ensures.stands in
-    let agree = subst (λ r. IfNone r (IsNoted noted outcomes start end)) c.in-None.is c.in_ok-place.ensures.agree in
     let long : length c.keys-len.result.now ≡ length trace = ap length c.keys-len.ensures.keys in
     let least = c.min-end.ensures in (
-      c.in_ok-note_hits.ensures.stands,
-      stands,
-      agree-more noted (outcomes_on c.args.first.now trace) outcomes start end c.stretches.invariant.2 c.in_ok-note_hits.ensures.noted agree,
+      (λ j s. c.in_ok-note_hits.ensures.stands j (c.stretches.invariant.0 j s)),
+      (λ k t. subst (λ r. IfNone r (HasAccessed k trace (take end trace) c.compare_hits.new.cache)) c.in-None.is (c.in_ok-place.ensures.stands k (c.stretches.invariant.1 k t))),
+      (λ j k s t.
+          let agree = subst (λ r. IfNone r (IsNoted noted (outcomes_on k trace) start end)) c.in-None.is (c.in_ok-place.ensures.agree k (c.stretches.invariant.1 k t)) in
+          agree-more noted (outcomes_on j trace) (outcomes_on k trace) start end (c.stretches.invariant.2 j k s t) (c.in_ok-note_hits.ensures.noted j (c.stretches.invariant.0 j s)) agree),
       omega (arith, long, least),
       c.note_hits.ensures.room ∙ c.stretches.invariant.4,
     )
 
 pub returns : goal.returns
-returns c =
+returns c = λ j k s t.
     let trace = c.args.trace.now in
     let long : length c.keys-len.result.now ≡ length trace = ap length c.keys-len.ensures.keys in
     let end : length trace ≡ c.stretches.start = omega (arith, long, c.stretches.invariant.3, c.stretches-test.false) in
-    agree-everywhere (outcomes_on c.args.first.now trace) (outcomes_on c.args.second.now trace) c.stretches.start
-    (c.any_covers_trace.ensures c.args.first.now trace ∙ end) (c.any_covers_trace.ensures c.args.second.now trace ∙ end) c.stretches.invariant.2
+    agree-everywhere (outcomes_on j trace) (outcomes_on k trace) c.stretches.start
+    (c.any_covers_trace.ensures j trace ∙ end) (c.any_covers_trace.ensures k trace ∙ end) (c.stretches.invariant.2 j k s t)

@@ -1,13 +1,14 @@
-use Rattle.std.proofs.Common.{◌≡◌, ◌≤◌, ◌-◌, ◌+◌, take, length}
+use Rattle.std.proofs.Common.{◌≡◌, ◌≤◌, ◌-◌, ◌+◌, [], take, length}
+use Rattle.step_record.specs.declared.job.Job.{Job}
 use Rattle.policies.specs.AnyPolicy.{HasAccessed, outcomes_on}
 use Rattle.debug_policies.specs.Part.{AgreeBelow}
 use Rattle.debug_policies.proofs.divergence.walk_both.Given as goal
 
 abbrev pub invariant-stretches : goal.invariant-stretches
 invariant-stretches l =
-    HasAccessed l.first l.trace (take l.start l.trace) l.one
-    × HasAccessed l.second l.trace (take l.start l.trace) l.other
-    × AgreeBelow (l.start + 1) (outcomes_on l.first l.trace) (outcomes_on l.second l.trace)
+    ((j : Job) → HasAccessed j l.trace [] l.initial.one → HasAccessed j l.trace (take l.start l.trace) l.one)
+    × ((j : Job) → HasAccessed j l.trace [] l.initial.other → HasAccessed j l.trace (take l.start l.trace) l.other)
+    × ((j k : Job) → HasAccessed j l.trace [] l.initial.one → HasAccessed k l.trace [] l.initial.other → AgreeBelow (l.start + 1) (outcomes_on j l.trace) (outcomes_on k l.trace))
     × (l.start ≤ length l.trace)
     × (length l.noted ≡ 1024)
 

@@ -1,4 +1,4 @@
-use Rattle.std.proofs.Common.{◌≡◌, [], ◌∙◌, ap, sym, append-nil, subst, IfSome}
+use Rattle.std.proofs.Common.{◌≡◌, ℕ, List, [], ◌∙◌, sym, append-nil, subst, IfOk, IfSome}
 use Rattle.policies.specs.AnyPolicy.{HasAccessed}
 use Rattle.stack_distances.specs.Curve.{curve_of}
 use Rattle.policy_actors.specs.Reports.{report_on}
@@ -27,7 +27,7 @@ pub returns-2 : goal.returns-2
 returns-2 g c =
     let input = c.args.input.now in
     let same = subst (λ o. IfSome o (λ r. r.now ≡ input.trace.now)) c.in-Some-reuses.is input.noted in
-    c.window_report.ensures ∙ ap (report_on c.args.job.now) same
+    subst (λ (trace : List ℕ). IfOk c.window_report.result (λ r. r ≡ report_on c.args.job.now trace)) same c.window_report.ensures
 
 pub returns-3 : goal.returns-3
 returns-3 g c =

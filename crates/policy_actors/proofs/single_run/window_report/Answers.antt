@@ -7,4 +7,4 @@ pub stats-requires : goal.stats-requires
 stats-requires c = has-room c.args.job.now.config c.requires.checked
 
 pub returns : goal.returns
-returns c = c.of.ensures ∙ ap (report_of c.args.job.now) (c.stats.ensures c.args.job.now c.requires.lru refl)
+returns c = c.of.ensures ∙ ap (report_of c.args.job.now) (c.in_ok-stats.ensures c.args.job.now c.requires.lru refl)

@@ -15,7 +15,7 @@ found-last c = sym (c.loop-place.invariant.last (get_or c.keys-keys.result.now c
 earlier-low : (c : In-Some) → c.in-Some.earlier < c.loop-place.place
 earlier-low c =
     let inv = c.loop-place.invariant in
-    noted-low c.keys-keys.result.now c.loop-place.before.items c.loop-place.after.items c.loop-place.place (in-keys c) inv.noted c.in-Some.earlier (found-last c) inv.befores inv.afters
+    noted-low c.keys-keys.result.now c.loop-place.before.items c.loop-place.place (in-keys c) inv.noted c.in-Some.earlier (found-last c) inv.befores
 
 pub loop-place-preserved-in_default : goal.loop-place-preserved-in_default
 loop-place-preserved-in_default c =
@@ -26,9 +26,8 @@ loop-place-preserved-in_default c =
       same = inv.same;
       few = inv.few;
       befores = inv.befores;
-      afters = inv.afters;
       last = places-next c.keys-keys.result.now c.loop-place.place (place_of c.loop-place.last) (place_of c.put.new.self) in_it inv.last c.in_ok-earlier.ensures.updates;
-      noted = noted-first c.keys-keys.result.now c.loop-place.before.items c.loop-place.after.items c.loop-place.place in_it inv.noted none;
+      noted = noted-first c.keys-keys.result.now c.loop-place.before.items c.loop-place.place in_it inv.noted none;
     }
 
 pub overflow_add-earlier : goal.overflow_add-earlier
@@ -37,27 +36,18 @@ overflow_add-earlier c =
     let i = in-keys c in
     omega (arith, low, i, c.loop-place.invariant.few)
 
-pub index_mut-requires-in-loop-place : goal.index_mut-requires-in-loop-place
-index_mut-requires-in-loop-place c =
-    let at = (goal.at.index_mut-requires-in-loop-place c).In-Some in
-    let low = earlier-low at in
-    let i = in-keys at in
-    omega (arith, low, i, c.loop-place.invariant.afters)
-
 pub loop-place-preserved : goal.loop-place-preserved
 loop-place-preserved c =
     let at = (goal.at.loop-place-preserved c).In-Some in
     let inv = c.loop-place.invariant in
     let keys = c.keys-keys.result.now in
     let before = c.loop-place.before.items in
-    let after = c.loop-place.after.items in
     let place = c.loop-place.place in
     let earlier = c.in-Some.earlier in
     record {
       same = inv.same;
       few = inv.few;
       befores = length-set before place (earlier + 1) ∙ inv.befores;
-      afters = length-set after earlier place ∙ inv.afters;
       last = places-next keys place (place_of c.loop-place.last) (place_of c.put.new.self) (in-keys at) inv.last c.in_ok-earlier.ensures.updates;
-      noted = noted-again keys before after place (in-keys at) inv.noted earlier (found-last at) inv.befores inv.afters;
+      noted = noted-again keys before place (in-keys at) inv.noted earlier (found-last at) inv.befores;
     }

@@ -10,7 +10,6 @@ invariant-loop-place l = record {
   same : l.keys ≡ l.trace;
   few : length l.keys ≤ MAX_ACCESSES;
   befores : length l.before.items ≡ length l.keys;
-  afters : length l.after.items ≡ length l.keys;
   last : (k : ℕ) → place_of l.last k ≡ last_place k (take l.place l.keys);
-  noted : IsNoted l.keys l.place l.before.items l.after.items;
+  noted : IsNoted l.keys l.place l.before.items;
 }

@@ -1,0 +1,21 @@
+use Rattle.std.proofs.Common.{refl, arith}
+use Rattle.stack_distances.proofs.Clear.{found, none-found, none-past}
+use Rattle.stack_distances.proofs.window.first_clear.Goals as goal
+
+pub returns-then-clear-ne0 : goal.returns-then-clear-ne0
+returns-then-clear-ne0 c =
+    let ws = c.args.words.now in
+    found ws c.args.from c.words.at _ refl (omega arith) c.words.invariant.0 c.words.invariant.1 (omega (arith, c.if-clear-ne0.true))
+
+pub words-preserved : goal.words-preserved
+words-preserved c = (
+  omega (arith, c.words.invariant.0),
+  none-found c.args.words.now c.args.from c.words.at _ refl (omega arith) c.words.invariant.0 c.words.invariant.1 (omega (arith, c.if-clear-ne0.false)),
+)
+
+pub returns : goal.returns
+returns c = record {
+  behind = c.words.invariant.0;
+  clear = none-past c.args.words.now c.words.at (omega (arith, c.words-test.false));
+  set = c.words.invariant.1;
+}
