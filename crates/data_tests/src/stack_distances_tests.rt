@@ -34,7 +34,7 @@ fn compare(rt: &impl Abort, alloc: Global, keys: Vec<Key>, end: u32) -> Result<(
     for capacity in 1..end {
         let wanted = one_by_one(rt, alloc, capacity, &trace)?;
         assert_equal(rt, curve.stats(capacity), wanted);
-        assert_equal(rt, reuses.stats(capacity), wanted);
+        assert_equal(rt, reuses.stats(alloc, capacity)?, wanted);
     }
     Ok(())
 }
@@ -66,8 +66,8 @@ fn an_empty_trace_has_no_hits(rt: HostRuntime) -> Result<(), Fail> {
 fn an_empty_trace_has_no_reuses(rt: HostRuntime) -> Result<(), Fail> {
     let trace = Trace::new(Vec::new(rt.alloc()));
     let reuses = Reuses::of_trace(rt.alloc(), &trace)?;
-    assert_equal(&rt, reuses.stats(1), Stats::NONE);
-    assert_equal(&rt, reuses.stats(1 << 20), Stats::NONE);
+    assert_equal(&rt, reuses.stats(rt.alloc(), 1)?, Stats::NONE);
+    assert_equal(&rt, reuses.stats(rt.alloc(), 1 << 20)?, Stats::NONE);
     Ok(())
 }
 
@@ -101,7 +101,8 @@ fn the_reuses_of_a_short_trace(rt: HostRuntime) -> Result<(), Fail> {
     let reuses = Reuses::of_trace(rt.alloc(), &trace)?;
     for (capacity, hits, misses, evictions) in SHORT_COUNTS {
         assert!(rt; capacity >= 1);
-        assert_short(&rt, reuses.stats(capacity), (hits, misses, evictions));
+        let stats = reuses.stats(rt.alloc(), capacity)?;
+        assert_short(&rt, stats, (hits, misses, evictions));
     }
     Ok(())
 }

@@ -14,8 +14,8 @@ use step_record::{Policy, Stats, Trace};
 /// A trace, with the place of the last access to its key before each access: 4 bytes an access.
 ///
 /// It is found once, and the statistics of Lru at any capacity take a pass over these places then, in which no key is
-/// looked up. Lru holds the keys of a window of the trace, which ends at the latest access: an access is a hit where its
-/// key came in the window. A pass notes that by a bit at the access where the key came last. Where a miss finds the
+/// looked up. Lru holds the keys of a window of the trace, which ends at the latest access: an access is a hit where
+/// its key came in the window. A pass notes that by a bit at the access where the key came last. Where a miss finds the
 /// cache full, the window's first key whose bit is not set leaves, and the window begins behind that one.
 #[derive(Drop)]
 pub struct Reuses<'a> {
@@ -53,8 +53,8 @@ impl<'a> Reuses<'a> {
     }
 
     /// The statistics of Lru at a capacity, those of its definition over the trace: what a cache of Lru of this
-    /// capacity counts, with any configuration. It takes a pass over the trace, and a bit for each access meanwhile. The
-    /// only error is out of memory.
+    /// capacity counts, with any configuration. It takes a pass over the trace, and a bit for each access meanwhile.
+    /// The only error is out of memory.
     pub fn stats(&self, alloc: Global, capacity: u32) -> Result<Stats, AllocError>
         requires { 1 ≤ capacity }
         ensures { IfOk result (λ s. (j : Job) → j.policy ≡ Policy.Lru → j.config.capacity ≡ capacity
