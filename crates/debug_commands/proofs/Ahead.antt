@@ -5,7 +5,7 @@ use Rattle.std.proofs.lemmas.Bool.{cond-true, cond-false, eqb-true, lt-ltb, le-l
 use Rattle.std.proofs.lemmas.List.{append-nil}
 use Rattle.std.proofs.lemmas.List.Elements.{All-head, All-tail, All-push}
 use Rattle.std.proofs.lemmas.List.Splits.{slice_split-cons_no}
-use Rattle.std.specs.Io.KnownBytes.{Appends, Consumes, IsAtEnd}
+use Rattle.std.specs.Io.KnownBytes.{Appends, Consumes, IsAtEnd, Keeps}
 use Rattle.std.specs.List.{onto_first}
 use Rattle.std.specs.Prelude.{IfSome}
 use Rattle.debug_commands.specs.AnswerText.{IsAnswer}
@@ -274,6 +274,13 @@ pub said_is : {u t : TimelineData} {d : Dialect} {slice l : List ℕ} {line : In
     → line ≡ command_line_of t.dialect l
 said_is {u} {t} {d} {slice} {l} same dialect is said =
     said ∙ ap (λ x. command_line_of x slice) (dialect ∙ ap (λ (x : TimelineData). x.dialect) same) ∙ ap (command_line_of t.dialect) is
+
+-- What was written before a flush is what the output got.
+pub flushed : (old mid new : Option (List ℕ)) (bytes : List ℕ) → Appends old mid bytes → Keeps mid new → Appends old new bytes
+flushed None mid new bytes a k = tt
+flushed (Some xs) None new bytes a k = absurd a
+flushed (Some xs) (Some ys) None bytes a k = absurd k
+flushed (Some xs) (Some ys) (Some zs) bytes a k = k ∙ a
 
 -- the line as it was read from the buffer, and its answer, are those of the timeline at the start
 pub a_round : {t u : TimelineData} {first : ℕ} {p : TimelinePlace} {room less : ℕ} {given left had has : Option (List ℕ)} {fed : Bool} {l slice before text shown : List ℕ}

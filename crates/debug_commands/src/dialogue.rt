@@ -1,6 +1,6 @@
 //! The reading and answering of commands, a line at a time.
 ghost use Rattle.std.specs.Prelude.{◌≡◌, ◌+◌, ◌++◌, ℕ, [], Ok, Err, IfOk, IfSome, OnOk, length, true, false};
-ghost use Rattle.std.specs.Io.KnownBytes.{Appends, Consumes, IsAtEnd};
+ghost use Rattle.std.specs.Io.KnownBytes.{Consumes, IsAtEnd};
 ghost use Rattle.debug_commands.specs.Dialogue.{dialogue_of, is_quit, WritesDialogue};
 ghost use Rattle.debug_commands.specs.InputBytes.{feed, IsTooLarge};
 ghost use Rattle.text_lines.specs.Feeds.{HasNoFeed};
@@ -13,7 +13,7 @@ use crate::grammar;
 use crate::timeline::Timeline;
 use std::alloc::Global;
 use std::io::{Read, Write};
-use streams::{Patience, WriteAllFault, flush, read_some, write_some};
+use streams::{Patience, flush, read_some, write_some};
 
 /// As many bytes of commands as are read at most, line feeds included: 2^20.
 pub const MAX_COMMAND_BYTES: usize = 1 << 20;
@@ -56,7 +56,8 @@ pub fn answer_commands<T: Timeline, R: Read, W: Write>(
         let fed = read_line(input, &mut line, &mut room, &mut reads)?;
         let said = grammar::line(timeline.dialect(), line.as_slice());
         answer(alloc, timeline, &mut breaks, said, &mut text)?;
-        send(out, text.as_slice(), &mut writes)?;
+        write_some(out, text.as_slice(), &mut writes)?;
+        flush(out, &mut writes)?;
         if !fed {
             return Ok(());
         }
@@ -107,12 +108,4 @@ fn is_quit(line: InputLine) -> bool
     ensures { result ≡ is_quit line }
 {
     matches!(line, InputLine::Known(Command::Quit))
-}
-
-// Writes an answer and flushes.
-fn send<W: Write>(out: &mut W, text: &[u8], patience: &mut Patience) -> Result<(), WriteAllFault>
-    ensures { OnOk result (Appends (W.contents out.old) (W.contents out.new) text.now) }
-{
-    write_some(out, text, patience)?;
-    flush(out, patience)
 }

@@ -35,8 +35,20 @@ pub fn answer<T: Timeline>(
     match line {
         InputLine::Empty | InputLine::Known(Command::Quit) => Ok(()),
         InputLine::Unknown => push_bytes(text, b"fault: Command\n"),
-        InputLine::Known(Command::Step(n)) => step(alloc, timeline, n, text),
-        InputLine::Known(Command::Back(n)) => back(alloc, timeline, n, text),
+        InputLine::Known(Command::Step(n)) => {
+            if n > (timeline.end() - timeline.position()) as u64 {
+                return push_bytes(text, b"fault: PastEnd\n");
+            }
+            timeline.forward(alloc, n as usize)?;
+            push_at(text, timeline.position())
+        }
+        InputLine::Known(Command::Back(n)) => {
+            if n > timeline.position() as u64 {
+                return push_bytes(text, b"fault: PastStart\n");
+            }
+            timeline.back(alloc, n as usize)?;
+            push_at(text, timeline.position())
+        }
         InputLine::Known(Command::Goto(n)) => goto(alloc, timeline, n, text),
         InputLine::Known(Command::Run) => run(alloc, timeline, breaks.as_slice(), text),
         InputLine::Known(Command::Break(point)) => set(breaks, point, text),
@@ -47,56 +59,6 @@ pub fn answer<T: Timeline>(
         InputLine::Known(Command::Show) => timeline.show(alloc, text),
         InputLine::Known(Command::Special) => timeline.own(alloc, text),
     }
-}
-
-// Goes so many steps onward.
-#[tactic(auto, unfolding(crate::specs::Answers::response_to))]
-fn step<T: Timeline>(
-    alloc: Global,
-    timeline: &mut T,
-    n: u64,
-    text: &mut Vec<u8>,
-) -> Result<(), AllocError>
-    requires { T.IsWhole timeline.old }
-    ensures source { T.source timeline.new ≡ T.source timeline.old }
-    ensures whole { OnOk result (T.IsWhole timeline.new) }
-    ensures same { OnOk result (T.timeline timeline.new ≡ T.timeline timeline.old) }
-    ensures answer { OnOk result ((breaks : List Breakpoint) → IsAnswer
-        (response_to (T.timeline timeline.old) (record { at = T.position timeline.old; breaks = breaks })
-        (command.Step n))
-        text.old.items text.new.items (T.position timeline.new) breaks) }
-{
-    let at = timeline.position();
-    if n > (timeline.end() - at) as u64 {
-        return push_bytes(text, b"fault: PastEnd\n");
-    }
-    timeline.forward(alloc, n as usize)?;
-    push_at(text, at + n as usize)
-}
-
-// Goes so many steps back.
-#[tactic(auto, unfolding(crate::specs::Answers::response_to))]
-fn back<T: Timeline>(
-    alloc: Global,
-    timeline: &mut T,
-    n: u64,
-    text: &mut Vec<u8>,
-) -> Result<(), AllocError>
-    requires { T.IsWhole timeline.old }
-    ensures source { T.source timeline.new ≡ T.source timeline.old }
-    ensures whole { OnOk result (T.IsWhole timeline.new) }
-    ensures same { OnOk result (T.timeline timeline.new ≡ T.timeline timeline.old) }
-    ensures answer { OnOk result ((breaks : List Breakpoint) → IsAnswer
-        (response_to (T.timeline timeline.old) (record { at = T.position timeline.old; breaks = breaks })
-        (command.Back n))
-        text.old.items text.new.items (T.position timeline.new) breaks) }
-{
-    let at = timeline.position();
-    if n > at as u64 {
-        return push_bytes(text, b"fault: PastStart\n");
-    }
-    timeline.back(alloc, n as usize)?;
-    push_at(text, at - n as usize)
 }
 
 // Goes to where so many steps are made.

@@ -1,16 +1,15 @@
 //! The grammar of a line.
-ghost use Rattle.std.specs.Prelude.{◌≡◌, ◌∷◌};
-ghost use Rattle.debug_commands.specs.Commands.{command_in, command_line_of, command_named, point_at};
+ghost use Rattle.std.specs.Prelude.{◌≡◌};
+ghost use Rattle.debug_commands.specs.Commands.{command_line_of, command_named, point_at};
 ghost use Rattle.text_lines.specs.Reads.{with_rest};
 
 use crate::breakpoint::Breakpoint;
 use crate::command::{Command, Dialect, InputLine};
-use crate::name::Name;
-use crate::words::Words;
+use crate::words::{Name, Words};
 use text_lines::trimmed;
 
 /// What a line says, which is given without its line feed.
-#[tactic(auto, unfolding(crate::specs::Commands::line_in))]
+#[tactic(auto, unfolding(crate::specs::Commands::line_in, crate::specs::Commands::command_in, crate::specs::Commands::command_at, crate::specs::Commands::command_name_at))]
 pub fn line(dialect: Dialect, text: &[u8]) -> InputLine
     ensures { result ≡ command_line_of dialect text.now }
 {
@@ -18,22 +17,15 @@ pub fn line(dialect: Dialect, text: &[u8]) -> InputLine
     let Some(first) = words.next() else {
         return InputLine::Empty;
     };
-    match command(dialect, first, &mut words) {
-        Some(command) => InputLine::Known(command),
-        None => InputLine::Unknown,
-    }
-}
-
-// The command that a first word and those behind it are.
-#[tactic(auto, unfolding(crate::specs::Commands::command_in, crate::specs::Commands::command_at, crate::specs::Commands::command_name_at))]
-fn command(dialect: Dialect, first: &[u8], words: &mut Words) -> Option<Command>
-    ensures { result ≡ command_in dialect (first.now ∷ words.old) }
-{
-    let name = Name::of(first)?;
-    let command = named_command(dialect, name, words)?;
+    let Some(name) = Name::of(first) else {
+        return InputLine::Unknown;
+    };
+    let Some(command) = named_command(dialect, name, &mut words) else {
+        return InputLine::Unknown;
+    };
     match words.next() {
-        None => Some(command),
-        Some(_) => None,
+        None => InputLine::Known(command),
+        Some(_) => InputLine::Unknown,
     }
 }
 

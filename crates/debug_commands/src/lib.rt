@@ -13,7 +13,6 @@ mod dialogue;
 mod execute;
 mod fault;
 mod grammar;
-mod name;
 mod text;
 mod timeline;
 mod words;

@@ -47,7 +47,13 @@ pub fn run_debug<R: Read, W: Write>(
     if second.config.check().is_err() {
         return Err(DebugFault::Config { index: 1 });
     }
-    let mut both = both_at_start(alloc, trace, first, second)?;
+    let mut both = TwoPolicies {
+        trace,
+        first_job: *first,
+        second_job: *second,
+        first: OnePolicy::open(alloc, first, trace)?,
+        second: OnePolicy::open(alloc, second, trace)?,
+    };
     answer_commands(alloc, &mut both, commands, out)
 }
 
@@ -59,31 +65,6 @@ struct TwoPolicies<'a> {
     second_job: Job,
     first: OnePolicy<'a>,
     second: OnePolicy<'a>,
-}
-
-// Both policies before the first access. It requires configurations that `Config::check` accepts. The one error is
-// that an allocation failed.
-fn both_at_start<'a>(
-    alloc: Global,
-    trace: &'a Trace,
-    first: &Job,
-    second: &Job,
-) -> Result<TwoPolicies<'a>, AllocError>
-    requires first { config_fault first.now.config ≡ Ok tt }
-    requires second { config_fault second.now.config ≡ Ok tt }
-    ensures trace { IfOk result (λ w. w.trace.now ≡ trace.now) }
-    ensures first { IfOk result (λ w. w.first_job ≡ first.now) }
-    ensures second { IfOk result (λ w. w.second_job ≡ second.now) }
-    ensures at { IfOk result (λ w. w.first.at ≡ 0) }
-    ensures walk { IfOk result (λ w. IsPartWalk w.trace.now w.first_job w.second_job w.first w.second) }
-{
-    Ok(TwoPolicies {
-        trace,
-        first_job: *first,
-        second_job: *second,
-        first: OnePolicy::open(alloc, first, trace)?,
-        second: OnePolicy::open(alloc, second, trace)?,
-    })
 }
 
 impl<'a> Timeline for TwoPolicies<'a> {

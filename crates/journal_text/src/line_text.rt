@@ -1,15 +1,13 @@
 //! A line as text, behind what a buffer holds already. The buffer has the room, so nothing fails.
-ghost use Rattle.std.specs.Prelude.{◌≡◌, ◌≤◌, ◌+◌, ◌*◌, ◌++◌, [], length, vec_len, vec_capacity};
+ghost use Rattle.std.specs.Prelude.{◌≡◌, ◌≤◌, ◌+◌, ◌*◌, ◌++◌, length, vec_len, vec_capacity};
 ghost use Rattle.std.specs.Fmt.{decimal};
-ghost use Rattle.journal_text.specs.Table.{act_words, answer_name, entry_words, item_words, offer_words};
+ghost use Rattle.journal_text.specs.Table.{act_words, answer_name, entry_words, offer_words};
 ghost use Rattle.journal_text.specs.Table.{reply_numbers, spaced, spaced_words, text_of, word_text, FitWords};
-ghost use Rattle.journal_text.specs.Journal.{begun, ended_line};
+ghost use Rattle.journal_text.specs.Journal.{ended_line};
 ghost use Rattle.journal_text.specs.declared.line.JournalLine.TheVariants.{Made, Steps};
-ghost use Rattle.journal_text.specs.declared.version.Version.TheVariants.{Two};
 ghost use Rattle.journal_text.specs.declared.line_text.TheConstants.{MAX_LINE};
 
-use super::name::JournalName;
-use super::table::reply_name;
+use super::name::{JournalName, reply_name};
 use itoa::Buffer;
 use step_record::{Act, Answer, Entry, Item, Reply, Step};
 
@@ -56,18 +54,8 @@ pub fn push_count_line(text: &mut Vec<u8>, count: u64)
     text.push_reserved(b'\n');
 }
 
-/// Begins an empty text with the header of version 2.
-pub fn push_header(text: &mut Vec<u8>)
-    requires empty { text.old.items ≡ [] }
-    requires room { MAX_LINE ≤ vec_capacity text.old }
-    ensures items { text.new.items ≡ begun Two [] }
-    ensures capacity { vec_capacity text.old ≤ vec_capacity text.new }
-{
-    push_bytes(text, b"cachesim journal 2\n");
-}
-
-// Adds bytes.
-fn push_bytes(text: &mut Vec<u8>, bytes: &[u8])
+/// Adds bytes.
+pub fn push_bytes(text: &mut Vec<u8>, bytes: &[u8])
     requires { vec_len text.old + length bytes.now ≤ vec_capacity text.old }
     ensures items { text.new.items ≡ text.old.items ++ bytes.now }
     ensures len { vec_len text.new ≡ vec_len text.old + length bytes.now }
@@ -115,17 +103,6 @@ fn push_words(text: &mut Vec<u8>, words: &[Word])
         text.push_reserved(b' ');
         push_word(text, *word);
     }
-}
-
-// Adds the key and the node of an item.
-fn push_item(text: &mut Vec<u8>, item: Item)
-    requires { vec_len text.old + 42 ≤ vec_capacity text.old }
-    ensures items { text.new.items ≡ text.old.items ++ spaced (item_words item) }
-    ensures len { vec_len text.new ≤ vec_len text.old + 42 }
-    ensures capacity { vec_capacity text.old ≤ vec_capacity text.new }
-    ensures fit { FitWords (item_words item) }
-{
-    push_words(text, &[Word::Wide(item.key), Word::Wide(item.node)]);
 }
 
 // The name of what an offer was answered.
@@ -209,7 +186,9 @@ fn push_numbers(text: &mut Vec<u8>, reply: Reply)
         | Reply::Cleared { item }
         | Reply::Shifted { item }
         | Reply::Evicted { item }
-        | Reply::Rejected { item } => push_item(text, item),
+        | Reply::Rejected { item } => {
+            push_words(text, &[Word::Wide(item.key), Word::Wide(item.node)]);
+        }
         _ => push_words(text, &[]),
     }
 }

@@ -7,8 +7,7 @@ ghost use Rattle.journal_text.specs.Table.{text_of, IsLine};
 ghost use Rattle.journal_text.specs.declared.line.JournalLine.TheVariants.{Made};
 
 use super::grammar::line;
-use super::name::JournalName;
-use super::table::reply_name;
+use super::name::{JournalName, reply_name};
 use super::{JournalFault, JournalLine, Version};
 use journal::{Session, SessionFault};
 use step_record::{Engine, Entry, Item, Reply, Step};

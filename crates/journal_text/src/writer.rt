@@ -9,7 +9,7 @@ ghost use Rattle.journal_text.specs.declared.writer.TheConstants.{BUFFER};
 ghost use Rattle.journal_text.specs.declared.version.Version.TheVariants.{Two};
 
 use super::WriteFault;
-use super::line_text::{MAX_LINE, push_count_line, push_entry_line, push_header};
+use super::line_text::{MAX_LINE, push_bytes, push_count_line, push_entry_line};
 use journal::Session;
 use std::alloc::Global;
 use std::io::Write;
@@ -58,7 +58,7 @@ fn write_entries<E: Engine<Step = Step, Reply = Reply>, W: Write>(
     ensures room { OnOk result (BUFFER ≤ vec_capacity text.new) }
     ensures fit { OnOk result (AreFit session.now.kept) }
 {
-    push_header(text);
+    push_bytes(text, b"cachesim journal 2\n");
     for n in 0..session.len() {
         make_room(writer, text, patience)?;
         match session.entry(n + 1) {

@@ -6,8 +6,8 @@ ghost use Rattle.step_record.specs.declared.worker.TheConstants.{MAX_WORKERS};
 ghost use Rattle.turn_book.specs.declared.book.TheConstants.{MAX_TURNS};
 ghost use Rattle.turn_book.specs.Faults.{value_in, IsOpenCause};
 ghost use Rattle.turn_book.specs.Passes.{book_id, id_of, InOrder, Takes, Gives, Ends};
-ghost use Rattle.turn_book.specs.Seats.{IsBoard, part_of, pass_view, pass_in, IsPassAt};
-ghost use Rattle.turn_book.specs.Turns.{AddsInTurn, Every, IsPass, Draws, Waits, Comes, Rests, Cuts, left_of, right_of};
+ghost use Rattle.turn_book.specs.Seats.{IsBoard, part_of, pass_view};
+ghost use Rattle.turn_book.specs.Turns.{AddsInTurn, Every, Waits, Comes, Rests};
 ghost use Rattle.turn_book.specs.Turns.{parts_from, beginner};
 
 use crate::fault::OpenFault;
@@ -119,7 +119,7 @@ impl<T: Kept> TurnBook<T> {
             return Err(pass);
         }
         let Pass { mut seat, drawn } = pass;
-        let ticket = draw(&self.table, &mut seat, drawn);
+        let ticket = self.table.shared.fetch_add::<Draw>(&mut seat, 0, 1);
         wait(&self.table, rt, &self.waiting, &mut seat, ticket);
         let Some(value) = self.table.shared.exchange(&mut seat, 0, None) else {
             unreachable!()
@@ -204,18 +204,6 @@ fn lay<T: Kept>(alloc: Global, value: T, workers: u8) -> Result<(Board<T>, BookS
     }
 }
 
-// Draws the next ticket.
-fn draw<T: Kept>(board: &Board<T>, seat: &mut BookSeat<T>, drawn: u64) -> u64
-    requires board { IsBoard board.now.shared.table_id board.now.shared.key.workers }
-    requires own { seat.old.table_id ≡ board.now.shared.table_id }
-    requires pass { IsPass seat.old.me drawn }
-    requires left { drawn < MAX_TURNS }
-    ensures same { seat.new.table_id ≡ seat.old.table_id }
-    ensures drew { Draws seat.old.me result seat.new.me }
-{
-    board.shared.fetch_add::<Draw>(seat, 0, 1)
-}
-
 // Waits until the ticket's turn has come.
 fn wait<T: Kept, R: Wait>(
     board: &Board<T>,
@@ -242,7 +230,7 @@ fn wait<T: Kept, R: Wait>(
     unreachable!()
 }
 
-// Deals a pass to each worker, in order.
+// Deals a pass to each worker, in order: the first part of the seat is cut off for each but the last.
 fn deal<T: Kept>(
     board: &Board<T>,
     mut seat: BookSeat<T>,
@@ -259,33 +247,14 @@ fn deal<T: Kept>(
     ensures len { vec_len result ≡ workers }
 {
     for w in 1..workers {
-        let pass = cut(board, &mut seat);
-        passes.push_reserved(pass);
+        let first = board.shared.split_seat::<PassParts>(&mut seat);
+        passes.push_reserved(Pass {
+            seat: first,
+            drawn: 0,
+        });
     }
-    passes.push_reserved(fresh(seat));
+    passes.push_reserved(Pass { seat, drawn: 0 });
     passes
-}
-
-// Cuts off the first worker's part.
-fn cut<T: Kept>(board: &Board<T>, seat: &mut BookSeat<T>) -> Pass<T>
-    requires board { IsBoard board.now.shared.table_id board.now.shared.key.workers }
-    requires own { seat.old.table_id ≡ board.now.shared.table_id }
-    requires cuts { Cuts seat.old.me }
-    ensures same { seat.new.table_id ≡ seat.old.table_id }
-    ensures left { seat.new.me ≡ (left_of seat.old.me.0, seat.old.me.1) }
-    ensures pass { pass_view result ≡ right_of seat.old.me.0 }
-    ensures book { result.book ≡ record { table = seat.old.table_id; opening = seat.old.me.0.opening } }
-{
-    let other = board.shared.split_seat::<PassParts>(seat);
-    fresh(other)
-}
-
-// The pass of a seat that has drawn nothing.
-fn fresh<T: Kept>(seat: BookSeat<T>) -> Pass<T>
-    requires { IsPassAt seat.table_id seat.me 0 }
-    ensures { result ≡ pass_in seat.table_id seat.me.0 0 }
-{
-    Pass { seat, drawn: 0 }
 }
 
 // Joins the seats of all passes.
@@ -297,19 +266,13 @@ fn gather<T: Kept>(board: &Board<T>, mut passes: Vec<Pass<T>>) -> BookSeat<T>
     ensures same { result.table_id ≡ board.now.shared.table_id }
     ensures parts { Rests result.me (map part_of passes.items) result.me.0.last }
 {
-    let mut seat = seat_of(passes.pop().unwrap());
+    let Pass { mut seat, drawn: _ } = passes.pop().unwrap();
     while let Some(pass) = passes.pop() {
-        let other = seat_of(pass);
+        let Pass {
+            seat: other,
+            drawn: _,
+        } = pass;
         board.shared.join_seat::<PassParts>(&mut seat, other);
     }
-    seat
-}
-
-// The seat of a pass.
-fn seat_of<T: Kept>(pass: Pass<T>) -> BookSeat<T>
-    ensures same { result.table_id ≡ pass.book.table }
-    ensures seat { result.me ≡ (pass_view pass, []) }
-{
-    let Pass { seat, drawn: _ } = pass;
     seat
 }

@@ -26,187 +26,6 @@ pub enum WalkPlace {
     End,
 }
 
-fn after_look(key: Key, reply: Reply) -> WalkPlace
-    requires { is_answer (Act.Look key) reply ≡ true }
-    ensures ahead { (w : ℕ) (n : ℕ) (es : Entries) → FollowsLook w n key reply es ↔ IsAheadOf w n result es }
-    ensures place { (n : ℕ) → is_place n result ≡ true }
-{
-    match reply {
-        Reply::Hit { node } => WalkPlace::Offer {
-            item: Item { key, node },
-        },
-        Reply::Miss => WalkPlace::Put { key },
-        _ => unreachable!(),
-    }
-}
-
-fn after_offer(reply: Reply) -> WalkPlace
-    requires { (stripe : ℕ) × (item : Item) × (is_answer (Act.Offer stripe item) reply ≡ true) }
-    ensures ahead { (w : ℕ) (n : ℕ) (es : Entries) → FollowsOffer w n reply es ↔ IsAheadOf w n result es }
-    ensures place { (n : ℕ) → is_place n result ≡ true }
-{
-    match reply {
-        Reply::Kept => WalkPlace::AfterRead {
-            answer: Answer::Kept,
-        },
-        Reply::Full => WalkPlace::AfterRead {
-            answer: Answer::Full,
-        },
-        _ => unreachable!(),
-    }
-}
-
-fn after_put(reply: Reply) -> WalkPlace
-    requires { (key : ℕ) × (is_answer (Act.Put key) reply ≡ true) }
-    ensures ahead { (w : ℕ) (n : ℕ) (es : Entries) → FollowsPut w n reply es ↔ IsAheadOf w n result es }
-    ensures place { (n : ℕ) → is_place n result ≡ true }
-{
-    match reply {
-        Reply::Added { node: _ } => WalkPlace::AfterWrite,
-        Reply::Present { node: _ } => WalkPlace::AfterWrite,
-        Reply::WritesFull => WalkPlace::Begin,
-        _ => unreachable!(),
-    }
-}
-
-fn after_remove(reply: Reply) -> Option<WalkPlace>
-    requires { (key : ℕ) × (is_answer (Act.Remove key) reply ≡ true) }
-    ensures ahead { (w : ℕ) (n : ℕ) (es : Entries) → FollowsRemove w n reply es ↔ AheadIf w n result es }
-    ensures place { (n : ℕ) → is_place_if n result ≡ true }
-{
-    match reply {
-        Reply::Absent => None,
-        Reply::Removed { node: _ } => Some(WalkPlace::AfterWrite),
-        Reply::WritesFull => Some(WalkPlace::Begin),
-        _ => unreachable!(),
-    }
-}
-
-// Past a question whether maintenance is due, after a read or a write.
-fn after_report(reply: Reply) -> Option<WalkPlace>
-    requires { is_answer Act.AfterWrite reply ≡ true }
-    ensures ahead { (w : ℕ) (n : ℕ) (es : Entries) → FollowsReport w n reply es ↔ AheadIf w n result es }
-    ensures place { (n : ℕ) → is_place_if n result ≡ true }
-{
-    match reply {
-        Reply::Go => None,
-        Reply::Drain => Some(WalkPlace::Begin),
-        _ => unreachable!(),
-    }
-}
-
-fn after_begin(reply: Reply) -> Option<WalkPlace>
-    requires { is_answer Act.Begin reply ≡ true }
-    ensures ahead { (w : ℕ) (n : ℕ) (es : Entries) → FollowsBegin w n reply es ↔ AheadIf w n result es }
-    ensures place { (n : ℕ) → 1 ≤ n → is_place_if n result ≡ true }
-{
-    match reply {
-        Reply::Busy => None,
-        Reply::Began => Some(WalkPlace::DrainRead {
-            stripe: 0,
-            drained: 0,
-        }),
-        _ => unreachable!(),
-    }
-}
-
-// Past the last entry of a stripe.
-fn after_stripe(stripes: u8, stripe: u8) -> WalkPlace
-    requires { stripe < stripes }
-    ensures ahead { (w : ℕ) (es : Entries) → MatchBool (stripe + 1 == stripes) (IsWriting w stripes es)
-        (IsReading w stripes (stripe + 1) 0 es) ↔ IsAheadOf w stripes result es }
-    ensures place { is_place stripes result ≡ true }
-{
-    if stripe + 1 == stripes {
-        WalkPlace::DrainWrite
-    } else {
-        WalkPlace::DrainRead {
-            stripe: stripe + 1,
-            drained: 0,
-        }
-    }
-}
-
-// Past one more item of a stripe.
-fn after_drained(stripes: u8, stripe: u8, drained: u8) -> WalkPlace
-    requires stripe { stripe < stripes }
-    requires drained { drained < MAX_ITEMS }
-    ensures ahead { (w : ℕ) (es : Entries) → MatchBool (drained + 1 == MAX_ITEMS)
-        (MatchBool (stripe + 1 == stripes) (IsWriting w stripes es) (IsReading w stripes (stripe + 1) 0 es))
-        (IsReading w stripes stripe (drained + 1) es) ↔ IsAheadOf w stripes result es }
-    ensures place { is_place stripes result ≡ true }
-{
-    if usize::from(drained) + 1 == MAX_ITEMS {
-        after_stripe(stripes, stripe)
-    } else {
-        WalkPlace::DrainRead {
-            stripe,
-            drained: drained + 1,
-        }
-    }
-}
-
-fn after_drain_read(stripes: u8, stripe: u8, drained: u8, reply: Reply) -> WalkPlace
-    requires answer { is_answer (Act.DrainRead stripe) reply ≡ true }
-    requires stripe { stripe < stripes }
-    requires drained { drained < MAX_ITEMS }
-    ensures ahead { (w : ℕ) (es : Entries) → FollowsDrainRead w stripes
-        (MatchBool (drained + 1 == MAX_ITEMS) (MatchBool (stripe + 1 == stripes) (IsWriting w stripes es)
-        (IsReading w stripes (stripe + 1) 0 es)) (IsReading w stripes stripe (drained + 1) es))
-        (MatchBool (stripe + 1 == stripes) (IsWriting w stripes es) (IsReading w stripes (stripe + 1) 0 es)) reply
-        ↔ IsAheadOf w stripes result es }
-    ensures place { is_place stripes result ≡ true }
-{
-    match reply {
-        Reply::Drained { item: _ } => after_drained(stripes, stripe, drained),
-        Reply::Empty => after_stripe(stripes, stripe),
-        _ => unreachable!(),
-    }
-}
-
-fn after_drain_write(reply: Reply) -> WalkPlace
-    requires { is_answer Act.DrainWrite reply ≡ true }
-    ensures ahead { (w : ℕ) (n : ℕ) (es : Entries) → FollowsDrainWrite w n (IsWriting w n es) reply es
-        ↔ IsAheadOf w n result es }
-    ensures place { (n : ℕ) → is_place n result ≡ true }
-{
-    match reply {
-        Reply::Applied { item: _ } => WalkPlace::DrainWrite,
-        Reply::Cleared { item: _ } => WalkPlace::DrainWrite,
-        Reply::Empty => WalkPlace::Evict,
-        Reply::Enough => WalkPlace::Evict,
-        _ => unreachable!(),
-    }
-}
-
-fn after_evict(reply: Reply) -> WalkPlace
-    requires { is_answer Act.Evict reply ≡ true }
-    ensures ahead { (w : ℕ) (n : ℕ) (es : Entries) → FollowsEvict w n (IsEvicting w n es) reply es
-        ↔ IsAheadOf w n result es }
-    ensures place { (n : ℕ) → is_place n result ≡ true }
-{
-    match reply {
-        Reply::Shifted { item: _ } => WalkPlace::Evict,
-        Reply::Evicted { item: _ } => WalkPlace::Evict,
-        Reply::Rejected { item: _ } => WalkPlace::Evict,
-        Reply::Fits => WalkPlace::End,
-        _ => unreachable!(),
-    }
-}
-
-fn after_end(reply: Reply) -> Option<WalkPlace>
-    requires { is_answer Act.End reply ≡ true }
-    ensures ahead { (w : ℕ) (n : ℕ) (es : Entries) → FollowsEnd w n reply es ↔ AheadIf w n result es }
-    ensures place { (n : ℕ) → is_place_if n result ≡ true }
-{
-    match reply {
-        Reply::Idle => None,
-        Reply::Again => None,
-        Reply::NotYet => None,
-        _ => unreachable!(),
-    }
-}
-
 /// The act of a worker that stands there.
 pub(crate) fn act_of(worker: Worker, stripes: u8, place: WalkPlace) -> Act
     requires { 1 ≤ stripes }
@@ -239,19 +58,81 @@ pub(crate) fn after(stripes: u8, place: WalkPlace, reply: Reply) -> Option<WalkP
         ↔ AheadIf worker stripes result es }
     ensures place { is_place_if stripes result ≡ true }
 {
-    match place {
-        WalkPlace::Look { key } => Some(after_look(key, reply)),
-        WalkPlace::Offer { item: _ } => Some(after_offer(reply)),
-        WalkPlace::AfterRead { answer: _ } => after_report(reply),
-        WalkPlace::Put { key: _ } => Some(after_put(reply)),
-        WalkPlace::Remove { key: _ } => after_remove(reply),
-        WalkPlace::AfterWrite => after_report(reply),
-        WalkPlace::Begin => after_begin(reply),
-        WalkPlace::DrainRead { stripe, drained } => {
-            Some(after_drain_read(stripes, stripe, drained, reply))
+    match (place, reply) {
+        (WalkPlace::Look { key }, Reply::Hit { node }) => Some(WalkPlace::Offer {
+            item: Item { key, node },
+        }),
+        (WalkPlace::Look { key }, Reply::Miss) => Some(WalkPlace::Put { key }),
+        (WalkPlace::Offer { item: _ }, Reply::Kept) => Some(WalkPlace::AfterRead {
+            answer: Answer::Kept,
+        }),
+        (WalkPlace::Offer { item: _ }, Reply::Full) => Some(WalkPlace::AfterRead {
+            answer: Answer::Full,
+        }),
+        (WalkPlace::Put { key: _ }, Reply::Added { node: _ }) => Some(WalkPlace::AfterWrite),
+        (WalkPlace::Put { key: _ }, Reply::Present { node: _ }) => Some(WalkPlace::AfterWrite),
+        (WalkPlace::Put { key: _ }, Reply::WritesFull) => Some(WalkPlace::Begin),
+        (WalkPlace::Remove { key: _ }, Reply::Absent) => None,
+        (WalkPlace::Remove { key: _ }, Reply::Removed { node: _ }) => Some(WalkPlace::AfterWrite),
+        (WalkPlace::Remove { key: _ }, Reply::WritesFull) => Some(WalkPlace::Begin),
+        (WalkPlace::AfterRead { answer: _ } | WalkPlace::AfterWrite, Reply::Go) => None,
+        (WalkPlace::AfterRead { answer: _ } | WalkPlace::AfterWrite, Reply::Drain) => {
+            Some(WalkPlace::Begin)
         }
-        WalkPlace::DrainWrite => Some(after_drain_write(reply)),
-        WalkPlace::Evict => Some(after_evict(reply)),
-        WalkPlace::End => after_end(reply),
+        (WalkPlace::Begin, Reply::Busy) => None,
+        (WalkPlace::Begin, Reply::Began) => Some(WalkPlace::DrainRead {
+            stripe: 0,
+            drained: 0,
+        }),
+        (WalkPlace::DrainRead { stripe, drained }, Reply::Drained { item: _ }) => {
+            Some(after_drained(stripes, stripe, drained))
+        }
+        (WalkPlace::DrainRead { stripe, drained: _ }, Reply::Empty) => {
+            Some(after_stripe(stripes, stripe))
+        }
+        (WalkPlace::DrainWrite, Reply::Applied { item: _ } | Reply::Cleared { item: _ }) => {
+            Some(WalkPlace::DrainWrite)
+        }
+        (WalkPlace::DrainWrite, Reply::Empty | Reply::Enough) => Some(WalkPlace::Evict),
+        (WalkPlace::Evict, Reply::Fits) => Some(WalkPlace::End),
+        (WalkPlace::Evict, _) => Some(WalkPlace::Evict),
+        (WalkPlace::End, _) => None,
+        _ => unreachable!(),
+    }
+}
+
+// Past one more item of a stripe.
+fn after_drained(stripes: u8, stripe: u8, drained: u8) -> WalkPlace
+    requires stripe { stripe < stripes }
+    requires drained { drained < MAX_ITEMS }
+    ensures ahead { (w : ℕ) (es : Entries) → MatchBool (drained + 1 == MAX_ITEMS)
+        (MatchBool (stripe + 1 == stripes) (IsWriting w stripes es) (IsReading w stripes (stripe + 1) 0 es))
+        (IsReading w stripes stripe (drained + 1) es) ↔ IsAheadOf w stripes result es }
+    ensures place { is_place stripes result ≡ true }
+{
+    if usize::from(drained) + 1 == MAX_ITEMS {
+        after_stripe(stripes, stripe)
+    } else {
+        WalkPlace::DrainRead {
+            stripe,
+            drained: drained + 1,
+        }
+    }
+}
+
+// Past the last entry of a stripe.
+fn after_stripe(stripes: u8, stripe: u8) -> WalkPlace
+    requires { stripe < stripes }
+    ensures ahead { (w : ℕ) (es : Entries) → MatchBool (stripe + 1 == stripes) (IsWriting w stripes es)
+        (IsReading w stripes (stripe + 1) 0 es) ↔ IsAheadOf w stripes result es }
+    ensures place { is_place stripes result ≡ true }
+{
+    if stripe + 1 == stripes {
+        WalkPlace::DrainWrite
+    } else {
+        WalkPlace::DrainRead {
+            stripe: stripe + 1,
+            drained: 0,
+        }
     }
 }

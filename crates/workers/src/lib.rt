@@ -6,8 +6,7 @@
 
 mod driven;
 mod run;
-mod turns;
-mod worker_state;
+mod worker;
 
 pub use driven::Driven;
 pub use run::{Cause, DriveFault, drive};

@@ -1,6 +1,6 @@
 //! Workers on threads, over one session of the concurrent cache.
-ghost use Rattle.std.specs.Prelude.{◌≡◌, ◌≤◌, None, [], IfOk, IfErr, OnOk};
-ghost use Rattle.std.specs.Prelude.{length, map, vec_capacity};
+ghost use Rattle.std.specs.Prelude.{◌≡◌, None, IfOk, IfErr, OnOk};
+ghost use Rattle.std.specs.Prelude.{length, map};
 ghost use Rattle.walks.specs.Walks.{AreWalks};
 ghost use Rattle.workers.specs.Runs.{IsRun};
 ghost use Rattle.step_record.specs.History.{IsLegal};
@@ -8,14 +8,14 @@ ghost use Rattle.shell_model.specs.Shell.{act};
 ghost use Rattle.workers.specs.DriveFaults.{CanRun, LeavesFault};
 
 use super::driven::Driven;
-use super::worker_state::{WorkerState, assign_passes, collect_passes, work_all};
+use super::worker::{assign_passes, collect_passes, work_all};
 use journal::Session;
 use maintenance::Shell;
-use std::alloc::{AllocError, Global};
+use std::alloc::Global;
 use std::sync::Wait;
 use std::thread::Threads;
 use step_record::{Call, Gate, MAX_WORKERS, Worker};
-use turn_book::{MAX_TURNS, OpenFault, Pass, TurnBook};
+use turn_book::{MAX_TURNS, OpenFault, TurnBook};
 
 /// Why a worker was refused a step.
 #[derive(Clone, Copy, Debug, PartialEq, Eq)]
@@ -83,16 +83,15 @@ pub fn drive<G: Gate, R: Threads + Wait + Sync>(
     if let Some((worker, _, _)) = shell.holder() {
         return Err(DriveFault::Held { worker, session });
     }
-    let Ok(room) = Room::new(alloc, workers) else {
+    let Ok(states) = Vec::with_capacity(alloc, workers) else {
+        return Err(DriveFault::OutOfMemory { session });
+    };
+    let Ok(collected) = Vec::with_capacity(alloc, workers) else {
         return Err(DriveFault::OutOfMemory { session });
     };
     let earlier = session.len();
     match TurnBook::open(alloc, session, workers as u8, MAX_TURNS) {
         Ok((book, passes)) => {
-            let Room {
-                states,
-                passes: collected,
-            } = room;
             let states = assign_passes(&book, passes, states);
             let states = work_all(rt, gate, &book, pieces.as_slice(), stripes, states);
             let (passes, cause) = collect_passes(states, collected);
@@ -107,25 +106,5 @@ pub fn drive<G: Gate, R: Threads + Wait + Sync>(
         Err(OpenFault::OutOfMemory(session)) => Err(DriveFault::OutOfMemory { session }),
         Err(OpenFault::Workers(_)) => unreachable!(),
         Err(OpenFault::Turns(_)) => unreachable!(),
-    }
-}
-
-// Memory for all that a run holds beside the session.
-#[derive(Drop)]
-pub(crate) struct Room {
-    pub(crate) states: Vec<WorkerState>,
-    pub(crate) passes: Vec<Pass<Session<Shell>>>,
-}
-
-impl Room {
-    // Room for so many workers.
-    fn new(alloc: Global, workers: usize) -> Result<Room, AllocError>
-        ensures empty { IfOk result (λ r. (r.states.items ≡ []) × (r.passes.items ≡ [])) }
-        ensures room { IfOk result (λ r. (workers ≤ vec_capacity r.states) × (workers ≤ vec_capacity r.passes)) }
-    {
-        Ok(Room {
-            states: Vec::with_capacity(alloc, workers)?,
-            passes: Vec::with_capacity(alloc, workers)?,
-        })
     }
 }

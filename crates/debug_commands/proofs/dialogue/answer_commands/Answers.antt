@@ -5,7 +5,7 @@ use Rattle.debug_commands.specs.Dialogue.{is_quit}
 use Rattle.debug_commands.specs.Timeline.{TimelineData}
 use Rattle.debug_commands.specs.declared.fault.DebugFault.{DebugFault}
 use Rattle.debug_commands.specs.declared.fault.DebugFault.TheVariants.{TooLarge}
-use Rattle.debug_commands.proofs.Ahead.{a_round, begins, ends_at_large, ends_at_last, ends_at_quit, goes_on, said_is}
+use Rattle.debug_commands.proofs.Ahead.{a_round, begins, ends_at_large, ends_at_last, ends_at_quit, flushed, goes_on, said_is}
 use Rattle.debug_commands.proofs.dialogue.answer_commands.Goals as goal
 
 pub lines-init : goal.lines-init
@@ -25,9 +25,10 @@ returns-in_err-fed-clause-large g c e =
 
 pub returns-then-not-fed-clause-done : goal.returns-then-not-fed-clause-done
 returns-then-not-fed-clause-done g c = ends_at_last
-    (a_round (g.R.Read.remaining c.read_line.new.input) (g.W.Write.contents c.send.new.out) c.lines.invariant.ahead c.lines.invariant.same
+    (a_round (g.R.Read.remaining c.read_line.new.input) (g.W.Write.contents c.flush.new.writer) c.lines.invariant.ahead c.lines.invariant.same
     c.dialect.ensures c.as_slice.ensures.value c.line-said.ensures c.clear-in-lines.ensures.items c.in_ok-answer.ensures.answer
-    c.in_ok-fed.ensures.read c.in_ok-fed.ensures.feeds c.in_ok-fed.ensures.room c.as_slice-in-lines.ensures.value c.in_ok-send.ensures)
+    c.in_ok-fed.ensures.read c.in_ok-fed.ensures.feeds c.in_ok-fed.ensures.room c.as_slice-in-lines.ensures.value (flushed (g.W.Write.contents c.lines.out) (g.W.Write.contents c.write_some.new.writer) (g.W.Write.contents c.flush.new.writer) c.as_slice-in-lines.result.now
+    c.in_ok-write_some.ensures.bytes c.in_ok-flush.ensures.bytes))
     c.if-not-fed.true (c.in_ok-fed.ensures.end (ap Ok c.if-not-fed.true))
 
 pub returns-then-is_quit-clause-done : goal.returns-then-is_quit-clause-done
@@ -36,9 +37,10 @@ returns-then-is_quit-clause-done g c =
     let said : c.line-said.result ≡ command_line_of t.dialect c.read_line.new.text.items =
     said_is c.lines.invariant.same c.dialect.ensures c.as_slice.ensures.value c.line-said.ensures in
     ends_at_quit
-    (a_round (g.R.Read.remaining c.read_line.new.input) (g.W.Write.contents c.send.new.out) c.lines.invariant.ahead c.lines.invariant.same
+    (a_round (g.R.Read.remaining c.read_line.new.input) (g.W.Write.contents c.flush.new.writer) c.lines.invariant.ahead c.lines.invariant.same
     c.dialect.ensures c.as_slice.ensures.value c.line-said.ensures c.clear-in-lines.ensures.items c.in_ok-answer.ensures.answer
-    c.in_ok-fed.ensures.read c.in_ok-fed.ensures.feeds c.in_ok-fed.ensures.room c.as_slice-in-lines.ensures.value c.in_ok-send.ensures)
+    c.in_ok-fed.ensures.read c.in_ok-fed.ensures.feeds c.in_ok-fed.ensures.room c.as_slice-in-lines.ensures.value (flushed (g.W.Write.contents c.lines.out) (g.W.Write.contents c.write_some.new.writer) (g.W.Write.contents c.flush.new.writer) c.as_slice-in-lines.result.now
+    c.in_ok-write_some.ensures.bytes c.in_ok-flush.ensures.bytes))
     c.if-not-fed.false (sym (ap is_quit said) ∙ (sym c.is_quit.ensures ∙ c.if-is_quit.true))
 
 pub lines-preserved : goal.lines-preserved
@@ -51,8 +53,9 @@ lines-preserved g c =
       whole = c.in_ok-answer.ensures.whole;
       same = c.in_ok-answer.ensures.same ∙ c.lines.invariant.same;
       ahead = goes_on
-          (a_round (g.R.Read.remaining c.read_line.new.input) (g.W.Write.contents c.send.new.out) c.lines.invariant.ahead c.lines.invariant.same
+          (a_round (g.R.Read.remaining c.read_line.new.input) (g.W.Write.contents c.flush.new.writer) c.lines.invariant.ahead c.lines.invariant.same
           c.dialect.ensures c.as_slice.ensures.value c.line-said.ensures c.clear-in-lines.ensures.items c.in_ok-answer.ensures.answer
-          c.in_ok-fed.ensures.read c.in_ok-fed.ensures.feeds c.in_ok-fed.ensures.room c.as_slice-in-lines.ensures.value c.in_ok-send.ensures)
+          c.in_ok-fed.ensures.read c.in_ok-fed.ensures.feeds c.in_ok-fed.ensures.room c.as_slice-in-lines.ensures.value (flushed (g.W.Write.contents c.lines.out) (g.W.Write.contents c.write_some.new.writer) (g.W.Write.contents c.flush.new.writer) c.as_slice-in-lines.result.now
+    c.in_ok-write_some.ensures.bytes c.in_ok-flush.ensures.bytes))
           c.if-not-fed.false (sym (ap is_quit said) ∙ (sym c.is_quit.ensures ∙ c.if-is_quit.false));
     }

@@ -1,11 +1,11 @@
 use Rattle.std.proofs.Common.{◌≡◌, ◌∙◌, ◌+◌, ◌-◌, ◌++◌, ◌∷◌, [], List, ℕ, zero, suc, Some, ap, sym, subst, arith, take}
 use Rattle.std.proofs.lemmas.List.Elements.{All-nil, All-push}
 use Rattle.std.specs.Prelude.{slice_get}
-use Rattle.journal_text.specs.Journal.{begun, entry_line}
+use Rattle.journal_text.specs.Journal.{begun, ended_line, entry_line, header}
 use Rattle.journal_text.specs.Table.{entry_words, FitWords}
 use Rattle.journal_text.specs.TextBuffer.{AreFit}
 use Rattle.journal_text.specs.declared.version.Version.TheVariants.{Two}
-use Rattle.journal_text.proofs.Fronts.{begun_more}
+use Rattle.journal_text.proofs.Fronts.{begun_more, begun_none}
 use Rattle.journal_text.proofs.Written.{gathered, passed, started}
 use Rattle.journal_text.proofs.writer.write_entries.Goals as goal
 
@@ -22,8 +22,9 @@ taken_at xs n x h =
 
 pub loop-n-init : goal.loop-n-init
 loop-n-init g c = record {
-  written = started (g.W.Write.contents c.args.writer.now) c.push_header.new.text.items (begun Two []) c.push_header.ensures.items;
-  room = omega (arith, c.push_header.ensures.capacity, c.requires.room);
+  written = started (g.W.Write.contents c.args.writer.now) c.push_bytes.new.text.items (begun Two [])
+      (c.push_bytes.ensures.items ∙ ap (λ t. t ++ ended_line (header Two)) c.requires.empty ∙ sym (begun_none Two));
+  room = omega (arith, c.push_bytes.ensures.capacity, c.requires.room);
   fit = All-nil (λ e. FitWords (entry_words e));
 }
 

@@ -1,5 +1,6 @@
-use Rattle.std.proofs.Common.{arith, ap, refl, ◌∙◌}
-use Rattle.turn_book.proofs.Dealing.{cuts_of, last_pass, dealt_more, dealt_all, dealt_none, every_more, every_none}
+use Rattle.std.proofs.Common.{arith, ap, refl, sym, ◌∙◌}
+use Rattle.turn_book.proofs.Moves.{cuts_as}
+use Rattle.turn_book.proofs.Dealing.{cut_pass, cuts_of, dealt_more, dealt_all, dealt_none, every_more, every_none}
 use Rattle.turn_book.proofs.book.deal.Goals as goal
 
 pub loop-w-init : goal.loop-w-init
@@ -15,35 +16,30 @@ loop-w-init g c =
       own = every_none _ _ none;
     }
 
-pub cut-pass-requires : goal.cut-pass-requires
-cut-pass-requires g c =
+pub split_seat-first-requires : goal.split_seat-first-requires
+split_seat-first-requires g c =
+    let z = c.requires.board in
+    let two = z.0 in
     let i = c.loop-w.invariant in
-    record { board = c.requires.board; own = i.same ∙ c.requires.own; cuts = cuts_of _ _ _ _ _ i.dealing }
+    let k = c.args.board.now.shared.key in
+    (i.same ∙ c.requires.own, omega arith, cuts_as g.T.Kept.origin g.T.Kept.entries g.T.Kept.worker_of g.T.Kept.undone k.opening.value k.workers _ _ (cuts_of _ _ _ _ _ i.dealing))
 
 pub loop-w-preserved : goal.loop-w-preserved
 loop-w-preserved g c =
     let i = c.loop-w.invariant in
     let a = c.push_reserved.ensures in
-    let cut = c.cut-pass.ensures in
+    let cut = c.split_seat-first.ensures in
+    let pass = cut_pass c.split_seat-first.result.table_id _ _ (cuts_of _ _ _ _ _ i.dealing) cut.4 in
     let len = i.room.0 in
     let cap = i.room.1 in
     let test = c.loop-w-test.true in
     record {
-      same = cut.same ∙ i.same;
-      begun = ap (λ m. m.0.opening) cut.left ∙ i.begun;
+      same = cut.0 ∙ i.same;
+      begun = ap (λ m. m.0.opening) cut.2 ∙ i.begun;
       room = (omega arith, omega arith);
-      dealing = dealt_more _ _ _ _ _ _ _ _ _ a.items a.len (omega arith) cut.left cut.pass i.dealing;
-      own = every_more _ _ _ _ a.items i.own (cut.book ∙ (λ j. record { table = i.same j; opening = i.begun j }));
+      dealing = dealt_more _ _ _ _ _ _ _ _ _ a.items a.len (omega arith) cut.2 (ap (λ m. m.0) (sym pass ∙ cut.4)) i.dealing;
+      own = every_more _ _ _ _ a.items i.own (λ j. record { table = (cut.3 ∙ i.same) j; opening = (ap (λ m. m.0.opening) cut.4 ∙ i.begun) j });
     }
-
-pub fresh-requires : goal.fresh-requires
-fresh-requires g c =
-    let i = c.loop-w.invariant in
-    let len = i.room.0 in
-    let some = c.requires.some in
-    let auto = c.loop-w.auto.w-end (omega arith) in
-    let test = c.loop-w-test.false in
-    (last_pass c.loop-w.seat.table_id _ _ _ _ _ (omega arith) i.dealing).1
 
 pub returns-clause-parts : goal.returns-clause-parts
 returns-clause-parts g c =
@@ -52,9 +48,9 @@ returns-clause-parts g c =
     let some = c.requires.some in
     let auto = c.loop-w.auto.w-end (omega arith) in
     let test = c.loop-w-test.false in
-    dealt_all c.loop-w.seat.table_id _ _ _ _ _ _ _ c.push_reserved-2.ensures.items (omega arith) c.fresh.ensures i.dealing
+    dealt_all c.loop-w.seat.table_id _ _ _ _ _ _ _ c.push_reserved-2.ensures.items (omega arith) refl i.dealing
 
 pub returns-clause-own : goal.returns-clause-own
 returns-clause-own g c =
     let i = c.loop-w.invariant in
-    every_more _ _ _ _ c.push_reserved-2.ensures.items i.own (ap (λ p. p.book) c.fresh.ensures ∙ (λ j. record { table = i.same j; opening = i.begun j }))
+    every_more _ _ _ _ c.push_reserved-2.ensures.items i.own (λ j. record { table = i.same j; opening = i.begun j })

@@ -1,7 +1,7 @@
-use Rattle.std.proofs.Common.{rules, arith, ◌≤◌, ◌<◌, map, vec_items, length, sym, ap, subst, ◌∙◌}
+use Rattle.std.proofs.Common.{rules, arith, ◌≡◌, ◌≤◌, ◌<◌, map, vec_items, length, sym, ap, subst, ◌∙◌}
 use Rattle.std.proofs.lemmas.List.{length-map}
 use Rattle.step_record.specs.declared.worker.TheConstants.{MAX_WORKERS}
-use Rattle.turn_book.specs.Faults.{IsOpenCause}
+use Rattle.turn_book.specs.Faults.{value_in, IsOpenCause}
 use Rattle.turn_book.specs.declared.book.TheConstants.{MAX_TURNS}
 use Rattle.workers.specs.DriveFaults.{CanRun}
 use Rattle.workers.specs.Runs.{IsRunUpTo}
@@ -15,10 +15,10 @@ use Rattle.workers.proofs.Collecting.{came_back, every_map, run_up_to}
 use Rattle.workers.proofs.RunResults.{moved_run, whole_run, free_of}
 use Rattle.workers.proofs.Turning.{within_first}
 use Rattle.workers.proofs.run.drive.Goals as goal
-use Rattle.workers.proofs.run.drive.Goals.{After-sound}
+use Rattle.workers.proofs.run.drive.Goals.{After-len-earlier, After-sound}
 
 -- what was looked at before the run began: so many workers can run
-can-run : (g : _) (c : goal.After-sound g) → CanRun (map (λ p. vec_items p) c.args.pieces.items) c.args.session.engine
+can-run : (g : _) (c : goal.After-len-earlier g) → CanRun (map (λ p. vec_items p) c.args.pieces.items) c.args.session.engine
 can-run g c =
     let many = length-map c.args.pieces.items (λ p. vec_items p) in
     let ok = c.args.pieces.ok.0 in
@@ -103,16 +103,22 @@ returns-in-None-clause-free g c =
     (ap (λ x. length x.stripes) (sym shell) ∙ stripes.count ∙ stripes.stripes ∙ ap (λ x. x.config.stripes) shell) c.engine-shell.ensures.sound.stands run c.sound.ensures.legal c.sound.ensures.stands
 
 pub returns-in-None-clause-accepted : goal.returns-in-None-clause-accepted
-returns-in-None-clause-accepted g c = can-run g (goal.at.returns-in-None-clause-accepted g c).After-sound
+returns-in-None-clause-accepted g c = can-run g (goal.at.returns-in-None-clause-accepted g c).After-len-earlier
 
 pub returns-in-Ok-open-clause-fault : goal.returns-in-Ok-open-clause-fault
 returns-in-Ok-open-clause-fault g c =
     let here = (goal.at.returns-in-Ok-open-clause-fault g c).After-sound in (
-      can-run g here,
+      can-run g (goal.at.returns-in-Ok-open-clause-fault g c).After-len-earlier,
       c.sound.ensures.legal,
       subst (λ o. IsRunUpTo o c.args.session.engine.config.stripes (map (λ p. vec_items p) c.args.pieces.items) c.args.session c.close-session.result) c.in-Some-cause.is (run-of g here),
       c.len-earlier.ensures.len,
     )
+
+pub returns-in-Err-OutOfMemory-clause-fault : goal.returns-in-Err-OutOfMemory-clause-fault
+returns-in-Err-OutOfMemory-clause-fault g c = (
+  subst (λ f. value_in f ≡ c.args.session) c.in-Err-OutOfMemory.field-0-is c.in-Err-OutOfMemory.ensures.returned,
+  can-run g (goal.at.returns-in-Err-OutOfMemory-clause-fault g c).After-len-earlier,
+)
 
 pub unreachable-requires : goal.unreachable-requires
 unreachable-requires g c =
