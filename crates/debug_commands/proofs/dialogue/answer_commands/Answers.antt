@@ -56,6 +56,6 @@ lines-preserved g c =
           (a_round (g.R.Read.remaining c.read_line.new.input) (g.W.Write.contents c.flush.new.writer) c.lines.invariant.ahead c.lines.invariant.same
           c.dialect.ensures c.as_slice.ensures.value c.line-said.ensures c.clear-in-lines.ensures.items c.in_ok-answer.ensures.answer
           c.in_ok-fed.ensures.read c.in_ok-fed.ensures.feeds c.in_ok-fed.ensures.room c.as_slice-in-lines.ensures.value (flushed (g.W.Write.contents c.lines.out) (g.W.Write.contents c.write_some.new.writer) (g.W.Write.contents c.flush.new.writer) c.as_slice-in-lines.result.now
-    c.in_ok-write_some.ensures.bytes c.in_ok-flush.ensures.bytes))
+          c.in_ok-write_some.ensures.bytes c.in_ok-flush.ensures.bytes))
           c.if-not-fed.false (sym (ap is_quit said) ∙ (sym c.is_quit.ensures ∙ c.if-is_quit.false));
     }
