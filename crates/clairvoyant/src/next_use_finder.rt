@@ -61,6 +61,20 @@ impl NextUseFinder {
         Ok(())
     }
 
+    /// How many accesses there are so far.
+    pub fn len(&self) -> usize
+        ensures { result ≡ length self.now }
+    {
+        self.after.len()
+    }
+
+    /// The next uses of the accesses so far, as the whole trace. The only error is out of memory.
+    pub fn finish(self, alloc: Global) -> Result<NextUse, AllocError>
+        ensures { IfOk result (λ u. u ≡ self) }
+    {
+        NextUse::of_found(alloc, self.keys, self.after)
+    }
+
     // The finder once it has taken these accesses too.
     fn with(self, more: &[Key]) -> Result<NextUseFinder, AllocError>
         requires { length self + length more.now ≤ MAX_ACCESSES }
@@ -81,19 +95,5 @@ impl NextUseFinder {
         }
         let keys = keys.with(more)?;
         Ok(NextUseFinder { keys, after, last })
-    }
-
-    /// How many accesses there are so far.
-    pub fn len(&self) -> usize
-        ensures { result ≡ length self.now }
-    {
-        self.after.len()
-    }
-
-    /// The next uses of the accesses so far, as the whole trace. The only error is out of memory.
-    pub fn finish(self, alloc: Global) -> Result<NextUse, AllocError>
-        ensures { IfOk result (λ u. u ≡ self) }
-    {
-        NextUse::of_found(alloc, self.keys, self.after)
     }
 }
