@@ -33,6 +33,16 @@ impl PackedKeys {
         }
     }
 
+    /// How many keys there are.
+    pub(crate) fn len(&self) -> usize
+        ensures { result ≡ length (unpacked self.now) }
+    {
+        match self {
+            PackedKeys::Short(short) => short.len(),
+            PackedKeys::Long(long) => long.len(),
+        }
+    }
+
     /// The key at a place.
     pub(crate) fn get(&self, place: usize) -> Key
         requires { place < length (unpacked self.now) }

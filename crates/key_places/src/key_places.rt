@@ -64,7 +64,7 @@ impl KeyPlaces {
             return self.put_past(key, place);
         }
         let number = mem::replace(&mut self.low[key as usize], place + 1);
-        if number == 0 && !self.high.is_empty() {
+        if !self.high.is_empty() && number == 0 {
             return Ok(self.in_map(key));
         }
         Ok(number.checked_sub(1))
