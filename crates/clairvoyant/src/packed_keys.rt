@@ -33,6 +33,16 @@ impl PackedKeys {
         }
     }
 
+    /// How many keys there are.
+    pub(crate) fn len(&self) -> usize
+        ensures { result ≡ length (unpacked self.now) }
+    {
+        match self {
+            PackedKeys::Short(short) => short.len(),
+            PackedKeys::Long(long) => long.len(),
+        }
+    }
+
     /// The key at a place.
     pub(crate) fn get(&self, place: usize) -> Key
         requires { place < length (unpacked self.now) }
@@ -50,7 +60,7 @@ fn short_with(mut short: Vec<u32>, more: &[Key]) -> Result<PackedKeys, AllocErro
     ensures { IfOk result (λ p. unpacked p ≡ short.items ++ more.now) }
 {
     make_room(&mut short, more.len())?;
-    let fitting = push_fitting(&mut short, more);
+    let (fitting, short) = with_fitting(short, more);
     if fitting == more.len() {
         return Ok(PackedKeys::Short(short));
     }
@@ -67,19 +77,21 @@ fn long_with(mut long: Vec<Key>, more: &[Key]) -> Result<PackedKeys, AllocError>
     Ok(PackedKeys::Long(long))
 }
 
-// Adds the keys up to the first that does not fit in 4 bytes, and returns how many.
-fn push_fitting(short: &mut Vec<u32>, more: &[Key]) -> usize
-    requires { vec_len short.old + length more.now ≤ vec_capacity short.old }
-    ensures within { result ≤ length more.now }
-    ensures items { short.new.items ≡ short.old.items ++ take result more.now }
+// Short keys and those of others up to the first that does not fit in 4 bytes, and how many these are. The list is a
+// local, so that the loop has its length in a register.
+fn with_fitting(short: Vec<u32>, more: &[Key]) -> (usize, Vec<u32>)
+    requires { vec_len short + length more.now ≤ vec_capacity short }
+    ensures within { result.0 ≤ length more.now }
+    ensures items { result.1.items ≡ short.items ++ take result.0 more.now }
 {
+    let mut list = short;
     for i in 0..more.len() {
         if more[i] > u32::MAX as Key {
-            return i;
+            return (i, list);
         }
-        short.push_reserved(more[i] as u32);
+        list.push_reserved(more[i] as u32);
     }
-    more.len()
+    (more.len(), list)
 }
 
 // The keys in 8 bytes each.

@@ -23,10 +23,11 @@ pub struct KeyPlaces {
     high: HashMap<Key, u32>,
 }
 
-// The table reaches keys below so many times the place of an access, and so many more: at most some 32 bytes an access.
+// The table takes keys below so many times the place of an access, and so many more, and is no longer than that: 16 bytes
+// an access and 4 MB, where keys are that high.
 const TABLE_SHARE: u64 = 4;
 
-const TABLE_START: u64 = 16_384;
+const TABLE_START: u64 = 1 << 20;
 
 impl KeyPlaces {
     /// No places yet.
@@ -63,7 +64,7 @@ impl KeyPlaces {
             return self.put_past(key, place);
         }
         let number = mem::replace(&mut self.low[key as usize], place + 1);
-        if number == 0 && !self.high.is_empty() {
+        if !self.high.is_empty() && number == 0 {
             return Ok(self.in_map(key));
         }
         Ok(number.checked_sub(1))
@@ -79,10 +80,11 @@ impl KeyPlaces {
         ensures updates { OnOk result ((k : ℕ) →
             place_of self.new k ≡ cond (nat_eq key k) (Some place) (place_of self.old k)) }
     {
-        if key >= TABLE_SHARE * place as u64 + TABLE_START {
+        let reach = TABLE_SHARE * place as u64 + TABLE_START;
+        if key >= reach {
             return Ok(self.high.insert(key, place)?);
         }
-        self.grow(key as usize + 1)?;
+        self.grow(key as usize + 1, reach as usize)?;
         self.low[key as usize] = place + 1;
         Ok(self.in_map(key))
     }
@@ -95,17 +97,19 @@ impl KeyPlaces {
         self.high.get(&key).copied()
     }
 
-    // Makes the table at least so long, and at least twice as long as it was, so that it grows few times.
+    // Makes the table at least so long: twice as long as it was, where that is no more than `most`, so that it grows few
+    // times.
     #[cold]
     #[inline(never)]
-    fn grow(&mut self, len: usize) -> Result<(), AllocError>
-        requires longer { length self.old.low.items < len }
-        requires short { len < 2 ^ 63 }
-        ensures long { OnOk result (len ≤ length self.new.low.items) }
+    fn grow(&mut self, least: usize, most: usize) -> Result<(), AllocError>
+        requires longer { length self.old.low.items < least }
+        requires within { least ≤ most }
+        requires short { most < 2 ^ 63 }
+        ensures long { OnOk result (least ≤ length self.new.low.items) }
         ensures low { (k : ℕ) → slice_index self.new.low.items k ≡ slice_index self.old.low.items k }
         ensures high { self.new.high ≡ self.old.high }
     {
-        let len = len.max(2 * self.low.len());
+        let len = least.max(most.min(2 * self.low.len()));
         self.low.resize(len, 0)
     }
 }

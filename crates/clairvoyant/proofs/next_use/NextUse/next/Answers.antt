@@ -1,7 +1,7 @@
 use Rattle.std.proofs.Common.{◌∙◌, ℕ, List, ap, subst, get_or}
 use Rattle.std.specs.Arc.{arc_value}
 use Rattle.clairvoyant.specs.Uses.{AreNextUses}
-use Rattle.clairvoyant.proofs.Finding.{read-next}
+use Rattle.clairvoyant.proofs.Building.{read-next}
 use Rattle.clairvoyant.proofs.next_use.NextUse.next.Goals as goal
 
 pub returns-then-after : goal.returns-then-after

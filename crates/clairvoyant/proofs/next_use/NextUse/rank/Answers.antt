@@ -1,4 +1,4 @@
-use Rattle.clairvoyant.proofs.Finding.{next-within}
+use Rattle.clairvoyant.proofs.Building.{next-within}
 use Rattle.clairvoyant.proofs.next_use.NextUse.rank.Goals as goal
 
 pub rank_by-requires-clause-next : goal.rank_by-requires-clause-next

@@ -1,0 +1,23 @@
+use Rattle.std.proofs.Common.{◌≡◌, suc, ◌-◌, ◌<◌, length, get_or, arith, refl, ◌∙◌}
+use Rattle.clairvoyant.specs.PackedKeys.{unpacked}
+use Rattle.clairvoyant.specs.Uses.{next, next_from, number_of}
+use Rattle.clairvoyant.proofs.Building.{next-back, number-back, set-back, set-long}
+use Rattle.clairvoyant.proofs.next_use_finder.next_uses_of.Goals as goal
+
+pub loop-back-preserved : goal.loop-back-preserved
+loop-back-preserved c =
+    let t = unpacked c.args.keys.now in
+    let len = c.len-len.result in
+    let back = c.loop-back.back in
+    let inv = c.loop-back.invariant in
+    let lt : back < len = c.loop-back-test.true in
+    let key = c.get.result in
+    let found : c.in_ok-next.next ≡ next_from t (len - back) key = c.in_ok-next.ensures.old ∙ inv.following key in
+    record {
+      len = inv.len;
+      few = inv.few;
+      long = set-long c.loop-back.after.items _ _ len inv.long;
+      following = λ k. next-back t len back k key _ _ inv.len lt c.get.ensures (c.in_ok-next.ensures.updates k) (inv.following k);
+      right = set-back (λ i v. v ≡ number_of (next t i (get_or t i 0))) c.loop-back.after.items len back c.number_of.result inv.long lt
+          (number-back t len back key c.number_of.result c.in_ok-next.next inv.len lt c.get.ensures found c.number_of.ensures) inv.right;
+    }
