@@ -1,57 +1,68 @@
-//! A trace with the next use of each access, found beforehand.
+//! A trace with the next use of each access.
 ghost use Rattle.std.specs.Prelude.{◌≡◌, ℕ, suc, ◌-◌, ◌*◌, ◌<◌, ◌≤◌, IfOk, IfSome, length, slice_index};
 ghost use Rattle.step_record.specs.declared.limits.TheConstants.{MAX_ACCESSES};
-ghost use Rattle.clairvoyant.specs.Uses.{AreRanksOf, next, rank, rank_by, key_at};
+ghost use Rattle.clairvoyant.specs.Uses.{AreNextUses, next, rank, rank_by, key_at};
+ghost use Rattle.clairvoyant.specs.PackedKeys.{unpacked};
 
+use crate::next_use_finder::NextUseFinder;
 use crate::packed_keys::PackedKeys;
-use key_places::KeyPlaces;
 use std::alloc::{AllocError, Global};
 use std::marker::Model;
 use std::sync::Arc;
 use step_record::{Key, Trace};
 
-/// The accesses of a trace, with the next use of each one's key.
-///
-/// It is kept as a rank, one number a key: of a trace of `n` accesses, a key that is used next at
-/// place `p` has rank `2 * n - 1 - p`, and a key that is never used again has the place of its
-/// last access for its rank. So the key whose next use is farthest ranks least, and of keys that
-/// are never used again the one whose last access is earliest.
+/// The accesses of a trace, with the next use of each one's key: the place of the next access to it. Each access takes
+/// 8 bytes, or 12 where a key of the trace is 2^32 or more.
 ///
 /// It is found once, and any number of caches, on any threads, can read it.
 #[derive(Drop)]
 pub struct NextUse {
-    found: Arc<RankedTrace>,
+    found: Arc<FoundUses>,
 }
 
-// The keys of the accesses, and the rank of each one's key after it.
+// The keys of the accesses, and for each the place of the next access to it, or `NEVER`.
 #[derive(Drop)]
-struct RankedTrace {
+struct FoundUses {
     keys: PackedKeys,
-    ranks: Vec<u32>,
+    after: Vec<u32>,
 }
+
+// Past all places.
+pub(crate) const NEVER: u32 = u32::MAX;
 
 impl Model for NextUse {
     ghost use Rattle.std.specs.Prelude.{ℕ, List};
     ghost use Rattle.std.specs.Arc.{arc_value};
-    ghost use Rattle.clairvoyant.specs.Uses.{AreRanksOf};
+    ghost use Rattle.clairvoyant.specs.Uses.{AreNextUses};
     ghost use Rattle.clairvoyant.specs.PackedKeys.{unpacked};
 
     ghost Value = { List ℕ };
 
     ghost view = { λ u. unpacked (arc_value u.found).keys };
 
-    ghost invariant = { λ u. AreRanksOf (unpacked (arc_value u.found).keys) (arc_value u.found).ranks.items };
+    ghost invariant = { λ u. AreNextUses (unpacked (arc_value u.found).keys) (arc_value u.found).after.items };
 }
 
 impl NextUse {
-    /// The trace with each next use, found in one pass from its end. The only error is that an allocation
-    /// failed.
+    /// The trace with each next use, found in one pass over it. The only error is that an allocation failed.
     pub fn build(alloc: Global, trace: &Trace) -> Result<NextUse, AllocError>
         ensures { IfOk result (λ u. u ≡ trace.now) }
     {
-        let ranks = ranks_of(alloc, trace.keys())?;
-        let keys = PackedKeys::pack(alloc, trace.keys())?;
-        let found = Arc::new(alloc, RankedTrace { keys, ranks })?;
+        let mut finder = NextUseFinder::new(alloc);
+        finder.take(trace.keys())?;
+        finder.finish(alloc)
+    }
+
+    // The next uses, from the keys and the number of each one's next use. The only error is out of memory.
+    pub(crate) fn of_found(
+        alloc: Global,
+        keys: PackedKeys,
+        after: Vec<u32>,
+    ) -> Result<NextUse, AllocError>
+        requires { AreNextUses (unpacked keys) after.items }
+        ensures { IfOk result (λ u. u ≡ unpacked keys) }
+    {
+        let found = Arc::new(alloc, FoundUses { keys, after })?;
         Ok(NextUse { found })
     }
 
@@ -69,7 +80,7 @@ impl NextUse {
         ensures len { result ≡ length self.now }
         ensures few { result ≤ MAX_ACCESSES }
     {
-        self.found.ranks.len()
+        self.found.after.len()
     }
 
     /// The key of the access at a place.
@@ -86,22 +97,26 @@ impl NextUse {
         requires { place < length self.now }
         ensures { result ≡ next self.now place (slice_index self.now place) }
     {
-        let len = self.len();
-        let rank = self.rank(place) as usize;
-        if rank < len {
-            None
-        } else {
-            Some((2 * len - 1 - rank) as u32)
+        let after = self.found.after[place];
+        if after == NEVER {
+            return None;
         }
+        Some(after)
     }
 
     /// The rank of the key that is accessed at a place, after that access.
+    ///
+    /// A rank is one number for when a key is used next: in a trace of `n` accesses, a key that is used next at place
+    /// `p` has rank `2 * n - 1 - p`, and a key that is never used again has the place of its last access for its rank.
+    /// So the key whose next use is farthest ranks least, and of keys that are never used again the one whose last
+    /// access is earliest.
     pub(crate) fn rank(&self, place: usize) -> u32
         requires { place < length self.now }
         ensures rank { result ≡ rank self.now (suc place) (slice_index self.now place) }
         ensures within { result < 2 * length self.now }
     {
-        self.found.ranks[place]
+        let next = self.next(place);
+        rank_by(self.len(), next, place)
     }
 
     /// The key that a rank is of.
@@ -116,23 +131,6 @@ impl NextUse {
             self.key(2 * len - 1 - rank)
         }
     }
-}
-
-// The rank of each access's key after it. The places of the keys, which it goes by, are gone at its end, so the keys
-// of the trace can be packed where they were.
-fn ranks_of(alloc: Global, keys: &[Key]) -> Result<Vec<u32>, AllocError>
-    requires { length keys.now ≤ MAX_ACCESSES }
-    ensures { IfOk result (λ ranks. AreRanksOf keys.now ranks.items) }
-{
-    let len = keys.len();
-    let mut ranks: Vec<u32> = vec![in alloc; 0; len]?;
-    let mut following = KeyPlaces::new(alloc, keys)?;
-    for back in 0..len {
-        let place = len - 1 - back;
-        let next = following.put(keys[place], place as u32)?;
-        ranks[place] = rank_by(len, next, place);
-    }
-    Ok(ranks)
 }
 
 // The rank of a key that is used next at one place and was used last at another.

@@ -1,11 +1,13 @@
 //! The keys of a trace, in 4 bytes each where they fit.
-ghost use Rattle.std.specs.Prelude.{◌≡◌, ◌<◌, IfOk, IfSome, length, slice_index};
+ghost use Rattle.std.specs.Prelude.{◌≡◌, ◌<◌, ◌≤◌, ◌+◌, ◌++◌, [], IfOk, OnOk, length, slice_index, take};
+ghost use Rattle.std.specs.Vec.{vec_len, vec_capacity};
 ghost use Rattle.clairvoyant.specs.PackedKeys.{unpacked};
 
+use crate::room::make_room;
 use std::alloc::{AllocError, Global};
 use step_record::Key;
 
-/// The keys of a trace's accesses, in order: in 4 bytes each where all of them fit, as the numbers
+/// The keys of a trace's accesses, in order: in 4 bytes each while all of them fit, as the numbers
 /// of blocks mostly do, else in 8.
 #[derive(Drop)]
 pub(crate) enum PackedKeys {
@@ -14,16 +16,20 @@ pub(crate) enum PackedKeys {
 }
 
 impl PackedKeys {
-    /// These keys. The only error is out of memory.
-    pub(crate) fn pack(alloc: Global, keys: &[Key]) -> Result<PackedKeys, AllocError>
-        ensures { IfOk result (λ p. unpacked p ≡ keys.now) }
+    /// No keys yet.
+    pub(crate) fn new(alloc: Global) -> PackedKeys
+        ensures { unpacked result ≡ [] }
     {
-        match shortened(alloc, keys)? {
-            Some(short) => Ok(PackedKeys::Short(short)),
-            None => {
-                let long = Vec::from_slice(alloc, keys)?;
-                Ok(PackedKeys::Long(long))
-            }
+        PackedKeys::Short(Vec::new(alloc))
+    }
+
+    /// These keys and more. The only error is out of memory.
+    pub(crate) fn with(self, more: &[Key]) -> Result<PackedKeys, AllocError>
+        ensures { IfOk result (λ p. unpacked p ≡ unpacked self ++ more.now) }
+    {
+        match self {
+            PackedKeys::Short(short) => short_with(short, more),
+            PackedKeys::Long(long) => long_with(long, more),
         }
     }
 
@@ -39,16 +45,50 @@ impl PackedKeys {
     }
 }
 
-// The keys in 4 bytes each, or `None` where one of them does not fit.
-fn shortened(alloc: Global, keys: &[Key]) -> Result<Option<Vec<u32>>, AllocError>
-    ensures { IfOk result (λ short. IfSome short (λ s. s.items ≡ keys.now)) }
+// Short keys and more, all of them in 8 bytes each where one does not fit in 4.
+fn short_with(mut short: Vec<u32>, more: &[Key]) -> Result<PackedKeys, AllocError>
+    ensures { IfOk result (λ p. unpacked p ≡ short.items ++ more.now) }
 {
-    let mut short = Vec::with_capacity(alloc, keys.len())?;
-    for key in keys {
-        if *key > u32::MAX as Key {
-            return Ok(None);
-        }
-        short.push(*key as u32)?;
+    make_room(&mut short, more.len())?;
+    let fitting = push_fitting(&mut short, more);
+    if fitting == more.len() {
+        return Ok(PackedKeys::Short(short));
     }
-    Ok(Some(short))
+    let long = widened(&short)?;
+    long_with(long, &more[fitting..])
+}
+
+// Long keys and more.
+fn long_with(mut long: Vec<Key>, more: &[Key]) -> Result<PackedKeys, AllocError>
+    ensures { IfOk result (λ p. unpacked p ≡ long.items ++ more.now) }
+{
+    make_room(&mut long, more.len())?;
+    long.extend_from_slice(more)?;
+    Ok(PackedKeys::Long(long))
+}
+
+// Adds the keys up to the first that does not fit in 4 bytes, and returns how many.
+fn push_fitting(short: &mut Vec<u32>, more: &[Key]) -> usize
+    requires { vec_len short.old + length more.now ≤ vec_capacity short.old }
+    ensures within { result ≤ length more.now }
+    ensures items { short.new.items ≡ short.old.items ++ take result more.now }
+{
+    for i in 0..more.len() {
+        if more[i] > u32::MAX as Key {
+            return i;
+        }
+        short.push_reserved(more[i] as u32);
+    }
+    more.len()
+}
+
+// The keys in 8 bytes each.
+fn widened(short: &Vec<u32>) -> Result<Vec<Key>, AllocError>
+    ensures { IfOk result (λ long. long.items ≡ short.now.items) }
+{
+    let mut long = Vec::with_capacity(*short.allocator(), short.len())?;
+    for key in short {
+        long.push(*key as Key)?;
+    }
+    Ok(long)
 }

@@ -1,5 +1,6 @@
 //! The place of each key.
-ghost use Rattle.std.specs.Prelude.{◌≡◌, ℕ, ◌<◌, ◌≤◌, cond, nat_eq, Some, None, IfOk, IfSome, OnOk, length};
+ghost use Rattle.std.specs.Prelude.{◌≡◌, ℕ, ◌<◌, ◌≤◌, cond, nat_eq, Some, None, IfOk, IfSome, OnOk, length, slice_index, ◌^◌};
+ghost use Rattle.std.specs.HashMap.{get};
 ghost use Rattle.step_record.specs.declared.limits.TheConstants.{MAX_ACCESSES};
 ghost use Rattle.key_places.specs.KeyPlaces.{place_of};
 
@@ -8,29 +9,38 @@ use std::collections::HashMap;
 use std::mem;
 use step_record::Key;
 
-/// A place of the trace for each key that was put. A key that is less than the number of accesses, as those of blocks
-/// mostly are, has its place in a table, by the key itself, in 4 bytes; every other key has it in a hash map, which on
-/// a long trace misses the processor's caches at nearly each access.
+/// A place of the trace for each key that was put. Keys that are low for the number of accesses so far, as those of
+/// blocks mostly are, have theirs in a table, by the key itself, in 4 bytes; every other key has it in a hash map,
+/// which on a long trace misses the processor's caches at nearly each access.
+///
+/// The table grows as such keys come. A key that came before the table reached it has its place in the map until it is
+/// put again; from then on the table has its place, and the map's is not read any more.
 #[derive(Drop)]
 pub struct KeyPlaces {
     // One more than the place of each key below the table's length, or 0.
     low: Vec<u32>,
-    // The places of the other keys.
+    // The places of the keys that were put past the table.
     high: HashMap<Key, u32>,
 }
 
+// The table reaches keys below so many times the place of an access, and so many more: at most some 32 bytes an access.
+const TABLE_SHARE: u64 = 4;
+
+const TABLE_START: u64 = 16_384;
+
 impl KeyPlaces {
-    /// No places yet, with a table for a trace's keys. The only error is out of memory.
-    pub fn new(alloc: Global, keys: &[Key]) -> Result<KeyPlaces, AllocError>
-        ensures { IfOk result (λ p. (k : ℕ) → place_of p k ≡ None) }
+    /// No places yet.
+    pub fn new(alloc: Global) -> KeyPlaces
+        ensures { (k : ℕ) → place_of result k ≡ None }
     {
-        let low: Vec<u32> = vec![in alloc; 0; table_len(keys)]?;
-        let high = HashMap::with_capacity(alloc, past_table(keys) / 4)?;
-        Ok(KeyPlaces { low, high })
+        KeyPlaces {
+            low: Vec::new(alloc),
+            high: HashMap::new(alloc),
+        }
     }
 
-    /// The place of a key that the table reaches, `None` for any other key: for reads ahead of `put`, which do not depend
-    /// on one another, so that the processor overlaps them.
+    /// The place of a key that has one in the table, `None` for any other key: for reads ahead of `put`, which do not
+    /// depend on one another, so that the processor overlaps them.
     #[inline(always)]
     pub fn in_table(&self, key: Key) -> Option<u32>
         ensures { IfSome result (λ p. place_of self.now key ≡ Some p) }
@@ -49,39 +59,53 @@ impl KeyPlaces {
         ensures updates { OnOk result ((k : ℕ) →
             place_of self.new k ≡ cond (nat_eq key k) (Some place) (place_of self.old k)) }
     {
-        if key < self.low.len() as u64 {
-            let before = mem::replace(&mut self.low[key as usize], place + 1);
-            return Ok(before.checked_sub(1));
+        if key >= self.low.len() as u64 {
+            return self.put_past(key, place);
         }
-        self.put_past(key, place)
+        let number = mem::replace(&mut self.low[key as usize], place + 1);
+        if number == 0 && !self.high.is_empty() {
+            return Ok(self.in_map(key));
+        }
+        Ok(number.checked_sub(1))
     }
 
     // The same for a key that the table does not reach, out of line: a loop over keys that it does reach then saves no
-    // registers for the map.
+    // registers for it.
     #[inline(never)]
     fn put_past(&mut self, key: Key, place: u32) -> Result<Option<u32>, AllocError>
-        requires { length self.old.low.items ≤ key }
+        requires few { place < MAX_ACCESSES }
+        requires past { length self.old.low.items ≤ key }
         ensures old { IfOk result (λ o. o ≡ place_of self.old key) }
         ensures updates { OnOk result ((k : ℕ) →
             place_of self.new k ≡ cond (nat_eq key k) (Some place) (place_of self.old k)) }
     {
-        Ok(self.high.insert(key, place)?)
-    }
-}
-
-// How long the table is: it has a place for each key of the trace that is less than the number of accesses.
-fn table_len(keys: &[Key]) -> usize {
-    let mut len = 0;
-    for key in keys {
-        if *key < keys.len() as u64 {
-            len = len.max(*key as usize + 1);
+        if key >= TABLE_SHARE * place as u64 + TABLE_START {
+            return Ok(self.high.insert(key, place)?);
         }
+        self.grow(key as usize + 1)?;
+        self.low[key as usize] = place + 1;
+        Ok(self.in_map(key))
     }
-    len
-}
 
-// How many accesses the table does not reach. Room for a fourth of so many keys is made at once, since most keys come
-// several times; for more the map grows.
-fn past_table(keys: &[Key]) -> usize {
-    keys.iter().filter(|key| **key >= keys.len() as u64).count()
+    // The place that the map has for a key.
+    #[inline(never)]
+    fn in_map(&self, key: Key) -> Option<u32>
+        ensures { result ≡ get nat_eq self.now.high key }
+    {
+        self.high.get(&key).copied()
+    }
+
+    // Makes the table at least so long, and at least twice as long as it was, so that it grows few times.
+    #[cold]
+    #[inline(never)]
+    fn grow(&mut self, len: usize) -> Result<(), AllocError>
+        requires longer { length self.old.low.items < len }
+        requires short { len < 2 ^ 63 }
+        ensures long { OnOk result (len ≤ length self.new.low.items) }
+        ensures low { (k : ℕ) → slice_index self.new.low.items k ≡ slice_index self.old.low.items k }
+        ensures high { self.new.high ≡ self.old.high }
+    {
+        let len = len.max(2 * self.low.len());
+        self.low.resize(len, 0)
+    }
 }

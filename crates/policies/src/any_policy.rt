@@ -44,20 +44,25 @@ impl AnyPolicy {
         ensures stands { IfOk result (λ p. HasAccessed job.now trace.now [] p) }
         ensures fresh { IfOk result (λ p. (stats_in p).accesses ≡ 0) }
     {
-        AnyPolicy::open_with(alloc, job, trace, None)
+        match design_of(job.policy) {
+            Design::Queues(design) => {
+                let cache = QueueCache::with_design(alloc, *job, design)?;
+                Ok(AnyPolicy::Queues(cache))
+            }
+            Design::KnowsTrace => {
+                let uses = NextUse::build(alloc, trace)?;
+                let cache = Clairvoyant::open(alloc, uses, job.config.capacity)?;
+                Ok(AnyPolicy::Optimal(cache))
+            }
+        }
     }
 
-    /// The same, where the next uses of the trace may have been found before: several caches can then share them. The
-    /// policies other than Belady's have no need of them.
-    pub fn open_with(
-        alloc: Global,
-        job: &Job,
-        trace: &Trace,
-        uses: Option<&NextUse>,
-    ) -> Result<AnyPolicy, AllocError>
-        requires checked { config_fault job.now.config ≡ Ok tt }
-        requires uses { IfSome uses (λ u. u.now ≡ trace.now) }
-        ensures stands { IfOk result (λ p. HasAccessed job.now trace.now [] p) }
+    /// An empty cache for a job over the trace that these next uses are of: several caches can share them. The policies
+    /// other than Belady's have no need of them. It requires a configuration that `Config::check` accepts. The one error
+    /// is that an allocation failed.
+    pub fn open_with(alloc: Global, job: &Job, uses: &NextUse) -> Result<AnyPolicy, AllocError>
+        requires { config_fault job.now.config ≡ Ok tt }
+        ensures stands { IfOk result (λ p. HasAccessed job.now uses.now [] p) }
         ensures fresh { IfOk result (λ p. (stats_in p).accesses ≡ 0) }
     {
         match design_of(job.policy) {
@@ -66,11 +71,7 @@ impl AnyPolicy {
                 Ok(AnyPolicy::Queues(cache))
             }
             Design::KnowsTrace => {
-                let uses = match uses {
-                    Some(found) => found.share()?,
-                    None => NextUse::build(alloc, trace)?,
-                };
-                let cache = Clairvoyant::open(alloc, uses, job.config.capacity)?;
+                let cache = Clairvoyant::open(alloc, uses.share()?, job.config.capacity)?;
                 Ok(AnyPolicy::Optimal(cache))
             }
         }

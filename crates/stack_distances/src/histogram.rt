@@ -39,7 +39,7 @@ impl Histogram {
             (bit_of p.marks.words.items) p.counts.items) }
         ensures size { IfOk result (λ p. length keys.now ≤ FAN_OUT * length p.marks.words.items) }
     {
-        let last = KeyPlaces::new(alloc, keys)?;
+        let last = KeyPlaces::new(alloc);
         let marks = Marks::new(alloc, keys.len())?;
         Ok(Histogram {
             last,

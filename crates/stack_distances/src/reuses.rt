@@ -46,7 +46,7 @@ impl<'a> Reuses<'a> {
         ensures { IfOk result (λ r. r ≡ trace.now) }
     {
         let keys = trace.keys();
-        let mut last = KeyPlaces::new(alloc, keys)?;
+        let mut last = KeyPlaces::new(alloc);
         let mut before: Vec<u32> = vec![in alloc; 0; keys.len()]?;
         let mut after: Vec<u32> = vec![in alloc; NEVER; keys.len()]?;
         for place in 0..keys.len() {

@@ -1,9 +1,19 @@
-use Rattle.std.proofs.Common.{arith}
-use Rattle.clairvoyant.proofs.Uses.{next-none, next-some}
+use Rattle.std.proofs.Common.{◌∙◌, ℕ, List, ap, subst, get_or}
+use Rattle.std.specs.Arc.{arc_value}
+use Rattle.clairvoyant.specs.Uses.{AreNextUses}
+use Rattle.clairvoyant.proofs.Finding.{read-next}
 use Rattle.clairvoyant.proofs.next_use.NextUse.next.Goals as goal
 
-pub returns-then-rank-len : goal.returns-then-rank-len
-returns-then-rank-len c = next-none c.args.self.now c.args.place _ c.rank-rank.result c.requires c.rank-rank.ensures.rank (omega (arith, c.if-rank-len.true, c.len-len.ensures.len))
+pub returns-then-after : goal.returns-then-after
+returns-then-after c =
+    let after = (arc_value c.self.inside.found).after.items in
+    let P : List ℕ → Type 0 = λ t. AreNextUses t after in
+    (read-next c.args.self.now after c.args.place _ (subst P c.self.view_is c.self.invariant) c.requires
+    (c.index-after.ensures ∙ ap (λ f. get_or f.after.items c.args.place c.index-after.result.now) c.deref.ensures)).0 c.if-after.true
 
-pub returns-else-rank-len : goal.returns-else-rank-len
-returns-else-rank-len c = next-some c.args.self.now c.args.place c.rank-rank.result _ c.requires c.rank-rank.ensures.rank (omega (arith, c.if-rank-len.false, c.len-len.ensures.len)) (omega (arith, c.len-len.ensures.len))
+pub returns : goal.returns
+returns c =
+    let after = (arc_value c.self.inside.found).after.items in
+    let P : List ℕ → Type 0 = λ t. AreNextUses t after in
+    (read-next c.args.self.now after c.args.place _ (subst P c.self.view_is c.self.invariant) c.requires
+    (c.index-after.ensures ∙ ap (λ f. get_or f.after.items c.args.place c.index-after.result.now) c.deref.ensures)).1 c.if-after.false
