@@ -2,20 +2,19 @@
 ghost use Rattle.std.specs.Prelude.{◌≡◌, ◌≢◌, ◌⊎◌, IfErr, IfOk, IfSome, None, OnOk, Some};
 ghost use Rattle.policy_actors.specs.Faults.{actor_fault};
 ghost use Rattle.cachesim.specs.FaultCauses.{IsFoundIn, IsOfJobs, IsOfMachine};
-ghost use Rattle.cachesim.specs.Jobs.{jobs_by_policy, reports_on};
+ghost use Rattle.cachesim.specs.Jobs.{jobs_by_policy};
 ghost use Rattle.cachesim.specs.Run.{AreReportsOn, Reports};
-ghost use Rattle.job_checks.specs.FaultyJobs.{ReturnsFault};
 
 use crate::fault::Fault;
 use command_line::RunArguments;
-use policy_actors::{ActorFault, can_run_reading, run_actors, run_reading};
+use policy_actors::{check_run, run_reading};
 use progress::{Watch, Work};
 use report::{Report, write_reports};
 use std::alloc::{AllocError, Global};
 use std::io::{Read, Write};
 use std::sync::Wait;
 use std::thread::Threads;
-use step_record::{Config, Job, Policy, Trace};
+use step_record::{Config, Job, Policy};
 use trace_read::read_trace;
 
 /// A job for each policy, in order, all on one configuration. The one error is out of memory.
@@ -58,8 +57,8 @@ pub fn run<T: Threads + Wait + Sync, R: Read, W: Write, P: Watch>(
     Ok(())
 }
 
-// The reports of the jobs, each run on a thread of its own: while the trace is read, where no policy goes by the whole
-// trace.
+// The reports of the jobs, each run on a thread of its own while the trace is read. Where jobs cannot be run, that is
+// the fault of a trace without one.
 fn reports<T: Threads + Wait + Sync, R: Read, P: Watch>(
     rt: &T,
     alloc: Global,
@@ -73,40 +72,20 @@ fn reports<T: Threads + Wait + Sync, R: Read, P: Watch>(
     ensures fault { IfErr result (λ fault. IsOfMachine fault ⊎ IfSome (R.remaining input.old)
         (IsFoundIn arguments.now.format (IsOfJobs (actor_fault arguments.now.batch jobs.now)) fault)) }
 {
-    if can_run_reading(arguments.batch, jobs) {
-        watch.begin(Work::of_unknown_length("run"));
-        let reports = run_reading(
-            rt,
-            alloc,
-            input,
-            arguments.format,
-            jobs,
-            arguments.batch,
-            watch,
-        );
-        watch.end();
-        Ok(reports?)
-    } else {
-        let trace = read_trace(alloc, input, arguments.format)?;
-        let reports = reports_on(rt, alloc, &trace, jobs, arguments.batch, watch)?;
-        Ok(reports)
+    if let Err(fault) = check_run(arguments.batch, jobs) {
+        read_trace(alloc, input, arguments.format)?;
+        return Err(Fault::from(fault));
     }
-}
-
-// The reports of the jobs over a trace, each run on a thread of its own.
-fn reports_on<T: Threads + Wait + Sync, P: Watch>(
-    rt: &T,
-    alloc: Global,
-    trace: &Trace,
-    jobs: &[Job],
-    batch: u32,
-    watch: &P,
-) -> Result<Vec<Report>, ActorFault>
-    ensures reports { IfOk result (λ v. v.items ≡ reports_on jobs.now trace.now) }
-    ensures fault { ReturnsFault (actor_fault batch jobs.now) result }
-{
-    watch.begin(Work::in_batches("run", jobs.len(), trace.len(), batch));
-    let reports = run_actors(rt, alloc, trace, jobs, batch, watch);
+    watch.begin(Work::of_unknown_length("run"));
+    let reports = run_reading(
+        rt,
+        alloc,
+        input,
+        arguments.format,
+        jobs,
+        arguments.batch,
+        watch,
+    );
     watch.end();
-    reports
+    Ok(reports?)
 }

@@ -1,7 +1,5 @@
 -- Of a reading, and of a run that stands on it.
-use Rattle.std.proofs.Common.{◌≡◌, ◌≢◌, ◌≤◌, ◌<◌, ℕ, List, Option, Some, None, Result, Ok, Err, IfOk, IfSome, length, ap, subst, refl}
-use Rattle.step_record.specs.declared.limits.TheConstants.{MAX_TRACE_BYTES}
-use Rattle.streams.specs.GivenBytes.{ReadAtMost}
+use Rattle.std.proofs.Common.{◌≡◌, ℕ, List, Option, Some, None, Result, Ok, Err, IfOk, IfSome, ap, subst, refl}
 use Rattle.trace_read.specs.declared.format.Format.{Format}
 use Rattle.trace_read.specs.declared.fault.TraceFault.{TraceFault}
 use Rattle.trace_read.specs.declared.fault.TraceFault.TheVariants.{OutOfMemory, TooLarge}

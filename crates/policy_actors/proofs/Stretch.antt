@@ -1,5 +1,5 @@
 -- A stretch of keys, and the one that is left of it behind its front.
-use Rattle.std.proofs.Common.{◌≡◌, ◌⊎◌, ℕ, ◌+◌, ◌-◌, ◌<◌, ◌≤◌, List, [], length, take, drop, min, true, false, Bool, Option, Some, None, IfSome, sym, ap, ◌∙◌, refl, arith, ⊎_elim, length-drop}
+use Rattle.std.proofs.Common.{◌≡◌, ℕ, ◌+◌, ◌-◌, ◌<◌, ◌≤◌, List, [], length, take, drop, min, true, false, Bool, Option, Some, None, IfSome, sym, ap, ◌∙◌, arith, ⊎_elim, length-drop}
 use Rattle.std.proofs.lemmas.List.{drop-drop, drop-take, drop_all, length-take-le}
 use Rattle.std.proofs.lemmas.Bool.{cases_lt}
 

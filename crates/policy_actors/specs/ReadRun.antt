@@ -10,7 +10,6 @@ use Rattle.trace_read.specs.TraceText.{fault_in, AreOfFile, IsOfLine}
 use Rattle.step_record.specs.declared.job.Job.{Job}
 use Rattle.job_checks.specs.FaultyJobs.{faulty_in}
 use Rattle.policy_actors.specs.declared.run.TheConstants.{MAX_ACTORS}
-use Rattle.policy_actors.specs.Actors.{AreOfQueues}
 
 -- the source stands for the accesses of the file, as far as they are known, and the jobs may run while it is read
 pub record CanRunReading (format : Format) (file known : Option (List ℕ)) (size batch : ℕ) (jobs : List Job) : Type 0 where
@@ -18,7 +17,6 @@ pub record CanRunReading (format : Format) (file known : Option (List ℕ)) (siz
   pub size_is : (size ≡ batch) × (0 < size)
   pub few : length jobs ≤ MAX_ACTORS
   pub checked : faulty_in jobs ≡ None
-  pub queues : AreOfQueues jobs
 
 -- the bytes of a reader were read to their end and have no fault, or this is the fault; as `read_trace` has it
 pub record IsReadTo {T : Type 0} (format : Format) (old new : Option (List ℕ)) (result : Result T TraceFault) : Type 0 where

@@ -1,5 +1,5 @@
-//! An actor's cache: the accesses of a trace, batch by batch, and the report at its end.
-ghost use Rattle.std.specs.Prelude.{◌≡◌, [], ◌++◌, ℕ, List, take, drop, None, OnOk, IfSome};
+//! The accesses of a trace by a cache, and its report at their end.
+ghost use Rattle.std.specs.Prelude.{◌≡◌, ◌++◌, ℕ, List, take, drop, OnOk};
 ghost use Rattle.step_record.specs.declared.job.Job.{Job};
 ghost use Rattle.policies.specs.AnyPolicy.{HasAccessed};
 ghost use Rattle.policy_actors.specs.Accesses.{IsNext};
@@ -8,7 +8,7 @@ ghost use Rattle.policy_actors.specs.Reports.{report_on};
 use policies::{AnyPolicy, theorems};
 use report::Report;
 use std::alloc::{AllocError, Global};
-use step_record::{Gate, Job, Key, MAX_BATCH, StepFault, Trace};
+use step_record::{Gate, Job, Key, MAX_BATCH, StepFault};
 
 /// Makes the accesses in turn, which are the next ones of a trace. The one error is out of memory; the cache has made
 /// some of them then, and is of no more use.
@@ -65,39 +65,12 @@ pub fn cut(rest: &[Key], size: usize) -> (&[Key], &[Key])
     }
 }
 
-/// Makes the accesses of a batch. A cache that ran out of memory is dropped, and stays so.
-pub fn access_batch(cache: &mut Option<AnyPolicy>, keys: &[Key])
-    requires { IfSome cache.old (IsNext keys.now) }
-    ensures accessed { (j : Job) (trace done : List ℕ) → IfSome cache.old (HasAccessed j trace done)
-        → IfSome cache.new (HasAccessed j trace (done ++ keys.now)) }
-    ensures gone { cache.old ≡ None → cache.new ≡ None }
-{
-    let Some(open) = cache else {
-        return;
-    };
-    let Ok(()) = access_all(open, keys) else {
-        *cache = None;
-        return;
-    };
-}
-
 /// The report of a cache that ran its job over the whole trace.
 pub fn report_by(cache: &AnyPolicy, job: &Job) -> Report
     ensures { (trace : List ℕ) → HasAccessed job.now trace trace cache.now → result ≡ report_on job.now trace }
 {
     theorems::any_reports();
     Report::of(job, cache.stats())
-}
-
-/// The same, unless the cache ran out of memory.
-pub fn finish(cache: Option<AnyPolicy>, job: &Job) -> Option<Report>
-    ensures { (trace : List ℕ) → IfSome cache (HasAccessed job.now trace trace)
-        → IfSome result (λ r. r ≡ report_on job.now trace) }
-{
-    match cache {
-        Some(cache) => Some(report_by(&cache, job)),
-        None => None,
-    }
 }
 
 // The caller whose accesses are only counted: it has code of its own for them, which is part of its loop.

@@ -14,6 +14,7 @@ mod feeder;
 mod keys;
 mod mail;
 mod next_uses;
+mod player;
 mod read_feeder;
 mod read_run;
 mod rounds;
@@ -24,8 +25,8 @@ mod sweeps;
 mod unsent;
 
 pub use job_checks::ActorFault;
-pub use read_run::{can_run_reading, run_reading};
+pub use read_run::run_reading;
 pub use rounds::{BatchEnds, feed_in_rounds};
-pub use run::{MAX_ACTORS, run_actors};
+pub use run::{MAX_ACTORS, check_run, run_actors};
 pub use single_run::run_one;
 pub use sweeps::{sweep, sweep_batches, sweep_each};

@@ -1,5 +1,5 @@
 //! Feeds a trace to the actors while it is read.
-ghost use Rattle.std.specs.Prelude.{◌≡◌, ◌+◌, ◌*◌, ◌<◌, ◌≤◌, Some, IfSome, length, take, drop};
+ghost use Rattle.std.specs.Prelude.{◌≡◌, ◌+◌, ◌-◌, ◌*◌, ◌<◌, ◌≤◌, Some, IfOk, IfSome, OnErr, OnOk, length, take, drop};
 ghost use Rattle.step_record.specs.declared.limits.TheConstants.{MAX_ACCESSES};
 ghost use Rattle.trace_read.specs.TraceText.{AreOfFile};
 ghost use Rattle.policy_actors.specs.Rule.{AreAt};
@@ -11,9 +11,10 @@ use crate::keys::Keys;
 use crate::mail::Outbox;
 use crate::rounds::feed_in_rounds;
 use crate::rule::FeedSource;
-use std::alloc::Global;
+use std::alloc::{AllocError, Global};
 use std::io::Read;
 use std::marker::PhantomData;
+use std::mem;
 use std::sync::Wait;
 use step_record::{Key, Trace};
 use trace_read::{Follower, Format, TraceFault, read_followed};
@@ -22,9 +23,12 @@ use trace_read::{Follower, Format, TraceFault, read_followed};
 // reading sleeps and is woken.
 const MIN_LUMP: usize = 16_384;
 
-// More accesses than this are not handed over at once, and none while so many wait in the channels: they are copies of
-// what the reading keeps.
+// Where more accesses than this wait in the channels, fewer than this are not handed over, so that those that wait for
+// slow actors are a few large lumps.
 const MAX_LUMP: usize = 262_144;
+
+// The room for a lump: for the accesses up to `MIN_LUMP`, and those of the piece of text that passes it.
+const LUMP_ROOM: usize = 65_536;
 
 /// Feeds the trace that a reader gives.
 #[derive(Drop)]
@@ -97,7 +101,8 @@ fn feed_read<'a, S: FeedSource, R: Read, W: Wait>(
     reader: &mut R,
     format: Format,
 ) -> Result<(), TraceFault>
-    requires { AreOfFile format (R.remaining reader.old) S.known }
+    requires file { AreOfFile format (R.remaining reader.old) S.known }
+    requires none { handover.place ≡ 0 }
     ensures { IsReadTo format (R.remaining reader.old) (R.remaining reader.new) result }
 {
     let alloc = handover.alloc;
@@ -106,7 +111,7 @@ fn feed_read<'a, S: FeedSource, R: Read, W: Wait>(
     Ok(())
 }
 
-// What was handed over of the accesses that are read.
+// What was taken of the accesses that are read, and given to the actors.
 #[derive(Drop)]
 struct Handover<'a, 'b, S: FeedSource, W: Wait> {
     rt: &'b W,
@@ -114,11 +119,11 @@ struct Handover<'a, 'b, S: FeedSource, W: Wait> {
     ends: Vec<Outbox<'a, S>>,
     size: usize,
     backlog: &'b Backlog,
-    // How many accesses every end was given.
+    // How many accesses were taken.
     place: usize,
     // How many batches went to the ends in all.
     sent: u64,
-    // No actor is gone.
+    // No actor is gone, and nothing was out of memory.
     is_open: bool,
     ghost some: { 0 < size },
 }
@@ -126,77 +131,92 @@ struct Handover<'a, 'b, S: FeedSource, W: Wait> {
 impl<'a, 'b, S: FeedSource, W: Wait> Follower for Handover<'a, 'b, S, W> {
     ghost file = { λ h. S.known };
 
-    fn follow(&mut self, keys: &[Key]) {
-        if self.is_open {
-            let rounds = self.rounds(keys.len());
-            if rounds > 0 {
-                self.is_open = self.hand_over(keys, rounds);
-            }
+    ghost taken = { λ h. h.place };
+
+    fn follow(&mut self, keys: &mut Vec<Key>) {
+        let rounds = self.rounds(keys.len());
+        if self.is_open && rounds > 0 {
+            self.is_open = self.hand_over(keys, rounds);
         }
     }
 }
 
 impl<'a, 'b, S: FeedSource, W: Wait> Handover<'a, 'b, S, W> {
-    // How many batches to hand over, where so many accesses are read: whole ones, with an access behind them.
+    // How many batches to hand over of so many accesses: whole ones, with an access behind them.
     fn rounds(&self, read: usize) -> usize
-        ensures { 0 < result → self.now.place + result * self.now.size < read }
+        ensures { 0 < result → result * self.now.size < read }
     {
-        let behind = read.saturating_sub(self.place).saturating_sub(1);
         let waiting = self.backlog.left_of(self.sent);
-        if behind < MIN_LUMP || waiting.saturating_mul(self.size as u64) > MAX_LUMP as u64 {
+        let is_behind = waiting.saturating_mul(self.size as u64) > MAX_LUMP as u64;
+        let least = if is_behind { MAX_LUMP } else { MIN_LUMP };
+        if read <= least {
             return 0;
         }
-        behind.min(MAX_LUMP.max(self.size)) / self.size
+        (read - 1) / self.size
     }
 
-    // Gives each end so many batches of a copy of the accesses that it was not given yet. False where an actor is gone,
-    // or out of memory.
-    fn hand_over(&mut self, keys: &[Key], rounds: usize) -> bool
-        requires few { length keys.now ≤ MAX_ACCESSES }
-        requires first { IfSome S.known (λ all. keys.now ≡ take (length keys.now) all) }
-        requires behind { self.old.place + rounds * self.old.size < length keys.now }
+    // Takes so many batches of the accesses, and gives them to each end. False where an actor is gone, or out of memory.
+    fn hand_over(&mut self, keys: &mut Vec<Key>, rounds: usize) -> bool
+        requires few { self.old.place + length keys.old.items ≤ MAX_ACCESSES }
+        requires next { IfSome S.known (λ all.
+            keys.old.items ≡ take (length keys.old.items) (drop self.old.place all)) }
+        requires behind { rounds * self.old.size < length keys.old.items }
+        ensures order { self.old.place ≤ self.new.place }
+        ensures taken { self.new.place + length keys.new.items ≡ self.old.place + length keys.old.items }
+        ensures left { keys.new.items ≡ drop (self.new.place - self.old.place) keys.old.items }
     {
-        let end = self.place + rounds * self.size;
-        let Ok(copy) = keys[self.place..end].to_vec(self.alloc) else {
+        let len = rounds * self.size;
+        let Ok(front) = take_front(self.alloc, keys, len) else {
             return false;
         };
-        let Ok(lump) = Keys::shared(self.alloc, Trace::new(copy)) else {
+        let place = self.place;
+        self.place += len;
+        let Ok(lump) = Keys::shared(self.alloc, Trace::new(front)) else {
             return false;
         };
-        if !self.give(&lump, false, rounds) {
-            return false;
-        }
-        self.place = end;
-        true
+        self.give(&lump, place, false, rounds)
     }
 
-    // Feeds what is left of the whole trace, which the actors then share.
-    fn end(self, trace: Trace)
-        requires { IfSome S.known (λ all. trace ≡ all) }
+    // Gives each end what is left of the trace.
+    fn end(mut self, trace: Trace)
+        requires few { self.place + length trace ≤ MAX_ACCESSES }
+        requires rest { IfSome S.known (λ all. trace ≡ drop self.place all) }
     {
-        let mut handover = self;
-        let left = trace.len().saturating_sub(handover.place);
-        let rounds = left.div_ceil(handover.size).max(1);
-        let Ok(mut lump) = Keys::shared(handover.alloc, trace) else {
+        let rounds = trace.len().div_ceil(self.size).max(1);
+        let place = self.place;
+        let Ok(lump) = Keys::shared(self.alloc, trace) else {
             return;
         };
-        lump.skip(handover.place);
-        if handover.is_open {
-            handover.give(&lump, true, rounds);
+        if self.is_open {
+            self.give(&lump, place, true, rounds);
         }
     }
 
-    // Gives each end these accesses, in so many batches.
-    fn give(&mut self, lump: &Keys<'a>, is_end: bool, rounds: usize) -> bool
-        requires few { 0 < length lump.now → self.old.place + length lump.now ≤ MAX_ACCESSES }
-        requires at { IfSome S.known (λ all. AreAt all self.old.place is_end lump.now) }
+    // Gives each end these accesses, which stand at this place, in so many batches.
+    fn give(&mut self, lump: &Keys<'a>, place: usize, is_end: bool, rounds: usize) -> bool
+        requires few { 0 < length lump.now → place + length lump.now ≤ MAX_ACCESSES }
+        requires at { IfSome S.known (λ all. AreAt all place is_end lump.now) }
         ensures { self.new.place ≡ self.old.place }
     {
-        if !load_all(&mut self.ends, lump, self.place, is_end) {
+        if !load_all(&mut self.ends, lump, place, is_end) {
             return false;
         }
         let batches = (rounds as u64).saturating_mul(self.ends.len() as u64);
         self.sent = self.sent.saturating_add(batches);
         feed_in_rounds(self.rt, &mut self.ends, rounds as u64)
     }
+}
+
+// Takes so many accesses off the front. Those behind them are copied to a new vector, with room for a lump.
+fn take_front(alloc: Global, keys: &mut Vec<Key>, len: usize) -> Result<Vec<Key>, AllocError>
+    requires { len ≤ length keys.old.items }
+    ensures front { IfOk result (λ front. front.items ≡ take len keys.old.items) }
+    ensures rest { OnOk result (keys.new.items ≡ drop len keys.old.items) }
+    ensures err { OnErr result (keys.new.items ≡ keys.old.items) }
+{
+    let mut rest = Vec::with_capacity(alloc, LUMP_ROOM)?;
+    rest.extend_from_slice(&keys[len..])?;
+    let mut front = mem::replace(keys, rest);
+    front.truncate(len);
+    Ok(front)
 }

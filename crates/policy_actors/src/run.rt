@@ -1,11 +1,10 @@
 //! Each job on a thread of its own.
 ghost use Rattle.std.specs.Prelude.{◌≡◌, ◌<◌, ◌≤◌, [], ◌∷◌, ◌++◌, map, length};
-ghost use Rattle.std.specs.Prelude.{ℕ, List, false, Ok, None, Some, IfOk, OnOk, IfSome, MatchOption, ⊤};
+ghost use Rattle.std.specs.Prelude.{ℕ, List, Ok, None, Some, IfOk, OnOk, IfSome};
 ghost use denote.Param.Send.{IsSync};
 ghost use Rattle.step_record.specs.Config.{config_fault};
 ghost use Rattle.policy_actors.specs.declared.run.TheConstants.{MAX_ACTORS};
-ghost use Rattle.policies.specs.Design.{knows_trace};
-ghost use Rattle.policy_actors.specs.Actors.{AreOfQueues, jobs_of};
+ghost use Rattle.policy_actors.specs.Actors.{jobs_of};
 ghost use Rattle.policy_actors.specs.Faults.{actor_fault};
 ghost use Rattle.job_checks.specs.FaultyJobs.{faulty_in, ReturnsFault};
 ghost use Rattle.policy_actors.specs.Reports.{report_on};
@@ -140,7 +139,6 @@ pub fn run_fed<
 ) -> (O, Result<Vec<Report>, AllocError>)
     requires few { length jobs.now ≤ MAX_ACTORS }
     requires checked { faulty_in jobs.now ≡ None }
-    requires whole { MatchOption common.whole (AreOfQueues jobs.now) (λ _. ⊤) }
     requires feeder { F.ready feeder }
     ensures fed { F.gives feeder result.0 }
     ensures reports { (all : List ℕ) → S.known ≡ Some all
@@ -151,7 +149,7 @@ pub fn run_fed<
         rt,
         move |scope| -> (O, Result<Vec<Report>, AllocError>)
             requires { IsSync R.row × IsSync G.row × (length jobs.now ≤ MAX_ACTORS) × (faulty_in jobs.now ≡ None)
-                × MatchOption common.whole (AreOfQueues jobs.now) (λ _. ⊤) × F.ready feeder }
+                × F.ready feeder }
             ensures { F.gives feeder result.0
                 × ((all : List ℕ) → S.known ≡ Some all
                 → IfOk result.1 (λ v. v.items ≡ map (λ j. report_on j all) jobs.entry.now)) }
@@ -174,8 +172,7 @@ pub fn run_fed<
                 let Ok(handle) = scope.spawn_with(
                     promised,
                     move || -> Option<Report>
-                        requires { (inbox.taken ≡ 0) × (config_fault job.config ≡ Ok tt)
-                            × MatchOption whole (knows_trace job.policy ≡ false) (λ _. ⊤) }
+                        requires { (inbox.taken ≡ 0) × (config_fault job.config ≡ Ok tt) }
                         ensures { (all : List ℕ) → S.known ≡ Some all → IfSome result (λ x. x ≡ report_on job all) }
                     { act::<S, R, G>(rt, alloc, inbox, whole, job, who, gate, backlog) },
                 ) else {

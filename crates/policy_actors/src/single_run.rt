@@ -3,6 +3,7 @@ ghost use Rattle.std.specs.Prelude.{◌≡◌, ℕ, List, Ok, IfOk, IfSome, [], 
 ghost use Rattle.std.proofs.Props.{props};
 ghost use Rattle.step_record.specs.Config.{config_fault};
 ghost use Rattle.job_checks.specs.FaultyJobs.{faulty_in, ReturnsFault};
+ghost use Rattle.policies.specs.AnyPolicy.{HasAccessed};
 ghost use Rattle.policy_actors.specs.Reports.{report_on};
 ghost use Rattle.stack_distances.specs.Curve.{curve_of};
 
@@ -97,10 +98,20 @@ fn run_checked<G: Gate>(
     {
         return window_report(alloc, reuses, job);
     }
-    let trace = input.trace;
-    let mut cache = AnyPolicy::open_with(alloc, job, trace, input.uses)?;
-    access_in_batches(&mut cache, trace.keys(), gate)?;
+    let mut cache = open(alloc, input, job)?;
+    access_in_batches(&mut cache, input.trace.keys(), gate)?;
     Ok(report_by(&cache, job))
+}
+
+// An empty cache for the job over the trace.
+fn open(alloc: Global, input: &Input<'_>, job: &Job) -> Result<AnyPolicy, AllocError>
+    requires { config_fault job.now.config ≡ Ok tt }
+    ensures { IfOk result (λ cache. HasAccessed job.now input.now.trace.now [] cache) }
+{
+    match input.uses {
+        Some(uses) => AnyPolicy::open_with(alloc, job, uses),
+        None => AnyPolicy::open(alloc, job, input.trace),
+    }
 }
 
 // The report of a job of Lru, read off the curve of the trace.

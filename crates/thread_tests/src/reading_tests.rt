@@ -1,8 +1,8 @@
 //! Runs of actors while the trace is read, whose reports were worked out by hand.
 use super::assertions::assert_equal;
 use super::gates::Turns;
-use super::jobs::{counted, job};
-use policy_actors::{can_run_reading, run_reading};
+use super::jobs::{counted, failed, job};
+use policy_actors::{check_run, run_reading};
 use report::Report;
 use std::alloc::Global;
 use std::io;
@@ -66,9 +66,7 @@ fn assert_reading<G: Gate, R: Threads + Wait + Sync + Abort>(
     gate: &G,
     wanted: Result<&[Report], TraceFault>,
 ) -> Result<(), Fail> {
-    if !can_run_reading(batch, jobs) {
-        return Err(Fail::from("not such jobs"));
-    }
+    check_run(batch, jobs).map_err(failed)?;
     match run_reading(rt, alloc, &mut reader, format, jobs, batch, gate) {
         Ok(reports) => assert_equal(rt, Ok(reports.as_slice()), wanted),
         Err(fault) => assert_equal(rt, Err(fault), wanted),
@@ -76,20 +74,22 @@ fn assert_reading<G: Gate, R: Threads + Wait + Sync + Abort>(
     Ok(())
 }
 
-fn jobs() -> [Job; 3] {
+fn jobs() -> [Job; 4] {
     [
         job(Policy::Lru, 2),
         job(Policy::SegmentedLru, 2),
         job(Policy::WindowTinyLfu, 2),
+        job(Policy::Clairvoyant, 2),
     ]
 }
 
 // Of the accesses 1, 1, 2, 3, 1.
-fn wanted() -> [Report; 3] {
+fn wanted() -> [Report; 4] {
     [
         counted(Policy::Lru, 2, [5, 1, 4, 2, 0]),
         counted(Policy::SegmentedLru, 2, [5, 2, 3, 1, 0]),
         counted(Policy::WindowTinyLfu, 2, [5, 2, 3, 1, 1]),
+        counted(Policy::Clairvoyant, 2, [5, 2, 3, 1, 0]),
     ]
 }
 
@@ -124,10 +124,10 @@ fn pieces_and_batches_change_no_report(rt: HostRuntime) -> Result<(), Fail> {
 
 #[test]
 fn an_empty_text_is_one_empty_batch(rt: HostRuntime) -> Result<(), Fail> {
-    let jobs = [job(Policy::Lru, 2), job(Policy::TinyLfuLru, 2)];
+    let jobs = [job(Policy::Lru, 2), job(Policy::Clairvoyant, 2)];
     let wanted = [
         counted(Policy::Lru, 2, [0; 5]),
-        counted(Policy::TinyLfuLru, 2, [0; 5]),
+        counted(Policy::Clairvoyant, 2, [0; 5]),
     ];
     let gate = Turns::new(rt.alloc(), 2)?;
     let empty = Pieces::of("", 1, 1);
@@ -168,11 +168,15 @@ fn no_fault_of_the_trace_is_a_report(rt: HostRuntime) -> Result<(), Fail> {
     Ok(())
 }
 
-// A cycle of three keys in a cache of two misses each time, and each batch comes in its turn.
+// Of a cycle of three keys a cache of two misses each, or keeps two of them and misses the third. Each batch comes in
+// its turn.
 #[test]
 fn a_long_text_is_made_in_turn(rt: HostRuntime) -> Result<(), Fail> {
-    let jobs = [job(Policy::Lru, 2); 2];
-    let wanted = [counted(Policy::Lru, 2, [300_000, 0, 300_000, 299_998, 0]); 2];
+    let jobs = [job(Policy::Lru, 2), job(Policy::Clairvoyant, 2)];
+    let wanted = [
+        counted(Policy::Lru, 2, [300_000, 0, 300_000, 299_998, 0]),
+        counted(Policy::Clairvoyant, 2, [300_000, 199_998, 100_002, 1, 99_999]),
+    ];
     for (batch, batches) in [(1_000, 300), (1_024, 293), (40_000, 8), (65_536, 5)] {
         let gate = Turns::new(rt.alloc(), 2)?;
         let long = Pieces::of("1\n2\n3\n", 6, 100_000);

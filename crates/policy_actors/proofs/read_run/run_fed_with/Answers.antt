@@ -1,8 +1,8 @@
 use Rattle.std.proofs.Common.{refl, rules}
 use Rattle.policy_actors.proofs.read_run.run_fed_with.Goals as goal
 
-pub run_fed-reader-requires : goal.run_fed-reader-requires
-run_fed-reader-requires g c κs = (
+pub run_fed-requires : goal.run_fed-requires
+run_fed-requires g c κs = (
   c.type_bounds.static-S,
   (
     c.type_bounds.send-S,
@@ -14,7 +14,7 @@ run_fed-reader-requires g c κs = (
           search rules,
           (
             (refl, tt),
-            (c.requires.ready.few, (c.requires.ready.checked, (rw c.new-common.ensures c.requires.ready.queues, (c.requires.ready.size_is.1, c.requires.ready.of_file)))),
+            (c.requires.ready.few, (c.requires.ready.checked, (c.requires.ready.size_is.1, c.requires.ready.of_file))),
           ),
         ),
       ),

@@ -1,4 +1,4 @@
-use Rattle.std.proofs.Common.{◌≡◌, ℕ, List, map}
+use Rattle.std.proofs.Common.{◌≡◌, map}
 use Rattle.policy_actors.specs.Reports.{report_on}
 use Rattle.policy_actors.proofs.ReadTo.{of_bytes}
 use Rattle.policy_actors.proofs.read_run.run_reading.Goals as goal

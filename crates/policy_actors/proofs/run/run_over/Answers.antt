@@ -14,7 +14,7 @@ run_fed-requires g c κs = (
           c.type_bounds.sync-G,
           (
             (refl, tt),
-            (c.requires.few, (c.requires.checked, (rw c.new-common.ensures tt, tt))),
+            (c.requires.few, (c.requires.checked, tt)),
           ),
         ),
       ),

@@ -17,7 +17,7 @@ access_in_batches-requires g c = (
     trace = c.args.input.now.trace.now;
     before = [];
     rest = [];
-    stands = c.in_ok-cache.ensures.stands;
+    stands = c.in_ok-cache.ensures;
     ahead = sym (append-nil _ ∙ c.keys.ensures.keys);
     few = c.keys.ensures.few;
   },
@@ -32,5 +32,5 @@ returns-2 g c =
 pub returns-3 : goal.returns-3
 returns-3 g c =
     let trace = c.args.input.now.trace.now in
-    let e = c.in_ok-access_in_batches.ensures c.args.job.now trace [] c.in_ok-cache.ensures.stands in
+    let e = c.in_ok-access_in_batches.ensures c.args.job.now trace [] c.in_ok-cache.ensures in
     c.report_by.ensures trace (subst (λ l. HasAccessed c.args.job.now trace l c.access_in_batches.new.cache) c.keys.ensures.keys e)

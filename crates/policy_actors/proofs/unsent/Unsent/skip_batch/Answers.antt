@@ -1,4 +1,4 @@
-use Rattle.std.proofs.Common.{◌≡◌, ℕ, List, ◌+◌, ◌<◌, true, false, IfSome, length, take, drop, sym, subst, arith, length-drop}
+use Rattle.std.proofs.Common.{◌≡◌, ℕ, List, ◌+◌, ◌<◌, true, false, IfSome, length, take, drop, sym, subst}
 use Rattle.policy_actors.proofs.Stretch.{piece_left, end_left, more_left}
 use Rattle.policy_actors.proofs.unsent.Unsent.skip_batch.Goals as goal
 
