@@ -66,13 +66,13 @@ impl AnyPolicy {
         ensures fresh { IfOk result (λ p. (stats_in p).accesses ≡ 0) }
     {
         match design_of(job.policy) {
-            Design::Queues(design) => {
-                let cache = QueueCache::with_design(alloc, *job, design)?;
-                Ok(AnyPolicy::Queues(cache))
-            }
             Design::KnowsTrace => {
                 let cache = Clairvoyant::open(alloc, uses.share()?, job.config.capacity)?;
                 Ok(AnyPolicy::Optimal(cache))
+            }
+            Design::Queues(design) => {
+                let cache = QueueCache::with_design(alloc, *job, design)?;
+                Ok(AnyPolicy::Queues(cache))
             }
         }
     }

@@ -21,8 +21,8 @@ use step_record::{Gate, Job, Policy, Trace};
 /// that ran out of memory goes on taking batches, so that its feeder is not held up, and has no report; nor has one
 /// whose feeder ended early.
 ///
-/// Belady's policy goes by the whole trace. Where that is not there, an actor of it finds the next uses as the accesses
-/// come, and makes them all in the last batch.
+/// Belady's policy goes by the whole trace. Where that is not there, an actor of it notes the accesses as they come, and
+/// makes them all in the last batch, once it has found their next uses.
 pub fn act<'a, S: FeedSource, R: Wait, G: Gate>(
     rt: &R,
     alloc: Global,

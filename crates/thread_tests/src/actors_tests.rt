@@ -1,7 +1,7 @@
 //! Small traces whose reports were worked out by hand, and threads that wait for one another.
 use super::assertions::assert_equal;
 use super::gates::{Hold, Turns};
-use super::jobs::{counted, failed, fault_of, job};
+use super::jobs::{counted, failed, fault_of, four_jobs, job};
 use policy_actors::{ActorFault, run_actors, run_one, sweep, sweep_batches, sweep_each};
 use report::Report;
 use std::alloc::Global;
@@ -10,15 +10,6 @@ use std::sync::Wait;
 use std::test::Fail;
 use std::thread::Threads;
 use step_record::{Gate, Job, OpenGate, Policy, Trace};
-
-fn jobs() -> [Job; 4] {
-    [
-        job(Policy::Lru, 2),
-        job(Policy::SegmentedLru, 2),
-        job(Policy::WindowTinyLfu, 2),
-        job(Policy::Clairvoyant, 2),
-    ]
-}
 
 fn trace(alloc: Global) -> Result<Trace, Fail> {
     let keys = vec![in alloc; 1, 1, 2, 3, 1]?;
@@ -70,7 +61,7 @@ fn assert_side_by_side<R: Threads + Wait + Sync + Abort>(
 ) -> Result<(), Fail> {
     assert!(rt; actors <= 4);
     let gate = Hold::new(actors as u64, u64::MAX);
-    let (jobs, wanted) = (jobs(), all_wanted());
+    let (jobs, wanted) = (four_jobs(), all_wanted());
     let trace = trace(alloc)?;
     let run = (&jobs[..actors], batch);
     assert_run(rt, alloc, &trace, run, &gate, &wanted[..actors])?;
@@ -182,7 +173,7 @@ fn assert_alone(
 #[test]
 fn single_runs(rt: HostRuntime) -> Result<(), Fail> {
     let some = trace(rt.alloc())?;
-    for (one, report) in jobs().iter().zip(all_wanted().iter()) {
+    for (one, report) in four_jobs().iter().zip(all_wanted().iter()) {
         assert_alone(&rt, rt.alloc(), &some, one, *report)?;
     }
     let other = Trace::new(vec![in rt.alloc(); 1, 1, 2, 3]?);

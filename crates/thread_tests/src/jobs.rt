@@ -14,6 +14,16 @@ pub(crate) fn job(policy: Policy, capacity: u32) -> Job {
     Job { policy, config }
 }
 
+// A job of each kind of policy, at two entries.
+pub(crate) fn four_jobs() -> [Job; 4] {
+    [
+        job(Policy::Lru, 2),
+        job(Policy::SegmentedLru, 2),
+        job(Policy::WindowTinyLfu, 2),
+        job(Policy::Clairvoyant, 2),
+    ]
+}
+
 // A report with these accesses, hits, misses, evictions and rejections.
 pub(crate) fn counted(policy: Policy, capacity: u32, counts: [u64; 5]) -> Report {
     let [accesses, hits, misses, evictions, rejections] = counts;

@@ -1,7 +1,7 @@
 //! Runs of actors while the trace is read, whose reports were worked out by hand.
 use super::assertions::assert_equal;
 use super::gates::Turns;
-use super::jobs::{counted, failed, job};
+use super::jobs::{counted, failed, four_jobs, job};
 use policy_actors::{check_run, run_reading};
 use report::Report;
 use std::alloc::Global;
@@ -74,15 +74,6 @@ fn assert_reading<G: Gate, R: Threads + Wait + Sync + Abort>(
     Ok(())
 }
 
-fn jobs() -> [Job; 4] {
-    [
-        job(Policy::Lru, 2),
-        job(Policy::SegmentedLru, 2),
-        job(Policy::WindowTinyLfu, 2),
-        job(Policy::Clairvoyant, 2),
-    ]
-}
-
 // Of the accesses 1, 1, 2, 3, 1.
 fn wanted() -> [Report; 4] {
     [
@@ -95,7 +86,7 @@ fn wanted() -> [Report; 4] {
 
 #[test]
 fn pieces_and_batches_change_no_report(rt: HostRuntime) -> Result<(), Fail> {
-    let jobs = jobs();
+    let jobs = four_jobs();
     for (size, batch) in [(1, 1), (2, 3), (64, 5), (64, 65_536)] {
         let run = (jobs.as_slice(), batch);
         let lirs = Pieces::of("1\n1\n\n*\n2\n3\r\n1", size, 1);
@@ -146,7 +137,7 @@ fn an_empty_text_is_one_empty_batch(rt: HostRuntime) -> Result<(), Fail> {
 
 #[test]
 fn no_fault_of_the_trace_is_a_report(rt: HostRuntime) -> Result<(), Fail> {
-    let jobs = jobs();
+    let jobs = four_jobs();
     for (text, fails, fault) in [
         ("1\n2\nx\n3\n", false, TraceFault::BadNumber { line: 3 }),
         ("1\n2\nx\n3\n", true, TraceFault::Read),
