@@ -9,6 +9,8 @@ mod clairvoyant_tests;
 #[cfg(test)]
 mod key_places_tests;
 #[cfg(test)]
+mod next_use_tests;
+#[cfg(test)]
 mod optimal_tests;
 #[cfg(test)]
 mod rank_tree_tests;
