@@ -5,7 +5,7 @@ use journal_text::MAX_JOURNAL_BYTES;
 use policy_actors::MAX_ACTORS;
 use step_record::{
     MAX_ACCESSES, MAX_BATCH, MAX_CAPACITY, MAX_JOURNAL_LIMIT, MAX_MAIN_PERCENT, MAX_STEPS,
-    MAX_STRIPES, MAX_TRACE_BYTES, MAX_WORKERS, POLICIES,
+    MAX_STRIPES, MAX_TRACE_BYTES, MAX_WORKERS,
 };
 use streams::INTERRUPTIONS;
 
@@ -36,5 +36,3 @@ const _: () = prove!(MAX_JOURNAL_BYTES == 1_073_741_824);
 const _: () = prove!(MAX_COMMAND_BYTES == 1_048_576);
 
 const _: () = prove!(INTERRUPTIONS == 1_000_000);
-
-const _: () = prove!(POLICIES.len() == 6);
