@@ -175,7 +175,11 @@ fn a_long_text_is_made_in_turn(rt: HostRuntime) -> Result<(), Fail> {
     let jobs = [job(Policy::Lru, 2), job(Policy::Clairvoyant, 2)];
     let wanted = [
         counted(Policy::Lru, 2, [300_000, 0, 300_000, 299_998, 0]),
-        counted(Policy::Clairvoyant, 2, [300_000, 199_998, 100_002, 1, 99_999]),
+        counted(
+            Policy::Clairvoyant,
+            2,
+            [300_000, 199_998, 100_002, 1, 99_999],
+        ),
     ];
     for (batch, batches) in [(1_000, 300), (1_024, 293), (40_000, 8), (65_536, 5)] {
         let gate = Turns::new(rt.alloc(), 2)?;
