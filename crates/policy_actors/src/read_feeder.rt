@@ -25,7 +25,7 @@ const MIN_LUMP: usize = 16_384;
 
 // Where more accesses than this wait in the channels, fewer than this are not handed over, so that those that wait for
 // slow actors are a few large lumps.
-const MAX_LUMP: usize = 262_144;
+const LONG_LUMP: usize = 262_144;
 
 // The room for a lump: for the accesses up to `MIN_LUMP`, and those of the piece of text that passes it.
 const LUMP_ROOM: usize = 65_536;
@@ -147,8 +147,8 @@ impl<'a, 'b, S: FeedSource, W: Wait> Handover<'a, 'b, S, W> {
         ensures { 0 < result → result * self.now.size < read }
     {
         let waiting = self.backlog.left_of(self.sent);
-        let is_behind = waiting.saturating_mul(self.size as u64) > MAX_LUMP as u64;
-        let least = if is_behind { MAX_LUMP } else { MIN_LUMP };
+        let is_behind = waiting.saturating_mul(self.size as u64) > LONG_LUMP as u64;
+        let least = if is_behind { LONG_LUMP } else { MIN_LUMP };
         if read <= least {
             return 0;
         }
