@@ -83,6 +83,13 @@ impl NextUse {
         self.found.after.len()
     }
 
+    /// No trace has more than `MAX_ACCESSES` accesses. This does nothing: its contract is the fact.
+    pub fn bounded(&self)
+        ensures { length self.now ≤ MAX_ACCESSES }
+    {
+        let _found = &self.found;
+    }
+
     /// The key of the access at a place.
     pub fn key(&self, place: usize) -> Key
         requires { place < length self.now }

@@ -41,7 +41,7 @@ impl<'a> OnePolicy<'a> {
         ensures { IfOk result (λ w. w ≡ record { job = job.now; trace = trace.now; at = 0 }) }
     {
         let cache = AnyPolicy::open(alloc, job, trace)?;
-        let _few = trace.len();
+        trace.bounded();
         Ok(OnePolicy {
             job: *job,
             trace,

@@ -83,7 +83,7 @@ fn open_over<'a, S: FeedSource, R: Wait>(
     ensures { IfSome result (IsAfter S.known job.now S.size 0) }
 {
     let uses = whole.uses.get(rt, alloc, whole.trace)?;
-    let _few = uses.len();
+    uses.bounded();
     match AnyPolicy::open_with(alloc, job, uses) {
         Ok(cache) => Some(Player::Cache(cache)),
         Err(_) => None,

@@ -72,7 +72,7 @@ fn report_over(alloc: Global, finder: NextUseFinder, job: &Job) -> Result<Report
     ensures { IfOk result (λ r. r ≡ report_on job.now finder) }
 {
     let uses = finder.finish(alloc)?;
-    let _few = uses.len();
+    uses.bounded();
     let mut cache = AnyPolicy::open_with(alloc, job, &uses)?;
     access_whole(&mut cache, &uses)?;
     Ok(report_by(&cache, job))

@@ -44,6 +44,13 @@ impl Trace {
         self.keys.len()
     }
 
+    /// Every trace has at most `MAX_ACCESSES` accesses. This does nothing: its contract is the fact.
+    pub fn bounded(&self)
+        ensures { length self.now ≤ MAX_ACCESSES }
+    {
+        let _keys = &self.keys;
+    }
+
     /// Whether there is no access.
     pub fn is_empty(&self) -> bool
         ensures { IsTrue result ↔ (length self.now ≡ 0) }

@@ -5,5 +5,5 @@ use Rattle.policy_actors.proofs.actor.open_over.Goals as goal
 
 pub returns-in-Ok : goal.returns-in-Ok
 returns-in-Ok g c = let uses = c.in_ok-uses.uses.now in
-    let few : length uses ≤ MAX_ACCESSES = subst (λ (n : ℕ). n ≤ MAX_ACCESSES) c.len-few.ensures.len c.len-few.ensures.few in
+    let few : length uses ≤ MAX_ACCESSES = c.bounded.ensures in
     begun g.S.FeedSource.known c.args.job.now g.S.FeedSource.size _ (inr (uses, c.in_ok-uses.ensures, few, c.in-Ok.ensures.stands))

@@ -12,7 +12,7 @@ access_whole-requires c =
       rest = [];
       stands = c.in_ok-cache.ensures.stands;
       ahead = sym (append-nil c.in_ok-uses.uses);
-      few = subst (λ (n : ℕ). n ≤ MAX_ACCESSES) c.len-few.ensures.len c.len-few.ensures.few;
+      few = c.bounded.ensures;
     }
 
 pub returns : goal.returns
