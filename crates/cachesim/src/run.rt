@@ -76,7 +76,10 @@ fn reports<T: Threads + Wait + Sync, R: Read, P: Watch>(
         read_trace(alloc, input, arguments.format)?;
         return Err(Fault::from(fault));
     }
-    watch.begin(Work::of_unknown_length("run"));
+    watch.begin(Work {
+        name: "run",
+        batches: None,
+    });
     let reports = run_reading(
         rt,
         alloc,

@@ -9,8 +9,8 @@ use Rattle.policies.specs.declared.any_policy.AnyPolicy.TheVariants.{Queues, Opt
 use Rattle.policies.specs.Design.{knows_trace}
 use Rattle.policies.specs.AnyPolicy.{HasAccessed}
 use Rattle.policy_actors.specs.Played.{CanTake, HasPlayed, HasTaken, IsAfter}
-use Rattle.policy_actors.specs.declared.player.Player.{Player}
-use Rattle.policy_actors.specs.declared.player.Player.TheVariants.{Cache, NextUses}
+use Rattle.policy_actors.specs.declared.actor.Player.{Player}
+use Rattle.policy_actors.specs.declared.actor.Player.TheVariants.{Cache, NextUses}
 use Rattle.policy_actors.specs.Rule.{IsBatch}
 use Rattle.policy_actors.specs.declared.rule.Batch.{Batch}
 use Rattle.policy_actors.proofs.Batches.{taken-more, all-taken}

@@ -4,8 +4,8 @@ use Rattle.step_record.specs.declared.job.Job.{Job}
 use Rattle.step_record.specs.declared.limits.TheConstants.{MAX_ACCESSES}
 use Rattle.policies.specs.AnyPolicy.{HasAccessed}
 use Rattle.policy_actors.specs.Accesses.{IsNext}
-use Rattle.policy_actors.specs.declared.player.Player.{Player}
-use Rattle.policy_actors.specs.declared.player.Player.TheVariants.{Cache, NextUses}
+use Rattle.policy_actors.specs.declared.actor.Player.{Player}
+use Rattle.policy_actors.specs.declared.actor.Player.TheVariants.{Cache, NextUses}
 
 -- a cache made these accesses of the trace, or they are those whose next uses are found
 abbrev pub HasTaken : Job → List ℕ → List ℕ → Player → Type 0

@@ -1,4 +1,4 @@
-//! What feeds the actors of a run.
+//! What feeds the actors of a run, and how far they are.
 ghost use Rattle.std.specs.Prelude.{◌≡◌, ◌+◌, ◌*◌, ◌<◌, ◌≤◌, Some, IfSome, length};
 ghost use Rattle.step_record.specs.declared.limits.TheConstants.{MAX_ACCESSES};
 ghost use Rattle.policy_actors.specs.Rule.{AreAt};
@@ -9,6 +9,8 @@ use crate::rounds::feed_in_rounds;
 use crate::rule::FeedSource;
 use std::marker::PhantomData;
 use std::sync::Wait;
+use std::sync::atomic::AtomicU64;
+use std::sync::atomic::Ordering::Relaxed;
 use step_record::{Key, Trace};
 
 /// What feeds the actors of a run by these ends, once they are started.
@@ -99,4 +101,27 @@ pub fn load_all<'a, S: FeedSource>(
         }
     }
     true
+}
+
+/// How many batches all actors of a run are through with, counted together. Nothing but the pace of feeding goes by it.
+#[derive(Drop)]
+pub struct Backlog {
+    finished: AtomicU64,
+}
+
+impl Backlog {
+    pub fn new() -> Backlog {
+        Backlog {
+            finished: AtomicU64::new(0),
+        }
+    }
+
+    pub fn finish_one(&self) {
+        self.finished.fetch_add(1, Relaxed);
+    }
+
+    /// How many of so many batches are not finished.
+    pub fn left_of(&self, sent: u64) -> u64 {
+        sent.saturating_sub(self.finished.load(Relaxed))
+    }
 }

@@ -9,12 +9,10 @@
 
 mod actor;
 mod actor_cache;
-mod backlog;
 mod feeder;
 mod keys;
 mod mail;
 mod next_uses;
-mod player;
 mod read_feeder;
 mod read_run;
 mod rounds;
@@ -22,7 +20,6 @@ mod rule;
 mod run;
 mod single_run;
 mod sweeps;
-mod unsent;
 
 pub use job_checks::ActorFault;
 pub use read_run::run_reading;

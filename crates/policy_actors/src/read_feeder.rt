@@ -5,8 +5,7 @@ ghost use Rattle.trace_read.specs.TraceText.{AreOfFile};
 ghost use Rattle.policy_actors.specs.Rule.{AreAt};
 ghost use Rattle.policy_actors.specs.ReadRun.{IsReadTo};
 
-use crate::backlog::Backlog;
-use crate::feeder::{Feeder, load_all};
+use crate::feeder::{Backlog, Feeder, load_all};
 use crate::keys::Keys;
 use crate::mail::Outbox;
 use crate::rounds::feed_in_rounds;

@@ -7,7 +7,7 @@ ghost use Rattle.policy_actors.specs.Reports.{report_on};
 ghost use Rattle.job_checks.specs.FaultyJobs.{faulty_in};
 ghost use Rattle.trace_read.specs.TraceText.{AreOfFile, keys_in};
 
-use crate::backlog::Backlog;
+use crate::feeder::Backlog;
 use crate::read_feeder::ReadFeeder;
 use crate::rule::FeedSource;
 use crate::run::{Common, run_fed};

@@ -10,8 +10,7 @@ ghost use Rattle.job_checks.specs.FaultyJobs.{faulty_in, ReturnsFault};
 ghost use Rattle.policy_actors.specs.Reports.{report_on};
 
 use crate::actor::act;
-use crate::backlog::Backlog;
-use crate::feeder::{Feeder, TraceFeeder};
+use crate::feeder::{Backlog, Feeder, TraceFeeder};
 use crate::mail::{Outbox, channel};
 use crate::next_uses::{SharedUses, WholeTrace};
 use crate::rule::FeedSource;

@@ -26,23 +26,6 @@ pub struct Work {
 }
 
 impl Work {
-    /// The work of so many policies, each of which is given so many accesses in batches of this size.
-    pub fn in_batches(name: &'static str, policies: usize, accesses: usize, size: u32) -> Work {
-        let each = accesses.div_ceil((size as usize).max(1)).max(1);
-        Work {
-            name,
-            batches: Some(policies.saturating_mul(each) as u64),
-        }
-    }
-
-    /// Work of which it is not known beforehand how many batches it has.
-    pub fn of_unknown_length(name: &'static str) -> Work {
-        Work {
-            name,
-            batches: None,
-        }
-    }
-
     // After how many batches the clock is read.
     fn period(self) -> u64 {
         match self.batches {

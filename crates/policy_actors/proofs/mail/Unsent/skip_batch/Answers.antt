@@ -1,6 +1,6 @@
 use Rattle.std.proofs.Common.{◌≡◌, ℕ, List, ◌+◌, ◌<◌, true, false, IfSome, length, take, drop, sym, subst}
 use Rattle.policy_actors.proofs.Stretch.{piece_left, end_left, more_left}
-use Rattle.policy_actors.proofs.unsent.Unsent.skip_batch.Goals as goal
+use Rattle.policy_actors.proofs.mail.Unsent.skip_batch.Goals as goal
 
 pub invariant_of-self-clause-piece : goal.invariant_of-self-clause-piece
 invariant_of-self-clause-piece g c = let e = c.args.self.now in

@@ -1,7 +1,7 @@
 use Rattle.std.proofs.Common.{ℕ, ◌≤◌, [], subst, ap, ◌∙◌, sym, append-nil}
 use Rattle.step_record.specs.declared.limits.TheConstants.{MAX_ACCESSES}
 use Rattle.policy_actors.specs.Reports.{report_on}
-use Rattle.policy_actors.proofs.player.report_over.Goals as goal
+use Rattle.policy_actors.proofs.actor.report_over.Goals as goal
 
 pub access_whole-requires : goal.access_whole-requires
 access_whole-requires c =
