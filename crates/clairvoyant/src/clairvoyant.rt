@@ -173,6 +173,8 @@ impl Engine for Clairvoyant {
 
     ghost pace = { λ d. pace_without_sketch };
 
+    // Part of its caller, so that one who reads no record does not look up the key that left: that would wait for memory.
+    #[inline(always)]
     fn apply(&mut self, step: &Key) -> Result<(Outcome, OptimalRecord), StepFault>
         ensures accepted { IfOk result (λ r. clairvoyant_act self.old step.now ≡ Some (r.0, self.new)) }
         ensures fits { IfOk result (λ r. ClairvoyantFits r.1 self.new) }

@@ -1,5 +1,5 @@
 -- One step down a tree, and the way back.
-use Rattle.std.proofs.Common.{◌≡◌, ℕ, suc, zero, ◌+◌, ◌-◌, ◌^◌, ◌<◌, ◌≤◌, true, false, eqb, List, length, get_or, set, ap, ◌∙◌, sym, refl, subst, arith, ◌⊎◌, inl, inr}
+use Rattle.std.proofs.Common.{◌≡◌, ℕ, suc, zero, ◌+◌, ◌-◌, ◌^◌, ◌<◌, ◌≤◌, Bool, true, false, eqb, List, length, get_or, set, ap, ◌∙◌, sym, refl, subst, arith, ◌⊎◌, inl, inr}
 use Rattle.std.proofs.lemmas.Bool.{eq-eqb, ne_eqb}
 use Rattle.step_record.specs.declared.item.Item.{Item}
 use Rattle.segments.specs.declared.index.Index.{Index}
@@ -14,6 +14,10 @@ use Rattle.segments.proofs.Sorting.{grafted-tally, detached-tally, left-side, ri
 some_or_none : (n : ℕ) → (1 ≤ n) ⊎ (n ≡ 0)
 some_or_none zero = inr refl
 some_or_none (suc n) = inl (omega arith)
+
+true_or_false : (b : Bool) → (b ≡ true) ⊎ (b ≡ false)
+true_or_false true = inl refl
+true_or_false false = inr refl
 
 -- the tree below a slot is the same however deep one looks
 module _ (index : Index) (slots : List Slot) (root d : ℕ) (h : HasTree index slots root (tree_below root d index slots)) where
@@ -166,6 +170,23 @@ module _ (index : Index) (slots : List Slot) (root d : ℕ) (h : HasTree index s
     graft-left-below heads1 next1 g b e y w =
         subst (λ (n : List ℕ). IsTree heads1 n (2 ^ index.bits) root (grafted d item at (tree_below root d index slots)) × ChangesWithin (2 ^ index.bits) index.heads.items heads1 (chains slots) n (tree_below root d index slots))
         (left-stays heads1 next1 g e w) (graft-left heads1 next1 g g b e y w)
+
+    -- the branch on the item's way, whichever it is
+    module _ (g : ℕ) (right : turn d item ≡ true → g ≡ get_or index.heads.items (2 ^ index.bits + root) 0) (left : turn d item ≡ false → g ≡ get_or (chains slots) root 0) where
+      pub way-below : HasTree index slots g (tree_below g (d + 1) index slots)
+      way-below = elim (true_or_false (turn d item)) [ inl b ↦ right-below g (right b) | inr b ↦ left-below g (left b) ]
+
+      pub fresh-way : tally at (tree_below g (d + 1) index slots) ≡ 0
+      fresh-way = elim (true_or_false (turn d item)) [ inl b ↦ fresh-right g (right b) | inr b ↦ fresh-left g (left b) ]
+
+      pub graft-way-below : (heads1 next1 : List ℕ) → IsTree heads1 next1 (2 ^ index.bits) g (grafted (d + 1) item at (tree_below g (d + 1) index slots)) →
+          ChangesWithin (2 ^ index.bits) index.heads.items heads1 (chains slots) next1 (tree_below g (d + 1) index slots) →
+          IsTree heads1 next1 (2 ^ index.bits) root (grafted d item at (tree_below root d index slots)) ×
+          ChangesWithin (2 ^ index.bits) index.heads.items heads1 (chains slots) next1 (tree_below root d index slots)
+      graft-way-below heads1 next1 y w = elim (true_or_false (turn d item)) [
+        | inl b ↦ graft-right-below heads1 next1 g b (right b) y w
+        | inr b ↦ graft-left-below heads1 next1 g b (left b) y w
+      ]
 
   -- a slot below that is taken out
   module _ (item : Item) (at : ℕ) (it : slot_item (items slots) at ≡ item) (sorted : IsSorted (items slots) d (tree_below root d index slots)) (stands : 1 ≤ tally at (tree_below root d index slots)) (other : root ≡ at → ⊥) where

@@ -5,7 +5,7 @@ use Rattle.segments.specs.Ring.{chains}
 use Rattle.segments.specs.Index.{tree_below}
 use Rattle.segments.specs.declared.slot.Slot.{Slot}
 use Rattle.segments.proofs.Trees.{field_at, within-none}
-use Rattle.segments.proofs.Grafting.{deep, open-below, right-is, right-below, left-below, fresh-right, fresh-left, graft-right, graft-left, graft-right-below, graft-left-below, one-slot}
+use Rattle.segments.proofs.Grafting.{deep, open-below, way-below, fresh-way, graft-right, graft-left, graft-way-below, one-slot}
 use Rattle.segments.proofs.index.Index.+graft.Goals as goal
 
 abbrev nothing : Slot
@@ -18,8 +18,8 @@ index_mut-requires t c =
     let f = c.fork_of-fork.ensures in
     omega (arith, r, f)
 
-pub bounds-slots-root : goal.bounds-slots-root
-bounds-slots-root t c =
+pub branch_of-next-requires-clause-at : goal.branch_of-next-requires-clause-at
+branch_of-next-requires-clause-at t c =
     let z : c.args.root ≡ 0 → ⊥ = (λ e. let r = c.requires.root in omega (arith, e, r)) in
     let w = (open-below c.args.self.now c.args.slots.now c.args.root c.args.depth c.requires.tree z).within in
     let n = length-map c.args.slots.now (λ (s : Slot). s.chain) in
@@ -28,47 +28,35 @@ bounds-slots-root t c =
 pub graft-requires : goal.graft-requires
 graft-requires t c =
     let z : c.args.root ≡ 0 → ⊥ = (λ e. let r = c.requires.root in omega (arith, e, r)) in
-    let e = right-is c.args.self.now c.args.slots.now c.args.root c.args.depth c.requires.tree z c.fork_of-fork.result c.index-right.result.now c.fork_of-fork.ensures c.index-right.ensures in
     let m = deep c.args.self.now c.args.slots.now c.args.root c.args.depth c.requires.tree z in
-    (omega (arith, m, c.decreases), (c.requires.at, (omega (arith, c.if-right-eq0.false), (right-below c.args.self.now c.args.slots.now c.args.root c.args.depth c.requires.tree z c.index-right.result.now e, (fresh-right c.args.self.now c.args.slots.now c.args.root c.args.depth c.requires.tree z c.args.item c.args.at c.requires.fresh c.index-right.result.now e, c.requires.bare)))))
+    let g = c.branch_of-next.result in
+    let r = c.branch_of-next.ensures.right in
+    let l = c.branch_of-next.ensures.left in
+    let whole = way-below c.args.self.now c.args.slots.now c.args.root c.args.depth c.requires.tree z c.args.item c.args.at c.requires.fresh g r l in
+    let fresh = fresh-way c.args.self.now c.args.slots.now c.args.root c.args.depth c.requires.tree z c.args.item c.args.at c.requires.fresh g r l in
+    (omega (arith, m, c.decreases), (c.requires.at, (omega (arith, c.if-next-ne0.true), (whole, (fresh, c.requires.bare)))))
 
-pub graft-requires-else-turns_right : goal.graft-requires-else-turns_right
-graft-requires-else-turns_right t c =
+pub returns-then-next-ne0-clause-left : goal.returns-then-next-ne0-clause-left
+returns-then-next-ne0-clause-left t c =
     let z : c.args.root ≡ 0 → ⊥ = (λ e. let r = c.requires.root in omega (arith, e, r)) in
-    let e = sym (field_at (λ (s : Slot). s.chain) c.args.slots.now c.args.root nothing) in
-    let m = deep c.args.self.now c.args.slots.now c.args.root c.args.depth c.requires.tree z in
-    (omega (arith, m, c.decreases), (c.requires.at, (omega (arith, c.if-left-eq0.false), (left-below c.args.self.now c.args.slots.now c.args.root c.args.depth c.requires.tree z _ e, (fresh-left c.args.self.now c.args.slots.now c.args.root c.args.depth c.requires.tree z c.args.item c.args.at c.requires.fresh _ e, c.requires.bare)))))
+    let l = c.graft.ensures.left in
+    let p = graft-way-below c.args.self.now c.args.slots.now c.args.root c.args.depth c.requires.tree z c.args.item c.args.at c.requires.fresh c.branch_of-next.result c.branch_of-next.ensures.right c.branch_of-next.ensures.left c.graft.new.self.heads.items (chains c.graft.new.slots) l.tree l.within in
+    record { tree = p.0; within = p.1; bits = l.bits }
 
-pub returns-then-right-eq0-clause-left : goal.returns-then-right-eq0-clause-left
-returns-then-right-eq0-clause-left t c =
+pub returns-then-turns_right-clause-left : goal.returns-then-turns_right-clause-left
+returns-then-turns_right-clause-left t c =
     let z : c.args.root ≡ 0 → ⊥ = (λ e. let r = c.requires.root in omega (arith, e, r)) in
-    let e = right-is c.args.self.now c.args.slots.now c.args.root c.args.depth c.requires.tree z c.fork_of-fork.result c.index-right.result.now c.fork_of-fork.ensures c.index-right.ensures in
-    let y = one-slot c.args.self.now c.args.slots.now c.args.at c.index-right.result.now (c.args.depth + 1) c.args.item c.requires.at c.requires.tree.room c.requires.bare c.if-right-eq0.true in
-    let none = within-none (2 ^ c.args.self.now.bits) c.args.self.now.heads.items (chains c.args.slots.now) (tree_below c.index-right.result.now (c.args.depth + 1) c.args.self.now c.args.slots.now) in
-    let p = graft-right c.args.self.now c.args.slots.now c.args.root c.args.depth c.requires.tree z c.args.item c.args.at c.requires.fresh c.args.self.now.heads.items (chains c.args.slots.now) c.index-right.result.now c.args.at (sym c.turns_right.ensures ∙ c.if-turns_right.true) e y none in
+    let b = sym c.turns_right.ensures ∙ c.if-turns_right.true in
+    let y = one-slot c.args.self.now c.args.slots.now c.args.at c.branch_of-next.result (c.args.depth + 1) c.args.item c.requires.at c.requires.tree.room c.requires.bare c.if-next-ne0.false in
+    let none = within-none (2 ^ c.args.self.now.bits) c.args.self.now.heads.items (chains c.args.slots.now) (tree_below c.branch_of-next.result (c.args.depth + 1) c.args.self.now c.args.slots.now) in
+    let p = graft-right c.args.self.now c.args.slots.now c.args.root c.args.depth c.requires.tree z c.args.item c.args.at c.requires.fresh c.args.self.now.heads.items (chains c.args.slots.now) c.branch_of-next.result c.args.at b (c.branch_of-next.ensures.right b) y none in
     rw c.fork_of-fork.ensures record { tree = p.0; within = p.1; bits = refl }
 
-pub returns-then-left-eq0-clause-left : goal.returns-then-left-eq0-clause-left
-returns-then-left-eq0-clause-left t c =
+pub returns-else-turns_right-clause-left : goal.returns-else-turns_right-clause-left
+returns-else-turns_right-clause-left t c =
     let z : c.args.root ≡ 0 → ⊥ = (λ e. let r = c.requires.root in omega (arith, e, r)) in
-    let e = sym (field_at (λ (s : Slot). s.chain) c.args.slots.now c.args.root nothing) in
-    let y = one-slot c.args.self.now c.args.slots.now c.args.at _ (c.args.depth + 1) c.args.item c.requires.at c.requires.tree.room c.requires.bare c.if-left-eq0.true in
-    let none = within-none (2 ^ c.args.self.now.bits) c.args.self.now.heads.items (chains c.args.slots.now) (tree_below _ (c.args.depth + 1) c.args.self.now c.args.slots.now) in
-    let p = graft-left c.args.self.now c.args.slots.now c.args.root c.args.depth c.requires.tree z c.args.item c.args.at c.requires.fresh c.args.self.now.heads.items (chains c.args.slots.now) _ c.args.at (sym c.turns_right.ensures ∙ c.if-turns_right.false) e y none in
+    let b = sym c.turns_right.ensures ∙ c.if-turns_right.false in
+    let y = one-slot c.args.self.now c.args.slots.now c.args.at c.branch_of-next.result (c.args.depth + 1) c.args.item c.requires.at c.requires.tree.room c.requires.bare c.if-next-ne0.false in
+    let none = within-none (2 ^ c.args.self.now.bits) c.args.self.now.heads.items (chains c.args.slots.now) (tree_below c.branch_of-next.result (c.args.depth + 1) c.args.self.now c.args.slots.now) in
+    let p = graft-left c.args.self.now c.args.slots.now c.args.root c.args.depth c.requires.tree z c.args.item c.args.at c.requires.fresh c.args.self.now.heads.items (chains c.args.slots.now) c.branch_of-next.result c.args.at b (c.branch_of-next.ensures.left b) y none in
     record { tree = rw c.set_chain.ensures.chains p.0; within = rw c.set_chain.ensures.chains p.1; bits = refl }
-
-pub returns-else-right-eq0-clause-left : goal.returns-else-right-eq0-clause-left
-returns-else-right-eq0-clause-left t c =
-    let z : c.args.root ≡ 0 → ⊥ = (λ e. let r = c.requires.root in omega (arith, e, r)) in
-    let e = right-is c.args.self.now c.args.slots.now c.args.root c.args.depth c.requires.tree z c.fork_of-fork.result c.index-right.result.now c.fork_of-fork.ensures c.index-right.ensures in
-    let l = c.graft.ensures.left in
-    let p = graft-right-below c.args.self.now c.args.slots.now c.args.root c.args.depth c.requires.tree z c.args.item c.args.at c.requires.fresh c.graft.new.self.heads.items (chains c.graft.new.slots) c.index-right.result.now (sym c.turns_right.ensures ∙ c.if-turns_right.true) e l.tree l.within in
-    record { tree = p.0; within = p.1; bits = l.bits }
-
-pub returns-else-left-eq0-clause-left : goal.returns-else-left-eq0-clause-left
-returns-else-left-eq0-clause-left t c =
-    let z : c.args.root ≡ 0 → ⊥ = (λ e. let r = c.requires.root in omega (arith, e, r)) in
-    let e = sym (field_at (λ (s : Slot). s.chain) c.args.slots.now c.args.root nothing) in
-    let l = c.graft-else-turns_right.ensures.left in
-    let p = graft-left-below c.args.self.now c.args.slots.now c.args.root c.args.depth c.requires.tree z c.args.item c.args.at c.requires.fresh c.graft-else-turns_right.new.self.heads.items (chains c.graft-else-turns_right.new.slots) _ (sym c.turns_right.ensures ∙ c.if-turns_right.false) e l.tree l.within in
-    record { tree = p.0; within = p.1; bits = l.bits }
