@@ -2,7 +2,7 @@ use Rattle.std.proofs.Common.{ap, ◌∙◌}
 use Rattle.replacement.specs.Table.{Response}
 use Rattle.replacement.proofs.Planned.{evictions-planned}
 use Rattle.shell_model.specs.Frequency.{admits}
-use Rattle.maintenance.proofs.evictions.carry_out.Goals as goal
+use Rattle.maintenance.proofs.round_acts.carry_out.Goals as goal
 
 pub returns-clause-lists : goal.returns-clause-lists
 unfolding admits

@@ -1,5 +1,5 @@
 use Rattle.shell_model.specs.Frequency.{frequency_recorded, shell_frequency_record}
-use Rattle.maintenance.proofs.key_records.record_key.Goals as goal
+use Rattle.maintenance.proofs.round_acts.record_key.Goals as goal
 
 pub returns-clause-state : goal.returns-clause-state
 unfolding frequency_recorded

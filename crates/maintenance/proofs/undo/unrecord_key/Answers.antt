@@ -1,5 +1,5 @@
 use Rattle.shell_model.specs.Frequency.{frequency_unrecorded, FitsFrequency}
-use Rattle.maintenance.proofs.key_records.unrecord_key.Goals as goal
+use Rattle.maintenance.proofs.undo.unrecord_key.Goals as goal
 
 pub unrecord-requires : goal.unrecord-requires
 unfolding FitsFrequency
