@@ -4,7 +4,7 @@ use Rattle.walks.specs.Walks.{IsWalk}
 use Rattle.walks.specs.WorkerEntries.{Made}
 use Rattle.workers.specs.Draws.{IsWithin}
 use Rattle.walks.specs.NextActs.{IsRestOfWalk, IsAskedNext}
-use Rattle.workers.proofs.worker.walk_in_turns.Given as goal
+use Rattle.workers.proofs.run.walk_in_turns.Given as goal
 
 abbrev pub invariant-loop : goal.invariant-loop
 invariant-loop g l = record {

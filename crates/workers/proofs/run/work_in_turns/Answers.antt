@@ -4,7 +4,7 @@ use Rattle.walks.proofs.Coming.{walked}
 use Rattle.walks.proofs.Joining.{joined, one_walk, cut_walk, all_walks, drop_item}
 use Rattle.workers.proofs.Turning.{on_ok_at, on_err_at}
 use Rattle.walks.proofs.Walking.{known}
-use Rattle.workers.proofs.worker.work_in_turns.Goals as goal
+use Rattle.workers.proofs.run.work_in_turns.Goals as goal
 
 pub loop-n-preserved : goal.loop-n-preserved
 loop-n-preserved g c = record {

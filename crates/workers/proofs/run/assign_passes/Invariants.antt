@@ -5,7 +5,7 @@ use Rattle.turn_book.specs.Passes.{InOrder, id_of}
 use Rattle.std.specs.Prelude.{IfSome}
 use Rattle.workers.specs.WorkerStates.{HoldsPass, AreNumbered}
 use Rattle.workers.specs.Draws.{IsWithin}
-use Rattle.workers.proofs.worker.assign_passes.Given as goal
+use Rattle.workers.proofs.run.assign_passes.Given as goal
 
 abbrev pub invariant-loop-pass : goal.invariant-loop-pass
 invariant-loop-pass l = record {

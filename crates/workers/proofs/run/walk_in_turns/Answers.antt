@@ -3,7 +3,7 @@ use Rattle.walks.specs.AdmittedSteps.{MayMake}
 use Rattle.walks.proofs.Coming.{may_make}
 use Rattle.walks.proofs.Walking.{nothing, stopped, stepped, over, known, asks_same, asked_of, Completes}
 use Rattle.workers.proofs.Turning.{at_ok, at_err, on_ok_at}
-use Rattle.workers.proofs.worker.walk_in_turns.Goals as goal
+use Rattle.workers.proofs.run.walk_in_turns.Goals as goal
 
 pub loop-init : goal.loop-init
 loop-init g c = record {

@@ -4,7 +4,7 @@ use Rattle.turn_book.specs.Turns.{Every}
 use Rattle.turn_book.specs.Passes.{InOrder, id_of}
 use Rattle.workers.specs.Draws.{IsWithin}
 use Rattle.workers.proofs.WorkerLists.{every_more, counts_more, length_snoc}
-use Rattle.workers.proofs.worker.assign_passes.Goals as goal
+use Rattle.workers.proofs.run.assign_passes.Goals as goal
 
 pub loop-pass-preserved : goal.loop-pass-preserved
 loop-pass-preserved c =

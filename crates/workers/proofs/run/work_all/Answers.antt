@@ -3,13 +3,13 @@ use Rattle.std.specs.List.{All}
 use Rattle.std.proofs.iter.Serving.{serving}
 use Rattle.turn_book.specs.Turns.{Every}
 use Rattle.turn_book.specs.Passes.{id_of}
-use Rattle.workers.specs.declared.worker.WorkerState.{WorkerState}
+use Rattle.workers.specs.declared.run.WorkerState.{WorkerState}
 use Rattle.std.specs.Prelude.{IfSome}
 use Rattle.workers.specs.WorkerStates.{AreNumbered, HoldsPass, HasWorked, calls_of}
 use Rattle.workers.specs.Draws.{IsWithin}
 use Rattle.workers.proofs.Collecting.{every_both}
 use Rattle.workers.proofs.WorkerLists.{all_of_every, every_of_all, every_below, counts_same, take_back}
-use Rattle.workers.proofs.worker.work_all.Goals as goal
+use Rattle.workers.proofs.run.work_all.Goals as goal
 
 pub for_each_mut-requires-clause-accepts : goal.for_each_mut-requires-clause-accepts
 for_each_mut-requires-clause-accepts g c κs within =

@@ -5,7 +5,7 @@ use Rattle.step_record.specs.declared.step.Reply.{Reply}
 use Rattle.step_record.specs.declared.step.Step.{Step}
 use Rattle.walks.specs.WorkerEntries.{entries_of}
 use Rattle.workers.proofs.Turning.{gained, leaves_same, not_refused, few_made, within_more, within_spent, full_cause, err_same}
-use Rattle.workers.proofs.worker.turn.Goals as goal
+use Rattle.workers.proofs.run.turn.Goals as goal
 
 pub returns-in-Ok-step-clause-answer : goal.returns-in-Ok-step-clause-answer
 returns-in-Ok-step-clause-answer g c = c.requires.answers _ _ _ _ c.in-Ok-step.ensures.accepted

@@ -4,7 +4,7 @@ use Rattle.step_record.specs.History.{Entries}
 use Rattle.walks.specs.Walks.{AreWalks}
 use Rattle.walks.specs.WorkerEntries.{Made}
 use Rattle.workers.specs.Draws.{IsWithin}
-use Rattle.workers.proofs.worker.work_in_turns.Given as goal
+use Rattle.workers.proofs.run.work_in_turns.Given as goal
 
 abbrev pub invariant-loop-n : goal.invariant-loop-n
 invariant-loop-n g l = record {

@@ -3,7 +3,7 @@ use Rattle.std.specs.Option.{IsSome, option_or}
 use Rattle.std.specs.Vec.Iter.{into_iter_items}
 use Rattle.turn_book.specs.Turns.{Every}
 use Rattle.workers.specs.Runs.{first_cause}
-use Rattle.workers.proofs.worker.collect_passes.Given as goal
+use Rattle.workers.proofs.run.collect_passes.Given as goal
 
 abbrev pub invariant-loop-state : goal.invariant-loop-state
 invariant-loop-state l = record {
