@@ -1,6 +1,6 @@
 //! Workers on threads, over one session of the concurrent cache: what each worker has and does, and how all of them
 //! work side by side.
-ghost use Rattle.std.specs.Prelude.{◌≡◌, ◌≢◌, ◌<◌, ◌≤◌, ◌∷◌, ◌++◌, true, Some, None, Err, [], All, MatchResult};
+ghost use Rattle.std.specs.Prelude.{◌≡◌, ◌<◌, ◌≤◌, ◌∷◌, ◌++◌, true, Some, None, Err, [], All, MatchResult};
 ghost use Rattle.std.specs.Prelude.{IfOk, IfErr, OnOk, OnErr, IfSome, IsSome, length, map, vec_capacity};
 ghost use Rattle.step_record.specs.declared.limits.TheConstants.{MAX_STRIPES};
 ghost use Rattle.step_record.specs.declared.worker.TheConstants.{MAX_WORKERS};
@@ -12,7 +12,6 @@ ghost use Rattle.turn_book.specs.Passes.{InOrder, id_of};
 ghost use Rattle.walks.specs.Walks.{IsWalk, AreWalks};
 ghost use Rattle.walks.specs.AdmittedSteps.{AdmitsNext};
 ghost use Rattle.walks.specs.WorkerEntries.{Made, IsUnfinished};
-ghost use Rattle.workers.specs.Causes.{the_cause};
 ghost use Rattle.workers.specs.DriveFaults.{CanRun, LeavesFault};
 ghost use Rattle.workers.specs.Draws.{IsWithin};
 ghost use Rattle.workers.specs.Runs.{IsRun, first_cause};
@@ -293,21 +292,11 @@ fn turn<E: Engine<Step = Step, Reply = Reply> + Drop, R: Wait>(
     match book.take(rt, pass) {
         Ok(mut turn) => match turn.value().step(step) {
             Ok(reply) => (book.give(turn), Ok(reply)),
-            Err(fault) => (book.give(turn), Err(cause_of(fault))),
+            Err(SessionFault::OutOfMemory) => (book.give(turn), Err(Cause::Memory)),
+            Err(SessionFault::JournalFull) => (book.give(turn), Err(Cause::JournalFull)),
+            Err(SessionFault::NotNow) => unreachable!(),
         },
         Err(pass) => (pass, Err(Cause::JournalFull)),
-    }
-}
-
-// Why a session refused a step that its engine takes.
-fn cause_of(fault: SessionFault) -> Cause
-    requires { fault ≢ SessionFault.NotNow }
-    ensures { result ≡ the_cause fault }
-{
-    match fault {
-        SessionFault::OutOfMemory => Cause::Memory,
-        SessionFault::JournalFull => Cause::JournalFull,
-        SessionFault::NotNow => unreachable!(),
     }
 }
 

@@ -4,7 +4,7 @@ use Rattle.step_record.specs.declared.entry.Entry.{Entry}
 use Rattle.step_record.specs.declared.step.Reply.{Reply}
 use Rattle.step_record.specs.declared.step.Step.{Step}
 use Rattle.walks.specs.WorkerEntries.{entries_of}
-use Rattle.workers.proofs.Turning.{gained, leaves_same, not_refused, few_made, within_more, within_spent, full_cause, err_same}
+use Rattle.workers.proofs.Turning.{gained, leaves_same, not_refused, few_made, within_more, within_spent}
 use Rattle.workers.proofs.run.turn.Goals as goal
 
 pub returns-in-Ok-step-clause-answer : goal.returns-in-Ok-step-clause-answer
@@ -17,34 +17,48 @@ returns-in-Ok-step-clause-own g c =
     gained _ _ _ _ _ _ _ c.give.ensures.gave (c.in-Ok-step.ensures.ok ∙ ap (λ s. s.kept ++ record { step = c.args.step; reply = c.in-Ok-step.reply } ∷ []) v)
     ∙ ap (λ p. p.own ++ record { step = c.args.step; reply = c.in-Ok-step.reply } ∷ []) took.pass
 
-pub give-requires-in-Err-step-clause-leaves : goal.give-requires-in-Err-step-clause-leaves
-give-requires-in-Err-step-clause-leaves g c =
+pub give-requires-in-Err-OutOfMemory-clause-leaves : goal.give-requires-in-Err-OutOfMemory-clause-leaves
+give-requires-in-Err-OutOfMemory-clause-leaves g c =
     let v = c.value.ensures.value ∙ sym c.in-Ok.ensures.took.taken in
-    let same = c.in-Err-step.ensures.err in
+    let same = c.in-Err-OutOfMemory.ensures.err in
     leaves_same _ _ _ _ _ _ _
     (λ i. ((same.opening ∙ ap (λ s. s.opening) v) i, (same.limit ∙ ap (λ s. s.limit) v) i))
     (same.kept ∙ ap (λ s. s.kept) v ∙ sym (append-nil _))
     (same.tail ∙ ap (λ s. s.tail) v)
 
-pub returns-in-Err-step-clause-own : goal.returns-in-Err-step-clause-own
-returns-in-Err-step-clause-own g c =
+pub returns-in-Err-OutOfMemory-clause-own : goal.returns-in-Err-OutOfMemory-clause-own
+returns-in-Err-OutOfMemory-clause-own g c =
     let took = c.in-Ok.ensures.took in
     let v = c.value.ensures.value ∙ sym took.taken in
-    gained _ _ _ _ _ _ [] c.give-in-Err-step.ensures.gave (c.in-Err-step.ensures.err.kept ∙ ap (λ s. s.kept) v ∙ sym (append-nil _)) ∙ append-nil _ ∙ ap (λ p. p.own) took.pass
+    gained _ _ _ _ _ _ [] c.give-in-Err-OutOfMemory.ensures.gave (c.in-Err-OutOfMemory.ensures.err.kept ∙ ap (λ s. s.kept) v ∙ sym (append-nil _)) ∙ append-nil _ ∙ ap (λ p. p.own) took.pass
 
-pub returns-in-Err-step-clause-full : goal.returns-in-Err-step-clause-full
-returns-in-Err-step-clause-full g c = λ e.
-    let full = full_cause c.in-Err-step.fault (sym c.cause_of.ensures ∙ err_same _ _ e) in
-    ap (λ p. length p.last) c.give-in-Err-step.ensures.gave.pass ∙ ap length c.in-Err-step.ensures.err.kept
-    ∙ c.in-Err-step.ensures.full.0 (ap (λ f. Err f) full)
+pub give-requires-in-Err-JournalFull-clause-leaves : goal.give-requires-in-Err-JournalFull-clause-leaves
+give-requires-in-Err-JournalFull-clause-leaves g c =
+    let v = c.value.ensures.value ∙ sym c.in-Ok.ensures.took.taken in
+    let same = c.in-Err-JournalFull.ensures.err in
+    leaves_same _ _ _ _ _ _ _
+    (λ i. ((same.opening ∙ ap (λ s. s.opening) v) i, (same.limit ∙ ap (λ s. s.limit) v) i))
+    (same.kept ∙ ap (λ s. s.kept) v ∙ sym (append-nil _))
+    (same.tail ∙ ap (λ s. s.tail) v)
+
+pub returns-in-Err-JournalFull-clause-own : goal.returns-in-Err-JournalFull-clause-own
+returns-in-Err-JournalFull-clause-own g c =
+    let took = c.in-Ok.ensures.took in
+    let v = c.value.ensures.value ∙ sym took.taken in
+    gained _ _ _ _ _ _ [] c.give-in-Err-JournalFull.ensures.gave (c.in-Err-JournalFull.ensures.err.kept ∙ ap (λ s. s.kept) v ∙ sym (append-nil _)) ∙ append-nil _ ∙ ap (λ p. p.own) took.pass
+
+pub returns-in-Err-JournalFull-clause-full : goal.returns-in-Err-JournalFull-clause-full
+returns-in-Err-JournalFull-clause-full g c = λ e.
+    ap (λ p. length p.last) c.give-in-Err-JournalFull.ensures.gave.pass ∙ ap length c.in-Err-JournalFull.ensures.err.kept
+    ∙ c.in-Err-JournalFull.ensures.full.0 (ap (λ f. Err f) c.in-Err-JournalFull.field-0-is)
     ∙ ap (λ s. s.limit) c.value.ensures.value ∙ ap (λ p. p.1) c.in-Ok.ensures.took.shows.same_origin
 
-pub cause_of-requires : goal.cause_of-requires
-cause_of-requires g c = λ e.
-    let no = c.in-Err-step.ensures.not_now (ap (λ f. Err f) e) in
+pub unreachable-requires : goal.unreachable-requires
+unreachable-requires g c =
+    let no = c.in-Err-NotNow.ensures.not_now (ap (λ f. Err f) c.in-Err-NotNow.field-0-is) in
     let shows = c.in-Ok.ensures.took.shows in
-    let same = c.in-Err-step.ensures.err in
-    let sound = c.in-Err-step.ensures.sound in
+    let same = c.in-Err-NotNow.ensures.err in
+    let sound = c.in-Err-NotNow.ensures.sound in
     not_refused g.E.Engine.act g.E.Engine.count c.args.book.now.opening.opening _ _ _ c.args.book.now.opening.kept _ c.args.step c.args.pass.own shows.news c.requires.takes
     (same.opening ∙ ap (λ s. s.opening) c.value.ensures.value ∙ ap (λ p. p.0) shows.same_origin) (same.kept ∙ ap (λ s. s.kept) c.value.ensures.value ∙ shows.list_is)
     (ap (λ w. entries_of w shows.news) (sym c.requires.worker) ∙ shows.own_is) sound.legal sound.stands same.shown no.0 no.1
