@@ -1,15 +1,14 @@
 -- An eviction that was carried out by its plan is the definition's.
 use Rattle.std.proofs.Common.{◌≡◌, Bool, Option, Some, None, List, ap, sym, ◌∙◌, refl}
 use Rattle.step_record.specs.declared.item.Item.{Item}
-use Rattle.step_record.specs.declared.drain.Phase.{Phase}
 use Rattle.step_record.specs.declared.outcome.Outcome.{Outcome}
 use Rattle.segments.specs.Queues.{Queues, IsDistinct}
 use Rattle.replacement.specs.declared.record.Moves.{Moves}
 use Rattle.replacement.specs.declared.rules.Rules.{Rules}
 use Rattle.replacement.specs.Rules.{three_queues}
-use Rattle.replacement.specs.Plan.{Plan, candidate_of}
+use Rattle.replacement.specs.Plan.{candidate_of}
 use Rattle.replacement.specs.PlanMoves.{queues_after_transfer, queues_after, response_of_plan, removal_record, moves_of}
-use Rattle.shell_model.specs.Shell.{Shell, evict_effect, in_phase}
+use Rattle.shell_model.specs.Shell.{Shell, evict_effect}
 use Rattle.shell_model.specs.declared.holder.Holder.{Holder}
 use Rattle.shell_model.specs.declared.record.Change.TheVariants.{Evicted}
 use Rattle.shell_model.specs.Records.{leaves_table, planned_change, evict_change}
@@ -44,12 +43,3 @@ pub eviction-changes : (x : Shell) (h : Holder) (c : Item) (r : Rules) (m : Move
 eviction-changes x h c r m b hr hc hm hb =
     let p = planned (three_queues x.config) x.frequency x.queues in
     rw (hb, hm, hr, out-leaves p.leaves (queues_after_transfer p.first x.queues)) (ap (λ (k : Option Item). planned_change h k p x) hc)
-
-planned-in : (p : Phase) (h : Holder) (c : Option Item) (e : Plan) (x : Shell) → planned_change h c e (in_phase p h x) ≡ planned_change h c e x
-planned-in p h None e x = refl
-planned-in p h (Some c) e x = refl
-
--- whatever the phase
-pub changes-in : (p : Phase) (h : Holder) (x : Shell) → evict_change h (in_phase p h x) ≡ evict_change h x
-changes-in p h x =
-    planned-in p h (candidate_of (three_queues x.config) x.queues) (planned (three_queues x.config) x.frequency x.queues) x

@@ -1,4 +1,5 @@
 pub mod Tables
+pub mod Tasks
 pub mod Turning
 pub mod Standing
 pub mod Evicted

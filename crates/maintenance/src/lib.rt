@@ -4,14 +4,10 @@
 #![tactic(auto)]
 
 mod client_acts;
-mod drains;
-mod evictions;
-mod key_records;
-mod moves;
 mod node_table;
+mod round_acts;
 mod shell;
 mod shell_core;
-mod step;
 mod undo;
 
 pub use shell::Shell;

@@ -1,18 +1,20 @@
-//! The parts of the shell together.
-ghost use Rattle.std.specs.Prelude.{◌≡◌, ◌≤◌};
-ghost use Rattle.replacement.specs.Rules.{three_queues};
-ghost use Rattle.replacement.specs.Plan.{candidate_of};
-ghost use Rattle.shell_model.specs.Shell.{is_over};
+//! The parts of the shell together, and one step of it.
+ghost use Rattle.std.specs.Prelude.{◌≡◌, ◌<◌, ◌≤◌, ◌↔◌, Some, None, IfOk, OnErr, Err, IsSome, IfSome, IfNone};
+ghost use Rattle.step_record.specs.declared.limits.TheConstants.{MAX_STEPS};
+ghost use Rattle.shell_model.specs.Shell.{act_effect, act as acted};
+ghost use Rattle.shell_model.specs.Records.{change_of};
+ghost use Rattle.shell_model.specs.ShellStats.{AreAtMost, counted_of};
+ghost use Rattle.shell_model.specs.Consistency.{IsConsistent};
 
 use crate::node_table::NodeTable;
 use admission::Frequency;
 use replacement::Rules;
-use segments::{Queue, Segments};
+use segments::Segments;
 use shell_buffers::{Stripes, WriteTasks};
-use shell_model::{Holder, ShellStats};
-use std::alloc::{AllocError, Global};
+use shell_model::{Change, Counted, Holder, ShellRecord, ShellStats};
+use std::alloc::AllocError;
 use std::marker::Model;
-use step_record::{Config, Drain, Item};
+use step_record::{Act, Config, Drain, MAX_STEPS, Reply, Step, StepFault, Worker};
 
 /// The state of a shell. What is assumed of it here is only what keeps its numbers in range; the shell around it keeps
 /// that it is reachable.
@@ -60,21 +62,75 @@ impl Model for ShellCore {
 }
 
 impl ShellCore {
-    // Whether the window is over its size.
-    pub(crate) fn is_over(&self) -> bool
-        ensures { result ≡ is_over self.now }
+    /// One step, with its record.
+    pub(crate) fn apply(&mut self, step: Step) -> Result<(Reply, ShellRecord), StepFault>
+        requires sound { IsConsistent self.old }
+        requires next { self.old.next ≤ self.old.applied }
+        requires counts { AreAtMost MAX_STEPS self.old.stats }
+        requires few { self.old.frequency.halvings ≤ MAX_STEPS }
+        ensures some { IfOk result (λ r. acted self.old step ≡ Some (r.0, self.new)) }
+        ensures counted { IfOk result (λ r. r.1.counted ≡ counted_of r.0) }
+        ensures change { IfOk result (λ r. r.1.change ≡ change_of step.worker step.act self.old) }
+        ensures not_now { result ≡ Err StepFault.NotNow ↔ acted self.old step ≡ None }
+        ensures err { OnErr result (self.new ≡ self.old) }
     {
-        self.queues.len(Queue::Window) > self.rules.window
+        if self.applied >= MAX_STEPS {
+            return Err(StepFault::NotNow);
+        }
+        match self.perform(step.worker, step.act) {
+            Err(AllocError) => Err(StepFault::OutOfMemory),
+            Ok(None) => Err(StepFault::NotNow),
+            Ok(Some((reply, change))) => {
+                self.stats.count(reply);
+                self.applied += 1;
+                let counted = Counted::of(reply);
+                Ok((reply, ShellRecord { counted, change }))
+            }
+        }
     }
 
-    // The item that has to leave the window, where that is over its size.
-    pub(crate) fn candidate(&self) -> Option<Item>
-        ensures { result ≡ candidate_of (three_queues self.now.config) self.now.queues }
+    // One act, or `None` where it may not come now.
+    fn perform(&mut self, worker: Worker, act: Act) -> Result<Option<(Reply, Change)>, AllocError>
+        requires sound { IsConsistent self.old }
+        requires room { self.old.next < MAX_STEPS }
+        requires few { self.old.frequency.halvings ≤ MAX_STEPS }
+        ensures some { IfOk result (λ o. IfSome o (λ r. act_effect worker act self.old ≡ Some (r.0, self.new))) }
+        ensures change { IfOk result (λ o. IfSome o (λ r. r.1 ≡ change_of worker act self.old)) }
+        ensures none { IfOk result (λ o. IfNone o ((act_effect worker act self.old ≡ None) × (self.new ≡ self.old))) }
+        ensures accepted { OnErr result (IsSome (act_effect worker act self.old)) }
+        ensures err { OnErr result (self.new ≡ self.old) }
     {
-        if self.is_over() {
-            self.queues.oldest(Queue::Window)
-        } else {
-            None
+        match act {
+            Act::Look { key } => Ok(Some((self.look(key), Change::Nothing))),
+            Act::Offer { stripe, item } => {
+                if (stripe as usize) < self.stripes.count() && item.node < self.next {
+                    Ok(Some(self.offer(worker, stripe, item)))
+                } else {
+                    Ok(None)
+                }
+            }
+            Act::Lose { stripe, item } => {
+                if (stripe as usize) < self.stripes.count() && item.node < self.next {
+                    Ok(Some((Reply::Lost, Change::Nothing)))
+                } else {
+                    Ok(None)
+                }
+            }
+            Act::Put { key } => Ok(Some(self.put(worker, key)?)),
+            Act::Remove { key } => Ok(Some(self.remove(worker, key))),
+            Act::AfterRead { answer } => Ok(Some((self.after_read(answer), Change::Nothing))),
+            Act::AfterWrite => Ok(Some(self.after_write(worker))),
+            Act::Begin => Ok(Some(self.begin(worker))),
+            Act::DrainRead { stripe } => self.drain_read(worker, stripe),
+            Act::DrainWrite => self.drain_write(worker),
+            Act::Evict => match self.held_by(worker) {
+                None => Ok(None),
+                Some(holder) => Ok(Some(self.evict(holder))),
+            },
+            Act::End => match self.held_by(worker) {
+                None => Ok(None),
+                Some(holder) => Ok(Some(self.end(holder))),
+            },
         }
     }
 }

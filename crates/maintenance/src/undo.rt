@@ -1,18 +1,18 @@
 //! Undoing one step.
 ghost use Rattle.std.specs.Prelude.{◌≡◌, ◌≢◌, ◌<◌, Some, None, IfErr, OnOk, OnErr};
-ghost use Rattle.replacement.specs.PlanMoves.{undone_by, FitsBy};
 ghost use Rattle.shell_model.specs.Records.{before_use, FitsTouched, holder_in_phase, holder_with_task, HasLeft};
 ghost use Rattle.shell_model.specs.Records.{before_change, FitsChange, undone_step, FitsStep};
 ghost use Rattle.shell_model.specs.Records.{change_asks, step_asks, written_task as task_of};
 ghost use Rattle.shell_model.specs.Consistency.{IsLeft};
+ghost use Rattle.shell_model.specs.Frequency.{FitsFrequency, frequency_unrecorded};
 ghost use Rattle.shell_model.specs.declared.record.Change.TheVariants.{Nothing, Offered, Updated, Added, Removed, Read};
 ghost use Rattle.shell_model.specs.declared.record.Change.TheVariants.{Applied, Cleared, Evicted, Ended};
 
-use crate::key_records::unrecord_key;
 use crate::shell_core::ShellCore;
+use admission::{FreqRecord, Frequency};
 use segments::MoveRecord;
 use shell_buffers::Task;
-use shell_model::{Change, EvictionRecord, Holder, ShellRecord, UseRecord};
+use shell_model::{Change, EvictionRecord, ShellRecord, UseRecord};
 use std::alloc::AllocError;
 use step_record::{Item, Phase};
 
@@ -46,35 +46,6 @@ impl ShellCore {
         }
     }
 
-    // An item that went out comes back.
-    fn unclear(&mut self, out: Option<MoveRecord>) -> Result<(), AllocError>
-        requires { FitsBy out self.old.queues }
-        ensures ok { OnOk result (self.new ≡ record self.old { queues = undone_by out self.old.queues }) }
-        ensures err { OnErr result (self.new ≡ self.old) }
-        ensures asks { OnErr result (out ≢ None) }
-    {
-        let Some(out) = out else {
-            return Ok(());
-        };
-        self.queues.reserve()?;
-        self.queues.put_back(out);
-        Ok(())
-    }
-
-    fn undo_offered(&mut self, stripe: u8, item: Item)
-        requires { FitsChange (Offered stripe item) self.old }
-        ensures { self.new ≡ before_change (Offered stripe item) self.old }
-    {
-        self.stripes.unoffer(stripe);
-    }
-
-    fn undo_updated(&mut self, item: Item)
-        requires { FitsChange (Updated item) self.old }
-        ensures { self.new ≡ before_change (Updated item) self.old }
-    {
-        self.writes.unpush();
-    }
-
     fn undo_added(&mut self, item: Item)
         requires { FitsChange (Added item) self.old }
         ensures { self.new ≡ before_change (Added item) self.old }
@@ -82,16 +53,6 @@ impl ShellCore {
         self.writes.unpush();
         self.table.remove(item);
         self.next -= 1;
-    }
-
-    fn undo_removed(&mut self, item: Item) -> Result<(), AllocError>
-        requires { FitsChange (Removed item) self.old }
-        ensures ok { OnOk result (self.new ≡ before_change (Removed item) self.old) }
-        ensures err { OnErr result (self.new ≡ self.old) }
-    {
-        self.table.place(item)?;
-        self.writes.unpush();
-        Ok(())
     }
 
     fn undo_read(&mut self, stripe: u8, item: Item, used: UseRecord)
@@ -122,7 +83,10 @@ impl ShellCore {
         ensures err { OnErr result (self.new ≡ self.old) }
         ensures asks { OnErr result (out ≢ None) }
     {
-        self.unclear(out)?;
+        if let Some(out) = out {
+            self.queues.reserve()?;
+            self.queues.put_back(out);
+        }
         self.writes.untake(Task::Remove(item));
         self.refill(before);
         Ok(())
@@ -158,13 +122,14 @@ impl ShellCore {
     {
         match change {
             Change::Nothing => {}
-            Change::Offered { stripe, item } => self.undo_offered(stripe, item),
-            Change::Updated { item } => self.undo_updated(item),
+            Change::Offered { stripe, item: _ } => self.stripes.unoffer(stripe),
+            Change::Updated { item: _ } => self.writes.unpush(),
             Change::Added { item } => self.undo_added(item),
             Change::Removed { item } => {
-                if self.undo_removed(item).is_err() {
+                if self.table.place(item).is_err() {
                     return Err(Change::Removed { item });
                 }
+                self.writes.unpush();
             }
             Change::Requested { before, now: _ } => self.drain = before,
             Change::Began { worker: _, before } => {
@@ -231,4 +196,12 @@ fn written_task(is_new: bool, item: Item) -> Task
     } else {
         Task::Update(item)
     }
+}
+
+// Undoes the recording of a key.
+fn unrecord_key(frequency: &mut Frequency, made: FreqRecord)
+    requires { FitsFrequency made frequency.old }
+    ensures { frequency.new ≡ frequency_unrecorded made frequency.old }
+{
+    frequency.unrecord(made);
 }

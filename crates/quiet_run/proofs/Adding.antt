@@ -17,7 +17,7 @@ use Rattle.maintenance.specs.EmptyShell.{holder_parts}
 use Rattle.walks.specs.Holders.{IsReady, IsReadyFor}
 use Rattle.walks.specs.declared.next.Next.{Next}
 use Rattle.walks.specs.declared.next.Next.TheVariants as next_act
-use Rattle.walks.specs.declared.local.Local.{Local}
+use Rattle.walks.specs.declared.place.Local.{Local}
 use Rattle.walks.specs.declared.place.WalkPlace.{WalkPlace}
 use Rattle.walks.specs.WalkPlaces.{IsAheadOf, phase_place}
 use Rattle.quiet_run.specs.Outcomes.{outcome_with_reply, outcome_from}

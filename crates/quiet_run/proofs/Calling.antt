@@ -26,7 +26,7 @@ use Rattle.shell_model.proofs.Engines.{answers_law}
 use Rattle.shell_model.proofs.Reached.{reached-sound}
 use Rattle.shell_model.proofs.Making as k
 use Rattle.shell_model.proofs.Making.{Makes}
-use Rattle.walks.specs.declared.local.Local.{Local}
+use Rattle.walks.specs.declared.place.Local.{Local}
 use Rattle.walks.specs.declared.place.WalkPlace.{WalkPlace}
 use Rattle.walks.specs.declared.place.WalkPlace.TheVariants as at
 use Rattle.walks.specs.WalkPlaces.{IsAheadOf, act_of_place}

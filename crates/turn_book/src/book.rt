@@ -1,5 +1,6 @@
 //! The book: a table of two words and one slot. Word 0 is the next ticket, word 1 the ticket whose turn it is, and
-//! the slot has the value between two turns.
+//! the slot has the value between two turns. A worker has a pass, and while its turn lasts a turn, which lends it the
+//! value.
 ghost use Rattle.std.specs.Prelude.{◌≡◌, ◌≤◌, ◌<◌, List, map, length, vec_len, vec_capacity, [], IfOk};
 ghost use Rattle.std.specs.Prelude.{IfErr, OnOk};
 ghost use Rattle.step_record.specs.declared.worker.TheConstants.{MAX_WORKERS};
@@ -11,7 +12,6 @@ ghost use Rattle.turn_book.specs.Turns.{AddsInTurn, Every, Waits, Comes, Rests};
 ghost use Rattle.turn_book.specs.Turns.{parts_from, beginner};
 
 use crate::fault::OpenFault;
-use crate::pass::{Pass, Turn};
 use crate::rule::{Draw, Look, PassOn, PassParts, Turns};
 use crate::view::{Terms, View};
 use crate::waiting::WaitingArray;
@@ -25,9 +25,9 @@ use step_record::{Kept, MAX_WORKERS};
 /// How many turns a pass draws at most.
 pub const MAX_TURNS: u64 = 1 << 32;
 
-pub(crate) type Board<T> = Table<Option<T>, View<T, <T as Kept>::Entry>, Terms<T>, Turns, Global>;
+type Board<T> = Table<Option<T>, View<T, <T as Kept>::Entry>, Terms<T>, Turns, Global>;
 
-pub(crate) type BookSeat<T> = Seat<Option<T>, View<T, <T as Kept>::Entry>>;
+type BookSeat<T> = Seat<Option<T>, View<T, <T as Kept>::Entry>>;
 
 /// A value that workers take in turns, in the order in which they asked: a ticket lock. The entries that the value
 /// gained since it was opened are those that the passes made in their turns, each pass's in its order.
@@ -175,6 +175,57 @@ impl<T: Kept> TurnBook<T> {
         let slot = closed.take(0);
         closed.free();
         slot.unwrap()
+    }
+}
+
+/// The right of one worker to take turns: what it has entered so far, and how many turns it has drawn.
+#[derive(Drop)]
+pub struct Pass<T: Kept> {
+    seat: BookSeat<T>,
+    drawn: u64,
+}
+
+impl<T: Kept> Model for Pass<T> {
+    ghost use Rattle.turn_book.specs.Passes.{PassState};
+    ghost use Rattle.turn_book.specs.Seats.{pass_in, IsPassAt};
+
+    ghost Value = { PassState T T.Entry };
+
+    ghost view = { λ p. pass_in p.seat.table_id p.seat.me.0 p.drawn };
+
+    ghost invariant = { λ p. IsPassAt p.seat.table_id p.seat.me p.drawn };
+}
+
+/// A turn that has come, with the value. One that is dropped keeps the book taken for good.
+#[derive(Drop)]
+pub struct Turn<T: Kept> {
+    seat: BookSeat<T>,
+    drawn: u64,
+    taken: Snapshot<T>,
+    value: T,
+}
+
+impl<T: Kept> Model for Turn<T> {
+    ghost use Rattle.turn_book.specs.Passes.{TurnState};
+    ghost use Rattle.turn_book.specs.Seats.{turn_in, IsTurnAt};
+
+    ghost Value = { TurnState T T.Entry };
+
+    ghost view = { λ t. turn_in t.seat.table_id t.seat.me.0 t.drawn t.taken.value t.value };
+
+    ghost invariant = { λ t. IsTurnAt t.seat.table_id t.seat.me t.drawn t.taken.value };
+}
+
+impl<T: Kept> Turn<T> {
+    ghost use Rattle.std.specs.Borrow.{sem};
+    ghost use Rattle.turn_book.specs.LentTurn.{lends_value};
+
+    /// The value, to read and to write while the turn lasts.
+    pub fn value(&mut self) -> &mut T
+        ensures* writes_back { sem 𝓛 (lends_value T.row T.Entry.row T.Kept self.entry result) }
+        ensures value { result.now ≡ self.old.value }
+    {
+        &mut self.value
     }
 }
 

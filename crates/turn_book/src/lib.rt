@@ -9,11 +9,9 @@
 
 mod book;
 mod fault;
-mod pass;
 mod rule;
 mod view;
 mod waiting;
 
-pub use book::{MAX_TURNS, TurnBook};
+pub use book::{MAX_TURNS, Pass, Turn, TurnBook};
 pub use fault::OpenFault;
-pub use pass::{Pass, Turn};

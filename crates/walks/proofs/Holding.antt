@@ -20,7 +20,7 @@ use Rattle.shell_model.specs.Shell.{Shell, window_size, is_over, held_by, in_pha
 use Rattle.shell_model.proofs.Making as k
 use Rattle.shell_model.proofs.Making.{Makes, MakesTo, perform-makes}
 use Rattle.shell_model.proofs.Histories.{counted_up, tallied-from}
-use Rattle.walks.specs.declared.local.Local.{Local}
+use Rattle.walks.specs.declared.place.Local.{Local}
 use Rattle.walks.specs.declared.next.Next.{Next}
 use Rattle.walks.specs.declared.next.Next.TheVariants as next_act
 use Rattle.walks.specs.declared.place.WalkPlace.{WalkPlace}

@@ -8,7 +8,7 @@ use Rattle.step_record.specs.declared.step.Reply.{Reply}
 use Rattle.step_record.specs.declared.step.Step.{Step}
 use Rattle.step_record.specs.Answers.{is_answer}
 use Rattle.step_record.specs.History.{Entries}
-use Rattle.walks.specs.declared.local.Local.{Local}
+use Rattle.walks.specs.declared.place.Local.{Local}
 use Rattle.walks.specs.declared.next.Next.{Next}
 use Rattle.walks.specs.declared.next.Next.TheVariants as next_act
 use Rattle.walks.specs.Walks.{step_of, IsWalk}

@@ -8,10 +8,8 @@
 //! meanwhile, and after whole walks nobody holds the maintenance.
 #![tactic(auto)]
 
-mod local;
 mod next;
 mod place;
 
-pub use local::Local;
 pub use next::{Next, next_step};
-pub use place::WalkPlace;
+pub use place::{Local, WalkPlace};

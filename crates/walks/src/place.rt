@@ -1,14 +1,10 @@
-//! Where a worker stands in a walk, and where it stands after a reply.
-ghost use Rattle.std.specs.Prelude.{◌≡◌, ◌≤◌, ◌<◌, ℕ, true, Option, Some, None, ◌↔◌, ◌+◌, ◌==◌, MatchBool};
-ghost use Rattle.step_record.specs.Answers.{is_answer};
+//! Where a worker stands in the walk of one call.
+ghost use Rattle.std.specs.Prelude.{◌≡◌, ◌≤◌, true};
+ghost use Rattle.step_record.specs.declared.limits.TheConstants.{MAX_STRIPES};
 ghost use Rattle.step_record.specs.History.{Entries};
-ghost use Rattle.walks.specs.Walks.{IsWriting, IsReading, FollowsLook, FollowsOffer, FollowsPut};
-ghost use Rattle.walks.specs.Walks.{FollowsRemove, FollowsReport, FollowsBegin, FollowsDrainRead, FollowsDrainWrite};
-ghost use Rattle.walks.specs.Walks.{FollowsEvict, FollowsEnd, IsEvicting};
-ghost use Rattle.walks.specs.WalkPlaces.{IsAheadOf, AheadIf, AheadAfter, act_of_place, is_place, is_place_if};
+ghost use Rattle.walks.specs.WalkPlaces.{is_place};
 
-use shell_buffers::MAX_ITEMS;
-use step_record::{Act, Answer, Item, Key, Reply, Worker};
+use step_record::{Answer, Call, Item, Key, Phase, Worker};
 
 /// Where a worker stands in the walk of one call: the act that it was asked to make last.
 #[derive(Clone, Copy)]
@@ -26,113 +22,63 @@ pub enum WalkPlace {
     End,
 }
 
-/// The act of a worker that stands there.
-pub(crate) fn act_of(worker: Worker, stripes: u8, place: WalkPlace) -> Act
-    requires { 1 ≤ stripes }
-    ensures { result ≡ act_of_place worker stripes place }
-{
-    match place {
-        WalkPlace::Look { key } => Act::Look { key },
-        WalkPlace::Offer { item } => Act::Offer {
-            stripe: worker.number() % stripes,
-            item,
-        },
-        WalkPlace::AfterRead { answer } => Act::AfterRead { answer },
-        WalkPlace::Put { key } => Act::Put { key },
-        WalkPlace::Remove { key } => Act::Remove { key },
-        WalkPlace::AfterWrite => Act::AfterWrite,
-        WalkPlace::Begin => Act::Begin,
-        WalkPlace::DrainRead { stripe, drained: _ } => Act::DrainRead { stripe },
-        WalkPlace::DrainWrite => Act::DrainWrite,
-        WalkPlace::Evict => Act::Evict,
-        WalkPlace::End => Act::End,
-    }
+/// A worker in the walk of one call: the act that it was asked to make last, or is to make first.
+#[derive(Clone, Copy)]
+pub struct Local {
+    pub worker: Worker,
+    pub stripes: u8,
+    pub place: WalkPlace,
+    pub ghost some: { 1 ≤ stripes },
+    pub ghost few: { stripes ≤ MAX_STRIPES },
+    pub ghost placed: { is_place stripes place ≡ true },
 }
 
-/// Where the worker stands after a reply; nowhere where its walk is over.
-pub(crate) fn after(stripes: u8, place: WalkPlace, reply: Reply) -> Option<WalkPlace>
-    requires answer { (worker : ℕ) × (is_answer (act_of_place worker stripes place) reply ≡ true) }
-    requires some { 1 ≤ stripes }
-    requires place { is_place stripes place ≡ true }
-    ensures ahead { (worker : ℕ) (es : Entries) → AheadAfter worker stripes place (Some reply) es
-        ↔ AheadIf worker stripes result es }
-    ensures place { is_place_if stripes result ≡ true }
-{
-    match (place, reply) {
-        (WalkPlace::Look { key }, Reply::Hit { node }) => Some(WalkPlace::Offer {
-            item: Item { key, node },
-        }),
-        (WalkPlace::Look { key }, Reply::Miss) => Some(WalkPlace::Put { key }),
-        (WalkPlace::Offer { item: _ }, Reply::Kept) => Some(WalkPlace::AfterRead {
-            answer: Answer::Kept,
-        }),
-        (WalkPlace::Offer { item: _ }, Reply::Full) => Some(WalkPlace::AfterRead {
-            answer: Answer::Full,
-        }),
-        (WalkPlace::Put { key: _ }, Reply::Added { node: _ }) => Some(WalkPlace::AfterWrite),
-        (WalkPlace::Put { key: _ }, Reply::Present { node: _ }) => Some(WalkPlace::AfterWrite),
-        (WalkPlace::Put { key: _ }, Reply::WritesFull) => Some(WalkPlace::Begin),
-        (WalkPlace::Remove { key: _ }, Reply::Absent) => None,
-        (WalkPlace::Remove { key: _ }, Reply::Removed { node: _ }) => Some(WalkPlace::AfterWrite),
-        (WalkPlace::Remove { key: _ }, Reply::WritesFull) => Some(WalkPlace::Begin),
-        (WalkPlace::AfterRead { answer: _ } | WalkPlace::AfterWrite, Reply::Go) => None,
-        (WalkPlace::AfterRead { answer: _ } | WalkPlace::AfterWrite, Reply::Drain) => {
-            Some(WalkPlace::Begin)
-        }
-        (WalkPlace::Begin, Reply::Busy) => None,
-        (WalkPlace::Begin, Reply::Began) => Some(WalkPlace::DrainRead {
-            stripe: 0,
-            drained: 0,
-        }),
-        (WalkPlace::DrainRead { stripe, drained }, Reply::Drained { item: _ }) => {
-            Some(after_drained(stripes, stripe, drained))
-        }
-        (WalkPlace::DrainRead { stripe, drained: _ }, Reply::Empty) => {
-            Some(after_stripe(stripes, stripe))
-        }
-        (WalkPlace::DrainWrite, Reply::Applied { item: _ } | Reply::Cleared { item: _ }) => {
-            Some(WalkPlace::DrainWrite)
-        }
-        (WalkPlace::DrainWrite, Reply::Empty | Reply::Enough) => Some(WalkPlace::Evict),
-        (WalkPlace::Evict, Reply::Fits) => Some(WalkPlace::End),
-        (WalkPlace::Evict, _) => Some(WalkPlace::Evict),
-        (WalkPlace::End, _) => None,
-        _ => unreachable!(),
-    }
-}
+impl Local {
+    ghost use Rattle.std.specs.Prelude.{◌↔◌};
+    ghost use Rattle.walks.specs.Walks.{IsWalk};
+    ghost use Rattle.walks.specs.WalkPlaces.{IsAheadOf, phase_place};
 
-// Past one more item of a stripe.
-fn after_drained(stripes: u8, stripe: u8, drained: u8) -> WalkPlace
-    requires stripe { stripe < stripes }
-    requires drained { drained < MAX_ITEMS }
-    ensures ahead { (w : ℕ) (es : Entries) → MatchBool (drained + 1 == MAX_ITEMS)
-        (MatchBool (stripe + 1 == stripes) (IsWriting w stripes es) (IsReading w stripes (stripe + 1) 0 es))
-        (IsReading w stripes stripe (drained + 1) es) ↔ IsAheadOf w stripes result es }
-    ensures place { is_place stripes result ≡ true }
-{
-    if usize::from(drained) + 1 == MAX_ITEMS {
-        after_stripe(stripes, stripe)
-    } else {
-        WalkPlace::DrainRead {
-            stripe,
-            drained: drained + 1,
+    /// At the beginning of the walk of a call, of a cache with so many read buffers: 1 to [`MAX_STRIPES`].
+    ///
+    /// [`MAX_STRIPES`]: step_record::MAX_STRIPES
+    pub fn start(worker: Worker, stripes: u8, call: Call) -> Local
+        requires { (1 ≤ stripes) × (stripes ≤ MAX_STRIPES) }
+        ensures ahead { (es : Entries) → IsWalk worker stripes call es
+            ↔ IsAheadOf result.worker result.stripes result.place es }
+        ensures same { (result.worker ≡ worker) × (result.stripes ≡ stripes) }
+    {
+        let place = match call {
+            Call::Read(key) => WalkPlace::Look { key },
+            Call::Remove(key) => WalkPlace::Remove { key },
+        };
+        Local {
+            worker,
+            stripes,
+            place,
         }
     }
-}
 
-// Past the last entry of a stripe.
-fn after_stripe(stripes: u8, stripe: u8) -> WalkPlace
-    requires { stripe < stripes }
-    ensures ahead { (w : ℕ) (es : Entries) → MatchBool (stripe + 1 == stripes) (IsWriting w stripes es)
-        (IsReading w stripes (stripe + 1) 0 es) ↔ IsAheadOf w stripes result es }
-    ensures place { is_place stripes result ≡ true }
-{
-    if stripe + 1 == stripes {
-        WalkPlace::DrainWrite
-    } else {
-        WalkPlace::DrainRead {
-            stripe: stripe + 1,
-            drained: 0,
+    /// At the first act of a worker that holds the maintenance and is at this phase of it, in a
+    /// cache with so many read buffers: 1 to [`MAX_STRIPES`].
+    ///
+    /// [`MAX_STRIPES`]: step_record::MAX_STRIPES
+    pub fn resume(worker: Worker, stripes: u8, phase: Phase) -> Local
+        requires { (1 ≤ stripes) × (stripes ≤ MAX_STRIPES) }
+        ensures place { result.place ≡ phase_place phase }
+        ensures same { (result.worker ≡ worker) × (result.stripes ≡ stripes) }
+    {
+        let place = match phase {
+            Phase::Reads => WalkPlace::DrainRead {
+                stripe: 0,
+                drained: 0,
+            },
+            Phase::Writes => WalkPlace::DrainWrite,
+            Phase::Evictions => WalkPlace::Evict,
+        };
+        Local {
+            worker,
+            stripes,
+            place,
         }
     }
 }

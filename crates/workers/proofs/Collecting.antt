@@ -9,7 +9,7 @@ use Rattle.step_record.specs.History.{Entries}
 use Rattle.shell_model.specs.Shell.{Shell}
 use Rattle.turn_book.specs.Turns.{Every, Begins}
 use Rattle.turn_book.specs.Passes.{BookId, PassState, InOrder, OwnAll, Ends}
-use Rattle.workers.specs.declared.worker.WorkerState.{WorkerState}
+use Rattle.workers.specs.declared.run.WorkerState.{WorkerState}
 use Rattle.workers.specs.declared.run.Cause.{Cause}
 use Rattle.workers.specs.declared.run.Cause.TheVariants.{JournalFull}
 use Rattle.workers.specs.WorkerStates.{ShellSession, HoldsPass, AreNumbered, HasWorked, entries_with}

@@ -8,11 +8,7 @@ use Rattle.step_record.specs.declared.step.Step.{Step}
 use Rattle.step_record.specs.History.{next_data, data_after, IsLegal, Entries}
 use Rattle.walks.specs.WorkerEntries.{entries_of}
 use Rattle.walks.specs.AdmittedSteps.{AdmitsNext}
-use Rattle.journal.specs.declared.fault.SessionFault.{SessionFault}
-use Rattle.journal.specs.declared.fault.SessionFault.TheVariants as fault
-use Rattle.workers.specs.Causes.{the_cause}
 use Rattle.workers.specs.Draws.{IsWithin}
-use Rattle.workers.specs.declared.run.Cause.TheVariants as cause
 use Rattle.turn_book.specs.Turns.{AddsInTurn, entries_by}
 use Rattle.turn_book.specs.Passes.{TurnState, PassState, Gives}
 
@@ -85,10 +81,3 @@ within_first limit p kept own last draws room =
 -- a pass that has drawn as many turns as the limit saw a full journal
 pub within_spent : {T E : Type 0} (limit turns : ℕ) (p : PassState T E) → IsWithin limit p → limit ≤ turns → turns ≤ p.draws → length p.last ≡ limit
 within_spent limit turns p w enough spent = let a = w.draws in let b = w.own in let d = w.last in omega (arith, a, b, d, enough, spent)
-
-pub full_cause : (f : SessionFault) → the_cause f ≡ cause.JournalFull → f ≡ fault.JournalFull
-full_cause fault.JournalFull e = refl
-full_cause f e = absurd (cc (e))
-
-pub err_same : {T F : Type 0} (x y : F) → ◌≡◌ {A = Result T F} (Err x) (Err y) → x ≡ y
-err_same x y e = cc

@@ -2,5 +2,4 @@ pub mod WorkerStates
 pub mod Runs
 pub mod DriveFaults
 pub mod Draws
-pub mod Causes
 pub mod Walkers

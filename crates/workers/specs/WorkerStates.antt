@@ -10,7 +10,7 @@ use Rattle.step_record.specs.declared.step.Step.{Step}
 use Rattle.journal.specs.Session.{SessionState}
 use Rattle.turn_book.specs.Passes.{BookId, PassState}
 use Rattle.workers.specs.declared.run.Cause.TheVariants.{JournalFull}
-use Rattle.workers.specs.declared.worker.WorkerState.{WorkerState}
+use Rattle.workers.specs.declared.run.WorkerState.{WorkerState}
 use Rattle.workers.specs.Runs.{AreWalksUpTo}
 use Rattle.step_record.specs.History.{data_after, Entries}
 use Rattle.shell_model.specs.Shell.{Shell, act}

@@ -6,7 +6,6 @@
 
 mod driven;
 mod run;
-mod worker;
 
 pub use driven::Driven;
 pub use run::{Cause, DriveFault, drive};

@@ -1,21 +1,33 @@
-//! Workers on threads, over one session of the concurrent cache.
-ghost use Rattle.std.specs.Prelude.{◌≡◌, None, IfOk, IfErr, OnOk};
-ghost use Rattle.std.specs.Prelude.{length, map};
-ghost use Rattle.walks.specs.Walks.{AreWalks};
-ghost use Rattle.workers.specs.Runs.{IsRun};
-ghost use Rattle.step_record.specs.History.{IsLegal};
+//! Workers on threads, over one session of the concurrent cache: what each worker has and does, and how all of them
+//! work side by side.
+ghost use Rattle.std.specs.Prelude.{◌≡◌, ◌<◌, ◌≤◌, ◌∷◌, ◌++◌, true, Some, None, Err, [], All, MatchResult};
+ghost use Rattle.std.specs.Prelude.{IfOk, IfErr, OnOk, OnErr, IfSome, IsSome, length, map, vec_capacity};
+ghost use Rattle.step_record.specs.declared.limits.TheConstants.{MAX_STRIPES};
+ghost use Rattle.step_record.specs.declared.worker.TheConstants.{MAX_WORKERS};
+ghost use Rattle.step_record.specs.Answers.{AnswersItsActs, is_answer};
+ghost use Rattle.step_record.specs.History.{IsLegal, data_after};
 ghost use Rattle.shell_model.specs.Shell.{act};
+ghost use Rattle.turn_book.specs.Turns.{Every};
+ghost use Rattle.turn_book.specs.Passes.{InOrder, id_of};
+ghost use Rattle.walks.specs.Walks.{IsWalk, AreWalks};
+ghost use Rattle.walks.specs.AdmittedSteps.{AdmitsNext};
+ghost use Rattle.walks.specs.WorkerEntries.{Made, IsUnfinished};
 ghost use Rattle.workers.specs.DriveFaults.{CanRun, LeavesFault};
+ghost use Rattle.workers.specs.Draws.{IsWithin};
+ghost use Rattle.workers.specs.Runs.{IsRun, first_cause};
+ghost use Rattle.workers.specs.Walkers.{CanWalk};
+ghost use Rattle.workers.specs.WorkerStates.{HoldsPass, HasWorked, AreNumbered, AdmitsAll, calls_of};
 
 use super::driven::Driven;
-use super::worker::{assign_passes, collect_passes, work_all};
-use journal::Session;
+use journal::{Session, SessionFault};
 use maintenance::Shell;
 use std::alloc::Global;
 use std::sync::Wait;
+use std::thread;
 use std::thread::Threads;
-use step_record::{Call, Gate, MAX_WORKERS, Worker};
-use turn_book::{MAX_TURNS, OpenFault, TurnBook};
+use step_record::{Call, Engine, Gate, MAX_WORKERS, Reply, Step, Worker};
+use turn_book::{MAX_TURNS, OpenFault, Pass, TurnBook};
+use walks::{Local, Next, next_step};
 
 /// Why a worker was refused a step.
 #[derive(Clone, Copy, Debug, PartialEq, Eq)]
@@ -107,4 +119,207 @@ pub fn drive<G: Gate, R: Threads + Wait + Sync>(
         Err(OpenFault::Workers(_)) => unreachable!(),
         Err(OpenFault::Turns(_)) => unreachable!(),
     }
+}
+
+// What one worker has: its pass, which is with it but while it works, and why it was refused a step, where it was.
+#[derive(Drop)]
+struct WorkerState {
+    pass: Option<Pass<Session<Shell>>>,
+    worker: Worker,
+    refusal: Option<Cause>,
+}
+
+// The state of each worker, with its pass, in memory that is there.
+fn assign_passes(
+    book: &TurnBook<Session<Shell>>,
+    passes: Vec<Pass<Session<Shell>>>,
+    mut states: Vec<WorkerState>,
+) -> Vec<WorkerState>
+    requires order { InOrder 0 passes.items × (length passes.items ≤ MAX_WORKERS) }
+    requires own { Every (λ p. p.book ≡ id_of book.now) passes.items }
+    requires empty { Every (λ p. (p.own ≡ []) × IsWithin book.now.opening.limit p) passes.items }
+    requires room { (states.items ≡ []) × (length passes.items ≤ vec_capacity states) }
+    ensures holds { Every (λ d. HoldsPass (id_of book.now) d
+        × IfSome d.pass (λ p. (p.own ≡ []) × IsWithin book.now.opening.limit p)) result.items }
+    ensures counts { AreNumbered 0 result.items × (length result.items ≡ length passes.items) }
+{
+    for pass in passes {
+        let Some(worker) = Worker::new(states.len() as u8) else {
+            unreachable!()
+        };
+        states.push_reserved(WorkerState {
+            pass: Some(pass),
+            worker,
+            refusal: None,
+        });
+    }
+    states
+}
+
+// All workers make the walks of their calls, each on a thread of its own where one can be made.
+fn work_all<G: Gate, R: Threads + Wait + Sync>(
+    rt: &R,
+    gate: &G,
+    book: &TurnBook<Session<Shell>>,
+    pieces: &[Vec<Call>],
+    stripes: u8,
+    mut states: Vec<WorkerState>,
+) -> Vec<WorkerState>
+    requires stripes { (1 ≤ stripes) × (stripes ≤ MAX_STRIPES) }
+    requires admits { AdmitsAll stripes book.now.opening }
+    requires turns { book.now.opening.limit ≤ book.now.turns }
+    requires holds { Every (λ d. HoldsPass (id_of book.now) d
+        × IfSome d.pass (λ p. (p.own ≡ []) × IsWithin book.now.opening.limit p)) states.items }
+    requires counts { AreNumbered 0 states.items × (length states.items ≡ length pieces.now) }
+    ensures holds { Every (λ d. HoldsPass (id_of book.now) d
+        × HasWorked stripes book.now.opening.limit (calls_of pieces.now) d) result.items }
+    ensures counts { AreNumbered 0 result.items × (length result.items ≡ length pieces.now) }
+{
+    if states.is_empty() {
+        return states;
+    }
+    let threads = states.len();
+    let each = |_i: usize, state: &mut WorkerState|
+        requires { (1 ≤ stripes) × (stripes ≤ MAX_STRIPES) × AdmitsAll stripes book.now.opening
+            × (book.now.opening.limit ≤ book.now.turns) × HoldsPass (id_of book.now) state.now
+            × IfSome state.now.pass (λ p. (p.own ≡ []) × IsWithin book.now.opening.limit p)
+            × (state.now.worker < length pieces.now) }
+        ensures { HoldsPass (id_of book.entry.now) state.exit.now
+            × HasWorked stripes book.entry.now.opening.limit (calls_of pieces.entry.now) state.exit.now
+            × (state.exit.now.worker ≡ state.entry.now.worker) }
+    {
+        let Some(pass) = state.pass.take() else {
+            unreachable!()
+        };
+        let worker = state.worker;
+        let calls = pieces[usize::from(worker.number())].as_slice();
+        let (pass, answer) = work_in_turns(rt, gate, book, pass, worker, stripes, calls);
+        state.pass = Some(pass);
+        state.refusal = answer.err();
+    };
+    thread::for_each_mut(rt, states.as_mut_slice(), threads, &each);
+    states
+}
+
+// Makes one walk for each call, in order, a turn for each step. The gate is called around each call, without a turn.
+fn work_in_turns<E: Engine<Step = Step, Reply = Reply> + Drop, G: Gate, R: Wait>(
+    rt: &R,
+    gate: &G,
+    book: &TurnBook<Session<E>>,
+    mut pass: Pass<Session<E>>,
+    worker: Worker,
+    stripes: u8,
+    calls: &[Call],
+) -> (Pass<Session<E>>, Result<(), Cause>)
+    requires answers { AnswersItsActs E.act }
+    requires walker { CanWalk E.act E.count book.now pass worker stripes }
+    ensures same { result.0.book ≡ pass.book }
+    ensures worker { result.0.worker ≡ worker }
+    ensures ok { OnOk result.1 (Made (AreWalks worker stripes calls.now) pass.own result.0.own) }
+    ensures err { OnErr result.1 (Made (IsUnfinished (AreWalks worker stripes calls.now)) pass.own result.0.own) }
+    ensures full { result.1 ≡ Err Cause.JournalFull → length result.0.last ≡ book.now.opening.limit }
+    ensures within { OnOk result.1 (IsWithin book.now.opening.limit result.0) }
+{
+    for (n, call) in calls.iter().enumerate() {
+        gate.before(worker.number(), n as u64);
+        let (given, answer) = walk_in_turns(rt, book, pass, worker, stripes, *call);
+        pass = given;
+        if let Err(cause) = answer {
+            return (pass, Err(cause));
+        }
+        gate.after(worker.number(), n as u64);
+    }
+    (pass, Ok(()))
+}
+
+// Makes the walk of one call, a turn for each step.
+fn walk_in_turns<E: Engine<Step = Step, Reply = Reply> + Drop, R: Wait>(
+    rt: &R,
+    book: &TurnBook<Session<E>>,
+    mut pass: Pass<Session<E>>,
+    worker: Worker,
+    stripes: u8,
+    call: Call,
+) -> (Pass<Session<E>>, Result<(), Cause>)
+    requires answers { AnswersItsActs E.act }
+    requires walker { CanWalk E.act E.count book.now pass worker stripes }
+    ensures same { result.0.book ≡ pass.book }
+    ensures worker { result.0.worker ≡ worker }
+    ensures ok { OnOk result.1 (Made (IsWalk worker stripes call) pass.own result.0.own) }
+    ensures err { OnErr result.1 (Made (IsUnfinished (IsWalk worker stripes call)) pass.own result.0.own) }
+    ensures full { result.1 ≡ Err Cause.JournalFull → length result.0.last ≡ book.now.opening.limit }
+    ensures within { OnOk result.1 (IsWithin book.now.opening.limit result.0) }
+{
+    let mut next = next_step(Local::start(worker, stripes, call), None);
+    for _ in rt.forever() {
+        let Next::Do(act, local) = next else {
+            return (pass, Ok(()));
+        };
+        let (given, answer) = turn(rt, book, pass, Step { worker, act });
+        pass = given;
+        match answer {
+            Ok(reply) => next = next_step(local, Some(reply)),
+            Err(cause) => return (pass, Err(cause)),
+        }
+    }
+    unreachable!()
+}
+
+// Makes one step in a turn. It is refused where the session refuses it. A pass that has drawn all of its turns made an
+// entry in each of them, and so many fill the journal.
+fn turn<E: Engine<Step = Step, Reply = Reply> + Drop, R: Wait>(
+    rt: &R,
+    book: &TurnBook<Session<E>>,
+    pass: Pass<Session<E>>,
+    step: Step,
+) -> (Pass<Session<E>>, Result<Reply, Cause>)
+    requires own { pass.book ≡ id_of book.now }
+    requires worker { pass.worker ≡ step.worker }
+    requires answers { AnswersItsActs E.act }
+    requires takes { AdmitsNext E.act E.count
+        (data_after E.act book.now.opening.opening book.now.opening.kept) pass.own step }
+    requires within { IsWithin book.now.opening.limit pass }
+    requires turns { book.now.opening.limit ≤ book.now.turns }
+    ensures same { result.0.book ≡ pass.book }
+    ensures worker { result.0.worker ≡ pass.worker }
+    ensures own { MatchResult result.1 (λ r. result.0.own ≡ pass.own ++ record { step = step; reply = r } ∷ [])
+        (λ _. result.0.own ≡ pass.own) }
+    ensures answer { IfOk result.1 (λ r. is_answer step.act r ≡ true) }
+    // A full journal: what the pass last saw is as long as the limit.
+    ensures full { result.1 ≡ Err Cause.JournalFull → length result.0.last ≡ book.now.opening.limit }
+    ensures within { OnOk result.1 (IsWithin book.now.opening.limit result.0) }
+{
+    match book.take(rt, pass) {
+        Ok(mut turn) => match turn.value().step(step) {
+            Ok(reply) => (book.give(turn), Ok(reply)),
+            Err(SessionFault::OutOfMemory) => (book.give(turn), Err(Cause::Memory)),
+            Err(SessionFault::JournalFull) => (book.give(turn), Err(Cause::JournalFull)),
+            Err(SessionFault::NotNow) => unreachable!(),
+        },
+        Err(pass) => (pass, Err(Cause::JournalFull)),
+    }
+}
+
+// The passes of all workers, in memory that is there, and why the first worker that was refused a step, in the order of
+// their numbers, was refused it.
+fn collect_passes(
+    states: Vec<WorkerState>,
+    mut passes: Vec<Pass<Session<Shell>>>,
+) -> (Vec<Pass<Session<Shell>>>, Option<Cause>)
+    requires holds { Every (λ d. IsSome d.pass) states.items }
+    requires room { (passes.items ≡ []) × (length states.items ≤ vec_capacity passes) }
+    ensures passes { map (λ p. Some p) result.0.items ≡ map (λ d. d.pass) states.items }
+    ensures cause { result.1 ≡ first_cause (map (λ d. d.refusal) states.items) }
+{
+    let mut cause = None;
+    for state in states {
+        let WorkerState {
+            pass,
+            worker: _,
+            refusal,
+        } = state;
+        passes.push_reserved(pass.unwrap());
+        cause = cause.or(refusal);
+    }
+    (passes, cause)
 }

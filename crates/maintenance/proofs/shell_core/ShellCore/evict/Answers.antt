@@ -1,28 +1,28 @@
-use Rattle.std.proofs.Common.{◌≡◌, Some, refl, ap, sym, subst, ◌∙◌}
+use Rattle.std.proofs.Common.{◌≡◌, refl, ap, sym, subst, ◌∙◌}
 use Rattle.segments.specs.Queues.{IsDistinct}
 use Rattle.shell_model.specs.Shell.{Shell, evict_effect, in_phase}
 use Rattle.step_record.specs.declared.drain.Phase.TheVariants as phase
 use Rattle.step_record.specs.declared.step.Reply.{Reply}
-use Rattle.replacement.specs.Rules.{three_queues}
-use Rattle.replacement.specs.Plan.{candidate_of}
 use Rattle.shell_model.specs.Records.{evict_change}
 use Rattle.shell_model.specs.ShellEviction.{reply_by, unlisted_by}
 use Rattle.maintenance.specs.contracts.shell_core.ShellCore.{the_view}
 use Rattle.maintenance.specs.EvictionPlan.{item_out}
-use Rattle.maintenance.proofs.Evicted.{evicted-is, eviction-changes, changes-in}
+use Rattle.maintenance.proofs.Evicted.{evicted-is, eviction-changes}
 use Rattle.maintenance.proofs.shell_core.ShellCore.evict.Goals as goal
+
+pub carry_out-effect-requires : goal.carry_out-effect-requires
+carry_out-effect-requires c = record { distinct = subst (λ (x : Shell). IsDistinct x.queues) (sym c.self.view_is) c.requires.distinct }
 
 carried : (c : goal.After-reply_to) → evict_effect (in_phase phase.Evictions c.args.holder c.args.self.now)
     ≡ (reply_by c.carry_out-effect.result.outcome (item_out c.carry_out-effect.result.moves.out) c.in-Some.candidate, c.unlist-listed.new.self)
 carried c =
-    let e = c.self.view_is ∙ c.enter.ensures in
-    ap evict_effect (sym e)
-    ∙ (evicted-is (the_view c.self.inside) c.in-Some.candidate c.self.inside.rules c.carry_out-effect.result.outcome c.carry_out-effect.result.moves
+    ap (λ (x : Shell). evict_effect (in_phase phase.Evictions c.args.holder x)) (sym c.self.view_is)
+    ∙ (evicted-is (in_phase phase.Evictions c.args.holder (the_view c.self.inside)) c.in-Some.candidate c.self.inside.rules
+    c.carry_out-effect.result.outcome c.carry_out-effect.result.moves
     c.carry_out-effect.new.queues.lists (unlisted_by (item_out c.carry_out-effect.result.moves.out) c.self.inside.table)
-    (subst (λ (x : Shell). IsDistinct x.queues) (sym e) c.requires.distinct)
+    (subst (λ (x : Shell). IsDistinct x.queues) (sym c.self.view_is) c.requires.distinct)
     c.self.invariant.3
-    (subst (λ (x : Shell). Some c.in-Some.candidate ≡ candidate_of (three_queues x.config) x.queues) (sym c.self.view_is)
-    (sym c.in-Some.is ∙ c.candidate.ensures))
+    (sym c.in-Some.is ∙ c.candidate.ensures)
     c.carry_out-effect.ensures.lists
     c.carry_out-effect.ensures.moves
     c.carry_out-effect.ensures.outcome
@@ -37,12 +37,10 @@ returns-clause-state c = ap (λ (r : Reply × Shell). r.1) (sym (carried c))
 
 pub returns-clause-change : goal.returns-clause-change
 returns-clause-change c =
-    let e = c.self.view_is ∙ c.enter.ensures in
     rw c.of.ensures
     (eviction-changes (the_view c.self.inside) c.args.holder c.in-Some.candidate c.self.inside.rules c.carry_out-effect.result.moves c.unlist-listed.result
     c.self.invariant.3
-    (subst (λ (x : Shell). Some c.in-Some.candidate ≡ candidate_of (three_queues x.config) x.queues) (sym c.self.view_is)
-    (sym c.in-Some.is ∙ c.candidate.ensures))
+    (sym c.in-Some.is ∙ c.candidate.ensures)
     c.carry_out-effect.ensures.moves
     c.unlist-listed.ensures.listed
-    ∙ (ap (evict_change c.args.holder) e ∙ changes-in phase.Evictions c.args.holder c.args.self.now))
+    ∙ ap (evict_change c.args.holder) c.self.view_is)

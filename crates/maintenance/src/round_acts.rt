@@ -1,0 +1,337 @@
+//! The acts of a round of maintenance: it drains the reads and the writes, evicts, and ends.
+ghost use Rattle.std.specs.Prelude.{◌≡◌, ◌≤◌, cond, Some, None, IfOk, IfSome, IfNone, IsSome, OnOk, OnErr};
+ghost use Rattle.step_record.specs.declared.item.Item.{Item as ItemValue};
+ghost use Rattle.step_record.specs.declared.limits.TheConstants.{MAX_STEPS};
+ghost use Rattle.step_record.specs.declared.step.Act.TheVariants as act;
+ghost use Rattle.step_record.specs.declared.drain.Phase.TheVariants as phase;
+ghost use Rattle.shell_buffers.specs.declared.write_tasks.TheConstants.{MAX_TASKS};
+ghost use Rattle.shell_buffers.specs.declared.task.Task.TheVariants.{Add};
+ghost use Rattle.segments.specs.Queues.{IsDistinct, queue_holding};
+ghost use Rattle.replacement.specs.Plan.{candidate_of};
+ghost use Rattle.replacement.specs.Rules.{three_queues};
+ghost use Rattle.replacement.specs.PlanMoves.{queues_after, moves_of};
+ghost use Rattle.replacement.specs.KeptMoves.{IsKeepable};
+ghost use Rattle.shell_model.specs.Frequency.{frequency_recorded, shell_frequency_record};
+ghost use Rattle.shell_model.specs.Shell.{act_effect, apply_task, drain_at_end, end_effect, evict_effect, in_phase, is_over};
+ghost use Rattle.shell_model.specs.Shell.{queues_cleared, shell_after_touch};
+ghost use Rattle.shell_model.specs.ShellEviction.{reply_by, unlisted_by};
+ghost use Rattle.shell_model.specs.Records.{added_of, change_of, cleared_of, evict_change, leaves_table};
+ghost use Rattle.shell_model.specs.Records.{task_change, touched_of};
+ghost use Rattle.shell_model.specs.Consistency.{IsConsistent};
+ghost use Rattle.shell_model.specs.declared.record.Change.TheVariants.{Nothing, Passed, Ended};
+ghost use Rattle.maintenance.specs.EvictionPlan.{planned, item_out};
+
+use crate::shell_core::ShellCore;
+use admission::{FreqRecord, Frequency, KeptRecord};
+use replacement::{Effect, KeptMoves, Moves, Rules};
+use segments::{MoveRecord, Queue, Segments};
+use shell_buffers::Task;
+use shell_model::{Change, EvictionRecord, Holder, UseRecord};
+use std::alloc::AllocError;
+use step_record::{Drain, Item, Key, Outcome, Phase, Reply, Worker};
+
+impl ShellCore {
+    /// Drains the oldest item of a read buffer, or gives `None` where the act may not come now.
+    pub(crate) fn drain_read(
+        &mut self,
+        worker: Worker,
+        stripe: u8,
+    ) -> Result<Option<(Reply, Change)>, AllocError>
+        requires few { self.old.frequency.halvings ≤ MAX_STEPS }
+        ensures some { IfOk result (λ o. IfSome o (λ r. act_effect worker (act.DrainRead stripe) self.old
+            ≡ Some (r.0, self.new))) }
+        ensures change { IfOk result (λ o. IfSome o (λ r. r.1 ≡ change_of worker (act.DrainRead stripe) self.old)) }
+        ensures none { IfOk result (λ o. IfNone o ((act_effect worker (act.DrainRead stripe) self.old ≡ None)
+            × (self.new ≡ self.old))) }
+        ensures accepted { OnErr result (IsSome (act_effect worker (act.DrainRead stripe) self.old)) }
+        ensures err { OnErr result (self.new ≡ self.old) }
+    {
+        match self.held_by(worker) {
+            Some(holder)
+                if (stripe as usize) < self.stripes.count() && holder.phase == Phase::Reads => {}
+            _ => return Ok(None),
+        }
+        let [item, ..] = self.stripes.items(stripe) else {
+            return Ok(Some((Reply::Empty, Change::Nothing)));
+        };
+        let item = *item;
+        let used = self.touch(item)?;
+        let _ = self.stripes.take_oldest(stripe);
+        Ok(Some((Reply::Drained { item }, Change::Read { stripe, item, used })))
+    }
+
+    /// Applies the oldest task of the write queue, or gives `None` where the act may not come now.
+    pub(crate) fn drain_write(
+        &mut self,
+        worker: Worker,
+    ) -> Result<Option<(Reply, Change)>, AllocError>
+        requires sound { IsConsistent self.old }
+        requires few { self.old.frequency.halvings ≤ MAX_STEPS }
+        ensures some { IfOk result (λ o. IfSome o (λ r. act_effect worker act.DrainWrite self.old
+            ≡ Some (r.0, self.new))) }
+        ensures change { IfOk result (λ o. IfSome o (λ r. r.1 ≡ change_of worker act.DrainWrite self.old)) }
+        ensures none { IfOk result (λ o. IfNone o ((act_effect worker act.DrainWrite self.old ≡ None)
+            × (self.new ≡ self.old))) }
+        ensures accepted { OnErr result (IsSome (act_effect worker act.DrainWrite self.old)) }
+        ensures err { OnErr result (self.new ≡ self.old) }
+    {
+        let holder = match self.held_by(worker) {
+            Some(holder) if holder.phase != Phase::Evictions => holder,
+            _ => return Ok(None),
+        };
+        let [task, ..] = self.writes.tasks() else {
+            return Ok(Some((Reply::Empty, self.pass_to_writes(holder))));
+        };
+        if holder.left == 0 {
+            return Ok(Some((Reply::Enough, self.pass_to_writes(holder))));
+        }
+        let task = *task;
+        let made = self.apply_task(holder.phase, task)?;
+        let _ = self.writes.take_oldest();
+        self.holder = Some(Holder {
+            worker: holder.worker,
+            phase: Phase::Writes,
+            left: holder.left - 1,
+        });
+        Ok(Some(made))
+    }
+
+    /// Compares the item that has to leave the window with the victim, where the window is over its size.
+    pub(crate) fn evict(&mut self, holder: Holder) -> (Reply, Change)
+        requires left { holder.left ≤ MAX_TASKS }
+        requires distinct { IsDistinct self.old.queues }
+        ensures reply { result.0 ≡ (evict_effect (in_phase phase.Evictions holder self.old)).0 }
+        ensures state { self.new ≡ (evict_effect (in_phase phase.Evictions holder self.old)).1 }
+        ensures change { result.1 ≡ evict_change holder self.old }
+    {
+        let before = holder.phase;
+        self.holder = Some(Holder {
+            worker: holder.worker,
+            phase: Phase::Evictions,
+            left: holder.left,
+        });
+        let Some(candidate) = self.candidate() else {
+            return (
+                Reply::Fits,
+                Change::Passed {
+                    before,
+                    now: Phase::Evictions,
+                },
+            );
+        };
+        let effect = carry_out(&mut self.queues, &self.frequency, &self.rules);
+        let listed = self.unlist(effect.moves.out);
+        let eviction = EvictionRecord {
+            moves: KeptMoves::of(effect.moves),
+            listed,
+        };
+        (
+            reply_to(candidate, &effect),
+            Change::Evicted { before, eviction },
+        )
+    }
+
+    /// Ends the round, where the window is not over its size.
+    pub(crate) fn end(&mut self, holder: Holder) -> (Reply, Change)
+        requires { self.old.holder ≡ Some holder }
+        ensures reply { result.0 ≡ (end_effect self.old).0 }
+        ensures state { self.new ≡ (end_effect self.old).1 }
+        ensures change { result.1
+            ≡ cond (is_over self.old) Nothing (Ended holder self.old.drain (drain_at_end self.old.drain).1) }
+    {
+        if self.is_over() {
+            return (Reply::NotYet, Change::Nothing);
+        }
+        let before = self.drain;
+        let (reply, now) = match before {
+            Drain::ToRequired => (Reply::Again, Drain::Required),
+            Drain::Required => (Reply::Idle, Drain::Idle),
+            Drain::ToIdle => (Reply::Idle, Drain::Idle),
+            Drain::Idle => (Reply::Idle, Drain::Idle),
+        };
+        self.drain = now;
+        self.holder = None;
+        (
+            reply,
+            Change::Ended {
+                holder,
+                before,
+                now,
+            },
+        )
+    }
+
+    // A key is recorded, and its item moves where it is queued.
+    fn touch(&mut self, item: Item) -> Result<UseRecord, AllocError>
+        requires { self.old.frequency.halvings ≤ MAX_STEPS }
+        ensures state { OnOk result (self.new ≡ shell_after_touch item self.old) }
+        ensures made { IfOk result (λ r. r ≡ touched_of item self.old) }
+        ensures err { OnErr result (self.new ≡ self.old) }
+    {
+        let frequency = record_key(&mut self.frequency, item.key)?;
+        let moves = match replacement::hit(&mut self.queues, self.rules.protected, item) {
+            Some(moves) => moves,
+            None => Moves::NONE,
+        };
+        Ok(UseRecord {
+            frequency: KeptRecord::of(frequency),
+            moves: KeptMoves::of(moves),
+        })
+    }
+
+    // An item that is queued nowhere is recorded, and comes into the window.
+    fn enter_window(&mut self, item: Item) -> Result<UseRecord, AllocError>
+        requires few { self.old.frequency.halvings ≤ MAX_STEPS }
+        requires absent { queue_holding item self.old.queues ≡ None }
+        ensures state { OnOk result (self.new ≡ (apply_task (Add item) self.old).1) }
+        ensures made { IfOk result (λ r. r ≡ added_of item self.old) }
+        ensures err { OnErr result (self.new ≡ self.old) }
+    {
+        self.queues.reserve()?;
+        let frequency = record_key(&mut self.frequency, item.key)?;
+        let joined = self.queues.push_recent(Queue::Window, item);
+        let moves = Moves {
+            last: Some(joined),
+            ..Moves::NONE
+        };
+        Ok(UseRecord {
+            frequency: KeptRecord::of(frequency),
+            moves: KeptMoves::of(moves),
+        })
+    }
+
+    // Applies a task, in a round that was at this phase before.
+    fn apply_task(&mut self, before: Phase, task: Task) -> Result<(Reply, Change), AllocError>
+        requires few { self.old.frequency.halvings ≤ MAX_STEPS }
+        requires absent { (item : ItemValue) → task ≡ Add item → queue_holding item self.old.queues ≡ None }
+        ensures reply { IfOk result (λ r. r.0 ≡ (apply_task task self.old).0) }
+        ensures state { OnOk result (self.new ≡ (apply_task task self.old).1) }
+        ensures change { IfOk result (λ r. r.1 ≡ task_change before task self.old) }
+        ensures err { OnErr result (self.new ≡ self.old) }
+    {
+        match task {
+            Task::Add(item) => {
+                let used = self.enter_window(item)?;
+                Ok((
+                    Reply::Applied { item },
+                    Change::Applied {
+                        before,
+                        is_new: true,
+                        item,
+                        used,
+                    },
+                ))
+            }
+            Task::Update(item) => {
+                let used = self.touch(item)?;
+                Ok((
+                    Reply::Applied { item },
+                    Change::Applied {
+                        before,
+                        is_new: false,
+                        item,
+                        used,
+                    },
+                ))
+            }
+            Task::Remove(item) => {
+                let out = clear(&mut self.queues, item);
+                Ok((
+                    Reply::Cleared { item },
+                    Change::Cleared { before, item, out },
+                ))
+            }
+        }
+    }
+
+    // The round is at the write queue, where it applies no task.
+    fn pass_to_writes(&mut self, holder: Holder) -> Change
+        requires { holder.left ≤ MAX_TASKS }
+        ensures state { self.new ≡ in_phase phase.Writes holder self.old }
+        ensures change { result ≡ Passed holder.phase phase.Writes }
+    {
+        self.holder = Some(Holder {
+            worker: holder.worker,
+            phase: Phase::Writes,
+            left: holder.left,
+        });
+        Change::Passed {
+            before: holder.phase,
+            now: Phase::Writes,
+        }
+    }
+
+    // Whether the window is over its size.
+    fn is_over(&self) -> bool
+        ensures { result ≡ is_over self.now }
+    {
+        self.queues.len(Queue::Window) > self.rules.window
+    }
+
+    // The item that has to leave the window, where that is over its size.
+    fn candidate(&self) -> Option<Item>
+        ensures { result ≡ candidate_of (three_queues self.now.config) self.now.queues }
+    {
+        if self.is_over() {
+            self.queues.oldest(Queue::Window)
+        } else {
+            None
+        }
+    }
+
+    // What went out of the queues leaves the table, where it is listed there.
+    fn unlist(&mut self, out: Option<MoveRecord>) -> bool
+        ensures state { self.new ≡ record self.old { table = unlisted_by (item_out out) self.old.table } }
+        ensures listed { result ≡ leaves_table (item_out out) self.old.table }
+    {
+        let Some(out) = out else {
+            return false;
+        };
+        let listed = self.table.is_listed(out.item);
+        if listed {
+            self.table.remove(out.item);
+        }
+        listed
+    }
+}
+
+// Records a key. The only error is that the allocation of a halving failed; nothing is changed then.
+fn record_key(frequency: &mut Frequency, key: Key) -> Result<FreqRecord, AllocError>
+    requires { frequency.old.halvings ≤ MAX_STEPS }
+    ensures state { OnOk result (frequency.new ≡ frequency_recorded frequency.old key) }
+    ensures made { IfOk result (λ r. r ≡ shell_frequency_record frequency.old key) }
+    ensures err { OnErr result (frequency.new ≡ frequency.old) }
+{
+    frequency.record(key)
+}
+
+// Takes an item out, where it is queued.
+fn clear(queues: &mut Segments, item: Item) -> Option<MoveRecord>
+    ensures lists { queues.new.lists ≡ queues_cleared item queues.old.lists }
+    ensures made { result ≡ cleared_of item (queue_holding item queues.old.lists) queues.old.lists }
+{
+    queues.take_out(item)
+}
+
+// Moves what the plan of an eviction moves.
+fn carry_out(queues: &mut Segments, frequency: &Frequency, rules: &Rules) -> Effect
+    requires distinct { IsDistinct queues.old.lists }
+    ensures lists { queues.new.lists
+        ≡ queues_after (planned rules.now frequency.now queues.old.lists) queues.old.lists }
+    ensures moves { result.moves ≡ moves_of (planned rules.now frequency.now queues.old.lists) queues.old.lists }
+    ensures outcome { result.outcome ≡ (planned rules.now frequency.now queues.old.lists).outcome }
+    ensures keepable { IsKeepable result.moves }
+{
+    replacement::evict(queues, Some(frequency), rules)
+}
+
+// What is replied of a candidate, by what the eviction came to.
+fn reply_to(candidate: Item, effect: &Effect) -> Reply
+    ensures { result ≡ reply_by effect.now.outcome (item_out effect.now.moves.out) candidate }
+{
+    match (effect.outcome, effect.moves.out) {
+        (Outcome::Evicted(_), Some(out)) => Reply::Evicted { item: out.item },
+        (Outcome::Rejected(_), Some(out)) => Reply::Rejected { item: out.item },
+        _ => Reply::Shifted { item: candidate },
+    }
+}

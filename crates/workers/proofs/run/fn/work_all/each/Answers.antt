@@ -1,0 +1,5 @@
+use Rattle.shell_model.proofs.Engines.{answers_law}
+use Rattle.workers.proofs.run.fn.work_all.each.Goals as goal
+
+pub work_in_turns-pass-requires-clause-answers : goal.work_in_turns-pass-requires-clause-answers
+work_in_turns-pass-requires-clause-answers g c κs within = answers_law

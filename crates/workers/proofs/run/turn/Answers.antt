@@ -1,0 +1,90 @@
+use Rattle.std.proofs.Common.{length, length-append, arith, ap, ◌∙◌, ◌∷◌, ◌++◌, [], sym, Err}
+use Rattle.std.proofs.lemmas.List.{append-nil}
+use Rattle.step_record.specs.declared.entry.Entry.{Entry}
+use Rattle.step_record.specs.declared.step.Reply.{Reply}
+use Rattle.step_record.specs.declared.step.Step.{Step}
+use Rattle.walks.specs.WorkerEntries.{entries_of}
+use Rattle.workers.proofs.Turning.{gained, leaves_same, not_refused, few_made, within_more, within_spent}
+use Rattle.workers.proofs.run.turn.Goals as goal
+
+pub returns-in-Ok-step-clause-answer : goal.returns-in-Ok-step-clause-answer
+returns-in-Ok-step-clause-answer g c = c.requires.answers _ _ _ _ c.in-Ok-step.ensures.accepted
+
+pub returns-in-Ok-step-clause-own : goal.returns-in-Ok-step-clause-own
+returns-in-Ok-step-clause-own g c =
+    let took = c.in-Ok.ensures.took in
+    let v = c.value.ensures.value ∙ sym took.taken in
+    gained _ _ _ _ _ _ _ c.give.ensures.gave (c.in-Ok-step.ensures.ok ∙ ap (λ s. s.kept ++ record { step = c.args.step; reply = c.in-Ok-step.reply } ∷ []) v)
+    ∙ ap (λ p. p.own ++ record { step = c.args.step; reply = c.in-Ok-step.reply } ∷ []) took.pass
+
+pub give-requires-in-Err-OutOfMemory-clause-leaves : goal.give-requires-in-Err-OutOfMemory-clause-leaves
+give-requires-in-Err-OutOfMemory-clause-leaves g c =
+    let v = c.value.ensures.value ∙ sym c.in-Ok.ensures.took.taken in
+    let same = c.in-Err-OutOfMemory.ensures.err in
+    leaves_same _ _ _ _ _ _ _
+    (λ i. ((same.opening ∙ ap (λ s. s.opening) v) i, (same.limit ∙ ap (λ s. s.limit) v) i))
+    (same.kept ∙ ap (λ s. s.kept) v ∙ sym (append-nil _))
+    (same.tail ∙ ap (λ s. s.tail) v)
+
+pub returns-in-Err-OutOfMemory-clause-own : goal.returns-in-Err-OutOfMemory-clause-own
+returns-in-Err-OutOfMemory-clause-own g c =
+    let took = c.in-Ok.ensures.took in
+    let v = c.value.ensures.value ∙ sym took.taken in
+    gained _ _ _ _ _ _ [] c.give-in-Err-OutOfMemory.ensures.gave (c.in-Err-OutOfMemory.ensures.err.kept ∙ ap (λ s. s.kept) v ∙ sym (append-nil _)) ∙ append-nil _ ∙ ap (λ p. p.own) took.pass
+
+pub give-requires-in-Err-JournalFull-clause-leaves : goal.give-requires-in-Err-JournalFull-clause-leaves
+give-requires-in-Err-JournalFull-clause-leaves g c =
+    let v = c.value.ensures.value ∙ sym c.in-Ok.ensures.took.taken in
+    let same = c.in-Err-JournalFull.ensures.err in
+    leaves_same _ _ _ _ _ _ _
+    (λ i. ((same.opening ∙ ap (λ s. s.opening) v) i, (same.limit ∙ ap (λ s. s.limit) v) i))
+    (same.kept ∙ ap (λ s. s.kept) v ∙ sym (append-nil _))
+    (same.tail ∙ ap (λ s. s.tail) v)
+
+pub returns-in-Err-JournalFull-clause-own : goal.returns-in-Err-JournalFull-clause-own
+returns-in-Err-JournalFull-clause-own g c =
+    let took = c.in-Ok.ensures.took in
+    let v = c.value.ensures.value ∙ sym took.taken in
+    gained _ _ _ _ _ _ [] c.give-in-Err-JournalFull.ensures.gave (c.in-Err-JournalFull.ensures.err.kept ∙ ap (λ s. s.kept) v ∙ sym (append-nil _)) ∙ append-nil _ ∙ ap (λ p. p.own) took.pass
+
+pub returns-in-Err-JournalFull-clause-full : goal.returns-in-Err-JournalFull-clause-full
+returns-in-Err-JournalFull-clause-full g c = λ e.
+    ap (λ p. length p.last) c.give-in-Err-JournalFull.ensures.gave.pass ∙ ap length c.in-Err-JournalFull.ensures.err.kept
+    ∙ c.in-Err-JournalFull.ensures.full.0 (ap (λ f. Err f) c.in-Err-JournalFull.field-0-is)
+    ∙ ap (λ s. s.limit) c.value.ensures.value ∙ ap (λ p. p.1) c.in-Ok.ensures.took.shows.same_origin
+
+pub unreachable-requires : goal.unreachable-requires
+unreachable-requires g c =
+    let no = c.in-Err-NotNow.ensures.not_now (ap (λ f. Err f) c.in-Err-NotNow.field-0-is) in
+    let shows = c.in-Ok.ensures.took.shows in
+    let same = c.in-Err-NotNow.ensures.err in
+    let sound = c.in-Err-NotNow.ensures.sound in
+    not_refused g.E.Engine.act g.E.Engine.count c.args.book.now.opening.opening _ _ _ c.args.book.now.opening.kept _ c.args.step c.args.pass.own shows.news c.requires.takes
+    (same.opening ∙ ap (λ s. s.opening) c.value.ensures.value ∙ ap (λ p. p.0) shows.same_origin) (same.kept ∙ ap (λ s. s.kept) c.value.ensures.value ∙ shows.list_is)
+    (ap (λ w. entries_of w shows.news) (sym c.requires.worker) ∙ shows.own_is) sound.legal sound.stands same.shown no.0 no.1
+
+pub returns-in-Ok-step-clause-within : goal.returns-in-Ok-step-clause-within
+returns-in-Ok-step-clause-within g c =
+    let took = c.in-Ok.ensures.took in
+    let gave = c.give.ensures.gave in
+    let v = c.value.ensures.value ∙ sym took.taken in
+    let value = ap (λ s. s.kept) c.value.ensures.value in
+    let e : Entry Step Reply = record { step = c.args.step; reply = c.in-Ok-step.reply } in
+    let own = gained _ _ _ _ _ _ _ gave (c.in-Ok-step.ensures.ok ∙ ap (λ s. s.kept ++ e ∷ []) v) ∙ ap (λ p. p.own ++ e ∷ []) took.pass in
+    let draws = ap (λ p. p.draws) gave.pass ∙ ap (λ p. p.draws) took.pass in
+    let last = ap (λ p. length p.last) gave.pass in
+    let seen = last ∙ ap length c.in-Ok-step.ensures.ok in
+    let shows = took.shows in
+    let few = few_made (λ e. e.step.worker) c.args.pass.worker shows.news in
+    let mine = ap length shows.own_is in
+    let list = ap length (value ∙ shows.list_is) ∙ length-append c.args.book.now.opening.kept shows.news in
+    let room = c.in-Ok-step.ensures.sound.room in
+    let limit = c.in-Ok-step.ensures.limit ∙ ap (λ s. s.limit) c.value.ensures.value ∙ ap (λ p. p.1) shows.same_origin in
+    within_more c.args.book.now.opening.limit c.args.pass _ c.value.result.now.kept e own draws seen (omega (arith, few, mine, list)) (omega (arith, last, room, limit)) c.requires.within
+
+pub returns-in-Err-clause-full : goal.returns-in-Err-clause-full
+returns-in-Err-clause-full g c = λ e.
+    let spent = c.in-Err.ensures.spent in
+    let draws = ap (λ p. p.draws) spent.0 in
+    let enough = spent.1 in
+    ap (λ p. length p.last) spent.0 ∙ within_spent c.args.book.now.opening.limit c.args.book.now.turns c.args.pass c.requires.within c.requires.turns (omega (arith, draws, enough))
