@@ -15,12 +15,11 @@ use crossbeam_channel::bounded_with;
 use std::alloc::{AllocError, Global};
 use std::marker::PhantomData;
 use std::sync::Wait;
-use step_record::MAX_ACCESSES;
 
-// The most batches that wait in a channel: as many as the longest trace makes at the size that the program has by
-// default. An actor that is behind then holds up neither the feeder nor the other actors, and nobody sleeps and wakes
-// once a batch. A place takes some 50 bytes, so a channel less than a megabyte.
-const MAX_WAITING: usize = MAX_ACCESSES / 1024;
+// The most batches that wait in a channel. At the size that the program has by default these are four million accesses,
+// 32 MiB that all actors share: so far can one be behind before it holds up the feeder and the others. All places are
+// written when the channel is made, 0.07 ms for a thousand.
+const MAX_WAITING: usize = 4096;
 
 /// The sending end of an actor's channel, with what is left to send of the keys that it was given.
 #[derive(Drop)]
