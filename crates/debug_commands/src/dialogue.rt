@@ -5,7 +5,6 @@ ghost use Rattle.debug_commands.specs.Answers.{answer_to, position_line, respons
 ghost use Rattle.debug_commands.specs.AnswerText.{IsAnswer};
 ghost use Rattle.debug_commands.specs.Dialogue.{dialogue_of, WritesDialogue};
 ghost use Rattle.debug_commands.specs.InputBytes.{feed, IsTooLarge};
-ghost use Rattle.debug_commands.specs.Texts.{count_text};
 ghost use Rattle.debug_commands.specs.Timeline.{TimelineData};
 ghost use Rattle.debug_commands.specs.declared.breakpoint.Breakpoint.{Breakpoint};
 ghost use Rattle.debug_commands.specs.declared.command.Command.TheVariants as command;
@@ -16,7 +15,6 @@ use crate::command::{Command, InputLine};
 use crate::fault::DebugFault;
 use crate::grammar;
 use crate::timeline::Timeline;
-use itoa::Buffer;
 use std::alloc::{AllocError, Global};
 use std::io::{Read, Write};
 use streams::{Patience, flush, read_some, write_some};
@@ -74,15 +72,6 @@ pub fn answer_commands<T: Timeline, R: Read, W: Write>(
             return Ok(());
         }
     }
-}
-
-/// Adds a name and a number. The one error is that the allocation failed.
-pub fn push_count(text: &mut Vec<u8>, name: &[u8], count: u64) -> Result<(), AllocError>
-    ensures { OnOk result (text.new.items ≡ text.old.items ++ count_text name.now count) }
-{
-    let mut digits = Buffer::new();
-    text.extend_from_slice(name)?;
-    text.extend_from_slice(digits.format(count).as_bytes())
 }
 
 // Reads the next line into an empty buffer, without its line feed, and returns whether it had one: the last line may
@@ -280,6 +269,5 @@ fn set(
 fn push_at(text: &mut Vec<u8>, position: usize) -> Result<(), AllocError>
     ensures { OnOk result (text.new.items ≡ text.old.items ++ position_line position) }
 {
-    push_count(text, b"at ", position as u64)?;
-    text.extend_from_slice(b"\n")
+    writeln!(text, "at {position}").map_err(|_| AllocError)
 }

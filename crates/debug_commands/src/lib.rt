@@ -12,11 +12,13 @@ mod command;
 mod dialogue;
 mod fault;
 mod grammar;
+mod text;
 mod timeline;
 
 pub use breakpoint::{Breakpoint, StepFacts};
 pub use command::{Command, Dialect, InputLine};
-pub use dialogue::{MAX_COMMAND_BYTES, answer_commands, push_count};
+pub use dialogue::{MAX_COMMAND_BYTES, answer_commands};
 pub use fault::DebugFault;
 pub use grammar::line;
+pub use text::push_count;
 pub use timeline::Timeline;
