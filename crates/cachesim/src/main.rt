@@ -21,10 +21,13 @@ use fault::Fault;
 use files::{FileFault, Files, MAX_FILE_BYTES};
 use progress::ProgressLine;
 use std::alloc::{AllocError, Global};
-use std::io::{ErrorKind, IsTerminal, Write};
+use std::io::{ErrorKind, IsTerminal};
 use std::process::ExitCode;
 use std::{env, fs, io};
 use streams::ReadAllFault;
+
+// The line of a word that is no text, which is a usage error.
+const NOT_TEXT: &[u8] = b"error: a word of the call is not UTF-8 text\n";
 
 // The files of this machine.
 #[derive(Drop)]
@@ -50,39 +53,28 @@ impl<'a> Files for HostFiles<'a> {
     }
 }
 
-// The words after the program's name. `InvalidData` where one of them is no UTF-8 text; the other
-// error is out of memory.
-fn words_of(rt: &HostRuntime) -> io::Result<Vec<String>> {
-    let words = env::args(rt)?.skip(1).collect(rt.alloc())?;
-    Ok(words)
-}
-
-fn texts(alloc: Global, words: &[String]) -> Result<Vec<&str>, AllocError> {
-    let mut texts = Vec::new(alloc);
-    for word in words {
-        texts.push(word.as_str())?;
-    }
-    Ok(texts)
-}
-
-// Reports why the words are not at hand, and gives the status.
-fn refused<X: Write>(alloc: Global, kind: ErrorKind, fault_out: &mut X) -> u8 {
-    if kind == ErrorKind::InvalidData {
-        let _ = streams::write_all(fault_out, b"error: a word of the call is not UTF-8 text\n");
-        return REFUSED;
-    }
-    report_fault(alloc, Fault::OutOfMemory, fault_out)
-}
-
 fn main(rt: HostRuntime) -> ExitCode {
     let alloc = rt.alloc();
     let mut fault_out = rt.stderr();
-    let words = match words_of(&rt) {
+    // `InvalidData` where a word is no UTF-8 text; the other error is out of memory.
+    let words = env::args(&rt).and_then(|args| {
+        let words: Vec<String> = args.skip(1).collect(alloc)?;
+        Ok(words)
+    });
+    let words = match words {
         Ok(words) => words,
-        Err(error) => return ExitCode::from(refused(alloc, error.kind(), &mut fault_out)),
+        Err(error) if error.kind() == ErrorKind::InvalidData => {
+            let _ = streams::write_all(&mut fault_out, NOT_TEXT);
+            return ExitCode::from(REFUSED);
+        }
+        Err(_) => return ExitCode::from(report_fault(alloc, Fault::OutOfMemory, &mut fault_out)),
     };
-    let Ok(texts) = texts(alloc, words.as_slice()) else {
-        return ExitCode::from(refused(alloc, ErrorKind::OutOfMemory, &mut fault_out));
+    let texts: Result<Vec<&str>, AllocError> = words
+        .iter()
+        .map(|word| word.as_str())
+        .collect(alloc);
+    let Ok(texts) = texts else {
+        return ExitCode::from(report_fault(alloc, Fault::OutOfMemory, &mut fault_out));
     };
     let line = ProgressLine::new(&rt, fault_out.is_terminal());
     let status = command(

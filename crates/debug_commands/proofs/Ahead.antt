@@ -204,6 +204,10 @@ quit_line t p (Known command.Show) h = absurd (true≢false (sym h))
 quit_line t p (Known command.Special) h = absurd (true≢false (sym h))
 quit_line t p (Known command.Quit) h = refl
 
+pub not_quit : (line : InputLine) → (line ≡ Known command.Quit → ⊥) → is_quit line ≡ false
+not_quit (Known command.Quit) other = absurd (other refl)
+not_quit _ other = refl
+
 quit_answer : (t : TimelineData) (p : TimelinePlace) (l : List ℕ) → is_quit (command_line_of t.dialect l) ≡ true
     → answer_to t p (command_line_of t.dialect l) ≡ record { text = []; place = p }
 quit_answer t p l h = quit_line t p (command_line_of t.dialect l) h

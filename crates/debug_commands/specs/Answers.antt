@@ -5,7 +5,7 @@ use Rattle.std.specs.Prelude.{◌++◌, length, codes}
 use Rattle.std.specs.Fmt.{decimal}
 use Rattle.debug_commands.specs.Breakpoints.{first_holding, breakpoint_word}
 use Rattle.debug_commands.specs.Timeline.{TimelineData}
-use Rattle.debug_commands.specs.declared.execute.TheConstants.{MAX_BREAKPOINTS}
+use Rattle.debug_commands.specs.declared.dialogue.TheConstants.{MAX_BREAKPOINTS}
 use Rattle.debug_commands.specs.declared.breakpoint.Breakpoint.{Breakpoint}
 use Rattle.debug_commands.specs.declared.breakpoint.StepFacts.{StepFacts}
 use Rattle.debug_commands.specs.declared.command.Command.{Command}

@@ -4,7 +4,7 @@ use Rattle.debug_commands.specs.Names.{command_spelling}
 use Rattle.debug_commands.specs.declared.breakpoint.Breakpoint.{Breakpoint}
 use Rattle.debug_commands.specs.declared.breakpoint.Breakpoint.TheVariants.{Hit, Evict, Halve, Part, Drop}
 use Rattle.debug_commands.specs.declared.breakpoint.StepFacts.{StepFacts}
-use Rattle.debug_commands.specs.declared.words.Name.TheVariants as name
+use Rattle.debug_commands.specs.declared.grammar.Name.TheVariants as name
 
 abbrev pub is_key : Option ℕ → ℕ → Bool
 is_key None key = false

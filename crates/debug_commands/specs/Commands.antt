@@ -13,8 +13,8 @@ use Rattle.debug_commands.specs.declared.command.Dialect.{Dialect}
 use Rattle.debug_commands.specs.declared.command.Dialect.TheVariants.{Policies, Journal}
 use Rattle.debug_commands.specs.declared.command.InputLine.{InputLine}
 use Rattle.debug_commands.specs.declared.command.InputLine.TheVariants.{Empty, Unknown, Known}
-use Rattle.debug_commands.specs.declared.words.Name.{Name}
-use Rattle.debug_commands.specs.declared.words.Name.TheVariants as name
+use Rattle.debug_commands.specs.declared.grammar.Name.{Name}
+use Rattle.debug_commands.specs.declared.grammar.Name.TheVariants as name
 
 unfoldable pub command_name_at : Reads Name
 command_name_at [] = None

@@ -1,9 +1,9 @@
 -- The words of a command that are no numbers.
 use Rattle.std.specs.Prelude.{ℕ, List, Option, codes}
-use Rattle.debug_commands.specs.declared.words.Name.{Name}
-use Rattle.debug_commands.specs.declared.words.Name.TheVariants.{Step, Back, Goto, Run, Break, Clear, Show, Part, Save}
-use Rattle.debug_commands.specs.declared.words.Name.TheVariants.{Quit, Hit, Evict, Halve, Drop}
-use Rattle.debug_commands.specs.declared.words.TheConstants.{NAMES}
+use Rattle.debug_commands.specs.declared.grammar.Name.{Name}
+use Rattle.debug_commands.specs.declared.grammar.Name.TheVariants.{Step, Back, Goto, Run, Break, Clear, Show, Part, Save}
+use Rattle.debug_commands.specs.declared.grammar.Name.TheVariants.{Quit, Hit, Evict, Halve, Drop}
+use Rattle.debug_commands.specs.declared.grammar.TheConstants.{NAMES}
 use Rattle.text_lines.specs.Reads.{first_named}
 
 abbrev pub command_spelling : Name → List ℕ

@@ -2,7 +2,7 @@
 ghost use Rattle.std.specs.Prelude.{◌≡◌};
 ghost use Rattle.debug_commands.specs.Breakpoints.{first_holding, holds_after, breakpoint_word};
 
-use crate::words::Name;
+use crate::grammar::Name;
 use step_record::Key;
 
 /// Where `run` stops: behind a step at which the breakpoint holds.

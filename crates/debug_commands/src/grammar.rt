@@ -1,23 +1,28 @@
-//! The grammar of a line.
-ghost use Rattle.std.specs.Prelude.{◌≡◌};
-ghost use Rattle.debug_commands.specs.Commands.{command_line_of, command_named, point_at};
-ghost use Rattle.text_lines.specs.Reads.{with_rest};
+//! The grammar of a line, and its words.
+ghost use Rattle.std.specs.Prelude.{◌≡◌, ℕ, List, [], ◌∷◌, MatchOption};
+ghost use Rattle.std.specs.Option.{option_map_or};
+ghost use Rattle.debug_commands.specs.Commands.{command_line_of, command_name_at, command_named, number_at, point_at};
+ghost use Rattle.debug_commands.specs.Names.{command_spelling};
+ghost use Rattle.debug_commands.specs.Words.{words_in};
+ghost use Rattle.text_lines.specs.Reads.{first_named, with_rest};
 
 use crate::breakpoint::Breakpoint;
 use crate::command::{Command, Dialect, InputLine};
-use crate::words::{Name, Words};
-use text_lines::trimmed;
+use std::marker::Model;
+use text_lines::{cut, number, trimmed};
 
 /// What a line says, which is given without its line feed.
-#[tactic(auto, unfolding(crate::specs::Commands::line_in, crate::specs::Commands::command_in, crate::specs::Commands::command_at, crate::specs::Commands::command_name_at))]
+#[tactic(auto, unfolding(crate::specs::Commands::line_in, crate::specs::Commands::command_in, crate::specs::Commands::command_at, crate::specs::Commands::command_name_at, crate::specs::Names::name_of))]
 pub fn line(dialect: Dialect, text: &[u8]) -> InputLine
     ensures { result ≡ command_line_of dialect text.now }
 {
-    let mut words = Words::of(trimmed(text));
+    let mut words = Words {
+        rest: Some(trimmed(text)),
+    };
     let Some(first) = words.next() else {
         return InputLine::Empty;
     };
-    let Some(name) = Name::of(first) else {
+    let Some(name) = first_named(&NAMES, first) else {
         return InputLine::Unknown;
     };
     let Some(command) = named_command(dialect, name, &mut words) else {
@@ -26,6 +31,49 @@ pub fn line(dialect: Dialect, text: &[u8]) -> InputLine
     match words.next() {
         None => InputLine::Known(command),
         Some(_) => InputLine::Unknown,
+    }
+}
+
+/// A word of a command that is no number.
+#[derive(Clone, Copy, Debug, PartialEq, Eq)]
+pub enum Name {
+    Step,
+    Back,
+    Goto,
+    Run,
+    Break,
+    Clear,
+    Show,
+    Part,
+    Save,
+    Quit,
+    Hit,
+    Evict,
+    Halve,
+    Drop,
+}
+
+impl Name {
+    /// How the name is spelled.
+    pub fn text(self) -> &'static [u8]
+        ensures { result.now ≡ command_spelling self }
+    {
+        match self {
+            Name::Step => b"step",
+            Name::Back => b"back",
+            Name::Goto => b"goto",
+            Name::Run => b"run",
+            Name::Break => b"break",
+            Name::Clear => b"clear",
+            Name::Show => b"show",
+            Name::Part => b"part",
+            Name::Save => b"save",
+            Name::Quit => b"quit",
+            Name::Hit => b"hit",
+            Name::Evict => b"evict",
+            Name::Halve => b"halve",
+            Name::Drop => b"drop",
+        }
     }
 }
 
@@ -73,4 +121,78 @@ fn next_breakpoint(dialect: Dialect, words: &mut Words) -> Option<Breakpoint>
         },
         _ => None,
     }
+}
+
+// The words of a line that are not yet read.
+#[derive(Drop)]
+struct Words<'a> {
+    rest: Option<&'a [u8]>,
+}
+
+impl<'a> Model for Words<'a> {
+    ghost Value = { List (List ℕ) };
+
+    ghost view = { λ w. option_map_or (λ r. words_in r.now) w.rest [] };
+}
+
+impl<'a> Words<'a> {
+    // The next word.
+    fn next(&mut self) -> Option<&'a [u8]>
+        ensures { MatchOption result (self.old ≡ []) (λ w. self.old ≡ w.now ∷ self.new) }
+    {
+        'pieces: while let Some(text) = self.rest {
+            let (piece, rest) = cut(text, b' ');
+            self.rest = rest;
+            if !piece.is_empty() {
+                return Some(piece);
+            }
+        }
+        None
+    }
+
+    // The name that stands next.
+    #[tactic(auto, unfolding(crate::specs::Commands::command_name_at, crate::specs::Names::name_of))]
+    fn name(&mut self) -> Option<Name>
+        ensures { with_rest self.new result ≡ command_name_at self.old }
+    {
+        first_named(&NAMES, self.next()?)
+    }
+
+    // The number that stands next.
+    #[tactic(auto, unfolding(crate::specs::Commands::number_at))]
+    fn number(&mut self) -> Option<u64>
+        ensures { with_rest self.new result ≡ number_at self.old }
+    {
+        number(self.next()?)
+    }
+}
+
+// All names.
+const NAMES: [Name; 14] = [
+    Name::Step,
+    Name::Back,
+    Name::Goto,
+    Name::Run,
+    Name::Break,
+    Name::Clear,
+    Name::Show,
+    Name::Part,
+    Name::Save,
+    Name::Quit,
+    Name::Hit,
+    Name::Evict,
+    Name::Halve,
+    Name::Drop,
+];
+
+// The first of the names that is spelled so.
+fn first_named(names: &[Name], word: &[u8]) -> Option<Name>
+    ensures { result ≡ first_named command_spelling names.now word.now }
+{
+    for name in names {
+        if name.text() == word {
+            return Some(*name);
+        }
+    }
+    None
 }

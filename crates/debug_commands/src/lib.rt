@@ -10,17 +10,15 @@
 mod breakpoint;
 mod command;
 mod dialogue;
-mod execute;
 mod fault;
 mod grammar;
 mod text;
 mod timeline;
-mod words;
 
 pub use breakpoint::{Breakpoint, StepFacts};
 pub use command::{Command, Dialect, InputLine};
 pub use dialogue::{MAX_COMMAND_BYTES, answer_commands};
 pub use fault::DebugFault;
 pub use grammar::line;
-pub use text::{push_bytes, push_count, push_number};
+pub use text::push_count;
 pub use timeline::Timeline;

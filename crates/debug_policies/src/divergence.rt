@@ -9,7 +9,7 @@ ghost use Rattle.policies.specs.AnyStep.{any_act};
 ghost use Rattle.job_checks.specs.FaultyJobs.{faulty_in, ReturnsFault};
 ghost use Rattle.debug_policies.specs.Part.{part_line, is_hit_at, IsPart, IsNoted, IsFirstOther, IsPrepared};
 
-use debug_commands::{push_bytes, push_count};
+use debug_commands::push_count;
 use job_checks::ActorFault;
 use policies::{AnyPolicy, theorems};
 use std::alloc::{AllocError, Global};
@@ -50,9 +50,9 @@ pub fn push_part(text: &mut Vec<u8>, found: Option<u64>) -> Result<(), AllocErro
     match found {
         Some(access) => {
             push_count(text, b"part ", access)?;
-            push_bytes(text, b"\n")
+            text.extend_from_slice(b"\n")
         }
-        None => push_bytes(text, b"part none\n"),
+        None => text.extend_from_slice(b"part none\n"),
     }
 }
 

@@ -7,7 +7,7 @@ ghost use Rattle.policies.specs.AnyStep.{any_act};
 ghost use Rattle.debug_policies.specs.OnePolicy.{age_at, counts_line, holds_line, outcome_at, policy_lines};
 ghost use Rattle.debug_policies.specs.OnePolicy.{spaced_key};
 
-use debug_commands::{push_bytes, push_count, push_number};
+use debug_commands::push_count;
 use journal::{BackFault, Session, SessionFault};
 use policies::{AnyPolicy, theorems};
 use std::alloc::{AllocError, Global};
@@ -144,24 +144,24 @@ fn make(session: &mut Session<AnyPolicy>, key: Key) -> Result<Outcome, AllocErro
 fn push_counts(text: &mut Vec<u8>, label: &[u8], job: &Job, stats: &Stats) -> Result<(), AllocError>
     ensures { OnOk result (text.new.items ≡ text.old.items ++ counts_line label.now job.now stats.now) }
 {
-    push_bytes(text, label)?;
-    push_bytes(text, b" ")?;
-    push_bytes(text, job.policy.word().as_bytes())?;
+    text.extend_from_slice(label)?;
+    text.extend_from_slice(b" ")?;
+    text.extend_from_slice(job.policy.word().as_bytes())?;
     push_count(text, b" hits ", stats.hits)?;
     push_count(text, b" misses ", stats.misses)?;
     push_count(text, b" evictions ", stats.evictions)?;
     push_count(text, b" rejections ", stats.rejections)?;
-    push_bytes(text, b"\n")
+    text.extend_from_slice(b"\n")
 }
 
 // Adds the line of the residents.
 fn push_holds(text: &mut Vec<u8>, label: &[u8], keys: &[Key]) -> Result<(), AllocError>
     ensures { OnOk result (text.new.items ≡ text.old.items ++ holds_line label.now keys.now) }
 {
-    push_bytes(text, label)?;
-    push_bytes(text, b" holds")?;
+    text.extend_from_slice(label)?;
+    text.extend_from_slice(b" holds")?;
     push_keys(text, keys)?;
-    push_bytes(text, b"\n")
+    text.extend_from_slice(b"\n")
 }
 
 // Adds keys, each with a space before it.
@@ -169,15 +169,7 @@ fn push_keys(text: &mut Vec<u8>, keys: &[Key]) -> Result<(), AllocError>
     ensures { OnOk result (text.new.items ≡ text.old.items ++ flat_map spaced_key keys.now) }
 {
     for key in keys {
-        push_key(text, *key)?;
+        push_count(text, b" ", *key)?;
     }
     Ok(())
-}
-
-// Adds a space and a key.
-fn push_key(text: &mut Vec<u8>, key: Key) -> Result<(), AllocError>
-    ensures { OnOk result (text.new.items ≡ text.old.items ++ spaced_key key) }
-{
-    push_bytes(text, b" ")?;
-    push_number(text, key)
 }

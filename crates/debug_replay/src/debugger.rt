@@ -5,7 +5,7 @@ ghost use Rattle.journal.specs.Session.{IsMovedTo};
 ghost use Rattle.debug_replay.specs.Replay.{replay_timeline, step_facts, hit_key, is_dropped, left_on_step};
 
 use crate::shell_text::push_shell;
-use debug_commands::{DebugFault, Dialect, StepFacts, Timeline, answer_commands, push_bytes};
+use debug_commands::{DebugFault, Dialect, StepFacts, Timeline, answer_commands};
 use journal::Session;
 use journal_text::write_journal;
 use maintenance::Shell;
@@ -108,7 +108,7 @@ impl<'a> Timeline for Replay<'a> {
     fn own(&self, alloc: Global, text: &mut Vec<u8>) -> Result<(), AllocError> {
         let mut journal = Vec::new(alloc);
         match write_journal(alloc, self.session, &mut journal) {
-            Ok(()) => push_bytes(text, journal.as_slice()),
+            Ok(()) => text.extend_from_slice(journal.as_slice()),
             Err(_) => Err(AllocError),
         }
     }

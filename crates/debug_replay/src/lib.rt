@@ -7,7 +7,6 @@
 
 mod debugger;
 mod shell_text;
-mod texts;
 
 pub use debug_commands::DebugFault;
 pub use debugger::run_replay;

@@ -1,19 +1,20 @@
 //! What is shown of a concurrent cache.
 ghost use Rattle.std.specs.Prelude.{◌≡◌, ◌++◌, OnOk};
-ghost use Rattle.debug_replay.specs.ShownState.{age_line, drain_line, evictions_text, holder_line, lists_text, looks_text};
-ghost use Rattle.debug_replay.specs.ShownState.{maintenance_text, offers_text, queues_text, shown_text, state_text};
-ghost use Rattle.debug_replay.specs.ShownState.{stats_line, stripe_line, stripe_lines, writes_text};
+ghost use Rattle.std.specs.List.{flat_map};
+ghost use Rattle.debug_replay.specs.ShownState.{age_line, count_line, drain_line, drain_word, evictions_text};
+ghost use Rattle.debug_replay.specs.ShownState.{holder_line, item_text, items_line, lists_text, looks_text};
+ghost use Rattle.debug_replay.specs.ShownState.{maintenance_text, offers_text, phase_word, queues_text, shown_text};
+ghost use Rattle.debug_replay.specs.ShownState.{state_text, stats_line, stripe_line, stripe_lines, task_text};
+ghost use Rattle.debug_replay.specs.ShownState.{tasks_line, writes_text};
 
-use crate::texts::{
-    drain_word, phase_word, push_count_line, push_items, push_items_line, push_tasks_line,
-};
 use admission::Frequency;
-use debug_commands::{push_bytes, push_count};
+use debug_commands::push_count;
 use maintenance::Shell;
 use segments::Queue;
+use shell_buffers::Task;
 use shell_model::ShellStats;
 use std::alloc::{AllocError, Global};
-use step_record::{Drain, Item};
+use step_record::{Drain, Item, Phase};
 
 /// Adds the lines that show a concurrent cache. The one error is that an allocation failed.
 pub fn push_shell(alloc: Global, shell: &Shell, text: &mut Vec<u8>) -> Result<(), AllocError>
@@ -37,16 +38,16 @@ fn push_state(shell: &Shell, text: &mut Vec<u8>) -> Result<(), AllocError>
 fn push_drain(drain: Drain, text: &mut Vec<u8>) -> Result<(), AllocError>
     ensures { OnOk result (text.new.items ≡ text.old.items ++ drain_line drain) }
 {
-    push_bytes(text, b"drain ")?;
-    push_bytes(text, drain_word(drain))?;
-    push_bytes(text, b"\n")
+    text.extend_from_slice(b"drain ")?;
+    text.extend_from_slice(drain_word(drain))?;
+    text.extend_from_slice(b"\n")
 }
 
 fn push_holder(shell: &Shell, text: &mut Vec<u8>) -> Result<(), AllocError>
     ensures { OnOk result (text.new.items ≡ text.old.items ++ holder_line shell.now.holder) }
 {
     match shell.holder() {
-        None => push_bytes(text, b"holder none\n"),
+        None => text.extend_from_slice(b"holder none\n"),
         Some((worker, phase, left)) => {
             push_count(text, b"holder ", u64::from(worker.number()))?;
             push_count_line(text, phase_word(phase), u64::from(left))
@@ -90,7 +91,7 @@ fn push_stripe(stripe: u8, items: &[Item], text: &mut Vec<u8>) -> Result<(), All
 {
     push_count(text, b"stripe ", u64::from(stripe))?;
     push_items(text, items)?;
-    push_bytes(text, b"\n")
+    text.extend_from_slice(b"\n")
 }
 
 fn push_age(frequency: &Frequency, text: &mut Vec<u8>) -> Result<(), AllocError>
@@ -146,4 +147,101 @@ fn push_maintenance(stats: &ShellStats, text: &mut Vec<u8>) -> Result<(), AllocE
     push_count(text, b" begun ", stats.begun)?;
     push_count(text, b" busy ", stats.busy)?;
     push_count_line(text, b" removed ", stats.removed)
+}
+
+// The word of a drain state.
+fn drain_word(drain: Drain) -> &'static [u8]
+    ensures { result.now ≡ drain_word drain }
+{
+    match drain {
+        Drain::Idle => b"idle",
+        Drain::Required => b"required",
+        Drain::ToIdle => b"toidle",
+        Drain::ToRequired => b"torequired",
+    }
+}
+
+// The word of a phase, between spaces.
+fn phase_word(phase: Phase) -> &'static [u8]
+    ensures { result.now ≡ phase_word phase }
+{
+    match phase {
+        Phase::Reads => b" reads ",
+        Phase::Writes => b" writes ",
+        Phase::Evictions => b" evictions ",
+    }
+}
+
+// Adds a line of a name and a number.
+fn push_count_line(text: &mut Vec<u8>, name: &[u8], count: u64) -> Result<(), AllocError>
+    ensures { OnOk result (text.new.items ≡ text.old.items ++ count_line name.now count) }
+{
+    push_count(text, name, count)?;
+    text.extend_from_slice(b"\n")
+}
+
+// Adds items, each with a space before it.
+fn push_items(text: &mut Vec<u8>, items: &[Item]) -> Result<(), AllocError>
+    ensures { OnOk result (text.new.items ≡ text.old.items ++ flat_map item_text items.now) }
+{
+    for item in items {
+        push_item(text, *item)?;
+    }
+    Ok(())
+}
+
+// Adds a line of items.
+fn push_items_line(text: &mut Vec<u8>, name: &[u8], items: &[Item]) -> Result<(), AllocError>
+    ensures { OnOk result (text.new.items ≡ text.old.items ++ items_line name.now items.now) }
+{
+    text.extend_from_slice(name)?;
+    push_items(text, items)?;
+    text.extend_from_slice(b"\n")
+}
+
+// Adds the line of the write queue.
+fn push_tasks_line(text: &mut Vec<u8>, tasks: &[Task]) -> Result<(), AllocError>
+    ensures { OnOk result (text.new.items ≡ text.old.items ++ tasks_line tasks.now) }
+{
+    text.extend_from_slice(b"writes")?;
+    push_tasks(text, tasks)?;
+    text.extend_from_slice(b"\n")
+}
+
+// Adds a space and an item.
+fn push_item(text: &mut Vec<u8>, item: Item) -> Result<(), AllocError>
+    ensures { OnOk result (text.new.items ≡ text.old.items ++ item_text item) }
+{
+    push_count(text, b" ", item.key)?;
+    push_count(text, b":", item.node)
+}
+
+// The word of a task, and its item.
+fn task_parts(task: Task) -> (&'static [u8], Item)
+    ensures { task_text task ≡ result.0.now ++ item_text result.1 }
+{
+    match task {
+        Task::Add(item) => (b" add", item),
+        Task::Update(item) => (b" update", item),
+        Task::Remove(item) => (b" remove", item),
+    }
+}
+
+// Adds a task.
+fn push_task(text: &mut Vec<u8>, task: Task) -> Result<(), AllocError>
+    ensures { OnOk result (text.new.items ≡ text.old.items ++ task_text task) }
+{
+    let (word, item) = task_parts(task);
+    text.extend_from_slice(word)?;
+    push_item(text, item)
+}
+
+// Adds tasks, each with a space before it.
+fn push_tasks(text: &mut Vec<u8>, tasks: &[Task]) -> Result<(), AllocError>
+    ensures { OnOk result (text.new.items ≡ text.old.items ++ flat_map task_text tasks.now) }
+{
+    for task in tasks {
+        push_task(text, *task)?;
+    }
+    Ok(())
 }

@@ -1,11 +1,13 @@
-use Rattle.std.proofs.Common.{◌≡◌, ◌∙◌, Ok, Err, ap, sym, subst, refl}
+use Rattle.std.proofs.Common.{rules, ◌≡◌, ◌∙◌, Ok, Err, ap, sym, subst, refl}
 use Rattle.std.specs.Result.{IsErrAnd}
 use Rattle.debug_commands.specs.Commands.{command_line_of}
 use Rattle.debug_commands.specs.Dialogue.{is_quit}
 use Rattle.debug_commands.specs.Timeline.{TimelineData}
+use Rattle.debug_commands.specs.declared.command.Command.TheVariants as command
+use Rattle.debug_commands.specs.declared.command.InputLine.TheVariants.{Known}
 use Rattle.debug_commands.specs.declared.fault.DebugFault.{DebugFault}
 use Rattle.debug_commands.specs.declared.fault.DebugFault.TheVariants.{TooLarge}
-use Rattle.debug_commands.proofs.Ahead.{a_round, begins, ends_at_large, ends_at_last, ends_at_quit, flushed, goes_on, said_is}
+use Rattle.debug_commands.proofs.Ahead.{a_round, begins, ends_at_large, ends_at_last, ends_at_quit, flushed, goes_on, not_quit, said_is}
 use Rattle.debug_commands.proofs.dialogue.answer_commands.Goals as goal
 
 pub lines-init : goal.lines-init
@@ -31,23 +33,25 @@ returns-then-not-fed-clause-done g c = ends_at_last
     c.in_ok-write_some.ensures.bytes c.in_ok-flush.ensures.bytes))
     c.if-not-fed.true (c.in_ok-fed.ensures.end (ap Ok c.if-not-fed.true))
 
-pub returns-then-is_quit-clause-done : goal.returns-then-is_quit-clause-done
-returns-then-is_quit-clause-done g c =
+pub returns-then-eq-clause-done : goal.returns-then-eq-clause-done
+returns-then-eq-clause-done g c =
     let t : TimelineData = g.T.Timeline.timeline c.args.timeline.now in
     let said : c.line-said.result ≡ command_line_of t.dialect c.read_line.new.text.items =
     said_is c.lines.invariant.same c.dialect.ensures c.as_slice.ensures.value c.line-said.ensures in
+    let quits : c.line-said.result ≡ Known command.Quit = search rules in
     ends_at_quit
     (a_round (g.R.Read.remaining c.read_line.new.input) (g.W.Write.contents c.flush.new.writer) c.lines.invariant.ahead c.lines.invariant.same
     c.dialect.ensures c.as_slice.ensures.value c.line-said.ensures c.clear-in-lines.ensures.items c.in_ok-answer.ensures.answer
     c.in_ok-fed.ensures.read c.in_ok-fed.ensures.feeds c.in_ok-fed.ensures.room c.as_slice-in-lines.ensures.value (flushed (g.W.Write.contents c.lines.out) (g.W.Write.contents c.write_some.new.writer) (g.W.Write.contents c.flush.new.writer) c.as_slice-in-lines.result.now
     c.in_ok-write_some.ensures.bytes c.in_ok-flush.ensures.bytes))
-    c.if-not-fed.false (sym (ap is_quit said) ∙ (sym c.is_quit.ensures ∙ c.if-is_quit.true))
+    c.if-not-fed.false (sym (ap is_quit said) ∙ ap is_quit quits)
 
 pub lines-preserved : goal.lines-preserved
 lines-preserved g c =
     let t : TimelineData = g.T.Timeline.timeline c.args.timeline.now in
     let said : c.line-said.result ≡ command_line_of t.dialect c.read_line.new.text.items =
     said_is c.lines.invariant.same c.dialect.ensures c.as_slice.ensures.value c.line-said.ensures in
+    let goes : c.line-said.result ≡ Known command.Quit → ⊥ = search rules in
     record {
       source = c.answer.ensures.source ∙ c.lines.invariant.source;
       whole = c.in_ok-answer.ensures.whole;
@@ -57,5 +61,5 @@ lines-preserved g c =
           c.dialect.ensures c.as_slice.ensures.value c.line-said.ensures c.clear-in-lines.ensures.items c.in_ok-answer.ensures.answer
           c.in_ok-fed.ensures.read c.in_ok-fed.ensures.feeds c.in_ok-fed.ensures.room c.as_slice-in-lines.ensures.value (flushed (g.W.Write.contents c.lines.out) (g.W.Write.contents c.write_some.new.writer) (g.W.Write.contents c.flush.new.writer) c.as_slice-in-lines.result.now
           c.in_ok-write_some.ensures.bytes c.in_ok-flush.ensures.bytes))
-          c.if-not-fed.false (sym (ap is_quit said) ∙ (sym c.is_quit.ensures ∙ c.if-is_quit.false));
+          c.if-not-fed.false (sym (ap is_quit said) ∙ not_quit c.line-said.result goes);
     }

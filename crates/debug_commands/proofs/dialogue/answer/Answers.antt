@@ -6,7 +6,7 @@ use Rattle.debug_commands.specs.Timeline.{TimelineData}
 use Rattle.debug_commands.specs.declared.command.Command.TheVariants as command
 use Rattle.debug_commands.specs.declared.command.InputLine.{InputLine}
 use Rattle.debug_commands.specs.declared.command.InputLine.TheVariants.{Known}
-use Rattle.debug_commands.proofs.execute.answer.Goals as goal
+use Rattle.debug_commands.proofs.dialogue.answer.Goals as goal
 
 -- what holds at every timeline and position holds at this one
 at_this : {A E : Type 0} (r : Result A E) (P : TimelineData → ℕ → Type 0) → OnOk r ((t : TimelineData) (at : ℕ) → P t at)

@@ -1,6 +1,6 @@
 use Rattle.std.proofs.Common.{◌≡◌, ◌-◌}
 use Rattle.debug_commands.specs.Answers.{stop_after}
-use Rattle.debug_commands.proofs.execute.next_stop.Given as goal
+use Rattle.debug_commands.proofs.dialogue.next_stop.Given as goal
 
 abbrev pub invariant-steps : goal.invariant-steps
 invariant-steps g l = record {

@@ -1,7 +1,7 @@
 use Rattle.std.proofs.Common.{◌≡◌, ◌∙◌, ◌<◌, ◌+◌, ap, sym, ℕ, arith}
 use Rattle.debug_commands.specs.Timeline.{TimelineData}
 use Rattle.debug_commands.proofs.Stops.{stops_here, stops_later, stops_at_end}
-use Rattle.debug_commands.proofs.execute.next_stop.Goals as goal
+use Rattle.debug_commands.proofs.dialogue.next_stop.Goals as goal
 
 pub returns-in-Some-clause-stop : goal.returns-in-Some-clause-stop
 returns-in-Some-clause-stop g c =
