@@ -4,7 +4,6 @@ use Rattle.std.proofs.Common.{take-add, drop-drop, length-append, length-take-le
 use Rattle.std.proofs.lemmas.Bool.{cond-true, cond-false, and_parts, and_left, and_right, ne_eqb}
 use Rattle.std.proofs.lemmas.Bool.Decides.{nat_tests}
 use Rattle.std.proofs.lemmas.List.Sums.{position_or_len_is}
-use Rattle.std.proofs.lemmas.List.{append-nil}
 use Rattle.std.specs.Char.{is_ascii_digit}
 use Rattle.std.specs.List.{position_or_len}
 use Rattle.std.specs.Str.{all_ascii_digits}
@@ -51,11 +50,6 @@ field_ends (g ∷ gs) h = by (is_blank g && is_empty (without_back gs))
     by : (b : Bool) → EndsField (cond b [] (g ∷ without_back gs))
     by true = tt
     by false = h
-
--- digits before a carriage return (13) are the whole of a line
-pub before_return : (ds : List ℕ) → 0 < length ds → all_ascii_digits ds ≡ true → trimmed_text (ds ++ 13 ∷ []) ≡ ds
-unfolding trimmed_text
-before_return ds some digits = ap without_back (kept_front ds (13 ∷ []) some digits) ∙ kept_back ds (13 ∷ []) digits ∙ append-nil ds
 
 -- ---- fields
 

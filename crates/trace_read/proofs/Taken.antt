@@ -105,6 +105,15 @@ key_read format n given key old cut text new lirs none few is added =
       added = added ∙ ap (λ r. old ++ keys_or_none r) (sym is);
     }))
 
+-- a line that names some keys
+pub keys_read : (format : Format) (n given : ℕ) (keys old cut text new : List ℕ) → format ≡ Lirs → cut ≡ [] → given + length old + length keys ≤ MAX_ACCESSES → line_of Lirs text ≡ Ok keys
+    → new ≡ old ++ keys → IsRead format n given old (cut ++ text) new
+keys_read format n given keys old cut text new lirs none few is added =
+    subst (λ f. IsRead f n given old (cut ++ text) new) (sym lirs) (subst (λ c. IsRead Lirs n given old (c ++ text) new) (sym none) (record {
+      sound = ap (fault_after n (given + length old)) is ∙ cond-false _ _ _ (le-ltb MAX_ACCESSES (given + length old + length keys) few);
+      added = added ∙ ap (λ r. old ++ keys_or_none r) (sym is);
+    }))
+
 -- a line that stands for a run
 pub run_read : (format : Format) (n given start count : ℕ) (old cut text new : List ℕ) → format ≡ Arc → cut ≡ [] → line_of Arc text ≡ run_of (Some start) (Some count)
     → fault_after n (given + length old) (run_of (Some start) (Some count)) ≡ None → new ≡ old ++ keys_or_none (run_of (Some start) (Some count))
