@@ -1,5 +1,5 @@
 //! Lines of the LIRS format with blanks around what they say, as lines that end in a carriage return have.
-ghost use Rattle.std.specs.Prelude.{◌≡◌, ◌≤◌, ◌<◌, ◌+◌, ◌-◌, ◌∷◌, ◌++◌, [], Ok, OnSome, IfSome, length, take, drop, vec_capacity, vec_len};
+ghost use Rattle.std.specs.Prelude.{◌≡◌, ◌≤◌, ◌<◌, ◌+◌, ◌-◌, ◌∷◌, ◌++◌, [], Ok, OnSome, IfSome, IsTrue, get_or, length, take, drop, vec_capacity, vec_len};
 ghost use Rattle.text_lines.specs.Blanks.{is_blank};
 ghost use Rattle.trace_read.specs.DigitRuns.{DigitsBetween, IsDigitRuns, IsNextRun};
 ghost use Rattle.trace_read.specs.Lines.{line_of};
@@ -11,6 +11,9 @@ use super::digits::{any_number, short_number};
 use super::format::Format;
 use super::stars::are_four_star_lines;
 use step_record::Key;
+
+// A carriage return and a line feed, the first byte the lowest.
+const RETURN_AND_FEED: u16 = 0x0a0d;
 
 /// A line that was read, and where it ends.
 #[derive(Clone, Copy, Drop)]
@@ -41,6 +44,34 @@ pub fn padded_line<'a>(run: DigitRun, runs: DigitRuns<'a>) -> Option<PaddedLine<
         key: token.key,
         line,
     })
+}
+
+/// The same of a line that is a number of at most nineteen digits with a carriage return behind it.
+#[inline(always)]
+pub fn returned_line<'a>(run: DigitRun, runs: DigitRuns<'a>) -> Option<PaddedLine<'a>>
+    requires { IsNextRun runs.bytes.now run runs }
+    ensures { IfSome result (IsPaddedLine runs.entry.bytes.now run.start) }
+{
+    let Some(token) = number_token(run, runs) else {
+        return None;
+    };
+    let Some(line) = feed_behind_return(token.end, token.runs) else {
+        return None;
+    };
+    Some(PaddedLine {
+        key: token.key,
+        line,
+    })
+}
+
+/// Whether a carriage return and a line feed stand at this place.
+#[inline(always)]
+pub fn is_return_and_feed(bytes: &[u8], place: usize) -> bool
+    requires { place + 2 ≤ length bytes.now }
+    ensures return_ { IsTrue result → get_or bytes.now place 0 ≡ 13 }
+    ensures feed { IsTrue result → get_or bytes.now (place + 1) 0 ≡ 10 }
+{
+    u16::from_le_bytes([bytes[place], bytes[place + 1]]) == RETURN_AND_FEED
 }
 
 /// Adds the access of a line, where it names one. There is room for it.
@@ -100,6 +131,15 @@ fn token_of_run<'a>(run: DigitRun, runs: DigitRuns<'a>) -> Option<Token<'a>>
     if run.start == run.end {
         return star_or_nothing(run, runs);
     }
+    number_token(run, runs)
+}
+
+// The number that this run of digits, the one before `runs`, is.
+#[inline(always)]
+fn number_token<'a>(run: DigitRun, runs: DigitRuns<'a>) -> Option<Token<'a>>
+    requires { IsNextRun runs.bytes.now run runs }
+    ensures { IfSome result (IsToken runs.entry.bytes.now run.start) }
+{
     let Some(key) = number_of_run(runs.bytes, run) else {
         return None;
     };
@@ -154,12 +194,8 @@ fn feed_behind_blanks<'a>(place: usize, runs: DigitRuns<'a>) -> Option<LineEnd<'
     if bytes[place] == b'\n' {
         return Some(LineEnd { end: place, runs });
     }
-    // Most lines with blanks are those of a file whose lines all end so.
-    if bytes[place] == b'\r' && bytes[place + 1] == b'\n' {
-        return Some(LineEnd {
-            end: place + 1,
-            runs: runs.past(runs.start + 1),
-        });
+    if let Some(line) = feed_behind_return(place, runs) {
+        return Some(line);
     }
     if !is_blank_byte(bytes[place]) {
         return None;
@@ -171,6 +207,23 @@ fn feed_behind_blanks<'a>(place: usize, runs: DigitRuns<'a>) -> Option<LineEnd<'
     Some(LineEnd {
         end,
         runs: runs.past(end + 1),
+    })
+}
+
+// The line feed behind a carriage return at this place, before `runs`.
+#[inline(always)]
+fn feed_behind_return<'a>(place: usize, runs: DigitRuns<'a>) -> Option<LineEnd<'a>>
+    requires runs { IsDigitRuns runs }
+    requires place { runs.start ≡ place + 1 }
+    requires within { place + 2 ≤ length runs.bytes.now }
+    ensures { IfSome result (IsFeedBehindBlanks runs.entry.bytes.now place) }
+{
+    if !is_return_and_feed(runs.bytes, place) {
+        return None;
+    }
+    Some(LineEnd {
+        end: place + 1,
+        runs: runs.past(runs.start + 1),
     })
 }
 

@@ -3,6 +3,7 @@ ghost use Rattle.std.specs.Prelude.{◌≡◌, ◌≤◌, ◌<◌, ◌+◌, ◌-
 ghost use Rattle.std.specs.Prelude.{IfOk, IfErr, IfSome, IsTrue, MatchOption, OnSome, get_or, length, take, drop, vec_len, vec_capacity};
 ghost use Rattle.trace_read.specs.DigitRuns.{DigitsBetween, IsDigitRuns, IsNextRun};
 ghost use Rattle.trace_read.specs.Lines.{line_of, AreStarLines};
+ghost use Rattle.trace_read.specs.PaddedLines.{IsPaddedLine};
 ghost use Rattle.trace_read.specs.declared.digit_runs.TheConstants.{BEHIND};
 ghost use Rattle.step_record.specs.declared.limits.TheConstants.{MAX_ACCESSES};
 ghost use Rattle.trace_read.specs.TraceText.{fault_in, keys_in, IsOfLine, IsRead, IsTraceRefused, IsStopped};
@@ -15,7 +16,7 @@ use super::digits::{long_number, short_number};
 use super::follower::Follower;
 use super::format::Format;
 use super::lirs::{add_key, add_lirs};
-use super::padded::{padded_line, push_if_any};
+use super::padded::{PaddedLine, is_return_and_feed, padded_line, push_if_any, returned_line};
 use super::plain::{PlainLine, plain_line};
 use super::stars::{is_star_line, star_lines};
 use super::usual::{OtherLines, UsualLines};
@@ -214,7 +215,8 @@ impl Scan {
         match usual {
             UsualLines::Numbers => self.take_numbers::<false>(runs),
             UsualLines::Stars => self.take_numbers::<true>(runs),
-            UsualLines::Padded => self.take_padded(runs),
+            UsualLines::Returned => self.take_padded::<false>(runs),
+            UsualLines::Padded => self.take_padded::<true>(runs),
         }
     }
 
@@ -254,9 +256,9 @@ impl Scan {
         None
     }
 
-    // `take_stretch` of the lines that `padded_line` reads.
+    // `take_stretch` of the lines that `padded_line` reads, or without `BLANKS` of those that `returned_line` reads.
     #[inline(never)]
-    fn take_padded(&mut self, runs: &mut DigitRuns<'_>) -> Option<DigitRun>
+    fn take_padded<const BLANKS: bool>(&mut self, runs: &mut DigitRuns<'_>) -> Option<DigitRun>
         requires runs { IsDigitRuns runs.old }
         requires lines { CanTakeLines self.old runs.old.bytes.now runs.old.start }
         ensures { IsStretchTaken self.old self.new runs.old runs.new result }
@@ -265,7 +267,7 @@ impl Scan {
         let mut keys = mem::replace(&mut self.keys, Vec::new(self.alloc));
         let first = keys.len();
         'lines: while let Some(run) = ahead.next() {
-            let Some(padded) = padded_line(run, ahead) else {
+            let Some(padded) = line_of_run::<BLANKS>(run, ahead) else {
                 self.line += (keys.len() - first) as u64;
                 self.keys = keys;
                 *runs = DigitRuns::at(ahead.bytes, run.end + 1);
@@ -310,7 +312,8 @@ impl Scan {
             return Ok(true);
         }
         if let Some(padded) = padded_line(run, *runs) {
-            others.count_padded(run.start);
+            let returned = run.start < run.end && is_return_and_feed(bytes, run.end);
+            others.count_padded(run.start, returned);
             push_if_any(padded.key, &mut self.keys);
             self.line += 1;
             *runs = padded.line.runs;
@@ -457,6 +460,19 @@ fn usual_key(bytes: &[u8], run: DigitRun) -> Option<Key>
         return Some(long_number(&bytes[run.start..], count));
     }
     None
+}
+
+// What `padded_line` reads, or without `BLANKS` what `returned_line` does.
+#[inline(always)]
+fn line_of_run<'a, const BLANKS: bool>(run: DigitRun, runs: DigitRuns<'a>) -> Option<PaddedLine<'a>>
+    requires { IsNextRun runs.bytes.now run runs }
+    ensures { IfSome result (IsPaddedLine runs.entry.bytes.now run.start) }
+{
+    if BLANKS {
+        padded_line(run, runs)
+    } else {
+        returned_line(run, runs)
+    }
 }
 
 // Reserves room for the accesses of LIRS lines of so many bytes in all. False, and no room, where they might pass

@@ -13,18 +13,21 @@ const NEAR: usize = 64;
 pub enum UsualLines {
     /// Those of a number.
     Numbers,
-    /// Those of a lone `*` too.
+    /// Those of a number, and of a lone `*`.
     Stars,
-    /// Those with blanks and those of seventeen to nineteen digits too.
+    /// Those of a number with a carriage return behind it.
+    Returned,
+    /// Those of a number, of a lone `*` or of nothing, with or without blanks around it.
     Padded,
 }
 
-/// Counts the lines of a piece that are of other shapes than a number alone.
+/// Counts the lines of a piece that no loop over the usual ones took.
 #[derive(Clone, Copy, Debug)]
 pub struct OtherLines {
     stars: usize,
+    returned: usize,
     padded: usize,
-    // Where the last of the padded ones began.
+    // Where the last one began that was not of a lone `*`.
     last: usize,
 }
 
@@ -33,6 +36,7 @@ impl OtherLines {
     pub fn new() -> OtherLines {
         OtherLines {
             stars: 0,
+            returned: 0,
             padded: 0,
             last: 0,
         }
@@ -43,10 +47,15 @@ impl OtherLines {
         self.stars = self.stars.saturating_add(1);
     }
 
-    /// Counts one that `padded_line` reads, and that begins at this place.
-    pub fn count_padded(&mut self, start: usize) {
+    /// Counts one that begins at this place: with `returned` a number with a carriage return behind it, and else one
+    /// that only the loop over padded lines takes.
+    pub fn count_padded(&mut self, start: usize, returned: bool) {
         if start.saturating_sub(self.last) < NEAR {
-            self.padded = self.padded.saturating_add(1);
+            if returned {
+                self.returned = self.returned.saturating_add(1);
+            } else {
+                self.padded = self.padded.saturating_add(1);
+            }
         }
         self.last = start;
     }
@@ -55,6 +64,8 @@ impl OtherLines {
     pub fn usual(&self) -> UsualLines {
         if self.padded >= OTHERS_FROM {
             UsualLines::Padded
+        } else if self.returned >= OTHERS_FROM {
+            UsualLines::Returned
         } else if self.stars >= OTHERS_FROM {
             UsualLines::Stars
         } else {

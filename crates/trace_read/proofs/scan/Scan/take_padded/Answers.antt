@@ -9,7 +9,7 @@ use Rattle.trace_read.specs.declared.scan.Scan.{Scan}
 use Rattle.trace_read.proofs.scan.Scan.take_padded.Goals as goal
 
 pub lines-preserved-in_default-key : goal.lines-preserved-in_default-key
-lines-preserved-in_default-key c =
+lines-preserved-in_default-key g c =
     let i = c.lines.invariant in
     let e = c.in-Some.ensures in
     let run = c.in-Some.run' in
@@ -18,8 +18,8 @@ lines-preserved-in_default-key c =
     let keys = c.lines.keys in
     let start = c.args.runs.now.start in
     let bytes = c.args.runs.now.bytes.now in
-    let padded = c.in-Some-padded_line.padded in
-    let p = subst (λ b. IsPaddedLine b run.start padded) (e.bytes ∙ i.same) c.in-Some-padded_line.ensures in
+    let padded = c.in-Some-line_of_run.padded in
+    let p = subst (λ b. IsPaddedLine b run.start padded) (e.bytes ∙ i.same) c.in-Some-line_of_run.ensures in
     let none : keys_if_any padded.key ≡ [] = ap keys_if_any c.in_default-key.is in
     let more = keys.len - c.len-first.result in
     let now : Scan = record { alloc = scan.alloc; format = scan.format; keys = keys; given = scan.given; line = scan.line + more; cut = scan.cut } in
@@ -37,7 +37,7 @@ lines-preserved-in_default-key c =
     }
 
 pub lines-preserved : goal.lines-preserved
-lines-preserved c =
+lines-preserved g c =
     let i = c.lines.invariant in
     let e = c.in-Some.ensures in
     let run = c.in-Some.run' in
@@ -46,9 +46,9 @@ lines-preserved c =
     let keys = c.lines.keys in
     let start = c.args.runs.now.start in
     let bytes = c.args.runs.now.bytes.now in
-    let padded = c.in-Some-padded_line.padded in
+    let padded = c.in-Some-line_of_run.padded in
     let pushed = c.push_reserved.ensures in
-    let p = subst (λ b. IsPaddedLine b run.start padded) (e.bytes ∙ i.same) c.in-Some-padded_line.ensures in
+    let p = subst (λ b. IsPaddedLine b run.start padded) (e.bytes ∙ i.same) c.in-Some-line_of_run.ensures in
     let one : keys_if_any padded.key ≡ c.in-Some-key.key ∷ [] = ap keys_if_any c.in-Some-key.is in
     let now : Scan = record { alloc = scan.alloc; format = scan.format; keys = keys; given = scan.given; line = scan.line + (keys.len - c.len-first.result); cut = scan.cut } in
     let next : Scan = record { alloc = scan.alloc; format = scan.format; keys = c.push_reserved.new.self; given = scan.given; line = scan.line + (c.push_reserved.new.self.len - c.len-first.result); cut = scan.cut } in

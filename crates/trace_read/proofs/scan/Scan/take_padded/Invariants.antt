@@ -11,10 +11,10 @@ pub record Taking (A B C D E : Type 0) : Type 0 where
   pub before : E
 
 abbrev pub invariant-lines : goal.invariant-lines
-invariant-lines l = Taking
+invariant-lines g l = Taking
     (IsTakenUpTo l.fn.self l.fn.runs.bytes.now l.fn.runs.start l.ahead.start (record { alloc = l.self.alloc; format = l.self.format; keys = l.keys; given = l.self.given; line = l.self.line + (vec_len l.keys - l.first); cut = l.self.cut }))
     (IsDigitRuns l.ahead) (l.ahead.bytes.now ≡ l.fn.runs.bytes.now)
     (HasRoom (length l.fn.runs.bytes.now - l.ahead.start) l.self.given (vec_len l.keys) (vec_capacity l.keys)) (l.first ≤ vec_len l.keys)
 
 abbrev pub decreases-lines : goal.decreases-lines
-decreases-lines l = length l.fn.runs.bytes.now - l.ahead.start
+decreases-lines g l = length l.fn.runs.bytes.now - l.ahead.start
