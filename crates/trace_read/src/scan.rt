@@ -346,7 +346,8 @@ impl Scan {
         ensures err { IfErr result (IsRefusedFrom self.old bytes.now 0) }
     {
         let mut runs = DigitRuns::at(bytes, 0);
-        'lines: while let Some(first) = self.take_runs(bytes, &mut runs) {
+        let mut others: u32 = 0;
+        'lines: while let Some(first) = self.next_other(bytes, &mut runs, &mut others) {
             let Some(line) = runs.line_end(first) else {
                 return Ok(first.start);
             };
@@ -354,6 +355,38 @@ impl Scan {
             runs = line.runs;
         }
         Ok(runs.start)
+    }
+
+    // `take_runs`, but where `others` lines that it does not take came one after another, mostly just the next run: to try
+    // it in vain costs more than a short line.
+    #[inline(always)]
+    fn next_other<'a>(
+        &mut self,
+        bytes: &'a [u8],
+        runs: &mut DigitRuns<'a>,
+        others: &mut u32,
+    ) -> Option<DigitRun>
+        requires scan { IsScan self.old }
+        requires format { self.old.format ≡ Format.Arc }
+        requires cut { self.old.cut.items ≡ [] }
+        requires runs { IsDigitRuns runs.old × (runs.old.bytes.now ≡ bytes.now) }
+        requires lines { self.old.line + length bytes.now < 2 ^ 64 + runs.old.start }
+        ensures all { result ≡ None → IsTakenUpTo self.old bytes.now runs.old.start runs.new.start self.new }
+        ensures some { IfSome result (λ run. IsTakenUpTo self.old bytes.now runs.old.start run.start self.new) }
+        ensures found { IfSome result (λ run. IsNextRun bytes.now run runs.new) }
+    {
+        let start = runs.start;
+        *others = others.wrapping_add(1);
+        if *others % 256 >= 8 {
+            return runs.next();
+        }
+        let Some(first) = self.take_runs(bytes, runs) else {
+            return None;
+        };
+        if first.start != start {
+            *others = 0;
+        }
+        Some(first)
     }
 
     // Takes the lines of the usual form from the next run of digits on, where there is room for their accesses, and
