@@ -3,18 +3,18 @@ use Rattle.std.proofs.Common.{◌≡◌, ◌∙◌, ◌<◌, ◌≤◌, ◌+◌,
 use Rattle.std.proofs.Common.{drop-drop, length-append, length-drop, length-take-le, take-take, get_or-drop}
 use Rattle.std.proofs.lemmas.Bool.{and_from, cases_lt, cond-true}
 use Rattle.std.proofs.lemmas.Bool.Decides.{nat_tests}
-use Rattle.std.proofs.lemmas.List.{drop-take, get_or-take}
+use Rattle.std.proofs.lemmas.List.{append-nil, drop-take, get_or-take}
 use Rattle.step_record.specs.declared.limits.TheConstants.{MAX_ACCESSES}
 use Rattle.text_lines.specs.Blanks.{is_blank, is_empty, trimmed_text, without_back, without_front}
 use Rattle.text_lines.specs.Feeds.{HasNoFeed}
 use Rattle.trace_read.proofs.LineFeeds.{no_feed_join}
 use Rattle.trace_read.proofs.Taken.{keys_read, line_taken}
 use Rattle.trace_read.specs.DigitRuns.{NoFeedBetween}
-use Rattle.trace_read.specs.Lines.{is_feed, lirs_keys}
+use Rattle.trace_read.specs.Lines.{arc_keys, is_feed, lirs_keys}
 use Rattle.trace_read.specs.PaddedLines.{keys_if_any, BlanksBetween, IsFeedBehindBlanks, IsPaddedLine, IsRunBehindBlanks, IsToken}
 use Rattle.trace_read.specs.ScanState.{IsScan, IsTakenUpTo}
 use Rattle.trace_read.specs.declared.digit_runs.LineEnd.{LineEnd}
-use Rattle.trace_read.specs.declared.format.Format.TheVariants.{Lirs}
+use Rattle.trace_read.specs.declared.format.Format.TheVariants.{Arc, Lirs}
 use Rattle.trace_read.specs.declared.padded.FoundRun.{FoundRun}
 use Rattle.trace_read.specs.declared.padded.PaddedLine.{PaddedLine}
 use Rattle.trace_read.specs.declared.padded.Token.{Token}
@@ -90,6 +90,10 @@ pub nothing_says : (bytes : List ℕ) (start end : ℕ) → start ≡ end → li
 unfolding trimmed_text
 nothing_says bytes start end same = ap (λ n. lirs_keys (trimmed_text (take n (drop start bytes)))) {y = 0} (omega (arith, same))
 
+arc_nothing : arc_keys (trimmed_text []) ≡ Ok []
+unfolding trimmed_text
+arc_nothing = refl
+
 pub padded_is : (bytes : List ℕ) (from : ℕ) (found : FoundRun) (token : Token) (line : LineEnd) → IsRunBehindBlanks bytes from found → IsToken bytes found.run.start token → IsFeedBehindBlanks bytes token.end line
     → IsPaddedLine bytes from (record { key = token.key; line = line })
 padded_is bytes from found token line f t l =
@@ -119,7 +123,7 @@ pub padded_taken : (now next : Scan) (bytes : List ℕ) (start : ℕ) (padded : 
     → next.format ≡ now.format → next.given ≡ now.given → next.line ≡ now.line + 1 → next.cut ≡ now.cut → IsTakenUpTo now bytes start padded.line.runs.start next
 padded_taken now next bytes start padded scan lirs none p few items format given line cut =
     let end = padded.line.end in
-    let read = keys_read now.format now.line now.given (keys_if_any padded.key) now.keys.items now.cut.items (take (end - start) (drop start bytes)) next.keys.items lirs none few p.says items in
+    let read = keys_read Lirs now.format now.line now.given (keys_if_any padded.key) now.keys.items now.cut.items (take (end - start) (drop start bytes)) next.keys.items lirs none few p.says items in
     subst (λ n. IsTakenUpTo now bytes start n next) (sym p.behind) (line_taken now bytes start end scan none p.order p.within p.none p.feed next
     (record {
       few = omega (arith, few, given, ap length items, length-append now.keys.items (keys_if_any padded.key));
@@ -129,6 +133,28 @@ padded_taken now next bytes start padded scan lirs none p few items format given
       read = read;
       cut = ap (λ v. v.items) cut ∙ none;
       line = line;
+      format = format;
+      given = given;
+    }))
+
+-- a line of blanks alone, in the ARC format
+pub blank_taken : (now next : Scan) (bytes : List ℕ) (start : ℕ) (line : LineEnd) → IsScan now → now.format ≡ Arc → now.cut.items ≡ [] → IsFeedBehindBlanks bytes start line
+    → next.keys ≡ now.keys → next.format ≡ now.format → next.given ≡ now.given → next.line ≡ now.line + 1 → next.cut ≡ now.cut → IsTakenUpTo now bytes start line.runs.start next
+blank_taken now next bytes start line scan arc none l keys format given one cut =
+    let end = line.end in
+    let items : next.keys.items ≡ now.keys.items = ap (λ v. v.items) keys in
+    let nothing : take (end - end) (drop end bytes) ≡ [] = ap (λ n. take n (drop end bytes)) {y = 0} (omega arith) in
+    let says = ap arc_keys (padded_text bytes start end end end l.order (omega arith) (omega arith) (omega (arith, l.within)) l.blanks (λ k low high. absurd (omega arith)) ∙ ap trimmed_text nothing) ∙ arc_nothing in
+    let read = keys_read Arc now.format now.line now.given [] now.keys.items now.cut.items (take (end - start) (drop start bytes)) next.keys.items arc none (omega (arith, scan.few)) says (items ∙ sym (append-nil now.keys.items)) in
+    subst (λ n. IsTakenUpTo now bytes start n next) (sym l.behind) (line_taken now bytes start end scan none l.order l.within (blanks_no_feed bytes start end l.blanks) l.feed next
+    (record {
+      few = omega (arith, scan.few, given, ap length items);
+      cut = subst HasNoFeed (ap (λ v. v.items) (sym cut)) scan.cut;
+    })
+    (record {
+      read = read;
+      cut = ap (λ v. v.items) cut ∙ none;
+      line = one;
       format = format;
       given = given;
     }))

@@ -64,6 +64,18 @@ pub fn returned_line<'a>(run: DigitRun, runs: DigitRuns<'a>) -> Option<PaddedLin
     })
 }
 
+/// The end of the line that begins with this run of digits, the one before `runs`, where it is blanks alone or nothing.
+#[inline(always)]
+pub fn blank_line<'a>(run: DigitRun, runs: DigitRuns<'a>) -> Option<LineEnd<'a>>
+    requires { IsNextRun runs.bytes.now run runs }
+    ensures { IfSome result (IsFeedBehindBlanks runs.entry.bytes.now run.start) }
+{
+    if run.start < run.end {
+        return None;
+    }
+    feed_behind_blanks(run.end, runs)
+}
+
 /// Whether a carriage return and a line feed stand at this place.
 #[inline(always)]
 pub fn is_return_and_feed(bytes: &[u8], place: usize) -> bool

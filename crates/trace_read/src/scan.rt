@@ -16,7 +16,9 @@ use super::digits::{long_number, short_number};
 use super::follower::Follower;
 use super::format::Format;
 use super::lirs::{add_key, add_lirs};
-use super::padded::{PaddedLine, is_return_and_feed, padded_line, push_if_any, returned_line};
+use super::padded::{
+    PaddedLine, blank_line, is_return_and_feed, padded_line, push_if_any, returned_line,
+};
 use super::plain::{PlainLine, plain_line};
 use super::stars::{is_star_line, star_lines};
 use super::usual::{OtherLines, UsualLines};
@@ -25,6 +27,9 @@ use std::alloc::{AllocError, Global};
 use std::mem;
 use step_record::{Key, MAX_ACCESSES};
 use text_lines::place_of;
+
+// After so many ARC lines one after another that are not of the usual form, the next is not tried as one.
+const OTHERS_IN_A_ROW: u32 = 8;
 
 /// A scan of the lines of a trace file, whose bytes come in pieces. It keeps no byte but those of
 /// the line that the last piece cut in two.
@@ -348,17 +353,24 @@ impl Scan {
         let mut runs = DigitRuns::at(bytes, 0);
         let mut others: u32 = 0;
         'lines: while let Some(first) = self.next_other(bytes, &mut runs, &mut others) {
+            if let Some(line) = blank_line(first, runs) {
+                self.line += 1;
+                runs = line.runs;
+                continue 'lines;
+            }
             let Some(line) = runs.line_end(first) else {
                 return Ok(first.start);
             };
-            self.end_line(&bytes[first.start..line.end])?;
+            let text = &bytes[first.start..line.end];
+            add_arc(text, self.line, self.given, &mut self.keys)?;
+            self.line += 1;
             runs = line.runs;
         }
         Ok(runs.start)
     }
 
-    // `take_runs`, but where `others` lines that it does not take came one after another, mostly just the next run: to try
-    // it in vain costs more than a short line.
+    // `take_runs`, but where enough lines that it does not take came one after another, just the next run, until a line
+    // begins as those that it takes: to call it in vain costs more than a short line.
     #[inline(always)]
     fn next_other<'a>(
         &mut self,
@@ -375,17 +387,24 @@ impl Scan {
         ensures some { IfSome result (λ run. IsTakenUpTo self.old bytes.now runs.old.start run.start self.new) }
         ensures found { IfSome result (λ run. IsNextRun bytes.now run runs.new) }
     {
-        let start = runs.start;
-        *others = others.wrapping_add(1);
-        if *others % 256 >= 8 {
-            return runs.next();
+        if *others >= OTHERS_IN_A_ROW {
+            let Some(first) = runs.next() else {
+                return None;
+            };
+            if first.is_short() && bytes[first.end + 1].is_ascii_digit() {
+                *others = 0;
+            }
+            return Some(first);
         }
+        let start = runs.start;
         let Some(first) = self.take_runs(bytes, runs) else {
             return None;
         };
-        if first.start != start {
-            *others = 0;
-        }
+        *others = if first.start == start {
+            others.saturating_add(1)
+        } else {
+            0
+        };
         Some(first)
     }
 

@@ -7,6 +7,7 @@ use Rattle.trace_read.proofs.Taken.{line_refused, line_taken, nothing_taken, who
 use Rattle.trace_read.specs.DigitRuns.{IsLineEnd}
 use Rattle.trace_read.specs.PaddedLines.{keys_if_any, IsPaddedLine}
 use Rattle.trace_read.specs.TraceText.{IsRead}
+use Rattle.trace_read.specs.declared.format.Format.TheVariants.{Lirs}
 use Rattle.trace_read.specs.declared.scan.Scan.{Scan}
 use Rattle.trace_read.specs.ScanState.{IsTakenUpTo}
 use Rattle.trace_read.proofs.scan.Scan.take_other.Goals as goal
@@ -19,7 +20,7 @@ returns-in_err-add_lirs-clause-err c =
     let l = subst (λ b. IsLineEnd b start c.in-Some-line_end.line) c.requires.found.same c.in-Some-line_end.ensures.line in
     errs c.from_residual.result _ _ c.from_residual.ensures.1
     (line_refused scan bytes start c.in-Some-line_end.line.end c.requires.lines.scan c.requires.lines.cut l.order (omega (arith, l.within)) l.none l.feed _
-    (whole_stopped scan.format scan.line scan.given scan.keys.items scan.cut.items _ _ c.requires.lines.format c.requires.lines.cut c.in_err-add_lirs.ensures.err))
+    (whole_stopped Lirs scan.format scan.line scan.given scan.keys.items scan.cut.items _ _ c.requires.lines.format c.requires.lines.cut c.in_err-add_lirs.ensures.err))
 
 pub returns-clause-taken : goal.returns-clause-taken
 returns-clause-taken c =
@@ -34,7 +35,7 @@ returns-clause-taken c =
     (record { few = omega (arith, c.in_ok-add_lirs.ensures.within, c.add_lirs.new.keys.ok.0, ap length items); cut = c.requires.lines.scan.cut })
     (record {
       read = subst (IsRead scan.format scan.line scan.given scan.keys.items _) (sym items)
-          (whole_read scan.format scan.line scan.given scan.keys.items scan.cut.items _ _ c.requires.lines.format c.requires.lines.cut c.in_ok-add_lirs.ensures.ok);
+          (whole_read Lirs scan.format scan.line scan.given scan.keys.items scan.cut.items _ _ c.requires.lines.format c.requires.lines.cut c.in_ok-add_lirs.ensures.ok);
       cut = c.requires.lines.cut;
       line = refl;
       format = refl;
