@@ -1,5 +1,5 @@
 -- Digits and line feeds by their places.
-use Rattle.std.proofs.Common.{subst, map, ◌++◌, take-add, ◌≡◌, ◌∙◌, ◌<◌, ◌≤◌, ◌+◌, ◌-◌, ◌^◌, ℕ, zero, suc, Bool, true, false, not, List, [], ◌∷◌, length, take, drop, get_or, refl, sym, ap, arith, length-drop, get_or-drop, length-take, take-take, Ok, inl, inr}
+use Rattle.std.proofs.Common.{subst, map, ◌≡◌, ◌∙◌, ◌<◌, ◌≤◌, ◌+◌, ◌-◌, ◌^◌, ℕ, zero, suc, Bool, true, false, not, List, [], ◌∷◌, length, take, drop, get_or, refl, sym, ap, arith, length-drop, get_or-drop, length-take, take-take, Ok, inl, inr}
 use Rattle.std.proofs.lemmas.Int.Digits.{digits_value_is, number_lt}
 use Rattle.std.proofs.lemmas.List.{length-map}
 use Rattle.std.specs.Int.Digits.{AllBelowBase}
@@ -13,8 +13,7 @@ use Rattle.text_lines.specs.Feeds.{feed_in}
 use Rattle.trace_read.specs.DigitRuns.{is_other, AreDigits, DigitsBetween, NoFeedBetween}
 use Rattle.std.specs.Str.Parse.{digits_value}
 use Rattle.text_lines.specs.Blanks.{trimmed_text}
-use Rattle.trace_read.proofs.DigitLines.{plain_read, trimmed}
-use Rattle.trace_read.proofs.RunLines.{before_return}
+use Rattle.trace_read.proofs.DigitLines.{plain_read}
 use Rattle.trace_read.specs.Lines.{is_feed, lirs_keys}
 
 -- the first line feed, where it is looked for from a place on
@@ -78,28 +77,6 @@ read_here bytes start end v some within digits value few =
     let same : take (end - start) slice ≡ take (end - start) (drop start bytes) = take-take (end - start) (length bytes - start) (drop start bytes) (omega arith) in
     ap (λ t. lirs_keys (trimmed_text t)) (sym same)
     ∙ plain_read (take (end - start) slice) v (omega (arith, length-take (end - start) slice)) (first_digits slice (end - start) long (digits_here bytes start end within digits)) value few
-
--- the same with a carriage return behind them
-pub read_before_return : (bytes : List ℕ) (start end v : ℕ) → start < end → end < length bytes → DigitsBetween bytes start end → get_or bytes end 0 ≡ 13
-    → v ≡ digits_value 10 (take (end - start) (take (length bytes - start) (drop start bytes))) → v < 2 ^ 64
-    → lirs_keys (trimmed_text (take (end + 1 - start) (drop start bytes))) ≡ Ok (v ∷ [])
-read_before_return bytes start end v some within digits return_ value few =
-    let n = end - start in
-    let rest = drop start bytes in
-    let ds = take n rest in
-    let more : end + 1 - start ≡ n + 1 = omega arith in
-    let here : get_or rest n 0 ≡ 13 = get_or-drop start bytes n 0 ∙ ap (λ k. get_or bytes k 0) {y = end} (omega arith) ∙ return_ in
-    let split : take (n + 1) rest ≡ ds ++ 13 ∷ [] = take-add n 1 rest ∙ ap (λ l. ds ++ l) (one_of rest n (omega (arith, length-drop start bytes)) ∙ ap (λ b. b ∷ []) here) in
-    let long : n ≤ length rest = omega (arith, length-drop start bytes) in
-    let all : all_ascii_digits ds ≡ true = first_digits rest n long (λ k less. ap is_ascii_digit (get_or-drop start bytes k 0) ∙ was_digit (get_or bytes (start + k) 0) (digits (start + k) (omega arith) (omega arith))) in
-    let filled : 0 < length ds = omega (arith, length-take n rest) in
-    ap (λ k. lirs_keys (trimmed_text (take k rest))) more ∙ ap (λ l. lirs_keys (trimmed_text l)) split
-    ∙ ap lirs_keys (before_return ds filled all ∙ sym (trimmed ds all)) ∙ read_here bytes start end v some (omega arith) digits value few
-  where
-    one_of : (xs : List ℕ) (i : ℕ) → i < length xs → take 1 (drop i xs) ≡ get_or xs i 0 ∷ []
-    one_of [] i l = absurd (omega arith)
-    one_of (x ∷ xs) zero l = refl
-    one_of (x ∷ xs) (suc i) l = one_of xs i (omega arith)
 
 -- so many digits write a number below that power of ten
 pub value_below : (ds : List ℕ) → all_ascii_digits ds ≡ true → digits_value 10 ds < 10 ^ length ds

@@ -1,10 +1,9 @@
 -- A line of the ARC format with one space or tab between its two numbers.
-use Rattle.std.proofs.Common.{◌≡◌, ◌∙◌, ◌<◌, ◌≤◌, ◌+◌, ◌-◌, ◌^◌, ◌&&◌, ℕ, zero, suc, Bool, true, false, cond, List, [], ◌∷◌, ◌++◌, length, take, drop, get_or, refl, ap, sym, arith, Some}
+use Rattle.std.proofs.Common.{◌≡◌, ◌∙◌, ◌<◌, ◌≤◌, ◌+◌, ◌-◌, ◌^◌, ◌&&◌, ℕ, zero, suc, Bool, true, false, cond, List, [], ◌∷◌, ◌++◌, length, take, drop, get_or, refl, ap, sym, subst, arith, inl, inr, Some, ◌⊎◌}
 use Rattle.std.proofs.Common.{take-add, drop-drop, length-append, length-take-le, length-drop}
 use Rattle.std.proofs.lemmas.Bool.{cond-true, cond-false, and_parts, and_left, and_right, ne_eqb}
 use Rattle.std.proofs.lemmas.Bool.Decides.{nat_tests}
 use Rattle.std.proofs.lemmas.List.Sums.{position_or_len_is}
-use Rattle.std.proofs.lemmas.List.{append-nil}
 use Rattle.std.specs.Char.{is_ascii_digit}
 use Rattle.std.specs.List.{position_or_len}
 use Rattle.std.specs.Str.{all_ascii_digits}
@@ -52,11 +51,6 @@ field_ends (g ∷ gs) h = by (is_blank g && is_empty (without_back gs))
     by true = tt
     by false = h
 
--- digits before a carriage return (13) are the whole of a line
-pub before_return : (ds : List ℕ) → 0 < length ds → all_ascii_digits ds ≡ true → trimmed_text (ds ++ 13 ∷ []) ≡ ds
-unfolding trimmed_text
-before_return ds some digits = ap without_back (kept_front ds (13 ∷ []) some digits) ∙ kept_back ds (13 ∷ []) digits ∙ append-nil ds
-
 -- ---- fields
 
 take_front : (xs ys : List ℕ) → take (length xs) (xs ++ ys) ≡ xs
@@ -90,7 +84,7 @@ past_none (d ∷ ds) rest some h = cond-false _ _ _ (no_gap d (and_parts (is_asc
 -- ---- the line
 
 module _ (first second rest : List ℕ) (gap : ℕ) (some : 0 < length first) (digits : all_ascii_digits first ≡ true) (few : digits_value 10 first < 2 ^ 64)
-    (some_ : 0 < length second) (digits_ : all_ascii_digits second ≡ true) (few_ : digits_value 10 second < 2 ^ 64) (is_one : is_gap gap ≡ true) (ends : EndsField rest) where
+    (some_ : 0 < length second) (digits_ : all_ascii_digits second ≡ true) (few_ : digits_value 10 second < 2 ^ 64) (is_one : is_gap gap ≡ true) (ends : EndsField (without_back rest)) where
   abbrev tail : List ℕ
   tail = second ++ without_back rest
 
@@ -110,7 +104,7 @@ module _ (first second rest : List ℕ) (gap : ℕ) (some : 0 < length first) (d
   first_is = ap number_of (field_is first (gap ∷ tail) digits is_one) ∙ sym (a_number first some digits few)
 
   second_is : number_of (first_field (later_fields text)) ≡ Some (digits_value 10 second)
-  second_is = ap (λ t. number_of (first_field t)) later ∙ ap number_of (field_is second (without_back rest) digits_ (field_ends rest ends)) ∙ sym (a_number second some_ digits_ few_)
+  second_is = ap (λ t. number_of (first_field t)) later ∙ ap number_of (field_is second (without_back rest) digits_ ends) ∙ sym (a_number second some_ digits_ few_)
 
   run_line : arc_keys (trimmed_text (first ++ gap ∷ (second ++ rest))) ≡ run_of (Some (digits_value 10 first)) (Some (digits_value 10 second))
   run_line = ap arc_keys trimmed ∙ cond-false _ _ _ (filled first (gap ∷ tail) some) ∙ cond-false _ _ _ (ap is_empty later ∙ filled second (without_back rest) some_)
@@ -130,6 +124,20 @@ ends_at [] (suc i) (suc r) h = tt
 ends_at (x ∷ xs) zero (suc r) h = h (omega arith)
 ends_at (x ∷ xs) (suc i) (suc r) h = ends_at xs i (suc r) h
 
+-- a carriage return (13) is trimmed
+return_gone : (xs : List ℕ) (i : ℕ) → get_or xs i 0 ≡ 13 → EndsField (without_back (take 1 (drop i xs)))
+return_gone [] zero is = tt
+return_gone [] (suc i) is = tt
+return_gone (x ∷ xs) zero is = subst (λ b. EndsField (without_back (b ∷ []))) (sym is) tt
+return_gone (x ∷ xs) (suc i) is = return_gone xs i is
+
+pub ends_by : (xs : List ℕ) (i r : ℕ) → (0 < r → (is_gap (get_or xs i 0) ≡ true) ⊎ ((get_or xs i 0 ≡ 13) × (r ≡ 1))) → EndsField (without_back (take r (drop i xs)))
+ends_by xs i zero h = tt
+ends_by xs i (suc r) h = elim (h (omega arith)) [
+  | inl gap ↦ field_ends (take (suc r) (drop i xs)) (ends_at xs i (suc r) (λ l. gap))
+  | inr last ↦ subst (λ k. EndsField (without_back (take k (drop i xs)))) (sym last.1) (return_gone xs i last.0)
+]
+
 module _ (text : List ℕ) (len n m : ℕ) (some : 0 < n) (some_ : 0 < m) (within : n + 1 + m ≤ len) (long : len ≤ length text) where
   abbrev left : ℕ
   left = len - (n + 1 + m)
@@ -146,12 +154,12 @@ module _ (text : List ℕ) (len n m : ℕ) (some : 0 < n) (some_ : 0 < m) (withi
 
   pub run_at : (a b : ℕ) → a < 2 ^ 64 → b < 2 ^ 64 → all_ascii_digits (take n text) ≡ true → a ≡ digits_value 10 (take n text) → is_gap (get_or text n 0) ≡ true
       → all_ascii_digits (take m (drop (n + 1) text)) ≡ true → b ≡ digits_value 10 (take m (drop (n + 1) text))
-      → (n + 1 + m < len → is_gap (get_or text (n + 1 + m) 0) ≡ true)
+      → EndsField (without_back (take (len - (n + 1 + m)) (drop (n + 1 + m) text)))
       → arc_keys (trimmed_text (take len text)) ≡ run_of (Some a) (Some b)
   run_at a b few few_ digits a_is gap digits_ b_is ends =
       let one : length (take n text) ≡ n = length-take-le n text (omega arith) in
       let two : length (take m (drop (n + 1) text)) ≡ m = length-take-le m (drop (n + 1) text) (omega (arith, length-drop (n + 1) text)) in
       ap (λ t. arc_keys (trimmed_text t)) cut
       ∙ run_line (take n text) (take m (drop (n + 1) text)) (take left (drop (n + 1 + m) text)) (get_or text n 0) (omega (arith, one)) digits (omega (arith, a_is)) (omega (arith, two)) digits_ (omega (arith, b_is)) gap
-      (ends_at text (n + 1 + m) left (λ l. ends (omega arith)))
+      ends
       ∙ (λ i. run_of (Some (sym a_is i)) (Some (sym b_is i)))

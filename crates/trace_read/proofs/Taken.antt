@@ -87,23 +87,33 @@ module _ (now : Scan) (bytes : List ℕ) (start end : ℕ) (scan : IsScan now) (
         inr (of_line now.format _ now.line _ _ (refused []), refused)
   ]
 
+-- what a line without a cut part comes to
+pub whole_read : (kind format : Format) (n given : ℕ) (old cut text new : List ℕ) → format ≡ kind → cut ≡ [] → IsRead kind n given old text new → IsRead format n given old (cut ++ text) new
+whole_read kind format n given old cut text new same none read = subst (λ f. IsRead f n given old (cut ++ text) new) (sym same) (subst (λ c. IsRead kind n given old (c ++ text) new) (sym none) read)
+
+pub whole_stopped : (kind format : Format) (n given : ℕ) (old cut text : List ℕ) (e : TraceFault) → format ≡ kind → cut ≡ [] → IsTraceRefused kind n given old text e → IsStopped format n given old (cut ++ text) e
+whole_stopped kind format n given old cut text e same none refused = subst (λ f. IsStopped f n given old (cut ++ text) e) (sym same) (subst (λ c. IsStopped kind n given old (c ++ text) e) (sym none) (elim refused [
+  | inl memory ↦ inl memory.0
+  | inr fault ↦ inr fault
+]))
+
+-- a line that names some keys
+pub keys_read : (kind format : Format) (n given : ℕ) (keys old cut text new : List ℕ) → format ≡ kind → cut ≡ [] → given + length old + length keys ≤ MAX_ACCESSES → line_of kind text ≡ Ok keys
+    → new ≡ old ++ keys → IsRead format n given old (cut ++ text) new
+keys_read kind format n given keys old cut text new same none few is added = whole_read kind format n given old cut text new same none (record {
+  sound = ap (fault_after n (given + length old)) is ∙ cond-false _ _ _ (le-ltb MAX_ACCESSES (given + length old + length keys) few);
+  added = added ∙ ap (λ r. old ++ keys_or_none r) (sym is);
+})
+
 -- a line that gives nothing
 pub nothing_read : (format : Format) (n given : ℕ) (old cut text : List ℕ) → format ≡ Lirs → cut ≡ [] → given + length old ≤ MAX_ACCESSES → line_of Lirs text ≡ Ok []
     → IsRead format n given old (cut ++ text) old
-nothing_read format n given old cut text lirs none few is =
-    subst (λ f. IsRead f n given old (cut ++ text) old) (sym lirs) (subst (λ c. IsRead Lirs n given old (c ++ text) old) (sym none) (record {
-      sound = ap (fault_after n (given + length old)) is ∙ cond-false _ _ _ (le-ltb MAX_ACCESSES (given + length old + 0) (omega arith));
-      added = sym (ap (λ r. old ++ keys_or_none r) is ∙ append-nil old);
-    }))
+nothing_read format n given old cut text lirs none few is = keys_read Lirs format n given [] old cut text old lirs none (omega arith) is (sym (append-nil old))
 
 -- a line that names one key
 pub key_read : (format : Format) (n given key : ℕ) (old cut text new : List ℕ) → format ≡ Lirs → cut ≡ [] → given + length old < MAX_ACCESSES → line_of Lirs text ≡ Ok (key ∷ [])
     → new ≡ old ++ key ∷ [] → IsRead format n given old (cut ++ text) new
-key_read format n given key old cut text new lirs none few is added =
-    subst (λ f. IsRead f n given old (cut ++ text) new) (sym lirs) (subst (λ c. IsRead Lirs n given old (c ++ text) new) (sym none) (record {
-      sound = ap (fault_after n (given + length old)) is ∙ cond-false _ _ _ (le-ltb MAX_ACCESSES (given + length old + 1) (omega arith));
-      added = added ∙ ap (λ r. old ++ keys_or_none r) (sym is);
-    }))
+key_read format n given key old cut text new lirs none few is added = keys_read Lirs format n given (key ∷ []) old cut text new lirs none (omega arith) is added
 
 -- a line that stands for a run
 pub run_read : (format : Format) (n given start count : ℕ) (old cut text new : List ℕ) → format ≡ Arc → cut ≡ [] → line_of Arc text ≡ run_of (Some start) (Some count)
@@ -123,13 +133,3 @@ run_stopped format n given start count old cut text e arc none is stopped =
       | inl memory ↦ inl memory.0
       | inr fault ↦ inr (ap (fault_after n (given + length old)) is ∙ fault)
     ]))
-
--- what a line without a cut part comes to
-pub whole_read : (format : Format) (n given : ℕ) (old cut text new : List ℕ) → format ≡ Lirs → cut ≡ [] → IsRead Lirs n given old text new → IsRead format n given old (cut ++ text) new
-whole_read format n given old cut text new lirs none read = subst (λ f. IsRead f n given old (cut ++ text) new) (sym lirs) (subst (λ c. IsRead Lirs n given old (c ++ text) new) (sym none) read)
-
-pub whole_stopped : (format : Format) (n given : ℕ) (old cut text : List ℕ) (e : TraceFault) → format ≡ Lirs → cut ≡ [] → IsTraceRefused Lirs n given old text e → IsStopped format n given old (cut ++ text) e
-whole_stopped format n given old cut text e lirs none refused = subst (λ f. IsStopped f n given old (cut ++ text) e) (sym lirs) (subst (λ c. IsStopped Lirs n given old (c ++ text) e) (sym none) (elim refused [
-  | inl memory ↦ inl memory.0
-  | inr fault ↦ inr fault
-]))

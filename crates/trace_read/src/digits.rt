@@ -33,6 +33,7 @@ pub fn long_number(text: &[u8], count: usize) -> u64
 }
 
 /// The number that the first bytes write, one to nineteen digits: each such number is below 2^64.
+#[inline(always)]
 pub fn any_number(text: &[u8], count: usize) -> u64
     requires text { 16 ≤ length text.now }
     requires within { count ≤ length text.now }
@@ -64,9 +65,9 @@ pub fn decimal(text: &[u8], count: usize) -> u64
     }
 }
 
-// The first eight bytes, the first of them the lowest.
+/// The first eight bytes, the first of them the lowest.
 #[inline(always)]
-fn first_word(text: &[u8]) -> u64
+pub fn first_word(text: &[u8]) -> u64
     requires { 8 ≤ length text.now }
     ensures { result ≡ number_l 256 (take 8 text.now) }
 {

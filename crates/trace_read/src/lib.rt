@@ -19,10 +19,13 @@ mod fault;
 mod follower;
 mod format;
 mod lirs;
+mod padded;
 mod pieces;
 mod plain;
 mod reader;
 mod scan;
+mod stars;
+mod usual;
 
 pub use fault::TraceFault;
 pub use follower::Follower;

@@ -3,6 +3,7 @@ ghost use Rattle.std.specs.Prelude.{◌≡◌, ◌≤◌, ◌<◌, ◌+◌, ◌-
 ghost use Rattle.std.specs.Prelude.{IfOk, IfErr, IfSome, IsTrue, MatchOption, OnSome, get_or, length, take, drop, vec_len, vec_capacity};
 ghost use Rattle.trace_read.specs.DigitRuns.{DigitsBetween, IsDigitRuns, IsNextRun};
 ghost use Rattle.trace_read.specs.Lines.{line_of, AreStarLines};
+ghost use Rattle.trace_read.specs.PaddedLines.{IsPaddedLine};
 ghost use Rattle.trace_read.specs.declared.digit_runs.TheConstants.{BEHIND};
 ghost use Rattle.step_record.specs.declared.limits.TheConstants.{MAX_ACCESSES};
 ghost use Rattle.trace_read.specs.TraceText.{fault_in, keys_in, IsOfLine, IsRead, IsTraceRefused, IsStopped};
@@ -11,20 +12,24 @@ ghost use Rattle.text_lines.specs.Feeds.{feed_in};
 
 use super::arc::{add_arc, push_reserved_run, usual_line};
 use super::digit_runs::{DigitRun, DigitRuns};
-use super::digits::{any_number, long_number, short_number};
+use super::digits::{long_number, short_number};
 use super::follower::Follower;
 use super::format::Format;
 use super::lirs::{add_key, add_lirs};
+use super::padded::{
+    PaddedLine, blank_line, is_return_and_feed, padded_line, push_if_any, returned_line,
+};
 use super::plain::{PlainLine, plain_line};
+use super::stars::{is_star_line, star_lines};
+use super::usual::{OtherLines, UsualLines};
 use super::{Trace, TraceFault};
 use std::alloc::{AllocError, Global};
 use std::mem;
 use step_record::{Key, MAX_ACCESSES};
 use text_lines::place_of;
 
-// From so many lines in a piece on that are no plain number, lines of a lone `*` are taken together with the numbers:
-// each takes a seventh of the instructions then, but each number a tenth more.
-const STARS_FROM: usize = 128;
+// After so many ARC lines one after another that are not of the usual form, the next is not tried as one.
+const OTHERS_IN_A_ROW: u32 = 8;
 
 /// A scan of the lines of a trace file, whose bytes come in pieces. It keeps no byte but those of
 /// the line that the last piece cut in two.
@@ -195,35 +200,35 @@ impl Scan {
             return Ok(0);
         }
         let mut runs = DigitRuns::at(bytes, 0);
-        let mut others: usize = 0;
-        'lines: while let Some(run) = self.take_stretch(&mut runs, others >= STARS_FROM) {
-            others = others.saturating_add(1);
-            if !self.take_other(bytes, run, &mut runs)? {
+        let mut others = OtherLines::new();
+        'lines: while let Some(run) = self.take_stretch(&mut runs, others.usual()) {
+            if !self.take_other(bytes, run, &mut runs, &mut others)? {
                 return Ok(runs.start);
             }
         }
         Ok(runs.start)
     }
 
-    // `take_usual`, with lines of a lone `*` or without.
+    // Takes the usual lines from the next run of digits on, and returns the run that the first other line begins with.
+    // There is room for their accesses.
     #[inline(always)]
-    fn take_stretch(&mut self, runs: &mut DigitRuns<'_>, stars: bool) -> Option<DigitRun>
+    fn take_stretch(&mut self, runs: &mut DigitRuns<'_>, usual: UsualLines) -> Option<DigitRun>
         requires runs { IsDigitRuns runs.old }
         requires lines { CanTakeLines self.old runs.old.bytes.now runs.old.start }
         ensures { IsStretchTaken self.old self.new runs.old runs.new result }
     {
-        if stars {
-            self.take_usual::<true>(runs)
-        } else {
-            self.take_usual::<false>(runs)
+        match usual {
+            UsualLines::Numbers => self.take_numbers::<false>(runs),
+            UsualLines::Stars => self.take_numbers::<true>(runs),
+            UsualLines::Returned => self.take_padded::<false>(runs),
+            UsualLines::Padded => self.take_padded::<true>(runs),
         }
     }
 
-    // Takes the lines from the next run of digits on that are a number of at most sixteen digits each, and with `STARS`
-    // those of a lone `*` too, and returns the run that the first other line begins with. There is room for their
-    // accesses.
+    // `take_stretch` of the lines that are a number of at most sixteen digits each, and with `STARS` of those of a lone
+    // `*` too.
     #[inline(never)]
-    fn take_usual<const STARS: bool>(&mut self, runs: &mut DigitRuns<'_>) -> Option<DigitRun>
+    fn take_numbers<const STARS: bool>(&mut self, runs: &mut DigitRuns<'_>) -> Option<DigitRun>
         requires runs { IsDigitRuns runs.old }
         requires lines { CanTakeLines self.old runs.old.bytes.now runs.old.start }
         ensures { IsStretchTaken self.old self.new runs.old runs.new result }
@@ -256,6 +261,36 @@ impl Scan {
         None
     }
 
+    // `take_stretch` of the lines that `padded_line` reads, or without `BLANKS` of those that `returned_line` reads.
+    #[inline(never)]
+    fn take_padded<const BLANKS: bool>(&mut self, runs: &mut DigitRuns<'_>) -> Option<DigitRun>
+        requires runs { IsDigitRuns runs.old }
+        requires lines { CanTakeLines self.old runs.old.bytes.now runs.old.start }
+        ensures { IsStretchTaken self.old self.new runs.old runs.new result }
+    {
+        let mut ahead = *runs;
+        let mut keys = mem::replace(&mut self.keys, Vec::new(self.alloc));
+        let first = keys.len();
+        'lines: while let Some(run) = ahead.next() {
+            let Some(padded) = line_of_run::<BLANKS>(run, ahead) else {
+                self.line += (keys.len() - first) as u64;
+                self.keys = keys;
+                *runs = DigitRuns::at(ahead.bytes, run.end + 1);
+                return Some(run);
+            };
+            ahead = padded.line.runs;
+            let Some(key) = padded.key else {
+                self.line += 1;
+                continue 'lines;
+            };
+            keys.push_reserved(key);
+        }
+        self.line += (keys.len() - first) as u64;
+        self.keys = keys;
+        *runs = ahead;
+        None
+    }
+
     // Takes the line that begins with this run of digits, the one before `runs`, in the general way, or some lines of a
     // lone `*`. False where the line ends in the last few bytes, or there might be no room for the accesses behind it.
     fn take_other<'a>(
@@ -263,6 +298,7 @@ impl Scan {
         bytes: &'a [u8],
         run: DigitRun,
         runs: &mut DigitRuns<'a>,
+        others: &mut OtherLines,
     ) -> Result<bool, TraceFault>
         requires found { IsNextRun bytes.now run runs.old }
         requires lines { CanTakeLines self.old bytes.now run.start }
@@ -275,8 +311,17 @@ impl Scan {
     {
         let stars = star_lines(bytes, run.start);
         if stars > 0 {
+            others.count_stars();
             self.line += stars as u64;
             *runs = DigitRuns::at(bytes, run.start + 2 * stars);
+            return Ok(true);
+        }
+        if let Some(padded) = padded_line(run, *runs) {
+            let returned = run.start < run.end && is_return_and_feed(bytes, run.end);
+            others.count_padded(run.start, returned);
+            push_if_any(padded.key, &mut self.keys);
+            self.line += 1;
+            *runs = padded.line.runs;
             return Ok(true);
         }
         let Some(line) = runs.line_end(run) else {
@@ -284,11 +329,6 @@ impl Scan {
             return Ok(false);
         };
         *runs = line.runs;
-        if let Some(key) = key_of_digits(bytes, run, line.end) {
-            self.keys.push_reserved(key);
-            self.line += 1;
-            return Ok(true);
-        }
         add_lirs(
             &bytes[run.start..line.end],
             self.line,
@@ -311,14 +351,61 @@ impl Scan {
         ensures err { IfErr result (IsRefusedFrom self.old bytes.now 0) }
     {
         let mut runs = DigitRuns::at(bytes, 0);
-        'lines: while let Some(first) = self.take_runs(bytes, &mut runs) {
+        let mut others: u32 = 0;
+        'lines: while let Some(first) = self.next_other(bytes, &mut runs, &mut others) {
+            if let Some(line) = blank_line(first, runs) {
+                self.line += 1;
+                runs = line.runs;
+                continue 'lines;
+            }
             let Some(line) = runs.line_end(first) else {
                 return Ok(first.start);
             };
-            self.end_line(&bytes[first.start..line.end])?;
+            let text = &bytes[first.start..line.end];
+            add_arc(text, self.line, self.given, &mut self.keys)?;
+            self.line += 1;
             runs = line.runs;
         }
         Ok(runs.start)
+    }
+
+    // `take_runs`, but where enough lines that it does not take came one after another, just the next run, until a line
+    // begins as those that it takes: to call it in vain costs more than a short line.
+    #[inline(always)]
+    fn next_other<'a>(
+        &mut self,
+        bytes: &'a [u8],
+        runs: &mut DigitRuns<'a>,
+        others: &mut u32,
+    ) -> Option<DigitRun>
+        requires scan { IsScan self.old }
+        requires format { self.old.format ≡ Format.Arc }
+        requires cut { self.old.cut.items ≡ [] }
+        requires runs { IsDigitRuns runs.old × (runs.old.bytes.now ≡ bytes.now) }
+        requires lines { self.old.line + length bytes.now < 2 ^ 64 + runs.old.start }
+        ensures all { result ≡ None → IsTakenUpTo self.old bytes.now runs.old.start runs.new.start self.new }
+        ensures some { IfSome result (λ run. IsTakenUpTo self.old bytes.now runs.old.start run.start self.new) }
+        ensures found { IfSome result (λ run. IsNextRun bytes.now run runs.new) }
+    {
+        if *others >= OTHERS_IN_A_ROW {
+            let Some(first) = runs.next() else {
+                return None;
+            };
+            if first.is_short() && bytes[first.end + 1].is_ascii_digit() {
+                *others = 0;
+            }
+            return Some(first);
+        }
+        let start = runs.start;
+        let Some(first) = self.take_runs(bytes, runs) else {
+            return None;
+        };
+        *others = if first.start == start {
+            others.saturating_add(1)
+        } else {
+            0
+        };
+        Some(first)
     }
 
     // Takes the lines of the usual form from the next run of digits on, where there is room for their accesses, and
@@ -427,59 +514,17 @@ fn usual_key(bytes: &[u8], run: DigitRun) -> Option<Key>
     None
 }
 
-// The access of the line that begins with this run of digits, where it is of at most nineteen and nothing but a
-// carriage return stands between it and the line's end.
+// What `padded_line` reads, or without `BLANKS` what `returned_line` does.
 #[inline(always)]
-fn key_of_digits(bytes: &[u8], run: DigitRun, end: usize) -> Option<Key>
-    requires places { (run.start ≤ run.end) × (run.end + BEHIND ≤ length bytes.now) }
-    requires digits { DigitsBetween bytes.now run.start run.end }
-    requires end { (run.end ≤ end) × (end < length bytes.now) }
-    ensures some { OnSome result (run.start < end) }
-    ensures line { IfSome result (λ key.
-        line_of Format.Lirs (take (end - run.start) (drop run.start bytes.now)) ≡ Ok (key ∷ [])) }
+fn line_of_run<'a, const BLANKS: bool>(run: DigitRun, runs: DigitRuns<'a>) -> Option<PaddedLine<'a>>
+    requires { IsNextRun runs.bytes.now run runs }
+    ensures { IfSome result (IsPaddedLine runs.entry.bytes.now run.start) }
 {
-    let count = run.end - run.start;
-    if count.wrapping_sub(1) >= 19 || !is_return_at_most(bytes, run.end, end) {
-        return None;
+    if BLANKS {
+        padded_line(run, runs)
+    } else {
+        returned_line(run, runs)
     }
-    Some(any_number(&bytes[run.start..], count))
-}
-
-// Whether nothing but a carriage return stands between these places.
-#[inline(always)]
-fn is_return_at_most(bytes: &[u8], start: usize, end: usize) -> bool
-    requires { (start ≤ end) × (end < length bytes.now) }
-    ensures { IsTrue result → (end ≡ start) ⊎ ((end ≡ start + 1) × (get_or bytes.now start 0 ≡ 13)) }
-{
-    end == start || end - start == 1 && bytes[start] == b'\r'
-}
-
-// Whether a line of a lone `*` begins at this place, and no four of them do, which are counted faster by themselves.
-#[inline(always)]
-fn is_star_line(bytes: &[u8], start: usize) -> bool
-    requires { start + 7 ≤ length bytes.now }
-    ensures { IsTrue result → AreStarLines bytes.now start 1 }
-{
-    bytes[start] == b'*'
-        && bytes[start + 1] == b'\n'
-        && !(bytes[start + 6] == b'*' && bytes[start + 2] == b'*')
-}
-
-// How many lines of a lone `*` stand from this place on.
-#[inline(always)]
-fn star_lines(bytes: &[u8], start: usize) -> usize
-    requires { start ≤ length bytes.now }
-    ensures { AreStarLines bytes.now start result }
-{
-    let mut count = 0;
-    'stars: while bytes.len() - (start + 2 * count) >= 2 {
-        let place = start + 2 * count;
-        if bytes[place] != b'*' || bytes[place + 1] != b'\n' {
-            break;
-        }
-        count += 1;
-    }
-    count
 }
 
 // Reserves room for the accesses of LIRS lines of so many bytes in all. False, and no room, where they might pass

@@ -1,9 +1,10 @@
-use Rattle.std.proofs.Common.{◌≡◌, ◌≤◌, ◌+◌, ◌-◌, ◌∙◌, ap, arith, drop, get_or, get_or-drop, drop-drop, length, length-drop, subst, sym, take}
+use Rattle.std.proofs.Common.{◌≡◌, ◌≤◌, ◌+◌, ◌-◌, ◌∙◌, ap, arith, drop, get_or, get_or-drop, inl, inr, drop-drop, length, length-drop, subst, sym, take}
 use Rattle.std.specs.Str.{all_ascii_digits}
 use Rattle.std.specs.Str.Parse.{digits_value}
-use Rattle.trace_read.proofs.RunLines.{run_at}
+use Rattle.std.proofs.lemmas.Bool.{cases_lt, true≢false}
+use Rattle.trace_read.proofs.RunLines.{ends_by, run_at}
 use Rattle.trace_read.specs.DigitRuns.{IsLineEnd}
-use Rattle.trace_read.specs.Lines.{is_gap}
+use Rattle.trace_read.specs.Lines.{is_feed, is_gap}
 use Rattle.trace_read.proofs.arc.usual_line.Goals as goal
 
 pub returns-clause-line : goal.returns-clause-line
@@ -24,7 +25,16 @@ returns-clause-line c =
     let tail : drop (n + 1) text ≡ drop second.start bytes = drop-drop (n + 1) first.start bytes ∙ ap (λ k. drop k bytes) (omega (arith, t.behind, t.start.some)) in
     let gap = ap is_gap (get_or-drop first.start bytes n 0 ∙ ap (λ k. get_or bytes k 0) {y = first.end} (omega (arith, t.start.some))) ∙ t.gap in
     let behind : first.start + (n + 1 + m) ≡ second.end = omega (arith, t.behind, t.start.some, t.count.some) in
+    let at : get_or text (n + 1 + m) 0 ≡ get_or bytes second.end 0 = get_or-drop first.start bytes (n + 1 + m) 0 ∙ ap (λ k. get_or bytes k 0) behind in
     run_at text (end - first.start) n m (omega (arith, t.start.some)) (omega (arith, t.count.some)) within long numbers.run.start numbers.run.count (omega (arith, t.start.below)) (omega (arith, t.count.below))
     t.start.digits t.start.value gap (ap (λ l. all_ascii_digits (take m l)) tail ∙ t.count.digits) (t.count.value ∙ ap (λ l. digits_value 10 (take m l)) (sym tail))
-    (λ less. ap is_gap (get_or-drop first.start bytes (n + 1 + m) 0 ∙ ap (λ k. get_or bytes k 0) behind)
-    ∙ t.ends (l.none second.end (omega (arith, t.count.some)) (omega (arith, less, behind, t.start.some))))
+    (ends_by text (n + 1 + m) (end - first.start - (n + 1 + m)) (λ some. elim (t.ends (l.none second.end (omega (arith, t.count.some)) (omega (arith, some, behind, t.start.some)))) [
+      | inl gap ↦ inl (ap is_gap at ∙ gap)
+      | inr last ↦ inr (
+        at ∙ last.0,
+        elim (cases_lt (second.end + 1) end) [
+          | inl more ↦ absurd (true≢false (sym (ap is_feed last.1) ∙ l.none (second.end + 1) (omega (arith, t.count.some)) more))
+          | inr none ↦ omega (arith, none, some, behind, t.start.some)
+        ],
+      )
+    ]))

@@ -1,33 +1,68 @@
-use Rattle.std.proofs.Common.{◌+◌, arith, subst, sym}
+use Rattle.std.proofs.Common.{◌≤◌, ◌+◌, ◌∙◌, arith, length, refl, subst, sym}
+use Rattle.step_record.specs.declared.limits.TheConstants.{MAX_ACCESSES}
+use Rattle.trace_read.proofs.PaddedLines.{blank_taken}
 use Rattle.trace_read.proofs.Steps.{errs}
-use Rattle.trace_read.proofs.Taken.{line_refused, line_taken, refused_then, taken_then}
+use Rattle.trace_read.proofs.Taken.{line_refused, line_taken, refused_then, taken_then, whole_read, whole_stopped}
 use Rattle.trace_read.specs.DigitRuns.{IsLineEnd}
+use Rattle.trace_read.specs.PaddedLines.{IsFeedBehindBlanks}
 use Rattle.trace_read.specs.ScanState.{IsTakenUpTo}
+use Rattle.trace_read.specs.declared.format.Format.TheVariants.{Arc}
+use Rattle.trace_read.specs.declared.scan.Scan.{Scan}
 use Rattle.trace_read.proofs.scan.Scan.take_arc.Goals as goal
 
 pub lines-preserved : goal.lines-preserved
 lines-preserved c =
     let i = c.lines.invariant in
-    let first = c.in-Some.first in
+    let start = c.in-Some.first.start in
     let bytes = c.args.bytes.now in
     let line = c.in-Some-line_end.line in
-    let l = subst (λ b. IsLineEnd b first.start line) c.in-Some.ensures.found.same c.in-Some-line_end.ensures.line in
-    let read = c.in_ok-end_line.ensures in
-    let before = taken_then c.args.self.now c.lines.self c.take_runs.new.self bytes 0 c.lines.runs.start first.start i.taken c.in-Some.ensures.some in
-    let next = line_taken c.take_runs.new.self bytes first.start line.end before.scan before.cut l.order (omega (arith, l.within)) l.none l.feed _ read.scan read.ended in
+    let scan = c.next_other.new.self in
+    let read = c.in_ok-add_arc.ensures in
+    let l = subst (λ b. IsLineEnd b start line) c.in-Some.ensures.found.same c.in-Some-line_end.ensures.line in
+    let before = taken_then c.args.self.now c.lines.self scan bytes 0 c.lines.runs.start start i.taken c.in-Some.ensures.some in
+    let whole = whole_read Arc scan.format scan.line scan.given scan.keys.items scan.cut.items _ _ (before.format ∙ c.requires.format) before.cut read.ok in
+    let few : scan.given + length c.add_arc.new.keys.items ≤ MAX_ACCESSES = omega (arith, read.within, c.add_arc.new.keys.ok.0) in
+    let last : Scan = record { alloc = scan.alloc; format = scan.format; keys = c.add_arc.new.keys; given = scan.given; line = scan.line + 1; cut = scan.cut } in
+    let next = line_taken scan bytes start line.end before.scan before.cut l.order (omega (arith, l.within)) l.none l.feed last
+    (record { few = few; cut = before.scan.cut })
+    (record {
+      read = whole;
+      cut = before.cut;
+      line = refl;
+      format = refl;
+      given = refl;
+    }) in
     record {
-      taken = subst (λ n. IsTakenUpTo c.args.self.now bytes 0 n c.end_line.new.self) (sym l.behind) (taken_then _ _ _ bytes 0 first.start (line.end + 1) before next);
+      taken = subst (λ n. IsTakenUpTo c.args.self.now bytes 0 n last) (sym l.behind) (taken_then _ _ _ bytes 0 start (line.end + 1) before next);
       runs = l.runs;
       same = l.same;
     }
 
-pub returns-in_err-end_line-clause-err : goal.returns-in_err-end_line-clause-err
-returns-in_err-end_line-clause-err c =
+pub returns-in_err-add_arc-clause-err : goal.returns-in_err-add_arc-clause-err
+returns-in_err-add_arc-clause-err c =
     let i = c.lines.invariant in
-    let first = c.in-Some.first in
+    let start = c.in-Some.first.start in
     let bytes = c.args.bytes.now in
     let line = c.in-Some-line_end.line in
-    let l = subst (λ b. IsLineEnd b first.start line) c.in-Some.ensures.found.same c.in-Some-line_end.ensures.line in
-    let before = taken_then c.args.self.now c.lines.self c.take_runs.new.self bytes 0 c.lines.runs.start first.start i.taken c.in-Some.ensures.some in
-    errs c.from_residual.result _ _ c.from_residual.ensures.1 (refused_then c.args.self.now c.take_runs.new.self bytes 0 first.start _ before
-    (line_refused c.take_runs.new.self bytes first.start line.end before.scan before.cut l.order (omega (arith, l.within)) l.none l.feed _ c.in_err-end_line.ensures.err))
+    let scan = c.next_other.new.self in
+    let l = subst (λ b. IsLineEnd b start line) c.in-Some.ensures.found.same c.in-Some-line_end.ensures.line in
+    let before = taken_then c.args.self.now c.lines.self scan bytes 0 c.lines.runs.start start i.taken c.in-Some.ensures.some in
+    errs c.from_residual.result _ _ c.from_residual.ensures.1 (refused_then c.args.self.now scan bytes 0 start _ before
+    (line_refused scan bytes start line.end before.scan before.cut l.order (omega (arith, l.within)) l.none l.feed _
+    (whole_stopped Arc scan.format scan.line scan.given scan.keys.items scan.cut.items _ _ (before.format ∙ c.requires.format) before.cut c.in_err-add_arc.ensures.err)))
+
+pub lines-preserved-in-Some-blank_line : goal.lines-preserved-in-Some-blank_line
+lines-preserved-in-Some-blank_line c =
+    let i = c.lines.invariant in
+    let start = c.in-Some.first.start in
+    let bytes = c.args.bytes.now in
+    let line = c.in-Some-blank_line.line in
+    let scan = c.next_other.new.self in
+    let l = subst (λ b. IsFeedBehindBlanks b start line) c.in-Some.ensures.found.same c.in-Some-blank_line.ensures in
+    let before = taken_then c.args.self.now c.lines.self scan bytes 0 c.lines.runs.start start i.taken c.in-Some.ensures.some in
+    let last : Scan = record { alloc = scan.alloc; format = scan.format; keys = scan.keys; given = scan.given; line = scan.line + 1; cut = scan.cut } in
+    record {
+      taken = taken_then _ _ _ bytes 0 start line.runs.start before (blank_taken scan last bytes start line before.scan (before.format ∙ c.requires.format) before.cut l refl refl refl refl refl);
+      runs = l.runs;
+      same = l.same;
+    }

@@ -6,7 +6,7 @@ use Rattle.trace_read.proofs.Taken.{key_read, line_taken, taken_then}
 use Rattle.trace_read.specs.DigitRuns.{DigitsBetween}
 use Rattle.trace_read.specs.ScanState.{IsTakenUpTo}
 use Rattle.trace_read.specs.declared.scan.Scan.{Scan}
-use Rattle.trace_read.proofs.scan.Scan.take_usual.Goals as goal
+use Rattle.trace_read.proofs.scan.Scan.take_numbers.Goals as goal
 
 pub lines-preserved : goal.lines-preserved
 lines-preserved g c =

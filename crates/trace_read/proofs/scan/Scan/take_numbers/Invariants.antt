@@ -1,7 +1,7 @@
 use Rattle.std.proofs.Common.{◌≡◌, ◌+◌, ◌-◌, ◌≤◌, length, vec_capacity, vec_len}
 use Rattle.trace_read.specs.DigitRuns.{IsDigitRuns}
 use Rattle.trace_read.specs.ScanState.{HasRoom, IsTakenUpTo}
-use Rattle.trace_read.proofs.scan.Scan.take_usual.Given as goal
+use Rattle.trace_read.proofs.scan.Scan.take_numbers.Given as goal
 
 pub record Taking (A B C D E : Type 0) : Type 0 where
   pub taken : A
