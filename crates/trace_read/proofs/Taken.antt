@@ -17,6 +17,14 @@ use Rattle.trace_read.specs.declared.fault.TraceFault.{TraceFault}
 use Rattle.trace_read.specs.declared.fault.TraceFault.TheVariants.{OutOfMemory}
 use Rattle.trace_read.specs.declared.scan.Scan.{Scan}
 
+-- what a loop over lines of numbers keeps: what is taken, the runs ahead and their bytes, room, and the count before
+pub record Taking (A B C D E : Type 0) : Type 0 where
+  pub taken : A
+  pub runs : B
+  pub same : C
+  pub room : D
+  pub before : E
+
 pub nothing_taken : (s : Scan) (bytes : List ℕ) (start : ℕ) → IsScan s → s.cut.items ≡ [] → start ≤ length bytes → IsTakenUpTo s bytes start start s
 nothing_taken s bytes start scan none within = record {
   scan = scan;

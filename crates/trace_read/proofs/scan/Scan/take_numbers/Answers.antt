@@ -12,10 +12,10 @@ pub lines-preserved : goal.lines-preserved
 lines-preserved g c =
     let i = c.lines.invariant in
     let e = c.in-Some.ensures in
-    let run = c.in-Some.run' in
     let first = c.args.self.now in
-    let scan = c.lines.self in
     let bytes = c.args.runs.now.bytes.now in
+    let run = c.in-Some.run' in
+    let scan = c.lines.self in
     let key = c.in-Some-usual_key.ensures in
     let now : Scan = record { alloc = scan.alloc; format = scan.format; keys = c.lines.keys; given = scan.given; line = scan.line + (c.lines.keys.len - c.len-first.result); cut = scan.cut } in
     let next : Scan = record { alloc = scan.alloc; format = scan.format; keys = c.push_reserved.new.self; given = scan.given; line = scan.line + (c.push_reserved.new.self.len - c.len-first.result); cut = scan.cut } in

@@ -1,14 +1,8 @@
 use Rattle.std.proofs.Common.{◌≡◌, ◌+◌, ◌-◌, ◌≤◌, length, vec_capacity, vec_len}
 use Rattle.trace_read.specs.DigitRuns.{IsDigitRuns}
 use Rattle.trace_read.specs.ScanState.{HasRoom, IsTakenUpTo}
+use Rattle.trace_read.proofs.Taken.{Taking}
 use Rattle.trace_read.proofs.scan.Scan.take_padded.Given as goal
-
-pub record Taking (A B C D E : Type 0) : Type 0 where
-  pub taken : A
-  pub runs : B
-  pub same : C
-  pub room : D
-  pub before : E
 
 abbrev pub invariant-lines : goal.invariant-lines
 invariant-lines g l = Taking
