@@ -162,8 +162,8 @@ fn number_token<'a>(run: DigitRun, runs: DigitRuns<'a>) -> Option<Token<'a>>
     })
 }
 
-// The `*` in the place of this empty run, the one before `runs`, or nothing. `None` where four lines of a lone `*` begin
-// there, and where digits stand behind the `*`.
+// The `*` in the place of this empty run, the one before `runs`, or nothing. `None` where four lines of a lone `*`
+// begin there, and where digits stand behind the `*`.
 #[inline(always)]
 fn star_or_nothing<'a>(run: DigitRun, runs: DigitRuns<'a>) -> Option<Token<'a>>
     requires found { IsNextRun runs.bytes.now run runs }

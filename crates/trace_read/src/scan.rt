@@ -275,6 +275,7 @@ impl Scan {
             let Some(padded) = line_of_run::<BLANKS>(run, ahead) else {
                 self.line += (keys.len() - first) as u64;
                 self.keys = keys;
+                // Made anew, so that no register has to hold what was found.
                 *runs = DigitRuns::at(ahead.bytes, run.end + 1);
                 return Some(run);
             };
@@ -291,7 +292,7 @@ impl Scan {
         None
     }
 
-    // Takes the line that begins with this run of digits, the one before `runs`, in the general way, or some lines of a
+    // Takes the line that begins with this run of digits, the one before `runs`, whatever its shape, or some lines of a
     // lone `*`. False where the line ends in the last few bytes, or there might be no room for the accesses behind it.
     fn take_other<'a>(
         &mut self,
