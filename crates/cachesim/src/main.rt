@@ -23,7 +23,7 @@ use progress::ProgressLine;
 use std::alloc::{AllocError, Global};
 use std::io::{ErrorKind, IsTerminal};
 use std::process::ExitCode;
-use std::{env, fs, io};
+use std::{env, fs};
 use streams::ReadAllFault;
 
 // The line of a word that is no text, which is a usage error.
