@@ -15,9 +15,9 @@ use Rattle.trace_read.specs.PaddedLines.{keys_if_any, BlanksBetween, IsFeedBehin
 use Rattle.trace_read.specs.ScanState.{IsScan, IsTakenUpTo}
 use Rattle.trace_read.specs.declared.digit_runs.LineEnd.{LineEnd}
 use Rattle.trace_read.specs.declared.format.Format.TheVariants.{Arc, Lirs}
-use Rattle.trace_read.specs.declared.padded.FoundRun.{FoundRun}
-use Rattle.trace_read.specs.declared.padded.PaddedLine.{PaddedLine}
-use Rattle.trace_read.specs.declared.padded.Token.{Token}
+use Rattle.trace_read.specs.declared.padded_lines.FoundRun.{FoundRun}
+use Rattle.trace_read.specs.declared.padded_lines.PaddedLine.{PaddedLine}
+use Rattle.trace_read.specs.declared.padded_lines.Token.{Token}
 use Rattle.trace_read.specs.declared.scan.Scan.{Scan}
 
 -- ---- what is trimmed

@@ -6,9 +6,9 @@ use Rattle.trace_read.specs.Lines.{line_of}
 use Rattle.trace_read.specs.declared.digit_runs.LineEnd.{LineEnd}
 use Rattle.trace_read.specs.declared.digit_runs.TheConstants.{BEHIND}
 use Rattle.trace_read.specs.declared.format.Format.TheVariants.{Lirs}
-use Rattle.trace_read.specs.declared.padded.FoundRun.{FoundRun}
-use Rattle.trace_read.specs.declared.padded.PaddedLine.{PaddedLine}
-use Rattle.trace_read.specs.declared.padded.Token.{Token}
+use Rattle.trace_read.specs.declared.padded_lines.FoundRun.{FoundRun}
+use Rattle.trace_read.specs.declared.padded_lines.PaddedLine.{PaddedLine}
+use Rattle.trace_read.specs.declared.padded_lines.Token.{Token}
 
 -- the access of a line that names one, or none
 abbrev pub keys_if_any : Option ℕ → List ℕ

@@ -18,14 +18,14 @@ mod digits;
 mod fault;
 mod follower;
 mod format;
+mod line_shapes;
 mod lirs;
-mod padded;
+mod padded_lines;
 mod pieces;
-mod plain;
+mod plain_lines;
 mod reader;
 mod scan;
-mod stars;
-mod usual;
+mod star_lines;
 
 pub use fault::TraceFault;
 pub use follower::Follower;

@@ -15,13 +15,13 @@ use super::digit_runs::{DigitRun, DigitRuns};
 use super::digits::{long_number, short_number};
 use super::follower::Follower;
 use super::format::Format;
+use super::line_shapes::{OtherLines, UsualLines};
 use super::lirs::{add_key, add_lirs};
-use super::padded::{
+use super::padded_lines::{
     PaddedLine, blank_line, is_return_and_feed, padded_line, push_if_any, returned_line,
 };
-use super::plain::{PlainLine, plain_line};
-use super::stars::{is_star_line, star_lines};
-use super::usual::{OtherLines, UsualLines};
+use super::plain_lines::{PlainLine, plain_line};
+use super::star_lines::{is_star_line, star_lines};
 use super::{Trace, TraceFault};
 use std::alloc::{AllocError, Global};
 use std::mem;

@@ -1,6 +1,6 @@
 use Rattle.std.proofs.Common.{◌-◌, length}
 use Rattle.trace_read.specs.Lines.{AreStarLines}
-use Rattle.trace_read.proofs.stars.single_star_lines.Given as goal
+use Rattle.trace_read.proofs.star_lines.single_star_lines.Given as goal
 
 abbrev pub invariant-stars : goal.invariant-stars
 invariant-stars l = AreStarLines l.bytes l.start l.count

@@ -1,8 +1,8 @@
 use Rattle.std.proofs.Common.{arith, subst}
 use Rattle.trace_read.proofs.PaddedLines.{padded_is}
 use Rattle.trace_read.specs.PaddedLines.{IsFeedBehindBlanks, IsRunBehindBlanks}
-use Rattle.trace_read.specs.declared.padded.FoundRun.{FoundRun}
-use Rattle.trace_read.proofs.padded.returned_line.Goals as goal
+use Rattle.trace_read.specs.declared.padded_lines.FoundRun.{FoundRun}
+use Rattle.trace_read.proofs.padded_lines.returned_line.Goals as goal
 
 pub returns : goal.returns
 returns c =

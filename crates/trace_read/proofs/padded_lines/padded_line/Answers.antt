@@ -1,7 +1,7 @@
 use Rattle.std.proofs.Common.{subst}
 use Rattle.trace_read.proofs.PaddedLines.{padded_is}
 use Rattle.trace_read.specs.PaddedLines.{IsFeedBehindBlanks, IsToken}
-use Rattle.trace_read.proofs.padded.padded_line.Goals as goal
+use Rattle.trace_read.proofs.padded_lines.padded_line.Goals as goal
 
 pub returns : goal.returns
 returns c =

@@ -1,6 +1,6 @@
 use Rattle.std.proofs.Common.{arith}
 use Rattle.trace_read.proofs.LineFeeds.{read_here}
-use Rattle.trace_read.proofs.padded.number_of_run.Goals as goal
+use Rattle.trace_read.proofs.padded_lines.number_of_run.Goals as goal
 
 pub returns-then-count-lt8-clause-line : goal.returns-then-count-lt8-clause-line
 returns-then-count-lt8-clause-line c =

@@ -3,7 +3,7 @@ use Rattle.std.proofs.lemmas.Bool.{eqb-true}
 use Rattle.std.specs.Simd.Lanes.{number_l}
 use Rattle.trace_read.proofs.Eights.{bytes_of}
 use Rattle.trace_read.proofs.StarLines.{four_stars}
-use Rattle.trace_read.proofs.stars.are_four_star_lines.Goals as goal
+use Rattle.trace_read.proofs.star_lines.are_four_star_lines.Goals as goal
 
 pub returns : goal.returns
 returns c equal =

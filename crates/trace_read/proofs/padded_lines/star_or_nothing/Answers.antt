@@ -4,7 +4,7 @@ use Rattle.trace_read.proofs.LineFeeds.{no_feed_on}
 use Rattle.trace_read.proofs.PaddedLines.{nothing_says}
 use Rattle.trace_read.specs.DigitRuns.{NoFeedBetween}
 use Rattle.trace_read.specs.Lines.{is_feed}
-use Rattle.trace_read.proofs.padded.star_or_nothing.Goals as goal
+use Rattle.trace_read.proofs.padded_lines.star_or_nothing.Goals as goal
 
 pub returns-then-runs-run-ne42 : goal.returns-then-runs-run-ne42
 returns-then-runs-run-ne42 c =

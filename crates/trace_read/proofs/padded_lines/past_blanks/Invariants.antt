@@ -1,6 +1,6 @@
 use Rattle.std.proofs.Common.{◌≤◌, ◌-◌, length}
 use Rattle.trace_read.specs.PaddedLines.{BlanksBetween}
-use Rattle.trace_read.proofs.padded.past_blanks.Given as goal
+use Rattle.trace_read.proofs.padded_lines.past_blanks.Given as goal
 
 abbrev pub invariant-blanks : goal.invariant-blanks
 invariant-blanks l = (l.start ≤ l.place) × (l.place ≤ length l.bytes) × BlanksBetween l.bytes l.start l.place

@@ -9,7 +9,7 @@ ghost use Rattle.trace_read.specs.declared.digit_runs.TheConstants.{BEHIND};
 use super::digit_runs::{DigitRun, DigitRuns, LineEnd};
 use super::digits::{any_number, short_number};
 use super::format::Format;
-use super::stars::are_four_star_lines;
+use super::star_lines::are_four_star_lines;
 use step_record::Key;
 
 // A carriage return and a line feed, the first byte the lowest.
