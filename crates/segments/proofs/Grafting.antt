@@ -15,7 +15,7 @@ some_or_none : (n : ℕ) → (1 ≤ n) ⊎ (n ≡ 0)
 some_or_none zero = inr refl
 some_or_none (suc n) = inl (omega arith)
 
-true_or_false : (b : Bool) → (b ≡ true) ⊎ (b ≡ false)
+pub true_or_false : (b : Bool) → (b ≡ true) ⊎ (b ≡ false)
 true_or_false true = inl refl
 true_or_false false = inr refl
 
