@@ -4,7 +4,7 @@ use Rattle.segments.specs.declared.records.Queue.TheVariants.{Window}
 use Rattle.segments.specs.Ring.{chains}
 use Rattle.segments.specs.Index.{tree_below, turn}
 use Rattle.segments.specs.declared.slot.Slot.{Slot}
-use Rattle.segments.proofs.Trees.{field_at, within-none}
+use Rattle.segments.proofs.Trees.{within-none}
 use Rattle.segments.proofs.Grafting.{deep, open-below, true_or_false, way-below, fresh-way, graft-right, graft-left, graft-way-below, one-slot}
 use Rattle.segments.proofs.index.Index.+graft_below.Goals as goal
 
