@@ -245,6 +245,3 @@ impl Frequency {
         self.door.restore(door);
     }
 }
-
-#[cfg(test)]
-mod tests;

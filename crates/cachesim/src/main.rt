@@ -1,24 +1,10 @@
 //! A simulator of cache policies over recorded block traces.
 //!
-//! The program reads its words, a trace and nothing else, and writes reports. `command` is the
-//! whole program over readers and writers, and carries its promise; `main` hands it the words
-//! and the streams of the process.
+//! The library `program` is the whole program over readers and writers, and its `command` carries the promise; `main`
+//! hands it the words, the streams and the files of the process.
 #![tactic(auto)]
 
-mod command;
-mod debug;
-mod drive;
-mod fault;
-mod files;
-mod in_memory;
-mod limits;
-mod part;
-mod run;
-mod sweep;
-
-use command::{REFUSED, command, report_fault};
-use fault::Fault;
-use files::{FileFault, Files, MAX_FILE_BYTES};
+use program::{Fault, FileFault, Files, MAX_FILE_BYTES, REFUSED, command, report_fault};
 use progress::ProgressLine;
 use std::alloc::{AllocError, Global};
 use std::io::{ErrorKind, IsTerminal};

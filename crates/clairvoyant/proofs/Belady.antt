@@ -2,10 +2,11 @@
 use Rattle.std.proofs.Common.{◌≡◌, ℕ, suc, zero, ◌<◌, ◌≤◌, true, false, cond, eqb, nat_lt, ◌⊎◌, inl, inr, List, [], ◌∷◌, length, get_or, ap, ◌∙◌, sym, refl, arith}
 use Rattle.std.proofs.lemmas.Bool.{cases_Bool, eqb-true, eq-eqb, ltb-true, ltb-false}
 use Rattle.step_record.specs.Keys.{has_key, keys_without}
+use Rattle.step_record.specs.Stats.{is_hit}
 use Rattle.clairvoyant.specs.Keys.{residents_with, IsAscendingKeys}
 use Rattle.clairvoyant.specs.Uses.{rank, key_at}
-use Rattle.clairvoyant.specs.Belady.{leaves_first, farthest, belady_residents_after, belady_residents}
-use Rattle.clairvoyant.proofs.Keys.{has-put, has-without, ascending-put, ascending-without}
+use Rattle.clairvoyant.specs.Belady.{leaves_first, farthest, belady_residents_after, belady_answer, belady_residents}
+use Rattle.clairvoyant.proofs.Keys.{has-put, has-without, ascending-put, ascending-without, length-put, length-without}
 use Rattle.clairvoyant.proofs.Uses.{IsSeen, seen-own, seen-more, named, leaves-rank}
 
 served-ascending : (c : ℕ) (t : List ℕ) (i k : ℕ) (r : List ℕ) → IsAscendingKeys r → IsAscendingKeys (belady_residents_after c t i k r)
@@ -22,21 +23,21 @@ pub residents-ascending : (c : ℕ) (t : List ℕ) (i : ℕ) → IsAscendingKeys
 residents-ascending c t zero = tt
 residents-ascending c t (suc i) = served-ascending c t i (get_or t i 0) (belady_residents c t i) (residents-ascending c t i)
 
-put-has : (x k : ℕ) (r : List ℕ) → has_key x (residents_with k r) ≡ true → (x ≡ k) ⊎ (has_key x r ≡ true)
+pub put-has : (x k : ℕ) (r : List ℕ) → has_key x (residents_with k r) ≡ true → (x ≡ k) ⊎ (has_key x r ≡ true)
 put-has x k r h =
     elim (cases_Bool (eqb x k)) [
       | inl e ↦ inl (eqb-true x k e)
       | inr e ↦ inr (rw (has-put x k r, e) at h)
     ]
 
-without-has : (x v : ℕ) (r : List ℕ) → has_key x (keys_without v r) ≡ true → has_key x r ≡ true
+pub without-has : (x v : ℕ) (r : List ℕ) → has_key x (keys_without v r) ≡ true → has_key x r ≡ true
 without-has x v r h =
     elim (cases_Bool (eqb x v)) [
       | inl e ↦ absurd (let no : false ≡ true = rw (has-without x v r, e) at h in cc (no))
       | inr e ↦ rw (has-without x v r, e) at h
     ]
 
-served-has : (c : ℕ) (t : List ℕ) (i k x : ℕ) (r : List ℕ) → has_key x (belady_residents_after c t i k r) ≡ true → (x ≡ k) ⊎ (has_key x r ≡ true)
+pub served-has : (c : ℕ) (t : List ℕ) (i k x : ℕ) (r : List ℕ) → has_key x (belady_residents_after c t i k r) ≡ true → (x ≡ k) ⊎ (has_key x r ≡ true)
 served-has c t i k x r h =
     elim (cases_Bool (has_key k r)) [
       | inl e ↦ inr (rw e at h)
@@ -56,7 +57,7 @@ residents-seen c t (suc i) x h =
 
 -- ---- what leaves
 
-later : (x a : ℕ) (l : List ℕ) → has_key x l ≡ true → has_key x (a ∷ l) ≡ true
+pub later : (x a : ℕ) (l : List ℕ) → has_key x l ≡ true → has_key x (a ∷ l) ≡ true
 later x a l h = rw h (elim (cases_Bool (eqb x a)) as (λ _. cond (eqb x a) true true ≡ true) [ inl e ↦ rw e refl | inr e ↦ rw e refl ])
 
 pub soon : (x a : ℕ) (l : List ℕ) → (x ≡ a) ⊎ (has_key x l ≡ true) → has_key x (a ∷ l) ≡ true
@@ -75,6 +76,41 @@ farthest-among t i b (a ∷ l) =
             | inl f ↦ inl (w ∙ f)
             | inr f ↦ inr (ap (λ x. has_key x (a ∷ l)) w ∙ later (farthest t i b l) a l f)
           ]
+    ]
+
+pub farthest-in : (t : List ℕ) (i k : ℕ) (r : List ℕ) → has_key (farthest t i k r) (residents_with k r) ≡ true
+farthest-in t i k r = has-put (farthest t i k r) k r ∙ soon (farthest t i k r) k r (farthest-among t i k r)
+
+pub full-length : (t : List ℕ) (i k : ℕ) (r : List ℕ) → IsAscendingKeys r → has_key k r ≡ false → length (keys_without (farthest t i k r) (residents_with k r)) ≡ length r
+full-length t i k r s e =
+    let out : suc (length (keys_without (farthest t i k r) (residents_with k r))) ≡ length (residents_with k r) = length-without (farthest t i k r) (residents_with k r) (ascending-put k r s e) (farthest-in t i k r) in
+    let in_ : length (residents_with k r) ≡ suc (length r) = length-put k r in
+    omega (arith, out, in_)
+
+-- ---- the capacity, and hits
+
+stays-within : (c : ℕ) (t : List ℕ) (i k : ℕ) (r : List ℕ) → IsAscendingKeys r → length r ≤ c → length (belady_residents_after c t i k r) ≤ c
+stays-within c t i k r s h =
+    elim (cases_Bool (has_key k r)) as (λ _. length (belady_residents_after c t i k r) ≤ c) [
+      | inl e ↦ rw e h
+      | inr e ↦ elim (cases_Bool (nat_lt (length r) c)) as (λ _. length (belady_residents_after c t i k r) ≤ c) [
+        | inl f ↦ rw (e, f) (let room : length r < c = ltb-true (length r) c f in omega (arith, room, length-put k r))
+        | inr f ↦ rw (e, f) (omega (arith, h, full-length t i k r s e))
+      ]
+    ]
+
+pub residents-fit : (c : ℕ) (t : List ℕ) (i : ℕ) → length (belady_residents c t i) ≤ c
+residents-fit c t zero = omega arith
+residents-fit c t (suc i) = stays-within c t i (get_or t i 0) (belady_residents c t i) (residents-ascending c t i) (residents-fit c t i)
+
+pub hit-resident : (c : ℕ) (t : List ℕ) (i k : ℕ) (r : List ℕ) → is_hit (belady_answer c t i k r) ≡ has_key k r
+hit-resident c t i k r =
+    elim (cases_Bool (has_key k r)) [
+      | inl e ↦ rw e refl
+      | inr e ↦ elim (cases_Bool (nat_lt (length r) c)) [
+        | inl f ↦ rw (e, f) refl
+        | inr f ↦ elim (cases_Bool (eqb k (farthest t i k r))) [ inl g ↦ rw (e, f, g) refl | inr g ↦ rw (e, f, g) refl ]
+      ]
     ]
 
 -- v ranks least of b and the keys l, after the access at place i

@@ -16,12 +16,16 @@ use Rattle.clairvoyant.proofs.Keys.{below-none, below-has}
 use Rattle.clairvoyant.proofs.Uses.{IsSeen, named}
 use Rattle.clairvoyant.proofs.Belady.{residents-seen, residents-ascending}
 
+pub one-few : (b : Bool) → one_if b ≤ 1
+one-few true = omega arith
+one-few false = omega arith
+
 -- how often k is in a list
 abbrev pub times : ℕ → List ℕ → ℕ
 times k [] = 0
 times k (a ∷ xs) = one_if (eqb k a) + times k xs
 
-times-sum : (k : ℕ) (xs : List ℕ) → times k xs ≡ sum_by (λ x. one_if (eqb k x)) xs
+pub times-sum : (k : ℕ) (xs : List ℕ) → times k xs ≡ sum_by (λ x. one_if (eqb k x)) xs
 times-sum k [] = refl
 times-sum k (a ∷ xs) = let cut = sum_by-append (λ x. one_if (eqb k x)) (a ∷ []) xs in let past = times-sum k xs in omega (arith, cut, past)
 
@@ -32,7 +36,7 @@ times-snoc : (k a : ℕ) (xs : List ℕ) → times k (xs ++ a ∷ []) ≡ times 
 times-snoc k a [] = omega arith
 times-snoc k a (x ∷ xs) = let past : times k (xs ++ a ∷ []) ≡ times k xs + one_if (eqb k a) = times-snoc k a xs in omega (arith, past)
 
-times-has : (k : ℕ) (rs : List ℕ) → IsAscendingKeys rs → times k rs ≡ one_if (has_key k rs)
+pub times-has : (k : ℕ) (rs : List ℕ) → IsAscendingKeys rs → times k rs ≡ one_if (has_key k rs)
 times-has k [] s = refl
 times-has k (a ∷ rs) s =
     let rest : times k rs ≡ one_if (has_key k rs) = times-has k rs s.1 in

@@ -1,24 +1,23 @@
 -- The definitions at words that are written out: what clap takes, and what it refuses.
-use Rattle.std.proofs.Common.{◌≡◌, refl, List, [], ◌∷◌, ℕ, Option, Some, map, codes}
-use Rattle.std.specs.Prelude.{option_map}
+use Rattle.std.proofs.Common.{◌≡◌, refl, List, [], ◌∷◌, ℕ, Ok, map, codes}
 use Rattle.std.specs.Borrow.{Bor}
-use Rattle.clap.specs.Words.{Row, Text, fault_of, subcommand_of}
+use Rattle.clap.specs.Words.{Text, fault_of, subcommand_of}
 use Rattle.clap.specs.declared.error.ErrorKind.TheVariants as kind
 use Rattle.clap.proofs.OnLiterals.{clap_on_literals}
-use Rattle.step_record.specs.declared.config.Config.{Config}
-use Rattle.step_record.specs.declared.job.Policy.{Policy}
 use Rattle.step_record.specs.declared.job.Policy.TheVariants.{Lru, WindowTinyLfu}
 use Rattle.step_record.specs.declared.config.Spread.TheVariants.{Mixed}
-use Rattle.trace_read.specs.declared.format.Format.{Format}
 use Rattle.trace_read.specs.declared.format.Format.TheVariants.{Lirs}
 use Rattle.command_line.specs.Choices.{format_words, policy_words, spread_words}
-use Rattle.command_line.specs.Program.{Lists, call_words, config_in, config_of, format_in, policies_in, program_app}
+use Rattle.command_line.specs.Program.{call_words, program_app}
+use Rattle.command_line.specs.Values.{asked_in}
+use Rattle.command_line.specs.declared.arguments.Arguments.TheVariants.{Run}
+use Rattle.command_line.specs.declared.choices.WordLists.{WordLists}
 
 abbrev at : List ℕ → Bor (List ℕ)
 at text = record { ref_ptr = (0, 0); now = text }
 
-abbrev names : Lists
-names = record {
+abbrev lists : WordLists
+lists = record {
   policies = record { ref_ptr = (0, 0); now = map at policy_words };
   formats = record { ref_ptr = (0, 0); now = map at format_words };
   spreads = record { ref_ptr = (0, 0); now = map at spread_words };
@@ -27,29 +26,31 @@ names = record {
 abbrev words : List Text
 words = codes "run" ∷ codes "--capacity" ∷ codes "3" ∷ codes "--main" ∷ codes "50" ∷ codes "wtinylfu" ∷ codes "lru" ∷ []
 
-taken : fault_of (program_app names) (call_words words) ≡ []
+taken : fault_of (program_app lists) (call_words words) ≡ []
 unfolding clap_on_literals
 taken = refl
 
-abbrev shown : Text × List Row → Text × Option Config × Option (List Policy) × Format
-shown p = (p.0, config_in p.1, policies_in p.1, format_in p.1)
-
-named : option_map shown (subcommand_of (program_app names) (call_words words)) ≡ Some (codes "run", Some (config_of 3 50 Mixed), Some (WindowTinyLfu ∷ Lru ∷ []), Lirs)
+named : asked_in (subcommand_of (program_app lists) (call_words words)) ≡ Ok (Run (record {
+  config = record { capacity = 3; main_percent = 50; spread = Mixed; stripes = 1; journal_limit = 1 };
+  policies = WindowTinyLfu ∷ Lru ∷ [];
+  batch = 1024;
+  format = Lirs;
+}))
 unfolding clap_on_literals lib.Count.ones
 named = refl
 
-helped : fault_of (program_app names) (call_words (codes "run" ∷ codes "--help" ∷ [])) ≡ kind.DisplayHelp ∷ []
+helped : fault_of (program_app lists) (call_words (codes "run" ∷ codes "--help" ∷ [])) ≡ kind.DisplayHelp ∷ []
 unfolding clap_on_literals
 helped = refl
 
-versioned : fault_of (program_app names) (call_words (codes "--version" ∷ [])) ≡ kind.DisplayVersion ∷ []
+versioned : fault_of (program_app lists) (call_words (codes "--version" ∷ [])) ≡ kind.DisplayVersion ∷ []
 unfolding clap_on_literals
 versioned = refl
 
-refused : fault_of (program_app names) (call_words (codes "run" ∷ codes "--capacity" ∷ codes "0" ∷ codes "lru" ∷ [])) ≡ kind.ValueValidation ∷ []
+refused : fault_of (program_app lists) (call_words (codes "run" ∷ codes "--capacity" ∷ codes "0" ∷ codes "lru" ∷ [])) ≡ kind.ValueValidation ∷ []
 unfolding clap_on_literals
 refused = refl
 
-mistaken : fault_of (program_app names) (call_words (codes "run" ∷ codes "--capacity" ∷ codes "3" ∷ codes "mru" ∷ [])) ≡ kind.InvalidValue ∷ []
+mistaken : fault_of (program_app lists) (call_words (codes "run" ∷ codes "--capacity" ∷ codes "3" ∷ codes "mru" ∷ [])) ≡ kind.InvalidValue ∷ []
 unfolding clap_on_literals
 mistaken = refl

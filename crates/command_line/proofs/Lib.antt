@@ -3,4 +3,3 @@ pub mod Examples
 pub mod Numbers
 pub mod Naming
 pub mod Outcomes
-pub mod Subcommands

@@ -6,7 +6,7 @@ use Rattle.clap.specs.Words.{ReadsOne}
 use Rattle.clap.specs.ValueTests.{is_unsigned_in}
 use Rattle.clap.specs.declared.builder.value_parser.ValueParser.TheVariants as parser
 use Rattle.clap.proofs.ValueTestLemmas.{Accepts-accepts, accepts-Accepts}
-use Rattle.command_line.specs.Program.{number_up_to}
+use Rattle.command_line.specs.Values.{number_up_to}
 
 module _ {E : Type 0} (G : List ℕ → Result ℕ E → Type 0) (k most : ℕ) (width : most + 1 ≡ 2 ^ k) (small : most < 2 ^ 64)
     (only : (u : List ℕ) (x : Result ℕ E) → G u x → ParsesUnsigned k 10 u x) where

@@ -2,12 +2,13 @@
 use Rattle.std.proofs.Common.{◌≡◌, true, refl}
 use Rattle.clap.specs.Words.{is_simple, is_simple_and_free}
 use Rattle.clap.proofs.OnLiterals.{clap_on_literals}
-use Rattle.command_line.specs.Program.{Lists, program_app}
+use Rattle.command_line.specs.Program.{program_app}
+use Rattle.command_line.specs.declared.choices.WordLists.{WordLists}
 
-pub program-simple : (names : Lists) → is_simple (program_app names) ≡ true
+pub program-simple : (lists : WordLists) → is_simple (program_app lists) ≡ true
 unfolding clap_on_literals
-program-simple names = refl
+program-simple lists = refl
 
-pub program-free : (names : Lists) → is_simple_and_free (program_app names) ≡ true
+pub program-free : (lists : WordLists) → is_simple_and_free (program_app lists) ≡ true
 unfolding clap_on_literals
-program-free names = refl
+program-free lists = refl

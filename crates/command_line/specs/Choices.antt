@@ -13,6 +13,7 @@ use Rattle.step_record.specs.declared.config.Spread.TheVariants.{Mixed, Plain}
 use Rattle.trace_read.specs.Format.{format_word}
 use Rattle.trace_read.specs.declared.format.Format.{Format}
 use Rattle.trace_read.specs.declared.format.Format.TheVariants.{Lirs, Arc}
+use Rattle.command_line.specs.declared.choices.WordLists.{WordLists}
 
 abbrev pub policy_words : List Text
 policy_words = map word_of POLICIES
@@ -26,6 +27,12 @@ spread_words = codes "mixed" ∷ codes "plain" ∷ []
 -- these words, somewhere in memory
 abbrev pub AreWords : List Text → List (Bor Text) → Type 0
 AreWords words names = map (λ s. s.now) names ≡ words
+
+-- the lists have these words, somewhere in memory
+pub record AreLists (lists : WordLists) : Type 0 where
+  pub policies : AreWords policy_words lists.policies.now
+  pub formats : AreWords format_words lists.formats.now
+  pub spreads : AreWords spread_words lists.spreads.now
 
 -- the policy that a word names
 abbrev pub policy_named : Text → Option Policy

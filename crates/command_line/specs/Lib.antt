@@ -1,3 +1,6 @@
 pub mod Choices
-pub mod ParseResult
+pub mod Options
 pub mod Program
+pub mod Values
+pub mod ParseResult
+pub mod Accepted

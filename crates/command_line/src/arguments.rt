@@ -1,21 +1,17 @@
-//! What the matches of a subcommand name.
-ghost use Rattle.std.specs.Prelude.{◌≡◌, Ok, Some, IfOk, IfSome, MatchOption, map, option_map, string_bytes};
-ghost use Rattle.clap.specs.Words.{first_of, found_of, rows_of};
+//! What a call asks for, as typed values, and how they are made of the matches of a subcommand.
+ghost use Rattle.std.specs.Prelude.{◌≡◌, Ok, IfOk, IfSome};
+ghost use Rattle.clap.specs.Words.{found_of, rows_of};
 ghost use Rattle.step_record.specs.Config.{config_fault};
-ghost use Rattle.command_line.specs.Choices.{policies_named as policies_by};
-ghost use Rattle.command_line.specs.ParseResult.{IsRunCalled, LacksRun};
-ghost use Rattle.command_line.specs.Program.{batch_in, config_at, config_in, format_in, number_in};
-ghost use Rattle.command_line.specs.Program.{policies_in, policy_in, spread_in, up_to as within};
+ghost use Rattle.command_line.specs.Accepted.{IsAcceptedDrive, IsAcceptedPart, IsAcceptedRun};
+ghost use Rattle.command_line.specs.Values.{concurrent_in, config_at, config_in, debug_in, drive_in, part_in};
+ghost use Rattle.command_line.specs.Values.{replay_in, run_in, sweep_in};
 
-use crate::choices::{format_named, policy_named, spread_named};
-use crate::debug::DebugArguments;
-use crate::drive::DriveArguments;
-use crate::part::PartArguments;
-use crate::replay::ReplayArguments;
-use crate::sweep::SweepArguments;
+use crate::lists::{CapacityList, FilePath, PolicyList};
+use crate::options::OptionName;
+use crate::values::{capacities, format, number, path, policies, policy, small_number, spread};
 use clap::ArgMatches;
 use std::alloc::{AllocError, Global};
-use step_record::{Config, MAX_BATCH, Policy, Spread};
+use step_record::{Config, Job};
 use trace_read::Format;
 
 /// What a call asks for: its subcommand, with its arguments.
@@ -41,164 +37,81 @@ pub struct RunArguments {
     /// The configuration of each policy. Its numbers are in their ranges.
     pub config: Config,
     /// The policies, in the order of their reports.
-    pub policies: Vec<Policy>,
+    pub policies: PolicyList,
     /// How many accesses a policy is given at once: 1 to `MAX_BATCH`.
     pub batch: u32,
     /// The format of the trace.
     pub format: Format,
 }
 
-// The number of 32 bits that an option names.
-pub(crate) fn number(matches: &ArgMatches<'_>, id: &str) -> Option<u32>
-    ensures { result ≡ number_in 4294967295 id.now (rows_of (found_of matches.now)) }
-{
-    matches.get_one::<u32>(id)
+/// The arguments of `sweep`.
+#[derive(Debug, Drop)]
+pub struct SweepArguments {
+    /// The configuration of each policy at capacity 1, which each of `capacities` replaces.
+    pub config: Config,
+    /// The policies, in the order of their reports: those of the first at each capacity come first.
+    pub policies: PolicyList,
+    /// The capacities, in the order of a policy's reports: each is 1 to `MAX_CAPACITY`.
+    pub capacities: CapacityList,
+    /// The format of the trace.
+    pub format: Format,
 }
 
-// The number of 8 bits that an option names.
-pub(crate) fn small_number(matches: &ArgMatches<'_>, id: &str) -> Option<u8>
-    ensures { result ≡ number_in 255 id.now (rows_of (found_of matches.now)) }
-{
-    matches.get_one::<u8>(id)
+/// The arguments of `part`.
+#[derive(Clone, Copy, Debug)]
+pub struct PartArguments {
+    /// The one policy, with the configuration of both.
+    pub first: Job,
+    /// The other policy.
+    pub second: Job,
+    /// The format of the trace.
+    pub format: Format,
 }
 
-// The spread that the matches name.
-fn spread(matches: &ArgMatches<'_>) -> Spread
-    ensures { result ≡ spread_in (rows_of (found_of matches.now)) }
-{
-    spread_named(matches.get_str("spread"))
+/// The arguments of `drive`.
+#[derive(Clone, Copy, Debug)]
+pub struct DriveArguments {
+    /// The configuration of the cache and its journal. Its numbers are in their ranges.
+    pub config: Config,
+    /// How many threads read the keys: 1 to `MAX_WORKERS`.
+    pub workers: u8,
+    /// The format of the trace.
+    pub format: Format,
 }
 
-// The configuration that the matches name at a capacity, where it is accepted.
-pub(crate) fn config_with(matches: &ArgMatches<'_>, capacity: u32) -> Option<Config>
-    ensures named { result ≡ config_at (Some capacity) (rows_of (found_of matches.now)) }
-    ensures checked { IfSome result (λ config. config_fault config ≡ Ok tt) }
-{
-    let Some(main_percent) = small_number(matches, "main") else {
-        return None;
-    };
-    let config = Config {
-        capacity,
-        main_percent,
-        spread: spread(matches),
-        stripes: 1,
-        journal_limit: 1_048_576,
-    };
-    match config.check() {
-        Ok(()) => Some(config),
-        Err(_) => None,
-    }
+/// The arguments of `debug`.
+#[derive(Debug, Drop)]
+pub struct DebugArguments {
+    /// The two policies, and the format of the trace.
+    pub policies: PartArguments,
+    /// The file of the trace.
+    pub trace: FilePath,
 }
 
-// The configuration that the matches name, its capacity with it, where it is accepted.
-pub(crate) fn config_named(matches: &ArgMatches<'_>) -> Option<Config>
-    ensures named { result ≡ config_in (rows_of (found_of matches.now)) }
-    ensures checked { IfSome result (λ config. config_fault config ≡ Ok tt) }
-{
-    let Some(capacity) = number(matches, "capacity") else {
-        return None;
-    };
-    config_with(matches, capacity)
+/// The arguments of `replay`.
+#[derive(Debug, Drop)]
+pub struct ReplayArguments {
+    /// The configuration of the cache and its journal. Its numbers are in their ranges.
+    pub config: Config,
+    /// The file of the journal.
+    pub journal: FilePath,
 }
 
-// The number, where it is from 1 to the limit.
-pub(crate) fn up_to(limit: u32, number: u32) -> Option<u32>
-    ensures { result ≡ within limit number }
-{
-    if number < 1 || number > limit {
-        return None;
-    }
-    Some(number)
-}
-
-// The size of a batch that the matches name.
-fn batch(matches: &ArgMatches<'_>) -> Option<u32>
-    ensures { result ≡ batch_in (rows_of (found_of matches.now)) }
-{
-    let Some(batch) = number(matches, "batch") else {
-        return None;
-    };
-    up_to(MAX_BATCH, batch)
-}
-
-// The policies that the words name; none where one of the words names none.
-fn policies_named(alloc: Global, words: &[&str]) -> Result<Option<Vec<Policy>>, AllocError>
-    ensures { IfOk result (λ named. option_map (λ v. v.items) named
-        ≡ policies_by (map (λ s. s.now) words.now)) }
-{
-    let mut policies = Vec::new(alloc);
-    for word in words {
-        let Some(policy) = policy_named(word) else {
-            return Ok(None);
-        };
-        policies.push(policy)?;
-    }
-    Ok(Some(policies))
-}
-
-// The format that the matches name.
-pub(crate) fn format(matches: &ArgMatches<'_>) -> Format
-    ensures { result ≡ format_in (rows_of (found_of matches.now)) }
-{
-    format_named(matches.get_str("format"))
-}
-
-// The policy that an option names.
-pub(crate) fn policy(matches: &ArgMatches<'_>, option: &str) -> Option<Policy>
-    ensures { result ≡ policy_in option.now (rows_of (found_of matches.now)) }
-{
-    let Some(word) = matches.get_str(option) else {
-        return None;
-    };
-    policy_named(word)
-}
-
-// The file that an option names.
-pub(crate) fn path(
-    alloc: Global,
-    matches: &ArgMatches<'_>,
-    option: &str,
-) -> Result<Option<String>, AllocError>
-    ensures { IfOk result (λ named. option_map string_bytes named
-        ≡ first_of option.now (rows_of (found_of matches.now))) }
-{
-    let Some(word) = matches.get_str(option) else {
-        return Ok(None);
-    };
-    Ok(Some(word.to_string(alloc)?))
-}
-
-// The policies that the matches name.
-pub(crate) fn policies(
-    alloc: Global,
-    matches: &ArgMatches<'_>,
-) -> Result<Option<Vec<Policy>>, AllocError>
-    ensures { IfOk result (λ named. option_map (λ v. v.items) named
-        ≡ policies_in (rows_of (found_of matches.now))) }
-{
-    let Some(words) = matches.get_strs("policy") else {
-        return Ok(None);
-    };
-    policies_named(alloc, words)
-}
-
-/// The arguments of `run` that the matches name; none where they lack a capacity or a batch in its
-/// range, or a known policy.
+/// The arguments of `run` that the matches name; none where these are incomplete. The one error is out of memory.
 pub(crate) fn run_arguments(
     alloc: Global,
     matches: &ArgMatches<'_>,
 ) -> Result<Option<RunArguments>, AllocError>
-    ensures { IfOk result (λ named. MatchOption named
-        (LacksRun (rows_of (found_of matches.now)))
-        (IsRunCalled (rows_of (found_of matches.now)))) }
+    ensures value { IfOk result (λ arguments. arguments ≡ run_in (rows_of (found_of matches.now))) }
+    ensures accepted { IfOk result (λ arguments. IfSome arguments IsAcceptedRun) }
 {
-    let Some(config) = config_named(matches) else {
+    let Some(config) = policy_config(matches) else {
         return Ok(None);
     };
-    let Some(batch) = batch(matches) else {
+    let Some(batch) = number(matches, OptionName::Batch) else {
         return Ok(None);
     };
-    let Some(policies) = policies(alloc, matches)? else {
+    let Some(policies) = policies(alloc, matches, OptionName::Policies)? else {
         return Ok(None);
     };
     Ok(Some(RunArguments {
@@ -207,4 +120,155 @@ pub(crate) fn run_arguments(
         batch,
         format: format(matches),
     }))
+}
+
+/// The arguments of `sweep`, in the same way.
+pub(crate) fn sweep_arguments(
+    alloc: Global,
+    matches: &ArgMatches<'_>,
+) -> Result<Option<SweepArguments>, AllocError>
+    ensures value { IfOk result (λ arguments. arguments ≡ sweep_in (rows_of (found_of matches.now))) }
+    ensures accepted { IfOk result (λ arguments. IfSome arguments (λ sweep. config_fault sweep.config ≡ Ok tt)) }
+{
+    let Some(config) = config(matches, 1, 1, 1) else {
+        return Ok(None);
+    };
+    let Some(policies) = policies(alloc, matches, OptionName::SweptPolicies)? else {
+        return Ok(None);
+    };
+    let Some(capacities) = capacities(alloc, matches)? else {
+        return Ok(None);
+    };
+    Ok(Some(SweepArguments {
+        config,
+        policies,
+        capacities,
+        format: format(matches),
+    }))
+}
+
+/// The arguments of `part`, in the same way.
+pub(crate) fn part_arguments(matches: &ArgMatches<'_>) -> Option<PartArguments>
+    ensures value { result ≡ part_in (rows_of (found_of matches.now)) }
+    ensures accepted { IfSome result IsAcceptedPart }
+{
+    let Some(config) = policy_config(matches) else {
+        return None;
+    };
+    let Some(first) = policy(matches, OptionName::First) else {
+        return None;
+    };
+    let Some(second) = policy(matches, OptionName::Second) else {
+        return None;
+    };
+    Some(PartArguments {
+        first: Job {
+            policy: first,
+            config,
+        },
+        second: Job {
+            policy: second,
+            config,
+        },
+        format: format(matches),
+    })
+}
+
+/// The arguments of `drive` with so many read buffers, in the same way.
+pub(crate) fn drive_arguments(matches: &ArgMatches<'_>, stripes: u8) -> Option<DriveArguments>
+    ensures value { result ≡ drive_in stripes (rows_of (found_of matches.now)) }
+    ensures accepted { IfSome result IsAcceptedDrive }
+{
+    let Some(config) = concurrent_config(matches, stripes) else {
+        return None;
+    };
+    let Some(workers) = small_number(matches, OptionName::Workers) else {
+        return None;
+    };
+    Some(DriveArguments {
+        config,
+        workers,
+        format: format(matches),
+    })
+}
+
+/// The arguments of `debug`, in the same way.
+pub(crate) fn debug_arguments(
+    alloc: Global,
+    matches: &ArgMatches<'_>,
+) -> Result<Option<DebugArguments>, AllocError>
+    ensures value { IfOk result (λ arguments. arguments ≡ debug_in (rows_of (found_of matches.now))) }
+    ensures accepted { IfOk result (λ arguments. IfSome arguments (λ debug. IsAcceptedPart debug.policies)) }
+{
+    let Some(policies) = part_arguments(matches) else {
+        return Ok(None);
+    };
+    let Some(trace) = path(alloc, matches, OptionName::Trace)? else {
+        return Ok(None);
+    };
+    Ok(Some(DebugArguments { policies, trace }))
+}
+
+/// The arguments of `replay` with so many read buffers, in the same way.
+pub(crate) fn replay_arguments(
+    alloc: Global,
+    matches: &ArgMatches<'_>,
+    stripes: u8,
+) -> Result<Option<ReplayArguments>, AllocError>
+    ensures value { IfOk result (λ arguments. arguments ≡ replay_in stripes (rows_of (found_of matches.now))) }
+    ensures accepted { IfOk result (λ arguments. IfSome arguments (λ replay. config_fault replay.config ≡ Ok tt)) }
+{
+    let Some(config) = concurrent_config(matches, stripes) else {
+        return Ok(None);
+    };
+    let Some(journal) = path(alloc, matches, OptionName::Journal)? else {
+        return Ok(None);
+    };
+    Ok(Some(ReplayArguments { config, journal }))
+}
+
+// The configuration of a policy that the matches name.
+fn policy_config(matches: &ArgMatches<'_>) -> Option<Config>
+    ensures value { result ≡ config_in (rows_of (found_of matches.now)) }
+    ensures accepted { IfSome result (λ config. config_fault config ≡ Ok tt) }
+{
+    let Some(capacity) = number(matches, OptionName::Capacity) else {
+        return None;
+    };
+    config(matches, capacity, 1, 1)
+}
+
+// The configuration of a concurrent cache with so many read buffers that the matches name.
+fn concurrent_config(matches: &ArgMatches<'_>, stripes: u8) -> Option<Config>
+    ensures value { result ≡ concurrent_in stripes (rows_of (found_of matches.now)) }
+    ensures accepted { IfSome result (λ config. config_fault config ≡ Ok tt) }
+{
+    let Some(capacity) = number(matches, OptionName::Capacity) else {
+        return None;
+    };
+    let Some(limit) = number(matches, OptionName::Limit) else {
+        return None;
+    };
+    config(matches, capacity, stripes, limit)
+}
+
+// The configuration of these numbers and what the matches name beside them, where it is accepted.
+fn config(matches: &ArgMatches<'_>, capacity: u32, stripes: u8, limit: u32) -> Option<Config>
+    ensures value { result ≡ config_at capacity stripes limit (rows_of (found_of matches.now)) }
+    ensures accepted { IfSome result (λ config. config_fault config ≡ Ok tt) }
+{
+    let Some(main_percent) = small_number(matches, OptionName::Main) else {
+        return None;
+    };
+    let config = Config {
+        capacity,
+        main_percent,
+        spread: spread(matches),
+        stripes,
+        journal_limit: limit,
+    };
+    match config.check() {
+        Ok(()) => Some(config),
+        Err(_) => None,
+    }
 }

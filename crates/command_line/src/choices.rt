@@ -9,11 +9,19 @@ ghost use Rattle.command_line.specs.Choices.{spread_words};
 use step_record::{POLICIES, Policy, Spread};
 use trace_read::Format;
 
-/// The word of `Spread::Mixed`.
-pub(crate) const MIXED: &str = "mixed";
+// The word of `Spread::Mixed`.
+const MIXED: &str = "mixed";
 
 // The word of `Spread::Plain`.
 const PLAIN: &str = "plain";
+
+/// The words that values are chosen from.
+#[derive(Clone, Copy)]
+pub struct WordLists<'a> {
+    pub policies: &'a [&'a str],
+    pub formats: &'a [&'a str],
+    pub spreads: &'a [&'a str],
+}
 
 // How many policies there are.
 const POLICY_COUNT: usize = POLICIES.len();

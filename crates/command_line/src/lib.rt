@@ -1,9 +1,9 @@
 //! The program's command line, read by `clap`.
 //!
-//! The commands are written here once, as `clap` builds them, and `parse` gives the arguments as
-//! typed values: configurations, policies, capacities, a format. Its promise is that what it gives is a
+//! Options and subcommands are rows (`options`), of which the commands are made that `clap` reads, and `parse` gives the
+//! arguments as typed values: configurations, policies, capacities, a format. Its promise is that what it gives is a
 //! function of the words: the same words always give the same arguments, and are refused exactly
-//! where one of the commands' rules is broken.
+//! where one of the rows' rules is broken.
 //!
 //! The words of policies and formats are those of `Policy::word` and `Format::word`.
 #![tactic(auto)]
@@ -11,20 +11,17 @@
 mod arguments;
 mod choices;
 mod commands;
-mod debug;
-mod drive;
 mod fault;
 mod help;
+mod lists;
+mod options;
 mod parser;
-mod part;
-mod replay;
-mod sweep;
+mod values;
 
-pub use arguments::{Arguments, RunArguments};
-pub use debug::DebugArguments;
-pub use drive::DriveArguments;
+pub use arguments::{
+    Arguments, DebugArguments, DriveArguments, PartArguments, ReplayArguments, RunArguments,
+    SweepArguments,
+};
 pub use fault::ParseFault;
+pub use lists::{CapacityList, FilePath, PolicyList};
 pub use parser::parse;
-pub use part::PartArguments;
-pub use replay::ReplayArguments;
-pub use sweep::SweepArguments;

@@ -1,18 +1,20 @@
 //! The words of a call, to its arguments.
-ghost use Rattle.std.specs.Prelude.{◌≡◌, Some, IfOk, MatchOption, MatchResult, map};
+ghost use Rattle.std.specs.Prelude.{◌≡◌, IfOk, map, option_map};
 ghost use Rattle.clap.specs.Words.{found_of, rows_of, subcommand_rows_of};
-ghost use Rattle.command_line.specs.ParseResult.{IsAsked, IsLacking, IsNotCalled, ParsedBy};
+ghost use Rattle.command_line.specs.Accepted.{AreAccepted};
+ghost use Rattle.command_line.specs.ParseResult.{IsAskedFor, ParsedBy};
 ghost use Rattle.command_line.specs.Program.{call_words as called_by};
+ghost use Rattle.command_line.specs.Values.{asked_in, asked_of, drive_in, replay_in, striped, stripes_in};
 
-use crate::arguments::{Arguments, run_arguments};
-use crate::choices::{format_words, policy_words, spread_words};
+use crate::arguments::{
+    Arguments, debug_arguments, drive_arguments, part_arguments, replay_arguments, run_arguments,
+    sweep_arguments,
+};
+use crate::choices::{WordLists, format_words, policy_words, spread_words};
 use crate::commands::program;
-use crate::debug::debug_arguments;
-use crate::drive::drive_arguments;
 use crate::fault::ParseFault;
-use crate::part::part_arguments;
-use crate::replay::replay_arguments;
-use crate::sweep::sweep_arguments;
+use crate::options::Subcommand;
+use crate::values::stripes;
 use clap::ArgMatches;
 use std::alloc::{AllocError, Global};
 
@@ -21,18 +23,19 @@ use std::alloc::{AllocError, Global};
 /// of memory; `Stripes` where the number of read buffers is not a power of two from 1 to 64; `Incomplete`
 /// where they lack another number in its range or a known policy.
 pub fn parse(alloc: Global, words: &[&str]) -> Result<Arguments, ParseFault>
-    ensures { ParsedBy (map (λ s. s.now) words.now) result }
+    ensures parsed { ParsedBy (map (λ s. s.now) words.now) result }
+    ensures accepted { IfOk result AreAccepted }
 {
     let policies = policy_words();
     let formats = format_words();
     let spreads = spread_words();
+    let lists = WordLists {
+        policies: policies.as_slice(),
+        formats: formats.as_slice(),
+        spreads: spreads.as_slice(),
+    };
     let called = called(alloc, words)?;
-    let program = program(
-        alloc,
-        policies.as_slice(),
-        formats.as_slice(),
-        spreads.as_slice(),
-    )?;
+    let program = program(alloc, &lists)?;
     let matches = program.try_get_matches_from(called.as_slice())?;
     arguments(alloc, &matches)
 }
@@ -46,54 +49,81 @@ fn called<'a>(alloc: Global, words: &[&'a str]) -> Result<Vec<&'a str>, AllocErr
     Ok(called)
 }
 
-// The matches of the subcommand of this name, where it is the one that was called.
-fn matches_of<'m, 'a>(matches: &'m ArgMatches<'a>, name: &str) -> Option<&'m ArgMatches<'a>>
-    ensures { MatchOption result (IsNotCalled name.now (subcommand_rows_of matches.now))
-        (λ m. subcommand_rows_of matches.now ≡ Some (name.now, rows_of (found_of m.now))) }
+// What the matches ask for.
+fn arguments(alloc: Global, matches: &ArgMatches<'_>) -> Result<Arguments, ParseFault>
+    ensures asked { IsAskedFor (asked_in (subcommand_rows_of matches.now)) result }
+    ensures accepted { IfOk result AreAccepted }
 {
-    matches.subcommand_matches(name)
+    match matches.subcommand() {
+        Some((name, asked)) => arguments_of(alloc, name, asked),
+        None => Err(ParseFault::Incomplete),
+    }
 }
 
-// What the matches ask for. `Incomplete` where they lack a number in its range or a known policy.
-fn arguments(alloc: Global, matches: &ArgMatches<'_>) -> Result<Arguments, ParseFault>
-    ensures { MatchResult result (IsAsked (subcommand_rows_of matches.now))
-        (IsLacking (subcommand_rows_of matches.now)) }
+// What the matches of the subcommand of this name ask for.
+fn arguments_of(alloc: Global, name: &str, asked: &ArgMatches<'_>) -> Result<Arguments, ParseFault>
+    ensures asked { IsAskedFor (asked_of name.now (rows_of (found_of asked.now))) result }
+    ensures accepted { IfOk result AreAccepted }
 {
-    if let Some(asked) = matches_of(matches, "run") {
+    if name == Subcommand::Run.name() {
         return match run_arguments(alloc, asked)? {
             Some(run) => Ok(Arguments::Run(run)),
             None => Err(ParseFault::Incomplete),
         };
     }
-    if let Some(asked) = matches_of(matches, "sweep") {
+    if name == Subcommand::Sweep.name() {
         return match sweep_arguments(alloc, asked)? {
             Some(sweep) => Ok(Arguments::Sweep(sweep)),
             None => Err(ParseFault::Incomplete),
         };
     }
-    if let Some(asked) = matches_of(matches, "part") {
+    if name == Subcommand::Part.name() {
         return match part_arguments(asked) {
             Some(part) => Ok(Arguments::Part(part)),
             None => Err(ParseFault::Incomplete),
         };
     }
-    if let Some(asked) = matches_of(matches, "drive") {
-        return match drive_arguments(asked) {
-            Ok(drive) => Ok(Arguments::Drive(drive)),
-            Err(fault) => Err(fault),
-        };
+    if name == Subcommand::Drive.name() {
+        return driven(asked);
     }
-    if let Some(asked) = matches_of(matches, "debug") {
+    if name == Subcommand::Debug.name() {
         return match debug_arguments(alloc, asked)? {
             Some(debug) => Ok(Arguments::Debug(debug)),
             None => Err(ParseFault::Incomplete),
         };
     }
-    if let Some(asked) = matches_of(matches, "replay") {
-        return match replay_arguments(alloc, asked) {
-            Ok(replay) => Ok(Arguments::Replay(replay)),
-            Err(fault) => Err(fault),
-        };
+    if name == Subcommand::Replay.name() {
+        return replayed(alloc, asked);
     }
     Err(ParseFault::Incomplete)
+}
+
+// What the matches of `drive` ask for.
+fn driven(asked: &ArgMatches<'_>) -> Result<Arguments, ParseFault>
+    ensures asked { IsAskedFor (striped (λ n. option_map Arguments.Drive (drive_in n (rows_of (found_of asked.now))))
+        (stripes_in (rows_of (found_of asked.now)))) result }
+    ensures accepted { IfOk result AreAccepted }
+{
+    match stripes(asked) {
+        Some(stripes) => match drive_arguments(asked, stripes) {
+            Some(drive) => Ok(Arguments::Drive(drive)),
+            None => Err(ParseFault::Incomplete),
+        },
+        None => Err(ParseFault::Stripes),
+    }
+}
+
+// What the matches of `replay` ask for.
+fn replayed(alloc: Global, asked: &ArgMatches<'_>) -> Result<Arguments, ParseFault>
+    ensures asked { IsAskedFor (striped (λ n. option_map Arguments.Replay (replay_in n (rows_of (found_of asked.now))))
+        (stripes_in (rows_of (found_of asked.now)))) result }
+    ensures accepted { IfOk result AreAccepted }
+{
+    let Some(stripes) = stripes(asked) else {
+        return Err(ParseFault::Stripes);
+    };
+    match replay_arguments(alloc, asked, stripes)? {
+        Some(replay) => Ok(Arguments::Replay(replay)),
+        None => Err(ParseFault::Incomplete),
+    }
 }

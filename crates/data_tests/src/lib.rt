@@ -5,7 +5,19 @@
 #[cfg(test)]
 mod assertions;
 #[cfg(test)]
+mod bits_tests;
+#[cfg(test)]
 mod clairvoyant_tests;
+#[cfg(test)]
+mod column_tests;
+#[cfg(test)]
+mod config_tests;
+#[cfg(test)]
+mod doorkeeper_tests;
+#[cfg(test)]
+mod frequency_tests;
+#[cfg(test)]
+mod halving_tests;
 #[cfg(test)]
 mod key_places_tests;
 #[cfg(test)]
@@ -18,5 +30,7 @@ mod rank_tree_tests;
 mod segments_tests;
 #[cfg(test)]
 mod shell_buffers_tests;
+#[cfg(test)]
+mod sketch_tests;
 #[cfg(test)]
 mod stack_distances_tests;

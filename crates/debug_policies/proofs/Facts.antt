@@ -10,7 +10,7 @@ use Rattle.debug_commands.specs.Dialogue.{dialogue_of, WritesDialogue}
 use Rattle.debug_commands.specs.Timeline.{TimelineData}
 use Rattle.debug_commands.specs.declared.fault.DebugFault.{DebugFault}
 use Rattle.debug_commands.specs.declared.fault.DebugFault.TheVariants as debug
-use Rattle.job_checks.specs.FaultyJobs.{config_or}
+use Rattle.policies.specs.FaultyJobs.{config_or}
 use Rattle.debug_policies.specs.ConfigFault.{ReturnsConfig, UntouchedAtConfig}
 use Rattle.debug_policies.specs.OnePolicy.{OnePolicyState}
 use Rattle.debug_policies.specs.Part.{IsPart}

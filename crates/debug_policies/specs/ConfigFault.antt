@@ -2,8 +2,8 @@
 use Rattle.std.specs.Prelude.{◌≡◌, ℕ, Option, Some, None, Result, Err}
 use Rattle.debug_commands.specs.declared.fault.DebugFault.{DebugFault}
 use Rattle.debug_commands.specs.declared.fault.DebugFault.TheVariants as debug
-use Rattle.job_checks.specs.declared.fault.ActorFault.{ActorFault}
-use Rattle.job_checks.specs.declared.fault.ActorFault.TheVariants as actor
+use Rattle.policies.specs.declared.actor_fault.ActorFault.{ActorFault}
+use Rattle.policies.specs.declared.actor_fault.ActorFault.TheVariants as actor
 
 -- a configuration that is refused is reported by its index; where none is, no index is reported
 abbrev pub ReturnsConfig : Option ActorFault → Result (Unit {0}) DebugFault → Type 0

@@ -6,12 +6,11 @@ ghost use Rattle.step_record.specs.declared.job.Job.{Job};
 ghost use Rattle.step_record.specs.Stats.{is_hit};
 ghost use Rattle.policies.specs.AnyPolicy.{HasAccessed, outcomes_on};
 ghost use Rattle.policies.specs.AnyStep.{any_act};
-ghost use Rattle.job_checks.specs.FaultyJobs.{faulty_in, ReturnsFault};
+ghost use Rattle.policies.specs.FaultyJobs.{faulty_in, ReturnsFault};
 ghost use Rattle.debug_policies.specs.Part.{part_line, is_hit_at, IsPart, IsNoted, IsFirstOther, IsPrepared};
 
 use debug_commands::push_count;
-use job_checks::ActorFault;
-use policies::{AnyPolicy, theorems};
+use policies::{ActorFault, AnyPolicy, theorems};
 use std::alloc::{AllocError, Global};
 use step_record::{Job, Key, Outcome, StepFault, Trace};
 

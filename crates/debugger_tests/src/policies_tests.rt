@@ -2,7 +2,7 @@
 use super::assertions::assert_equal;
 use super::pipe::{Pipe, ROOM};
 use debug_policies::{DebugFault, part, run_debug};
-use job_checks::ActorFault;
+use policies::ActorFault;
 use std::alloc::Global;
 use std::process::Abort;
 use std::test::Fail;

@@ -1,8 +1,8 @@
 -- A run, and its last steps undone.
-use Rattle.std.proofs.Common.{◌≡◌, ◌↔◌, ℕ, zero, suc, ◌-◌, ◌<◌, List, [], ◌∷◌, ◌++◌, Option, Some, None, Result, Ok, Err, OnOk, OnErr, get_or, length, take, drop, refl, sym, ap, ◌∙◌, subst, arith}
-use Rattle.std.specs.Prelude.{IfErr}
+use Rattle.std.proofs.Common.{◌≡◌, ◌↔◌, ℕ, zero, suc, ◌-◌, ◌<◌, List, [], ◌∷◌, ◌++◌, Option, Some, None, Result, Ok, Err, OnOk, OnErr, get_or, map, length, take, drop, refl, sym, ap, ◌∙◌, subst, arith}
+use Rattle.std.specs.Prelude.{IfErr, IfSome}
 use Rattle.std.proofs.Math.Seq.{take-length, drop-length}
-use Rattle.std.proofs.lemmas.List.{take-append-le, drop-append-le}
+use Rattle.std.proofs.lemmas.List.{length-map, take-append-le, drop-append-le}
 use Rattle.step_record.specs.declared.step.Call.{Call}
 use Rattle.step_record.specs.History.{data_after, IsLegal, Entries}
 use Rattle.shell_model.specs.Shell.{Shell, act}
@@ -13,7 +13,7 @@ use Rattle.journal.specs.declared.fault.BackFault.TheVariants as back
 use Rattle.workers.specs.declared.run.Cause.{Cause}
 use Rattle.walks.specs.Walks.{AreWalks}
 use Rattle.walks.specs.WorkerEntries.{entries_of}
-use Rattle.workers.specs.Runs.{IsRun, IsRunUpTo, AreWalksUpTo, first_cause}
+use Rattle.workers.specs.Runs.{IsRun, IsRunUpTo, AreWalksUpTo, IsCauseIn, first_cause}
 use Rattle.workers.specs.WorkerStates.{ShellSession}
 use Rattle.workers.proofs.Turning.{legal_split, after_append}
 use Rattle.headline.specs.UndoneRun.{IsAnswered, IsRewound, undone_of}
@@ -53,22 +53,15 @@ answered x steps legal before later e is =
     let last : IsLegal act (data_after act x before) (e ∷ later) = legal_split act x before (e ∷ later) whole in
     last.0 ∙ ap (λ (y : Shell). Some (e.reply, y)) (sym (after_append act x before (e ∷ [])))
 
-none_of : List (List Call) → List (Option Cause)
-none_of [] = []
-none_of (p ∷ ps) = None ∷ none_of ps
+-- no cause for a worker with these calls
+abbrev no_cause : List Call → Option Cause
+no_cause calls = None
 
-none_length : (ps : List (List Call)) → length (none_of ps) ≡ length ps
-unfolding none_of
-none_length [] = refl
-none_length (p ∷ ps) = ap suc (none_length ps)
-
-none_first : (ps : List (List Call)) → None ≡ first_cause (none_of ps)
-unfolding none_of
+none_first : (ps : List (List Call)) → None ≡ first_cause (map no_cause ps)
 none_first [] = refl
 none_first (p ∷ ps) = none_first ps
 
-none_at : (ps : List (List Call)) (w : ℕ) → get_or (none_of ps) w None ≡ None
-unfolding none_of
+none_at : (ps : List (List Call)) (w : ℕ) → get_or (map no_cause ps) w None ≡ None
 none_at [] w = refl
 none_at (p ∷ ps) zero = refl
 none_at (p ∷ ps) (suc w) = none_at ps w
@@ -76,8 +69,8 @@ none_at (p ∷ ps) (suc w) = none_at ps w
 -- a run of whole walks is one in which no worker was refused a step
 pub whole_up_to : (n : ℕ) (pieces : List (List Call)) (old new : ShellSession) → IsRun (λ w. AreWalks w n) pieces old new → IsRunUpTo None n pieces old new
 whole_up_to n pieces old new run = record {
-  refusals = none_of pieces;
-  of_each = none_length pieces;
+  refusals = map no_cause pieces;
+  of_each = length-map pieces no_cause;
   first = none_first pieces;
   run = record {
     opening = run.opening;
@@ -88,7 +81,7 @@ whole_up_to n pieces old new run = record {
     made = λ w lt. subst (λ r. AreWalksUpTo r n w (get_or pieces w []) (entries_of w run.news)) (sym (none_at pieces w)) (run.made w lt);
     no_other = run.no_other;
   };
-  full = λ w e. absurd (cc (sym (none_at pieces w) ∙ e));
+  refused = λ w. subst (λ r. IfSome r (IsCauseIn w old.kept run.news old.limit)) (sym (none_at pieces w)) tt;
 }
 
 pub rewound : (n k : ℕ) (pieces : List (List Call)) (cause : Option Cause) (o : Result (Unit {0}) BackFault) (old whole new : ShellSession)
@@ -102,7 +95,7 @@ rewound n k pieces cause o old whole new up legal opening left redo state past f
   first = up.first;
   made = run.made;
   no_other = run.no_other;
-  full = λ w e. sym (ap (λ (es : Entries). length es) run.entered) ∙ up.full w e ∙ run.limit;
+  refused = up.refused;
   answered = answered old.opening (old.kept ++ run.news) (subst (λ es. IsLegal act old.opening es) run.entered (subst (λ x. IsLegal act x whole.kept) run.opening legal));
   left = left ∙ ap (λ es. take (length es - undone_of k o) es) run.entered;
   redo = redo ∙ ap (λ (z : Entries × Entries). drop (length z.0 - undone_of k o) (z.0 ++ z.1)) (λ i. (run.entered i, run.tail i));

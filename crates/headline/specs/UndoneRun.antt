@@ -1,6 +1,6 @@
 -- A run of workers on threads, and what stands once its last steps are undone.
 use Rattle.std.specs.Prelude.{◌≡◌, ◌↔◌, ℕ, ◌-◌, ◌<◌, ◌≤◌, List, [], ◌∷◌, ◌++◌, Option, Some, None, Result, Ok, Err}
-use Rattle.std.specs.Prelude.{OnErr, get_or, length, take, drop}
+use Rattle.std.specs.Prelude.{OnErr, IfSome, get_or, length, take, drop}
 use Rattle.step_record.specs.declared.entry.Entry.{Entry}
 use Rattle.step_record.specs.declared.step.Call.{Call}
 use Rattle.step_record.specs.declared.step.Reply.{Reply}
@@ -12,9 +12,8 @@ use Rattle.journal.specs.declared.fault.BackFault.TheVariants as back
 use Rattle.workers.specs.declared.run.DriveFault.{DriveFault}
 use Rattle.workers.specs.declared.run.DriveFault.TheVariants as drive
 use Rattle.workers.specs.declared.run.Cause.{Cause}
-use Rattle.workers.specs.declared.run.Cause.TheVariants.{JournalFull}
 use Rattle.walks.specs.WorkerEntries.{entries_of}
-use Rattle.workers.specs.Runs.{AreWalksUpTo, first_cause}
+use Rattle.workers.specs.Runs.{AreWalksUpTo, IsCauseIn, first_cause}
 use Rattle.workers.specs.WorkerStates.{ShellSession}
 
 -- from the state x on, each reply is the one that the definition gives on the steps before it
@@ -35,10 +34,10 @@ HasNoSteps _ = Unit {0}
 
 -- The run is one list of steps behind the old ones. Of these, those of each worker are, in order, the walks of its
 -- calls, up to the step that it was refused, where it was; and nobody else made any. The cause is that of the refused
--- worker with the lowest number, and a full journal is one only where it is full. Each reply is the definition's on the
--- steps before it. And once the last steps are undone, the state is the one that the definition
--- gives on the others. The steps that can be redone are those that were undone, and behind them the ones that could be
--- before, where no step was made. Where the last k are not all undone, fewer than k are.
+-- worker with the lowest number: a full journal only where it is full, and memory only at a place where it was not. Each
+-- reply is the definition's on the steps before it. And once the last steps are undone, the state is the one that the
+-- definition gives on the others. The steps that can be redone are those that were undone, and behind them the ones that
+-- could be before, where no step was made. Where the last k are not all undone, fewer than k are.
 pub record IsRewound (n k : ℕ) (pieces : List (List Call)) (cause : Option Cause) (undone : Result (Unit {0}) BackFault)
     (old new : ShellSession) : Type 0 where
   pub run : Entries
@@ -48,7 +47,7 @@ pub record IsRewound (n k : ℕ) (pieces : List (List Call)) (cause : Option Cau
   pub made : (w : ℕ) → w < length pieces
       → AreWalksUpTo (get_or refusals w None) n w (get_or pieces w []) (entries_of w run)
   pub no_other : (w : ℕ) → length pieces ≤ w → entries_of w run ≡ []
-  pub full : (w : ℕ) → get_or refusals w None ≡ Some JournalFull → length (old.kept ++ run) ≡ old.limit
+  pub refused : (w : ℕ) → IfSome (get_or refusals w None) (IsCauseIn w old.kept run old.limit)
   pub answered : IsAnswered old.opening (old.kept ++ run)
   pub left : new.kept ≡ take (length (old.kept ++ run) - undone_of k undone) (old.kept ++ run)
   pub redo : new.tail

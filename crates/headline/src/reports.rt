@@ -6,15 +6,16 @@
 //! trace.
 ghost use Rattle.std.specs.Prelude.{◌≡◌, IfOk, map};
 ghost use Rattle.policy_actors.specs.Faults.{actor_fault};
-ghost use Rattle.job_checks.specs.FaultyJobs.{at_capacity, faulty_in, ReturnsFault};
-ghost use Rattle.policy_actors.specs.Reports.{report_on};
+ghost use Rattle.policies.specs.FaultyJobs.{at_capacity, faulty_in, ReturnsFault};
+ghost use Rattle.policies.specs.Reports.{report_on};
 
-use policy_actors::{ActorFault, run_actors, run_one, sweep};
-use report::Report;
+use policies::{ActorFault, Report};
+use policy_actors::run_actors;
 use std::alloc::{AllocError, Global};
 use std::sync::Wait;
 use std::thread::Threads;
 use step_record::{Config, Gate, Job, Trace};
+use sweeps::{run_one, sweep};
 
 /// The reports of the same jobs over the same trace, made in two ways.
 #[derive(Drop)]

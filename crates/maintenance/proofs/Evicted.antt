@@ -8,11 +8,10 @@ use Rattle.replacement.specs.declared.rules.Rules.{Rules}
 use Rattle.replacement.specs.Rules.{three_queues}
 use Rattle.replacement.specs.Plan.{candidate_of}
 use Rattle.replacement.specs.PlanMoves.{queues_after_transfer, queues_after, response_of_plan, removal_record, moves_of}
-use Rattle.shell_model.specs.Shell.{Shell, evict_effect}
+use Rattle.shell_model.specs.Shell.{Shell, reply_by, unlisted_by, evicted_by, evict_effect}
 use Rattle.shell_model.specs.declared.holder.Holder.{Holder}
 use Rattle.shell_model.specs.declared.record.Change.TheVariants.{Evicted}
 use Rattle.shell_model.specs.Records.{leaves_table, planned_change, evict_change}
-use Rattle.shell_model.specs.ShellEviction.{reply_by, unlisted_by, evicted_by}
 use Rattle.shell_model.proofs.Evicting.{evictions-by-plan}
 use Rattle.maintenance.specs.EvictionPlan.{planned, item_out}
 

@@ -11,7 +11,7 @@ use Rattle.shell_model.specs.declared.record.Change.{Change}
 use Rattle.shell_model.specs.declared.record.ShellRecord.{ShellRecord}
 use Rattle.shell_model.specs.Shell.{Shell, act}
 use Rattle.shell_model.specs.ShellStats.{counted_of}
-use Rattle.shell_model.specs.Records.{undone_step, change_of, record_size}
+use Rattle.shell_model.specs.Records.{undone_step, change_of, count_in, shell_record_of, record_size}
 use Rattle.shell_model.specs.ReachableShell.{IsReachable, ShellFits}
 use Rattle.shell_model.proofs.Reached.{record-law, reached-on}
 use Rattle.shell_model.proofs.Engines.{step_weighs}
@@ -23,22 +23,24 @@ pub stands-after : (x y : Shell) (s : Step) (o : Answer) → IsReachable x → I
 stands-after x y s (Err f) h some err = subst IsReachable (sym err) h
 stands-after x y s (Ok r) h some err = reached-on x y s r.0 h some
 
--- the record that the definition gives is the one that is returned
-same-record : (m : ShellRecord) (n : Counted) (c : Change) → m.counted ≡ n → m.change ≡ c → (let d : ShellRecord = record { counted = n; change = c } in d) ≡ m
+same-record : (m : ShellRecord) (n : Counted) (c : Change) → m.counted ≡ n → m.change ≡ c → m ≡ (let d : ShellRecord = record { counted = n; change = c } in d)
 same-record m n c e f =
-    ap (λ (d : Change). let k : ShellRecord = record { counted = n; change = d } in k) (sym f) ∙ ap (λ (q : Counted). let k : ShellRecord = record { counted = q; change = m.change } in k) (sym e)
+    ap (λ (q : Counted). let k : ShellRecord = record { counted = q; change = m.change } in k) e ∙ ap (λ (d : Change). let k : ShellRecord = record { counted = n; change = d } in k) f
 
-pub fits-after : (x y : Shell) (s : Step) (o : Answer) → IsReachable x → IfOk o (λ r. act x s ≡ Some (r.0, y)) → IfOk o (λ r. r.1.counted ≡ counted_of r.0) → IfOk o (λ r. r.1.change ≡ change_of s.worker s.act x) → IfOk o (λ r. ShellFits r.1 y)
-fits-after x y s (Err f) h some counted change = tt
-fits-after x y s (Ok r) h some counted change =
-    subst (λ (k : ShellRecord). ShellFits k y) (same-record r.1 (counted_of r.0) (change_of s.worker s.act x) counted change) (record-law x y s r.0 h some).0
+-- the record that is returned is that of the definition
+pub record-after : (x y : Shell) (s : Step) (o : Answer) → IfOk o (λ r. act x s ≡ Some (r.0, y)) → IfOk o (λ r. r.1.counted ≡ counted_of r.0) → IfOk o (λ r. r.1.change ≡ change_of s.worker s.act x) → IfOk o (λ r. r.1 ≡ shell_record_of s x)
+record-after x y s (Err f) some counted change = tt
+record-after x y s (Ok r) some counted change = same-record r.1 (count_in (act x s)) (change_of s.worker s.act x) (counted ∙ sym (ap count_in some)) change
 
-pub undone-after : (x y : Shell) (s : Step) (o : Answer) → IsReachable x → IfOk o (λ r. act x s ≡ Some (r.0, y)) → IfOk o (λ r. r.1.counted ≡ counted_of r.0) → IfOk o (λ r. r.1.change ≡ change_of s.worker s.act x) → IfOk o (λ r. undone_step r.1 y ≡ x)
-undone-after x y s (Err f) h some counted change = tt
-undone-after x y s (Ok r) h some counted change =
-    subst (λ (k : ShellRecord). undone_step k y ≡ x) (same-record r.1 (counted_of r.0) (change_of s.worker s.act x) counted change) (record-law x y s r.0 h some).1
+pub fits-after : (x y : Shell) (s : Step) (o : Answer) → IsReachable x → IfOk o (λ r. act x s ≡ Some (r.0, y)) → IfOk o (λ r. r.1 ≡ shell_record_of s x) → IfOk o (λ r. ShellFits r.1 y)
+fits-after x y s (Err f) h some is = tt
+fits-after x y s (Ok r) h some is = subst (λ (k : ShellRecord). ShellFits k y) (sym is) (record-law x y s r.0 h some).0
 
-pub words-after : (x y : Shell) (s : Step) (o : Answer) → IsReachable x → IfOk o (λ r. act x s ≡ Some (r.0, y)) → IfOk o (λ r. r.1.counted ≡ counted_of r.0) → IfOk o (λ r. r.1.change ≡ change_of s.worker s.act x)
+pub undone-after : (x y : Shell) (s : Step) (o : Answer) → IsReachable x → IfOk o (λ r. act x s ≡ Some (r.0, y)) → IfOk o (λ r. r.1 ≡ shell_record_of s x) → IfOk o (λ r. undone_step r.1 y ≡ x)
+undone-after x y s (Err f) h some is = tt
+undone-after x y s (Ok r) h some is = subst (λ (k : ShellRecord). undone_step k y ≡ x) (sym is) (record-law x y s r.0 h some).1
+
+pub words-after : (x y : Shell) (s : Step) (o : Answer) → IsReachable x → IfOk o (λ r. act x s ≡ Some (r.0, y)) → IfOk o (λ r. r.1 ≡ shell_record_of s x)
     → IfOk o (λ r. words_of_halvings (pace_of y.frequency) ≡ words_of_halvings (pace_of (undone_step r.1 y).frequency) + record_size r.1)
-words-after x y s (Err f) h some counted change = tt
-words-after x y s (Ok r) h some counted change = let g : ShellFits r.1 y = fits-after x y s (Ok r) h some counted change in step_weighs r.1 y g.step
+words-after x y s (Err f) h some is = tt
+words-after x y s (Ok r) h some is = let g : ShellFits r.1 y = fits-after x y s (Ok r) h some is in step_weighs r.1 y g.step

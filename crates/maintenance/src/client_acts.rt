@@ -1,9 +1,12 @@
 //! What readers and writers do.
-ghost use Rattle.std.specs.Prelude.{◌≡◌, ◌<◌, length, Some, None, IfOk, OnOk, OnErr};
+ghost use Rattle.std.specs.Prelude.{◌≡◌, ◌<◌, nat_lt, cond, length, Some, None, IfOk, OnOk, OnErr};
 ghost use Rattle.step_record.specs.declared.limits.TheConstants.{MAX_STEPS};
-ghost use Rattle.shell_model.specs.Shell.{put_effect, remove_effect, begin_effect, offer_effect, after_write, after_read, held_by};
-ghost use Rattle.shell_model.specs.Records.{change_of};
-ghost use Rattle.step_record.specs.declared.step.Act.TheVariants as act;
+ghost use Rattle.shell_buffers.specs.declared.stripes.TheConstants.{MAX_ITEMS};
+ghost use Rattle.shell_buffers.specs.Buffers.{stripe_at};
+ghost use Rattle.shell_model.specs.declared.record.Change.TheVariants.{Nothing, Offered, Requested};
+ghost use Rattle.shell_model.specs.Shell.{look_reply, node_of, put_effect, remove_effect, begin_effect, offer_effect};
+ghost use Rattle.shell_model.specs.Shell.{after_write, after_read, held_by};
+ghost use Rattle.shell_model.specs.Records.{put_change, remove_change, begin_change};
 
 use crate::shell_core::ShellCore;
 use shell_buffers::{MAX_TASKS, Task};
@@ -13,8 +16,7 @@ use step_record::{Answer, Drain, Item, Key, Phase, Reply, Worker};
 
 impl ShellCore {
     pub(crate) fn look(&self, key: Key) -> Reply
-        ensures { result ≡ Rattle.shell_model.specs.Shell.look_reply
-            (Rattle.shell_model.specs.Shell.node_of key self.now.table) }
+        ensures { result ≡ look_reply (node_of key self.now.table) }
     {
         match self.table.node_of(key) {
             Some(node) => Reply::Hit { node },
@@ -22,11 +24,12 @@ impl ShellCore {
         }
     }
 
-    pub(crate) fn offer(&mut self, worker: Worker, stripe: u8, item: Item) -> (Reply, Change)
+    pub(crate) fn offer(&mut self, stripe: u8, item: Item) -> (Reply, Change)
         requires { stripe < length self.old.stripes }
         ensures reply { result.0 ≡ (offer_effect stripe item self.old).0 }
         ensures state { self.new ≡ (offer_effect stripe item self.old).1 }
-        ensures change { result.1 ≡ change_of worker (act.Offer stripe item) self.old }
+        ensures change { result.1
+            ≡ cond (nat_lt (length (stripe_at stripe self.old.stripes)) MAX_ITEMS) (Offered stripe item) Nothing }
     {
         if self.stripes.offer(stripe, item) {
             (Reply::Kept, Change::Offered { stripe, item })
@@ -35,11 +38,13 @@ impl ShellCore {
         }
     }
 
-    pub(crate) fn put(&mut self, worker: Worker, key: Key) -> Result<(Reply, Change), AllocError>
+    pub(crate) fn put(&mut self, key: Key) -> Result<(Reply, Change), AllocError>
         requires { self.old.next < MAX_STEPS }
         ensures reply { IfOk result (λ r. r.0 ≡ (put_effect key self.old).0) }
         ensures state { OnOk result (self.new ≡ (put_effect key self.old).1) }
-        ensures change { IfOk result (λ r. r.1 ≡ change_of worker (act.Put key) self.old) }
+        ensures change { IfOk result (λ r. r.1
+            ≡ cond (nat_lt (length self.old.writes) MAX_TASKS) (put_change key (node_of key self.old.table) self.old)
+            Nothing) }
         ensures err { OnErr result (self.new ≡ self.old) }
     {
         if self.writes.tasks().len() >= MAX_TASKS {
@@ -62,10 +67,10 @@ impl ShellCore {
         }
     }
 
-    pub(crate) fn remove(&mut self, worker: Worker, key: Key) -> (Reply, Change)
+    pub(crate) fn remove(&mut self, key: Key) -> (Reply, Change)
         ensures reply { result.0 ≡ (remove_effect key self.old).0 }
         ensures state { self.new ≡ (remove_effect key self.old).1 }
-        ensures change { result.1 ≡ change_of worker (act.Remove key) self.old }
+        ensures change { result.1 ≡ remove_change key (node_of key self.old.table) self.old }
     {
         match self.table.node_of(key) {
             None => (Reply::Absent, Change::Nothing),
@@ -95,10 +100,10 @@ impl ShellCore {
         }
     }
 
-    pub(crate) fn after_write(&mut self, worker: Worker) -> (Reply, Change)
+    pub(crate) fn after_write(&mut self) -> (Reply, Change)
         ensures reply { result.0 ≡ (after_write self.old.drain).0 }
         ensures state { self.new ≡ record self.old { drain = (after_write self.old.drain).1 } }
-        ensures change { result.1 ≡ change_of worker act.AfterWrite self.old }
+        ensures change { result.1 ≡ Requested self.old.drain (after_write self.old.drain).1 }
     {
         let before = self.drain;
         let (reply, now) = match before {
@@ -114,7 +119,7 @@ impl ShellCore {
     pub(crate) fn begin(&mut self, worker: Worker) -> (Reply, Change)
         ensures reply { result.0 ≡ (begin_effect worker self.old.holder self.old).0 }
         ensures state { self.new ≡ (begin_effect worker self.old.holder self.old).1 }
-        ensures change { result.1 ≡ change_of worker act.Begin self.old }
+        ensures change { result.1 ≡ begin_change worker self.old.holder self.old }
     {
         if self.holder.is_some() {
             return (Reply::Busy, Change::Nothing);

@@ -1,11 +1,12 @@
 //! The shell as an engine.
-ghost use Rattle.std.specs.Prelude.{◌≡◌, ◌<◌, ◌≤◌, Ok, Some, None, IfOk, length};
+ghost use Rattle.std.specs.Prelude.{◌≡◌, ◌+◌, ◌<◌, ◌≤◌, ◌↔◌, Ok, Err, Some, None, IfOk, OnErr, length};
 ghost use Rattle.std.specs.Prelude.{option_map};
 ghost use Rattle.step_record.specs.declared.limits.TheConstants.{MAX_STRIPES};
 ghost use Rattle.step_record.specs.Config.{config_fault};
+ghost use Rattle.step_record.specs.Pace.{words_of_halvings};
 ghost use Rattle.segments.specs.Queues.{queue_of};
 ghost use Rattle.shell_buffers.specs.Buffers.{stripe_at};
-ghost use Rattle.shell_model.specs.Shell.{node_of};
+ghost use Rattle.shell_model.specs.Shell.{node_of, act as acted};
 ghost use Rattle.shell_model.specs.ReachableShell.{IsReachable};
 ghost use Rattle.maintenance.specs.EmptyShell.{IsOpened, holder_parts};
 
@@ -20,7 +21,7 @@ use std::alloc::{AllocError, Global};
 use std::marker::Model;
 use step_record::{Config, Drain, Engine, Item, Key, Node, Phase, Reply, Step, StepFault, Worker};
 
-/// The concurrent shell of a cache: a table from keys to nodes, three queues, read buffers, a write queue, an access
+/// The concurrent cache: a table from keys to nodes, three queues, read buffers, a write queue, an access
 /// frequency, and the state of the maintenance. It takes steps of readers, writers and the maintenance, in any order,
 /// and undoes them from their records.
 ///
@@ -166,7 +167,7 @@ impl Shell {
 
 impl Engine for Shell {
     ghost use Rattle.shell_model.specs.Shell.{act};
-    ghost use Rattle.shell_model.specs.Records.{undone_step, step_asks, record_size};
+    ghost use Rattle.shell_model.specs.Records.{undone_step, step_asks, record_size, shell_record_of};
     ghost use Rattle.shell_model.specs.ReachableShell.{ShellFits};
     ghost use Rattle.admission.specs.Frequency.{pace_of};
     ghost use Rattle.shell_model.proofs.Engines.{act_counts, act_ends, act_paced};
@@ -195,7 +196,17 @@ impl Engine for Shell {
 
     ghost pace = { λ x. pace_of x.frequency };
 
-    fn apply(&mut self, step: &Step) -> Result<(Reply, ShellRecord), StepFault> {
+    fn apply(&mut self, step: &Step) -> Result<(Reply, ShellRecord), StepFault>
+        ensures accepted { IfOk result (λ r. acted self.old step.now ≡ Some (r.0, self.new)) }
+        ensures fits { IfOk result (λ r. ShellFits r.1 self.new) }
+        ensures undone { IfOk result (λ r. undone_step r.1 self.new ≡ self.old) }
+        ensures words { IfOk result (λ r. words_of_halvings (pace_of self.new.frequency)
+            ≡ words_of_halvings (pace_of (undone_step r.1 self.new).frequency) + record_size r.1) }
+        ensures not_now { result ≡ Err StepFault.NotNow ↔ acted self.old step.now ≡ None }
+        ensures err { OnErr result (self.new ≡ self.old) }
+        // The record is that of the step, from the shell before it, and nothing beside.
+        ensures record_is { IfOk result (λ r. r.1 ≡ shell_record_of step.now self.old) }
+    {
         self.core.apply(*step)
     }
 

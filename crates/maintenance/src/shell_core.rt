@@ -104,7 +104,7 @@ impl ShellCore {
             Act::Look { key } => Ok(Some((self.look(key), Change::Nothing))),
             Act::Offer { stripe, item } => {
                 if (stripe as usize) < self.stripes.count() && item.node < self.next {
-                    Ok(Some(self.offer(worker, stripe, item)))
+                    Ok(Some(self.offer(stripe, item)))
                 } else {
                     Ok(None)
                 }
@@ -116,10 +116,10 @@ impl ShellCore {
                     Ok(None)
                 }
             }
-            Act::Put { key } => Ok(Some(self.put(worker, key)?)),
-            Act::Remove { key } => Ok(Some(self.remove(worker, key))),
+            Act::Put { key } => Ok(Some(self.put(key)?)),
+            Act::Remove { key } => Ok(Some(self.remove(key))),
             Act::AfterRead { answer } => Ok(Some((self.after_read(answer), Change::Nothing))),
-            Act::AfterWrite => Ok(Some(self.after_write(worker))),
+            Act::AfterWrite => Ok(Some(self.after_write())),
             Act::Begin => Ok(Some(self.begin(worker))),
             Act::DrainRead { stripe } => self.drain_read(worker, stripe),
             Act::DrainWrite => self.drain_write(worker),

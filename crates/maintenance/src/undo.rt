@@ -17,6 +17,82 @@ use std::alloc::AllocError;
 use step_record::{Item, Phase};
 
 impl ShellCore {
+    /// Undoes the step that the record is of. Where it finds no memory, it hands the record back.
+    pub(crate) fn undo(&mut self, made: ShellRecord) -> Result<(), ShellRecord>
+        requires fits { FitsStep made self.old }
+        requires left { IsLeft (before_change made.change self.old).holder }
+        ensures ok { OnOk result (self.new ≡ undone_step made self.old) }
+        ensures err { OnErr result (self.new ≡ self.old) }
+        ensures returned { IfErr result (λ r. r ≡ made) }
+        ensures asks { OnErr result (step_asks made) }
+    {
+        let ShellRecord { counted, change } = made;
+        match self.undo_change(change) {
+            Err(change) => Err(ShellRecord { counted, change }),
+            Ok(()) => {
+                self.stats.uncount(counted);
+                self.applied -= 1;
+                Ok(())
+            }
+        }
+    }
+
+    // What a step changed goes back. Only changes that undoing takes no memory for hold a list; so a change that is
+    // refused can be handed back whole.
+    fn undo_change(&mut self, change: Change) -> Result<(), Change>
+        requires fits { FitsChange change self.old }
+        requires left { IsLeft (before_change change self.old).holder }
+        ensures ok { OnOk result (self.new ≡ before_change change self.old) }
+        ensures err { OnErr result (self.new ≡ self.old) }
+        ensures returned { IfErr result (λ c. c ≡ change) }
+        ensures asks { OnErr result (change_asks change) }
+    {
+        match change {
+            Change::Nothing => {}
+            Change::Offered { stripe, item: _ } => self.stripes.unoffer(stripe),
+            Change::Updated { item: _ } => self.writes.unpush(),
+            Change::Added { item } => self.undo_added(item),
+            Change::Removed { item } => {
+                if self.table.place(item).is_err() {
+                    return Err(Change::Removed { item });
+                }
+                self.writes.unpush();
+            }
+            Change::Requested { before, now: _ } => self.drain = before,
+            Change::Began { worker: _, before } => {
+                self.drain = before;
+                self.holder = None;
+            }
+            Change::Read { stripe, item, used } => self.undo_read(stripe, item, used),
+            Change::Passed { before, now: _ } => self.rephase(before),
+            Change::Applied {
+                before,
+                is_new,
+                item,
+                used,
+            } => self.undo_applied(before, is_new, item, used),
+            Change::Cleared { before, item, out } => {
+                if self.undo_cleared(before, item, out).is_err() {
+                    return Err(Change::Cleared { before, item, out });
+                }
+            }
+            Change::Evicted { before, eviction } => {
+                if self.undo_evicted(before, &eviction).is_err() {
+                    return Err(Change::Evicted { before, eviction });
+                }
+            }
+            Change::Ended {
+                holder,
+                before,
+                now: _,
+            } => {
+                self.drain = before;
+                self.holder = Some(holder);
+            }
+        }
+        Ok(())
+    }
+
     fn untouch(&mut self, used: UseRecord)
         requires { FitsTouched used self.old }
         ensures { self.new ≡ before_use used self.old }
@@ -108,82 +184,6 @@ impl ShellCore {
         replacement::undo(&mut self.queues, moves);
         self.rephase(before);
         Ok(())
-    }
-
-    // What a step changed goes back. Only changes that undoing takes no memory for hold a list; so a change that is
-    // refused can be handed back whole.
-    fn undo_change(&mut self, change: Change) -> Result<(), Change>
-        requires fits { FitsChange change self.old }
-        requires left { IsLeft (before_change change self.old).holder }
-        ensures ok { OnOk result (self.new ≡ before_change change self.old) }
-        ensures err { OnErr result (self.new ≡ self.old) }
-        ensures returned { IfErr result (λ c. c ≡ change) }
-        ensures asks { OnErr result (change_asks change) }
-    {
-        match change {
-            Change::Nothing => {}
-            Change::Offered { stripe, item: _ } => self.stripes.unoffer(stripe),
-            Change::Updated { item: _ } => self.writes.unpush(),
-            Change::Added { item } => self.undo_added(item),
-            Change::Removed { item } => {
-                if self.table.place(item).is_err() {
-                    return Err(Change::Removed { item });
-                }
-                self.writes.unpush();
-            }
-            Change::Requested { before, now: _ } => self.drain = before,
-            Change::Began { worker: _, before } => {
-                self.drain = before;
-                self.holder = None;
-            }
-            Change::Read { stripe, item, used } => self.undo_read(stripe, item, used),
-            Change::Passed { before, now: _ } => self.rephase(before),
-            Change::Applied {
-                before,
-                is_new,
-                item,
-                used,
-            } => self.undo_applied(before, is_new, item, used),
-            Change::Cleared { before, item, out } => {
-                if self.undo_cleared(before, item, out).is_err() {
-                    return Err(Change::Cleared { before, item, out });
-                }
-            }
-            Change::Evicted { before, eviction } => {
-                if self.undo_evicted(before, &eviction).is_err() {
-                    return Err(Change::Evicted { before, eviction });
-                }
-            }
-            Change::Ended {
-                holder,
-                before,
-                now: _,
-            } => {
-                self.drain = before;
-                self.holder = Some(holder);
-            }
-        }
-        Ok(())
-    }
-
-    /// Undoes the step that the record is of. Where it finds no memory, it hands the record back.
-    pub(crate) fn undo(&mut self, made: ShellRecord) -> Result<(), ShellRecord>
-        requires fits { FitsStep made self.old }
-        requires left { IsLeft (before_change made.change self.old).holder }
-        ensures ok { OnOk result (self.new ≡ undone_step made self.old) }
-        ensures err { OnErr result (self.new ≡ self.old) }
-        ensures returned { IfErr result (λ r. r ≡ made) }
-        ensures asks { OnErr result (step_asks made) }
-    {
-        let ShellRecord { counted, change } = made;
-        match self.undo_change(change) {
-            Err(change) => Err(ShellRecord { counted, change }),
-            Ok(()) => {
-                self.stats.uncount(counted);
-                self.applied -= 1;
-                Ok(())
-            }
-        }
     }
 }
 

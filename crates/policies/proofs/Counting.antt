@@ -1,8 +1,10 @@
 -- The statistics are the counts of the outcomes.
-use Rattle.std.proofs.Common.{◌≡◌, ℕ, List, [], ◌∷◌, ◌++◌, ap, ◌∙◌, sym, refl, append-nil, append_assoc}
+use Rattle.std.proofs.Common.{◌≡◌, ℕ, ◌+◌, Bool, List, [], ◌∷◌, ◌++◌, length, count_by, ap, ◌∙◌, sym, refl, arith, append-nil, append_assoc}
+use Rattle.std.proofs.lemmas.List.Sums.{sum_by-cons}
 use Rattle.step_record.specs.declared.job.Job.{Job}
 use Rattle.step_record.specs.declared.outcome.Outcome.{Outcome}
-use Rattle.step_record.specs.Stats.{stats_of, stats_with}
+use Rattle.step_record.specs.declared.outcome.Outcome.TheVariants.{Hit, Kept, Evicted, Rejected}
+use Rattle.step_record.specs.Stats.{is_hit, is_miss, one_if, stats_of, stats_with}
 use Rattle.step_record.proofs.Counting.{stats-snoc}
 use Rattle.policies.specs.QueueCache.{QueueState, access_response, queue_state_after, frequency_after, state_from, empty_queue_state, state_after, outcomes_from, outcomes_after}
 
@@ -18,3 +20,17 @@ from-counts j past d os (k ∷ keys) h =
 pub after-counts : (j : Job) (keys : List ℕ) → (state_after j keys).stats ≡ stats_of (outcomes_after j keys)
 unfolding state_after outcomes_after
 after-counts j keys = from-counts j [] (empty_queue_state j) [] keys refl
+
+pub count-cons : {A : Type 0} (p : A → Bool) (x : A) (xs : List A) → count_by p (x ∷ xs) ≡ one_if (p x) + count_by p xs
+count-cons p x xs = sum_by-cons (λ y. one_if (p y)) x xs
+
+either : (o : Outcome) → one_if (is_hit o) + one_if (is_miss o) ≡ 1
+either Hit = refl
+either Kept = refl
+either (Evicted k) = refl
+either (Rejected k) = refl
+
+-- each outcome is a hit or a miss
+pub hits-misses : (os : List Outcome) → count_by is_hit os + count_by is_miss os ≡ length os
+hits-misses [] = refl
+hits-misses (o ∷ os) = let rest : count_by is_hit os + count_by is_miss os ≡ length os = hits-misses os in omega (arith, rest, count-cons is_hit o os, count-cons is_miss o os, either o)

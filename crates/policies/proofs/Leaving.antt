@@ -1,10 +1,9 @@
 -- Which item the record of an access moves out.
-use Rattle.std.proofs.Common.{◌≡◌, ℕ, Bool, true, false, nat_lt, Option, Some, None, option_map, List, [], ◌∷◌, ◌++◌, length, ◌==◌, ap, ◌∙◌, sym, refl, subst, lit≤, inl, inr}
+use Rattle.std.proofs.Common.{◌≡◌, ℕ, Bool, true, false, nat_lt, Option, Some, None, option_map, length, ◌==◌, ap, ◌∙◌, sym, refl, subst, inl, inr}
 use Rattle.std.specs.Prelude.{if◌then◌else◌}
 use Rattle.std.proofs.lemmas.Bool.{cases_Bool}
 use Rattle.step_record.specs.declared.limits.TheConstants.{MAX_STEPS}
 use Rattle.step_record.specs.declared.item.Item.{Item}
-use Rattle.step_record.specs.declared.job.Job.{Job}
 use Rattle.step_record.specs.declared.outcome.Outcome.{Outcome}
 use Rattle.step_record.specs.declared.outcome.Outcome.TheVariants.{Hit, Evicted}
 use Rattle.step_record.specs.Stats.{is_hit}
@@ -12,7 +11,6 @@ use Rattle.segments.specs.declared.records.Queue.{Queue}
 use Rattle.segments.specs.declared.records.Queue.TheVariants.{Window, Probation}
 use Rattle.segments.specs.Items.{is_same_item, oldest_of}
 use Rattle.segments.specs.Queues.{Queues, queue_of, queue_holding, queues_after_push, queues_without, queues_after_move, total_items, IsDistinct}
-use Rattle.admission.specs.Frequency.{FrequencyData}
 use Rattle.replacement.specs.declared.rules.Placement.{Placement}
 use Rattle.replacement.specs.declared.rules.Placement.TheVariants.{Direct, Windowed}
 use Rattle.replacement.specs.declared.rules.HitRule.{HitRule}
@@ -22,10 +20,10 @@ use Rattle.replacement.specs.Admission.{admits_in}
 use Rattle.replacement.specs.Table.{Response, rejection, kept_in, contest, trial_of, eviction, response_with_victim, response_without_trial, miss_by, miss, access_in, access}
 use Rattle.replacement.specs.Plan.{Plan, hit_plan_by, plan}
 use Rattle.replacement.specs.PlanMoves.{removal_record, moves_of, queues_after_transfer}
-use Rattle.replacement.proofs.Carrying.{carries}
 use Rattle.replacement.proofs.Planned.{plan-at, access-at, accesses-planned}
 use Rattle.policies.specs.Design.{rules_of}
-use Rattle.policies.specs.QueueCache.{QueueState, nodeless_item, access_response, queue_state_after, frequency_after, state_from, empty_queue_state, state_after}
+use Rattle.policies.specs.QueueCache.{QueueState, nodeless_item, access_response, queue_state_after}
+use Rattle.policies.proofs.Balance.{after-balanced}
 use Rattle.policies.specs.QueueStep.{IsReached, recorded_in, queue_act, queue_record_of}
 
 -- ---- no miss is a hit
@@ -109,22 +107,6 @@ hits_keep_all d k e h =
 
 -- ---- any access
 
-accessed-distinct : (f : Option FrequencyData) (k : ℕ) (d : QueueState) → IsDistinct d.queues → IsDistinct (queue_state_after f k d).queues
-accessed-distinct f k d u =
-    let p : Plan = plan (rules_of d.job) (admits_in f) (nodeless_item k) d.queues in
-    subst IsDistinct (ap (λ (x : Response). x.queues) (sym (accesses-planned (rules_of d.job) (admits_in f) (nodeless_item k) d.queues u)))
-    (carries p d.queues u).distinct
-
-from-distinct : (j : Job) (past : List ℕ) (d : QueueState) (keys : List ℕ) → IsDistinct d.queues → IsDistinct (state_from j past d keys).queues
-from-distinct j past d [] u = u
-from-distinct j past d (k ∷ keys) u =
-    from-distinct j (past ++ k ∷ []) (queue_state_after (frequency_after j (past ++ k ∷ [])) k d) keys
-    (accessed-distinct (frequency_after j (past ++ k ∷ [])) k d u)
-
-after-distinct : (j : Job) (keys : List ℕ) → IsDistinct (state_after j keys).queues
-unfolding state_after
-after-distinct j keys = from-distinct j [] (empty_queue_state j) keys (λ i. lit≤ tt)
-
 removed-item : (o : Option Item) (s : Queues) → option_map (λ m. m.item) (removal_record o s) ≡ o
 removed-item None s = refl
 removed-item (Some i) s = refl
@@ -132,7 +114,7 @@ removed-item (Some i) s = refl
 pub records_show_leaver : (d : QueueState) (k : ℕ) → IsReached d
     → option_map (λ m. m.item) (queue_record_of k d).moves.out ≡ (access_response (recorded_in k d.frequency) k d).left
 records_show_leaver d k r =
-    let u : IsDistinct d.queues = subst (λ (x : QueueState). IsDistinct x.queues) (sym r.stands.gives) (after-distinct d.job r.keys) in
+    let u : IsDistinct d.queues = subst (λ (x : QueueState). IsDistinct x.queues) (sym r.stands.gives) (after-balanced d.job r.keys).once in
     let f = recorded_in k d.frequency in
     let p : Plan = plan (rules_of d.job) (admits_in f) (nodeless_item k) d.queues in
     removed-item p.leaves (queues_after_transfer p.first d.queues)

@@ -106,7 +106,7 @@ distinct-drop zero l d = d
 distinct-drop (suc n) [] d = tt
 distinct-drop (suc n) (a ∷ l) d = distinct-drop n l d.1
 
-residents-distinct : (c : ℕ) (xs : List ℕ) → IsDistinct (lru_residents c xs)
+pub residents-distinct : (c : ℕ) (xs : List ℕ) → IsDistinct (lru_residents c xs)
 residents-distinct c xs = distinct-drop (length (distinct_keys xs) - c) (distinct_keys xs) (distinct-distinct xs)
 
 residents-none : (c : ℕ) → lru_residents c [] ≡ []

@@ -11,7 +11,7 @@ use Rattle.step_record.specs.declared.outcome.Outcome.TheVariants.{Hit}
 use Rattle.step_record.specs.declared.stats.Stats.{Stats}
 use Rattle.step_record.specs.Config.{config_fault, is_from_one}
 use Rattle.step_record.specs.Pace.{words_of_halvings}
-use Rattle.step_record.specs.Stats.{stats_of, stats_with, one_if, is_hit, is_miss, is_eviction, is_rejection, IsSmall}
+use Rattle.step_record.specs.Stats.{stats_of, stats_with, is_hit, is_miss, is_eviction, is_rejection, IsSmall}
 use Rattle.segments.specs.Queues.{Queues, empty_queues}
 use Rattle.admission.specs.declared.freq_record.FreqRecord.{FreqRecord}
 use Rattle.admission.specs.Frequency.{FrequencyData, frequency_of}
@@ -28,6 +28,7 @@ use Rattle.policies.specs.QueueCache.{QueueState, nodeless_item, access_response
 use Rattle.policies.specs.QueueStep.{IsReached, recorded_in, queue_act, FitsCounting, unrecorded, pace_by}
 use Rattle.admission.specs.KeptCounting.{counting_words}
 use Rattle.policies.specs.QueueFields.{FewHalvings}
+use Rattle.clairvoyant.proofs.Listing.{one-few}
 
 from-snoc : (j : Job) (past : List ℕ) (d : QueueState) (keys : List ℕ) (k : ℕ) → state_from j past d (keys ++ k ∷ []) ≡ queue_state_after (frequency_after j ((past ++ keys) ++ k ∷ [])) k (state_from j past d keys)
 from-snoc j past d [] k = rw (append-nil past) refl
@@ -65,10 +66,6 @@ record IsSteady (d : QueueState) (n : ℕ) : Type 0 where
   misses : d.stats.misses ≤ n
   evictions : d.stats.evictions ≤ n
   rejections : d.stats.rejections ≤ n
-
-one-few : (b : Bool) → one_if b ≤ 1
-one-few true = omega arith
-one-few false = omega arith
 
 steady-step : (f : Option FrequencyData) (k : ℕ) (d : QueueState) (n : ℕ) → IsSteady d n → IsSteady (queue_state_after f k d) (n + 1)
 steady-step f k d n h =

@@ -7,23 +7,34 @@
 //! moves of the crate `replacement`, folded over the accesses (`specs/QueueCache.antt`); that of Lru is also the last
 //! distinct keys (`specs/Lru.antt`). The promises stand as the theorems below, over the steps alone, so that they reach
 //! callers that see a cache through a session or `AnyPolicy`.
+//!
+//! What every run of jobs needs stands here too, on threads or side by side: the accesses of a trace made in turn, the
+//! `Report` of a job over it, and which job is refused, with the fault that says so (`ActorFault`).
 #![tactic(auto)]
 
+mod actor_fault;
 mod any_policy;
 mod design;
+mod job_checks;
 mod lru;
 mod queue_cache;
 mod record;
+mod report;
 mod segmented_lru;
 pub mod theorems;
 mod tiny_lfu;
+mod trace_run;
 mod window_tiny_lfu;
 
+pub use actor_fault::ActorFault;
 pub use any_policy::{AnyPolicy, AnyRecord};
 pub use design::{Design, Layout, QueueDesign, design_of};
+pub use job_checks::{MAX_ACTORS, check_capacities, check_jobs, with_capacity};
 pub use lru::{Lru, LruMark};
 pub use queue_cache::{ByJob, QueueCache};
 pub use record::AccessRecord;
+pub use report::Report;
 pub use segmented_lru::{SegmentedLru, SegmentedLruMark};
 pub use tiny_lfu::{TinyLfu, TinyLfuMark};
+pub use trace_run::{access_all, access_in_batches, report_by};
 pub use window_tiny_lfu::{WindowTinyLfu, WindowTinyLfuMark};

@@ -1,5 +1,7 @@
 //! Theorems on the policies' definitions, for callers that see a cache by its steps alone. Each of these functions does
 //! nothing: its contract is the theorem.
+ghost use Rattle.policies.specs.Residents.{ResidentsFit, ResidentsDistinct, ResidentsCounted};
+ghost use Rattle.policies.specs.Residents.{HitsAreResidents, FetchesOnDemand, StatsAddUp, MissesFit};
 ghost use Rattle.policies.specs.Theorems.{QueuesStand, QueuesAccept, QueuesCount, HitsKeepAll, RecordsShowLeaver};
 ghost use Rattle.policies.specs.Theorems.{LruStands, AnyHitsKeepAll};
 ghost use Rattle.policies.specs.Theorems.{AnyStands, AnyAccepts, AnyIsOne, AnyReports, AnyAnswers, AnyCoversTrace};
@@ -75,4 +77,41 @@ pub fn any_covers_trace()
 /// Undoing a hit of a cache of any policy asks for no room, so it is never refused.
 pub fn any_hits_keep_all()
     ensures { AnyHitsKeepAll }
+{}
+
+/// A cache of any policy never holds more keys than its capacity.
+pub fn residents_fit()
+    ensures { ResidentsFit }
+{}
+
+/// No key is resident twice.
+pub fn residents_distinct()
+    ensures { ResidentsDistinct }
+{}
+
+/// The residents of a cache of any policy are its misses minus its evictions.
+pub fn residents_counted()
+    ensures { ResidentsCounted }
+{}
+
+/// An access is a hit exactly where its key is resident.
+pub fn hits_are_residents()
+    ensures { HitsAreResidents }
+{}
+
+/// The one key that an access may bring in is its own.
+pub fn fetches_on_demand()
+    ensures { FetchesOnDemand }
+{}
+
+/// Each access of a trace is a hit or a miss of the job.
+pub fn stats_add_up()
+    ensures { StatsAddUp }
+{
+    any_covers_trace();
+}
+
+/// The misses of a job minus its evictions are at most its capacity.
+pub fn misses_fit()
+    ensures { MissesFit }
 {}

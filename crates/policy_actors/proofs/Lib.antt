@@ -1,9 +1,5 @@
-pub mod Batches
 pub mod Moves
-pub mod Pieces
 pub mod Playing
 pub mod ReadTo
-pub mod Rows
 pub mod Stretch
-pub mod Swept
 pub mod Turns

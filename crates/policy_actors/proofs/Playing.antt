@@ -13,7 +13,7 @@ use Rattle.policy_actors.specs.declared.actor.Player.{Player}
 use Rattle.policy_actors.specs.declared.actor.Player.TheVariants.{Cache, NextUses}
 use Rattle.policy_actors.specs.Rule.{IsBatch}
 use Rattle.policy_actors.specs.declared.rule.Batch.{Batch}
-use Rattle.policy_actors.proofs.Batches.{taken-more, all-taken}
+use Rattle.policies.proofs.Batches.{taken-more, all-taken}
 
 -- a cache of a policy that goes by no trace
 pub of_any : (j : Job) (trace other keys : List ℕ) (d : AnyPolicy) → knows_trace j.policy ≡ false → HasAccessed j trace keys d → HasAccessed j other keys d

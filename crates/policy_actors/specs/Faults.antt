@@ -3,10 +3,10 @@ use Rattle.std.specs.Prelude.{ℕ, cond, nat_le, Option, Some, List, length}
 use Rattle.step_record.specs.Config.{is_from_one}
 use Rattle.step_record.specs.declared.limits.TheConstants.{MAX_BATCH}
 use Rattle.step_record.specs.declared.job.Job.{Job}
-use Rattle.job_checks.specs.FaultyJobs.{faulty_in}
-use Rattle.job_checks.specs.declared.fault.ActorFault.{ActorFault}
-use Rattle.job_checks.specs.declared.fault.ActorFault.TheVariants.{Batch, Actors}
-use Rattle.policy_actors.specs.declared.run.TheConstants.{MAX_ACTORS}
+use Rattle.policies.specs.FaultyJobs.{faulty_in}
+use Rattle.policies.specs.declared.actor_fault.ActorFault.{ActorFault}
+use Rattle.policies.specs.declared.actor_fault.ActorFault.TheVariants.{Batch, Actors}
+use Rattle.policies.specs.declared.job_checks.TheConstants.{MAX_ACTORS}
 
 -- the size of a batch is looked at first, then the number of jobs, and then their configurations
 abbrev pub actor_fault : ℕ → List Job → Option ActorFault

@@ -1,10 +1,7 @@
-pub mod Reports
 pub mod Faults
-pub mod Accesses
 pub mod Keys
 pub mod Played
 pub mod ReadRun
 pub mod Rule
 pub mod Rounds
 pub mod Actors
-pub mod Sweep

@@ -3,7 +3,7 @@ use Rattle.std.specs.Prelude.{◌≡◌, ◌⊎◌, ℕ, ◌+◌, ◌*◌, ◌�
 use Rattle.step_record.specs.declared.job.Job.{Job}
 use Rattle.step_record.specs.declared.limits.TheConstants.{MAX_ACCESSES}
 use Rattle.policies.specs.AnyPolicy.{HasAccessed}
-use Rattle.policy_actors.specs.Accesses.{IsNext}
+use Rattle.policies.specs.Accesses.{IsNext}
 use Rattle.policy_actors.specs.declared.actor.Player.{Player}
 use Rattle.policy_actors.specs.declared.actor.Player.TheVariants.{Cache, NextUses}
 

@@ -8,8 +8,8 @@ use Rattle.trace_read.specs.declared.fault.TraceFault.{TraceFault}
 use Rattle.trace_read.specs.declared.fault.TraceFault.TheVariants.{TooLarge}
 use Rattle.trace_read.specs.TraceText.{fault_in, AreOfFile, IsOfLine}
 use Rattle.step_record.specs.declared.job.Job.{Job}
-use Rattle.job_checks.specs.FaultyJobs.{faulty_in}
-use Rattle.policy_actors.specs.declared.run.TheConstants.{MAX_ACTORS}
+use Rattle.policies.specs.FaultyJobs.{faulty_in}
+use Rattle.policies.specs.declared.job_checks.TheConstants.{MAX_ACTORS}
 
 -- the source stands for the accesses of the file, as far as they are known, and the jobs may run while it is read
 pub record CanRunReading (format : Format) (file known : Option (List ℕ)) (size batch : ℕ) (jobs : List Job) : Type 0 where

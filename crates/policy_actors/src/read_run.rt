@@ -1,17 +1,17 @@
 //! Each job on a thread of its own, while the trace is read.
 ghost use Rattle.std.specs.Prelude.{◌≡◌, ◌<◌, ◌≤◌, ℕ, List, map, length, None, Some, IfOk, IfSome};
-ghost use Rattle.policy_actors.specs.declared.run.TheConstants.{MAX_ACTORS};
+ghost use Rattle.policies.specs.declared.job_checks.TheConstants.{MAX_ACTORS};
 ghost use Rattle.policy_actors.specs.Faults.{actor_fault};
 ghost use Rattle.policy_actors.specs.ReadRun.{CanRunReading, IsReadTo};
-ghost use Rattle.policy_actors.specs.Reports.{report_on};
-ghost use Rattle.job_checks.specs.FaultyJobs.{faulty_in};
+ghost use Rattle.policies.specs.Reports.{report_on};
+ghost use Rattle.policies.specs.FaultyJobs.{faulty_in};
 ghost use Rattle.trace_read.specs.TraceText.{AreOfFile, keys_in};
 
 use crate::feeder::Backlog;
 use crate::read_feeder::ReadFeeder;
 use crate::rule::FeedSource;
 use crate::run::{Common, run_fed};
-use report::Report;
+use policies::Report;
 use std::alloc::{AllocError, Global};
 use std::io::Read;
 use std::marker::{Brand, PhantomData};

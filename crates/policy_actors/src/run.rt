@@ -3,28 +3,24 @@ ghost use Rattle.std.specs.Prelude.{◌≡◌, ◌<◌, ◌≤◌, [], ◌∷◌
 ghost use Rattle.std.specs.Prelude.{ℕ, List, Ok, None, Some, IfOk, OnOk, IfSome};
 ghost use denote.Param.Send.{IsSync};
 ghost use Rattle.step_record.specs.Config.{config_fault};
-ghost use Rattle.policy_actors.specs.declared.run.TheConstants.{MAX_ACTORS};
+ghost use Rattle.policies.specs.declared.job_checks.TheConstants.{MAX_ACTORS};
 ghost use Rattle.policy_actors.specs.Actors.{jobs_of};
 ghost use Rattle.policy_actors.specs.Faults.{actor_fault};
-ghost use Rattle.job_checks.specs.FaultyJobs.{faulty_in, ReturnsFault};
-ghost use Rattle.policy_actors.specs.Reports.{report_on};
+ghost use Rattle.policies.specs.FaultyJobs.{faulty_in, ReturnsFault};
+ghost use Rattle.policies.specs.Reports.{report_on};
 
 use crate::actor::act;
 use crate::feeder::{Backlog, Feeder, TraceFeeder};
 use crate::mail::{Outbox, channel};
 use crate::next_uses::{SharedUses, WholeTrace};
 use crate::rule::FeedSource;
-use job_checks::{ActorFault, check_jobs};
-use report::Report;
+use policies::{ActorFault, MAX_ACTORS, Report, check_jobs};
 use std::alloc::{AllocError, Global};
 use std::marker::{Brand, PhantomData};
 use std::sync::Wait;
 use std::thread;
 use std::thread::{Promise, Threads};
 use step_record::{Gate, Job, MAX_BATCH, Trace};
-
-/// The largest number of jobs that are run at once.
-pub const MAX_ACTORS: usize = 64;
 
 /// What an actor's thread promises: with a report, it is that of the whole trace.
 #[derive(Drop)]
@@ -35,7 +31,7 @@ pub struct Promised<S: FeedSource> {
 
 impl<S: FeedSource> Promise<Option<Report>> for Promised<S> {
     ghost use Rattle.std.specs.Prelude.{◌≡◌, ℕ, List, Some, IfSome};
-    ghost use Rattle.policy_actors.specs.Reports.{report_on};
+    ghost use Rattle.policies.specs.Reports.{report_on};
 
     ghost kept_by = { λ p r. (all : List ℕ) → S.known ≡ Some all → IfSome r (λ x. x ≡ report_on p.job all) };
 }

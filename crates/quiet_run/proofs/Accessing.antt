@@ -15,8 +15,8 @@ use Rattle.replacement.specs.declared.rules.Placement.{Placement}
 use Rattle.replacement.specs.declared.rules.Placement.TheVariants.{Direct, Windowed}
 use Rattle.replacement.specs.declared.rules.Rules.{Rules}
 use Rattle.replacement.specs.Table.{Response, kept_in, with_recent, queues_after_demotion, hit_in, hit_by, contest, trial, trial_of, eviction, response_with_victim, response_without_trial, miss_by, miss, access_in, access}
-use Rattle.shell_model.specs.Consistency.{queue_occurrences}
-use Rattle.shell_model.proofs.Counting.{queued-kept}
+use Rattle.replacement.specs.Counts.{queue_occurrences}
+use Rattle.replacement.proofs.Counting.{queued-kept}
 use Rattle.shell_model.proofs.Undoing.{first-queued}
 use Rattle.quiet_run.specs.Nodes.{nodeless, nodeless_queues, nodeless_option, nodeless_response, IsOnly, HasKeysOnce, AccessesAgree}
 use Rattle.quiet_run.proofs.Nodes.{AreAlike, length-nodeless, first-nodeless, place-nodeless, total-nodeless, taken-nodeless, pushed-nodeless, moved-nodeless, oldest-nodeless, same-nodeless, only-alike, once-kept, once-pushed, distinct-pushed}

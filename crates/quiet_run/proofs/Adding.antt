@@ -1,9 +1,8 @@
 -- Steps that came to the end of a session.
-use Rattle.std.proofs.Common.{◌≡◌, ℕ, ◌+◌, ◌-◌, Option, Some, None, option_map, [], ◌∷◌, ◌++◌, length, length-append, refl, sym, ap, ◌∙◌, subst, arith}
+use Rattle.std.proofs.Common.{◌≡◌, ℕ, ◌+◌, ◌-◌, Option, Some, None, option_map, [], ◌∷◌, ◌++◌, length, length-append, Result, Ok, Err, IfOk, OnErr, refl, sym, ap, ◌∙◌, subst, arith}
 use Rattle.std.proofs.lemmas.List.{append_assoc, append-nil}
 use Rattle.step_record.specs.declared.entry.Entry.{Entry}
 use Rattle.step_record.specs.declared.outcome.Outcome.{Outcome}
-use Rattle.step_record.specs.declared.step.Act.{Act}
 use Rattle.step_record.specs.declared.step.Reply.{Reply}
 use Rattle.step_record.specs.declared.step.Step.{Step}
 use Rattle.step_record.specs.declared.drain.Phase.{Phase}
@@ -12,16 +11,14 @@ use Rattle.step_record.specs.History.{Entries, tail_after}
 use Rattle.step_record.proofs.Undone.{tail_joined}
 use Rattle.shell_model.specs.declared.holder.Holder.{Holder}
 use Rattle.shell_model.specs.ReachableShell.{worker_of}
-use Rattle.shell_model.specs.Shell.{Shell}
 use Rattle.maintenance.specs.EmptyShell.{holder_parts}
-use Rattle.walks.specs.Holders.{IsReady, IsReadyFor}
-use Rattle.walks.specs.declared.next.Next.{Next}
-use Rattle.walks.specs.declared.next.Next.TheVariants as next_act
 use Rattle.walks.specs.declared.place.Local.{Local}
 use Rattle.walks.specs.declared.place.WalkPlace.{WalkPlace}
 use Rattle.walks.specs.WalkPlaces.{IsAheadOf, phase_place}
 use Rattle.quiet_run.specs.Outcomes.{outcome_with_reply, outcome_from}
-use Rattle.quiet_run.specs.Settle.{ShellSession, AddsSteps, IsRestOfRound, IsRest}
+use Rattle.quiet_run.specs.QuietWalks.{with_rounds}
+use Rattle.quiet_run.specs.Settle.{ShellSession, AddsSteps, IsAtStart, IsRestOfRound, IsRest}
+use Rattle.quiet_run.proofs.Rounds.{reading, writing, evicting}
 
 pub adds_none : (P : Entries → Type 0) (old new : ShellSession) → new.kept ≡ old.kept → new.tail ≡ old.tail → P [] → AddsSteps P old new
 adds_none P old new k t h = record { made = []; entered = k ∙ sym (append-nil old.kept); tail = t; holds = h }
@@ -54,23 +51,17 @@ adds_counted P Q n old new m c f =
     let many : length new.kept ≡ length old.kept + length m.made = ap length m.entered ∙ length-append old.kept m.made in
     record { made = m.made; entered = m.entered; tail = m.tail; holds = (f m.made m.holds, omega (arith, c, many)) }
 
--- the holder whose next step is another act holds
-pub still_held : (w : ℕ) (next : Next) (a : Act) (l : Local) (x y : Shell) → next ≡ next_act.Do a l → IsReadyFor w next x → y ≡ x → worker_of y.holder ≡ Some w
-still_held w next a l x y d h same =
-    let r : IsReady w a x = subst (λ (m : Next). IsReadyFor w m x) d h in
-    ap (λ (z : Shell). worker_of z.holder) same ∙ ap worker_of r.holds ∙ ap (λ (v : ℕ). Some v) r.worker
-
 -- the worker of a holder that is shown as a triple
 pub held_worker : (o : Option Holder) (w : ℕ) (p : Phase) (left : ℕ) → option_map holder_parts o ≡ Some (w, p, left) → worker_of o ≡ Some w
 held_worker None w p left e = absurd (cc (e))
 held_worker (Some g) w p left e = ap (λ (v : ℕ). Some v) (ap (λ (t : ℕ × Phase × ℕ). t.0) (let all : holder_parts g ≡ (w, p, left) = cc (e) in all))
 
-rest-in : (w n : ℕ) (p : Phase) (es : Entries) → IsAheadOf w n (phase_place p) es → IsRestOfRound w n p es
-rest-in w n Reads es h = h
-rest-in w n Writes es h = h
-rest-in w n Evictions es h = h
+rest-in : (w n : ℕ) (p : Phase) (es : Entries) → IsAheadOf w n (phase_place p) (with_rounds es) → IsRestOfRound w n p es
+rest-in w n Reads es h = (reading w n es 0 0).0 h
+rest-in w n Writes es h = (writing w n es).0 h
+rest-in w n Evictions es h = (evicting w n es).0 h
 
-held-rest : (n : ℕ) (o : Option Holder) (w : ℕ) (p : Phase) (left : ℕ) (es : Entries) → option_map holder_parts o ≡ Some (w, p, left) → IsAheadOf w n (phase_place p) es → IsRest n o es
+held-rest : (n : ℕ) (o : Option Holder) (w : ℕ) (p : Phase) (left : ℕ) (es : Entries) → option_map holder_parts o ≡ Some (w, p, left) → IsAheadOf w n (phase_place p) (with_rounds es) → IsRest n o es
 held-rest n None w p left es e h = absurd (cc (e))
 held-rest n (Some g) w p left es e h =
     let all : holder_parts g ≡ (w, p, left) = cc (e) in
@@ -80,10 +71,17 @@ held-rest n (Some g) w p left es e h =
 
 -- what is ahead of one that stands where the holder stands is the rest of the holder's round
 pub held_rest : (l : Local) (n : ℕ) (o : Option Holder) (w : ℕ) (p : Phase) (left : ℕ) → option_map holder_parts o ≡ Some (w, p, left) → l.worker ≡ w → l.stripes ≡ n → l.place ≡ phase_place p
-    → (es : Entries) → IsAheadOf l.worker l.stripes l.place es → IsRest n o es
+    → (es : Entries) → IsAheadOf l.worker l.stripes l.place (with_rounds es) → IsRest n o es
 held_rest l n o w p left e a b c es h =
     held-rest n o w p left es e
-    (subst (λ (q : WalkPlace). IsAheadOf w n q es) c (subst (λ (m : ℕ). IsAheadOf w m l.place es) b (subst (λ (v : ℕ). IsAheadOf v l.stripes l.place es) a h)))
+    (subst (λ (q : WalkPlace). IsAheadOf w n q (with_rounds es)) c (subst (λ (m : ℕ). IsAheadOf w m l.place (with_rounds es)) b (subst (λ (v : ℕ). IsAheadOf v l.stripes l.place (with_rounds es)) a h)))
+
+-- and it stands where the holder's phase is
+pub held_place : (l : Local) (o : Option Holder) (w : ℕ) (p : Phase) (left : ℕ) → option_map holder_parts o ≡ Some (w, p, left) → l.worker ≡ w → l.place ≡ phase_place p → IsAtStart o l.worker l.place
+held_place l None w p left e a c = absurd (cc (e))
+held_place l (Some g) w p left e a c =
+    let all : holder_parts g ≡ (w, p, left) = cc (e) in
+    (ap (λ (t : ℕ × Phase × ℕ). t.0) all ∙ sym a, c ∙ ap (λ (t : ℕ × Phase × ℕ). phase_place t.1) (sym all))
 
 pub adds_joined : (P Q R : Entries → Type 0) (old now new : ShellSession) → AddsSteps P old now → AddsSteps Q now new → ((a b : Entries) → P a → Q b → R (a ++ b)) → AddsSteps R old new
 adds_joined P Q R old now new m n f = record {
@@ -96,10 +94,10 @@ adds_joined P Q R old now new m n f = record {
 pub adds_known : (P Q : Entries → Type 0) (old new : ShellSession) → AddsSteps P old new → ((es : Entries) → P es → Q es) → AddsSteps Q old new
 adds_known P Q old new m f = record { made = m.made; entered = m.entered; tail = m.tail; holds = f m.made m.holds }
 
--- one entry
-pub adds_one : (old new : ShellSession) (e : Entry Step Reply) → new.kept ≡ old.kept ++ e ∷ [] → new.tail ≡ [] → AddsSteps (λ es. es ≡ e ∷ []) old new
-adds_one old new e k t = record { made = e ∷ []; entered = k; tail = t; holds = refl }
+pub map_ok : {T F : Type 0} (r : Result T F) (P Q : T → Type 0) → ((x : T) → P x → Q x) → IfOk r P → IfOk r Q
+map_ok (Ok x) P Q f h = f x h
+map_ok (Err e) P Q f h = tt
 
-pub told_joined : (o : Outcome) (a b : Entries) → outcome_from o (a ++ b) ≡ outcome_from (outcome_from o a) b
-told_joined o [] b = refl
-told_joined o (e ∷ a) b = told_joined (outcome_with_reply o e.reply) a b
+pub map_err : {T F : Type 0} (r : Result T F) (P Q : Type 0) → (P → Q) → OnErr r P → OnErr r Q
+map_err (Ok x) P Q f h = tt
+map_err (Err e) P Q f h = f h

@@ -3,8 +3,9 @@ pub mod Nodes
 pub mod Accessing
 pub mod Residents
 pub mod Serving
+pub mod Rounds
+pub mod Alone
 pub mod Adding
-pub mod Calling
 pub mod Keying
 pub mod QuietSteps
 pub mod QuietRounds

@@ -7,8 +7,8 @@ use Rattle.segments.specs.declared.records.Queue.TheVariants.{Window, Probation,
 use Rattle.segments.specs.Items.{is_same_item, occurrences, items_without, oldest_of}
 use Rattle.segments.specs.Queues.{Queues, queue_of, queue_holding, queues_after_push, queues_without, queues_after_move, total_items, IsDistinct}
 use Rattle.segments.proofs.ItemLists.{same-true, same-refl}
-use Rattle.shell_model.specs.Consistency.{queue_occurrences}
-use Rattle.shell_model.proofs.Counting.{queued-pushed}
+use Rattle.replacement.specs.Counts.{queue_occurrences}
+use Rattle.replacement.proofs.Counting.{queued-pushed}
 use Rattle.quiet_run.specs.Nodes.{nodeless, nodeless_list, nodeless_queues, nodeless_option, IsOnly, HasKeysOnce}
 
 -- the item differs from those of the list by its key alone

@@ -1,5 +1,6 @@
 -- The walk of one key at a quiet cache, read from its first entry: a hit, and a miss.
-use Rattle.std.proofs.Common.{◌≡◌, ℕ, suc, ◌+◌, ◌<◌, ◌≤◌, true, nat_lt, Some, None, List, [], ◌∷◌, length, refl, arith}
+use Rattle.std.proofs.Common.{◌≡◌, ℕ, suc, ◌+◌, ◌<◌, ◌≤◌, true, nat_lt, Some, None, List, [], ◌∷◌, length, refl, sym, subst, arith}
+use Rattle.std.proofs.Math.Nat.{zero-mod}
 use Rattle.std.proofs.lemmas.Bool.Decides.{nat_tests}
 use Rattle.step_record.specs.declared.item.Item.{Item}
 use Rattle.step_record.specs.declared.config.Config.{Config}
@@ -19,11 +20,11 @@ use Rattle.shell_model.specs.declared.stats.ShellStats.{ShellStats}
 use Rattle.shell_model.specs.Frequency.{frequency_recorded}
 use Rattle.shell_model.specs.ShellStats.{shell_stats_after}
 use Rattle.replacement.specs.Table.{after_hit}
-use Rattle.shell_model.specs.Shell.{Shell, window_size, shell_protected_size, node_of, table_with}
-use Rattle.walks.specs.Walks.{IsRound, FollowsBegin, IsWriting, FollowsDrainWrite}
-use Rattle.quiet_run.specs.QuietWalks.{FollowsQuietReport, FollowsQuietOffer, FollowsQuietPut, FollowsQuietLook, IsQuietWalk}
-use Rattle.shell_model.specs.ShellEviction.{unlisted_by}
-use Rattle.quiet_run.proofs.QuietSteps.{Leads, opens, state, held, Leaves}
+use Rattle.shell_model.specs.Shell.{Shell, window_size, shell_protected_size, node_of, table_with, unlisted_by}
+use Rattle.walks.specs.Walks.{Opens, FollowsLook, FollowsOffer, FollowsPut, FollowsReport, IsRound, FollowsBegin, IsWriting, FollowsDrainWrite}
+use Rattle.quiet_run.specs.QuietWalks.{with_rounds, IsQuietWalk}
+use Rattle.quiet_run.proofs.QuietSteps.{Leads, opens, opens-with, state, held, Leaves}
+use Rattle.quiet_run.proofs.Rounds.{round}
 use Rattle.quiet_run.proofs.QuietRounds.{fits, evicted, evicts, writing-opens, write-empty, Drains, reading-opens, reads}
 
 -- an item at the first stripe, and nothing else, is drained
@@ -60,13 +61,14 @@ hits c t n q rest f s m k nd Q e b r u v g =
     let s1 : ShellStats = shell_stats_after (reply.Hit nd) s in
     let s2 : ShellStats = shell_stats_after reply.Kept s1 in
     let s3 : ShellStats = shell_stats_after reply.Go s2 in
-    opens c.stripes (a.Look k) (FollowsQuietLook c.stripes k) (state c t n q ([] ∷ rest) [] f drain.Idle None s m) outcome.Kept outcome.Hit Q (reply.Hit nd) (state c t n q ([] ∷ rest) [] f drain.Idle None s m)
+    opens-with c.stripes (a.Look k) (FollowsLook 0 c.stripes k) (state c t n q ([] ∷ rest) [] f drain.Idle None s m) outcome.Kept outcome.Hit Q (reply.Hit nd) (state c t n q ([] ∷ rest) [] f drain.Idle None s m)
     (rw e refl)
-    (opens c.stripes (a.Offer 0 i) (FollowsQuietOffer c.stripes) (state c t n q ([] ∷ rest) [] f drain.Idle None s1 (m + 1)) outcome.Hit outcome.Hit Q reply.Kept (state c t n q ((i ∷ []) ∷ rest) [] f drain.Idle None s1 (m + 1))
+    (subst (λ (j : ℕ). Leads (λ es. Opens 0 c.stripes (a.Offer j i) (FollowsOffer 0 c.stripes) (with_rounds es)) (state c t n q ([] ∷ rest) [] f drain.Idle None s1 (m + 1)) outcome.Hit outcome.Hit Q) (sym (zero-mod c.stripes))
+    (opens-with c.stripes (a.Offer 0 i) (FollowsOffer 0 c.stripes) (state c t n q ([] ∷ rest) [] f drain.Idle None s1 (m + 1)) outcome.Hit outcome.Hit Q reply.Kept (state c t n q ((i ∷ []) ∷ rest) [] f drain.Idle None s1 (m + 1))
     (rw (there, below) refl)
-    (opens c.stripes (a.AfterRead answer.Kept) (FollowsQuietReport c.stripes) (state c t n q ((i ∷ []) ∷ rest) [] f drain.Idle None s2 (m + 1 + 1)) outcome.Hit outcome.Hit Q reply.Go (state c t n q ((i ∷ []) ∷ rest) [] f drain.Idle None s2 (m + 1 + 1))
+    (opens-with c.stripes (a.AfterRead answer.Kept) (FollowsReport 0 c.stripes) (state c t n q ((i ∷ []) ∷ rest) [] f drain.Idle None s2 (m + 1 + 1)) outcome.Hit outcome.Hit Q reply.Go (state c t n q ((i ∷ []) ∷ rest) [] f drain.Idle None s2 (m + 1 + 1))
     refl
-    (hit-round c t n q rest f s3 (m + 1 + 1 + 1) k nd outcome.Hit Q r u v g)))
+    (λ es w. hit-round c t n q rest f s3 (m + 1 + 1 + 1) k nd outcome.Hit Q r u v g es (round 0 c.stripes es w)))))
 
 -- a new item is applied, and what leaves for it is evicted
 miss-round : (j : ℕ) (c : Config) (t : List Item) (n : ℕ) (q : Queues) (l : List (List Item)) (i : Item) (f : FrequencyData) (s : ShellStats) (m : ℕ) (Q : Shell → Type 0)
@@ -101,10 +103,10 @@ misses j c t n q l f s m k Q e z r u v g =
     let s1 : ShellStats = shell_stats_after reply.Miss s in
     let s2 : ShellStats = shell_stats_after (reply.Added n) s1 in
     let s3 : ShellStats = shell_stats_after reply.Drain s2 in
-    opens c.stripes (a.Look k) (FollowsQuietLook c.stripes k) (state c t n q l [] f drain.Idle None s m) outcome.Kept goal Q reply.Miss (state c t n q l [] f drain.Idle None s m)
+    opens-with c.stripes (a.Look k) (FollowsLook 0 c.stripes k) (state c t n q l [] f drain.Idle None s m) outcome.Kept goal Q reply.Miss (state c t n q l [] f drain.Idle None s m)
     (rw e refl)
-    (opens c.stripes (a.Put k) (FollowsQuietPut c.stripes) (state c t n q l [] f drain.Idle None s1 (m + 1)) outcome.Kept goal Q (reply.Added n) (state c t2 (n + 1) q l (Add i ∷ []) f drain.Idle None s1 (m + 1))
+    (opens-with c.stripes (a.Put k) (FollowsPut 0 c.stripes) (state c t n q l [] f drain.Idle None s1 (m + 1)) outcome.Kept goal Q (reply.Added n) (state c t2 (n + 1) q l (Add i ∷ []) f drain.Idle None s1 (m + 1))
     (rw e refl)
-    (opens c.stripes a.AfterWrite (FollowsQuietReport c.stripes) (state c t2 (n + 1) q l (Add i ∷ []) f drain.Idle None s2 (m + 1 + 1)) outcome.Kept goal Q reply.Drain (state c t2 (n + 1) q l (Add i ∷ []) f drain.Required None s2 (m + 1 + 1))
+    (opens-with c.stripes a.AfterWrite (FollowsReport 0 c.stripes) (state c t2 (n + 1) q l (Add i ∷ []) f drain.Idle None s2 (m + 1 + 1)) outcome.Kept goal Q reply.Drain (state c t2 (n + 1) q l (Add i ∷ []) f drain.Required None s2 (m + 1 + 1))
     refl
-    (miss-round j c t2 (n + 1) q l i f s3 (m + 1 + 1 + 1) Q z r u v g)))
+    (λ es w. miss-round j c t2 (n + 1) q l i f s3 (m + 1 + 1 + 1) Q z r u v g es (round 0 c.stripes es w))))

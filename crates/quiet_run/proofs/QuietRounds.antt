@@ -26,11 +26,10 @@ use Rattle.shell_buffers.specs.declared.task.Task.{Task}
 use Rattle.shell_buffers.specs.Buffers.{stripe_at}
 use Rattle.shell_model.specs.declared.stats.ShellStats.{ShellStats}
 use Rattle.shell_model.specs.ShellStats.{shell_stats_after}
-use Rattle.shell_model.specs.Shell.{Shell, window_size, may_write}
+use Rattle.shell_model.specs.Shell.{Shell, window_size, reply_by, unlisted_by, may_write}
 use Rattle.shell_model.proofs.Undoing.{first-queued}
 use Rattle.walks.specs.Walks.{Opens, IsEnding, FollowsEnd, IsEvicting, FollowsEvict, IsWriting, FollowsDrainWrite, IsReading, FollowsDrainRead}
 use Rattle.quiet_run.specs.Outcomes.{outcome_with_reply}
-use Rattle.shell_model.specs.ShellEviction.{reply_by, unlisted_by}
 use Rattle.quiet_run.proofs.Agreeing.{evictions-law}
 use Rattle.quiet_run.proofs.QuietSteps.{Leads, opens, over, state, held, Leaves}
 

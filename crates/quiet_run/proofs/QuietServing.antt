@@ -23,7 +23,8 @@ use Rattle.shell_model.specs.declared.holder.Holder.{Holder}
 use Rattle.shell_model.specs.declared.stats.ShellStats.{ShellStats}
 use Rattle.shell_model.specs.Frequency.{frequency_recorded}
 use Rattle.shell_model.specs.Shell.{Shell, window_size, shell_protected_size, node_of, act}
-use Rattle.shell_model.specs.Consistency.{IsConsistent, IsPlaced, queue_occurrences}
+use Rattle.replacement.specs.Counts.{queue_occurrences}
+use Rattle.shell_model.specs.Consistency.{IsConsistent, IsPlaced}
 use Rattle.shell_model.proofs.Counting.{listed-times, node-listed}
 use Rattle.shell_model.proofs.Histories.{after-sound}
 use Rattle.shell_model.proofs.Reached.{reached-sound}

@@ -20,6 +20,7 @@ use Rattle.shell_model.specs.Laws.{MadeStep}
 use Rattle.shell_model.proofs.Histories.{counted_up}
 use Rattle.walks.specs.Walks.{Opens, step_of}
 use Rattle.quiet_run.specs.Outcomes.{outcome_with_reply, outcome_from}
+use Rattle.quiet_run.specs.QuietWalks.{reply_with_round, with_rounds}
 
 -- entries of the walk that are legal from x come to the outcome, where o was found so far, and Q holds of what they leave
 abbrev pub Leads : (Entries → Type 0) → Shell → Outcome → Outcome → (Shell → Type 0) → Type 0
@@ -54,6 +55,12 @@ opens n b Follows x o goal Q r y h k (e ∷ es) w l =
     let p = accepted x e b r y w.0 l.0 h in
     let m = k es (subst (λ z. Follows z es) p.reply w.1) (subst (λ z. IsLegal act z es) p.leaves l.1) in
     (ap (λ z. outcome_from (outcome_with_reply o z) es) p.reply ∙ m.0, subst (λ z. Q (data_after act z es)) (sym p.leaves) m.1)
+
+-- the same of a walk with a round behind each report
+pub opens-with : (n : ℕ) (b : Act) (Follows : Reply → Entries → Type 0) (x : Shell) (o goal : Outcome) (Q : Shell → Type 0) (r : Reply) (y : Shell)
+    → act_effect 0 b x ≡ Some (r, y) → Leads (λ es. Follows (reply_with_round r) (with_rounds es)) (counted_up r y) (outcome_with_reply o r) goal Q → Leads (λ es. Opens 0 n b Follows (with_rounds es)) x o goal Q
+opens-with n b Follows x o goal Q r y h k [] w l = absurd w
+opens-with n b Follows x o goal Q r y h k (e ∷ es) w l = opens n b (λ t fs. Follows (reply_with_round t) (with_rounds fs)) x o goal Q r y h k (e ∷ es) w l
 
 -- nothing follows
 pub over : (x : Shell) (o : Outcome) (Q : Shell → Type 0) → Q x → Leads (λ es. es ≡ []) x o o Q

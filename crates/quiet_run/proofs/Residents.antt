@@ -11,7 +11,8 @@ use Rattle.segments.proofs.ItemLists.{same-true, length-without}
 use Rattle.segments.proofs.MoveLaws.{Stands, in_window, in_probation, in_protected, nowhere, stands}
 use Rattle.replacement.specs.Table.{with_recent, queues_after_demotion, hit_in, after_hit}
 use Rattle.shell_model.specs.Shell.{node_of}
-use Rattle.shell_model.specs.Consistency.{IsPlaced, queue_occurrences, IsAscending}
+use Rattle.replacement.specs.Counts.{queue_occurrences}
+use Rattle.shell_model.specs.Consistency.{IsPlaced, IsAscending}
 use Rattle.shell_model.proofs.Counting.{above-key}
 use Rattle.quiet_run.specs.Nodes.{HasKeysOnce}
 

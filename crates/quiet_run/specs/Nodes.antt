@@ -4,7 +4,7 @@ use Rattle.step_record.specs.declared.item.Item.{Item}
 use Rattle.segments.specs.Queues.{Queues, IsDistinct}
 use Rattle.replacement.specs.declared.rules.Rules.{Rules}
 use Rattle.replacement.specs.Table.{Response, access}
-use Rattle.shell_model.specs.Consistency.{queue_occurrences}
+use Rattle.replacement.specs.Counts.{queue_occurrences}
 
 -- the item as a policy has it
 abbrev pub nodeless : Item → Item

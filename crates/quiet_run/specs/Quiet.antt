@@ -8,7 +8,7 @@ use Rattle.step_record.specs.declared.drain.Drain.TheVariants.{Idle}
 use Rattle.segments.specs.Items.{occurrences}
 use Rattle.policies.specs.QueueCache.{QueueState}
 use Rattle.shell_model.specs.Shell.{Shell, window_size}
-use Rattle.shell_model.specs.Consistency.{queue_occurrences}
+use Rattle.replacement.specs.Counts.{queue_occurrences}
 use Rattle.quiet_run.specs.Nodes.{nodeless_queues, HasKeysOnce}
 
 -- the policy of the same configuration

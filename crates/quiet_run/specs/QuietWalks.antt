@@ -1,59 +1,37 @@
 -- The walk of worker 0 over one key where a round of maintenance comes after each, whatever the reports were answered.
 -- (This project's own: with it the concurrent cache is W-TinyLFU.)
-use Rattle.std.specs.Prelude.{◌≡◌, ℕ, ◌<◌, List, [], ◌∷◌, ◌++◌, length}
-use Rattle.step_record.specs.declared.item.Item.{Item}
+use Rattle.std.specs.Prelude.{◌≡◌, ℕ, ◌<◌, List, [], ◌∷◌, ◌++◌, length, map}
+use Rattle.step_record.specs.declared.entry.Entry.{Entry}
 use Rattle.step_record.specs.declared.outcome.Outcome.{Outcome}
 use Rattle.step_record.specs.declared.outcome.Outcome.TheVariants.{Kept}
-use Rattle.step_record.specs.declared.step.Act.{Act}
-use Rattle.step_record.specs.declared.step.Act.TheVariants as act
-use Rattle.step_record.specs.declared.step.Answer.TheVariants as answer
+use Rattle.step_record.specs.declared.step.Call.TheVariants as call
 use Rattle.step_record.specs.declared.step.Reply.{Reply}
 use Rattle.step_record.specs.declared.step.Reply.TheVariants as reply
+use Rattle.step_record.specs.declared.step.Step.{Step}
 use Rattle.step_record.specs.History.{Entries}
 use Rattle.quiet_run.specs.declared.run.QuietFault.{QuietFault}
 use Rattle.quiet_run.specs.declared.run.QuietFault.TheVariants as fault
-use Rattle.walks.specs.Walks.{Opens, IsRound}
+use Rattle.walks.specs.Walks.{IsWalk}
 use Rattle.quiet_run.specs.Outcomes.{outcome_from}
 use Rattle.walks.specs.WorkerEntries.{IsUnfinished}
 use Rattle.quiet_run.specs.Settle.{ShellSession, AddsSteps}
 
+-- A round comes behind a report whatever that is answered: its Go is taken for a Drain.
+abbrev pub reply_with_round : Reply → Reply
+reply_with_round reply.Go = reply.Drain
+reply_with_round r = r
+
+abbrev pub entry_with_round : Entry Step Reply → Entry Step Reply
+entry_with_round e = record { step = e.step; reply = reply_with_round e.reply }
+
+abbrev pub with_rounds : Entries → Entries
+with_rounds es = map entry_with_round es
+
 -- n is the number of stripes
 module _ (n : ℕ) where
-  abbrev pub FollowsQuietReport : Reply → Entries → Type 0
-  FollowsQuietReport reply.Go es = IsRound 0 n es
-  FollowsQuietReport reply.Drain es = IsRound 0 n es
-  FollowsQuietReport _ es = ⊥
-
-  -- a report, and a round in every case
-  abbrev pub IsQuietReport : Act → Entries → Type 0
-  IsQuietReport a es = Opens 0 n a FollowsQuietReport es
-
-  abbrev pub FollowsQuietOffer : Reply → Entries → Type 0
-  FollowsQuietOffer reply.Kept es = IsQuietReport (act.AfterRead answer.Kept) es
-  FollowsQuietOffer reply.Full es = IsQuietReport (act.AfterRead answer.Full) es
-  FollowsQuietOffer _ es = ⊥
-
-  -- the item is offered to stripe 0, and the answer reported
-  abbrev pub IsQuietOffer : Item → Entries → Type 0
-  IsQuietOffer i es = Opens 0 n (act.Offer 0 i) FollowsQuietOffer es
-
-  abbrev pub FollowsQuietPut : Reply → Entries → Type 0
-  FollowsQuietPut (reply.Added node) es = IsQuietReport act.AfterWrite es
-  FollowsQuietPut (reply.Present node) es = IsQuietReport act.AfterWrite es
-  FollowsQuietPut reply.WritesFull es = IsRound 0 n es
-  FollowsQuietPut _ es = ⊥
-
-  abbrev pub IsQuietPut : ℕ → Entries → Type 0
-  IsQuietPut key es = Opens 0 n (act.Put key) FollowsQuietPut es
-
-  abbrev pub FollowsQuietLook : ℕ → Reply → Entries → Type 0
-  FollowsQuietLook key (reply.Hit node) es = IsQuietOffer (record { key = key; node = node }) es
-  FollowsQuietLook key reply.Miss es = IsQuietPut key es
-  FollowsQuietLook key _ es = ⊥
-
-  -- the walk of one key
+  -- the walk of one key: that of a read, with a round behind its report
   abbrev pub IsQuietWalk : ℕ → Entries → Type 0
-  IsQuietWalk key es = Opens 0 n (act.Look key) (FollowsQuietLook key) es
+  IsQuietWalk key es = IsWalk 0 n (call.Read key) (with_rounds es)
 
   -- one walk for each key, in order, and what its replies come to
   abbrev pub AreQuietWalks : List ℕ → List Outcome → Entries → Type 0
@@ -76,12 +54,3 @@ LeavesQuietFault n ks old new (fault.OutOfMemory done) =
 LeavesQuietFault n ks old new (fault.JournalFull done) =
     AddsSteps (λ es. BeginQuietWalks n ks es × (done ≡ length es)) old new × (length new.kept ≡ new.limit)
 LeavesQuietFault n ks old new fault.Held = AddsSteps (λ es. es ≡ []) old new
-
--- callers' acts leave the maintenance alone
-abbrev pub IsCallers : Act → Type 0
-IsCallers (act.Look k) = Unit {0}
-IsCallers (act.Offer s i) = Unit {0}
-IsCallers (act.Put k) = Unit {0}
-IsCallers (act.AfterRead a) = Unit {0}
-IsCallers act.AfterWrite = Unit {0}
-IsCallers _ = ⊥

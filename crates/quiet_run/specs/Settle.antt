@@ -12,6 +12,9 @@ use Rattle.quiet_run.specs.declared.round.Refusal.{Refusal}
 use Rattle.quiet_run.specs.declared.round.Refusal.TheVariants as refusal
 use Rattle.quiet_run.specs.declared.round.SettleFault.{SettleFault}
 use Rattle.quiet_run.specs.declared.round.SettleFault.TheVariants as fault
+use Rattle.walks.specs.declared.place.WalkPlace.{WalkPlace}
+use Rattle.walks.specs.declared.place.WalkPlace.TheVariants as at
+use Rattle.walks.specs.WalkPlaces.{phase_place}
 use Rattle.walks.specs.WorkerEntries.{IsUnfinished}
 use Rattle.walks.specs.Walks.{IsReading, IsWriting, IsEvicting}
 
@@ -39,6 +42,12 @@ IsRest n (Some h) es = IsRestOfRound h.worker n h.phase es
 -- the first entries of such a rest, and not all of it
 abbrev pub BeginsRest : ℕ → Option Holder → Entries → Type 0
 BeginsRest n o es = IsUnfinished (IsRest n o) es
+
+-- The worker stands at the first act of an access, where no one holds the maintenance, or where it is in the phase of the
+-- maintenance that it holds.
+abbrev pub IsAtStart : Option Holder → ℕ → WalkPlace → Type 0
+IsAtStart None w p = (k : ℕ) × (p ≡ at.Look k)
+IsAtStart (Some h) w p = (h.worker ≡ w) × (p ≡ phase_place h.phase)
 
 -- how many steps were made before the fault
 abbrev pub steps_before : SettleFault → ℕ

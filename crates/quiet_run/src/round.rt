@@ -1,16 +1,16 @@
 //! Finishing the maintenance that a worker holds.
-ghost use Rattle.std.specs.Prelude.{◌≡◌, ◌≤◌, None, Some, Err, IsSome, IfOk, IfErr, OnOk, OnErr, length};
+ghost use Rattle.std.specs.Prelude.{◌≡◌, ◌≤◌, ℕ, None, Some, Err, IsSome, IfOk, IfErr, OnOk, OnErr, length};
 ghost use Rattle.std.specs.Prelude.{◌∷◌, ◌++◌, []};
 ghost use Rattle.journal.specs.Session.{IsSameSession};
 ghost use Rattle.shell_model.specs.Shell.{act_effect, act as acted};
-ghost use Rattle.shell_model.specs.ReachableShell.{worker_of};
+ghost use Rattle.shell_model.specs.ReachableShell.{IsReachable, worker_of};
 ghost use Rattle.walks.specs.Walks.{step_of};
-ghost use Rattle.walks.specs.WalkPlaces.{IsAheadOf, act_of_place};
+ghost use Rattle.walks.specs.WalkPlaces.{IsAheadOf};
 ghost use Rattle.quiet_run.specs.Outcomes.{outcome_with_reply, outcome_from};
 ghost use Rattle.walks.specs.WorkerEntries.{IsUnfinished};
-ghost use Rattle.quiet_run.specs.Settle.{AddsSteps, IsRest, BeginsRest, steps_before};
+ghost use Rattle.quiet_run.specs.Settle.{AddsSteps, IsAtStart, IsRest, BeginsRest, steps_before};
 ghost use Rattle.quiet_run.specs.Settle.{IsRefusalCause, IsFullAt};
-ghost use Rattle.walks.specs.Holders.{IsReady};
+ghost use Rattle.quiet_run.specs.QuietWalks.{reply_with_round, with_rounds};
 
 use journal::{Session, SessionFault};
 use maintenance::Shell;
@@ -53,7 +53,7 @@ pub fn settle(session: &mut Session<Shell>) -> Result<u64, SettleFault>
     let before = session.len();
     let stripes = session.engine().stripes();
     let local = Local::resume(holder.0, stripes, holder.1);
-    match finish_round(session, local, Outcome::Kept) {
+    match finish_walk(session, local, Outcome::Kept) {
         Ok(_) => Ok((session.len() - before) as u64),
         Err(Refusal::OutOfMemory) => Err(SettleFault::OutOfMemory {
             done: (session.len() - before) as u64,
@@ -71,23 +71,27 @@ pub(crate) enum Refusal {
     JournalFull,
 }
 
-// Makes a round from where its holder stands, to its End, and returns the outcome with what was evicted.
-pub(crate) fn finish_round(
+// Makes a walk from where its worker stands to its end, with a round behind a report whatever that is answered, and
+// returns the outcome with what was hit or evicted.
+pub(crate) fn finish_walk(
     session: &mut Session<Shell>,
     local: Local,
     start: Outcome,
 ) -> Result<Outcome, Refusal>
+    requires reached { IsReachable session.old.engine }
     requires stripes { length session.old.engine.stripes ≡ local.stripes }
-    requires ready { IsReady local.worker (act_of_place local.worker local.stripes local.place) session.old.engine }
+    requires place { IsAtStart session.old.engine.holder local.worker local.place }
     ensures opening { session.new.opening ≡ session.old.opening }
     ensures limit { session.new.limit ≡ session.old.limit }
-    ensures ok { IfOk result (λ o. AddsSteps (λ es. IsAheadOf local.worker local.stripes local.place es
+    ensures ok { IfOk result (λ o. AddsSteps (λ es. IsAheadOf local.worker local.stripes local.place (with_rounds es)
         × (o ≡ outcome_from start es)) session.old session.new) }
     ensures none { OnOk result (session.new.engine.holder ≡ None) }
+    ensures reached { OnOk result (IsReachable session.new.engine) }
     ensures stripes { length session.new.engine.stripes ≡ local.stripes }
-    ensures err { OnErr result (AddsSteps (IsUnfinished (IsAheadOf local.worker local.stripes local.place))
-        session.old session.new) }
-    ensures held { OnErr result (worker_of session.new.engine.holder ≡ Some local.worker) }
+    ensures err { OnErr result (AddsSteps (IsUnfinished
+        (λ es. IsAheadOf local.worker local.stripes local.place (with_rounds es))) session.old session.new) }
+    ensures held { OnErr result ((w : ℕ) → worker_of session.old.engine.holder ≡ Some w
+        → worker_of session.new.engine.holder ≡ Some w) }
     ensures cause { IfErr result (λ f. IsRefusalCause f session.new) }
 {
     let worker = local.worker;
@@ -96,17 +100,23 @@ pub(crate) fn finish_round(
     while let Next::Do(act, at) = next {
         let reply = make_step(session, worker, act)?;
         outcome = outcome_with(outcome, reply);
-        next = next_step(at, Some(reply));
+        next = next_step(at, Some(with_round(reply)));
     }
     Ok(outcome)
 }
 
+// A reply, where a round comes behind a report in every case.
+fn with_round(reply: Reply) -> Reply
+    ensures { result ≡ reply_with_round reply }
+{
+    match reply {
+        Reply::Go => Reply::Drain,
+        _ => reply,
+    }
+}
+
 // Makes a step that the shell takes.
-pub(crate) fn make_step(
-    session: &mut Session<Shell>,
-    worker: Worker,
-    act: Act,
-) -> Result<Reply, Refusal>
+fn make_step(session: &mut Session<Shell>, worker: Worker, act: Act) -> Result<Reply, Refusal>
     requires { IsSome (act_effect worker act session.old.engine) }
     ensures opening { session.new.opening ≡ session.old.opening }
     ensures limit { session.new.limit ≡ session.old.limit }
@@ -128,7 +138,7 @@ pub(crate) fn make_step(
 }
 
 // The outcome of a key after one more reply: a hit stays, else the key that left last counts.
-pub(crate) fn outcome_with(outcome: Outcome, reply: Reply) -> Outcome
+fn outcome_with(outcome: Outcome, reply: Reply) -> Outcome
     ensures { result ≡ outcome_with_reply outcome reply }
 {
     match (outcome, reply) {

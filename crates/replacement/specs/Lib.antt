@@ -2,6 +2,7 @@ pub mod Shape
 pub mod Admission
 pub mod Rules
 pub mod Table
+pub mod Counts
 pub mod Plan
 pub mod PlanMoves
 pub mod Effects

@@ -9,11 +9,12 @@ use Rattle.std.specs.List.{join_with_byte, list_any}
 use Rattle.std.specs.Fmt.{decimal}
 use Rattle.std.specs.Str.Parse.{AllDigits}
 use Rattle.csv.specs.Writing.{default_writer, field_text, fields_text, is_blank, needs_byte, row_body, row_text}
-use Rattle.report.specs.Text.{line_text, rate_of, rate_text_of, report_fields}
+use Rattle.policies.specs.Reports.{rate_of}
+use Rattle.report.specs.Text.{line_text, rate_text_of, report_fields}
 use Rattle.step_record.specs.Job.{word_of}
 use Rattle.step_record.specs.declared.job.Policy.{Policy}
 use Rattle.step_record.specs.declared.job.Policy.TheVariants.{Lru}
-use Rattle.report.specs.declared.report.Report.{Report}
+use Rattle.policies.specs.declared.report.Report.{Report}
 
 abbrev pub IsPlain : List ℕ → Type 0
 IsPlain field = list_any (needs_byte default_writer) field ≡ false

@@ -1,27 +1,10 @@
 -- The text of reports: comma-separated lines, of which each ends in a line feed.
-use Rattle.std.specs.Prelude.{ℕ, ◌+◌, ◌*◌, ◌/◌, ◌%◌, ◌==◌, List, [], ◌∷◌, ◌++◌, codes, if◌then◌else◌}
+use Rattle.std.specs.Prelude.{ℕ, ◌/◌, ◌%◌, List, [], ◌∷◌, ◌++◌, codes}
 use Rattle.std.specs.List.{flat_map, join_with_byte}
 use Rattle.std.specs.Fmt.{decimal}
 use Rattle.step_record.specs.Job.{word_of}
-use Rattle.step_record.specs.declared.job.Job.{Job}
-use Rattle.step_record.specs.declared.stats.Stats.{Stats}
-use Rattle.report.specs.declared.report.Report.{Report}
-
--- the report of a job, from what was counted
-abbrev pub report_of : Job → Stats → Report
-report_of job stats = record {
-  policy = job.policy;
-  capacity = job.config.capacity;
-  accesses = stats.accesses;
-  hits = stats.hits;
-  misses = stats.misses;
-  evictions = stats.evictions;
-  rejections = stats.rejections;
-}
-
--- hundredths of a percent, rounded down
-abbrev pub rate_of : Report → ℕ
-rate_of r = if r.accesses == 0 then 0 else r.hits * 10000 / r.accesses
+use Rattle.policies.specs.Reports.{rate_of}
+use Rattle.policies.specs.declared.report.Report.{Report}
 
 -- `16.66`
 unfoldable pub rate_text_of : ℕ → List ℕ

@@ -5,9 +5,8 @@
 //! down, and is never computed by floating point.
 #![tactic(auto)]
 
-mod report;
 mod rows;
 
-pub use report::Report;
+pub use policies::Report;
 pub use rows::write_reports;
 pub use streams::WriteFault;

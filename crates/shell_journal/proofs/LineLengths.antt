@@ -18,7 +18,6 @@ use Rattle.step_record.specs.Answers.{is_answer}
 use Rattle.step_record.specs.History.{Entries}
 use Rattle.journal_text.specs.Journal.{entry_line, AreLines}
 use Rattle.journal_text.specs.Names.{spelling}
-use Rattle.journal_text.specs.ReplyItem.{reply_item}
 use Rattle.journal_text.specs.Table.{act_words, answer_name, entry_words, is_answer_in, is_in_version, item_words, reply_name, reply_numbers, reply_words, spaced, spaced_words, text_of, word_text, FitWords, IsLine}
 use Rattle.journal_text.specs.declared.line.JournalLine.TheVariants.{Made}
 use Rattle.journal_text.specs.declared.name.JournalName.{JournalName}
@@ -27,7 +26,7 @@ use Rattle.journal_text.specs.declared.version.Version.TheVariants.{Two}
 use Rattle.journal_text.specs.declared.line_text.Word.{Word}
 use Rattle.journal_text.specs.declared.line_text.Word.TheVariants.{Named, Worker, Stripe, Wide}
 use Rattle.journal_text.proofs.Spacing.{spaced_append, spaced_none, spelled_spaced}
-use Rattle.shell_journal.proofs.NodeBounds.{act_node, IsLow}
+use Rattle.shell_journal.proofs.NodeBounds.{act_node, reply_node, IsLow}
 
 -- ---- words
 
@@ -115,7 +114,7 @@ numbers_width r = 0
 one-node : (n : ℕ) → n ≤ MAX_STEPS → length (spaced (Wide n ∷ [])) ≤ 11
 one-node n h = omega (arith, one-more (Wide n) [], none-more, node-length n h)
 
-numbers-length : (r : Reply) → FitWords (reply_numbers r) → (reply_item r).node ≤ MAX_STEPS → length (spaced (reply_numbers r)) ≤ numbers_width r
+numbers-length : (r : Reply) → FitWords (reply_numbers r) → reply_node r ≤ MAX_STEPS → length (spaced (reply_numbers r)) ≤ numbers_width r
 numbers-length (reply.Hit n) f l = one-node n l
 numbers-length (reply.Added n) f l = one-node n l
 numbers-length (reply.Present n) f l = one-node n l

@@ -17,7 +17,8 @@ use Rattle.shell_buffers.specs.declared.task.Task.{Task}
 use Rattle.shell_buffers.specs.declared.task.Task.TheVariants.{Add, Update, Remove}
 use Rattle.shell_buffers.specs.Buffers.{stripe_at}
 use Rattle.shell_model.specs.Shell.{Shell, node_of, look_reply, put_effect, put_at, offer_effect, some_if, is_stripe, act_effect, counted_reply, act}
-use Rattle.shell_model.specs.Consistency.{IsConsistent, queue_occurrences}
+use Rattle.replacement.specs.Counts.{queue_occurrences}
+use Rattle.shell_model.specs.Consistency.{IsConsistent}
 use Rattle.shell_model.specs.Laws.{MadeStep, empty_shell}
 use Rattle.shell_model.specs.ReachableShell.{IsReachable, IsBounded}
 use Rattle.admission.specs.Shape.{Shape}
@@ -30,13 +31,26 @@ use Rattle.shell_model.proofs.Histories.{counted_up, Steps, stepped, after-sound
 use Rattle.shell_model.proofs.Holding.{opened-sound}
 use Rattle.shell_model.proofs.Reached.{reached-sound}
 use Rattle.shell_model.proofs.Bounding.{bound-law, after-bound}
-use Rattle.journal_text.specs.ReplyItem.{reply_item}
 
 -- the node of an act, 0 where it names none
 abbrev pub act_node : Act → ℕ
 act_node (a.Offer s i) = i.node
 act_node (a.Lose s i) = i.node
 act_node b = 0
+
+-- the node of a reply, 0 where it names none
+abbrev pub reply_node : Reply → ℕ
+reply_node (reply.Hit node) = node
+reply_node (reply.Added node) = node
+reply_node (reply.Present node) = node
+reply_node (reply.Removed node) = node
+reply_node (reply.Drained i) = i.node
+reply_node (reply.Applied i) = i.node
+reply_node (reply.Cleared i) = i.node
+reply_node (reply.Shifted i) = i.node
+reply_node (reply.Evicted i) = i.node
+reply_node (reply.Rejected i) = i.node
+reply_node r = 0
 
 -- ---- what waits names no other nodes
 
@@ -187,7 +201,7 @@ head-task n l rest t e h = subst (λ m. AreTasks n m) e h
 
 record IsLowStep (x : Shell) (b : Act) (r : Reply) (y : Shell) : Type 0 where
   pub of_act : act_node b ≤ x.next
-  pub of_reply : (reply_item r).node ≤ y.next
+  pub of_reply : reply_node r ≤ y.next
   pub next : x.next ≤ y.next
   pub numbered : IsNumbered y
 
@@ -269,7 +283,7 @@ low-step w x b r y made c v s = record { of_act = omega arith; of_reply = omega 
 -- no node of the entry is above the greatest number of steps
 pub record IsLow (e : MadeStep) : Type 0 where
   pub of_act : act_node e.step.act ≤ MAX_STEPS
-  pub of_reply : (reply_item e.reply).node ≤ MAX_STEPS
+  pub of_reply : reply_node e.reply ≤ MAX_STEPS
 
 lifted : (x : Shell) (b : Act) (r : Reply) (y : Shell) → IsLowStep x b r y → IsLowStep x b r (counted_up r y)
 lifted x b r y low = record {

@@ -4,13 +4,11 @@ use Rattle.step_record.specs.declared.limits.TheConstants.{MAX_JOURNAL_LIMIT}
 use Rattle.step_record.specs.declared.step.Reply.{Reply}
 use Rattle.step_record.specs.declared.step.Step.{Step}
 use Rattle.journal.specs.Session.{SessionState}
-use Rattle.shell_model.specs.ReachableShell.{IsReachable}
 use Rattle.shell_model.specs.Shell.{Shell}
 
--- The session was opened on a cache as there can be one and is no longer than any session; the other was opened alike,
--- has no entry yet, and has room for those of the first.
+-- The session is no longer than any session; the other was opened alike, has no entry yet, and has room for those of
+-- the first.
 pub record CanHold (session copy : SessionState Shell Shell Step Reply) : Type 0 where
-  pub reachable : IsReachable session.opening
   pub few : length session.kept ≤ MAX_JOURNAL_LIMIT
   pub alike : copy.opening ≡ session.opening
   pub kept : copy.kept ≡ []

@@ -11,8 +11,8 @@ use std::alloc::Global;
 /// Writes the applied steps of a session as text, and reads the text into a new session, which was opened alike and
 /// has room for them. Nothing is asked of the text: it is never too long.
 ///
-/// It requires that the session was opened on a cache as [`Shell`] is at any time, and has at most as many steps as
-/// `Session::open` allows. The one fault is that an allocation or the reader failed.
+/// It requires that the session has at most as many steps as `Session::open` allows. The one fault is that an allocation
+/// or the reader failed.
 pub fn copy_journal(
     alloc: Global,
     session: &Session<Shell>,
@@ -26,6 +26,8 @@ pub fn copy_journal(
     crate::theorems::text_size();
     shell_model::theorems::replies_belong();
     session.sound();
+    // The copy stands where it was opened, and so where the session was: on a cache as there can be one.
+    copy.engine().reachable();
     let mut text = Vec::new(alloc);
     if write_journal(alloc, session, &mut text).is_err() {
         return Err(JournalFault::OutOfMemory);

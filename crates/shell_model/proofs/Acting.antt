@@ -1,5 +1,5 @@
 -- The record of a step fits what it left, and undoes it.
-use Rattle.std.proofs.Common.{◌≡◌, ℕ, ◌+◌, ◌-◌, ◌≤◌, cond, nat_lt, Option, Some, None, ◌∙◌, refl, arith, inl, inr}
+use Rattle.std.proofs.Common.{◌≡◌, ℕ, ◌+◌, ◌-◌, cond, nat_lt, Option, Some, None, ◌∙◌, refl, arith, inl, inr}
 use Rattle.std.proofs.lemmas.Bool.{cases_Bool}
 use native.Mathlib.Numerals.{unary_clauses}
 use Rattle.step_record.specs.declared.step.Reply.{Reply}

@@ -1,61 +1,69 @@
--- An eviction of the maintenance is that of the table of moves.
-use Rattle.std.proofs.Common.{◌≡◌, nat_lt, Option, Some, None, List, [], ◌∷◌, ◌++◌, length, ap, ◌∙◌, refl, inl, inr}
+-- An eviction is one of four, and comes to what its plan comes to.
+use Rattle.std.proofs.Common.{◌≡◌, nat_lt, true, false, Option, Some, None, List, [], ◌∷◌, ◌++◌, length, ap, refl, sym, ◌∙◌, arith, inl, inr}
 use Rattle.std.proofs.lemmas.Bool.{cases_Bool}
+use Rattle.std.proofs.lemmas.Bool.Decides.{nat_tests}
 use Rattle.step_record.specs.declared.item.Item.{Item}
+use Rattle.step_record.specs.declared.step.Reply.{Reply}
 use Rattle.segments.specs.declared.records.Queue.TheVariants.{Probation}
 use Rattle.segments.specs.Items.{is_same_item, items_without, oldest_of}
-use Rattle.segments.specs.Queues.{queues_after_move, total_items}
+use Rattle.segments.specs.Queues.{queues_after_move, IsDistinct}
 use Rattle.replacement.specs.Rules.{three_queues}
-use Rattle.replacement.specs.Plan.{candidate_of}
-use Rattle.replacement.specs.Table.{Response, contest as contest_in, trial, trial_of, eviction}
+use Rattle.replacement.specs.Plan.{candidate_of, eviction_plan}
+use Rattle.replacement.specs.PlanMoves.{response_of_plan}
+use Rattle.replacement.specs.Table.{Response, contest, trial, trial_of}
 use Rattle.replacement.proofs.Planned.{evictions-planned}
 use Rattle.shell_model.specs.Frequency.{admits}
-use Rattle.shell_model.specs.Shell.{Shell, window_size, shell_contest, shift_effect, evict_from, evict_oldest, evict_effect}
-use Rattle.shell_model.specs.ShellEviction.{EvictionsAgree, ShellEvictionsPlanned, evicted_by}
+use Rattle.shell_model.specs.Shell.{Shell, window_size, evicted_by, is_over, evict_effect}
+use Rattle.shell_model.specs.ShellEviction.{shift_effect, IsCandidate, is_too_much, IsVictim, Evicts, EvictionsByReply}
+use Rattle.shell_model.specs.ShellEviction as e
+
+abbrev EvictsBy : Shell → Reply × Shell → Type 0
+EvictsBy x p = Evicts x p.0 p.1
 
 -- a candidate stands in probation, so there is a victim
 last-some : (l : List Item) (c : Item) → (v : Item) × (oldest_of (l ++ c ∷ []) ≡ Some v)
 last-some [] c = (c, refl)
 last-some (x ∷ l) c = (x, refl)
 
-contests : (c v : Item) (x : Shell) → shell_contest c (Some v) (shift_effect c x)
-    ≡ evicted_by (Some c) (contest_in (admits x.frequency) c (Some v) (queues_after_move c Probation x.queues)) x
-contests c v x =
-    elim (cases_Bool (is_same_item c v)) as (λ _. shell_contest c (Some v) (shift_effect c x)
-    ≡ evicted_by (Some c) (contest_in (admits x.frequency) c (Some v) (queues_after_move c Probation x.queues)) x) [
-      | inl e ↦ rw e refl
-      | inr e ↦ rw e (elim (cases_Bool (admits x.frequency c.key v.key)) [
-        | inl f ↦ rw f refl
-        | inr f ↦ rw f refl
+contests : (c v : Item) (x : Shell) → IsCandidate c x → IsVictim v (shift_effect c x)
+    → EvictsBy x (evicted_by (Some c) (contest (admits x.frequency) c (Some v) (queues_after_move c Probation x.queues)) x)
+contests c v x h k =
+    elim (cases_Bool (is_same_item c v)) as (λ _. EvictsBy x (evicted_by (Some c) (contest (admits x.frequency) c (Some v) (queues_after_move c Probation x.queues)) x)) [
+      | inl i ↦ rw i (e.rejected c v h k (λ n. absurd (let no : true ≡ false = sym i ∙ n in cc (no))))
+      | inr i ↦ rw i (elim (cases_Bool (admits x.frequency c.key v.key)) [
+        | inl f ↦ rw f (e.evicted c v h k i f)
+        | inr f ↦ rw f (e.rejected c v h k (λ n. f))
       ])
     ]
 
-trials : (c : Item) (x : Shell) → evict_from c (shift_effect c x)
-    ≡ evicted_by (Some c) (trial (three_queues x.config) (admits x.frequency) c (queues_after_move c Probation x.queues)) x
-trials c x =
-    elim (cases_Bool (nat_lt x.config.capacity (total_items (queues_after_move c Probation x.queues)))) as (λ _. evict_from c (shift_effect c x)
-    ≡ evicted_by (Some c) (trial (three_queues x.config) (admits x.frequency) c (queues_after_move c Probation x.queues)) x) [
-      | inl e ↦ (let v = last-some (items_without c x.queues.probation) c in rw (e, v.1) (contests c v.0 x))
-      | inr e ↦ rw e refl
+tries : (c : Item) (x : Shell) → IsCandidate c x
+    → EvictsBy x (evicted_by (Some c) (trial (three_queues x.config) (admits x.frequency) c (queues_after_move c Probation x.queues)) x)
+tries c x h =
+    elim (cases_Bool (is_too_much (shift_effect c x))) as (λ _. EvictsBy x (evicted_by (Some c) (trial (three_queues x.config) (admits x.frequency) c (queues_after_move c Probation x.queues)) x)) [
+      | inl i ↦ (let v = last-some (items_without c x.queues.probation) c in rw (i, v.1) (contests c v.0 x h record { over = i; oldest = v.1 }))
+      | inr i ↦ rw i (e.shifted c h i)
     ]
 
-oldest : (o : Option Item) (x : Shell) → evict_oldest o x
-    ≡ evicted_by o (trial_of (three_queues x.config) (admits x.frequency) o x.queues) x
-oldest None x = refl
-oldest (Some c) x = trials c x
+oldest-tries : (o : Option Item) (x : Shell) → is_over x ≡ true → oldest_of x.queues.window ≡ o
+    → EvictsBy x (evicted_by o (trial_of (three_queues x.config) (admits x.frequency) o x.queues) x)
+oldest-tries None x i h = absurd (none x.queues.window h i)
+  where
+    none : (l : List Item) → oldest_of l ≡ None → nat_lt (window_size x.config) (length l) ≡ true → ⊥
+    none [] h i = grind (arith, nat_tests)
+    none (y ∷ l) h i = cc (h)
+oldest-tries (Some c) x i h = tries c x record { over = i; oldest = h }
 
-pub evictions-agree : EvictionsAgree
-evictions-agree x =
-    elim (cases_Bool (nat_lt (window_size x.config) (length x.queues.window))) as (λ _. evict_effect x ≡ evicted_by
+pub evictions-by-reply : EvictionsByReply
+evictions-by-reply x =
+    elim (cases_Bool (is_over x)) as (λ _. EvictsBy x (evict_effect x)) [
+      | inl i ↦ rw i (oldest-tries (oldest_of x.queues.window) x i refl)
+      | inr i ↦ rw i (e.fits i)
+    ]
+
+pub evictions-by-plan : (x : Shell) → IsDistinct x.queues → evict_effect x ≡ evicted_by
     (candidate_of (three_queues x.config) x.queues)
-    (eviction (three_queues x.config) (admits x.frequency) x.queues)
-    x) [
-      | inl e ↦ rw e (oldest (oldest_of x.queues.window) x)
-      | inr e ↦ rw e refl
-    ]
-
-pub evictions-by-plan : ShellEvictionsPlanned
+    (response_of_plan (eviction_plan (three_queues x.config) (admits x.frequency) x.queues) x.queues)
+    x
 evictions-by-plan x d =
-    evictions-agree x ∙ ap
-    (λ (r : Response). evicted_by (candidate_of (three_queues x.config) x.queues) r x)
+    ap (λ (r : Response). evicted_by (candidate_of (three_queues x.config) x.queues) r x)
     (evictions-planned (three_queues x.config) (admits x.frequency) x.queues d)

@@ -19,9 +19,11 @@ use Rattle.shell_model.specs.ShellStats.{shell_stats_after}
 use Rattle.step_record.specs.Stats.{one_if}
 use Rattle.shell_buffers.specs.Buffers.{stripe_at}
 use Rattle.shell_model.specs.Shell.{Shell, shell_after_touch, act_effect, counted_reply, act}
-use Rattle.shell_model.specs.Consistency.{IsConsistent, queue_occurrences}
+use Rattle.replacement.specs.Counts.{queue_occurrences}
+use Rattle.shell_model.specs.Consistency.{IsConsistent}
 use Rattle.shell_model.specs.Laws.{MadeStep, collect, tally, offered, drained, asked, done, added, evicted_items, removed_items, keyed}
-use Rattle.shell_model.proofs.Counting.{once, unless-same, times-placed, listed-times, node-listed, unlisted-is}
+use Rattle.replacement.proofs.Counting.{once, unless-same}
+use Rattle.shell_model.proofs.Counting.{times-placed, listed-times, node-listed, unlisted-is}
 use Rattle.shell_model.proofs.Undoing.{first-queued, shifted-queued}
 use Rattle.shell_model.proofs.Preserving.{SoundTo, act-sound, queued-below}
 use Rattle.shell_model.proofs.Making as k

@@ -13,14 +13,18 @@ use Rattle.step_record.specs.declared.drain.Phase.TheVariants.{Reads, Writes, Ev
 use Rattle.step_record.specs.declared.step.Reply.{Reply}
 use Rattle.step_record.specs.declared.step.Reply.TheVariants as reply
 use Rattle.segments.specs.declared.records.Queue.TheVariants.{Window}
-use Rattle.segments.specs.Items.{is_same_item, oldest_of}
-use Rattle.segments.specs.Queues.{queues_after_push, total_items}
+use Rattle.segments.specs.Items.{oldest_of}
+use Rattle.segments.specs.Queues.{queues_after_push}
 use Rattle.shell_buffers.specs.declared.task.Task.{Task}
 use Rattle.shell_buffers.specs.declared.task.Task.TheVariants.{Add, Update, Remove}
 use Rattle.shell_model.specs.declared.holder.Holder.{Holder}
-use Rattle.shell_model.specs.Frequency.{admits, frequency_recorded}
+use Rattle.shell_model.specs.Frequency.{frequency_recorded}
 use Rattle.shell_buffers.specs.Buffers.{stripe_at}
-use Rattle.shell_model.specs.Shell.{Shell, node_of, table_with, queues_cleared, look_reply, offer_effect, put_effect, put_at, removing, remove_at, after_read, after_write, begin_effect, is_over, held_by, shift_effect, in_phase, shell_after_touch, drain_read, drain_write, shell_contest, leave, evict_from, evict_oldest, evict_effect, drain_at_end, end_effect, some_if, may_read, may_write, is_stripe, hold_read, hold_write, hold_evict, hold_end, act_effect}
+use Rattle.shell_model.specs.Shell.{Shell, node_of, table_with, queues_cleared, look_reply, offer_effect, put_effect, put_at, removing, remove_at, after_read, after_write, begin_effect, is_over, held_by, in_phase, shell_after_touch, drain_read, drain_write, evict_effect, drain_at_end, end_effect, some_if, may_read, may_write, is_stripe, hold_read, hold_write, hold_evict, hold_end, act_effect}
+use Rattle.shell_model.specs.ShellEviction.{shift_effect, leave, Evicts}
+use Rattle.shell_model.specs.ShellEviction as evicts
+use Rattle.shell_model.proofs.Evicting.{evictions-by-reply}
+use Rattle.shell_model.proofs.Preserving.{held-any}
 
 pub data Makes (w : ℕ) (x : Shell) : Act → Reply → Shell → Type 0 where
   hit : (k n : ℕ) → Makes w x (a.Look k) (reply.Hit n) x
@@ -118,14 +122,6 @@ read-makes : (w : ℕ) (x : Shell) (s : ℕ) (l : List Item) → s < length x.st
 read-makes w x s [] h e = read_empty s
 read-makes w x s (i ∷ rest) h e = drained s i rest h e
 
-held-makes : (w : ℕ) (x : Shell) (b : Act) (o : Option Holder) (u : Option Holder → Option (Reply × Shell)) → MakesTo w x b (u None) → ((h : Holder) → o ≡ Some h → MakesTo w x b (u (Some h))) → MakesTo w x b (u (held_by w o))
-held-makes w x b None u n k = n
-held-makes w x b (Some h) u n k =
-    elim (cases_Bool (eqb w h.worker)) as (λ _. MakesTo w x b (u (cond (eqb w h.worker) (Some h) None))) [
-      | inl e ↦ rw e (k h refl)
-      | inr e ↦ rw e n
-    ]
-
 write-makes : (w : ℕ) (x : Shell) (h : Holder) → x.holder ≡ Some h → may_write h.phase ≡ true → (l : List Task) → x.writes ≡ l → Makes w x a.DrainWrite (drain_write h l x).0 (drain_write h l x).1
 write-makes w x h f m [] e = write_empty h f m
 write-makes w x h f m (Add i ∷ rest) e =
@@ -144,32 +140,11 @@ write-makes w x h f m (Remove i ∷ rest) e =
       | inr g ↦ rw g (applied_remove h f m i rest e (h.left - 1))
     ]
 
-contest-makes : (w : ℕ) (x : Shell) (h : Holder) → x.holder ≡ Some h → (c : Item) → oldest_of x.queues.window ≡ Some c → (o : Option Item) → oldest_of (shift_effect c x).queues.probation ≡ o → Makes w x a.Evict (shell_contest c o (shift_effect c (in_phase Evictions h x))).0 (shell_contest c o (shift_effect c (in_phase Evictions h x))).1
-contest-makes w x h f c i None j = shifted h f c i
-contest-makes w x h f c i (Some v) j =
-    let y : Shell = shift_effect c (in_phase Evictions h x) in
-    elim (cases_Bool (is_same_item c v)) as (λ _. Makes w x a.Evict (shell_contest c (Some v) (shift_effect c (in_phase Evictions h x))).0 (shell_contest c (Some v) (shift_effect c (in_phase Evictions h x))).1) [
-      | inl e ↦ rw e (rejected h f c i)
-      | inr e ↦ rw e (elim (cases_Bool (admits x.frequency c.key v.key)) as (λ _. Makes w x a.Evict (cond {A = Reply × Shell} (admits x.frequency c.key v.key) (reply.Evicted v, leave v (shift_effect c (in_phase Evictions h x))) (reply.Rejected c, leave c (shift_effect c (in_phase Evictions h x)))).0 (cond {A = Reply × Shell} (admits x.frequency c.key v.key) (reply.Evicted v, leave v (shift_effect c (in_phase Evictions h x))) (reply.Rejected c, leave c (shift_effect c (in_phase Evictions h x)))).1) [
-        | inl g ↦ rw g (evicted h f c v i j)
-        | inr g ↦ rw g (rejected h f c i)
-      ])
-    ]
-
-oldest-makes : (w : ℕ) (x : Shell) (h : Holder) → x.holder ≡ Some h → (o : Option Item) → oldest_of x.queues.window ≡ o → Makes w x a.Evict (evict_oldest o (in_phase Evictions h x)).0 (evict_oldest o (in_phase Evictions h x)).1
-oldest-makes w x h f None i = fits h f
-oldest-makes w x h f (Some c) i =
-    elim (cases_Bool (nat_lt x.config.capacity (total_items (shift_effect c x).queues))) as (λ _. Makes w x a.Evict (evict_from c (shift_effect c (in_phase Evictions h x))).0 (evict_from c (shift_effect c (in_phase Evictions h x))).1) [
-      | inl e ↦ rw e (contest-makes w x h f c i (oldest_of (shift_effect c x).queues.probation) refl)
-      | inr e ↦ rw e (shifted h f c i)
-    ]
-
-evict-makes : (w : ℕ) (x : Shell) (h : Holder) → x.holder ≡ Some h → Makes w x a.Evict (evict_effect (in_phase Evictions h x)).0 (evict_effect (in_phase Evictions h x)).1
-evict-makes w x h f =
-    elim (cases_Bool (is_over x)) as (λ _. Makes w x a.Evict (evict_effect (in_phase Evictions h x)).0 (evict_effect (in_phase Evictions h x)).1) [
-      | inl e ↦ rw e (oldest-makes w x h f (oldest_of x.queues.window) refl)
-      | inr e ↦ rw e (fits h f)
-    ]
+evict-makes : (w : ℕ) (x : Shell) (h : Holder) → x.holder ≡ Some h → (r : Reply) (y : Shell) → Evicts (in_phase Evictions h x) r y → Makes w x a.Evict r y
+evict-makes w x h f r y (evicts.fits i) = fits h f
+evict-makes w x h f r y (evicts.shifted c k i) = shifted h f c k.oldest
+evict-makes w x h f r y (evicts.evicted c v k l i g) = evicted h f c v k.oldest l.oldest
+evict-makes w x h f r y (evicts.rejected c v k l i) = rejected h f c k.oldest
 
 ended-makes : (w : ℕ) (x : Shell) (h : Holder) → x.holder ≡ Some h → (d : Drain) → x.drain ≡ d → Makes w x a.End (drain_at_end d).0 record x { drain = (drain_at_end d).1; holder = None }
 ended-makes w x h f drain.ToRequired e = again h f drain.Required (rw e refl)
@@ -193,7 +168,7 @@ perform-makes w x (a.Remove k) = remove_at-makes w x k (node_of k x.table) refl
 perform-makes w x (a.AfterRead b) = after_read-makes w x x.drain b
 perform-makes w x a.AfterWrite = after_write-makes w x x.drain refl
 perform-makes w x a.Begin = begin-makes w x x.holder refl
-perform-makes w x (a.DrainRead s) = held-makes w x (a.DrainRead s) x.holder (λ o. hold_read s o x) tt (λ h f. when-makes w x (a.DrainRead s) (is_stripe s x && may_read h.phase) (drain_read s (stripe_at s x.stripes) x) (λ t. read-makes w x s (stripe_at s x.stripes) (grind (arith, nat_tests, (and_parts (is_stripe s x) (may_read h.phase) t).0)) refl))
-perform-makes w x a.DrainWrite = held-makes w x a.DrainWrite x.holder (λ o. hold_write o x) tt (λ h f. when-makes w x a.DrainWrite (may_write h.phase) (drain_write h x.writes x) (λ t. write-makes w x h f t x.writes refl))
-perform-makes w x a.Evict = held-makes w x a.Evict x.holder (λ o. hold_evict o x) tt (λ h f. evict-makes w x h f)
-perform-makes w x a.End = held-makes w x a.End x.holder (λ o. hold_end o x) tt (λ h f. end-makes w x h f)
+perform-makes w x (a.DrainRead s) = held-any (MakesTo w x (a.DrainRead s)) w x.holder (λ o. hold_read s o x) tt (λ h f. when-makes w x (a.DrainRead s) (is_stripe s x && may_read h.phase) (drain_read s (stripe_at s x.stripes) x) (λ t. read-makes w x s (stripe_at s x.stripes) (grind (arith, nat_tests, (and_parts (is_stripe s x) (may_read h.phase) t).0)) refl))
+perform-makes w x a.DrainWrite = held-any (MakesTo w x a.DrainWrite) w x.holder (λ o. hold_write o x) tt (λ h f. when-makes w x a.DrainWrite (may_write h.phase) (drain_write h x.writes x) (λ t. write-makes w x h f t x.writes refl))
+perform-makes w x a.Evict = held-any (MakesTo w x a.Evict) w x.holder (λ o. hold_evict o x) tt (λ h f. evict-makes w x h f (evict_effect (in_phase Evictions h x)).0 (evict_effect (in_phase Evictions h x)).1 (evictions-by-reply (in_phase Evictions h x)))
+perform-makes w x a.End = held-any (MakesTo w x a.End) w x.holder (λ o. hold_end o x) tt (λ h f. end-makes w x h f)

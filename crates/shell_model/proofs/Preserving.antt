@@ -1,6 +1,6 @@
 -- What holds of the shell before a step holds after it.
 use Rattle.std.proofs.Common.{◌≡◌, ℕ, suc, zero, ◌+◌, ◌<◌, ◌≤◌, Bool, true, false, cond, ◌&&◌, eqb, nat_lt, Option, Some, None, List, [], ◌∷◌, ◌++◌, length, set, ap, ◌∙◌, refl, arith, inl, inr, length-append}
-use Rattle.std.proofs.lemmas.Bool.{eqb-true, eq-eqb, and_parts, cases_Bool}
+use Rattle.std.proofs.lemmas.Bool.{eqb-true, eq-eqb, and_parts, cases_Bool, cond_both}
 use Rattle.std.proofs.lemmas.Bool.Decides.{nat_tests}
 use Rattle.std.proofs.lemmas.List.{get_or-set_same, get_or-set_other}
 use Rattle.step_record.specs.declared.item.Item.{Item}
@@ -22,13 +22,17 @@ use Rattle.replacement.specs.Table.{with_recent, hit_in, after_hit}
 use Rattle.shell_buffers.specs.declared.task.Task.{Task}
 use Rattle.shell_buffers.specs.declared.task.Task.TheVariants.{Add, Update, Remove}
 use Rattle.shell_model.specs.declared.holder.Holder.{Holder}
-use Rattle.shell_model.specs.Frequency.{admits}
 use Rattle.shell_buffers.specs.Buffers.{stripe_at}
-use Rattle.shell_model.specs.Shell.{Shell, node_of, table_with, queues_cleared, window_size, shell_protected_size, offer_effect, put_effect, put_at, removing, remove_at, begin_effect, is_over, held_by, shift_effect, in_phase, drain_read, drain_write, apply_task, shell_contest, leave, evict_from, evict_oldest, evict_effect, end_effect, some_if, may_read, may_write, is_stripe, hold_read, hold_write, hold_evict, hold_end, act_effect, counted_reply, act}
-use Rattle.shell_model.specs.Consistency.{IsConsistent, IsPlaced, main_length, queue_occurrences, waiting_adds, leaving, IsOrdered, AreAbove, IsAscending, IsLeft}
+use Rattle.shell_model.specs.Shell.{Shell, node_of, table_with, queues_cleared, window_size, shell_protected_size, offer_effect, put_effect, put_at, removing, remove_at, begin_effect, is_over, held_by, in_phase, drain_read, drain_write, apply_task, evict_effect, end_effect, some_if, may_read, may_write, is_stripe, hold_read, hold_write, hold_evict, hold_end, act_effect, counted_reply, act}
+use Rattle.shell_model.specs.ShellEviction.{shift_effect, leave, IsCandidate, Evicts}
+use Rattle.shell_model.specs.ShellEviction as evicts
+use Rattle.shell_model.proofs.Evicting.{evictions-by-reply}
+use Rattle.replacement.specs.Counts.{main_length, queue_occurrences}
+use Rattle.shell_model.specs.Consistency.{IsConsistent, IsPlaced, waiting_adds, leaving, IsOrdered, AreAbove, IsAscending, IsLeft}
 use Rattle.admission.specs.Frequency.{IsFrequency}
 use Rattle.shell_model.proofs.Frequency.{recorded-whole}
-use Rattle.shell_model.proofs.Counting.{once, unless-same, queued-kept, queued-taken, queued-pushed, distinct-moved, times-placed, listed-times, node-listed, unlisted-is, cleared-is}
+use Rattle.replacement.proofs.Counting.{once, unless-same, queued-kept, queued-taken, queued-pushed, distinct-moved}
+use Rattle.shell_model.proofs.Counting.{times-placed, listed-times, node-listed, unlisted-is, cleared-is}
 use Rattle.shell_model.proofs.Undoing.{sound-distinct, first-queued, worn}
 
 abbrev pub SoundTo : Option (Reply × Shell) → Type 0
@@ -372,22 +376,10 @@ read-sound s (i ∷ rest) x e h v =
       frequency = recorded-whole x.frequency i.key v.frequency;
     }
 
-hold_read-sound : (s : ℕ) (w : ℕ) (o : Option Holder) (x : Shell) → IsConsistent x → SoundTo (hold_read s (held_by w o) x)
-hold_read-sound s w None x v = tt
-hold_read-sound s w (Some h) x v =
-    elim (cases_Bool (eqb w h.worker)) as (λ _. SoundTo (hold_read s (cond (eqb w h.worker) (Some h) None) x)) [
-      | inl e ↦ rw e (when-sound (is_stripe s x && may_read h.phase) (drain_read s (stripe_at s x.stripes) x) (λ t. read-sound s (stripe_at s x.stripes) x refl (grind (arith, nat_tests, (and_parts (is_stripe s x) (may_read h.phase) t).0)) v))
-      | inr e ↦ rw e tt
-    ]
-
 -- whoever is w: the holder that stands, or none
-held-sound : (w : ℕ) (o : Option Holder) (u : Option Holder → Option (Reply × Shell)) → SoundTo (u None) → ((h : Holder) → o ≡ Some h → SoundTo (u (Some h))) → SoundTo (u (held_by w o))
-held-sound w None u n k = n
-held-sound w (Some h) u n k =
-    elim (cases_Bool (eqb w h.worker)) as (λ _. SoundTo (u (cond (eqb w h.worker) (Some h) None))) [
-      | inl e ↦ rw e (k h refl)
-      | inr e ↦ rw e n
-    ]
+pub held-any : (P : Option (Reply × Shell) → Type 0) (w : ℕ) (o : Option Holder) (u : Option Holder → Option (Reply × Shell)) → P (u None) → ((h : Holder) → o ≡ Some h → P (u (Some h))) → P (u (held_by w o))
+held-any P w None u n k = n
+held-any P w (Some h) u n k = cond_both (eqb w h.worker) (Some h) None (λ o. P (u o)) (λ e. k h refl) (λ e. n)
 
 phase-sound : (p : Phase) (h : Holder) (x : Shell) → x.holder ≡ Some h → IsConsistent x → IsConsistent (in_phase p h x)
 phase-sound p h x f v = record { placed = v.placed; stripes = v.stripes; writes = v.writes; main = v.main; frequency = v.frequency; left = rw f at v.left }
@@ -456,48 +448,40 @@ leave-sound v x s h m = record {
   frequency = s.frequency;
 }
 
-contest-sound : (c : Item) (o : Option Item) (x : Shell) → IsLoose x → oldest_of x.queues.probation ≡ o → 1 ≤ occurrences c x.queues.probation → main_length x.queues ≤ main_size x.config + 1 → IsConsistent (shell_contest c o x).1
-contest-sound c None x s e h m = absurd (none x.queues.probation e h)
-  where
-    none : (l : List Item) → oldest_of l ≡ None → 1 ≤ occurrences c l → ⊥
-    none [] e h = omega arith
-    none (y ∷ l) e h = cc (e)
-contest-sound c (Some v) x s e h m =
-    elim (cases_Bool (is_same_item c v)) as (λ _. IsConsistent (shell_contest c (Some v) x).1) [
-      | inl f ↦ rw f (leave-sound c x s h m)
-      | inr f ↦ rw f (elim (cases_Bool (admits x.frequency c.key v.key)) as (λ _. IsConsistent (cond {A = Reply × Shell} (admits x.frequency c.key v.key) (reply.Evicted v, leave v x) (reply.Rejected c, leave c x)).1) [
-        | inl g ↦ rw g (leave-sound v x s (first-queued v x.queues.probation e) m)
-        | inr g ↦ rw g (leave-sound c x s h m)
-      ])
-    ]
+-- the candidate stands in probation, and nothing else has changed
+record IsShifted (c : Item) (x : Shell) : Type 0 where
+  loose : IsLoose (shift_effect c x)
+  queued : 1 ≤ occurrences c (shift_effect c x).queues.probation
+  main : main_length (shift_effect c x).queues ≤ main_size x.config + 1
+  window : window_size x.config ≤ length (shift_effect c x).queues.window
 
-from-sound : (c : Item) (x : Shell) → IsLoose x → 1 ≤ occurrences c x.queues.probation → main_length x.queues ≤ main_size x.config + 1 → window_size x.config ≤ length x.queues.window → IsConsistent (evict_from c x).1
-from-sound c x s h m n =
-    elim (cases_Bool (nat_lt x.config.capacity (total_items x.queues))) as (λ _. IsConsistent (evict_from c x).1) [
-      | inl e ↦ rw e (contest-sound c (oldest_of x.queues.probation) x s refl h m)
-      | inr e ↦
-          let few : total_items x.queues ≤ x.config.capacity = grind (arith, nat_tests) in
-          rw e record { placed = s.placed; stripes = s.stripes; writes = s.writes; left = s.left; main = omega (arith, few, n); frequency = s.frequency }
-    ]
-
-oldest-sound : (o : Option Item) (x : Shell) → oldest_of x.queues.window ≡ o → window_size x.config < length x.queues.window → IsConsistent x → IsConsistent (evict_oldest o x).1
-oldest-sound None x e h v = v
-oldest-sound (Some c) x e h v =
-    let n : 1 ≤ occurrences c x.queues.window = first-queued c x.queues.window e in
+is-shifted : (c : Item) (x : Shell) → IsCandidate c x → IsConsistent x → IsShifted c x
+is-shifted c x h v =
+    let lt : window_size x.config < length x.queues.window = (let o = h.over in grind (arith, nat_tests, o)) in
+    let n : 1 ≤ occurrences c x.queues.window = first-queued c x.queues.window h.oldest in
     let d = sound-distinct x v c in
     let one : queue_occurrences c x.queues ≡ 1 = omega (arith, n, d) in
-    let k : IsPlaced x.table x.next (queues_after_move c Probation x.queues) x.writes = placed-same x.table x.next x.queues (queues_after_move c Probation x.queues) x.writes x.writes (λ j. rw (queued-kept j c Probation x.queues one) refl) (λ j. refl) v.placed.ordered v.placed in
-    from-sound c (shift_effect c x) record { placed = k; stripes = v.stripes; writes = v.writes; left = v.left; frequency = v.frequency }
-    (omega (arith, times-append c (items_without c x.queues.probation) (c ∷ []), times-one c))
-    (omega (arith, v.main, length-without c x.queues.probation, length-without c x.queues.protected, length-append (items_without c x.queues.probation) (c ∷ [])))
-    (omega (arith, h, n, d, length-without c x.queues.window))
+    record {
+      loose = record {
+        placed = placed-same x.table x.next x.queues (queues_after_move c Probation x.queues) x.writes x.writes (λ j. rw (queued-kept j c Probation x.queues one) refl) (λ j. refl) v.placed.ordered v.placed;
+        stripes = v.stripes;
+        writes = v.writes;
+        left = v.left;
+        frequency = v.frequency;
+      };
+      queued = omega (arith, times-append c (items_without c x.queues.probation) (c ∷ []), times-one c);
+      main = omega (arith, v.main, length-without c x.queues.probation, length-without c x.queues.protected, length-append (items_without c x.queues.probation) (c ∷ []));
+      window = omega (arith, lt, n, d, length-without c x.queues.window);
+    }
 
-evict-sound : (x : Shell) → IsConsistent x → IsConsistent (evict_effect x).1
-evict-sound x v =
-    elim (cases_Bool (is_over x)) as (λ _. IsConsistent (evict_effect x).1) [
-      | inl e ↦ let lt : window_size x.config < length x.queues.window = grind (arith, nat_tests) in rw e (oldest-sound (oldest_of x.queues.window) x refl lt v)
-      | inr e ↦ rw e v
-    ]
+evict-sound : (x : Shell) (r : Reply) (y : Shell) → Evicts x r y → IsConsistent x → IsConsistent y
+evict-sound x r y (evicts.fits i) v = v
+evict-sound x r y (evicts.shifted c h i) v =
+    let s = is-shifted c x h v in
+    let few : total_items (shift_effect c x).queues ≤ x.config.capacity = grind (arith, nat_tests, i) in
+    record { placed = s.loose.placed; stripes = s.loose.stripes; writes = s.loose.writes; left = s.loose.left; main = omega (arith, few, s.window); frequency = s.loose.frequency }
+evict-sound x r y (evicts.evicted c o h k i g) v = let s = is-shifted c x h v in leave-sound o (shift_effect c x) s.loose (first-queued o (shift_effect c x).queues.probation k.oldest) s.main
+evict-sound x r y (evicts.rejected c o h k i) v = let s = is-shifted c x h v in leave-sound c (shift_effect c x) s.loose s.queued s.main
 
 end-sound : (x : Shell) → IsConsistent x → IsConsistent (end_effect x).1
 end-sound x v =
@@ -515,10 +499,10 @@ perform-sound w (a.Remove k) x v = remove_at-sound k (node_of k x.table) x refl 
 perform-sound w (a.AfterRead b) x v = v
 perform-sound w a.AfterWrite x v = record { placed = v.placed; stripes = v.stripes; writes = v.writes; main = v.main; frequency = v.frequency; left = v.left }
 perform-sound w a.Begin x v = begin-sound w x.holder x v
-perform-sound w (a.DrainRead s) x v = hold_read-sound s w x.holder x v
-perform-sound w a.DrainWrite x v = held-sound w x.holder (λ o. hold_write o x) tt (λ h f. when-sound (may_write h.phase) (drain_write h x.writes x) (λ t. write-sound h x.writes x refl f v))
-perform-sound w a.Evict x v = held-sound w x.holder (λ o. hold_evict o x) tt (λ h f. evict-sound (in_phase Evictions h x) (phase-sound Evictions h x f v))
-perform-sound w a.End x v = held-sound w x.holder (λ o. hold_end o x) tt (λ h f. end-sound x v)
+perform-sound w (a.DrainRead s) x v = held-any SoundTo w x.holder (λ o. hold_read s o x) tt (λ h f. when-sound (is_stripe s x && may_read h.phase) (drain_read s (stripe_at s x.stripes) x) (λ t. read-sound s (stripe_at s x.stripes) x refl (grind (arith, nat_tests, (and_parts (is_stripe s x) (may_read h.phase) t).0)) v))
+perform-sound w a.DrainWrite x v = held-any SoundTo w x.holder (λ o. hold_write o x) tt (λ h f. when-sound (may_write h.phase) (drain_write h x.writes x) (λ t. write-sound h x.writes x refl f v))
+perform-sound w a.Evict x v = held-any SoundTo w x.holder (λ o. hold_evict o x) tt (λ h f. evict-sound (in_phase Evictions h x) (evict_effect (in_phase Evictions h x)).0 (evict_effect (in_phase Evictions h x)).1 (evictions-by-reply (in_phase Evictions h x)) (phase-sound Evictions h x f v))
+perform-sound w a.End x v = held-any SoundTo w x.holder (λ o. hold_end o x) tt (λ h f. end-sound x v)
 
 tallied-sound : (p : Option (Reply × Shell)) → SoundTo p → SoundTo (counted_reply p)
 tallied-sound None v = tt

@@ -6,13 +6,11 @@ use Rattle.step_record.specs.declared.config.Config.{Config}
 use Rattle.step_record.specs.declared.step.Act.{Act}
 use Rattle.step_record.specs.declared.step.Step.{Step}
 use Rattle.step_record.specs.declared.step.Reply.{Reply}
-use Rattle.shell_model.specs.declared.record.ShellRecord.{ShellRecord}
 use Rattle.shell_model.specs.Shell.{Shell, act}
 use Rattle.shell_model.specs.Consistency.{IsConsistent}
 use Rattle.shell_model.specs.Records.{change_of}
 use Rattle.shell_model.specs.Laws.{MadeStep, IsShapeOf, empty_shell, some_end, open_began}
 use Rattle.shell_model.specs.ReachableShell.{IsReachable, RecordLaw, LaterLaws}
-use Rattle.shell_model.specs.ShellStats.{counted_of}
 use Rattle.shell_model.proofs.Acting.{IsUndone, act-undone}
 use Rattle.shell_model.proofs.Making as k
 use Rattle.shell_model.proofs.Making.{Makes}
@@ -26,8 +24,7 @@ pub record-law : RecordLaw
 record-law x y s r h e =
     let u : IsUndone (change_of s.worker s.act x) x (act x s) = act-undone x s (reached-sound x h) in
     let v : IsUndone (change_of s.worker s.act x) x (Some (r, y)) = rw e at u in
-    let c : ShellRecord = record { counted = counted_of r; change = change_of s.worker s.act x } in
-    (record { step = v.0; reached = rw v.1 h }, v.1)
+    rw e (record { step = v.0; reached = rw v.1 h }, v.1)
 
 pub later-laws : LaterLaws
 later-laws x es h n l = record {

@@ -31,11 +31,12 @@ use Rattle.shell_model.specs.declared.record.Change.{Change}
 use Rattle.shell_model.specs.declared.record.Change.TheVariants.{Nothing, Offered, Removed, Passed, Ended}
 use Rattle.shell_model.specs.Frequency.{frequency_unrecorded, admits}
 use Rattle.shell_buffers.specs.Buffers.{stripe_at, all_but_newest}
-use Rattle.shell_model.specs.Shell.{Shell, node_of, is_listed, unlisted, shell_protected_size, cleared_from, offer_effect, put_effect, put_at, removing, remove_at, begin_effect, is_over, held_by, in_phase, drain_at_end, shell_after_touch, drain_read, drain_write, apply_task, evict_effect, end_effect, some_if, may_read, may_write, is_stripe, hold_read, hold_write, hold_evict, hold_end, act_effect}
-use Rattle.shell_model.specs.ShellEviction.{unlisted_by, evicted_by}
+use Rattle.shell_model.specs.Shell.{Shell, node_of, is_listed, unlisted, shell_protected_size, cleared_from, offer_effect, put_effect, put_at, removing, remove_at, begin_effect, is_over, held_by, in_phase, drain_at_end, shell_after_touch, drain_read, drain_write, apply_task, unlisted_by, evicted_by, evict_effect, end_effect, some_if, may_read, may_write, is_stripe, hold_read, hold_write, hold_evict, hold_end, act_effect}
 use Rattle.shell_model.specs.Records.{IsNewest, FitsTouched, entered, IsOut, before_change, FitsChange, hit_moves, touched_of, added_of, cleared_of, task_change, put_change, remove_change, begin_change, read_change, write_change, leaves_table, planned_change, evict_change, if_held, change_of}
-use Rattle.shell_model.specs.Consistency.{IsConsistent, queue_occurrences, waiting_adds, leaving, IsAscending}
-use Rattle.shell_model.proofs.Counting.{queued-moved, without-placed, node_of-placed, placed-without, node_of-without, listed-times, node-listed}
+use Rattle.replacement.specs.Counts.{queue_occurrences}
+use Rattle.shell_model.specs.Consistency.{IsConsistent, waiting_adds, leaving, IsAscending}
+use Rattle.replacement.proofs.Counting.{queued-moved}
+use Rattle.shell_model.proofs.Counting.{without-placed, node_of-placed, placed-without, node_of-without, listed-times, node-listed}
 use Rattle.shell_model.proofs.Evicting.{evictions-by-plan}
 use Rattle.shell_model.proofs.Frequency.{fits_recorded, unrecorded-recorded}
 

@@ -10,6 +10,7 @@ use Rattle.shell_buffers.specs.declared.task.Task.{Task}
 use Rattle.shell_buffers.specs.declared.task.Task.TheVariants.{Add, Update, Remove}
 use Rattle.shell_buffers.specs.Buffers.{stripe_at}
 use Rattle.replacement.specs.Rules.{main_size}
+use Rattle.replacement.specs.Counts.{queue_occurrences, main_length}
 use Rattle.shell_model.specs.Shell.{Shell}
 use Rattle.shell_model.specs.declared.holder.Holder.{Holder}
 
@@ -34,9 +35,6 @@ IsOrdered (Add j ∷ ts) = IsOrdered ts
 IsOrdered (Update j ∷ ts) = IsOrdered ts
 IsOrdered (Remove j ∷ ts) = (waiting_adds j ts ≡ 0) × IsOrdered ts
 
-abbrev pub queue_occurrences : Item → Queues → ℕ
-queue_occurrences i q = occurrences i q.window + occurrences i q.probation + occurrences i q.protected
-
 abbrev pub AreAbove : ℕ → List Item → Type 0
 AreAbove k [] = Unit {0}
 AreAbove k (x ∷ t) = (k < x.key) × AreAbove k t
@@ -58,9 +56,6 @@ pub record IsPlaced (table : List Item) (next : ℕ) (queues : Queues) (writes :
   pub below : (i : Item) → 1 ≤ occurrences i table + leaving i writes → i.node < next
   pub ascending : IsAscending table
   pub ordered : IsOrdered writes
-
-abbrev pub main_length : Queues → ℕ
-main_length q = length q.probation + length q.protected
 
 pub record IsConsistent (x : Shell) : Type 0 where
   pub placed : IsPlaced x.table x.next x.queues x.writes

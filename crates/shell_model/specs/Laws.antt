@@ -31,7 +31,8 @@ use Rattle.shell_model.specs.ShellStats.{is_busy_reply, is_removed_reply}
 use Rattle.shell_buffers.specs.Buffers.{stripe_at}
 use Rattle.replacement.specs.Rules.{main_size}
 use Rattle.shell_model.specs.Shell.{Shell, act}
-use Rattle.shell_model.specs.Consistency.{queue_occurrences, waiting_adds, leaving, main_length}
+use Rattle.replacement.specs.Counts.{queue_occurrences, main_length}
+use Rattle.shell_model.specs.Consistency.{waiting_adds, leaving}
 
 -- a step with its reply
 abbrev pub MadeStep : Type 0

@@ -9,9 +9,9 @@ use Rattle.step_record.specs.declared.step.Reply.TheVariants.{Began}
 use Rattle.shell_model.specs.declared.holder.Holder.{Holder}
 use Rattle.admission.specs.Shape.{Shape}
 use Rattle.shell_model.specs.declared.record.ShellRecord.{ShellRecord}
-use Rattle.shell_model.specs.ShellStats.{AreAtMost, counted_of}
+use Rattle.shell_model.specs.ShellStats.{AreAtMost}
 use Rattle.shell_model.specs.Shell.{Shell, act}
-use Rattle.shell_model.specs.Records.{undone_step, FitsStep, change_of}
+use Rattle.shell_model.specs.Records.{undone_step, FitsStep, shell_record_of}
 use Rattle.shell_model.specs.Laws.{MadeStep, IsShapeOf, empty_shell, is_ending, seat_of, seat_from, open_began}
 use Rattle.step_record.specs.declared.item.Item.{Item}
 use Rattle.segments.specs.Items.{occurrences}
@@ -31,8 +31,7 @@ pub record ShellFits (r : ShellRecord) (x : Shell) : Type 0 where
 -- a step's record fits what the step left, and undoes it
 abbrev pub RecordLaw : Type 0
 RecordLaw = (x y : Shell) (s : Step) (r : Reply) → IsReachable x → act x s ≡ Some (r, y)
-    → let c : ShellRecord = record { counted = counted_of r; change = change_of s.worker s.act x } in
-    ShellFits c y × (undone_step c y ≡ x)
+    → ShellFits (shell_record_of s x) y × (undone_step (shell_record_of s x) y ≡ x)
 
 -- from any state that a shell stands for and that no one holds
 pub record IsLaterHistory (es : List MadeStep) (y : Shell) : Type 0 where

@@ -6,6 +6,8 @@ use Rattle.shell_buffers.specs.declared.write_tasks.TheConstants.{MAX_TASKS}
 use Rattle.step_record.specs.declared.item.Item.{Item}
 use Rattle.step_record.specs.declared.step.Act.{Act}
 use Rattle.step_record.specs.declared.step.Act.TheVariants as a
+use Rattle.step_record.specs.declared.step.Step.{Step}
+use Rattle.step_record.specs.declared.step.Reply.{Reply}
 use Rattle.step_record.specs.declared.drain.Drain.TheVariants.{ToIdle}
 use Rattle.step_record.specs.declared.drain.Phase.{Phase}
 use Rattle.step_record.specs.declared.drain.Phase.TheVariants.{Reads, Writes, Evictions}
@@ -23,6 +25,8 @@ use Rattle.shell_buffers.specs.declared.task.Task.{Task}
 use Rattle.shell_buffers.specs.declared.task.Task.TheVariants.{Add, Update, Remove}
 use Rattle.admission.specs.FreqRecord.{size_of}
 use Rattle.shell_model.specs.declared.holder.Holder.{Holder}
+use Rattle.shell_model.specs.declared.stats.Counted.{Counted}
+use Rattle.shell_model.specs.declared.stats.Counted.TheVariants as counted
 use Rattle.shell_model.specs.declared.record.UseRecord.{UseRecord}
 use Rattle.shell_model.specs.declared.record.EvictionRecord.{EvictionRecord}
 use Rattle.shell_model.specs.declared.record.ShellRecord.{ShellRecord}
@@ -30,10 +34,10 @@ use Rattle.shell_model.specs.declared.record.Change.{Change}
 use Rattle.shell_model.specs.declared.record.Change.TheVariants.{Nothing, Offered, Updated, Added, Removed, Requested}
 use Rattle.shell_model.specs.declared.record.Change.TheVariants.{Began, Read, Passed, Applied, Cleared, Evicted, Ended}
 use Rattle.shell_model.specs.Frequency.{shell_frequency_record, frequency_unrecorded, FitsFrequency, admits}
-use Rattle.shell_model.specs.ShellStats.{shell_stats_before, IsCounted}
+use Rattle.shell_model.specs.ShellStats.{counted_of, shell_stats_before, IsCounted}
 use Rattle.shell_buffers.specs.Buffers.{stripe_at, all_but_newest}
 use Rattle.shell_model.specs.Shell.{Shell, node_of, table_with, is_listed, shell_protected_size, after_write, is_over}
-use Rattle.shell_model.specs.Shell.{drain_at_end}
+use Rattle.shell_model.specs.Shell.{drain_at_end, act}
 
 -- newest in l: what stands last
 abbrev pub IsNewest : {A : Type 0} → A → List A → Type 0
@@ -243,6 +247,16 @@ change_of w (a.DrainRead s) x = read_change s (stripe_at s x.stripes) x
 change_of w a.DrainWrite x = if_held (λ h. write_change h x.writes x) x.holder
 change_of w a.Evict x = if_held (λ h. evict_change h x) x.holder
 change_of w a.End x = cond (is_over x) Nothing (if_held (λ h. Ended h x.drain (drain_at_end x.drain).1) x.holder)
+
+-- the count that a step's reply raises
+abbrev pub count_in : Option (Reply × Shell) → Counted
+count_in None = counted.Nothing
+count_in (Some p) = counted_of p.0
+
+-- The record of a step, from the shell before it. It is this and nothing beside: its only list is that of a halving that
+-- the recording of a key brought.
+abbrev pub shell_record_of : Step → Shell → ShellRecord
+shell_record_of s x = record { counted = count_in (act x s); change = change_of s.worker s.act x }
 
 -- the words that the record holds in lists: those of a halving of the frequency, if any
 

@@ -6,6 +6,8 @@ use Rattle.shell_buffers.specs.declared.stripes.TheConstants.{MAX_ITEMS}
 use Rattle.shell_buffers.specs.declared.write_tasks.TheConstants.{MAX_TASKS}
 use Rattle.step_record.specs.declared.item.Item.{Item}
 use Rattle.step_record.specs.declared.config.Config.{Config}
+use Rattle.step_record.specs.declared.outcome.Outcome.{Outcome}
+use Rattle.step_record.specs.declared.outcome.Outcome.TheVariants as outcome
 use Rattle.step_record.specs.declared.step.Answer.{Answer}
 use Rattle.step_record.specs.declared.step.Answer.TheVariants as answer
 use Rattle.step_record.specs.declared.step.Act.{Act}
@@ -21,14 +23,14 @@ use Rattle.step_record.specs.declared.drain.Drain.{Drain as DrainState}
 use Rattle.step_record.specs.declared.drain.Drain.TheVariants as drain
 use Rattle.step_record.specs.declared.drain.Phase.{Phase}
 use Rattle.step_record.specs.declared.drain.Phase.TheVariants.{Reads, Writes, Evictions}
-use Rattle.segments.specs.declared.records.Queue.TheVariants.{Window, Probation}
+use Rattle.segments.specs.declared.records.Queue.TheVariants.{Window}
 use Rattle.segments.specs.declared.records.Queue.{Queue}
-use Rattle.segments.specs.Items.{is_same_item, items_without, oldest_of}
-use Rattle.segments.specs.Queues.{Queues, queue_holding, queues_after_push}
-use Rattle.segments.specs.Queues.{queues_without, queues_after_move, total_items}
+use Rattle.segments.specs.Items.{items_without}
+use Rattle.segments.specs.Queues.{Queues, queue_holding, queues_after_push, queues_without}
 use Rattle.admission.specs.Frequency.{FrequencyData}
 use Rattle.replacement.specs.Rules.{three_queues}
-use Rattle.replacement.specs.Table.{after_hit}
+use Rattle.replacement.specs.Table.{Response, after_hit, eviction}
+use Rattle.replacement.specs.Plan.{candidate_of}
 use Rattle.shell_buffers.specs.declared.task.Task.{Task}
 use Rattle.shell_buffers.specs.declared.task.Task.TheVariants.{Add, Update, Remove}
 use Rattle.shell_model.specs.declared.holder.Holder.{Holder}
@@ -183,38 +185,32 @@ drain_write h (t ∷ rest) x =
       holder = Some record { worker = h.worker; phase = Writes; left = h.left - 1 };
     }))
 
--- the item leaves the queues, and the table where it is listed there
-abbrev pub leave : Item → Shell → Shell
-leave i x = record x { queues = queues_without i x.queues; table = unlisted i x.table }
+-- what is replied of a candidate, by the outcome and the item that left
+abbrev pub reply_by : Outcome → Option Item → Item → Reply
+reply_by (outcome.Evicted k) (Some v) c = Evicted v
+reply_by (outcome.Rejected k) (Some v) c = Rejected v
+reply_by o l c = Shifted c
 
--- the candidate stands in probation already, whose oldest is the victim
-abbrev pub shell_contest : Item → Option Item → Shell → Reply × Shell
-shell_contest candidate None x = (Shifted candidate, x)
-shell_contest candidate (Some victim) x =
-    cond (is_same_item candidate victim)
-    (Rejected candidate, leave candidate x)
-    (cond (admits x.frequency candidate.key victim.key)
-    (Evicted victim, leave victim x)
-    (Rejected candidate, leave candidate x))
+-- the item that left the queues leaves the table where it is listed there
+abbrev pub unlisted_by : Option Item → List Item → List Item
+unlisted_by None t = t
+unlisted_by (Some i) t = unlisted i t
 
-abbrev pub shift_effect : Item → Shell → Shell
-shift_effect i x = record x { queues = queues_after_move i Probation x.queues }
+-- an eviction's reply and the shell that it leaves, by its candidate and what it comes to
+abbrev pub evicted_by : Option Item → Response → Shell → Reply × Shell
+evicted_by None r x = (Fits, x)
+evicted_by (Some c) r x =
+    (reply_by r.outcome r.left c, record x { queues = r.queues; table = unlisted_by r.left x.table })
 
-abbrev pub evict_from : Item → Shell → Reply × Shell
-evict_from candidate x =
-    cond (nat_lt x.config.capacity (total_items x.queues))
-    (shell_contest candidate (oldest_of x.queues.probation) x)
-    (Shifted candidate, x)
-
-abbrev pub evict_oldest : Option Item → Shell → Reply × Shell
-evict_oldest None x = (Fits, x)
-evict_oldest (Some candidate) x = evict_from candidate (shift_effect candidate x)
+-- an eviction is that of the policies' table of moves with a window
+abbrev pub evict_effect : Shell → Reply × Shell
+evict_effect x = evicted_by
+    (candidate_of (three_queues x.config) x.queues)
+    (eviction (three_queues x.config) (admits x.frequency) x.queues)
+    x
 
 abbrev pub is_over : Shell → Bool
 is_over x = nat_lt (window_size x.config) (length x.queues.window)
-
-abbrev pub evict_effect : Shell → Reply × Shell
-evict_effect x = cond (is_over x) (evict_oldest (oldest_of x.queues.window) x) (Fits, x)
 
 -- ToRequired: an AfterWrite came meanwhile
 abbrev pub drain_at_end : DrainState → Reply × DrainState

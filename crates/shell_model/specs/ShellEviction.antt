@@ -1,44 +1,46 @@
--- An eviction of the maintenance by the policies' table of moves.
-use Rattle.std.specs.Prelude.{◌≡◌, Option, Some, None, List}
+-- An eviction of the maintenance in its own words.
+use Rattle.std.specs.Prelude.{◌≡◌, nat_lt, Bool, true, false, Some}
 use Rattle.step_record.specs.declared.item.Item.{Item}
-use Rattle.step_record.specs.declared.outcome.Outcome.{Outcome}
-use Rattle.step_record.specs.declared.outcome.Outcome.TheVariants as outcome
 use Rattle.step_record.specs.declared.step.Reply.{Reply}
 use Rattle.step_record.specs.declared.step.Reply.TheVariants as reply
-use Rattle.segments.specs.Queues.{IsDistinct}
-use Rattle.replacement.specs.Rules.{three_queues}
-use Rattle.replacement.specs.Plan.{candidate_of, eviction_plan}
-use Rattle.replacement.specs.Table.{Response, eviction}
-use Rattle.replacement.specs.PlanMoves.{response_of_plan}
+use Rattle.segments.specs.declared.records.Queue.TheVariants.{Probation}
+use Rattle.segments.specs.Items.{is_same_item, oldest_of}
+use Rattle.segments.specs.Queues.{queues_without, queues_after_move, total_items}
 use Rattle.shell_model.specs.Frequency.{admits}
-use Rattle.shell_model.specs.Shell.{Shell, unlisted, evict_effect}
+use Rattle.shell_model.specs.Shell.{Shell, unlisted, is_over, evict_effect}
 
--- what is replied of a candidate, by the outcome and the item that left
-abbrev pub reply_by : Outcome → Option Item → Item → Reply
-reply_by (outcome.Evicted k) (Some v) c = reply.Evicted v
-reply_by (outcome.Rejected k) (Some v) c = reply.Rejected v
-reply_by o l c = reply.Shifted c
+-- the item goes to probation's recent end
+abbrev pub shift_effect : Item → Shell → Shell
+shift_effect i x = record x { queues = queues_after_move i Probation x.queues }
 
--- the item that left the queues leaves the table where it is listed there
-abbrev pub unlisted_by : Option Item → List Item → List Item
-unlisted_by None t = t
-unlisted_by (Some i) t = unlisted i t
+-- the item leaves the queues, and the table where it is listed there
+abbrev pub leave : Item → Shell → Shell
+leave i x = record x { queues = queues_without i x.queues; table = unlisted i x.table }
 
--- an eviction's reply and the shell that it leaves, by its candidate and what it comes to
-abbrev pub evicted_by : Option Item → Response → Shell → Reply × Shell
-evicted_by None r x = (reply.Fits, x)
-evicted_by (Some c) r x =
-    (reply_by r.outcome r.left c, record x { queues = r.queues; table = unlisted_by r.left x.table })
+-- the window is over its size, and c is its oldest item
+pub record IsCandidate (c : Item) (x : Shell) : Type 0 where
+  pub over : is_over x ≡ true
+  pub oldest : oldest_of x.queues.window ≡ Some c
 
-abbrev pub EvictionsAgree : Type 0
-EvictionsAgree = (x : Shell) → evict_effect x ≡ evicted_by
-    (candidate_of (three_queues x.config) x.queues)
-    (eviction (three_queues x.config) (admits x.frequency) x.queues)
-    x
+abbrev pub is_too_much : Shell → Bool
+is_too_much x = nat_lt x.config.capacity (total_items x.queues)
 
--- the same by the plan, in which a candidate goes straight to its place, or out
-abbrev pub ShellEvictionsPlanned : Type 0
-ShellEvictionsPlanned = (x : Shell) → IsDistinct x.queues → evict_effect x ≡ evicted_by
-    (candidate_of (three_queues x.config) x.queues)
-    (response_of_plan (eviction_plan (three_queues x.config) (admits x.frequency) x.queues) x.queues)
-    x
+-- the queues hold more than the capacity, and v is probation's oldest item
+pub record IsVictim (v : Item) (x : Shell) : Type 0 where
+  pub over : is_too_much x ≡ true
+  pub oldest : oldest_of x.queues.probation ≡ Some v
+
+-- What an eviction makes of the state, one case for each reply. The candidate stands in probation when it is compared
+-- with the victim.
+pub data Evicts (x : Shell) : Reply → Shell → Type 0 where
+  fits : is_over x ≡ false → Evicts x reply.Fits x
+  shifted : (c : Item) → IsCandidate c x → is_too_much (shift_effect c x) ≡ false
+      → Evicts x (reply.Shifted c) (shift_effect c x)
+  evicted : (c v : Item) → IsCandidate c x → IsVictim v (shift_effect c x) → is_same_item c v ≡ false
+      → admits x.frequency c.key v.key ≡ true → Evicts x (reply.Evicted v) (leave v (shift_effect c x))
+  rejected : (c v : Item) → IsCandidate c x → IsVictim v (shift_effect c x)
+      → (is_same_item c v ≡ false → admits x.frequency c.key v.key ≡ false)
+      → Evicts x (reply.Rejected c) (leave c (shift_effect c x))
+
+abbrev pub EvictionsByReply : Type 0
+EvictionsByReply = (x : Shell) → Evicts x (evict_effect x).0 (evict_effect x).1

@@ -1,4 +1,4 @@
-//! The concurrent shell as a definition: its state, what each step makes of it, the undo record of a step, and what
+//! The concurrent cache as a definition: its state, what each step makes of it, the undo record of a step, and what
 //! holds of every list of steps.
 #![tactic(auto)]
 

@@ -1,5 +1,5 @@
 //! What holds of every list of steps. Each of these functions does nothing: its contract is the theorem.
-ghost use Rattle.shell_model.specs.ShellEviction.{EvictionsAgree, ShellEvictionsPlanned};
+ghost use Rattle.shell_model.specs.ShellEviction.{EvictionsByReply};
 ghost use Rattle.shell_model.specs.Laws.{HistoryLaws};
 ghost use Rattle.shell_model.specs.ReachableShell.{RecordLaw, LaterLaws, BoundLaw, HoldLaws};
 ghost use Rattle.shell_model.specs.Shell.{act};
@@ -39,14 +39,8 @@ pub fn holder_stays()
     ensures { HoldLaws }
 {}
 
-/// An eviction of the maintenance is that of the policies' table of moves with a window: the same queues, and the reply
-/// and what leaves the table of keys by its outcome.
-pub fn evictions_agree()
-    ensures { EvictionsAgree }
-{}
-
-/// An eviction comes to what its plan comes to, in which a candidate goes straight to its place, or out. Bodies and
-/// undo records go by the plan.
-pub fn evictions_planned()
-    ensures { ShellEvictionsPlanned }
+/// An eviction, which is that of the policies' table of moves, in the words of the maintenance: what it makes of the
+/// state, one case for each reply.
+pub fn evictions_by_reply()
+    ensures { EvictionsByReply }
 {}

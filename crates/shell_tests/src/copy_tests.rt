@@ -2,7 +2,6 @@
 ghost use Rattle.std.specs.Prelude.{◌≡◌, ◌≤◌, [], IfOk, OnOk, length};
 ghost use Rattle.maintenance.specs.EmptyShell.{IsOpened};
 ghost use Rattle.shell_journal.specs.Copy.{CanHold};
-ghost use Rattle.shell_model.specs.ReachableShell.{IsReachable};
 
 use super::assertions::assert_equal;
 use super::sessions::CONFIG;
@@ -18,14 +17,12 @@ use step_record::{Act, Config, Reply, Step, Worker};
 // A session of at most three steps over an empty shell.
 fn fresh(rt: &impl Abort, alloc: Global, config: &Config) -> Result<Session<Shell>, Fail>
     ensures opened { IfOk result (λ s. IsOpened config.now s.opening) }
-    ensures reachable { IfOk result (λ s. IsReachable s.opening) }
     ensures limit { IfOk result (λ s. s.limit ≡ 3) }
     ensures kept { IfOk result (λ s. s.kept ≡ []) }
     ensures tail { IfOk result (λ s. s.tail ≡ []) }
 {
     assert!(rt; config.check() == Ok(()));
     let shell = Shell::new(alloc, config)?;
-    shell.reachable();
     Ok(Session::open(alloc, shell, 3))
 }
 

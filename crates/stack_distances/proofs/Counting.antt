@@ -1,17 +1,17 @@
 -- What Lru counts, by the distances.
-use Rattle.std.proofs.Common.{◌≡◌, ℕ, suc, ◌+◌, ◌-◌, ◌<◌, ◌≤◌, min, Bool, true, false, cond, ◌&&◌, nat_lt, nat_le, Option, Some, None, List, [], ◌∷◌, ◌++◌, length, count_by, ap, ◌∙◌, sym, refl, arith, inl, inr, append_assoc, append-nil}
+use Rattle.std.proofs.Common.{◌≡◌, ℕ, suc, ◌+◌, ◌-◌, ◌<◌, ◌≤◌, min, true, false, cond, ◌&&◌, nat_lt, nat_le, Option, Some, None, List, [], ◌∷◌, ◌++◌, length, count_by, ap, ◌∙◌, sym, refl, arith, inl, inr, append_assoc, append-nil}
 use Rattle.std.proofs.lemmas.Bool.Decides.{nat_tests}
-use Rattle.std.proofs.lemmas.List.Sums.{sum_by-cons, sum_by-le-sum_by}
+use Rattle.std.proofs.lemmas.List.Sums.{sum_by-le-sum_by}
 use Rattle.step_record.specs.Keys.{has_key}
 use Rattle.step_record.specs.declared.job.Job.{Job}
 use Rattle.step_record.specs.declared.job.Policy.TheVariants.{Lru}
 use Rattle.step_record.specs.declared.outcome.Outcome.{Outcome}
-use Rattle.step_record.specs.declared.outcome.Outcome.TheVariants.{Hit, Kept, Evicted, Rejected}
 use Rattle.step_record.specs.Stats.{is_hit, is_miss, is_eviction, is_rejection, stats_of, one_if}
 use Rattle.policies.specs.Lru.{distinct_keys, keys_since, is_lru_hit, lru_outcome}
 use Rattle.policies.specs.QueueCache.{QueueState, queue_state_after, frequency_after, state_after, outcomes_from, outcomes_after, outcome_after}
 use Rattle.policies.specs.Design.{knows_trace}
 use Rattle.policies.specs.AnyPolicy.{stats_on, outcomes_on}
+use Rattle.policies.proofs.Counting.{count-cons, hits-misses}
 use Rattle.policies.proofs.Reached.{after-snoc, after-job}
 use Rattle.policies.proofs.OneQueue.{outcome-lru}
 use Rattle.stack_distances.specs.Distances.{distance, distances_after, distances, is_within, hits_within, stats_within}
@@ -59,9 +59,6 @@ module _ (j : Job) (is_lru : j.policy ≡ Lru) (room : 1 ≤ j.config.capacity) 
 
 -- ---- counts
 
-count-cons : {A : Type 0} (p : A → Bool) (x : A) (xs : List A) → count_by p (x ∷ xs) ≡ one_if (p x) + count_by p xs
-count-cons p x xs = sum_by-cons (λ y. cond (p y) 1 0) x xs
-
 count-hits : (c : ℕ) (past keys : List ℕ) → count_by is_hit (lru_outcomes c past keys) ≡ count_by (is_within c) (distances_after past keys)
 count-hits c past [] = refl
 count-hits c past (k ∷ ks) =
@@ -70,16 +67,6 @@ count-hits c past (k ∷ ks) =
     ∙ (ap (λ b. one_if b + count_by is_hit (lru_outcomes c (past ++ k ∷ []) ks)) head
     ∙ (ap (λ n. one_if (is_within c (distance past k)) + n) (count-hits c (past ++ k ∷ []) ks)
     ∙ sym (count-cons (is_within c) (distance past k) (distances_after (past ++ k ∷ []) ks))))
-
-either : (o : Outcome) → one_if (is_hit o) + one_if (is_miss o) ≡ 1
-either Hit = refl
-either Kept = refl
-either (Evicted k) = refl
-either (Rejected k) = refl
-
-hits-misses : (os : List Outcome) → count_by is_hit os + count_by is_miss os ≡ length os
-hits-misses [] = refl
-hits-misses (o ∷ os) = let rest : count_by is_hit os + count_by is_miss os ≡ length os = hits-misses os in omega (arith, count-cons is_hit o os, count-cons is_miss o os, either o)
 
 outcomes-length : (c : ℕ) (past keys : List ℕ) → length (lru_outcomes c past keys) ≡ length keys
 outcomes-length c past [] = refl

@@ -2,16 +2,13 @@
 use Rattle.std.proofs.Common.{◌≡◌, ℕ, suc, ◌+◌, ◌≤◌, min, Bool, true, false, cond, eqb, nat_le, Option, Some, None, List, [], ◌∷◌, ◌++◌, length, count_by, ap, ◌∙◌, sym, refl, arith, inl, inr, append_assoc, append-nil}
 use Rattle.std.proofs.lemmas.Bool.{cases_lt}
 use Rattle.std.proofs.lemmas.Bool.Decides.{nat_tests}
-use Rattle.std.proofs.lemmas.List.Sums.{sum_by-cons}
 use Rattle.step_record.specs.Keys.{has_key}
 use Rattle.policies.specs.Lru.{distinct_keys, keys_since}
 use Rattle.stack_distances.specs.Distances.{distance, distances_after, is_within, hits_within}
 use Rattle.stack_distances.specs.Histogram.{is_at}
+use Rattle.policies.proofs.Counting.{count-cons}
 use Rattle.policies.proofs.Recency.{two}
 use Rattle.stack_distances.proofs.Stack.{grows}
-
-count-cons : {A : Type 0} (p : A → Bool) (x : A) (xs : List A) → count_by p (x ∷ xs) ≡ cond (p x) 1 0 + count_by p xs
-count-cons p x xs = sum_by-cons (λ y. cond (p y) 1 0) x xs
 
 -- ---- one distance more
 

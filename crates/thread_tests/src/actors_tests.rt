@@ -2,14 +2,15 @@
 use super::assertions::assert_equal;
 use super::gates::{Hold, Turns};
 use super::jobs::{counted, failed, fault_of, four_jobs, job};
-use policy_actors::{ActorFault, run_actors, run_one, sweep, sweep_batches, sweep_each};
-use report::Report;
+use policies::{ActorFault, Report};
+use policy_actors::run_actors;
 use std::alloc::Global;
 use std::process::Abort;
 use std::sync::Wait;
 use std::test::Fail;
 use std::thread::Threads;
 use step_record::{Gate, Job, OpenGate, Policy, Trace};
+use sweeps::{run_one, sweep, sweep_batches, sweep_each};
 
 fn trace(alloc: Global) -> Result<Trace, Fail> {
     let keys = vec![in alloc; 1, 1, 2, 3, 1]?;

@@ -1,7 +1,6 @@
 //! The jobs of the tests, and the reports that they are to give.
 use super::sessions::SMALL;
-use policy_actors::ActorFault;
-use report::Report;
+use policies::{ActorFault, Report};
 use std::test::Fail;
 use step_record::{Config, Job, Policy, Spread};
 

@@ -16,6 +16,8 @@ mod gates;
 #[cfg(test)]
 mod jobs;
 #[cfg(test)]
+mod law_tests;
+#[cfg(test)]
 mod limits_tests;
 #[cfg(test)]
 mod quiet_run_tests;

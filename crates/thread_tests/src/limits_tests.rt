@@ -1,8 +1,8 @@
 //! Runs whose journal becomes full, and runs of a session with undone steps.
 use super::assertions::assert_equal;
 use super::gates::Hold;
-use super::sessions::{SMALL, failed, fresh, pieces_of};
-use drive::{Cause, SettleFault, settle};
+use super::sessions::{SMALL, failed, fresh, lists_of, pieces_of};
+use drive::{Cause, DriveFault, Driven, SettleFault, drive, settle};
 use headline::{Rewound, drive_and_undo};
 use journal::{BackFault, Session};
 use maintenance::Shell;
@@ -11,7 +11,7 @@ use std::process::Abort;
 use std::sync::Wait;
 use std::test::Fail;
 use std::thread::Threads;
-use step_record::{Act, Call, Drain, Gate, Item, OpenGate, Reply};
+use step_record::{Act, Call, Drain, Gate, Item, OpenGate, Phase, Reply};
 
 // What one worker makes of a read of key 1 in a new cache: a miss, and a round of maintenance.
 const ONE_READ: [(Act, Reply); 9] = [
@@ -69,68 +69,119 @@ fn assert_begins(rt: &impl Abort, session: &Session<Shell>, applied: usize) {
     assert_equal(rt, session.len(), applied);
 }
 
-// The journal of a limit of 1 to 9 is full: worker 0 holds the maintenance from its fourth step to its eighth, and
-// finds no room to settle it.
-fn assert_not_settled(rt: &impl Abort, session: &mut Session<Shell>, limit: usize) {
-    let holder = match session.engine().holder() {
-        Some((worker, _, _)) => Some(worker.number()),
+// What one worker's read of key 1 leaves at each limit: the drain state, and who holds the maintenance, in which phase and
+// with how many tasks left. At a limit of 9 the read is whole.
+const LEFT_AT: [(usize, Drain, Option<(u8, Phase, u8)>); 9] = [
+    (1, Drain::Idle, None),
+    (2, Drain::Idle, None),
+    (3, Drain::Required, None),
+    (4, Drain::ToIdle, Some((0, Phase::Reads, 128))),
+    (5, Drain::ToIdle, Some((0, Phase::Reads, 128))),
+    (6, Drain::ToIdle, Some((0, Phase::Writes, 127))),
+    (7, Drain::ToIdle, Some((0, Phase::Writes, 127))),
+    (8, Drain::ToIdle, Some((0, Phase::Evictions, 127))),
+    (9, Drain::Idle, None),
+];
+
+// What a run made, and whether the journal was full.
+fn ended(answer: Result<Driven, DriveFault>) -> Result<(Driven, bool), Fail> {
+    match answer {
+        Ok(driven) => Ok((driven, false)),
+        Err(
+            DriveFault::Stopped {
+                driven,
+                cause: Cause::JournalFull,
+            },
+        ) => Ok((driven, true)),
+        Err(fault) => Err(failed(fault)),
+    }
+}
+
+// The session of a run that was refused since a worker holds the maintenance.
+fn held(answer: Result<Driven, DriveFault>) -> Result<Session<Shell>, Fail> {
+    match answer {
+        Err(DriveFault::Held { worker: _, session }) => Ok(session),
+        Err(fault) => Err(failed(fault)),
+        Ok(_) => Err(Fail::from("not refused")),
+    }
+}
+
+fn assert_stands(
+    rt: &impl Abort,
+    session: &Session<Shell>,
+    drain: Drain,
+    holder: Option<(u8, Phase, u8)>,
+) {
+    let shell = session.engine();
+    assert_equal(rt, shell.drain(), drain);
+    let found = match shell.holder() {
+        Some((worker, phase, left)) => Some((worker.number(), phase, left)),
         None => None,
     };
-    let (holds, settled) = if 4 <= limit && limit <= 8 {
-        (Some(0), Err(SettleFault::JournalFull { done: 0 }))
-    } else {
-        (None, Ok(0))
-    };
-    assert_equal(rt, holder, holds);
-    assert_equal(rt, settle(session), settled);
-    assert_equal(rt, session.len(), limit);
+    assert_equal(rt, found, holder);
 }
 
-// A cache in which no step was made.
-fn assert_new(rt: &impl Abort, shell: &Shell) {
-    assert!(rt; shell.holder().is_none());
-    assert_equal(rt, shell.drain(), Drain::Idle);
-    assert!(rt; shell.tasks().is_empty());
-    assert!(rt; shell.node_of(1).is_none());
-    assert_equal(rt, shell.next_node(), 0);
-    let stats = shell.stats();
-    assert_equal(rt, (stats.hits, stats.misses), (0, 0));
-}
-
-// All steps are undone: the session stands where it began.
-fn assert_goes_back(
-    rt: &impl Abort,
-    session: &mut Session<Shell>,
-    steps: usize,
-) -> Result<(), Fail> {
-    match session.back(steps) {
-        Err(BackFault::OutOfMemory { undone: _ }) => return Err(Fail::from("out of memory")),
-        answer => assert_equal(rt, answer, Ok(())),
-    }
-    assert_equal(rt, (session.len(), session.ahead()), (0, steps));
-    assert_new(rt, session.engine());
-    Ok(())
-}
-
-// One worker's run of two reads, cut off at a limit, settled as far as there is room, and undone.
-fn assert_cut_off<R: Threads + Wait + Sync + Abort>(
+// The session of one worker's read of key 1, at a limit.
+fn read_to_limit<R: Threads + Wait + Sync + Abort>(
     rt: &R,
     alloc: Global,
     limit: usize,
-) -> Result<(), Fail> {
-    let pieces = pieces_of(alloc, &[&[Call::Read(1), Call::Read(2)]])?;
+) -> Result<Session<Shell>, Fail> {
+    let pieces = pieces_of(alloc, &[&[Call::Read(1)]])?;
     let session = fresh(rt, alloc, &SMALL, limit)?;
-    let mut run = rewound(rt, &OpenGate, alloc, session, pieces, 0)?;
-    assert_equal(rt, run.cause, Some(Cause::JournalFull));
-    assert_begins(rt, &run.session, limit);
-    assert_not_settled(rt, &mut run.session, limit);
-    assert_goes_back(rt, &mut run.session, limit)
+    let (driven, full) = ended(drive(rt, alloc, session, pieces, &OpenGate))?;
+    assert_equal(rt, full, limit < 9);
+    assert_begins(rt, &driven.session, limit);
+    Ok(driven.session)
+}
+
+// A further run makes no step, and there is nothing to settle.
+fn assert_no_further<R: Threads + Wait + Sync + Abort>(
+    rt: &R,
+    alloc: Global,
+    session: Session<Shell>,
+) -> Result<(), Fail> {
+    let pieces = pieces_of(alloc, &[&[Call::Read(2)]])?;
+    let (mut driven, full) = ended(drive(rt, alloc, session, pieces, &OpenGate))?;
+    assert!(rt; full);
+    for list in lists_of(alloc, &driven, 1)?.as_slice() {
+        assert!(rt; list.is_empty());
+    }
+    assert_equal(rt, settle(&mut driven.session), Ok(0));
+    Ok(())
+}
+
+// Worker 0 holds the maintenance, so a further run is refused, and there is no room to settle it. Once its steps are
+// undone there is nothing to settle.
+fn assert_held<R: Threads + Wait + Sync + Abort>(
+    rt: &R,
+    alloc: Global,
+    session: Session<Shell>,
+    steps: usize,
+) -> Result<(), Fail> {
+    let pieces = pieces_of(alloc, &[&[Call::Read(2)]])?;
+    let mut session = held(drive(rt, alloc, session, pieces, &OpenGate))?;
+    assert_equal(
+        rt,
+        settle(&mut session),
+        Err(SettleFault::JournalFull { done: 0 }),
+    );
+    session.back(steps)?;
+    assert_stands(rt, &session, Drain::Required, None);
+    assert_equal(rt, settle(&mut session), Ok(0));
+    Ok(())
 }
 
 #[test]
-fn a_run_is_cut_off_at_each_step_of_a_read(rt: HostRuntime) -> Result<(), Fail> {
-    for limit in 1..=9 {
-        assert_cut_off(&rt, rt.alloc(), limit)?;
+fn a_read_is_cut_off_at_each_limit(rt: HostRuntime) -> Result<(), Fail> {
+    for (limit, drain, holder) in LEFT_AT {
+        let session = read_to_limit(&rt, rt.alloc(), limit)?;
+        assert_stands(&rt, &session, drain, holder);
+        match limit {
+            1..=3 => assert_no_further(&rt, rt.alloc(), session)?,
+            4..=8 => assert_held(&rt, rt.alloc(), session, limit - 3)?,
+            _ => drop(session),
+        }
     }
     Ok(())
 }

@@ -2,8 +2,8 @@
 use super::assertions::assert_equal;
 use super::gates::Turns;
 use super::jobs::{counted, failed, four_jobs, job};
+use policies::Report;
 use policy_actors::{check_run, run_reading};
-use report::Report;
 use std::alloc::Global;
 use std::io;
 use std::io::{Error, ErrorKind, Read};

@@ -2,8 +2,7 @@
 use super::assertions::assert_equal;
 use super::jobs::{counted, failed, fault_of, job};
 use headline::{BothWays, capacities_both_ways, jobs_both_ways};
-use policy_actors::ActorFault;
-use report::Report;
+use policies::{ActorFault, Report};
 use std::process::Abort;
 use std::test::Fail;
 use step_record::{OpenGate, Policy, Trace};

@@ -2,9 +2,9 @@
 use super::assertions::assert_equal;
 use super::gates::Hold;
 use super::sessions::{
-    SMALL, assert_own_lists, driven, failed, fault_text, fresh, lists_of, one_read_each, pieces_of,
+    SMALL, assert_own_lists, driven, failed, fresh, lists_of, one_read_each, pieces_of,
 };
-use drive::{Cause, DriveFault, Driven, drive};
+use drive::{DriveFault, Driven, drive};
 use journal::Session;
 use maintenance::Shell;
 use std::alloc::{AllocError, Global};
@@ -12,7 +12,7 @@ use std::process::Abort;
 use std::sync::Wait;
 use std::test::Fail;
 use std::thread::Threads;
-use step_record::{Call, Drain, Entry, OpenGate, Reply, Step};
+use step_record::{Call, Entry, OpenGate, Reply, Step};
 
 // Runs the pieces, each call held until all workers have begun theirs.
 fn held_run<R: Threads + Wait + Sync + Abort>(
@@ -89,70 +89,13 @@ fn a_removed_key_is_added_anew(rt: HostRuntime) -> Result<(), Fail> {
     Ok(())
 }
 
-// What a run leaves that was stopped at a full journal.
-fn stopped_at_the_limit(fault: DriveFault) -> Result<Driven, Fail> {
-    match fault {
-        DriveFault::Stopped {
-            driven,
-            cause: Cause::JournalFull,
-        } => Ok(driven),
-        fault => Err(failed(fault)),
-    }
-}
-
-// What a run leaves whose journal is full once its worker has begun the maintenance.
-fn stopped<R: Threads + Wait + Sync + Abort>(
-    rt: &R,
-    alloc: Global,
-) -> Result<Session<Shell>, Fail> {
-    let pieces = one_read_each(alloc, 1)?;
-    let session = fresh(rt, alloc, &SMALL, 4)?;
-    let Err(fault) = drive(rt, alloc, session, pieces, &OpenGate) else {
-        return Err(Fail::from("not stopped"));
-    };
-    let driven = stopped_at_the_limit(fault)?;
-    let lists = lists_of(alloc, &driven, 1)?;
-    assert_own_lists(rt, &driven.session, lists.as_slice());
-    Ok(driven.session)
-}
-
-#[test]
-fn a_full_journal_stops_a_worker_at_its_maintenance(rt: HostRuntime) -> Result<(), Fail> {
-    let session = stopped(&rt, rt.alloc())?;
-    assert_equal(&rt, session.len(), 4);
-    assert_equal(&rt, session.engine().drain(), Drain::ToIdle);
-    Ok(())
-}
-
-// How a run was refused, and how many steps its session has.
-#[derive(Clone, Copy, Debug, PartialEq, Eq)]
-enum Refusal {
-    Held(usize),
-    Workers(usize),
-}
-
-fn refusal_of(answer: &Result<Driven, DriveFault>) -> Result<Refusal, Fail> {
+// How many steps the session has of a run that was refused for the number of its workers.
+fn refused(answer: Result<Driven, DriveFault>) -> Result<usize, Fail> {
     match answer {
-        Err(DriveFault::Held { session, .. }) => Ok(Refusal::Held(session.len())),
-        Err(DriveFault::Workers { session }) => Ok(Refusal::Workers(session.len())),
-        Err(fault) => Err(Fail::from(fault_text(fault))),
+        Err(DriveFault::Workers { session }) => Ok(session.len()),
+        Err(fault) => Err(failed(fault)),
         Ok(_) => Err(Fail::from("not refused")),
     }
-}
-
-fn refused(answer: Result<Driven, DriveFault>) -> Result<Refusal, Fail> {
-    let refusal = refusal_of(&answer);
-    drop(answer);
-    refusal
-}
-
-#[test]
-fn a_maintenance_under_way_is_settled_first(rt: HostRuntime) -> Result<(), Fail> {
-    let idle = pieces_of(rt.alloc(), &[&[]])?;
-    let session = stopped(&rt, rt.alloc())?;
-    let refusal = refused(drive(&rt, rt.alloc(), session, idle, &OpenGate))?;
-    assert_equal(&rt, refusal, Refusal::Held(4));
-    Ok(())
 }
 
 // So many workers without calls.
@@ -169,8 +112,8 @@ fn no_worker_or_too_many_is_a_fault(rt: HostRuntime) -> Result<(), Fail> {
     for workers in [0, 65] {
         let pieces = idle_workers(rt.alloc(), workers)?;
         let session = fresh(&rt, rt.alloc(), &SMALL, 9)?;
-        let refusal = refused(drive(&rt, rt.alloc(), session, pieces, &OpenGate))?;
-        assert_equal(&rt, refusal, Refusal::Workers(0));
+        let steps = refused(drive(&rt, rt.alloc(), session, pieces, &OpenGate))?;
+        assert_equal(&rt, steps, 0);
     }
     Ok(())
 }

@@ -46,13 +46,6 @@ no_feed_on bytes start at none here k low high = elim (cases_lt k at) [
   | inr same ↦ ap (λ j. is_feed (get_or bytes j 0)) {y = at} (omega arith) ∙ here
 ]
 
--- and more bytes
-pub no_feed_join : (bytes : List ℕ) (start middle end : ℕ) → NoFeedBetween bytes start middle → NoFeedBetween bytes middle end → NoFeedBetween bytes start end
-no_feed_join bytes start middle end one two k low high = elim (cases_lt k middle) [
-  | inl less ↦ one k low less
-  | inr more ↦ two k more high
-]
-
 pub digits_here : (bytes : List ℕ) (start end : ℕ) → end ≤ length bytes → DigitsBetween bytes start end → AreDigits (take (length bytes - start) (drop start bytes)) (end - start)
 digits_here bytes start end within digits k less =
     ap is_ascii_digit (get_or-take (length bytes - start) (drop start bytes) k 0 (omega arith) ∙ get_or-drop start bytes k 0)

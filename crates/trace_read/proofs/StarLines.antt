@@ -70,20 +70,6 @@ none_before_star bytes start end count order some stars digits = elim (cases_lt 
   | inr none ↦ omega arith
 ]
 
-pub one_star_more : (bytes : List ℕ) (start count : ℕ) → AreStarLines bytes start count → start + 2 * count + 2 ≤ length bytes
-    → get_or bytes (start + 2 * count) 0 ≡ 42 → get_or bytes (start + 2 * count + 1) 0 ≡ 10 → AreStarLines bytes start (count + 1)
-one_star_more bytes start count stars room star feed = record {
-  within = omega arith;
-  star = λ k less. elim (cases_lt k count) [
-    | inl before ↦ stars.star k before
-    | inr here ↦ ap (λ j. get_or bytes (start + 2 * j) 0) {y = count} (omega arith) ∙ star
-  ];
-  feed = λ k less. elim (cases_lt k count) [
-    | inl before ↦ stars.feed k before
-    | inr here ↦ ap (λ j. get_or bytes (start + 2 * j + 1) 0) {y = count} (omega arith) ∙ feed
-  ];
-}
-
 -- and some more
 pub more_stars : (bytes : List ℕ) (start count more : ℕ) → AreStarLines bytes start count → AreStarLines bytes (start + 2 * count) more → AreStarLines bytes start (count + more)
 more_stars bytes start count more one two = record {

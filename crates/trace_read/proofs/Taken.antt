@@ -1,5 +1,5 @@
 -- What a scan that took the lines before a place of some bytes comes to.
-use Rattle.std.proofs.Common.{◌≡◌, ◌∙◌, ◌<◌, ◌≤◌, ◌+◌, ◌-◌, ◌⊎◌, ℕ, List, [], ◌∷◌, ◌++◌, length, drop, take, get_or, refl, sym, ap, subst, arith, inl, inr, Ok, Some, None, length-drop, drop-drop}
+use Rattle.std.proofs.Common.{◌≡◌, ◌∙◌, ◌<◌, ◌≤◌, ◌+◌, ◌-◌, ℕ, List, [], ◌∷◌, ◌++◌, length, drop, take, get_or, refl, sym, ap, subst, arith, inl, inr, Ok, Some, None, length-drop, drop-drop}
 use Rattle.std.proofs.lemmas.Bool.{cond-false, le-ltb}
 use Rattle.std.proofs.lemmas.List.{append-nil}
 use Rattle.step_record.specs.declared.limits.TheConstants.{MAX_ACCESSES}
@@ -14,7 +14,6 @@ use Rattle.trace_read.specs.declared.format.Format.{Format}
 use Rattle.trace_read.specs.declared.format.Format.TheVariants.{Arc, Lirs}
 use Rattle.trace_read.specs.ScanState.{fault_ahead, keys_ahead, IsEnded, IsRefusedFrom, IsScan, IsTakenUpTo}
 use Rattle.trace_read.specs.declared.fault.TraceFault.{TraceFault}
-use Rattle.trace_read.specs.declared.fault.TraceFault.TheVariants.{OutOfMemory}
 use Rattle.trace_read.specs.declared.scan.Scan.{Scan}
 
 -- what a loop over lines of numbers keeps: what is taken, the runs ahead and their bytes, room, and the count before
@@ -132,12 +131,3 @@ run_read format n given start count old cut text new arc none is sound added =
       sound = ap (fault_after n (given + length old)) is ∙ sound;
       added = added ∙ ap (λ r. old ++ keys_or_none r) (sym is);
     }))
-
-pub run_stopped : (format : Format) (n given start count : ℕ) (old cut text : List ℕ) (e : TraceFault) → format ≡ Arc → cut ≡ [] → line_of Arc text ≡ run_of (Some start) (Some count)
-    → ((e ≡ OutOfMemory) × (fault_after n (given + length old) (run_of (Some start) (Some count)) ≡ None)) ⊎ (fault_after n (given + length old) (run_of (Some start) (Some count)) ≡ Some e)
-    → IsStopped format n given old (cut ++ text) e
-run_stopped format n given start count old cut text e arc none is stopped =
-    subst (λ f. IsStopped f n given old (cut ++ text) e) (sym arc) (subst (λ c. IsStopped Arc n given old (c ++ text) e) (sym none) (elim stopped [
-      | inl memory ↦ inl memory.0
-      | inr fault ↦ inr (ap (fault_after n (given + length old)) is ∙ fault)
-    ]))

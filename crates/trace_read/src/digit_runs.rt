@@ -117,27 +117,6 @@ impl<'a> DigitRuns<'a> {
         })
     }
 
-    /// The runs from this place on, which is not before the next one.
-    #[inline(always)]
-    pub fn past(self, place: usize) -> DigitRuns<'a>
-        requires runs { IsDigitRuns self }
-        requires place { (self.start ≤ place) × (place ≤ length self.bytes.now) }
-        ensures runs { IsDigitRuns result }
-        ensures bytes { result.bytes.now ≡ self.entry.bytes.now }
-        ensures start { result.start ≡ place }
-    {
-        let skipped = place - self.start;
-        if self.from != self.start || skipped >= self.to - self.start {
-            return DigitRuns::at(self.bytes, place);
-        }
-        DigitRuns {
-            start: place,
-            from: place,
-            others: self.others >> skipped,
-            ..self
-        }
-    }
-
     /// The end of the line that this run, the one before these, is in; `None` where it is in the last few bytes.
     #[inline(always)]
     pub fn line_end(self, run: DigitRun) -> Option<LineEnd<'a>>

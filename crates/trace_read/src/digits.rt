@@ -32,22 +32,6 @@ pub fn long_number(text: &[u8], count: usize) -> u64
     short_number(text, count - 8) * 100_000_000 + short_number(&text[count - 8..], 8)
 }
 
-/// The number that the first bytes write, one to nineteen digits: each such number is below 2^64.
-#[inline(always)]
-pub fn any_number(text: &[u8], count: usize) -> u64
-    requires text { 16 ≤ length text.now }
-    requires within { count ≤ length text.now }
-    requires count { (1 ≤ count) × (count ≤ 19) }
-    requires digits { AreDigits text.now count }
-    ensures { result ≡ digits_value 10 (take count text.now) }
-{
-    if count <= 16 {
-        decimal(text, count)
-    } else {
-        long_number(text, count - 8) * 100_000_000 + short_number(&text[count - 8..], 8)
-    }
-}
-
 /// The number that the first bytes write, one to sixteen digits.
 #[inline(always)]
 pub fn decimal(text: &[u8], count: usize) -> u64

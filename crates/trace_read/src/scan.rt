@@ -3,33 +3,24 @@ ghost use Rattle.std.specs.Prelude.{◌≡◌, ◌≤◌, ◌<◌, ◌+◌, ◌-
 ghost use Rattle.std.specs.Prelude.{IfOk, IfErr, IfSome, IsTrue, MatchOption, OnSome, get_or, length, take, drop, vec_len, vec_capacity};
 ghost use Rattle.trace_read.specs.DigitRuns.{DigitsBetween, IsDigitRuns, IsNextRun};
 ghost use Rattle.trace_read.specs.Lines.{line_of, AreStarLines};
-ghost use Rattle.trace_read.specs.PaddedLines.{IsPaddedLine};
 ghost use Rattle.trace_read.specs.declared.digit_runs.TheConstants.{BEHIND};
 ghost use Rattle.step_record.specs.declared.limits.TheConstants.{MAX_ACCESSES};
 ghost use Rattle.trace_read.specs.TraceText.{fault_in, keys_in, IsOfLine, IsRead, IsTraceRefused, IsStopped};
 ghost use Rattle.trace_read.specs.ScanState.{fault_ahead, keys_ahead, CanTakeLines, IsEnded, IsGiven, IsScan, IsStretchTaken, HasRoom, IsPieceTaken, IsRefusedFrom, IsTakenUpTo};
 ghost use Rattle.text_lines.specs.Feeds.{feed_in};
 
-use super::arc::{add_arc, push_reserved_run, usual_line};
+use super::arc::{add_arc, begins_usual_line, push_reserved_run, usual_line};
 use super::digit_runs::{DigitRun, DigitRuns};
 use super::digits::{long_number, short_number};
 use super::follower::Follower;
 use super::format::Format;
-use super::line_shapes::{OtherLines, UsualLines};
-use super::lirs::{add_key, add_lirs};
-use super::padded_lines::{
-    PaddedLine, blank_line, is_return_and_feed, padded_line, push_if_any, returned_line,
-};
-use super::plain_lines::{PlainLine, plain_line};
+use super::lirs::add_lirs;
 use super::star_lines::{is_star_line, star_lines};
 use super::{Trace, TraceFault};
 use std::alloc::{AllocError, Global};
 use std::mem;
 use step_record::{Key, MAX_ACCESSES};
 use text_lines::place_of;
-
-// After so many ARC lines one after another that are not of the usual form, the next is not tried as one.
-const OTHERS_IN_A_ROW: u32 = 8;
 
 /// A scan of the lines of a trace file, whose bytes come in pieces. It keeps no byte but those of
 /// the line that the last piece cut in two.
@@ -144,31 +135,12 @@ impl Scan {
             × IsStopped self.old.format self.old.line self.old.given self.old.keys.items
             (self.old.cut.items ++ take (feed_in bytes.now) bytes.now) e) }
     {
-        if let Some(plain) = self.plain_line(bytes) {
-            add_key(plain.key, self.line, self.given, &mut self.keys)?;
-            self.line += 1;
-            return Ok(Some(plain.end));
-        }
         let end = place_of(bytes, b'\n');
         if end == bytes.len() {
             return Ok(None);
         }
         self.end_line(&bytes[..end])?;
         Ok(Some(end))
-    }
-
-    // The next line, where these bytes hold the whole of it and it is a number alone.
-    fn plain_line(&self, bytes: &[u8]) -> Option<PlainLine>
-        ensures format { IfSome result (λ p. self.now.format ≡ Format.Lirs) }
-        ensures cut { IfSome result (λ p. self.now.cut.items ≡ []) }
-        ensures end { IfSome result (λ p. p.end ≡ feed_in bytes.now) }
-        ensures within { IfSome result (λ p. p.end < length bytes.now) }
-        ensures line { IfSome result (λ p. line_of Format.Lirs (take p.end bytes.now) ≡ Ok (p.key ∷ [])) }
-    {
-        match self.format {
-            Format::Lirs if self.cut.is_empty() => plain_line(bytes),
-            _ => None,
-        }
     }
 
     // Takes lines from the front of these bytes, 64 bytes at a time, and returns where the next line begins. The last
@@ -200,35 +172,18 @@ impl Scan {
             return Ok(0);
         }
         let mut runs = DigitRuns::at(bytes, 0);
-        let mut others = OtherLines::new();
-        'lines: while let Some(run) = self.take_stretch(&mut runs, others.usual()) {
-            if !self.take_other(bytes, run, &mut runs, &mut others)? {
+        'lines: while let Some(run) = self.take_numbers(&mut runs) {
+            if !self.take_other(bytes, run, &mut runs)? {
                 return Ok(runs.start);
             }
         }
         Ok(runs.start)
     }
 
-    // Takes the usual lines from the next run of digits on, and returns the run that the first other line begins with.
-    // There is room for their accesses.
-    #[inline(always)]
-    fn take_stretch(&mut self, runs: &mut DigitRuns<'_>, usual: UsualLines) -> Option<DigitRun>
-        requires runs { IsDigitRuns runs.old }
-        requires lines { CanTakeLines self.old runs.old.bytes.now runs.old.start }
-        ensures { IsStretchTaken self.old self.new runs.old runs.new result }
-    {
-        match usual {
-            UsualLines::Numbers => self.take_numbers::<false>(runs),
-            UsualLines::Stars => self.take_numbers::<true>(runs),
-            UsualLines::Returned => self.take_padded::<false>(runs),
-            UsualLines::Padded => self.take_padded::<true>(runs),
-        }
-    }
-
-    // `take_stretch` of the lines that are a number of at most sixteen digits each, and with `STARS` of those of a lone
-    // `*` too.
+    // Takes the lines that are a number of at most sixteen digits or a lone `*`, from the next run of digits on, and
+    // returns the run that the first other line begins with. There is room for their accesses.
     #[inline(never)]
-    fn take_numbers<const STARS: bool>(&mut self, runs: &mut DigitRuns<'_>) -> Option<DigitRun>
+    fn take_numbers(&mut self, runs: &mut DigitRuns<'_>) -> Option<DigitRun>
         requires runs { IsDigitRuns runs.old }
         requires lines { CanTakeLines self.old runs.old.bytes.now runs.old.start }
         ensures { IsStretchTaken self.old self.new runs.old runs.new result }
@@ -240,8 +195,7 @@ impl Scan {
         let first = keys.len();
         'lines: while let Some(run) = ahead.next() {
             let Some(key) = usual_key(bytes, run) else {
-                if STARS
-                    && is_star_line(bytes, run.start)
+                if is_star_line(bytes, run.start)
                     && let Some(behind) = ahead.past_empty()
                 {
                     self.line += 1;
@@ -261,45 +215,13 @@ impl Scan {
         None
     }
 
-    // `take_stretch` of the lines that `padded_line` reads, or without `BLANKS` of those that `returned_line` reads.
-    #[inline(never)]
-    fn take_padded<const BLANKS: bool>(&mut self, runs: &mut DigitRuns<'_>) -> Option<DigitRun>
-        requires runs { IsDigitRuns runs.old }
-        requires lines { CanTakeLines self.old runs.old.bytes.now runs.old.start }
-        ensures { IsStretchTaken self.old self.new runs.old runs.new result }
-    {
-        let mut ahead = *runs;
-        let mut keys = mem::replace(&mut self.keys, Vec::new(self.alloc));
-        let first = keys.len();
-        'lines: while let Some(run) = ahead.next() {
-            let Some(padded) = line_of_run::<BLANKS>(run, ahead) else {
-                self.line += (keys.len() - first) as u64;
-                self.keys = keys;
-                // Made anew, so that no register has to hold what was found.
-                *runs = DigitRuns::at(ahead.bytes, run.end + 1);
-                return Some(run);
-            };
-            ahead = padded.line.runs;
-            let Some(key) = padded.key else {
-                self.line += 1;
-                continue 'lines;
-            };
-            keys.push_reserved(key);
-        }
-        self.line += (keys.len() - first) as u64;
-        self.keys = keys;
-        *runs = ahead;
-        None
-    }
-
-    // Takes the line that begins with this run of digits, the one before `runs`, whatever its shape, or some lines of a
-    // lone `*`. False where the line ends in the last few bytes, or there might be no room for the accesses behind it.
+    // Takes the line that begins with this run of digits, the one before `runs`, whatever its shape, or lines of a lone
+    // `*`, four at a time. False where the line ends in the last few bytes, or there might be no room for the accesses behind it.
     fn take_other<'a>(
         &mut self,
         bytes: &'a [u8],
         run: DigitRun,
         runs: &mut DigitRuns<'a>,
-        others: &mut OtherLines,
     ) -> Result<bool, TraceFault>
         requires found { IsNextRun bytes.now run runs.old }
         requires lines { CanTakeLines self.old bytes.now run.start }
@@ -312,17 +234,8 @@ impl Scan {
     {
         let stars = star_lines(bytes, run.start);
         if stars > 0 {
-            others.count_stars();
             self.line += stars as u64;
             *runs = DigitRuns::at(bytes, run.start + 2 * stars);
-            return Ok(true);
-        }
-        if let Some(padded) = padded_line(run, *runs) {
-            let returned = run.start < run.end && is_return_and_feed(bytes, run.end);
-            others.count_padded(run.start, returned);
-            push_if_any(padded.key, &mut self.keys);
-            self.line += 1;
-            *runs = padded.line.runs;
             return Ok(true);
         }
         let Some(line) = runs.line_end(run) else {
@@ -352,13 +265,7 @@ impl Scan {
         ensures err { IfErr result (IsRefusedFrom self.old bytes.now 0) }
     {
         let mut runs = DigitRuns::at(bytes, 0);
-        let mut others: u32 = 0;
-        'lines: while let Some(first) = self.next_other(bytes, &mut runs, &mut others) {
-            if let Some(line) = blank_line(first, runs) {
-                self.line += 1;
-                runs = line.runs;
-                continue 'lines;
-            }
+        'lines: while let Some(first) = self.next_other(bytes, &mut runs) {
             let Some(line) = runs.line_end(first) else {
                 return Ok(first.start);
             };
@@ -370,15 +277,10 @@ impl Scan {
         Ok(runs.start)
     }
 
-    // `take_runs`, but where enough lines that it does not take came one after another, just the next run, until a line
-    // begins as those that it takes: to call it in vain costs more than a short line.
+    // Takes usual lines where one begins here, and returns the run that the next other line begins with: to call the
+    // loop over usual lines in vain costs more than a short line.
     #[inline(always)]
-    fn next_other<'a>(
-        &mut self,
-        bytes: &'a [u8],
-        runs: &mut DigitRuns<'a>,
-        others: &mut u32,
-    ) -> Option<DigitRun>
+    fn next_other<'a>(&mut self, bytes: &'a [u8], runs: &mut DigitRuns<'a>) -> Option<DigitRun>
         requires scan { IsScan self.old }
         requires format { self.old.format ≡ Format.Arc }
         requires cut { self.old.cut.items ≡ [] }
@@ -388,31 +290,25 @@ impl Scan {
         ensures some { IfSome result (λ run. IsTakenUpTo self.old bytes.now runs.old.start run.start self.new) }
         ensures found { IfSome result (λ run. IsNextRun bytes.now run runs.new) }
     {
-        if *others >= OTHERS_IN_A_ROW {
-            let Some(first) = runs.next() else {
-                return None;
-            };
-            if first.is_short() && bytes[first.end + 1].is_ascii_digit() {
-                *others = 0;
-            }
-            return Some(first);
-        }
-        let start = runs.start;
-        let Some(first) = self.take_runs(bytes, runs) else {
+        let mut ahead = *runs;
+        let Some(first) = ahead.next() else {
             return None;
         };
-        *others = if first.start == start {
-            others.saturating_add(1)
-        } else {
-            0
-        };
+        if begins_usual_line(bytes, first) {
+            return self.take_usual_lines(bytes, runs);
+        }
+        *runs = ahead;
         Some(first)
     }
 
     // Takes the lines of the usual form from the next run of digits on, where there is room for their accesses, and
     // returns the run that the first other line begins with.
     #[inline(never)]
-    fn take_runs<'a>(&mut self, bytes: &'a [u8], runs: &mut DigitRuns<'a>) -> Option<DigitRun>
+    fn take_usual_lines<'a>(
+        &mut self,
+        bytes: &'a [u8],
+        runs: &mut DigitRuns<'a>,
+    ) -> Option<DigitRun>
         requires scan { IsScan self.old }
         requires format { self.old.format ≡ Format.Arc }
         requires cut { self.old.cut.items ≡ [] }
@@ -513,19 +409,6 @@ fn usual_key(bytes: &[u8], run: DigitRun) -> Option<Key>
         return Some(long_number(&bytes[run.start..], count));
     }
     None
-}
-
-// What `padded_line` reads, or without `BLANKS` what `returned_line` does.
-#[inline(always)]
-fn line_of_run<'a, const BLANKS: bool>(run: DigitRun, runs: DigitRuns<'a>) -> Option<PaddedLine<'a>>
-    requires { IsNextRun runs.bytes.now run runs }
-    ensures { IfSome result (IsPaddedLine runs.entry.bytes.now run.start) }
-{
-    if BLANKS {
-        padded_line(run, runs)
-    } else {
-        returned_line(run, runs)
-    }
 }
 
 // Reserves room for the accesses of LIRS lines of so many bytes in all. False, and no room, where they might pass

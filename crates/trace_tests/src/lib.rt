@@ -1,11 +1,9 @@
-//! Tests of reads and writes piece by piece, of reading traces, and of reports. They stand in a crate of their own so that
-//! the gate proves `streams`, `trace_read` and `report` once.
+//! Tests of reads and writes piece by piece, and of reading traces. They stand in a crate of their own so that the gate
+//! proves `streams` and `trace_read` once.
 #![tactic(auto)]
 
 #[cfg(test)]
 mod assertions;
-#[cfg(test)]
-mod report_tests;
 #[cfg(test)]
 mod streams_tests;
 #[cfg(test)]

@@ -13,13 +13,13 @@ use Rattle.walks.specs.AdmittedSteps.{AdmitsWalks}
 use Rattle.walks.proofs.Standing.{Standing, Stands, phase_of, standing, stands_after, taken}
 use Rattle.walks.proofs.Asking.{walks_fit, walks_free}
 
-abbrev at_start : Standing
+abbrev pub at_start : Standing
 at_start = record { at = None; node = None; fits = false }
 
-no_node : (m : ℕ) (x : Shell) → None ≡ Some m → m < x.next
+pub no_node : (m : ℕ) (x : Shell) → None ≡ Some m → m < x.next
 no_node m x e = absurd (cc (e))
 
-starts : (w n : ℕ) (x : Shell) → x.holder ≡ None → length x.stripes ≡ n → Stands w n at_start x
+pub starts : (w n : ℕ) (x : Shell) → x.holder ≡ None → length x.stripes ≡ n → Stands w n at_start x
 starts w n x free count = record { holds = rw free refl; node = λ j e. no_node j x e; stripes = count; window = λ f. absurd (cc (f)) }
 
 pub shell_admits : (x : Shell) (w n : ℕ) → 1 ≤ n → IsReachable x → x.holder ≡ None → length x.stripes ≡ n → AdmitsWalks act (λ y. y.applied) w n x
@@ -30,7 +30,7 @@ shell_admits x w n o h free count = λ es legal b m below none. (
     )
 
 -- the holder is nobody, where it is none of the workers
-nobody : (o : Option Holder) → ((w : ℕ) → phase_of (held_by w o) ≡ None) → o ≡ None
+pub nobody : (o : Option Holder) → ((w : ℕ) → phase_of (held_by w o) ≡ None) → o ≡ None
 nobody None h = refl
 nobody (Some g) h =
     let mine : eqb g.worker g.worker ≡ true = eq-eqb g.worker g.worker refl in

@@ -1,5 +1,5 @@
 -- Which act comes next in walks, by where their worker stands.
-use Rattle.std.proofs.Common.{◌≡◌, ℕ, ◌+◌, ◌<◌, ◌≤◌, ◌%◌, ◌==◌, Bool, true, cond, Some, None, List, [], ◌∷◌, ◌++◌, refl, sym, ap, ◌∙◌, subst, arith, ◌⊎◌, inl, inr, MatchBool}
+use Rattle.std.proofs.Common.{◌≡◌, ℕ, ◌+◌, ◌<◌, ◌≤◌, ◌%◌, ◌==◌, Bool, cond, Some, None, List, [], ◌∷◌, ◌++◌, refl, sym, ap, ◌∙◌, subst, arith, ◌⊎◌, inl, inr, MatchBool}
 use Rattle.std.proofs.lemmas.Bool.{cases_Bool}
 use Rattle.std.proofs.lemmas.Bool.Decides.{nat_tests}
 use Rattle.std.proofs.lemmas.List.{append_assoc, append-nil}
@@ -12,10 +12,8 @@ use Rattle.step_record.specs.declared.step.Reply.{Reply}
 use Rattle.step_record.specs.declared.step.Reply.TheVariants as reply
 use Rattle.step_record.specs.declared.step.Answer.TheVariants as answer
 use Rattle.step_record.specs.declared.step.Step.{Step}
-use Rattle.step_record.specs.declared.drain.Phase.{Phase}
 use Rattle.step_record.specs.declared.drain.Phase.TheVariants.{Reads, Writes, Evictions}
 use Rattle.step_record.specs.History.{Entries}
-use Rattle.shell_model.specs.Shell.{may_write}
 use Rattle.walks.specs.declared.place.WalkPlace.{WalkPlace}
 use Rattle.walks.specs.declared.place.WalkPlace.TheVariants as at
 use Rattle.walks.specs.Walks.{step_of, IsWalk, AreWalks, IsReading, IsWriting}
@@ -25,28 +23,12 @@ use Rattle.walks.proofs.Standing.{Standing, next_of, standing, ActFits}
 abbrev said : ℕ → Act → Reply → Entry Step Reply
 said w a r = record { step = step_of w a; reply = r }
 
-abbrev PlaceFits : ℕ → WalkPlace → Standing → Type 0
-PlaceFits n (at.DrainRead st j) s = (s.at ≡ Some Reads) × (st < n)
-PlaceFits n at.DrainWrite s = (p : Phase) × (s.at ≡ Some p) × (may_write p ≡ true)
-PlaceFits n at.Evict s = (p : Phase) × (s.at ≡ Some p)
-PlaceFits n at.End s = (p : Phase) × (s.at ≡ Some p) × (s.fits ≡ true)
-PlaceFits n (at.Offer i) s = (s.node ≡ Some i.node) × (s.at ≡ None)
-PlaceFits n p s = s.at ≡ None
-
 remainder : (w n : ℕ) → 1 ≤ n → w % n < n
 remainder w n h = omega arith
 
-act_fits : (w n : ℕ) → 1 ≤ n → (p : WalkPlace) (s : Standing) → PlaceFits n p s → ActFits n (act_of_place w n p) s
-act_fits w n h (at.Offer i) s f = (remainder w n h, f.0)
-act_fits w n h (at.DrainRead st j) s f = f
-act_fits w n h at.DrainWrite s f = f
-act_fits w n h at.Evict s f = f
-act_fits w n h at.End s f = (f.0, f.1)
-act_fits w n h p s f = tt
-
 -- the walk is over and its worker holds no maintenance, or it goes on at a place where its worker may stand
-abbrev Goes : ℕ → ℕ → Entries → Standing → Type 0
-Goes w n es s = ((es ≡ []) × (s.at ≡ None)) ⊎ ((p : WalkPlace) × IsAheadOf w n p es × PlaceFits n p s)
+abbrev pub Goes : ℕ → ℕ → Entries → Standing → Type 0
+Goes w n es s = ((es ≡ []) × (s.at ≡ None)) ⊎ ((p : WalkPlace) × IsAheadOf w n p es × ActFits n (act_of_place w n p) s)
 
 next_stripe : (w n st : ℕ) (es : Entries) (s : Standing) → s.at ≡ Some Reads → st < n → MatchBool (st + 1 == n) (IsWriting w n es) (IsReading w n (st + 1) 0 es) → Goes w n es s
 next_stripe w n st es s e lt h =
@@ -55,11 +37,11 @@ next_stripe w n st es s e lt h =
       | inr t ↦ (let g : IsReading w n (st + 1) 0 es = rw t at h in inr (at.DrainRead (st + 1) 0, g, (e, grind (arith, nat_tests, t, lt))))
     ]
 
-follow : (w n : ℕ) → 1 ≤ n → (p : WalkPlace) (r : Reply) (es : Entries) (s : Standing) → PlaceFits n p s → IsAheadOf w n p (said w (act_of_place w n p) r ∷ es) → Goes w n es (next_of s (act_of_place w n p) r)
-follow w n o (at.Look k) (reply.Hit m) es s f h = inr (at.Offer record { key = k; node = m }, h.1, (refl, f))
+pub follow : (w n : ℕ) → 1 ≤ n → (p : WalkPlace) (r : Reply) (es : Entries) (s : Standing) → ActFits n (act_of_place w n p) s → IsAheadOf w n p (said w (act_of_place w n p) r ∷ es) → Goes w n es (next_of s (act_of_place w n p) r)
+follow w n o (at.Look k) (reply.Hit m) es s f h = inr (at.Offer record { key = k; node = m }, h.1, (remainder w n o, refl, f))
 follow w n o (at.Look k) reply.Miss es s f h = inr (at.Put k, h.1, f)
-follow w n o (at.Offer i) reply.Kept es s f h = inr (at.AfterRead answer.Kept, h.1, f.1)
-follow w n o (at.Offer i) reply.Full es s f h = inr (at.AfterRead answer.Full, h.1, f.1)
+follow w n o (at.Offer i) reply.Kept es s f h = inr (at.AfterRead answer.Kept, h.1, f.2)
+follow w n o (at.Offer i) reply.Full es s f h = inr (at.AfterRead answer.Full, h.1, f.2)
 follow w n o (at.AfterRead a) reply.Go es s f h = inl (h.1, f)
 follow w n o (at.AfterRead a) reply.Drain es s f h = inr (at.Begin, h.1, f)
 follow w n o (at.Put k) (reply.Added m) es s f h = inr (at.AfterWrite, h.1, f)
@@ -121,7 +103,7 @@ not_over w n at.End h = h
 -- walks of which the first is under way
 record Open (w n : ℕ) (s : Standing) (es : Entries) : Type 0 where
   place : WalkPlace
-  fits : PlaceFits n place s
+  fits : ActFits n (act_of_place w n place) s
   calls : List Call
   walk : Entries
   later : Entries
@@ -134,7 +116,7 @@ open_calls w n [] es s free h ne = absurd (ne h)
 open_calls w n (call.Read key ∷ cs) es s free h ne = record { place = at.Look key; fits = free; calls = cs; walk = h.0; later = h.1; is = h.2; ahead = h.3; more = h.4 }
 open_calls w n (call.Remove key ∷ cs) es s free h ne = record { place = at.Remove key; fits = free; calls = cs; walk = h.0; later = h.1; is = h.2; ahead = h.3; more = h.4 }
 
-advance_at : (w n : ℕ) → 1 ≤ n → (x : Entry Step Reply) (es : Entries) (s : Standing) (p : WalkPlace) (walk later : Entries) (cs : List Call) → PlaceFits n p s → x ∷ es ≡ walk ++ later → IsAheadOf w n p walk → AreWalks w n cs later
+advance_at : (w n : ℕ) → 1 ≤ n → (x : Entry Step Reply) (es : Entries) (s : Standing) (p : WalkPlace) (walk later : Entries) (cs : List Call) → ActFits n (act_of_place w n p) s → x ∷ es ≡ walk ++ later → IsAheadOf w n p walk → AreWalks w n cs later
     → (es ≡ [] → ⊥) → Open w n (next_of s x.step.act x.reply) es
 advance_at w n o x es s p [] later cs f is h more ne = absurd (not_over w n p h)
 advance_at w n o x es s p (y ∷ walk) later cs f is h more ne =
@@ -153,12 +135,12 @@ some_left : (own : Entries) (e : Entry Step Reply) (rest : Entries) → own ++ e
 some_left [] e rest h = absurd (cc (h))
 some_left (x ∷ own) e rest h = absurd (cc (h))
 
-first_fits : (w n : ℕ) → 1 ≤ n → (e : Entry Step Reply) (rest : Entries) (s : Standing) (p : WalkPlace) (walk later : Entries) → PlaceFits n p s → e ∷ rest ≡ walk ++ later → IsAheadOf w n p walk → ActFits n e.step.act s
+first_fits : (w n : ℕ) → 1 ≤ n → (e : Entry Step Reply) (rest : Entries) (s : Standing) (p : WalkPlace) (walk later : Entries) → ActFits n (act_of_place w n p) s → e ∷ rest ≡ walk ++ later → IsAheadOf w n p walk → ActFits n e.step.act s
 first_fits w n o e rest s p [] later f is h = absurd (not_over w n p h)
 first_fits w n o e rest s p (y ∷ walk) later f is h =
     let same : e ≡ y = cc in
     let step : e.step ≡ step_of w (act_of_place w n p) = ap (λ (e : Entry Step Reply). e.step) same ∙ first_step w n p y walk h in
-    subst (λ (t : Step). ActFits n t.act s) (sym step) (act_fits w n o p s f)
+    subst (λ (t : Step). ActFits n t.act s) (sym step) f
 
 -- the act after these entries fits where they led their worker
 next_fits : (w n : ℕ) → 1 ≤ n → (own : Entries) (e : Entry Step Reply) (rest : Entries) (s : Standing) → Open w n s (own ++ e ∷ rest) → ActFits n e.step.act (standing s own)
@@ -170,7 +152,7 @@ pub walks_fit : (w n : ℕ) → 1 ≤ n → (cs : List Call) (own : Entries) (e 
 walks_fit w n o cs own e rest s free h = next_fits w n o own e rest s (open_calls w n cs (own ++ e ∷ rest) s free h (some_left own e rest))
 
 -- after a whole walk its worker holds no maintenance
-walk_free : (w n : ℕ) → 1 ≤ n → (p : WalkPlace) (es : Entries) (s : Standing) → PlaceFits n p s → IsAheadOf w n p es → (standing s es).at ≡ None
+walk_free : (w n : ℕ) → 1 ≤ n → (p : WalkPlace) (es : Entries) (s : Standing) → ActFits n (act_of_place w n p) s → IsAheadOf w n p es → (standing s es).at ≡ None
 walk_free w n o p [] s f h = absurd (not_over w n p h)
 walk_free w n o p (y ∷ es) s f h =
     let step : y.step ≡ step_of w (act_of_place w n p) = first_step w n p y es h in

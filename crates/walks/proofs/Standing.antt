@@ -113,7 +113,7 @@ put_at v p l = Some record { worker = v; phase = p; left = l }
 same_worker : (v : ℕ) (x : Shell) (h : Holder) → x.holder ≡ Some h → Own v x → v ≡ h.worker
 same_worker v x h e o = o.mine ∙ ap (λ (i : Holder). i.worker) (some_same o.by h (sym o.is ∙ e))
 
-not_of : (w u : ℕ) → (u ≡ w → ⊥) → eqb w u ≡ false
+pub not_of : (w u : ℕ) → (u ≡ w → ⊥) → eqb w u ≡ false
 not_of w u ne =
     elim (cases_Bool (eqb w u)) [
       | inl t ↦ absurd (ne (sym (eqb-true w u t)))
@@ -309,7 +309,7 @@ not_yet_told w x z b r h q t =
 look_step : (v : ℕ) (b : Act) (key : ℕ) → b ≡ a.Look key → step_of v b ≡ step_of v (a.Look key)
 look_step v b key e = ap (λ c. step_of v c) e
 
-own_step : (n : ℕ) (s : Standing) (x : Shell) (e : Entry Step Reply) (z : Shell) → IsConsistent x → act x e.step ≡ Some (e.reply, z) → Stands e.step.worker n s x → Stands e.step.worker n (next_of s e.step.act e.reply) z
+pub own_step : (n : ℕ) (s : Standing) (x : Shell) (e : Entry Step Reply) (z : Shell) → IsConsistent x → act x e.step ≡ Some (e.reply, z) → Stands e.step.worker n s x → Stands e.step.worker n (next_of s e.step.act e.reply) z
 own_step n s x e z c h st =
     let t : Steps x e z = stepped x e z h in
     let seen : (key m : ℕ) → e.step.act ≡ a.Look key → e.reply ≡ reply.Hit m → m < x.next =
@@ -327,7 +327,7 @@ own_step n s x e z c h st =
       window = λ f. (let m = window f in (m.0, m.1, ap is_over t.is ∙ m.2));
     }
 
-other_step : (w n : ℕ) (s : Standing) (x : Shell) (e : Entry Step Reply) (z : Shell) → (e.step.worker ≡ w → ⊥) → act x e.step ≡ Some (e.reply, z) → Stands w n s x → Stands w n s z
+pub other_step : (w n : ℕ) (s : Standing) (x : Shell) (e : Entry Step Reply) (z : Shell) → (e.step.worker ≡ w → ⊥) → act x e.step ≡ Some (e.reply, z) → Stands w n s x → Stands w n s z
 other_step w n s x e z ne h st =
     let t : Steps x e z = stepped x e z h in
     let holds = other_holds w e.step.worker x e.step.act e.reply t.left t.made ne (λ i. own_of_act e.step.worker x e.step.act i (performed x e.step (e.reply, z) h)) in
@@ -356,21 +356,21 @@ stands_after w n s x (e ∷ es) c st l =
           rw t (stands_after w n s z es sound (other_step w n s x e z ne l.0 st) l.1)
     ]
 
--- which act may come where a worker stands
+-- which act comes next of a worker that stands there
 abbrev pub ActFits : ℕ → Act → Standing → Type 0
 ActFits n (a.DrainRead st) s = (s.at ≡ Some Reads) × (st < n)
 ActFits n a.DrainWrite s = (p : Phase) × (s.at ≡ Some p) × (may_write p ≡ true)
 ActFits n a.Evict s = (p : Phase) × (s.at ≡ Some p)
-ActFits n a.End s = (p : Phase) × (s.at ≡ Some p)
-ActFits n (a.Offer st i) s = (st < n) × (s.node ≡ Some i.node)
+ActFits n a.End s = (p : Phase) × (s.at ≡ Some p) × (s.fits ≡ true)
+ActFits n (a.Offer st i) s = (st < n) × (s.node ≡ Some i.node) × (s.at ≡ None)
 ActFits n (a.Lose st i) s = ⊥
-ActFits n b s = Unit {0}
+ActFits n b s = s.at ≡ None
 
 held_of : (o : Option Holder) (p : Phase) → phase_of o ≡ Some p → (h : Holder) × (o ≡ Some h) × (h.phase ≡ p)
 held_of None p e = absurd (cc (e))
 held_of (Some h) p e = (h, refl, some_same h.phase p e)
 
-accepts : (w n : ℕ) (s : Standing) (x : Shell) (b : Act) → Stands w n s x → ActFits n b s → act_effect w b x ≡ None → ⊥
+pub accepts : (w n : ℕ) (s : Standing) (x : Shell) (b : Act) → Stands w n s x → ActFits n b s → act_effect w b x ≡ None → ⊥
 accepts w n s x (a.Offer st i) h f e =
     let count = h.stripes in
     let below = f.0 in

@@ -3,4 +3,3 @@ pub mod WalkPlaces
 pub mod NextActs
 pub mod WorkerEntries
 pub mod AdmittedSteps
-pub mod Holders

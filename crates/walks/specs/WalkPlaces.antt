@@ -4,6 +4,8 @@ use Rattle.step_record.specs.declared.drain.Phase.{Phase}
 use Rattle.step_record.specs.declared.drain.Phase.TheVariants.{Reads, Writes, Evictions}
 use Rattle.step_record.specs.declared.step.Act.{Act}
 use Rattle.step_record.specs.declared.step.Act.TheVariants as act
+use Rattle.step_record.specs.declared.step.Call.{Call}
+use Rattle.step_record.specs.declared.step.Call.TheVariants as call
 use Rattle.step_record.specs.declared.step.Reply.{Reply}
 use Rattle.step_record.specs.Answers.{is_answer}
 use Rattle.step_record.specs.History.{Entries}
@@ -64,6 +66,11 @@ is_place n _ = true
 abbrev pub is_place_if : ℕ → Option WalkPlace → Bool
 is_place_if n None = true
 is_place_if n (Some p) = is_place n p
+
+-- the place at which the walk of a call begins
+abbrev pub call_place : Call → WalkPlace
+call_place (call.Read k) = at.Look k
+call_place (call.Remove k) = at.Remove k
 
 -- the place at which a holder stands in its phase
 abbrev pub phase_place : Phase → WalkPlace

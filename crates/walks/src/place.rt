@@ -36,7 +36,7 @@ pub struct Local {
 impl Local {
     ghost use Rattle.std.specs.Prelude.{◌↔◌};
     ghost use Rattle.walks.specs.Walks.{IsWalk};
-    ghost use Rattle.walks.specs.WalkPlaces.{IsAheadOf, phase_place};
+    ghost use Rattle.walks.specs.WalkPlaces.{IsAheadOf, call_place, phase_place};
 
     /// At the beginning of the walk of a call, of a cache with so many read buffers: 1 to [`MAX_STRIPES`].
     ///
@@ -45,6 +45,7 @@ impl Local {
         requires { (1 ≤ stripes) × (stripes ≤ MAX_STRIPES) }
         ensures ahead { (es : Entries) → IsWalk worker stripes call es
             ↔ IsAheadOf result.worker result.stripes result.place es }
+        ensures place { result.place ≡ call_place call }
         ensures same { (result.worker ≡ worker) × (result.stripes ≡ stripes) }
     {
         let place = match call {

@@ -1,6 +1,8 @@
 -- What the workers brought back from their places.
-use Rattle.std.proofs.Common.{◌≡◌, ℕ, zero, suc, ◌+◌, ◌<◌, ◌≤◌, List, [], ◌∷◌, map, length, get_or, length-append, Option, Some, None, refl, sym, ap, ◌∙◌, subst, arith}
+use Rattle.std.proofs.Common.{◌≡◌, ℕ, zero, suc, ◌+◌, ◌<◌, ◌≤◌, List, [], ◌∷◌, ◌++◌, map, length, get_or, length-append, Option, Some, None, refl, sym, ap, ◌∙◌, subst, arith}
 use Rattle.std.specs.Prelude.{IfSome}
+use Rattle.std.proofs.lemmas.List.{append_assoc, append_cancel_left, append-nil}
+use Rattle.std.proofs.lemmas.List.Elements.{filter-append}
 use Rattle.step_record.specs.declared.entry.Entry.{Entry}
 use Rattle.step_record.specs.declared.step.Call.{Call}
 use Rattle.step_record.specs.declared.step.Reply.{Reply}
@@ -11,10 +13,11 @@ use Rattle.turn_book.specs.Turns.{Every, Begins}
 use Rattle.turn_book.specs.Passes.{BookId, PassState, InOrder, OwnAll, Ends}
 use Rattle.workers.specs.declared.run.WorkerState.{WorkerState}
 use Rattle.workers.specs.declared.run.Cause.{Cause}
-use Rattle.workers.specs.declared.run.Cause.TheVariants.{JournalFull}
+use Rattle.workers.specs.declared.run.Cause.TheVariants.{Memory, JournalFull}
 use Rattle.workers.specs.WorkerStates.{ShellSession, HoldsPass, AreNumbered, HasWorked, entries_with}
 use Rattle.walks.specs.WorkerEntries.{entries_of}
-use Rattle.workers.specs.Runs.{IsRun, IsRunUpTo, AreWalksUpTo, first_cause}
+use Rattle.workers.specs.Runs.{IsRun, IsRunUpTo, AreWalksUpTo, IsCauseIn, first_cause}
+use Rattle.workers.specs.Walkers.{WasRefused}
 
 abbrev pub ShellPass : Type 0
 ShellPass = PassState ShellSession (Entry Step Reply)
@@ -51,29 +54,14 @@ collected b (d ∷ ds) (p ∷ ps) lo e h c =
 abbrev pub refusal_of : WorkerState → Option Cause
 refusal_of d = d.refusal
 
--- a worker that was refused a step for a full journal saw it full
-pub full_at : (n limit : ℕ) (calls : ℕ → List Call) (kept : Entries) (ds : List WorkerState) (ps : List ShellPass) → map (λ p. Some p) ps ≡ map (λ d. d.pass) ds → Every (HasWorked n limit calls) ds → Every (λ p. Begins p.last kept) ps
-    → (w : ℕ) → get_or (map refusal_of ds) w None ≡ Some JournalFull → limit ≤ length kept
-full_at n limit calls kept [] ps e h s w f = absurd (cc (f))
-full_at n limit calls kept (d ∷ ds) [] e h s w f = absurd (cc (e))
-full_at n limit calls kept (d ∷ ds) (p ∷ ps) e h s zero f =
-    let first : Some p ≡ d.pass = cc in
-    let saw : length p.last ≡ limit = subst (λ o. IfSome o (λ q. length q.last ≡ limit)) (sym first) (h.0.full f) in
-    let longer = ap length s.0.1 in
-    let parts = length-append p.last s.0.0 in
-    omega arith
-full_at n limit calls kept (d ∷ ds) (p ∷ ps) e h s (suc w) f =
-    let rest : map (λ p. Some p) ps ≡ map (λ d. d.pass) ds = cc in
-    full_at n limit calls kept ds ps rest h.1 s.1 w f
-
 pub every_map : {X : Type 0} (P Q : X → Type 0) (xs : List X) → ((x : X) → P x → Q x) → Every P xs → Every Q xs
 every_map P Q [] f h = tt
 every_map P Q (x ∷ xs) f h = (f x h.0, every_map P Q xs f h.1)
 
 -- the passes of workers that have worked are theirs
-pub came_back : (b : BookId ShellSession) (n limit : ℕ) (calls : ℕ → List Call) (ds : List WorkerState) (ps : List ShellPass) → map (λ p. Some p) ps ≡ map (λ d. d.pass) ds
-    → Every (λ d. HoldsPass b d × HasWorked n limit calls d) ds → AreNumbered 0 ds → Collected b 0 ds ps
-came_back b n limit calls ds ps e h c = collected b ds ps 0 e (every_map _ _ ds (λ d h. h.0) h) c
+pub came_back : (b : BookId ShellSession) (n : ℕ) (s : ShellSession) (calls : ℕ → List Call) (ds : List WorkerState) (ps : List ShellPass) → map (λ p. Some p) ps ≡ map (λ d. d.pass) ds
+    → Every (λ d. HoldsPass b d × HasWorked n s calls d) ds → AreNumbered 0 ds → Collected b 0 ds ps
+came_back b n s calls ds ps e h c = collected b ds ps 0 e (every_map _ _ ds (λ d h. h.0) h) c
 
 pub every_both : {X : Type 0} (P Q R : X → Type 0) (xs : List X) → ((x : X) → P x → Q x → R x) → Every P xs → Every Q xs → Every R xs
 every_both P Q R [] f h k = tt
@@ -127,17 +115,50 @@ run_from Is pieces o t ps ds ends owns counts same made =
       no_other = λ w le. ends.no_other w (omega arith);
     }
 
+-- why a worker was refused a step, in the run that all of them made
+cause_in : (w limit : ℕ) (old news kept : Entries) (p : ShellPass) → p.worker ≡ w → entries_of w news ≡ p.own → kept ≡ old ++ news → length kept ≤ limit → Begins p.last kept
+    → (r : Option Cause) → IfSome r (λ cause. WasRefused cause old limit p) → IfSome r (IsCauseIn w old news limit)
+cause_in w limit old news kept p his own list room begins None h = tt
+cause_in w limit old news kept p his own list room begins (Some JournalFull) h =
+    let longer = ap length begins.1 in
+    let parts = length-append p.last begins.0 in
+    let same = ap length list in
+    omega (arith, h, longer, parts, same, room)
+cause_in w limit old news kept p his own list room begins (Some Memory) h =
+    let made : news ≡ h.0 ++ begins.0 = append_cancel_left old news _ (sym list ∙ begins.1 ∙ ap (λ l. l ++ begins.0) h.1 ∙ append_assoc old h.0 begins.0) in
+    let mine : entries_of w h.0 ≡ p.own = ap (λ k. entries_of k h.0) (sym his) ∙ h.2 in
+    let after : p.own ++ entries_of w begins.0 ≡ p.own ++ [] =
+    ap (λ l. l ++ entries_of w begins.0) (sym mine) ∙ sym (filter-append _ h.0 begins.0) ∙ ap (entries_of w) (sym made) ∙ own ∙ sym (append-nil p.own) in
+    let below = h.3 in
+    let last = ap length h.1 in
+    (h.0, begins.0, made, append_cancel_left p.own _ [] after, omega (arith, below, last))
+
+causes_in : (n lo : ℕ) (o : ShellSession) (calls : ℕ → List Call) (news kept : Entries) (ds : List WorkerState) (ps : List ShellPass) → map (λ p. Some p) ps ≡ map (λ d. d.pass) ds → Every (HasWorked n o calls) ds
+    → Every (λ p. Begins p.last kept) ps → InOrder lo ps → OwnAll origin_of (λ s. s.kept) (λ e. e.step.worker) (λ s. s.tail) lo ps news → kept ≡ o.kept ++ news → length kept ≤ o.limit
+    → (w k : ℕ) → k ≡ lo + w → IfSome (get_or (map refusal_of ds) w None) (IsCauseIn k o.kept news o.limit)
+causes_in n lo o calls news kept [] ps e h s order own list room w k is = tt
+causes_in n lo o calls news kept (d ∷ ds) [] e h s order own list room w k is = absurd (cc (e))
+causes_in n lo o calls news kept (d ∷ ds) (p ∷ ps) e h s order own list room zero k is =
+    let first : Some p ≡ d.pass = cc in
+    let at : lo ≡ k = omega arith in
+    cause_in k o.limit o.kept news kept p (order.0 ∙ at) (ap (λ j. entries_of j news) (sym at) ∙ own.0) list room s.0 d.refusal
+    (subst (λ x. IfSome d.refusal (λ cause. IfSome x (WasRefused cause o.kept o.limit))) (sym first) h.0.refused)
+causes_in n lo o calls news kept (d ∷ ds) (p ∷ ps) e h s order own list room (suc w) k is =
+    let rest : map (λ p. Some p) ps ≡ map (λ d. d.pass) ds = cc in
+    causes_in n (suc lo) o calls news kept ds ps rest h.1 s.1 order.1 own.1 list room w k (omega arith)
+
 -- the run up to the steps that workers were refused
 pub run_up_to : (n : ℕ) (cause : Option Cause) (pieces : List (List Call)) (o t : ShellSession) (ps : List ShellPass) (ds : List WorkerState)
-    → Ends origin_of (λ s. s.kept) (λ e. e.step.worker) (λ s. s.tail) o ps t → length t.kept ≤ t.limit
+    → Ends origin_of (λ s. s.kept) (λ e. e.step.worker) (λ s. s.tail) o ps t → InOrder 0 ps → length t.kept ≤ t.limit
     → map (λ p. Some p) ps ≡ map (λ d. d.pass) ds → map (λ p. p.own) ps ≡ map list_of ds → AreNumbered 0 ds → length ds ≡ length pieces
-    → Every (HasWorked n o.limit (λ w. get_or pieces w [])) ds → cause ≡ first_cause (map refusal_of ds) → IsRunUpTo cause n pieces o t
-run_up_to n cause pieces o t ps ds ends room passes owns counts same worked first =
+    → Every (HasWorked n o (λ w. get_or pieces w [])) ds → cause ≡ first_cause (map refusal_of ds) → IsRunUpTo cause n pieces o t
+unfolding run_from
+run_up_to n cause pieces o t ps ds ends order room passes owns counts same worked first =
     let limit : t.limit ≡ o.limit = ap (λ p. p.1) ends.same_origin in
     record {
       refusals = map refusal_of ds;
       of_each = length_map refusal_of ds ∙ same;
       first = first;
       run = run_from (λ r w. AreWalksUpTo r n w) pieces o t ps ds ends owns counts same (every_map _ _ ds (λ d h. h.walks) worked);
-      full = λ w e. (let full = full_at n o.limit (λ w. get_or pieces w []) t.kept ds ps passes worked ends.last_is w e in omega (arith, full, room, limit));
+      refused = λ w. causes_in n 0 o _ ends.news t.kept ds ps passes worked ends.last_is order ends.own_is ends.list_is (omega (arith, room, limit)) w w (omega arith);
     }

@@ -1,5 +1,5 @@
 -- What a run of workers on threads leaves.
-use Rattle.std.specs.Prelude.{◌≡◌, ℕ, ◌<◌, ◌≤◌, List, [], ◌∷◌, ◌++◌, Option, Some, None, length, get_or}
+use Rattle.std.specs.Prelude.{◌≡◌, ℕ, ◌<◌, ◌≤◌, List, [], ◌∷◌, ◌++◌, Option, Some, None, IfSome, length, get_or}
 use Rattle.step_record.specs.declared.step.Call.{Call}
 use Rattle.step_record.specs.declared.step.Reply.{Reply}
 use Rattle.step_record.specs.declared.step.Step.{Step}
@@ -8,7 +8,7 @@ use Rattle.journal.specs.Session.{SessionState}
 use Rattle.walks.specs.Walks.{AreWalks}
 use Rattle.walks.specs.WorkerEntries.{entries_of, IsUnfinished}
 use Rattle.workers.specs.declared.run.Cause.{Cause}
-use Rattle.workers.specs.declared.run.Cause.TheVariants.{JournalFull}
+use Rattle.workers.specs.declared.run.Cause.TheVariants.{Memory, JournalFull}
 
 -- Past the old entries, the new session has those that the workers made: those of worker w, in order, are as IsMade says
 -- for its calls; and nobody else made any. What was left to redo is left where no step was made, and else nothing is.
@@ -33,12 +33,20 @@ abbrev pub AreWalksUpTo : Option Cause → ℕ → ℕ → List Call → Entries
 AreWalksUpTo None n w calls es = AreWalks w n calls es
 AreWalksUpTo (Some cause) n w calls es = IsUnfinished (AreWalks w n calls) es
 
+-- Why worker w was refused a step in a run that made the entries `news` behind the old ones: the journal is full; or an
+-- allocation failed at a place where the journal was not full, and behind it the worker made no entry.
+abbrev pub IsCauseIn : ℕ → Entries → Entries → ℕ → Cause → Type 0
+IsCauseIn w old news limit JournalFull = length (old ++ news) ≡ limit
+IsCauseIn w old news limit Memory =
+    (seen later : Entries) × (news ≡ seen ++ later) × (entries_of w later ≡ []) × (length (old ++ seen) < limit)
+
 -- A run in which each worker went on up to its first refused step, or made whole walks where there is none. Its cause
--- is that of the refused worker with the lowest number. A full journal is a cause only where the session is full.
+-- is that of the refused worker with the lowest number. A full journal is a cause only where the session is full, and
+-- memory only where it was not.
 pub record IsRunUpTo {E D : Type 0} (cause : Option Cause) (stripes : ℕ) (pieces : List (List Call))
     (old new : SessionState E D Step Reply) : Type 0 where
   pub refusals : List (Option Cause)
   pub of_each : length refusals ≡ length pieces
   pub first : cause ≡ first_cause refusals
   pub run : IsRun (λ w. AreWalksUpTo (get_or refusals w None) stripes w) pieces old new
-  pub full : (w : ℕ) → get_or refusals w None ≡ Some JournalFull → length new.kept ≡ new.limit
+  pub refused : (w : ℕ) → IfSome (get_or refusals w None) (IsCauseIn w old.kept run.news old.limit)

@@ -1,15 +1,18 @@
 -- What a worker has that walks in turns.
-use Rattle.std.specs.Prelude.{◌≡◌, ℕ, ◌≤◌, List, Option}
+use Rattle.std.specs.Prelude.{◌≡◌, ℕ, ◌<◌, ◌≤◌, ◌++◌, List, Option, length}
 use Rattle.step_record.specs.declared.entry.Entry.{Entry}
 use Rattle.step_record.specs.declared.limits.TheConstants.{MAX_STRIPES}
 use Rattle.step_record.specs.declared.step.Call.{Call}
 use Rattle.step_record.specs.declared.step.Reply.{Reply}
 use Rattle.step_record.specs.declared.step.Step.{Step}
-use Rattle.step_record.specs.History.{data_after}
+use Rattle.step_record.specs.History.{data_after, Entries}
 use Rattle.journal.specs.Session.{SessionState}
 use Rattle.turn_book.specs.Passes.{BookState, PassState, id_of}
 use Rattle.walks.specs.AdmittedSteps.{AdmitsWalks}
 use Rattle.walks.specs.Walks.{AreWalks}
+use Rattle.walks.specs.WorkerEntries.{entries_of}
+use Rattle.workers.specs.declared.run.Cause.{Cause}
+use Rattle.workers.specs.declared.run.Cause.TheVariants.{Memory, JournalFull}
 use Rattle.workers.specs.Draws.{IsWithin}
 
 -- The pass is the worker's, of this book, and the worker stands between two walks. The engine takes each step that its
@@ -24,3 +27,10 @@ pub record CanWalk {E D : Type 0} (perform : D → Step → Option (Reply × D))
   pub stripes_in : (1 ≤ stripes) × (stripes ≤ MAX_STRIPES)
   pub within : IsWithin book.opening.limit pass
   pub turns : book.opening.limit ≤ book.turns
+
+-- Why the pass was refused a step of a session that had these entries before the run. It last saw as many entries as
+-- the limit where the journal was full. Else it saw fewer: those, and what the run had made up to there.
+abbrev pub WasRefused : {T : Type 0} → Cause → Entries → ℕ → PassState T (Entry Step Reply) → Type 0
+WasRefused JournalFull old limit p = length p.last ≡ limit
+WasRefused Memory old limit p =
+    (seen : Entries) × (p.last ≡ old ++ seen) × (entries_of p.worker seen ≡ p.own) × (length p.last < limit)

@@ -1,5 +1,5 @@
 -- Workers at their places, and what they made there.
-use Rattle.std.specs.Prelude.{◌≡◌, ℕ, suc, List, [], ◌∷◌, map, length, get_or, Option, Some, None, IfSome}
+use Rattle.std.specs.Prelude.{◌≡◌, ℕ, suc, List, [], ◌∷◌, map, get_or, Option, Some, None, IfSome}
 use Rattle.std.specs.Option.{IsSome}
 use Rattle.std.specs.Global.{Vec}
 use Rattle.std.specs.Vec.{vec_items}
@@ -9,9 +9,9 @@ use Rattle.step_record.specs.declared.step.Reply.{Reply}
 use Rattle.step_record.specs.declared.step.Step.{Step}
 use Rattle.journal.specs.Session.{SessionState}
 use Rattle.turn_book.specs.Passes.{BookId, PassState}
-use Rattle.workers.specs.declared.run.Cause.TheVariants.{JournalFull}
 use Rattle.workers.specs.declared.run.WorkerState.{WorkerState}
 use Rattle.workers.specs.Runs.{AreWalksUpTo}
+use Rattle.workers.specs.Walkers.{WasRefused}
 use Rattle.step_record.specs.History.{data_after, Entries}
 use Rattle.shell_model.specs.Shell.{Shell, act}
 use Rattle.walks.specs.AdmittedSteps.{AdmitsWalks}
@@ -33,11 +33,10 @@ abbrev pub entries_with : Option (PassState ShellSession (Entry Step Reply)) →
 entries_with None = []
 entries_with (Some p) = p.own
 
--- It made its walks up to the step that it was refused, where it was; and where a full journal was why, it last saw
--- as many entries as the limit.
-pub record HasWorked (n limit : ℕ) (calls : ℕ → List Call) (d : WorkerState) : Type 0 where
+-- It made its walks up to the step that it was refused, where it was, in a run from the session s.
+pub record HasWorked (n : ℕ) (s : ShellSession) (calls : ℕ → List Call) (d : WorkerState) : Type 0 where
   pub walks : AreWalksUpTo d.refusal n d.worker (calls d.worker) (entries_with d.pass)
-  pub full : d.refusal ≡ Some JournalFull → IfSome d.pass (λ p. length p.last ≡ limit)
+  pub refused : IfSome d.refusal (λ cause. IfSome d.pass (WasRefused cause s.kept s.limit))
 
 -- the workers from lo on, in order
 abbrev pub AreNumbered : ℕ → List WorkerState → Type 0

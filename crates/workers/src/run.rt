@@ -15,7 +15,7 @@ ghost use Rattle.walks.specs.WorkerEntries.{Made, IsUnfinished};
 ghost use Rattle.workers.specs.DriveFaults.{CanRun, LeavesFault};
 ghost use Rattle.workers.specs.Draws.{IsWithin};
 ghost use Rattle.workers.specs.Runs.{IsRun, first_cause};
-ghost use Rattle.workers.specs.Walkers.{CanWalk};
+ghost use Rattle.workers.specs.Walkers.{CanWalk, WasRefused};
 ghost use Rattle.workers.specs.WorkerStates.{HoldsPass, HasWorked, AreNumbered, AdmitsAll, calls_of};
 
 use super::driven::Driven;
@@ -172,7 +172,7 @@ fn work_all<G: Gate, R: Threads + Wait + Sync>(
         × IfSome d.pass (λ p. (p.own ≡ []) × IsWithin book.now.opening.limit p)) states.items }
     requires counts { AreNumbered 0 states.items × (length states.items ≡ length pieces.now) }
     ensures holds { Every (λ d. HoldsPass (id_of book.now) d
-        × HasWorked stripes book.now.opening.limit (calls_of pieces.now) d) result.items }
+        × HasWorked stripes book.now.opening (calls_of pieces.now) d) result.items }
     ensures counts { AreNumbered 0 result.items × (length result.items ≡ length pieces.now) }
 {
     if states.is_empty() {
@@ -185,7 +185,7 @@ fn work_all<G: Gate, R: Threads + Wait + Sync>(
             × IfSome state.now.pass (λ p. (p.own ≡ []) × IsWithin book.now.opening.limit p)
             × (state.now.worker < length pieces.now) }
         ensures { HoldsPass (id_of book.entry.now) state.exit.now
-            × HasWorked stripes book.entry.now.opening.limit (calls_of pieces.entry.now) state.exit.now
+            × HasWorked stripes book.entry.now.opening (calls_of pieces.entry.now) state.exit.now
             × (state.exit.now.worker ≡ state.entry.now.worker) }
     {
         let Some(pass) = state.pass.take() else {
@@ -217,7 +217,7 @@ fn work_in_turns<E: Engine<Step = Step, Reply = Reply> + Drop, G: Gate, R: Wait>
     ensures worker { result.0.worker ≡ worker }
     ensures ok { OnOk result.1 (Made (AreWalks worker stripes calls.now) pass.own result.0.own) }
     ensures err { OnErr result.1 (Made (IsUnfinished (AreWalks worker stripes calls.now)) pass.own result.0.own) }
-    ensures full { result.1 ≡ Err Cause.JournalFull → length result.0.last ≡ book.now.opening.limit }
+    ensures refused { IfErr result.1 (λ c. WasRefused c book.now.opening.kept book.now.opening.limit result.0) }
     ensures within { OnOk result.1 (IsWithin book.now.opening.limit result.0) }
 {
     for (n, call) in calls.iter().enumerate() {
@@ -247,7 +247,7 @@ fn walk_in_turns<E: Engine<Step = Step, Reply = Reply> + Drop, R: Wait>(
     ensures worker { result.0.worker ≡ worker }
     ensures ok { OnOk result.1 (Made (IsWalk worker stripes call) pass.own result.0.own) }
     ensures err { OnErr result.1 (Made (IsUnfinished (IsWalk worker stripes call)) pass.own result.0.own) }
-    ensures full { result.1 ≡ Err Cause.JournalFull → length result.0.last ≡ book.now.opening.limit }
+    ensures refused { IfErr result.1 (λ c. WasRefused c book.now.opening.kept book.now.opening.limit result.0) }
     ensures within { OnOk result.1 (IsWithin book.now.opening.limit result.0) }
 {
     let mut next = next_step(Local::start(worker, stripes, call), None);
@@ -265,8 +265,8 @@ fn walk_in_turns<E: Engine<Step = Step, Reply = Reply> + Drop, R: Wait>(
     unreachable!()
 }
 
-// Makes one step in a turn. It is refused where the session refuses it. A pass that has drawn all of its turns made an
-// entry in each of them, and so many fill the journal.
+// Makes one step in a turn. It is refused where the session refuses it, for memory only where the journal is not full. A
+// pass that has drawn all of its turns made an entry in each of them, and so many fill the journal.
 fn turn<E: Engine<Step = Step, Reply = Reply> + Drop, R: Wait>(
     rt: &R,
     book: &TurnBook<Session<E>>,
@@ -285,8 +285,7 @@ fn turn<E: Engine<Step = Step, Reply = Reply> + Drop, R: Wait>(
     ensures own { MatchResult result.1 (λ r. result.0.own ≡ pass.own ++ record { step = step; reply = r } ∷ [])
         (λ _. result.0.own ≡ pass.own) }
     ensures answer { IfOk result.1 (λ r. is_answer step.act r ≡ true) }
-    // A full journal: what the pass last saw is as long as the limit.
-    ensures full { result.1 ≡ Err Cause.JournalFull → length result.0.last ≡ book.now.opening.limit }
+    ensures refused { IfErr result.1 (λ c. WasRefused c book.now.opening.kept book.now.opening.limit result.0) }
     ensures within { OnOk result.1 (IsWithin book.now.opening.limit result.0) }
 {
     match book.take(rt, pass) {

@@ -1,4 +1,4 @@
-use Rattle.std.proofs.Common.{◌≡◌, suc, ◌-◌, ◌<◌, length, get_or, arith, refl, ◌∙◌}
+use Rattle.std.proofs.Common.{◌≡◌, ◌-◌, ◌<◌, get_or, ◌∙◌}
 use Rattle.clairvoyant.specs.PackedKeys.{unpacked}
 use Rattle.clairvoyant.specs.Uses.{next, next_from, number_of}
 use Rattle.clairvoyant.proofs.Building.{next-back, number-back, set-back, set-long}

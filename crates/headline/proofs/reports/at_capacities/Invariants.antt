@@ -1,5 +1,5 @@
 use Rattle.std.proofs.Common.{◌≡◌, take, map}
-use Rattle.job_checks.specs.FaultyJobs.{at_capacity}
+use Rattle.policies.specs.FaultyJobs.{at_capacity}
 use Rattle.headline.proofs.reports.at_capacities.Given as goal
 
 abbrev pub invariant-loop-capacity : goal.invariant-loop-capacity

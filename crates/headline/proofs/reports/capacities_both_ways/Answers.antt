@@ -1,9 +1,9 @@
 use Rattle.std.proofs.Common.{◌≡◌, ℕ, List, map, ap, sym, ◌∙◌}
 use Rattle.std.proofs.lemmas.Simd.{map-map}
 use Rattle.step_record.specs.declared.job.Job.{Job}
-use Rattle.report.specs.declared.report.Report.{Report}
-use Rattle.job_checks.specs.FaultyJobs.{at_capacity}
-use Rattle.policy_actors.specs.Reports.{report_on}
+use Rattle.policies.specs.declared.report.Report.{Report}
+use Rattle.policies.specs.FaultyJobs.{at_capacity}
+use Rattle.policies.specs.Reports.{report_on}
 use Rattle.headline.proofs.reports.capacities_both_ways.Goals as goal
 
 -- reports of jobs that stand for capacities

@@ -1,5 +1,5 @@
 use Rattle.std.proofs.Common.{◌≡◌, take, map}
-use Rattle.policy_actors.specs.Reports.{report_on}
+use Rattle.policies.specs.Reports.{report_on}
 use Rattle.headline.proofs.reports.each_alone.Given as goal
 
 abbrev pub invariant-loop-i : goal.invariant-loop-i

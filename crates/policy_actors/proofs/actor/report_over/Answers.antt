@@ -1,6 +1,6 @@
 use Rattle.std.proofs.Common.{ℕ, ◌≤◌, [], subst, ap, ◌∙◌, sym, append-nil}
 use Rattle.step_record.specs.declared.limits.TheConstants.{MAX_ACCESSES}
-use Rattle.policy_actors.specs.Reports.{report_on}
+use Rattle.policies.specs.Reports.{report_on}
 use Rattle.policy_actors.proofs.actor.report_over.Goals as goal
 
 pub access_whole-requires : goal.access_whole-requires

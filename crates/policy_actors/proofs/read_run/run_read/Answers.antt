@@ -1,5 +1,5 @@
 use Rattle.std.proofs.Common.{◌≡◌, IfOk, map, subst, rules}
-use Rattle.policy_actors.specs.Reports.{report_on}
+use Rattle.policies.specs.Reports.{report_on}
 use Rattle.policy_actors.proofs.ReadTo.{with_fault, with_end, without_memory}
 use Rattle.policy_actors.proofs.read_run.run_read.Goals as goal
 

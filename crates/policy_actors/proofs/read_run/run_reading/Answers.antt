@@ -1,5 +1,5 @@
 use Rattle.std.proofs.Common.{◌≡◌, map}
-use Rattle.policy_actors.specs.Reports.{report_on}
+use Rattle.policies.specs.Reports.{report_on}
 use Rattle.policy_actors.proofs.ReadTo.{of_bytes}
 use Rattle.policy_actors.proofs.read_run.run_reading.Goals as goal
 

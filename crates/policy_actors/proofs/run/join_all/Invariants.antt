@@ -1,7 +1,7 @@
 use Rattle.std.proofs.Common.{◌≡◌, ℕ, List, Some, map, ◌++◌, vec_items}
 use Rattle.std.specs.Vec.Iter.{into_iter_items}
 use Rattle.policy_actors.specs.Actors.{jobs_of}
-use Rattle.policy_actors.specs.Reports.{report_on}
+use Rattle.policies.specs.Reports.{report_on}
 use Rattle.policy_actors.proofs.run.join_all.Given as goal
 
 abbrev pub invariant-loop-handle : goal.invariant-loop-handle

@@ -26,6 +26,7 @@ loop-key-preserved c =
           (λ a b f h. subst (λ (l : List Outcome). Lacks c.args.stripes c.args.keys.now (drop (c.loop-key.key-index + 1) c.args.keys.now) l (a ++ b)) (sym items)
           (one_key c.args.stripes c.args.keys.now _ _ _ c.loop-key.outcomes.items c.in_ok-outcome.outcome (drop_key c.args.keys.now c.loop-key.key-index _ c.loop-key-test.true) a b f h.0 h.1));
       stripes = c.in_ok-outcome.ensures.stripes;
+      reached = c.in_ok-outcome.ensures.reached;
       none = c.in_ok-outcome.ensures.none;
     }
 

@@ -1,7 +1,9 @@
 use Rattle.std.proofs.Common.{◌≡◌, ◌∙◌, ◌++◌, List, ℕ, ap, sym, subst, false}
 use Rattle.std.specs.Prelude.{is_err}
 use Rattle.step_record.specs.Answers.{AnswersItsActs}
+use Rattle.step_record.specs.History.{data_after}
 use Rattle.shell_model.specs.Shell.{Shell, act}
+use Rattle.shell_model.specs.ReachableShell.{IsReachable}
 use Rattle.journal_text.specs.Journal.{journal_of, AreLines, IsJournalText}
 use Rattle.journal_text.specs.declared.version.Version.TheVariants.{Two}
 use Rattle.shell_journal.proofs.Copies.{journal_taken, of_ok}
@@ -18,6 +20,9 @@ returns-clause-taken c =
     let text : c.as_slice-reader.result.now ≡ journal_of Two s.kept =
     c.as_slice-reader.ensures.value ∙ wrote ∙ ap (λ (t : List ℕ). t ++ journal_of Two s.kept) c.new-text.ensures.items in
     let legal = c.sound.ensures.legal in
+    let stands = c.engine.ensures in
+    let reachable : IsReachable s.opening =
+    subst IsReachable (stands.engine ∙ stands.sound.stands ∙ ap (data_after act c.args.copy.now.opening) c.requires.kept ∙ c.requires.alike) c.reachable.ensures in
     c.read_journal.ensures.accepts s.kept
     (subst (λ (x : Shell). IsJournalText act x c.args.copy.now.limit c.as_slice-reader.result.now s.kept) (sym c.requires.alike)
-    (journal_taken s.opening c.args.copy.now.limit c.as_slice-reader.result.now s.kept c.text_size.ensures c.requires.reachable legal lines c.requires.few c.requires.room text))
+    (journal_taken s.opening c.args.copy.now.limit c.as_slice-reader.result.now s.kept c.text_size.ensures reachable legal lines c.requires.few c.requires.room text))

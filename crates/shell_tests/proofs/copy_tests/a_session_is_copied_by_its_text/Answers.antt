@@ -1,5 +1,4 @@
-use Rattle.std.proofs.Common.{sym, ◌∙◌, subst, arith, rules}
-use Rattle.shell_model.specs.ReachableShell.{IsReachable}
+use Rattle.std.proofs.Common.{sym, ◌∙◌, arith, rules}
 use Rattle.shell_tests.proofs.Alike.{alike}
 use Rattle.shell_tests.proofs.copy_tests.a_session_is_copied_by_its_text.Goals as goal
 
@@ -11,7 +10,6 @@ assert_copied-requires g c =
     let three = c.in_ok-session.ensures.limit in
     let room = c.in_ok-copy.ensures.limit in
     record {
-      reachable = subst IsReachable (sym made.opening) c.in_ok-session.ensures.reachable;
       few = omega (arith, few, limit, three);
       alike = alike _ c.in_ok-session.session.opening c.in_ok-copy.copy.opening c.in_ok-session.ensures.opened c.in_ok-copy.ensures.opened ∙ sym made.opening;
       kept = c.in_ok-copy.ensures.kept;

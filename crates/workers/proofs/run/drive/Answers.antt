@@ -40,7 +40,7 @@ run-of g c =
     let stripes = c.stripes-stripes.ensures.stripes ∙ ap (λ x. x.config.stripes) c.engine-shell.ensures.engine in
     let room : length c.close-session.result.kept ≤ c.close-session.result.limit = let sound = c.sound.ensures.room in omega arith in
     moved_run _ _ _ _ _ _ _ _ stripes (ap (map (λ p. vec_items p)) c.as_slice.ensures.value) c.in-Ok-open.ensures.opens.0
-    (run_up_to c.stripes-stripes.result c.collect_passes-passes.result.1 pieces c.in-Ok-open.book.opening c.close-session.result _ c.work_all-states.result.items c.close-session.ensures room c.collect_passes-passes.ensures.passes r.owns
+    (run_up_to c.stripes-stripes.result c.collect_passes-passes.result.1 pieces c.in-Ok-open.book.opening c.close-session.result _ c.work_all-states.result.items c.close-session.ensures r.order room c.collect_passes-passes.ensures.passes r.owns
     c.work_all-states.ensures.counts.0 (c.work_all-states.ensures.counts.1 ∙ sym (length-map c.as_slice.result.now (λ p. vec_items p)))
     (every_map _ _ _ (λ d h. h.1) c.work_all-states.ensures.holds) c.collect_passes-passes.ensures.cause)
 

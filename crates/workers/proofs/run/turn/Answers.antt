@@ -1,4 +1,4 @@
-use Rattle.std.proofs.Common.{length, length-append, arith, ap, ◌∙◌, ◌∷◌, ◌++◌, [], sym, Err}
+use Rattle.std.proofs.Common.{rules, ◌<◌, length, length-append, arith, ap, ◌∙◌, ◌∷◌, ◌++◌, [], sym, Err}
 use Rattle.std.proofs.lemmas.List.{append-nil}
 use Rattle.step_record.specs.declared.entry.Entry.{Entry}
 use Rattle.step_record.specs.declared.step.Reply.{Reply}
@@ -47,11 +47,30 @@ returns-in-Err-JournalFull-clause-own g c =
     let v = c.value.ensures.value ∙ sym took.taken in
     gained _ _ _ _ _ _ [] c.give-in-Err-JournalFull.ensures.gave (c.in-Err-JournalFull.ensures.err.kept ∙ ap (λ s. s.kept) v ∙ sym (append-nil _)) ∙ append-nil _ ∙ ap (λ p. p.own) took.pass
 
-pub returns-in-Err-JournalFull-clause-full : goal.returns-in-Err-JournalFull-clause-full
-returns-in-Err-JournalFull-clause-full g c = λ e.
+pub returns-in-Err-JournalFull-clause-refused : goal.returns-in-Err-JournalFull-clause-refused
+returns-in-Err-JournalFull-clause-refused g c =
     ap (λ p. length p.last) c.give-in-Err-JournalFull.ensures.gave.pass ∙ ap length c.in-Err-JournalFull.ensures.err.kept
     ∙ c.in-Err-JournalFull.ensures.full.0 (ap (λ f. Err f) c.in-Err-JournalFull.field-0-is)
     ∙ ap (λ s. s.limit) c.value.ensures.value ∙ ap (λ p. p.1) c.in-Ok.ensures.took.shows.same_origin
+
+-- the journal is not full where memory is why
+pub returns-in-Err-OutOfMemory-clause-refused : goal.returns-in-Err-OutOfMemory-clause-refused
+returns-in-Err-OutOfMemory-clause-refused g c =
+    let took = c.in-Ok.ensures.took in
+    let shows = took.shows in
+    let gave = c.give-in-Err-OutOfMemory.ensures.gave in
+    let same = c.in-Err-OutOfMemory.ensures.err in
+    let value = ap (λ s. s.kept) c.value.ensures.value in
+    let worker = ap (λ p. p.worker) gave.pass ∙ ap (λ p. p.worker) took.pass in
+    let last = ap (λ p. p.last) gave.pass ∙ same.kept ∙ value ∙ shows.list_is in
+    let long = ap (λ p. length p.last) gave.pass ∙ ap length same.kept in
+    let limit = ap (λ s. s.limit) c.value.ensures.value ∙ ap (λ p. p.1) shows.same_origin in
+    let below : length c.value.result.now.kept < c.value.result.now.limit = search rules in (
+      shows.news,
+      last,
+      ap (λ w. entries_of w shows.news) worker ∙ shows.own_is ∙ sym (returns-in-Err-OutOfMemory-clause-own g c),
+      omega (arith, long, limit, below),
+    )
 
 pub unreachable-requires : goal.unreachable-requires
 unreachable-requires g c =
@@ -82,8 +101,8 @@ returns-in-Ok-step-clause-within g c =
     let limit = c.in-Ok-step.ensures.limit ∙ ap (λ s. s.limit) c.value.ensures.value ∙ ap (λ p. p.1) shows.same_origin in
     within_more c.args.book.now.opening.limit c.args.pass _ c.value.result.now.kept e own draws seen (omega (arith, few, mine, list)) (omega (arith, last, room, limit)) c.requires.within
 
-pub returns-in-Err-clause-full : goal.returns-in-Err-clause-full
-returns-in-Err-clause-full g c = λ e.
+pub returns-in-Err-clause-refused : goal.returns-in-Err-clause-refused
+returns-in-Err-clause-refused g c =
     let spent = c.in-Err.ensures.spent in
     let draws = ap (λ p. p.draws) spent.0 in
     let enough = spent.1 in

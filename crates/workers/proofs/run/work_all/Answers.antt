@@ -23,8 +23,8 @@ pub returns-clause-holds : goal.returns-clause-holds
 returns-clause-holds g c =
     let len : length c.for_each_mut.new.s ≡ length c.args.states.items = c.for_each_mut.auto.s ∙ ap length c.as_mut_slice.ensures.value in
     let back = take_back c.args.states.items c.for_each_mut.new.s c.args.states.len len c.args.states.ok.0 in
-    let holds : All (λ d. HoldsPass (id_of c.args.book.now) d × HasWorked c.args.stripes c.args.book.now.opening.limit (calls_of c.args.pieces.now) d) c.for_each_mut.new.s = search rules in
-    subst (Every (λ d. HoldsPass (id_of c.args.book.now) d × HasWorked c.args.stripes c.args.book.now.opening.limit (calls_of c.args.pieces.now) d)) (sym back) (every_of_all _ _ holds)
+    let holds : All (λ d. HoldsPass (id_of c.args.book.now) d × HasWorked c.args.stripes c.args.book.now.opening (calls_of c.args.pieces.now) d) c.for_each_mut.new.s = search rules in
+    subst (Every (λ d. HoldsPass (id_of c.args.book.now) d × HasWorked c.args.stripes c.args.book.now.opening (calls_of c.args.pieces.now) d)) (sym back) (every_of_all _ _ holds)
 
 pub returns-clause-counts : goal.returns-clause-counts
 returns-clause-counts g c =

@@ -1,10 +1,9 @@
 use Rattle.std.proofs.Common.{◌≡◌, refl, ap, sym, subst, ◌∙◌}
 use Rattle.segments.specs.Queues.{IsDistinct}
-use Rattle.shell_model.specs.Shell.{Shell, evict_effect, in_phase}
+use Rattle.shell_model.specs.Shell.{Shell, in_phase, reply_by, unlisted_by, evict_effect}
 use Rattle.step_record.specs.declared.drain.Phase.TheVariants as phase
 use Rattle.step_record.specs.declared.step.Reply.{Reply}
 use Rattle.shell_model.specs.Records.{evict_change}
-use Rattle.shell_model.specs.ShellEviction.{reply_by, unlisted_by}
 use Rattle.maintenance.specs.contracts.shell_core.ShellCore.{the_view}
 use Rattle.maintenance.specs.EvictionPlan.{item_out}
 use Rattle.maintenance.proofs.Evicted.{evicted-is, eviction-changes}

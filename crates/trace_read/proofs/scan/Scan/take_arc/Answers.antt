@@ -1,10 +1,8 @@
 use Rattle.std.proofs.Common.{◌≤◌, ◌+◌, ◌∙◌, arith, length, refl, subst, sym}
 use Rattle.step_record.specs.declared.limits.TheConstants.{MAX_ACCESSES}
-use Rattle.trace_read.proofs.PaddedLines.{blank_taken}
 use Rattle.trace_read.proofs.Steps.{errs}
 use Rattle.trace_read.proofs.Taken.{line_refused, line_taken, refused_then, taken_then, whole_read, whole_stopped}
 use Rattle.trace_read.specs.DigitRuns.{IsLineEnd}
-use Rattle.trace_read.specs.PaddedLines.{IsFeedBehindBlanks}
 use Rattle.trace_read.specs.ScanState.{IsTakenUpTo}
 use Rattle.trace_read.specs.declared.format.Format.TheVariants.{Arc}
 use Rattle.trace_read.specs.declared.scan.Scan.{Scan}
@@ -50,19 +48,3 @@ returns-in_err-add_arc-clause-err c =
     errs c.from_residual.result _ _ c.from_residual.ensures.1 (refused_then c.args.self.now scan bytes 0 start _ before
     (line_refused scan bytes start line.end before.scan before.cut l.order (omega (arith, l.within)) l.none l.feed _
     (whole_stopped Arc scan.format scan.line scan.given scan.keys.items scan.cut.items _ _ (before.format ∙ c.requires.format) before.cut c.in_err-add_arc.ensures.err)))
-
-pub lines-preserved-in-Some-blank_line : goal.lines-preserved-in-Some-blank_line
-lines-preserved-in-Some-blank_line c =
-    let i = c.lines.invariant in
-    let start = c.in-Some.first.start in
-    let bytes = c.args.bytes.now in
-    let line = c.in-Some-blank_line.line in
-    let scan = c.next_other.new.self in
-    let l = subst (λ b. IsFeedBehindBlanks b start line) c.in-Some.ensures.found.same c.in-Some-blank_line.ensures in
-    let before = taken_then c.args.self.now c.lines.self scan bytes 0 c.lines.runs.start start i.taken c.in-Some.ensures.some in
-    let last : Scan = record { alloc = scan.alloc; format = scan.format; keys = scan.keys; given = scan.given; line = scan.line + 1; cut = scan.cut } in
-    record {
-      taken = taken_then _ _ _ bytes 0 start line.runs.start before (blank_taken scan last bytes start line before.scan (before.format ∙ c.requires.format) before.cut l refl refl refl refl refl);
-      runs = l.runs;
-      same = l.same;
-    }

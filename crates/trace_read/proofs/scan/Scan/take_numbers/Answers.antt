@@ -9,7 +9,7 @@ use Rattle.trace_read.specs.declared.scan.Scan.{Scan}
 use Rattle.trace_read.proofs.scan.Scan.take_numbers.Goals as goal
 
 pub lines-preserved : goal.lines-preserved
-lines-preserved g c =
+lines-preserved c =
     let i = c.lines.invariant in
     let e = c.in-Some.ensures in
     let first = c.args.self.now in
@@ -47,7 +47,7 @@ lines-preserved g c =
     }
 
 pub lines-preserved-in_default-usual_key : goal.lines-preserved-in_default-usual_key
-lines-preserved-in_default-usual_key g c =
+lines-preserved-in_default-usual_key c =
     let i = c.lines.invariant in
     let e = c.in-Some.ensures in
     let start = c.args.runs.now.start in

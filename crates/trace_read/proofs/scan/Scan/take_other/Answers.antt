@@ -1,11 +1,8 @@
 use Rattle.std.proofs.Common.{◌≤◌, ◌+◌, ap, arith, length, refl, subst, sym}
-use Rattle.step_record.specs.declared.limits.TheConstants.{MAX_ACCESSES}
 use Rattle.trace_read.proofs.Steps.{errs}
-use Rattle.trace_read.proofs.PaddedLines.{padded_taken}
 use Rattle.trace_read.proofs.StarLines.{stars_taken}
 use Rattle.trace_read.proofs.Taken.{line_refused, line_taken, nothing_taken, whole_read, whole_stopped}
 use Rattle.trace_read.specs.DigitRuns.{IsLineEnd}
-use Rattle.trace_read.specs.PaddedLines.{keys_if_any, IsPaddedLine}
 use Rattle.trace_read.specs.TraceText.{IsRead}
 use Rattle.trace_read.specs.declared.format.Format.TheVariants.{Lirs}
 use Rattle.trace_read.specs.declared.scan.Scan.{Scan}
@@ -17,18 +14,18 @@ returns-in_err-add_lirs-clause-err c =
     let bytes = c.args.bytes.now in
     let scan = c.args.self.now in
     let start = c.args.run.start in
-    let l = subst (λ b. IsLineEnd b start c.in-Some-line_end.line) c.requires.found.same c.in-Some-line_end.ensures.line in
+    let l = subst (λ b. IsLineEnd b start c.in-Some.line) c.requires.found.same c.in-Some.ensures.line in
     errs c.from_residual.result _ _ c.from_residual.ensures.1
-    (line_refused scan bytes start c.in-Some-line_end.line.end c.requires.lines.scan c.requires.lines.cut l.order (omega (arith, l.within)) l.none l.feed _
+    (line_refused scan bytes start c.in-Some.line.end c.requires.lines.scan c.requires.lines.cut l.order (omega (arith, l.within)) l.none l.feed _
     (whole_stopped Lirs scan.format scan.line scan.given scan.keys.items scan.cut.items _ _ c.requires.lines.format c.requires.lines.cut c.in_err-add_lirs.ensures.err))
 
 pub returns-clause-taken : goal.returns-clause-taken
 returns-clause-taken c =
     let bytes = c.args.bytes.now in
     let start = c.args.run.start in
-    let line = c.in-Some-line_end.line in
+    let line = c.in-Some.line in
     let scan = c.args.self.now in
-    let l = subst (λ b. IsLineEnd b start line) c.requires.found.same c.in-Some-line_end.ensures.line in
+    let l = subst (λ b. IsLineEnd b start line) c.requires.found.same c.in-Some.ensures.line in
     let items = c.reserve_for.ensures.items in
     let last : Scan = record { alloc = scan.alloc; format = scan.format; keys = c.reserve_for.new.keys; given = scan.given; line = scan.line + 1; cut = scan.cut } in
     let next = line_taken scan bytes start line.end c.requires.lines.scan c.requires.lines.cut l.order (omega (arith, l.within)) l.none l.feed last
@@ -53,15 +50,3 @@ returns-then-stars-gt0-clause-taken c =
     let here = nothing_taken scan bytes start c.requires.lines.scan c.requires.lines.cut within in
     let next : Scan = record { alloc = scan.alloc; format = scan.format; keys = scan.keys; given = scan.given; line = scan.line + count; cut = scan.cut } in
     subst (λ n. IsTakenUpTo scan bytes start n next) (sym c.at.ensures.start) (stars_taken scan scan bytes start start count here c.requires.lines.format c.star_lines-stars.ensures)
-
-pub returns-in-Some-clause-taken : goal.returns-in-Some-clause-taken
-returns-in-Some-clause-taken c =
-    let bytes = c.args.bytes.now in
-    let start = c.args.run.start in
-    let padded = c.in-Some.padded in
-    let scan = c.args.self.now in
-    let room = c.requires.lines.room in
-    let p = subst (λ b. IsPaddedLine b start padded) c.requires.found.same c.in-Some.ensures in
-    let next : Scan = record { alloc = scan.alloc; format = scan.format; keys = c.push_if_any.new.keys; given = scan.given; line = scan.line + 1; cut = scan.cut } in
-    let few : scan.given + length scan.keys.items + length (keys_if_any padded.key) ≤ MAX_ACCESSES = omega (arith, p.room, p.within, p.order, room.0, scan.keys.ok.0) in
-    padded_taken scan next bytes start padded c.requires.lines.scan c.requires.lines.format c.requires.lines.cut p few c.push_if_any.ensures.items refl refl refl refl

@@ -2,7 +2,7 @@ use Rattle.std.proofs.Common.{take, List, [], ◌∷◌, ◌++◌, ap, ◌∙◌
 use Rattle.std.proofs.lemmas.List.{take_more}
 use Rattle.step_record.specs.declared.job.Job.{Job}
 use Rattle.policy_actors.specs.declared.run.Promised.{Promised}
-use Rattle.job_checks.proofs.Accepted.{accepted}
+use Rattle.policies.proofs.Accepted.{accepted}
 use Rattle.policy_actors.proofs.run.fn.run_fed.scope.Goals as goal
 
 pub loop-i-preserved : goal.loop-i-preserved

@@ -1,0 +1,30 @@
+//! How good an estimate is. Each of these functions does nothing: its contract is the theorem.
+ghost use Rattle.admission_laws.specs.Theorems.{EstimatesAreNeverLow, EstimatesCountTheEra};
+ghost use Rattle.admission_laws.specs.Theorems.{EstimatesAreBounded, EstimatesAreExact, EstimatesRise};
+
+/// No key is estimated below an exact count of the same eras: a Count-Min sketch errs on one side. (Cormode and
+/// Muthukrishnan 2005.)
+pub fn estimates_are_never_low()
+    ensures { EstimatesAreNeverLow }
+{}
+
+/// A key's estimate is at least the number of its records since the last halving, up to 16.
+pub fn estimates_count_the_era()
+    ensures { EstimatesCountTheEra }
+{}
+
+/// An estimate is at most 16, and above the key's own count by no more than what collides with it in any one row.
+pub fn estimates_are_bounded()
+    ensures { EstimatesAreBounded }
+{}
+
+/// The estimate of a key that collides with no other in some row, and in one of its bits, is the exact count.
+pub fn estimates_are_exact()
+    ensures { EstimatesAreExact }
+{}
+
+/// A recorded key's estimate rises by 1 and no other falls, but across a halving, which leaves the half of the least
+/// counter.
+pub fn estimates_rise()
+    ensures { EstimatesRise }
+{}

@@ -1,0 +1,33 @@
+-- The ranges of what a parse gives.
+use Rattle.std.specs.Prelude.{◌≡◌, ◌≤◌, Ok}
+use Rattle.step_record.specs.Config.{config_fault}
+use Rattle.step_record.specs.declared.limits.TheConstants.{MAX_BATCH}
+use Rattle.step_record.specs.declared.worker.TheConstants.{MAX_WORKERS}
+use Rattle.command_line.specs.declared.arguments.Arguments.{Arguments}
+use Rattle.command_line.specs.declared.arguments.Arguments.TheVariants.{Debug, Drive, Part, Replay, Run, Sweep}
+use Rattle.command_line.specs.declared.arguments.DriveArguments.{DriveArguments}
+use Rattle.command_line.specs.declared.arguments.PartArguments.{PartArguments}
+use Rattle.command_line.specs.declared.arguments.RunArguments.{RunArguments}
+
+pub record IsAcceptedRun (run : RunArguments) : Type 0 where
+  pub config : config_fault run.config ≡ Ok tt
+  pub some : 1 ≤ run.batch
+  pub few : run.batch ≤ MAX_BATCH
+
+pub record IsAcceptedPart (part : PartArguments) : Type 0 where
+  pub first : config_fault part.first.config ≡ Ok tt
+  pub second : config_fault part.second.config ≡ Ok tt
+
+pub record IsAcceptedDrive (drive : DriveArguments) : Type 0 where
+  pub config : config_fault drive.config ≡ Ok tt
+  pub some : 1 ≤ drive.workers
+  pub few : drive.workers ≤ MAX_WORKERS
+
+-- each configuration is accepted, and each other number is in its range
+abbrev pub AreAccepted : Arguments → Type 0
+AreAccepted (Run run) = IsAcceptedRun run
+AreAccepted (Sweep sweep) = config_fault sweep.config ≡ Ok tt
+AreAccepted (Part part) = IsAcceptedPart part
+AreAccepted (Drive drive) = IsAcceptedDrive drive
+AreAccepted (Debug debug) = IsAcceptedPart debug.policies
+AreAccepted (Replay replay) = config_fault replay.config ≡ Ok tt

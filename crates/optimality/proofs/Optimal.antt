@@ -1,0 +1,140 @@
+-- Belady's policy beside another strategy.
+use Rattle.std.proofs.Common.{◌≡◌, ◌⊎◌, ℕ, zero, suc, ◌+◌, ◌<◌, ◌≤◌, true, false, cond, nat_lt, List, ◌∷◌, length, get_or, ap, ◌∙◌, refl, arith, inl, inr}
+use Rattle.std.proofs.lemmas.Bool.{cases_Bool, cases_lt, ltb-false}
+use Rattle.step_record.specs.Stats.{one_if}
+use Rattle.step_record.specs.Keys.{has_key, keys_without}
+use Rattle.step_record.specs.declared.stats.Stats.{Stats}
+use Rattle.step_record.proofs.Counting.{stats-snoc}
+use Rattle.clairvoyant.specs.Keys.{residents_with, IsAscendingKeys}
+use Rattle.clairvoyant.specs.Belady.{farthest, belady_residents_after, belady_residents, belady_outcome, belady_outcomes}
+use Rattle.clairvoyant.proofs.Keys.{has-put, ascending-put, ascending-without}
+use Rattle.clairvoyant.proofs.Belady.{residents-ascending, put-has, without-has, served-has, soon, farthest-in, full-length, hit-resident, residents-fit}
+use Rattle.optimality.specs.Strategy.{IsStrategy, strategy_hits}
+use Rattle.optimality.specs.Theorems.{belady_hits, BeladyIsOptimal, BeladyIsStrategy, BeladyHitsGrow}
+use Rattle.optimality.proofs.Counting.{count_keys, count-short, count-without, count-subset, count-none, count-all}
+use Rattle.optimality.proofs.Uses.{is_due, due-never, AreDue, farthest-due, due-gain}
+
+-- ---- the residents after an access, in a full cache
+
+-- Of the residents and the accessed key k, those that are used before place n: Belady's policy keeps all of them, or has
+-- as many as fit.
+full-keeps : (t : List ℕ) (i n k : ℕ) (r : List ℕ) → IsAscendingKeys r → has_key k r ≡ false →
+    (count_keys (is_due t (suc i) n) (k ∷ r) ≤ count_keys (is_due t (suc i) n) (keys_without (farthest t i k r) (residents_with k r)))
+    ⊎ (length r ≤ count_keys (is_due t (suc i) n) (keys_without (farthest t i k r) (residents_with k r)))
+full-keeps t i n k r s e =
+    let v : ℕ = farthest t i k r in
+    let all : count_keys (is_due t (suc i) n) (k ∷ r) ≤ count_keys (is_due t (suc i) n) (residents_with k r) = count-subset (is_due t (suc i) n) (k ∷ r) (residents_with k r) (λ x h. has-put x k r ∙ h) in
+    let out : count_keys (is_due t (suc i) n) (keys_without v (residents_with k r)) + cond (has_key v (residents_with k r)) (one_if (is_due t (suc i) n v)) 0 ≡ count_keys (is_due t (suc i) n) (residents_with k r) = count-without (is_due t (suc i) n) v (residents_with k r) in
+    let left : count_keys (is_due t (suc i) n) (keys_without v (residents_with k r)) + one_if (is_due t (suc i) n v) ≡ count_keys (is_due t (suc i) n) (residents_with k r) = rw (farthest-in t i k r) at out in
+    elim (cases_Bool (is_due t (suc i) n v)) [
+      | inl f ↦
+          let due : AreDue t (suc i) n k r = farthest-due t i n k r f in
+          let each : (x : ℕ) → has_key x (keys_without v (residents_with k r)) ≡ true → is_due t (suc i) n x ≡ true = λ x h. elim (put-has x k r (without-has x v (residents_with k r) h)) [
+            | inl same ↦ ap (is_due t (suc i) n) same ∙ due.first
+            | inr g ↦ due.rest x g
+          ] in
+          let full : count_keys (is_due t (suc i) n) (keys_without v (residents_with k r)) ≡ length (keys_without v (residents_with k r)) = count-all (is_due t (suc i) n) (keys_without v (residents_with k r)) (ascending-without v (residents_with k r) (ascending-put k r s e)) each in
+          inr (omega (arith, full, full-length t i k r s e))
+      | inr f ↦
+          let none : one_if (is_due t (suc i) n v) ≡ 0 = ap one_if f in
+          inl (omega (arith, all, left, none))
+    ]
+
+belady-keeps : (c : ℕ) (t : List ℕ) (i n k : ℕ) (r : List ℕ) → IsAscendingKeys r →
+    (count_keys (is_due t (suc i) n) (k ∷ r) ≤ count_keys (is_due t (suc i) n) (belady_residents_after c t i k r))
+    ⊎ (c ≤ count_keys (is_due t (suc i) n) (belady_residents_after c t i k r))
+belady-keeps c t i n k r s =
+    elim (cases_Bool (has_key k r)) as (λ _. (count_keys (is_due t (suc i) n) (k ∷ r) ≤ count_keys (is_due t (suc i) n) (belady_residents_after c t i k r)) ⊎ (c ≤ count_keys (is_due t (suc i) n) (belady_residents_after c t i k r))) [
+      | inl e ↦ rw e (inl (omega arith))
+      | inr e ↦ elim (cases_Bool (nat_lt (length r) c)) as (λ _. (count_keys (is_due t (suc i) n) (k ∷ r) ≤ count_keys (is_due t (suc i) n) (belady_residents_after c t i k r)) ⊎ (c ≤ count_keys (is_due t (suc i) n) (belady_residents_after c t i k r))) [
+        | inl f ↦
+            let all : count_keys (is_due t (suc i) n) (k ∷ r) ≤ count_keys (is_due t (suc i) n) (residents_with k r) = count-subset (is_due t (suc i) n) (k ∷ r) (residents_with k r) (λ x h. has-put x k r ∙ h) in
+            let kept = rw e at all in
+            rw (e, f) (inl kept)
+        | inr f ↦
+            let full : c ≤ length r = ltb-false (length r) c f in
+            rw (e, f) (elim (full-keeps t i n k r s e) [
+              | inl g ↦ inl (rw e at g)
+              | inr g ↦ inr (omega (arith, g, full))
+            ])
+      ]
+    ]
+
+-- ---- hits
+
+belady-hits-next : (c : ℕ) (t : List ℕ) (i : ℕ) → belady_hits c t (suc i) ≡ belady_hits c t i + one_if (has_key (get_or t i 0) (belady_residents c t i))
+belady-hits-next c t i =
+    ap (λ (s : Stats). s.hits) (stats-snoc (belady_outcomes c t i) (belady_outcome c t i)) ∙ ap (λ b. belady_hits c t i + one_if b) (hit-resident c t i (get_or t i 0) (belady_residents c t i))
+
+-- ---- the strategies side by side
+
+module _ (c : ℕ) (t : List ℕ) (residents : ℕ → List ℕ) (strategy : IsStrategy c t residents) where
+  -- before the access at place i, hits and residents that are used before n
+  record Leads (i : ℕ) : Type 0 where
+    leads : (n : ℕ) → strategy_hits t residents i + count_keys (is_due t i n) (residents i) ≤ belady_hits c t i + count_keys (is_due t i n) (belady_residents c t i)
+
+  all-gains : (i n : ℕ) → i < length t → i < n → Leads i →
+      strategy_hits t residents (suc i) + count_keys (is_due t (suc i) n) (get_or t i 0 ∷ residents i) ≤ belady_hits c t (suc i) + count_keys (is_due t (suc i) n) (get_or t i 0 ∷ belady_residents c t i)
+  all-gains i n h l before =
+      let now : strategy_hits t residents i + count_keys (is_due t i n) (residents i) ≤ belady_hits c t i + count_keys (is_due t i n) (belady_residents c t i) = before.leads n in
+      omega (arith, now, belady-hits-next c t i, due-gain t i n (residents i) h l, due-gain t i n (belady_residents c t i) h l)
+
+  more-hits : (i : ℕ) → i < length t → Leads i → strategy_hits t residents (suc i) ≤ belady_hits c t (suc i)
+  more-hits i h before =
+      let all = all-gains i (suc i) h (omega arith) before in
+      let none = count-none (is_due t (suc i) (suc i)) (get_or t i 0 ∷ residents i) (λ x. due-never t (suc i) (suc i) x (omega arith) (omega arith)) in
+      let none_here = count-none (is_due t (suc i) (suc i)) (get_or t i 0 ∷ belady_residents c t i) (λ x. due-never t (suc i) (suc i) x (omega arith) (omega arith)) in
+      omega (arith, all, none, none_here)
+
+  leads-next : (i : ℕ) → i < length t → Leads i → Leads (suc i)
+  leads-next i h before = record {
+    leads = λ n. elim (cases_lt i n) [
+      | inl l ↦
+          let own : count_keys (is_due t (suc i) n) (residents (suc i)) ≤ count_keys (is_due t (suc i) n) (get_or t i 0 ∷ residents i) = count-subset (is_due t (suc i) n) (residents (suc i)) (get_or t i 0 ∷ residents i) (λ x g. soon x (get_or t i 0) (residents i) (strategy.on_demand i x h g)) in
+          let few : count_keys (is_due t (suc i) n) (residents (suc i)) ≤ c = (let short = count-short (is_due t (suc i) n) (residents (suc i)) in let fits : length (residents (suc i)) ≤ c = strategy.fits (suc i) (omega arith) in omega (arith, short, fits)) in
+          elim (belady-keeps c t i n (get_or t i 0) (belady_residents c t i) (residents-ascending c t i)) [
+            | inl g ↦ omega (arith, own, g, all-gains i n h l before)
+            | inr g ↦ omega (arith, few, g, more-hits i h before)
+          ]
+      | inr g ↦
+          let none : count_keys (is_due t (suc i) n) (residents (suc i)) ≡ 0 = count-none (is_due t (suc i) n) (residents (suc i)) (λ x. due-never t (suc i) n x (omega arith) (omega arith)) in
+          omega (arith, none, more-hits i h before)
+    ];
+  }
+
+  leads-always : (i : ℕ) → i ≤ length t → Leads i
+  leads-always zero h = record { leads = λ n. rw strategy.empty (omega arith) }
+  leads-always (suc i) h = leads-next i (omega arith) (leads-always i (omega arith))
+
+pub optimal : BeladyIsOptimal
+optimal c t residents i strategy h =
+    let always : Leads c t residents strategy i = leads-always c t residents strategy i h in
+    let all : strategy_hits t residents i + count_keys (is_due t i 0) (residents i) ≤ belady_hits c t i + count_keys (is_due t i 0) (belady_residents c t i) = always.leads 0 in
+    let none : count_keys (is_due t i 0) (belady_residents c t i) ≡ 0 = count-none (is_due t i 0) (belady_residents c t i) (λ x. due-never t i 0 x h (omega arith)) in
+    omega (arith, all, none)
+
+-- ---- Belady's policy as a strategy
+
+hits-are : (c : ℕ) (t : List ℕ) (i : ℕ) → strategy_hits t (belady_residents c t) i ≡ belady_hits c t i
+hits-are c t zero = refl
+hits-are c t (suc i) = let rest : strategy_hits t (belady_residents c t) i ≡ belady_hits c t i = hits-are c t i in omega (arith, rest, belady-hits-next c t i)
+
+pub is_strategy : BeladyIsStrategy
+is_strategy c t = (
+  record {
+    empty = refl;
+    on_demand = λ i k h g. served-has c t i (get_or t i 0) k (belady_residents c t i) g;
+    fits = λ i h. residents-fit c t i;
+  },
+  hits-are c t,
+)
+
+pub hits_grow : BeladyHitsGrow
+hits_grow c d t i le h =
+    let wider : IsStrategy d t (belady_residents c t) = record {
+      empty = refl;
+      on_demand = (is_strategy c t).0.on_demand;
+      fits = λ j g. (let fit = residents-fit c t j in omega (arith, fit, le));
+    } in
+    let more : strategy_hits t (belady_residents c t) i ≤ belady_hits d t i = optimal d t (belady_residents c t) i wider h in
+    omega (arith, more, hits-are c t i)

@@ -1,0 +1,167 @@
+-- How many keys are resident in a cache of any policy.
+use Rattle.std.proofs.Common.{◌≡◌, ℕ, zero, suc, ◌+◌, ◌≤◌, eqb, nat_lt, ◌==◌, Option, Some, None, List, length, get_or, ap, ◌∙◌, sym, refl, subst, arith, inl, inr}
+use Rattle.std.specs.List.{count_by}
+use Rattle.std.proofs.lemmas.Bool.{cases_Bool}
+use Rattle.step_record.specs.declared.limits.TheConstants.{MAX_STEPS}
+use Rattle.step_record.specs.declared.outcome.Outcome.{Outcome}
+use Rattle.clairvoyant.specs.Clairvoyant.{ClairvoyantState, is_next, clairvoyant_after, clairvoyant_act}
+use Rattle.policies.specs.QueueStep.{recorded_in, queue_act}
+use Rattle.policies.specs.AnyPolicy.{any_residents, outcomes_on, stats_on}
+use Rattle.policies.specs.Design.{knows_trace}
+use Rattle.policies.specs.Theorems.{AnyCoversTrace}
+use Rattle.policies.proofs.Counting.{after-counts, hits-misses}
+use Rattle.step_record.specs.declared.job.Job.{Job}
+use Rattle.policies.specs.AnyCounts.{IsQueueStep, IsOptimalStep, queue_step, optimal_step}
+use Rattle.step_record.specs.Keys.{has_key, keys_without}
+use Rattle.step_record.specs.Stats.{is_hit, is_miss, is_eviction, one_if, stats_of}
+use Rattle.step_record.specs.declared.stats.Stats.{Stats}
+use Rattle.step_record.proofs.Counting.{stats-snoc}
+use Rattle.clairvoyant.specs.Belady.{farthest, belady_answer, belady_residents_after, belady_residents, belady_outcome, belady_outcomes}
+use Rattle.clairvoyant.specs.Keys.{residents_with, IsAscendingKeys}
+use Rattle.clairvoyant.proofs.Belady.{residents-ascending, full-length, served-has, hit-resident, residents-fit as belady-residents-fit}
+use Rattle.clairvoyant.proofs.Listing.{one-few, times-sum, times-has}
+use Rattle.clairvoyant.proofs.Keys.{length-put}
+use Rattle.policies.specs.QueueCache.{QueueState, residents_in, access_response, queue_state_after, state_after}
+use Rattle.policies.specs.declared.any_policy.AnyPolicy.TheVariants.{Queues, Optimal}
+use Rattle.policies.specs.Residents.{StatsAddUp, MissesFit, ResidentsFit, ResidentsDistinct, ResidentsCounted, HitsAreResidents, FetchesOnDemand}
+use Rattle.policies.proofs.Balance.{IsBalancedCache, step-balanced, after-balanced, residents-length, residents-fit, resident-queued, came-from, resident-once}
+
+pub residents_fit : ResidentsFit
+residents_fit j trace keys (Queues d) s =
+    subst (λ (x : QueueState). length (residents_in x.queues) ≤ j.config.capacity) (sym s.1.gives) (residents-fit j keys)
+residents_fit j trace keys (Optimal d) s =
+    subst (λ (x : ClairvoyantState). length x.residents ≤ j.config.capacity) (sym s.gives)
+    (belady-residents-fit j.config.capacity trace (length keys))
+
+one-in : (c : ℕ) (t : List ℕ) (i k : ℕ) (r : List ℕ) → IsAscendingKeys r → length (belady_residents_after c t i k r) + one_if (is_eviction (belady_answer c t i k r)) ≡ length r + one_if (is_miss (belady_answer c t i k r))
+one-in c t i k r s =
+    elim (cases_Bool (has_key k r)) as (λ _. length (belady_residents_after c t i k r) + one_if (is_eviction (belady_answer c t i k r)) ≡ length r + one_if (is_miss (belady_answer c t i k r))) [
+      | inl e ↦ rw e refl
+      | inr e ↦ elim (cases_Bool (nat_lt (length r) c)) as (λ _. length (belady_residents_after c t i k r) + one_if (is_eviction (belady_answer c t i k r)) ≡ length r + one_if (is_miss (belady_answer c t i k r))) [
+        | inl f ↦ rw (e, f) (omega (arith, length-put k r))
+        | inr f ↦
+            let same : length (keys_without (farthest t i k r) (residents_with k r)) ≡ length r = full-length t i k r s e in
+            elim (cases_Bool (eqb k (farthest t i k r))) as (λ _. length (belady_residents_after c t i k r) + one_if (is_eviction (belady_answer c t i k r)) ≡ length r + one_if (is_miss (belady_answer c t i k r))) [
+              | inl g ↦ rw (e, f, g) (omega (arith, same))
+              | inr g ↦ rw (e, f, g) (omega (arith, same))
+            ]
+      ]
+    ]
+
+belady-counted : (c : ℕ) (t : List ℕ) (i : ℕ) → length (belady_residents c t i) + (stats_of (belady_outcomes c t i)).evictions ≡ (stats_of (belady_outcomes c t i)).misses
+belady-counted c t zero = refl
+belady-counted c t (suc i) =
+    let before : length (belady_residents c t i) + (stats_of (belady_outcomes c t i)).evictions ≡ (stats_of (belady_outcomes c t i)).misses = belady-counted c t i in
+    let out : (stats_of (belady_outcomes c t (suc i))).evictions ≡ (stats_of (belady_outcomes c t i)).evictions + one_if (is_eviction (belady_outcome c t i)) = ap (λ (s : Stats). s.evictions) (stats-snoc (belady_outcomes c t i) (belady_outcome c t i)) in
+    let in_ : (stats_of (belady_outcomes c t (suc i))).misses ≡ (stats_of (belady_outcomes c t i)).misses + one_if (is_miss (belady_outcome c t i)) = ap (λ (s : Stats). s.misses) (stats-snoc (belady_outcomes c t i) (belady_outcome c t i)) in
+    let one : length (belady_residents c t (suc i)) + one_if (is_eviction (belady_outcome c t i)) ≡ length (belady_residents c t i) + one_if (is_miss (belady_outcome c t i)) = one-in c t i (get_or t i 0) (belady_residents c t i) (residents-ascending c t i) in
+    omega (arith, before, out, in_, one)
+
+queues-counted : (d : QueueState) → IsBalancedCache d → length (residents_in d.queues) + d.stats.evictions ≡ d.stats.misses
+queues-counted d s = let counted = s.counted in omega (arith, counted, residents-length d.queues)
+
+pub residents_counted : ResidentsCounted
+residents_counted j trace keys (Queues d) s = queues-counted d (subst IsBalancedCache (sym s.1.gives) (after-balanced j keys))
+residents_counted j trace keys (Optimal d) s =
+    subst (λ (x : ClairvoyantState). length x.residents + x.stats.evictions ≡ x.stats.misses) (sym s.gives) (belady-counted j.config.capacity trace (length keys))
+
+-- ---- the statistics of a job over a trace
+
+pub stats_add_up : AnyCoversTrace → StatsAddUp
+unfolding stats_on
+stats_add_up covers j trace = (covers j trace, hits-misses (outcomes_on j trace) ∙ covers j trace)
+
+queues-fit : (j : Job) (trace : List ℕ) → (state_after j trace).stats.misses ≤ (state_after j trace).stats.evictions + j.config.capacity
+queues-fit j trace =
+    let counted = queues-counted (state_after j trace) (after-balanced j trace) in
+    let few = residents-fit j trace in
+    omega (arith, counted, few)
+
+optimal-fit : (c : ℕ) (t : List ℕ) (i : ℕ) → (stats_of (belady_outcomes c t i)).misses ≤ (stats_of (belady_outcomes c t i)).evictions + c
+optimal-fit c t i = let counted = belady-counted c t i in let few = belady-residents-fit c t i in omega (arith, counted, few)
+
+pub misses_fit : MissesFit
+unfolding stats_on
+misses_fit j trace =
+    elim (cases_Bool (knows_trace j.policy)) as (λ _. (stats_on j trace).misses ≤ (stats_on j trace).evictions + j.config.capacity) [
+      | inl e ↦ rw e (optimal-fit j.config.capacity trace (length trace))
+      | inr e ↦ rw e (subst (λ (s : Stats). s.misses ≤ s.evictions + j.config.capacity) (after-counts j trace) (queues-fit j trace))
+    ]
+
+-- ---- no key twice
+
+ascending-once : (k : ℕ) (r : List ℕ) → IsAscendingKeys r → count_by (eqb k) r ≡ one_if (has_key k r)
+ascending-once k r s = sym (times-sum k r) ∙ times-has k r s
+
+pub residents_distinct : ResidentsDistinct
+residents_distinct j trace keys (Queues d) k s = resident-once k d (subst IsBalancedCache (sym s.1.gives) (after-balanced j keys))
+residents_distinct j trace keys (Optimal d) k s =
+    let r : List ℕ = belady_residents j.config.capacity trace (length keys) in
+    let once : count_by (eqb k) r ≤ 1 = omega (arith, ascending-once k r (residents-ascending j.config.capacity trace (length keys)), one-few (has_key k r)) in
+    subst (λ (x : ClairvoyantState). count_by (eqb k) x.residents ≤ 1) (sym s.gives) once
+
+-- ---- an accepted step
+
+queue-outcome : Outcome → Option (Outcome × QueueState) → Outcome
+queue-outcome o None = o
+queue-outcome o (Some p) = p.0
+
+queue-state : QueueState → Option (Outcome × QueueState) → QueueState
+queue-state d None = d
+queue-state d (Some p) = p.1
+
+record IsQueueAccess (d : QueueState) (k : ℕ) (o : Outcome) (e : QueueState) : Type 0 where
+  outcome : o ≡ (access_response (recorded_in k d.frequency) k d).outcome
+  next : e ≡ queue_state_after (recorded_in k d.frequency) k d
+
+queue-access : (d : QueueState) (k : ℕ) (o : Outcome) (e : QueueState) → queue_act d k ≡ Some (o, e) → IsQueueAccess d k o e
+unfolding queue-outcome queue-state
+queue-access d k o e h =
+    elim (cases_Bool (d.stats.accesses == MAX_STEPS)) [
+      | inl f ↦ absurd (let no : None ≡ Some (o, e) = rw f at h in cc (no))
+      | inr f ↦
+          let b : Some ((access_response (recorded_in k d.frequency) k d).outcome, queue_state_after (recorded_in k d.frequency) k d) ≡ Some (o, e) = rw f at h in
+          record { outcome = sym (ap (queue-outcome o) b); next = sym (ap (queue-state d) b) }
+    ]
+
+optimal-outcome : Outcome → Option (Outcome × ClairvoyantState) → Outcome
+optimal-outcome o None = o
+optimal-outcome o (Some p) = p.0
+
+optimal-state : ClairvoyantState → Option (Outcome × ClairvoyantState) → ClairvoyantState
+optimal-state d None = d
+optimal-state d (Some p) = p.1
+
+record IsOptimalAccess (d : ClairvoyantState) (k : ℕ) (o : Outcome) (e : ClairvoyantState) : Type 0 where
+  outcome : o ≡ belady_answer d.capacity d.trace d.stats.accesses k d.residents
+  next : e ≡ clairvoyant_after d k
+
+optimal-access : (d : ClairvoyantState) (k : ℕ) (o : Outcome) (e : ClairvoyantState) → clairvoyant_act d k ≡ Some (o, e) → IsOptimalAccess d k o e
+unfolding optimal-outcome optimal-state
+optimal-access d k o e h =
+    elim (cases_Bool (is_next d k)) [
+      | inl f ↦
+          let b : Some (belady_answer d.capacity d.trace d.stats.accesses k d.residents, clairvoyant_after d k) ≡ Some (o, e) = rw f at h in
+          record { outcome = sym (ap (optimal-outcome o) b); next = sym (ap (optimal-state d) b) }
+      | inr f ↦ absurd (let no : None ≡ Some (o, e) = rw f at h in cc (no))
+    ]
+
+pub hits_are_residents : HitsAreResidents
+hits_are_residents j trace keys (Queues d) k o e s h =
+    let sound : IsBalancedCache d = subst IsBalancedCache (sym s.1.gives) (after-balanced j keys) in
+    let q : IsQueueStep (queue_act d k) o e = queue_step (queue_act d k) o e h in
+    ap is_hit (queue-access d k o q.next q.steps).outcome ∙ ((step-balanced (recorded_in k d.frequency) k d sound).hit ∙ sym (resident-queued k d.queues sound.nodeless))
+hits_are_residents j trace keys (Optimal d) k o e s h =
+    let q : IsOptimalStep (clairvoyant_act d k) o e = optimal_step (clairvoyant_act d k) o e h in
+    ap is_hit (optimal-access d k o q.next q.steps).outcome ∙ hit-resident d.capacity d.trace d.stats.accesses k d.residents
+
+pub fetches_on_demand : FetchesOnDemand
+fetches_on_demand j trace keys (Queues d) k o e x s h there =
+    let sound : IsBalancedCache d = subst IsBalancedCache (sym s.1.gives) (after-balanced j keys) in
+    let q : IsQueueStep (queue_act d k) o e = queue_step (queue_act d k) o e h in
+    let next : e ≡ Queues (queue_state_after (recorded_in k d.frequency) k d) = q.is ∙ ap Queues (queue-access d k o q.next q.steps).next in
+    came-from (recorded_in k d.frequency) k x d sound (ap (λ y. has_key x (any_residents y)) (sym next) ∙ there)
+fetches_on_demand j trace keys (Optimal d) k o e x s h there =
+    let q : IsOptimalStep (clairvoyant_act d k) o e = optimal_step (clairvoyant_act d k) o e h in
+    let next : e ≡ Optimal (clairvoyant_after d k) = q.is ∙ ap Optimal (optimal-access d k o q.next q.steps).next in
+    served-has d.capacity d.trace d.stats.accesses k x d.residents (ap (λ y. has_key x (any_residents y)) (sym next) ∙ there)

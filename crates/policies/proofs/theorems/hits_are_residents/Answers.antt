@@ -1,0 +1,5 @@
+use Rattle.policies.proofs.Residents.{hits_are_residents}
+use Rattle.policies.proofs.theorems.hits_are_residents.Goals as goal
+
+pub returns : goal.returns
+returns c = hits_are_residents

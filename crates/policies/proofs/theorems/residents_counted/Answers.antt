@@ -1,0 +1,5 @@
+use Rattle.policies.proofs.Residents.{residents_counted}
+use Rattle.policies.proofs.theorems.residents_counted.Goals as goal
+
+pub returns : goal.returns
+returns c = residents_counted

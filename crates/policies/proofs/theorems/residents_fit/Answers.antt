@@ -1,0 +1,5 @@
+use Rattle.policies.proofs.Residents.{residents_fit}
+use Rattle.policies.proofs.theorems.residents_fit.Goals as goal
+
+pub returns : goal.returns
+returns c = residents_fit

@@ -1,0 +1,78 @@
+//! The accesses of a trace by a cache, and its report at their end.
+ghost use Rattle.std.specs.Prelude.{◌≡◌, ◌++◌, ℕ, List, take, drop, OnOk};
+ghost use Rattle.step_record.specs.declared.job.Job.{Job};
+ghost use Rattle.policies.specs.AnyPolicy.{HasAccessed};
+ghost use Rattle.policies.specs.Accesses.{IsNext};
+ghost use Rattle.policies.specs.Reports.{report_on};
+
+use crate::any_policy::AnyPolicy;
+use crate::report::Report;
+use crate::theorems;
+use std::alloc::{AllocError, Global};
+use step_record::{Gate, Job, Key, MAX_BATCH, StepFault};
+
+/// Makes the accesses in turn, which are the next ones of a trace. The one error is out of memory; the cache has made
+/// some of them then, and is of no more use.
+pub fn access_all(cache: &mut AnyPolicy, keys: &[Key]) -> Result<(), AllocError>
+    requires { IsNext keys.now cache.old }
+    ensures { (j : Job) (trace done : List ℕ) → HasAccessed j trace done cache.old
+        → OnOk result (HasAccessed j trace (done ++ keys.now) cache.new) }
+{
+    theorems::any_stands();
+    theorems::any_accepts();
+    for i in 0..keys.len() {
+        cache.prefetch_at(keys, i);
+        match cache.access::<Counted>(keys[i]) {
+            Ok(_) => {}
+            Err(StepFault::OutOfMemory) => return Err(AllocError),
+            Err(StepFault::NotNow) => unreachable!(),
+        }
+    }
+    Ok(())
+}
+
+/// The same in batches of `MAX_BATCH` accesses, with the gate called before and after each, as worker 0, with the
+/// batch's number.
+pub fn access_in_batches<G: Gate>(
+    cache: &mut AnyPolicy,
+    keys: &[Key],
+    gate: &G,
+) -> Result<(), AllocError>
+    requires { IsNext keys.now cache.old }
+    ensures { (j : Job) (trace done : List ℕ) → HasAccessed j trace done cache.old
+        → OnOk result (HasAccessed j trace (done ++ keys.now) cache.new) }
+{
+    let size = MAX_BATCH as usize;
+    let mut rest = keys;
+    for number in 0..keys.len().div_ceil(size) {
+        let (batch, later) = cut(rest, size);
+        gate.before(0, number as u64);
+        access_all(cache, batch)?;
+        gate.after(0, number as u64);
+        rest = later;
+    }
+    Ok(())
+}
+
+/// The report of a cache that ran its job over the whole trace.
+pub fn report_by(cache: &AnyPolicy, job: &Job) -> Report
+    ensures { (trace : List ℕ) → HasAccessed job.now trace trace cache.now → result ≡ report_on job.now trace }
+{
+    theorems::any_reports();
+    Report::of(job, cache.stats())
+}
+
+// The first keys of the rest, `size` where there are so many, and what is left.
+fn cut(rest: &[Key], size: usize) -> (&[Key], &[Key])
+    ensures front { result.0.now ≡ take size rest.now }
+    ensures back { result.1.now ≡ drop size rest.now }
+{
+    if rest.len() <= size {
+        (rest, &[])
+    } else {
+        rest.split_at(size)
+    }
+}
+
+// The caller whose accesses are only counted: it has code of its own for them, which is part of its loop.
+struct Counted;

@@ -1,6 +1,0 @@
-use Rattle.std.proofs.Common.{◌≡◌, drop}
-use Rattle.policy_actors.specs.Sweep.{first_config_fault}
-use Rattle.policy_actors.proofs.sweeps.sweep_each.Given as goal
-
-abbrev pub invariant-loop-job : goal.invariant-loop-job
-invariant-loop-job g l = first_config_fault (drop l.job-index l.jobs) l.capacities ≡ first_config_fault l.jobs l.capacities

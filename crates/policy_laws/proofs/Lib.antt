@@ -1,0 +1,6 @@
+pub mod Beaten
+pub mod Ages
+pub mod Competition
+pub mod Laps
+pub mod Keeping
+pub mod Scans

@@ -1,0 +1,6 @@
+pub mod Replayed
+pub mod Dealing
+pub mod Faulting
+pub mod Found
+pub mod Stopping
+pub mod Accepting

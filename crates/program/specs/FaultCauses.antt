@@ -1,0 +1,122 @@
+-- Which fault is found: that of the trace or the journal, of the arguments, or of the machine.
+use Rattle.std.specs.Prelude.{◌≡◌, ◌≢◌, ◌<◌, ◌⊎◌, ℕ, false, List, Option, None, Some, IfSome, length}
+use Rattle.clap.specs.Words.{Text}
+use Rattle.step_record.specs.History.{Entries}
+use Rattle.step_record.specs.declared.config.Config.{Config}
+use Rattle.step_record.specs.declared.limits.TheConstants.{MAX_TRACE_BYTES}
+use Rattle.shell_model.specs.Shell.{Shell, act}
+use Rattle.maintenance.specs.EmptyShell.{IsOpened}
+use Rattle.step_record.specs.declared.job.Policy.{Policy}
+use Rattle.policies.specs.declared.job_checks.TheConstants.{MAX_ACTORS}
+use Rattle.trace_read.specs.TraceText.{fault_in}
+use Rattle.trace_read.specs.declared.format.Format.{Format}
+use Rattle.trace_read.specs.declared.fault.TraceFault.{TraceFault}
+use Rattle.trace_read.specs.declared.fault.TraceFault.TheVariants as trace
+use Rattle.journal_text.specs.Faults.{IsFault}
+use Rattle.journal_text.specs.declared.fault.JournalFault.TheVariants as journal
+use Rattle.debug_commands.specs.declared.fault.DebugFault.TheVariants as large
+use Rattle.command_line.specs.ParseResult.{IsRefused}
+use Rattle.command_line.specs.declared.arguments.Arguments.{Arguments}
+use Rattle.command_line.specs.declared.arguments.Arguments.TheVariants as asked
+use Rattle.program.specs.DebugOutput.{Debugging, KnownFiles, Replaying}
+use Rattle.program.specs.DriveOutput.{LeavesDrive}
+use Rattle.program.specs.FaultLine.{IsReported}
+use Rattle.program.specs.Outcome.{AsksForSome, AsksHelp}
+use Rattle.program.specs.declared.fault.Fault.{Fault}
+use Rattle.program.specs.declared.fault.Fault.TheVariants.{Actors, Debug, Journal, JournalFull, NoFile, OutOfMemory}
+use Rattle.program.specs.declared.fault.Fault.TheVariants.{Trace, Write}
+
+-- an allocation, a read or a write failed: no rule says when
+abbrev pub IsOfMachine : Fault → Type 0
+IsOfMachine OutOfMemory = Unit {0}
+IsOfMachine Write = Unit {0}
+IsOfMachine (Trace trace.OutOfMemory) = Unit {0}
+IsOfMachine (Trace trace.Read) = Unit {0}
+IsOfMachine (Journal journal.Read) = Unit {0}
+IsOfMachine (Debug large.Read) = Unit {0}
+IsOfMachine (Debug large.Write) = Unit {0}
+IsOfMachine fault = ⊥
+
+-- the bytes are too many for a trace, or this is the fault of its first faulty line
+abbrev pub IsTraceFault : Format → List ℕ → TraceFault → Type 0
+IsTraceFault format bytes trace.TooLarge = MAX_TRACE_BYTES < length bytes
+IsTraceFault format bytes fault = fault_in format bytes ≡ Some fault
+
+-- the fault is that of the bytes as a trace, or they have none and P holds of it
+abbrev pub IsFoundIn : Format → (Fault → Type 0) → Fault → List ℕ → Type 0
+IsFoundIn format P (Trace fault) bytes = IsTraceFault format bytes fault
+IsFoundIn format P fault bytes = (fault_in format bytes ≡ None) × P fault
+
+-- more policies are named than are run at once
+abbrev pub IsTooMany : List Policy → Fault → Type 0
+IsTooMany policies fault = (fault ≡ Actors) × (MAX_ACTORS < length policies)
+
+-- what is wrong with the bytes as a journal from the opening state on, or with the commands
+abbrev pub IsOfReplayFrom : Shell → ℕ → Fault → List ℕ → Type 0
+IsOfReplayFrom opening limit (Journal fault) bytes = (kept : Entries) × IsFault act opening limit fault bytes kept
+IsOfReplayFrom opening limit (Debug large.TooLarge) bytes = Unit {0}
+IsOfReplayFrom opening limit fault bytes = ⊥
+
+-- so from the empty cache of the configuration on
+abbrev pub IsOfReplay : Config → Fault → List ℕ → Type 0
+IsOfReplay config fault bytes =
+    (opening : Shell) × IsOpened config opening × IsOfReplayFrom opening config.journal_limit fault bytes
+
+-- there is no such file, as far as is known, or the fault is found in its bytes
+abbrev pub IsFoundInFile : Option (List ℕ) → (Fault → List ℕ → Type 0) → Fault → Type 0
+IsFoundInFile file P NoFile = file ≡ None
+IsFoundInFile file P fault = IfSome file (P fault)
+
+-- the call of these arguments finds the fault in the bytes of the input or of its file
+abbrev pub IsFound : Arguments → KnownFiles → Option (List ℕ) → Fault → Type 0
+IsFound (asked.Run run) files input fault = IfSome input (IsFoundIn run.format (IsTooMany run.policies) fault)
+IsFound (asked.Sweep sweep) files input fault = IfSome input (IsFoundIn sweep.format (IsTooMany sweep.policies) fault)
+IsFound (asked.Part part) files input fault = IfSome input (IsFoundIn part.format (λ f. ⊥) fault)
+IsFound (asked.Drive drive) files input fault = IfSome input (IsFoundIn drive.format (λ f. f ≡ JournalFull) fault)
+IsFound (asked.Debug debug) files input fault = IsFoundInFile (files debug.trace)
+    (IsFoundIn debug.policies.format (λ f. f ≡ Debug large.TooLarge)) fault
+IsFound (asked.Replay replay) files input fault =
+    IsFoundInFile (files replay.journal) (IsOfReplay replay.config) fault
+
+-- faults that are found before anything is written
+abbrev pub IsBeforeOutput : Fault → Type 0
+IsBeforeOutput OutOfMemory = ⊥
+IsBeforeOutput (Debug fault) = ⊥
+IsBeforeOutput Write = ⊥
+IsBeforeOutput fault = Unit {0}
+
+-- What is left at this fault of the arguments' subcommand; `Kept` says that the output is as it was. `run`, `sweep` and
+-- `part` write once, at their end; `debug` and `replay` have answered the commands before a line that is too large.
+abbrev pub Leaves : Arguments → KnownFiles → Fault → Option (List ℕ) → Option (List ℕ) → Option (List ℕ) → Type 0 → Type 0
+Leaves (asked.Run run) files fault input before after Kept = fault ≢ Write → Kept
+Leaves (asked.Sweep sweep) files fault input before after Kept = fault ≢ Write → Kept
+Leaves (asked.Part part) files fault input before after Kept = fault ≢ Write → Kept
+Leaves (asked.Drive drive) files fault input before after Kept =
+    LeavesDrive drive.config drive.workers drive.format fault input before after Kept
+Leaves (asked.Debug debug) files (Debug large.TooLarge) input before after Kept = Debugging false debug.policies.format
+    debug.policies.first debug.policies.second (files debug.trace) input before after
+Leaves (asked.Replay replay) files (Debug large.TooLarge) input before after Kept =
+    Replaying false replay.config (files replay.journal) input before after
+Leaves arguments files fault input before after Kept = IsBeforeOutput fault → Kept
+
+-- What these arguments ask for ended in the fault: one of the machine, or one that is found in the input, the file or
+-- the arguments.
+pub record IsEnded (arguments : Arguments) (files : KnownFiles) (fault : Fault) (input before after : Option (List ℕ))
+    (Kept : Type 0) : Type 0 where
+  pub due : IsOfMachine fault ⊎ IsFound arguments files input fault
+  pub leaves : Leaves arguments files fault input before after Kept
+
+-- The call ended in the fault before it asked for anything: memory did not suffice, or help was not written whole.
+abbrev pub IsEndedEarly : List Text → Fault → Type 0 → Type 0
+IsEndedEarly words OutOfMemory Kept = Kept
+IsEndedEarly words Write Kept = IsRefused words AsksHelp
+IsEndedEarly words fault Kept = ⊥
+
+-- A fault ended the call, and its line was written to the fault output, from `silent` to `line`, or that of `OutOfMemory`
+-- where there was no memory for it; a beginning of it where a write failed.
+pub record EndsInFault (words : List Text) (files : KnownFiles) (input before after silent line : Option (List ℕ))
+    (Kept : Type 0) : Type 0 where
+  pub fault : Fault
+  pub reported : IsReported fault silent line
+  pub ended : AsksForSome words (λ arguments. IsEnded arguments files fault input before after Kept)
+      ⊎ IsEndedEarly words fault Kept

@@ -1,0 +1,10 @@
+pub mod DebugOutput
+pub mod DriveOutput
+pub mod Fault
+pub mod FaultCauses
+pub mod FaultLine
+pub mod Jobs
+pub mod Outcome
+pub mod PartOutput
+pub mod ReportOutput
+pub mod WorkerReads

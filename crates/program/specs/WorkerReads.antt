@@ -1,0 +1,37 @@
+-- Which accesses of a trace each worker reads.
+use Rattle.std.specs.Prelude.{◌≡◌, ℕ, ◌+◌, ◌<◌, ◌≤◌, ◌%◌, ◌==◌, List, [], ◌∷◌, length, get_or, if◌then◌else◌}
+use Rattle.std.specs.Prelude.{Option, Some, None}
+use Rattle.step_record.specs.declared.step.Call.{Call}
+use Rattle.step_record.specs.declared.step.Call.TheVariants.{Read}
+use Rattle.step_record.specs.History.{Entries}
+use Rattle.walks.specs.Walks.{AreWalks}
+use Rattle.walks.specs.WorkerEntries.{entries_of}
+use Rattle.workers.specs.Runs.{AreWalksUpTo, first_cause}
+use Rattle.workers.specs.declared.run.Cause.{Cause}
+
+-- The reads of worker w among these accesses, of which the first is number i: each access is read by the worker whose
+-- number is its own modulo how many workers there are.
+abbrev pub reads_of : ℕ → ℕ → ℕ → List ℕ → List Call
+reads_of workers w i [] = []
+reads_of workers w i (key ∷ keys) =
+    if i % workers == w then Read key ∷ reads_of workers w (i + 1) keys else reads_of workers w (i + 1) keys
+
+-- a piece for each worker: its reads, in the order of the trace
+pub record IsDealt (workers : ℕ) (keys : List ℕ) (pieces : List (List Call)) : Type 0 where
+  pub many : length pieces ≡ workers
+  pub own : (w : ℕ) → w < workers → get_or pieces w [] ≡ reads_of workers w 0 keys
+
+-- the steps of each worker are one walk for each of its reads, in order, and nobody else made any
+pub record AreOfReads (workers stripes : ℕ) (keys : List ℕ) (steps : Entries) : Type 0 where
+  pub own : (w : ℕ) → w < workers → AreWalks w stripes (reads_of workers w 0 keys) (entries_of w steps)
+  pub no_other : (w : ℕ) → workers ≤ w → entries_of w steps ≡ []
+
+-- The same of workers who were refused steps, of whom the one with the lowest number was refused for this cause: each that
+-- was refused has made the first steps of its walks and not all, and each other all of them.
+pub record AreOfReadsUpTo (cause : Cause) (workers stripes : ℕ) (keys : List ℕ) (steps : Entries) : Type 0 where
+  pub refusals : List (Option Cause)
+  pub of_each : length refusals ≡ workers
+  pub first : Some cause ≡ first_cause refusals
+  pub own : (w : ℕ) → w < workers
+      → AreWalksUpTo (get_or refusals w None) stripes w (reads_of workers w 0 keys) (entries_of w steps)
+  pub no_other : (w : ℕ) → workers ≤ w → entries_of w steps ≡ []

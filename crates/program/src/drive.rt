@@ -1,0 +1,142 @@
+//! The subcommand `drive`: a trace to the journal of workers on threads.
+ghost use Rattle.std.specs.Prelude.{◌≡◌, ◌≤◌, ◌⊎◌, ℕ, Ok, [], IfErr, IfOk, IfSome, IsOkAnd, None, OnOk, get_or, length};
+ghost use Rattle.std.specs.Prelude.{map};
+ghost use Rattle.std.specs.Io.KnownBytes.{Appends};
+ghost use Rattle.step_record.specs.Config.{config_fault};
+ghost use Rattle.step_record.specs.declared.worker.TheConstants.{MAX_WORKERS};
+ghost use Rattle.trace_read.specs.TraceText.{fault_in, keys_in};
+ghost use Rattle.journal_text.specs.Journal.{journal_of};
+ghost use Rattle.journal_text.specs.declared.version.Version.TheVariants.{Two};
+ghost use Rattle.program.specs.WorkerReads.{IsDealt};
+ghost use Rattle.program.specs.DriveOutput.{IsDriven, IsEmptySession, IsOfReading, IsOfRun, LeavesDrive, LeavesRun};
+ghost use Rattle.program.specs.FaultCauses.{IsFoundIn, IsOfMachine};
+
+use crate::fault::Fault;
+use command_line::DriveArguments;
+use journal::Session;
+use journal_text::write_journal;
+use maintenance::Shell;
+use std::alloc::{AllocError, Global};
+use std::io::{Read, Write};
+use std::sync::Wait;
+use std::thread::Threads;
+use step_record::{Call, Config, Key, OpenGate};
+use trace_read::{Format, read_trace};
+use workers::{DriveFault, Driven};
+
+/// A session of no step over an empty cache. The one error is out of memory.
+pub fn open(alloc: Global, config: &Config) -> Result<Session<Shell>, AllocError>
+    requires { config_fault config.now ≡ Ok tt }
+    ensures first { IfOk result (IsEmptySession config.now) }
+    ensures tail { IfOk result (λ session. session.tail ≡ []) }
+    ensures limit { IfOk result (λ session. session.limit ≡ config.now.journal_limit) }
+{
+    let shell = Shell::new(alloc, config)?;
+    Ok(Session::open(alloc, shell, config.journal_limit as usize))
+}
+
+/// Reads the trace, lets the workers read its keys in a concurrent cache, each on a thread of its
+/// own, and writes the journal of their steps. Where a worker was refused a step, the journal is
+/// written too, and the fault is the cause. Any other fault but `Write` has written nothing.
+pub fn drive<T: Threads + Wait + Sync, R: Read, W: Write>(
+    rt: &T,
+    alloc: Global,
+    arguments: &DriveArguments,
+    input: &mut R,
+    out: &mut W,
+) -> Result<(), Fault>
+    requires checked { config_fault arguments.now.config ≡ Ok tt }
+    requires some { 1 ≤ arguments.now.workers }
+    requires few { arguments.now.workers ≤ MAX_WORKERS }
+    ensures ok { OnOk result (IsDriven arguments.now.config arguments.now.workers arguments.now.format
+        (R.remaining input.old) (W.contents out.old) (W.contents out.new)) }
+    // A run that was stopped is written, and before its first step nothing is.
+    ensures leaves { IfErr result (λ fault. LeavesDrive arguments.now.config arguments.now.workers arguments.now.format
+        fault (R.remaining input.old) (W.contents out.old) (W.contents out.new) (out.new ≡ out.old)) }
+    // The fault is one of the machine, or that of the trace, or else that the journal was full.
+    ensures fault { IfErr result (λ fault. IsOfMachine fault ⊎ IfSome (R.remaining input.old)
+        (IsFoundIn arguments.now.format (λ f. f ≡ Fault.JournalFull) fault)) }
+{
+    let pieces = pieces_of(alloc, input, arguments.format, arguments.workers)?;
+    let session = open(alloc, &arguments.config)?;
+    let run = workers::drive(rt, alloc, session, pieces, &OpenGate);
+    let written = write_run(alloc, &run, out);
+    drop(run);
+    written
+}
+
+// A list of no call for each worker.
+fn empty_pieces(alloc: Global, workers: u8) -> Result<Vec<Vec<Call>>, AllocError>
+    ensures many { IfOk result (λ pieces. length pieces.items ≡ workers) }
+    ensures empty { IfOk result (λ pieces. (w : ℕ) → get_or (map (λ p. p.items) pieces.items) w [] ≡ []) }
+{
+    let mut pieces = Vec::new(alloc);
+    for _ in 0..workers {
+        pieces.push(Vec::new(alloc))?;
+    }
+    Ok(pieces)
+}
+
+// The calls of each worker: access i, counted from 0, is a read by the worker i modulo their number.
+fn deal(alloc: Global, keys: &[Key], workers: u8) -> Result<Vec<Vec<Call>>, AllocError>
+    requires { 1 ≤ workers }
+    ensures { IfOk result (λ pieces. IsDealt workers keys.now (map (λ p. p.items) pieces.items)) }
+{
+    let mut pieces = empty_pieces(alloc, workers)?;
+    for (i, key) in keys.iter().enumerate() {
+        pieces[i % usize::from(workers)].push(Call::Read(*key))?;
+    }
+    Ok(pieces)
+}
+
+// The calls of each worker for the accesses of the trace.
+fn pieces_of<R: Read>(
+    alloc: Global,
+    input: &mut R,
+    format: Format,
+    workers: u8,
+) -> Result<Vec<Vec<Call>>, Fault>
+    requires { 1 ≤ workers }
+    ensures many { IfOk result (λ pieces. length (map (λ p. p.items) pieces.items) ≡ workers) }
+    ensures dealt { IfOk result (λ pieces. IfSome (R.remaining input.old) (λ bytes. (fault_in format bytes ≡ None)
+        × IsDealt workers (keys_in format bytes) (map (λ p. p.items) pieces.items))) }
+    ensures fault { IfErr result (λ fault. IsOfMachine fault
+        ⊎ IfSome (R.remaining input.old) (IsFoundIn format (λ f. f ≡ Fault.JournalFull) fault)) }
+    ensures reading { IfErr result IsOfReading }
+{
+    let trace = read_trace(alloc, input, format)?;
+    let pieces = deal(alloc, trace.keys(), workers)?;
+    Ok(pieces)
+}
+
+// Writes the journal of a run, also of one that was stopped, and reports why it did not make all walks.
+fn write_run<W: Write>(
+    alloc: Global,
+    run: &Result<Driven, DriveFault>,
+    out: &mut W,
+) -> Result<(), Fault>
+    requires { IfErr run.now IsOfRun }
+    ensures leaves { IfErr result (LeavesRun run.now (W.contents out.old) (W.contents out.new)) }
+    ensures few { OnOk result (IsOkAnd run.now (λ driven. length driven.session.kept ≤ driven.session.limit)) }
+    ensures written { OnOk result (IsOkAnd run.now (λ driven.
+        Appends (W.contents out.old) (W.contents out.new) (journal_of Two driven.session.kept))) }
+{
+    match run {
+        Ok(driven) => {
+            driven.session.sound();
+            Ok(write_journal(alloc, &driven.session, out)?)
+        }
+        Err(DriveFault::Stopped { driven, cause }) => {
+            write_journal(alloc, &driven.session, out)?;
+            Err(Fault::from(*cause))
+        }
+        Err(DriveFault::OutOfMemory { session: _ }) => Err(Fault::OutOfMemory),
+        Err(DriveFault::Workers { session: _ }) => unreachable!(),
+        Err(
+            DriveFault::Held {
+                worker: _,
+                session: _,
+            },
+        ) => unreachable!(),
+    }
+}

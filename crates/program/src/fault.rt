@@ -1,0 +1,126 @@
+//! Why a subcommand printed no result.
+ghost use Rattle.std.specs.Prelude.{◌≡◌};
+ghost use Rattle.program.specs.Fault.{of_cause, of_debug, of_file, of_reading, of_write};
+ghost use Rattle.program.specs.declared.fault.Fault.TheVariants.{OutOfMemory, Trace};
+
+use crate::files::FileFault;
+use debug_commands::DebugFault;
+use journal_text::JournalFault;
+use std::alloc::AllocError;
+use std::fmt;
+use streams::WriteFault;
+use thiserror::Error;
+use trace_read::TraceFault;
+use workers::Cause;
+
+/// Why a subcommand printed no result. It is displayed as the program prints it after `fault: `.
+#[derive(Clone, Copy, Debug, PartialEq, Eq, Error)]
+pub enum Fault {
+    /// The allocation failed.
+    OutOfMemory,
+    /// Over 64 policies were named.
+    Actors,
+    /// The trace was not read, or has a faulty line.
+    Trace(TraceFault),
+    /// A worker was refused a step, since as many were made as the journal holds.
+    JournalFull,
+    /// There is no such file, or it cannot be read.
+    NoFile,
+    /// The file is no journal of a session with the arguments.
+    Journal(JournalFault),
+    /// The commands were not answered to their end.
+    Debug(DebugFault),
+    /// The output failed; it may be partial.
+    Write,
+}
+
+impl fmt::Display for Fault {
+    ghost use Rattle.std.specs.Prelude.{Some};
+    ghost use Rattle.program.specs.FaultLine.{fault_text};
+
+    ghost output = { λ fault. Some (fault_text fault) };
+
+    fn fmt<W: fmt::Write>(&self, f: &mut fmt::Formatter<W>) -> fmt::Result {
+        match self {
+            Fault::OutOfMemory => f.write_str("OutOfMemory"),
+            Fault::Actors => f.write_str("Actors"),
+            Fault::Trace(fault) => write!(f, "{fault}"),
+            Fault::JournalFull => f.write_str("JournalFull"),
+            Fault::NoFile => f.write_str("NoFile"),
+            Fault::Journal(fault) => write!(f, "{fault}"),
+            Fault::Debug(fault) => write!(f, "{fault}"),
+            Fault::Write => f.write_str("Write"),
+        }
+    }
+}
+
+impl From<AllocError> for Fault {
+    ghost from_gives = { λ _ e. e ≡ OutOfMemory };
+
+    fn from(_error: AllocError) -> Fault {
+        Fault::OutOfMemory
+    }
+}
+
+impl From<TraceFault> for Fault {
+    ghost from_gives = { λ fault e. e ≡ Trace fault };
+
+    fn from(fault: TraceFault) -> Fault {
+        Fault::Trace(fault)
+    }
+}
+
+impl From<WriteFault> for Fault {
+    ghost from_gives = { λ fault e. e ≡ of_write fault };
+
+    fn from(fault: WriteFault) -> Fault {
+        match fault {
+            WriteFault::OutOfMemory => Fault::OutOfMemory,
+            WriteFault::Write => Fault::Write,
+        }
+    }
+}
+
+impl From<Cause> for Fault {
+    ghost from_gives = { λ cause e. e ≡ of_cause cause };
+
+    fn from(cause: Cause) -> Fault {
+        match cause {
+            Cause::Memory => Fault::OutOfMemory,
+            Cause::JournalFull => Fault::JournalFull,
+        }
+    }
+}
+
+impl From<FileFault> for Fault {
+    ghost from_gives = { λ fault e. e ≡ of_file fault };
+
+    fn from(fault: FileFault) -> Fault {
+        match fault {
+            FileFault::OutOfMemory => Fault::OutOfMemory,
+            FileFault::NoFile => Fault::NoFile,
+        }
+    }
+}
+
+impl From<JournalFault> for Fault {
+    ghost from_gives = { λ fault e. e ≡ of_reading fault };
+
+    fn from(fault: JournalFault) -> Fault {
+        match fault {
+            JournalFault::OutOfMemory => Fault::OutOfMemory,
+            other => Fault::Journal(other),
+        }
+    }
+}
+
+impl From<DebugFault> for Fault {
+    ghost from_gives = { λ fault e. e ≡ of_debug fault };
+
+    fn from(fault: DebugFault) -> Fault {
+        match fault {
+            DebugFault::OutOfMemory => Fault::OutOfMemory,
+            other => Fault::Debug(other),
+        }
+    }
+}

@@ -1,0 +1,44 @@
+//! How the program ends: its statuses, and the line that reports a fault.
+ghost use Rattle.std.specs.Prelude.{◌≡◌};
+ghost use Rattle.streams.specs.Part.{AppendsPart};
+ghost use Rattle.program.specs.FaultLine.{IsReported};
+ghost use Rattle.program.specs.declared.fault_report.TheConstants.{FAULT};
+
+use crate::fault::Fault;
+use std::alloc::Global;
+use std::io::Write;
+
+/// The program did what it was asked to.
+pub const DONE: u8 = 0;
+
+/// A fault other than a usage error.
+pub const FAULT: u8 = 1;
+
+/// A usage error: the command-line arguments are invalid.
+pub const REFUSED: u8 = 2;
+
+// The line of the fault for which no memory may be left.
+const OUT_OF_MEMORY: &[u8] = b"fault: OutOfMemory\n";
+
+/// Reports a fault by its line. That of a failed allocation takes no memory, and stands for a line for which there was
+/// none.
+pub fn report_fault<X: Write>(alloc: Global, fault: Fault, fault_out: &mut X) -> u8
+    ensures status { result ≡ FAULT }
+    ensures reported { IsReported fault (X.contents fault_out.old) (X.contents fault_out.new) }
+{
+    if fault != Fault::OutOfMemory
+        && let Ok(line) = format!(in alloc; "fault: {fault}\n")
+    {
+        report_line(line.as_bytes(), fault_out);
+        return FAULT;
+    }
+    report_line(OUT_OF_MEMORY, fault_out);
+    FAULT
+}
+
+/// Writes a line to the fault output; where that fails too, the status alone reports.
+pub fn report_line<X: Write>(line: &[u8], fault_out: &mut X)
+    ensures { AppendsPart (X.contents fault_out.old) (X.contents fault_out.new) line.now }
+{
+    let _ = streams::write_all(fault_out, line);
+}

@@ -1,0 +1,22 @@
+//! The whole program over readers and writers: `command` takes the words of a call and carries the promise of what the
+//! program writes and with which status it ends. A program hands it its words, streams and files.
+#![tactic(auto)]
+
+mod call;
+mod debug;
+mod drive;
+mod fault;
+mod fault_report;
+mod file_in_memory;
+mod files;
+mod limits;
+mod part;
+mod perform;
+mod run;
+mod sweep;
+
+pub use call::command;
+pub use fault::Fault;
+pub use fault_report::{DONE, FAULT, REFUSED, report_fault, report_line};
+pub use file_in_memory::FileInMemory;
+pub use files::{FileFault, Files, MAX_FILE_BYTES};

@@ -1,0 +1,54 @@
+//! The limits that the documents name, and the statuses, by their values: where one is changed, its line here is no
+//! longer proved.
+use crate::fault_report::{DONE, FAULT, REFUSED};
+use crate::files::MAX_FILE_BYTES;
+use debug_commands::MAX_COMMAND_BYTES;
+use journal_text::MAX_JOURNAL_BYTES;
+use policies::MAX_ACTORS;
+use shell_buffers::{MAX_ITEMS, MAX_TASKS};
+use step_record::{
+    MAX_ACCESSES, MAX_BATCH, MAX_CAPACITY, MAX_JOURNAL_LIMIT, MAX_MAIN_PERCENT, MAX_STEPS,
+    MAX_STRIPES, MAX_TRACE_BYTES, MAX_WORKERS,
+};
+use streams::INTERRUPTIONS;
+use turn_book::MAX_TURNS;
+
+const _: () = prove!(MAX_CAPACITY == 1_048_576);
+
+const _: () = prove!(MAX_MAIN_PERCENT == 99);
+
+const _: () = prove!(MAX_STRIPES == 64);
+
+const _: () = prove!(MAX_ITEMS == 16);
+
+const _: () = prove!(MAX_TASKS == 128);
+
+const _: () = prove!(MAX_TURNS == 4_294_967_296);
+
+const _: () = prove!(MAX_JOURNAL_LIMIT == 16_777_216);
+
+const _: () = prove!(MAX_STEPS == 4_294_967_296);
+
+const _: () = prove!(MAX_WORKERS == 64);
+
+const _: () = prove!(MAX_ACTORS == 64);
+
+const _: () = prove!(MAX_BATCH == 65_536);
+
+const _: () = prove!(MAX_ACCESSES == 16_777_216);
+
+const _: () = prove!(MAX_TRACE_BYTES == 1_073_741_824);
+
+const _: () = prove!(MAX_FILE_BYTES == 1_073_741_824);
+
+const _: () = prove!(MAX_JOURNAL_BYTES == 1_073_741_824);
+
+const _: () = prove!(MAX_COMMAND_BYTES == 1_048_576);
+
+const _: () = prove!(INTERRUPTIONS == 1_000_000);
+
+const _: () = prove!(DONE == 0);
+
+const _: () = prove!(FAULT == 1);
+
+const _: () = prove!(REFUSED == 2);

@@ -1,0 +1,40 @@
+//! The subcommand `part`: a trace to the access at which two policies part.
+ghost use Rattle.std.specs.Prelude.{◌≡◌, ◌≢◌, ◌⊎◌, IfErr, IfSome, OnOk};
+ghost use Rattle.program.specs.FaultCauses.{IsFoundIn, IsOfMachine};
+ghost use Rattle.program.specs.PartOutput.{Parting};
+
+use crate::fault::Fault;
+use command_line::PartArguments;
+use debug_policies::push_part;
+use std::alloc::Global;
+use std::io::{Read, Write};
+use trace_read::read_trace;
+
+/// Reads the trace and writes one line: the first access at which just one of the two policies
+/// hits, counted from 1, or `none`. A fault has written nothing, but for `Write`, after which the
+/// output may be partial.
+pub fn part<R: Read, W: Write>(
+    alloc: Global,
+    arguments: &PartArguments,
+    input: &mut R,
+    out: &mut W,
+) -> Result<(), Fault>
+    ensures ok { OnOk result (Parting arguments.now.format arguments.now.first arguments.now.second
+        (R.remaining input.old) (W.contents out.old) (W.contents out.new)) }
+    ensures kept { IfErr result (λ fault. fault ≢ Fault.Write → out.new ≡ out.old) }
+    // The fault is one of the machine, or that of the trace.
+    ensures fault { IfErr result (λ fault. IsOfMachine fault ⊎ IfSome (R.remaining input.old)
+        (IsFoundIn arguments.now.format (λ f. ⊥) fault)) }
+{
+    let trace = read_trace(alloc, input, arguments.format)?;
+    // A parse gives configurations that are accepted, so the one fault is out of memory.
+    let Ok(found) = debug_policies::part(alloc, &trace, &arguments.first, &arguments.second) else {
+        return Err(Fault::OutOfMemory);
+    };
+    let mut line = Vec::new(alloc);
+    push_part(&mut line, found)?;
+    match streams::write_all(out, line.as_slice()) {
+        Ok(()) => Ok(()),
+        Err(_) => Err(Fault::Write),
+    }
+}

@@ -1,0 +1,49 @@
+//! What typed arguments ask for.
+ghost use Rattle.std.specs.Prelude.{◌≡◌, ◌⊎◌, IfErr, OnOk};
+ghost use Rattle.command_line.specs.Accepted.{AreAccepted};
+ghost use Rattle.program.specs.FaultCauses.{IsFound, IsOfMachine, Leaves};
+ghost use Rattle.program.specs.Outcome.{IsDone};
+
+use crate::debug::{debug, replay};
+use crate::drive::drive;
+use crate::fault::Fault;
+use crate::files::Files;
+use crate::part::part;
+use crate::run::run;
+use crate::sweep::sweep;
+use command_line::Arguments;
+use progress::Watch;
+use std::alloc::Global;
+use std::io::{Read, Write};
+use std::sync::Wait;
+use std::thread::Threads;
+
+/// Does what the arguments ask for, over an input and an output. `debug` and `replay` read a file too; `run` and `sweep`
+/// are watched.
+pub fn perform<T: Threads + Wait + Sync, R: Read, W: Write, F: Files, P: Watch>(
+    rt: &T,
+    alloc: Global,
+    arguments: &Arguments,
+    input: &mut R,
+    out: &mut W,
+    files: &F,
+    watch: &P,
+) -> Result<(), Fault>
+    requires { AreAccepted arguments.now }
+    ensures done { OnOk result (IsDone arguments.now (F.known files.now) (R.remaining input.old) (W.contents out.old)
+        (W.contents out.new)) }
+    ensures leaves { IfErr result (λ fault. Leaves arguments.now (F.known files.now) fault (R.remaining input.old) (W.contents out.old)
+        (W.contents out.new) (out.new ≡ out.old)) }
+    // The fault is one of the machine, or that of the input, the file or the arguments.
+    ensures fault { IfErr result (λ fault. IsOfMachine fault
+        ⊎ IsFound arguments.now (F.known files.now) (R.remaining input.old) fault) }
+{
+    match arguments {
+        Arguments::Run(arguments) => run(rt, alloc, arguments, input, out, watch),
+        Arguments::Sweep(arguments) => sweep(rt, alloc, arguments, input, out, watch),
+        Arguments::Part(arguments) => part(alloc, arguments, input, out),
+        Arguments::Drive(arguments) => drive(rt, alloc, arguments, input, out),
+        Arguments::Debug(arguments) => debug(alloc, arguments, input, out, files),
+        Arguments::Replay(arguments) => replay(alloc, arguments, input, out, files),
+    }
+}

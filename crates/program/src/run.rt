@@ -1,0 +1,97 @@
+//! The subcommand `run`: a trace to the reports of policies.
+ghost use Rattle.std.specs.Prelude.{◌≡◌, ◌≢◌, ◌⊎◌, IfErr, IfOk, IfSome, None, OnOk, Some};
+ghost use Rattle.command_line.specs.Accepted.{IsAcceptedRun};
+ghost use Rattle.program.specs.FaultCauses.{IsFoundIn, IsOfMachine, IsTooMany};
+ghost use Rattle.program.specs.Jobs.{jobs_by_policy};
+ghost use Rattle.program.specs.ReportOutput.{AreReportsOn, Reports};
+
+use crate::fault::Fault;
+use command_line::RunArguments;
+use policies::MAX_ACTORS;
+use policy_actors::run_reading;
+use progress::{Watch, Work};
+use report::{Report, write_reports};
+use std::alloc::{AllocError, Global};
+use std::io::{Read, Write};
+use std::sync::Wait;
+use std::thread::Threads;
+use step_record::{Config, Job, Policy};
+use trace_read::read_trace;
+
+/// A job for each policy, in order, all on one configuration. The one error is out of memory.
+pub fn jobs(alloc: Global, config: Config, policies: &[Policy]) -> Result<Vec<Job>, AllocError>
+    ensures { IfOk result (λ jobs. jobs.items ≡ jobs_by_policy config policies.now) }
+{
+    let mut jobs = Vec::new(alloc);
+    for policy in policies {
+        jobs.push(Job {
+            policy: *policy,
+            config,
+        })?;
+    }
+    Ok(jobs)
+}
+
+/// Reads the trace and writes the report of each policy that the arguments name; each policy runs
+/// on a thread of its own. A fault has written nothing, but for `Write`, after which the output may
+/// be partial.
+pub fn run<T: Threads + Wait + Sync, R: Read, W: Write, P: Watch>(
+    rt: &T,
+    alloc: Global,
+    arguments: &RunArguments,
+    input: &mut R,
+    out: &mut W,
+    watch: &P,
+) -> Result<(), Fault>
+    requires { IsAcceptedRun arguments.now }
+    ensures ok { OnOk result (Reports arguments.now.format
+        (jobs_by_policy arguments.now.config arguments.now.policies) (R.remaining input.old)
+        (W.contents out.old) (W.contents out.new)) }
+    ensures kept { IfErr result (λ fault. fault ≢ Fault.Write → out.new ≡ out.old) }
+    // The fault is one of the machine, or that of the trace, or else that too many policies were named.
+    ensures fault { IfErr result (λ fault. IsOfMachine fault ⊎ IfSome (R.remaining input.old)
+        (IsFoundIn arguments.now.format (IsTooMany arguments.now.policies) fault)) }
+{
+    let jobs = jobs(alloc, arguments.config, arguments.policies.as_slice())?;
+    let reports = reports(rt, alloc, arguments, jobs.as_slice(), input, watch)?;
+    write_reports(alloc, reports.as_slice(), out)?;
+    Ok(())
+}
+
+// The reports of the jobs, each run on a thread of its own while the trace is read. That they are too many is the fault
+// of a trace without one.
+fn reports<T: Threads + Wait + Sync, R: Read, P: Watch>(
+    rt: &T,
+    alloc: Global,
+    arguments: &RunArguments,
+    jobs: &[Job],
+    input: &mut R,
+    watch: &P,
+) -> Result<Vec<Report>, Fault>
+    requires accepted { IsAcceptedRun arguments.now }
+    requires jobs { jobs.now ≡ jobs_by_policy arguments.now.config arguments.now.policies }
+    ensures reports { IfOk result (λ reports. IfSome (R.remaining input.old)
+        (AreReportsOn arguments.now.format jobs.now reports.items)) }
+    ensures fault { IfErr result (λ fault. IsOfMachine fault ⊎ IfSome (R.remaining input.old)
+        (IsFoundIn arguments.now.format (IsTooMany arguments.now.policies) fault)) }
+{
+    if jobs.len() > MAX_ACTORS {
+        read_trace(alloc, input, arguments.format)?;
+        return Err(Fault::Actors);
+    }
+    watch.begin(Work {
+        name: "run",
+        batches: None,
+    });
+    let reports = run_reading(
+        rt,
+        alloc,
+        input,
+        arguments.format,
+        jobs,
+        arguments.batch,
+        watch,
+    );
+    watch.end();
+    Ok(reports?)
+}

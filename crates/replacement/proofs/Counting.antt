@@ -1,0 +1,73 @@
+-- How often an item stands in the queues, and how many items do, after each call.
+use Rattle.std.proofs.Common.{◌≡◌, ℕ, ◌+◌, ◌≤◌, false, cond, List, [], ◌∷◌, ◌∙◌, sym, refl, arith, inl, inr, length-append}
+use Rattle.std.proofs.lemmas.Bool.{cases_Bool}
+use Rattle.step_record.specs.declared.item.Item.{Item}
+use Rattle.segments.specs.declared.records.Queue.{Queue}
+use Rattle.segments.specs.declared.records.Queue.TheVariants.{Window, Probation, Protected}
+use Rattle.segments.specs.Items.{is_same_item, occurrences, items_without}
+use Rattle.segments.specs.Queues.{Queues, queues_after_push, queues_without, queues_after_move, total_items, IsDistinct}
+use Rattle.segments.proofs.ItemLists.{same-true, times-append, length-without}
+use Rattle.replacement.specs.Counts.{queue_occurrences}
+
+abbrev pub once : Item → Item → ℕ
+once i j = cond (is_same_item i j) 1 0
+
+pub unless-same : (j i : Item) (l : List Item) → occurrences j (items_without i l) ≡ cond (is_same_item j i) 0 (occurrences j l)
+unless-same j i [] = elim (cases_Bool (is_same_item j i)) as (λ _. occurrences j [] ≡ cond (is_same_item j i) 0 (occurrences j [])) [ inl e ↦ rw e refl | inr e ↦ rw e refl ]
+unless-same j i (x ∷ l) =
+    let h : occurrences j (items_without i l) ≡ cond (is_same_item j i) 0 (occurrences j l) = unless-same j i l in
+    elim (cases_Bool (is_same_item i x)) as (λ _. occurrences j (cond (is_same_item i x) (items_without i l) (x ∷ items_without i l)) ≡ cond (is_same_item j i) 0 (cond (is_same_item j x) 1 0 + occurrences j l)) [
+      | inl e ↦ let s : i ≡ x = same-true i x e in rw (e, h) (elim (cases_Bool (is_same_item j i)) as (λ _. cond (is_same_item j i) 0 (occurrences j l) ≡ cond (is_same_item j i) 0 (cond (is_same_item j x) 1 0 + occurrences j l)) [
+        | inl f ↦ rw f refl
+        | inr f ↦ let g : is_same_item j x ≡ false = rw s at f in rw (f, g) (omega arith)
+      ])
+      | inr e ↦ rw (e, h) (elim (cases_Bool (is_same_item j i)) as (λ _. cond (is_same_item j x) 1 0 + cond (is_same_item j i) 0 (occurrences j l) ≡ cond (is_same_item j i) 0 (cond (is_same_item j x) 1 0 + occurrences j l)) [
+        | inl f ↦ let s : j ≡ i = same-true j i f in let g : is_same_item j x ≡ false = rw (← s) at e in rw (f, g) refl
+        | inr f ↦ rw f refl
+      ])
+    ]
+
+pub queued-taken : (j i : Item) (q : Queues) → queue_occurrences j (queues_without i q) ≡ cond (is_same_item j i) 0 (queue_occurrences j q)
+queued-taken j i q =
+    rw (unless-same j i q.window, unless-same j i q.probation, unless-same j i q.protected)
+    (elim (cases_Bool (is_same_item j i)) as (λ _. cond (is_same_item j i) 0 (occurrences j q.window) + cond (is_same_item j i) 0 (occurrences j q.probation) + cond (is_same_item j i) 0 (occurrences j q.protected) ≡ cond (is_same_item j i) 0 (queue_occurrences j q)) [
+      | inl e ↦ rw e refl
+      | inr e ↦ rw e refl
+    ])
+
+pub queued-pushed : (j i : Item) (to : Queue) (q : Queues) → queue_occurrences j (queues_after_push to i q) ≡ queue_occurrences j q + once j i
+queued-pushed j i Window q = rw (times-append j q.window (i ∷ [])) (omega arith)
+queued-pushed j i Probation q = rw (times-append j q.probation (i ∷ [])) (omega arith)
+queued-pushed j i Protected q = rw (times-append j q.protected (i ∷ [])) (omega arith)
+
+pub queued-moved : (j i : Item) (to : Queue) (q : Queues) → queue_occurrences j (queues_after_move i to q) ≡ cond (is_same_item j i) 1 (queue_occurrences j q)
+queued-moved j i to q =
+    queued-pushed j i to (queues_without i q) ∙ rw (queued-taken j i q) (elim (cases_Bool (is_same_item j i)) as (λ _. cond (is_same_item j i) 0 (queue_occurrences j q) + cond (is_same_item j i) 1 0 ≡ cond (is_same_item j i) 1 (queue_occurrences j q)) [
+      | inl e ↦ rw e refl
+      | inr e ↦ rw e (omega arith)
+    ])
+
+pub distinct-moved : (i : Item) (to : Queue) (q : Queues) → IsDistinct q → IsDistinct (queues_after_move i to q)
+distinct-moved i to q d j =
+    rw (queued-moved j i to q) (elim (cases_Bool (is_same_item j i)) as (λ _. cond (is_same_item j i) 1 (queue_occurrences j q) ≤ 1) [
+      | inl e ↦ rw e (omega arith)
+      | inr e ↦ rw e (d j)
+    ])
+
+-- the moved item was queued: nothing comes or goes
+pub queued-kept : (j i : Item) (to : Queue) (q : Queues) → queue_occurrences i q ≡ 1 → queue_occurrences j (queues_after_move i to q) ≡ queue_occurrences j q
+queued-kept j i to q h =
+    queued-moved j i to q ∙ elim (cases_Bool (is_same_item j i)) as (λ _. cond (is_same_item j i) 1 (queue_occurrences j q) ≡ queue_occurrences j q) [
+      | inl e ↦ let s : j ≡ i = same-true j i e in rw (e, s) (sym h)
+      | inr e ↦ rw e refl
+    ]
+
+-- ---- how many
+
+pub taken-total : (x : Item) (s : Queues) → total_items (queues_without x s) + queue_occurrences x s ≡ total_items s
+taken-total x s = omega (arith, length-without x s.window, length-without x s.probation, length-without x s.protected)
+
+pub pushed-total : (q : Queue) (x : Item) (s : Queues) → total_items (queues_after_push q x s) ≡ total_items s + 1
+pushed-total Window x s = omega (arith, length-append s.window (x ∷ []))
+pushed-total Probation x s = omega (arith, length-append s.probation (x ∷ []))
+pushed-total Protected x s = omega (arith, length-append s.protected (x ∷ []))

@@ -1,0 +1,35 @@
+-- The reports of jobs over one trace obey the laws.
+use Rattle.std.proofs.Common.{ℕ, List, All, length, map, ◌∙◌, sym}
+use Rattle.std.specs.Prelude.{slice_index_or}
+use Rattle.std.proofs.lemmas.List.Elements.{All-map}
+use Rattle.step_record.specs.declared.job.Job.{Job}
+use Rattle.policies.specs.Residents.{StatsAddUp, MissesFit}
+use Rattle.policy_laws.specs.Theorems.{NoPolicyBeatsBelady, LruHitsGrow, OptimalHitsGrow, LruCompetesWithAny}
+use Rattle.policies.specs.declared.report.Report.{Report}
+use Rattle.policies.specs.Reports.{report_on}
+use Rattle.report_laws.specs.ReportLaws.{AddsUp, AreOrdered, ReportsObeyLaws}
+
+-- a fact of every job is one of all reports
+of-all : (P : Report → Type 0) (jobs : List Job) (trace : List ℕ) → ((j : Job) → P (report_on j trace)) → All P (map (λ j. report_on j trace) jobs)
+of-all P jobs trace h = All-map P (λ j. report_on j trace) jobs (λ k d l. h (slice_index_or jobs k d))
+
+adds-up : StatsAddUp → MissesFit → (trace : List ℕ) (j : Job) → AddsUp (length trace) (report_on j trace)
+adds-up sums fits trace j =
+    let sum = sums j trace in
+    record { accesses = sum.0; hits = sum.1 ∙ sym sum.0; kept = fits j trace }
+
+module _ (best : NoPolicyBeatsBelady) (lru : LruHitsGrow) (optimal : OptimalHitsGrow) (competes : LruCompetesWithAny) where
+  ordered : (trace : List ℕ) (j k : Job) → AreOrdered (report_on j trace) (report_on k trace)
+  ordered trace j k = record {
+    best = λ p c. best j k trace p (sym c);
+    lru_grows = lru j k trace;
+    optimal_grows = optimal j k trace;
+    lru_competes = competes j k trace;
+  }
+
+  pub obey : StatsAddUp → MissesFit → ReportsObeyLaws
+  obey sums fits jobs trace = record {
+    each = of-all (AddsUp (length trace)) jobs trace (adds-up sums fits trace);
+    pairs = of-all (λ r. All (AreOrdered r) (map (λ j. report_on j trace) jobs)) jobs trace
+        (λ j. of-all (AreOrdered (report_on j trace)) jobs trace (ordered trace j));
+  }

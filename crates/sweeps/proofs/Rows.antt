@@ -1,0 +1,43 @@
+-- Several jobs at the same capacities.
+use Rattle.std.proofs.Common.{◌≡◌, ℕ, zero, suc, ◌+◌, ◌<◌, Option, Some, None, List, [], ◌∷◌, ◌++◌, length, map, take, slice_index_or, get_or, ap, ◌∙◌, sym, refl, arith, append-nil, append_assoc}
+use Rattle.std.proofs.lemmas.List.{take_more, map-append}
+use Rattle.std.specs.Option.{option_or}
+use Rattle.step_record.specs.declared.job.Job.{Job}
+use Rattle.policies.specs.declared.actor_fault.ActorFault.{ActorFault}
+use Rattle.policies.specs.FaultyJobs.{at_capacity, faulty_in}
+use Rattle.policies.specs.Reports.{report_on}
+use Rattle.sweeps.specs.Sweep.{jobs_over, sweep_fault}
+
+-- ---- one job
+
+twice : {A B C : Type 0} (f : A → B) (g : B → C) (xs : List A) → map g (map f xs) ≡ map (λ x. g (f x)) xs
+twice f g [] = refl
+twice f g (x ∷ xs) = ap (λ t. g (f x) ∷ t) (twice f g xs)
+
+pub one-reports : (j : Job) (cs trace : List ℕ) → map (λ k. report_on k trace) (jobs_over (j ∷ []) cs) ≡ map (λ c. report_on (at_capacity j c) trace) cs
+one-reports j cs trace = ap (map (λ k. report_on k trace)) (append-nil (map (at_capacity j) cs)) ∙ twice (at_capacity j) (λ k. report_on k trace) cs
+
+or-none : (o : Option ActorFault) → option_or o None ≡ o
+or-none None = refl
+or-none (Some f) = refl
+
+pub one-fault : (j : Job) (cs : List ℕ) → sweep_fault (j ∷ []) cs ≡ faulty_in (map (at_capacity j) cs)
+one-fault j cs = or-none (faulty_in (map (at_capacity j) cs))
+
+-- ---- one job more
+
+pub more-rows : (jobs : List Job) (cs : List ℕ) (d : Job) (i : ℕ) → i < length jobs
+    → jobs_over (take (i + 1) jobs) cs ≡ jobs_over (take i jobs) cs ++ map (at_capacity (slice_index_or jobs i d)) cs
+more-rows [] cs d i lt = absurd (omega arith)
+more-rows (j ∷ js) cs d zero lt = append-nil (map (at_capacity j) cs)
+more-rows (j ∷ js) cs d (suc i) lt =
+    let e : suc i + 1 ≡ suc (i + 1) = omega arith in
+    rw e (ap (λ t. map (at_capacity j) cs ++ t) (more-rows js cs d i (omega arith)) ∙ sym (append_assoc (map (at_capacity j) cs) (jobs_over (take i js) cs) (map (at_capacity (slice_index_or js i d)) cs)))
+
+-- ---- one capacity more
+
+pub one-row : (j : Job) (cs : List ℕ) (old rows new : List Job) (row : Job) (i : ℕ) → i < length cs → rows ≡ old ++ map (at_capacity j) (take i cs) → row ≡ at_capacity j (get_or cs i 0) → new ≡ rows ++ row ∷ [] → new ≡ old ++ map (at_capacity j) (take (i + 1) cs)
+one-row j cs old rows new row i lt so is added =
+    added ∙ (ap (λ (l : List Job). l ++ row ∷ []) so ∙ (ap (λ (x : Job). (old ++ map (at_capacity j) (take i cs)) ++ x ∷ []) is
+    ∙ (append_assoc old (map (at_capacity j) (take i cs)) (at_capacity j (get_or cs i 0) ∷ [])
+    ∙ ap (λ (l : List Job). old ++ l) (sym (ap (map (at_capacity j)) (take_more cs i 0 lt) ∙ map-append (at_capacity j) (take i cs) (get_or cs i 0 ∷ []))))))

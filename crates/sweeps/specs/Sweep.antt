@@ -1,0 +1,23 @@
+-- Several jobs at the same capacities.
+use Rattle.std.specs.Option.{option_or}
+use Rattle.std.specs.Prelude.{ℕ, cond, nat_le, Option, Some, None, List, [], ◌∷◌, ◌++◌, length, map}
+use Rattle.step_record.specs.declared.job.Job.{Job}
+use Rattle.policies.specs.declared.job_checks.TheConstants.{MAX_ACTORS}
+use Rattle.policies.specs.declared.actor_fault.ActorFault.{ActorFault}
+use Rattle.policies.specs.declared.actor_fault.ActorFault.TheVariants.{Actors}
+use Rattle.policies.specs.FaultyJobs.{at_capacity, faulty_in}
+
+-- the first job at each of the capacities, then the second, and so on
+abbrev pub jobs_over : List Job → List ℕ → List Job
+jobs_over [] capacities = []
+jobs_over (job ∷ jobs) capacities = map (at_capacity job) capacities ++ jobs_over jobs capacities
+
+-- the fault of the first job that has one at these capacities
+abbrev pub first_config_fault : List Job → List ℕ → Option ActorFault
+first_config_fault [] capacities = None
+first_config_fault (job ∷ jobs) capacities =
+    option_or (faulty_in (map (at_capacity job) capacities)) (first_config_fault jobs capacities)
+
+-- the number of jobs is looked at first, and then their configurations
+abbrev pub sweep_fault : List Job → List ℕ → Option ActorFault
+sweep_fault jobs capacities = cond (nat_le (length jobs) MAX_ACTORS) (first_config_fault jobs capacities) (Some Actors)
