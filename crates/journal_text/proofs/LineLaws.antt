@@ -1,6 +1,6 @@
 -- A line that is read is one of the table, and each line of the table is read.
-use Rattle.std.proofs.Common.{◌≡◌, ◌∙◌, ◌<◌, ◌≤◌, ◌^◌, ◌||◌, ◌==◌, ℕ, Bool, true, false, List, [], ◌∷◌, ◌++◌, map, ap, sym, subst, refl, arith, Option, Some, None, cond}
-use Rattle.std.proofs.lemmas.Bool.{cond-true, ne_eqb}
+use Rattle.std.proofs.Common.{◌≡◌, ◌∙◌, ◌<◌, ◌≤◌, ◌^◌, ◌||◌, ◌&&◌, ◌==◌, ℕ, Bool, true, false, List, [], ◌∷◌, ◌++◌, codes, map, not, ap, sym, subst, refl, arith, Option, Some, None, cond}
+use Rattle.std.proofs.lemmas.Bool.{and_parts, cond-true, ne_eqb}
 use Rattle.std.proofs.lemmas.Fmt.{decimal_is_IsNumeral}
 use Rattle.std.proofs.lemmas.List.{append-nil, map-append}
 use Rattle.std.proofs.lemmas.List.Elements.{All-cons, All-nil, All-append}
@@ -11,24 +11,24 @@ use Rattle.std.specs.Prelude.{nat_lt}
 use Rattle.std.specs.Fmt.{decimal}
 use Rattle.std.specs.List.{All, join_with_byte, list_any}
 use Rattle.std.specs.Str.Parse.{AllDigits}
-use Rattle.journal_text.specs.Names.{spelling}
-use Rattle.journal_text.specs.LineGrammar.{numeral_of, name_at, wide_at, small_at, act_at, reply_at, only_equals, only_steps, entry_in, count_in, made_in, or_count, journal_line_in, words_of}
-use Rattle.journal_text.specs.declared.line_text.Word.{Word}
-use Rattle.journal_text.specs.declared.line_text.Word.TheVariants.{Named, Worker, Stripe, Wide}
+use Rattle.journal_text.specs.LineGrammar.{numeral_of, only_at, wide_at, small_at, act_at, reply_at, entry_in, count_in, made_in, or_count, journal_line_in, words_of}
+use Rattle.journal_text.specs.Table.{Word, Named, Worker, Stripe, Wide}
 use Rattle.journal_text.specs.Table.{word_text, spaced_words, FitsWord, FitWords, act_words, reply_words, entry_words, count_words, text_of, is_answer_in, IsLine}
 use Rattle.journal_text.specs.declared.line.JournalLine.{JournalLine}
 use Rattle.journal_text.specs.declared.line.JournalLine.TheVariants.{Made, Steps}
-use Rattle.journal_text.specs.declared.name.JournalName.{JournalName}
-use Rattle.journal_text.specs.declared.name.JournalName.TheVariants as name
 use Rattle.journal_text.specs.declared.version.Version.{Version}
 use Rattle.journal_text.specs.declared.version.Version.TheVariants.{One, Two}
 use Rattle.journal_text.proofs.Spellings.{number_again}
-use Rattle.journal_text.proofs.Parsed.{name_back, wide_back, small_back, act_back, reply_back, some_same, bound, name_taken, wide_taken, small_taken, act_taken, reply_taken}
+use Rattle.journal_text.proofs.Parsed.{wide_back, small_back, act_back, reply_back, some_same, bound, only_taken, wide_taken, small_taken, act_taken, reply_taken}
 use Rattle.step_record.specs.declared.entry.Entry.{Entry}
+use Rattle.step_record.specs.declared.step.Act.{Act}
+use Rattle.step_record.specs.declared.step.Act.TheVariants as act
+use Rattle.step_record.specs.declared.step.Answer.TheVariants as answer
+use Rattle.step_record.specs.declared.step.Reply.TheVariants as reply
 use Rattle.step_record.specs.declared.step.Reply.{Reply}
 use Rattle.step_record.specs.declared.step.Step.{Step}
 use Rattle.text_lines.specs.Numbers.{number_of}
-use Rattle.text_lines.specs.Reads.{at_end}
+use Rattle.text_lines.specs.Reads.{◌>>=◌, at_end}
 
 -- ---- words and entries
 
@@ -41,25 +41,16 @@ fit_joined [] ys f g = g
 fit_joined (x ∷ xs) ys f g = (f.0, fit_joined xs ys f.1 g)
 
 pub entry_back : (e : Entry Step Reply) → FitWords (entry_words e) → entry_in (map word_text (entry_words e)) ≡ Some e
-unfolding entry_in
+unfolding entry_in only_at
 entry_back e f =
     let a = e.step.act in
     let r = e.reply in
-    let behind = Named name.Equals ∷ reply_words r in
+    let behind = Named (codes "=") ∷ reply_words r in
     let parts = fit_parts (act_words a) behind f.1 in
     let worker : small_at 64 (map word_text (entry_words e)) ≡ Some (e.step.worker, map word_text (act_words a ++ behind)) = small_back _ 64 e.step.worker (omega arith) f.0 in
     let act : act_at (map word_text (act_words a ++ behind)) ≡ Some (a, map word_text behind) = ap act_at (map-append word_text (act_words a) behind) ∙ act_back (map word_text behind) a parts.0 in
-    let equals : name_at (map word_text behind) ≡ Some (name.Equals, map word_text (reply_words r)) = name_back (map word_text (reply_words r)) name.Equals in
     let reply : reply_at (map word_text (reply_words r)) ≡ Some (r, []) = ap reply_at (sym (append-nil (map word_text (reply_words r)))) ∙ reply_back [] r parts.1.1 in
-    rw worker (rw act (rw equals (rw reply refl)))
-
-equals_is : (n : JournalName) (u : Unit {0}) → only_equals n ≡ Some u → n ≡ name.Equals
-equals_is name.Equals u h = refl
-equals_is _ u h = absurd (cc)
-
-steps_is : (n : JournalName) (u : Unit {0}) → only_steps n ≡ Some u → n ≡ name.Steps
-steps_is name.Steps u h = refl
-steps_is _ u h = absurd (cc)
+    rw worker (rw act (rw reply refl))
 
 end_taken : {A : Type 0} (x y : A) (ws : List (List ℕ)) → at_end (x, ws) ≡ Some y → (x ≡ y) × (ws ≡ [])
 end_taken x y [] h = (some_same h, refl)
@@ -70,41 +61,40 @@ unfolding entry_in
 entry_taken ws e h =
     let worker = bound (small_at 64 ws) _ e h in
     let act = bound (act_at worker.0.1) _ e worker.2 in
-    let equals = bound (name_at act.0.1) _ e act.2 in
-    let only = bound (only_equals equals.0.0) _ e equals.2 in
-    let reply = bound (reply_at equals.0.1) _ e only.2 in
+    let equals = bound (only_at (codes "=") act.0.1) _ e act.2 in
+    let reply = bound (reply_at equals.0.1) _ e equals.2 in
     let done = end_taken _ e reply.0.1 reply.2 in
     let w = small_taken 64 ws worker.0 worker.1 in
     let a = act_taken worker.0.1 act.0 act.1 in
-    let n = name_taken act.0.1 equals.0 equals.1 in
+    let n = only_taken (codes "=") act.0.1 equals.0 equals.1 in
     let r = reply_taken equals.0.1 reply.0 reply.1 in
     let last : equals.0.1 ≡ map word_text (reply_words reply.0.0) = r.0 ∙ ap (λ t. map word_text (reply_words reply.0.0) ++ t) done.1 ∙ append-nil (map word_text (reply_words reply.0.0)) in
-    let behind : act.0.1 ≡ map word_text (Named name.Equals ∷ reply_words reply.0.0) = n ∙ ap (λ m. spelling m ∷ equals.0.1) (equals_is equals.0.0 only.0 only.1) ∙ ap (λ t. spelling name.Equals ∷ t) last in
-    let after : worker.0.1 ≡ map word_text (act_words act.0.0 ++ (Named name.Equals ∷ reply_words reply.0.0)) = a.0 ∙ ap (λ t. map word_text (act_words act.0.0) ++ t) behind ∙ sym (map-append word_text (act_words act.0.0) (Named name.Equals ∷ reply_words reply.0.0)) in
+    let behind : act.0.1 ≡ map word_text (Named (codes "=") ∷ reply_words reply.0.0) = n ∙ ap (λ t. codes "=" ∷ t) last in
+    let after : worker.0.1 ≡ map word_text (act_words act.0.0 ++ (Named (codes "=") ∷ reply_words reply.0.0)) = a.0 ∙ ap (λ t. map word_text (act_words act.0.0) ++ t) behind ∙ sym (map-append word_text (act_words act.0.0) (Named (codes "=") ∷ reply_words reply.0.0)) in
     let P : Entry Step Reply → Type 0 = λ x. (ws ≡ map word_text (entry_words x)) × FitWords (entry_words x) in
-    subst P done.0 (w.0 ∙ ap (λ t. decimal worker.0.0 ∷ t) after, (w.1, fit_joined (act_words act.0.0) (Named name.Equals ∷ reply_words reply.0.0) a.1 (tt, r.1)))
+    subst P done.0 (w.0 ∙ ap (λ t. decimal worker.0.0 ∷ t) after, (w.1, fit_joined (act_words act.0.0) (Named (codes "=") ∷ reply_words reply.0.0) a.1 (tt, r.1)))
 
 pub count_back : (n : ℕ) → n < 2 ^ 64 → count_in (map word_text (count_words n)) ≡ Some n
-unfolding count_in
-count_back n h =
-    let steps : name_at (map word_text (count_words n)) ≡ Some (name.Steps, decimal n ∷ []) = name_back (decimal n ∷ []) name.Steps in
-    let wide : wide_at (decimal n ∷ []) ≡ Some (n, []) = wide_back [] n h in
-    rw steps (rw wide refl)
+unfolding count_in only_at
+count_back n h = ap (λ o. o >>= at_end) (wide_back [] n h)
 
 pub count_taken : (ws : List (List ℕ)) (n : ℕ) → count_in ws ≡ Some n → (ws ≡ map word_text (count_words n)) × (n < 2 ^ 64)
 unfolding count_in
 count_taken ws n h =
-    let steps = bound (name_at ws) _ n h in
-    let only = bound (only_steps steps.0.0) _ n steps.2 in
-    let wide = bound (wide_at steps.0.1) at_end n only.2 in
+    let steps = bound (only_at (codes "steps") ws) _ n h in
+    let wide = bound (wide_at steps.0.1) at_end n steps.2 in
     let done = end_taken wide.0.0 n wide.0.1 wide.2 in
     let w = wide_taken steps.0.1 wide.0 wide.1 in
     let number : steps.0.1 ≡ decimal n ∷ [] = w.0 ∙ ap (λ k. decimal k ∷ wide.0.1) done.0 ∙ ap (λ t. decimal n ∷ t) done.1 in (
-      name_taken ws steps.0 steps.1 ∙ ap (λ m. spelling m ∷ steps.0.1) (steps_is steps.0.0 only.0 only.1) ∙ ap (λ t. spelling name.Steps ∷ t) number,
+      only_taken (codes "steps") ws steps.0 steps.1 ∙ ap (λ t. codes "steps" ∷ t) number,
       subst (λ k. k < 2 ^ 64) done.0 w.1,
     )
 
 -- ---- the bytes of words
+
+not_true : (p : Bool) → not p ≡ true → p ≡ false
+not_true true e = absurd (cc)
+not_true false e = refl
 
 or_false : (p q : Bool) → (p || q) ≡ false → (p ≡ false) × (q ≡ false)
 or_false true q e = absurd (cc)
@@ -131,66 +121,63 @@ module _ (c : ℕ) where
       let above : 33 ≤ b = grind (arith, nat_tests) in
       All-cons (λ b. (b == c) ≡ false) b xs (ne_eqb b c (λ e. omega arith)) (printed_lacks h xs parts.1)
 
-printed : (n : JournalName) → list_any (λ b. nat_lt b 33) (spelling n) ≡ false
-printed name.Look = refl
-printed name.Offer = refl
-printed name.Lose = refl
-printed name.Put = refl
-printed name.Remove = refl
-printed name.AfterRead = refl
-printed name.AfterWrite = refl
-printed name.Begin = refl
-printed name.DrainRead = refl
-printed name.DrainWrite = refl
-printed name.Evict = refl
-printed name.End = refl
-printed name.Equals = refl
-printed name.Hit = refl
-printed name.Miss = refl
-printed name.Kept = refl
-printed name.Full = refl
-printed name.Lost = refl
-printed name.Added = refl
-printed name.Present = refl
-printed name.WritesFull = refl
-printed name.Removed = refl
-printed name.Absent = refl
-printed name.Go = refl
-printed name.Drain = refl
-printed name.Began = refl
-printed name.Busy = refl
-printed name.Drained = refl
-printed name.Empty = refl
-printed name.Applied = refl
-printed name.Cleared = refl
-printed name.Enough = refl
-printed name.Shifted = refl
-printed name.Evicted = refl
-printed name.Rejected = refl
-printed name.Fits = refl
-printed name.Idle = refl
-printed name.Again = refl
-printed name.NotYet = refl
-printed name.Steps = refl
+-- the names among the words have no byte up to the space
+abbrev are_printed : List Word → Bool
+are_printed [] = true
+are_printed (Named n ∷ ws) = not (list_any (λ b. nat_lt b 33) n) && are_printed ws
+are_printed (_ ∷ ws) = are_printed ws
 
-word_lacks : (c : ℕ) → c < 33 → (w : Word) → FitsWord w → Lacks c (word_text w)
-word_lacks c h (Named n) f = printed_lacks c h (spelling n) (printed n)
-word_lacks c h (Worker n) f = decimal_lacks c (omega arith) n (omega arith)
-word_lacks c h (Stripe n) f = decimal_lacks c (omega arith) n (omega arith)
-word_lacks c h (Wide n) f = decimal_lacks c (omega arith) n f
+reply_printed : (r : Reply) → are_printed (reply_words r) ≡ true
+reply_printed (reply.Hit n) = refl
+reply_printed r = refl
 
-pub spelled_words : (w : Word) (ws : List Word) → FitWords (w ∷ ws) → words_of (spaced_words (w ∷ ws)) ≡ map word_text (w ∷ ws)
-spelled_words w [] f = slice_split_none (λ b. b == 32) (word_text w) (word_lacks 32 (omega arith) w f.0)
-spelled_words w (v ∷ vs) f =
-    slice_split_at (λ b. b == 32) (word_text w) 32 (spaced_words (v ∷ vs)) (word_lacks 32 (omega arith) w f.0) refl
-    ∙ ap (λ t. word_text w ∷ t) (spelled_words v vs f.1)
+act_printed : (a : Act) → are_printed (act_words a) ≡ true
+act_printed (act.AfterRead answer.Kept) = refl
+act_printed (act.AfterRead answer.Full) = refl
+act_printed (act.AfterRead answer.Lost) = refl
+act_printed a = refl
+
+printed_joined : (xs ys : List Word) → are_printed xs ≡ true → are_printed ys ≡ true → are_printed (xs ++ ys) ≡ true
+printed_joined [] ys h k = k
+printed_joined (Named n ∷ xs) ys h k =
+    let both = and_parts (not (list_any (λ b. nat_lt b 33) n)) (are_printed xs) h in
+    let rest : are_printed (xs ++ ys) ≡ true = printed_joined xs ys both.1 k in
+    rw both.0 rest
+printed_joined (Worker n ∷ xs) ys h k = printed_joined xs ys h k
+printed_joined (Stripe n ∷ xs) ys h k = printed_joined xs ys h k
+printed_joined (Wide n ∷ xs) ys h k = printed_joined xs ys h k
+
+pub entry_printed : (e : Entry Step Reply) → are_printed (entry_words e) ≡ true
+entry_printed e = printed_joined (act_words e.step.act) (Named (codes "=") ∷ reply_words e.reply) (act_printed e.step.act) (reply_printed e.reply)
+
+module _ (c : ℕ) (low : c < 33) where
+  named_lacks : (n : List ℕ) (ws : List Word) → are_printed (Named n ∷ ws) ≡ true → Lacks c n
+  named_lacks n ws p = printed_lacks c low n (not_true (list_any (λ b. nat_lt b 33) n) (and_parts _ (are_printed ws) p).0)
+
+  word_lacks : (w : Word) (ws : List Word) → FitsWord w → are_printed (w ∷ ws) ≡ true → Lacks c (word_text w)
+  word_lacks (Named n) ws f p = named_lacks n ws p
+  word_lacks (Worker n) ws f p = decimal_lacks c (omega arith) n (omega arith)
+  word_lacks (Stripe n) ws f p = decimal_lacks c (omega arith) n (omega arith)
+  word_lacks (Wide n) ws f p = decimal_lacks c (omega arith) n f
+
+later_printed : (w : Word) (ws : List Word) → are_printed (w ∷ ws) ≡ true → are_printed ws ≡ true
+later_printed (Named n) ws p = (and_parts _ (are_printed ws) p).1
+later_printed (Worker n) ws p = p
+later_printed (Stripe n) ws p = p
+later_printed (Wide n) ws p = p
+
+pub spelled_words : (w : Word) (ws : List Word) → FitWords (w ∷ ws) → are_printed (w ∷ ws) ≡ true → words_of (spaced_words (w ∷ ws)) ≡ map word_text (w ∷ ws)
+spelled_words w [] f p = slice_split_none (λ b. b == 32) (word_text w) (word_lacks 32 (omega arith) w [] f.0 p)
+spelled_words w (v ∷ vs) f p =
+    slice_split_at (λ b. b == 32) (word_text w) 32 (spaced_words (v ∷ vs)) (word_lacks 32 (omega arith) w (v ∷ vs) f.0 p) refl
+    ∙ ap (λ t. word_text w ∷ t) (spelled_words v vs f.1 (later_printed w (v ∷ vs) p))
 
 -- a line has no line feed in it
-pub spelled_lacks : (w : Word) (ws : List Word) → FitWords (w ∷ ws) → Lacks 10 (spaced_words (w ∷ ws))
-spelled_lacks w [] f = word_lacks 10 (omega arith) w f.0
-spelled_lacks w (v ∷ vs) f =
-    All-append (λ b. (b == 10) ≡ false) (word_text w) (32 ∷ spaced_words (v ∷ vs)) (word_lacks 10 (omega arith) w f.0)
-    (All-cons (λ b. (b == 10) ≡ false) 32 (spaced_words (v ∷ vs)) refl (spelled_lacks v vs f.1))
+pub spelled_lacks : (w : Word) (ws : List Word) → FitWords (w ∷ ws) → are_printed (w ∷ ws) ≡ true → Lacks 10 (spaced_words (w ∷ ws))
+spelled_lacks w [] f p = word_lacks 10 (omega arith) w [] f.0 p
+spelled_lacks w (v ∷ vs) f p =
+    All-append (λ b. (b == 10) ≡ false) (word_text w) (32 ∷ spaced_words (v ∷ vs)) (word_lacks 10 (omega arith) w (v ∷ vs) f.0 p)
+    (All-cons (λ b. (b == 10) ≡ false) 32 (spaced_words (v ∷ vs)) refl (spelled_lacks v vs f.1 (later_printed w (v ∷ vs) p)))
 
 -- ---- lines
 
@@ -202,16 +189,16 @@ no_entry n (Some e) h =
     let taken = entry_taken (map word_text (count_words n)) e h in
     let w = e.step.worker in
     let words : map word_text (count_words n) ≡ map word_text (entry_words e) = taken.0 in
-    let first : spelling name.Steps ≡ decimal w = cc in
-    let read : numeral_of (spelling name.Steps) ≡ Some w = ap numeral_of first ∙ number_again w (omega (arith, taken.1.0)) in
-    let none : numeral_of (spelling name.Steps) ≡ None = refl in
+    let first : codes "steps" ≡ decimal w = cc in
+    let read : numeral_of (codes "steps") ≡ Some w = ap numeral_of first ∙ number_again w (omega (arith, taken.1.0)) in
+    let none : numeral_of (codes "steps") ≡ None = refl in
     absurd (cc)
 
 made_back : (v : Version) (e : Entry Step Reply) → FitWords (entry_words e) → is_answer_in v e.step.act e.reply ≡ true
     → made_in v (spaced_words (entry_words e)) ≡ Some (Made e)
 unfolding made_in
 made_back v e f a =
-    let words : words_of (spaced_words (entry_words e)) ≡ map word_text (entry_words e) = spelled_words (Worker e.step.worker) _ f in
+    let words : words_of (spaced_words (entry_words e)) ≡ map word_text (entry_words e) = spelled_words (Worker e.step.worker) _ f (entry_printed e) in
     let read : entry_in (words_of (spaced_words (entry_words e))) ≡ Some e = ap entry_in words ∙ entry_back e f in
     rw read (cond-true (is_answer_in v e.step.act e.reply) (Some (Made e)) None a)
 
@@ -219,7 +206,7 @@ none_made : (n : ℕ) → n < 2 ^ 64 → made_in Two (spaced_words (count_words 
 unfolding made_in
 none_made n h =
     let words : words_of (spaced_words (count_words n)) ≡ map word_text (count_words n) =
-    spelled_words (Named name.Steps) (Wide n ∷ []) (tt, (h, tt)) in
+    spelled_words (Named (codes "steps")) (Wide n ∷ []) (tt, (h, tt)) refl in
     let none : entry_in (words_of (spaced_words (count_words n))) ≡ None = ap entry_in words ∙ no_entry n _ refl in
     rw none refl
 
@@ -232,7 +219,7 @@ line_again Two (Made e) h =
 line_again One (Steps n) h = absurd h
 line_again Two (Steps n) h =
     let words : words_of (spaced_words (count_words n)) ≡ map word_text (count_words n) =
-    spelled_words (Named name.Steps) (Wide n ∷ []) (tt, (h, tt)) in
+    spelled_words (Named (codes "steps")) (Wide n ∷ []) (tt, (h, tt)) refl in
     let some : count_in (words_of (spaced_words (count_words n))) ≡ Some n = ap count_in words ∙ count_back n h in
     ap (λ o. or_count o (count_in (words_of (spaced_words (count_words n))))) (none_made n h) ∙ ap (or_count None) some
 

@@ -1,16 +1,15 @@
 -- What is read of words is what they spell, and what is spelled is read again.
-use Rattle.std.proofs.Common.{◌≡◌, ◌∙◌, ◌<◌, ◌^◌, ℕ, Bool, true, false, List, [], ◌∷◌, ◌++◌, map, ap, sym, subst, refl, arith, Option, Some, None, cond}
+use Rattle.std.proofs.Common.{◌≡◌, ◌∙◌, ◌<◌, ◌^◌, ℕ, Bool, true, false, List, [], ◌∷◌, ◌++◌, codes, map, ap, sym, subst, refl, arith, Option, Some, None, cond}
 use Rattle.std.proofs.lemmas.Bool.{cond-true, lt-ltb}
 use Rattle.std.proofs.lemmas.Bool.Decides.{nat_tests}
 use Rattle.std.specs.Fmt.{decimal}
 use Rattle.std.specs.Prelude.{nat_lt}
-use Rattle.journal_text.specs.Names.{journal_name_of, spelling}
-use Rattle.journal_text.specs.LineGrammar.{numeral_of, name_at, wide_at, small_at, item_at, answer_at, answer_named, act_at, act_named, reply_at, reply_named}
-use Rattle.journal_text.specs.declared.line_text.Word.{Word}
-use Rattle.journal_text.specs.Table.{word_text, FitWords, answer_name, act_words, reply_words}
-use Rattle.journal_text.specs.declared.name.JournalName.{JournalName}
-use Rattle.journal_text.specs.declared.name.JournalName.TheVariants as name
-use Rattle.journal_text.proofs.Spellings.{name_again, name_takes, number_again, number_takes}
+use Rattle.std.specs.Str.{bytes_eq}
+use Rattle.std.proofs.lemmas.Slice.Eq.{bytes_eq-Decides}
+use Rattle.journal_text.specs.LineGrammar.{numeral_of, named_at, only_at, wide_at, small_at, item_at, answer_at, answer_of, act_at, act_with_numbers, reply_at, reply_with_numbers}
+use Rattle.journal_text.specs.Table.{word_text, FitWords, act_word, act_words, answer_reply, item_words, reply_word, reply_words, Word, Named, Stripe, Wide}
+use Rattle.journal_text.specs.declared.table.TheConstants.{ACTS, REPLIES}
+use Rattle.journal_text.proofs.Spellings.{found_named, number_again, number_takes}
 use Rattle.step_record.specs.declared.item.Item.{Item}
 use Rattle.step_record.specs.declared.step.Act.{Act}
 use Rattle.step_record.specs.declared.step.Act.TheVariants as act
@@ -18,20 +17,11 @@ use Rattle.step_record.specs.declared.step.Answer.{Answer}
 use Rattle.step_record.specs.declared.step.Answer.TheVariants as answer
 use Rattle.step_record.specs.declared.step.Reply.{Reply}
 use Rattle.step_record.specs.declared.step.Reply.TheVariants as reply
-use Rattle.text_lines.specs.Reads.{◌>>=◌, with_rest}
+use Rattle.text_lines.specs.Reads.{◌>>=◌, first_named, with_rest}
 
 -- ---- what is spelled is read again
 
-again : (a : Answer) → answer_named (answer_name a) ≡ Some a
-again answer.Kept = refl
-again answer.Full = refl
-again answer.Lost = refl
-
 module _ (ws : List (List ℕ)) where
-  pub name_back : (n : JournalName) → name_at (spelling n ∷ ws) ≡ Some (n, ws)
-  unfolding name_at
-  name_back n = ap (with_rest ws) (name_again n)
-
   pub wide_back : (n : ℕ) → n < 2 ^ 64 → wide_at (decimal n ∷ ws) ≡ Some (n, ws)
   unfolding wide_at
   wide_back n h = ap (with_rest ws) (number_again n h)
@@ -45,55 +35,56 @@ module _ (ws : List (List ℕ)) where
   unfolding item_at wide_at
   item_back i k n = rw (number_again i.key k) (rw (number_again i.node n) refl)
 
-  pub answer_back : (a : Answer) → answer_at (spelling (answer_name a) ∷ ws) ≡ Some (a, ws)
-  unfolding answer_at
-  answer_back a = rw (name_back (answer_name a)) (ap (with_rest ws) (again a))
+  pub answer_back : (a : Answer) → answer_at (reply_word (answer_reply a) ∷ ws) ≡ Some (a, ws)
+  unfolding answer_at named_at
+  answer_back answer.Kept = refl
+  answer_back answer.Full = refl
+  answer_back answer.Lost = refl
+
+-- a value made of what is read
+read_as : {A B L : Type 0} (o : Option (A × L)) (f : A → B) (x : A) (l : L) → o ≡ Some (x, l)
+    → ◌>>=◌ {B = B × L} o (λ k. Some (f k.0, k.1)) ≡ Some (f x, l)
+read_as {A} {B} {L} o f x l h =
+    let made : A × L → Option (B × L) = λ k. Some (f k.0, k.1) in
+    ap (λ o. o >>= made) h
+
+striped_back : (ws : List (List ℕ)) (make : ℕ → Item → Act) (s : ℕ) (i : Item) → s < 256 → i.key < 2 ^ 64 → i.node < 2 ^ 64
+    → ◌>>=◌ {B = Act × List (List ℕ)} (small_at 256 (decimal s ∷ decimal i.key ∷ decimal i.node ∷ ws)) (λ n. (item_at n.1 >>= λ j. Some (make n.0 j.0, j.1))) ≡ Some (make s i, ws)
+striped_back ws make s i hs hk hn =
+    let made : ℕ × List (List ℕ) → Option (Act × List (List ℕ)) = λ n. (item_at n.1 >>= λ j. Some (make n.0 j.0, j.1)) in
+    ap (λ o. o >>= made) (small_back (decimal i.key ∷ decimal i.node ∷ ws) 256 s (omega arith) hs)
+    ∙ read_as _ (make s) i ws (item_back ws i hk hn)
 
 pub act_back : (ws : List (List ℕ)) (a : Act) → FitWords (act_words a) → act_at (map word_text (act_words a) ++ ws) ≡ Some (a, ws)
-unfolding act_at
-act_back ws (act.Look n) f = rw (name_back (decimal n ∷ ws) name.Look) (rw (wide_back ws n f.1.0) refl)
-act_back ws (act.Offer s i) f = rw (name_back (decimal s ∷ decimal i.key ∷ decimal i.node ∷ ws) name.Offer)
-    (rw (small_back (decimal i.key ∷ decimal i.node ∷ ws) 256 s (omega arith) f.1.0) (rw (item_back ws i f.1.1.0 f.1.1.1.0) refl))
-act_back ws (act.Lose s i) f = rw (name_back (decimal s ∷ decimal i.key ∷ decimal i.node ∷ ws) name.Lose)
-    (rw (small_back (decimal i.key ∷ decimal i.node ∷ ws) 256 s (omega arith) f.1.0) (rw (item_back ws i f.1.1.0 f.1.1.1.0) refl))
-act_back ws (act.Put n) f = rw (name_back (decimal n ∷ ws) name.Put) (rw (wide_back ws n f.1.0) refl)
-act_back ws (act.Remove n) f = rw (name_back (decimal n ∷ ws) name.Remove) (rw (wide_back ws n f.1.0) refl)
-act_back ws (act.AfterRead a) f = rw (name_back (spelling (answer_name a) ∷ ws) name.AfterRead) (rw (answer_back ws a) refl)
-act_back ws act.AfterWrite f = rw (name_back ws name.AfterWrite) refl
-act_back ws act.Begin f = rw (name_back ws name.Begin) refl
-act_back ws (act.DrainRead s) f = rw (name_back (decimal s ∷ ws) name.DrainRead) (rw (small_back ws 256 s (omega arith) f.1.0) refl)
-act_back ws act.DrainWrite f = rw (name_back ws name.DrainWrite) refl
-act_back ws act.Evict f = rw (name_back ws name.Evict) refl
-act_back ws act.End f = rw (name_back ws name.End) refl
+unfolding act_at named_at
+act_back ws (act.Look n) f = read_as _ act.Look n ws (wide_back ws n f.1.0)
+act_back ws (act.Offer s i) f = striped_back ws act.Offer s i f.1.0 f.1.1.0 f.1.1.1.0
+act_back ws (act.Lose s i) f = striped_back ws act.Lose s i f.1.0 f.1.1.0 f.1.1.1.0
+act_back ws (act.Put n) f = read_as _ act.Put n ws (wide_back ws n f.1.0)
+act_back ws (act.Remove n) f = read_as _ act.Remove n ws (wide_back ws n f.1.0)
+act_back ws (act.AfterRead a) f = read_as _ act.AfterRead a ws (answer_back ws a)
+act_back ws (act.DrainRead s) f = read_as _ act.DrainRead s ws (small_back ws 256 s (omega arith) f.1.0)
+act_back ws a f = refl
 
 pub reply_back : (ws : List (List ℕ)) (r : Reply) → FitWords (reply_words r) → reply_at (map word_text (reply_words r) ++ ws) ≡ Some (r, ws)
-unfolding reply_at
-reply_back ws (reply.Hit n) f = rw (name_back (decimal n ∷ ws) name.Hit) (rw (wide_back ws n f.1.0) refl)
-reply_back ws reply.Miss f = rw (name_back ws name.Miss) refl
-reply_back ws reply.Kept f = rw (name_back ws name.Kept) refl
-reply_back ws reply.Full f = rw (name_back ws name.Full) refl
-reply_back ws reply.Lost f = rw (name_back ws name.Lost) refl
-reply_back ws (reply.Added n) f = rw (name_back (decimal n ∷ ws) name.Added) (rw (wide_back ws n f.1.0) refl)
-reply_back ws (reply.Present n) f = rw (name_back (decimal n ∷ ws) name.Present) (rw (wide_back ws n f.1.0) refl)
-reply_back ws reply.WritesFull f = rw (name_back ws name.WritesFull) refl
-reply_back ws (reply.Removed n) f = rw (name_back (decimal n ∷ ws) name.Removed) (rw (wide_back ws n f.1.0) refl)
-reply_back ws reply.Absent f = rw (name_back ws name.Absent) refl
-reply_back ws reply.Go f = rw (name_back ws name.Go) refl
-reply_back ws reply.Drain f = rw (name_back ws name.Drain) refl
-reply_back ws reply.Began f = rw (name_back ws name.Began) refl
-reply_back ws reply.Busy f = rw (name_back ws name.Busy) refl
-reply_back ws (reply.Drained i) f = rw (name_back (decimal i.key ∷ decimal i.node ∷ ws) name.Drained) (rw (item_back ws i f.1.0 f.1.1.0) refl)
-reply_back ws reply.Empty f = rw (name_back ws name.Empty) refl
-reply_back ws (reply.Applied i) f = rw (name_back (decimal i.key ∷ decimal i.node ∷ ws) name.Applied) (rw (item_back ws i f.1.0 f.1.1.0) refl)
-reply_back ws (reply.Cleared i) f = rw (name_back (decimal i.key ∷ decimal i.node ∷ ws) name.Cleared) (rw (item_back ws i f.1.0 f.1.1.0) refl)
-reply_back ws reply.Enough f = rw (name_back ws name.Enough) refl
-reply_back ws (reply.Shifted i) f = rw (name_back (decimal i.key ∷ decimal i.node ∷ ws) name.Shifted) (rw (item_back ws i f.1.0 f.1.1.0) refl)
-reply_back ws (reply.Evicted i) f = rw (name_back (decimal i.key ∷ decimal i.node ∷ ws) name.Evicted) (rw (item_back ws i f.1.0 f.1.1.0) refl)
-reply_back ws (reply.Rejected i) f = rw (name_back (decimal i.key ∷ decimal i.node ∷ ws) name.Rejected) (rw (item_back ws i f.1.0 f.1.1.0) refl)
-reply_back ws reply.Fits f = rw (name_back ws name.Fits) refl
-reply_back ws reply.Idle f = rw (name_back ws name.Idle) refl
-reply_back ws reply.Again f = rw (name_back ws name.Again) refl
-reply_back ws reply.NotYet f = rw (name_back ws name.NotYet) refl
+unfolding reply_at named_at
+reply_back ws (reply.Hit n) f = read_as _ reply.Hit n ws (wide_back ws n f.1.0)
+reply_back ws (reply.Added n) f = read_as _ reply.Added n ws (wide_back ws n f.1.0)
+reply_back ws (reply.Present n) f = read_as _ reply.Present n ws (wide_back ws n f.1.0)
+reply_back ws (reply.Removed n) f = read_as _ reply.Removed n ws (wide_back ws n f.1.0)
+reply_back ws (reply.Drained i) f = read_as _ reply.Drained i ws (item_back ws i f.1.0 f.1.1.0)
+reply_back ws (reply.Applied i) f = read_as _ reply.Applied i ws (item_back ws i f.1.0 f.1.1.0)
+reply_back ws (reply.Cleared i) f = read_as _ reply.Cleared i ws (item_back ws i f.1.0 f.1.1.0)
+reply_back ws (reply.Shifted i) f = read_as _ reply.Shifted i ws (item_back ws i f.1.0 f.1.1.0)
+reply_back ws (reply.Evicted i) f = read_as _ reply.Evicted i ws (item_back ws i f.1.0 f.1.1.0)
+reply_back ws (reply.Rejected i) f = read_as _ reply.Rejected i ws (item_back ws i f.1.0 f.1.1.0)
+reply_back ws r f = refl
+
+-- the value that is found for a word
+pub found_at : {A : Type 0} (spelled : A → List ℕ) (ns : List A) (words : List (List ℕ)) (w : List ℕ) (ws : List (List ℕ)) (o : Option A) → words ≡ w ∷ ws
+    → o ≡ first_named spelled ns w → with_rest ws o ≡ named_at spelled ns words
+unfolding named_at
+found_at spelled ns words w ws o e h = ap (with_rest ws) h ∙ sym (ap (named_at spelled ns) e)
 
 -- ---- what is read is what the words spell
 
@@ -114,14 +105,28 @@ rest_taken : {A : Type 0} (ws : List (List ℕ)) (o : Option A) (k : A × List (
 rest_taken ws None k h = absurd (cc)
 rest_taken ws (Some x) k h = (ap (λ p. Some p.0) (some_same h), ap (λ p. p.1) (some_same h))
 
-pub name_taken : (ws : List (List ℕ)) (k : JournalName × List (List ℕ)) → name_at ws ≡ Some k → ws ≡ spelling k.0 ∷ k.1
-unfolding name_at
-name_taken [] k h = absurd (cc)
-name_taken (w ∷ ws) k h =
-    let r = rest_taken ws (journal_name_of w) k h in
-    let word : w ≡ spelling k.0 = sym (name_takes w k.0 r.0) in
+pub named_taken : {A : Type 0} (spelled : A → List ℕ) (ns : List A) (ws : List (List ℕ)) (k : A × List (List ℕ)) → named_at spelled ns ws ≡ Some k
+    → ws ≡ spelled k.0 ∷ k.1
+unfolding named_at
+named_taken spelled ns [] k h = absurd (cc)
+named_taken spelled ns (w ∷ ws) k h =
+    let r = rest_taken ws (first_named spelled ns w) k h in
+    let word : w ≡ spelled k.0 = sym (found_named spelled ns w k.0 r.0) in
     let rest : ws ≡ k.1 = r.1 in
     cc
+
+only_this : (word w : List ℕ) (ws : List (List ℕ)) (k : Unit {0} × List (List ℕ)) (b : Bool) → bytes_eq w word ≡ b → cond b (Some (tt, ws)) None ≡ Some k
+    → w ∷ ws ≡ word ∷ k.1
+only_this word w ws k true e h =
+    let same : w ≡ word = (bytes_eq-Decides w word).0 e in
+    let rest : ws ≡ k.1 = ap (λ p. p.1) (some_same h) in
+    cc
+only_this word w ws k false e h = absurd (cc)
+
+pub only_taken : (word : List ℕ) (ws : List (List ℕ)) (k : Unit {0} × List (List ℕ)) → only_at word ws ≡ Some k → ws ≡ word ∷ k.1
+unfolding only_at
+only_taken word [] k h = absurd (cc)
+only_taken word (w ∷ ws) k h = only_this word w ws k _ refl h
 
 pub wide_taken : (ws : List (List ℕ)) (k : ℕ × List (List ℕ)) → wide_at ws ≡ Some k → (ws ≡ decimal k.0 ∷ k.1) × (k.0 < 2 ^ 64)
 unfolding wide_at
@@ -157,85 +162,77 @@ item_taken ws k h =
     (wide_at b.0.1) (λ n. record { key = b.0.0; node = n }) k
     (λ m e. let node = wide_taken b.0.1 m e in (key.0 ∙ ap (λ t. decimal b.0.0 ∷ t) node.0, key.1, node.1)) b.2
 
-answer_of : (n : JournalName) (a : Answer) → answer_named n ≡ Some a → n ≡ answer_name a
-answer_of name.Kept a h = ap answer_name (some_same h)
-answer_of name.Full a h = ap answer_name (some_same h)
-answer_of name.Lost a h = ap answer_name (some_same h)
-answer_of _ a h = absurd (cc)
+answer_is : (r : Reply) (a : Answer) → answer_of r ≡ Some a → r ≡ answer_reply a
+answer_is reply.Kept a h = ap answer_reply (some_same h)
+answer_is reply.Full a h = ap answer_reply (some_same h)
+answer_is reply.Lost a h = ap answer_reply (some_same h)
+answer_is r a h = absurd (cc)
 
-pub answer_taken : (ws : List (List ℕ)) (k : Answer × List (List ℕ)) → answer_at ws ≡ Some k → ws ≡ spelling (answer_name k.0) ∷ k.1
+pub answer_taken : (ws : List (List ℕ)) (k : Answer × List (List ℕ)) → answer_at ws ≡ Some k → ws ≡ reply_word (answer_reply k.0) ∷ k.1
 unfolding answer_at
 answer_taken ws k h =
-    let b = bound (name_at ws) _ k h in
-    let r = rest_taken b.0.1 (answer_named b.0.0) k b.2 in
-    name_taken ws b.0 b.1 ∙ ap (λ n. spelling n ∷ b.0.1) (answer_of b.0.0 k.0 r.0) ∙ ap (λ t. spelling (answer_name k.0) ∷ t) r.1
+    let b = bound (named_at reply_word REPLIES ws) _ k h in
+    let r = rest_taken b.0.1 (answer_of b.0.0) k b.2 in
+    named_taken reply_word REPLIES ws b.0 b.1 ∙ ap (λ r. reply_word r ∷ b.0.1) (answer_is b.0.0 k.0 r.0) ∙ ap (λ t. reply_word (answer_reply k.0) ∷ t) r.1
 
--- a name and the words behind it are these words, which fit, and the rest
-abbrev Taken : {A : Type 0} → (A → List Word) → JournalName → List (List ℕ) → A × List (List ℕ) → Type 0
-Taken words n ws y = (spelling n ∷ ws ≡ map word_text (words y.0) ++ y.1) × FitWords (words y.0)
+-- a word and the words behind it are these words, which fit, and the rest
+abbrev Taken : {A : Type 0} → (A → List Word) → List ℕ → List (List ℕ) → A × List (List ℕ) → Type 0
+Taken words w ws y = (w ∷ ws ≡ map word_text (words y.0) ++ y.1) × FitWords (words y.0)
 
-named_act : (n : JournalName) (ws : List (List ℕ)) (y : Act × List (List ℕ)) → act_named n ws ≡ Some y → Taken act_words n ws y
-named_act name.Look ws y h = read_then (Taken act_words name.Look ws) (wide_at ws) act.Look y (λ k e. (ap (λ t. spelling name.Look ∷ t) (wide_taken ws k e).0, (tt, ((wide_taken ws k e).1, tt)))) h
-named_act name.Offer ws y h =
+-- values with one number of 64 bits, and with an item
+module _ {A : Type 0} (words : A → List Word) (w : List ℕ) (ws : List (List ℕ)) (y : A × List (List ℕ)) where
+  wide_numbers : (make : ℕ → A) → ((n : ℕ) → words (make n) ≡ Named w ∷ Wide n ∷ []) → (wide_at ws >>= λ k. Some (make k.0, k.1)) ≡ Some y → Taken words w ws y
+  wide_numbers make is h = read_then (Taken words w ws) (wide_at ws) make y
+      (λ k e. let t = wide_taken ws k e in subst (λ us. (w ∷ ws ≡ map word_text us ++ k.1) × FitWords us) (sym (is k.0)) (ap (λ t. w ∷ t) t.0, (tt, (t.1, tt)))) h
+
+  item_numbers : (make : Item → A) → ((i : Item) → words (make i) ≡ Named w ∷ item_words i) → (item_at ws >>= λ k. Some (make k.0, k.1)) ≡ Some y → Taken words w ws y
+  item_numbers make is h = read_then (Taken words w ws) (item_at ws) make y
+      (λ k e. let t = item_taken ws k e in subst (λ us. (w ∷ ws ≡ map word_text us ++ k.1) × FitWords us) (sym (is k.0)) (ap (λ t. w ∷ t) t.0, (tt, (t.1, (t.2, tt))))) h
+
+striped_numbers : (w : List ℕ) (ws : List (List ℕ)) (y : Act × List (List ℕ)) (make : ℕ → Item → Act) → ((s : ℕ) (i : Item) → act_words (make s i) ≡ Named w ∷ Stripe s ∷ item_words i)
+    → (small_at 256 ws >>= λ n. (item_at n.1 >>= λ j. Some (make n.0 j.0, j.1))) ≡ Some y → Taken act_words w ws y
+striped_numbers w ws y make is h =
     let b = bound (small_at 256 ws) _ y h in
     let s = small_taken 256 ws b.0 b.1 in
-    read_then (Taken act_words name.Offer ws) (item_at b.0.1) (λ i. act.Offer b.0.0 i) y (λ k e. let t = item_taken b.0.1 k e in
-    (ap (λ t. spelling name.Offer ∷ t) (s.0 ∙ ap (λ t. decimal b.0.0 ∷ t) t.0), (tt, (s.1, (t.1, (t.2, tt)))))) b.2
-named_act name.Lose ws y h =
-    let b = bound (small_at 256 ws) _ y h in
-    let s = small_taken 256 ws b.0 b.1 in
-    read_then (Taken act_words name.Lose ws) (item_at b.0.1) (λ i. act.Lose b.0.0 i) y (λ k e. let t = item_taken b.0.1 k e in
-    (ap (λ t. spelling name.Lose ∷ t) (s.0 ∙ ap (λ t. decimal b.0.0 ∷ t) t.0), (tt, (s.1, (t.1, (t.2, tt)))))) b.2
-named_act name.Put ws y h = read_then (Taken act_words name.Put ws) (wide_at ws) act.Put y (λ k e. (ap (λ t. spelling name.Put ∷ t) (wide_taken ws k e).0, (tt, ((wide_taken ws k e).1, tt)))) h
-named_act name.Remove ws y h = read_then (Taken act_words name.Remove ws) (wide_at ws) act.Remove y (λ k e. (ap (λ t. spelling name.Remove ∷ t) (wide_taken ws k e).0, (tt, ((wide_taken ws k e).1, tt)))) h
-named_act name.AfterRead ws y h = read_then (Taken act_words name.AfterRead ws) (answer_at ws) act.AfterRead y (λ k e. (ap (λ t. spelling name.AfterRead ∷ t) (answer_taken ws k e), (tt, (tt, tt)))) h
-named_act name.AfterWrite ws y h = subst (Taken act_words name.AfterWrite ws) (some_same h) (refl, (tt, tt))
-named_act name.Begin ws y h = subst (Taken act_words name.Begin ws) (some_same h) (refl, (tt, tt))
-named_act name.DrainRead ws y h = read_then (Taken act_words name.DrainRead ws) (small_at 256 ws) act.DrainRead y (λ k e. (ap (λ t. spelling name.DrainRead ∷ t) (small_taken 256 ws k e).0, (tt, ((small_taken 256 ws k e).1, tt)))) h
-named_act name.DrainWrite ws y h = subst (Taken act_words name.DrainWrite ws) (some_same h) (refl, (tt, tt))
-named_act name.Evict ws y h = subst (Taken act_words name.Evict ws) (some_same h) (refl, (tt, tt))
-named_act name.End ws y h = subst (Taken act_words name.End ws) (some_same h) (refl, (tt, tt))
-named_act _ ws y h = absurd (cc)
+    read_then (Taken act_words w ws) (item_at b.0.1) (make b.0.0) y
+    (λ k e. let t = item_taken b.0.1 k e in subst (λ us. (w ∷ ws ≡ map word_text us ++ k.1) × FitWords us) (sym (is b.0.0 k.0))
+    (ap (λ t. w ∷ t) (s.0 ∙ ap (λ t. decimal b.0.0 ∷ t) t.0), (tt, (s.1, (t.1, (t.2, tt)))))) b.2
 
-named_reply : (n : JournalName) (ws : List (List ℕ)) (y : Reply × List (List ℕ)) → reply_named n ws ≡ Some y → Taken reply_words n ws y
-named_reply name.Hit ws y h = read_then (Taken reply_words name.Hit ws) (wide_at ws) reply.Hit y (λ k e. (ap (λ t. spelling name.Hit ∷ t) (wide_taken ws k e).0, (tt, ((wide_taken ws k e).1, tt)))) h
-named_reply name.Miss ws y h = subst (Taken reply_words name.Miss ws) (some_same h) (refl, (tt, tt))
-named_reply name.Kept ws y h = subst (Taken reply_words name.Kept ws) (some_same h) (refl, (tt, tt))
-named_reply name.Full ws y h = subst (Taken reply_words name.Full ws) (some_same h) (refl, (tt, tt))
-named_reply name.Lost ws y h = subst (Taken reply_words name.Lost ws) (some_same h) (refl, (tt, tt))
-named_reply name.Added ws y h = read_then (Taken reply_words name.Added ws) (wide_at ws) reply.Added y (λ k e. (ap (λ t. spelling name.Added ∷ t) (wide_taken ws k e).0, (tt, ((wide_taken ws k e).1, tt)))) h
-named_reply name.Present ws y h = read_then (Taken reply_words name.Present ws) (wide_at ws) reply.Present y (λ k e. (ap (λ t. spelling name.Present ∷ t) (wide_taken ws k e).0, (tt, ((wide_taken ws k e).1, tt)))) h
-named_reply name.WritesFull ws y h = subst (Taken reply_words name.WritesFull ws) (some_same h) (refl, (tt, tt))
-named_reply name.Removed ws y h = read_then (Taken reply_words name.Removed ws) (wide_at ws) reply.Removed y (λ k e. (ap (λ t. spelling name.Removed ∷ t) (wide_taken ws k e).0, (tt, ((wide_taken ws k e).1, tt)))) h
-named_reply name.Absent ws y h = subst (Taken reply_words name.Absent ws) (some_same h) (refl, (tt, tt))
-named_reply name.Go ws y h = subst (Taken reply_words name.Go ws) (some_same h) (refl, (tt, tt))
-named_reply name.Drain ws y h = subst (Taken reply_words name.Drain ws) (some_same h) (refl, (tt, tt))
-named_reply name.Began ws y h = subst (Taken reply_words name.Began ws) (some_same h) (refl, (tt, tt))
-named_reply name.Busy ws y h = subst (Taken reply_words name.Busy ws) (some_same h) (refl, (tt, tt))
-named_reply name.Drained ws y h = read_then (Taken reply_words name.Drained ws) (item_at ws) reply.Drained y (λ k e. let t = item_taken ws k e in (ap (λ t. spelling name.Drained ∷ t) t.0, (tt, (t.1, (t.2, tt))))) h
-named_reply name.Empty ws y h = subst (Taken reply_words name.Empty ws) (some_same h) (refl, (tt, tt))
-named_reply name.Applied ws y h = read_then (Taken reply_words name.Applied ws) (item_at ws) reply.Applied y (λ k e. let t = item_taken ws k e in (ap (λ t. spelling name.Applied ∷ t) t.0, (tt, (t.1, (t.2, tt))))) h
-named_reply name.Cleared ws y h = read_then (Taken reply_words name.Cleared ws) (item_at ws) reply.Cleared y (λ k e. let t = item_taken ws k e in (ap (λ t. spelling name.Cleared ∷ t) t.0, (tt, (t.1, (t.2, tt))))) h
-named_reply name.Enough ws y h = subst (Taken reply_words name.Enough ws) (some_same h) (refl, (tt, tt))
-named_reply name.Shifted ws y h = read_then (Taken reply_words name.Shifted ws) (item_at ws) reply.Shifted y (λ k e. let t = item_taken ws k e in (ap (λ t. spelling name.Shifted ∷ t) t.0, (tt, (t.1, (t.2, tt))))) h
-named_reply name.Evicted ws y h = read_then (Taken reply_words name.Evicted ws) (item_at ws) reply.Evicted y (λ k e. let t = item_taken ws k e in (ap (λ t. spelling name.Evicted ∷ t) t.0, (tt, (t.1, (t.2, tt))))) h
-named_reply name.Rejected ws y h = read_then (Taken reply_words name.Rejected ws) (item_at ws) reply.Rejected y (λ k e. let t = item_taken ws k e in (ap (λ t. spelling name.Rejected ∷ t) t.0, (tt, (t.1, (t.2, tt))))) h
-named_reply name.Fits ws y h = subst (Taken reply_words name.Fits ws) (some_same h) (refl, (tt, tt))
-named_reply name.Idle ws y h = subst (Taken reply_words name.Idle ws) (some_same h) (refl, (tt, tt))
-named_reply name.Again ws y h = subst (Taken reply_words name.Again ws) (some_same h) (refl, (tt, tt))
-named_reply name.NotYet ws y h = subst (Taken reply_words name.NotYet ws) (some_same h) (refl, (tt, tt))
-named_reply _ ws y h = absurd (cc)
+act_numbers : (a : Act) (ws : List (List ℕ)) (y : Act × List (List ℕ)) → act_with_numbers a ws ≡ Some y → Taken act_words (act_word a) ws y
+act_numbers (act.Look _) ws y h = wide_numbers act_words (codes "look") ws y act.Look (λ n. refl) h
+act_numbers (act.Offer _ _) ws y h = striped_numbers (codes "offer") ws y act.Offer (λ s i. refl) h
+act_numbers (act.Lose _ _) ws y h = striped_numbers (codes "lose") ws y act.Lose (λ s i. refl) h
+act_numbers (act.Put _) ws y h = wide_numbers act_words (codes "put") ws y act.Put (λ n. refl) h
+act_numbers (act.Remove _) ws y h = wide_numbers act_words (codes "remove") ws y act.Remove (λ n. refl) h
+act_numbers (act.AfterRead a) ws y h = read_then (Taken act_words (codes "afterread") ws) (answer_at ws) act.AfterRead y
+    (λ k e. (ap (λ t. codes "afterread" ∷ t) (answer_taken ws k e), (tt, (tt, tt)))) h
+act_numbers (act.DrainRead s) ws y h = read_then (Taken act_words (codes "drainread") ws) (small_at 256 ws) act.DrainRead y
+    (λ k e. let t = small_taken 256 ws k e in (ap (λ t. codes "drainread" ∷ t) t.0, (tt, (t.1, tt)))) h
+act_numbers a ws y h = subst (Taken act_words (act_word a) ws) (some_same h) (refl, (tt, tt))
+
+reply_numbers : (r : Reply) (ws : List (List ℕ)) (y : Reply × List (List ℕ)) → reply_with_numbers r ws ≡ Some y → Taken reply_words (reply_word r) ws y
+reply_numbers (reply.Hit _) ws y h = wide_numbers reply_words (codes "hit") ws y reply.Hit (λ n. refl) h
+reply_numbers (reply.Added _) ws y h = wide_numbers reply_words (codes "added") ws y reply.Added (λ n. refl) h
+reply_numbers (reply.Present _) ws y h = wide_numbers reply_words (codes "present") ws y reply.Present (λ n. refl) h
+reply_numbers (reply.Removed _) ws y h = wide_numbers reply_words (codes "removed") ws y reply.Removed (λ n. refl) h
+reply_numbers (reply.Drained _) ws y h = item_numbers reply_words (codes "drained") ws y reply.Drained (λ i. refl) h
+reply_numbers (reply.Applied _) ws y h = item_numbers reply_words (codes "applied") ws y reply.Applied (λ i. refl) h
+reply_numbers (reply.Cleared _) ws y h = item_numbers reply_words (codes "cleared") ws y reply.Cleared (λ i. refl) h
+reply_numbers (reply.Shifted _) ws y h = item_numbers reply_words (codes "shifted") ws y reply.Shifted (λ i. refl) h
+reply_numbers (reply.Evicted _) ws y h = item_numbers reply_words (codes "evicted") ws y reply.Evicted (λ i. refl) h
+reply_numbers (reply.Rejected _) ws y h = item_numbers reply_words (codes "rejected") ws y reply.Rejected (λ i. refl) h
+reply_numbers r ws y h = subst (Taken reply_words (reply_word r) ws) (some_same h) (refl, (tt, tt))
 
 pub act_taken : (ws : List (List ℕ)) (y : Act × List (List ℕ)) → act_at ws ≡ Some y → (ws ≡ map word_text (act_words y.0) ++ y.1) × FitWords (act_words y.0)
 unfolding act_at
 act_taken ws y h =
-    let b = bound (name_at ws) _ y h in
-    let t = named_act b.0.0 b.0.1 y b.2 in
-    (name_taken ws b.0 b.1 ∙ t.0, t.1)
+    let b = bound (named_at act_word ACTS ws) _ y h in
+    let t = act_numbers b.0.0 b.0.1 y b.2 in
+    (named_taken act_word ACTS ws b.0 b.1 ∙ t.0, t.1)
 
 pub reply_taken : (ws : List (List ℕ)) (y : Reply × List (List ℕ)) → reply_at ws ≡ Some y → (ws ≡ map word_text (reply_words y.0) ++ y.1) × FitWords (reply_words y.0)
 unfolding reply_at
 reply_taken ws y h =
-    let b = bound (name_at ws) _ y h in
-    let t = named_reply b.0.0 b.0.1 y b.2 in
-    (name_taken ws b.0 b.1 ∙ t.0, t.1)
+    let b = bound (named_at reply_word REPLIES ws) _ y h in
+    let t = reply_numbers b.0.0 b.0.1 y b.2 in
+    (named_taken reply_word REPLIES ws b.0 b.1 ∙ t.0, t.1)

@@ -1,14 +1,14 @@
 -- Words written one after another make the text of their line.
-use Rattle.std.proofs.Common.{◌≡◌, ◌∙◌, ℕ, List, [], ◌∷◌, ◌++◌, ap, sym, refl, append_assoc}
+use Rattle.std.proofs.Common.{◌≡◌, ◌∙◌, ℕ, List, [], ◌∷◌, ◌++◌, codes, ap, sym, refl, append_assoc}
 use Rattle.std.proofs.lemmas.List.{append-nil}
 use Rattle.std.specs.Fmt.{decimal}
 use Rattle.journal_text.specs.Journal.{ended_line}
-use Rattle.journal_text.specs.Table.{word_text, spaced_words, spaced, act_words, reply_name, reply_numbers, entry_words}
-use Rattle.journal_text.specs.declared.name.JournalName.TheVariants as name
-use Rattle.journal_text.specs.declared.line_text.Word.{Word}
-use Rattle.journal_text.specs.declared.line_text.Word.TheVariants.{Named, Worker}
+use Rattle.journal_text.specs.Table.{word_text, spaced_words, spaced, act_word, act_words, behind, reply_word, reply_words, entry_words, Word, Named, Worker}
 use Rattle.step_record.specs.declared.entry.Entry.{Entry}
+use Rattle.step_record.specs.declared.step.Act.{Act}
+use Rattle.step_record.specs.declared.step.Act.TheVariants as act
 use Rattle.step_record.specs.declared.step.Reply.{Reply}
+use Rattle.step_record.specs.declared.step.Reply.TheVariants as reply
 use Rattle.step_record.specs.declared.step.Step.{Step}
 
 pub spaced_none : spaced [] ≡ []
@@ -38,20 +38,29 @@ pub words_more : (text a b : List ℕ) (w : Word) (ws : List Word) → a ≡ tex
 words_more text a b w ws h k =
     k ∙ ap (λ t. t ++ spaced ws) h ∙ append_assoc text (word_text w) (spaced ws) ∙ ap (λ t. text ++ t) (sym (spelled_spaced w ws))
 
+-- a word with a space before it, and then others
+pub name_more : (text a b : List ℕ) (n : List ℕ) (ws : List Word) → a ≡ text ++ spaced (Named n ∷ []) → b ≡ a ++ spaced ws → b ≡ text ++ spaced (Named n ∷ ws)
+name_more text a b n ws h k =
+    k ∙ ap (λ t. t ++ spaced ws) h ∙ append_assoc text (spaced (Named n ∷ [])) (spaced ws) ∙ ap (λ t. text ++ t) (sym (spaced_append (Named n ∷ []) ws))
+
+-- acts and replies begin with their words
+pub act_front : (a : Act) → act_words a ≡ Named (act_word a) ∷ behind (act_words a)
+act_front (act.Look k) = refl
+act_front a = refl
+
+pub reply_front : (r : Reply) → reply_words r ≡ Named (reply_word r) ∷ behind (reply_words r)
+reply_front (reply.Hit n) = refl
+reply_front r = refl
+
 pub entry_more : (text a b d e : List ℕ) (entry : Entry Step Reply) → a ≡ text ++ decimal entry.step.worker → b ≡ a ++ spaced (act_words entry.step.act)
-    → d ≡ b ++ spaced (Named name.Equals ∷ Named (reply_name entry.reply) ∷ []) → e ≡ d ++ spaced (reply_numbers entry.reply)
-    → e ≡ text ++ spaced_words (entry_words entry)
+    → d ≡ b ++ spaced (Named (codes "=") ∷ []) → e ≡ d ++ spaced (reply_words entry.reply) → e ≡ text ++ spaced_words (entry_words entry)
 entry_more text a b d e entry ha hb hd he =
     let acts = act_words entry.step.act in
-    let equals : List Word = Named name.Equals ∷ Named (reply_name entry.reply) ∷ [] in
-    let numbers = reply_numbers entry.reply in
-    let behind : e ≡ a ++ spaced (acts ++ (equals ++ numbers)) =
-    he ∙ ap (λ t. t ++ spaced numbers) (hd ∙ ap (λ t. t ++ spaced equals) hb)
-    ∙ append_assoc (a ++ spaced acts) (spaced equals) (spaced numbers)
-    ∙ append_assoc a (spaced acts) (spaced equals ++ spaced numbers)
-    ∙ ap (λ t. a ++ (spaced acts ++ t)) (sym (spaced_append equals numbers))
-    ∙ ap (λ t. a ++ t) (sym (spaced_append acts (equals ++ numbers))) in
-    words_more text a e (Worker entry.step.worker) (acts ++ (equals ++ numbers)) ha behind
+    let equals = Named (codes "=") ∷ reply_words entry.reply in
+    let all : e ≡ a ++ spaced (acts ++ equals) =
+    name_more b d e (codes "=") (reply_words entry.reply) hd he ∙ ap (λ t. t ++ spaced equals) hb ∙ append_assoc a (spaced acts) (spaced equals)
+    ∙ ap (λ t. a ++ t) (sym (spaced_append acts equals)) in
+    words_more text a e (Worker entry.step.worker) (acts ++ equals) ha all
 
 -- a text and a line feed
 pub line_ended : (text line all : List ℕ) (b : List ℕ) → b ≡ text ++ line → all ≡ b ++ 10 ∷ [] → all ≡ text ++ ended_line line

@@ -1,19 +1,17 @@
 -- One text is the journal of one list of entries.
-use Rattle.std.proofs.Common.{◌≡◌, ◌≢◌, ◌∙◌, ◌<◌, ◌^◌, ℕ, List, [], ◌∷◌, ◌++◌, length, get_or, ap, sym, refl, subst, arith, Some, append_assoc, length-append}
+use Rattle.std.proofs.Common.{◌≡◌, ◌≢◌, ◌∙◌, ◌<◌, ◌^◌, ℕ, List, [], ◌∷◌, ◌++◌, codes, length, get_or, ap, sym, refl, subst, arith, Some, append_assoc, length-append}
 use Rattle.std.proofs.lemmas.List.{append-nil, append_cancel_left}
 use Rattle.std.proofs.lemmas.List.Elements.{All-head, All-tail}
 use Rattle.std.specs.List.{flat_map}
 use Rattle.journal_text.specs.Journal.{begun, closing_line, ended_line, entry_line, header, journal_of, AreLines}
 use Rattle.journal_text.specs.LineGrammar.{journal_line_in}
-use Rattle.journal_text.specs.Table.{text_of, IsLine}
+use Rattle.journal_text.specs.Table.{text_of, IsLine, Named, Wide, Worker}
 use Rattle.journal_text.specs.declared.line.JournalLine.{JournalLine}
 use Rattle.journal_text.specs.declared.line.JournalLine.TheVariants.{Made, Steps}
 use Rattle.journal_text.specs.declared.version.Version.{Version}
 use Rattle.journal_text.specs.declared.version.Version.TheVariants.{One, Two}
-use Rattle.journal_text.specs.declared.name.JournalName.TheVariants as name
-use Rattle.journal_text.specs.declared.line_text.Word.TheVariants.{Named, Wide, Worker}
 use Rattle.journal_text.proofs.Fronts.{header_lacks, same_line}
-use Rattle.journal_text.proofs.LineLaws.{line_again, spelled_lacks}
+use Rattle.journal_text.proofs.LineLaws.{entry_printed, line_again, spelled_lacks}
 use Rattle.step_record.specs.declared.entry.Entry.{Entry}
 use Rattle.step_record.specs.declared.step.Reply.{Reply}
 use Rattle.step_record.specs.declared.step.Step.{Step}
@@ -29,9 +27,9 @@ one_line v l m h k e = same_some (sym (line_again v l h) ∙ ap (journal_line_in
 
 pub line_lacks : (v : Version) (l : JournalLine) → IsLine v l → HasNoFeed (text_of l)
 unfolding IsLine text_of
-line_lacks v (Made e) h = spelled_lacks (Worker e.step.worker) _ h.0
+line_lacks v (Made e) h = spelled_lacks (Worker e.step.worker) _ h.0 (entry_printed e)
 line_lacks One (Steps n) h = absurd h
-line_lacks Two (Steps n) h = spelled_lacks (Named name.Steps) (Wide n ∷ []) (tt, (h, tt))
+line_lacks Two (Steps n) h = spelled_lacks (Named (codes "steps")) (Wide n ∷ []) (tt, (h, tt)) refl
 
 -- the first of two lines that end is one line, and what is behind it is one rest
 pub front_line : (v : Version) (l m : JournalLine) (x y : List ℕ) → IsLine v l → IsLine v m → ended_line (text_of l) ++ x ≡ ended_line (text_of m) ++ y → (l ≡ m) × (x ≡ y)

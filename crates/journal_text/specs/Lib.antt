@@ -1,9 +1,7 @@
-pub mod Names
 pub mod Table
 pub mod LineGrammar
 pub mod Journal
 pub mod Faults
 pub mod ReadFaults
-pub mod ReplyItem
 pub mod TextBuffer
 pub mod FaultText

@@ -1,13 +1,12 @@
 -- How a line is read, word by word. What callers see is the table; the laws say that this reads just its lines.
-use Rattle.std.specs.Prelude.{◌&&◌, ◌==◌, ℕ, List, [], ◌∷◌, Option, Some, None, length, nat_lt, slice_index}
+use Rattle.std.specs.Prelude.{◌&&◌, ◌==◌, ℕ, List, [], ◌∷◌, Option, Some, None, length, codes, nat_lt, slice_index}
 use Rattle.std.specs.Prelude.{if◌then◌else◌}
 use Rattle.std.specs.List.{slice_split}
-use Rattle.journal_text.specs.Names.{journal_name_of}
-use Rattle.journal_text.specs.Table.{is_answer_in}
+use Rattle.std.specs.Str.{bytes_eq}
+use Rattle.journal_text.specs.Table.{act_word, is_answer_in, reply_word}
 use Rattle.journal_text.specs.declared.line.JournalLine.{JournalLine}
 use Rattle.journal_text.specs.declared.line.JournalLine.TheVariants as line
-use Rattle.journal_text.specs.declared.name.JournalName.{JournalName}
-use Rattle.journal_text.specs.declared.name.JournalName.TheVariants as name
+use Rattle.journal_text.specs.declared.table.TheConstants.{ACTS, REPLIES}
 use Rattle.journal_text.specs.declared.version.Version.{Version}
 use Rattle.journal_text.specs.declared.version.Version.TheVariants.{One, Two}
 use Rattle.step_record.specs.declared.entry.Entry.{Entry}
@@ -21,7 +20,7 @@ use Rattle.step_record.specs.declared.step.Reply.TheVariants as reply
 use Rattle.step_record.specs.declared.step.Step.{Step}
 use Rattle.step_record.specs.declared.worker.TheConstants.{MAX_WORKERS}
 use Rattle.text_lines.specs.Numbers.{number_of}
-use Rattle.text_lines.specs.Reads.{◌>>=◌, with_rest, Reads, at_end}
+use Rattle.text_lines.specs.Reads.{◌>>=◌, at_end, first_named, with_rest, Reads}
 
 -- a number, whose first digit is 0 (48) only where it is alone
 unfoldable pub numeral_of : List ℕ → Option ℕ
@@ -31,9 +30,15 @@ numeral_of w = if nat_lt 1 (length w) && slice_index w 0 == 48 then None else nu
 abbrev pub words_of : List ℕ → List (List ℕ)
 words_of text = slice_split (λ b. b == 32) text
 
-unfoldable pub name_at : Reads JournalName
-name_at [] = None
-name_at (w ∷ ws) = with_rest ws (journal_name_of w)
+-- one of these values, whose word stands next
+unfoldable pub named_at : {A : Type 0} → (A → List ℕ) → List A → Reads A
+named_at word values [] = None
+named_at word values (w ∷ ws) = with_rest ws (first_named word values w)
+
+-- a word that must stand there
+unfoldable pub only_at : List ℕ → Reads (Unit {0})
+only_at word [] = None
+only_at word (w ∷ ws) = if bytes_eq w word then Some (tt, ws) else None
 
 unfoldable pub wide_at : Reads ℕ
 wide_at [] = None
@@ -46,80 +51,52 @@ small_at limit ws = wide_at ws >>= λ n. if nat_lt n.0 limit then Some n else No
 unfoldable pub item_at : Reads Item
 item_at ws = wide_at ws >>= λ k. (wide_at k.1 >>= λ n. Some (record { key = k.0; node = n.0 }, n.1))
 
-abbrev pub answer_named : JournalName → Option Answer
-answer_named name.Kept = Some answer.Kept
-answer_named name.Full = Some answer.Full
-answer_named name.Lost = Some answer.Lost
-answer_named _ = None
+abbrev pub answer_of : Reply → Option Answer
+answer_of reply.Kept = Some answer.Kept
+answer_of reply.Full = Some answer.Full
+answer_of reply.Lost = Some answer.Lost
+answer_of _ = None
 
 unfoldable pub answer_at : Reads Answer
-answer_at ws = name_at ws >>= λ n. with_rest n.1 (answer_named n.0)
+answer_at ws = named_at reply_word REPLIES ws >>= λ r. with_rest r.1 (answer_of r.0)
 
-abbrev pub act_named : JournalName → Reads Act
-act_named name.Look ws = wide_at ws >>= λ k. Some (act.Look k.0, k.1)
-act_named name.Offer ws = small_at 256 ws >>= λ s. (item_at s.1 >>= λ i. Some (act.Offer s.0 i.0, i.1))
-act_named name.Lose ws = small_at 256 ws >>= λ s. (item_at s.1 >>= λ i. Some (act.Lose s.0 i.0, i.1))
-act_named name.Put ws = wide_at ws >>= λ k. Some (act.Put k.0, k.1)
-act_named name.Remove ws = wide_at ws >>= λ k. Some (act.Remove k.0, k.1)
-act_named name.AfterRead ws = answer_at ws >>= λ a. Some (act.AfterRead a.0, a.1)
-act_named name.AfterWrite ws = Some (act.AfterWrite, ws)
-act_named name.Begin ws = Some (act.Begin, ws)
-act_named name.DrainRead ws = small_at 256 ws >>= λ s. Some (act.DrainRead s.0, s.1)
-act_named name.DrainWrite ws = Some (act.DrainWrite, ws)
-act_named name.Evict ws = Some (act.Evict, ws)
-act_named name.End ws = Some (act.End, ws)
-act_named _ ws = None
+-- an act, with the numbers that stand behind its word
+abbrev pub act_with_numbers : Act → Reads Act
+act_with_numbers (act.Look _) ws = wide_at ws >>= λ k. Some (act.Look k.0, k.1)
+act_with_numbers (act.Offer _ _) ws = small_at 256 ws >>= λ s. (item_at s.1 >>= λ i. Some (act.Offer s.0 i.0, i.1))
+act_with_numbers (act.Lose _ _) ws = small_at 256 ws >>= λ s. (item_at s.1 >>= λ i. Some (act.Lose s.0 i.0, i.1))
+act_with_numbers (act.Put _) ws = wide_at ws >>= λ k. Some (act.Put k.0, k.1)
+act_with_numbers (act.Remove _) ws = wide_at ws >>= λ k. Some (act.Remove k.0, k.1)
+act_with_numbers (act.AfterRead _) ws = answer_at ws >>= λ a. Some (act.AfterRead a.0, a.1)
+act_with_numbers (act.DrainRead _) ws = small_at 256 ws >>= λ s. Some (act.DrainRead s.0, s.1)
+act_with_numbers a ws = Some (a, ws)
 
 unfoldable pub act_at : Reads Act
-act_at ws = name_at ws >>= λ n. act_named n.0 n.1
+act_at ws = named_at act_word ACTS ws >>= λ a. act_with_numbers a.0 a.1
 
-abbrev pub reply_named : JournalName → Reads Reply
-reply_named name.Hit ws = wide_at ws >>= λ n. Some (reply.Hit n.0, n.1)
-reply_named name.Miss ws = Some (reply.Miss, ws)
-reply_named name.Kept ws = Some (reply.Kept, ws)
-reply_named name.Full ws = Some (reply.Full, ws)
-reply_named name.Lost ws = Some (reply.Lost, ws)
-reply_named name.Added ws = wide_at ws >>= λ n. Some (reply.Added n.0, n.1)
-reply_named name.Present ws = wide_at ws >>= λ n. Some (reply.Present n.0, n.1)
-reply_named name.WritesFull ws = Some (reply.WritesFull, ws)
-reply_named name.Removed ws = wide_at ws >>= λ n. Some (reply.Removed n.0, n.1)
-reply_named name.Absent ws = Some (reply.Absent, ws)
-reply_named name.Go ws = Some (reply.Go, ws)
-reply_named name.Drain ws = Some (reply.Drain, ws)
-reply_named name.Began ws = Some (reply.Began, ws)
-reply_named name.Busy ws = Some (reply.Busy, ws)
-reply_named name.Drained ws = item_at ws >>= λ i. Some (reply.Drained i.0, i.1)
-reply_named name.Empty ws = Some (reply.Empty, ws)
-reply_named name.Applied ws = item_at ws >>= λ i. Some (reply.Applied i.0, i.1)
-reply_named name.Cleared ws = item_at ws >>= λ i. Some (reply.Cleared i.0, i.1)
-reply_named name.Enough ws = Some (reply.Enough, ws)
-reply_named name.Shifted ws = item_at ws >>= λ i. Some (reply.Shifted i.0, i.1)
-reply_named name.Evicted ws = item_at ws >>= λ i. Some (reply.Evicted i.0, i.1)
-reply_named name.Rejected ws = item_at ws >>= λ i. Some (reply.Rejected i.0, i.1)
-reply_named name.Fits ws = Some (reply.Fits, ws)
-reply_named name.Idle ws = Some (reply.Idle, ws)
-reply_named name.Again ws = Some (reply.Again, ws)
-reply_named name.NotYet ws = Some (reply.NotYet, ws)
-reply_named _ ws = None
+-- a reply, with the numbers that stand behind its word
+abbrev pub reply_with_numbers : Reply → Reads Reply
+reply_with_numbers (reply.Hit _) ws = wide_at ws >>= λ n. Some (reply.Hit n.0, n.1)
+reply_with_numbers (reply.Added _) ws = wide_at ws >>= λ n. Some (reply.Added n.0, n.1)
+reply_with_numbers (reply.Present _) ws = wide_at ws >>= λ n. Some (reply.Present n.0, n.1)
+reply_with_numbers (reply.Removed _) ws = wide_at ws >>= λ n. Some (reply.Removed n.0, n.1)
+reply_with_numbers (reply.Drained _) ws = item_at ws >>= λ i. Some (reply.Drained i.0, i.1)
+reply_with_numbers (reply.Applied _) ws = item_at ws >>= λ i. Some (reply.Applied i.0, i.1)
+reply_with_numbers (reply.Cleared _) ws = item_at ws >>= λ i. Some (reply.Cleared i.0, i.1)
+reply_with_numbers (reply.Shifted _) ws = item_at ws >>= λ i. Some (reply.Shifted i.0, i.1)
+reply_with_numbers (reply.Evicted _) ws = item_at ws >>= λ i. Some (reply.Evicted i.0, i.1)
+reply_with_numbers (reply.Rejected _) ws = item_at ws >>= λ i. Some (reply.Rejected i.0, i.1)
+reply_with_numbers r ws = Some (r, ws)
 
 unfoldable pub reply_at : Reads Reply
-reply_at ws = name_at ws >>= λ n. reply_named n.0 n.1
-
--- a name that must stand there
-abbrev pub only_equals : JournalName → Option (Unit {0})
-only_equals name.Equals = Some tt
-only_equals _ = None
-
-abbrev pub only_steps : JournalName → Option (Unit {0})
-only_steps name.Steps = Some tt
-only_steps _ = None
+reply_at ws = named_at reply_word REPLIES ws >>= λ r. reply_with_numbers r.0 r.1
 
 unfoldable pub entry_in : List (List ℕ) → Option (Entry Step Reply)
-entry_in ws = small_at MAX_WORKERS ws >>= λ w. (act_at w.1 >>= λ a. (name_at a.1 >>= λ n. (only_equals n.0 >>= λ _.
-    (reply_at n.1 >>= λ r. at_end (record { step = record { worker = w.0; act = a.0 }; reply = r.0 }, r.1)))))
+entry_in ws = small_at MAX_WORKERS ws >>= λ w. (act_at w.1 >>= λ a. (only_at (codes "=") a.1 >>= λ e.
+    (reply_at e.1 >>= λ r. at_end (record { step = record { worker = w.0; act = a.0 }; reply = r.0 }, r.1))))
 
 unfoldable pub count_in : List (List ℕ) → Option ℕ
-count_in ws = name_at ws >>= λ n. (only_steps n.0 >>= λ _. (wide_at n.1 >>= at_end))
+count_in ws = only_at (codes "steps") ws >>= λ s. (wide_at s.1 >>= at_end)
 
 unfoldable pub made_in : Version → List ℕ → Option JournalLine
 made_in v text =

@@ -1,16 +1,11 @@
 -- The table of a journal's lines: the words of each act and of each reply, and which replies belong to which act.
-use Rattle.std.specs.Prelude.{◌≡◌, ◌<◌, ◌^◌, ℕ, Bool, List, [], ◌∷◌, ◌++◌, ◌&&◌, map, true, false}
+use Rattle.std.specs.Prelude.{◌≡◌, ◌<◌, ◌^◌, ℕ, Bool, List, [], ◌∷◌, ◌++◌, ◌&&◌, map, true, false, codes}
 use Rattle.std.specs.Fmt.{decimal}
 use Rattle.std.specs.List.{AllByRecursion, join_with_byte}
-use Rattle.journal_text.specs.Names.{spelling}
-use Rattle.journal_text.specs.declared.name.JournalName.{JournalName}
-use Rattle.journal_text.specs.declared.name.JournalName.TheVariants as name
 use Rattle.journal_text.specs.declared.version.Version.{Version}
 use Rattle.journal_text.specs.declared.version.Version.TheVariants.{One, Two}
 use Rattle.journal_text.specs.declared.line.JournalLine.{JournalLine}
 use Rattle.journal_text.specs.declared.line.JournalLine.TheVariants as line
-use Rattle.journal_text.specs.declared.line_text.Word.{Word}
-use Rattle.journal_text.specs.declared.line_text.Word.TheVariants.{Named, Worker, Stripe, Wide}
 use Rattle.step_record.specs.Answers.{is_answer}
 use Rattle.step_record.specs.declared.entry.Entry.{Entry}
 use Rattle.step_record.specs.declared.item.Item.{Item}
@@ -23,74 +18,79 @@ use Rattle.step_record.specs.declared.step.Reply.TheVariants as reply
 use Rattle.step_record.specs.declared.step.Step.{Step}
 use Rattle.step_record.specs.declared.worker.TheConstants.{MAX_WORKERS}
 
+-- a word of a line: a name, or the number of a worker, of a stripe, or of a key, a node or a count
+pub data Word : Type 0 where
+  Named : List ℕ → Word
+  Worker : ℕ → Word
+  Stripe : ℕ → Word
+  Wide : ℕ → Word
+
 abbrev pub item_words : Item → List Word
 item_words i = Wide i.key ∷ Wide i.node ∷ []
 
-abbrev pub answer_name : Answer → JournalName
-answer_name answer.Kept = name.Kept
-answer_name answer.Full = name.Full
-answer_name answer.Lost = name.Lost
+abbrev pub reply_words : Reply → List Word
+reply_words (reply.Hit node) = Named (codes "hit") ∷ Wide node ∷ []
+reply_words reply.Miss = Named (codes "miss") ∷ []
+reply_words reply.Kept = Named (codes "kept") ∷ []
+reply_words reply.Full = Named (codes "full") ∷ []
+reply_words reply.Lost = Named (codes "lost") ∷ []
+reply_words (reply.Added node) = Named (codes "added") ∷ Wide node ∷ []
+reply_words (reply.Present node) = Named (codes "present") ∷ Wide node ∷ []
+reply_words reply.WritesFull = Named (codes "writesfull") ∷ []
+reply_words (reply.Removed node) = Named (codes "removed") ∷ Wide node ∷ []
+reply_words reply.Absent = Named (codes "absent") ∷ []
+reply_words reply.Go = Named (codes "go") ∷ []
+reply_words reply.Drain = Named (codes "drain") ∷ []
+reply_words reply.Began = Named (codes "began") ∷ []
+reply_words reply.Busy = Named (codes "busy") ∷ []
+reply_words (reply.Drained item) = Named (codes "drained") ∷ item_words item
+reply_words reply.Empty = Named (codes "empty") ∷ []
+reply_words (reply.Applied item) = Named (codes "applied") ∷ item_words item
+reply_words (reply.Cleared item) = Named (codes "cleared") ∷ item_words item
+reply_words reply.Enough = Named (codes "enough") ∷ []
+reply_words (reply.Shifted item) = Named (codes "shifted") ∷ item_words item
+reply_words (reply.Evicted item) = Named (codes "evicted") ∷ item_words item
+reply_words (reply.Rejected item) = Named (codes "rejected") ∷ item_words item
+reply_words reply.Fits = Named (codes "fits") ∷ []
+reply_words reply.Idle = Named (codes "idle") ∷ []
+reply_words reply.Again = Named (codes "again") ∷ []
+reply_words reply.NotYet = Named (codes "notyet") ∷ []
 
--- the words of an offer to a read buffer
-abbrev pub offer_words : JournalName → ℕ → Item → List Word
-offer_words name s item = Named name ∷ Stripe s ∷ item_words item
+-- the name at the front of some words
+abbrev pub name_in : List Word → List ℕ
+name_in (Named name ∷ words) = name
+name_in _ = []
+
+-- the words behind it
+abbrev pub behind : List Word → List Word
+behind [] = []
+behind (w ∷ words) = words
+
+abbrev pub reply_word : Reply → List ℕ
+reply_word r = name_in (reply_words r)
+
+-- the reply that has the word of an answer to an offer
+abbrev pub answer_reply : Answer → Reply
+answer_reply answer.Kept = reply.Kept
+answer_reply answer.Full = reply.Full
+answer_reply answer.Lost = reply.Lost
 
 abbrev pub act_words : Act → List Word
-act_words (act.Look key) = Named name.Look ∷ Wide key ∷ []
-act_words (act.Offer s item) = offer_words name.Offer s item
-act_words (act.Lose s item) = offer_words name.Lose s item
-act_words (act.Put key) = Named name.Put ∷ Wide key ∷ []
-act_words (act.Remove key) = Named name.Remove ∷ Wide key ∷ []
-act_words (act.AfterRead a) = Named name.AfterRead ∷ Named (answer_name a) ∷ []
-act_words act.AfterWrite = Named name.AfterWrite ∷ []
-act_words act.Begin = Named name.Begin ∷ []
-act_words (act.DrainRead s) = Named name.DrainRead ∷ Stripe s ∷ []
-act_words act.DrainWrite = Named name.DrainWrite ∷ []
-act_words act.Evict = Named name.Evict ∷ []
-act_words act.End = Named name.End ∷ []
+act_words (act.Look key) = Named (codes "look") ∷ Wide key ∷ []
+act_words (act.Offer s item) = Named (codes "offer") ∷ Stripe s ∷ item_words item
+act_words (act.Lose s item) = Named (codes "lose") ∷ Stripe s ∷ item_words item
+act_words (act.Put key) = Named (codes "put") ∷ Wide key ∷ []
+act_words (act.Remove key) = Named (codes "remove") ∷ Wide key ∷ []
+act_words (act.AfterRead a) = Named (codes "afterread") ∷ Named (reply_word (answer_reply a)) ∷ []
+act_words act.AfterWrite = Named (codes "afterwrite") ∷ []
+act_words act.Begin = Named (codes "begin") ∷ []
+act_words (act.DrainRead s) = Named (codes "drainread") ∷ Stripe s ∷ []
+act_words act.DrainWrite = Named (codes "drainwrite") ∷ []
+act_words act.Evict = Named (codes "evict") ∷ []
+act_words act.End = Named (codes "end") ∷ []
 
--- the name at the front of a reply
-abbrev pub reply_name : Reply → JournalName
-reply_name (reply.Hit node) = name.Hit
-reply_name reply.Miss = name.Miss
-reply_name reply.Kept = name.Kept
-reply_name reply.Full = name.Full
-reply_name reply.Lost = name.Lost
-reply_name (reply.Added node) = name.Added
-reply_name (reply.Present node) = name.Present
-reply_name reply.WritesFull = name.WritesFull
-reply_name (reply.Removed node) = name.Removed
-reply_name reply.Absent = name.Absent
-reply_name reply.Go = name.Go
-reply_name reply.Drain = name.Drain
-reply_name reply.Began = name.Began
-reply_name reply.Busy = name.Busy
-reply_name (reply.Drained item) = name.Drained
-reply_name reply.Empty = name.Empty
-reply_name (reply.Applied item) = name.Applied
-reply_name (reply.Cleared item) = name.Cleared
-reply_name reply.Enough = name.Enough
-reply_name (reply.Shifted item) = name.Shifted
-reply_name (reply.Evicted item) = name.Evicted
-reply_name (reply.Rejected item) = name.Rejected
-reply_name reply.Fits = name.Fits
-reply_name reply.Idle = name.Idle
-reply_name reply.Again = name.Again
-reply_name reply.NotYet = name.NotYet
-
--- the numbers behind it
-abbrev pub reply_numbers : Reply → List Word
-reply_numbers (reply.Hit node) = Wide node ∷ []
-reply_numbers (reply.Added node) = Wide node ∷ []
-reply_numbers (reply.Present node) = Wide node ∷ []
-reply_numbers (reply.Removed node) = Wide node ∷ []
-reply_numbers (reply.Drained item) = item_words item
-reply_numbers (reply.Applied item) = item_words item
-reply_numbers (reply.Cleared item) = item_words item
-reply_numbers (reply.Shifted item) = item_words item
-reply_numbers (reply.Evicted item) = item_words item
-reply_numbers (reply.Rejected item) = item_words item
-reply_numbers _ = []
+abbrev pub act_word : Act → List ℕ
+act_word a = name_in (act_words a)
 
 -- whether a version has such an entry: version 1 is from before keys could be removed
 abbrev pub is_in_version : Version → Act → Reply → Bool
@@ -102,18 +102,15 @@ is_in_version v a r = true
 unfoldable pub is_answer_in : Version → Act → Reply → Bool
 is_answer_in v a r = is_in_version v a r && is_answer a r
 
-abbrev pub reply_words : Reply → List Word
-reply_words r = Named (reply_name r) ∷ reply_numbers r
-
 abbrev pub entry_words : Entry Step Reply → List Word
-entry_words e = Worker e.step.worker ∷ (act_words e.step.act ++ (Named name.Equals ∷ reply_words e.reply))
+entry_words e = Worker e.step.worker ∷ (act_words e.step.act ++ (Named (codes "=") ∷ reply_words e.reply))
 
 abbrev pub count_words : ℕ → List Word
-count_words n = Named name.Steps ∷ Wide n ∷ []
+count_words n = Named (codes "steps") ∷ Wide n ∷ []
 
 -- how a word is spelled: numbers in decimal, without leading zeros
 abbrev pub word_text : Word → List ℕ
-word_text (Named n) = spelling n
+word_text (Named name) = name
 word_text (Worker n) = decimal n
 word_text (Stripe n) = decimal n
 word_text (Wide n) = decimal n

@@ -6,8 +6,7 @@ ghost use Rattle.journal_text.specs.LineGrammar.{act_at, count_in, entry_in, jou
 ghost use Rattle.journal_text.specs.LineGrammar.{reply_at, words_of};
 ghost use Rattle.text_lines.specs.Reads.{with_rest};
 
-use super::name::JournalName;
-use super::table::is_answer_in;
+use super::table::{EQUALS, STEPS, is_answer_in};
 use super::words::JournalWords;
 use super::{JournalLine, Version};
 use step_record::{Act, Entry, Reply, Step};
@@ -27,30 +26,25 @@ pub fn line(version: Version, text: &[u8]) -> Option<JournalLine>
 fn act(words: &mut JournalWords) -> Option<Act>
     ensures { with_rest words.new result ≡ act_at words.old }
 {
-    match words.name()? {
-        JournalName::Look => Some(Act::Look { key: words.wide()? }),
-        JournalName::Offer => Some(Act::Offer {
+    match words.act()? {
+        Act::Look { .. } => Some(Act::Look { key: words.wide()? }),
+        Act::Offer { .. } => Some(Act::Offer {
             stripe: words.stripe()?,
             item: words.item()?,
         }),
-        JournalName::Lose => Some(Act::Lose {
+        Act::Lose { .. } => Some(Act::Lose {
             stripe: words.stripe()?,
             item: words.item()?,
         }),
-        JournalName::Put => Some(Act::Put { key: words.wide()? }),
-        JournalName::Remove => Some(Act::Remove { key: words.wide()? }),
-        JournalName::AfterRead => Some(Act::AfterRead {
+        Act::Put { .. } => Some(Act::Put { key: words.wide()? }),
+        Act::Remove { .. } => Some(Act::Remove { key: words.wide()? }),
+        Act::AfterRead { .. } => Some(Act::AfterRead {
             answer: words.answer()?,
         }),
-        JournalName::AfterWrite => Some(Act::AfterWrite),
-        JournalName::Begin => Some(Act::Begin),
-        JournalName::DrainRead => Some(Act::DrainRead {
+        Act::DrainRead { .. } => Some(Act::DrainRead {
             stripe: words.stripe()?,
         }),
-        JournalName::DrainWrite => Some(Act::DrainWrite),
-        JournalName::Evict => Some(Act::Evict),
-        JournalName::End => Some(Act::End),
-        _ => None,
+        act => Some(act),
     }
 }
 
@@ -59,54 +53,38 @@ fn act(words: &mut JournalWords) -> Option<Act>
 fn reply(words: &mut JournalWords) -> Option<Reply>
     ensures { with_rest words.new result ≡ reply_at words.old }
 {
-    match words.name()? {
-        JournalName::Hit => Some(Reply::Hit {
+    match words.reply()? {
+        Reply::Hit { .. } => Some(Reply::Hit {
             node: words.wide()?,
         }),
-        JournalName::Miss => Some(Reply::Miss),
-        JournalName::Kept => Some(Reply::Kept),
-        JournalName::Full => Some(Reply::Full),
-        JournalName::Lost => Some(Reply::Lost),
-        JournalName::Added => Some(Reply::Added {
+        Reply::Added { .. } => Some(Reply::Added {
             node: words.wide()?,
         }),
-        JournalName::Present => Some(Reply::Present {
+        Reply::Present { .. } => Some(Reply::Present {
             node: words.wide()?,
         }),
-        JournalName::WritesFull => Some(Reply::WritesFull),
-        JournalName::Removed => Some(Reply::Removed {
+        Reply::Removed { .. } => Some(Reply::Removed {
             node: words.wide()?,
         }),
-        JournalName::Absent => Some(Reply::Absent),
-        JournalName::Go => Some(Reply::Go),
-        JournalName::Drain => Some(Reply::Drain),
-        JournalName::Began => Some(Reply::Began),
-        JournalName::Busy => Some(Reply::Busy),
-        JournalName::Drained => Some(Reply::Drained {
+        Reply::Drained { .. } => Some(Reply::Drained {
             item: words.item()?,
         }),
-        JournalName::Empty => Some(Reply::Empty),
-        JournalName::Applied => Some(Reply::Applied {
+        Reply::Applied { .. } => Some(Reply::Applied {
             item: words.item()?,
         }),
-        JournalName::Cleared => Some(Reply::Cleared {
+        Reply::Cleared { .. } => Some(Reply::Cleared {
             item: words.item()?,
         }),
-        JournalName::Enough => Some(Reply::Enough),
-        JournalName::Shifted => Some(Reply::Shifted {
+        Reply::Shifted { .. } => Some(Reply::Shifted {
             item: words.item()?,
         }),
-        JournalName::Evicted => Some(Reply::Evicted {
+        Reply::Evicted { .. } => Some(Reply::Evicted {
             item: words.item()?,
         }),
-        JournalName::Rejected => Some(Reply::Rejected {
+        Reply::Rejected { .. } => Some(Reply::Rejected {
             item: words.item()?,
         }),
-        JournalName::Fits => Some(Reply::Fits),
-        JournalName::Idle => Some(Reply::Idle),
-        JournalName::Again => Some(Reply::Again),
-        JournalName::NotYet => Some(Reply::NotYet),
-        _ => None,
+        reply => Some(reply),
     }
 }
 
@@ -118,9 +96,7 @@ fn entry(text: &[u8]) -> Option<Entry<Step, Reply>>
     let mut words = JournalWords::of(text);
     let worker = words.worker()?;
     let act = act(&mut words)?;
-    if words.name()? != JournalName::Equals {
-        return None;
-    }
+    words.only(EQUALS)?;
     let reply = reply(&mut words)?;
     match words.next() {
         None => Some(Entry {
@@ -137,9 +113,7 @@ fn count(text: &[u8]) -> Option<u64>
     ensures { result ≡ count_in (words_of text.now) }
 {
     let mut words = JournalWords::of(text);
-    if words.name()? != JournalName::Steps {
-        return None;
-    }
+    words.only(STEPS)?;
     let count = words.wide()?;
     match words.next() {
         None => Some(count),

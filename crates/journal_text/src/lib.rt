@@ -10,7 +10,6 @@ mod fault;
 mod grammar;
 mod line;
 mod line_text;
-mod name;
 mod reader;
 mod replay;
 mod steps;

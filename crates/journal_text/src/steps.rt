@@ -2,15 +2,13 @@
 ghost use Rattle.std.specs.Prelude.{◌≡◌, ◌≢◌, true, false, ◌∷◌, [], ◌++◌, ◌+◌, ◌≤◌, length, IfErr, IfOk, OnOk};
 ghost use Rattle.journal_text.specs.Faults.{IsWrong, KeepsSession, TakesLine};
 ghost use Rattle.step_record.specs.History.{IsLegal};
-ghost use Rattle.journal_text.specs.ReplyItem.{reply_item};
 ghost use Rattle.journal_text.specs.Table.{text_of, IsLine};
 ghost use Rattle.journal_text.specs.declared.line.JournalLine.TheVariants.{Made};
 
 use super::grammar::line;
-use super::name::{JournalName, reply_name};
 use super::{JournalFault, JournalLine, Version};
 use journal::{Session, SessionFault};
-use step_record::{Engine, Entry, Item, Reply, Step};
+use step_record::{Engine, Entry, Reply, Step};
 
 /// Takes a line, without its line feed: makes its step, and returns `false`; or it is the count of
 /// the steps that are applied, and `true` says so.
@@ -67,41 +65,10 @@ fn make<E: Engine<Step = Step, Reply = Reply>>(
     }
 }
 
-// Whether the replies are one: they have the same name and the same numbers.
+// Whether the replies are one.
 fn is_same(reply: Reply, other: Reply) -> bool
     ensures same { result ≡ true → reply ≡ other }
     ensures differs { result ≡ false → reply ≢ other }
 {
-    let item = reply_item(reply);
-    let wanted = reply_item(other);
-    is_same_name(reply_name(&reply), reply_name(&other))
-        && item.key == wanted.key
-        && item.node == wanted.node
-}
-
-// Whether the names are one.
-fn is_same_name(name: JournalName, other: JournalName) -> bool
-    ensures same { result ≡ true → name ≡ other }
-    ensures differs { result ≡ false → name ≢ other }
-{
-    name == other
-}
-
-// The key and the node of a reply, 0 where it has none.
-fn reply_item(reply: Reply) -> Item
-    ensures { result ≡ reply_item reply }
-{
-    match reply {
-        Reply::Hit { node }
-        | Reply::Added { node }
-        | Reply::Present { node }
-        | Reply::Removed { node } => Item { key: 0, node },
-        Reply::Drained { item }
-        | Reply::Applied { item }
-        | Reply::Cleared { item }
-        | Reply::Shifted { item }
-        | Reply::Evicted { item }
-        | Reply::Rejected { item } => item,
-        _ => Item { key: 0, node: 0 },
-    }
+    reply == other
 }

@@ -37,7 +37,7 @@ pub fn write_journal<E: Engine<Step = Step, Reply = Reply>, W: Write>(
     let mut text = Vec::with_capacity(alloc, BUFFER)?;
     let mut patience = Patience::new();
     write_entries(session, writer, &mut text, &mut patience)?;
-    make_room(writer, &mut text, &mut patience)?;
+    make_room_for_line(writer, &mut text, &mut patience)?;
     push_count_line(&mut text, session.len() as u64);
     write_some(writer, text.as_slice(), &mut patience)?;
     flush(writer, &mut patience)?;
@@ -60,7 +60,7 @@ fn write_entries<E: Engine<Step = Step, Reply = Reply>, W: Write>(
 {
     push_bytes(text, b"cachesim journal 2\n");
     for n in 0..session.len() {
-        make_room(writer, text, patience)?;
+        make_room_for_line(writer, text, patience)?;
         match session.entry(n + 1) {
             Some(entry) => push_entry_line(text, entry),
             None => unreachable!(),
@@ -70,7 +70,7 @@ fn write_entries<E: Engine<Step = Step, Reply = Reply>, W: Write>(
 }
 
 // Writes the buffer, where it has no room for a line more.
-fn make_room<W: Write>(
+fn make_room_for_line<W: Write>(
     writer: &mut W,
     text: &mut Vec<u8>,
     patience: &mut Patience,

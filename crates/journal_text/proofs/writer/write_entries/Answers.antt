@@ -37,11 +37,11 @@ loop-n-preserved g c =
     let next = taken_at kept n e c.in-Some.ensures in
     let old = g.W.Write.contents c.args.writer.now in
     let mid = g.W.Write.contents c.loop-n.writer in
-    let new = g.W.Write.contents c.make_room.new.writer in
-    let passed_on = passed old mid new c.loop-n.text.items c.make_room.new.text.items (begun Two front) c.loop-n.invariant.written c.in_ok-make_room.ensures.written in
+    let new = g.W.Write.contents c.make_room_for_line.new.writer in
+    let passed_on = passed old mid new c.loop-n.text.items c.make_room_for_line.new.text.items (begun Two front) c.loop-n.invariant.written c.in_ok-make_room_for_line.ensures.written in
     record {
-      written = gathered old new c.make_room.new.text.items c.push_entry_line.new.text.items (entry_line e) (begun Two front) (begun Two (take (n + 1) kept))
+      written = gathered old new c.make_room_for_line.new.text.items c.push_entry_line.new.text.items (entry_line e) (begun Two front) (begun Two (take (n + 1) kept))
           c.push_entry_line.ensures.items (ap (begun Two) next ∙ begun_more Two front e) passed_on;
-      room = omega (arith, c.push_entry_line.ensures.capacity, c.in_ok-make_room.ensures.capacity);
+      room = omega (arith, c.push_entry_line.ensures.capacity, c.in_ok-make_room_for_line.ensures.capacity);
       fit = subst AreFit (sym next) (All-push (λ e. FitWords (entry_words e)) front e c.loop-n.invariant.fit c.push_entry_line.ensures.fit);
     }

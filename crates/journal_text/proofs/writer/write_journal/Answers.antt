@@ -12,13 +12,13 @@ returns-clause-text g c =
     let kept = c.args.session.now.kept in
     let old = g.W.Write.contents c.args.writer.now in
     let first = g.W.Write.contents c.write_entries.new.writer in
-    let mid = g.W.Write.contents c.make_room.new.writer in
+    let mid = g.W.Write.contents c.make_room_for_line.new.writer in
     let new = g.W.Write.contents c.write_some.new.writer in
     let last = g.W.Write.contents c.flush.new.writer in
-    let before = passed old first mid c.write_entries.new.text.items c.make_room.new.text.items (begun Two kept) c.in_ok-write_entries.ensures.written c.in_ok-make_room.ensures.written in
-    let count : c.push_count_line.new.text.items ≡ c.make_room.new.text.items ++ ended_line (text_of (Steps (length kept))) =
-    c.push_count_line.ensures.items ∙ ap (λ n. c.make_room.new.text.items ++ ended_line (text_of (Steps n))) c.len.ensures.len in
-    let all = gathered old mid c.make_room.new.text.items c.push_count_line.new.text.items (ended_line (text_of (Steps (length kept)))) (begun Two kept) (journal_of Two kept)
+    let before = passed old first mid c.write_entries.new.text.items c.make_room_for_line.new.text.items (begun Two kept) c.in_ok-write_entries.ensures.written c.in_ok-make_room_for_line.ensures.written in
+    let count : c.push_count_line.new.text.items ≡ c.make_room_for_line.new.text.items ++ ended_line (text_of (Steps (length kept))) =
+    c.push_count_line.ensures.items ∙ ap (λ n. c.make_room_for_line.new.text.items ++ ended_line (text_of (Steps n))) c.len.ensures.len in
+    let all = gathered old mid c.make_room_for_line.new.text.items c.push_count_line.new.text.items (ended_line (text_of (Steps (length kept)))) (begun Two kept) (journal_of Two kept)
     count refl before in
     finished old mid new last c.push_count_line.new.text.items (journal_of Two kept) all
     (subst (Appends mid new) c.as_slice.ensures.value c.in_ok-write_some.ensures.bytes) c.in_ok-flush.ensures.bytes
