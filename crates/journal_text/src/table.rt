@@ -12,8 +12,6 @@ pub const EQUALS: &[u8] = b"=";
 /// The word before the count of the steps.
 pub const STEPS: &[u8] = b"steps";
 
-const NO_ITEM: Item = Item { key: 0, node: 0 };
-
 /// An act for each word, its numbers 0. A word is compared with these in turn, so common ones come first.
 pub const ACTS: [Act; 12] = [
     Act::Look { key: 0 },
@@ -67,6 +65,9 @@ pub const REPLIES: [Reply; 26] = [
     Reply::Enough,
     Reply::NotYet,
 ];
+
+// What stands for an item that is still to be read.
+const NO_ITEM: Item = Item { key: 0, node: 0 };
 
 /// The word of an act.
 pub fn act_word(act: &Act) -> &'static [u8]

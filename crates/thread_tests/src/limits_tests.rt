@@ -97,6 +97,14 @@ fn ended(answer: Result<Driven, DriveFault>) -> Result<(Driven, bool), Fail> {
     }
 }
 
+// Whether a run was refused for this worker, who holds the maintenance.
+fn is_held_by(answer: &Result<Driven, DriveFault>, number: u8) -> bool {
+    match answer {
+        Err(DriveFault::Held { worker, session: _ }) => worker.number() == number,
+        _ => false,
+    }
+}
+
 // The session of a run that was refused since a worker holds the maintenance.
 fn held(answer: Result<Driven, DriveFault>) -> Result<Session<Shell>, Fail> {
     match answer {
@@ -160,7 +168,9 @@ fn assert_held<R: Threads + Wait + Sync + Abort>(
     steps: usize,
 ) -> Result<(), Fail> {
     let pieces = pieces_of(alloc, &[&[Call::Read(2)]])?;
-    let mut session = held(drive(rt, alloc, session, pieces, &OpenGate))?;
+    let answer = drive(rt, alloc, session, pieces, &OpenGate);
+    assert_equal(rt, is_held_by(&answer, 0), true);
+    let mut session = held(answer)?;
     assert_equal(
         rt,
         settle(&mut session),
