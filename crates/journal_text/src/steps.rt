@@ -4,6 +4,7 @@ ghost use Rattle.journal_text.specs.Faults.{IsWrong, KeepsSession, TakesLine};
 ghost use Rattle.step_record.specs.History.{IsLegal};
 ghost use Rattle.journal_text.specs.Table.{text_of, IsLine};
 ghost use Rattle.journal_text.specs.declared.line.JournalLine.TheVariants.{Made};
+ghost use Rattle.journal_text.specs.declared.version.Version.{Version};
 
 use super::grammar::line;
 use super::{JournalFault, JournalLine, Version};
@@ -24,7 +25,7 @@ pub fn take<E: Engine<Step = Step, Reply = Reply>>(
 {
     match line(version, text) {
         Some(JournalLine::Made(entry)) => {
-            make(version, entry, session)?;
+            make(entry, session)?;
             Ok(false)
         }
         Some(JournalLine::Steps(count)) => {
@@ -41,14 +42,12 @@ pub fn take<E: Engine<Step = Step, Reply = Reply>>(
 
 // Makes the step of an entry, which must be answered by the reply of the entry.
 fn make<E: Engine<Step = Step, Reply = Reply>>(
-    version: Version,
     entry: Entry<Step, Reply>,
     session: &mut Session<E>,
 ) -> Result<(), JournalFault>
-    requires { IsLine version (Made entry) }
     ensures ok { OnOk result (session.new.kept ≡ session.old.kept ++ entry ∷ []) }
-    ensures err { IfErr result (λ f. IsWrong E.act session.old.opening session.old.limit f version
-        session.old.kept (text_of (Made entry)) session.new.kept) }
+    ensures err { IfErr result (λ f. (v : Version) → IsLine v (Made entry) → IsWrong E.act session.old.opening
+        session.old.limit f v session.old.kept (text_of (Made entry)) session.new.kept) }
     ensures session { KeepsSession E.act session.old session.new }
 {
     let step = session.len() + 1;
