@@ -1,5 +1,6 @@
+pub mod CacheRuns
+pub mod Lumps
 pub mod Moves
-pub mod Playing
+pub mod Pieces
 pub mod ReadTo
-pub mod Stretch
 pub mod Turns

@@ -1,7 +1,7 @@
 pub mod Faults
-pub mod Keys
-pub mod Played
+pub mod Lumps
+pub mod CacheRuns
 pub mod ReadRun
-pub mod Rule
+pub mod ChannelProtocol
 pub mod Rounds
 pub mod Actors

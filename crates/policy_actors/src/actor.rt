@@ -1,17 +1,16 @@
 //! One actor: a job's policy, fed with batches.
-ghost use Rattle.std.specs.Prelude.{◌≡◌, ◌++◌, ℕ, List, false, Ok, None, Some, IfOk, IfSome, OnOk};
+ghost use Rattle.std.specs.Prelude.{◌≡◌, ◌++◌, [], ℕ, List, false, Ok, None, Some, IfOk, IfSome, OnOk};
 ghost use Rattle.step_record.specs.Config.{config_fault};
 ghost use Rattle.step_record.specs.declared.job.Job.{Job};
 ghost use Rattle.policies.specs.AnyPolicy.{HasAccessed};
 ghost use Rattle.policies.specs.Design.{knows_trace};
 ghost use Rattle.policies.specs.Accesses.{IsNext};
-ghost use Rattle.policy_actors.specs.Played.{CanTake, HasTaken, IsAfter};
+ghost use Rattle.policy_actors.specs.CacheRuns.{CanTake, HasTaken};
 ghost use Rattle.policies.specs.Reports.{report_on};
 
+use crate::fed_trace::FedTrace;
 use crate::feeder::Backlog;
 use crate::mail::Inbox;
-use crate::next_uses::WholeTrace;
-use crate::rule::FeedSource;
 use clairvoyant::{NextUse, NextUseFinder};
 use policies::{AnyPolicy, Report, access_all, report_by, theorems};
 use std::alloc::{AllocError, Global};
@@ -22,13 +21,12 @@ use step_record::{Gate, Job, Key, Policy, StepFault, Trace};
 /// that ran out of memory goes on taking batches, so that its feeder is not held up, and has no report; nor has one
 /// whose feeder ended early.
 ///
-/// Belady's policy goes by the whole trace. Where that is not there, an actor of it notes the accesses as they come, and
-/// makes them all in the last batch, once it has found their next uses.
-pub fn act<'a, S: FeedSource, R: Wait, G: Gate>(
+/// Belady's policy goes by the whole trace: an actor of it notes the accesses as they come, and makes them all in the
+/// last batch, once it has found their next uses.
+pub fn act<S: FedTrace, R: Wait, G: Gate>(
     rt: &R,
     alloc: Global,
-    mut inbox: Inbox<'a, S>,
-    whole: Option<WholeTrace<'a, S>>,
+    mut inbox: Inbox<S>,
     job: Job,
     who: u8,
     gate: &G,
@@ -38,15 +36,15 @@ pub fn act<'a, S: FeedSource, R: Wait, G: Gate>(
     requires checked { config_fault job.config ≡ Ok tt }
     ensures { (all : List ℕ) → S.known ≡ Some all → IfSome result (λ r. r ≡ report_on job all) }
 {
-    let mut player = open(rt, alloc, &job, whole);
+    let mut run = open(alloc, &job);
     for _ in rt.forever() {
         let Some(batch) = inbox.take(rt) else {
             return None;
         };
         gate.before(who, batch.number);
-        take_batch(&mut player, batch.keys.as_slice());
+        take_batch(&mut run, batch.keys.as_slice());
         if batch.last {
-            let report = finish(alloc, player, &job);
+            let report = finish(alloc, run, &job);
             gate.after(who, batch.number);
             return report;
         }
@@ -57,63 +55,39 @@ pub fn act<'a, S: FeedSource, R: Wait, G: Gate>(
 }
 
 // What takes the accesses of the job; `None` if out of memory.
-fn open<'a, S: FeedSource, R: Wait>(
-    rt: &R,
-    alloc: Global,
-    job: &Job,
-    whole: Option<WholeTrace<'a, S>>,
-) -> Option<Player>
+fn open(alloc: Global, job: &Job) -> Option<CacheRun>
     requires { config_fault job.now.config ≡ Ok tt }
-    ensures { IfSome result (IsAfter S.known job.now S.size 0) }
+    ensures { IfSome result (λ run. (trace : List ℕ) → HasTaken job.now trace [] run) }
 {
-    match (job.policy, whole) {
-        (Policy::Clairvoyant, Some(whole)) => open_over(rt, alloc, job, whole),
-        (Policy::Clairvoyant, None) => Some(Player::NextUses(NextUseFinder::new(alloc))),
-        _ => open_queues::<S>(alloc, job),
-    }
-}
-
-// A new cache by the next uses that the actors share.
-fn open_over<'a, S: FeedSource, R: Wait>(
-    rt: &R,
-    alloc: Global,
-    job: &Job,
-    whole: WholeTrace<'a, S>,
-) -> Option<Player>
-    requires { config_fault job.now.config ≡ Ok tt }
-    ensures { IfSome result (IsAfter S.known job.now S.size 0) }
-{
-    let uses = whole.uses.get(rt, alloc, whole.trace)?;
-    uses.bounded();
-    match AnyPolicy::open_with(alloc, job, uses) {
-        Ok(cache) => Some(Player::Cache(cache)),
-        Err(_) => None,
+    match job.policy {
+        Policy::Clairvoyant => Some(CacheRun::NextUses(NextUseFinder::new(alloc))),
+        _ => open_queues(alloc, job),
     }
 }
 
 // A new cache for a job that goes by no trace.
-fn open_queues<S: FeedSource>(alloc: Global, job: &Job) -> Option<Player>
+fn open_queues(alloc: Global, job: &Job) -> Option<CacheRun>
     requires checked { config_fault job.now.config ≡ Ok tt }
     requires queues { knows_trace job.now.policy ≡ false }
-    ensures { IfSome result (IsAfter S.known job.now S.size 0) }
+    ensures { IfSome result (λ run. (trace : List ℕ) → HasTaken job.now trace [] run) }
 {
     let none = Trace::new(Vec::new(alloc));
     match AnyPolicy::open(alloc, job, &none) {
-        Ok(cache) => Some(Player::Cache(cache)),
+        Ok(cache) => Some(CacheRun::Cache(cache)),
         Err(_) => None,
     }
 }
 
 // What takes the accesses of a trace, batch by batch, for the report of a job.
 #[derive(Drop)]
-enum Player {
+enum CacheRun {
     // A cache, which makes the accesses as they come.
     Cache(AnyPolicy),
     // The next uses of the accesses, which are made once all are there.
     NextUses(NextUseFinder),
 }
 
-impl Player {
+impl CacheRun {
     // Takes the next accesses. The one error is out of memory, after which it is of no more use.
     fn take(&mut self, keys: &[Key]) -> Result<(), AllocError>
         requires { CanTake keys.now self.old }
@@ -121,37 +95,37 @@ impl Player {
             → OnOk result (HasTaken j trace (done ++ keys.now) self.new) }
     {
         match self {
-            Player::Cache(cache) => access_all(cache, keys),
-            Player::NextUses(finder) => finder.take(keys),
+            CacheRun::Cache(cache) => access_all(cache, keys),
+            CacheRun::NextUses(finder) => finder.take(keys),
         }
     }
 }
 
-// Takes the accesses of a batch. A player that ran out of memory is dropped, and stays so.
-fn take_batch(player: &mut Option<Player>, keys: &[Key])
-    requires { IfSome player.old (CanTake keys.now) }
-    ensures taken { (j : Job) (trace done : List ℕ) → IfSome player.old (HasTaken j trace done)
-        → IfSome player.new (HasTaken j trace (done ++ keys.now)) }
-    ensures gone { player.old ≡ None → player.new ≡ None }
+// Takes the accesses of a batch. A run that got out of memory is dropped, and stays so.
+fn take_batch(run: &mut Option<CacheRun>, keys: &[Key])
+    requires { IfSome run.old (CanTake keys.now) }
+    ensures taken { (j : Job) (trace done : List ℕ) → IfSome run.old (HasTaken j trace done)
+        → IfSome run.new (HasTaken j trace (done ++ keys.now)) }
+    ensures gone { run.old ≡ None → run.new ≡ None }
 {
-    let Some(playing) = player else {
+    let Some(taking) = run else {
         return;
     };
-    let Ok(()) = playing.take(keys) else {
-        *player = None;
+    let Ok(()) = taking.take(keys) else {
+        *run = None;
         return;
     };
 }
 
-// The report of a job by a player that took the accesses of the whole trace. `None` where it ran out of memory.
-fn finish(alloc: Global, player: Option<Player>, job: &Job) -> Option<Report>
+// The report of a job by a run that took the accesses of the whole trace. `None` where it ran out of memory.
+fn finish(alloc: Global, run: Option<CacheRun>, job: &Job) -> Option<Report>
     requires { config_fault job.now.config ≡ Ok tt }
-    ensures { (trace : List ℕ) → IfSome player (HasTaken job.now trace trace)
+    ensures { (trace : List ℕ) → IfSome run (HasTaken job.now trace trace)
         → IfSome result (λ r. r ≡ report_on job.now trace) }
 {
-    match player {
-        Some(Player::Cache(cache)) => Some(report_by(&cache, job)),
-        Some(Player::NextUses(finder)) => report_over(alloc, finder, job).ok(),
+    match run {
+        Some(CacheRun::Cache(cache)) => Some(report_by(&cache, job)),
+        Some(CacheRun::NextUses(finder)) => report_over(alloc, finder, job).ok(),
         None => None,
     }
 }

@@ -1,106 +1,188 @@
 //! What feeds the actors of a run, and how far they are.
-ghost use Rattle.std.specs.Prelude.{◌≡◌, ◌+◌, ◌*◌, ◌<◌, ◌≤◌, Some, IfSome, length};
+ghost use Rattle.std.specs.Prelude.{◌≡◌, ◌+◌, ◌-◌, ◌*◌, ◌<◌, ◌≤◌, IfOk, IfSome, OnErr, OnOk, length, take, drop};
 ghost use Rattle.step_record.specs.declared.limits.TheConstants.{MAX_ACCESSES};
-ghost use Rattle.policy_actors.specs.Rule.{AreAt};
+ghost use Rattle.policy_actors.specs.Lumps.{AreAt};
 
-use crate::keys::Keys;
+use crate::fed_trace::{BatchSize, FedTrace};
+use crate::lump::Lump;
 use crate::mail::Outbox;
-use crate::rounds::feed_in_rounds;
-use crate::rule::FeedSource;
-use std::marker::PhantomData;
+use crate::rounds::{BatchEnds, feed_in_rounds};
+use std::alloc::{AllocError, Global};
+use std::mem;
 use std::sync::Wait;
 use std::sync::atomic::AtomicU64;
 use std::sync::atomic::Ordering::Relaxed;
 use step_record::{Key, Trace};
+use trace_read::Follower;
 
-/// What feeds the actors of a run by these ends, once they are started.
-pub trait Feeder<E>: Drop {
-    /// What there is to say of the feeding.
-    type Outcome;
+// Fewer accesses than this are not handed over before the end: it bounds how often an actor that is faster than the
+// feeder sleeps and is woken.
+const MIN_LUMP: usize = 16_384;
 
-    // when it may feed
-    ghost ready: { Self → Type 0 };
+// Where more accesses than this wait in the channels, fewer than this are not handed over, so that those that wait for
+// slow actors are a few large lumps.
+const LONG_LUMP: usize = 262_144;
 
-    ghost gives: { Self → Self.Outcome → Type 0 };
+// The room for a lump: for the accesses up to `MIN_LUMP`, and those of the piece that passes it.
+const LUMP_ROOM: usize = 65_536;
 
-    /// Gives each end all batches, a number to every end before the next one to any.
-    fn feed<R: Wait>(self, rt: &R, ends: E) -> Self::Outcome
-        requires { ready self }
-        ensures { gives self result };
-
-    /// Gives nothing, where the actors could not be started.
-    fn leave(self) -> Self::Outcome
-        ensures { gives self result };
-}
-
-/// Feeds a trace.
+/// What gives the accesses of a trace to the actors, lump by lump.
 #[derive(Drop)]
-pub struct TraceFeeder<'a, S: FeedSource> {
-    keys: &'a [Key],
-    size: usize,
-    pub batches: usize,
-    marker: PhantomData<S>,
-    ghost known: { S.known ≡ Some keys.now },
-    ghost few: { length keys.now ≤ MAX_ACCESSES },
-    pub ghost some: { 0 < batches },
-    ghost covered: { length keys.now ≤ batches * size },
+pub struct Feeder<'b, S: FedTrace, W: Wait> {
+    rt: &'b W,
+    pub alloc: Global,
+    ends: Vec<Outbox<S>>,
+    size: BatchSize<S>,
+    backlog: &'b Backlog,
+    // How many accesses were taken.
+    pub place: usize,
+    // How many batches went to the ends in all.
+    sent: u64,
+    // No actor is gone, and nothing was out of memory.
+    is_open: bool,
 }
 
-impl<'a, S: FeedSource> TraceFeeder<'a, S> {
-    /// `size` accesses to a batch; the last one may be shorter, and an empty trace is one empty batch.
-    pub fn new(trace: &'a Trace, size: usize) -> TraceFeeder<'a, S>
-        requires trace { S.known ≡ Some trace.now }
-        requires size { 0 < size }
+impl<'b, S: FedTrace, W: Wait> Follower for Feeder<'b, S, W> {
+    ghost file = { λ f. S.known };
+
+    ghost taken = { λ f. f.place };
+
+    fn follow(&mut self, keys: &mut Vec<Key>) {
+        let rounds = self.rounds(keys.len());
+        if self.is_open && rounds > 0 {
+            self.is_open = self.hand_over(keys, rounds);
+        }
+    }
+}
+
+impl<'b, S: FedTrace, W: Wait> Feeder<'b, S, W> {
+    /// A feeder that has given nothing yet.
+    pub fn new(
+        rt: &'b W,
+        alloc: Global,
+        ends: Vec<Outbox<S>>,
+        size: BatchSize<S>,
+        backlog: &'b Backlog,
+    ) -> Feeder<'b, S, W>
+        ensures { result.place ≡ 0 }
     {
-        let keys = trace.keys();
-        let batches = keys.len().div_ceil(size).max(1);
-        TraceFeeder {
-            keys,
+        Feeder {
+            rt,
+            alloc,
+            ends,
             size,
-            batches,
-            marker: PhantomData,
+            backlog,
+            place: 0,
+            sent: 0,
+            is_open: true,
         }
     }
-}
 
-impl<'a, S: FeedSource> Feeder<Vec<Outbox<'a, S>>> for TraceFeeder<'a, S> {
-    type Outcome = ();
-
-    ghost use Rattle.std.specs.Prelude.{⊤};
-
-    ghost ready = { λ f. ⊤ };
-
-    ghost gives = { λ f o. ⊤ };
-
-    fn feed<R: Wait>(self, rt: &R, mut ends: Vec<Outbox<'a, S>>)
-        ensures { ⊤ }
+    /// Gives each end what is left of the trace.
+    pub fn end(mut self, rest: Trace)
+        requires few { self.place + length rest ≤ MAX_ACCESSES }
+        requires rest { IfSome S.known (λ all. rest ≡ drop self.place all) }
     {
-        let keys = Keys::borrowed(self.keys);
-        if load_all(&mut ends, &keys, 0, true) {
-            feed_in_rounds(rt, &mut ends, self.batches as u64);
+        if self.is_open {
+            let place = self.place;
+            self.give(rest, place, true);
         }
     }
 
-    fn leave(self) {}
+    // How many batches to hand over of so many accesses: whole ones, with an access behind them.
+    fn rounds(&self, read: usize) -> usize
+        ensures { 0 < result → result * self.now.size.accesses < read }
+    {
+        let size = self.size.accesses;
+        let waiting = self.backlog.left_of(self.sent);
+        let is_behind = waiting.saturating_mul(size as u64) > LONG_LUMP as u64;
+        let least = if is_behind { LONG_LUMP } else { MIN_LUMP };
+        if read <= least {
+            return 0;
+        }
+        (read - 1) / size
+    }
+
+    // Takes so many batches of the accesses, and gives them to each end. False where an actor is gone, or out of memory.
+    fn hand_over(&mut self, keys: &mut Vec<Key>, rounds: usize) -> bool
+        requires few { self.old.place + length keys.old.items ≤ MAX_ACCESSES }
+        requires next { IfSome S.known (λ all.
+            keys.old.items ≡ take (length keys.old.items) (drop self.old.place all)) }
+        requires behind { rounds * self.old.size.accesses < length keys.old.items }
+        ensures order { self.old.place ≤ self.new.place }
+        ensures taken { self.new.place + length keys.new.items ≡ self.old.place + length keys.old.items }
+        ensures left { keys.new.items ≡ drop (self.new.place - self.old.place) keys.old.items }
+    {
+        let len = rounds * self.size.accesses;
+        let Ok(front) = take_front(self.alloc, keys, len) else {
+            return false;
+        };
+        let place = self.place;
+        self.place += len;
+        self.give(Trace::new(front), place, false)
+    }
+
+    // Gives each end these accesses, which stand at this place: each batch to all of them before the next.
+    fn give(&mut self, accesses: Trace, place: usize, is_end: bool) -> bool
+        requires few { 0 < length accesses → place + length accesses ≤ MAX_ACCESSES }
+        requires at { IfSome S.known (λ all. AreAt all place is_end accesses) }
+        ensures { self.new.place ≡ self.old.place }
+    {
+        let rounds = self.size.batches(accesses.len()) as u64;
+        let Ok(lump) = Lump::new(self.alloc, accesses, place, is_end, self.size) else {
+            return false;
+        };
+        let batches = rounds.saturating_mul(self.ends.len() as u64);
+        self.sent = self.sent.saturating_add(batches);
+        let mut ends = LumpEnds {
+            lump,
+            ends: &mut self.ends,
+        };
+        feed_in_rounds(self.rt, &mut ends, rounds)
+    }
 }
 
-/// Gives each end these keys, which stand at this place of what is fed, to send. False where an end has others to send
-/// before them.
-pub fn load_all<'a, S: FeedSource>(
-    ends: &mut Vec<Outbox<'a, S>>,
-    keys: &Keys<'a>,
-    place: usize,
-    is_end: bool,
-) -> bool
-    requires few { 0 < length keys.now → place + length keys.now ≤ MAX_ACCESSES }
-    requires at { IfSome S.known (λ all. AreAt all place is_end keys.now) }
+// Takes so many accesses off the front. Those behind them are copied to a new vector, with room for a lump.
+fn take_front(alloc: Global, keys: &mut Vec<Key>, len: usize) -> Result<Vec<Key>, AllocError>
+    requires { len ≤ length keys.old.items }
+    ensures front { IfOk result (λ front. front.items ≡ take len keys.old.items) }
+    ensures rest { OnOk result (keys.new.items ≡ drop len keys.old.items) }
+    ensures err { OnErr result (keys.new.items ≡ keys.old.items) }
 {
-    for end in ends.iter_mut() {
-        if !end.load(keys, place, is_end) {
-            return false;
+    let mut rest = Vec::with_capacity(alloc, LUMP_ROOM)?;
+    rest.extend_from_slice(&keys[len..])?;
+    let mut front = mem::replace(keys, rest);
+    front.truncate(len);
+    Ok(front)
+}
+
+// The ends, with the lump from which they are given their next batches.
+#[derive(Drop)]
+struct LumpEnds<'e, S: FedTrace> {
+    lump: Lump<S>,
+    ends: &'e mut Vec<Outbox<S>>,
+}
+
+impl<'e, S: FedTrace> BatchEnds for LumpEnds<'e, S> {
+    ghost use Rattle.std.specs.Prelude.{◌≡◌, ◌+◌, length, map, slice_set, slice_index};
+
+    ghost ends = { λ e. length e.ends.now.items };
+
+    // one more batch was sent to the end with this index, and as many as before to the others
+    ghost given = { λ e i f. map (λ o. o.sent) f.ends.now.items
+        ≡ slice_set (map (λ o. o.sent) e.ends.now.items) i (slice_index (map (λ o. o.sent) e.ends.now.items) i + 1) };
+
+    fn count(&self) -> usize {
+        self.ends.len()
+    }
+
+    fn give<R: Wait>(&mut self, rt: &R, end: usize) -> bool {
+        let outbox = &mut self.ends[end];
+        match self.lump.batch(outbox.sent) {
+            Some(batch) => outbox.send(rt, batch),
+            None => false,
         }
     }
-    true
 }
 
 /// How many batches all actors of a run are through with, counted together. Nothing but the pace of feeding goes by it.

@@ -6,17 +6,16 @@
 #![tactic(auto)]
 
 mod actor;
+mod actor_threads;
+mod channel_protocol;
+mod fed_trace;
 mod feeder;
-mod keys;
+mod lump;
 mod mail;
-mod next_uses;
-mod read_feeder;
-mod read_run;
 mod rounds;
-mod rule;
 mod run;
+mod source;
 
 pub use policies::{ActorFault, MAX_ACTORS};
-pub use read_run::run_reading;
 pub use rounds::{BatchEnds, feed_in_rounds};
-pub use run::{check_run, run_actors};
+pub use run::{check_run, run_actors, run_reading};

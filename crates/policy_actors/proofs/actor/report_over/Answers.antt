@@ -1,5 +1,4 @@
-use Rattle.std.proofs.Common.{ℕ, ◌≤◌, [], subst, ap, ◌∙◌, sym, append-nil}
-use Rattle.step_record.specs.declared.limits.TheConstants.{MAX_ACCESSES}
+use Rattle.std.proofs.Common.{[], ap, ◌∙◌, sym, append-nil}
 use Rattle.policies.specs.Reports.{report_on}
 use Rattle.policy_actors.proofs.actor.report_over.Goals as goal
 

@@ -1,5 +1,5 @@
 use Rattle.std.proofs.Common.{IfSome, subst}
-use Rattle.policy_actors.specs.Played.{HasTaken}
+use Rattle.policy_actors.specs.CacheRuns.{HasTaken}
 use Rattle.policy_actors.proofs.actor.take_batch.Goals as goal
 
 pub returns-clause-taken : goal.returns-clause-taken

@@ -1,0 +1,42 @@
+use Rattle.std.proofs.Common.{arith, length, ap, List, ℕ, length-drop}
+use Rattle.policy_actors.proofs.Pieces.{begun, ended, followed, grown, next, room}
+use Rattle.policy_actors.proofs.source.feed_trace.Goals as goal
+
+pub loop-rest-init : goal.loop-rest-init
+loop-rest-init g c = begun c.args.trace.now c.new-read.result.items c.keys-rest.result.now c.args.feeder.place c.requires.none c.new-read.ensures.items c.keys-rest.ensures.keys
+
+pub follow-requires-clause-few : goal.follow-requires-clause-few
+follow-requires-clause-few g c = let l = c.loop-rest in let all = c.args.trace.now in let s = c.split_at in let read = c.extend_from_slice.new.self.items in
+    omega (
+      arith,
+      c.keys-rest.ensures.few,
+      room all read s.result.1.now l.feeder.place l.invariant.0
+          (grown all l.read.items l.rest.now s.result.0.now read s.result.1.now l.feeder.place 65536 l.invariant.1 c.in_ok-extend_from_slice.ensures.items s.ensures.front s.ensures.back),
+    )
+
+pub follow-requires-clause-next : goal.follow-requires-clause-next
+follow-requires-clause-next g c = let l = c.loop-rest in let all = c.args.trace.now in let s = c.split_at in let read = c.extend_from_slice.new.self.items in
+    next all read s.result.1.now l.feeder.place l.invariant.0
+    (grown all l.read.items l.rest.now s.result.0.now read s.result.1.now l.feeder.place 65536 l.invariant.1 c.in_ok-extend_from_slice.ensures.items s.ensures.front s.ensures.back)
+    g.S.FedTrace.known c.requires.known
+
+pub loop-rest-smaller : goal.loop-rest-smaller
+loop-rest-smaller g c = let e = ap (λ (l : List ℕ). length l) c.split_at.ensures.back in omega (arith, e, length-drop 65536 c.loop-rest.rest.now, c.loop-rest-test.true)
+
+pub loop-rest-preserved : goal.loop-rest-preserved
+loop-rest-preserved g c = let l = c.loop-rest in let all = c.args.trace.now in let s = c.split_at in let read = c.extend_from_slice.new.self.items in let f = c.follow.ensures in
+    followed all read s.result.1.now l.feeder.place l.invariant.0
+    (grown all l.read.items l.rest.now s.result.0.now read s.result.1.now l.feeder.place 65536 l.invariant.1 c.in_ok-extend_from_slice.ensures.items s.ensures.front s.ensures.back)
+    c.follow.new.keys.items c.follow.new.self.place f.order f.taken f.left
+
+pub new-requires : goal.new-requires
+new-requires g c = let l = c.loop-rest in let all = c.args.trace.now in
+    omega (arith, c.keys-rest.ensures.few, (ended all l.read.items l.rest.now _ l.feeder.place l.invariant.0 l.invariant.1 c.in_ok-extend_from_slice-2.ensures.items).0)
+
+pub end-requires-clause-few : goal.end-requires-clause-few
+end-requires-clause-few g c = let l = c.loop-rest in let all = c.args.trace.now in
+    rw c.new.ensures (omega (arith, c.keys-rest.ensures.few, (ended all l.read.items l.rest.now _ l.feeder.place l.invariant.0 l.invariant.1 c.in_ok-extend_from_slice-2.ensures.items).0))
+
+pub end-requires-clause-rest : goal.end-requires-clause-rest
+end-requires-clause-rest g c = let l = c.loop-rest in let all = c.args.trace.now in
+    rw (c.requires.known, c.new.ensures) (ended all l.read.items l.rest.now _ l.feeder.place l.invariant.0 l.invariant.1 c.in_ok-extend_from_slice-2.ensures.items).1

@@ -1,0 +1,82 @@
+//! The protocol of an actor's channel.
+ghost use Rattle.std.specs.Prelude.{⊤};
+
+use crate::fed_trace::FedTrace;
+use crate::lump::SharedKeys;
+use crossbeam_channel::protocol::{Lesson, Outcome, Protocol, Split};
+use crossbeam_channel::{Pass, RuledReceiver, RuledSender};
+use std::marker::PhantomData;
+
+/// A piece of the trace.
+#[derive(Drop)]
+pub struct Batch {
+    pub number: u64,
+    pub last: bool,
+    pub keys: SharedKeys,
+}
+
+// What a pass may do, and how many batches it has given and taken. No value of it is made.
+pub struct ChannelLog {
+    pub gives: bool,
+    pub takes: bool,
+    pub given: u64,
+    pub taken: u64,
+}
+
+pub struct BatchesInOrder<S> {
+    marker: PhantomData<S>,
+}
+
+impl<S: FedTrace> Protocol<Batch, ChannelLog> for BatchesInOrder<S> {
+    ghost use Rattle.std.specs.Prelude.{true};
+    ghost use Rattle.policy_actors.specs.ChannelProtocol.{channel_log, AreKept};
+
+    ghost holds = { AreKept S.known S.size };
+
+    ghost first = { channel_log true true 0 0 };
+}
+
+pub struct Roles;
+
+impl Split<ChannelLog> for Roles {
+    ghost use Rattle.std.specs.Prelude.{true, false};
+    ghost use Rattle.policy_actors.specs.ChannelProtocol.{channel_log};
+
+    ghost left = { λ v. channel_log true false v.given 0 };
+
+    ghost right = { λ v. channel_log false true 0 v.taken };
+}
+
+pub struct Gave;
+
+impl Outcome<Batch, ChannelLog> for Gave {
+    ghost use Rattle.std.specs.Prelude.{◌≡◌, ◌+◌};
+    ghost use Rattle.policy_actors.specs.ChannelProtocol.{channel_log};
+
+    ghost then = { λ v x w. w ≡ channel_log v.gives v.takes (v.given + 1) v.taken };
+}
+
+impl Lesson<Batch, ChannelLog> for Gave {
+    ghost fact = { λ v items. ⊤ };
+}
+
+pub struct Took<S> {
+    marker: PhantomData<S>,
+}
+
+impl<S: FedTrace> Outcome<Batch, ChannelLog> for Took<S> {
+    ghost use Rattle.std.specs.Prelude.{◌≡◌, ◌+◌};
+    ghost use Rattle.policy_actors.specs.ChannelProtocol.{channel_log, IsBatch};
+
+    ghost then = { λ v x w. (w ≡ channel_log v.gives v.takes v.given (v.taken + 1)) × IsBatch S.known S.size v.taken x };
+}
+
+impl<S: FedTrace> Lesson<Batch, ChannelLog> for Took<S> {
+    ghost fact = { λ v items. ⊤ };
+}
+
+pub type Sender<S> = RuledSender<Batch, ChannelLog, BatchesInOrder<S>>;
+
+pub type Receiver<S> = RuledReceiver<Batch, ChannelLog, BatchesInOrder<S>>;
+
+pub type Token = Pass<Batch, ChannelLog>;

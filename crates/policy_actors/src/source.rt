@@ -1,0 +1,139 @@
+//! Where the accesses of a run come from.
+ghost use Rattle.std.specs.Prelude.{◌≡◌, ℕ, List, Option, IfSome, length};
+ghost use Rattle.trace_read.specs.TraceText.{AreOfFile};
+ghost use Rattle.policy_actors.specs.ReadRun.{IsReadTo};
+
+use crate::fed_trace::FedTrace;
+use crate::feeder::Feeder;
+use std::alloc::AllocError;
+use std::io::Read;
+use std::sync::Wait;
+use step_record::{MAX_ACCESSES, Trace};
+use trace_read::{Follower, Format, TraceFault, read_followed};
+
+// How many accesses of a trace that is there the feeder gets at a time.
+const PIECE: usize = 65_536;
+
+/// A trace that is there, or that is read meanwhile.
+pub trait AccessSource: Drop {
+    /// What there is to say of it once the actors are fed.
+    type Outcome;
+
+    // these are its accesses, as far as they are known
+    ghost gives: { Self → Option (List ℕ) → Type 0 };
+
+    ghost becomes: { Self → Self.Outcome → Type 0 };
+
+    /// The most accesses that it may give.
+    fn most(&self) -> usize;
+
+    /// Gives the feeder all accesses, in order.
+    fn feed<S: FedTrace, W: Wait>(self, feeder: Feeder<'_, S, W>) -> Self::Outcome
+        requires gives { gives self S.known }
+        requires none { feeder.place ≡ 0 }
+        ensures { becomes self result };
+
+    /// Gives nothing, where the actors could not be started.
+    fn leave(self) -> Self::Outcome
+        ensures { becomes self result };
+}
+
+/// A trace that is there.
+#[derive(Drop)]
+pub struct TraceSource<'t> {
+    pub trace: &'t Trace,
+}
+
+impl<'t> AccessSource for TraceSource<'t> {
+    type Outcome = ();
+
+    ghost use Rattle.std.specs.Prelude.{⊤, ◌≡◌, Some};
+
+    ghost gives = { λ s known. known ≡ Some s.trace.now };
+
+    ghost becomes = { λ s o. ⊤ };
+
+    fn most(&self) -> usize {
+        self.trace.len()
+    }
+
+    fn feed<S: FedTrace, W: Wait>(self, feeder: Feeder<'_, S, W>) {
+        let _ = feed_trace(feeder, self.trace);
+    }
+
+    fn leave(self) {}
+}
+
+// Gives the feeder a trace that is there, piece by piece. The one error is out of memory.
+fn feed_trace<S: FedTrace, W: Wait>(
+    mut feeder: Feeder<'_, S, W>,
+    trace: &Trace,
+) -> Result<(), AllocError>
+    requires known { S.known ≡ Some trace.now }
+    requires none { feeder.place ≡ 0 }
+{
+    let mut read = Vec::new(feeder.alloc);
+    let mut rest = trace.keys();
+    while rest.len() > PIECE {
+        let (piece, later) = rest.split_at(PIECE);
+        read.extend_from_slice(piece)?;
+        feeder.follow(&mut read);
+        rest = later;
+    }
+    read.extend_from_slice(rest)?;
+    feeder.end(Trace::new(read));
+    Ok(())
+}
+
+/// A trace that a reader gives.
+#[derive(Drop)]
+pub struct ReaderSource<'r, R> {
+    pub reader: &'r mut R,
+    pub format: Format,
+}
+
+impl<'r, R: Read> AccessSource for ReaderSource<'r, R> {
+    type Outcome = (&'r mut R, Result<(), TraceFault>);
+
+    ghost use Rattle.std.specs.Prelude.{◌≡◌};
+    ghost use Rattle.trace_read.specs.TraceText.{AreOfFile};
+    ghost use Rattle.policy_actors.specs.ReadRun.{IsReadTo};
+
+    ghost gives = { λ s known. AreOfFile s.format (R.remaining s.reader.now) known };
+
+    ghost becomes = { λ s o. (o.0.ghost_name ≡ s.reader.ghost_name)
+        × IsReadTo s.format (R.remaining s.reader.now) (R.remaining o.0.now) o.1 };
+
+    fn most(&self) -> usize {
+        MAX_ACCESSES
+    }
+
+    fn feed<S: FedTrace, W: Wait>(
+        self,
+        feeder: Feeder<'_, S, W>,
+    ) -> (&'r mut R, Result<(), TraceFault>) {
+        let ReaderSource { reader, format } = self;
+        let read = feed_read(feeder, reader, format);
+        (reader, read)
+    }
+
+    fn leave(self) -> (&'r mut R, Result<(), TraceFault>) {
+        let ReaderSource { reader, format: _ } = self;
+        (reader, Err(TraceFault::OutOfMemory))
+    }
+}
+
+// Gives the feeder the trace while it is read.
+fn feed_read<S: FedTrace, W: Wait, R: Read>(
+    mut feeder: Feeder<'_, S, W>,
+    reader: &mut R,
+    format: Format,
+) -> Result<(), TraceFault>
+    requires file { AreOfFile format (R.remaining reader.old) S.known }
+    requires none { feeder.place ≡ 0 }
+    ensures { IsReadTo format (R.remaining reader.old) (R.remaining reader.new) result }
+{
+    let rest = read_followed(feeder.alloc, reader, format, &mut feeder)?;
+    feeder.end(rest);
+    Ok(())
+}
