@@ -152,15 +152,9 @@ pub(crate) fn part_arguments(matches: &ArgMatches<'_>) -> Option<PartArguments>
     ensures value { result ≡ part_in (rows_of (found_of matches.now)) }
     ensures accepted { IfSome result IsAcceptedPart }
 {
-    let Some(config) = policy_config(matches) else {
-        return None;
-    };
-    let Some(first) = policy(matches, OptionName::First) else {
-        return None;
-    };
-    let Some(second) = policy(matches, OptionName::Second) else {
-        return None;
-    };
+    let config = policy_config(matches)?;
+    let first = policy(matches, OptionName::First)?;
+    let second = policy(matches, OptionName::Second)?;
     Some(PartArguments {
         first: Job {
             policy: first,
@@ -179,12 +173,8 @@ pub(crate) fn drive_arguments(matches: &ArgMatches<'_>, stripes: u8) -> Option<D
     ensures value { result ≡ drive_in stripes (rows_of (found_of matches.now)) }
     ensures accepted { IfSome result IsAcceptedDrive }
 {
-    let Some(config) = concurrent_config(matches, stripes) else {
-        return None;
-    };
-    let Some(workers) = small_number(matches, OptionName::Workers) else {
-        return None;
-    };
+    let config = concurrent_config(matches, stripes)?;
+    let workers = small_number(matches, OptionName::Workers)?;
     Some(DriveArguments {
         config,
         workers,
@@ -232,9 +222,7 @@ fn policy_config(matches: &ArgMatches<'_>) -> Option<Config>
     ensures value { result ≡ config_in (rows_of (found_of matches.now)) }
     ensures accepted { IfSome result (λ config. config_fault config ≡ Ok tt) }
 {
-    let Some(capacity) = number(matches, OptionName::Capacity) else {
-        return None;
-    };
+    let capacity = number(matches, OptionName::Capacity)?;
     config(matches, capacity, 1, 1)
 }
 
@@ -243,12 +231,8 @@ fn concurrent_config(matches: &ArgMatches<'_>, stripes: u8) -> Option<Config>
     ensures value { result ≡ concurrent_in stripes (rows_of (found_of matches.now)) }
     ensures accepted { IfSome result (λ config. config_fault config ≡ Ok tt) }
 {
-    let Some(capacity) = number(matches, OptionName::Capacity) else {
-        return None;
-    };
-    let Some(limit) = number(matches, OptionName::Limit) else {
-        return None;
-    };
+    let capacity = number(matches, OptionName::Capacity)?;
+    let limit = number(matches, OptionName::Limit)?;
     config(matches, capacity, stripes, limit)
 }
 
@@ -257,9 +241,7 @@ fn config(matches: &ArgMatches<'_>, capacity: u32, stripes: u8, limit: u32) -> O
     ensures value { result ≡ config_at capacity stripes limit (rows_of (found_of matches.now)) }
     ensures accepted { IfSome result (λ config. config_fault config ≡ Ok tt) }
 {
-    let Some(main_percent) = small_number(matches, OptionName::Main) else {
-        return None;
-    };
+    let main_percent = small_number(matches, OptionName::Main)?;
     let config = Config {
         capacity,
         main_percent,
@@ -267,8 +249,6 @@ fn config(matches: &ArgMatches<'_>, capacity: u32, stripes: u8, limit: u32) -> O
         stripes,
         journal_limit: limit,
     };
-    match config.check() {
-        Ok(()) => Some(config),
-        Err(_) => None,
-    }
+    config.check().ok()?;
+    Some(config)
 }

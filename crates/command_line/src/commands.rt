@@ -13,6 +13,9 @@ use clap::builder::ValueParser;
 use clap::{Arg, ArgAction, Command};
 use std::alloc::{AllocError, Global};
 
+// The version, which is the newest in `CHANGELOG.md`: `tools/check_manual` compares them.
+const VERSION: &str = "0.1.0";
+
 /// The program's commands, over the words that name policies, formats and spreads.
 pub(crate) fn program<'a>(alloc: Global, lists: &WordLists<'a>) -> Result<Command<'a>, AllocError>
     ensures { IfOk result (λ c. app_of c ≡ program_app lists.now) }
@@ -26,7 +29,7 @@ fn top_command<'a>(alloc: Global) -> Result<Command<'a>, AllocError>
 {
     let named = Command::new(alloc, "cachesim");
     let top = named.about("Simulates cache policies over recorded block traces");
-    let versioned = top.version("0.1.0");
+    let versioned = top.version(VERSION);
     Ok(versioned.subcommand_required(true))
 }
 

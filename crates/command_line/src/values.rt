@@ -22,9 +22,7 @@ pub(crate) fn number(matches: &ArgMatches<'_>, option: OptionName) -> Option<u32
     ensures least { IfSome result (λ n. least_of (row_of option).value ≤ n) }
     ensures most { IfSome result (λ n. n ≤ most_of (row_of option).value) }
 {
-    let Some(number) = wide_number(matches, option) else {
-        return None;
-    };
+    let number = wide_number(matches, option)?;
     in_range(option.row().value, number)
 }
 
@@ -35,9 +33,7 @@ pub(crate) fn small_number(matches: &ArgMatches<'_>, option: OptionName) -> Opti
     ensures least { IfSome result (λ n. least_of (row_of option).value ≤ n) }
     ensures most { IfSome result (λ n. n ≤ most_of (row_of option).value) }
 {
-    let Some(number) = number(matches, option) else {
-        return None;
-    };
+    let number = number(matches, option)?;
     Some(number as u8)
 }
 
@@ -70,9 +66,7 @@ fn in_range(value: ValueKind, number: u64) -> Option<u32>
 pub(crate) fn stripes(matches: &ArgMatches<'_>) -> Option<u8>
     ensures { result ≡ stripes_in (rows_of (found_of matches.now)) }
 {
-    let Some(number) = wide_number(matches, OptionName::Stripes) else {
-        return None;
-    };
+    let number = wide_number(matches, OptionName::Stripes)?;
     if number.is_power_of_two() && number <= u64::from(MAX_STRIPES) {
         return Some(number as u8);
     }
@@ -97,9 +91,7 @@ pub(crate) fn format(matches: &ArgMatches<'_>) -> Format
 pub(crate) fn policy(matches: &ArgMatches<'_>, option: OptionName) -> Option<Policy>
     ensures { result ≡ policy_in option (rows_of (found_of matches.now)) }
 {
-    let Some(word) = matches.get_str(option.row().id) else {
-        return None;
-    };
+    let word = matches.get_str(option.row().id)?;
     policy_named(word)
 }
 
@@ -177,9 +169,7 @@ fn capacities_named(alloc: Global, words: &[&str]) -> Result<Option<CapacityList
 fn capacity_named(word: &str) -> Option<u32>
     ensures { result ≡ value_by OptionName.Capacities word.now }
 {
-    let Some(number) = number_named(word) else {
-        return None;
-    };
+    let number = number_named(word)?;
     in_range(OptionName::Capacities.row().value, number)
 }
 

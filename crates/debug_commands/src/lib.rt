@@ -17,7 +17,7 @@ mod timeline;
 
 pub use breakpoint::{Breakpoint, StepFacts};
 pub use command::{Command, Dialect, InputLine};
-pub use dialogue::{MAX_COMMAND_BYTES, answer_commands};
+pub use dialogue::{MAX_BREAKPOINTS, MAX_COMMAND_BYTES, answer_commands};
 pub use fault::DebugFault;
 pub use grammar::line;
 pub use text::push_count;

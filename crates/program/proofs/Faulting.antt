@@ -10,7 +10,7 @@ use Rattle.command_line.specs.declared.fault.ParseFault.TheVariants.{Refused}
 use Rattle.program.specs.DebugOutput.{KnownFiles}
 use Rattle.program.specs.FaultLine.{IsReported}
 use Rattle.program.specs.FaultCauses.{EndsInFault, IsFound, IsOfMachine, Leaves}
-use Rattle.program.specs.Outcome.{AsksHelp, RefusedBy, RefusesWords, is_help}
+use Rattle.program.specs.Outcome.{AsksHelp, RefusedBy, is_help}
 use Rattle.program.specs.declared.fault.Fault.{Fault}
 use Rattle.program.specs.declared.fault.Fault.TheVariants.{OutOfMemory, Write}
 

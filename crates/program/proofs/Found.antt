@@ -1,5 +1,5 @@
 -- Which fault is found, from what the parts of a call say.
-use Rattle.std.proofs.Common.{◌≡◌, ◌∙◌, ◌⊎◌, refl, subst, inl, inr, ℕ, List, Option, None, Some}
+use Rattle.std.proofs.Common.{◌≡◌, ◌<◌, ◌∙◌, ◌⊎◌, refl, subst, sym, inl, inr, ℕ, List, Option, None, Some, length}
 use Rattle.std.specs.Prelude.{IfSome}
 use Rattle.std.proofs.lemmas.Option.{IfSome_then}
 use Rattle.step_record.specs.declared.config.Config.{Config}
@@ -10,10 +10,9 @@ use Rattle.trace_read.specs.declared.format.Format.{Format}
 use Rattle.program.specs.DebugOutput.{KnownFiles}
 use Rattle.debug_commands.specs.declared.fault.DebugFault.{DebugFault}
 use Rattle.debug_commands.specs.declared.fault.DebugFault.TheVariants as large
-use Rattle.program.specs.Fault.{of_debug, of_file}
-use Rattle.program.specs.declared.files.FileFault.{FileFault}
-use Rattle.program.specs.declared.files.FileFault.TheVariants as gone
-use Rattle.program.specs.FaultCauses.{IsFoundIn, IsFoundInFile, IsOfMachine, IsOfReplay, IsOfReplayFrom}
+use Rattle.debug_commands.specs.declared.dialogue.TheConstants.{MAX_COMMAND_BYTES}
+use Rattle.program.specs.Fault.{of_debug}
+use Rattle.program.specs.FaultCauses.{IsFoundIn, IsFoundInFile, IsOfCommands, IsOfMachine, IsOfReplay, IsOfReplayFrom}
 use Rattle.program.specs.declared.fault.Fault.{Fault}
 use Rattle.program.specs.declared.fault.Fault.TheVariants as fault
 
@@ -28,39 +27,51 @@ in_file file P (fault.Trace e) n h = h
 in_file file P (fault.Journal e) n h = h
 in_file file P (fault.Debug e) n h = h
 
+-- a missing file is nothing that is found in a file
+no_file : (opening : Shell) (limit : ℕ) (commands : Option (List ℕ)) (text : List ℕ) (f : Fault) → IsOfReplayFrom opening limit commands f text → ¬ (f ≡ fault.NoFile)
+no_file opening limit commands text f h is =
+    let of_none : IsOfReplayFrom opening limit commands fault.NoFile text = subst (λ (g : Fault). IsOfReplayFrom opening limit commands g text) is h in
+    absurd (cc (of_none.0))
+
 -- the bytes that were read are those that are known
-known_bytes : (file : Option (List ℕ)) (bytes text : List ℕ) (P : List ℕ → Type 0) → IfSome file (λ xs. bytes ≡ xs) → text ≡ bytes → P text → IfSome file P
+pub known_bytes : (file : Option (List ℕ)) (bytes text : List ℕ) (P : List ℕ → Type 0) → IfSome file (λ xs. bytes ≡ xs) → text ≡ bytes → P text → IfSome file P
 known_bytes None bytes text P has is h = tt
 known_bytes (Some xs) bytes text P has is h = subst P (is ∙ has) h
 
-pub of_replay : (config : Config) (known : KnownFiles) (path journal bytes text : List ℕ) (opening : Shell) (limit : ℕ) (f : Fault) → path ≡ journal
+pub of_replay : (config : Config) (known : KnownFiles) (commands : Option (List ℕ)) (path journal bytes text : List ℕ) (opening : Shell) (limit : ℕ) (f : Fault) → path ≡ journal
     → IfSome (known path) (λ xs. bytes ≡ xs) → text ≡ bytes → IsOpened config opening → limit ≡ config.journal_limit
-    → IsOfMachine f ⊎ IsOfReplayFrom opening limit f text → IsOfMachine f ⊎ IsFoundInFile (known journal) (IsOfReplay config) f
-of_replay config known path journal bytes text opening limit f named has is opened same (inl h) = inl h
-of_replay config known path journal bytes text opening limit f named has is opened same (inr h) =
+    → IsOfMachine f ⊎ IsOfReplayFrom opening limit commands f text → IsOfMachine f ⊎ IsFoundInFile (known journal) (IsOfReplay config commands) f
+of_replay config known commands path journal bytes text opening limit f named has is opened same (inl h) = inl h
+of_replay config known commands path journal bytes text opening limit f named has is opened same (inr h) =
     let here = subst (λ (p : List ℕ). IfSome (known p) (λ xs. bytes ≡ xs)) named has in
-    let found : IsOfReplay config f text = (opening, opened, subst (λ (l : ℕ). IsOfReplayFrom opening l f text) same h) in
-    inr (in_file (known journal) (IsOfReplay config) f (λ e. subst (λ (g : Fault). IsOfReplayFrom opening limit g text) e h) (known_bytes (known journal) bytes text (IsOfReplay config f) here is found))
+    let found : IsOfReplay config commands f text = (opening, opened, subst (λ (l : ℕ). IsOfReplayFrom opening l commands f text) same h) in
+    inr (in_file (known journal) (IsOfReplay config commands) f (no_file opening limit commands text f h) (known_bytes (known journal) bytes text (IsOfReplay config commands f) here is found))
 
--- a fault of the debugger of which no configuration is refused, over a trace without a fault
-pub of_dialogue : (format : Format) (file : Option (List ℕ)) (e : DebugFault) → ((i : ℕ) → e ≡ large.Config i → ⊥) → IfSome file (λ bytes. fault_in format bytes ≡ None)
-    → IsOfMachine (of_debug e) ⊎ IsFoundInFile file (IsFoundIn format (λ f. f ≡ fault.Debug large.TooLarge)) (of_debug e)
-of_dialogue format file large.OutOfMemory none read = inl tt
-of_dialogue format file large.Read none read = inl tt
-of_dialogue format file large.Write none read = inl tt
-of_dialogue format file large.TooLarge none read = inr (IfSome_then file read (λ bytes h. (h, refl)))
-of_dialogue format file (large.Config i) none read = absurd (none i refl)
+-- a fault of the debugger of which no configuration is refused is one of the machine or of the commands
+of_commands : (commands : Option (List ℕ)) (e : DebugFault) → ((i : ℕ) → e ≡ large.Config i → ⊥)
+    → (e ≡ large.TooLarge → IfSome commands (λ bytes. MAX_COMMAND_BYTES < length bytes))
+    → IsOfMachine (of_debug e) ⊎ IsOfCommands commands (of_debug e)
+of_commands commands large.OutOfMemory none past = inl tt
+of_commands commands large.Read none past = inl tt
+of_commands commands large.Write none past = inl tt
+of_commands commands large.TooLarge none past = inr (refl, past refl)
+of_commands commands (large.Config i) none past = absurd (none i refl)
 
--- a line that is too large is a fault of its own
-pub of_large : (e : DebugFault) → of_debug e ≡ fault.Debug large.TooLarge → e ≡ large.TooLarge
-of_large large.OutOfMemory h = absurd (cc h)
-of_large large.Read h = absurd (cc h)
-of_large large.Write h = absurd (cc h)
-of_large large.TooLarge h = refl
-of_large (large.Config i) h = absurd (cc h)
+-- so it is over a journal, and over a trace without a fault
+pub over_journal : (opening : Shell) (limit : ℕ) (commands : Option (List ℕ)) (text : List ℕ) (e : DebugFault)
+    → ((i : ℕ) → e ≡ large.Config i → ⊥)
+    → (e ≡ large.TooLarge → IfSome commands (λ bytes. MAX_COMMAND_BYTES < length bytes))
+    → IsOfMachine (of_debug e) ⊎ IsOfReplayFrom opening limit commands (of_debug e) text
+over_journal opening limit commands text e none past = elim (of_commands commands e none past) [
+  | inl h ↦ inl h
+  | inr h ↦ inr (subst (λ (f : Fault). IsOfReplayFrom opening limit commands f text) (sym h.0) (refl, h.1))
+]
 
--- a file that gave no bytes
-pub of_bytes : (file : Option (List ℕ)) (P : Fault → List ℕ → Type 0) (e : FileFault) → (e ≡ gone.NoFile → file ≡ None)
-    → IsOfMachine (of_file e) ⊎ IsFoundInFile file P (of_file e)
-of_bytes file P gone.OutOfMemory none = inl tt
-of_bytes file P gone.NoFile none = inr (none refl)
+pub over_trace : (format : Format) (file commands : Option (List ℕ)) (e : DebugFault) → IfSome file (λ bytes. fault_in format bytes ≡ None)
+    → ((i : ℕ) → e ≡ large.Config i → ⊥)
+    → (e ≡ large.TooLarge → IfSome commands (λ bytes. MAX_COMMAND_BYTES < length bytes))
+    → IsOfMachine (of_debug e) ⊎ IsFoundInFile file (IsFoundIn format (IsOfCommands commands)) (of_debug e)
+over_trace format file commands e read none past = elim (of_commands commands e none past) [
+  | inl h ↦ inl h
+  | inr h ↦ inr (subst (λ (f : Fault). IsFoundInFile file (IsFoundIn format (IsOfCommands commands)) f) (sym h.0) (IfSome_then file read (λ bytes sound. (sound, (refl, h.1)))))
+]

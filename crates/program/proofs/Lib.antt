@@ -1,6 +1,7 @@
 pub mod Replayed
 pub mod Dealing
 pub mod Faulting
+pub mod TooLarge
 pub mod Found
 pub mod Stopping
 pub mod Accepting

@@ -1,5 +1,5 @@
 -- What a run of workers that did not make all walks leaves.
-use Rattle.std.proofs.Common.{◌≡◌, ◌≤◌, ◌⊎◌, ◌∙◌, ap, refl, subst, sym, arith, inl, inr, ℕ, suc, List, [], ◌∷◌, length, get_or, Option, None, Some, Result, Ok, Err}
+use Rattle.std.proofs.Common.{◌≡◌, ◌≤◌, ◌⊎◌, ◌∙◌, ap, refl, subst, sym, arith, inl, inr, ℕ, suc, List, [], ◌∷◌, length, get_or, Option, None, Some, Result}
 use Rattle.std.specs.Prelude.{IfErr, IfSome}
 use Rattle.std.proofs.lemmas.Option.{IfSome_then}
 use Rattle.step_record.specs.History.{Entries, IsLegal}

@@ -14,6 +14,7 @@ use Rattle.trace_read.specs.declared.fault.TraceFault.{TraceFault}
 use Rattle.trace_read.specs.declared.fault.TraceFault.TheVariants as trace
 use Rattle.journal_text.specs.Faults.{IsFault}
 use Rattle.journal_text.specs.declared.fault.JournalFault.TheVariants as journal
+use Rattle.debug_commands.specs.declared.dialogue.TheConstants.{MAX_COMMAND_BYTES}
 use Rattle.debug_commands.specs.declared.fault.DebugFault.TheVariants as large
 use Rattle.command_line.specs.ParseResult.{IsRefused}
 use Rattle.command_line.specs.declared.arguments.Arguments.{Arguments}
@@ -51,16 +52,20 @@ IsFoundIn format P fault bytes = (fault_in format bytes ≡ None) × P fault
 abbrev pub IsTooMany : List Policy → Fault → Type 0
 IsTooMany policies fault = (fault ≡ Actors) × (MAX_ACTORS < length policies)
 
+-- the commands are more bytes than are read of them
+abbrev pub IsOfCommands : Option (List ℕ) → Fault → Type 0
+IsOfCommands commands fault = (fault ≡ Debug large.TooLarge) × IfSome commands (λ bytes. MAX_COMMAND_BYTES < length bytes)
+
 -- what is wrong with the bytes as a journal from the opening state on, or with the commands
-abbrev pub IsOfReplayFrom : Shell → ℕ → Fault → List ℕ → Type 0
-IsOfReplayFrom opening limit (Journal fault) bytes = (kept : Entries) × IsFault act opening limit fault bytes kept
-IsOfReplayFrom opening limit (Debug large.TooLarge) bytes = Unit {0}
-IsOfReplayFrom opening limit fault bytes = ⊥
+abbrev pub IsOfReplayFrom : Shell → ℕ → Option (List ℕ) → Fault → List ℕ → Type 0
+IsOfReplayFrom opening limit commands (Journal fault) bytes =
+    (kept : Entries) × IsFault act opening limit fault bytes kept
+IsOfReplayFrom opening limit commands fault bytes = IsOfCommands commands fault
 
 -- so from the empty cache of the configuration on
-abbrev pub IsOfReplay : Config → Fault → List ℕ → Type 0
-IsOfReplay config fault bytes =
-    (opening : Shell) × IsOpened config opening × IsOfReplayFrom opening config.journal_limit fault bytes
+abbrev pub IsOfReplay : Config → Option (List ℕ) → Fault → List ℕ → Type 0
+IsOfReplay config commands fault bytes =
+    (opening : Shell) × IsOpened config opening × IsOfReplayFrom opening config.journal_limit commands fault bytes
 
 -- there is no such file, as far as is known, or the fault is found in its bytes
 abbrev pub IsFoundInFile : Option (List ℕ) → (Fault → List ℕ → Type 0) → Fault → Type 0
@@ -74,9 +79,9 @@ IsFound (asked.Sweep sweep) files input fault = IfSome input (IsFoundIn sweep.fo
 IsFound (asked.Part part) files input fault = IfSome input (IsFoundIn part.format (λ f. ⊥) fault)
 IsFound (asked.Drive drive) files input fault = IfSome input (IsFoundIn drive.format (λ f. f ≡ JournalFull) fault)
 IsFound (asked.Debug debug) files input fault = IsFoundInFile (files debug.trace)
-    (IsFoundIn debug.policies.format (λ f. f ≡ Debug large.TooLarge)) fault
+    (IsFoundIn debug.policies.format (IsOfCommands input)) fault
 IsFound (asked.Replay replay) files input fault =
-    IsFoundInFile (files replay.journal) (IsOfReplay replay.config) fault
+    IsFoundInFile (files replay.journal) (IsOfReplay replay.config input) fault
 
 -- faults that are found before anything is written
 abbrev pub IsBeforeOutput : Fault → Type 0

@@ -3,8 +3,8 @@ ghost use Rattle.std.specs.Prelude.{◌≡◌, ◌⊎◌, true, false, [], IfErr
 ghost use Rattle.command_line.specs.Accepted.{IsAcceptedPart};
 ghost use Rattle.step_record.specs.Config.{config_fault};
 ghost use Rattle.program.specs.DebugOutput.{Debugging, IsReplayedFrom, Replaying};
-ghost use Rattle.program.specs.FaultCauses.{IsBeforeOutput, IsFoundIn, IsFoundInFile, IsOfMachine, IsOfReplay};
-ghost use Rattle.program.specs.FaultCauses.{IsOfReplayFrom};
+ghost use Rattle.program.specs.FaultCauses.{IsBeforeOutput, IsFoundIn, IsFoundInFile, IsOfCommands, IsOfMachine};
+ghost use Rattle.program.specs.FaultCauses.{IsOfReplay, IsOfReplayFrom};
 
 use crate::drive::open;
 use crate::fault::Fault;
@@ -41,7 +41,7 @@ pub fn debug<R: Read, W: Write, F: Files>(
     // The fault is one of the machine, or that of the file's trace, or else that of the commands.
     ensures fault { IfErr result (λ fault. IsOfMachine fault
         ⊎ IsFoundInFile (F.known files.now arguments.now.trace)
-        (IsFoundIn arguments.now.policies.format (λ f. f ≡ Fault.Debug DebugFault.TooLarge)) fault) }
+        (IsFoundIn arguments.now.policies.format (IsOfCommands (R.remaining input.old))) fault) }
 {
     let bytes = files.bytes(alloc, arguments.trace.as_str())?;
     let policies = &arguments.policies;
@@ -68,7 +68,7 @@ pub fn replay<R: Read, W: Write, F: Files>(
     // The fault is one of the machine, or that of the file's journal, or else that of the commands.
     ensures fault { IfErr result (λ fault. IsOfMachine fault
         ⊎ IsFoundInFile (F.known files.now arguments.now.journal)
-        (IsOfReplay arguments.now.config) fault) }
+        (IsOfReplay arguments.now.config (R.remaining input.old)) fault) }
 {
     let bytes = files.bytes(alloc, arguments.journal.as_str())?;
     let mut session = open(alloc, &arguments.config)?;
@@ -91,7 +91,7 @@ fn replay_in<R: Read, W: Write>(
     ensures large { result ≡ Err (Fault.Debug DebugFault.TooLarge) → IsReplayedFrom false session.old.opening
         session.old.limit journal.entry.now (R.remaining input.old) (W.contents out.old) (W.contents out.new) }
     ensures fault { IfErr result (λ fault. IsOfMachine fault
-        ⊎ IsOfReplayFrom session.old.opening session.old.limit fault journal.entry.now) }
+        ⊎ IsOfReplayFrom session.old.opening session.old.limit (R.remaining input.old) fault journal.entry.now) }
 {
     read_journal(alloc, &mut journal, session)?;
     run_replay(alloc, session, input, out)?;

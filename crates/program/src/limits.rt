@@ -1,8 +1,13 @@
 //! The limits that the documents name, and the statuses, by their values: where one is changed, its line here is no
 //! longer proved.
+ghost use Rattle.std.specs.Prelude.{◌≡◌, [], ◌∷◌};
+ghost use Rattle.step_record.specs.declared.job.Policy.TheVariants.{Clairvoyant, Lru, SegmentedLru, TinyLfuLru};
+ghost use Rattle.step_record.specs.declared.job.Policy.TheVariants.{TinyLfuSegmented, WindowTinyLfu};
+ghost use Rattle.step_record.specs.declared.job.TheConstants.{POLICIES};
+
 use crate::fault_report::{DONE, FAULT, REFUSED};
 use crate::files::MAX_FILE_BYTES;
-use debug_commands::MAX_COMMAND_BYTES;
+use debug_commands::{MAX_BREAKPOINTS, MAX_COMMAND_BYTES};
 use journal_text::MAX_JOURNAL_BYTES;
 use policies::MAX_ACTORS;
 use shell_buffers::{MAX_ITEMS, MAX_TASKS};
@@ -45,6 +50,8 @@ const _: () = prove!(MAX_JOURNAL_BYTES == 1_073_741_824);
 
 const _: () = prove!(MAX_COMMAND_BYTES == 1_048_576);
 
+const _: () = prove!(MAX_BREAKPOINTS == 64);
+
 const _: () = prove!(INTERRUPTIONS == 1_000_000);
 
 const _: () = prove!(DONE == 0);
@@ -52,3 +59,8 @@ const _: () = prove!(DONE == 0);
 const _: () = prove!(FAULT == 1);
 
 const _: () = prove!(REFUSED == 2);
+
+// Each policy, and none twice.
+fn policies()
+    ensures { POLICIES ≡ Lru ∷ SegmentedLru ∷ TinyLfuLru ∷ TinyLfuSegmented ∷ WindowTinyLfu ∷ Clairvoyant ∷ [] }
+{}

@@ -1,11 +1,13 @@
 //! The subcommand `part`: a trace to the access at which two policies part.
 ghost use Rattle.std.specs.Prelude.{◌≡◌, ◌≢◌, ◌⊎◌, IfErr, IfSome, OnOk};
+ghost use Rattle.command_line.specs.Accepted.{IsAcceptedPart};
 ghost use Rattle.program.specs.FaultCauses.{IsFoundIn, IsOfMachine};
 ghost use Rattle.program.specs.PartOutput.{Parting};
 
 use crate::fault::Fault;
 use command_line::PartArguments;
 use debug_policies::push_part;
+use policies::ActorFault;
 use std::alloc::Global;
 use std::io::{Read, Write};
 use trace_read::read_trace;
@@ -19,6 +21,7 @@ pub fn part<R: Read, W: Write>(
     input: &mut R,
     out: &mut W,
 ) -> Result<(), Fault>
+    requires { IsAcceptedPart arguments.now }
     ensures ok { OnOk result (Parting arguments.now.format arguments.now.first arguments.now.second
         (R.remaining input.old) (W.contents out.old) (W.contents out.new)) }
     ensures kept { IfErr result (λ fault. fault ≢ Fault.Write → out.new ≡ out.old) }
@@ -27,9 +30,12 @@ pub fn part<R: Read, W: Write>(
         (IsFoundIn arguments.now.format (λ f. ⊥) fault)) }
 {
     let trace = read_trace(alloc, input, arguments.format)?;
-    // A parse gives configurations that are accepted, so the one fault is out of memory.
-    let Ok(found) = debug_policies::part(alloc, &trace, &arguments.first, &arguments.second) else {
-        return Err(Fault::OutOfMemory);
+    let found = match debug_policies::part(alloc, &trace, &arguments.first, &arguments.second) {
+        Ok(found) => found,
+        Err(fault) => {
+            prove!(fault == ActorFault::OutOfMemory);
+            return Err(Fault::OutOfMemory);
+        }
     };
     let mut line = Vec::new(alloc);
     push_part(&mut line, found)?;

@@ -5,12 +5,12 @@ use Rattle.clap.proofs.WalkLemmas.{first_value-rows}
 use Rattle.command_line.specs.Choices.{policy_named}
 use Rattle.command_line.proofs.values.policy.Goals as goal
 
-pub returns-in_default : goal.returns-in_default
-returns-in_default c =
+pub returns-in_err-word : goal.returns-in_err-word
+returns-in_err-word c =
     let f = found_of c.args.matches.now in
-    ap (option_and_then policy_named) (c.in_default.ensures ∙ first_value-rows f c.row.result.id.now ∙ ap (λ t. first_of t (rows_of f)) c.row.ensures.id)
+    c.from_residual.ensures ∙ ap (option_and_then policy_named) (c.in_err-word.ensures ∙ first_value-rows f c.row.result.id.now ∙ ap (λ t. first_of t (rows_of f)) c.row.ensures.id)
 
 pub returns : goal.returns
 returns c =
     let f = found_of c.args.matches.now in
-    c.policy_named.ensures ∙ ap (option_and_then policy_named) (c.in-Some.ensures ∙ first_value-rows f c.row.result.id.now ∙ ap (λ t. first_of t (rows_of f)) c.row.ensures.id)
+    c.policy_named.ensures ∙ ap (option_and_then policy_named) (c.in_ok-word.ensures ∙ first_value-rows f c.row.result.id.now ∙ ap (λ t. first_of t (rows_of f)) c.row.ensures.id)

@@ -1,4 +1,4 @@
-use Rattle.std.proofs.Common.{◌∙◌, ◌≡◌, ap, inl, inr, subst, refl, rules, List, ℕ, map, Result, Ok, Err}
+use Rattle.std.proofs.Common.{◌∙◌, ◌≡◌, ap, inl, inr, subst, refl, rules, List, ℕ, map, Result, Err}
 use Rattle.std.specs.Borrow.{Bor}
 use Rattle.command_line.specs.ParseResult.{ParsedBy}
 use Rattle.command_line.specs.declared.arguments.Arguments.{Arguments}

@@ -17,7 +17,7 @@ returns-clause-fault g c =
     let config = c.args.arguments.now.config in
     let journal = c.args.arguments.now.journal in
     let known = g.F.Files.known c.args.files.now in
-    IfErr-weaker c.replay_in.result _ _ (λ fault due. of_replay config known c.as_str.result.now journal c.in_ok-bytes.bytes.items c.as_slice.result.now
+    IfErr-weaker c.replay_in.result _ _ (λ fault due. of_replay config known (g.R.Read.remaining c.args.input.now) c.as_str.result.now journal c.in_ok-bytes.bytes.items c.as_slice.result.now
     c.in_ok-session.session.opening c.in_ok-session.session.limit fault c.as_str.ensures c.in_ok-bytes.ensures.bytes c.as_slice.ensures.value
     c.in_ok-session.ensures.first.opened c.in_ok-session.ensures.limit due) c.replay_in.ensures.fault
 

@@ -1,4 +1,8 @@
-use Rattle.std.proofs.Common.{length, true}
+use Rattle.std.proofs.Common.{ap, length, true, Err}
+use Rattle.std.proofs.lemmas.Option.{IfSome_then}
+use Rattle.program.proofs.Faulting.{err_is}
+use Rattle.program.proofs.Found.{over_journal}
+use Rattle.program.proofs.TooLarge.{past_limit}
 use Rattle.program.proofs.Replayed.{replayed_from}
 use Rattle.program.proofs.debug.replay_in.Goals as goal
 
@@ -7,3 +11,9 @@ returns-clause-ok g c =
     replayed_from true c.args.journal.now (g.R.Read.remaining c.args.input.now) (g.W.Write.contents c.args.out.now) (g.W.Write.contents c.run_replay.new.out)
     c.args.session.now c.read_journal.new.session (length c.run_replay.new.session.kept)
     c.in_ok-read_journal.ensures.ok c.read_journal.ensures.opening c.read_journal.ensures.tail c.in_ok-run_replay.ensures.done
+
+pub returns-in_err-run_replay-clause-fault : goal.returns-in_err-run_replay-clause-fault
+returns-in_err-run_replay-clause-fault g c =
+    let commands = g.R.Read.remaining c.args.input.now in
+    err_is _ c.from_residual-in_err-run_replay.result _ c.from_residual-in_err-run_replay.ensures.1 (over_journal _ _ commands c.args.journal.now _ (λ i same. c.in_err-run_replay.ensures.config i (ap Err same))
+    (λ same. IfSome_then commands (c.in_err-run_replay.ensures.large (ap Err same)) (λ bytes writes. past_limit _ _ bytes writes.fits)))

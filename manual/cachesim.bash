@@ -1,0 +1,73 @@
+# Completions of cachesim for bash. Made by tools/make_manual of the program's help; not to be edited.
+
+# What can stand in each place of a call, as words, of which <FILE> is any file. With no option, or one that
+# takes no value, these are the subcommand's options and what stands without a name.
+_cachesim_words() {
+    case $1:$2 in
+    run:--capacity) echo '' ;;
+    run:--main) echo '' ;;
+    run:--spread) echo 'mixed plain' ;;
+    run:--format) echo 'lirs arc' ;;
+    run:--batch) echo '' ;;
+    run:*) echo 'lru slru tinylfu-lru tinylfu-slru wtinylfu clairvoyant --capacity --main --spread --format --batch -h --help' ;;
+    sweep:--main) echo '' ;;
+    sweep:--spread) echo 'mixed plain' ;;
+    sweep:--format) echo 'lirs arc' ;;
+    sweep:--policy) echo 'lru slru tinylfu-lru tinylfu-slru wtinylfu clairvoyant' ;;
+    sweep:*) echo '--main --spread --format --policy -h --help' ;;
+    part:--capacity) echo '' ;;
+    part:--main) echo '' ;;
+    part:--spread) echo 'mixed plain' ;;
+    part:--format) echo 'lirs arc' ;;
+    part:--first) echo 'lru slru tinylfu-lru tinylfu-slru wtinylfu clairvoyant' ;;
+    part:--second) echo 'lru slru tinylfu-lru tinylfu-slru wtinylfu clairvoyant' ;;
+    part:*) echo '--capacity --main --spread --format --first --second -h --help' ;;
+    drive:--capacity) echo '' ;;
+    drive:--main) echo '' ;;
+    drive:--spread) echo 'mixed plain' ;;
+    drive:--format) echo 'lirs arc' ;;
+    drive:--workers) echo '' ;;
+    drive:--stripes) echo '' ;;
+    drive:--limit) echo '' ;;
+    drive:*) echo '--capacity --main --spread --format --workers --stripes --limit -h --help' ;;
+    debug:--capacity) echo '' ;;
+    debug:--main) echo '' ;;
+    debug:--spread) echo 'mixed plain' ;;
+    debug:--format) echo 'lirs arc' ;;
+    debug:--first) echo 'lru slru tinylfu-lru tinylfu-slru wtinylfu clairvoyant' ;;
+    debug:--second) echo 'lru slru tinylfu-lru tinylfu-slru wtinylfu clairvoyant' ;;
+    debug:--trace) echo '<FILE>' ;;
+    debug:*) echo '--capacity --main --spread --format --first --second --trace -h --help' ;;
+    replay:--capacity) echo '' ;;
+    replay:--main) echo '' ;;
+    replay:--spread) echo 'mixed plain' ;;
+    replay:--journal) echo '<FILE>' ;;
+    replay:--stripes) echo '' ;;
+    replay:--limit) echo '' ;;
+    replay:*) echo '--capacity --main --spread --journal --stripes --limit -h --help' ;;
+    help:*) echo 'run sweep part drive debug replay' ;;
+    esac
+}
+
+_cachesim() {
+    local word=${COMP_WORDS[COMP_CWORD]} before=${COMP_WORDS[COMP_CWORD - 1]} words
+    # `--option=value` comes as three words.
+    if [[ $word == = ]]; then
+        word=
+    elif [[ $before == = ]]; then
+        before=${COMP_WORDS[COMP_CWORD - 2]}
+    fi
+    if [[ $before == *[\<\>] ]]; then
+        words='<FILE>'
+    elif ((COMP_CWORD == 1)); then
+        words='run sweep part drive debug replay help -h --help -V --version'
+    else
+        words=$(_cachesim_words "${COMP_WORDS[1]}" "$before")
+    fi
+    mapfile -t COMPREPLY < <(compgen -W "${words/<FILE>/}" -- "$word")
+    if [[ $words == *'<FILE>'* ]]; then
+        compopt -o filenames
+        mapfile -t -O "${#COMPREPLY[@]}" COMPREPLY < <(compgen -f -- "$word")
+    fi
+}
+complete -F _cachesim cachesim
