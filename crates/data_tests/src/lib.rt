@@ -23,8 +23,6 @@ mod key_places_tests;
 #[cfg(test)]
 mod next_use_tests;
 #[cfg(test)]
-mod optimal_tests;
-#[cfg(test)]
 mod rank_tree_tests;
 #[cfg(test)]
 mod segments_tests;
