@@ -1,5 +1,6 @@
-//! Tests of the data structures: queues of items, buffers, ranks, places of keys, next uses, the curve of Lru, and the
-//! optimal policy beside Lru. They stand in a crate of their own so that the gate proves each of those crates once.
+//! Tests of the data structures: queues of items, buffers, ranks, places of keys, next uses, the sketch and its counters,
+//! the curve of Lru, and the optimal policy. They stand in a crate of their own so that the gate proves each of those crates
+//! once.
 #![tactic(auto)]
 
 #[cfg(test)]
