@@ -21,25 +21,6 @@ fn holds_and_forgets_and_restores(rt: HostRuntime) -> Result<(), Fail> {
 }
 
 #[test]
-fn counts_the_words_of_an_emptying(rt: HostRuntime) -> Result<(), Fail> {
-    let mut door = Doorkeeper::new(rt.alloc(), 8192, Spread::Mixed)?;
-    assert_eq!(rt; door.clear()?.words(), 128);
-    Ok(())
-}
-
-#[test]
-fn empties_again_and_again(rt: HostRuntime) -> Result<(), Fail> {
-    let mut door = Doorkeeper::new(rt.alloc(), 64, Spread::Mixed)?;
-    for key in 0..12u64 {
-        let _ = door.put(key);
-        assert!(rt; door.has(key));
-        assert_eq!(rt; door.clear()?.words(), 1);
-        assert!(rt; !door.has(key));
-    }
-    Ok(())
-}
-
-#[test]
 fn opens_at_the_largest_size(rt: HostRuntime) -> Result<(), Fail> {
     let mut door = Doorkeeper::new(rt.alloc(), 1 << 23, Spread::Plain)?;
     let _ = door.put(u64::MAX);

@@ -115,22 +115,6 @@ fn record_all(
     Ok(())
 }
 
-// Records so many keys for good, which are 0, 1, and so on below the modulus, again and again.
-fn record_in_turn(
-    rt: &impl Abort,
-    refused: &mut u32,
-    frequency: &mut Frequency,
-    count: u64,
-    modulus: u64,
-) -> Result<(), AllocError>
-    requires { 1 ≤ modulus }
-{
-    for key in 0..count {
-        record_all(rt, refused, frequency, &[key % modulus])?;
-    }
-    Ok(())
-}
-
 // A key that comes twenty times: its counters stand at 15 when they are halved.
 fn assert_undone(
     rt: &impl Abort,
@@ -164,39 +148,6 @@ fn undoes_a_touch_and_a_halving_in_one(rt: HostRuntime) -> Result<(), Fail> {
     for spread in [Spread::Plain, Spread::Mixed] {
         let mut frequency = open(&rt, &mut refused, rt.alloc(), 2, spread)?;
         assert_undone(&rt, &mut refused, &mut frequency)?;
-    }
-    Ok(())
-}
-
-fn assert_leasts(rt: &impl Abort, frequency: &Frequency, wanted: (u8, u8)) {
-    assert_eq!(rt;
-        (frequency.sketch().least(3), frequency.sketch().least(5)),
-        wanted
-    );
-}
-
-fn assert_given_back(
-    rt: &impl Abort,
-    refused: &mut u32,
-    frequency: &mut Frequency,
-) -> Result<(), AllocError> {
-    record_all(rt, refused, frequency, &[3; 4])?;
-    record_all(rt, refused, frequency, &[5; 15])?;
-    assert_leasts(rt, frequency, (3, 14));
-    let last = record(rt, refused, frequency, 5)?;
-    assert_leasts(rt, frequency, (1, 7));
-    assert!(rt; !frequency.doorkeeper().has(5) && last.words() == 2);
-    frequency.unrecord(last);
-    assert_leasts(rt, frequency, (3, 14));
-    Ok(())
-}
-
-#[test]
-fn gives_odd_counters_back(rt: HostRuntime) -> Result<(), Fail> {
-    let mut refused = 0;
-    for spread in [Spread::Plain, Spread::Mixed] {
-        let mut frequency = open(&rt, &mut refused, rt.alloc(), 2, spread)?;
-        assert_given_back(&rt, &mut refused, &mut frequency)?;
     }
     Ok(())
 }
@@ -293,90 +244,6 @@ fn admits_no_tie(rt: HostRuntime) -> Result<(), Fail> {
         let mut frequency = open(&rt, &mut refused, rt.alloc(), 1, spread)?;
         assert_no_tie_admitted(&rt, &mut refused, &mut frequency)?;
     }
-    Ok(())
-}
-
-// A capacity, how many records come before its first halving, the age after that, and the words of its record.
-struct Halved {
-    capacity: u32,
-    before: u64,
-    age: u32,
-    words: u64,
-}
-
-fn assert_words(
-    rt: &impl Abort,
-    refused: &mut u32,
-    frequency: &mut Frequency,
-    wanted: &Halved,
-) -> Result<(), AllocError> {
-    record_in_turn(rt, refused, frequency, wanted.before, 1500)?;
-    assert_eq!(rt; frequency.halvings(), 0);
-    let last = record(rt, refused, frequency, 7)?;
-    assert_eq!(rt; last.words(), wanted.words);
-    assert_eq!(rt; (frequency.halvings(), frequency.age()), (1, wanted.age));
-    Ok(())
-}
-
-// A halving keeps a word for 16 columns and one for 64 bits of the doorkeeper: the columns are the power of two from the
-// capacity on, the bits that from eight times the capacity on, at least 16 and 64.
-const HALVED: [Halved; 5] = [
-    Halved {
-        capacity: 1,
-        before: 9,
-        age: 5,
-        words: 2,
-    },
-    Halved {
-        capacity: 2,
-        before: 19,
-        age: 10,
-        words: 2,
-    },
-    Halved {
-        capacity: 16,
-        before: 159,
-        age: 80,
-        words: 3,
-    },
-    Halved {
-        capacity: 17,
-        before: 169,
-        age: 85,
-        words: 6,
-    },
-    Halved {
-        capacity: 1000,
-        before: 9999,
-        age: 5000,
-        words: 192,
-    },
-];
-
-#[test]
-fn counts_the_words_of_a_halving(rt: HostRuntime) -> Result<(), Fail> {
-    let mut refused = 0;
-    for wanted in &HALVED {
-        assert!(rt; 1 <= wanted.capacity && wanted.capacity <= 1 << 20);
-        let mut frequency = open(
-            &rt,
-            &mut refused,
-            rt.alloc(),
-            wanted.capacity,
-            Spread::Mixed,
-        )?;
-        assert_words(&rt, &mut refused, &mut frequency, wanted)?;
-    }
-    Ok(())
-}
-
-// 100 keys at a capacity of 1: a halving at the tenth, and after each five more.
-#[test]
-fn halves_again_and_again(rt: HostRuntime) -> Result<(), Fail> {
-    let mut refused = 0;
-    let mut frequency = open(&rt, &mut refused, rt.alloc(), 1, Spread::Mixed)?;
-    record_in_turn(&rt, &mut refused, &mut frequency, 100, 3)?;
-    assert_eq!(rt; (frequency.halvings(), frequency.age()), (19, 5));
     Ok(())
 }
 

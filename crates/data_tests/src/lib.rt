@@ -1,5 +1,6 @@
-//! Tests of the data structures: queues of items, buffers, ranks, places of keys, next uses, the curve of Lru, and the
-//! optimal policy beside Lru. They stand in a crate of their own so that the gate proves each of those crates once.
+//! Tests of the data structures: queues of items, buffers, ranks, places of keys, next uses, the sketch and its counters,
+//! the curve of Lru, and the optimal policy. They stand in a crate of their own so that the gate proves each of those crates
+//! once.
 #![tactic(auto)]
 
 #[cfg(test)]
@@ -22,8 +23,6 @@ mod halving_tests;
 mod key_places_tests;
 #[cfg(test)]
 mod next_use_tests;
-#[cfg(test)]
-mod optimal_tests;
 #[cfg(test)]
 mod rank_tree_tests;
 #[cfg(test)]

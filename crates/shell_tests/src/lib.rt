@@ -15,8 +15,6 @@ mod ends_tests;
 #[cfg(test)]
 mod journal_tests;
 #[cfg(test)]
-mod random_walks;
-#[cfg(test)]
 mod range_tests;
 #[cfg(test)]
 mod retry_tests;

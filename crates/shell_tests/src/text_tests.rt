@@ -1,4 +1,4 @@
-ghost use Rattle.std.specs.Prelude.{◌≡◌, ◌≤◌, []};
+ghost use Rattle.std.specs.Prelude.{◌≤◌};
 ghost use Rattle.step_record.specs.declared.limits.TheConstants.{MAX_JOURNAL_LIMIT};
 
 use super::assertions::assert_equal;
@@ -48,24 +48,6 @@ fn written(alloc: Global, session: &Session<Shell>) -> Result<Vec<u8>, Fail> {
     let mut text = Vec::with_capacity(alloc, ROOM)?;
     write_journal(alloc, session, &mut text)?;
     Ok(text)
-}
-
-/// Writes a session, reads the text into a session just opened, and sees that both hold the same
-/// entries and show the same.
-pub fn assert_read_back(
-    rt: &impl Abort,
-    alloc: Global,
-    session: &Session<Shell>,
-    fresh: &mut Session<Shell>,
-) -> Result<(), Fail>
-    requires kept { fresh.old.kept ≡ [] }
-    requires tail { fresh.old.tail ≡ [] }
-{
-    let text = written(alloc, session)?;
-    let mut reader = text.as_slice();
-    read_journal(alloc, &mut reader, fresh)?;
-    assert_text(rt, alloc, fresh, text.as_slice())?;
-    assert_shows_as(rt, alloc, fresh.engine(), session.engine())
 }
 
 // Reads a journal into a session of this limit: the answer, and how many steps are applied then.
