@@ -1,6 +1,6 @@
-use Rattle.std.proofs.Common.{◌≡◌, ◌∙◌, ◌≤◌, length, take, ap, arith}
+use Rattle.std.proofs.Common.{◌≡◌, ◌∙◌, length, ap, arith}
 use Rattle.policies.proofs.AnyStanding.{any_covers_trace}
-use Rattle.policies.specs.AnyPolicy.{HasAccessed, outcomes_on}
+use Rattle.policies.specs.AnyPolicy.{outcomes_on}
 use Rattle.debug_policies.specs.Comparison.{compared_on}
 use Rattle.debug_policies.proofs.Compared.{compared-all}
 use Rattle.debug_policies.proofs.comparison.count_in_both.Goals as goal

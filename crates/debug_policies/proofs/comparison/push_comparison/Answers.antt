@@ -1,4 +1,4 @@
-use Rattle.std.proofs.Common.{rules, ◌≡◌, ◌∙◌, ◌++◌, ap, List, ℕ}
+use Rattle.std.proofs.Common.{◌≡◌, ◌∙◌, ◌++◌, ap, List, ℕ}
 use Rattle.std.specs.Prelude.{codes}
 use Rattle.step_record.specs.Job.{word_of}
 use Rattle.debug_commands.specs.Texts.{count_text}
