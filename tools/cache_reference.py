@@ -7,6 +7,8 @@ from functools import lru_cache
 
 POLICIES = ("lru", "slru", "tinylfu-lru", "tinylfu-slru", "wtinylfu", "clairvoyant")
 HEADER = "policy,capacity,accesses,hits,misses,evictions,rejections,rate\n"
+INTERVALS_HEADER = "policy,capacity,first,last,hits,misses,evictions,rejections,rate\n"
+COMPARE_HEADER = "first,second,capacity,accesses,both,first_only,second_only,neither\n"
 BLANKS = b" \t\r"
 ALL_BITS = 2**64 - 1
 MAX_ACCESSES = 2**24
@@ -322,13 +324,22 @@ class Counts:
         return [self.of[name] for name in ("hits", "misses", "evictions", "rejections")]
 
 
+def outcomes_of(policy, capacity, main, spread, keys):
+    cache = opened(policy, capacity, main, spread, keys)
+    return [cache.access(key)[0] for key in keys]
+
+
+def rate(counts, accesses):
+    hundredths = counts.of["hits"] * 10000 // accesses if accesses else 0
+    return f"{hundredths // 100}.{hundredths % 100:02}"
+
+
 def report(policy, capacity, main, spread, keys):
-    cache, counts = opened(policy, capacity, main, spread, keys), Counts()
-    for key in keys:
-        counts.add(cache.access(key)[0])
-    hits, accesses = counts.of["hits"], len(keys)
-    rate = hits * 10000 // accesses if accesses else 0
-    return f"{policy},{capacity},{accesses},{','.join(map(str, counts.values()))},{rate // 100}.{rate % 100:02}\n"
+    counts = Counts()
+    for outcome in outcomes_of(policy, capacity, main, spread, keys):
+        counts.add(outcome)
+    numbers = ",".join(map(str, counts.values()))
+    return f"{policy},{capacity},{len(keys)},{numbers},{rate(counts, len(keys))}\n"
 
 
 def run(keys, policies, capacities, main, spread):
@@ -337,12 +348,35 @@ def run(keys, policies, capacities, main, spread):
     return HEADER + "".join(rows)
 
 
+def intervals(keys, policies, every, capacity, main, spread):
+    """What each policy makes of each interval of so many accesses, by a cache that goes through the whole trace."""
+    rows = []
+    for policy in policies:
+        outcomes = outcomes_of(policy, capacity, main, spread, keys)
+        for start in range(0, len(keys), every):
+            piece = outcomes[start:start + every]
+            counts = Counts()
+            for outcome in piece:
+                counts.add(outcome)
+            places = f"{start + 1},{start + len(piece)}"
+            rows.append(f"{policy},{capacity},{places},{','.join(map(str, counts.values()))},{rate(counts, len(piece))}\n")
+    return INTERVALS_HEADER + "".join(rows)
+
+
 def part(keys, first, second, capacity, main, spread):
     a, b = (opened(policy, capacity, main, spread, keys) for policy in (first, second))
     for number, key in enumerate(keys, 1):
         if (a.access(key)[0] == "hit") != (b.access(key)[0] == "hit"):
             return f"part {number}\n"
     return "part none\n"
+
+
+def compare(keys, first, second, capacity, main, spread):
+    """At how many accesses both of two policies hit, only the first, only the second, and neither."""
+    hits = ([outcome == "hit" for outcome in outcomes_of(policy, capacity, main, spread, keys)] for policy in (first, second))
+    counts = Counter(zip(*hits))
+    numbers = [len(keys), *(counts[pair] for pair in ((True, True), (True, False), (False, True), (False, False)))]
+    return f"{COMPARE_HEADER}{first},{second},{capacity},{','.join(map(str, numbers))}\n"
 
 
 # The debuggers. A timeline has the text that `show` prints at each position, and what each step from one to the next did.

@@ -1,11 +1,13 @@
 -- The ranges of what a parse gives.
 use Rattle.std.specs.Prelude.{◌≡◌, ◌≤◌, Ok}
 use Rattle.step_record.specs.Config.{config_fault}
-use Rattle.step_record.specs.declared.limits.TheConstants.{MAX_BATCH}
+use Rattle.step_record.specs.declared.limits.TheConstants.{MAX_ACCESSES, MAX_BATCH}
 use Rattle.step_record.specs.declared.worker.TheConstants.{MAX_WORKERS}
 use Rattle.command_line.specs.declared.arguments.Arguments.{Arguments}
-use Rattle.command_line.specs.declared.arguments.Arguments.TheVariants.{Debug, Drive, Part, Replay, Run, Sweep}
+use Rattle.command_line.specs.declared.arguments.Arguments.TheVariants.{Compare, Debug, Drive, Intervals, Part}
+use Rattle.command_line.specs.declared.arguments.Arguments.TheVariants.{Replay, Run, Sweep}
 use Rattle.command_line.specs.declared.arguments.DriveArguments.{DriveArguments}
+use Rattle.command_line.specs.declared.arguments.IntervalsArguments.{IntervalsArguments}
 use Rattle.command_line.specs.declared.arguments.PartArguments.{PartArguments}
 use Rattle.command_line.specs.declared.arguments.RunArguments.{RunArguments}
 
@@ -13,6 +15,11 @@ pub record IsAcceptedRun (run : RunArguments) : Type 0 where
   pub config : config_fault run.config ≡ Ok tt
   pub some : 1 ≤ run.batch
   pub few : run.batch ≤ MAX_BATCH
+
+pub record AreAcceptedIntervals (intervals : IntervalsArguments) : Type 0 where
+  pub config : config_fault intervals.config ≡ Ok tt
+  pub some : 1 ≤ intervals.every
+  pub few : intervals.every ≤ MAX_ACCESSES
 
 pub record IsAcceptedPart (part : PartArguments) : Type 0 where
   pub first : config_fault part.first.config ≡ Ok tt
@@ -27,7 +34,9 @@ pub record IsAcceptedDrive (drive : DriveArguments) : Type 0 where
 abbrev pub AreAccepted : Arguments → Type 0
 AreAccepted (Run run) = IsAcceptedRun run
 AreAccepted (Sweep sweep) = config_fault sweep.config ≡ Ok tt
+AreAccepted (Intervals intervals) = AreAcceptedIntervals intervals
 AreAccepted (Part part) = IsAcceptedPart part
+AreAccepted (Compare compare) = IsAcceptedPart compare
 AreAccepted (Drive drive) = IsAcceptedDrive drive
 AreAccepted (Debug debug) = IsAcceptedPart debug.policies
 AreAccepted (Replay replay) = config_fault replay.config ≡ Ok tt

@@ -1,7 +1,7 @@
 -- The rows of options and subcommands.
 use Rattle.std.specs.Prelude.{◌≡◌, List, [], ◌∷◌, Option, Some, None, codes, option_map}
 use Rattle.clap.specs.Words.{Text}
-use Rattle.step_record.specs.declared.limits.TheConstants.{MAX_BATCH, MAX_CAPACITY, MAX_JOURNAL_LIMIT}
+use Rattle.step_record.specs.declared.limits.TheConstants.{MAX_ACCESSES, MAX_BATCH, MAX_CAPACITY, MAX_JOURNAL_LIMIT}
 use Rattle.step_record.specs.declared.limits.TheConstants.{MAX_MAIN_PERCENT}
 use Rattle.step_record.specs.declared.worker.TheConstants.{MAX_WORKERS}
 use Rattle.command_line.specs.declared.options.OptionName.{OptionName}
@@ -31,6 +31,7 @@ row_of option.Main = row (codes "main") (kind.Number 0 MAX_MAIN_PERCENT) Named (
 row_of option.Spread = row (codes "spread") kind.Spread Named (Some (codes "mixed"))
 row_of option.Format = row (codes "format") kind.Format Named (Some (codes "lirs"))
 row_of option.Batch = row (codes "batch") (kind.Number 1 MAX_BATCH) Named (Some (codes "1024"))
+row_of option.Every = row (codes "every") (kind.Number 1 MAX_ACCESSES) Named None
 row_of option.Policies = row (codes "policy") kind.Policy Positional None
 row_of option.SweptPolicies = row (codes "policy") kind.Policy NamedOften None
 row_of option.First = row (codes "first") kind.Policy Named None
@@ -51,7 +52,9 @@ pub record IsRow (due : OptionDefinition) (given : OptionRow) : Type 0 where
 abbrev pub name_of : Subcommand → Text
 name_of subcommand.Run = codes "run"
 name_of subcommand.Sweep = codes "sweep"
+name_of subcommand.Intervals = codes "intervals"
 name_of subcommand.Part = codes "part"
+name_of subcommand.Compare = codes "compare"
 name_of subcommand.Drive = codes "drive"
 name_of subcommand.Debug = codes "debug"
 name_of subcommand.Replay = codes "replay"
@@ -64,7 +67,13 @@ options_of subcommand.Run =
 options_of subcommand.Sweep =
     option.Main ∷ option.Spread ∷ option.Format ∷ option.SweptPolicies
     ∷ option.Capacities ∷ []
+options_of subcommand.Intervals =
+    option.Capacity ∷ option.Every ∷ option.Main ∷ option.Spread
+    ∷ option.Format ∷ option.Policies ∷ []
 options_of subcommand.Part =
+    option.Capacity ∷ option.Main ∷ option.Spread ∷ option.Format
+    ∷ option.First ∷ option.Second ∷ []
+options_of subcommand.Compare =
     option.Capacity ∷ option.Main ∷ option.Spread ∷ option.Format
     ∷ option.First ∷ option.Second ∷ []
 options_of subcommand.Drive =

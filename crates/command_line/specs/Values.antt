@@ -18,6 +18,7 @@ use Rattle.command_line.specs.declared.arguments.Arguments.{Arguments}
 use Rattle.command_line.specs.declared.arguments.Arguments.TheVariants as asked
 use Rattle.command_line.specs.declared.arguments.DebugArguments.{DebugArguments}
 use Rattle.command_line.specs.declared.arguments.DriveArguments.{DriveArguments}
+use Rattle.command_line.specs.declared.arguments.IntervalsArguments.{IntervalsArguments}
 use Rattle.command_line.specs.declared.arguments.PartArguments.{PartArguments}
 use Rattle.command_line.specs.declared.arguments.ReplayArguments.{ReplayArguments}
 use Rattle.command_line.specs.declared.arguments.RunArguments.{RunArguments}
@@ -139,6 +140,14 @@ sweep_in rows = option_and_then (λ config. option_and_then (λ policies. option
   format = format_in rows;
 }) (capacities_in rows)) (policies_in option.SweptPolicies rows)) (config_at 1 1 1 rows)
 
+abbrev pub intervals_in : List Row → Option IntervalsArguments
+intervals_in rows = option_and_then (λ config. option_and_then (λ every. option_map (λ policies. record {
+  config = config;
+  policies = policies;
+  every = every;
+  format = format_in rows;
+}) (policies_in option.Policies rows)) (number_in option.Every rows)) (config_in rows)
+
 -- two policies on one configuration
 abbrev pub part_in : List Row → Option PartArguments
 part_in rows = option_and_then (λ config. option_and_then (λ first. option_map (λ second. record {
@@ -181,13 +190,15 @@ striped arguments (Some stripes) = complete (arguments stripes)
 abbrev pub asked_of : Text → List Row → Result Arguments ParseFault
 asked_of name rows = if bytes_eq name (name_of subcommand.Run) then complete (option_map asked.Run (run_in rows))
     else (if bytes_eq name (name_of subcommand.Sweep) then complete (option_map asked.Sweep (sweep_in rows))
+    else (if bytes_eq name (name_of subcommand.Intervals) then complete (option_map asked.Intervals (intervals_in rows))
     else (if bytes_eq name (name_of subcommand.Part) then complete (option_map asked.Part (part_in rows))
+    else (if bytes_eq name (name_of subcommand.Compare) then complete (option_map asked.Compare (part_in rows))
     else (if bytes_eq name (name_of subcommand.Drive)
     then striped (λ n. option_map asked.Drive (drive_in n rows)) (stripes_in rows)
     else (if bytes_eq name (name_of subcommand.Debug) then complete (option_map asked.Debug (debug_in rows))
     else (if bytes_eq name (name_of subcommand.Replay)
     then striped (λ n. option_map asked.Replay (replay_in n rows)) (stripes_in rows)
-    else Err Incomplete)))))
+    else Err Incomplete)))))))
 
 -- what is asked for by the subcommand that was called
 abbrev pub asked_in : Option (Text × List Row) → Result Arguments ParseFault

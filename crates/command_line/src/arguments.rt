@@ -2,9 +2,9 @@
 ghost use Rattle.std.specs.Prelude.{◌≡◌, Ok, IfOk, IfSome};
 ghost use Rattle.clap.specs.Words.{found_of, rows_of};
 ghost use Rattle.step_record.specs.Config.{config_fault};
-ghost use Rattle.command_line.specs.Accepted.{IsAcceptedDrive, IsAcceptedPart, IsAcceptedRun};
+ghost use Rattle.command_line.specs.Accepted.{AreAcceptedIntervals, IsAcceptedDrive, IsAcceptedPart, IsAcceptedRun};
 ghost use Rattle.command_line.specs.Values.{concurrent_in, config_at, config_in, debug_in, drive_in, part_in};
-ghost use Rattle.command_line.specs.Values.{replay_in, run_in, sweep_in};
+ghost use Rattle.command_line.specs.Values.{intervals_in, replay_in, run_in, sweep_in};
 
 use crate::lists::{CapacityList, FilePath, PolicyList};
 use crate::options::OptionName;
@@ -21,8 +21,12 @@ pub enum Arguments {
     Run(RunArguments),
     /// `sweep`
     Sweep(SweepArguments),
+    /// `intervals`
+    Intervals(IntervalsArguments),
     /// `part`
     Part(PartArguments),
+    /// `compare`
+    Compare(PartArguments),
     /// `drive`
     Drive(DriveArguments),
     /// `debug`
@@ -57,7 +61,20 @@ pub struct SweepArguments {
     pub format: Format,
 }
 
-/// The arguments of `part`.
+/// The arguments of `intervals`.
+#[derive(Debug, Drop)]
+pub struct IntervalsArguments {
+    /// The configuration of each policy. Its numbers are in their ranges.
+    pub config: Config,
+    /// The policies, in the order of their rows.
+    pub policies: PolicyList,
+    /// How many accesses an interval has: 1 to `MAX_ACCESSES`.
+    pub every: u32,
+    /// The format of the trace.
+    pub format: Format,
+}
+
+/// The arguments of `part` and of `compare`.
 #[derive(Clone, Copy, Debug)]
 pub struct PartArguments {
     /// The one policy, with the configuration of both.
@@ -147,7 +164,32 @@ pub(crate) fn sweep_arguments(
     }))
 }
 
-/// The arguments of `part`, in the same way.
+/// The arguments of `intervals`, in the same way.
+pub(crate) fn intervals_arguments(
+    alloc: Global,
+    matches: &ArgMatches<'_>,
+) -> Result<Option<IntervalsArguments>, AllocError>
+    ensures value { IfOk result (λ arguments. arguments ≡ intervals_in (rows_of (found_of matches.now))) }
+    ensures accepted { IfOk result (λ arguments. IfSome arguments AreAcceptedIntervals) }
+{
+    let Some(config) = policy_config(matches) else {
+        return Ok(None);
+    };
+    let Some(every) = number(matches, OptionName::Every) else {
+        return Ok(None);
+    };
+    let Some(policies) = policies(alloc, matches, OptionName::Policies)? else {
+        return Ok(None);
+    };
+    Ok(Some(IntervalsArguments {
+        config,
+        policies,
+        every,
+        format: format(matches),
+    }))
+}
+
+/// The arguments of `part` and of `compare`, in the same way.
 pub(crate) fn part_arguments(matches: &ArgMatches<'_>) -> Option<PartArguments>
     ensures value { result ≡ part_in (rows_of (found_of matches.now)) }
     ensures accepted { IfSome result IsAcceptedPart }

@@ -26,11 +26,26 @@ The trace comes by a redirection (< FILE) or a pipe.",
     example: "Example: cachesim sweep --policy wtinylfu 50 100 200 400 < trace.lirs",
 };
 
+pub const INTERVALS_HELP: Help = Help {
+    about: "Runs policies over the trace on standard input and prints what each makes of each interval of it",
+    whole: "Runs policies over the trace on standard input and prints what each makes of each interval of it: a row for
+each --every accesses. The caches stay as they are from one interval to the next. The trace comes by a
+redirection (< FILE) or a pipe.",
+    example: "Example: cachesim intervals --capacity 100 --every 1000 lru wtinylfu < trace.lirs",
+};
+
 pub const PART_HELP: Help = Help {
     about: "Prints the first access of the trace on standard input at which just one of two policies hits",
     whole: "Prints where two policies diverge: `part P`, P the first access of the trace on standard input, counted
 from 1, at which just one of them hits, or `part none`. The trace comes by a redirection (< FILE) or a pipe.",
     example: "Example: cachesim part --capacity 100 --first lru --second slru < trace.lirs",
+};
+
+pub const COMPARE_HELP: Help = Help {
+    about: "Prints at how many accesses of the trace on standard input both of two policies hit, one alone, or neither",
+    whole: "Prints at how many accesses of the trace on standard input both of two policies hit, only the first, only
+the second, and neither. The trace comes by a redirection (< FILE) or a pipe.",
+    example: "Example: cachesim compare --capacity 100 --first lru --second slru < trace.lirs",
 };
 
 pub const DRIVE_HELP: Help = Help {

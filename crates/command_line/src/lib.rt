@@ -19,8 +19,8 @@ mod parser;
 mod values;
 
 pub use arguments::{
-    Arguments, DebugArguments, DriveArguments, PartArguments, ReplayArguments, RunArguments,
-    SweepArguments,
+    Arguments, DebugArguments, DriveArguments, IntervalsArguments, PartArguments, ReplayArguments,
+    RunArguments, SweepArguments,
 };
 pub use fault::ParseFault;
 pub use lists::{CapacityList, FilePath, PolicyList};

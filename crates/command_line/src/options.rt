@@ -3,8 +3,13 @@
 ghost use Rattle.std.specs.Prelude.{◌≡◌};
 ghost use Rattle.command_line.specs.Options.{IsRow, name_of, options_of, row_of};
 
-use crate::help::{DEBUG_HELP, DRIVE_HELP, Help, PART_HELP, REPLAY_HELP, RUN_HELP, SWEEP_HELP};
-use step_record::{MAX_BATCH, MAX_CAPACITY, MAX_JOURNAL_LIMIT, MAX_MAIN_PERCENT, MAX_WORKERS};
+use crate::help::{
+    COMPARE_HELP, DEBUG_HELP, DRIVE_HELP, Help, INTERVALS_HELP, PART_HELP, REPLAY_HELP, RUN_HELP,
+    SWEEP_HELP,
+};
+use step_record::{
+    MAX_ACCESSES, MAX_BATCH, MAX_CAPACITY, MAX_JOURNAL_LIMIT, MAX_MAIN_PERCENT, MAX_WORKERS,
+};
 
 /// What a value of an option is.
 #[derive(Clone, Copy)]
@@ -64,6 +69,8 @@ pub enum OptionName {
     Format,
     /// The size of a batch.
     Batch,
+    /// The length of an interval.
+    Every,
     /// The policies of a run.
     Policies,
     /// The policies of a sweep.
@@ -149,6 +156,17 @@ impl OptionName {
                 },
                 place: Place::Named,
                 default: Some("1024"),
+            },
+            OptionName::Every => OptionRow {
+                id: "every",
+                value_name: "M",
+                help: "How many accesses an interval has, from 1 to 16777216; the last one may have fewer",
+                value: ValueKind::Number {
+                    least: 1,
+                    most: MAX_ACCESSES as u32,
+                },
+                place: Place::Named,
+                default: None,
             },
             OptionName::Policies => OptionRow {
                 id: "policy",
@@ -239,8 +257,12 @@ pub enum Subcommand {
     Run,
     /// `sweep`, which prints a report of each policy that is named at each capacity.
     Sweep,
+    /// `intervals`, which prints what each policy that is named makes of each interval of the trace.
+    Intervals,
     /// `part`, which prints the first access at which just one of two policies hits.
     Part,
+    /// `compare`, which prints how often two policies hit at the same accesses.
+    Compare,
     /// `drive`, which prints the journal of workers on threads.
     Drive,
     /// `debug`, which answers commands about two policies over a trace.
@@ -250,10 +272,12 @@ pub enum Subcommand {
 }
 
 /// All subcommands, in the order in which help lists them.
-pub const SUBCOMMANDS: [Subcommand; 6] = [
+pub const SUBCOMMANDS: [Subcommand; 8] = [
     Subcommand::Run,
     Subcommand::Sweep,
+    Subcommand::Intervals,
     Subcommand::Part,
+    Subcommand::Compare,
     Subcommand::Drive,
     Subcommand::Debug,
     Subcommand::Replay,
@@ -267,7 +291,9 @@ impl Subcommand {
         match self {
             Subcommand::Run => "run",
             Subcommand::Sweep => "sweep",
+            Subcommand::Intervals => "intervals",
             Subcommand::Part => "part",
+            Subcommand::Compare => "compare",
             Subcommand::Drive => "drive",
             Subcommand::Debug => "debug",
             Subcommand::Replay => "replay",
@@ -279,7 +305,9 @@ impl Subcommand {
         match self {
             Subcommand::Run => RUN_HELP,
             Subcommand::Sweep => SWEEP_HELP,
+            Subcommand::Intervals => INTERVALS_HELP,
             Subcommand::Part => PART_HELP,
+            Subcommand::Compare => COMPARE_HELP,
             Subcommand::Drive => DRIVE_HELP,
             Subcommand::Debug => DEBUG_HELP,
             Subcommand::Replay => REPLAY_HELP,
@@ -293,7 +321,9 @@ impl Subcommand {
         match self {
             Subcommand::Run => &RUN,
             Subcommand::Sweep => &SWEEP,
+            Subcommand::Intervals => &INTERVALS,
             Subcommand::Part => &PART,
+            Subcommand::Compare => &PART,
             Subcommand::Drive => &DRIVE,
             Subcommand::Debug => &DEBUG,
             Subcommand::Replay => &REPLAY,
@@ -316,6 +346,15 @@ const SWEEP: [OptionName; 5] = [
     OptionName::Format,
     OptionName::SweptPolicies,
     OptionName::Capacities,
+];
+
+const INTERVALS: [OptionName; 6] = [
+    OptionName::Capacity,
+    OptionName::Every,
+    OptionName::Main,
+    OptionName::Spread,
+    OptionName::Format,
+    OptionName::Policies,
 ];
 
 const PART: [OptionName; 6] = [

@@ -7,8 +7,8 @@ ghost use Rattle.command_line.specs.Program.{call_words as called_by};
 ghost use Rattle.command_line.specs.Values.{asked_in, asked_of, drive_in, replay_in, striped, stripes_in};
 
 use crate::arguments::{
-    Arguments, debug_arguments, drive_arguments, part_arguments, replay_arguments, run_arguments,
-    sweep_arguments,
+    Arguments, debug_arguments, drive_arguments, intervals_arguments, part_arguments,
+    replay_arguments, run_arguments, sweep_arguments,
 };
 use crate::choices::{WordLists, format_words, policy_words, spread_words};
 use crate::commands::program;
@@ -77,9 +77,21 @@ fn arguments_of(alloc: Global, name: &str, asked: &ArgMatches<'_>) -> Result<Arg
             None => Err(ParseFault::Incomplete),
         };
     }
+    if name == Subcommand::Intervals.name() {
+        return match intervals_arguments(alloc, asked)? {
+            Some(intervals) => Ok(Arguments::Intervals(intervals)),
+            None => Err(ParseFault::Incomplete),
+        };
+    }
     if name == Subcommand::Part.name() {
         return match part_arguments(asked) {
             Some(part) => Ok(Arguments::Part(part)),
+            None => Err(ParseFault::Incomplete),
+        };
+    }
+    if name == Subcommand::Compare.name() {
+        return match part_arguments(asked) {
+            Some(compare) => Ok(Arguments::Compare(compare)),
             None => Err(ParseFault::Incomplete),
         };
     }

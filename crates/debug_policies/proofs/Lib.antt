@@ -3,3 +3,4 @@ pub mod Sessions
 pub mod Shown
 pub mod Texts
 pub mod Facts
+pub mod Compared

@@ -2,3 +2,4 @@ pub mod Part
 pub mod OnePolicy
 pub mod TwoPolicies
 pub mod ConfigFault
+pub mod Comparison

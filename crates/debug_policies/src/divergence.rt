@@ -14,9 +14,9 @@ use policies::{ActorFault, AnyPolicy, theorems};
 use std::alloc::{AllocError, Global};
 use step_record::{Job, Key, Outcome, StepFault, Trace};
 
-// So many accesses are made in one cache before the other makes them: each has a loop of its own, of which the code of
-// an access is part.
-const BLOCK: usize = 1024;
+/// So many accesses are made in one cache before the other makes them: each has a loop of its own, of which the code of
+/// an access is part.
+pub const BLOCK: usize = 1024;
 
 /// The first access of the trace, counted from 1, at which the policy of one job hits and that of the other does not;
 /// `None` where there is no such access.
@@ -121,8 +121,8 @@ fn walk_both(
     Ok(None)
 }
 
-// Makes the accesses from one place of the trace up to another, and notes which of them hit.
-fn note_hits(
+/// Makes the accesses from one place of the trace up to another, and notes which of them hit. The one error is out of memory.
+pub fn note_hits(
     cache: &mut AnyPolicy,
     trace: &Trace,
     start: usize,
@@ -174,10 +174,10 @@ fn compare_hits(
     Ok(None)
 }
 
-// Makes the access at a place, counted from 0, in a cache that made those before it, and says whether it hit. The one
-// error is out of memory.
+/// Makes the access at a place, counted from 0, in a cache that made those before it, and says whether it hit. The one
+/// error is out of memory.
 #[inline(always)]
-fn hit_at<C>(cache: &mut AnyPolicy, trace: &Trace, i: usize) -> Result<bool, AllocError>
+pub fn hit_at<C>(cache: &mut AnyPolicy, trace: &Trace, i: usize) -> Result<bool, AllocError>
     requires below { i < length trace.now }
     requires stands { IsPrepared trace.now i cache.old }
     ensures stands { (j : Job) → HasAccessed j trace.now (take i trace.now) cache.old

@@ -1,15 +1,19 @@
-//! Where two policies part over one trace, and a debugger that walks there and back.
+//! Where two policies part over one trace, how often they hit at the same accesses, and a debugger that walks there and
+//! back.
 //!
 //! `part` runs both policies side by side, once, and promises by their definitions over the whole trace: the access
-//! that it returns is the first at which just one of the two hits, and with `None` there is no such access. `run_debug`
+//! that it returns is the first at which just one of the two hits, and with `None` there is no such access. `compare` counts
+//! the accesses of the whole trace at which both hit, only one of them, or neither, by the same definitions. `run_debug`
 //! reads commands and answers them: it promises that with `Ok` it has written just the lines that the definition of its
 //! answers gives for the commands it read, in which what is shown is the policies' definitions over the first accesses.
 #![tactic(auto)]
 
+mod comparison;
 mod debugger;
 mod divergence;
 mod one_policy;
 
+pub use comparison::{Comparison, compare, push_comparison};
 pub use debug_commands::DebugFault;
 pub use debugger::run_debug;
 pub use divergence::{part, push_part};

@@ -76,7 +76,10 @@ IsFoundInFile file P fault = IfSome file (P fault)
 abbrev pub IsFound : Arguments → KnownFiles → Option (List ℕ) → Fault → Type 0
 IsFound (asked.Run run) files input fault = IfSome input (IsFoundIn run.format (IsTooMany run.policies) fault)
 IsFound (asked.Sweep sweep) files input fault = IfSome input (IsFoundIn sweep.format (IsTooMany sweep.policies) fault)
+IsFound (asked.Intervals intervals) files input fault =
+    IfSome input (IsFoundIn intervals.format (IsTooMany intervals.policies) fault)
 IsFound (asked.Part part) files input fault = IfSome input (IsFoundIn part.format (λ f. ⊥) fault)
+IsFound (asked.Compare compare) files input fault = IfSome input (IsFoundIn compare.format (λ f. ⊥) fault)
 IsFound (asked.Drive drive) files input fault = IfSome input (IsFoundIn drive.format (λ f. f ≡ JournalFull) fault)
 IsFound (asked.Debug debug) files input fault = IsFoundInFile (files debug.trace)
     (IsFoundIn debug.policies.format (IsOfCommands input)) fault
@@ -90,12 +93,14 @@ IsBeforeOutput (Debug fault) = ⊥
 IsBeforeOutput Write = ⊥
 IsBeforeOutput fault = Unit {0}
 
--- What is left at this fault of the arguments' subcommand; `Kept` says that the output is as it was. `run`, `sweep` and
--- `part` write once, at their end; `debug` and `replay` have answered the commands before a line that is too large.
+-- What is left at this fault of the arguments' subcommand; `Kept` says that the output is as it was. `run`, `sweep`,
+-- `intervals`, `part` and `compare` write once, at their end; `debug` and `replay` have answered the commands before a line that is too large.
 abbrev pub Leaves : Arguments → KnownFiles → Fault → Option (List ℕ) → Option (List ℕ) → Option (List ℕ) → Type 0 → Type 0
 Leaves (asked.Run run) files fault input before after Kept = fault ≢ Write → Kept
 Leaves (asked.Sweep sweep) files fault input before after Kept = fault ≢ Write → Kept
+Leaves (asked.Intervals intervals) files fault input before after Kept = fault ≢ Write → Kept
 Leaves (asked.Part part) files fault input before after Kept = fault ≢ Write → Kept
+Leaves (asked.Compare compare) files fault input before after Kept = fault ≢ Write → Kept
 Leaves (asked.Drive drive) files fault input before after Kept =
     LeavesDrive drive.config drive.workers drive.format fault input before after Kept
 Leaves (asked.Debug debug) files (Debug large.TooLarge) input before after Kept = Debugging false debug.policies.format

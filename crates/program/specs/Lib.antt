@@ -5,6 +5,7 @@ pub mod FaultCauses
 pub mod FaultLine
 pub mod Jobs
 pub mod Outcome
+pub mod IntervalsOutput
 pub mod PartOutput
 pub mod ReportOutput
 pub mod WorkerReads

@@ -11,18 +11,23 @@ use Rattle.sweeps.specs.Sweep.{jobs_over}
 use Rattle.program.specs.DebugOutput.{Debugging, KnownFiles, Replaying}
 use Rattle.program.specs.DriveOutput.{IsDriven}
 use Rattle.program.specs.Jobs.{jobs_by_policy}
-use Rattle.program.specs.PartOutput.{Parting}
+use Rattle.program.specs.IntervalsOutput.{IntervalRows}
+use Rattle.program.specs.PartOutput.{Comparing, Parting}
 use Rattle.program.specs.ReportOutput.{Reports}
 
--- What these arguments ask for is done: `run` and `sweep` have written the report of each policy, at each capacity; `part`
--- where the two policies part; `drive` the journal of its workers' walks in an empty cache; `debug` and `replay` have
+-- What these arguments ask for is done: `run` and `sweep` have written the report of each policy, at each capacity;
+-- `intervals` the rows of each policy; `part` where the two policies part; `compare` what is counted of both; `drive` the journal of its workers' walks in an empty cache; `debug` and `replay` have
 -- answered the commands of the input about the trace or the journal of the file.
 abbrev pub IsDone : Arguments → KnownFiles → Option (List ℕ) → Option (List ℕ) → Option (List ℕ) → Type 0
 IsDone (asked.Run run) files input before after =
     Reports run.format (jobs_by_policy run.config run.policies) input before after
 IsDone (asked.Sweep sweep) files input before after =
     Reports sweep.format (jobs_over (jobs_by_policy sweep.config sweep.policies) sweep.capacities) input before after
+IsDone (asked.Intervals intervals) files input before after = IntervalRows intervals.format intervals.every
+    (jobs_by_policy intervals.config intervals.policies) input before after
 IsDone (asked.Part part) files input before after = Parting part.format part.first part.second input before after
+IsDone (asked.Compare compare) files input before after =
+    Comparing compare.format compare.first compare.second input before after
 IsDone (asked.Drive drive) files input before after =
     IsDriven drive.config drive.workers drive.format input before after
 IsDone (asked.Debug debug) files input before after = Debugging true debug.policies.format debug.policies.first

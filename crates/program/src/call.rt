@@ -39,10 +39,10 @@ pub fn command<T: Threads + Wait + Sync, R: Read, W: Write, X: Write, F: Files, 
     watch: &P,
 ) -> u8
     ensures status { result ≤ REFUSED }
-    // With status 0 the words are taken as `run`, `sweep`, `part` or `drive`, the bytes read have no
-    // fault, and those written are the text of the report of each policy, or of the policy at each
-    // capacity, that the words name, or the line of the access at which two policies part, or the journal
-    // of the walks by which so many workers read the accesses in turn, in an empty cache; or the words are
+    // With status 0 the words are taken as `run`, `sweep`, `intervals`, `part`, `compare` or `drive`, the bytes
+    // read have no fault, and those written are the text of the report of each policy, or of the policy at each
+    // capacity, that the words name, or of the rows of each policy, or the line of the access at which two
+    // policies part, or the row of what is counted of both, or the journal of the walks by which so many workers read the accesses in turn, in an empty cache; or the words are
     // taken as `debug` or `replay`, the file that they name is a trace or a journal without a fault, and the
     // bytes written are the answers to the commands read; or the words ask for help.
     ensures done { result ≡ DONE → DoneBy (map (λ s. s.now) words.now) (F.known files.now) (R.remaining input.old)
@@ -50,8 +50,8 @@ pub fn command<T: Threads + Wait + Sync, R: Read, W: Write, X: Write, F: Files, 
     ensures silent { result ≡ DONE → fault_out.new ≡ fault_out.old }
     // With status 1 a fault was found: one of the machine, or that of the words, the trace or the journal. Its line was
     // written to the fault output, or a beginning of it where a write failed. What is found before anything is written,
-    // as a faulty line of a trace, leaves the output as it was, and so does every fault of `run`, `sweep` and `part` but
-    // a failed write. A run of workers that was stopped has its journal written.
+    // as a faulty line of a trace, leaves the output as it was, and so does every fault of `run`, `sweep`,
+    // `intervals`, `part` and `compare` but a failed write. A run of workers that was stopped has its journal written.
     ensures faulted { result ≡ FAULT → EndsInFault (map (λ s. s.now) words.now) (F.known files.now)
         (R.remaining input.old) (W.contents out.old) (W.contents out.new) (X.contents fault_out.old)
         (X.contents fault_out.new) (out.new ≡ out.old) }

@@ -3,12 +3,14 @@
 #![tactic(auto)]
 
 mod call;
+mod compare;
 mod debug;
 mod drive;
 mod fault;
 mod fault_report;
 mod file_in_memory;
 mod files;
+mod interval_rows;
 mod limits;
 mod part;
 mod perform;

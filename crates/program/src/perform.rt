@@ -4,10 +4,12 @@ ghost use Rattle.command_line.specs.Accepted.{AreAccepted};
 ghost use Rattle.program.specs.FaultCauses.{IsFound, IsOfMachine, Leaves};
 ghost use Rattle.program.specs.Outcome.{IsDone};
 
+use crate::compare::compare;
 use crate::debug::{debug, replay};
 use crate::drive::drive;
 use crate::fault::Fault;
 use crate::files::Files;
+use crate::interval_rows::intervals;
 use crate::part::part;
 use crate::run::run;
 use crate::sweep::sweep;
@@ -41,7 +43,9 @@ pub fn perform<T: Threads + Wait + Sync, R: Read, W: Write, F: Files, P: Watch>(
     match arguments {
         Arguments::Run(arguments) => run(rt, alloc, arguments, input, out, watch),
         Arguments::Sweep(arguments) => sweep(rt, alloc, arguments, input, out, watch),
+        Arguments::Intervals(arguments) => intervals(rt, alloc, arguments, input, out),
         Arguments::Part(arguments) => part(alloc, arguments, input, out),
+        Arguments::Compare(arguments) => compare(alloc, arguments, input, out),
         Arguments::Drive(arguments) => drive(rt, alloc, arguments, input, out),
         Arguments::Debug(arguments) => debug(alloc, arguments, input, out, files),
         Arguments::Replay(arguments) => replay(alloc, arguments, input, out, files),

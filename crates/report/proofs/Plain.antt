@@ -15,6 +15,8 @@ use Rattle.step_record.specs.Job.{word_of}
 use Rattle.step_record.specs.declared.job.Policy.{Policy}
 use Rattle.step_record.specs.declared.job.Policy.TheVariants.{Lru}
 use Rattle.policies.specs.declared.report.Report.{Report}
+use Rattle.intervals.specs.declared.interval.Interval.{Interval}
+use Rattle.report.specs.IntervalText.{interval_fields}
 
 abbrev pub IsPlain : List ℕ → Type 0
 IsPlain field = list_any (needs_byte default_writer) field ≡ false
@@ -76,4 +78,12 @@ pub report_plain : (r : Report) → r.capacity < 10 ^ 64 → r.accesses < 10 ^ 6
 report_plain r c a h m e j rate = (
   word_plain r.policy,
   (decimal_plain _ c, (decimal_plain _ a, (decimal_plain _ h, (decimal_plain _ m, (decimal_plain _ e, (decimal_plain _ j, (rate_plain _ rate, tt))))))),
+)
+
+-- and those of an interval
+pub interval_plain : (i : Interval) → i.report.capacity < 10 ^ 64 → i.first < 10 ^ 64 → i.last < 10 ^ 64 → i.report.hits < 10 ^ 64
+    → i.report.misses < 10 ^ 64 → i.report.evictions < 10 ^ 64 → i.report.rejections < 10 ^ 64 → rate_of i.report < 10 ^ 64 → AllPlain (interval_fields i)
+interval_plain i c f l h m e j rate = (
+  word_plain i.report.policy,
+  (decimal_plain _ c, (decimal_plain _ f, (decimal_plain _ l, (decimal_plain _ h, (decimal_plain _ m, (decimal_plain _ e, (decimal_plain _ j, (rate_plain _ rate, tt)))))))),
 )

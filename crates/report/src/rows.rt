@@ -30,8 +30,8 @@ pub fn write_reports<W: Write>(
     Ok(())
 }
 
-// The rate in percent, with two decimals.
-fn rate_text(alloc: Global, rate: u128) -> Result<String, AllocError>
+/// The rate in percent, with two decimals.
+pub fn rate_text(alloc: Global, rate: u128) -> Result<String, AllocError>
     ensures { IfOk result (λ s. string_bytes s ≡ rate_text_of rate) }
 {
     let whole = rate / 100;
@@ -40,14 +40,18 @@ fn rate_text(alloc: Global, rate: u128) -> Result<String, AllocError>
     format!(in alloc; "{whole}.{tens}{ones}")
 }
 
-fn number_text(alloc: Global, n: u64) -> Result<String, AllocError>
+/// The number in digits.
+pub fn number_text(alloc: Global, n: u64) -> Result<String, AllocError>
     ensures { IfOk result (λ s. string_bytes s ≡ decimal n) }
 {
     n.to_string(alloc)
 }
 
-// Writes a record. Into memory that fails only where the allocation failed.
-fn write_row<W: Write + Drop>(writer: &mut Writer<W>, fields: &[&[u8]]) -> Result<(), WriteFault>
+/// Writes a record. Into memory that fails only where the allocation failed.
+pub fn write_row<W: Write + Drop>(
+    writer: &mut Writer<W>,
+    fields: &[&[u8]],
+) -> Result<(), WriteFault>
     ensures ready { IsWriterReady writer.old → OnOk result (IsWriterReady writer.new) }
     ensures text { IsWriterReady writer.old → OnOk result (Appends (text_written W.contents writer.old)
         (text_written W.contents writer.new) (row_text default_writer (map (λ f. f.now) fields.now))) }

@@ -1,0 +1,18 @@
+use Rattle.std.proofs.Common.{◌≡◌, ◌≤◌, ◌-◌, [], take, length}
+use Rattle.step_record.specs.declared.job.Job.{Job}
+use Rattle.policies.specs.AnyPolicy.{HasAccessed, outcomes_on}
+use Rattle.debug_policies.specs.Comparison.{compared_up_to, IsUpTo}
+use Rattle.debug_policies.proofs.comparison.count_in_both.Given as goal
+
+abbrev pub invariant-stretches : goal.invariant-stretches
+invariant-stretches l =
+    ((j : Job) → HasAccessed j l.trace [] l.initial.one → HasAccessed j l.trace (take l.start l.trace) l.one)
+    × ((k : Job) → HasAccessed k l.trace [] l.initial.other → HasAccessed k l.trace (take l.start l.trace) l.other)
+    × ((j k : Job) → HasAccessed j l.trace [] l.initial.one → HasAccessed k l.trace [] l.initial.other
+    → l.counts ≡ compared_up_to l.start (outcomes_on j l.trace) (outcomes_on k l.trace))
+    × IsUpTo l.start l.counts
+    × (l.start ≤ length l.trace)
+    × (length l.noted ≡ 1024)
+
+abbrev pub decreases-stretches : goal.decreases-stretches
+decreases-stretches l = length l.trace - l.start

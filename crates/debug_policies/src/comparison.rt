@@ -1,0 +1,200 @@
+//! How often two policies hit at the same accesses of a trace.
+ghost use Rattle.std.specs.Prelude.{◌≡◌, ◌≤◌, ◌-◌, ◌++◌, [], ◌∷◌, length, take, IfOk, OnOk, Ok};
+ghost use Rattle.step_record.specs.Config.{config_fault};
+ghost use Rattle.step_record.specs.declared.job.Job.{Job};
+ghost use Rattle.step_record.specs.declared.limits.TheConstants.{MAX_ACCESSES};
+ghost use Rattle.policies.specs.AnyPolicy.{HasAccessed, outcomes_on};
+ghost use Rattle.policies.specs.FaultyJobs.{faulty_in, ReturnsFault};
+ghost use Rattle.debug_policies.specs.Comparison.{compared_on, compared_up_to, comparison_text, counts_text, counts_with};
+ghost use Rattle.debug_policies.specs.Comparison.{IsUpTo, no_counts};
+ghost use Rattle.debug_policies.specs.Part.{IsNoted, IsPrepared};
+
+use crate::divergence::{BLOCK, hit_at, note_hits};
+use debug_commands::push_count;
+use policies::{ActorFault, AnyPolicy};
+use std::alloc::{AllocError, Global};
+use step_record::{Job, Trace};
+
+/// At how many accesses of a trace both of two policies hit, only the first, only the second, and neither.
+#[derive(Clone, Copy, Debug, PartialEq, Eq)]
+pub struct Comparison {
+    pub accesses: u64,
+    pub both: u64,
+    pub first_only: u64,
+    pub second_only: u64,
+    pub neither: u64,
+}
+
+impl Comparison {
+    // Before any access.
+    fn none() -> Comparison
+        ensures { result ≡ no_counts }
+    {
+        Comparison {
+            accesses: 0,
+            both: 0,
+            first_only: 0,
+            second_only: 0,
+            neither: 0,
+        }
+    }
+
+    // Counts one access more, at which the policies hit or not.
+    #[inline(always)]
+    fn count(&mut self, first: bool, second: bool)
+        requires { IsUpTo MAX_ACCESSES self.old }
+        ensures { self.new ≡ counts_with (first, second) self.old }
+    {
+        self.accesses += 1;
+        match (first, second) {
+            (true, true) => self.both += 1,
+            (true, false) => self.first_only += 1,
+            (false, true) => self.second_only += 1,
+            (false, false) => self.neither += 1,
+        }
+    }
+}
+
+/// At how many accesses of the trace the policies of both jobs hit, only that of the first, only that of the second, and
+/// neither.
+///
+/// Errors: `Config` with index 0 exactly where `Config::check` refuses the first job's configuration, with index 1
+/// exactly where it refuses the second's and accepts the first's; then `OutOfMemory`.
+pub fn compare(
+    alloc: Global,
+    trace: &Trace,
+    first: &Job,
+    second: &Job,
+) -> Result<Comparison, ActorFault>
+    ensures counts { IfOk result (λ counts. counts ≡ compared_on first.now second.now trace.now) }
+    ensures fault { ReturnsFault (faulty_in (first.now ∷ second.now ∷ [])) result }
+{
+    if first.config.check().is_err() {
+        return Err(ActorFault::Config { index: 0 });
+    }
+    if second.config.check().is_err() {
+        return Err(ActorFault::Config { index: 1 });
+    }
+    let counts = count_in_first(alloc, trace, first, second)?;
+    Ok(counts)
+}
+
+/// Adds the header and the row of a comparison of two jobs, whose capacity is that of the first. The one error is that an
+/// allocation failed.
+pub fn push_comparison(
+    text: &mut Vec<u8>,
+    first: &Job,
+    second: &Job,
+    counts: &Comparison,
+) -> Result<(), AllocError>
+    ensures { OnOk result (text.new.items ≡ text.old.items ++ comparison_text first.now second.now counts.now) }
+{
+    text.extend_from_slice(
+        b"first,second,capacity,accesses,both,first_only,second_only,neither\n",
+    )?;
+    text.extend_from_slice(first.policy.word().as_bytes())?;
+    text.extend_from_slice(b",")?;
+    text.extend_from_slice(second.policy.word().as_bytes())?;
+    push_count(text, b",", u64::from(first.config.capacity))?;
+    push_counts(text, counts)
+}
+
+// Adds the numbers of a row.
+fn push_counts(text: &mut Vec<u8>, counts: &Comparison) -> Result<(), AllocError>
+    ensures { OnOk result (text.new.items ≡ text.old.items ++ counts_text counts.now) }
+{
+    push_count(text, b",", counts.accesses)?;
+    push_count(text, b",", counts.both)?;
+    push_count(text, b",", counts.first_only)?;
+    push_count(text, b",", counts.second_only)?;
+    push_count(text, b",", counts.neither)?;
+    text.extend_from_slice(b"\n")
+}
+
+// The caller in the second cache's loop.
+struct Counting;
+
+// Opens the cache of the first job, and counts.
+fn count_in_first(
+    alloc: Global,
+    trace: &Trace,
+    first: &Job,
+    second: &Job,
+) -> Result<Comparison, AllocError>
+    requires first { config_fault first.now.config ≡ Ok tt }
+    requires second { config_fault second.now.config ≡ Ok tt }
+    ensures { IfOk result (λ counts. counts ≡ compared_on first.now second.now trace.now) }
+{
+    let mut one = AnyPolicy::open(alloc, first, trace)?;
+    count_in_second(alloc, trace, second, &mut one)
+}
+
+// Opens the cache of the second job, beside that of the first, and counts.
+fn count_in_second(
+    alloc: Global,
+    trace: &Trace,
+    second: &Job,
+    one: &mut AnyPolicy,
+) -> Result<Comparison, AllocError>
+    requires one { IsPrepared trace.now 0 one.old }
+    requires second { config_fault second.now.config ≡ Ok tt }
+    ensures { (j : Job) → HasAccessed j trace.now [] one.old
+        → IfOk result (λ counts. counts ≡ compared_on j second.now trace.now) }
+{
+    let mut other = AnyPolicy::open(alloc, second, trace)?;
+    count_in_both(trace, one, &mut other)
+}
+
+// Makes the accesses of the trace in both caches, and counts at which of them they hit.
+fn count_in_both(
+    trace: &Trace,
+    one: &mut AnyPolicy,
+    other: &mut AnyPolicy,
+) -> Result<Comparison, AllocError>
+    requires one { IsPrepared trace.now 0 one.old }
+    requires other { IsPrepared trace.now 0 other.old }
+    ensures { (j k : Job) → HasAccessed j trace.now [] one.old → HasAccessed k trace.now [] other.old
+        → IfOk result (λ counts. counts ≡ compared_on j k trace.now) }
+{
+    let mut counts = Comparison::none();
+    let mut noted = [false; BLOCK];
+    let len = trace.keys().len();
+    let mut start = 0;
+    'stretches: while start < len {
+        let end = len.min(start + BLOCK);
+        note_hits(one, trace, start, end, &mut noted)?;
+        count_hits(other, trace, start, end, &noted, &mut counts)?;
+        start = end;
+    }
+    Ok(counts)
+}
+
+// Makes the accesses from one place of the trace up to another, and counts each beside what the other cache noted of it.
+fn count_hits(
+    cache: &mut AnyPolicy,
+    trace: &Trace,
+    start: usize,
+    end: usize,
+    noted: &[bool],
+    counts: &mut Comparison,
+) -> Result<(), AllocError>
+    requires order { start ≤ end }
+    requires within { end ≤ length trace.now }
+    requires room { end - start ≤ length noted.now }
+    requires stands { IsPrepared trace.now start cache.old }
+    requires few { IsUpTo start counts.old }
+    ensures stands { (k : Job) → HasAccessed k trace.now (take start trace.now) cache.old
+        → OnOk result (HasAccessed k trace.now (take end trace.now) cache.new) }
+    ensures counts { (j k : Job) → HasAccessed k trace.now (take start trace.now) cache.old
+        → IsNoted noted.now (outcomes_on j trace.now) start end
+        → counts.old ≡ compared_up_to start (outcomes_on j trace.now) (outcomes_on k trace.now)
+        → OnOk result (counts.new ≡ compared_up_to end (outcomes_on j trace.now) (outcomes_on k trace.now)) }
+    ensures few { OnOk result (IsUpTo end counts.new) }
+{
+    trace.bounded();
+    for i in start..end {
+        let hit = hit_at::<Counting>(cache, trace, i)?;
+        counts.count(noted[i - start], hit);
+    }
+    Ok(())
+}

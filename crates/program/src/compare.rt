@@ -1,0 +1,40 @@
+//! The subcommand `compare`: a trace to how often two policies hit at the same accesses.
+ghost use Rattle.std.specs.Prelude.{◌≡◌, ◌≢◌, ◌⊎◌, IfErr, IfSome, OnOk};
+ghost use Rattle.program.specs.FaultCauses.{IsFoundIn, IsOfMachine};
+ghost use Rattle.program.specs.PartOutput.{Comparing};
+
+use crate::fault::Fault;
+use command_line::PartArguments;
+use debug_policies::push_comparison;
+use std::alloc::Global;
+use std::io::{Read, Write};
+use trace_read::read_trace;
+
+/// Reads the trace and writes a header and a row: at how many accesses both of the two policies hit, only one of them,
+/// and neither. A fault has written nothing, but for `Write`, after which the output may be partial.
+pub fn compare<R: Read, W: Write>(
+    alloc: Global,
+    arguments: &PartArguments,
+    input: &mut R,
+    out: &mut W,
+) -> Result<(), Fault>
+    ensures ok { OnOk result (Comparing arguments.now.format arguments.now.first arguments.now.second
+        (R.remaining input.old) (W.contents out.old) (W.contents out.new)) }
+    ensures kept { IfErr result (λ fault. fault ≢ Fault.Write → out.new ≡ out.old) }
+    // The fault is one of the machine, or that of the trace.
+    ensures fault { IfErr result (λ fault. IsOfMachine fault ⊎ IfSome (R.remaining input.old)
+        (IsFoundIn arguments.now.format (λ f. ⊥) fault)) }
+{
+    let trace = read_trace(alloc, input, arguments.format)?;
+    // A parse gives configurations that are accepted, so the one fault is out of memory.
+    let Ok(counts) = debug_policies::compare(alloc, &trace, &arguments.first, &arguments.second)
+    else {
+        return Err(Fault::OutOfMemory);
+    };
+    let mut text = Vec::new(alloc);
+    push_comparison(&mut text, &arguments.first, &arguments.second, &counts)?;
+    match streams::write_all(out, text.as_slice()) {
+        Ok(()) => Ok(()),
+        Err(_) => Err(Fault::Write),
+    }
+}

@@ -1,0 +1,100 @@
+//! The rows of intervals.
+ghost use Rattle.std.specs.Prelude.{◌≡◌, Err, IfOk, OnOk};
+ghost use Rattle.std.specs.Io.KnownBytes.{Appends};
+ghost use Rattle.csv.specs.Writing.{text_written};
+ghost use Rattle.report.specs.ReadyWriter.{IsWriterReady};
+ghost use Rattle.report.specs.IntervalText.{interval_header, interval_line, intervals_text};
+ghost use Rattle.report.specs.Text.{line_text};
+ghost use Rattle.streams.specs.Part.{AppendsPart};
+
+use super::{Interval, WriteFault};
+use crate::rows::{number_text, rate_text, write_row};
+use csv::{Writer, WriterBuilder};
+use std::alloc::Global;
+use std::io::Write;
+
+/// Writes the header and a line for each interval, in order, and flushes. The writes and flushes of one call share its
+/// interruptions, of which the millionth is `Write`. `OutOfMemory` has written nothing; after `Write` a beginning of the
+/// text was written.
+pub fn write_intervals<W: Write>(
+    alloc: Global,
+    intervals: &[Interval],
+    writer: &mut W,
+) -> Result<(), WriteFault>
+    ensures text { OnOk result (Appends (W.contents writer.old) (W.contents writer.new) (intervals_text intervals.now)) }
+    ensures none { result ≡ Err WriteFault.OutOfMemory → writer.new ≡ writer.old }
+    ensures part { result ≡ Err WriteFault.Write
+        → AppendsPart (W.contents writer.old) (W.contents writer.new) (intervals_text intervals.now) }
+{
+    let text = intervals_text(alloc, intervals)?;
+    streams::write_all(writer, text.as_slice())?;
+    Ok(())
+}
+
+// The header and a row for each interval.
+fn intervals_text(alloc: Global, intervals: &[Interval]) -> Result<Vec<u8>, WriteFault>
+    ensures { IfOk result (λ v. v.items ≡ intervals_text intervals.now) }
+{
+    let mut writer = WriterBuilder::new().from_writer(Vec::new(alloc));
+    write_interval_header(&mut writer)?;
+    for interval in intervals {
+        write_interval(alloc, &mut writer, interval)?;
+    }
+    match writer.into_inner() {
+        Ok(text) => Ok(text),
+        Err(_) => Err(WriteFault::OutOfMemory),
+    }
+}
+
+// Writes the names of the fields.
+fn write_interval_header<W: Write + Drop>(writer: &mut Writer<W>) -> Result<(), WriteFault>
+    ensures ready { IsWriterReady writer.old → OnOk result (IsWriterReady writer.new) }
+    ensures text { IsWriterReady writer.old → OnOk result (Appends (text_written W.contents writer.old)
+        (text_written W.contents writer.new) (line_text interval_header)) }
+{
+    let fields = [
+        "policy".as_bytes(),
+        "capacity".as_bytes(),
+        "first".as_bytes(),
+        "last".as_bytes(),
+        "hits".as_bytes(),
+        "misses".as_bytes(),
+        "evictions".as_bytes(),
+        "rejections".as_bytes(),
+        "rate".as_bytes(),
+    ];
+    write_row(writer, fields.as_slice())
+}
+
+// Writes the fields of an interval.
+fn write_interval<W: Write + Drop>(
+    alloc: Global,
+    writer: &mut Writer<W>,
+    interval: &Interval,
+) -> Result<(), WriteFault>
+    ensures ready { IsWriterReady writer.old → OnOk result (IsWriterReady writer.new) }
+    ensures text { IsWriterReady writer.old → OnOk result (Appends (text_written W.contents writer.old)
+        (text_written W.contents writer.new) (interval_line interval.now)) }
+{
+    let report = &interval.report;
+    let capacity = number_text(alloc, u64::from(report.capacity))?;
+    let first = number_text(alloc, interval.first)?;
+    let last = number_text(alloc, interval.last)?;
+    let hits = number_text(alloc, report.hits)?;
+    let misses = number_text(alloc, report.misses)?;
+    let evictions = number_text(alloc, report.evictions)?;
+    let rejections = number_text(alloc, report.rejections)?;
+    let rate = rate_text(alloc, report.rate())?;
+    let fields = [
+        report.policy.word().as_bytes(),
+        capacity.as_bytes(),
+        first.as_bytes(),
+        last.as_bytes(),
+        hits.as_bytes(),
+        misses.as_bytes(),
+        evictions.as_bytes(),
+        rejections.as_bytes(),
+        rate.as_bytes(),
+    ];
+    write_row(writer, fields.as_slice())
+}
