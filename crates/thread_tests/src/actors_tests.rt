@@ -1,6 +1,6 @@
 //! Small traces whose reports were worked out by hand, and threads that wait for one another.
 use super::assertions::assert_equal;
-use super::gates::{Hold, Turns};
+use super::gates::{AllAlike, Hold, Turns};
 use super::jobs::{counted, failed, fault_of, four_jobs, job};
 use policies::{ActorFault, Report};
 use policy_actors::run_actors;
@@ -323,20 +323,35 @@ fn a_sweep_of_over_a_hundred_reports(rt: HostRuntime) -> Result<(), Fail> {
     Ok(())
 }
 
-// The gate is called for as many batches as were announced: for none of Lru, which makes no access one by one.
+// The gate is called for as many batches as were announced, those of each report in their turn: for none of Lru, which
+// makes no access one by one.
 #[test]
 fn a_sweep_shows_its_batches(rt: HostRuntime) -> Result<(), Fail> {
-    let alloc = rt.alloc();
-    let some = Trace::new(vec![in alloc; 1; 65_537]?);
+    for (accesses, reports, batches) in [(131_073, 1, 3), (65_537, 2, 2), (65_537, 16, 2)] {
+        show_batches(&rt, rt.alloc(), accesses, reports, batches)?;
+    }
+    Ok(())
+}
+
+// Sweeps Lru and SegmentedLru over so many accesses at so many capacities, and sees each batch of each report.
+fn show_batches<R: Threads + Sync + Abort>(
+    rt: &R,
+    alloc: Global,
+    accesses: usize,
+    reports: usize,
+    batches: usize,
+) -> Result<(), Fail> {
+    assert!(rt; reports <= 16);
+    let some = Trace::new(vec![in alloc; 1; accesses]?);
     let jobs = [job(Policy::Lru, 7), job(Policy::SegmentedLru, 7)];
     let many = [2u32; 16];
-    for (capacities, wanted) in [(&many[..2], 4), (&many[..], 32)] {
-        let gate = Hold::new(0, 0);
-        assert_equal(&rt, sweep_batches(&some, &jobs, capacities), wanted);
-        let swept = sweep_each(&rt, alloc, &some, &jobs, capacities, &gate);
-        drop(swept.map_err(failed)?);
-        assert_equal(&rt, gate.over(), wanted);
-    }
+    let capacities = &many[..reports];
+    let gate = AllAlike::new(alloc, batches)?;
+    let announced = sweep_batches(&some, &jobs, capacities);
+    assert_equal(rt, announced, reports.wrapping_mul(batches) as u64);
+    let swept = sweep_each(rt, alloc, &some, &jobs, capacities, &gate);
+    drop(swept.map_err(failed)?);
+    assert!(rt; gate.is_over(reports as u64));
     Ok(())
 }
 

@@ -5,6 +5,17 @@ use std::sync::atomic::Ordering::SeqCst;
 use std::thread;
 use step_record::Gate;
 
+// Waits until so many are counted. False where they are not for long.
+fn comes_to(count: &AtomicU64, wanted: u64) -> bool {
+    for _ in 0..1_000_000 {
+        if count.load(SeqCst) >= wanted {
+            return true;
+        }
+        thread::yield_now();
+    }
+    false
+}
+
 // Holds each thread's call n, for the first few n, until call n of every thread has begun.
 #[derive(Drop)]
 pub(crate) struct Hold {
@@ -26,12 +37,19 @@ impl Hold {
         }
     }
 
+    // Waits until so many calls have begun.
+    pub(crate) fn wait_for(&self, begun: u64) {
+        if !comes_to(&self.begun, begun) {
+            self.late.fetch_add(1, SeqCst);
+        }
+    }
+
     // How many calls are over.
     pub(crate) fn over(&self) -> u64 {
         self.over.load(SeqCst)
     }
 
-    // Whether a call went on before all had begun theirs, since they did not begin for long.
+    // Whether a call went on before those that it waits for, since they did not begin for long.
     pub(crate) fn is_late(&self) -> bool {
         self.late.load(SeqCst) > 0
     }
@@ -40,22 +58,23 @@ impl Hold {
 impl Gate for Hold {
     fn before(&self, _who: u8, n: u64) {
         self.begun.fetch_add(1, SeqCst);
-        if n >= self.held {
-            return;
+        if n < self.held && !comes_to(&self.begun, n.wrapping_add(1).wrapping_mul(self.threads)) {
+            self.late.fetch_add(1, SeqCst);
         }
-        let wanted = n.wrapping_add(1).wrapping_mul(self.threads);
-        for _ in 0..1_000_000 {
-            if self.begun.load(SeqCst) >= wanted {
-                return;
-            }
-            thread::yield_now();
-        }
-        self.late.fetch_add(1, SeqCst);
     }
 
     fn after(&self, _who: u8, _n: u64) {
         self.over.fetch_add(1, SeqCst);
     }
+}
+
+// So many counts, at zero.
+fn zeros(alloc: Global, counts: usize) -> Result<Vec<AtomicU64>, AllocError> {
+    let mut zeros = Vec::new(alloc);
+    for _ in 0..counts {
+        zeros.push(AtomicU64::new(0))?;
+    }
+    Ok(zeros)
 }
 
 // Counts the calls of each thread, and those that came out of turn: call 0 begins and is then over, then call 1.
@@ -67,12 +86,8 @@ pub(crate) struct Turns {
 
 impl Turns {
     pub(crate) fn new(alloc: Global, threads: usize) -> Result<Turns, AllocError> {
-        let mut calls = Vec::new(alloc);
-        for _thread in 0..threads {
-            calls.push(AtomicU64::new(0))?;
-        }
         Ok(Turns {
-            calls,
+            calls: zeros(alloc, threads)?,
             wrong: AtomicU64::new(0),
         })
     }
@@ -113,5 +128,120 @@ impl Gate for Turns {
 
     fn after(&self, who: u8, n: u64) {
         self.called(who, n.wrapping_mul(2).wrapping_add(1));
+    }
+}
+
+// Lets two workers make so many calls each, the first all of its own and then the second: the second waits before its
+// first call, the first until the second is there, and behind its last call until the second is through.
+#[derive(Drop)]
+pub(crate) struct OneFirst {
+    calls: u64,
+    first_over: AtomicU64,
+    second_begun: AtomicU64,
+    second_over: AtomicU64,
+    late: AtomicU64,
+}
+
+impl OneFirst {
+    pub(crate) fn new(calls: u64) -> OneFirst {
+        OneFirst {
+            calls,
+            first_over: AtomicU64::new(0),
+            second_begun: AtomicU64::new(0),
+            second_over: AtomicU64::new(0),
+            late: AtomicU64::new(0),
+        }
+    }
+
+    // Whether a call went on before those that it waits for, since they did not come for long.
+    pub(crate) fn is_late(&self) -> bool {
+        self.late.load(SeqCst) > 0
+    }
+
+    fn wait_for(&self, count: &AtomicU64, wanted: u64) {
+        if !comes_to(count, wanted) {
+            self.late.fetch_add(1, SeqCst);
+        }
+    }
+}
+
+impl Gate for OneFirst {
+    fn before(&self, who: u8, n: u64) {
+        if who == 0 && n == 0 {
+            self.wait_for(&self.second_begun, 1);
+        }
+        if who == 1 {
+            self.second_begun.fetch_add(1, SeqCst);
+            self.wait_for(&self.first_over, self.calls);
+        }
+    }
+
+    fn after(&self, who: u8, _n: u64) {
+        if who == 1 {
+            self.second_over.fetch_add(1, SeqCst);
+            return;
+        }
+        let over = self.first_over.fetch_add(1, SeqCst).wrapping_add(1);
+        if over == self.calls {
+            self.wait_for(&self.second_over, self.calls);
+        }
+    }
+}
+
+// Counts the calls of several threads that are all worker 0, by their numbers, and those that came out of turn: of each
+// number no more are over than have begun, and no more have begun than are over of the number before.
+#[derive(Drop)]
+pub(crate) struct AllAlike {
+    begun: Vec<AtomicU64>,
+    over: Vec<AtomicU64>,
+    wrong: AtomicU64,
+}
+
+impl AllAlike {
+    pub(crate) fn new(alloc: Global, calls: usize) -> Result<AllAlike, AllocError> {
+        Ok(AllAlike {
+            begun: zeros(alloc, calls)?,
+            over: zeros(alloc, calls)?,
+            wrong: AtomicU64::new(0),
+        })
+    }
+
+    // Counts a call, of which there may be no more than of an earlier one.
+    fn count(&self, calls: &[AtomicU64], n: usize, earlier: Option<&AtomicU64>) {
+        let Some(count) = calls.get(n) else {
+            self.wrong.fetch_add(1, SeqCst);
+            return;
+        };
+        let counted = count.fetch_add(1, SeqCst).wrapping_add(1);
+        if let Some(earlier) = earlier
+            && earlier.load(SeqCst) < counted
+        {
+            self.wrong.fetch_add(1, SeqCst);
+        }
+    }
+
+    // Whether each call was seen to begin and to end so many times in turn, and no more.
+    pub(crate) fn is_over(&self, times: u64) -> bool {
+        let begun = self.begun.iter().all(|count| count.load(SeqCst) == times);
+        let over = self.over.iter().all(|count| count.load(SeqCst) == times);
+        self.wrong.load(SeqCst) == 0 && begun && over
+    }
+}
+
+impl Gate for AllAlike {
+    fn before(&self, who: u8, n: u64) {
+        let n = n as usize;
+        self.count(&self.begun, n, self.over.get(n.wrapping_sub(1)));
+        if who != 0 {
+            self.wrong.fetch_add(1, SeqCst);
+        }
+    }
+
+    fn after(&self, who: u8, n: u64) {
+        let n = n as usize;
+        self.count(&self.over, n, self.begun.get(n));
+        if who != 0 {
+            self.wrong.fetch_add(1, SeqCst);
+        }
     }
 }

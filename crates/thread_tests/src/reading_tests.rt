@@ -1,6 +1,6 @@
 //! Runs of actors while the trace is read, whose reports were worked out by hand.
 use super::assertions::assert_equal;
-use super::gates::Turns;
+use super::gates::{Hold, Turns};
 use super::jobs::{counted, failed, four_jobs, job};
 use policies::Report;
 use policy_actors::{check_run, run_reading};
@@ -187,5 +187,81 @@ fn a_long_text_is_made_in_turn(rt: HostRuntime) -> Result<(), Fail> {
         )?;
         assert!(rt; gate.is_over(batches));
     }
+    Ok(())
+}
+
+// Lru over so many accesses of one key.
+fn one_key(accesses: u32) -> [Report; 2] {
+    let accesses = u64::from(accesses);
+    [counted(
+        Policy::Lru,
+        2,
+        [accesses, accesses.wrapping_sub(1), 1, 0, 0],
+    ); 2]
+}
+
+// While the first actor is held at its first batch, the second has to be given its own: of the few accesses that are
+// handed over at the end, and of the many that are handed over while more are read, more batches than a channel holds.
+#[test]
+fn a_held_actor_keeps_no_batch_from_another(rt: HostRuntime) -> Result<(), Fail> {
+    for accesses in [10_000, 40_000] {
+        let gate = Hold::new(2, 1);
+        let text = Pieces::of("7\n", 2, accesses);
+        let run = ([job(Policy::Lru, 2); 2], 1);
+        assert_reading(
+            &rt,
+            rt.alloc(),
+            text,
+            Format::Lirs,
+            (&run.0, run.1),
+            &gate,
+            Ok(&one_key(accesses)),
+        )?;
+        assert!(rt; !gate.is_late());
+    }
+    Ok(())
+}
+
+/// A reader that reads its last piece only once a gate has seen so many batches begin.
+#[derive(Drop)]
+struct Waiting<'a> {
+    pieces: Pieces<'a>,
+    gate: &'a Hold,
+    begun: u64,
+}
+
+impl Read for Waiting<'_> {
+    fn read(&mut self, buf: &mut [u8]) -> io::Result<usize> {
+        if self.pieces.times == 1 {
+            self.gate.wait_for(self.begun);
+        }
+        self.pieces.read(buf)
+    }
+}
+
+// The actors have begun before the trace is read to its end.
+#[test]
+fn actors_begin_while_the_trace_is_read(rt: HostRuntime) -> Result<(), Fail> {
+    let gate = Hold::new(0, 0);
+    let jobs = [job(Policy::Lru, 2); 2];
+    let mut reader = Waiting {
+        pieces: Pieces::of("7\n", 2, 40_000),
+        gate: &gate,
+        begun: 2,
+    };
+    check_run(1_024, &jobs).map_err(failed)?;
+    match run_reading(
+        &rt,
+        rt.alloc(),
+        &mut reader,
+        Format::Lirs,
+        &jobs,
+        1_024,
+        &gate,
+    ) {
+        Ok(reports) => assert_equal(&rt, reports.as_slice(), &one_key(40_000)),
+        Err(fault) => assert_equal(&rt, Some(fault), None),
+    }
+    assert!(rt; !gate.is_late());
     Ok(())
 }
