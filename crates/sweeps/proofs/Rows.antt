@@ -1,12 +1,14 @@
 -- Several jobs at the same capacities.
-use Rattle.std.proofs.Common.{◌≡◌, ℕ, zero, suc, ◌+◌, ◌<◌, Option, Some, None, List, [], ◌∷◌, ◌++◌, length, map, take, slice_index_or, get_or, ap, ◌∙◌, sym, refl, arith, append-nil, append_assoc}
+use Rattle.std.proofs.Common.{◌≡◌, ℕ, zero, suc, ◌+◌, ◌*◌, ◌<◌, ◌≤◌, min, Bool, true, false, if◌then◌else◌, ⊎_elim, Option, Some, None, List, [], ◌∷◌, ◌++◌, length, map, take, slice_index_or, get_or, ap, ◌∙◌, sym, refl, arith, append-nil, append_assoc}
+use Rattle.std.proofs.lemmas.Bool.{cases_lt}
 use Rattle.std.proofs.lemmas.List.{take_more, map-append}
+use Rattle.std.proofs.Math.Nat.{mul-suc}
 use Rattle.std.specs.Option.{option_or}
 use Rattle.step_record.specs.declared.job.Job.{Job}
 use Rattle.policies.specs.declared.actor_fault.ActorFault.{ActorFault}
 use Rattle.policies.specs.FaultyJobs.{at_capacity, faulty_in}
 use Rattle.policies.specs.Reports.{report_on}
-use Rattle.sweeps.specs.Sweep.{jobs_over, sweep_fault}
+use Rattle.sweeps.specs.Sweep.{gated_jobs, is_gated_policy, jobs_over, sweep_fault}
 
 -- ---- one job
 
@@ -41,3 +43,26 @@ one-row j cs old rows new row i lt so is added =
     added ∙ (ap (λ (l : List Job). l ++ row ∷ []) so ∙ (ap (λ (x : Job). (old ++ map (at_capacity j) (take i cs)) ++ x ∷ []) is
     ∙ (append_assoc old (map (at_capacity j) (take i cs)) (at_capacity j (get_or cs i 0) ∷ [])
     ∙ ap (λ (l : List Job). old ++ l) (sym (ap (map (at_capacity j)) (take_more cs i 0 lt) ∙ map-append (at_capacity j) (take i cs) (get_or cs i 0 ∷ []))))))
+
+-- ---- the batches of a sweep
+
+pub more-gated : (jobs : List Job) (d : Job) (i : ℕ) → i < length jobs
+    → gated_jobs (take (i + 1) jobs) ≡ gated_jobs (take i jobs) + (if is_gated_policy (slice_index_or jobs i d).policy then 1 else 0)
+more-gated [] d i lt = absurd (omega arith)
+more-gated (j ∷ js) d zero lt = omega arith
+more-gated (j ∷ js) d (suc i) lt =
+    let e : suc i + 1 ≡ suc (i + 1) = omega arith in
+    let more = more-gated js d i (omega arith) in
+    rw e (omega (arith, more))
+
+-- what two products that stop at a limit come to
+pub saturated : (a e m : ℕ) → min (min a m * e) m ≡ min (a * e) m
+saturated a zero m = omega arith
+saturated a (suc e) m = ⊎_elim
+    (λ (gt : m < a). let same : min a m ≡ m = omega arith in rw same (omega (arith, mul-suc m e, mul-suc a e)))
+    (λ (le : a ≤ m). let same : min a m ≡ a = omega arith in ap (λ (n : ℕ). min (n * suc e) m) same)
+    (cases_lt m a)
+
+pub one-at-most : (b : Bool) → (if b then 1 else 0) ≤ 1
+one-at-most true = omega arith
+one-at-most false = omega arith

@@ -1,7 +1,11 @@
 -- Several jobs at the same capacities.
+use Rattle.std.specs.Int.{div_ceil}
 use Rattle.std.specs.Option.{option_or}
-use Rattle.std.specs.Prelude.{ℕ, cond, nat_le, Option, Some, None, List, [], ◌∷◌, ◌++◌, length, map}
+use Rattle.std.specs.Prelude.{ℕ, ◌+◌, ◌*◌, Bool, true, false, if◌then◌else◌, cond, nat_le, Option, Some, None, List, [], ◌∷◌, ◌++◌, length, map}
 use Rattle.step_record.specs.declared.job.Job.{Job}
+use Rattle.step_record.specs.declared.job.Policy.{Policy}
+use Rattle.step_record.specs.declared.job.Policy.TheVariants.{Lru, SegmentedLru, TinyLfuLru, TinyLfuSegmented, WindowTinyLfu, Clairvoyant}
+use Rattle.step_record.specs.declared.limits.TheConstants.{MAX_BATCH}
 use Rattle.policies.specs.declared.job_checks.TheConstants.{MAX_ACTORS}
 use Rattle.policies.specs.declared.actor_fault.ActorFault.{ActorFault}
 use Rattle.policies.specs.declared.actor_fault.ActorFault.TheVariants.{Actors}
@@ -21,3 +25,22 @@ first_config_fault (job ∷ jobs) capacities =
 -- the number of jobs is looked at first, and then their configurations
 abbrev pub sweep_fault : List Job → List ℕ → Option ActorFault
 sweep_fault jobs capacities = cond (nat_le (length jobs) MAX_ACTORS) (first_config_fault jobs capacities) (Some Actors)
+
+-- ---- the gate of a sweep
+
+-- a report of Lru makes no access one by one
+abbrev pub is_gated_policy : Policy → Bool
+is_gated_policy Lru = false
+is_gated_policy SegmentedLru = true
+is_gated_policy TinyLfuLru = true
+is_gated_policy TinyLfuSegmented = true
+is_gated_policy WindowTinyLfu = true
+is_gated_policy Clairvoyant = true
+
+abbrev pub gated_jobs : List Job → ℕ
+gated_jobs [] = 0
+gated_jobs (job ∷ jobs) = (if is_gated_policy job.policy then 1 else 0) + gated_jobs jobs
+
+-- the batches of the trace, for each report at each capacity
+abbrev pub gated_batches : List Job → ℕ → ℕ → ℕ
+gated_batches jobs capacities accesses = gated_jobs jobs * capacities * div_ceil accesses MAX_BATCH

@@ -1,8 +1,8 @@
 //! Jobs at several capacities.
-ghost use Rattle.std.specs.Prelude.{◌≡◌, ◌++◌, IfOk, IfSome, OnOk, map};
+ghost use Rattle.std.specs.Prelude.{◌≡◌, ◌++◌, ◌-◌, ◌^◌, IfOk, IfSome, OnOk, length, map, min};
 ghost use Rattle.policies.specs.FaultyJobs.{at_capacity, faulty_in, ReturnsFault};
 ghost use Rattle.policies.specs.Reports.{report_on};
-ghost use Rattle.sweeps.specs.Sweep.{jobs_over, sweep_fault};
+ghost use Rattle.sweeps.specs.Sweep.{gated_batches, is_gated_policy, jobs_over, sweep_fault};
 ghost use Rattle.stack_distances.specs.Curve.{curve_of};
 
 use crate::single_run::{PreparedTrace, run_over};
@@ -69,16 +69,28 @@ pub fn sweep_each<R: Threads + Sync, G: Gate>(
     Ok(reports)
 }
 
-/// For how many batches in all `sweep_each` calls its gate, over the same trace, jobs and capacities.
-pub fn sweep_batches(trace: &Trace, jobs: &[Job], capacities: &[u32]) -> u64 {
+/// For how many batches in all `sweep_each` calls its gate, over the same trace, jobs and capacities; 2^64 - 1 for more.
+pub fn sweep_batches(trace: &Trace, jobs: &[Job], capacities: &[u32]) -> u64
+    ensures { result ≡ min (gated_batches jobs.now (length capacities.now) (length trace.now)) (2 ^ 64 - 1) }
+{
     let each = trace.len().div_ceil(MAX_BATCH as usize);
-    let mut reports = 0usize;
+    let mut gated = 0usize;
     for job in jobs {
-        if job.policy != Policy::Lru {
-            reports = reports.saturating_add(capacities.len());
+        if is_gated(job.policy) {
+            gated += 1;
         }
     }
-    reports.saturating_mul(each) as u64
+    gated.saturating_mul(capacities.len()).saturating_mul(each) as u64
+}
+
+// Whether the gate is called for the batches of a report of the policy.
+fn is_gated(policy: Policy) -> bool
+    ensures { result ≡ is_gated_policy policy }
+{
+    match policy {
+        Policy::Lru => false,
+        _ => true,
+    }
 }
 
 // The reports of jobs that were checked before, so that out of memory is the one error.
