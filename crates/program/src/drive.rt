@@ -16,11 +16,12 @@ use command_line::DriveArguments;
 use journal::Session;
 use journal_text::write_journal;
 use maintenance::Shell;
+use progress::{Watch, Work};
 use std::alloc::{AllocError, Global};
 use std::io::{Read, Write};
 use std::sync::Wait;
 use std::thread::Threads;
-use step_record::{Call, Config, Key, OpenGate};
+use step_record::{Call, Config, Key};
 use trace_read::{Format, read_trace};
 use workers::{DriveFault, Driven};
 
@@ -38,12 +39,13 @@ pub fn open(alloc: Global, config: &Config) -> Result<Session<Shell>, AllocError
 /// Reads the trace, lets the workers read its keys in a concurrent cache, each on a thread of its
 /// own, and writes the journal of their steps. Where a worker was refused a step, the journal is
 /// written too, and the fault is the cause. Any other fault but `Write` has written nothing.
-pub fn drive<T: Threads + Wait + Sync, R: Read, W: Write>(
+pub fn drive<T: Threads + Wait + Sync, R: Read, W: Write, P: Watch>(
     rt: &T,
     alloc: Global,
     arguments: &DriveArguments,
     input: &mut R,
     out: &mut W,
+    watch: &P,
 ) -> Result<(), Fault>
     requires checked { config_fault arguments.now.config ≡ Ok tt }
     requires some { 1 ≤ arguments.now.workers }
@@ -59,10 +61,24 @@ pub fn drive<T: Threads + Wait + Sync, R: Read, W: Write>(
 {
     let pieces = pieces_of(alloc, input, arguments.format, arguments.workers)?;
     let session = open(alloc, &arguments.config)?;
-    let run = workers::drive(rt, alloc, session, pieces, &OpenGate);
+    watch.begin(Work {
+        name: "drive",
+        batches: Some(count_calls(pieces.as_slice())),
+    });
+    let run = workers::drive(rt, alloc, session, pieces, watch);
+    watch.end();
     let written = write_run(alloc, &run, out);
     drop(run);
     written
+}
+
+// How many calls there are in all, for the line of progress alone.
+fn count_calls(pieces: &[Vec<Call>]) -> u64 {
+    let mut calls: u64 = 0;
+    for piece in pieces {
+        calls = calls.saturating_add(piece.len() as u64);
+    }
+    calls
 }
 
 // A list of no call for each worker.

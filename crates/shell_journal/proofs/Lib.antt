@@ -1,4 +1,5 @@
-mod NodeBounds
-mod LineLengths
-mod JournalSize
+mod Alike
 mod Copies
+mod JournalSize
+mod LineLengths
+mod NodeBounds

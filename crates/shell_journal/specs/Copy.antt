@@ -1,10 +1,12 @@
 -- Which journal can be copied.
 use Rattle.std.specs.Prelude.{◌≡◌, ◌≤◌, [], length}
+use Rattle.step_record.specs.declared.config.Config.{Config}
 use Rattle.step_record.specs.declared.limits.TheConstants.{MAX_JOURNAL_LIMIT}
 use Rattle.step_record.specs.declared.step.Reply.{Reply}
 use Rattle.step_record.specs.declared.step.Step.{Step}
 use Rattle.journal.specs.Session.{SessionState}
 use Rattle.shell_model.specs.Shell.{Shell}
+use Rattle.maintenance.specs.EmptyShell.{IsOpened}
 
 -- The session is no longer than any session; the other was opened alike, has no entry yet, and has room for those of
 -- the first.
@@ -14,3 +16,7 @@ pub record CanHold (session copy : SessionState Shell Shell Step Reply) : Type 0
   pub kept : copy.kept ≡ []
   pub tail : copy.tail ≡ []
   pub room : length session.kept ≤ copy.limit
+
+-- two caches just opened with one configuration are one state
+abbrev pub OpenedAlikeLaw : Type 0
+OpenedAlikeLaw = (c : Config) (x y : Shell) → IsOpened c x → IsOpened c y → y ≡ x

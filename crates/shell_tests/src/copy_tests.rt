@@ -8,7 +8,7 @@ use super::sessions::CONFIG;
 use super::shell_line::assert_shows_as;
 use journal::Session;
 use maintenance::Shell;
-use shell_journal::copy_journal;
+use shell_journal::{copy_journal, theorems};
 use std::alloc::Global;
 use std::process::Abort;
 use std::test::Fail;
@@ -68,6 +68,7 @@ fn assert_copied(
 
 #[test]
 fn a_session_is_copied_by_its_text(rt: HostRuntime) -> Result<(), Fail> {
+    theorems::opened_alike();
     let mut session = fresh(&rt, rt.alloc(), &CONFIG)?;
     make_miss(&rt, &mut session)?;
     let mut copy = fresh(&rt, rt.alloc(), &CONFIG)?;

@@ -18,6 +18,8 @@ mod jobs;
 #[cfg(test)]
 mod law_tests;
 #[cfg(test)]
+mod library_tests;
+#[cfg(test)]
 mod limits_tests;
 #[cfg(test)]
 mod quiet_run_tests;
@@ -29,6 +31,8 @@ mod report_tests;
 mod sessions;
 #[cfg(test)]
 mod settled_run_tests;
+#[cfg(test)]
+mod turn_tests;
 #[cfg(test)]
 mod undone_run_tests;
 #[cfg(test)]

@@ -1,5 +1,4 @@
 use Rattle.std.proofs.Common.{sym, ◌∙◌, arith, rules}
-use Rattle.shell_tests.proofs.Alike.{alike}
 use Rattle.shell_tests.proofs.copy_tests.a_session_is_copied_by_its_text.Goals as goal
 
 pub assert_copied-requires : goal.assert_copied-requires
@@ -11,7 +10,7 @@ assert_copied-requires g c =
     let room = c.in_ok-copy.ensures.limit in
     record {
       few = omega (arith, few, limit, three);
-      alike = alike _ c.in_ok-session.session.opening c.in_ok-copy.copy.opening c.in_ok-session.ensures.opened c.in_ok-copy.ensures.opened ∙ sym made.opening;
+      alike = c.opened_alike.ensures _ c.in_ok-session.session.opening c.in_ok-copy.copy.opening c.in_ok-session.ensures.opened c.in_ok-copy.ensures.opened ∙ sym made.opening;
       kept = c.in_ok-copy.ensures.kept;
       tail = c.in_ok-copy.ensures.tail;
       room = omega (arith, few, limit, three, room);

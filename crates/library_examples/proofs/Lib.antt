@@ -1,0 +1,3 @@
+mod Gathered
+mod NextAccess
+mod Orders

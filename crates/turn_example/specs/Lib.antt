@@ -1,2 +1,0 @@
-pub mod LogTurn
-pub mod LogLines
