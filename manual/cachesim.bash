@@ -15,6 +15,12 @@ _cachesim_words() {
     sweep:--format) echo 'lirs arc' ;;
     sweep:--policy) echo 'lru slru tinylfu-lru tinylfu-slru wtinylfu clairvoyant' ;;
     sweep:*) echo '--main --spread --format --policy -h --help' ;;
+    intervals:--capacity) echo '' ;;
+    intervals:--every) echo '' ;;
+    intervals:--main) echo '' ;;
+    intervals:--spread) echo 'mixed plain' ;;
+    intervals:--format) echo 'lirs arc' ;;
+    intervals:*) echo 'lru slru tinylfu-lru tinylfu-slru wtinylfu clairvoyant --capacity --every --main --spread --format -h --help' ;;
     part:--capacity) echo '' ;;
     part:--main) echo '' ;;
     part:--spread) echo 'mixed plain' ;;
@@ -22,6 +28,13 @@ _cachesim_words() {
     part:--first) echo 'lru slru tinylfu-lru tinylfu-slru wtinylfu clairvoyant' ;;
     part:--second) echo 'lru slru tinylfu-lru tinylfu-slru wtinylfu clairvoyant' ;;
     part:*) echo '--capacity --main --spread --format --first --second -h --help' ;;
+    compare:--capacity) echo '' ;;
+    compare:--main) echo '' ;;
+    compare:--spread) echo 'mixed plain' ;;
+    compare:--format) echo 'lirs arc' ;;
+    compare:--first) echo 'lru slru tinylfu-lru tinylfu-slru wtinylfu clairvoyant' ;;
+    compare:--second) echo 'lru slru tinylfu-lru tinylfu-slru wtinylfu clairvoyant' ;;
+    compare:*) echo '--capacity --main --spread --format --first --second -h --help' ;;
     drive:--capacity) echo '' ;;
     drive:--main) echo '' ;;
     drive:--spread) echo 'mixed plain' ;;
@@ -45,7 +58,7 @@ _cachesim_words() {
     replay:--stripes) echo '' ;;
     replay:--limit) echo '' ;;
     replay:*) echo '--capacity --main --spread --journal --stripes --limit -h --help' ;;
-    help:*) echo 'run sweep part drive debug replay' ;;
+    help:*) echo 'run sweep intervals part compare drive debug replay' ;;
     esac
 }
 
@@ -60,7 +73,7 @@ _cachesim() {
     if [[ $before == *[\<\>] ]]; then
         words='<FILE>'
     elif ((COMP_CWORD == 1)); then
-        words='run sweep part drive debug replay help -h --help -V --version'
+        words='run sweep intervals part compare drive debug replay help -h --help -V --version'
     else
         words=$(_cachesim_words "${COMP_WORDS[1]}" "$before")
     fi
