@@ -9,7 +9,7 @@ ghost use Rattle.debug_policies.specs.Comparison.{compared_on, compared_up_to, c
 ghost use Rattle.debug_policies.specs.Comparison.{IsUpTo, no_counts};
 ghost use Rattle.debug_policies.specs.Part.{IsNoted, IsPrepared};
 
-use crate::divergence::{BLOCK, hit_at, note_hits};
+use crate::divergence::{STRETCH, hit_at, note_hits};
 use debug_commands::push_count;
 use policies::{ActorFault, AnyPolicy};
 use std::alloc::{AllocError, Global};
@@ -157,11 +157,11 @@ fn count_in_both(
         → IfOk result (λ counts. counts ≡ compared_on j k trace.now) }
 {
     let mut counts = Comparison::none();
-    let mut noted = [false; BLOCK];
+    let mut noted = [false; STRETCH];
     let len = trace.keys().len();
     let mut start = 0;
     'stretches: while start < len {
-        let end = len.min(start + BLOCK);
+        let end = len.min(start + STRETCH);
         note_hits(one, trace, start, end, &mut noted)?;
         count_hits(other, trace, start, end, &noted, &mut counts)?;
         start = end;

@@ -12,11 +12,11 @@ ghost use Rattle.debug_policies.specs.Part.{part_line, is_hit_at, IsPart, IsNote
 use debug_commands::push_count;
 use policies::{ActorFault, AnyPolicy, theorems};
 use std::alloc::{AllocError, Global};
-use step_record::{Job, Key, Outcome, StepFault, Trace};
+use step_record::{Gate, Job, Key, OpenGate, Outcome, StepFault, Trace};
 
 /// So many accesses are made in one cache before the other makes them: each has a loop of its own, of which the code of
 /// an access is part.
-pub const BLOCK: usize = 1024;
+pub const STRETCH: usize = 1024;
 
 /// The first access of the trace, counted from 1, at which the policy of one job hits and that of the other does not;
 /// `None` where there is no such access.
@@ -32,13 +32,29 @@ pub fn part(
     ensures part { IfOk result (IsPart (outcomes_on first.now trace.now) (outcomes_on second.now trace.now)) }
     ensures fault { ReturnsFault (faulty_in (first.now ∷ second.now ∷ [])) result }
 {
+    part_watched(alloc, trace, first, second, &OpenGate)
+}
+
+/// The same, where the gate is called around each `STRETCH` accesses of the trace, as number 0, 1 and so on of worker 0.
+///
+/// Errors: those of `part`.
+pub fn part_watched<G: Gate>(
+    alloc: Global,
+    trace: &Trace,
+    first: &Job,
+    second: &Job,
+    gate: &G,
+) -> Result<Option<u64>, ActorFault>
+    ensures part { IfOk result (IsPart (outcomes_on first.now trace.now) (outcomes_on second.now trace.now)) }
+    ensures fault { ReturnsFault (faulty_in (first.now ∷ second.now ∷ [])) result }
+{
     if first.config.check().is_err() {
         return Err(ActorFault::Config { index: 0 });
     }
     if second.config.check().is_err() {
         return Err(ActorFault::Config { index: 1 });
     }
-    let found = walk(alloc, trace, first, second)?;
+    let found = walk(alloc, trace, first, second, gate)?;
     Ok(found)
 }
 
@@ -69,21 +85,28 @@ struct Noting;
 struct Comparing;
 
 // Opens the caches of both jobs, and walks.
-fn walk(alloc: Global, trace: &Trace, first: &Job, second: &Job) -> Result<Option<u64>, AllocError>
+fn walk<G: Gate>(
+    alloc: Global,
+    trace: &Trace,
+    first: &Job,
+    second: &Job,
+    gate: &G,
+) -> Result<Option<u64>, AllocError>
     requires first { config_fault first.now.config ≡ Ok tt }
     requires second { config_fault second.now.config ≡ Ok tt }
     ensures { IfOk result (IsPart (outcomes_on first.now trace.now) (outcomes_on second.now trace.now)) }
 {
     let mut one = AnyPolicy::open(alloc, first, trace)?;
-    walk_beside(alloc, trace, second, &mut one)
+    walk_beside(alloc, trace, second, &mut one, gate)
 }
 
 // Opens the cache of the second job, beside that of the first, and walks.
-fn walk_beside(
+fn walk_beside<G: Gate>(
     alloc: Global,
     trace: &Trace,
     second: &Job,
     one: &mut AnyPolicy,
+    gate: &G,
 ) -> Result<Option<u64>, AllocError>
     requires one { IsPrepared trace.now 0 one.old }
     requires second { config_fault second.now.config ≡ Ok tt }
@@ -91,14 +114,15 @@ fn walk_beside(
         → IfOk result (IsPart (outcomes_on j trace.now) (outcomes_on second.now trace.now)) }
 {
     let mut other = AnyPolicy::open(alloc, second, trace)?;
-    walk_both(trace, one, &mut other)
+    walk_both(trace, one, &mut other, gate)
 }
 
 // Makes the accesses of the trace in both caches, up to the first at which just one of them hits.
-fn walk_both(
+fn walk_both<G: Gate>(
     trace: &Trace,
     one: &mut AnyPolicy,
     other: &mut AnyPolicy,
+    gate: &G,
 ) -> Result<Option<u64>, AllocError>
     requires one { IsPrepared trace.now 0 one.old }
     requires other { IsPrepared trace.now 0 other.old }
@@ -107,16 +131,19 @@ fn walk_both(
 {
     theorems::any_stands();
     theorems::any_covers_trace();
-    let mut noted = [false; BLOCK];
+    let mut noted = [false; STRETCH];
     let len = trace.keys().len();
     let mut start = 0;
     'stretches: while start < len {
-        let end = len.min(start + BLOCK);
+        let number = (start / STRETCH) as u64;
+        let end = len.min(start + STRETCH);
+        gate.before(0, number);
         note_hits(one, trace, start, end, &mut noted)?;
         match compare_hits(other, trace, start, end, &noted)? {
             Some(place) => return Ok(Some(place as u64 + 1)),
             None => start = end,
         }
+        gate.after(0, number);
     }
     Ok(None)
 }

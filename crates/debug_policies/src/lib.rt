@@ -16,4 +16,4 @@ mod one_policy;
 pub use comparison::{Comparison, compare, push_comparison};
 pub use debug_commands::DebugFault;
 pub use debugger::run_debug;
-pub use divergence::{part, push_part};
+pub use divergence::{STRETCH, part, part_watched, push_part};

@@ -6,8 +6,9 @@ ghost use Rattle.program.specs.PartOutput.{Parting};
 
 use crate::fault::Fault;
 use command_line::PartArguments;
-use debug_policies::push_part;
+use debug_policies::{STRETCH, part_watched, push_part};
 use policies::ActorFault;
+use progress::{Watch, Work};
 use std::alloc::Global;
 use std::io::{Read, Write};
 use trace_read::read_trace;
@@ -15,11 +16,12 @@ use trace_read::read_trace;
 /// Reads the trace and writes one line: the first access at which just one of the two policies
 /// hits, counted from 1, or `none`. A fault has written nothing, but for `Write`, after which the
 /// output may be partial.
-pub fn part<R: Read, W: Write>(
+pub fn part<R: Read, W: Write, P: Watch>(
     alloc: Global,
     arguments: &PartArguments,
     input: &mut R,
     out: &mut W,
+    watch: &P,
 ) -> Result<(), Fault>
     requires { IsAcceptedPart arguments.now }
     ensures ok { OnOk result (Parting arguments.now.format arguments.now.first arguments.now.second
@@ -30,7 +32,13 @@ pub fn part<R: Read, W: Write>(
         (IsFoundIn arguments.now.format (λ f. ⊥) fault)) }
 {
     let trace = read_trace(alloc, input, arguments.format)?;
-    let found = match debug_policies::part(alloc, &trace, &arguments.first, &arguments.second) {
+    watch.begin(Work {
+        name: "part",
+        batches: Some(trace.len().div_ceil(STRETCH) as u64),
+    });
+    let walked = part_watched(alloc, &trace, &arguments.first, &arguments.second, watch);
+    watch.end();
+    let found = match walked {
         Ok(found) => found,
         Err(fault) => {
             prove!(fault == ActorFault::OutOfMemory);

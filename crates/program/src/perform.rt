@@ -20,8 +20,8 @@ use std::io::{Read, Write};
 use std::sync::Wait;
 use std::thread::Threads;
 
-/// Does what the arguments ask for, over an input and an output. `debug` and `replay` read a file too; `run`, `sweep`
-/// and `drive` are watched.
+/// Does what the arguments ask for, over an input and an output. `debug` and `replay` read a file too; `run`, `sweep`,
+/// `part` and `drive` are watched.
 pub fn perform<T: Threads + Wait + Sync, R: Read, W: Write, F: Files, P: Watch>(
     rt: &T,
     alloc: Global,
@@ -44,7 +44,7 @@ pub fn perform<T: Threads + Wait + Sync, R: Read, W: Write, F: Files, P: Watch>(
         Arguments::Run(arguments) => run(rt, alloc, arguments, input, out, watch),
         Arguments::Sweep(arguments) => sweep(rt, alloc, arguments, input, out, watch),
         Arguments::Intervals(arguments) => intervals(rt, alloc, arguments, input, out),
-        Arguments::Part(arguments) => part(alloc, arguments, input, out),
+        Arguments::Part(arguments) => part(alloc, arguments, input, out, watch),
         Arguments::Compare(arguments) => compare(alloc, arguments, input, out),
         Arguments::Drive(arguments) => drive(rt, alloc, arguments, input, out, watch),
         Arguments::Debug(arguments) => debug(alloc, arguments, input, out, files),

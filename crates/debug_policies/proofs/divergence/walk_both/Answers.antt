@@ -5,13 +5,13 @@ use Rattle.debug_policies.proofs.Walked.{agree-more, parts-first, agree-everywhe
 use Rattle.debug_policies.proofs.divergence.walk_both.Goals as goal
 
 pub note_hits-requires-clause-stands : goal.note_hits-requires-clause-stands
-note_hits-requires-clause-stands c = (let some = c.requires.one in record { job = some.job; stands = c.stretches.invariant.0 some.job some.stands })
+note_hits-requires-clause-stands g c = (let some = c.requires.one in record { job = some.job; stands = c.stretches.invariant.0 some.job some.stands })
 
 pub compare_hits-requires-clause-stands : goal.compare_hits-requires-clause-stands
-compare_hits-requires-clause-stands c = (let some = c.requires.other in record { job = some.job; stands = c.stretches.invariant.1 some.job some.stands })
+compare_hits-requires-clause-stands g c = (let some = c.requires.other in record { job = some.job; stands = c.stretches.invariant.1 some.job some.stands })
 
 pub overflow_add-result : goal.overflow_add-result
-overflow_add-result c =
+overflow_add-result g c =
     let trace = c.args.trace.now in
     let k = c.requires.other.job in
     let found = c.in_ok-place.ensures.part k (c.stretches.invariant.1 k c.requires.other.stands) in
@@ -21,7 +21,7 @@ overflow_add-result c =
     omega (arith, below, least, c.keys-len.ensures.few)
 
 pub returns-in-Some : goal.returns-in-Some
-returns-in-Some c = λ j k s t.
+returns-in-Some g c = λ j k s t.
     let trace = c.args.trace.now in
     let outcomes = outcomes_on k trace in
     let noted = c.note_hits.new.noted in
@@ -32,7 +32,7 @@ returns-in-Some c = λ j k s t.
     (c.in_ok-note_hits.ensures.noted j (c.stretches.invariant.0 j s)) part
 
 pub stretches-preserved : goal.stretches-preserved
-stretches-preserved c =
+stretches-preserved g c =
     let trace = c.args.trace.now in
     let noted = c.note_hits.new.noted in
     let start = c.stretches.start in
@@ -49,7 +49,7 @@ stretches-preserved c =
     )
 
 pub returns : goal.returns
-returns c = λ j k s t.
+returns g c = λ j k s t.
     let trace = c.args.trace.now in
     let long : length c.keys-len.result.now ≡ length trace = ap length c.keys-len.ensures.keys in
     let end : length trace ≡ c.stretches.start = omega (arith, long, c.stretches.invariant.3, c.stretches-test.false) in

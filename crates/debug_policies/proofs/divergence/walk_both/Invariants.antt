@@ -5,7 +5,7 @@ use Rattle.debug_policies.specs.Part.{AgreeBelow}
 use Rattle.debug_policies.proofs.divergence.walk_both.Given as goal
 
 abbrev pub invariant-stretches : goal.invariant-stretches
-invariant-stretches l =
+invariant-stretches g l =
     ((j : Job) → HasAccessed j l.trace [] l.initial.one → HasAccessed j l.trace (take l.start l.trace) l.one)
     × ((j : Job) → HasAccessed j l.trace [] l.initial.other → HasAccessed j l.trace (take l.start l.trace) l.other)
     × ((j k : Job) → HasAccessed j l.trace [] l.initial.one → HasAccessed k l.trace [] l.initial.other → AgreeBelow (l.start + 1) (outcomes_on j l.trace) (outcomes_on k l.trace))
@@ -13,4 +13,4 @@ invariant-stretches l =
     × (length l.noted ≡ 1024)
 
 abbrev pub decreases-stretches : goal.decreases-stretches
-decreases-stretches l = length l.trace - l.start
+decreases-stretches g l = length l.trace - l.start
