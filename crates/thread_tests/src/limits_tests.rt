@@ -3,7 +3,7 @@ use super::assertions::assert_equal;
 use super::gates::Hold;
 use super::sessions::{SMALL, failed, fresh, lists_of, pieces_of};
 use drive::{Cause, DriveFault, Driven, SettleFault, drive, settle};
-use headline::{Rewound, drive_and_undo};
+use end_to_end::{Rewound, drive_and_undo};
 use journal::{BackFault, Session};
 use maintenance::Shell;
 use std::alloc::Global;

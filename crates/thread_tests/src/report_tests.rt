@@ -1,7 +1,7 @@
 //! The reports of small traces, made in two ways and compared with values that were worked out by hand.
 use super::assertions::assert_equal;
 use super::jobs::{counted, failed, fault_of, job};
-use headline::{BothWays, capacities_both_ways, jobs_both_ways};
+use end_to_end::{BothWays, capacities_both_ways, jobs_both_ways};
 use policies::{ActorFault, Report};
 use std::process::Abort;
 use std::test::Fail;

@@ -2,7 +2,7 @@
 use super::assertions::assert_equal;
 use super::sessions::{SMALL, failed, fresh, one_read_each};
 use drive::Cause;
-use headline::{Rewound, drive_and_undo};
+use end_to_end::{Rewound, drive_and_undo};
 use journal::{BackFault, Session};
 use maintenance::Shell;
 use std::alloc::Global;

@@ -1,9 +1,9 @@
 use Rattle.std.proofs.Common.{Option, Some, None, map, subst, sym, vec_items}
 use Rattle.workers.specs.declared.run.Cause.{Cause}
 use Rattle.workers.specs.DriveFaults.{LeavesFault}
-use Rattle.headline.specs.UndoneRun.{IsRewound}
-use Rattle.headline.proofs.Rewinding.{rewound, whole_up_to}
-use Rattle.headline.proofs.undone_run.drive_and_undo.Goals as goal
+use Rattle.end_to_end.specs.UndoneRun.{IsRewound}
+use Rattle.end_to_end.proofs.Rewinding.{rewound, whole_up_to}
+use Rattle.end_to_end.proofs.undone_run.drive_and_undo.Goals as goal
 
 pub returns-in-Ok-clause-rewound : goal.returns-in-Ok-clause-rewound
 returns-in-Ok-clause-rewound g c =

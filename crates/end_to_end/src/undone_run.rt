@@ -3,7 +3,7 @@ ghost use Rattle.std.specs.Prelude.{◌≡◌, ◌↔◌, ◌-◌, ◌<◌, Err,
 ghost use Rattle.step_record.specs.History.{data_after};
 ghost use Rattle.shell_model.specs.Shell.{act};
 ghost use Rattle.workers.specs.DriveFaults.{LeavesFault};
-ghost use Rattle.headline.specs.UndoneRun.{IsRewound, HasNoSteps, undone_of};
+ghost use Rattle.end_to_end.specs.UndoneRun.{IsRewound, HasNoSteps, undone_of};
 
 use drive::{Cause, DriveFault, drive};
 use journal::{BackFault, Session};

@@ -1,6 +1,6 @@
 use Rattle.std.proofs.Common.{length, ◌∙◌}
-use Rattle.headline.proofs.Holding.{held-by-halvings}
-use Rattle.headline.proofs.held_words.words_held.Goals as goal
+use Rattle.end_to_end.proofs.Holding.{held-by-halvings}
+use Rattle.end_to_end.proofs.held_words.words_held.Goals as goal
 
 pub returns : goal.returns
 returns c = λ f g opening now.

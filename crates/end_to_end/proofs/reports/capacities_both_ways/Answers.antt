@@ -4,7 +4,7 @@ use Rattle.step_record.specs.declared.job.Job.{Job}
 use Rattle.policies.specs.declared.report.Report.{Report}
 use Rattle.policies.specs.FaultyJobs.{at_capacity}
 use Rattle.policies.specs.Reports.{report_on}
-use Rattle.headline.proofs.reports.capacities_both_ways.Goals as goal
+use Rattle.end_to_end.proofs.reports.capacities_both_ways.Goals as goal
 
 -- reports of jobs that stand for capacities
 by-capacity : (trace : List ℕ) (job : Job) (capacities : List ℕ) (jobs : List Job) (reports : List Report)

@@ -16,7 +16,7 @@ use Rattle.walks.specs.WorkerEntries.{entries_of}
 use Rattle.workers.specs.Runs.{IsRun, IsRunUpTo, AreWalksUpTo, IsCauseIn, first_cause}
 use Rattle.workers.specs.WorkerStates.{ShellSession}
 use Rattle.workers.proofs.Turning.{legal_split, after_append}
-use Rattle.headline.specs.UndoneRun.{IsAnswered, IsRewound, undone_of}
+use Rattle.end_to_end.specs.UndoneRun.{IsAnswered, IsRewound, undone_of}
 
 drop_first : {X : Type 0} (xs ys : List X) → drop (length xs) (xs ++ ys) ≡ ys
 drop_first xs ys = drop-append-le (length xs) xs ys (omega arith) ∙ ap (λ l. l ++ ys) (drop-length xs)

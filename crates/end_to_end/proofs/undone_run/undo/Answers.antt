@@ -1,5 +1,5 @@
-use Rattle.headline.proofs.Rewinding.{left_by, fewer_undone}
-use Rattle.headline.proofs.undone_run.undo.Goals as goal
+use Rattle.end_to_end.proofs.Rewinding.{left_by, fewer_undone}
+use Rattle.end_to_end.proofs.undone_run.undo.Goals as goal
 
 pub returns-clause-opening : goal.returns-clause-opening
 returns-clause-opening c = (left_by c.args.k _ _ c.back-undone.result c.back-undone.ensures.ok c.back-undone.ensures.err).0
