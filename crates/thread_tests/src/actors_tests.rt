@@ -341,8 +341,9 @@ fn show_batches<R: Threads + Sync + Abort>(
     reports: usize,
     batches: usize,
 ) -> Result<(), Fail> {
-    assert!(rt; reports <= 16);
-    let some = Trace::new(vec![in alloc; 1; accesses]?);
+    let keys = vec![in alloc; 1; accesses]?;
+    assert!(rt; reports <= 16 && keys.len() <= 200_000);
+    let some = Trace::new(keys);
     let jobs = [job(Policy::Lru, 7), job(Policy::SegmentedLru, 7)];
     let many = [2u32; 16];
     let capacities = &many[..reports];
