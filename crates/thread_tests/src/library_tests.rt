@@ -87,7 +87,7 @@ fn a_run_is_read_back(rt: HostRuntime) -> Result<(), Fail> {
         Ok(session) => session,
         Err(fault) => return Err(failed(fault)),
     };
-    if session.len() < 9 {
+    if session.len() != 9 {
         // The worker was refused memory, and its round was settled.
         return Err(Fail::from("out of memory"));
     }
