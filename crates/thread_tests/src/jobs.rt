@@ -23,6 +23,16 @@ pub(crate) fn four_jobs() -> [Job; 4] {
     ]
 }
 
+// The reports of these jobs over the accesses 1, 1, 2, 3, 1.
+pub(crate) fn four_reports() -> [Report; 4] {
+    [
+        counted(Policy::Lru, 2, [5, 1, 4, 2, 0]),
+        counted(Policy::SegmentedLru, 2, [5, 2, 3, 1, 0]),
+        counted(Policy::WindowTinyLfu, 2, [5, 2, 3, 1, 1]),
+        counted(Policy::Clairvoyant, 2, [5, 2, 3, 1, 0]),
+    ]
+}
+
 // A report with these accesses, hits, misses, evictions and rejections.
 pub(crate) fn counted(policy: Policy, capacity: u32, counts: [u64; 5]) -> Report {
     let [accesses, hits, misses, evictions, rejections] = counts;
@@ -37,20 +47,20 @@ pub(crate) fn counted(policy: Policy, capacity: u32, counts: [u64; 5]) -> Report
     }
 }
 
+// The report of Lru, at two entries, over so many accesses of one key.
+pub(crate) fn one_key(accesses: u64) -> Report {
+    let misses = accesses.min(1);
+    counted(
+        Policy::Lru,
+        2,
+        [accesses, accesses.wrapping_sub(misses), misses, 0, 0],
+    )
+}
+
 // A test that gets no reports fails by the fault's name.
 pub(crate) fn failed(fault: ActorFault) -> Fail {
     match fault {
         ActorFault::OutOfMemory => Fail::from("OutOfMemory"),
-        ActorFault::Batch => Fail::from("Batch"),
-        ActorFault::Config { .. } => Fail::from("Config"),
-        ActorFault::Actors => Fail::from("Actors"),
-    }
-}
-
-// Why no reports were made; that no memory was left fails the test.
-pub(crate) fn fault_of<T: Drop>(made: Result<T, ActorFault>) -> Result<Option<ActorFault>, Fail> {
-    match made.err() {
-        Some(ActorFault::OutOfMemory) => Err(failed(ActorFault::OutOfMemory)),
-        fault => Ok(fault),
+        _ => Fail::from("refused"),
     }
 }

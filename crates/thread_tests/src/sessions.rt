@@ -8,7 +8,7 @@ use std::process::Abort;
 use std::sync::Wait;
 use std::test::Fail;
 use std::thread::Threads;
-use step_record::{Call, Config, Entry, Gate, Key, Reply, Spread, Step, Worker};
+use step_record::{Call, Config, Entry, Gate, Reply, Spread, Step, Worker};
 
 // A small cache with one read buffer.
 pub(crate) const SMALL: Config = Config {
@@ -19,17 +19,15 @@ pub(crate) const SMALL: Config = Config {
     journal_limit: 1,
 };
 
-// A session over a new cache, with a limit of 1 to 8,000,000.
+// A session over a new cache.
 pub(crate) fn fresh(
     rt: &impl Abort,
     alloc: Global,
     config: &Config,
-    limit: usize,
 ) -> Result<Session<Shell>, Fail> {
     assert!(rt; config.check().is_ok());
-    assert!(rt; 1 <= limit && limit <= 8_000_000);
     let shell = Shell::new(alloc, config)?;
-    Ok(Session::open(alloc, shell, limit))
+    Ok(Session::open(alloc, shell, 1_000_000))
 }
 
 // A piece for each worker, with its calls in order.
@@ -43,31 +41,16 @@ pub(crate) fn pieces_of(alloc: Global, pieces: &[&[Call]]) -> Result<Vec<Vec<Cal
     Ok(owned)
 }
 
-// A read of one of so many keys for each worker.
-pub(crate) fn one_read_each(alloc: Global, keys: Key) -> Result<Vec<Vec<Call>>, AllocError> {
-    let mut pieces = Vec::new(alloc);
-    for key in 0..keys {
-        let mut piece = Vec::new(alloc);
-        piece.push(Call::Read(key))?;
-        pieces.push(piece)?;
-    }
-    Ok(pieces)
-}
-
-pub(crate) fn fault_text(fault: &DriveFault) -> &'static str {
-    match fault {
-        DriveFault::OutOfMemory { session: _ } => "out of memory",
+// What a run that did not make all walks is to a test.
+fn failed(fault: DriveFault) -> Fail {
+    let text = match &fault {
+        DriveFault::OutOfMemory { .. } => "out of memory",
         DriveFault::Stopped {
-            driven: _,
             cause: Cause::Memory,
+            ..
         } => "out of memory",
         _ => "not driven",
-    }
-}
-
-// What a run that did not make all walks is to a test.
-pub(crate) fn failed(fault: DriveFault) -> Fail {
-    let text = fault_text(&fault);
+    };
     drop(fault);
     Fail::from(text)
 }
