@@ -5,7 +5,7 @@ use Rattle.clairvoyant.specs.OptimalRecord.{record_at}
 use Rattle.clairvoyant.proofs.Records.{record-rejected, record-evicted}
 use Rattle.step_record.specs.Keys.{has_key, keys_without}
 use Rattle.clairvoyant.specs.Keys.{residents_with}
-use Rattle.clairvoyant.specs.Uses.{rank, key_at}
+use Rattle.clairvoyant.specs.Ranks.{rank, key_at}
 use Rattle.clairvoyant.specs.Belady.{farthest, belady_residents}
 use Rattle.rank_tree.specs.Bits.{is_in_set}
 use Rattle.clairvoyant.specs.RankSet.{IsTied}

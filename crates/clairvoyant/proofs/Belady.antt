@@ -4,10 +4,10 @@ use Rattle.std.proofs.lemmas.Bool.{cases_Bool, eqb-true, eq-eqb, ltb-true, ltb-f
 use Rattle.step_record.specs.Keys.{has_key, keys_without}
 use Rattle.step_record.specs.Stats.{is_hit}
 use Rattle.clairvoyant.specs.Keys.{residents_with, IsAscendingKeys}
-use Rattle.clairvoyant.specs.Uses.{rank, key_at}
+use Rattle.clairvoyant.specs.Ranks.{rank, key_at}
 use Rattle.clairvoyant.specs.Belady.{leaves_first, farthest, belady_residents_after, belady_answer, belady_residents}
 use Rattle.clairvoyant.proofs.Keys.{has-put, has-without, ascending-put, ascending-without, length-put, length-without}
-use Rattle.clairvoyant.proofs.Uses.{IsSeen, seen-own, seen-more, named, leaves-rank}
+use Rattle.clairvoyant.proofs.Ranks.{IsSeen, seen-own, seen-more, named, leaves-rank}
 
 served-ascending : (c : ℕ) (t : List ℕ) (i k : ℕ) (r : List ℕ) → IsAscendingKeys r → IsAscendingKeys (belady_residents_after c t i k r)
 served-ascending c t i k r s =

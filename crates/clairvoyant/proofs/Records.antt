@@ -6,7 +6,7 @@ use Rattle.clairvoyant.specs.declared.optimal_record.EvictedKey.{EvictedKey}
 use Rattle.clairvoyant.specs.declared.optimal_record.OptimalRecord.{OptimalRecord}
 use Rattle.clairvoyant.specs.declared.optimal_record.OptimalRecord.TheVariants.{Hit, Kept, Evicted, Rejected}
 use Rattle.clairvoyant.specs.Keys.{residents_with}
-use Rattle.clairvoyant.specs.Uses.{rank}
+use Rattle.clairvoyant.specs.Ranks.{rank}
 use Rattle.clairvoyant.specs.Belady.{farthest, belady_residents, belady_outcome, belady_departure}
 use Rattle.step_record.specs.declared.outcome.Outcome.TheVariants as o
 use Rattle.clairvoyant.specs.OptimalRecord.{record_at, outcome_of, undone_keys}

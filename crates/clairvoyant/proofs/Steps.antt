@@ -4,10 +4,10 @@ use Rattle.std.proofs.lemmas.Bool.{cases_Bool, eqb-true, eqb-false, eq-eqb, ne_e
 use Rattle.std.proofs.lemmas.Bool.Decides.{nat_tests}
 use Rattle.step_record.specs.Keys.{has_key, keys_without}
 use Rattle.clairvoyant.specs.Keys.{residents_with}
-use Rattle.clairvoyant.specs.Uses.{rank, key_at}
+use Rattle.clairvoyant.specs.Ranks.{rank, key_at}
 use Rattle.clairvoyant.specs.RankSet.{is_ranked}
 use Rattle.clairvoyant.proofs.Keys.{has-put, has-without}
-use Rattle.clairvoyant.proofs.Uses.{seen-own, named, rank-own, rank-other}
+use Rattle.clairvoyant.proofs.Ranks.{seen-own, named, rank-own, rank-other}
 
 pub same : (k : ℕ) → eqb k k ≡ true
 same k = eq-eqb k k refl

@@ -5,7 +5,8 @@ use Rattle.step_record.specs.declared.outcome.Outcome.{Outcome}
 use Rattle.step_record.specs.declared.outcome.Outcome.TheVariants.{Hit, Kept, Evicted, Rejected}
 use Rattle.step_record.specs.Keys.{has_key, keys_without}
 use Rattle.clairvoyant.specs.Keys.{residents_with}
-use Rattle.clairvoyant.specs.Uses.{next, last_use}
+use Rattle.trace_index.specs.Uses.{next}
+use Rattle.clairvoyant.specs.Ranks.{last_use}
 
 -- whether a first next use is farther than a second: none is farther than any, and of two nones the earlier last access
 abbrev pub further : Option ℕ → Option ℕ → ℕ → ℕ → Bool

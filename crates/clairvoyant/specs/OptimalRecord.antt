@@ -7,7 +7,7 @@ use Rattle.step_record.specs.Keys.{has_key, keys_without}
 use Rattle.clairvoyant.specs.declared.optimal_record.OptimalRecord.{OptimalRecord}
 use Rattle.clairvoyant.specs.declared.optimal_record.OptimalRecord.TheVariants.{Hit, Kept, Evicted, Rejected}
 use Rattle.clairvoyant.specs.Keys.{residents_with}
-use Rattle.clairvoyant.specs.Uses.{rank}
+use Rattle.clairvoyant.specs.Ranks.{rank}
 use Rattle.clairvoyant.specs.Belady.{farthest, belady_residents}
 use Rattle.clairvoyant.specs.Clairvoyant.{ClairvoyantState}
 

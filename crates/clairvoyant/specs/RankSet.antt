@@ -2,7 +2,7 @@
 use Rattle.std.specs.Prelude.{◌≡◌, ℕ, ◌*◌, ◌<◌, Bool, eqb, ◌&&◌, List, length}
 use Rattle.rank_tree.specs.Bits.{is_in_set}
 use Rattle.step_record.specs.Keys.{has_key}
-use Rattle.clairvoyant.specs.Uses.{rank, key_at}
+use Rattle.clairvoyant.specs.Ranks.{rank, key_at}
 
 -- q is the rank of one of the keys r, once the accesses below place i are made
 abbrev pub is_ranked : List ℕ → ℕ → List ℕ → ℕ → Bool

@@ -1,17 +1,18 @@
 //! The cache that knows the trace.
-ghost use Rattle.std.specs.Prelude.{◌≡◌, suc, ◌+◌, ◌-◌, ◌*◌, ◌≤◌, ◌<◌, ◌↔◌, length};
+ghost use Rattle.std.specs.Prelude.{◌≡◌, suc, ◌+◌, ◌-◌, ◌*◌, ◌≤◌, ◌<◌, ◌↔◌, length, slice_index, IfSome};
 ghost use Rattle.std.specs.Prelude.{IfOk, IfErr, OnOk, OnErr, Ok, Some, None};
-ghost use Rattle.step_record.specs.declared.limits.TheConstants.{MAX_CAPACITY};
+ghost use Rattle.step_record.specs.declared.limits.TheConstants.{MAX_ACCESSES, MAX_CAPACITY};
+ghost use Rattle.clairvoyant.specs.Ranks.{rank, rank_by, key_at};
 ghost use Rattle.clairvoyant.specs.RankSet.{IsTied};
 ghost use Rattle.clairvoyant.specs.Belady.{belady_residents, belady_outcome};
 ghost use Rattle.clairvoyant.specs.OptimalRecord.{record_at};
 
-use crate::next_use::NextUse;
 use crate::optimal_record::{EvictedKey, OptimalRecord};
 use rank_tree::Ranks;
 use std::alloc::{AllocError, Global};
 use std::marker::Model;
 use step_record::{Engine, Key, Outcome, Stats, StepFault};
+use trace_index::NextUse;
 
 /// A cache that serves the accesses of a trace in order. On a miss in a full cache, of the
 /// residents and the new key the one whose next use is farthest leaves (Belady 1966): a key that
@@ -54,7 +55,7 @@ impl OptimalCore {
         ensures record { result ≡ record_at self.now.capacity self.now.uses place }
     {
         let former = 2 * self.uses.len() - 1 - place;
-        let rank = self.uses.rank(place);
+        let rank = self.rank(place);
         if ranks.has(former) {
             ranks.take(former);
             ranks.put(rank as usize);
@@ -69,7 +70,7 @@ impl OptimalCore {
                 ranks.take(least);
                 ranks.put(rank as usize);
                 OptimalRecord::Evicted(EvictedKey {
-                    key: self.uses.key_at(least),
+                    key: self.key_at(least),
                     rank: least as u32,
                 })
             }
@@ -85,7 +86,7 @@ impl OptimalCore {
         requires record { done ≡ record_at self.now.capacity self.now.uses place }
         ensures { IsTied self.now.uses place (belady_residents self.now.capacity self.now.uses place) ranks.new }
     {
-        let rank = self.uses.rank(place) as usize;
+        let rank = self.rank(place) as usize;
         match done {
             OptimalRecord::Hit => {
                 ranks.take(rank);
@@ -98,6 +99,48 @@ impl OptimalCore {
             }
             OptimalRecord::Rejected(_) => {}
         }
+    }
+
+    // The rank of the key that is accessed at a place, after that access.
+    //
+    // A rank is one number for when a key is used next: in a trace of `n` accesses, a key that is used next at place
+    // `p` has rank `2 * n - 1 - p`, and a key that is never used again has the place of its last access for its rank.
+    // So the key whose next use is farthest ranks least, and of keys that are never used again the one whose last
+    // access is earliest.
+    fn rank(&self, place: usize) -> u32
+        requires { place < length self.now.uses }
+        ensures rank { result ≡ rank self.now.uses (suc place) (slice_index self.now.uses place) }
+        ensures within { result < 2 * length self.now.uses }
+    {
+        let next = self.uses.next(place);
+        rank_by(self.uses.len(), next, place)
+    }
+
+    // The key that a rank is of.
+    fn key_at(&self, rank: usize) -> Key
+        requires { rank < 2 * length self.now.uses }
+        ensures { result ≡ key_at self.now.uses rank }
+    {
+        let len = self.uses.len();
+        if rank < len {
+            self.uses.key(rank)
+        } else {
+            self.uses.key(2 * len - 1 - rank)
+        }
+    }
+}
+
+// The rank of a key that is used next at one place and was used last at another.
+fn rank_by(len: usize, next: Option<u32>, last: usize) -> u32
+    requires few { len ≤ MAX_ACCESSES }
+    requires next { IfSome next (λ n. n < len) }
+    requires last { last < len }
+    ensures rank { result ≡ rank_by len next last }
+    ensures within { result < 2 * len }
+{
+    match next {
+        Some(next) => (2 * len - 1) as u32 - next,
+        None => last as u32,
     }
 }
 
@@ -134,7 +177,7 @@ impl Clairvoyant {
         let size = 2 * self.core.uses.len();
         for rank in 0..size {
             if self.ranks.has(rank) {
-                keys.push(self.core.uses.key_at(rank))?;
+                keys.push(self.core.key_at(rank))?;
             }
         }
         keys.sort_unstable();

@@ -9,14 +9,9 @@
 #![tactic(auto)]
 
 mod clairvoyant;
-mod next_use;
-mod next_use_finder;
 mod optimal_record;
-mod packed_keys;
-mod room;
 pub mod theorems;
 
 pub use clairvoyant::Clairvoyant;
-pub use next_use::NextUse;
-pub use next_use_finder::NextUseFinder;
 pub use optimal_record::{EvictedKey, OptimalRecord};
+pub use trace_index::{NextUse, NextUseFinder};

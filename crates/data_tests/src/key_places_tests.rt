@@ -1,9 +1,9 @@
 //! Places in the table and past it.
 use super::assertions::assert_equal;
-use key_places::KeyPlaces;
 use std::process::Abort;
 use std::test::Fail;
 use step_record::Key;
+use trace_index::KeyPlaces;
 
 // Puts a key's place, and compares the one that it had.
 fn put(

@@ -2,7 +2,7 @@
 use Rattle.std.proofs.Common.{◌≡◌, ◌∙◌, ◌≤◌, ◌<◌, ◌+◌, ℕ, zero, suc, Some, List, [], ◌∷◌, ◌++◌, Result, Ok, Err, length, take, drop, get_or, refl, ap, sym, subst, inl, inr, arith, length-append, append-nil, append_assoc}
 use Rattle.std.specs.Prelude.{slice_index, IfOk, OnErr}
 use Rattle.std.specs.declared.alloc.AllocError.{AllocError}
-use Rattle.std.proofs.lemmas.List.{take_more, length-take-le}
+use Rattle.std.proofs.lemmas.List.{take_more, length-take-le, take-append-le}
 use Rattle.step_record.specs.declared.entry.Entry.{Entry}
 use Rattle.step_record.specs.declared.job.Job.{Job}
 use Rattle.step_record.specs.declared.outcome.Outcome.{Outcome}
@@ -98,11 +98,6 @@ stands_after law j trace keys x (e ∷ es) s legal =
     subst (λ l. HasAccessed j trace l (data_after any_act y es)) (append_assoc keys (e.step ∷ []) (steps_of es))
     (stands_after law j trace (keys ++ e.step ∷ []) y es (law j trace keys x e.step e.reply y s legal.0) legal.1)
 
-pub take_front : {A : Type 0} (n : ℕ) (xs ys : List A) → n ≤ length xs → take n (xs ++ ys) ≡ take n xs
-take_front zero xs ys le = refl
-take_front (suc n) [] ys le = absurd (omega arith)
-take_front (suc n) (x ∷ xs) ys le = ap (λ t. x ∷ t) (take_front n xs ys (omega arith))
-
 take_take : {A : Type 0} (n m : ℕ) (xs : List A) → n ≤ m → take n (take m xs) ≡ take n xs
 take_take zero m xs le = refl
 take_take (suc n) zero xs le = absurd (omega arith)
@@ -117,7 +112,7 @@ undone_within at n m le (inr on) = omega (arith, le, on.0, on.1)
 pub moved : AnyStands → (j : Job) (trace : List ℕ) (n : ℕ) (old new : State) → IsPolicyAt j trace old → IsMovedTo n old new → n ≤ length old.kept
     → IsLegal any_act new.opening new.kept → new.engine ≡ data_after any_act new.opening new.kept → IsPolicyAt j trace new
 moved law j trace n old new is to le legal shows =
-    let kept : new.kept ≡ take n old.kept = to.kept ∙ take_front n old.kept old.tail le in
+    let kept : new.kept ≡ take n old.kept = to.kept ∙ take-append-le n old.kept old.tail le in
     let opening : HasAccessed j trace [] new.opening = subst (HasAccessed j trace []) (sym to.opening) is.opening in
     let steps : steps_of new.kept ≡ take n trace =
     ap steps_of kept ∙ steps_take n old.kept ∙ ap (take n) is.steps ∙ take_take n (length old.kept) trace le in

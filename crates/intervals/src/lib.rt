@@ -12,4 +12,3 @@ pub mod theorems;
 
 pub use interval::Interval;
 pub use several::intervals;
-pub use single::{CutTrace, intervals_of};

@@ -10,17 +10,17 @@ use policies::{ActorFault, AnyPolicy, access_all};
 use std::alloc::{AllocError, Global};
 use step_record::{Job, Trace};
 
-/// A trace, cut into intervals of so many accesses.
+// A trace, cut into intervals of so many accesses.
 #[derive(Drop)]
-pub struct CutTrace<'a> {
-    pub trace: &'a Trace,
-    pub every: usize,
-    pub ghost some: { 1 ≤ every },
+pub(crate) struct CutTrace<'a> {
+    pub(crate) trace: &'a Trace,
+    pub(crate) every: usize,
+    pub(crate) ghost some: { 1 ≤ every },
 }
 
 impl<'a> CutTrace<'a> {
-    /// The trace, cut into intervals of `every` accesses, of which the last may be shorter.
-    pub fn new(trace: &'a Trace, every: usize) -> CutTrace<'a>
+    // The trace, cut into intervals of `every` accesses, of which the last may be shorter.
+    pub(crate) fn new(trace: &'a Trace, every: usize) -> CutTrace<'a>
         requires { 1 ≤ every }
         ensures trace { result.trace.now ≡ trace.now }
         ensures every { result.every ≡ every }
@@ -29,10 +29,10 @@ impl<'a> CutTrace<'a> {
     }
 }
 
-/// A row for each interval, in order, of the job over the whole trace.
-///
-/// Errors: `Config` with index 0 exactly where `Config::check` refuses the job's configuration, and `OutOfMemory`.
-pub fn intervals_of(
+// A row for each interval, in order, of the job over the whole trace.
+//
+// Errors: `Config` with index 0 exactly where `Config::check` refuses the job's configuration, and `OutOfMemory`.
+pub(crate) fn intervals_of(
     alloc: Global,
     cut: &CutTrace<'_>,
     job: &Job,

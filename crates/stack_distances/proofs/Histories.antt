@@ -9,44 +9,62 @@ use Rattle.step_record.specs.Keys.{has_key}
 use Rattle.policies.specs.Lru.{distinct_keys, keys_since}
 use Rattle.stack_distances.specs.Distances.{distance, distances_after, distances}
 use Rattle.stack_distances.specs.Sums.{sum_below}
-use Rattle.stack_distances.specs.Histogram.{one_further, last_place, are_last, is_at, IsHistogram}
+use Rattle.trace_index.specs.Uses.{last_below}
+use Rattle.stack_distances.specs.Histogram.{are_last, is_at, IsHistogram}
 use Rattle.policies.proofs.Recency.{two}
 use Rattle.stack_distances.proofs.Stack.{has-snoc, grows}
 use Rattle.stack_distances.proofs.Sums.{sum-none}
 
 -- ---- the last place of a key
 
+abbrev last_in : ℕ → List ℕ → Option ℕ
+last_in k xs = last_below xs (length xs) k
+
+-- one place further, or the first, if that is it
+abbrev one_further : Bool → Option ℕ → Option ℕ
+one_further first (Some p) = Some (suc p)
+one_further first None = cond first (Some 0) None
+
+last-front : (k a : ℕ) (xs : List ℕ) (n : ℕ) → last_below (a ∷ xs) (suc n) k ≡ one_further (eqb k a) (last_below xs n k)
+last-front k a xs zero = refl
+last-front k a xs (suc n) =
+    ap (cond (eqb k (get_or xs n 0)) (Some (suc n))) (last-front k a xs n)
+    ∙ (elim (two (eqb k (get_or xs n 0))) as (λ _. cond (eqb k (get_or xs n 0)) (Some (suc n)) (one_further (eqb k a) (last_below xs n k)) ≡ one_further (eqb k a) (cond (eqb k (get_or xs n 0)) (Some n) (last_below xs n k))) [ inl e ↦ rw e refl | inr e ↦ rw e refl ])
+
+last-more : (k a : ℕ) (xs : List ℕ) → last_in k (a ∷ xs) ≡ one_further (eqb k a) (last_in k xs)
+last-more k a xs = last-front k a xs (length xs)
+
 further-none : (b : Bool) (o : Option ℕ) → one_further b o ≡ None → (b ≡ false) × (o ≡ None)
 further-none true None h = absurd (cc h)
 further-none false None h = (refl, refl)
 further-none b (Some p) h = absurd (cc h)
 
-pub last-none : (k : ℕ) (xs : List ℕ) → last_place k xs ≡ None → has_key k xs ≡ false
+last-none : (k : ℕ) (xs : List ℕ) → last_in k xs ≡ None → has_key k xs ≡ false
 last-none k [] h = refl
 last-none k (a ∷ xs) h =
-    let f = further-none (eqb k a) (last_place k xs) h in
+    let f = further-none (eqb k a) (last_in k xs) (sym (last-more k a xs) ∙ h) in
     let rest : has_key k xs ≡ false = last-none k xs f.1 in
     rw (f.0, rest) refl
 
 unsome : (a b : ℕ) → Some a ≡ Some b → a ≡ b
 unsome a b h = cc h
 
-pub further-some : (b : Bool) (o : Option ℕ) (p : ℕ) → one_further b o ≡ Some p → ((q : ℕ) × (o ≡ Some q) × (p ≡ suc q)) ⊎ ((o ≡ None) × (b ≡ true) × (p ≡ 0))
+further-some : (b : Bool) (o : Option ℕ) (p : ℕ) → one_further b o ≡ Some p → ((q : ℕ) × (o ≡ Some q) × (p ≡ suc q)) ⊎ ((o ≡ None) × (b ≡ true) × (p ≡ 0))
 further-some true None p h = inr (refl, refl, sym (unsome 0 p h))
 further-some false None p h = absurd (cc h)
 further-some b (Some q) p h = inl (q, refl, sym (unsome (suc q) p h))
 
 -- the last access to k is the one at p, and its distance is the depth of the stack from there
-pub record IsLast (k : ℕ) (xs : List ℕ) (p : ℕ) : Type 0 where
+record IsLast (k : ℕ) (xs : List ℕ) (p : ℕ) : Type 0 where
   pub within : p < length xs
   pub came : has_key k xs ≡ true
   pub marked : get_or (are_last xs) p false ≡ true
   pub depth : length (distinct_keys (drop p xs)) ≡ suc (length (distinct_keys (keys_since k xs)))
 
-pub last-some : (k : ℕ) (xs : List ℕ) (p : ℕ) → last_place k xs ≡ Some p → IsLast k xs p
+last-some : (k : ℕ) (xs : List ℕ) (p : ℕ) → last_in k xs ≡ Some p → IsLast k xs p
 last-some k [] p h = absurd (cc h)
 last-some k (a ∷ xs) p h =
-    elim (further-some (eqb k a) (last_place k xs) p h) [
+    elim (further-some (eqb k a) (last_in k xs) p (sym (last-more k a xs) ∙ h)) [
       | inl f ↦
           let r : IsLast k xs f.0 = last-some k xs f.0 f.1 in
           let w : f.0 < length xs = r.within in
@@ -69,12 +87,15 @@ last-some k (a ∷ xs) p h =
           })
     ]
 
-pub last-snoc : (x k : ℕ) (xs : List ℕ) → last_place x (xs ++ k ∷ []) ≡ cond (nat_eq k x) (Some (length xs)) (last_place x xs)
+last-snoc : (x k : ℕ) (xs : List ℕ) → last_in x (xs ++ k ∷ []) ≡ cond (nat_eq k x) (Some (length xs)) (last_in x xs)
 last-snoc x k [] =
     let flip : nat_eq k x ≡ eqb x k = grind (arith, nat_tests) in
     rw flip (elim (two (eqb x k)) as (λ _. one_further (eqb x k) None ≡ cond (eqb x k) (Some 0) None) [ inl e ↦ rw e refl | inr e ↦ rw e refl ])
 last-snoc x k (a ∷ xs) =
-    rw (last-snoc x k xs) (elim (two (nat_eq k x)) as (λ _. one_further (eqb x a) (cond (nat_eq k x) (Some (length xs)) (last_place x xs)) ≡ cond (nat_eq k x) (Some (suc (length xs))) (one_further (eqb x a) (last_place x xs))) [ inl e ↦ rw e refl | inr e ↦ rw e refl ])
+    last-more x a (xs ++ k ∷ [])
+    ∙ (ap (one_further (eqb x a)) (last-snoc x k xs)
+    ∙ ((elim (two (nat_eq k x)) as (λ _. one_further (eqb x a) (cond (nat_eq k x) (Some (length xs)) (last_in x xs)) ≡ cond (nat_eq k x) (Some (suc (length xs))) (one_further (eqb x a) (last_in x xs))) [ inl e ↦ rw e refl | inr e ↦ rw e refl ])
+    ∙ ap (cond (nat_eq k x) (Some (suc (length xs)))) (sym (last-more x a xs))))
 
 -- ---- the marks
 
@@ -100,7 +121,7 @@ cond-same true = refl
 cond-same false = refl
 
 -- at the front
-front-mark : (k a : ℕ) (xs : List ℕ) (o : Option ℕ) → last_place k xs ≡ o → not (cond (has_key a xs) true (eqb a k)) ≡ cleared (one_further (eqb k a) o) zero (not (has_key a xs))
+front-mark : (k a : ℕ) (xs : List ℕ) (o : Option ℕ) → last_in k xs ≡ o → not (cond (has_key a xs) true (eqb a k)) ≡ cleared (one_further (eqb k a) o) zero (not (has_key a xs))
 front-mark k a xs None h =
     let none : has_key k xs ≡ false = last-none k xs h in
     rw (eqb-sym a k) (elim (two (eqb k a)) as (λ _. not (cond (has_key a xs) true (eqb k a)) ≡ cleared (one_further (eqb k a) None) zero (not (has_key a xs))) [
@@ -127,11 +148,14 @@ later-mark true m None q n = rw (suc-eqb q n, suc-zero q) refl
 later-mark false m None q n = rw (suc-eqb q n) refl
 later-mark b m (Some p) q n = rw (suc-eqb q n, suc-eqb q p) refl
 
-marks-snoc : (k : ℕ) (xs : List ℕ) (q : ℕ) → get_or (are_last (xs ++ k ∷ [])) q false ≡ cond (eqb q (length xs)) true (cleared (last_place k xs) q (get_or (are_last xs) q false))
+marks-snoc : (k : ℕ) (xs : List ℕ) (q : ℕ) → get_or (are_last (xs ++ k ∷ [])) q false ≡ cond (eqb q (length xs)) true (cleared (last_in k xs) q (get_or (are_last xs) q false))
 marks-snoc k [] zero = refl
 marks-snoc k [] (suc q) = rw (suc-zero q) refl
-marks-snoc k (a ∷ xs) zero = rw (has-snoc a k xs, zero-suc (length xs)) (front-mark k a xs (last_place k xs) refl)
-marks-snoc k (a ∷ xs) (suc q) = marks-snoc k xs q ∙ later-mark (eqb k a) (get_or (are_last xs) q false) (last_place k xs) q (length xs)
+marks-snoc k (a ∷ xs) zero = rw (last-more k a xs, has-snoc a k xs, zero-suc (length xs)) (front-mark k a xs (last_in k xs) refl)
+marks-snoc k (a ∷ xs) (suc q) =
+    marks-snoc k xs q
+    ∙ (later-mark (eqb k a) (get_or (are_last xs) q false) (last_in k xs) q (length xs)
+    ∙ ap (λ (o : Option ℕ). cond (eqb (suc q) (suc (length xs))) true (cleared o (suc q) (get_or (are_last xs) q false))) (sym (last-more k a xs)))
 
 are-last-length : (xs : List ℕ) → length (are_last xs) ≡ length xs
 are-last-length [] = refl
@@ -215,13 +239,13 @@ module _ (xs : List ℕ) (k : ℕ) (places next : ℕ → Option ℕ) (marks new
       let few : sum_below (mark_in xs) n ≤ length xs = marks-few xs n in
       omega (arith, same, few)
 
-  last-next : (x : ℕ) → next x ≡ last_place x (xs ++ k ∷ [])
+  last-next : (x : ℕ) → next x ≡ last_in x (xs ++ k ∷ [])
   last-next x = puts x ∙ (ap (cond (nat_eq k x) (Some (length xs))) (h.last x) ∙ sym (last-snoc x k xs))
 
   -- to a new key
   pub passed-first : places k ≡ None → ((q : ℕ) → new q ≡ cond (eqb q (length xs)) true (marks q)) → IsHistogram (xs ++ k ∷ []) next new (counts ++ 0 ∷ [])
   passed-first none marked =
-      let no_place : last_place k xs ≡ None = sym (h.last k) ∙ none in
+      let no_place : last_in k xs ≡ None = sym (h.last k) ∙ none in
       let no : has_key k xs ≡ false = last-none k xs no_place in
       record {
         last = last-next;
@@ -259,7 +283,7 @@ module _ (xs : List ℕ) (k : ℕ) (places next : ℕ → Option ℕ) (marks new
 
     pub passed-again : (d y : ℕ) → d ≡ length (distinct_keys (keys_since k xs)) → d < length counts → y ≡ suc (get_or counts d 0) → ((q : ℕ) → new q ≡ cond (eqb q (length xs)) true (cond (eqb q p) false (marks q))) → IsHistogram (xs ++ k ∷ []) next new (set counts d y)
     passed-again d y deep in_it more marked =
-        let place : last_place k xs ≡ Some p = sym (h.last k) ∙ some in
+        let place : last_in k xs ≡ Some p = sym (h.last k) ∙ some in
         let here : distance xs k ≡ Some (suc d) = distance-some xs k before.came ∙ ap (λ n. Some (suc n)) (sym deep) in
         record {
           last = last-next;

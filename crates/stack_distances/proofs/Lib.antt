@@ -6,5 +6,4 @@ pub mod Histories
 pub mod Prefix
 pub mod Reading
 pub mod Windows
-pub mod Reusing
 pub mod Clear

@@ -13,7 +13,8 @@ use Rattle.policies.specs.Lru.{distinct_keys, keys_since}
 use Rattle.policies.specs.AnyPolicy.{stats_on}
 use Rattle.policies.proofs.Recency.{two}
 use Rattle.stack_distances.specs.Distances.{distance, is_within, hits_within, stats_within}
-use Rattle.stack_distances.specs.Window.{AreReuses, IsWindow, IsFirstClear, stats_in}
+use Rattle.trace_index.specs.Uses.{last_below, number_of}
+use Rattle.stack_distances.specs.Window.{IsWindow, IsFirstClear, stats_in}
 use Rattle.stack_distances.specs.declared.window.Window.{Window}
 use Rattle.stack_distances.proofs.Counting.{lru-counts, hits-and-held}
 use Rattle.stack_distances.proofs.Histories.{count-snoc}
@@ -163,21 +164,49 @@ or-false false w h = h
 eqb-flip : (x y : ℕ) → eqb x y ≡ eqb y x
 eqb-flip x y = grind (arith, nat_tests)
 
-module _ (keys before : List ℕ) (r : AreReuses keys before) (place : ℕ) (in_it : place < length keys) where
+-- the number of the last access to a key is above f exactly where the key came at f or later
+came-by : (keys : List ℕ) (n f k : ℕ) → n ≤ length keys → nat_lt f (number_of (last_below keys n k)) ≡ has_key k (drop f (take n keys))
+came-by keys zero f k h =
+    let none : has_key k (drop f (take 0 keys)) ≡ false = ap (has_key k) (past-end keys 0 f h (omega arith)) in
+    let no : nat_lt f 0 ≡ false = grind (arith, nat_tests) in
+    no ∙ sym none
+came-by keys (suc n) f k h =
+    let in_it : n < length keys = omega (arith, h) in
+    let rest : nat_lt f (number_of (last_below keys n k)) ≡ has_key k (drop f (take n keys)) = came-by keys n f k (omega (arith, h)) in
+    elim (cases_lt n f) [
+      | inl past ↦
+          let gone : has_key k (drop f (take (suc n) keys)) ≡ false = ap (has_key k) (past-end keys (suc n) f h (omega (arith, past))) in
+          let none : has_key k (drop f (take n keys)) ≡ false = ap (has_key k) (past-end keys n f (omega (arith, h)) (omega (arith, past))) in
+          elim (two (eqb k (get_or keys n 0))) [
+            | inl e ↦ let no : nat_lt f (suc n) ≡ false = grind (arith, nat_tests) in rw (e, gone) no
+            | inr e ↦ rw (e, gone) (rest ∙ none)
+          ]
+      | inr within ↦
+          let on : n + 1 ≡ suc n = omega arith in
+          let more : has_key k (drop f (take (suc n) keys)) ≡ cond (has_key k (drop f (take n keys))) true (eqb k (get_or keys n 0)) =
+          ap (λ (m : ℕ). has_key k (drop f (take m keys))) (sym on) ∙ (ap (has_key k) (drop-next keys n f in_it (omega (arith, within))) ∙ has-snoc k (get_or keys n 0) (drop f (take n keys))) in
+          elim (two (eqb k (get_or keys n 0))) [
+            | inl e ↦ let yes : nat_lt f (suc n) ≡ true = grind (arith, nat_tests) in rw (more, e) (yes ∙ sym (cond-either (has_key k (drop f (take n keys))) true refl))
+            | inr e ↦ rw (more, e) (rest ∙ sym (cond-same (has_key k (drop f (take n keys))) false (λ no. refl)))
+          ]
+    ]
+
+-- the access at the place, and the number of the last one to its key
+module _ (keys : List ℕ) (place : ℕ) (in_it : place < length keys) (before : ℕ) (noted : before ≡ number_of (last_below keys place (get_or keys place 0))) where
   next-past : take (place + 1) keys ≡ take place keys ++ get_or keys place 0 ∷ []
   next-past = take_more keys place 0 in_it
 
   cut-front : (s : ℕ) → s ≤ place → drop s (take (place + 1) keys) ≡ get_or keys s 0 ∷ drop (suc s) (take (place + 1) keys)
   cut-front s h = front-at keys (place + 1) s (omega (arith, h)) (omega (arith, in_it))
 
-  came-since : (f : ℕ) → nat_lt f (get_or before place 0) ≡ has_key (get_or keys place 0) (drop f (take place keys))
-  came-since f = r.came place f in_it
+  came-since : (f : ℕ) → nat_lt f (before) ≡ has_key (get_or keys place 0) (drop f (take place keys))
+  came-since f = ap (nat_lt f) noted ∙ came-by keys place f (get_or keys place 0) (omega (arith, in_it))
 
   -- its key came last below its place
-  pub came-below : get_or before place 0 ≤ place
+  pub came-below : before ≤ place
   came-below =
       let none : has_key (get_or keys place 0) (drop place (take place keys)) ≡ false = ap (has_key (get_or keys place 0)) (past-end keys place place (omega (arith, in_it)) (omega arith)) in
-      let test : nat_lt place (get_or before place 0) ≡ false = came-since place ∙ none in
+      let test : nat_lt place (before) ≡ false = came-since place ∙ none in
       grind (arith, nat_tests)
 
   -- ---- which keys come again
@@ -190,20 +219,20 @@ module _ (keys before : List ℕ) (r : AreReuses keys before) (place : ℕ) (in_
   never-next i h = ap (has_key (get_or keys i 0)) (past-end keys (place + 1) (suc i) (omega (arith, in_it)) (omega (arith, h)) ∙ sym (past-end keys place (suc i) (omega (arith, in_it)) (omega (arith, h))))
 
   -- the same key, at a place before this one, is not behind the last place of the key
-  same-below : (i : ℕ) → i < place → eqb (get_or keys i 0) (get_or keys place 0) ≡ true → i < get_or before place 0
+  same-below : (i : ℕ) → i < place → eqb (get_or keys i 0) (get_or keys place 0) ≡ true → i < before
   same-below i low same =
       let flip : eqb (get_or keys place 0) (get_or keys i 0) ≡ true = eqb-flip (get_or keys place 0) (get_or keys i 0) ∙ same in
       let there : has_key (get_or keys place 0) (drop i (take place keys)) ≡ true = ap (has_key (get_or keys place 0)) (front-at keys place i low (omega (arith, in_it))) ∙ rw flip refl in
-      let test : nat_lt i (get_or before place 0) ≡ true = came-since i ∙ there in
+      let test : nat_lt i (before) ≡ true = came-since i ∙ there in
       grind (arith, nat_tests)
 
   -- the last place of the key has it
-  last-same : (i : ℕ) → i + 1 ≡ get_or before place 0 → eqb (get_or keys i 0) (get_or keys place 0) ≡ true
+  last-same : (i : ℕ) → i + 1 ≡ before → eqb (get_or keys i 0) (get_or keys place 0) ≡ true
   last-same i is =
-      let below : get_or before place 0 ≤ place = came-below in
+      let below : before ≤ place = came-below in
       let low : i < place = omega (arith, below, is) in
-      let yes : nat_lt i (get_or before place 0) ≡ true = grind (arith, nat_tests) in
-      let no : nat_lt (suc i) (get_or before place 0) ≡ false = grind (arith, nat_tests) in
+      let yes : nat_lt i (before) ≡ true = grind (arith, nat_tests) in
+      let no : nat_lt (suc i) (before) ≡ false = grind (arith, nat_tests) in
       let there : has_key (get_or keys place 0) (get_or keys i 0 ∷ drop (suc i) (take place keys)) ≡ true = sym (ap (has_key (get_or keys place 0)) (front-at keys place i low (omega (arith, in_it)))) ∙ (sym (came-since i) ∙ yes) in
       let behind : has_key (get_or keys place 0) (drop (suc i) (take place keys)) ≡ false = sym (came-since (suc i)) ∙ no in
       elim (two (eqb (get_or keys place 0) (get_or keys i 0))) [
@@ -212,12 +241,12 @@ module _ (keys before : List ℕ) (r : AreReuses keys before) (place : ℕ) (in_
       ]
 
   -- another place comes again for this access only where it came again before
-  not-last : (i : ℕ) → i < place → i + 1 ≢ get_or before place 0 → has_key (get_or keys i 0) (drop (suc i) (take (place + 1) keys)) ≡ has_key (get_or keys i 0) (drop (suc i) (take place keys))
+  not-last : (i : ℕ) → i < place → i + 1 ≢ before → has_key (get_or keys i 0) (drop (suc i) (take (place + 1) keys)) ≡ has_key (get_or keys i 0) (drop (suc i) (take place keys))
   not-last i low ne = again-next i low ∙ cond-same (has_key (get_or keys i 0) (drop (suc i) (take place keys))) (eqb (get_or keys i 0) (get_or keys place 0)) (λ none. elim (two (eqb (get_or keys i 0) (get_or keys place 0))) [
     | inl y ↦
         let same : get_or keys i 0 ≡ get_or keys place 0 = eqb-true (get_or keys i 0) (get_or keys place 0) y in
-        let below : i < get_or before place 0 = same-below i low y in
-        let yes : nat_lt (suc i) (get_or before place 0) ≡ true = (let n : i + 1 ≢ get_or before place 0 = ne in let more : suc i < get_or before place 0 = omega (arith, below, n) in grind (arith, nat_tests)) in
+        let below : i < before = same-below i low y in
+        let yes : nat_lt (suc i) (before) ≡ true = (let n : i + 1 ≢ before = ne in let more : suc i < before = omega (arith, below, n) in grind (arith, nat_tests)) in
         let there : has_key (get_or keys i 0) (drop (suc i) (take place keys)) ≡ true = ap (λ (x : ℕ). has_key x (drop (suc i) (take place keys))) same ∙ (sym (came-since (suc i)) ∙ yes) in
         absurd (cc (there, none))
     | inr n ↦ n
@@ -273,37 +302,37 @@ module _ (keys before : List ℕ) (r : AreReuses keys before) (place : ℕ) (in_
         omega (arith, few, l, was)
 
     -- the bits of a place that hits
-    hit-bit : w.first < get_or before place 0 → (i : ℕ) → w.first ≤ i → (bit_of w.renewed.items i || eqb (get_or before place 0 - 1) i) ≡ has_key (get_or keys i 0) (drop (suc i) (take (place + 1) keys))
+    hit-bit : w.first < before → (i : ℕ) → w.first ≤ i → (bit_of w.renewed.items i || eqb (before - 1) i) ≡ has_key (get_or keys i 0) (drop (suc i) (take (place + 1) keys))
     hit-bit later i from =
         let was : bit_of w.renewed.items i ≡ has_key (get_or keys i 0) (drop (suc i) (take place keys)) = h.renewed i from in
-        let below : get_or before place 0 ≤ place = came-below in
-        elim (cases_eq (get_or before place 0 - 1) i) [
+        let below : before ≤ place = came-below in
+        elim (cases_eq (before - 1) i) [
           | inl e ↦
-              let is : i + 1 ≡ get_or before place 0 = omega (arith, e, later) in
+              let is : i + 1 ≡ before = omega (arith, e, later) in
               let low : i < place = omega (arith, is, below) in
-              or-true (bit_of w.renewed.items i) (eqb (get_or before place 0 - 1) i) (eq-eqb (get_or before place 0 - 1) i e)
+              or-true (bit_of w.renewed.items i) (eqb (before - 1) i) (eq-eqb (before - 1) i e)
               ∙ sym (again-next i low ∙ cond-either (has_key (get_or keys i 0) (drop (suc i) (take place keys))) (eqb (get_or keys i 0) (get_or keys place 0)) (last-same i is))
           | inr d ↦
-              let ne : i + 1 ≢ get_or before place 0 = (λ e. d (omega (arith, e))) in
+              let ne : i + 1 ≢ before = (λ e. d (omega (arith, e))) in
               let same : has_key (get_or keys i 0) (drop (suc i) (take (place + 1) keys)) ≡ has_key (get_or keys i 0) (drop (suc i) (take place keys)) = elim (cases_lt i place) [
                 | inl low ↦ not-last i low ne
                 | inr high ↦ never-next i (omega (arith, high))
               ] in
-              or-false (bit_of w.renewed.items i) (eqb (get_or before place 0 - 1) i) (ne_eqb (get_or before place 0 - 1) i d) ∙ (was ∙ sym same)
+              or-false (bit_of w.renewed.items i) (eqb (before - 1) i) (ne_eqb (before - 1) i d) ∙ (was ∙ sym same)
         ]
 
     -- and those of one that misses
-    missed-bit : get_or before place 0 ≤ w.first → (i : ℕ) → w.first ≤ i → bit_of w.renewed.items i ≡ has_key (get_or keys i 0) (drop (suc i) (take (place + 1) keys))
+    missed-bit : before ≤ w.first → (i : ℕ) → w.first ≤ i → bit_of w.renewed.items i ≡ has_key (get_or keys i 0) (drop (suc i) (take (place + 1) keys))
     missed-bit early i from =
-        let ne : i + 1 ≢ get_or before place 0 = (λ e. omega (arith, e, early, from)) in
+        let ne : i + 1 ≢ before = (λ e. omega (arith, e, early, from)) in
         h.renewed i from ∙ sym (elim (cases_lt i place) [
           | inl low ↦ not-last i low ne
           | inr high ↦ never-next i (omega (arith, high))
         ])
 
-    pub hit-window : (v : Window) → w.first < get_or before place 0 → v.capacity ≡ w.capacity → v.first ≡ w.first → v.held ≡ w.held → v.hits ≡ w.hits + 1 → length v.renewed.items ≡ length w.renewed.items → ((i : ℕ) → bit_of v.renewed.items i ≡ (bit_of w.renewed.items i || eqb (get_or before place 0 - 1) i)) → IsWindow keys (place + 1) v
+    pub hit-window : (v : Window) → w.first < before → v.capacity ≡ w.capacity → v.first ≡ w.first → v.held ≡ w.held → v.hits ≡ w.hits + 1 → length v.renewed.items ≡ length w.renewed.items → ((i : ℕ) → bit_of v.renewed.items i ≡ (bit_of w.renewed.items i || eqb (before - 1) i)) → IsWindow keys (place + 1) v
     hit-window v later capacity first held hits size sets =
-        let low : nat_lt w.first (get_or before place 0) ≡ true = grind (arith, nat_tests) in
+        let low : nat_lt w.first (before) ≡ true = grind (arith, nat_tests) in
         let came : has_key (get_or keys place 0) (drop w.first (take place keys)) ≡ true = sym (came-since w.first) ∙ low in
         let fits : length (distinct_keys (drop w.first (take place keys))) ≤ w.capacity = omega (arith, h.held, h.fits) in
         let yes : is_within w.capacity (distance (take place keys) (get_or keys place 0)) ≡ true = hit-within w.capacity w.first (take place keys) (get_or keys place 0) fits came in
@@ -322,10 +351,10 @@ module _ (keys before : List ℕ) (r : AreReuses keys before) (place : ℕ) (in_
           renewed = λ i from. sets i ∙ hit-bit later i (omega (arith, from, first));
         }
 
-    missed : get_or before place 0 ≤ w.first → has_key (get_or keys place 0) (drop w.first (take place keys)) ≡ false
-    missed early = let high : nat_lt w.first (get_or before place 0) ≡ false = grind (arith, nat_tests) in sym (came-since w.first) ∙ high
+    missed : before ≤ w.first → has_key (get_or keys place 0) (drop w.first (take place keys)) ≡ false
+    missed early = let high : nat_lt w.first (before) ≡ false = grind (arith, nat_tests) in sym (came-since w.first) ∙ high
 
-    same-hits : get_or before place 0 ≤ w.first → w.hits ≡ hits_within w.capacity (take (place + 1) keys)
+    same-hits : before ≤ w.first → w.hits ≡ hits_within w.capacity (take (place + 1) keys)
     same-hits early =
         let no : is_within w.capacity (distance (take place keys) (get_or keys place 0)) ≡ false = miss-beyond w.capacity w.first (take place keys) (get_or keys place 0) (λ some. sym h.held ∙ h.full some) (missed early) in
         let none : cond {A = ℕ} (is_within w.capacity (distance (take place keys) (get_or keys place 0))) 1 0 ≡ 0 = ap (λ b. cond b 1 0) no in
@@ -333,7 +362,7 @@ module _ (keys before : List ℕ) (r : AreReuses keys before) (place : ℕ) (in_
         let was : w.hits ≡ hits_within w.capacity (take place keys) = h.hits in
         omega (arith, none, more, was)
 
-    pub filled-window : get_or before place 0 ≤ w.first → w.held < w.capacity → IsWindow keys (place + 1) (record { capacity = w.capacity; first = w.first; held = w.held + 1; hits = w.hits; renewed = w.renewed })
+    pub filled-window : before ≤ w.first → w.held < w.capacity → IsWindow keys (place + 1) (record { capacity = w.capacity; first = w.first; held = w.held + 1; hits = w.hits; renewed = w.renewed })
     filled-window early room =
         let more : length (distinct_keys (drop w.first (take (place + 1) keys))) ≡ suc (length (distinct_keys (drop w.first (take place keys)))) = more-held w.first h.begun (missed early) in
         let was : w.held ≡ length (distinct_keys (drop w.first (take place keys))) = h.held in
@@ -349,7 +378,7 @@ module _ (keys before : List ℕ) (r : AreReuses keys before) (place : ℕ) (in_
         }
 
     -- ---- the oldest key leaves
-    module _ (early : get_or before place 0 ≤ w.first) (crowded : w.capacity ≤ w.held) (o : ℕ) (c : IsFirstClear w.renewed.items w.first o) where
+    module _ (early : before ≤ w.first) (crowded : w.capacity ≤ w.held) (o : ℕ) (c : IsFirstClear w.renewed.items w.first o) where
       pub oldest-low : o ≤ place
       oldest-low =
           elim (cases_lt place o) [

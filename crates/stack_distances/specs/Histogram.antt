@@ -1,19 +1,10 @@
 -- The places, marks and counts that stand for the accesses so far.
-use Rattle.std.specs.Prelude.{◌≡◌, ℕ, suc, Bool, false, not, eqb, if◌then◌else◌, Option, Some, None}
+use Rattle.std.specs.Prelude.{◌≡◌, ℕ, suc, Bool, false, not, eqb, Option, Some, None}
 use Rattle.std.specs.Prelude.{List, [], ◌∷◌, length, count_by, slice_index, slice_index_or}
 use Rattle.step_record.specs.Keys.{has_key}
 use Rattle.policies.specs.Lru.{distinct_keys}
+use Rattle.trace_index.specs.Uses.{last_below}
 use Rattle.stack_distances.specs.Distances.{distances}
-
--- one place further, or the first, if that is it
-abbrev pub one_further : Bool → Option ℕ → Option ℕ
-one_further first (Some p) = Some (suc p)
-one_further first None = if first then Some 0 else None
-
--- the place of the last access to k, or none
-abbrev pub last_place : ℕ → List ℕ → Option ℕ
-last_place k [] = None
-last_place k (a ∷ xs) = one_further (eqb k a) (last_place k xs)
 
 -- of each access, whether it is the last one to its key
 abbrev pub are_last : List ℕ → List Bool
@@ -28,7 +19,7 @@ is_at d (Some e) = eqb d e
 -- after the accesses xs: the last place of each key, a mark at each access that is the last one to its key, and for
 -- each distance how many accesses have it
 pub record IsHistogram (xs : List ℕ) (places : ℕ → Option ℕ) (marks : ℕ → Bool) (counts : List ℕ) : Type 0 where
-  pub last : (k : ℕ) → places k ≡ last_place k xs
+  pub last : (k : ℕ) → places k ≡ last_below xs (length xs) k
   pub marked : (q : ℕ) → marks q ≡ slice_index_or (are_last xs) q false
   pub long : length counts ≡ length (distinct_keys xs)
   pub counted : (d : ℕ) → slice_index counts d ≡ count_by (is_at (suc d)) (distances xs)

@@ -1,5 +1,5 @@
--- The place where the key of each access came last, and the window of the trace whose keys Lru holds.
-use Rattle.std.specs.Prelude.{◌≡◌, ℕ, suc, ◌-◌, ◌*◌, ◌<◌, ◌≤◌, nat_lt, true, false, List, length, take, drop}
+-- The window of the trace whose keys Lru holds.
+use Rattle.std.specs.Prelude.{◌≡◌, ℕ, suc, ◌-◌, ◌*◌, ◌<◌, ◌≤◌, true, false, List, length, take, drop}
 use Rattle.std.specs.Prelude.{slice_index}
 use Rattle.step_record.specs.declared.limits.TheConstants.{MAX_ACCESSES}
 use Rattle.step_record.specs.Keys.{has_key}
@@ -8,13 +8,6 @@ use Rattle.bits_and_lists.specs.Bits.{bit_of}
 use Rattle.policies.specs.Lru.{distinct_keys}
 use Rattle.stack_distances.specs.Distances.{hits_within}
 use Rattle.stack_distances.specs.declared.window.Window.{Window}
-
--- For each access i one number is above f exactly where its key came at the place f or later, and before i.
-pub record AreReuses (keys before : List ℕ) : Type 0 where
-  pub few : length keys ≤ MAX_ACCESSES
-  pub befores : length before ≡ length keys
-  pub came : (i f : ℕ) → i < length keys →
-      nat_lt f (slice_index before i) ≡ has_key (slice_index keys i) (drop f (take i keys))
 
 -- The window begins at a place of the trace and ends before another one. It has as many distinct keys as fit, and no
 -- fewer than that unless it begins where the trace does. Of each access in it one bit says whether its key came again.

@@ -2,15 +2,15 @@
 ghost use Rattle.std.specs.Prelude.{◌≡◌, ◌+◌, ◌*◌, ◌<◌, ◌≤◌, [], length, take, IfOk, OnOk};
 ghost use Rattle.step_record.specs.declared.limits.TheConstants.{MAX_ACCESSES};
 ghost use Rattle.bits_and_lists.specs.Bits.{bit_of};
-ghost use Rattle.key_places.specs.KeyPlaces.{place_of};
+ghost use Rattle.trace_index.specs.KeyPlaces.{place_of};
 ghost use Rattle.stack_distances.specs.declared.limits.TheConstants.{FAN_OUT};
 ghost use Rattle.stack_distances.specs.Sums.{mark_of, sum_below};
 ghost use Rattle.stack_distances.specs.Histogram.{IsHistogram};
 
 use crate::marks::Marks;
-use key_places::KeyPlaces;
 use std::alloc::{AllocError, Global};
 use step_record::Key;
+use trace_index::KeyPlaces;
 
 /// How many accesses are read ahead at once.
 const STRETCH: usize = 64;

@@ -6,10 +6,10 @@ ghost use Rattle.stack_distances.specs.Window.{IsWindow};
 
 use crate::window::Window;
 use bits_and_lists::bits;
-use key_places::KeyPlaces;
 use std::alloc::{AllocError, Global};
 use std::marker::Model;
 use step_record::{Policy, Stats, Trace};
+use trace_index::PreviousUse;
 
 /// A trace, with the place of the last access to its key before each access: 4 bytes an access.
 ///
@@ -19,20 +19,15 @@ use step_record::{Policy, Stats, Trace};
 /// cache full, the window's first key whose bit is not set leaves, and the window begins behind that one.
 #[derive(Drop)]
 pub struct Reuses<'a> {
-    trace: &'a Trace,
-    // For each access one more than the place of the last access to its key before it, or 0.
-    before: Vec<u32>,
+    uses: PreviousUse<'a>,
 }
 
 impl<'a> Model for Reuses<'a> {
     ghost use Rattle.std.specs.Prelude.{ℕ, List};
-    ghost use Rattle.stack_distances.specs.Window.{AreReuses};
 
     ghost Value = { List ℕ };
 
-    ghost view = { λ r. r.trace.now };
-
-    ghost invariant = { λ r. AreReuses r.trace.now r.before.items };
+    ghost view = { λ r. r.uses };
 }
 
 impl<'a> Reuses<'a> {
@@ -40,16 +35,8 @@ impl<'a> Reuses<'a> {
     pub fn of_trace(alloc: Global, trace: &'a Trace) -> Result<Reuses<'a>, AllocError>
         ensures { IfOk result (λ r. r ≡ trace.now) }
     {
-        let keys = trace.keys();
-        let mut last = KeyPlaces::new(alloc);
-        let mut before: Vec<u32> = vec![in alloc; 0; keys.len()]?;
-        for place in 0..keys.len() {
-            let Some(earlier) = last.put(keys[place], place as u32)? else {
-                continue;
-            };
-            before[place] = earlier + 1;
-        }
-        Ok(Reuses { trace, before })
+        let uses = PreviousUse::build(alloc, trace)?;
+        Ok(Reuses { uses })
     }
 
     /// The statistics of Lru at a capacity, those of its definition over the trace: what a cache of Lru of this
@@ -60,11 +47,11 @@ impl<'a> Reuses<'a> {
         ensures { IfOk result (λ s. (j : Job) → j.policy ≡ Policy.Lru → j.config.capacity ≡ capacity
             → s ≡ stats_on j self.now) }
     {
-        let mut window = Window::new(alloc, capacity, self.before.len())?;
-        for place in 0..self.before.len() {
+        let mut window = Window::new(alloc, capacity, self.uses.len())?;
+        for place in 0..self.uses.len() {
             self.access(&mut window, place);
         }
-        Ok(window.stats(self.before.len()))
+        Ok(window.stats(self.uses.len()))
     }
 
     // Makes the next access of the trace.
@@ -75,7 +62,7 @@ impl<'a> Reuses<'a> {
         ensures window { IsWindow self.now (place + 1) window.new }
         ensures capacity { window.new.capacity ≡ window.old.capacity }
     {
-        let before = self.before[place] as usize;
+        let before = self.uses.number(place) as usize;
         if before > window.first {
             window.hits += 1;
             bits::set(&mut window.renewed, before - 1);

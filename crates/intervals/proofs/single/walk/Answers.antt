@@ -5,7 +5,7 @@ use Rattle.policies.proofs.Batches.{next-piece, taken-more}
 use Rattle.policies.specs.AnyPolicy.{HasAccessed, outcomes_on}
 use Rattle.intervals.specs.Intervals.{first_intervals, intervals_on}
 use Rattle.intervals.specs.declared.interval.Interval.{Interval}
-use Rattle.intervals.proofs.Counts.{counts-first}
+use Rattle.policies.proofs.FirstAccesses.{first-counts}
 use Rattle.intervals.proofs.Pieces.{cut-piece, cut-rest, piece-begins, next-interval, next-later}
 use Rattle.intervals.proofs.single.walk.Goals.{After-stats-after}
 use Rattle.intervals.proofs.single.walk.Goals as goal
@@ -51,8 +51,8 @@ between-requires c =
     let j = c.args.job.now in let trace = c.args.cut.now.trace.now in let n = c.loop-number._number in let every = c.args.cut.now.every in
     let here = (goal.at.between-requires c).After-stats-after in
     next-later j every n (outcomes_on j trace) c.stats-before.result c.stats-after.result c.args.cut.now.some (left here)
-    (c.stats-before.ensures ∙ counts-first j trace (n * every) c.loop-number.cache c.loop-number.invariant.1)
-    (c.stats-after.ensures ∙ counts-first j trace ((n + 1) * every) c.access_all.new.cache (made here))
+    (c.stats-before.ensures ∙ first-counts j trace (n * every) c.loop-number.cache c.loop-number.invariant.1)
+    (c.stats-after.ensures ∙ first-counts j trace ((n + 1) * every) c.access_all.new.cache (made here))
 
 pub loop-number-preserved : goal.loop-number-preserved
 loop-number-preserved c =
@@ -61,8 +61,8 @@ loop-number-preserved c =
     let here = (goal.at.loop-number-preserved c).After-stats-after in
     let least : c.min.result ≡ min every (length c.loop-number.rest.now) = omega (arith, c.min.ensures) in
     let interval = next-interval j every n os c.stats-before.result c.stats-after.result c.args.cut.now.some (left here)
-    (c.stats-before.ensures ∙ counts-first j trace (n * every) c.loop-number.cache c.loop-number.invariant.1)
-    (c.stats-after.ensures ∙ counts-first j trace ((n + 1) * every) c.access_all.new.cache (made here)) in
+    (c.stats-before.ensures ∙ first-counts j trace (n * every) c.loop-number.cache c.loop-number.invariant.1)
+    (c.stats-after.ensures ∙ first-counts j trace ((n + 1) * every) c.access_all.new.cache (made here)) in
     let e : suc n ≡ n + 1 = omega arith in (
       cut-rest every n c.min.result trace c.loop-number.rest.now c.split_at.result.1.now least c.loop-number.invariant.0 c.split_at.ensures.back,
       made here,

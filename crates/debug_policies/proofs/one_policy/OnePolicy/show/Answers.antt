@@ -2,8 +2,9 @@ use Rattle.std.proofs.Common.{◌≡◌, ◌∙◌, ◌++◌, ap, subst, List, �
 use Rattle.std.specs.Prelude.{OnOk}
 use Rattle.step_record.specs.declared.job.Job.{Job}
 use Rattle.policies.specs.AnyPolicy.{any_residents, stats_in}
+use Rattle.policies.proofs.FirstAccesses.{first-counts}
 use Rattle.debug_policies.specs.OnePolicy.{counts_line, holds_line, policy_lines, residents_at, stats_at, OnePolicyState}
-use Rattle.debug_policies.proofs.Shown.{shown_keys, shown_stats}
+use Rattle.debug_policies.proofs.Shown.{shown_keys}
 use Rattle.debug_policies.proofs.Texts.{at_last, piece}
 use Rattle.debug_policies.proofs.one_policy.OnePolicy.show.Goals as goal
 
@@ -19,7 +20,7 @@ returns c =
     let last : List ℕ = c.push_holds.new.text.items in
     let keys : List ℕ = c.as_slice.result.now in
     let stats : c.stats.result ≡ stats_at j trace n =
-    c.stats.ensures ∙ ap stats_in c.engine-cache.ensures.engine ∙ shown_stats j trace n s.engine c.self.invariant.within c.self.invariant.stands in
+    c.stats.ensures ∙ ap stats_in c.engine-cache.ensures.engine ∙ first-counts j trace n s.engine c.self.invariant.stands in
     let held : keys ≡ residents_at j trace n =
     c.as_slice.ensures.value ∙ c.in_ok-keys.ensures ∙ ap any_residents c.engine-cache.ensures.engine
     ∙ shown_keys j trace n s.engine c.self.invariant.within c.self.invariant.stands in

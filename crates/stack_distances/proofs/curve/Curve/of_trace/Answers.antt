@@ -1,7 +1,7 @@
 use Rattle.std.proofs.Common.{◌≡◌, ◌+◌, ◌<◌, ◌≤◌, suc, length, get_or, ap, arith}
 use Rattle.std.proofs.lemmas.List.{get_or_read}
 use Rattle.bits_and_lists.specs.Bits.{bit_of}
-use Rattle.key_places.specs.KeyPlaces.{place_of}
+use Rattle.trace_index.specs.KeyPlaces.{place_of}
 use Rattle.stack_distances.specs.Distances.{hits_within}
 use Rattle.stack_distances.proofs.Reading.{IsSummed, passed-summed, next-sum, sum-small, more-summed, curve-summed}
 use Rattle.stack_distances.proofs.curve.Curve.of_trace.Goals as goal

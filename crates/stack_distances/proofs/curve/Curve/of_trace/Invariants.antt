@@ -2,7 +2,7 @@ use Rattle.std.proofs.Common.{◌≡◌, ◌*◌, ◌≤◌, length, take}
 use Rattle.step_record.specs.declared.limits.TheConstants.{MAX_ACCESSES}
 use Rattle.bits_and_lists.specs.Bits.{bit_of}
 use Rattle.policies.specs.Lru.{distinct_keys}
-use Rattle.key_places.specs.KeyPlaces.{place_of}
+use Rattle.trace_index.specs.KeyPlaces.{place_of}
 use Rattle.stack_distances.specs.Histogram.{IsHistogram}
 use Rattle.stack_distances.proofs.Reading.{IsSummed}
 use Rattle.stack_distances.proofs.curve.Curve.of_trace.Given as goal

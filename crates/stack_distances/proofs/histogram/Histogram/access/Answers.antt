@@ -1,7 +1,7 @@
 use Rattle.std.proofs.Common.{◌≡◌, ◌+◌, ◌-◌, ◌*◌, ◌<◌, ◌≤◌, ℕ, suc, Bool, true, false, cond, eqb, nat_eq, Option, Some, None, List, [], ◌∷◌, ◌++◌, length, take, get_or, set, ap, ◌∙◌, sym, refl, arith}
 use Rattle.std.proofs.lemmas.List.{get_or_past, get_or_read, length-take-le, take_more}
 use Rattle.bits_and_lists.specs.Bits.{bit_of}
-use Rattle.key_places.specs.KeyPlaces.{place_of}
+use Rattle.trace_index.specs.KeyPlaces.{place_of}
 use Rattle.policies.specs.Lru.{distinct_keys, keys_since}
 use Rattle.stack_distances.specs.Sums.{mark_of, sum_below}
 use Rattle.stack_distances.specs.Histogram.{are_last, IsHistogram}

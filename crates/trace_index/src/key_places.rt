@@ -1,0 +1,128 @@
+//! The place of each key.
+ghost use Rattle.std.specs.Prelude.{◌≡◌, ℕ, ◌<◌, ◌≤◌, cond, nat_eq, Some, None, IfOk, IfSome, OnOk, length, slice_index, ◌^◌};
+ghost use Rattle.std.specs.HashMap.{get};
+ghost use Rattle.step_record.specs.declared.limits.TheConstants.{MAX_ACCESSES};
+ghost use Rattle.trace_index.specs.KeyPlaces.{place_of};
+ghost use Rattle.trace_index.specs.Uses.{number_of};
+
+use std::alloc::{AllocError, Global};
+use std::collections::HashMap;
+use std::mem;
+use step_record::Key;
+
+/// A place of the trace for each key that was put. Keys that are low for the number of accesses so far, as those of
+/// blocks mostly are, have theirs in a table, by the key itself, in 4 bytes; every other key has it in a hash map,
+/// which on a long trace misses the processor's caches at nearly each access.
+///
+/// The table grows as such keys come. A key that came before the table reached it has its place in the map until it is
+/// put again; from then on the table has its place, and the map's is not read any more.
+#[derive(Drop)]
+pub struct KeyPlaces {
+    // One more than the place of each key below the table's length, or 0.
+    low: Vec<u32>,
+    // The places of the keys that were put past the table.
+    high: HashMap<Key, u32>,
+}
+
+// The table takes keys below so many times the place of an access, and so many more, and is no longer than that: 16 bytes
+// an access and 4 MB, where keys are that high.
+const TABLE_SHARE: u64 = 4;
+
+const TABLE_START: u64 = 1 << 20;
+
+impl KeyPlaces {
+    /// No places yet.
+    pub fn new(alloc: Global) -> KeyPlaces
+        ensures { (k : ℕ) → place_of result k ≡ None }
+    {
+        KeyPlaces {
+            low: Vec::new(alloc),
+            high: HashMap::new(alloc),
+        }
+    }
+
+    /// The place of a key that has one in the table, `None` for any other key: for reads ahead of `put`, which do not
+    /// depend on one another, so that the processor overlaps them.
+    #[inline(always)]
+    pub fn in_table(&self, key: Key) -> Option<u32>
+        ensures { IfSome result (λ p. place_of self.now key ≡ Some p) }
+    {
+        if key < self.low.len() as u64 {
+            return self.low[key as usize].checked_sub(1);
+        }
+        None
+    }
+
+    /// Puts a key's place, and returns the one that it had. The only error is out of memory.
+    #[inline(always)]
+    pub fn put(&mut self, key: Key, place: u32) -> Result<Option<u32>, AllocError>
+        requires { place < MAX_ACCESSES }
+        ensures old { IfOk result (λ o. o ≡ place_of self.old key) }
+        ensures updates { OnOk result ((k : ℕ) →
+            place_of self.new k ≡ cond (nat_eq key k) (Some place) (place_of self.old k)) }
+    {
+        if key >= self.low.len() as u64 {
+            return self.put_past(key, place);
+        }
+        let number = mem::replace(&mut self.low[key as usize], place + 1);
+        if !self.high.is_empty() && number == 0 {
+            return Ok(self.in_map(key));
+        }
+        Ok(number.checked_sub(1))
+    }
+
+    // The same for a key that the table does not reach, out of line: a loop over keys that it does reach then saves no
+    // registers for it.
+    #[inline(never)]
+    fn put_past(&mut self, key: Key, place: u32) -> Result<Option<u32>, AllocError>
+        requires few { place < MAX_ACCESSES }
+        requires past { length self.old.low.items ≤ key }
+        ensures old { IfOk result (λ o. o ≡ place_of self.old key) }
+        ensures updates { OnOk result ((k : ℕ) →
+            place_of self.new k ≡ cond (nat_eq key k) (Some place) (place_of self.old k)) }
+    {
+        let reach = TABLE_SHARE * place as u64 + TABLE_START;
+        if key >= reach {
+            return Ok(self.high.insert(key, place)?);
+        }
+        self.grow(key as usize + 1, reach as usize)?;
+        self.low[key as usize] = place + 1;
+        Ok(self.in_map(key))
+    }
+
+    // The place that the map has for a key.
+    #[inline(never)]
+    fn in_map(&self, key: Key) -> Option<u32>
+        ensures { result ≡ get nat_eq self.now.high key }
+    {
+        self.high.get(&key).copied()
+    }
+
+    // Makes the table at least so long: twice as long as it was, where that is no more than `most`, so that it grows few
+    // times.
+    #[cold]
+    #[inline(never)]
+    fn grow(&mut self, least: usize, most: usize) -> Result<(), AllocError>
+        requires longer { length self.old.low.items < least }
+        requires within { least ≤ most }
+        requires short { most < 2 ^ 63 }
+        ensures long { OnOk result (least ≤ length self.new.low.items) }
+        ensures low { (k : ℕ) → slice_index self.new.low.items k ≡ slice_index self.old.low.items k }
+        ensures high { self.new.high ≡ self.old.high }
+    {
+        let len = least.max(most.min(2 * self.low.len()));
+        self.low.resize(len, 0)
+    }
+}
+
+/// The number that stands for a use: one more than its place, or 0 for none.
+#[inline(always)]
+pub(crate) fn number_of(place: Option<u32>) -> u32
+    requires { IfSome place (λ p. p < MAX_ACCESSES) }
+    ensures { result ≡ number_of place }
+{
+    match place {
+        Some(place) => place + 1,
+        None => 0,
+    }
+}

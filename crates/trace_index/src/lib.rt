@@ -1,0 +1,18 @@
+//! For each access of a trace, where its key comes next and where it came before.
+//!
+//! The crate promises that a [`NextUse`] gives the least later place of each access's key, and a [`PreviousUse`] the
+//! greatest earlier one. Each is found in one pass over the trace, from its end and from its start, in which
+//! [`KeyPlaces`] has for each key the place that was put for it last.
+#![tactic(auto)]
+
+mod key_places;
+mod next_use;
+mod next_use_finder;
+mod packed_keys;
+mod previous_use;
+mod room;
+
+pub use key_places::KeyPlaces;
+pub use next_use::NextUse;
+pub use next_use_finder::NextUseFinder;
+pub use previous_use::PreviousUse;
