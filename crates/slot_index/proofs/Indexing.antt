@@ -1,5 +1,5 @@
 -- The index after a slot came or went.
-use Rattle.std.proofs.Common.{◌≡◌, ℕ, suc, zero, ◌+◌, ◌*◌, ◌^◌, ◌<◌, ◌≤◌, Bool, true, false, cond, eqb, List, replicate, length, get_or, set, ap, ◌∙◌, sym, refl, subst, arith, inl, inr, get_or-set_same, get_or-set_other, length-set}
+use Rattle.std.proofs.Common.{◌≡◌, ℕ, suc, zero, ◌+◌, ◌*◌, ◌^◌, ◌<◌, ◌≤◌, Bool, true, false, cond, eqb, List, replicate, length, get_or, set, ap, ◌∙◌, sym, refl, arith, inl, inr, get_or-set_same, get_or-set_other, length-set}
 use Rattle.std.proofs.Math.ListN.{length-replicate}
 use Rattle.std.proofs.lemmas.Bool.{eq-eqb, ne_eqb, cases_Bool, cases_eq}
 use Rattle.step_record.specs.declared.item.Item.{Item}
@@ -7,8 +7,8 @@ use Rattle.slot_index.specs.declared.index.SlotIndex.{SlotIndex}
 use Rattle.slot_index.specs.Trees.{Tree, leaf, tally, branch, IsTree, IsSorted, grafted, detached}
 use Rattle.slot_index.specs.Places.{IsWhole, IsFree, IsThere, Replaces}
 use Rattle.slot_index.specs.Index.{IsMapped, IsIndexed, IsAdded, IsRemoved, IsFound, bucket, capacity}
-use Rattle.slot_index.specs.Walks.{HasTree, HasTreeWithin}
-use Rattle.slot_index.proofs.Trees.{members, same-slot, same-tree, size-few}
+use Rattle.slot_index.specs.Walks.{HasTree}
+use Rattle.slot_index.proofs.Trees.{same-slot, same-tree, size-few}
 use Rattle.slot_index.proofs.Sorting.{sorted-same, grafted-tally, grafted-sorted, detached-tally, detached-sorted}
 
 module _ (links : List ℕ) (bits : ℕ) (item_of : ℕ → Item) (used : ℕ → ℕ) (x : IsMapped links bits item_of used) where
@@ -186,6 +186,18 @@ module _ (links : List ℕ) (bits : ℕ) (item_of : ℕ → Item) (used : ℕ �
     there = λ n. (let t = f.there n in ((let m = t.0 in let p = placed-used b r v in omega (arith, m, p)), t.1));
     missing = λ z k m e. f.missing z k (let h = placed-here b k v (ap (bucket bits) e ∙ sym bk) in omega (arith, h, m)) e;
   }
+
+-- the same map in other words
+pub same-map : (links : List ℕ) (bits : ℕ) (item_of item_of2 : ℕ → Item) (used used2 : ℕ → ℕ) → ((k : ℕ) → item_of2 k ≡ item_of k) → ((k : ℕ) → used2 k ≡ used k) → IsMapped links bits item_of used → IsMapped links bits item_of2 used2
+same-map links bits item_of item_of2 used used2 f g x = record {
+  size = x.size;
+  some = x.some;
+  trees = x.trees;
+  rooted = x.rooted;
+  placed = λ b k w. x.placed b k w ∙ (ap (λ i. cond (eqb (bucket bits i) b) (used k) 0) (sym (f k)) ∙ ap (λ n. cond (eqb (bucket bits (item_of2 k)) b) n 0) (sym (g k)));
+  sorted = λ b w. sorted-same item_of item_of2 0 (x.trees b) (λ k m. f k) (x.sorted b w);
+  once = λ k. (let o = x.once k in let e = g k in omega (arith, o, e));
+}
 
 -- what the walks begin with
 abbrev pub root-has : (index : SlotIndex) (item_of : ℕ → Item) (used : ℕ → ℕ) (x : IsIndexed index item_of used) (b : ℕ) → b < 2 ^ index.bits → HasTree index b 0

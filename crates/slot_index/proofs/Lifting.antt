@@ -1,7 +1,7 @@
 -- The first slot of a tree taken out: the lowest one comes in its place.
-use Rattle.std.proofs.Common.{◌≡◌, ℕ, suc, ◌+◌, ◌*◌, ◌<◌, ◌≤◌, Bool, true, false, cond, eqb, List, length, get_or, set, ap, ◌∙◌, sym, refl, subst, arith, get_or-set_same, get_or-set_other, length-set}
+use Rattle.std.proofs.Common.{◌≡◌, ℕ, ◌+◌, ◌<◌, ◌≤◌, Bool, true, false, cond, eqb, List, length, get_or, set, ap, ◌∙◌, sym, refl, subst, arith, get_or-set_same, get_or-set_other, length-set}
 use Rattle.std.proofs.lemmas.Bool.{eq-eqb}
-use Rattle.slot_index.specs.Trees.{Tree, leaf, fork, tally, branch, IsTree, lowest, plucked, lifted}
+use Rattle.slot_index.specs.Trees.{Tree, leaf, fork, tally, branch, lowest, plucked, lifted}
 use Rattle.slot_index.specs.Places.{IsWhole, Replaces}
 use Rattle.slot_index.proofs.Trees.{tally-here, members, same-slot, same-tree}
 use Rattle.slot_index.proofs.Sorting.{plucked-tally}

@@ -1,8 +1,8 @@
 -- One step down a tree, and the way back.
-use Rattle.std.proofs.Common.{◌≡◌, ℕ, suc, ◌+◌, ◌*◌, ◌^◌, ◌<◌, ◌≤◌, Bool, true, false, cond, eqb, List, length, get_or, set, ap, ◌∙◌, sym, refl, subst, arith, inl, inr, get_or-set_same, get_or-set_other, length-set}
+use Rattle.std.proofs.Common.{◌≡◌, ℕ, ◌+◌, ◌<◌, ◌≤◌, Bool, true, false, cond, eqb, List, length, get_or, set, ap, ◌∙◌, sym, subst, arith, inl, inr, get_or-set_same, get_or-set_other, length-set}
 use Rattle.std.proofs.lemmas.Bool.{cases_Bool, eq-eqb, ne_eqb}
 use Rattle.step_record.specs.declared.item.Item.{Item}
-use Rattle.slot_index.specs.Trees.{Tree, leaf, fork, tally, size, branch, turn, IsTree, grafted, lowest, plucked, renamed, lifted, detached}
+use Rattle.slot_index.specs.Trees.{Tree, leaf, fork, tally, branch, turn, grafted, lowest, plucked, lifted, detached}
 use Rattle.slot_index.specs.Places.{IsOutside, IsWhole, IsFree, IsThere, Replaces}
 use Rattle.slot_index.proofs.Trees.{tally-here, same-slot, same-tree, any_default}
 use Rattle.slot_index.proofs.Sorting.{right-side, left-side}

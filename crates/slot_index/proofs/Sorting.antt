@@ -1,9 +1,9 @@
 -- Search trees by the ways of their items.
-use Rattle.std.proofs.Common.{◌≡◌, ℕ, ◌+◌, ◌≤◌, true, false, Bool, cond, eqb, ap, ◌∙◌, sym, refl, subst, arith, inl, inr}
+use Rattle.std.proofs.Common.{◌≡◌, ℕ, ◌+◌, ◌≤◌, true, false, Bool, cond, eqb, ap, ◌∙◌, sym, refl, arith, inl, inr}
 use Rattle.std.proofs.lemmas.Bool.{eq-eqb, ne_eqb, cases_Bool, cases_eq}
 use Rattle.step_record.specs.declared.item.Item.{Item}
 use Rattle.slot_index.specs.Trees.{Tree, leaf, fork, tally, turn, IsSorted, grafted, lowest, pruned, plucked, renamed, lifted, detached}
-use Rattle.slot_index.proofs.Trees.{some_or_none, tally-here, tally-past}
+use Rattle.slot_index.proofs.Trees.{some_or_none, tally-past}
 
 pub clash : (b : Bool) → b ≡ true → b ≡ false → ⊥
 clash b t f = let n : ◌≡◌ {A = ℕ} 1 0 = ap (λ (c : Bool). cond c 1 0) (sym t ∙ f) in omega (arith, n)

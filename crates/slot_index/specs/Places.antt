@@ -1,5 +1,5 @@
 -- The tree at a place of the links, and another one put there.
-use Rattle.std.specs.Prelude.{◌≡◌, ℕ, ◌≤◌, ◌<◌, Bool, true, false, List, length, slice_index}
+use Rattle.std.specs.Prelude.{◌≡◌, ℕ, ◌≤◌, ◌<◌, Bool, List, length, slice_index}
 use Rattle.step_record.specs.declared.item.Item.{Item}
 use Rattle.slot_index.specs.Trees.{Tree, tally, branch, IsTree, IsSorted}
 

@@ -1,5 +1,5 @@
-use Rattle.std.proofs.Common.{◌≡◌, ◌+◌, ◌∙◌, ap, sym, refl, arith, true}
-use Rattle.slot_index.specs.Trees.{branch, turn}
+use Rattle.std.proofs.Common.{◌∙◌, ap, sym, refl, arith, true}
+use Rattle.slot_index.specs.Trees.{branch}
 use Rattle.slot_index.proofs.Trees.{any_default}
 use Rattle.slot_index.proofs.Walking.{step, within-below, found-none, found-here, found-on}
 use Rattle.slot_index.proofs.index.SlotIndex.+find_below.Goals as goal

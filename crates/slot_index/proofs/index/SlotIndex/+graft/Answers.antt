@@ -1,4 +1,4 @@
-use Rattle.std.proofs.Common.{◌≡◌, ◌+◌, ◌∙◌, ap, sym, arith}
+use Rattle.std.proofs.Common.{◌∙◌, ap, sym, arith}
 use Rattle.slot_index.specs.Trees.{branch}
 use Rattle.slot_index.proofs.Trees.{any_default}
 use Rattle.slot_index.proofs.Walking.{has-below}

@@ -1,4 +1,4 @@
-use Rattle.std.proofs.Common.{◌≡◌, arith}
+use Rattle.std.proofs.Common.{arith}
 use Rattle.slot_index.proofs.Indexing.{root-has, root-whole, placed-used, found-root}
 use Rattle.slot_index.proofs.index.SlotIndex.find.Goals as goal
 

@@ -1,4 +1,3 @@
-use Rattle.std.proofs.Common.{◌≡◌, arith}
 use Rattle.slot_index.proofs.Indexing.{root-has, root-whole, bared, free, placed-used, added}
 use Rattle.slot_index.proofs.index.SlotIndex.insert.Goals as goal
 

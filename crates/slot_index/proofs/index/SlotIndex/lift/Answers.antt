@@ -1,4 +1,4 @@
-use Rattle.std.proofs.Common.{◌≡◌, ◌+◌, ◌^◌, ◌∙◌, ◌<◌, length, set, length-set, ap, sym, refl, arith, true, false}
+use Rattle.std.proofs.Common.{◌+◌, ◌^◌, ◌∙◌, ◌<◌, length, set, length-set, ap, sym, refl, arith, false}
 use Rattle.slot_index.specs.Trees.{branch}
 use Rattle.slot_index.proofs.Trees.{any_default}
 use Rattle.slot_index.proofs.Walking.{step}

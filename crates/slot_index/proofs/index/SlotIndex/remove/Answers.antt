@@ -1,4 +1,4 @@
-use Rattle.std.proofs.Common.{◌≡◌, eqb, cond, refl}
+use Rattle.std.proofs.Common.{eqb, cond, refl}
 use Rattle.slot_index.proofs.Indexing.{root-has, root-whole, stands, removed}
 use Rattle.slot_index.proofs.index.SlotIndex.remove.Goals as goal
 
