@@ -1,16 +1,17 @@
 -- A slot in use that is given another item, and goes to its queue's recent end.
-use Rattle.std.proofs.Common.{◌≡◌, ℕ, ◌+◌, ◌-◌, ◌≤◌, eqb, None, List, set, ap, ◌∙◌, sym, refl, subst, arith, inl, inr, get_or-set_same, get_or-set_other}
+use Rattle.std.proofs.Common.{◌≡◌, ℕ, ◌+◌, ◌-◌, ◌<◌, ◌≤◌, eqb, None, List, length, set, ap, ◌∙◌, sym, refl, subst, arith, inl, inr, get_or-set_same, get_or-set_other}
 use Rattle.std.proofs.lemmas.Bool.{cases_Bool, eq-eqb, eqb-true}
 use Rattle.std.proofs.lemmas.List.{length-map}
 use Rattle.step_record.specs.declared.item.Item.{Item}
+use Rattle.slot_index.specs.declared.index.SlotIndex.{SlotIndex}
 use Rattle.segments.specs.declared.records.Queue.{Queue}
 use Rattle.segments.specs.declared.records.Queue.TheVariants.{Window, Probation, Protected}
 use Rattle.segments.specs.declared.slot.Slot.{Slot}
 use Rattle.segments.specs.declared.lengths.Lengths.{Lengths}
 use Rattle.segments.specs.Queues.{queue_holding, queues_after_push, queues_without, IsDistinct}
-use Rattle.segments.specs.Ring.{items, chains, olders, newers, tags, slot_item, count, IsRing, Order, ring, used, section, closing, order_of, order_without, sent, freed, lists_of, lists, IsQueued}
-use Rattle.segments.specs.Index.{IsIndexed, IsJoining}
-use Rattle.segments.specs.SlotTable.{IsInSlots, length_in, raised, lowered, lengths_of}
+use Rattle.segments.specs.Ring.{items, olders, newers, tags, slot_item, count, IsRing, Order, ring, used, section, closing, order_of, order_without, sent, freed, lists_of, lists, IsQueued}
+use Rattle.slot_index.specs.Index.{capacity, IsAdded, IsRemoved}
+use Rattle.segments.specs.SlotTable.{IsIndexOf, IsInSlots, length_in, raised, lowered, lengths_of}
 use Rattle.segments.proofs.QueueLists.{absent, still-absent, distinct-taken}
 use Rattle.segments.proofs.Sections.{length-without}
 use Rattle.segments.proofs.Orders.{IsOnce, used-kept, used-freed}
@@ -39,12 +40,17 @@ module _ (slots : List Slot) (o : Order) (h : IsQueued slots o) (k : ℕ) (n : 1
   pub unused : count k (used (freed k o)) ≡ 0
   unused = let s = eq-eqb k k refl in used-freed k k o ∙ rw s refl
 
-  -- the slot goes out of the index and comes in again
-  pub joins : (q : Queue) (b : ℕ) (i : Item) (before after : List Item) → before ≡ items slots → after ≡ set before k i → IsJoining k before after (used (freed k o)) (used (sent k q b o))
-  joins q b i before after eb ea =
+  -- the slot goes out of the index
+  pub leaves : (i : Item) → slot_item (items slots) k ≡ i → IsRemoved k i (slot_item (items slots)) (λ j. count j (used o)) (λ j. count j (used (freed k o)))
+  leaves i e = record { there = n; its = e; counted = λ j. used-freed j k o }
+
+  -- and comes in again
+  pub joins : (q : Queue) (b : ℕ) (i : Item) (before after : List Item) → before ≡ items slots → after ≡ set before k i → k < length before → IsAdded k i (slot_item before) (slot_item after) (λ j. count j (used (freed k o))) (λ j. count j (used (sent k q b o)))
+  joins q b i before after eb ea w =
       let few = used-few o k h.linked.once in
       record {
-        fresh = unused;
+        absent = unused;
+        its = rw ea (get_or-set_same before k i _ w);
         others = λ j d. rw ea (get_or-set_other before k j i _ d);
         counted = λ j. (
             let kept = used-kept j k b q o (omega (arith, n, few)) in
@@ -71,17 +77,18 @@ module _ (slots : List Slot) (o : Order) (h : IsQueued slots o) (k : ℕ) (n : 1
     rest : lists_of (order_without k o) (items slots2) ≡ queues_without (slot_item (items slots) k) (lists_of o (items slots))
     rest = ap (lists_of (order_without k o)) it ∙ (lists-kept (order_without k o) (items slots) k i unused ∙ sym (taken-order o (items slots) k h.distinct n))
 
-    pub held-renewed : (heads2 : List ℕ) (bits : ℕ) (q : Queue) (b : ℕ) → IsRing (newers slots2) (olders slots2) (ring (sent k q b o)) →
-        IsIndexed heads2 (chains slots2) (items slots2) bits (used (sent k q b o)) → tags slots2 ≡ set (tags slots) k q →
-        queue_holding i (lists_of o (items slots)) ≡ None → IsInSlots slots2 heads2 bits (sent k q b o)
-    held-renewed heads2 bits q b r x t a =
+    pub held-renewed : (index2 : SlotIndex) (q : Queue) (b : ℕ) → IsRing (newers slots2) (olders slots2) (ring (sent k q b o)) →
+        IsIndexOf index2 (items slots2) (used (sent k q b o)) → tags slots2 ≡ set (tags slots) k q →
+        queue_holding i (lists_of o (items slots)) ≡ None → length slots2 ≤ capacity index2.bits → IsInSlots slots2 index2 (sent k q b o)
+    held-renewed index2 q b r x t a room =
         let w = used-within slots o h k n in
         let l = slots-length slots in
         let lt = length-map slots (λ (s : Slot). s.queue) in
         let old = slot_item (items slots) k in
-        held-sent slots slots2 heads2 bits o h k q b r x t (omega (arith, w, l, lt))
+        held-sent slots slots2 index2 o h k q b r x t (omega (arith, w, l, lt))
         (subst IsDistinct (sym rest) (distinct-taken old (lists_of o (items slots)) h.distinct))
         (rw (rest, here) (absent i (queues_without old (lists_of o (items slots))) (still-absent i old (lists_of o (items slots)) a)))
+        room
 
     pub renew-lists : (q : Queue) (b : ℕ) → b ≡ closing q → order_of slots2 ≡ sent k q b o → lists slots2 ≡ queues_after_push q i (queues_without (slot_item (items slots) k) (lists_of o (items slots)))
     renew-lists q b e eo =

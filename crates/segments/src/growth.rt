@@ -1,19 +1,20 @@
 //! How a table gets room for one more item: its first slots and buckets, a free slot more, and more buckets.
-ghost use Rattle.std.specs.Prelude.{◌≡◌, ◌<◌, ◌≤◌, ◌*◌, ◌^◌, ◌++◌, ◌∷◌, [], OnOk, OnErr, IfOk, length};
-ghost use Rattle.segments.specs.Ring.{items, chains, olders, newers, tags, IsRing, ring, order_of, no_slots, more_free};
+ghost use Rattle.std.specs.Prelude.{◌≡◌, ◌<◌, ◌≤◌, ◌*◌, ◌-◌, ◌^◌, ◌++◌, ◌∷◌, [], OnOk, OnErr, IfOk, ℕ, length};
+ghost use Rattle.segments.specs.Ring.{items, olders, newers, tags, IsRing, ring, order_of, no_slots, more_free};
 ghost use Rattle.segments.specs.Ring.{lists, bare_slot, IsQueued};
-ghost use Rattle.segments.specs.Index.{IsLoaded};
-ghost use Rattle.segments.specs.SlotTable.{IsInSlots, lengths_of, one_longer, IsSound, IsSame};
+ghost use Rattle.step_record.specs.declared.item.Item.{Item};
+ghost use Rattle.slot_index.specs.Index.{capacity, IsIndexed};
+ghost use Rattle.segments.specs.SlotTable.{from_four, IsIndexOf, IsLoaded, IsInSlots, lengths_of, one_longer, IsSound, IsSame};
 ghost use Rattle.segments.specs.declared.records.Queue.TheVariants.{Window};
 
-use crate::index::Index;
 use crate::links::link;
 use crate::records::Queue;
 use crate::slot::Slot;
+use slot_index::SlotIndex;
 use std::alloc::{AllocError, Global};
 use step_record::Item;
 
-/// An index of 2^31 buckets has right branches for so many slots.
+/// An index of 2^31 buckets has branches for so many slots.
 const MAX_SLOTS: usize = 1 << 30;
 
 /// The first index has at least 2^3 buckets.
@@ -28,7 +29,6 @@ fn bare(older: u32, newer: u32) -> Slot
 {
     Slot {
         item: Item { key: 0, node: 0 },
-        chain: 0,
         older,
         newer,
         queue: Queue::Window,
@@ -55,23 +55,23 @@ fn first_bits(wished: u32) -> u32
 }
 
 /// Makes the first slots and buckets where there are none.
-fn begin(alloc: Global, slots: &mut Vec<Slot>, index: &mut Index) -> Result<(), AllocError>
-    requires sound { IsSound slots.old.items index.old.heads.items index.old.bits }
+fn begin(alloc: Global, slots: &mut Vec<Slot>, index: &mut SlotIndex) -> Result<(), AllocError>
+    requires sound { IsSound slots.old.items index.old }
     requires few { length slots.old.items < 2 ^ 32 }
     requires load { IsLoaded (length slots.old.items) index.old.bits }
-    ensures held { OnOk result (IsInSlots slots.new.items index.new.heads.items index.new.bits
+    ensures held { OnOk result (IsInSlots slots.new.items index.new
         (order_of slots.new.items)) }
     ensures same { IsSame slots.old.items slots.new.items }
     ensures load { IsLoaded (length slots.new.items) index.new.bits }
     ensures few { length slots.new.items < 2 ^ 32 }
-    ensures err { OnErr result (IsSound slots.new.items index.new.heads.items index.new.bits) }
+    ensures err { OnErr result (IsSound slots.new.items index.new) }
 {
     if !slots.is_empty() {
         return Ok(());
     }
     let first = first_slots(alloc)?;
-    let bits = first_bits(index.bits);
-    *index = Index::new(alloc, bits)?;
+    let bits = first_bits(index.bits());
+    *index = SlotIndex::new(alloc, bits)?;
     *slots = first;
     Ok(())
 }
@@ -82,7 +82,6 @@ fn add_slot(slots: &mut Vec<Slot>) -> Result<(), AllocError>
     requires few { length slots.old.items < 2 ^ 32 }
     ensures ring { OnOk result (IsRing (newers slots.new.items) (olders slots.new.items)
         (ring (more_free (length slots.old.items) (order_of slots.old.items)))) }
-    ensures chains { OnOk result (chains slots.new.items ≡ chains slots.old.items ++ 0 ∷ []) }
     ensures items { OnOk result (items slots.new.items ≡ items slots.old.items ++ record { key = 0; node = 0 } ∷ []) }
     ensures tags { OnOk result (tags slots.new.items ≡ tags slots.old.items ++ Window ∷ []) }
     ensures err { OnErr result (slots.new.items ≡ slots.old.items) }
@@ -93,23 +92,36 @@ fn add_slot(slots: &mut Vec<Slot>) -> Result<(), AllocError>
     Ok(())
 }
 
-/// Spreads the items over twice as many buckets where there are fewer than two for a slot; all slots are in use.
-fn widen(alloc: Global, slots: &mut [Slot], index: &mut Index) -> Result<(), AllocError>
-    requires held { IsInSlots slots.old index.old.heads.items index.old.bits (order_of slots.old) }
-    requires free { (order_of slots.old).free ≡ [] }
-    requires few { length slots.old ≤ 2 ^ 30 }
-    requires load { IsLoaded (length slots.old) index.old.bits }
-    ensures held { IsInSlots slots.new index.new.heads.items index.new.bits (order_of slots.old) }
-    ensures items { items slots.new ≡ items slots.old }
-    ensures load { IsLoaded (length slots.new) index.new.bits }
-    ensures roomy { OnOk result (2 * length slots.new ≤ 2 ^ index.new.bits) }
+/// Puts every slot that holds an item into an index that knows no slot.
+fn fill(slots: &[Slot], index: &mut SlotIndex)
+    requires few { (4 ≤ length slots.now) × (length slots.now ≤ 2 ^ 32) }
+    requires room { length slots.now ≤ capacity index.old.bits }
+    requires empty { (item_of : ℕ → Item) → IsIndexed index.old item_of (λ _. 0) }
+    ensures indexed { IsIndexOf index.new (items slots.now) (from_four (length slots.now - 4)) }
+    ensures bits { index.new.bits ≡ index.old.bits }
 {
-    let buckets = 1usize << index.bits;
-    if slots.len() <= buckets / 2 || index.bits >= 31 {
+    for at in 4..slots.len() {
+        index.insert(at as u32, slots[at].item);
+    }
+}
+
+/// Spreads the items over twice as many buckets where there are fewer than two for a slot; all slots are in use.
+fn widen(alloc: Global, slots: &[Slot], index: &mut SlotIndex) -> Result<(), AllocError>
+    requires held { IsInSlots slots.now index.old (order_of slots.now) }
+    requires free { (order_of slots.now).free ≡ [] }
+    requires few { length slots.now ≤ 2 ^ 30 }
+    requires load { IsLoaded (length slots.now) index.old.bits }
+    ensures held { IsInSlots slots.now index.new (order_of slots.now) }
+    ensures load { IsLoaded (length slots.now) index.new.bits }
+    ensures roomy { OnOk result (2 * length slots.now ≤ 2 ^ index.new.bits) }
+{
+    let bits = index.bits();
+    let buckets = 1usize << bits;
+    if slots.len() <= buckets / 2 || bits >= 31 {
         return Ok(());
     }
-    let mut wider = Index::new(alloc, index.bits + 1)?;
-    wider.fill(slots);
+    let mut wider = SlotIndex::new(alloc, bits + 1)?;
+    fill(slots, &mut wider);
     *index = wider;
     Ok(())
 }
@@ -120,13 +132,13 @@ fn widen(alloc: Global, slots: &mut [Slot], index: &mut Index) -> Result<(), All
 pub(crate) fn grow(
     alloc: Global,
     slots: &mut Vec<Slot>,
-    index: &mut Index,
+    index: &mut SlotIndex,
 ) -> Result<(), AllocError>
-    requires sound { IsSound slots.old.items index.old.heads.items index.old.bits }
+    requires sound { IsSound slots.old.items index.old }
     requires none { (order_of slots.old.items).free ≡ [] }
     requires few { length slots.old.items < 2 ^ 32 }
     requires load { IsLoaded (length slots.old.items) index.old.bits }
-    ensures sound { IsSound slots.new.items index.new.heads.items index.new.bits }
+    ensures sound { IsSound slots.new.items index.new }
     ensures lists { lists slots.new.items ≡ lists slots.old.items }
     ensures few { length slots.new.items < 2 ^ 32 }
     ensures ok { OnOk result (lengths_of (order_of slots.new.items)

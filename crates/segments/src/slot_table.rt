@@ -8,11 +8,11 @@ ghost use Rattle.segments.specs.Ring.{count, used, section, closing, order_of, o
 ghost use Rattle.segments.specs.SlotTable.{spare_in, item_in, place_at, put_in_place, IsBehind, IsSlotOf};
 
 use crate::growth::grow;
-use crate::index::Index;
 use crate::lengths::Lengths;
 use crate::links::{items_in, newest_free, oldest_slot, place_of_slot, release, send, slot_behind};
 use crate::records::{Queue, QueuePlace};
-use crate::slot::{Slot, set_item};
+use crate::slot::{RingItems, Slot, set_item};
+use slot_index::SlotIndex;
 use std::alloc::{AllocError, Global};
 use std::marker::Model;
 use step_record::{Item, Key, Node};
@@ -21,7 +21,7 @@ use step_record::{Item, Key, Node};
 #[derive(Drop)]
 pub(crate) struct SlotTable {
     slots: Vec<Slot>,
-    index: Index,
+    index: SlotIndex,
     lengths: Lengths,
 }
 
@@ -34,7 +34,7 @@ impl Model for SlotTable {
 
     ghost view = { λ t. t.slots.items };
 
-    ghost invariant = { λ t. IsKept t.slots.items t.index.heads.items t.index.bits t.lengths };
+    ghost invariant = { λ t. IsKept t.slots.items t.index t.lengths };
 }
 
 // Up to so many bits, there are four buckets for each item of a first index, so that most have one item at most. A
@@ -58,10 +58,7 @@ impl SlotTable {
     {
         SlotTable {
             slots: Vec::new(alloc),
-            index: Index {
-                heads: Vec::new(alloc),
-                bits: bits_for(items),
-            },
+            index: SlotIndex::unallocated(alloc, bits_for(items)),
             lengths: Lengths {
                 window: 0,
                 probation: 0,
@@ -76,8 +73,10 @@ impl SlotTable {
     pub(crate) fn touch(&self, keys: &[Key], node: Node) -> u32 {
         let mut read = 0;
         for key in keys {
-            let item = Item { key: *key, node };
-            read ^= self.index.touch(&self.slots, item);
+            let at = self.index.first_slot(Item { key: *key, node }) as usize;
+            if at < self.slots.len() {
+                read ^= self.slots[at].newer;
+            }
         }
         read
     }
@@ -139,7 +138,7 @@ impl SlotTable {
         if self.slots.is_empty() {
             return None;
         }
-        match self.index.find(&self.slots, item) {
+        match self.index.find(&RingItems { slots: &self.slots }, item) {
             0 => None,
             at => Some(at),
         }
@@ -203,7 +202,7 @@ impl SlotTable {
         let slots: &mut [Slot] = &mut self.slots;
         let at = newest_free(slots);
         set_item(slots, at as usize, item);
-        self.index.add(slots, at);
+        self.index.insert(at, item);
         send(slots, at, queue, before);
         self.lengths.free -= 1;
         self.lengths.raise(queue);
@@ -241,9 +240,10 @@ impl SlotTable {
     {
         let slots: &mut [Slot] = &mut self.slots;
         let from = place_of_slot(slots, at);
-        self.index.remove(slots, at);
+        let old = slots[at as usize].item;
+        self.index.remove(at, old);
         set_item(slots, at as usize, item);
-        self.index.add(slots, at);
+        self.index.insert(at, item);
         send(slots, at, queue, slot_behind(queue));
         from
     }
@@ -284,7 +284,8 @@ impl SlotTable {
     {
         let slots: &mut [Slot] = &mut self.slots;
         let from = place_of_slot(slots, at);
-        self.index.remove(slots, at);
+        let item = slots[at as usize].item;
+        self.index.remove(at, item);
         release(slots, at);
         self.lengths.lower(from.queue);
         self.lengths.free += 1;

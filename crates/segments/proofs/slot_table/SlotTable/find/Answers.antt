@@ -4,14 +4,14 @@ use Rattle.segments.specs.declared.records.Queue.TheVariants.{Window}
 use Rattle.segments.specs.Queues.{queue_holding}
 use Rattle.segments.specs.declared.slot.Slot.{Slot}
 use Rattle.segments.specs.Ring.{items, tags, order_of, lists, tag_at}
-use Rattle.segments.proofs.Trees.{field_at}
+use Rattle.segments.proofs.SlotWrites.{field_at}
 use Rattle.segments.proofs.Contents.{placed-at}
 use Rattle.segments.proofs.Holding.{tag-stands}
 use Rattle.segments.proofs.Calls.{slot-within, read_slot}
 use Rattle.segments.proofs.slot_table.SlotTable.find.Goals as goal
 
 abbrev nothing : Slot
-nothing = record { item = record { key = 0; node = 0 }; chain = 0; older = 0; newer = 0; queue = Window }
+nothing = record { item = record { key = 0; node = 0 }; older = 0; newer = 0; queue = Window }
 
 pub index-requires : goal.index-requires
 index-requires c =

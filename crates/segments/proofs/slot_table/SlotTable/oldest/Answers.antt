@@ -3,14 +3,14 @@ use Rattle.segments.specs.declared.records.Queue.TheVariants.{Window}
 use Rattle.segments.specs.declared.slot.Slot.{Slot}
 use Rattle.segments.specs.Ring.{items, order_of, section, count, used, IsQueued}
 use Rattle.segments.specs.SlotTable.{item_in, IsSlotOf}
-use Rattle.segments.proofs.Trees.{field_at}
+use Rattle.segments.proofs.SlotWrites.{field_at}
 use Rattle.segments.proofs.Contents.{section-used}
 use Rattle.segments.proofs.Calls.{slot-within, some-length, first-stands, first-item, read_slot}
 use Rattle.segments.proofs.slot_table.SlotTable.oldest.Goals as goal
 use Rattle.segments.proofs.slot_table.SlotTable.oldest.Goals.{After-deref, After-index, After-oldest_slot-at}
 
 abbrev nothing : Slot
-nothing = record { item = record { key = 0; node = 0 }; chain = 0; older = 0; newer = 0; queue = Window }
+nothing = record { item = record { key = 0; node = 0 }; older = 0; newer = 0; queue = Window }
 
 -- the slots hold together, since the queue is not empty
 queued-there : (c : goal.After-deref) → IsQueued c.deref.result.now (order_of c.deref.result.now)

@@ -8,7 +8,7 @@ use Rattle.segments.specs.SlotTable.{IsInSlots, raised, lowered, lengths_of}
 use Rattle.segments.proofs.Orders.{order-is}
 use Rattle.segments.proofs.Tables.{held-shifted, take-front}
 use Rattle.segments.proofs.Calls.{lengths-out, lengths-sent, shift-recent, shift-back, taken-is}
-use Rattle.segments.proofs.Kept.{free-raised, free-lowered, held-used, used-slot, kept-on}
+use Rattle.segments.proofs.Kept.{free-raised, free-lowered, held-used, used-slot, room-kept, kept-on}
 use Rattle.segments.proofs.slot_table.SlotTable.shift.Goals as goal
 use Rattle.segments.proofs.slot_table.SlotTable.shift.Goals.{After-deref_mut-slots, After-send, After-raise}
 
@@ -17,8 +17,8 @@ used-there : (c : goal.After-deref_mut-slots) → 1 ≤ count c.args.at (used (o
 used-there c = rw (c.deref_mut-slots.ensures.value ∙ c.self.view_is) c.requires.used
 
 -- and they hold together
-held-there : (c : goal.After-deref_mut-slots) → IsInSlots c.deref_mut-slots.result.now c.self.inside.index.heads.items c.self.inside.index.bits (order_of c.deref_mut-slots.result.now)
-held-there c = held-used c.deref_mut-slots.result.now c.self.inside.slots.items _ _ _ c.self.invariant c.deref_mut-slots.ensures.value c.args.at (used-there c)
+held-there : (c : goal.After-deref_mut-slots) → IsInSlots c.deref_mut-slots.result.now c.self.inside.index (order_of c.deref_mut-slots.result.now)
+held-there c = held-used c.deref_mut-slots.result.now c.self.inside.slots.items _ _ c.self.invariant c.deref_mut-slots.ensures.value c.args.at (used-there c)
 
 order-after : (c : goal.After-send) → order_of c.send.new.slots ≡ sent c.args.at c.args.queue c.args.before (order_of c.deref_mut-slots.result.now)
 order-after c = order-is (newers c.send.new.slots) (olders c.send.new.slots) (sent c.args.at c.args.queue c.args.before (order_of c.deref_mut-slots.result.now)) c.send.ensures.ring
@@ -44,10 +44,10 @@ pub invariant_of-self : goal.invariant_of-self
 invariant_of-self c =
     let at = goal.at.invariant_of-self c in
     let a = at.After-deref_mut-slots in
-    let held = subst (IsInSlots c.send.new.slots c.self.inside.index.heads.items c.self.inside.index.bits) (sym (order-after at.After-send))
-    (held-shifted c.deref_mut-slots.result.now c.send.new.slots c.self.inside.index.heads.items c.self.inside.index.bits (order_of c.deref_mut-slots.result.now) (held-there a) c.args.at (used-there a) c.args.queue c.args.before c.send.ensures.ring c.send.ensures.chains c.send.ensures.items c.send.ensures.tags) in
+    let held = subst (IsInSlots c.send.new.slots c.self.inside.index) (sym (order-after at.After-send))
+    (held-shifted c.deref_mut-slots.result.now c.send.new.slots c.self.inside.index (order_of c.deref_mut-slots.result.now) (held-there a) c.args.at (used-there a) c.args.queue c.args.before c.send.ensures.ring c.send.ensures.items c.send.ensures.tags (room-kept c.deref_mut-slots.result.now c.send.new.slots c.self.inside.index c.self.inside.index _ (held-there a) (omega arith) refl)) in
     let whole : take c.self.inside.slots.len (c.send.new.slots ++ drop (length c.send.new.slots) c.self.inside.slots.items) ≡ c.send.new.slots = take-front _ _ _ (omega arith) in
-    rw whole (kept-on c.self.inside.slots.items c.send.new.slots _ _ _ _ _ _ c.self.invariant held (counted-after at.After-raise (held-there a).queued (order-after at.After-send)) (omega arith) refl)
+    rw whole (kept-on c.self.inside.slots.items c.send.new.slots _ _ _ _ c.self.invariant held (counted-after at.After-raise (held-there a).queued (order-after at.After-send)) (omega arith) refl)
 
 pub returns-clause-spare : goal.returns-clause-spare
 returns-clause-spare c =

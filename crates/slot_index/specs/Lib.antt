@@ -1,0 +1,4 @@
+pub mod Trees
+pub mod Places
+pub mod Index
+pub mod Walks
