@@ -5,12 +5,13 @@ use std::io::{Error, ErrorKind, Read, Result, Write};
 /// Room for all that is written, so that no output asks for memory.
 pub const ROOM: usize = 1024;
 
-/// An input or an output of one byte at a call, which fails once so many calls passed.
+/// An input or an output of one byte at a call, which is interrupted so often and fails once so many calls passed.
 #[derive(Drop)]
 pub struct Pipe<'a> {
     text: &'a [u8],
     pub taken: Vec<u8>,
     passes: usize,
+    pub interruptions: u32,
 }
 
 impl<'a> Pipe<'a> {
@@ -24,10 +25,15 @@ impl<'a> Pipe<'a> {
             text,
             taken: Vec::with_capacity(alloc, ROOM)?,
             passes,
+            interruptions: 0,
         })
     }
 
     fn next(&mut self) -> Result<()> {
+        if self.interruptions > 0 {
+            self.interruptions -= 1;
+            return Err(Error::from(ErrorKind::Interrupted));
+        }
         if self.passes == 0 {
             return Err(Error::from(ErrorKind::BrokenPipe));
         }

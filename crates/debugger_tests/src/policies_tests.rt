@@ -8,11 +8,11 @@ use std::process::Abort;
 use std::test::Fail;
 use step_record::{Config, Job, Key, Policy, Spread, Trace};
 
-fn job(policy: Policy, capacity: u32) -> Job {
+const fn at_two(policy: Policy) -> Job {
     Job {
         policy,
         config: Config {
-            capacity,
+            capacity: 2,
             main_percent: 99,
             spread: Spread::Plain,
             stripes: 1,
@@ -28,113 +28,46 @@ fn trace_of(alloc: Global, keys: &[Key]) -> Result<Trace, Fail> {
     }
 }
 
-fn part_of(alloc: Global, keys: &[Key], first: &Job, second: &Job) -> Result<Option<u64>, Fail> {
-    let trace = trace_of(alloc, keys)?;
-    match part(alloc, &trace, first, second) {
-        Ok(found) => Ok(found),
-        Err(ActorFault::OutOfMemory) => Err(Fail::from("out of memory")),
-        Err(_) => Err(Fail::from("no answer")),
-    }
-}
-
-fn assert_part(
-    rt: &impl Abort,
-    alloc: Global,
-    keys: &[Key],
-    (first, second): (&Job, &Job),
-    wanted: Option<u64>,
-) -> Result<(), Fail> {
-    let found = part_of(alloc, keys, first, second)?;
-    assert_eq!(rt; found, wanted, "over {keys:?}");
-    Ok(())
-}
+// Accesses, a policy beside Lru, and the first access at which just one of the two hits. At the fifth access Lru holds 2
+// and 3; SegmentedLru protected 1 at the second, and holds 3 and 1. The optimal policy rejects 3 and hits 1 and 2, of
+// which Lru evicts 1 for 3 and 2 for 1; where no key comes twice, neither hits.
+const PARTS: [(&[Key], Policy, Option<u64>); 3] = [
+    (&[1, 1, 2, 3, 1], Policy::SegmentedLru, Some(5)),
+    (&[1, 2, 3, 1, 2], Policy::Clairvoyant, Some(4)),
+    (&[1, 2, 3, 4], Policy::Clairvoyant, None),
+];
 
 #[test]
 fn the_first_access_at_which_just_one_hits(rt: HostRuntime) -> Result<(), Fail> {
-    let alloc = rt.alloc();
-    let lru = job(Policy::Lru, 2);
-    let segmented = job(Policy::SegmentedLru, 2);
-    let optimal = job(Policy::Clairvoyant, 2);
-    // At the fifth access Lru holds 2 and 3; SegmentedLru protected 1 at the second, and holds 3 and 1.
-    let keys = [1, 1, 2, 3, 1];
-    assert_part(&rt, alloc, &keys, (&lru, &segmented), Some(5))?;
-    assert_part(&rt, alloc, &keys, (&segmented, &lru), Some(5))?;
-    // The optimal policy rejects 3 and hits 1 and 2, of which Lru evicts 1 for 3 and 2 for 1.
-    assert_part(&rt, alloc, &[1, 2, 3, 1, 2], (&lru, &optimal), Some(4))?;
-    // Two capacities of one policy: 2 evicts 1 where there is room for one key.
-    let small = job(Policy::Lru, 1);
-    assert_part(&rt, alloc, &[1, 2, 1], (&small, &lru), Some(3))
-}
-
-#[test]
-fn policies_that_never_part(rt: HostRuntime) -> Result<(), Fail> {
-    let alloc = rt.alloc();
-    let lru = job(Policy::Lru, 2);
-    let optimal = job(Policy::Clairvoyant, 2);
-    // No key comes twice, so that neither hits; the two evict other keys.
-    assert_part(&rt, alloc, &[1, 2, 3, 4], (&lru, &optimal), None)?;
-    // Both hit at the second access and miss at all others.
-    assert_part(&rt, alloc, &[1, 1, 2, 3], (&lru, &optimal), None)?;
-    assert_part(&rt, alloc, &[], (&lru, &optimal), None)?;
-    assert_part(&rt, alloc, &[1, 1, 2, 3, 1], (&lru, &lru), None)
-}
-
-#[test]
-fn a_refused_configuration_is_reported_by_its_index(rt: HostRuntime) -> Result<(), Fail> {
-    let alloc = rt.alloc();
-    let trace = trace_of(alloc, &[1, 2])?;
-    let good = job(Policy::Lru, 2);
-    let bad = job(Policy::Lru, 0);
-    for (first, second, index) in [(bad, bad, 0), (bad, good, 0), (good, bad, 1)] {
-        match part(alloc, &trace, &first, &second) {
-            Err(fault) => assert_equal(&rt, fault, ActorFault::Config { index }),
-            Ok(_) => return Err(Fail::from("no fault")),
+    for (keys, policy, wanted) in PARTS {
+        let trace = trace_of(rt.alloc(), keys)?;
+        match part(rt.alloc(), &trace, &at_two(Policy::Lru), &at_two(policy)) {
+            Ok(found) => assert_eq!(rt; found, wanted, "over {keys:?}"),
+            Err(ActorFault::OutOfMemory) => return Err(Fail::from("out of memory")),
+            Err(_) => return Err(Fail::from("no answer")),
         }
     }
     Ok(())
 }
 
-// What the debugger writes of two policies over a trace.
-fn said_of(
+// The answer to commands about the trace 1 1 2 3 1 at capacity 2, with lru as `a` and slru as `b`, through these ends.
+fn answer_through(
     alloc: Global,
-    keys: &[Key],
-    first: &Job,
-    second: &Job,
-    commands: &[u8],
-) -> Result<Vec<u8>, Fail> {
-    let trace = trace_of(alloc, keys)?;
-    let mut out = Vec::with_capacity(alloc, ROOM)?;
-    let mut rest = commands;
-    match run_debug(alloc, &trace, first, second, &mut rest, &mut out) {
-        Ok(()) => Ok(out),
+    input: &mut Pipe<'_>,
+    output: &mut Pipe<'_>,
+) -> Result<Result<(), DebugFault>, Fail> {
+    let trace = trace_of(alloc, &[1, 1, 2, 3, 1])?;
+    let (lru, segmented) = (at_two(Policy::Lru), at_two(Policy::SegmentedLru));
+    match run_debug(alloc, &trace, &lru, &segmented, input, output) {
         Err(DebugFault::OutOfMemory) => Err(Fail::from("out of memory")),
-        Err(_) => Err(Fail::from("a fault")),
+        answer => Ok(answer),
     }
-}
-
-// Sees that it writes this text.
-fn assert_said_of(
-    rt: &impl Abort,
-    alloc: Global,
-    keys: &[Key],
-    (first, second): (&Job, &Job),
-    (commands, text): (&[u8], &[u8]),
-) -> Result<(), Fail> {
-    let out = said_of(alloc, keys, first, second, commands)?;
-    assert_equal(rt, out.as_slice(), text);
-    Ok(())
-}
-
-// Sees what it writes of the trace 1 1 2 3 1 at capacity 2, with lru as `a` and slru as `b`.
-fn assert_said(rt: &impl Abort, alloc: Global, commands: &[u8], text: &[u8]) -> Result<(), Fail> {
-    let (lru, segmented) = (job(Policy::Lru, 2), job(Policy::SegmentedLru, 2));
-    let dialogue = (commands, text);
-    assert_said_of(rt, alloc, &[1, 1, 2, 3, 1], (&lru, &segmented), dialogue)
 }
 
 #[test]
 fn a_debug_session(rt: HostRuntime) -> Result<(), Fail> {
-    let commands = b"part\ngoto 5\nback 1\nshow\nback 5\ngoto 0\nbreak part\nrun\nrun\njump\n";
+    let commands =
+        "part\ngoto 5\nback 1\nshow\nback 5\ngoto 0\nbreak part\nrun\nclear\nbreak evict 2\nrun\njump\nquit\n";
     let text = "part 5
 at 5
 at 4
@@ -147,62 +80,17 @@ at 0
 ok
 stop part
 at 5
+ok
+ok
 fault: PastEnd
 fault: Command
 ";
-    assert_said(&rt, rt.alloc(), commands.as_slice(), text.as_bytes())
-}
-
-// Lru hits at 2, and evicts 1 at 4 and 2 at 5; SegmentedLru hits at 2 and 5, and evicts 2 at 4. At 5 two breakpoints
-// hold, of which the one that was set first is named.
-#[test]
-fn breakpoints_of_two_policies(rt: HostRuntime) -> Result<(), Fail> {
-    let commands = b"break evict 2\nbreak hit 1\nrun\nrun\nrun\nclear\ngoto 0\nrun\nquit\nshow\n";
-    let text = "ok
-ok
-stop hit
-at 2
-stop evict
-at 4
-stop evict
-at 5
-ok
-at 0
-end
-at 5
-";
-    assert_said(&rt, rt.alloc(), commands.as_slice(), text.as_bytes())
-}
-
-// A sketch for one entry is halved at the tenth record. The position before it is the tenth step's start.
-#[test]
-fn a_breakpoint_at_a_halving(rt: HostRuntime) -> Result<(), Fail> {
-    let commands = b"break halve\nrun\nback 1\nrun\nrun\n";
-    let text = "ok\nstop halve\nat 10\nat 9\nstop halve\nat 10\nend\nat 12\n";
-    let (lru, window) = (job(Policy::Lru, 1), job(Policy::WindowTinyLfu, 1));
-    let dialogue = (commands.as_slice(), text.as_bytes());
-    assert_said_of(&rt, rt.alloc(), &[1; 12], (&lru, &window), dialogue)?;
-    assert_said_of(&rt, rt.alloc(), &[1; 12], (&window, &lru), dialogue)
-}
-
-// A line 64 times, and what lies behind it.
-fn sixty_four(alloc: Global, line: &[u8], rest: &[u8]) -> Result<Vec<u8>, Fail> {
-    let mut text = Vec::new(alloc);
-    for _ in 0..64 {
-        text.extend_from_slice(line)?;
-    }
-    text.extend_from_slice(rest)?;
-    Ok(text)
-}
-
-// Behind a 65th breakpoint that was not kept there is room for 64 again.
-#[test]
-fn sixty_four_breakpoints(rt: HostRuntime) -> Result<(), Fail> {
-    let rest = b"break hit 1\nrun\nclear\nbreak hit 1\ngoto 0\nrun";
-    let commands = sixty_four(rt.alloc(), b"break hit 7\n", rest)?;
-    let rest = b"fault: Breaks\nend\nat 5\nok\nok\nat 0\nstop hit\nat 2\n";
-    let text = sixty_four(rt.alloc(), b"ok\n", rest)?;
-    assert_said(&rt, rt.alloc(), commands.as_slice(), text.as_slice())
+    let mut input = Pipe::of(rt.alloc(), commands.as_bytes(), ROOM)?;
+    let mut output = Pipe::of(rt.alloc(), b"", ROOM)?;
+    let answer = answer_through(rt.alloc(), &mut input, &mut output)?;
+    assert_equal(&rt, answer, Ok(()));
+    assert_equal(&rt, output.taken.as_slice(), text.as_bytes());
+    Ok(())
 }
 
 // Two commands, of which the second ends the run, and what lies behind it.
@@ -216,71 +104,64 @@ const ANSWERS: &[u8] = b"at 5\n";
 // As many writes as the answer has bytes, and a flush for each of the two commands.
 const WRITES: usize = 5 + 2;
 
-// The answer to the commands, through these ends.
-fn answer_through(
-    alloc: Global,
-    input: &mut Pipe<'_>,
-    output: &mut Pipe<'_>,
-) -> Result<Result<(), DebugFault>, Fail> {
-    let trace = trace_of(alloc, &[1, 1, 2, 3, 1])?;
-    let (lru, segmented) = (job(Policy::Lru, 2), job(Policy::SegmentedLru, 2));
-    match run_debug(alloc, &trace, &lru, &segmented, input, output) {
-        Err(DebugFault::OutOfMemory) => Err(Fail::from("out of memory")),
-        answer => Ok(answer),
-    }
+// How many calls each end lets pass, and by how many interruptions it is held up before.
+#[derive(Clone, Copy, Debug)]
+struct Ends {
+    reads: usize,
+    writes: usize,
+    interruptions: (u32, u32),
 }
 
-// Sees what the commands are answered through ends that let so many calls pass, and that the front of the answers is
-// written, all of them where there is no fault.
+// Sees what the commands are answered through such ends, and that the front of the answers is written, all of them where
+// there is no fault.
 fn assert_through(
     rt: &impl Abort,
     alloc: Global,
-    (reads, writes): (usize, usize),
+    ends: Ends,
     wanted: Result<(), DebugFault>,
 ) -> Result<(), Fail> {
-    let mut input = Pipe::of(alloc, COMMANDS, reads)?;
-    let mut output = Pipe::of(alloc, b"", writes)?;
+    let mut input = Pipe::of(alloc, COMMANDS, ends.reads)?;
+    let mut output = Pipe::of(alloc, b"", ends.writes)?;
+    input.interruptions = ends.interruptions.0;
+    output.interruptions = ends.interruptions.1;
     let answer = answer_through(alloc, &mut input, &mut output)?;
-    assert_eq!(rt; answer, wanted, "{reads} reads, {writes} writes");
+    assert_eq!(rt; answer, wanted, "{ends:?}");
     assert!(rt; ANSWERS.starts_with(output.taken.as_slice()));
     assert!(rt; answer.is_err() || output.taken.len() == ANSWERS.len());
     Ok(())
 }
 
+const WHOLE: Ends = Ends {
+    reads: READS,
+    writes: WRITES,
+    interruptions: (0, 0),
+};
+
 #[test]
 fn each_read_or_write_that_fails_is_reported(rt: HostRuntime) -> Result<(), Fail> {
     for reads in 0..READS {
-        assert_through(&rt, rt.alloc(), (reads, ROOM), Err(DebugFault::Read))?;
+        let ends = Ends { reads, ..WHOLE };
+        assert_through(&rt, rt.alloc(), ends, Err(DebugFault::Read))?;
     }
     for writes in 0..WRITES {
-        assert_through(&rt, rt.alloc(), (READS, writes), Err(DebugFault::Write))?;
+        let ends = Ends { writes, ..WHOLE };
+        assert_through(&rt, rt.alloc(), ends, Err(DebugFault::Write))?;
     }
-    assert_through(&rt, rt.alloc(), (READS, WRITES), Ok(()))
-}
-
-// Sees that a configuration is refused, by ends of which each call would fail.
-fn assert_refused(
-    rt: &impl Abort,
-    alloc: Global,
-    trace: &Trace,
-    (first, second): (&Job, &Job),
-    index: usize,
-) -> Result<(), Fail> {
-    let mut input = Pipe::of(alloc, COMMANDS, 0)?;
-    let mut output = Pipe::of(alloc, COMMANDS, 0)?;
-    let refused = run_debug(alloc, trace, first, second, &mut input, &mut output);
-    assert_equal(rt, refused, Err(DebugFault::Config { index }));
-    Ok(())
+    assert_through(&rt, rt.alloc(), WHOLE, Ok(()))
 }
 
 #[test]
-fn a_refused_configuration_is_reported_before_anything_is_read(
-    rt: HostRuntime,
-) -> Result<(), Fail> {
-    let trace = trace_of(rt.alloc(), &[1, 2])?;
-    let (good, bad) = (job(Policy::Lru, 2), job(Policy::Lru, 0));
-    for (first, second, index) in [(bad, bad, 0), (bad, good, 0), (good, bad, 1)] {
-        assert_refused(&rt, rt.alloc(), &trace, (&first, &second), index)?;
+fn the_millionth_interruption_is_a_failure(rt: HostRuntime) -> Result<(), Fail> {
+    for (interruptions, wanted) in [
+        ((999_999, 999_999), Ok(())),
+        ((1_000_000, 0), Err(DebugFault::Read)),
+        ((0, 1_000_000), Err(DebugFault::Write)),
+    ] {
+        let ends = Ends {
+            interruptions,
+            ..WHOLE
+        };
+        assert_through(&rt, rt.alloc(), ends, wanted)?;
     }
     Ok(())
 }

@@ -8,7 +8,6 @@ use std::process::Abort;
 use std::test::Fail;
 use step_record::{ConfigFault, StepFault};
 use streams::{ReadAllFault, ReadFault, WriteAllFault, WriteFault};
-use trace_read::TraceFault;
 
 // Each fault is displayed as the text beside it.
 fn assert_shown<D: Display>(
@@ -24,42 +23,24 @@ fn assert_shown<D: Display>(
 }
 
 #[test]
-fn a_fault_of_reading_is_shown_by_its_name(rt: HostRuntime) -> Result<(), Fail> {
-    let all = [
+fn faults_of_streams_are_shown_by_their_names(rt: HostRuntime) -> Result<(), Fail> {
+    let reads = [
         (ReadAllFault::OutOfMemory, "OutOfMemory"),
         (ReadAllFault::TooLarge, "TooLarge"),
         (ReadAllFault::Read, "Read"),
     ];
-    assert_shown(&rt, rt.alloc(), &all)?;
-    assert_shown(&rt, rt.alloc(), &[(ReadFault, "Read")])
-}
-
-#[test]
-fn a_fault_of_writing_is_shown_by_its_name(rt: HostRuntime) -> Result<(), Fail> {
-    let table = [
+    assert_shown(&rt, rt.alloc(), &reads)?;
+    assert_shown(&rt, rt.alloc(), &[(ReadFault, "Read")])?;
+    let writes = [
         (WriteFault::OutOfMemory, "OutOfMemory"),
         (WriteFault::Write, "Write"),
     ];
-    assert_shown(&rt, rt.alloc(), &table)?;
+    assert_shown(&rt, rt.alloc(), &writes)?;
     assert_shown(&rt, rt.alloc(), &[(WriteAllFault, "Write")])
 }
 
 #[test]
-fn a_fault_of_a_trace_is_shown_by_its_name_and_line(rt: HostRuntime) -> Result<(), Fail> {
-    let table = [
-        (TraceFault::OutOfMemory, "OutOfMemory"),
-        (TraceFault::BadNumber { line: 2 }, "BadNumber line 2"),
-        (TraceFault::MissingField { line: 1 }, "MissingField line 1"),
-        (TraceFault::Range { line: 30 }, "Range line 30"),
-        (TraceFault::TooLong { line: 4 }, "TooLong line 4"),
-        (TraceFault::TooLarge, "TooLarge"),
-        (TraceFault::Read, "Read"),
-    ];
-    assert_shown(&rt, rt.alloc(), &table)
-}
-
-#[test]
-fn a_fault_of_a_configuration_or_a_step_is_shown_by_its_name(rt: HostRuntime) -> Result<(), Fail> {
+fn faults_of_jobs_are_shown_by_their_names(rt: HostRuntime) -> Result<(), Fail> {
     let configs = [
         (ConfigFault::Capacity, "Capacity"),
         (ConfigFault::MainPercent, "MainPercent"),
@@ -67,32 +48,32 @@ fn a_fault_of_a_configuration_or_a_step_is_shown_by_its_name(rt: HostRuntime) ->
         (ConfigFault::JournalLimit, "JournalLimit"),
     ];
     assert_shown(&rt, rt.alloc(), &configs)?;
-    let steps = [
-        (StepFault::OutOfMemory, "OutOfMemory"),
-        (StepFault::NotNow, "NotNow"),
-    ];
-    assert_shown(&rt, rt.alloc(), &steps)
-}
-
-#[test]
-fn a_fault_of_jobs_is_shown_by_its_name(rt: HostRuntime) -> Result<(), Fail> {
-    let table = [
+    let jobs = [
         (ActorFault::OutOfMemory, "OutOfMemory"),
         (ActorFault::Batch, "Batch"),
         (ActorFault::Config { index: 3 }, "Config"),
         (ActorFault::Actors, "Actors"),
     ];
-    assert_shown(&rt, rt.alloc(), &table)
+    assert_shown(&rt, rt.alloc(), &jobs)
 }
 
 #[test]
-fn each_fault_of_a_session_is_shown_by_its_name(rt: HostRuntime) -> Result<(), Fail> {
-    let steps = [
+fn faults_of_steps_are_shown_by_their_names(rt: HostRuntime) -> Result<(), Fail> {
+    let engine = [
+        (StepFault::OutOfMemory, "OutOfMemory"),
+        (StepFault::NotNow, "NotNow"),
+    ];
+    assert_shown(&rt, rt.alloc(), &engine)?;
+    let session = [
         (SessionFault::OutOfMemory, "OutOfMemory"),
         (SessionFault::NotNow, "NotNow"),
         (SessionFault::JournalFull, "JournalFull"),
     ];
-    assert_shown(&rt, rt.alloc(), &steps)?;
+    assert_shown(&rt, rt.alloc(), &session)
+}
+
+#[test]
+fn faults_of_undoing_are_shown_by_their_names(rt: HostRuntime) -> Result<(), Fail> {
     let back = [
         (BackFault::OutOfMemory { undone: 7 }, "OutOfMemory"),
         (BackFault::PastStart, "PastStart"),
@@ -111,20 +92,16 @@ fn each_fault_of_a_session_is_shown_by_its_name(rt: HostRuntime) -> Result<(), F
 }
 
 #[test]
-fn an_unfinished_maintenance_is_shown_by_its_cause(rt: HostRuntime) -> Result<(), Fail> {
-    let table = [
+fn what_is_left_unfinished_is_shown_by_its_cause(rt: HostRuntime) -> Result<(), Fail> {
+    let rounds = [
         (SettleFault::OutOfMemory { done: 7 }, "OutOfMemory"),
         (SettleFault::JournalFull { done: 7 }, "JournalFull"),
     ];
-    assert_shown(&rt, rt.alloc(), &table)
-}
-
-#[test]
-fn an_unfinished_quiet_run_is_shown_by_its_cause(rt: HostRuntime) -> Result<(), Fail> {
-    let table = [
+    assert_shown(&rt, rt.alloc(), &rounds)?;
+    let runs = [
         (QuietFault::OutOfMemory { done: 7 }, "OutOfMemory"),
         (QuietFault::JournalFull { done: 7 }, "JournalFull"),
         (QuietFault::Held, "Held"),
     ];
-    assert_shown(&rt, rt.alloc(), &table)
+    assert_shown(&rt, rt.alloc(), &runs)
 }

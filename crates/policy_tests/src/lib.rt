@@ -1,4 +1,4 @@
-//! Tests of the policies: worked examples, an eviction undone by each, and a session that goes back across a halving;
+//! Tests of the policies: worked examples, with each access undone once, and a session that goes back across a halving;
 //! reports as text, and the displayed texts of faults: of streams, traces, jobs, sessions and quiet runs.
 #![tactic(auto)]
 

@@ -1,108 +1,141 @@
-//! Sessions over an engine that fails to allocate at calls that are set by number.
+//! Journals worked out by hand: each is read, undone to its start, redone, and written as it was.
 use super::assertions::assert_equal;
-use super::counter::Counter;
-use journal::{BackFault, ForwardFault, GotoFault, Session, SessionFault};
+use super::sessions::{CONFIG, read};
+use journal::Session;
+use journal_text::write_journal;
+use maintenance::Shell;
+use std::alloc::Global;
 use std::process::Abort;
-use step_record::Engine;
+use std::test::Fail;
+use step_record::Config;
 
-// Sees how many steps are applied, and how many are undone.
-fn assert_place(rt: &impl Abort, session: &Session<Counter>, wanted: (usize, usize)) {
-    assert_equal(rt, (session.len(), session.ahead()), wanted);
+// A key is read, removed and read again, each with a round.
+const THREE_ROUNDS: &str = "cachesim journal 2
+0 look 1 = miss
+0 put 1 = added 0
+0 afterwrite = drain
+0 begin = began
+0 drainread 0 = empty
+0 drainwrite = applied 1 0
+0 drainwrite = empty
+0 evict = fits
+0 end = idle
+0 remove 1 = removed 0
+0 afterwrite = drain
+0 begin = began
+0 drainread 0 = empty
+0 drainwrite = cleared 1 0
+0 drainwrite = empty
+0 evict = fits
+0 end = idle
+0 look 1 = miss
+0 put 1 = added 1
+0 afterwrite = drain
+0 begin = began
+0 drainread 0 = empty
+0 drainwrite = applied 1 1
+0 drainwrite = empty
+0 evict = fits
+0 end = idle
+steps 26
+";
+
+// A seventeenth read is dropped.
+const READS: &str = "cachesim journal 2
+0 put 1 = added 0
+0 look 1 = hit 0
+0 lose 0 1 0 = lost
+0 offer 0 1 0 = kept\n0 offer 0 1 0 = kept\n0 offer 0 1 0 = kept\n0 offer 0 1 0 = kept\n\
+0 offer 0 1 0 = kept\n0 offer 0 1 0 = kept\n0 offer 0 1 0 = kept\n0 offer 0 1 0 = kept\n\
+0 offer 0 1 0 = kept\n0 offer 0 1 0 = kept\n0 offer 0 1 0 = kept\n0 offer 0 1 0 = kept\n\
+0 offer 0 1 0 = kept\n0 offer 0 1 0 = kept\n0 offer 0 1 0 = kept\n0 offer 0 1 0 = kept\n\
+0 offer 0 1 0 = full
+0 afterread full = drain
+0 begin = began
+0 drainread 0 = drained 1 0
+steps 23
+";
+
+// A write during maintenance asks for another round, and a second worker finds the first at it.
+const LATE_WRITE: &str = "cachesim journal 2
+0 begin = began
+1 begin = busy
+1 afterwrite = go
+0 end = again
+steps 4
+";
+
+// At one entry: an item that is rejected was removed before, and its key came back under a newer node.
+const REJECTED: &str = "cachesim journal 2
+0 remove 1 = absent
+0 put 1 = added 0
+0 put 2 = added 1
+0 begin = began
+0 drainwrite = applied 1 0
+0 drainwrite = applied 2 1
+1 remove 1 = removed 0
+1 put 1 = added 2
+0 evict = rejected 1 0
+0 evict = fits
+0 end = idle
+0 begin = began
+0 drainwrite = cleared 1 0
+0 drainwrite = applied 1 2
+steps 14
+";
+
+// The journals, with the entries of their caches.
+const JOURNALS: [(&str, u32); 4] = [
+    (THREE_ROUNDS, 8),
+    (READS, 8),
+    (LATE_WRITE, 8),
+    (REJECTED, 1),
+];
+
+// A session is written so.
+fn assert_written(
+    rt: &impl Abort,
+    alloc: Global,
+    session: &Session<Shell>,
+    wanted: &str,
+) -> Result<(), Fail> {
+    // A vector that grows while it is written to would answer `Write` where it is out of memory.
+    let mut text = Vec::with_capacity(alloc, 1024)?;
+    write_journal(alloc, session, &mut text)?;
+    assert_equal(rt, text.as_slice(), wanted.as_bytes());
+    Ok(())
 }
 
-// Makes steps, which get the replies from 1 to this one.
-fn step_to(rt: &impl Abort, session: &mut Session<Counter>, last: u64) {
-    for before in 0..last {
-        assert_equal(rt, session.step(()), Ok(before + 1));
+// Undoes all steps of a session, redoes them, and sees how it is written.
+fn go_there_and_back(
+    rt: &impl Abort,
+    alloc: Global,
+    session: &mut Session<Shell>,
+    text: &str,
+) -> Result<(), Fail> {
+    let steps = session.len();
+    session.back(steps)?;
+    assert_equal(rt, (session.len(), session.ahead()), (0, steps));
+    assert_equal(rt, session.engine().next_node(), 0);
+    session.forward(steps)?;
+    assert_written(rt, alloc, session, text)
+}
+
+#[test]
+fn journals_are_read_undone_redone_and_written(rt: HostRuntime) -> Result<(), Fail> {
+    for (text, capacity) in JOURNALS {
+        let config = Config { capacity, ..CONFIG };
+        let mut session = read(&rt, rt.alloc(), &config, text)?;
+        go_there_and_back(&rt, rt.alloc(), &mut session, text)?;
     }
+    Ok(())
 }
 
-// Goes back twice, since the first fails to allocate at its third step.
-fn assert_back(rt: &impl Abort, session: &mut Session<Counter>) {
-    assert_equal(
-        rt,
-        session.back(5),
-        Err(BackFault::OutOfMemory { undone: 2 }),
-    );
-    assert_place(rt, session, (3, 2));
-    assert_equal(rt, session.back(3), Ok(()));
-    assert_place(rt, session, (0, 5));
-}
-
-// Goes forward, failing to allocate at the second step.
-fn assert_forward(rt: &impl Abort, session: &mut Session<Counter>) {
-    let answer = session.forward(5);
-    assert_equal(rt, answer, Err(ForwardFault::OutOfMemory { done: 1 }));
-    assert_place(rt, session, (1, 4));
-}
-
-// Goes to a number of steps, failing to allocate past the third.
-fn assert_goto(rt: &impl Abort, session: &mut Session<Counter>) {
-    assert_equal(rt, session.goto(4), Err(GotoFault::OutOfMemory { at: 3 }));
-    assert_place(rt, session, (3, 2));
-    assert_equal(rt, session.engine().standing(), 3);
-}
-
+// The version that has no count is written in the one that has.
 #[test]
-fn each_refusal_names_where_the_session_stands(rt: HostRuntime) {
-    let mut session = Session::open(rt.alloc(), Counter::new([8, 13, 16]), 5);
-    step_to(&rt, &mut session, 5);
-    assert_back(&rt, &mut session);
-    assert_forward(&rt, &mut session);
-    assert_goto(&rt, &mut session);
-}
-
-// Undoes one step, at the second try, and is refused another.
-fn assert_step_refused(rt: &impl Abort, session: &mut Session<Counter>) {
-    assert_equal(
-        rt,
-        session.back(1),
-        Err(BackFault::OutOfMemory { undone: 0 }),
-    );
-    assert_equal(rt, session.back(1), Ok(()));
-    assert_equal(rt, session.step(()), Err(SessionFault::OutOfMemory));
-    assert_place(rt, session, (1, 1));
-}
-
-// Sees the entry of the second step, and that there is none before the first and past it.
-fn assert_entries(rt: &impl Abort, session: &Session<Counter>) {
-    assert_equal(rt, session.entry(2).map(|entry| entry.reply), Some(2));
-    assert!(rt; session.entry(0).is_none());
-    assert!(rt; session.entry(3).is_none());
-}
-
-#[test]
-fn a_refused_step_keeps_the_undone_ones(rt: HostRuntime) {
-    let mut session = Session::open(rt.alloc(), Counter::new([3, 5, 0]), 5);
-    step_to(&rt, &mut session, 2);
-    assert_step_refused(&rt, &mut session);
-    assert_equal(&rt, session.goto(2), Ok(()));
-    assert_entries(&rt, &session);
-}
-
-// Sees what a full session of three steps refuses.
-fn assert_full(rt: &impl Abort, session: &mut Session<Counter>) {
-    assert_equal(rt, session.step(()), Err(SessionFault::JournalFull));
-    assert_equal(rt, session.back(4), Err(BackFault::PastStart));
-    assert_equal(rt, session.forward(1), Err(ForwardFault::PastEnd));
-    assert_equal(rt, session.goto(4), Err(GotoFault::PastEnd));
-    assert_place(rt, session, (3, 0));
-}
-
-// Goes to the first step and forward by one.
-fn assert_walks(rt: &impl Abort, session: &mut Session<Counter>) {
-    assert_equal(rt, session.goto(1), Ok(()));
-    assert_equal(rt, session.forward(1), Ok(()));
-    assert_place(rt, session, (2, 1));
-}
-
-#[test]
-fn a_full_session_and_walks_past_its_ends(rt: HostRuntime) {
-    let mut session = Session::open(rt.alloc(), Counter::new([0, 0, 0]), 3);
-    step_to(&rt, &mut session, 3);
-    assert_full(&rt, &mut session);
-    assert_walks(&rt, &mut session);
-    assert_equal(&rt, session.step(()), Ok(3));
-    assert_place(&rt, &session, (3, 0));
-    assert_equal(&rt, session.held(), 0);
+fn a_journal_of_the_first_version_is_read(rt: HostRuntime) -> Result<(), Fail> {
+    let text = "cachesim journal 1\n0 look 1 = miss\n0 put 1 = added 0\n";
+    let wanted = "cachesim journal 2\n0 look 1 = miss\n0 put 1 = added 0\nsteps 2\n";
+    let session = read(&rt, rt.alloc(), &CONFIG, text)?;
+    assert_written(&rt, rt.alloc(), &session, wanted)
 }

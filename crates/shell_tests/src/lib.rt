@@ -1,13 +1,11 @@
-//! Tests of sessions: over an engine that fails to allocate at calls that are set by number, and over a `Shell`, made by
-//! hand, undone, redone, written as text and read back.
+//! Tests of sessions over the concurrent cache: journals that are read, undone, redone and written, ends that fail, and
+//! calls at both ends of their ranges.
 #![tactic(auto)]
 
 #[cfg(test)]
 mod assertions;
 #[cfg(test)]
 mod copy_tests;
-#[cfg(test)]
-mod counter;
 #[cfg(test)]
 mod ends;
 #[cfg(test)]
@@ -17,12 +15,4 @@ mod journal_tests;
 #[cfg(test)]
 mod range_tests;
 #[cfg(test)]
-mod retry_tests;
-#[cfg(test)]
-mod session_tests;
-#[cfg(test)]
 mod sessions;
-#[cfg(test)]
-mod shell_line;
-#[cfg(test)]
-mod text_tests;

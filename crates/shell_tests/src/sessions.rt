@@ -1,15 +1,14 @@
-//! Sessions to test, and steps with the replies that they are to get.
+//! Sessions to test.
 ghost use Rattle.std.specs.Prelude.{◌≡◌, ◌≤◌, [], IfOk};
 ghost use Rattle.step_record.specs.declared.limits.TheConstants.{MAX_JOURNAL_LIMIT};
 
-use super::shell_line::assert_shows;
 use journal::{Session, SessionFault};
 use journal_text::read_journal;
 use maintenance::Shell;
 use std::alloc::Global;
 use std::process::Abort;
 use std::test::Fail;
-use step_record::{Act, Config, Engine, Reply, Spread, Step, Worker};
+use step_record::{Act, Config, Reply, Spread, Step, Worker};
 
 /// A configuration of one read buffer.
 pub const CONFIG: Config = Config {
@@ -24,7 +23,7 @@ pub const CONFIG: Config = Config {
 pub fn opened(
     rt: &impl Abort,
     alloc: Global,
-    config: Config,
+    config: &Config,
     limit: usize,
 ) -> Result<Session<Shell>, Fail>
     requires { (1 ≤ limit) × (limit ≤ MAX_JOURNAL_LIMIT) }
@@ -32,7 +31,7 @@ pub fn opened(
     ensures tail { IfOk result (λ s. s.tail ≡ []) }
 {
     assert!(rt; config.check() == Ok(()));
-    let shell = Shell::new(alloc, &config)?;
+    let shell = Shell::new(alloc, config)?;
     Ok(Session::open(alloc, shell, limit))
 }
 
@@ -40,7 +39,7 @@ pub fn opened(
 pub fn read(
     rt: &impl Abort,
     alloc: Global,
-    config: Config,
+    config: &Config,
     text: &str,
 ) -> Result<Session<Shell>, Fail> {
     let mut session = opened(rt, alloc, config, 1000)?;
@@ -49,27 +48,8 @@ pub fn read(
     Ok(session)
 }
 
-/// Asks for one step.
-pub fn ask<E: Engine<Step = Step, Reply = Reply>>(
-    rt: &impl Abort,
-    session: &mut Session<E>,
-    number: u8,
-    act: Act,
-) -> Result<Reply, SessionFault> {
-    let worker = Worker::new(number).expect(rt, "a worker below the limit");
+/// Asks for one step of worker 0.
+pub fn ask(rt: &impl Abort, session: &mut Session<Shell>, act: Act) -> Result<Reply, SessionFault> {
+    let worker = Worker::new(0).expect(rt, "a worker below the limit");
     session.step(Step { worker, act })
-}
-
-/// Goes to these numbers of steps, and sees that the shell shows the line beside each.
-pub fn visit(
-    rt: &impl Abort,
-    alloc: Global,
-    session: &mut Session<Shell>,
-    lines: &[(usize, &str)],
-) -> Result<(), Fail> {
-    for (n, line) in lines {
-        session.goto(*n)?;
-        assert_shows(rt, alloc, session.engine(), line)?;
-    }
-    Ok(())
 }
