@@ -1,21 +1,13 @@
-use Rattle.std.proofs.Common.{◌∙◌, ap}
+use Rattle.std.proofs.Common.{map, subst, sym}
+use Rattle.std.specs.List.{AllPass}
+use Rattle.std.specs.Prelude.{IfSome}
 use Rattle.std.proofs.lemmas.Result.{IfOk-weaker}
-use Rattle.std.specs.Prelude.{option_and_then}
-use Rattle.clap.specs.Words.{all_of, found_of, rows_of}
-use Rattle.clap.proofs.WalkLemmas.{raw_values-rows}
-use Rattle.command_line.specs.Choices.{all_named}
-use Rattle.command_line.specs.Values.{value_named}
-use Rattle.command_line.specs.declared.options.OptionName.TheVariants.{Capacities}
+use Rattle.step_record.specs.Config.{is_from_one}
+use Rattle.step_record.specs.declared.limits.TheConstants.{MAX_CAPACITY}
+use Rattle.command_line.proofs.Capacities.{all-fit}
 use Rattle.command_line.proofs.values.capacities.Goals as goal
 
-pub returns-in_default : goal.returns-in_default
-returns-in_default c =
-    let f = found_of c.args.matches.now in
-    let e = c.in_default.ensures ∙ raw_values-rows f c.row.result.id.now ∙ ap (λ t. all_of t (rows_of f)) c.row.ensures.id in
-    ap (option_and_then (all_named (value_named Capacities))) e
-
-pub returns : goal.returns
-returns c =
-    let f = found_of c.args.matches.now in
-    let e = c.in-Some.ensures ∙ raw_values-rows f c.row.result.id.now ∙ ap (λ t. all_of t (rows_of f)) c.row.ensures.id in
-    IfOk-weaker c.capacities_named.result _ _ (λ v h. h ∙ ap (option_and_then (all_named (value_named Capacities))) e) c.capacities_named.ensures
+pub returns-in-Some-clause-accepted : goal.returns-in-Some-clause-accepted
+returns-in-Some-clause-accepted c =
+    IfOk-weaker c.capacities_named.result _ _ (λ found is. subst (λ o. IfSome o (AllPass (is_from_one MAX_CAPACITY))) (sym is) (all-fit (map (λ s. s.now) c.in-Some.words.now)))
+    c.capacities_named.ensures
