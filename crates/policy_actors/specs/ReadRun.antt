@@ -6,17 +6,7 @@ use Rattle.streams.specs.GivenBytes.{ReadAtMost}
 use Rattle.trace_read.specs.declared.format.Format.{Format}
 use Rattle.trace_read.specs.declared.fault.TraceFault.{TraceFault}
 use Rattle.trace_read.specs.declared.fault.TraceFault.TheVariants.{TooLarge}
-use Rattle.trace_read.specs.TraceText.{fault_in, AreOfFile, IsOfLine}
-use Rattle.step_record.specs.declared.job.Job.{Job}
-use Rattle.policies.specs.FaultyJobs.{faulty_in}
-use Rattle.policies.specs.declared.job_checks.TheConstants.{MAX_ACTORS}
-
--- the source stands for the accesses of the file, as far as they are known, and the jobs may run while it is read
-pub record CanRunReading (format : Format) (file known : Option (List ℕ)) (size batch : ℕ) (jobs : List Job) : Type 0 where
-  pub of_file : AreOfFile format file known
-  pub size_is : (size ≡ batch) × (0 < size)
-  pub few : length jobs ≤ MAX_ACTORS
-  pub checked : faulty_in jobs ≡ None
+use Rattle.trace_read.specs.TraceText.{fault_in, IsOfLine}
 
 -- the bytes of a reader were read to their end and have no fault, or this is the fault; as `read_trace` has it
 pub record IsReadTo {T : Type 0} (format : Format) (old new : Option (List ℕ)) (result : Result T TraceFault) : Type 0 where

@@ -3,8 +3,8 @@ ghost use Rattle.std.specs.Prelude.{◌≡◌, ℕ, List, Option, IfSome, length
 ghost use Rattle.trace_read.specs.TraceText.{AreOfFile};
 ghost use Rattle.policy_actors.specs.ReadRun.{IsReadTo};
 
-use crate::fed_trace::FedTrace;
 use crate::feeder::Feeder;
+use crate::lump::FedTrace;
 use std::alloc::AllocError;
 use std::io::Read;
 use std::sync::Wait;
@@ -81,7 +81,7 @@ fn feed_trace<S: FedTrace, W: Wait>(
         rest = later;
     }
     read.extend_from_slice(rest)?;
-    feeder.end(Trace::new(read));
+    feeder.give(Trace::new(read), true);
     Ok(())
 }
 
@@ -110,10 +110,13 @@ impl<'r, R: Read> AccessSource for ReaderSource<'r, R> {
 
     fn feed<S: FedTrace, W: Wait>(
         self,
-        feeder: Feeder<'_, S, W>,
+        mut feeder: Feeder<'_, S, W>,
     ) -> (&'r mut R, Result<(), TraceFault>) {
         let ReaderSource { reader, format } = self;
-        let read = feed_read(feeder, reader, format);
+        let read = match read_followed(feeder.alloc, reader, format, &mut feeder) {
+            Ok(rest) => Ok(feeder.give(rest, true)),
+            Err(fault) => Err(fault),
+        };
         (reader, read)
     }
 
@@ -121,19 +124,4 @@ impl<'r, R: Read> AccessSource for ReaderSource<'r, R> {
         let ReaderSource { reader, format: _ } = self;
         (reader, Err(TraceFault::OutOfMemory))
     }
-}
-
-// Gives the feeder the trace while it is read.
-fn feed_read<S: FedTrace, W: Wait, R: Read>(
-    mut feeder: Feeder<'_, S, W>,
-    reader: &mut R,
-    format: Format,
-) -> Result<(), TraceFault>
-    requires file { AreOfFile format (R.remaining reader.old) S.known }
-    requires none { feeder.place ≡ 0 }
-    ensures { IsReadTo format (R.remaining reader.old) (R.remaining reader.new) result }
-{
-    let rest = read_followed(feeder.alloc, reader, format, &mut feeder)?;
-    feeder.end(rest);
-    Ok(())
 }
