@@ -8,3 +8,4 @@ pub mod Reading
 pub mod Windows
 pub mod Reusing
 pub mod Clear
+pub mod Tallies
