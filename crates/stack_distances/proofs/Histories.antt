@@ -226,11 +226,19 @@ distance-some xs k h = rw h refl
 
 -- ---- one access
 
-push-zero : (cs : List ℕ) (d : ℕ) → get_or (cs ++ 0 ∷ []) d 0 ≡ get_or cs d 0
+pub push-zero : (cs : List ℕ) (d : ℕ) → get_or (cs ++ 0 ∷ []) d 0 ≡ get_or cs d 0
 push-zero [] zero = refl
 push-zero [] (suc d) = refl
 push-zero (c ∷ cs) zero = refl
 push-zero (c ∷ cs) (suc d) = push-zero cs d
+
+-- none of the counts is above the number of accesses
+pub counts-few : (xs : List ℕ) (places : ℕ → Option ℕ) (marks : ℕ → Bool) (counts : List ℕ) → IsHistogram xs places marks counts → (d : ℕ) → get_or counts d 0 ≤ length xs
+counts-few xs places marks counts h d =
+    let c : get_or counts d 0 ≡ count_by (is_at (suc d)) (distances xs) = h.counted d in
+    let few : count_by (is_at (suc d)) (distances xs) ≤ length (distances xs) = count_by-le-length (is_at (suc d)) (distances xs) in
+    let l : length (distances xs) ≡ length xs = distances-long [] xs in
+    omega (arith, c, few, l)
 
 module _ (xs : List ℕ) (k : ℕ) (places next : ℕ → Option ℕ) (marks new : ℕ → Bool) (counts : List ℕ) (h : IsHistogram xs places marks counts) (puts : (x : ℕ) → next x ≡ cond (nat_eq k x) (Some (length xs)) (places x)) where
   pub passed-few : (n : ℕ) → sum_below (λ q. cond (marks q) 1 0) n ≤ length xs
@@ -273,13 +281,6 @@ module _ (xs : List ℕ) (k : ℕ) (places next : ℕ → Option ℕ) (marks new
         let deep : length (distinct_keys (drop p xs)) ≡ suc (length (distinct_keys (keys_since k xs))) = before.depth in
         let l : length counts ≡ length (distinct_keys xs) = h.long in
         omega (arith, is, same, cut, deep, l)
-
-    pub count-small : (d : ℕ) → get_or counts d 0 ≤ length xs
-    count-small d =
-        let c : get_or counts d 0 ≡ count_by (is_at (suc d)) (distances xs) = h.counted d in
-        let few : count_by (is_at (suc d)) (distances xs) ≤ length (distances xs) = count_by-le-length (is_at (suc d)) (distances xs) in
-        let l : length (distances xs) ≡ length xs = distances-long [] xs in
-        omega (arith, c, few, l)
 
     pub passed-again : (d y : ℕ) → d ≡ length (distinct_keys (keys_since k xs)) → d < length counts → y ≡ suc (get_or counts d 0) → ((q : ℕ) → new q ≡ cond (eqb q (length xs)) true (cond (eqb q p) false (marks q))) → IsHistogram (xs ++ k ∷ []) next new (set counts d y)
     passed-again d y deep in_it more marked =

@@ -7,3 +7,4 @@ pub mod Prefix
 pub mod Reading
 pub mod Windows
 pub mod Clear
+pub mod Tallies

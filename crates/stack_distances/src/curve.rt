@@ -41,7 +41,7 @@ impl Curve {
         let keys = trace.keys();
         let mut histogram = Histogram::new(alloc, keys)?;
         for place in 0..keys.len() {
-            histogram.read_ahead(keys, place);
+            histogram.begin_access(keys, place);
             histogram.access(keys, place)?;
         }
         let mut hits = histogram.into_counts();

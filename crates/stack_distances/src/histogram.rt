@@ -1,5 +1,5 @@
 //! How many accesses of a trace have each stack distance.
-ghost use Rattle.std.specs.Prelude.{◌≡◌, ◌+◌, ◌*◌, ◌<◌, ◌≤◌, [], length, take, IfOk, OnOk};
+ghost use Rattle.std.specs.Prelude.{◌≡◌, ◌+◌, ◌*◌, ◌<◌, ◌≤◌, ℕ, [], length, take, slice_index, IfOk, OnOk};
 ghost use Rattle.step_record.specs.declared.limits.TheConstants.{MAX_ACCESSES};
 ghost use Rattle.bits_and_lists.specs.Bits.{bit_of};
 ghost use Rattle.trace_index.specs.KeyPlaces.{place_of};
@@ -8,6 +8,7 @@ ghost use Rattle.stack_distances.specs.Sums.{mark_of, sum_below};
 ghost use Rattle.stack_distances.specs.Histogram.{IsHistogram};
 
 use crate::marks::Marks;
+use crate::tally::Tally;
 use std::alloc::{AllocError, Global};
 use step_record::Key;
 use trace_index::KeyPlaces;
@@ -26,7 +27,7 @@ pub(crate) struct Histogram {
     // A mark at each of these places.
     marks: Marks,
     // At d - 1, how many accesses have the distance d; as many as there are distinct keys.
-    counts: Vec<u32>,
+    counts: Tally,
     // A sum over what `read_ahead` read, kept so that the compiler cannot drop the reads.
     read: u64,
 }
@@ -36,7 +37,7 @@ impl Histogram {
     pub(crate) fn new(alloc: Global, keys: &[Key]) -> Result<Histogram, AllocError>
         requires { length keys.now ≤ MAX_ACCESSES }
         ensures counted { IfOk result (λ p. IsHistogram [] (place_of p.last)
-            (bit_of p.marks.words.items) p.counts.items) }
+            (bit_of p.marks.words.items) p.counts) }
         ensures size { IfOk result (λ p. length keys.now ≤ FAN_OUT * length p.marks.words.items) }
     {
         let last = KeyPlaces::new(alloc);
@@ -44,21 +45,23 @@ impl Histogram {
         Ok(Histogram {
             last,
             marks,
-            counts: Vec::new(alloc),
+            counts: Tally::new(alloc, STRETCH)?,
             read: 0,
         })
     }
 
-    /// Reads, at the first of each stretch of accesses, what those of the stretch read first: the places of their keys,
-    /// and the marks there. Unlike the reads of `access`, these do not depend on one another, so the processor overlaps
-    /// them.
+    /// Adds, at the first of each stretch of accesses, the distances of the last one to the counts, and reads what those
+    /// of the stretch read first: the places of their keys, and the marks there. Unlike the reads of `access`, these do
+    /// not depend on one another, so the processor overlaps them.
     #[inline(always)]
-    pub(crate) fn read_ahead(&mut self, keys: &[Key], place: usize)
+    pub(crate) fn begin_access(&mut self, keys: &[Key], place: usize)
+        requires { (d : ℕ) → slice_index self.old.counts d ≤ MAX_ACCESSES }
         ensures last { self.new.last ≡ self.old.last }
         ensures marks { self.new.marks ≡ self.old.marks }
         ensures counts { self.new.counts ≡ self.old.counts }
     {
         if place % STRETCH == 0 {
+            self.counts.settle();
             self.read_stretch(keys, place);
         }
     }
@@ -85,22 +88,22 @@ impl Histogram {
         requires few { length keys.now ≤ MAX_ACCESSES }
         requires size { length keys.now ≤ FAN_OUT * length self.old.marks.words.items }
         requires counted { IsHistogram (take place keys.now) (place_of self.old.last)
-            (bit_of self.old.marks.words.items) self.old.counts.items }
+            (bit_of self.old.marks.words.items) self.old.counts }
         ensures counted { OnOk result (IsHistogram (take (place + 1) keys.now)
             (place_of self.new.last) (bit_of self.new.marks.words.items)
-            self.new.counts.items) }
+            self.new.counts) }
         ensures size { OnOk result (length self.new.marks.words.items ≡ length self.old.marks.words.items) }
     {
         match self.last.put(keys[place], place as u32)? {
             None => {
-                self.counts.push(0)?;
+                self.counts.push()?;
                 self.marks.put(place);
                 Ok(())
             }
             Some(before) => {
                 let before = before as usize;
                 let distance = self.counts.len() - self.marks.below(before) as usize;
-                self.counts[distance - 1] += 1;
+                self.counts.add(distance - 1)?;
                 self.marks.take(before);
                 self.marks.put(place);
                 Ok(())
@@ -110,8 +113,9 @@ impl Histogram {
 
     /// How many accesses have each distance: at d - 1 those of distance d, up to the number of distinct keys.
     pub(crate) fn into_counts(self) -> Vec<u32>
-        ensures { result.items ≡ self.counts.items }
+        requires { (d : ℕ) → slice_index self.counts d ≤ MAX_ACCESSES }
+        ensures { result.items ≡ self.counts }
     {
-        self.counts
+        self.counts.into_counts()
     }
 }

@@ -23,6 +23,7 @@ mod limits;
 mod marks;
 mod reuses;
 mod sum_layer;
+mod tally;
 pub mod theorems;
 mod total;
 mod window;

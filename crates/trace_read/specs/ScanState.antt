@@ -2,13 +2,13 @@
 use Rattle.std.specs.Prelude.{◌≡◌, ℕ, ◌+◌, ◌-◌, ◌*◌, ◌^◌, ◌≤◌, ◌<◌, ◌⊎◌, vec_capacity, vec_len, List, [], ◌++◌, Option, Some, None, IfSome, length, drop}
 use Rattle.step_record.specs.declared.limits.TheConstants.{MAX_ACCESSES}
 use Rattle.text_lines.specs.Feeds.{lines_of, HasNoFeed}
-use Rattle.trace_read.specs.DigitRuns.{IsNextRun}
+use Rattle.trace_read.specs.DigitRuns.{IsDigitRuns, IsNextRun}
 use Rattle.trace_read.specs.TraceText.{all_keys, first_fault, IsOfLine, IsRead}
 use Rattle.trace_read.specs.declared.digit_runs.DigitRun.{DigitRun}
 use Rattle.trace_read.specs.declared.digit_runs.DigitRuns.{DigitRuns}
 use Rattle.trace_read.specs.declared.fault.TraceFault.{TraceFault}
 use Rattle.trace_read.specs.declared.fault.TraceFault.TheVariants.{OutOfMemory}
-use Rattle.trace_read.specs.declared.format.Format.TheVariants.{Lirs}
+use Rattle.trace_read.specs.declared.format.Format.TheVariants.{Arc, Lirs}
 use Rattle.trace_read.specs.declared.scan.Scan.{Scan}
 
 -- the fault of the whole file, and its accesses but for those that were given away, where these bytes still follow
@@ -74,10 +74,22 @@ pub record CanTakeLines (s : Scan) (bytes : List ℕ) (start : ℕ) : Type 0 whe
   pub lines : s.line + length bytes < 2 ^ 64 + start
   pub room : HasRoom (length bytes - start) s.given (vec_len s.keys) (vec_capacity s.keys)
 
+-- ARC lines may be taken from these runs of digits on
+pub record CanTakeFrom (s : Scan) (bytes : List ℕ) (ahead : DigitRuns) : Type 0 where
+  pub scan : IsScan s
+  pub format : s.format ≡ Arc
+  pub cut : s.cut.items ≡ []
+  pub runs : IsDigitRuns ahead × (ahead.bytes.now ≡ bytes)
+  pub lines : s.line + length bytes < 2 ^ 64 + ahead.start
+
 -- the lines were taken up to the one that begins with the run that was found, or up to the runs that are left
+pub record AreLinesTaken (old new : Scan) (bytes : List ℕ) (ahead left : DigitRuns) (found : Option DigitRun) : Type 0 where
+  pub all : found ≡ None → IsTakenUpTo old bytes ahead.start left.start new
+  pub some : IfSome found (λ run. IsTakenUpTo old bytes ahead.start run.start new)
+  pub next : IfSome found (λ run. IsNextRun bytes run left)
+
+-- LIRS lines were, and there is room for the accesses of those that are left
 pub record IsStretchTaken (old new : Scan) (ahead left : DigitRuns) (found : Option DigitRun) : Type 0 where
-  pub all : found ≡ None → IsTakenUpTo old ahead.bytes.now ahead.start left.start new
-  pub some : IfSome found (λ run. IsTakenUpTo old ahead.bytes.now ahead.start run.start new)
-  pub next : IfSome found (λ run. IsNextRun ahead.bytes.now run left)
+  pub lines : AreLinesTaken old new ahead.bytes.now ahead left found
   pub room : IfSome found (λ run.
       HasRoom (length ahead.bytes.now - run.start) new.given (vec_len new.keys) (vec_capacity new.keys))

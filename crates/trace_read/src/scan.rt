@@ -6,7 +6,7 @@ ghost use Rattle.trace_read.specs.Lines.{line_of, AreStarLines};
 ghost use Rattle.trace_read.specs.declared.digit_runs.TheConstants.{BEHIND};
 ghost use Rattle.step_record.specs.declared.limits.TheConstants.{MAX_ACCESSES};
 ghost use Rattle.trace_read.specs.TraceText.{fault_in, keys_in, IsOfLine, IsRead, IsTraceRefused, IsStopped};
-ghost use Rattle.trace_read.specs.ScanState.{fault_ahead, keys_ahead, CanTakeLines, IsEnded, IsGiven, IsScan, IsStretchTaken, HasRoom, IsPieceTaken, IsRefusedFrom, IsTakenUpTo};
+ghost use Rattle.trace_read.specs.ScanState.{fault_ahead, keys_ahead, AreLinesTaken, CanTakeFrom, CanTakeLines, IsEnded, IsGiven, IsScan, IsStretchTaken, HasRoom, IsPieceTaken, IsRefusedFrom, IsTakenUpTo};
 ghost use Rattle.text_lines.specs.Feeds.{feed_in};
 
 use super::arc::{add_arc, begins_usual_line, push_reserved_run, usual_line};
@@ -281,14 +281,8 @@ impl Scan {
     // loop over usual lines in vain costs more than a short line.
     #[inline(always)]
     fn next_other<'a>(&mut self, bytes: &'a [u8], runs: &mut DigitRuns<'a>) -> Option<DigitRun>
-        requires scan { IsScan self.old }
-        requires format { self.old.format ≡ Format.Arc }
-        requires cut { self.old.cut.items ≡ [] }
-        requires runs { IsDigitRuns runs.old × (runs.old.bytes.now ≡ bytes.now) }
-        requires lines { self.old.line + length bytes.now < 2 ^ 64 + runs.old.start }
-        ensures all { result ≡ None → IsTakenUpTo self.old bytes.now runs.old.start runs.new.start self.new }
-        ensures some { IfSome result (λ run. IsTakenUpTo self.old bytes.now runs.old.start run.start self.new) }
-        ensures found { IfSome result (λ run. IsNextRun bytes.now run runs.new) }
+        requires { CanTakeFrom self.old bytes.now runs.old }
+        ensures { AreLinesTaken self.old self.new bytes.now runs.old runs.new result }
     {
         let mut ahead = *runs;
         let Some(first) = ahead.next() else {
@@ -309,14 +303,8 @@ impl Scan {
         bytes: &'a [u8],
         runs: &mut DigitRuns<'a>,
     ) -> Option<DigitRun>
-        requires scan { IsScan self.old }
-        requires format { self.old.format ≡ Format.Arc }
-        requires cut { self.old.cut.items ≡ [] }
-        requires runs { IsDigitRuns runs.old × (runs.old.bytes.now ≡ bytes.now) }
-        requires lines { self.old.line + length bytes.now < 2 ^ 64 + runs.old.start }
-        ensures all { result ≡ None → IsTakenUpTo self.old bytes.now runs.old.start runs.new.start self.new }
-        ensures some { IfSome result (λ run. IsTakenUpTo self.old bytes.now runs.old.start run.start self.new) }
-        ensures found { IfSome result (λ run. IsNextRun bytes.now run runs.new) }
+        requires { CanTakeFrom self.old bytes.now runs.old }
+        ensures { AreLinesTaken self.old self.new bytes.now runs.old runs.new result }
     {
         let limit = MAX_ACCESSES - self.given;
         let mut keys = mem::replace(&mut self.keys, Vec::new(self.alloc));

@@ -12,7 +12,7 @@ invariant-loop-place l = record {
   same : l.keys ≡ l.trace;
   few : length l.keys ≤ MAX_ACCESSES;
   size : length l.keys ≤ 64 * length l.histogram.marks.words.items;
-  passed : IsHistogram (take l.place l.keys) (place_of l.histogram.last) (bit_of l.histogram.marks.words.items) l.histogram.counts.items;
+  passed : IsHistogram (take l.place l.keys) (place_of l.histogram.last) (bit_of l.histogram.marks.words.items) l.histogram.counts;
 }
 
 abbrev pub invariant-loop-c : goal.invariant-loop-c

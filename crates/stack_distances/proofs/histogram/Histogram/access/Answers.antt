@@ -1,5 +1,5 @@
 use Rattle.std.proofs.Common.{◌≡◌, ◌+◌, ◌-◌, ◌*◌, ◌<◌, ◌≤◌, ℕ, suc, Bool, true, false, cond, eqb, nat_eq, Option, Some, None, List, [], ◌∷◌, ◌++◌, length, take, get_or, set, ap, ◌∙◌, sym, refl, arith}
-use Rattle.std.proofs.lemmas.List.{get_or_past, get_or_read, length-take-le, take_more}
+use Rattle.std.proofs.lemmas.List.{get_or_past, length-take-le, take_more}
 use Rattle.bits_and_lists.specs.Bits.{bit_of}
 use Rattle.trace_index.specs.KeyPlaces.{place_of}
 use Rattle.policies.specs.Lru.{distinct_keys, keys_since}
@@ -7,7 +7,7 @@ use Rattle.stack_distances.specs.Sums.{mark_of, sum_below}
 use Rattle.stack_distances.specs.Histogram.{are_last, IsHistogram}
 use Rattle.stack_distances.proofs.Bits.{take-mark}
 use Rattle.stack_distances.proofs.Sums.{added-more}
-use Rattle.stack_distances.proofs.Histories.{are-last-long, passed-few, passed-first, passed-again, before-within, before-marked, before-depth, count-small}
+use Rattle.stack_distances.proofs.Histories.{are-last-long, passed-few, passed-first, passed-again, before-within, before-marked, before-depth}
 use Rattle.stack_distances.proofs.histogram.Histogram.access.Goals as goal
 
 -- ---- over plain terms
@@ -40,9 +40,6 @@ module _ (keys : List ℕ) (place : ℕ) (places next : ℕ → Option ℕ) (wor
     depth : (below : ℕ) → below ≡ sum_below (mark_of words) p → below + suc (length (distinct_keys (keys_since (get_or keys place 0) (take place keys)))) ≡ length counts
     depth below is = before-depth (take place keys) (get_or keys place 0) places next (bit_of words) (bit_of words) counts passed puts p some below is
 
-    small : (d : ℕ) → get_or counts d 0 ≤ 16777216
-    small d = let f : get_or counts d 0 ≤ length (take place keys) = count-small (take place keys) (get_or keys place 0) places next (bit_of words) (bit_of words) counts passed puts p some d in omega (arith, f, long, in_it, few)
-
     still-free : (new : ℕ → Bool) → ((q : ℕ) → new q ≡ cond (eqb q p) false (bit_of words q)) → new place ≡ false
     still-free new takes = takes place ∙ (ap (cond (eqb place p) false) free ∙ none-of (eqb place p))
       where
@@ -68,109 +65,87 @@ module _ (keys : List ℕ) (place : ℕ) (places next : ℕ → Option ℕ) (wor
 pub put-requires-in-None-clause-free : goal.put-requires-in-None-clause-free
 put-requires-in-None-clause-free c =
     let old = c.args.self.now in
-    free c.args.keys.now c.args.place (place_of old.last) (place_of c.put.new.self) old.marks.words.items old.counts.items
+    free c.args.keys.now c.args.place (place_of old.last) (place_of c.put.new.self) old.marks.words.items old.counts
     c.requires.next c.requires.few c.requires.size c.requires.counted c.in_ok-put.ensures.updates
 
 pub put-requires-in-None-clause-few : goal.put-requires-in-None-clause-few
 put-requires-in-None-clause-few c =
     let old = c.args.self.now in
-    marks-few c.args.keys.now c.args.place (place_of old.last) (place_of c.put.new.self) old.marks.words.items old.counts.items
+    marks-few c.args.keys.now c.args.place (place_of old.last) (place_of c.put.new.self) old.marks.words.items old.counts
     c.requires.next c.requires.few c.requires.size c.requires.counted c.in_ok-put.ensures.updates
 
 pub below-requires-clause-few : goal.below-requires-clause-few
 below-requires-clause-few c =
     let old = c.args.self.now in
-    marks-few c.args.keys.now c.args.place (place_of old.last) (place_of c.put.new.self) old.marks.words.items old.counts.items
+    marks-few c.args.keys.now c.args.place (place_of old.last) (place_of c.put.new.self) old.marks.words.items old.counts
     c.requires.next c.requires.few c.requires.size c.requires.counted c.in_ok-put.ensures.updates
 
 pub below-requires-clause-within : goal.below-requires-clause-within
 below-requires-clause-within c =
     let old = c.args.self.now in
-    within c.args.keys.now c.args.place (place_of old.last) (place_of c.put.new.self) old.marks.words.items old.counts.items
+    within c.args.keys.now c.args.place (place_of old.last) (place_of c.put.new.self) old.marks.words.items old.counts
     c.requires.next c.requires.few c.requires.size c.requires.counted c.in_ok-put.ensures.updates c.in-Some.before (sym c.in_ok-put.ensures.old ∙ c.in-Some.is)
 
 pub take-requires-clause-within : goal.take-requires-clause-within
 take-requires-clause-within c =
     let old = c.args.self.now in
-    within c.args.keys.now c.args.place (place_of old.last) (place_of c.put.new.self) old.marks.words.items old.counts.items
+    within c.args.keys.now c.args.place (place_of old.last) (place_of c.put.new.self) old.marks.words.items old.counts
     c.requires.next c.requires.few c.requires.size c.requires.counted c.in_ok-put.ensures.updates c.in-Some.before (sym c.in_ok-put.ensures.old ∙ c.in-Some.is)
 
 pub take-requires-clause-marked : goal.take-requires-clause-marked
 take-requires-clause-marked c =
     let old = c.args.self.now in
-    marked-there c.args.keys.now c.args.place (place_of old.last) (place_of c.put.new.self) old.marks.words.items old.counts.items
+    marked-there c.args.keys.now c.args.place (place_of old.last) (place_of c.put.new.self) old.marks.words.items old.counts
     c.requires.next c.requires.few c.requires.size c.requires.counted c.in_ok-put.ensures.updates c.in-Some.before (sym c.in_ok-put.ensures.old ∙ c.in-Some.is)
 
 pub put-requires-in-Some-clause-free : goal.put-requires-in-Some-clause-free
 put-requires-in-Some-clause-free c =
     let old = c.args.self.now in
-    still-free c.args.keys.now c.args.place (place_of old.last) (place_of c.put.new.self) old.marks.words.items old.counts.items
+    still-free c.args.keys.now c.args.place (place_of old.last) (place_of c.put.new.self) old.marks.words.items old.counts
     c.requires.next c.requires.few c.requires.size c.requires.counted c.in_ok-put.ensures.updates c.in-Some.before (sym c.in_ok-put.ensures.old ∙ c.in-Some.is) (bit_of c.take.new.self.words.items) c.take.ensures.takes
 
 pub put-requires-in-Some-clause-few : goal.put-requires-in-Some-clause-few
 put-requires-in-Some-clause-few c =
     let old = c.args.self.now in
-    still-few c.args.keys.now c.args.place (place_of old.last) (place_of c.put.new.self) old.marks.words.items old.counts.items
+    still-few c.args.keys.now c.args.place (place_of old.last) (place_of c.put.new.self) old.marks.words.items old.counts
     c.requires.next c.requires.few c.requires.size c.requires.counted c.in_ok-put.ensures.updates c.in-Some.before (sym c.in_ok-put.ensures.old ∙ c.in-Some.is) c.take.new.self.words.items c.take.ensures.takes
 
 pub overflow_sub-distance : goal.overflow_sub-distance
 overflow_sub-distance c =
     let old = c.args.self.now in
-    let deep = depth c.args.keys.now c.args.place (place_of old.last) (place_of c.put.new.self) old.marks.words.items old.counts.items
+    let deep = depth c.args.keys.now c.args.place (place_of old.last) (place_of c.put.new.self) old.marks.words.items old.counts
     c.requires.next c.requires.few c.requires.size c.requires.counted c.in_ok-put.ensures.updates c.in-Some.before (sym c.in_ok-put.ensures.old ∙ c.in-Some.is) c.below.result c.below.ensures in
     omega (arith, deep, c.len.ensures)
 
 pub overflow_sub-distance-in-Some : goal.overflow_sub-distance-in-Some
 overflow_sub-distance-in-Some c =
     let old = c.args.self.now in
-    let deep = depth c.args.keys.now c.args.place (place_of old.last) (place_of c.put.new.self) old.marks.words.items old.counts.items
+    let deep = depth c.args.keys.now c.args.place (place_of old.last) (place_of c.put.new.self) old.marks.words.items old.counts
     c.requires.next c.requires.few c.requires.size c.requires.counted c.in_ok-put.ensures.updates c.in-Some.before (sym c.in_ok-put.ensures.old ∙ c.in-Some.is) c.below.result c.below.ensures in
     omega (arith, deep, c.len.ensures)
-
-pub index_mut-requires : goal.index_mut-requires
-index_mut-requires c =
-    let old = c.args.self.now in
-    let deep = depth c.args.keys.now c.args.place (place_of old.last) (place_of c.put.new.self) old.marks.words.items old.counts.items
-    c.requires.next c.requires.few c.requires.size c.requires.counted c.in_ok-put.ensures.updates c.in-Some.before (sym c.in_ok-put.ensures.old ∙ c.in-Some.is) c.below.result c.below.ensures in
-    omega (arith, deep, c.len.ensures)
-
-pub overflow_add-index_mut : goal.overflow_add-index_mut
-overflow_add-index_mut c =
-    let old = c.args.self.now in
-    let cs = old.counts.items in
-    let some = sym c.in_ok-put.ensures.old ∙ c.in-Some.is in
-    let deep = depth c.args.keys.now c.args.place (place_of old.last) (place_of c.put.new.self) old.marks.words.items cs
-    c.requires.next c.requires.few c.requires.size c.requires.counted c.in_ok-put.ensures.updates c.in-Some.before some c.below.result c.below.ensures in
-    let d = c.len.result - c.below.result - 1 in
-    let in_it : d < length cs = omega (arith, deep, c.len.ensures) in
-    let read : c.index_mut.result.now ≡ get_or cs d 0 = get_or_read cs _ _ in_it c.index_mut.ensures.value 0 in
-    let few : get_or cs d 0 ≤ 16777216 = small c.args.keys.now c.args.place (place_of old.last) (place_of c.put.new.self) old.marks.words.items cs
-    c.requires.next c.requires.few c.requires.size c.requires.counted c.in_ok-put.ensures.updates c.in-Some.before some d in
-    omega (arith, read, few)
 
 pub returns-in_ok-push-in-None-clause-counted : goal.returns-in_ok-push-in-None-clause-counted
 returns-in_ok-push-in-None-clause-counted c =
     let old = c.args.self.now in
-    let cs = old.counts.items in
-    rw c.in_ok-push-in-None.ensures.items
+    let cs = old.counts in
+    rw c.in_ok-push-in-None.ensures
     (first c.args.keys.now c.args.place (place_of old.last) (place_of c.put.new.self) old.marks.words.items cs
     c.requires.next c.requires.few c.requires.size c.requires.counted c.in_ok-put.ensures.updates (bit_of c.put-in-None.new.self.words.items) (sym c.in_ok-put.ensures.old ∙ c.in-None.is) c.put-in-None.ensures.puts)
 
-pub returns-in-Some-clause-counted : goal.returns-in-Some-clause-counted
-returns-in-Some-clause-counted c =
+pub add-requires : goal.add-requires
+add-requires c =
     let old = c.args.self.now in
-    let cs = old.counts.items in
-    let ws = old.marks.words.items in
-    let some = sym c.in_ok-put.ensures.old ∙ c.in-Some.is in
-    let deep = depth c.args.keys.now c.args.place (place_of old.last) (place_of c.put.new.self) ws cs
-    c.requires.next c.requires.few c.requires.size c.requires.counted c.in_ok-put.ensures.updates c.in-Some.before some c.below.result c.below.ensures in
+    let deep = depth c.args.keys.now c.args.place (place_of old.last) (place_of c.put.new.self) old.marks.words.items old.counts
+    c.requires.next c.requires.few c.requires.size c.requires.counted c.in_ok-put.ensures.updates c.in-Some.before (sym c.in_ok-put.ensures.old ∙ c.in-Some.is) c.below.result c.below.ensures in
+    omega (arith, deep, c.len.ensures)
+
+pub returns-in_ok-add-in-Some-clause-counted : goal.returns-in_ok-add-in-Some-clause-counted
+returns-in_ok-add-in-Some-clause-counted c =
+    let old = c.args.self.now in
+    let cs = old.counts in
     let l : c.len.result ≡ length cs = omega (arith, c.len.ensures) in
     let d = length cs - c.below.result - 1 in
-    let in_it : c.len.result - c.below.result - 1 < length cs = omega (arith, deep, l) in
-    let read : c.index_mut.result.now ≡ get_or cs (c.len.result - c.below.result - 1) 0 = get_or_read cs _ _ in_it c.index_mut.ensures.value 0 in
-    let at : get_or cs (c.len.result - c.below.result - 1) 0 ≡ get_or cs d 0 = ap (λ n. get_or cs (n - c.below.result - 1) 0) l in
-    let more : c.index_mut.result.now + 1 ≡ suc (get_or cs d 0) = omega (arith, read, at) in
-    rw l
-    (again c.args.keys.now c.args.place (place_of old.last) (place_of c.put.new.self) ws cs
-    c.requires.next c.requires.few c.requires.size c.requires.counted c.in_ok-put.ensures.updates c.in-Some.before some c.below.result (c.index_mut.result.now + 1) (bit_of c.put-in-Some.new.self.words.items) c.below.ensures more
+    rw (c.in_ok-add-in-Some.ensures, l)
+    (again c.args.keys.now c.args.place (place_of old.last) (place_of c.put.new.self) old.marks.words.items cs
+    c.requires.next c.requires.few c.requires.size c.requires.counted c.in_ok-put.ensures.updates c.in-Some.before (sym c.in_ok-put.ensures.old ∙ c.in-Some.is) c.below.result (get_or cs d 0 + 1) (bit_of c.put-in-Some.new.self.words.items) c.below.ensures (omega arith)
     (λ q. c.put-in-Some.ensures.puts q ∙ ap (cond (eqb q c.args.place) true) (c.take.ensures.takes q)))

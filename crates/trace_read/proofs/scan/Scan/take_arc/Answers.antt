@@ -16,7 +16,7 @@ lines-preserved c =
     let line = c.in-Some-line_end.line in
     let scan = c.next_other.new.self in
     let read = c.in_ok-add_arc.ensures in
-    let l = subst (λ b. IsLineEnd b start line) c.in-Some.ensures.found.same c.in-Some-line_end.ensures.line in
+    let l = subst (λ b. IsLineEnd b start line) c.in-Some.ensures.next.same c.in-Some-line_end.ensures.line in
     let before = taken_then c.args.self.now c.lines.self scan bytes 0 c.lines.runs.start start i.taken c.in-Some.ensures.some in
     let whole = whole_read Arc scan.format scan.line scan.given scan.keys.items scan.cut.items _ _ (before.format ∙ c.requires.format) before.cut read.ok in
     let few : scan.given + length c.add_arc.new.keys.items ≤ MAX_ACCESSES = omega (arith, read.within, c.add_arc.new.keys.ok.0) in
@@ -43,7 +43,7 @@ returns-in_err-add_arc-clause-err c =
     let bytes = c.args.bytes.now in
     let line = c.in-Some-line_end.line in
     let scan = c.next_other.new.self in
-    let l = subst (λ b. IsLineEnd b start line) c.in-Some.ensures.found.same c.in-Some-line_end.ensures.line in
+    let l = subst (λ b. IsLineEnd b start line) c.in-Some.ensures.next.same c.in-Some-line_end.ensures.line in
     let before = taken_then c.args.self.now c.lines.self scan bytes 0 c.lines.runs.start start i.taken c.in-Some.ensures.some in
     errs c.from_residual.result _ _ c.from_residual.ensures.1 (refused_then c.args.self.now scan bytes 0 start _ before
     (line_refused scan bytes start line.end before.scan before.cut l.order (omega (arith, l.within)) l.none l.feed _
