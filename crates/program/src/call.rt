@@ -7,7 +7,7 @@ ghost use Rattle.program.specs.Outcome.{DoneBy, RefusedBy, is_help};
 ghost use Rattle.program.specs.declared.fault_report.TheConstants.{DONE, FAULT, REFUSED};
 
 use crate::fault::Fault;
-use crate::fault_report::{DONE, FAULT, REFUSED, report_fault, report_line};
+use crate::fault_report::{DONE, report_fault, report_usage_error};
 use crate::files::Files;
 use crate::perform::perform;
 use clap::Error;
@@ -65,14 +65,8 @@ pub fn command<T: Threads + Wait + Sync, R: Read, W: Write, X: Write, F: Files, 
             return report_fault(alloc, Fault::OutOfMemory, fault_out);
         }
         Err(ParseFault::Refused(error)) => return answer(alloc, &error, out, fault_out),
-        Err(ParseFault::Stripes) => {
-            report_line(STRIPES, fault_out);
-            return REFUSED;
-        }
-        Err(ParseFault::Incomplete) => {
-            report_line(INCOMPLETE, fault_out);
-            return REFUSED;
-        }
+        Err(ParseFault::Stripes) => return report_usage_error(STRIPES, fault_out),
+        Err(ParseFault::Incomplete) => return report_usage_error(INCOMPLETE, fault_out),
     };
     let done = perform(rt, alloc, &arguments, input, out, files, watch);
     drop(arguments);
@@ -100,8 +94,7 @@ fn answer<W: Write, X: Write>(alloc: Global, error: &Error, out: &mut W, fault_o
         return report_fault(alloc, Fault::OutOfMemory, fault_out);
     };
     if error.use_stderr() {
-        report_line(text.as_bytes(), fault_out);
-        return REFUSED;
+        return report_usage_error(text.as_bytes(), fault_out);
     }
     match streams::write_all(out, text.as_bytes()) {
         Ok(()) => DONE,

@@ -1,5 +1,6 @@
 //! The subcommand `sweep`: a trace to the reports of policies at several capacities.
 ghost use Rattle.std.specs.Prelude.{◌≡◌, ◌≢◌, ◌⊎◌, IfErr, IfOk, IfSome, None, OnOk, Some};
+ghost use Rattle.command_line.specs.Accepted.{IsAcceptedSweep};
 ghost use Rattle.sweeps.specs.Sweep.{jobs_over};
 ghost use Rattle.program.specs.FaultCauses.{IsFoundIn, IsOfMachine, IsTooMany};
 ghost use Rattle.program.specs.Jobs.{jobs_by_policy, reports_on};
@@ -8,7 +9,7 @@ ghost use Rattle.program.specs.ReportOutput.{Reports};
 use crate::fault::Fault;
 use crate::run::jobs;
 use command_line::SweepArguments;
-use policies::MAX_ACTORS;
+use policies::{ActorFault, MAX_ACTORS};
 use progress::{Watch, Work};
 use report::{Report, write_reports};
 use std::alloc::Global;
@@ -29,6 +30,7 @@ pub fn sweep<T: Threads + Sync, R: Read, W: Write, P: Watch>(
     out: &mut W,
     watch: &P,
 ) -> Result<(), Fault>
+    requires { IsAcceptedSweep arguments.now }
     ensures ok { OnOk result (Reports arguments.now.format
         (jobs_over (jobs_by_policy arguments.now.config arguments.now.policies) arguments.now.capacities)
         (R.remaining input.old) (W.contents out.old) (W.contents out.new)) }
@@ -51,6 +53,7 @@ fn reports<T: Threads + Sync, P: Watch>(
     arguments: &SweepArguments,
     watch: &P,
 ) -> Result<Vec<Report>, Fault>
+    requires { IsAcceptedSweep arguments.now }
     ensures reports { IfOk result (λ reports. reports.items ≡ reports_on
         (jobs_over (jobs_by_policy arguments.now.config arguments.now.policies) arguments.now.capacities)
         trace.now) }
@@ -67,9 +70,11 @@ fn reports<T: Threads + Sync, P: Watch>(
     });
     let reports = sweep_each(rt, alloc, trace, jobs.as_slice(), capacities, watch);
     watch.end();
-    // A parse gives configurations that are accepted, so the one fault is out of memory.
     match reports {
         Ok(reports) => Ok(reports),
-        Err(_) => Err(Fault::OutOfMemory),
+        Err(fault) => {
+            prove!(fault == ActorFault::OutOfMemory);
+            Err(Fault::OutOfMemory)
+        }
     }
 }
