@@ -1,8 +1,8 @@
--- Next uses and previous ones, from one place to the next.
-use Rattle.std.proofs.Common.{◌≡◌, ℕ, zero, suc, ◌+◌, ◌-◌, ◌<◌, ◌≤◌, true, false, cond, eqb, Option, Some, None, IfSome, List, [], ◌∷◌, length, drop, get_or, ap, ◌∙◌, sym, refl, arith, inl, inr, length-drop, drop-cons}
+-- Next uses, from one place to the next.
+use Rattle.std.proofs.Common.{◌≡◌, ℕ, suc, ◌+◌, ◌-◌, ◌<◌, ◌≤◌, true, false, cond, eqb, Option, Some, None, IfSome, List, [], ◌∷◌, length, drop, get_or, ap, ◌∙◌, sym, refl, arith, inl, inr, length-drop, drop-cons}
 use Rattle.std.proofs.lemmas.Bool.{cases_Bool, eqb-true, eq-eqb}
 use Rattle.std.proofs.lemmas.List.{get_or-drop}
-use Rattle.trace_index.specs.Uses.{next_place_in, next_from, last_below}
+use Rattle.trace_index.specs.Uses.{next_place_in, next_from}
 
 pub next-step : (t : List ℕ) (i k : ℕ) → i < length t → next_from t i k ≡ cond (eqb k (get_or t i 0)) (Some i) (next_from t (suc i) k)
 next-step t i k h = rw (drop-cons t i 0 h) refl
@@ -54,12 +54,3 @@ next-found t i k n le h =
 pub next-within : (t : List ℕ) (i k : ℕ) (o : Option ℕ) → i ≤ length t → o ≡ next_from t i k → IfSome o (λ n. n < length t)
 next-within t i k None h e = tt
 next-within t i k (Some n) h e = (next-found t i k n h (sym e)).within
-
--- a previous use is below the place
-pub last-found : (t : List ℕ) (i k p : ℕ) → last_below t i k ≡ Some p → p < i
-last-found t zero k p h = absurd (cc h)
-last-found t (suc i) k p h =
-    elim (cases_Bool (eqb k (get_or t i 0))) [
-      | inl e ↦ let same : i ≡ p = unsome i p (rw e at h) in omega arith
-      | inr e ↦ let below : p < i = last-found t i k p (rw e at h) in omega (arith, below)
-    ]

@@ -1,9 +1,8 @@
 //! The place of each key.
-ghost use Rattle.std.specs.Prelude.{◌≡◌, ℕ, ◌<◌, ◌≤◌, cond, nat_eq, Some, None, IfOk, IfSome, OnOk, length, slice_index, ◌^◌};
+ghost use Rattle.std.specs.Prelude.{◌≡◌, ℕ, suc, ◌<◌, ◌≤◌, cond, nat_eq, Some, None, IfOk, IfSome, OnOk, length, slice_index, ◌^◌};
 ghost use Rattle.std.specs.HashMap.{get};
 ghost use Rattle.step_record.specs.declared.limits.TheConstants.{MAX_ACCESSES};
-ghost use Rattle.trace_index.specs.KeyPlaces.{place_of};
-ghost use Rattle.trace_index.specs.Uses.{number_of};
+ghost use Rattle.trace_index.specs.KeyPlaces.{place_of, kept_number, number_in};
 
 use std::alloc::{AllocError, Global};
 use std::collections::HashMap;
@@ -20,7 +19,7 @@ use step_record::Key;
 pub struct KeyPlaces {
     // One more than the place of each key below the table's length, or 0.
     low: Vec<u32>,
-    // The places of the keys that were put past the table.
+    // The same for the keys that were put past the table.
     high: HashMap<Key, u32>,
 }
 
@@ -61,6 +60,18 @@ impl KeyPlaces {
         ensures updates { OnOk result ((k : ℕ) →
             place_of self.new k ≡ cond (nat_eq key k) (Some place) (place_of self.old k)) }
     {
+        let number = self.put_number(key, place)?;
+        Ok(number.checked_sub(1))
+    }
+
+    /// The same, returning the number of the place that the key had: one more than it, or 0 for none.
+    #[inline(always)]
+    pub(crate) fn put_number(&mut self, key: Key, place: u32) -> Result<u32, AllocError>
+        requires { place < MAX_ACCESSES }
+        ensures old { IfOk result (λ n. n ≡ kept_number self.old key) }
+        ensures updates { OnOk result ((k : ℕ) →
+            kept_number self.new k ≡ cond (nat_eq key k) (suc place) (kept_number self.old k)) }
+    {
         if key >= self.low.len() as u64 {
             return self.put_past(key, place);
         }
@@ -68,34 +79,35 @@ impl KeyPlaces {
         if !self.high.is_empty() && number == 0 {
             return Ok(self.in_map(key));
         }
-        Ok(number.checked_sub(1))
+        Ok(number)
     }
 
     // The same for a key that the table does not reach, out of line: a loop over keys that it does reach then saves no
     // registers for it.
     #[inline(never)]
-    fn put_past(&mut self, key: Key, place: u32) -> Result<Option<u32>, AllocError>
+    fn put_past(&mut self, key: Key, place: u32) -> Result<u32, AllocError>
         requires few { place < MAX_ACCESSES }
         requires past { length self.old.low.items ≤ key }
-        ensures old { IfOk result (λ o. o ≡ place_of self.old key) }
+        ensures old { IfOk result (λ n. n ≡ kept_number self.old key) }
         ensures updates { OnOk result ((k : ℕ) →
-            place_of self.new k ≡ cond (nat_eq key k) (Some place) (place_of self.old k)) }
+            kept_number self.new k ≡ cond (nat_eq key k) (suc place) (kept_number self.old k)) }
     {
         let reach = TABLE_SHARE * place as u64 + TABLE_START;
         if key >= reach {
-            return Ok(self.high.insert(key, place)?);
+            let before = self.high.insert(key, place + 1)?;
+            return Ok(before.unwrap_or(0));
         }
         self.grow(key as usize + 1, reach as usize)?;
         self.low[key as usize] = place + 1;
         Ok(self.in_map(key))
     }
 
-    // The place that the map has for a key.
+    // The number that the map has for a key, or 0.
     #[inline(never)]
-    fn in_map(&self, key: Key) -> Option<u32>
-        ensures { result ≡ get nat_eq self.now.high key }
+    fn in_map(&self, key: Key) -> u32
+        ensures { result ≡ number_in (get nat_eq self.now.high key) }
     {
-        self.high.get(&key).copied()
+        self.high.get(&key).copied().unwrap_or(0)
     }
 
     // Makes the table at least so long: twice as long as it was, where that is no more than `most`, so that it grows few
@@ -112,17 +124,5 @@ impl KeyPlaces {
     {
         let len = least.max(most.min(2 * self.low.len()));
         self.low.resize(len, 0)
-    }
-}
-
-/// The number that stands for a use: one more than its place, or 0 for none.
-#[inline(always)]
-pub(crate) fn number_of(place: Option<u32>) -> u32
-    requires { IfSome place (λ p. p < MAX_ACCESSES) }
-    ensures { result ≡ number_of place }
-{
-    match place {
-        Some(place) => place + 1,
-        None => 0,
     }
 }

@@ -4,7 +4,7 @@ ghost use Rattle.step_record.specs.declared.limits.TheConstants.{MAX_ACCESSES};
 ghost use Rattle.trace_index.specs.Uses.{AreNextUses};
 ghost use Rattle.trace_index.specs.PackedKeys.{unpacked};
 
-use crate::key_places::{KeyPlaces, number_of};
+use crate::key_places::KeyPlaces;
 use crate::next_use::NextUse;
 use crate::packed_keys::PackedKeys;
 use std::alloc::{AllocError, Global};
@@ -83,8 +83,8 @@ fn next_uses_of(alloc: Global, keys: &PackedKeys) -> Result<Vec<u32>, AllocError
     let mut following = KeyPlaces::new(alloc);
     for back in 0..len {
         let place = len - 1 - back;
-        let next = following.put(keys.get(place), place as u32)?;
-        after[place] = number_of(next);
+        let next = following.put_number(keys.get(place), place as u32)?;
+        after[place] = next;
     }
     Ok(after)
 }

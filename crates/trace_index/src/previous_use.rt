@@ -3,7 +3,7 @@ ghost use Rattle.std.specs.Prelude.{◌≡◌, ℕ, suc, ◌<◌, ◌≤◌, IfO
 ghost use Rattle.step_record.specs.declared.limits.TheConstants.{MAX_ACCESSES};
 ghost use Rattle.trace_index.specs.Uses.{ArePreviousUses, last_below, number_of};
 
-use crate::key_places::{KeyPlaces, number_of};
+use crate::key_places::KeyPlaces;
 use std::alloc::{AllocError, Global};
 use std::marker::Model;
 use step_record::{Key, Trace};
@@ -63,8 +63,8 @@ fn previous_uses_of(alloc: Global, keys: &[Key]) -> Result<Vec<u32>, AllocError>
     let mut before: Vec<u32> = vec![in alloc; 0; keys.len()]?;
     let mut last = KeyPlaces::new(alloc);
     for place in 0..keys.len() {
-        let earlier = last.put(keys[place], place as u32)?;
-        before[place] = number_of(earlier);
+        let earlier = last.put_number(keys[place], place as u32)?;
+        before[place] = earlier;
     }
     Ok(before)
 }

@@ -1,13 +1,8 @@
 use Rattle.std.proofs.Common.{◌≡◌, ◌-◌, ◌<◌, get_or, ◌∙◌, arith}
 use Rattle.trace_index.specs.PackedKeys.{unpacked}
 use Rattle.trace_index.specs.Uses.{next, next_from, number_of}
-use Rattle.trace_index.proofs.Passes.{next-back, number-back, next-small, set-place, set-long}
+use Rattle.trace_index.proofs.Passes.{next-back, number-back, set-place, set-long}
 use Rattle.trace_index.proofs.next_use_finder.next_uses_of.Goals as goal
-
-pub number_of-requires : goal.number_of-requires
-number_of-requires c =
-    let inv = c.loop-back.invariant in
-    next-small (unpacked c.args.keys.now) (c.len-len.result - c.loop-back.back) c.get.result c.in_ok-next.next (omega (arith, inv.len)) (omega (arith, inv.few, inv.len)) (c.in_ok-next.ensures.old ∙ inv.following c.get.result)
 
 pub loop-back-preserved : goal.loop-back-preserved
 loop-back-preserved c =
@@ -17,13 +12,13 @@ loop-back-preserved c =
     let inv = c.loop-back.invariant in
     let lt : back < len = c.loop-back-test.true in
     let key = c.get.result in
-    let found : c.in_ok-next.next ≡ next_from t (len - back) key = c.in_ok-next.ensures.old ∙ inv.following key in
+    let found : c.in_ok-next.next ≡ number_of (next_from t (len - back) key) = c.in_ok-next.ensures.old ∙ inv.following key in
     record {
       len = inv.len;
       few = inv.few;
       long = set-long c.loop-back.after.items _ _ len inv.long;
       following = λ k. next-back t len back k key _ _ inv.len lt c.get.ensures (c.in_ok-next.ensures.updates k) (inv.following k);
-      right = λ i from to. set-place (λ i v. v ≡ number_of (next t i (get_or t i 0))) c.loop-back.after.items (len - 1 - back) c.number_of.result (omega (arith, inv.long, lt))
-          (number-back t len back key c.number_of.result c.in_ok-next.next inv.len lt c.get.ensures found c.number_of.ensures) i
+      right = λ i from to. set-place (λ i v. v ≡ number_of (next t i (get_or t i 0))) c.loop-back.after.items (len - 1 - back) c.in_ok-next.next (omega (arith, inv.long, lt))
+          (number-back t len back key c.in_ok-next.next lt c.get.ensures found) i
           (λ ne. inv.right i (omega (arith, from, to, ne)) to);
     }
