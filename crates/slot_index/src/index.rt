@@ -10,7 +10,7 @@ ghost use Rattle.slot_index.specs.Walks.{HasTree, HasTreeWithin, IsOnWay};
 use std::alloc::{AllocError, Global};
 use step_record::Item;
 
-/// 2^64 over the golden ratio, to the nearest odd number (Knuth's multiplicative hashing).
+// 2^64 over the golden ratio, to the nearest odd number (Knuth's multiplicative hashing).
 const MULTIPLIER: u64 = 11400714819323198485;
 
 /// What a search reads: the item of each slot.
@@ -35,47 +35,6 @@ pub struct SlotIndex {
     links: Vec<u32>,
     // There are 2^bits buckets.
     bits: u32,
-}
-
-/// The bucket of an item: the upper bits of one product of its key with its node.
-#[inline(always)]
-fn bucket_of(bits: u32, item: Item) -> usize
-    requires { (1 ≤ bits) × (bits < 32) }
-    ensures bucket { result ≡ bucket bits item }
-    ensures within { result < 2 ^ bits }
-{
-    let mixed = item.key.wrapping_add(item.node.wrapping_mul(1 << 32));
-    (mixed.wrapping_mul(MULTIPLIER) >> (64 - bits)) as usize
-}
-
-/// Where the links have a slot's left or right branch.
-#[inline(always)]
-fn branch_of(bits: u32, at: u32, right: bool) -> usize
-    requires { bits < 32 }
-    ensures { result ≡ branch (2 ^ bits) at right }
-{
-    (1usize << bits) + 2 * at as usize + right as usize
-}
-
-/// Whether the item goes right at a depth of its tree: by the bits of its key from the lowest on, then of its node.
-#[inline(always)]
-fn turns_right(item: Item, depth: usize) -> bool
-    ensures { result ≡ turn depth item }
-{
-    let word = if depth / 64 % 2 == 0 {
-        item.key
-    } else {
-        item.node
-    };
-    (word >> (depth % 64)) % 2 == 1
-}
-
-#[inline(always)]
-fn is_same(a: &Item, b: &Item) -> bool
-    ensures same { result ≡ true → a.now ≡ b.now }
-    ensures other { result ≡ false → a.now ≢ b.now }
-{
-    a.key == b.key && a.node == b.node
 }
 
 impl SlotIndex {
@@ -255,4 +214,46 @@ impl SlotIndex {
         self.links[place] = 0;
         at
     }
+}
+
+// The bucket of an item: the upper bits of one product of its key with its node.
+#[inline(always)]
+fn bucket_of(bits: u32, item: Item) -> usize
+    requires { (1 ≤ bits) × (bits < 32) }
+    ensures bucket { result ≡ bucket bits item }
+    ensures within { result < 2 ^ bits }
+{
+    let mixed = item.key.wrapping_add(item.node.wrapping_mul(1 << 32));
+    (mixed.wrapping_mul(MULTIPLIER) >> (64 - bits)) as usize
+}
+
+// Where the links have a slot's left or right branch.
+#[inline(always)]
+fn branch_of(bits: u32, at: u32, right: bool) -> usize
+    requires { bits < 32 }
+    ensures { result ≡ branch (2 ^ bits) at right }
+{
+    (1usize << bits) + 2 * at as usize + right as usize
+}
+
+// Whether the item goes right at a depth of its tree: by the bits of its key from the lowest on, then of its node.
+#[inline(always)]
+fn turns_right(item: Item, depth: usize) -> bool
+    ensures { result ≡ turn depth item }
+{
+    let word = if depth / 64 % 2 == 0 {
+        item.key
+    } else {
+        item.node
+    };
+    (word >> (depth % 64)) % 2 == 1
+}
+
+// Whether the two are one item.
+#[inline(always)]
+fn is_same(a: &Item, b: &Item) -> bool
+    ensures same { result ≡ true → a.now ≡ b.now }
+    ensures other { result ≡ false → a.now ≢ b.now }
+{
+    a.key == b.key && a.node == b.node
 }
