@@ -1,6 +1,5 @@
-//! Tests of the data structures: queues of items, buffers, ranks, places of keys, next uses, the sketch and its counters,
-//! the curve of Lru, and the optimal policy. They stand in a crate of their own so that the gate proves each of those crates
-//! once.
+//! Tests of the data structures: each call that takes memory once, and small cases that were worked out by hand or by a
+//! calculator of its own.
 #![tactic(auto)]
 
 #[cfg(test)]
@@ -8,19 +7,9 @@ mod assertions;
 #[cfg(test)]
 mod bits_tests;
 #[cfg(test)]
-mod clairvoyant_tests;
-#[cfg(test)]
 mod column_tests;
 #[cfg(test)]
-mod config_tests;
-#[cfg(test)]
-mod doorkeeper_tests;
-#[cfg(test)]
 mod frequency_tests;
-#[cfg(test)]
-mod halving_tests;
-#[cfg(test)]
-mod key_places_tests;
 #[cfg(test)]
 mod next_use_tests;
 #[cfg(test)]
@@ -29,7 +18,5 @@ mod rank_tree_tests;
 mod segments_tests;
 #[cfg(test)]
 mod shell_buffers_tests;
-#[cfg(test)]
-mod sketch_tests;
 #[cfg(test)]
 mod stack_distances_tests;

@@ -1,4 +1,9 @@
 //! Runs of a worker on a thread: one that is undone, and one that is read back. A miss with its round is nine steps.
+ghost use Rattle.std.specs.Prelude.{◌≡◌, ◌≤◌, Ok};
+ghost use Rattle.maintenance.specs.EmptyShell.{IsOpened};
+ghost use Rattle.step_record.specs.Config.{config_fault};
+ghost use Rattle.step_record.specs.declared.limits.TheConstants.{MAX_JOURNAL_LIMIT};
+
 use super::assertions::assert_equal;
 use super::jobs::SMALL;
 use drive::{Cause, DriveFault};
@@ -9,7 +14,7 @@ use maintenance::Shell;
 use std::alloc::{AllocError, Global};
 use std::process::Abort;
 use std::test::Fail;
-use step_record::{Call, OpenGate};
+use step_record::{Call, Config, OpenGate};
 
 // One worker's read of key 1.
 fn one_read(alloc: Global) -> Result<Vec<Vec<Call>>, AllocError> {
@@ -64,9 +69,21 @@ fn not_run(fault: RunFault) -> Fail {
     }
 }
 
-fn assert_alike(rt: &impl Abort, session: &Session<Shell>, copy: &Session<Shell>) {
+// Reads a run back, and sees that its last entry is there.
+fn assert_read_back(
+    rt: &impl Abort,
+    alloc: Global,
+    config: &Config,
+    session: &Session<Shell>,
+) -> Result<(), Fail>
+    requires checked { config_fault config.now ≡ Ok tt }
+    requires opened { IsOpened config.now session.now.opening }
+    requires limit { session.now.limit ≤ MAX_JOURNAL_LIMIT }
+{
+    let copy = copy_of(alloc, config, session)?;
     assert_equal(rt, copy.len(), 9);
     assert!(rt; copy.entry(9) == session.entry(9));
+    Ok(())
 }
 
 #[test]
@@ -79,9 +96,8 @@ fn a_run_is_read_back(rt: HostRuntime) -> Result<(), Fail> {
     };
     if session.len() != 9 {
         // The worker was refused memory, and its round was settled.
+        drop(session);
         return Err(Fail::from("out of memory"));
     }
-    let copy = copy_of(rt.alloc(), &SMALL, &session)?;
-    assert_alike(&rt, &session, &copy);
-    Ok(())
+    assert_read_back(&rt, rt.alloc(), &SMALL, &session)
 }

@@ -1,6 +1,6 @@
 //! Callers of the library: short programs over a policy, over a session, over the concurrent cache on threads, and over
 //! the turn lock at a value of one's own. What each promises follows from the public contracts of the crates beneath.
-//! `docs/LIBRARY.md` goes through them; the crate `thread_tests` runs each.
+//! `docs/LIBRARY.md` goes through them; the crate `example_tests` runs each.
 #![tactic(auto)]
 
 mod concurrent_run;

@@ -1,4 +1,4 @@
-use Rattle.std.proofs.Common.{sym, ◌∙◌, arith, rules}
+use Rattle.std.proofs.Common.{sym, ◌∙◌, arith}
 use Rattle.shell_tests.proofs.copy_tests.a_session_is_copied_by_its_text.Goals as goal
 
 pub assert_copied-requires : goal.assert_copied-requires
