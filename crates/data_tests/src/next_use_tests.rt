@@ -1,7 +1,7 @@
 //! Places of keys, and next uses of a trace that comes whole or in pieces.
 use super::assertions::assert_equal;
 use clairvoyant::{NextUse, NextUseFinder};
-use key_places::KeyPlaces;
+use trace_index::KeyPlaces;
 use std::process::Abort;
 use std::test::Fail;
 use step_record::{Key, Trace};
