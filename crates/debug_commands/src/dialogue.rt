@@ -16,8 +16,7 @@ use crate::fault::DebugFault;
 use crate::grammar;
 use crate::timeline::Timeline;
 use std::alloc::{AllocError, Global};
-use std::io::{Read, Write};
-use streams::{Patience, flush, read_some, write_some};
+use streams::{CountedRead, CountedWrite, Patience, flush, read_some, write_some};
 
 /// As many bytes of commands as are read at most, line feeds included: 2^20.
 pub const MAX_COMMAND_BYTES: usize = 1 << 20;
@@ -30,7 +29,7 @@ pub const MAX_BREAKPOINTS: usize = 64;
 ///
 /// Errors: `TooLarge` where a line goes past `MAX_COMMAND_BYTES` bytes of input; the lines before it are answered.
 /// `OutOfMemory`, `Read` and `Write` where an allocation, the input or the output failed; output may be partial then.
-pub fn answer_commands<T: Timeline, R: Read, W: Write>(
+pub fn answer_commands<T: Timeline, R: CountedRead, W: CountedWrite>(
     alloc: Global,
     timeline: &mut T,
     input: &mut R,
@@ -77,7 +76,7 @@ pub fn answer_commands<T: Timeline, R: Read, W: Write>(
 // Reads the next line into an empty buffer, without its line feed, and returns whether it had one: the last line may
 // lack it. It reads no byte past the line feed, so that a line is answered before the next one is asked for. `room` is
 // how many bytes may still be read, and falls by those that were.
-fn read_line<R: Read>(
+fn read_line<R: CountedRead>(
     input: &mut R,
     text: &mut Vec<u8>,
     room: &mut usize,

@@ -12,8 +12,8 @@ use crate::one_policy::OnePolicy;
 use debug_commands::{DebugFault, Dialect, StepFacts, Timeline, answer_commands};
 use policies::theorems;
 use std::alloc::{AllocError, Global};
-use std::io::{Read, Write};
 use step_record::{Job, Key, Outcome, Trace};
+use streams::{CountedRead, CountedWrite};
 
 /// Reads commands line by line and answers each at once, about two policies over a trace: where they part, and what
 /// they hold after any number of accesses. It ends at `quit` or the end of the input.
@@ -21,7 +21,7 @@ use step_record::{Job, Key, Outcome, Trace};
 /// Errors: `Config` with the index of the first job whose configuration `Config::check` refuses, before anything is
 /// read; `TooLarge` where a line goes past 2^20 bytes of input, with the lines before it answered; `OutOfMemory`,
 /// `Read` and `Write` where an allocation, the input or the output failed, after which output may be partial.
-pub fn run_debug<R: Read, W: Write>(
+pub fn run_debug<R: CountedRead, W: CountedWrite>(
     alloc: Global,
     trace: &Trace,
     first: &Job,

@@ -10,8 +10,8 @@ use journal::Session;
 use journal_text::write_journal;
 use maintenance::Shell;
 use std::alloc::{AllocError, Global};
-use std::io::{Read, Write};
 use step_record::{Act, Key, Reply};
+use streams::{CountedRead, CountedWrite};
 
 /// Reads commands line by line and answers each at once, about the session of a concurrent cache: what it holds after
 /// any number of its steps, the undone ones included. It ends at `quit` or the end of the input, and leaves the session
@@ -19,7 +19,7 @@ use step_record::{Act, Key, Reply};
 ///
 /// Errors: `TooLarge` where a line goes past 2^20 bytes of input, with the lines before it answered; `OutOfMemory`,
 /// `Read` and `Write` where an allocation, the input or the output failed, after which output may be partial.
-pub fn run_replay<R: Read, W: Write>(
+pub fn run_replay<R: CountedRead, W: CountedWrite>(
     alloc: Global,
     session: &mut Session<Shell>,
     commands: &mut R,

@@ -9,8 +9,8 @@ use super::JournalFault;
 use super::replay::read_text;
 use journal::Session;
 use std::alloc::Global;
-use std::io::Read;
 use step_record::{Engine, Reply, Step};
+use streams::CountedRead;
 
 /// As many bytes as a journal has at most.
 pub const MAX_JOURNAL_BYTES: usize = 1 << 30;
@@ -22,7 +22,7 @@ pub const MAX_JOURNAL_BYTES: usize = 1 << 30;
 /// session alone, as does `Header`. Any other fault is that of the first line that is wrong, and
 /// the steps of the lines before it are applied; after `FalseReply` the step of its own line is
 /// too, with the reply that it got. After a fault it is not said how much was read.
-pub fn read_journal<R: Read, E: Engine<Step = Step, Reply = Reply>>(
+pub fn read_journal<R: CountedRead, E: Engine<Step = Step, Reply = Reply>>(
     alloc: Global,
     reader: &mut R,
     session: &mut Session<E>,

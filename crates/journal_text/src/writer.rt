@@ -12,9 +12,8 @@ use super::WriteFault;
 use super::line_text::{MAX_LINE, push_bytes, push_count_line, push_entry_line};
 use journal::Session;
 use std::alloc::Global;
-use std::io::Write;
 use step_record::{Engine, Reply, Step};
-use streams::{Patience, WriteAllFault, flush, write_some};
+use streams::{CountedWrite, Patience, WriteAllFault, flush, write_some};
 
 // How many bytes are gathered before they are written.
 const BUFFER: usize = 65_536;
@@ -22,7 +21,7 @@ const BUFFER: usize = 65_536;
 /// Writes the journal of the applied steps, in version 2, and flushes. The undone steps are not in
 /// it. The text goes through a buffer, whose memory is taken before the first write: `OutOfMemory`
 /// has written nothing, and after `Write` output may be partial.
-pub fn write_journal<E: Engine<Step = Step, Reply = Reply>, W: Write>(
+pub fn write_journal<E: Engine<Step = Step, Reply = Reply>, W: CountedWrite>(
     alloc: Global,
     session: &Session<E>,
     writer: &mut W,
@@ -45,7 +44,7 @@ pub fn write_journal<E: Engine<Step = Step, Reply = Reply>, W: Write>(
 }
 
 // Writes the header and the lines of the entries; the last of them may wait in the buffer.
-fn write_entries<E: Engine<Step = Step, Reply = Reply>, W: Write>(
+fn write_entries<E: Engine<Step = Step, Reply = Reply>, W: CountedWrite>(
     session: &Session<E>,
     writer: &mut W,
     text: &mut Vec<u8>,
@@ -70,7 +69,7 @@ fn write_entries<E: Engine<Step = Step, Reply = Reply>, W: Write>(
 }
 
 // Writes the buffer, where it has no room for a line more.
-fn make_room_for_line<W: Write>(
+fn make_room_for_line<W: CountedWrite>(
     writer: &mut W,
     text: &mut Vec<u8>,
     patience: &mut Patience,

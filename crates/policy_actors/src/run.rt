@@ -11,12 +11,12 @@ use crate::feeder::Backlog;
 use crate::source::{ReaderSource, TraceSource};
 use policies::{ActorFault, MAX_ACTORS, Report, check_jobs};
 use std::alloc::Global;
-use std::io::Read;
 use std::marker::Brand;
 use std::sync::Wait;
 use std::thread::Threads;
 use step_record::{Gate, Job, MAX_BATCH, Trace};
 use trace_read::{Format, TraceFault};
+use streams::CountedRead;
 
 /// The reports of the jobs over the trace, in the order of the jobs. Each job is an actor on a thread of its own, fed
 /// through a channel by `feed_in_rounds`: batch j goes to every actor before batch j + 1 goes to any. A batch is `batch`
@@ -54,7 +54,7 @@ pub fn run_actors<R: Threads + Wait + Sync, G: Gate>(
 ///
 /// Errors: those of `read_trace`, and `OutOfMemory` also where the actors are out of memory. An actor that is fed no
 /// last batch has no report.
-pub fn run_reading<T: Threads + Wait + Sync, R: Read, G: Gate>(
+pub fn run_reading<T: Threads + Wait + Sync, R: CountedRead, G: Gate>(
     rt: &T,
     alloc: Global,
     reader: &mut R,

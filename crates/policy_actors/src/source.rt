@@ -6,10 +6,10 @@ ghost use Rattle.policy_actors.specs.ReadRun.{IsReadTo};
 use crate::fed_trace::FedTrace;
 use crate::feeder::Feeder;
 use std::alloc::AllocError;
-use std::io::Read;
 use std::sync::Wait;
 use step_record::{MAX_ACCESSES, Trace};
 use trace_read::{Follower, Format, TraceFault, read_followed};
+use streams::CountedRead;
 
 // How many accesses of a trace that is there the feeder gets at a time.
 const PIECE: usize = 65_536;
@@ -92,7 +92,7 @@ pub struct ReaderSource<'r, R> {
     pub format: Format,
 }
 
-impl<'r, R: Read> AccessSource for ReaderSource<'r, R> {
+impl<'r, R: CountedRead> AccessSource for ReaderSource<'r, R> {
     type Outcome = (&'r mut R, Result<(), TraceFault>);
 
     ghost use Rattle.std.specs.Prelude.{◌≡◌};
@@ -124,7 +124,7 @@ impl<'r, R: Read> AccessSource for ReaderSource<'r, R> {
 }
 
 // Gives the feeder the trace while it is read.
-fn feed_read<S: FedTrace, W: Wait, R: Read>(
+fn feed_read<S: FedTrace, W: Wait, R: CountedRead>(
     mut feeder: Feeder<'_, S, W>,
     reader: &mut R,
     format: Format,

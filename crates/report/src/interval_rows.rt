@@ -12,11 +12,12 @@ use crate::rows::{number_text, rate_text, write_row};
 use csv::{Writer, WriterBuilder};
 use std::alloc::Global;
 use std::io::Write;
+use streams::CountedWrite;
 
 /// Writes the header and a line for each interval, in order, and flushes. The writes and flushes of one call share its
 /// interruptions, of which the millionth is `Write`. `OutOfMemory` has written nothing; after `Write` a beginning of the
 /// text was written.
-pub fn write_intervals<W: Write>(
+pub fn write_intervals<W: CountedWrite>(
     alloc: Global,
     intervals: &[Interval],
     writer: &mut W,

@@ -11,11 +11,12 @@ use super::{Report, WriteFault};
 use csv::{Writer, WriterBuilder};
 use std::alloc::{AllocError, Global};
 use std::io::Write;
+use streams::CountedWrite;
 
 /// Writes the header and a line for each report, in order, and flushes. The writes and flushes of
 /// one call share its interruptions, of which the millionth is `Write`. `OutOfMemory` has written
 /// nothing; after `Write` a beginning of the text was written.
-pub fn write_reports<W: Write>(
+pub fn write_reports<W: CountedWrite>(
     alloc: Global,
     reports: &[Report],
     writer: &mut W,

@@ -13,12 +13,12 @@ use crate::theorems::reports_obey_laws;
 use policies::{ActorFault, Report};
 use policy_actors::{run_actors, run_reading};
 use std::alloc::Global;
-use std::io::Read;
 use std::sync::Wait;
 use std::thread::Threads;
 use step_record::{Gate, Job, Trace};
 use sweeps::sweep_each;
 use trace_read::{Format, TraceFault};
+use streams::CountedRead;
 
 /// The reports of `run_actors`, and the laws that they obey.
 ///
@@ -43,7 +43,7 @@ pub fn run_actors_by_laws<R: Threads + Wait + Sync, G: Gate>(
 /// accepts.
 ///
 /// Errors: those of `run_reading`.
-pub fn run_reading_by_laws<T: Threads + Wait + Sync, R: Read, G: Gate>(
+pub fn run_reading_by_laws<T: Threads + Wait + Sync, R: CountedRead, G: Gate>(
     rt: &T,
     alloc: Global,
     reader: &mut R,

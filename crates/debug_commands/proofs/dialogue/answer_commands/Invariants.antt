@@ -9,7 +9,7 @@ invariant-lines g l = record {
   same : g.T.Timeline.timeline l.timeline ≡ g.T.Timeline.timeline l.initial.timeline;
   ahead : IsAhead (g.T.Timeline.timeline l.initial.timeline) (g.T.Timeline.position l.initial.timeline)
       (record { at = g.T.Timeline.position l.timeline; breaks = l.breaks.items }) l.room
-      (g.R.Read.remaining l.initial.input) (g.R.Read.remaining l.input) (g.W.Write.contents l.initial.out) (g.W.Write.contents l.out);
+      (g.R.CountedRead.remaining l.initial.input) (g.R.CountedRead.remaining l.input) (g.W.CountedWrite.contents l.initial.out) (g.W.CountedWrite.contents l.out);
 }
 
 abbrev pub decreases-lines : goal.decreases-lines

@@ -4,9 +4,9 @@ use Rattle.debug_commands.proofs.dialogue.read_line.Goals as goal
 
 pub returns-then-room-eq0-clause-large : goal.returns-then-room-eq0-clause-large
 returns-then-room-eq0-clause-large g c _ =
-    let old = g.R.Read.remaining c.args.input.now in
-    let mid = g.R.Read.remaining c.bytes.input in
-    let new = g.R.Read.remaining c.read_some.new.reader in
+    let old = g.R.CountedRead.remaining c.args.input.now in
+    let mid = g.R.CountedRead.remaining c.bytes.input in
+    let new = g.R.CountedRead.remaining c.read_some.new.reader in
     let chunk : List ℕ = c.read_some.new.chunk in
     let one : length chunk ≡ 1 = omega arith in
     record {
@@ -20,9 +20,9 @@ returns-then-room-eq0-clause-large g c _ =
 
 pub bytes-preserved : goal.bytes-preserved
 bytes-preserved g c =
-    let old = g.R.Read.remaining c.args.input.now in
-    let mid = g.R.Read.remaining c.bytes.input in
-    let new = g.R.Read.remaining c.read_some.new.reader in
+    let old = g.R.CountedRead.remaining c.args.input.now in
+    let mid = g.R.CountedRead.remaining c.bytes.input in
+    let new = g.R.CountedRead.remaining c.read_some.new.reader in
     let chunk : List ℕ = c.read_some.new.chunk in
     let text : List ℕ = c.bytes.text.items in
     let now : List ℕ = c.extend_from_slice.new.self.items in

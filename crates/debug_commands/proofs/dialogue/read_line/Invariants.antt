@@ -5,7 +5,7 @@ use Rattle.debug_commands.proofs.dialogue.read_line.Given as goal
 
 abbrev pub invariant-bytes : goal.invariant-bytes
 invariant-bytes g l = record {
-  read : Consumes (g.R.Read.remaining l.initial.input) (g.R.Read.remaining l.input) l.text.items;
+  read : Consumes (g.R.CountedRead.remaining l.initial.input) (g.R.CountedRead.remaining l.input) l.text.items;
   feeds : HasNoFeed l.text.items;
   room : l.room + length l.text.items ≡ l.initial.room;
 }

@@ -22,7 +22,7 @@ taken_at xs n x h =
 
 pub loop-n-init : goal.loop-n-init
 loop-n-init g c = record {
-  written = started (g.W.Write.contents c.args.writer.now) c.push_bytes.new.text.items (begun Two [])
+  written = started (g.W.CountedWrite.contents c.args.writer.now) c.push_bytes.new.text.items (begun Two [])
       (c.push_bytes.ensures.items ∙ ap (λ t. t ++ ended_line (header Two)) c.requires.empty ∙ sym (begun_none Two));
   room = omega (arith, c.push_bytes.ensures.capacity, c.requires.room);
   fit = All-nil (λ e. FitWords (entry_words e));
@@ -35,9 +35,9 @@ loop-n-preserved g c =
     let e = c.in-Some.entry.now in
     let front = take n kept in
     let next = taken_at kept n e c.in-Some.ensures in
-    let old = g.W.Write.contents c.args.writer.now in
-    let mid = g.W.Write.contents c.loop-n.writer in
-    let new = g.W.Write.contents c.make_room_for_line.new.writer in
+    let old = g.W.CountedWrite.contents c.args.writer.now in
+    let mid = g.W.CountedWrite.contents c.loop-n.writer in
+    let new = g.W.CountedWrite.contents c.make_room_for_line.new.writer in
     let passed_on = passed old mid new c.loop-n.text.items c.make_room_for_line.new.text.items (begun Two front) c.loop-n.invariant.written c.in_ok-make_room_for_line.ensures.written in
     record {
       written = gathered old new c.make_room_for_line.new.text.items c.push_entry_line.new.text.items (entry_line e) (begun Two front) (begun Two (take (n + 1) kept))

@@ -7,7 +7,7 @@ use Rattle.journal_text.proofs.writer.write_entries.Given as goal
 
 abbrev pub invariant-loop-n : goal.invariant-loop-n
 invariant-loop-n g l = record {
-  written : IsTextWritten (g.W.Write.contents l.fn.writer) (g.W.Write.contents l.writer) l.text.items (begun Two (take l.n l.session.kept));
+  written : IsTextWritten (g.W.CountedWrite.contents l.fn.writer) (g.W.CountedWrite.contents l.writer) l.text.items (begun Two (take l.n l.session.kept));
   room : BUFFER ≤ vec_capacity l.text;
   fit : AreFit (take l.n l.session.kept);
 }
