@@ -1,9 +1,10 @@
 //! A session's journal from a reader.
-ghost use Rattle.std.specs.Prelude.{◌≡◌, ◌<◌, [], OnOk, IfErr, IfSome, length};
+ghost use Rattle.std.specs.Prelude.{◌≡◌, ◌<◌, [], Err, OnOk, IfErr, IfSome, length};
 ghost use Rattle.step_record.specs.History.{Entries};
 ghost use Rattle.journal_text.specs.Faults.{Accepts, IsFault, IsRefusedAsLarge, IsUnread};
 ghost use Rattle.journal_text.specs.Journal.{IsJournalText};
 ghost use Rattle.journal.specs.Session.{IsSameSession};
+ghost use Rattle.streams.specs.Tally.{FailsWhere};
 
 use super::JournalFault;
 use super::replay::read_text;
@@ -46,6 +47,8 @@ pub fn read_journal<R: CountedRead, E: Engine<Step = Step, Reply = Reply>>(
     ensures opening { session.new.opening ≡ session.old.opening }
     ensures limit { session.new.limit ≡ session.old.limit }
     ensures tail { session.new.tail ≡ [] }
+    // `Read` comes just where a read failed, or the millionth was interrupted.
+    ensures tally { FailsWhere (result ≡ Err JournalFault.Read) (R.tally reader.old) (R.tally reader.new) }
 {
     let bytes = streams::read_all(alloc, reader, MAX_JOURNAL_BYTES)?;
     read_text(bytes.as_slice(), session)

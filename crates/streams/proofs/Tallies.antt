@@ -1,5 +1,5 @@
 -- What the last call leaves of a budget.
-use Rattle.std.proofs.Common.{arith, ℕ, ◌+◌, ◌<◌, ◌≡◌, ◌∙◌, ◌≢◌, ◌⊎◌, inl, inr}
+use Rattle.std.proofs.Common.{arith, ℕ, ◌+◌, ◌<◌, ◌≡◌, ◌∙◌, ◌≢◌, ◌⊎◌, inl, inr, refl}
 use Rattle.std.specs.IoError.{error_kind}
 use Rattle.std.specs.declared.io.Error.{Error}
 use Rattle.std.specs.declared.io.ErrorKind.TheVariants.{Interrupted}
@@ -48,3 +48,14 @@ served left old new spends =
       unfailed = spends.unfailed;
       few = omega arith;
     }
+
+-- where no call was made
+pub unspent : (budget : ℕ) (tally : Tally) → Spends budget budget tally tally
+unspent budget tally = record {
+  unfailed = refl;
+  spent = refl;
+  some_left = λ some. some;
+}
+
+pub uncalled : (tally : Tally) → IsServed tally tally
+uncalled tally = served INTERRUPTIONS tally tally (unspent INTERRUPTIONS tally)
