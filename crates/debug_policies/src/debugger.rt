@@ -6,6 +6,7 @@ ghost use Rattle.step_record.specs.Config.{config_fault};
 ghost use Rattle.debug_policies.specs.ConfigFault.{ReturnsConfig, UntouchedAtConfig};
 ghost use Rattle.debug_policies.specs.TwoPolicies.{access_facts, just_one, left_on_access, policies_timeline};
 ghost use Rattle.debug_policies.specs.TwoPolicies.{IsPartWalk};
+ghost use Rattle.streams.specs.Tally.{FailsWhere};
 
 use crate::divergence::{hits, part, push_part};
 use crate::one_policy::OnePolicy;
@@ -40,6 +41,10 @@ pub fn run_debug<R: CountedRead, W: CountedWrite>(
     // A refused configuration is reported, and no other; nothing is read or written then.
     ensures config { ReturnsConfig (faulty_in (first.now ∷ second.now ∷ [])) result }
     ensures untouched { IfErr result (UntouchedAtConfig (commands.new ≡ commands.old) (out.new ≡ out.old)) }
+    ensures flushed { OnOk result (W.is_flushed out.new ≡ true) }
+    // `Read` comes just where a read failed or the millionth was interrupted, and `Write` where a write or a flush did.
+    ensures reads { FailsWhere (result ≡ Err DebugFault.Read) (R.tally commands.old) (R.tally commands.new) }
+    ensures writes { FailsWhere (result ≡ Err DebugFault.Write) (W.tally out.old) (W.tally out.new) }
 {
     if first.config.check().is_err() {
         return Err(DebugFault::Config { index: 0 });

@@ -1,12 +1,13 @@
-//! Lines of the grammar, and dialogues over inputs and outputs that fail, worked out by hand.
+//! Lines of the grammar, and dialogues, worked out by hand.
 use super::assertions::assert_equal;
 use debug_commands::{
     Breakpoint, Command, DebugFault, Dialect, InputLine, StepFacts, Timeline, answer_commands, line,
 };
 use std::alloc::{AllocError, Global};
-use std::io::{Error, ErrorKind, Read, Result, Write};
+use std::io::{Read, Result, Write};
 use std::process::Abort;
 use std::test::Fail;
+use streams::{CountedReader, CountedWriter};
 
 fn assert_line(rt: &impl Abort, dialect: Dialect, text: &str, said: InputLine) {
     assert_eq!(rt; line(dialect, text.as_bytes()), said, "{text}");
@@ -196,40 +197,17 @@ impl Timeline for Count {
     }
 }
 
-// What an end does: it interrupts so many calls, lets so many pass, and then fails.
-#[derive(Clone, Copy)]
-struct Turns {
-    interruptions: u32,
-    passes: usize,
-}
-
-const NEVER: usize = usize::MAX;
-
-impl Turns {
-    fn next(&mut self) -> Result<()> {
-        if self.interruptions > 0 {
-            self.interruptions -= 1;
-            return Err(Error::from(ErrorKind::Interrupted));
-        }
-        if self.passes == 0 {
-            return Err(Error::from(ErrorKind::BrokenPipe));
-        }
-        self.passes -= 1;
-        Ok(())
-    }
-}
-
-// Gives a text and then the last of its bytes again, so many times, one byte at a call.
+// Gives a text and then the last of its bytes again, so many times, one byte at a call, and counts its calls.
 #[derive(Drop)]
 struct Source<'a> {
     text: &'a [u8],
     again: usize,
-    turns: Turns,
+    reads: usize,
 }
 
 impl<'a> Read for Source<'a> {
     fn read(&mut self, buf: &mut [u8]) -> Result<usize> {
-        self.turns.next()?;
+        self.reads = self.reads.saturating_add(1);
         if buf.is_empty() {
             return Ok(0);
         }
@@ -249,12 +227,12 @@ impl<'a> Read for Source<'a> {
     }
 }
 
-// Takes one byte at a call.
+// Takes one byte at a call, and counts its flushes.
 #[derive(Drop)]
 struct Sink {
     taken: [u8; 64],
     count: usize,
-    turns: Turns,
+    flushes: usize,
 }
 
 impl Sink {
@@ -266,7 +244,6 @@ impl Sink {
 
 impl Write for Sink {
     fn write(&mut self, buf: &[u8]) -> Result<usize> {
-        self.turns.next()?;
         if buf.is_empty() || self.count >= self.taken.len() {
             return Ok(0);
         }
@@ -276,37 +253,37 @@ impl Write for Sink {
     }
 
     fn flush(&mut self) -> Result<()> {
-        self.turns.next()
+        self.flushes = self.flushes.saturating_add(1);
+        Ok(())
     }
 }
 
-// What became of a dialogue: the answer, the position, and how many bytes of the text went out.
+// What became of a dialogue: the answer, and the position.
 fn ended(
     alloc: Global,
-    source: &mut Source<'_>,
-    sink: &mut Sink,
+    source: &mut CountedReader<Source<'_>>,
+    sink: &mut CountedWriter<Sink>,
 ) -> (std::result::Result<(), DebugFault>, usize) {
     let mut count = Count { at: 0 };
     let answer = answer_commands(alloc, &mut count, source, sink);
     (answer, count.at)
 }
 
-fn source_of(text: &[u8], again: usize, turns: Turns) -> Source<'_> {
-    Source { text, again, turns }
+fn source_of(text: &[u8], again: usize) -> CountedReader<Source<'_>> {
+    CountedReader::new(Source {
+        text,
+        again,
+        reads: 0,
+    })
 }
 
-fn sink_of(turns: Turns) -> Sink {
-    Sink {
+fn new_sink() -> CountedWriter<Sink> {
+    CountedWriter::new(Sink {
         taken: [0; 64],
         count: 0,
-        turns,
-    }
+        flushes: 0,
+    })
 }
-
-const STEADY: Turns = Turns {
-    interruptions: 0,
-    passes: NEVER,
-};
 
 // What stands behind `quit` is not read; an empty line is answered by nothing.
 const COMMANDS: &[u8] = b"step 1\n\ngoto 3\nback 4\nquit\nstep 1\n\n";
@@ -316,68 +293,20 @@ const READ: usize = 27;
 
 const ANSWERS: &[u8] = b"at 1\nat 3\nfault: PastStart\n";
 
-// Each byte of the answers is a write, and each of the five lines a flush.
-const WRITES: usize = 27 + 5;
-
-fn passing(passes: usize) -> Turns {
-    Turns {
-        interruptions: 0,
-        passes,
-    }
-}
-
-fn interrupted(interruptions: u32) -> Turns {
-    Turns {
-        interruptions,
-        passes: NEVER,
-    }
-}
-
-// The dialogue ends so; where it fails, the beginning of its answers went out.
-fn assert_ended(
-    rt: &impl Abort,
-    alloc: Global,
-    reads: Turns,
-    writes: Turns,
-    wanted: std::result::Result<(), DebugFault>,
-) {
-    let mut source = source_of(COMMANDS, 1, reads);
-    let mut sink = sink_of(writes);
-    let (answer, at) = ended(alloc, &mut source, &mut sink);
-    let (sent, passes) = (sink.sent(), (reads.passes, writes.passes));
-    assert_eq!(rt; answer, wanted, "after {passes:?} calls");
-    assert!(rt; ANSWERS.starts_with(sent));
-    assert!(rt; wanted.is_err() || (at == 3 && sent == ANSWERS));
-}
+// As many lines as are answered, each with a flush.
+const LINES: usize = 5;
 
 #[test]
-fn each_failing_read_is_reported(rt: HostRuntime) {
-    for passes in 0..READ {
-        let fault = Err(DebugFault::Read);
-        assert_ended(&rt, rt.alloc(), passing(passes), STEADY, fault);
-    }
-    assert_ended(&rt, rt.alloc(), passing(READ), STEADY, Ok(()));
-}
-
-#[test]
-fn each_failing_write_and_flush_is_reported(rt: HostRuntime) {
-    for passes in 0..WRITES {
-        let fault = Err(DebugFault::Write);
-        assert_ended(&rt, rt.alloc(), STEADY, passing(passes), fault);
-    }
-    assert_ended(&rt, rt.alloc(), STEADY, passing(WRITES), Ok(()));
-}
-
-#[test]
-fn the_millionth_interruption_is_a_failure(rt: HostRuntime) {
-    for (reads, writes, wanted) in [
-        (999_999, 999_999, Ok(())),
-        (1_000_000, 0, Err(DebugFault::Read)),
-        (0, 1_000_000, Err(DebugFault::Write)),
-    ] {
-        let (reads, writes) = (interrupted(reads), interrupted(writes));
-        assert_ended(&rt, rt.alloc(), reads, writes, wanted);
-    }
+fn each_answer_is_flushed_before_the_next_line_is_read(rt: HostRuntime) {
+    let mut source = source_of(COMMANDS, 1);
+    let mut sink = new_sink();
+    assert_equal(&rt, ended(rt.alloc(), &mut source, &mut sink), (Ok(()), 3));
+    assert_equal(&rt, sink.get_ref().sent(), ANSWERS);
+    assert_equal(
+        &rt,
+        (source.get_ref().reads, sink.get_ref().flushes),
+        (READ, LINES),
+    );
 }
 
 // The last byte of each text is given so many times; the limit is 1048576 bytes.
@@ -397,8 +326,8 @@ fn commands_of_many_bytes(rt: HostRuntime) {
         ),
         (b"quit\n".as_slice(), 1_048_577, Ok(()), 0),
     ] {
-        let mut sink = sink_of(STEADY);
-        let (answer, end) = ended(rt.alloc(), &mut source_of(text, again, STEADY), &mut sink);
+        let mut sink = new_sink();
+        let (answer, end) = ended(rt.alloc(), &mut source_of(text, again), &mut sink);
         assert_eq!(rt; answer, result, "of {again} last bytes");
         assert_equal(&rt, end, at);
     }

@@ -7,6 +7,7 @@ use std::alloc::Global;
 use std::process::Abort;
 use std::test::Fail;
 use step_record::{Config, Job, Key, Policy, Spread, Trace};
+use streams::{CountedReader, CountedWriter};
 
 fn job(policy: Policy, capacity: u32) -> Job {
     Job {
@@ -103,10 +104,10 @@ fn said_of(
     commands: &[u8],
 ) -> Result<Vec<u8>, Fail> {
     let trace = trace_of(alloc, keys)?;
-    let mut out = Vec::with_capacity(alloc, ROOM)?;
+    let mut out = CountedWriter::new(Vec::with_capacity(alloc, ROOM)?);
     let mut rest = commands;
     match run_debug(alloc, &trace, first, second, &mut rest, &mut out) {
-        Ok(()) => Ok(out),
+        Ok(()) => Ok(out.into_inner()),
         Err(DebugFault::OutOfMemory) => Err(Fail::from("out of memory")),
         Err(_) => Err(Fail::from("a fault")),
     }
@@ -205,59 +206,6 @@ fn sixty_four_breakpoints(rt: HostRuntime) -> Result<(), Fail> {
     assert_said(&rt, rt.alloc(), commands.as_slice(), text.as_slice())
 }
 
-// Two commands, of which the second ends the run, and what lies behind it.
-const COMMANDS: &[u8] = b"goto 5\nquit\nshow\n";
-
-// As many reads as there are bytes up to the line feed of `quit`.
-const READS: usize = 12;
-
-const ANSWERS: &[u8] = b"at 5\n";
-
-// As many writes as the answer has bytes, and a flush for each of the two commands.
-const WRITES: usize = 5 + 2;
-
-// The answer to the commands, through these ends.
-fn answer_through(
-    alloc: Global,
-    input: &mut Pipe<'_>,
-    output: &mut Pipe<'_>,
-) -> Result<Result<(), DebugFault>, Fail> {
-    let trace = trace_of(alloc, &[1, 1, 2, 3, 1])?;
-    let (lru, segmented) = (job(Policy::Lru, 2), job(Policy::SegmentedLru, 2));
-    match run_debug(alloc, &trace, &lru, &segmented, input, output) {
-        Err(DebugFault::OutOfMemory) => Err(Fail::from("out of memory")),
-        answer => Ok(answer),
-    }
-}
-
-// Sees what the commands are answered through ends that let so many calls pass, and that the front of the answers is
-// written, all of them where there is no fault.
-fn assert_through(
-    rt: &impl Abort,
-    alloc: Global,
-    (reads, writes): (usize, usize),
-    wanted: Result<(), DebugFault>,
-) -> Result<(), Fail> {
-    let mut input = Pipe::of(alloc, COMMANDS, reads)?;
-    let mut output = Pipe::of(alloc, b"", writes)?;
-    let answer = answer_through(alloc, &mut input, &mut output)?;
-    assert_eq!(rt; answer, wanted, "{reads} reads, {writes} writes");
-    assert!(rt; ANSWERS.starts_with(output.taken.as_slice()));
-    assert!(rt; answer.is_err() || output.taken.len() == ANSWERS.len());
-    Ok(())
-}
-
-#[test]
-fn each_read_or_write_that_fails_is_reported(rt: HostRuntime) -> Result<(), Fail> {
-    for reads in 0..READS {
-        assert_through(&rt, rt.alloc(), (reads, ROOM), Err(DebugFault::Read))?;
-    }
-    for writes in 0..WRITES {
-        assert_through(&rt, rt.alloc(), (READS, writes), Err(DebugFault::Write))?;
-    }
-    assert_through(&rt, rt.alloc(), (READS, WRITES), Ok(()))
-}
-
 // Sees that a configuration is refused, by ends of which each call would fail.
 fn assert_refused(
     rt: &impl Abort,
@@ -266,8 +214,8 @@ fn assert_refused(
     (first, second): (&Job, &Job),
     index: usize,
 ) -> Result<(), Fail> {
-    let mut input = Pipe::of(alloc, COMMANDS, 0)?;
-    let mut output = Pipe::of(alloc, COMMANDS, 0)?;
+    let mut input = CountedReader::new(Pipe::of(alloc, b"quit\n", 0)?);
+    let mut output = CountedWriter::new(Pipe::of(alloc, b"", 0)?);
     let refused = run_debug(alloc, trace, first, second, &mut input, &mut output);
     assert_equal(rt, refused, Err(DebugFault::Config { index }));
     Ok(())

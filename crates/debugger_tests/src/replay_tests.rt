@@ -9,6 +9,7 @@ use std::alloc::Global;
 use std::process::Abort;
 use std::test::Fail;
 use step_record::{Config, Spread};
+use streams::{CountedReader, CountedWriter};
 
 const JOURNAL: &str = "cachesim journal 1
 0 look 1 = miss
@@ -42,10 +43,10 @@ fn session_of(alloc: Global, capacity: u32, text: &str) -> Result<Session<Shell>
 
 // What the debugger writes of a session.
 fn said_of(alloc: Global, session: &mut Session<Shell>, commands: &[u8]) -> Result<Vec<u8>, Fail> {
-    let mut out = Vec::with_capacity(alloc, ROOM)?;
+    let mut out = CountedWriter::new(Vec::with_capacity(alloc, ROOM)?);
     let mut rest = commands;
     run_replay(alloc, session, &mut rest, &mut out)?;
-    Ok(out)
+    Ok(out.into_inner())
 }
 
 // What the debugger writes of a journal.
@@ -148,13 +149,13 @@ fn walk(
     (commands, reads): (&[u8], usize),
     (text, writes): (&[u8], usize),
 ) -> Result<Result<(), DebugFault>, Fail> {
-    let mut input = Pipe::of(alloc, commands, reads)?;
-    let mut output = Pipe::of(alloc, b"", writes)?;
+    let mut input = CountedReader::new(Pipe::of(alloc, commands, reads)?);
+    let mut output = CountedWriter::new(Pipe::of(alloc, b"", writes)?);
     let answer = run_replay(alloc, session, &mut input, &mut output);
     if answer == Err(DebugFault::OutOfMemory) {
         return Err(Fail::from("out of memory"));
     }
-    assert_equal(rt, output.taken.as_slice(), text);
+    assert_equal(rt, output.get_ref().taken.as_slice(), text);
     Ok(answer)
 }
 

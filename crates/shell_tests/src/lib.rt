@@ -5,13 +5,11 @@
 #[cfg(test)]
 mod assertions;
 #[cfg(test)]
+mod buffer_tests;
+#[cfg(test)]
 mod copy_tests;
 #[cfg(test)]
 mod counter;
-#[cfg(test)]
-mod ends;
-#[cfg(test)]
-mod ends_tests;
 #[cfg(test)]
 mod journal_tests;
 #[cfg(test)]

@@ -8,9 +8,9 @@ use journal::Session;
 use journal_text::{JournalFault, read_journal, write_journal};
 use maintenance::Shell;
 use std::alloc::Global;
-use std::io::Read;
 use std::process::Abort;
 use std::test::Fail;
+use streams::{CountedRead, CountedWriter};
 
 // The first six steps of a round between these two texts.
 macro_rules! six_steps {
@@ -24,8 +24,8 @@ macro_rules! six_steps {
     };
 }
 
-/// A round as it is written.
-pub const WRITTEN: &str = six_steps!(
+// A round as it is written.
+const WRITTEN: &str = six_steps!(
     "cachesim journal 2\n",
     "0 drainwrite = empty\n0 evict = fits\n0 end = idle\nsteps 9\n"
 );
@@ -45,13 +45,13 @@ const ROOM: usize = 1 << 19;
 
 // The journal of a session as text.
 fn written(alloc: Global, session: &Session<Shell>) -> Result<Vec<u8>, Fail> {
-    let mut text = Vec::with_capacity(alloc, ROOM)?;
+    let mut text = CountedWriter::new(Vec::with_capacity(alloc, ROOM)?);
     write_journal(alloc, session, &mut text)?;
-    Ok(text)
+    Ok(text.into_inner())
 }
 
 // Reads a journal into a session of this limit: the answer, and how many steps are applied then.
-fn reading<R: Read>(
+fn reading<R: CountedRead>(
     rt: &impl Abort,
     alloc: Global,
     reader: &mut R,
@@ -64,9 +64,9 @@ fn reading<R: Read>(
     Ok((answer, session.len()))
 }
 
-/// Reads a journal into a session of at most nine steps, and sees the answer, and how many steps are applied then. A
-/// failure names the case by its number.
-pub fn assert_reading<R: Read>(
+// Reads a journal into a session of at most nine steps, and sees the answer, and how many steps are applied then. A
+// failure names the case by its number.
+fn assert_reading<R: CountedRead>(
     rt: &impl Abort,
     alloc: Global,
     reader: &mut R,

@@ -12,6 +12,7 @@ use std::sync::Wait;
 use std::test::Fail;
 use std::thread::Threads;
 use step_record::{Gate, Job, OpenGate, Policy};
+use streams::CountedReader;
 use trace_read::{Format, TraceFault};
 
 /// A reader of a text so many times, in pieces of a size, that then ends or fails.
@@ -60,13 +61,14 @@ impl Read for Pieces<'_> {
 fn assert_reading<G: Gate, R: Threads + Wait + Sync + Abort>(
     rt: &R,
     alloc: Global,
-    mut reader: Pieces<'_>,
+    reader: Pieces<'_>,
     format: Format,
     (jobs, batch): (&[Job], u32),
     gate: &G,
     wanted: Result<&[Report], TraceFault>,
 ) -> Result<(), Fail> {
     check_run(batch, jobs).map_err(failed)?;
+    let mut reader = CountedReader::new(reader);
     match run_reading(rt, alloc, &mut reader, format, jobs, batch, gate) {
         Ok(reports) => assert_equal(rt, Ok(reports.as_slice()), wanted),
         Err(fault) => assert_equal(rt, Err(fault), wanted),
@@ -244,11 +246,11 @@ impl Read for Waiting<'_> {
 fn actors_begin_while_the_trace_is_read(rt: HostRuntime) -> Result<(), Fail> {
     let gate = Hold::new(0, 0);
     let jobs = [job(Policy::Lru, 2); 2];
-    let mut reader = Waiting {
+    let mut reader = CountedReader::new(Waiting {
         pieces: Pieces::of("7\n", 2, 40_000),
         gate: &gate,
         begun: 2,
-    };
+    });
     check_run(1_024, &jobs).map_err(failed)?;
     match run_reading(
         &rt,

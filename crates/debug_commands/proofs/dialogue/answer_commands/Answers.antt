@@ -1,5 +1,6 @@
 use Rattle.std.proofs.Common.{rules, ◌≡◌, ◌∙◌, Ok, Err, ap, sym, subst, refl}
 use Rattle.std.specs.Result.{IsErrAnd}
+use Rattle.streams.proofs.Tallies.{further, unspent}
 use Rattle.debug_commands.specs.Commands.{command_line_of}
 use Rattle.debug_commands.specs.Dialogue.{is_quit}
 use Rattle.debug_commands.specs.Timeline.{TimelineData}
@@ -17,6 +18,8 @@ lines-init g c = record {
   same = refl;
   ahead = begins (g.T.Timeline.timeline c.args.timeline.now) (g.T.Timeline.position c.args.timeline.now) 1048576 c.new-breaks.result.items
       (g.R.CountedRead.remaining c.args.input.now) (g.W.CountedWrite.contents c.args.out.now) c.new-breaks.ensures.items refl;
+  reads = rw c.new-reads.ensures (unspent _ _);
+  writes = rw c.new-writes.ensures (unspent _ _);
 }
 
 pub returns-in_err-fed-clause-large : goal.returns-in_err-fed-clause-large
@@ -62,4 +65,7 @@ lines-preserved g c =
           c.in_ok-fed.ensures.read c.in_ok-fed.ensures.feeds c.in_ok-fed.ensures.room c.as_slice-in-lines.ensures.value (flushed (g.W.CountedWrite.contents c.lines.out) (g.W.CountedWrite.contents c.write_some.new.writer) (g.W.CountedWrite.contents c.flush.new.writer) c.as_slice-in-lines.result.now
           c.in_ok-write_some.ensures.bytes c.in_ok-flush.ensures.bytes))
           c.if-not-fed.false (sym (ap is_quit said) ∙ not_quit c.line-said.result goes);
+      reads = further _ _ _ _ _ _ c.lines.invariant.reads (c.in_ok-fed.ensures.spent (λ same. absurd (cc same)));
+      writes = further _ _ _ _ _ _ c.lines.invariant.writes
+          (further _ _ _ _ _ _ c.in_ok-write_some.ensures.spent c.in_ok-flush.ensures.spent);
     }

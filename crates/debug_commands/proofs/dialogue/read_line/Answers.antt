@@ -1,4 +1,5 @@
 use Rattle.std.proofs.Common.{◌≡◌, ◌∙◌, ◌+◌, ℕ, List, length, get_or, ap, arith, length-append}
+use Rattle.streams.proofs.Tallies.{further}
 use Rattle.debug_commands.proofs.OneByte.{feeds_more, line_more, one_more}
 use Rattle.debug_commands.proofs.dialogue.read_line.Goals as goal
 
@@ -33,4 +34,5 @@ bytes-preserved g c =
           c.in_ok-extend_from_slice.ensures.items c.bytes.invariant.read c.in_ok-count.ensures.bytes;
       feeds = feeds_more text chunk now one c.if-byte-eq10.false c.in_ok-extend_from_slice.ensures.items c.bytes.invariant.feeds;
       room = omega (arith, long, one, c.bytes.invariant.room, c.if-room-eq0.false);
+      spent = further _ _ _ _ _ _ c.bytes.invariant.spent c.in_ok-count.ensures.spent;
     }
