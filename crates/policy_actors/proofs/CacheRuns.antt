@@ -1,6 +1,7 @@
 -- What an actor has of the accesses, batch after batch.
-use Rattle.std.proofs.Common.{◌≡◌, ℕ, ◌+◌, ◌*◌, ◌<◌, ◌≤◌, false, true≢false, List, [], ◌++◌, length, take, drop, Option, Some, None, IfSome, IsTrue, ⊎_elim, sym, ap, subst, ◌∙◌, refl, arith, append-nil, length-append}
+use Rattle.std.proofs.Common.{◌≡◌, ℕ, ◌+◌, ◌*◌, ◌<◌, ◌≤◌, false, true≢false, List, [], ◌++◌, length, take, drop, Option, Some, None, IfSome, Result, Ok, Err, OnOk, IsTrue, ⊎_elim, sym, ap, subst, ◌∙◌, arith, append-nil, length-append}
 use Rattle.std.specs.Prelude.{◌↔◌}
+use Rattle.std.specs.Result.{is_err}
 use Rattle.std.proofs.lemmas.Bool.{cases_lt}
 use Rattle.step_record.specs.declared.job.Job.{Job}
 use Rattle.step_record.specs.declared.limits.TheConstants.{MAX_ACCESSES}
@@ -10,7 +11,7 @@ use Rattle.policies.specs.Design.{knows_trace}
 use Rattle.policies.specs.AnyPolicy.{HasAccessed}
 use Rattle.policy_actors.specs.CacheRuns.{CanTake, HasTaken, IsAfter}
 use Rattle.policy_actors.specs.declared.actor.CacheRun.{CacheRun}
-use Rattle.policy_actors.specs.declared.actor.CacheRun.TheVariants.{Cache, NextUses}
+use Rattle.policy_actors.specs.declared.actor.CacheRun.TheVariants.{Cache, NextUses, OutOfMemory}
 use Rattle.policy_actors.specs.ChannelProtocol.{IsBatch}
 use Rattle.policy_actors.specs.declared.channel_protocol.Batch.{Batch}
 use Rattle.policies.proofs.Batches.{taken-more, all-taken}
@@ -20,14 +21,18 @@ pub of_any : (j : Job) (trace other keys : List ℕ) (d : AnyPolicy) → knows_t
 of_any j trace other keys (Queues d) none h = h
 of_any j trace other keys (Optimal d) none h = absurd (true≢false (sym h.policy ∙ none))
 
+-- what comes where there was no error
+pub went : {T E P : Type 0} (r : Result T E) → is_err r ≡ false → OnOk r P → P
+went (Ok v) none h = h
+went (Err e) none h = absurd (true≢false none)
+
 nothing : (known : Option (List ℕ)) (size : ℕ) → IfSome known (λ all. [] ≡ take (0 * size) all)
 nothing None size = tt
 nothing (Some all) size = let z : 0 * size ≡ 0 = omega arith in sym (ap (λ (n : ℕ). take n all) z)
 
 -- before the first batch
-pub begun : (known : Option (List ℕ)) (j : Job) (size : ℕ) (m : Option CacheRun) → IfSome m (λ run. (trace : List ℕ) → HasTaken j trace [] run) → IfSome m (IsAfter known j size 0)
-begun known j size None taken = tt
-begun known j size (Some run) taken = record { done = []; taken = taken; within = omega arith; few = omega arith; first = nothing known size }
+pub begun : (known : Option (List ℕ)) (j : Job) (size : ℕ) (run : CacheRun) → ((trace : List ℕ) → HasTaken j trace [] run) → IsAfter known j size 0 run
+begun known j size run taken = record { done = []; taken = taken; within = omega arith; few = omega arith; first = nothing known size }
 
 module _ (known : Option (List ℕ)) (j : Job) (size k : ℕ) (b : Batch) (is : IsBatch known size k b) where
   few_more : (done : List ℕ) → length done ≤ k * size → length done ≤ MAX_ACCESSES → length (done ++ b.keys) ≤ MAX_ACCESSES
@@ -36,9 +41,10 @@ module _ (known : Option (List ℕ)) (j : Job) (size k : ℕ) (b : Batch) (is : 
       (λ (none : length b.keys ≤ 0). omega (arith, length-append done b.keys))
       (cases_lt 0 (length b.keys))
 
-  next : (run : CacheRun) → IsAfter known j size k run → CanTake b.keys run
-  next (NextUses found) s = omega (arith, length-append s.done b.keys, few_more s.done s.within s.few, ap (λ (l : List ℕ). length l) (s.taken []))
-  next (Cache d) s = record {
+  -- it is ready for the next batch
+  pub ready : (run : CacheRun) → IsAfter known j size k run → CanTake b.keys run
+  ready (NextUses found) s = omega (arith, length-append s.done b.keys, few_more s.done s.within s.few, ap (λ (l : List ℕ). length l) (s.taken []))
+  ready (Cache d) s = record {
     job = j;
     trace = s.done ++ b.keys;
     before = s.done;
@@ -47,11 +53,7 @@ module _ (known : Option (List ℕ)) (j : Job) (size k : ℕ) (b : Batch) (is : 
     ahead = ap (λ (l : List ℕ). s.done ++ l) (sym (append-nil b.keys));
     few = few_more s.done s.within s.few;
   }
-
-  -- it is ready for the next batch
-  pub ready : (m : Option CacheRun) → IfSome m (IsAfter known j size k) → IfSome m (CanTake b.keys)
-  ready None s = tt
-  ready (Some run) s = next run s
+  ready OutOfMemory s = tt
 
   first_more : (o : Option (List ℕ)) (done : List ℕ) → IfSome o (λ all. done ≡ take (k * size) all)
       → IfSome o (λ all. b.keys ≡ take size (drop (k * size) all)) → IfSome o (λ all. done ++ b.keys ≡ take ((k + 1) * size) all)
@@ -59,12 +61,9 @@ module _ (known : Option (List ℕ)) (j : Job) (size k : ℕ) (b : Batch) (is : 
   first_more (Some all) done f p = ap (λ (l : List ℕ). l ++ b.keys) f ∙ taken-more size k all b.keys p
 
   -- and took one more after it
-  pub moved : (m n : Option CacheRun) → IfSome m (IsAfter known j size k)
-      → ((i : Job) (trace done : List ℕ) → IfSome m (HasTaken i trace done) → IfSome n (HasTaken i trace (done ++ b.keys)))
-      → (m ≡ None → n ≡ None) → IfSome n (IsAfter known j size (k + 1))
-  moved m None s step gone = tt
-  moved None (Some e) s step gone = absurd (cc (gone refl))
-  moved (Some d) (Some e) s step gone =
+  pub moved : (old new : CacheRun) → IsAfter known j size k old
+      → ((i : Job) (trace done : List ℕ) → HasTaken i trace done old → HasTaken i trace (done ++ b.keys) new) → IsAfter known j size (k + 1) new
+  moved old new s step =
       let more : (k + 1) * size ≡ k * size + size = omega arith in
       record {
         done = s.done ++ b.keys;
@@ -75,9 +74,8 @@ module _ (known : Option (List ℕ)) (j : Job) (size k : ℕ) (b : Batch) (is : 
       }
 
   -- after the last batch it took all that was fed
-  pub ended : (m : Option CacheRun) → IfSome m (IsAfter known j size (k + 1)) → IsTrue b.last → (all : List ℕ) → known ≡ Some all → IfSome m (HasTaken j all all)
-  ended None s last all e = tt
-  ended (Some run) s last all e =
+  pub ended : (run : CacheRun) → IsAfter known j size (k + 1) run → IsTrue b.last → (all : List ℕ) → known ≡ Some all → HasTaken j all all run
+  ended run s last all e =
       let ends : IsTrue b.last ↔ (length all ≤ k * size + size) = subst (λ o. IfSome o (λ a. IsTrue b.last ↔ (length a ≤ k * size + size))) e is.last in
       let first : s.done ≡ take ((k + 1) * size) all = subst (λ o. IfSome o (λ a. s.done ≡ take ((k + 1) * size) a)) e s.first in
       subst (λ (l : List ℕ). HasTaken j all l run) (first ∙ all-taken size k all (ends.0 last)) (s.taken all)

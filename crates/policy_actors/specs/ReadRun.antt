@@ -3,20 +3,12 @@ use Rattle.std.specs.Prelude.{◌≡◌, ◌≢◌, ◌≤◌, ◌<◌, Option, 
 use Rattle.std.specs.Io.KnownBytes.{IsAtEnd}
 use Rattle.step_record.specs.declared.limits.TheConstants.{MAX_TRACE_BYTES}
 use Rattle.streams.specs.GivenBytes.{ReadAtMost}
+use Rattle.streams.specs.Tally.{FailsWhere}
+use Rattle.streams.specs.declared.tally.Tally.{Tally}
 use Rattle.trace_read.specs.declared.format.Format.{Format}
 use Rattle.trace_read.specs.declared.fault.TraceFault.{TraceFault}
-use Rattle.trace_read.specs.declared.fault.TraceFault.TheVariants.{TooLarge}
-use Rattle.trace_read.specs.TraceText.{fault_in, AreOfFile, IsOfLine}
-use Rattle.step_record.specs.declared.job.Job.{Job}
-use Rattle.policies.specs.FaultyJobs.{faulty_in}
-use Rattle.policies.specs.declared.job_checks.TheConstants.{MAX_ACTORS}
-
--- the source stands for the accesses of the file, as far as they are known, and the jobs may run while it is read
-pub record CanRunReading (format : Format) (file known : Option (List ℕ)) (size batch : ℕ) (jobs : List Job) : Type 0 where
-  pub of_file : AreOfFile format file known
-  pub size_is : (size ≡ batch) × (0 < size)
-  pub few : length jobs ≤ MAX_ACTORS
-  pub checked : faulty_in jobs ≡ None
+use Rattle.trace_read.specs.declared.fault.TraceFault.TheVariants.{Read, TooLarge}
+use Rattle.trace_read.specs.TraceText.{fault_in, IsOfLine}
 
 -- the bytes of a reader were read to their end and have no fault, or this is the fault; as `read_trace` has it
 pub record IsReadTo {T : Type 0} (format : Format) (old new : Option (List ℕ)) (result : Result T TraceFault) : Type 0 where
@@ -27,3 +19,7 @@ pub record IsReadTo {T : Type 0} (format : Format) (old new : Option (List ℕ))
   pub all : IfErr result (λ e. IsOfLine e → IsAtEnd new)
   pub large : result ≡ Err TooLarge → IfSome old (λ bytes. MAX_TRACE_BYTES < length bytes)
   pub within : result ≢ Err TooLarge → ReadAtMost MAX_TRACE_BYTES old new
+
+-- just where it ended in `Read` a read failed, or the millionth was interrupted; as `read_trace` has it
+abbrev pub FailsAsRead : {T : Type 0} → Result T TraceFault → Tally → Tally → Type 0
+FailsAsRead result old new = FailsWhere (result ≡ Err Read) old new

@@ -1,25 +1,25 @@
 //! One actor: a job's policy, fed with batches.
-ghost use Rattle.std.specs.Prelude.{◌≡◌, ◌++◌, [], ℕ, List, false, Ok, None, Some, IfOk, IfSome, OnOk};
+ghost use Rattle.std.specs.Prelude.{◌≡◌, ◌++◌, [], ℕ, List, Ok, Some, IfOk, IfSome, OnOk};
 ghost use Rattle.step_record.specs.Config.{config_fault};
 ghost use Rattle.step_record.specs.declared.job.Job.{Job};
 ghost use Rattle.policies.specs.AnyPolicy.{HasAccessed};
-ghost use Rattle.policies.specs.Design.{knows_trace};
 ghost use Rattle.policies.specs.Accesses.{IsNext};
 ghost use Rattle.policy_actors.specs.CacheRuns.{CanTake, HasTaken};
 ghost use Rattle.policies.specs.Reports.{report_on};
 
-use crate::fed_trace::FedTrace;
-use crate::feeder::Backlog;
+use crate::lump::FedTrace;
 use crate::mail::Inbox;
 use clairvoyant::{NextUse, NextUseFinder};
 use policies::{AnyPolicy, Report, access_all, report_by, theorems};
 use std::alloc::{AllocError, Global};
 use std::sync::Wait;
+use std::sync::atomic::AtomicU64;
+use std::sync::atomic::Ordering::Relaxed;
 use step_record::{Gate, Job, Key, Policy, StepFault, Trace};
 
-/// Takes batches up to the last one. With `Some`, the report is that of all that was fed, where that was known. An actor
-/// that ran out of memory goes on taking batches, so that its feeder is not held up, and has no report; nor has one
-/// whose feeder ended early.
+/// Takes batches up to the last one, and counts each batch before that in `finished`. With `Some`, the report is that of
+/// all that was fed, where that was known. An actor that ran out of memory goes on taking batches, so that its feeder is
+/// not held up, and has no report; nor has one whose feeder ended early.
 ///
 /// Belady's policy goes by the whole trace: an actor of it notes the accesses as they come, and makes them all in the
 /// last batch, once it has found their next uses.
@@ -30,52 +30,28 @@ pub fn act<S: FedTrace, R: Wait, G: Gate>(
     job: Job,
     who: u8,
     gate: &G,
-    backlog: &Backlog,
+    finished: &AtomicU64,
 ) -> Option<Report>
     requires start { inbox.taken ≡ 0 }
     requires checked { config_fault job.config ≡ Ok tt }
     ensures { (all : List ℕ) → S.known ≡ Some all → IfSome result (λ r. r ≡ report_on job all) }
 {
-    let mut run = open(alloc, &job);
+    let mut run = CacheRun::open(alloc, &job);
     for _ in rt.forever() {
         let Some(batch) = inbox.take(rt) else {
             return None;
         };
         gate.before(who, batch.number);
-        take_batch(&mut run, batch.keys.as_slice());
+        run.take(batch.keys.as_slice());
         if batch.last {
-            let report = finish(alloc, run, &job);
+            let report = run.finish(alloc, &job);
             gate.after(who, batch.number);
             return report;
         }
         gate.after(who, batch.number);
-        backlog.finish_one();
+        finished.fetch_add(1, Relaxed);
     }
     unreachable!()
-}
-
-// What takes the accesses of the job; `None` if out of memory.
-fn open(alloc: Global, job: &Job) -> Option<CacheRun>
-    requires { config_fault job.now.config ≡ Ok tt }
-    ensures { IfSome result (λ run. (trace : List ℕ) → HasTaken job.now trace [] run) }
-{
-    match job.policy {
-        Policy::Clairvoyant => Some(CacheRun::NextUses(NextUseFinder::new(alloc))),
-        _ => open_queues(alloc, job),
-    }
-}
-
-// A new cache for a job that goes by no trace.
-fn open_queues(alloc: Global, job: &Job) -> Option<CacheRun>
-    requires checked { config_fault job.now.config ≡ Ok tt }
-    requires queues { knows_trace job.now.policy ≡ false }
-    ensures { IfSome result (λ run. (trace : List ℕ) → HasTaken job.now trace [] run) }
-{
-    let none = Trace::new(Vec::new(alloc));
-    match AnyPolicy::open(alloc, job, &none) {
-        Ok(cache) => Some(CacheRun::Cache(cache)),
-        Err(_) => None,
-    }
 }
 
 // What takes the accesses of a trace, batch by batch, for the report of a job.
@@ -85,48 +61,55 @@ enum CacheRun {
     Cache(AnyPolicy),
     // The next uses of the accesses, which are made once all are there.
     NextUses(NextUseFinder),
+    // Nothing: there was no memory for the accesses.
+    OutOfMemory,
 }
 
 impl CacheRun {
-    // Takes the next accesses. The one error is out of memory, after which it is of no more use.
-    fn take(&mut self, keys: &[Key]) -> Result<(), AllocError>
-        requires { CanTake keys.now self.old }
-        ensures { (j : Job) (trace done : List ℕ) → HasTaken j trace done self.old
-            → OnOk result (HasTaken j trace (done ++ keys.now) self.new) }
+    // What takes the accesses of the job, before the first of them.
+    fn open(alloc: Global, job: &Job) -> CacheRun
+        requires checked { config_fault job.now.config ≡ Ok tt }
+        ensures { (trace : List ℕ) → HasTaken job.now trace [] result }
     {
-        match self {
-            CacheRun::Cache(cache) => access_all(cache, keys),
-            CacheRun::NextUses(finder) => finder.take(keys),
+        match job.policy {
+            Policy::Clairvoyant => CacheRun::NextUses(NextUseFinder::new(alloc)),
+            _ => {
+                let none = Trace::new(Vec::new(alloc));
+                match AnyPolicy::open(alloc, job, &none) {
+                    Ok(cache) => CacheRun::Cache(cache),
+                    Err(_) => CacheRun::OutOfMemory,
+                }
+            }
         }
     }
-}
 
-// Takes the accesses of a batch. A run that got out of memory is dropped, and stays so.
-fn take_batch(run: &mut Option<CacheRun>, keys: &[Key])
-    requires { IfSome run.old (CanTake keys.now) }
-    ensures taken { (j : Job) (trace done : List ℕ) → IfSome run.old (HasTaken j trace done)
-        → IfSome run.new (HasTaken j trace (done ++ keys.now)) }
-    ensures gone { run.old ≡ None → run.new ≡ None }
-{
-    let Some(taking) = run else {
-        return;
-    };
-    let Ok(()) = taking.take(keys) else {
-        *run = None;
-        return;
-    };
-}
+    // Takes the next accesses, or none from now on where there is no memory for them.
+    fn take(&mut self, keys: &[Key])
+        requires { CanTake keys.now self.old }
+        ensures { (j : Job) (trace done : List ℕ) → HasTaken j trace done self.old
+            → HasTaken j trace (done ++ keys.now) self.new }
+    {
+        let taken = match self {
+            CacheRun::Cache(cache) => access_all(cache, keys),
+            CacheRun::NextUses(finder) => finder.take(keys),
+            CacheRun::OutOfMemory => return,
+        };
+        if taken.is_err() {
+            *self = CacheRun::OutOfMemory;
+        }
+    }
 
-// The report of a job by a run that took the accesses of the whole trace. `None` where it ran out of memory.
-fn finish(alloc: Global, run: Option<CacheRun>, job: &Job) -> Option<Report>
-    requires { config_fault job.now.config ≡ Ok tt }
-    ensures { (trace : List ℕ) → IfSome run (HasTaken job.now trace trace)
-        → IfSome result (λ r. r ≡ report_on job.now trace) }
-{
-    match run {
-        Some(CacheRun::Cache(cache)) => Some(report_by(&cache, job)),
-        Some(CacheRun::NextUses(finder)) => report_over(alloc, finder, job).ok(),
-        None => None,
+    // The report of a job whose accesses were all taken.
+    fn finish(self, alloc: Global, job: &Job) -> Option<Report>
+        requires { config_fault job.now.config ≡ Ok tt }
+        ensures { (trace : List ℕ) → HasTaken job.now trace trace self
+            → IfSome result (λ r. r ≡ report_on job.now trace) }
+    {
+        match self {
+            CacheRun::Cache(cache) => Some(report_by(&cache, job)),
+            CacheRun::NextUses(finder) => report_over(alloc, finder, job).ok(),
+            CacheRun::OutOfMemory => None,
+        }
     }
 }
 

@@ -1,8 +1,7 @@
 //! The protocol of an actor's channel.
 ghost use Rattle.std.specs.Prelude.{⊤};
 
-use crate::fed_trace::FedTrace;
-use crate::lump::SharedKeys;
+use crate::lump::{FedTrace, SharedKeys};
 use crossbeam_channel::protocol::{Lesson, Outcome, Protocol, Split};
 use crossbeam_channel::{Pass, RuledReceiver, RuledSender};
 use std::marker::PhantomData;

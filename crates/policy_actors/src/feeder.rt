@@ -3,8 +3,7 @@ ghost use Rattle.std.specs.Prelude.{◌≡◌, ◌+◌, ◌-◌, ◌*◌, ◌<�
 ghost use Rattle.step_record.specs.declared.limits.TheConstants.{MAX_ACCESSES};
 ghost use Rattle.policy_actors.specs.Lumps.{AreAt};
 
-use crate::fed_trace::{BatchSize, FedTrace};
-use crate::lump::Lump;
+use crate::lump::{BatchSize, FedTrace, Lump};
 use crate::mail::Outbox;
 use crate::rounds::{BatchEnds, feed_in_rounds};
 use std::alloc::{AllocError, Global};
@@ -33,7 +32,8 @@ pub struct Feeder<'b, S: FedTrace, W: Wait> {
     pub alloc: Global,
     ends: Vec<Outbox<S>>,
     size: BatchSize<S>,
-    backlog: &'b Backlog,
+    // How many batches all actors are through with, counted together. Nothing but the pace of feeding goes by it.
+    finished: &'b AtomicU64,
     // How many accesses were taken.
     pub place: usize,
     // How many batches went to the ends in all.
@@ -49,8 +49,12 @@ impl<'b, S: FedTrace, W: Wait> Follower for Feeder<'b, S, W> {
 
     fn follow(&mut self, keys: &mut Vec<Key>) {
         let rounds = self.rounds(keys.len());
-        if self.is_open && rounds > 0 {
-            self.is_open = self.hand_over(keys, rounds);
+        if !self.is_open || rounds == 0 {
+            return;
+        }
+        match take_front(self.alloc, keys, rounds * self.size.accesses) {
+            Ok(front) => self.give(Trace::new(front), false),
+            Err(_) => self.is_open = false,
         }
     }
 }
@@ -62,7 +66,7 @@ impl<'b, S: FedTrace, W: Wait> Feeder<'b, S, W> {
         alloc: Global,
         ends: Vec<Outbox<S>>,
         size: BatchSize<S>,
-        backlog: &'b Backlog,
+        finished: &'b AtomicU64,
     ) -> Feeder<'b, S, W>
         ensures { result.place ≡ 0 }
     {
@@ -71,66 +75,29 @@ impl<'b, S: FedTrace, W: Wait> Feeder<'b, S, W> {
             alloc,
             ends,
             size,
-            backlog,
+            finished,
             place: 0,
             sent: 0,
             is_open: true,
         }
     }
 
-    /// Gives each end what is left of the trace.
-    pub fn end(mut self, rest: Trace)
-        requires few { self.place + length rest ≤ MAX_ACCESSES }
-        requires rest { IfSome S.known (λ all. rest ≡ drop self.place all) }
+    /// Gives each end these accesses, which come next: each batch to all of them before the next. At the end they are all
+    /// that is left of the trace; before that they are whole batches, with an access behind them.
+    pub fn give(&mut self, accesses: Trace, is_end: bool)
+        requires few { self.old.place + length accesses ≤ MAX_ACCESSES }
+        requires next { IfSome S.known (λ all. AreAt all self.old.place is_end accesses) }
+        ensures { self.new.place ≡ self.old.place + length accesses }
     {
-        if self.is_open {
-            let place = self.place;
-            self.give(rest, place, true);
-        }
-    }
-
-    // How many batches to hand over of so many accesses: whole ones, with an access behind them.
-    fn rounds(&self, read: usize) -> usize
-        ensures { 0 < result → result * self.now.size.accesses < read }
-    {
-        let size = self.size.accesses;
-        let waiting = self.backlog.left_of(self.sent);
-        let is_behind = waiting.saturating_mul(size as u64) > LONG_LUMP as u64;
-        let least = if is_behind { LONG_LUMP } else { MIN_LUMP };
-        if read <= least {
-            return 0;
-        }
-        (read - 1) / size
-    }
-
-    // Takes so many batches of the accesses, and gives them to each end. False where an actor is gone, or out of memory.
-    fn hand_over(&mut self, keys: &mut Vec<Key>, rounds: usize) -> bool
-        requires few { self.old.place + length keys.old.items ≤ MAX_ACCESSES }
-        requires next { IfSome S.known (λ all.
-            keys.old.items ≡ take (length keys.old.items) (drop self.old.place all)) }
-        requires behind { rounds * self.old.size.accesses < length keys.old.items }
-        ensures order { self.old.place ≤ self.new.place }
-        ensures taken { self.new.place + length keys.new.items ≡ self.old.place + length keys.old.items }
-        ensures left { keys.new.items ≡ drop (self.new.place - self.old.place) keys.old.items }
-    {
-        let len = rounds * self.size.accesses;
-        let Ok(front) = take_front(self.alloc, keys, len) else {
-            return false;
-        };
         let place = self.place;
-        self.place += len;
-        self.give(Trace::new(front), place, false)
-    }
-
-    // Gives each end these accesses, which stand at this place: each batch to all of them before the next.
-    fn give(&mut self, accesses: Trace, place: usize, is_end: bool) -> bool
-        requires few { 0 < length accesses → place + length accesses ≤ MAX_ACCESSES }
-        requires at { IfSome S.known (λ all. AreAt all place is_end accesses) }
-        ensures { self.new.place ≡ self.old.place }
-    {
+        self.place += accesses.len();
+        if !self.is_open {
+            return;
+        }
         let rounds = self.size.batches(accesses.len()) as u64;
         let Ok(lump) = Lump::new(self.alloc, accesses, place, is_end, self.size) else {
-            return false;
+            self.is_open = false;
+            return;
         };
         let batches = rounds.saturating_mul(self.ends.len() as u64);
         self.sent = self.sent.saturating_add(batches);
@@ -138,7 +105,21 @@ impl<'b, S: FedTrace, W: Wait> Feeder<'b, S, W> {
             lump,
             ends: &mut self.ends,
         };
-        feed_in_rounds(self.rt, &mut ends, rounds)
+        self.is_open = feed_in_rounds(self.rt, &mut ends, rounds);
+    }
+
+    // How many batches to give now, of so many accesses that were read: whole ones, with an access behind them.
+    fn rounds(&self, read: usize) -> usize
+        ensures { 0 < result → result * self.now.size.accesses < read }
+    {
+        let size = self.size.accesses;
+        let waiting = self.sent.saturating_sub(self.finished.load(Relaxed));
+        let is_behind = waiting.saturating_mul(size as u64) > LONG_LUMP as u64;
+        let least = if is_behind { LONG_LUMP } else { MIN_LUMP };
+        if read <= least {
+            return 0;
+        }
+        (read - 1) / size
     }
 }
 
@@ -182,28 +163,5 @@ impl<'e, S: FedTrace> BatchEnds for LumpEnds<'e, S> {
             Some(batch) => outbox.send(rt, batch),
             None => false,
         }
-    }
-}
-
-/// How many batches all actors of a run are through with, counted together. Nothing but the pace of feeding goes by it.
-#[derive(Drop)]
-pub struct Backlog {
-    finished: AtomicU64,
-}
-
-impl Backlog {
-    pub fn new() -> Backlog {
-        Backlog {
-            finished: AtomicU64::new(0),
-        }
-    }
-
-    pub fn finish_one(&self) {
-        self.finished.fetch_add(1, Relaxed);
-    }
-
-    /// How many of so many batches are not finished.
-    pub fn left_of(&self, sent: u64) -> u64 {
-        sent.saturating_sub(self.finished.load(Relaxed))
     }
 }

@@ -6,9 +6,7 @@
 #![tactic(auto)]
 
 mod actor;
-mod actor_threads;
 mod channel_protocol;
-mod fed_trace;
 mod feeder;
 mod lump;
 mod mail;

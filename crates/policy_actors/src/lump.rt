@@ -1,5 +1,5 @@
-//! Stretches of the trace that several actors read.
-ghost use Rattle.std.specs.Prelude.{◌≡◌, ◌+◌, ◌-◌, ◌<◌, ◌≤◌, IfOk, IfSome, length, take, drop, true, false};
+//! What is fed to the actors of a run: lumps of a trace, cut into batches that share their accesses.
+ghost use Rattle.std.specs.Prelude.{◌≡◌, ◌+◌, ◌-◌, ◌*◌, ◌<◌, ◌≤◌, ℕ, List, Option, IfOk, IfSome, length, take, drop, true, false};
 ghost use Rattle.std.specs.Arc.{arc_value};
 ghost use Rattle.std.proofs.Props.{props};
 ghost use Rattle.step_record.specs.declared.limits.TheConstants.{MAX_ACCESSES};
@@ -7,11 +7,63 @@ ghost use Rattle.policy_actors.specs.ChannelProtocol.{IsBatch};
 ghost use Rattle.policy_actors.specs.Lumps.{AreAt};
 
 use crate::channel_protocol::Batch;
-use crate::fed_trace::{BatchSize, FedTrace};
 use std::alloc::{AllocError, Global};
-use std::marker::Model;
+use std::marker::{Brand, Model, PhantomData};
 use std::sync::Arc;
 use step_record::{Key, Trace};
+
+/// The trace that is fed, where its keys are known when the actors start, and how many of them go to a batch. It stands
+/// for values that are known at run time only.
+pub trait FedTrace {
+    ghost known: { Option (List ℕ) };
+
+    ghost size: { ℕ };
+}
+
+impl FedTrace for Brand {
+    ghost use Rattle.std.specs.Prelude.{None};
+
+    ghost known = { None };
+
+    ghost size = { 0 };
+}
+
+/// How many accesses go to a batch of the trace that is fed.
+pub struct BatchSize<S: FedTrace> {
+    pub accesses: usize,
+    marker: PhantomData<S>,
+    pub ghost known: { accesses ≡ S.size },
+    pub ghost some: { 0 < accesses },
+}
+
+impl<S: FedTrace> Copy for BatchSize<S> {}
+
+impl<S: FedTrace> Clone for BatchSize<S> {
+    fn clone(&self) -> Result<Self, AllocError> {
+        Ok(*self)
+    }
+}
+
+impl<S: FedTrace> BatchSize<S> {
+    pub fn new(accesses: usize) -> BatchSize<S>
+        requires known { accesses ≡ S.size }
+        requires some { 0 < accesses }
+        ensures { result.accesses ≡ accesses }
+    {
+        BatchSize {
+            accesses,
+            marker: PhantomData,
+        }
+    }
+
+    /// How many batches so many accesses make: the last one may be shorter, and no accesses are one empty batch.
+    pub fn batches(&self, accesses: usize) -> usize
+        ensures all { accesses ≤ result * self.now.accesses }
+        ensures some { 0 < result }
+    {
+        accesses.div_ceil(self.accesses).max(1)
+    }
+}
 
 /// Accesses that stand at one place of the trace that is fed, from which each actor is given its batches.
 #[derive(Drop)]

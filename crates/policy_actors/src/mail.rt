@@ -7,7 +7,7 @@ ghost use Rattle.policy_actors.specs.ChannelProtocol.{channel_log, IsBatch};
 use crate::channel_protocol::{
     Batch, BatchesInOrder, ChannelLog, Gave, Receiver, Roles, Sender, Token, Took,
 };
-use crate::fed_trace::FedTrace;
+use crate::lump::FedTrace;
 use crossbeam_channel::bounded_with;
 use std::alloc::{AllocError, Global};
 use std::sync::Wait;

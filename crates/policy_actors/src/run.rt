@@ -1,22 +1,31 @@
 //! Each job on a thread of its own.
-ghost use Rattle.std.specs.Prelude.{◌≡◌, map, None, Some, IfOk, IfSome, MatchResult};
+ghost use Rattle.std.specs.Prelude.{◌≡◌, ◌<◌, ◌≤◌, ℕ, List, length, map, Ok, Err, None, Some, IfOk, IfSome, MatchResult};
+ghost use denote.Param.Send.{IsSync};
+ghost use Rattle.step_record.specs.Config.{config_fault};
+ghost use Rattle.policies.specs.declared.job_checks.TheConstants.{MAX_ACTORS};
+ghost use Rattle.policy_actors.specs.Actors.{jobs_of};
 ghost use Rattle.policy_actors.specs.Faults.{actor_fault};
 ghost use Rattle.policy_actors.specs.ReadRun.{IsReadTo};
-ghost use Rattle.policies.specs.FaultyJobs.{ReturnsFault};
+ghost use Rattle.policies.specs.FaultyJobs.{faulty_in, ReturnsFault};
 ghost use Rattle.policies.specs.Reports.{report_on};
+ghost use Rattle.streams.specs.Tally.{FailsWhere};
 ghost use Rattle.trace_read.specs.TraceText.{keys_in};
 
-use crate::actor_threads::run_actors_from;
-use crate::feeder::Backlog;
-use crate::source::{ReaderSource, TraceSource};
+use crate::actor::act;
+use crate::feeder::Feeder;
+use crate::lump::{BatchSize, FedTrace};
+use crate::mail::channel;
+use crate::source::{AccessSource, ReaderSource, TraceSource};
 use policies::{ActorFault, MAX_ACTORS, Report, check_jobs};
-use std::alloc::Global;
-use std::marker::Brand;
+use std::alloc::{AllocError, Global};
+use std::marker::{Brand, PhantomData};
 use std::sync::Wait;
-use std::thread::Threads;
+use std::sync::atomic::AtomicU64;
+use std::thread;
+use std::thread::{Promise, Threads};
 use step_record::{Gate, Job, MAX_BATCH, Trace};
-use trace_read::{Format, TraceFault};
 use streams::CountedRead;
+use trace_read::{Format, TraceFault};
 
 /// The reports of the jobs over the trace, in the order of the jobs. Each job is an actor on a thread of its own, fed
 /// through a channel by `feed_in_rounds`: batch j goes to every actor before batch j + 1 goes to any. A batch is `batch`
@@ -38,11 +47,11 @@ pub fn run_actors<R: Threads + Wait + Sync, G: Gate>(
     ensures fault { ReturnsFault (actor_fault batch jobs.now) result }
 {
     check_run(batch, jobs)?;
-    let backlog = Backlog::new();
+    let finished = AtomicU64::new(0);
     let source = TraceSource { trace };
     let size = batch as usize;
     let ((), reports) = run_actors_from::<Brand, R, G, _, _>(
-        rt, alloc, source, jobs, size, gate, &backlog,
+        rt, alloc, source, jobs, size, gate, &finished,
     );
     let reports = reports?;
     Ok(reports)
@@ -67,12 +76,14 @@ pub fn run_reading<T: Threads + Wait + Sync, R: CountedRead, G: Gate>(
     ensures reports { IfOk result (λ v. IfSome (R.remaining reader.old)
         (λ bytes. v.items ≡ map (λ j. report_on j (keys_in format bytes)) jobs.now)) }
     ensures read { IsReadTo format (R.remaining reader.old) (R.remaining reader.new) result }
+    // `Read` comes just where a read failed, or the millionth was interrupted.
+    ensures tally { FailsWhere (result ≡ Err TraceFault.Read) (R.tally reader.old) (R.tally reader.new) }
 {
-    let backlog = Backlog::new();
+    let finished = AtomicU64::new(0);
     let source = ReaderSource { reader, format };
     let size = batch as usize;
     let ((reader, read), reports) = run_actors_from::<Brand, T, G, _, _>(
-        rt, alloc, source, jobs, size, gate, &backlog,
+        rt, alloc, source, jobs, size, gate, &finished,
     );
     let _ = reader;
     match read {
@@ -96,4 +107,110 @@ pub fn check_run(batch: u32, jobs: &[Job]) -> Result<(), ActorFault>
         return Err(ActorFault::Actors);
     }
     check_jobs(jobs)
+}
+
+// What an actor's thread promises: with a report, it is that of the whole trace.
+#[derive(Drop)]
+pub struct Promised<S: FedTrace> {
+    pub job: Job,
+    marker: PhantomData<S>,
+}
+
+impl<S: FedTrace> Promise<Option<Report>> for Promised<S> {
+    ghost use Rattle.std.specs.Prelude.{◌≡◌, ℕ, List, Some, IfSome};
+    ghost use Rattle.policies.specs.Reports.{report_on};
+
+    ghost kept_by = { λ p r. (all : List ℕ) → S.known ≡ Some all → IfSome r (λ x. x ≡ report_on p.job all) };
+}
+
+type Handle<S> = thread::PromisedHandle<Option<Report>, Promised<S>>;
+
+// Starts an actor for each job, has them fed from the source in batches of `size` accesses, and joins them: what there
+// is to say of the source, and the reports.
+fn run_actors_from<
+    S: FedTrace + Send + Sync + 'static,
+    R: Threads + Wait + Sync,
+    G: Gate,
+    A: AccessSource<Outcome = O>,
+    O: Drop,
+>(
+    rt: &R,
+    alloc: Global,
+    source: A,
+    jobs: &[Job],
+    size: usize,
+    gate: &G,
+    finished: &AtomicU64,
+) -> (O, Result<Vec<Report>, AllocError>)
+    requires source { A.gives source S.known }
+    requires size { (size ≡ S.size) × (0 < size) }
+    requires few { length jobs.now ≤ MAX_ACTORS }
+    requires checked { faulty_in jobs.now ≡ None }
+    ensures source { A.becomes source result.0 }
+    ensures reports { (all : List ℕ) → S.known ≡ Some all
+        → IfOk result.1 (λ v. v.items ≡ map (λ j. report_on j all) jobs.now) }
+{
+    thread::scope(
+        thread::scope_env(),
+        rt,
+        move |scope| -> (O, Result<Vec<Report>, AllocError>)
+            requires { IsSync R.row × IsSync G.row × (length jobs.now ≤ MAX_ACTORS) × (faulty_in jobs.now ≡ None)
+                × (size ≡ S.size) × (0 < size) × A.gives source S.known }
+            ensures { A.becomes source result.0
+                × ((all : List ℕ) → S.known ≡ Some all
+                → IfOk result.1 (λ v. v.items ≡ map (λ j. report_on j all) jobs.entry.now)) }
+        {
+            let size = BatchSize::<S>::new(size);
+            let batches = size.batches(source.most());
+            let mut handles = Vec::new(alloc);
+            let mut ends = Vec::new(alloc);
+            for i in 0..jobs.len() {
+                let job = jobs[i];
+                let who = i as u8;
+                let Ok((outbox, inbox)) = channel(alloc, batches) else {
+                    return (source.leave(), Err(AllocError));
+                };
+                let promised: Promised<S> = Promised {
+                    job,
+                    marker: PhantomData,
+                };
+                let Ok(handle) = scope.spawn_with(
+                    promised,
+                    move || -> Option<Report>
+                        requires { (inbox.taken ≡ 0) × (config_fault job.config ≡ Ok tt) }
+                        ensures { (all : List ℕ) → S.known ≡ Some all → IfSome result (λ x. x ≡ report_on job all) }
+                    { act::<S, R, G>(rt, alloc, inbox, job, who, gate, finished) },
+                ) else {
+                    return (source.leave(), Err(AllocError));
+                };
+                let Ok(()) = handles.push(handle) else {
+                    return (source.leave(), Err(AllocError));
+                };
+                let Ok(()) = ends.push(outbox) else {
+                    return (source.leave(), Err(AllocError));
+                };
+            }
+            let outcome = source.feed(Feeder::new(rt, alloc, ends, size, finished));
+            (outcome, join_all(rt, alloc, handles))
+        },
+    )
+}
+
+// The reports of all actors, in order, where each has one.
+fn join_all<S: FedTrace, R: Threads>(
+    rt: &R,
+    alloc: Global,
+    handles: Vec<Handle<S>>,
+) -> Result<Vec<Report>, AllocError>
+    ensures { (all : List ℕ) → S.known ≡ Some all
+        → IfOk result (λ v. v.items ≡ map (λ j. report_on j all) (jobs_of handles.items)) }
+{
+    let mut reports = Vec::new(alloc);
+    for handle in handles {
+        let Some(one) = handle.join(rt) else {
+            return Err(AllocError);
+        };
+        reports.push(one)?;
+    }
+    Ok(reports)
 }

@@ -3,13 +3,13 @@ ghost use Rattle.std.specs.Prelude.{◌≡◌, ℕ, List, Option, IfSome, length
 ghost use Rattle.trace_read.specs.TraceText.{AreOfFile};
 ghost use Rattle.policy_actors.specs.ReadRun.{IsReadTo};
 
-use crate::fed_trace::FedTrace;
 use crate::feeder::Feeder;
+use crate::lump::FedTrace;
 use std::alloc::AllocError;
 use std::sync::Wait;
 use step_record::{MAX_ACCESSES, Trace};
-use trace_read::{Follower, Format, TraceFault, read_followed};
 use streams::CountedRead;
+use trace_read::{Follower, Format, TraceFault, read_followed};
 
 // How many accesses of a trace that is there the feeder gets at a time.
 const PIECE: usize = 65_536;
@@ -81,7 +81,7 @@ fn feed_trace<S: FedTrace, W: Wait>(
         rest = later;
     }
     read.extend_from_slice(rest)?;
-    feeder.end(Trace::new(read));
+    feeder.give(Trace::new(read), true);
     Ok(())
 }
 
@@ -97,12 +97,13 @@ impl<'r, R: CountedRead> AccessSource for ReaderSource<'r, R> {
 
     ghost use Rattle.std.specs.Prelude.{◌≡◌};
     ghost use Rattle.trace_read.specs.TraceText.{AreOfFile};
-    ghost use Rattle.policy_actors.specs.ReadRun.{IsReadTo};
+    ghost use Rattle.policy_actors.specs.ReadRun.{FailsAsRead, IsReadTo};
 
     ghost gives = { λ s known. AreOfFile s.format (R.remaining s.reader.now) known };
 
     ghost becomes = { λ s o. (o.0.ghost_name ≡ s.reader.ghost_name)
-        × IsReadTo s.format (R.remaining s.reader.now) (R.remaining o.0.now) o.1 };
+        × IsReadTo s.format (R.remaining s.reader.now) (R.remaining o.0.now) o.1
+        × FailsAsRead o.1 (R.tally s.reader.now) (R.tally o.0.now) };
 
     fn most(&self) -> usize {
         MAX_ACCESSES
@@ -110,10 +111,13 @@ impl<'r, R: CountedRead> AccessSource for ReaderSource<'r, R> {
 
     fn feed<S: FedTrace, W: Wait>(
         self,
-        feeder: Feeder<'_, S, W>,
+        mut feeder: Feeder<'_, S, W>,
     ) -> (&'r mut R, Result<(), TraceFault>) {
         let ReaderSource { reader, format } = self;
-        let read = feed_read(feeder, reader, format);
+        let read = match read_followed(feeder.alloc, reader, format, &mut feeder) {
+            Ok(rest) => Ok(feeder.give(rest, true)),
+            Err(fault) => Err(fault),
+        };
         (reader, read)
     }
 
@@ -121,19 +125,4 @@ impl<'r, R: CountedRead> AccessSource for ReaderSource<'r, R> {
         let ReaderSource { reader, format: _ } = self;
         (reader, Err(TraceFault::OutOfMemory))
     }
-}
-
-// Gives the feeder the trace while it is read.
-fn feed_read<S: FedTrace, W: Wait, R: CountedRead>(
-    mut feeder: Feeder<'_, S, W>,
-    reader: &mut R,
-    format: Format,
-) -> Result<(), TraceFault>
-    requires file { AreOfFile format (R.remaining reader.old) S.known }
-    requires none { feeder.place ≡ 0 }
-    ensures { IsReadTo format (R.remaining reader.old) (R.remaining reader.new) result }
-{
-    let rest = read_followed(feeder.alloc, reader, format, &mut feeder)?;
-    feeder.end(rest);
-    Ok(())
 }

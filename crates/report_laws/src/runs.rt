@@ -1,11 +1,12 @@
 //! The calls that make reports, with the laws that their reports obey. The calls are those of `policy_actors` and
 //! `sweeps`; what is added is the clause `laws`, which follows from what they promise.
-ghost use Rattle.std.specs.Prelude.{◌≡◌, IfOk, IfSome, None, length, map};
+ghost use Rattle.std.specs.Prelude.{◌≡◌, Err, IfOk, IfSome, None, length, map};
 ghost use Rattle.policy_actors.specs.Faults.{actor_fault};
 ghost use Rattle.policy_actors.specs.ReadRun.{IsReadTo};
 ghost use Rattle.policies.specs.Reports.{report_on};
 ghost use Rattle.sweeps.specs.Sweep.{jobs_over, sweep_fault};
 ghost use Rattle.policies.specs.FaultyJobs.{ReturnsFault};
+ghost use Rattle.streams.specs.Tally.{FailsWhere};
 ghost use Rattle.trace_read.specs.TraceText.{keys_in};
 ghost use Rattle.report_laws.specs.ReportLaws.{ObeyLaws};
 
@@ -16,9 +17,9 @@ use std::alloc::Global;
 use std::sync::Wait;
 use std::thread::Threads;
 use step_record::{Gate, Job, Trace};
+use streams::CountedRead;
 use sweeps::sweep_each;
 use trace_read::{Format, TraceFault};
-use streams::CountedRead;
 
 /// The reports of `run_actors`, and the laws that they obey.
 ///
@@ -58,6 +59,7 @@ pub fn run_reading_by_laws<T: Threads + Wait + Sync, R: CountedRead, G: Gate>(
     ensures laws { IfOk result (λ v. IfSome (R.remaining reader.old)
         (λ bytes. ObeyLaws (length (keys_in format bytes)) v.items)) }
     ensures read { IsReadTo format (R.remaining reader.old) (R.remaining reader.new) result }
+    ensures tally { FailsWhere (result ≡ Err TraceFault.Read) (R.tally reader.old) (R.tally reader.new) }
 {
     reports_obey_laws();
     run_reading(rt, alloc, reader, format, jobs, batch, gate)

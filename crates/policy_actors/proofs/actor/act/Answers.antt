@@ -1,24 +1,24 @@
-use Rattle.std.proofs.Common.{ℕ, IfSome, sym, subst}
+use Rattle.std.proofs.Common.{ℕ, sym, subst}
 use Rattle.policy_actors.specs.CacheRuns.{IsAfter}
 use Rattle.policy_actors.proofs.CacheRuns.{begun, ready, moved, ended}
 use Rattle.policy_actors.proofs.actor.act.Goals as goal
 
-pub take_batch-requires : goal.take_batch-requires
-take_batch-requires g c = rw c.as_slice.ensures (ready g.S.FedTrace.known c.args.job g.S.FedTrace.size c.loop.inbox.taken c.in-Some-take.batch c.in-Some-take.ensures.batch c.loop.run c.loop.invariant)
+pub take-requires-in-loop : goal.take-requires-in-loop
+take-requires-in-loop g c = rw c.as_slice.ensures (ready g.S.FedTrace.known c.args.job g.S.FedTrace.size c.loop.inbox.taken c.in-Some-take.batch c.in-Some-take.ensures.batch c.loop.run c.loop.invariant)
 
 pub returns-then-batch : goal.returns-then-batch
 returns-then-batch g c = let known = g.S.FedTrace.known in let j = c.args.job in let size = g.S.FedTrace.size in
     let k = c.loop.inbox.taken in let b = c.in-Some-take.batch in let is = c.in-Some-take.ensures.batch in
-    let after = moved known j size k b is c.loop.run c.take_batch.new.run c.loop.invariant (rw c.as_slice.ensures at c.take_batch.ensures.taken) c.take_batch.ensures.gone in
-    λ all e. c.finish-report.ensures all (ended known j size k b is c.take_batch.new.run after c.if-batch.true all e)
+    let after = moved known j size k b is c.loop.run c.take-in-loop.new.self c.loop.invariant (rw c.as_slice.ensures at c.take-in-loop.ensures) in
+    λ all e. c.finish-report.ensures all (ended known j size k b is c.take-in-loop.new.self after c.if-batch.true all e)
 
 pub loop-preserved : goal.loop-preserved
 loop-preserved g c = let known = g.S.FedTrace.known in let j = c.args.job in let size = g.S.FedTrace.size in
     let k = c.loop.inbox.taken in let b = c.in-Some-take.batch in let is = c.in-Some-take.ensures.batch in
-    subst (λ (n : ℕ). IfSome c.take_batch.new.run (IsAfter known j size n)) (sym c.in-Some-take.ensures.taken)
-    (moved known j size k b is c.loop.run c.take_batch.new.run c.loop.invariant (rw c.as_slice.ensures at c.take_batch.ensures.taken) c.take_batch.ensures.gone)
+    subst (λ (n : ℕ). IsAfter known j size n c.take-in-loop.new.self) (sym c.in-Some-take.ensures.taken)
+    (moved known j size k b is c.loop.run c.take-in-loop.new.self c.loop.invariant (rw c.as_slice.ensures at c.take-in-loop.ensures))
 
 pub loop-init : goal.loop-init
 loop-init g c = let known = g.S.FedTrace.known in let size = g.S.FedTrace.size in
-    subst (λ (n : ℕ). IfSome c.open-run.result (IsAfter known c.args.job size n)) (sym c.requires.start)
+    subst (λ (n : ℕ). IsAfter known c.args.job size n c.open-run.result) (sym c.requires.start)
     (begun known c.args.job size c.open-run.result c.open-run.ensures)

@@ -32,11 +32,3 @@ loop-rest-preserved g c = let l = c.loop-rest in let all = c.args.trace.now in l
 pub new-requires : goal.new-requires
 new-requires g c = let l = c.loop-rest in let all = c.args.trace.now in
     omega (arith, c.keys-rest.ensures.few, (ended all l.read.items l.rest.now _ l.feeder.place l.invariant.0 l.invariant.1 c.in_ok-extend_from_slice-2.ensures.items).0)
-
-pub end-requires-clause-few : goal.end-requires-clause-few
-end-requires-clause-few g c = let l = c.loop-rest in let all = c.args.trace.now in
-    rw c.new.ensures (omega (arith, c.keys-rest.ensures.few, (ended all l.read.items l.rest.now _ l.feeder.place l.invariant.0 l.invariant.1 c.in_ok-extend_from_slice-2.ensures.items).0))
-
-pub end-requires-clause-rest : goal.end-requires-clause-rest
-end-requires-clause-rest g c = let l = c.loop-rest in let all = c.args.trace.now in
-    rw (c.requires.known, c.new.ensures) (ended all l.read.items l.rest.now _ l.feeder.place l.invariant.0 l.invariant.1 c.in_ok-extend_from_slice-2.ensures.items).1
