@@ -1,16 +1,13 @@
 -- The rows of options and subcommands.
-use Rattle.std.specs.Prelude.{◌≡◌, List, [], ◌∷◌, Option, Some, None, codes, option_map}
+use Rattle.std.specs.Prelude.{List, [], ◌∷◌, Option, Some, None, codes, map, option_map}
 use Rattle.clap.specs.Words.{Text}
 use Rattle.step_record.specs.declared.limits.TheConstants.{MAX_ACCESSES, MAX_BATCH, MAX_CAPACITY, MAX_JOURNAL_LIMIT}
 use Rattle.step_record.specs.declared.limits.TheConstants.{MAX_MAIN_PERCENT}
 use Rattle.step_record.specs.declared.worker.TheConstants.{MAX_WORKERS}
-use Rattle.command_line.specs.declared.options.OptionName.{OptionName}
-use Rattle.command_line.specs.declared.options.OptionName.TheVariants as option
 use Rattle.command_line.specs.declared.options.OptionRow.{OptionRow}
 use Rattle.command_line.specs.declared.options.Place.{Place}
 use Rattle.command_line.specs.declared.options.Place.TheVariants.{Named, NamedOften, Positional}
 use Rattle.command_line.specs.declared.options.Subcommand.{Subcommand}
-use Rattle.command_line.specs.declared.options.Subcommand.TheVariants as subcommand
 use Rattle.command_line.specs.declared.options.ValueKind.{ValueKind}
 use Rattle.command_line.specs.declared.options.ValueKind.TheVariants as kind
 
@@ -24,64 +21,93 @@ pub record OptionDefinition : Type 0 where
 abbrev pub row : Text → ValueKind → Place → Option Text → OptionDefinition
 row id value place default = record { id = id; value = value; place = place; default = default }
 
-abbrev pub row_of : OptionName → OptionDefinition
-row_of option.Capacity = row (codes "capacity") (kind.Number 1 MAX_CAPACITY) Named None
-row_of option.Capacities = row (codes "capacities") (kind.Number 1 MAX_CAPACITY) Positional None
-row_of option.Main = row (codes "main") (kind.Number 0 MAX_MAIN_PERCENT) Named (Some (codes "99"))
-row_of option.Spread = row (codes "spread") kind.Spread Named (Some (codes "mixed"))
-row_of option.Format = row (codes "format") kind.Format Named (Some (codes "lirs"))
-row_of option.Batch = row (codes "batch") (kind.Number 1 MAX_BATCH) Named (Some (codes "1024"))
-row_of option.Every = row (codes "every") (kind.Number 1 MAX_ACCESSES) Named None
-row_of option.Policies = row (codes "policy") kind.Policy Positional None
-row_of option.SweptPolicies = row (codes "policy") kind.Policy NamedOften None
-row_of option.First = row (codes "first") kind.Policy Named None
-row_of option.Second = row (codes "second") kind.Policy Named None
-row_of option.Workers = row (codes "workers") (kind.Number 1 MAX_WORKERS) Named (Some (codes "2"))
-row_of option.Stripes = row (codes "stripes") kind.AnyNumber Named (Some (codes "4"))
-row_of option.Limit = row (codes "limit") (kind.Number 1 MAX_JOURNAL_LIMIT) Named (Some (codes "1048576"))
-row_of option.Trace = row (codes "trace") kind.File Named None
-row_of option.Journal = row (codes "journal") kind.File Named None
+-- what a row of the program says
+abbrev pub defined : OptionRow → OptionDefinition
+defined given = row given.id.now given.value given.place (option_map (λ s. s.now) given.default)
 
--- the row of the program is this
-pub record IsRow (due : OptionDefinition) (given : OptionRow) : Type 0 where
-  pub id : given.id.now ≡ due.id
-  pub value : given.value ≡ due.value
-  pub place : given.place ≡ due.place
-  pub default : option_map (λ s. s.now) given.default ≡ due.default
+abbrev pub capacity : OptionDefinition
+capacity = row (codes "capacity") (kind.Number 1 MAX_CAPACITY) Named None
 
-abbrev pub name_of : Subcommand → Text
-name_of subcommand.Run = codes "run"
-name_of subcommand.Sweep = codes "sweep"
-name_of subcommand.Intervals = codes "intervals"
-name_of subcommand.Part = codes "part"
-name_of subcommand.Compare = codes "compare"
-name_of subcommand.Drive = codes "drive"
-name_of subcommand.Debug = codes "debug"
-name_of subcommand.Replay = codes "replay"
+abbrev pub capacities : OptionDefinition
+capacities = row (codes "capacities") (kind.Number 1 MAX_CAPACITY) Positional None
 
--- the options of a subcommand, in the order in which help lists them
-abbrev pub options_of : Subcommand → List OptionName
-options_of subcommand.Run =
-    option.Capacity ∷ option.Main ∷ option.Spread ∷ option.Format
-    ∷ option.Batch ∷ option.Policies ∷ []
-options_of subcommand.Sweep =
-    option.Main ∷ option.Spread ∷ option.Format ∷ option.SweptPolicies
-    ∷ option.Capacities ∷ []
-options_of subcommand.Intervals =
-    option.Capacity ∷ option.Every ∷ option.Main ∷ option.Spread
-    ∷ option.Format ∷ option.Policies ∷ []
-options_of subcommand.Part =
-    option.Capacity ∷ option.Main ∷ option.Spread ∷ option.Format
-    ∷ option.First ∷ option.Second ∷ []
-options_of subcommand.Compare =
-    option.Capacity ∷ option.Main ∷ option.Spread ∷ option.Format
-    ∷ option.First ∷ option.Second ∷ []
-options_of subcommand.Drive =
-    option.Capacity ∷ option.Main ∷ option.Spread ∷ option.Format
-    ∷ option.Workers ∷ option.Stripes ∷ option.Limit ∷ []
-options_of subcommand.Debug =
-    option.Capacity ∷ option.Main ∷ option.Spread ∷ option.Format
-    ∷ option.First ∷ option.Second ∷ option.Trace ∷ []
-options_of subcommand.Replay =
-    option.Capacity ∷ option.Main ∷ option.Spread ∷ option.Journal
-    ∷ option.Stripes ∷ option.Limit ∷ []
+abbrev pub main : OptionDefinition
+main = row (codes "main") (kind.Number 0 MAX_MAIN_PERCENT) Named (Some (codes "99"))
+
+abbrev pub spread : OptionDefinition
+spread = row (codes "spread") kind.Spread Named (Some (codes "mixed"))
+
+abbrev pub format : OptionDefinition
+format = row (codes "format") kind.Format Named (Some (codes "lirs"))
+
+abbrev pub batch : OptionDefinition
+batch = row (codes "batch") (kind.Number 1 MAX_BATCH) Named (Some (codes "1024"))
+
+abbrev pub every : OptionDefinition
+every = row (codes "every") (kind.Number 1 MAX_ACCESSES) Named None
+
+abbrev pub policies : OptionDefinition
+policies = row (codes "policy") kind.Policy Positional None
+
+abbrev pub swept_policies : OptionDefinition
+swept_policies = row (codes "policy") kind.Policy NamedOften None
+
+abbrev pub first : OptionDefinition
+first = row (codes "first") kind.Policy Named None
+
+abbrev pub second : OptionDefinition
+second = row (codes "second") kind.Policy Named None
+
+abbrev pub workers : OptionDefinition
+workers = row (codes "workers") (kind.Number 1 MAX_WORKERS) Named (Some (codes "2"))
+
+abbrev pub stripes : OptionDefinition
+stripes = row (codes "stripes") kind.AnyNumber Named (Some (codes "4"))
+
+abbrev pub limit : OptionDefinition
+limit = row (codes "limit") (kind.Number 1 MAX_JOURNAL_LIMIT) Named (Some (codes "1048576"))
+
+abbrev pub trace : OptionDefinition
+trace = row (codes "trace") kind.File Named None
+
+abbrev pub journal : OptionDefinition
+journal = row (codes "journal") kind.File Named None
+
+-- a subcommand: its name, and its options in the order in which help lists them
+pub record SubcommandDefinition : Type 0 where
+  pub name : Text
+  pub options : List OptionDefinition
+
+abbrev pub named : Text → List OptionDefinition → SubcommandDefinition
+named name options = record { name = name; options = options }
+
+abbrev pub defined_subcommand : Subcommand → SubcommandDefinition
+defined_subcommand given = named given.name.now (map defined given.options.now)
+
+abbrev pub run_command : SubcommandDefinition
+run_command = named (codes "run") (capacity ∷ main ∷ spread ∷ format ∷ batch ∷ policies ∷ [])
+
+abbrev pub sweep_command : SubcommandDefinition
+sweep_command = named (codes "sweep") (main ∷ spread ∷ format ∷ swept_policies ∷ capacities ∷ [])
+
+abbrev pub intervals_command : SubcommandDefinition
+intervals_command = named (codes "intervals") (capacity ∷ every ∷ main ∷ spread ∷ format ∷ policies ∷ [])
+
+abbrev pub part_command : SubcommandDefinition
+part_command = named (codes "part") (capacity ∷ main ∷ spread ∷ format ∷ first ∷ second ∷ [])
+
+abbrev pub compare_command : SubcommandDefinition
+compare_command = named (codes "compare") (capacity ∷ main ∷ spread ∷ format ∷ first ∷ second ∷ [])
+
+abbrev pub drive_command : SubcommandDefinition
+drive_command = named (codes "drive") (capacity ∷ main ∷ spread ∷ format ∷ workers ∷ stripes ∷ limit ∷ [])
+
+abbrev pub debug_command : SubcommandDefinition
+debug_command = named (codes "debug") (capacity ∷ main ∷ spread ∷ format ∷ first ∷ second ∷ trace ∷ [])
+
+abbrev pub replay_command : SubcommandDefinition
+replay_command = named (codes "replay") (capacity ∷ main ∷ spread ∷ journal ∷ stripes ∷ limit ∷ [])
+
+abbrev pub subcommands : List SubcommandDefinition
+subcommands = run_command ∷ sweep_command ∷ intervals_command ∷ part_command ∷ compare_command
+    ∷ drive_command ∷ debug_command ∷ replay_command ∷ []

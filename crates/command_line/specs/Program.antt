@@ -8,13 +8,10 @@ use Rattle.clap.specs.declared.builder.ValueParser.{ValueParser}
 use Rattle.clap.specs.declared.builder.ValueParser.TheVariants as parser
 use Rattle.clap.specs.declared.builder.command.Command.{Command}
 use Rattle.clap.specs.declared.builder.command.Command.TheViews.{out-Command}
-use Rattle.command_line.specs.Options.{OptionDefinition, name_of, options_of, row_of}
+use Rattle.command_line.specs.Options.{OptionDefinition, SubcommandDefinition, subcommands}
 use Rattle.command_line.specs.declared.choices.WordLists.{WordLists}
-use Rattle.command_line.specs.declared.options.OptionName.{OptionName}
 use Rattle.command_line.specs.declared.options.Place.{Place}
 use Rattle.command_line.specs.declared.options.Place.TheVariants.{Named, NamedOften, Positional}
-use Rattle.command_line.specs.declared.options.Subcommand.{Subcommand}
-use Rattle.command_line.specs.declared.options.TheConstants.{SUBCOMMANDS}
 use Rattle.command_line.specs.declared.options.ValueKind.{ValueKind}
 use Rattle.command_line.specs.declared.options.ValueKind.TheVariants.{AnyNumber, File, Format, Number, Policy, Spread}
 
@@ -47,15 +44,14 @@ rule_of_row lists row = with_default row.default
     (with_place row.place row.id
     (record (new_rule row.id) { parser = parser_of lists row.value; value_names = 1 }))
 
-abbrev pub with_options : WordLists → List OptionName → App → App
+abbrev pub with_options : WordLists → List OptionDefinition → App → App
 with_options lists [] app = app
-with_options lists (option ∷ options) app =
-    with_options lists options (with_rule app (rule_of_row lists (row_of option)))
+with_options lists (row ∷ rows) app = with_options lists rows (with_rule app (rule_of_row lists row))
 
-abbrev pub app_of_subcommand : WordLists → Subcommand → App
-app_of_subcommand lists subcommand = with_options lists (options_of subcommand) (new_app (name_of subcommand))
+abbrev pub app_of_subcommand : WordLists → SubcommandDefinition → App
+app_of_subcommand lists subcommand = with_options lists subcommand.options (new_app subcommand.name)
 
-abbrev pub with_subcommands : WordLists → List Subcommand → App → App
+abbrev pub with_subcommands : WordLists → List SubcommandDefinition → App → App
 with_subcommands lists [] app = app
 with_subcommands lists (subcommand ∷ rest) app =
     with_subcommands lists rest (with_subcommand app (app_of_subcommand lists subcommand).top)
@@ -70,7 +66,7 @@ empty_app = record (new_app (codes "cachesim")) {
 }
 
 abbrev pub program_app : WordLists → App
-program_app lists = with_subcommands lists SUBCOMMANDS empty_app
+program_app lists = with_subcommands lists subcommands empty_app
 
 -- a command that was made is this one, and none of its arguments is one for its subcommands too
 abbrev pub Makes : {E : Type 0} → App → Result Command E → Type 0

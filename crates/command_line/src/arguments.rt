@@ -7,7 +7,10 @@ ghost use Rattle.command_line.specs.Values.{concurrent_in, config_at, config_in,
 ghost use Rattle.command_line.specs.Values.{intervals_in, replay_in, run_in, sweep_in};
 
 use crate::lists::{CapacityList, FilePath, PolicyList};
-use crate::options::OptionName;
+use crate::options::{
+    BATCH, CAPACITY, EVERY, FIRST, FORMAT, JOURNAL, LIMIT, MAIN, POLICIES, SECOND, SPREAD,
+    SWEPT_POLICIES, TRACE, WORKERS,
+};
 use crate::values::{capacities, format, number, path, policies, policy, small_number, spread};
 use clap::ArgMatches;
 use std::alloc::{AllocError, Global};
@@ -125,17 +128,17 @@ pub(crate) fn run_arguments(
     let Some(config) = policy_config(matches) else {
         return Ok(None);
     };
-    let Some(batch) = number(matches, OptionName::Batch) else {
+    let Some(batch) = number(matches, &BATCH) else {
         return Ok(None);
     };
-    let Some(policies) = policies(alloc, matches, OptionName::Policies)? else {
+    let Some(policies) = policies(alloc, matches, &POLICIES)? else {
         return Ok(None);
     };
     Ok(Some(RunArguments {
         config,
         policies,
         batch,
-        format: format(matches),
+        format: format(matches, &FORMAT),
     }))
 }
 
@@ -150,7 +153,7 @@ pub(crate) fn sweep_arguments(
     let Some(config) = config(matches, 1, 1, 1) else {
         return Ok(None);
     };
-    let Some(policies) = policies(alloc, matches, OptionName::SweptPolicies)? else {
+    let Some(policies) = policies(alloc, matches, &SWEPT_POLICIES)? else {
         return Ok(None);
     };
     let Some(capacities) = capacities(alloc, matches)? else {
@@ -160,7 +163,7 @@ pub(crate) fn sweep_arguments(
         config,
         policies,
         capacities,
-        format: format(matches),
+        format: format(matches, &FORMAT),
     }))
 }
 
@@ -175,17 +178,17 @@ pub(crate) fn intervals_arguments(
     let Some(config) = policy_config(matches) else {
         return Ok(None);
     };
-    let Some(every) = number(matches, OptionName::Every) else {
+    let Some(every) = number(matches, &EVERY) else {
         return Ok(None);
     };
-    let Some(policies) = policies(alloc, matches, OptionName::Policies)? else {
+    let Some(policies) = policies(alloc, matches, &POLICIES)? else {
         return Ok(None);
     };
     Ok(Some(IntervalsArguments {
         config,
         policies,
         every,
-        format: format(matches),
+        format: format(matches, &FORMAT),
     }))
 }
 
@@ -195,8 +198,8 @@ pub(crate) fn part_arguments(matches: &ArgMatches<'_>) -> Option<PartArguments>
     ensures accepted { IfSome result IsAcceptedPart }
 {
     let config = policy_config(matches)?;
-    let first = policy(matches, OptionName::First)?;
-    let second = policy(matches, OptionName::Second)?;
+    let first = policy(matches, &FIRST)?;
+    let second = policy(matches, &SECOND)?;
     Some(PartArguments {
         first: Job {
             policy: first,
@@ -206,7 +209,7 @@ pub(crate) fn part_arguments(matches: &ArgMatches<'_>) -> Option<PartArguments>
             policy: second,
             config,
         },
-        format: format(matches),
+        format: format(matches, &FORMAT),
     })
 }
 
@@ -216,11 +219,11 @@ pub(crate) fn drive_arguments(matches: &ArgMatches<'_>, stripes: u8) -> Option<D
     ensures accepted { IfSome result IsAcceptedDrive }
 {
     let config = concurrent_config(matches, stripes)?;
-    let workers = small_number(matches, OptionName::Workers)?;
+    let workers = small_number(matches, &WORKERS)?;
     Some(DriveArguments {
         config,
         workers,
-        format: format(matches),
+        format: format(matches, &FORMAT),
     })
 }
 
@@ -235,7 +238,7 @@ pub(crate) fn debug_arguments(
     let Some(policies) = part_arguments(matches) else {
         return Ok(None);
     };
-    let Some(trace) = path(alloc, matches, OptionName::Trace)? else {
+    let Some(trace) = path(alloc, matches, &TRACE)? else {
         return Ok(None);
     };
     Ok(Some(DebugArguments { policies, trace }))
@@ -253,7 +256,7 @@ pub(crate) fn replay_arguments(
     let Some(config) = concurrent_config(matches, stripes) else {
         return Ok(None);
     };
-    let Some(journal) = path(alloc, matches, OptionName::Journal)? else {
+    let Some(journal) = path(alloc, matches, &JOURNAL)? else {
         return Ok(None);
     };
     Ok(Some(ReplayArguments { config, journal }))
@@ -264,7 +267,7 @@ fn policy_config(matches: &ArgMatches<'_>) -> Option<Config>
     ensures value { result ≡ config_in (rows_of (found_of matches.now)) }
     ensures accepted { IfSome result (λ config. config_fault config ≡ Ok tt) }
 {
-    let capacity = number(matches, OptionName::Capacity)?;
+    let capacity = number(matches, &CAPACITY)?;
     config(matches, capacity, 1, 1)
 }
 
@@ -273,8 +276,8 @@ fn concurrent_config(matches: &ArgMatches<'_>, stripes: u8) -> Option<Config>
     ensures value { result ≡ concurrent_in stripes (rows_of (found_of matches.now)) }
     ensures accepted { IfSome result (λ config. config_fault config ≡ Ok tt) }
 {
-    let capacity = number(matches, OptionName::Capacity)?;
-    let limit = number(matches, OptionName::Limit)?;
+    let capacity = number(matches, &CAPACITY)?;
+    let limit = number(matches, &LIMIT)?;
     config(matches, capacity, stripes, limit)
 }
 
@@ -283,11 +286,11 @@ fn config(matches: &ArgMatches<'_>, capacity: u32, stripes: u8, limit: u32) -> O
     ensures value { result ≡ config_at capacity stripes limit (rows_of (found_of matches.now)) }
     ensures accepted { IfSome result (λ config. config_fault config ≡ Ok tt) }
 {
-    let main_percent = small_number(matches, OptionName::Main)?;
+    let main_percent = small_number(matches, &MAIN)?;
     let config = Config {
         capacity,
         main_percent,
-        spread: spread(matches),
+        spread: spread(matches, &SPREAD),
         stripes,
         journal_limit: limit,
     };

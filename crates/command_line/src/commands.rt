@@ -1,14 +1,13 @@
 //! The program's commands, as `clap` builds them from the rows.
-ghost use Rattle.std.specs.Prelude.{◌≡◌, false, IfOk};
+ghost use Rattle.std.specs.Prelude.{◌≡◌, false, IfOk, map};
 ghost use Rattle.clap.specs.Words.{App, Rule, app_of, new_app, new_rule, rule_of, with_rule, with_subcommand};
 ghost use Rattle.clap.specs.declared.builder.command.Command.TheViews.{out-Command};
+ghost use Rattle.command_line.specs.Options.{defined, defined_subcommand};
 ghost use Rattle.command_line.specs.Program.{Makes, app_of_subcommand, empty_app, parser_of, program_app};
-ghost use Rattle.command_line.specs.Options.{row_of};
 ghost use Rattle.command_line.specs.Program.{rule_of_row, with_options, with_place, with_subcommands};
 
 use crate::choices::WordLists;
-use crate::help::Help;
-use crate::options::{OptionName, OptionRow, Place, SUBCOMMANDS, Subcommand, ValueKind};
+use crate::options::{OptionRow, Place, SUBCOMMANDS, Subcommand, ValueKind};
 use clap::builder::ValueParser;
 use clap::{Arg, ArgAction, Command};
 use std::alloc::{AllocError, Global};
@@ -40,12 +39,12 @@ fn added<'a>(
     subcommands: &[Subcommand],
     lists: &WordLists<'a>,
 ) -> Result<Command<'a>, AllocError>
-    ensures { (app : App) → Makes app made.entry → Makes (with_subcommands lists.now subcommands.now app) result }
+    ensures { (app : App) → Makes app made.entry → Makes (with_subcommands lists.now (map defined_subcommand subcommands.now) app) result }
 {
     match subcommands.split_first() {
         None => made,
         Some((first, rest)) => {
-            let one_more = with_added(made, subcommand(alloc, *first, lists));
+            let one_more = with_added(made, subcommand(alloc, first, lists));
             added(alloc, one_more, rest, lists)
         }
     }
@@ -89,39 +88,42 @@ fn joined<'a>(
 // The subcommand, with its options.
 fn subcommand<'a>(
     alloc: Global,
-    subcommand: Subcommand,
+    subcommand: &Subcommand,
     lists: &WordLists<'a>,
 ) -> Result<Command<'a>, AllocError>
-    ensures { Makes (app_of_subcommand lists.now subcommand) result }
+    ensures { Makes (app_of_subcommand lists.now (defined_subcommand subcommand.now)) result }
 {
-    let name: &'a str = subcommand.name();
-    let described = described(alloc, name, subcommand.help());
-    extended(alloc, described, subcommand.options(), lists)
+    extended(
+        alloc,
+        described(alloc, subcommand),
+        subcommand.options,
+        lists,
+    )
 }
 
-// A subcommand of this name, whose help has these texts.
-fn described<'a>(alloc: Global, name: &'a str, help: Help) -> Result<Command<'a>, AllocError>
-    ensures { Makes (new_app name.entry.now) result }
+// The subcommand without options, whose help has its texts.
+fn described<'a>(alloc: Global, subcommand: &Subcommand) -> Result<Command<'a>, AllocError>
+    ensures { Makes (new_app subcommand.now.name.now) result }
 {
-    let named = Command::new(alloc, name);
-    let listed = named.about(help.about);
-    let explained = listed.long_about(help.whole);
-    Ok(explained.after_help(help.example))
+    let named = Command::new(alloc, subcommand.name);
+    let listed = named.about(subcommand.about);
+    let explained = listed.long_about(subcommand.whole);
+    Ok(explained.after_help(subcommand.example))
 }
 
 // The command that was made, with these options more; or what failed.
 fn extended<'a>(
     alloc: Global,
     made: Result<Command<'a>, AllocError>,
-    options: &[OptionName],
+    options: &[OptionRow],
     lists: &WordLists<'a>,
 ) -> Result<Command<'a>, AllocError>
-    ensures { (app : App) → Makes app made.entry → Makes (with_options lists.now options.now app) result }
+    ensures { (app : App) → Makes app made.entry → Makes (with_options lists.now (map defined options.now) app) result }
 {
     match options.split_first() {
         None => made,
         Some((first, rest)) => {
-            let one_more = with_arg(made, arg(alloc, *first, lists));
+            let one_more = with_arg(made, arg(alloc, first, lists));
             extended(alloc, one_more, rest, lists)
         }
     }
@@ -145,14 +147,13 @@ fn with_arg<'a>(
 }
 
 // The argument of an option.
-fn arg<'a>(alloc: Global, option: OptionName, lists: &WordLists<'a>) -> Arg<'a>
-    ensures rule { rule_of result ≡ rule_of_row lists.now (row_of option) }
+fn arg<'a>(alloc: Global, row: &OptionRow, lists: &WordLists<'a>) -> Arg<'a>
+    ensures rule { rule_of result ≡ rule_of_row lists.now (defined row.now) }
     ensures local { result.global ≡ false }
 {
-    let row = option.row();
-    let valued = valued(alloc, &row, lists);
+    let valued = valued(alloc, row, lists);
     let described = valued.value_name(row.value_name).help(row.help);
-    let placed = placed(described, &row);
+    let placed = placed(described, row);
     match row.default {
         Some(word) => placed.default_value(word),
         None => placed.required(true),
@@ -166,7 +167,7 @@ fn valued<'a>(alloc: Global, row: &OptionRow, lists: &WordLists<'a>) -> Arg<'a>
 {
     let arg = Arg::new(alloc, row.id);
     match row.value {
-        ValueKind::Number { least, most } => {
+        ValueKind::Number(least, most) => {
             arg.value_parser(ValueParser::Signed(i64::from(least), i64::from(most)))
         }
         ValueKind::AnyNumber => arg.value_parser(ValueParser::Unsigned(0, u64::MAX)),

@@ -12,7 +12,6 @@ mod arguments;
 mod choices;
 mod commands;
 mod fault;
-mod help;
 mod lists;
 mod options;
 mod parser;

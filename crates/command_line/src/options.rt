@@ -1,21 +1,43 @@
-//! The program's options and subcommands, each a row: the commands that `clap` reads, their help and the arguments are all
-//! made of these.
-ghost use Rattle.std.specs.Prelude.{◌≡◌};
-ghost use Rattle.command_line.specs.Options.{IsRow, name_of, options_of, row_of};
-
-use crate::help::{
-    COMPARE_HELP, DEBUG_HELP, DRIVE_HELP, Help, INTERVALS_HELP, PART_HELP, REPLAY_HELP, RUN_HELP,
-    SWEEP_HELP,
-};
+//! The program's options and subcommands, each a row: the commands that `clap` reads, their help, the arguments and the
+//! definition of what words ask for are all made of these.
 use step_record::{
     MAX_ACCESSES, MAX_BATCH, MAX_CAPACITY, MAX_JOURNAL_LIMIT, MAX_MAIN_PERCENT, MAX_WORKERS,
 };
 
+/// A subcommand: its name, the texts of its help, and its options.
+#[derive(Clone, Copy)]
+pub struct Subcommand {
+    pub name: &'static str,
+    /// One line, in the list of subcommands and at the top of `-h`.
+    pub about: &'static str,
+    /// The top of `--help`: what is read from where.
+    pub whole: &'static str,
+    /// The end of help: a call.
+    pub example: &'static str,
+    /// In the order in which help lists them.
+    pub options: &'static [OptionRow],
+}
+
+/// An option.
+#[derive(Clone, Copy)]
+pub struct OptionRow {
+    /// Its name, behind `--` where it has a name.
+    pub id: &'static str,
+    /// What help calls a value.
+    pub value_name: &'static str,
+    /// What help says of it.
+    pub help: &'static str,
+    pub value: ValueKind,
+    pub place: Place,
+    /// Its value where none is given; an option with no default is required.
+    pub default: Option<&'static str>,
+}
+
 /// What a value of an option is.
 #[derive(Clone, Copy)]
 pub enum ValueKind {
-    /// A number from the least to the most.
-    Number { least: u32, most: u32 },
+    /// A number from the first to the second.
+    Number(u32, u32),
     /// A number of 64 bits.
     AnyNumber,
     /// The word of a policy.
@@ -39,358 +61,251 @@ pub enum Place {
     Positional,
 }
 
-/// What there is to say of an option.
-#[derive(Clone, Copy)]
-pub struct OptionRow {
-    /// Its name, behind `--` where it has a name.
-    pub id: &'static str,
-    /// What help calls a value.
-    pub value_name: &'static str,
-    /// What help says of it.
-    pub help: &'static str,
-    pub value: ValueKind,
-    pub place: Place,
-    /// Its value where none is given; an option with no default is required.
-    pub default: Option<&'static str>,
-}
-
-/// An option.
-#[derive(Clone, Copy)]
-pub enum OptionName {
-    /// The capacity of a cache.
-    Capacity,
-    /// The capacities of a sweep.
-    Capacities,
-    /// The share of the main part, in percent.
-    Main,
-    /// How keys are spread.
-    Spread,
-    /// The format of the trace.
-    Format,
-    /// The size of a batch.
-    Batch,
-    /// The length of an interval.
-    Every,
-    /// The policies of a run.
-    Policies,
-    /// The policies of a sweep.
-    SweptPolicies,
-    /// The one policy of two.
-    First,
-    /// The other policy of two.
-    Second,
-    /// The number of workers.
-    Workers,
-    /// The number of read buffers.
-    Stripes,
-    /// The limit of the journal.
-    Limit,
-    /// The file of a trace.
-    Trace,
-    /// The file of a journal.
-    Journal,
-}
-
-impl OptionName {
-    /// What there is to say of the option.
-    pub fn row(self) -> OptionRow
-        ensures { IsRow (row_of self) result }
-    {
-        match self {
-            OptionName::Capacity => OptionRow {
-                id: "capacity",
-                value_name: "N",
-                help: "How many entries the cache holds, from 1 to 1048576",
-                value: ValueKind::Number {
-                    least: 1,
-                    most: MAX_CAPACITY,
-                },
-                place: Place::Named,
-                default: None,
-            },
-            OptionName::Capacities => OptionRow {
-                id: "capacities",
-                value_name: "CAPACITY",
-                help: "How many entries the caches hold, from 1 to 1048576 each, in the order of their reports",
-                value: ValueKind::Number {
-                    least: 1,
-                    most: MAX_CAPACITY,
-                },
-                place: Place::Positional,
-                default: None,
-            },
-            OptionName::Main => OptionRow {
-                id: "main",
-                value_name: "N",
-                help: "How much of the capacity of wtinylfu is the main part, in percent, from 0 to 99; the rest is the window",
-                value: ValueKind::Number {
-                    least: 0,
-                    most: MAX_MAIN_PERCENT as u32,
-                },
-                place: Place::Named,
-                default: Some("99"),
-            },
-            OptionName::Spread => OptionRow {
-                id: "spread",
-                value_name: "SPREAD",
-                help: "How keys are spread over the columns of a sketch: mixed by a mixing function, plain by remainders",
-                value: ValueKind::Spread,
-                place: Place::Named,
-                default: Some("mixed"),
-            },
-            OptionName::Format => OptionRow {
-                id: "format",
-                value_name: "FORMAT",
-                help: "The format of the trace: lirs has a block number a line, arc a first block and how many blocks",
-                value: ValueKind::Format,
-                place: Place::Named,
-                default: Some("lirs"),
-            },
-            OptionName::Batch => OptionRow {
-                id: "batch",
-                value_name: "N",
-                help: "How many accesses a policy is given at once, from 1 to 65536; no report depends on it",
-                value: ValueKind::Number {
-                    least: 1,
-                    most: MAX_BATCH,
-                },
-                place: Place::Named,
-                default: Some("1024"),
-            },
-            OptionName::Every => OptionRow {
-                id: "every",
-                value_name: "M",
-                help: "How many accesses an interval has, from 1 to 16777216; the last one may have fewer",
-                value: ValueKind::Number {
-                    least: 1,
-                    most: MAX_ACCESSES as u32,
-                },
-                place: Place::Named,
-                default: None,
-            },
-            OptionName::Policies => OptionRow {
-                id: "policy",
-                value_name: "POLICY",
-                help: "The policies to run, in the order of their reports; no file is named here",
-                value: ValueKind::Policy,
-                place: Place::Positional,
-                default: None,
-            },
-            OptionName::SweptPolicies => OptionRow {
-                id: "policy",
-                value_name: "POLICY",
-                help: "A policy to run; given more than once, the reports of the first come first",
-                value: ValueKind::Policy,
-                place: Place::NamedOften,
-                default: None,
-            },
-            OptionName::First => OptionRow {
-                id: "first",
-                value_name: "POLICY",
-                help: "The one policy",
-                value: ValueKind::Policy,
-                place: Place::Named,
-                default: None,
-            },
-            OptionName::Second => OptionRow {
-                id: "second",
-                value_name: "POLICY",
-                help: "The other policy",
-                value: ValueKind::Policy,
-                place: Place::Named,
-                default: None,
-            },
-            OptionName::Workers => OptionRow {
-                id: "workers",
-                value_name: "N",
-                help: "How many threads read the keys of the trace, from 1 to 64; access i is made by thread i modulo their number",
-                value: ValueKind::Number {
-                    least: 1,
-                    most: MAX_WORKERS as u32,
-                },
-                place: Place::Named,
-                default: Some("2"),
-            },
-            OptionName::Stripes => OptionRow {
-                id: "stripes",
-                value_name: "N",
-                help: "How many read buffers the cache has, a power of two from 1 to 64",
-                value: ValueKind::AnyNumber,
-                place: Place::Named,
-                default: Some("4"),
-            },
-            OptionName::Limit => OptionRow {
-                id: "limit",
-                value_name: "N",
-                help: "How many steps the journal holds, from 1 to 16777216",
-                value: ValueKind::Number {
-                    least: 1,
-                    most: MAX_JOURNAL_LIMIT,
-                },
-                place: Place::Named,
-                default: Some("1048576"),
-            },
-            OptionName::Trace => OptionRow {
-                id: "trace",
-                value_name: "FILE",
-                help: "The file of the trace, of at most 2^30 bytes",
-                value: ValueKind::File,
-                place: Place::Named,
-                default: None,
-            },
-            OptionName::Journal => OptionRow {
-                id: "journal",
-                value_name: "FILE",
-                help: "The file of the journal, of at most 2^30 bytes",
-                value: ValueKind::File,
-                place: Place::Named,
-                default: None,
-            },
-        }
-    }
-}
-
-/// A subcommand.
-#[derive(Clone, Copy)]
-pub enum Subcommand {
-    /// `run`, which prints a report for each policy that is named.
-    Run,
-    /// `sweep`, which prints a report of each policy that is named at each capacity.
-    Sweep,
-    /// `intervals`, which prints what each policy that is named makes of each interval of the trace.
-    Intervals,
-    /// `part`, which prints the first access at which just one of two policies hits.
-    Part,
-    /// `compare`, which prints how often two policies hit at the same accesses.
-    Compare,
-    /// `drive`, which prints the journal of workers on threads.
-    Drive,
-    /// `debug`, which answers commands about two policies over a trace.
-    Debug,
-    /// `replay`, which answers commands about a journal.
-    Replay,
-}
-
 /// All subcommands, in the order in which help lists them.
 pub const SUBCOMMANDS: [Subcommand; 8] = [
-    Subcommand::Run,
-    Subcommand::Sweep,
-    Subcommand::Intervals,
-    Subcommand::Part,
-    Subcommand::Compare,
-    Subcommand::Drive,
-    Subcommand::Debug,
-    Subcommand::Replay,
+    RUN, SWEEP, INTERVALS, PART, COMPARE, DRIVE, DEBUG, REPLAY,
 ];
 
-impl Subcommand {
-    /// Its name.
-    pub fn name(self) -> &'static str
-        ensures { result.now ≡ name_of self }
-    {
-        match self {
-            Subcommand::Run => "run",
-            Subcommand::Sweep => "sweep",
-            Subcommand::Intervals => "intervals",
-            Subcommand::Part => "part",
-            Subcommand::Compare => "compare",
-            Subcommand::Drive => "drive",
-            Subcommand::Debug => "debug",
-            Subcommand::Replay => "replay",
-        }
-    }
+/// `run`, which prints a report for each policy that is named.
+pub const RUN: Subcommand = Subcommand {
+    name: "run",
+    about: "Runs policies over the trace on standard input and prints a report of each",
+    whole: "Runs policies over the trace on standard input and prints a report of each.
+The trace comes by a redirection (< FILE) or a pipe. Without one, at a terminal, the program waits
+for you to type the trace, a line each, up to Ctrl-D.",
+    example: "Example: cachesim run --capacity 100 lru wtinylfu clairvoyant < trace.lirs",
+    options: &[CAPACITY, MAIN, SPREAD, FORMAT, BATCH, POLICIES],
+};
 
-    /// The texts of its help.
-    pub fn help(self) -> Help {
-        match self {
-            Subcommand::Run => RUN_HELP,
-            Subcommand::Sweep => SWEEP_HELP,
-            Subcommand::Intervals => INTERVALS_HELP,
-            Subcommand::Part => PART_HELP,
-            Subcommand::Compare => COMPARE_HELP,
-            Subcommand::Drive => DRIVE_HELP,
-            Subcommand::Debug => DEBUG_HELP,
-            Subcommand::Replay => REPLAY_HELP,
-        }
-    }
+/// `sweep`, which prints a report of each policy that is named at each capacity.
+pub const SWEEP: Subcommand = Subcommand {
+    name: "sweep",
+    about: "Runs policies over the trace on standard input and prints a report of each at each capacity",
+    whole: "Runs policies over the trace on standard input and prints a report of each at each capacity.
+The trace comes by a redirection (< FILE) or a pipe.",
+    example: "Example: cachesim sweep --policy wtinylfu 50 100 200 400 < trace.lirs",
+    options: &[MAIN, SPREAD, FORMAT, SWEPT_POLICIES, CAPACITIES],
+};
 
-    /// Its options, in the order in which help lists them.
-    pub fn options(self) -> &'static [OptionName]
-        ensures { result.now ≡ options_of self }
-    {
-        match self {
-            Subcommand::Run => &RUN,
-            Subcommand::Sweep => &SWEEP,
-            Subcommand::Intervals => &INTERVALS,
-            Subcommand::Part => &PART,
-            Subcommand::Compare => &PART,
-            Subcommand::Drive => &DRIVE,
-            Subcommand::Debug => &DEBUG,
-            Subcommand::Replay => &REPLAY,
-        }
-    }
-}
+/// `intervals`, which prints what each policy that is named makes of each interval of the trace.
+pub const INTERVALS: Subcommand = Subcommand {
+    name: "intervals",
+    about: "Runs policies over the trace on standard input and prints what each makes of each interval of it",
+    whole: "Runs policies over the trace on standard input and prints what each makes of each interval of it: a row for
+each --every accesses. The caches stay as they are from one interval to the next. The trace comes by a
+redirection (< FILE) or a pipe.",
+    example: "Example: cachesim intervals --capacity 100 --every 1000 lru wtinylfu < trace.lirs",
+    options: &[CAPACITY, EVERY, MAIN, SPREAD, FORMAT, POLICIES],
+};
 
-const RUN: [OptionName; 6] = [
-    OptionName::Capacity,
-    OptionName::Main,
-    OptionName::Spread,
-    OptionName::Format,
-    OptionName::Batch,
-    OptionName::Policies,
-];
+/// `part`, which prints the first access at which just one of two policies hits.
+pub const PART: Subcommand = Subcommand {
+    name: "part",
+    about: "Prints the first access of the trace on standard input at which just one of two policies hits",
+    whole: "Prints where two policies diverge: `part P`, P the first access of the trace on standard input, counted
+from 1, at which just one of them hits, or `part none`. The trace comes by a redirection (< FILE) or a pipe.",
+    example: "Example: cachesim part --capacity 100 --first lru --second slru < trace.lirs",
+    options: &[CAPACITY, MAIN, SPREAD, FORMAT, FIRST, SECOND],
+};
 
-const SWEEP: [OptionName; 5] = [
-    OptionName::Main,
-    OptionName::Spread,
-    OptionName::Format,
-    OptionName::SweptPolicies,
-    OptionName::Capacities,
-];
+/// `compare`, which prints how often two policies hit at the same accesses.
+pub const COMPARE: Subcommand = Subcommand {
+    name: "compare",
+    about: "Prints at how many accesses of the trace on standard input both of two policies hit, one alone, or neither",
+    whole: "Prints at how many accesses of the trace on standard input both of two policies hit, only the first, only
+the second, and neither. The trace comes by a redirection (< FILE) or a pipe.",
+    example: "Example: cachesim compare --capacity 100 --first lru --second slru < trace.lirs",
+    options: &[CAPACITY, MAIN, SPREAD, FORMAT, FIRST, SECOND],
+};
 
-const INTERVALS: [OptionName; 6] = [
-    OptionName::Capacity,
-    OptionName::Every,
-    OptionName::Main,
-    OptionName::Spread,
-    OptionName::Format,
-    OptionName::Policies,
-];
+/// `drive`, which prints the journal of workers on threads.
+pub const DRIVE: Subcommand = Subcommand {
+    name: "drive",
+    about: "Runs the concurrent cache on threads over the trace on standard input and prints its journal",
+    whole: "Runs the concurrent cache on threads over the trace on standard input and prints its journal, which
+`replay` reads. The trace comes by a redirection (< FILE) or a pipe.",
+    example: "Example: cachesim drive --capacity 100 --workers 4 < trace.lirs > run.journal",
+    options: &[CAPACITY, MAIN, SPREAD, FORMAT, WORKERS, STRIPES, LIMIT],
+};
 
-const PART: [OptionName; 6] = [
-    OptionName::Capacity,
-    OptionName::Main,
-    OptionName::Spread,
-    OptionName::Format,
-    OptionName::First,
-    OptionName::Second,
-];
+/// `debug`, which answers commands about two policies over a trace.
+pub const DEBUG: Subcommand = Subcommand {
+    name: "debug",
+    about: "Answers commands on standard input about two policies over the trace of a file",
+    whole: "Answers commands on standard input about two policies over the trace of a file. A command is a line:
+step N, back N, goto N, run, break hit K, break evict K, break halve, break part, clear, show, part, quit.
+Here standard input has the commands, and --trace names the file of the trace.",
+    example: "Example: cachesim debug --trace trace.lirs --capacity 100 --first lru --second slru",
+    options: &[CAPACITY, MAIN, SPREAD, FORMAT, FIRST, SECOND, TRACE],
+};
 
-const DRIVE: [OptionName; 7] = [
-    OptionName::Capacity,
-    OptionName::Main,
-    OptionName::Spread,
-    OptionName::Format,
-    OptionName::Workers,
-    OptionName::Stripes,
-    OptionName::Limit,
-];
+/// `replay`, which answers commands about a journal.
+pub const REPLAY: Subcommand = Subcommand {
+    name: "replay",
+    about: "Answers commands on standard input about the concurrent run whose journal is in a file",
+    whole: "Answers commands on standard input about the concurrent run whose journal is in a file. A command is a
+line: step N, back N, goto N, run, break hit K, break evict K, break halve, break drop, clear, show, save, quit.
+Give --capacity, --stripes, --main, --spread and --limit as they were given to `drive`.",
+    example: "Example: cachesim replay --journal run.journal --capacity 100",
+    options: &[CAPACITY, MAIN, SPREAD, JOURNAL, STRIPES, LIMIT],
+};
 
-const DEBUG: [OptionName; 7] = [
-    OptionName::Capacity,
-    OptionName::Main,
-    OptionName::Spread,
-    OptionName::Format,
-    OptionName::First,
-    OptionName::Second,
-    OptionName::Trace,
-];
+/// The capacity of a cache.
+pub const CAPACITY: OptionRow = OptionRow {
+    id: "capacity",
+    value_name: "N",
+    help: "How many entries the cache holds, from 1 to 1048576",
+    value: ValueKind::Number(1, MAX_CAPACITY),
+    place: Place::Named,
+    default: None,
+};
 
-const REPLAY: [OptionName; 6] = [
-    OptionName::Capacity,
-    OptionName::Main,
-    OptionName::Spread,
-    OptionName::Journal,
-    OptionName::Stripes,
-    OptionName::Limit,
-];
+/// The capacities of a sweep.
+pub const CAPACITIES: OptionRow = OptionRow {
+    id: "capacities",
+    value_name: "CAPACITY",
+    help: "How many entries the caches hold, from 1 to 1048576 each, in the order of their reports",
+    value: ValueKind::Number(1, MAX_CAPACITY),
+    place: Place::Positional,
+    default: None,
+};
+
+/// The share of the main part, in percent.
+pub const MAIN: OptionRow = OptionRow {
+    id: "main",
+    value_name: "N",
+    help: "How much of the capacity of wtinylfu is the main part, in percent, from 0 to 99; the rest is the window",
+    value: ValueKind::Number(0, MAX_MAIN_PERCENT as u32),
+    place: Place::Named,
+    default: Some("99"),
+};
+
+/// How keys are spread.
+pub const SPREAD: OptionRow = OptionRow {
+    id: "spread",
+    value_name: "SPREAD",
+    help: "How keys are spread over the columns of a sketch: mixed by a mixing function, plain by remainders",
+    value: ValueKind::Spread,
+    place: Place::Named,
+    default: Some("mixed"),
+};
+
+/// The format of the trace.
+pub const FORMAT: OptionRow = OptionRow {
+    id: "format",
+    value_name: "FORMAT",
+    help: "The format of the trace: lirs has a block number a line, arc a first block and how many blocks",
+    value: ValueKind::Format,
+    place: Place::Named,
+    default: Some("lirs"),
+};
+
+/// The size of a batch.
+pub const BATCH: OptionRow = OptionRow {
+    id: "batch",
+    value_name: "N",
+    help: "How many accesses a policy is given at once, from 1 to 65536; no report depends on it",
+    value: ValueKind::Number(1, MAX_BATCH),
+    place: Place::Named,
+    default: Some("1024"),
+};
+
+/// The length of an interval.
+pub const EVERY: OptionRow = OptionRow {
+    id: "every",
+    value_name: "M",
+    help: "How many accesses an interval has, from 1 to 16777216; the last one may have fewer",
+    value: ValueKind::Number(1, MAX_ACCESSES as u32),
+    place: Place::Named,
+    default: None,
+};
+
+/// The policies of a run.
+pub const POLICIES: OptionRow = OptionRow {
+    id: "policy",
+    value_name: "POLICY",
+    help: "The policies to run, in the order of their reports; no file is named here",
+    value: ValueKind::Policy,
+    place: Place::Positional,
+    default: None,
+};
+
+/// The policies of a sweep.
+pub const SWEPT_POLICIES: OptionRow = OptionRow {
+    id: "policy",
+    value_name: "POLICY",
+    help: "A policy to run; given more than once, the reports of the first come first",
+    value: ValueKind::Policy,
+    place: Place::NamedOften,
+    default: None,
+};
+
+/// The one policy of two.
+pub const FIRST: OptionRow = OptionRow {
+    id: "first",
+    value_name: "POLICY",
+    help: "The one policy",
+    value: ValueKind::Policy,
+    place: Place::Named,
+    default: None,
+};
+
+/// The other policy of two.
+pub const SECOND: OptionRow = OptionRow {
+    id: "second",
+    value_name: "POLICY",
+    help: "The other policy",
+    value: ValueKind::Policy,
+    place: Place::Named,
+    default: None,
+};
+
+/// The number of workers.
+pub const WORKERS: OptionRow = OptionRow {
+    id: "workers",
+    value_name: "N",
+    help: "How many threads read the keys of the trace, from 1 to 64; access i is made by thread i modulo their number",
+    value: ValueKind::Number(1, MAX_WORKERS as u32),
+    place: Place::Named,
+    default: Some("2"),
+};
+
+/// The number of read buffers.
+pub const STRIPES: OptionRow = OptionRow {
+    id: "stripes",
+    value_name: "N",
+    help: "How many read buffers the cache has, a power of two from 1 to 64",
+    value: ValueKind::AnyNumber,
+    place: Place::Named,
+    default: Some("4"),
+};
+
+/// The limit of the journal.
+pub const LIMIT: OptionRow = OptionRow {
+    id: "limit",
+    value_name: "N",
+    help: "How many steps the journal holds, from 1 to 16777216",
+    value: ValueKind::Number(1, MAX_JOURNAL_LIMIT),
+    place: Place::Named,
+    default: Some("1048576"),
+};
+
+/// The file of a trace.
+pub const TRACE: OptionRow = OptionRow {
+    id: "trace",
+    value_name: "FILE",
+    help: "The file of the trace, of at most 2^30 bytes",
+    value: ValueKind::File,
+    place: Place::Named,
+    default: None,
+};
+
+/// The file of a journal.
+pub const JOURNAL: OptionRow = OptionRow {
+    id: "journal",
+    value_name: "FILE",
+    help: "The file of the journal, of at most 2^30 bytes",
+    value: ValueKind::File,
+    place: Place::Named,
+    default: None,
+};

@@ -13,7 +13,7 @@ use crate::arguments::{
 use crate::choices::{WordLists, format_words, policy_words, spread_words};
 use crate::commands::program;
 use crate::fault::ParseFault;
-use crate::options::Subcommand;
+use crate::options::{COMPARE, DEBUG, DRIVE, INTERVALS, PART, REPLAY, RUN, SWEEP};
 use crate::values::stripes;
 use clap::ArgMatches;
 use std::alloc::{AllocError, Global};
@@ -65,46 +65,46 @@ fn arguments_of(alloc: Global, name: &str, asked: &ArgMatches<'_>) -> Result<Arg
     ensures asked { IsAskedFor (asked_of name.now (rows_of (found_of asked.now))) result }
     ensures accepted { IfOk result AreAccepted }
 {
-    if name == Subcommand::Run.name() {
+    if name == RUN.name {
         return match run_arguments(alloc, asked)? {
             Some(run) => Ok(Arguments::Run(run)),
             None => Err(ParseFault::Incomplete),
         };
     }
-    if name == Subcommand::Sweep.name() {
+    if name == SWEEP.name {
         return match sweep_arguments(alloc, asked)? {
             Some(sweep) => Ok(Arguments::Sweep(sweep)),
             None => Err(ParseFault::Incomplete),
         };
     }
-    if name == Subcommand::Intervals.name() {
+    if name == INTERVALS.name {
         return match intervals_arguments(alloc, asked)? {
             Some(intervals) => Ok(Arguments::Intervals(intervals)),
             None => Err(ParseFault::Incomplete),
         };
     }
-    if name == Subcommand::Part.name() {
+    if name == PART.name {
         return match part_arguments(asked) {
             Some(part) => Ok(Arguments::Part(part)),
             None => Err(ParseFault::Incomplete),
         };
     }
-    if name == Subcommand::Compare.name() {
+    if name == COMPARE.name {
         return match part_arguments(asked) {
             Some(compare) => Ok(Arguments::Compare(compare)),
             None => Err(ParseFault::Incomplete),
         };
     }
-    if name == Subcommand::Drive.name() {
+    if name == DRIVE.name {
         return driven(asked);
     }
-    if name == Subcommand::Debug.name() {
+    if name == DEBUG.name {
         return match debug_arguments(alloc, asked)? {
             Some(debug) => Ok(Arguments::Debug(debug)),
             None => Err(ParseFault::Incomplete),
         };
     }
-    if name == Subcommand::Replay.name() {
+    if name == REPLAY.name {
         return replayed(alloc, asked);
     }
     Err(ParseFault::Incomplete)
