@@ -12,7 +12,7 @@ use Rattle.program.proofs.debug.debug.Goals as goal
 
 pub returns-in_err-run_debug-clause-fault : goal.returns-in_err-run_debug-clause-fault
 returns-in_err-run_debug-clause-fault g c =
-    let commands = g.R.Read.remaining c.args.input.now in
+    let commands = g.R.CountedRead.remaining c.args.input.now in
     let policies = c.args.arguments.now.policies in
     let known = g.F.Files.known c.args.files.now in
     let here = subst (λ (p : List ℕ). IfSome (known p) (λ xs. c.in_ok-bytes.bytes.items ≡ xs)) c.as_str.ensures c.in_ok-bytes.ensures.bytes in

@@ -27,7 +27,7 @@ returns-clause-ok g c =
     let first = c.in_ok-session.ensures.first in
     let workers = c.args.arguments.now.workers in
     let stripes = ap (λ x. x.config.stripes) (first.same ∙ first.opened.is) in
-    let input = g.R.Read.remaining c.args.input.now in
+    let input = g.R.CountedRead.remaining c.args.input.now in
     on_ok_both c.write_run-written.result (λ few done. held c.drive-run.result few done c.drive-run.ensures.run c.drive-run.ensures.legal (λ driven few written run legal. record {
       faultless = IfSome_then input c.in_ok-pieces.ensures.dealt (λ bytes h. h.0);
       opening = c.in_ok-session.session.opening;
@@ -43,19 +43,19 @@ returns-clause-ok g c =
 pub returns-in_err-pieces-clause-leaves : goal.returns-in_err-pieces-clause-leaves
 returns-in_err-pieces-clause-leaves g c =
     let arguments = c.args.arguments.now in
-    err_is _ c.from_residual.result _ c.from_residual.ensures.1 (leaves_early arguments.config arguments.workers arguments.format (g.R.Read.remaining c.args.input.now) _ _ _ _ c.in_err-pieces.ensures.reading refl refl)
+    err_is _ c.from_residual.result _ c.from_residual.ensures.1 (leaves_early arguments.config arguments.workers arguments.format (g.R.CountedRead.remaining c.args.input.now) _ _ _ _ c.in_err-pieces.ensures.reading refl refl)
 
 pub returns-clause-leaves : goal.returns-clause-leaves
 returns-clause-leaves g c =
     let arguments = c.args.arguments.now in
-    IfErr-weaker c.write_run-written.result _ _ (λ fault left. leaves arguments.config arguments.workers arguments.format (g.R.Read.remaining c.args.input.now) _ _ _
+    IfErr-weaker c.write_run-written.result _ _ (λ fault left. leaves arguments.config arguments.workers arguments.format (g.R.CountedRead.remaining c.args.input.now) _ _ _
     (map (λ p. p.items) c.in_ok-pieces.pieces.items) c.in_ok-session.session c.drive-run.result c.in_ok-session.ensures.first c.in_ok-session.ensures.limit c.in_ok-pieces.ensures.dealt c.drive-run.ensures.fault fault left)
     c.write_run-written.ensures.leaves
 
 pub returns-clause-fault : goal.returns-clause-fault
 returns-clause-fault g c =
     let arguments = c.args.arguments.now in
-    IfErr-weaker c.write_run-written.result _ _ (λ fault left. of_run arguments.config arguments.workers arguments.format (g.R.Read.remaining c.args.input.now) _ _ (Unit {0})
+    IfErr-weaker c.write_run-written.result _ _ (λ fault left. of_run arguments.config arguments.workers arguments.format (g.R.CountedRead.remaining c.args.input.now) _ _ (Unit {0})
     (map (λ p. p.items) c.in_ok-pieces.pieces.items) c.in_ok-session.session c.drive-run.result c.in_ok-session.ensures.first c.in_ok-session.ensures.limit c.in_ok-pieces.ensures.dealt c.drive-run.ensures.fault fault left)
     c.write_run-written.ensures.leaves
 

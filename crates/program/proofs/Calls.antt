@@ -1,0 +1,74 @@
+-- From what lower crates say of their readers and writers to what the program says of its input and output.
+use Rattle.std.proofs.Common.{◌≡◌, ℕ, ◌+◌, inl, inr, refl, sym, subst, true, false, Result, Ok, Err}
+use Rattle.std.specs.Prelude.{IsErrAnd, MatchResult}
+use Rattle.streams.specs.Tally.{FailsWhere, IsServed, no_calls}
+use Rattle.streams.specs.declared.tally.Tally.{Tally}
+use Rattle.streams.specs.declared.WriteFault.{WriteFault}
+use Rattle.streams.specs.declared.WriteFault.TheVariants as write
+use Rattle.streams.proofs.Tallies.{uncalled}
+use Rattle.trace_read.specs.declared.fault.TraceFault.{TraceFault}
+use Rattle.trace_read.specs.declared.fault.TraceFault.TheVariants as trace
+use Rattle.journal_text.specs.declared.fault.JournalFault.{JournalFault}
+use Rattle.journal_text.specs.declared.fault.JournalFault.TheVariants as journal
+use Rattle.debug_commands.specs.declared.fault.DebugFault.{DebugFault}
+use Rattle.debug_commands.specs.declared.fault.DebugFault.TheVariants as debug
+use Rattle.program.specs.CallFaults.{AreServed, BlamesCalls, TellsOfCalls}
+use Rattle.program.specs.Fault.{of_debug, of_reading, of_write}
+use Rattle.program.specs.declared.fault.Fault.{Fault}
+use Rattle.program.specs.declared.fault.Fault.TheVariants.{Trace}
+
+-- an error that is handed on
+pub told : {A : Type 0} (r : Result A Fault) (fault : Fault) (i j o p : Tally) → IsErrAnd r (λ f. f ≡ fault)
+    → BlamesCalls fault i j o p → TellsOfCalls r i j o p
+told (Ok x) fault i j o p h blames = absurd h
+told (Err f) fault i j o p h blames = subst (λ x. BlamesCalls x i j o p) (sym h) blames
+
+-- the fault of a trace, before anything is written
+pub of_trace : {A : Type 0} (fault : TraceFault) (i j o : Tally)
+    → FailsWhere (Err {T = A} fault ≡ Err trace.Read) i j → BlamesCalls (Trace fault) i j o o
+of_trace trace.Read i j o h = (h.failing refl, uncalled o)
+of_trace trace.OutOfMemory i j o h = (h.served (λ q. absurd (cc q)), uncalled o)
+of_trace (trace.BadNumber n) i j o h = (h.served (λ q. absurd (cc q)), uncalled o)
+of_trace (trace.MissingField n) i j o h = (h.served (λ q. absurd (cc q)), uncalled o)
+of_trace (trace.Range n) i j o h = (h.served (λ q. absurd (cc q)), uncalled o)
+of_trace (trace.TooLong n) i j o h = (h.served (λ q. absurd (cc q)), uncalled o)
+of_trace trace.TooLarge i j o h = (h.served (λ q. absurd (cc q)), uncalled o)
+
+-- that of a trace in memory
+pub of_bytes : {A : Type 0} (fault : TraceFault) (i o : Tally)
+    → FailsWhere (Err {T = A} fault ≡ Err trace.Read) no_calls no_calls → BlamesCalls (Trace fault) i i o o
+of_bytes trace.Read i o h = elim h.failing refl [ inl q ↦ absurd (cc q) | inr q ↦ absurd (cc q) ]
+of_bytes trace.OutOfMemory i o h = (uncalled i, uncalled o)
+of_bytes (trace.BadNumber n) i o h = (uncalled i, uncalled o)
+of_bytes (trace.MissingField n) i o h = (uncalled i, uncalled o)
+of_bytes (trace.Range n) i o h = (uncalled i, uncalled o)
+of_bytes (trace.TooLong n) i o h = (uncalled i, uncalled o)
+of_bytes trace.TooLarge i o h = (uncalled i, uncalled o)
+
+-- the fault of a text that is written behind what was read
+pub of_text : {A : Type 0} (fault : WriteFault) (i j o p : Tally) → IsServed i j
+    → FailsWhere (Err {T = A} fault ≡ Err write.Write) o p → BlamesCalls (of_write fault) i j o p
+of_text write.OutOfMemory i j o p read h = (read, h.served (λ q. absurd (cc q)))
+of_text write.Write i j o p read h = (read, h.failing refl)
+
+-- that of a journal in memory
+pub of_journal : (fault : JournalFault) (i o : Tally) → BlamesCalls (of_reading fault) i i o o
+of_journal journal.OutOfMemory i o = (uncalled i, uncalled o)
+of_journal _ i o = (uncalled i, uncalled o)
+
+-- that of a debugger
+pub of_dialogue : {A : Type 0} (fault : DebugFault) (i j o p : Tally) → FailsWhere (Err {T = A} fault ≡ Err debug.Read) i j
+    → FailsWhere (Err {T = A} fault ≡ Err debug.Write) o p → BlamesCalls (of_debug fault) i j o p
+of_dialogue debug.Read i j o p reads writes = (reads.failing refl, writes.served (λ q. absurd (cc q)))
+of_dialogue debug.Write i j o p reads writes = (reads.served (λ q. absurd (cc q)), writes.failing refl)
+of_dialogue debug.OutOfMemory i j o p reads writes = (reads.served (λ q. absurd (cc q)), writes.served (λ q. absurd (cc q)))
+of_dialogue debug.TooLarge i j o p reads writes = (reads.served (λ q. absurd (cc q)), writes.served (λ q. absurd (cc q)))
+of_dialogue (debug.Config n) i j o p reads writes = (reads.served (λ q. absurd (cc q)), writes.served (λ q. absurd (cc q)))
+
+-- what is told of a success, and of the error that came
+pub at_ok : {A : Type 0} (r : Result A Fault) (x : A) (i j o p : Tally) → r ≡ Ok x → TellsOfCalls r i j o p → AreServed i j o p
+at_ok {A = A} r x i j o p is h = subst (λ (s : Result A Fault). TellsOfCalls s i j o p) is h
+
+pub at_err : {A : Type 0} (r : Result A Fault) (fault : Fault) (i j o p : Tally) → r ≡ Err fault → TellsOfCalls r i j o p
+    → BlamesCalls fault i j o p
+at_err {A = A} r fault i j o p is h = subst (λ (s : Result A Fault). TellsOfCalls s i j o p) is h
