@@ -12,10 +12,14 @@ use Rattle.journal_text.specs.declared.fault.JournalFault.{JournalFault}
 use Rattle.journal_text.specs.declared.fault.JournalFault.TheVariants as journal
 use Rattle.debug_commands.specs.declared.fault.DebugFault.{DebugFault}
 use Rattle.debug_commands.specs.declared.fault.DebugFault.TheVariants as debug
-use Rattle.program.specs.CallFaults.{AreServed, BlamesCalls, TellsOfCalls}
-use Rattle.program.specs.Fault.{of_debug, of_reading, of_write}
+use Rattle.workers.specs.declared.run.Cause.{Cause}
+use Rattle.workers.specs.declared.run.Cause.TheVariants as cause
+use Rattle.program.specs.CallFaults.{AreServed, BlamesCalls, TellsOfCalls, TellsOfWrites}
+use Rattle.program.specs.Fault.{of_cause, of_debug, of_file, of_reading, of_write}
+use Rattle.program.specs.declared.files.FileFault.{FileFault}
+use Rattle.program.specs.declared.files.FileFault.TheVariants as file
 use Rattle.program.specs.declared.fault.Fault.{Fault}
-use Rattle.program.specs.declared.fault.Fault.TheVariants.{Trace}
+use Rattle.program.specs.declared.fault.Fault.TheVariants.{Debug, Trace, Write}
 
 -- an error that is handed on
 pub told : {A : Type 0} (r : Result A Fault) (fault : Fault) (i j o p : Tally) → IsErrAnd r (λ f. f ≡ fault)
@@ -37,7 +41,7 @@ of_trace trace.TooLarge i j o h = (h.served (λ q. absurd (cc q)), uncalled o)
 -- that of a trace in memory
 pub of_bytes : {A : Type 0} (fault : TraceFault) (i o : Tally)
     → FailsWhere (Err {T = A} fault ≡ Err trace.Read) no_calls no_calls → BlamesCalls (Trace fault) i i o o
-of_bytes trace.Read i o h = elim h.failing refl [ inl q ↦ absurd (cc q) | inr q ↦ absurd (cc q) ]
+of_bytes trace.Read i o h = elim (h.failing refl) [ inl q ↦ absurd (cc q) | inr q ↦ absurd (cc q) ]
 of_bytes trace.OutOfMemory i o h = (uncalled i, uncalled o)
 of_bytes (trace.BadNumber n) i o h = (uncalled i, uncalled o)
 of_bytes (trace.MissingField n) i o h = (uncalled i, uncalled o)
@@ -66,9 +70,40 @@ of_dialogue debug.TooLarge i j o p reads writes = (reads.served (λ q. absurd (c
 of_dialogue (debug.Config n) i j o p reads writes = (reads.served (λ q. absurd (cc q)), writes.served (λ q. absurd (cc q)))
 
 -- what is told of a success, and of the error that came
-pub at_ok : {A : Type 0} (r : Result A Fault) (x : A) (i j o p : Tally) → r ≡ Ok x → TellsOfCalls r i j o p → AreServed i j o p
-at_ok {A = A} r x i j o p is h = subst (λ (s : Result A Fault). TellsOfCalls s i j o p) is h
+pub served_at : {A : Type 0} (r : Result A Fault) (x : A) (i j o p : Tally) → r ≡ Ok x → TellsOfCalls r i j o p → AreServed i j o p
+served_at {A = A} r x i j o p is h = subst (λ (s : Result A Fault). TellsOfCalls s i j o p) is h
 
-pub at_err : {A : Type 0} (r : Result A Fault) (fault : Fault) (i j o p : Tally) → r ≡ Err fault → TellsOfCalls r i j o p
+pub blamed_at : {A : Type 0} (r : Result A Fault) (fault : Fault) (i j o p : Tally) → r ≡ Err fault → TellsOfCalls r i j o p
     → BlamesCalls fault i j o p
-at_err {A = A} r fault i j o p is h = subst (λ (s : Result A Fault). TellsOfCalls s i j o p) is h
+blamed_at {A = A} r fault i j o p is h = subst (λ (s : Result A Fault). TellsOfCalls s i j o p) is h
+
+-- a call whose reads were all served, and then a fault of none of them
+pub behind_reads : (fault : Fault) (i j o p : Tally) → IsServed i j → ((t : Tally) → BlamesCalls fault t t o p)
+    → BlamesCalls fault i j o p
+behind_reads (Trace trace.Read) i j o p read h = elim ((h no_calls).0) [ inl q ↦ absurd (cc q) | inr q ↦ absurd (cc q) ]
+behind_reads (Debug debug.Read) i j o p read h = elim ((h no_calls).0) [ inl q ↦ absurd (cc q) | inr q ↦ absurd (cc q) ]
+behind_reads (Debug debug.Write) i j o p read h = (read, (h i).1)
+behind_reads (Debug _) i j o p read h = (read, (h i).1)
+behind_reads Write i j o p read h = (read, (h i).1)
+behind_reads (Trace _) i j o p read h = (read, (h i).1)
+behind_reads _ i j o p read h = (read, (h i).1)
+
+pub told_behind : {A : Type 0} (r : Result A Fault) (i j o p : Tally) → IsServed i j → TellsOfWrites r o p → TellsOfCalls r i j o p
+told_behind (Ok x) i j o p read h = (read, (h i).1)
+told_behind (Err fault) i j o p read h = behind_reads fault i j o p read h
+
+pub of_files : (fault : FileFault) (i o : Tally) → BlamesCalls (of_file fault) i i o o
+of_files file.OutOfMemory i o = (uncalled i, uncalled o)
+of_files file.NoFile i o = (uncalled i, uncalled o)
+
+-- a run that was stopped, whose journal is written
+pub of_stop : (why : Cause) (i j o p : Tally) → IsServed i j → IsServed o p → BlamesCalls (of_cause why) i j o p
+of_stop cause.Memory i j o p read written = (read, written)
+of_stop cause.JournalFull i j o p read written = (read, written)
+
+-- one call of a reader or a writer that did not end in its fault
+pub reads_served : {A : Type 0} (x : A) (i j : Tally) → FailsWhere (Ok {E = TraceFault} x ≡ Err trace.Read) i j → IsServed i j
+reads_served x i j h = h.served (λ q. absurd (cc q))
+
+pub writes_served : {A : Type 0} (x : A) (o p : Tally) → FailsWhere (Ok {E = WriteFault} x ≡ Err write.Write) o p → IsServed o p
+writes_served x o p h = h.served (λ q. absurd (cc q))

@@ -1,7 +1,9 @@
 use Rattle.std.proofs.Common.{false, true}
 use Rattle.std.proofs.lemmas.Result.{IfErr-weaker, on_ok_weaker}
+use Rattle.streams.proofs.Tallies.{uncalled}
 use Rattle.program.proofs.Found.{of_replay}
 use Rattle.program.proofs.Replayed.{replayed}
+use Rattle.program.proofs.Calls.{of_files, told}
 use Rattle.program.proofs.debug.replay.Goals as goal
 
 pub returns-clause-ok : goal.returns-clause-ok
@@ -27,3 +29,11 @@ returns-clause-large g c same =
     c.in_ok-bytes.bytes.items c.as_slice.result.now (g.R.CountedRead.remaining c.args.input.now) (g.W.CountedWrite.contents c.args.out.now)
     (g.W.CountedWrite.contents c.replay_in.new.out) c.in_ok-session.session
     c.as_str.ensures c.in_ok-bytes.ensures.bytes c.as_slice.ensures.value c.in_ok-session.ensures.first.opened c.in_ok-session.ensures.limit (c.replay_in.ensures.large same)
+
+pub returns-in_err-bytes-clause-calls : goal.returns-in_err-bytes-clause-calls
+returns-in_err-bytes-clause-calls g c =
+    told _ _ _ _ _ _ c.from_residual.ensures.1 (of_files _ _ _)
+
+pub returns-in_err-session-clause-calls : goal.returns-in_err-session-clause-calls
+returns-in_err-session-clause-calls g c =
+    told _ _ _ _ _ _ c.from_residual-in_err-session.ensures.1 (uncalled _, uncalled _)

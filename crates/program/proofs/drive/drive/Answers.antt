@@ -9,6 +9,7 @@ use Rattle.program.specs.WorkerReads.{AreOfReads}
 use Rattle.program.proofs.Dealing.{reads_walked}
 use Rattle.program.proofs.Faulting.{err_is}
 use Rattle.program.proofs.Stopping.{could_begin, leaves, leaves_early, of_run}
+use Rattle.program.proofs.Calls.{told, told_behind}
 use Rattle.program.proofs.drive.drive.Goals as goal
 
 -- what follows from what is said of the value in an `Ok`
@@ -66,3 +67,15 @@ write_run-written-requires g c =
     let n : length pieces ≡ c.args.arguments.now.workers = c.in_ok-pieces.ensures.many in
     IfErr-weaker c.drive-run.result _ _ (λ fault left. could_begin fault pieces c.in_ok-session.session left (omega (n, c.requires.some, arith))
     (omega (n, c.requires.few, arith)) (ap (λ x. x.holder) (first.same ∙ first.opened.is))) c.drive-run.ensures.fault
+
+pub returns-in_err-pieces-clause-calls : goal.returns-in_err-pieces-clause-calls
+returns-in_err-pieces-clause-calls g c =
+    told _ _ _ _ _ _ c.from_residual.ensures.1 (c.in_err-pieces.ensures.calls _)
+
+pub returns-in_err-session-clause-calls : goal.returns-in_err-session-clause-calls
+returns-in_err-session-clause-calls g c =
+    told _ _ _ _ _ _ c.from_residual-in_err-session.ensures.1 (c.in_ok-pieces.ensures.calls _)
+
+pub returns-clause-calls : goal.returns-clause-calls
+returns-clause-calls g c =
+    told_behind _ _ _ _ _ (c.in_ok-pieces.ensures.calls (g.W.CountedWrite.tally c.args.out.now)).0 c.write_run-written.ensures.calls
