@@ -1,7 +1,8 @@
 -- The ranges of what a parse gives.
 use Rattle.std.specs.Prelude.{◌≡◌, ◌≤◌, Ok}
-use Rattle.step_record.specs.Config.{config_fault}
-use Rattle.step_record.specs.declared.limits.TheConstants.{MAX_ACCESSES, MAX_BATCH}
+use Rattle.std.specs.List.{AllPass}
+use Rattle.step_record.specs.Config.{config_fault, is_from_one}
+use Rattle.step_record.specs.declared.limits.TheConstants.{MAX_ACCESSES, MAX_BATCH, MAX_CAPACITY}
 use Rattle.step_record.specs.declared.worker.TheConstants.{MAX_WORKERS}
 use Rattle.command_line.specs.declared.arguments.Arguments.{Arguments}
 use Rattle.command_line.specs.declared.arguments.Arguments.TheVariants.{Compare, Debug, Drive, Intervals, Part}
@@ -10,11 +11,16 @@ use Rattle.command_line.specs.declared.arguments.DriveArguments.{DriveArguments}
 use Rattle.command_line.specs.declared.arguments.IntervalsArguments.{IntervalsArguments}
 use Rattle.command_line.specs.declared.arguments.PartArguments.{PartArguments}
 use Rattle.command_line.specs.declared.arguments.RunArguments.{RunArguments}
+use Rattle.command_line.specs.declared.arguments.SweepArguments.{SweepArguments}
 
 pub record IsAcceptedRun (run : RunArguments) : Type 0 where
   pub config : config_fault run.config ≡ Ok tt
   pub some : 1 ≤ run.batch
   pub few : run.batch ≤ MAX_BATCH
+
+pub record IsAcceptedSweep (sweep : SweepArguments) : Type 0 where
+  pub config : config_fault sweep.config ≡ Ok tt
+  pub capacities : AllPass (is_from_one MAX_CAPACITY) sweep.capacities
 
 pub record AreAcceptedIntervals (intervals : IntervalsArguments) : Type 0 where
   pub config : config_fault intervals.config ≡ Ok tt
@@ -33,7 +39,7 @@ pub record IsAcceptedDrive (drive : DriveArguments) : Type 0 where
 -- each configuration is accepted, and each other number is in its range
 abbrev pub AreAccepted : Arguments → Type 0
 AreAccepted (Run run) = IsAcceptedRun run
-AreAccepted (Sweep sweep) = config_fault sweep.config ≡ Ok tt
+AreAccepted (Sweep sweep) = IsAcceptedSweep sweep
 AreAccepted (Intervals intervals) = AreAcceptedIntervals intervals
 AreAccepted (Part part) = IsAcceptedPart part
 AreAccepted (Compare compare) = IsAcceptedPart compare

@@ -3,6 +3,7 @@ ghost use Rattle.std.specs.Prelude.{◌≡◌, Ok, IfOk, IfSome};
 ghost use Rattle.clap.specs.Words.{found_of, rows_of};
 ghost use Rattle.step_record.specs.Config.{config_fault};
 ghost use Rattle.command_line.specs.Accepted.{AreAcceptedIntervals, IsAcceptedDrive, IsAcceptedPart, IsAcceptedRun};
+ghost use Rattle.command_line.specs.Accepted.{IsAcceptedSweep};
 ghost use Rattle.command_line.specs.Values.{concurrent_in, config_at, config_in, debug_in, drive_in, part_in};
 ghost use Rattle.command_line.specs.Values.{intervals_in, replay_in, run_in, sweep_in};
 
@@ -148,7 +149,7 @@ pub(crate) fn sweep_arguments(
     matches: &ArgMatches<'_>,
 ) -> Result<Option<SweepArguments>, AllocError>
     ensures value { IfOk result (λ arguments. arguments ≡ sweep_in (rows_of (found_of matches.now))) }
-    ensures accepted { IfOk result (λ arguments. IfSome arguments (λ sweep. config_fault sweep.config ≡ Ok tt)) }
+    ensures accepted { IfOk result (λ arguments. IfSome arguments IsAcceptedSweep) }
 {
     let Some(config) = config(matches, 1, 1, 1) else {
         return Ok(None);

@@ -1,6 +1,9 @@
 //! The values that the matches of a subcommand have for an option.
 ghost use Rattle.std.specs.Prelude.{◌≡◌, ◌≤◌, IfOk, IfSome, map, option_and_then, option_map};
+ghost use Rattle.std.specs.List.{AllPass};
 ghost use Rattle.clap.specs.Words.{all_of, first_of, found_of, one_of, rows_of};
+ghost use Rattle.step_record.specs.Config.{is_from_one};
+ghost use Rattle.step_record.specs.declared.limits.TheConstants.{MAX_CAPACITY};
 ghost use Rattle.command_line.specs.Choices.{all_named, policy_named as policy_by};
 ghost use Rattle.command_line.specs.Values.{capacities_in, format_in, in_range as within, least_of, most_of};
 ghost use Rattle.command_line.specs.Values.{number_in, number_named as number_by, policies_in, policy_in};
@@ -101,7 +104,8 @@ pub(crate) fn capacities(
     alloc: Global,
     matches: &ArgMatches<'_>,
 ) -> Result<Option<CapacityList>, AllocError>
-    ensures { IfOk result (λ capacities. capacities ≡ capacities_in (rows_of (found_of matches.now))) }
+    ensures accepted { IfOk result (λ capacities. IfSome capacities (AllPass (is_from_one MAX_CAPACITY))) }
+    ensures value { IfOk result (λ capacities. capacities ≡ capacities_in (rows_of (found_of matches.now))) }
 {
     match words(matches, &CAPACITIES) {
         Some(words) => capacities_named(alloc, words),
