@@ -9,4 +9,4 @@ pub returns-in_default-clause-blamed : goal.returns-in_default-clause-blamed
 returns-in_default-clause-blamed g c one input = (OutOfMemory, c.report_fault-in_default.ensures.reported, (uncalled _, uncalled _))
 
 pub returns-clause-blamed : goal.returns-clause-blamed
-returns-clause-blamed g c one input = (Write, c.report_fault-in-Err.ensures.reported, (uncalled _, c.write_all.ensures.tally.failing (rw c.in-Err.is tt)))
+returns-clause-blamed g c one input = (Write, c.report_fault-in-Err.ensures.reported, (uncalled _, c.in-Err.ensures.tally.failing tt))
