@@ -19,13 +19,7 @@ use Rattle.program.specs.declared.fault.Fault.TheVariants as fault
 -- a fault that is found in the bytes of a file
 in_file : (file : Option (List ℕ)) (P : Fault → List ℕ → Type 0) (f : Fault) → ¬ (f ≡ fault.NoFile) → IfSome file (P f) → IsFoundInFile file P f
 in_file file P fault.NoFile n h = absurd (n refl)
-in_file file P fault.OutOfMemory n h = h
-in_file file P fault.Write n h = h
-in_file file P fault.JournalFull n h = h
-in_file file P fault.Actors n h = h
-in_file file P (fault.Trace e) n h = h
-in_file file P (fault.Journal e) n h = h
-in_file file P (fault.Debug e) n h = h
+in_file file P _ n h = h
 
 -- a missing file is nothing that is found in a file
 no_file : (opening : Shell) (limit : ℕ) (commands : Option (List ℕ)) (text : List ℕ) (f : Fault) → IsOfReplayFrom opening limit commands f text → ¬ (f ≡ fault.NoFile)

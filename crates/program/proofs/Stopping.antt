@@ -49,12 +49,7 @@ module _ (config : Config) (workers : ℕ) (format : Format) (input before after
   pub leaves_early : (f : Fault) → IsOfReading f → after ≡ before → Kept → LeavesDrive config workers format f input before after Kept
   leaves_early fault.OutOfMemory h same kept = inl same
   leaves_early (fault.Trace e) h same kept = kept
-  leaves_early fault.Write h same kept = absurd h
-  leaves_early fault.JournalFull h same kept = absurd h
-  leaves_early fault.Actors h same kept = absurd h
-  leaves_early fault.NoFile h same kept = absurd h
-  leaves_early (fault.Journal e) h same kept = absurd h
-  leaves_early (fault.Debug e) h same kept = absurd h
+  leaves_early _ h same kept = absurd h
 
   module _ (pieces : List (List Call)) (session : State) (run : Result Driven DriveFault) (empty : IsEmptySession config session)
       (limit : session.limit ≡ config.journal_limit)
@@ -87,18 +82,10 @@ module _ (config : Config) (workers : ℕ) (format : Format) (input before after
     leaves fault.OutOfMemory (inl same) = inl same
     leaves fault.OutOfMemory (inr h) = inr (stopped cause.Memory h)
     leaves fault.Write h = tt
-    leaves fault.Actors h = absurd h
-    leaves (fault.Trace e) h = absurd h
-    leaves fault.NoFile h = absurd h
-    leaves (fault.Journal e) h = absurd h
-    leaves (fault.Debug e) h = absurd h
+    leaves _ h = absurd h
 
     pub of_run : (f : Fault) → LeavesRun run before after f → IsOfMachine f ⊎ IfSome input (IsFoundIn format (λ g. g ≡ fault.JournalFull) f)
     of_run fault.OutOfMemory h = inl tt
     of_run fault.Write h = inl tt
     of_run fault.JournalFull h = inr (IfSome_then input dealt (λ bytes d. (d.0, refl)))
-    of_run fault.Actors h = absurd h
-    of_run (fault.Trace e) h = absurd h
-    of_run fault.NoFile h = absurd h
-    of_run (fault.Journal e) h = absurd h
-    of_run (fault.Debug e) h = absurd h
+    of_run _ h = absurd h

@@ -10,7 +10,7 @@ ghost use Rattle.program.specs.Outcome.{DoneBy, RefusedBy, is_help};
 ghost use Rattle.program.specs.declared.fault_report.TheConstants.{DONE, FAULT, REFUSED};
 
 use crate::fault::Fault;
-use crate::fault_report::{DONE, FAULT, REFUSED, report_fault, report_line};
+use crate::fault_report::{DONE, report_fault, report_usage_error};
 use crate::files::Files;
 use crate::perform::perform;
 use clap::Error;
@@ -31,7 +31,14 @@ const INCOMPLETE: &[u8] = b"error: a policy or a number is missing\n";
 /// The program, of the words after its name, over an input and two outputs: it returns the
 /// status. `DONE` is 0, `FAULT` 1, with one line on the fault output, and `REFUSED` 2, a usage
 /// error. `debug` and `replay` read a file too; `run`, `sweep`, `part` and `drive` are watched.
-pub fn command<T: Threads + Wait + Sync, R: CountedRead, W: CountedWrite, X: CountedWrite, F: Files, P: Watch>(
+pub fn command<
+    T: Threads + Wait + Sync,
+    R: CountedRead,
+    W: CountedWrite,
+    X: CountedWrite,
+    F: Files,
+    P: Watch,
+>(
     rt: &T,
     alloc: Global,
     words: &[&str],
@@ -74,14 +81,8 @@ pub fn command<T: Threads + Wait + Sync, R: CountedRead, W: CountedWrite, X: Cou
             return report_fault(alloc, Fault::OutOfMemory, fault_out);
         }
         Err(ParseFault::Refused(error)) => return answer(alloc, &error, out, fault_out),
-        Err(ParseFault::Stripes) => {
-            report_line(STRIPES, fault_out);
-            return REFUSED;
-        }
-        Err(ParseFault::Incomplete) => {
-            report_line(INCOMPLETE, fault_out);
-            return REFUSED;
-        }
+        Err(ParseFault::Stripes) => return report_usage_error(STRIPES, fault_out),
+        Err(ParseFault::Incomplete) => return report_usage_error(INCOMPLETE, fault_out),
     };
     let done = perform(rt, alloc, &arguments, input, out, files, watch);
     drop(arguments);
@@ -92,7 +93,12 @@ pub fn command<T: Threads + Wait + Sync, R: CountedRead, W: CountedWrite, X: Cou
 }
 
 // Writes help or the version to the output, and what else clap answers to the fault output.
-fn answer<W: CountedWrite, X: CountedWrite>(alloc: Global, error: &Error, out: &mut W, fault_out: &mut X) -> u8
+fn answer<W: CountedWrite, X: CountedWrite>(
+    alloc: Global,
+    error: &Error,
+    out: &mut W,
+    fault_out: &mut X,
+) -> u8
     ensures status { result ≤ REFUSED }
     ensures done { result ≡ DONE → is_help (kind_of error.now) }
     ensures silent { result ≡ DONE → fault_out.new ≡ fault_out.old }
@@ -112,8 +118,7 @@ fn answer<W: CountedWrite, X: CountedWrite>(alloc: Global, error: &Error, out: &
         return report_fault(alloc, Fault::OutOfMemory, fault_out);
     };
     if error.use_stderr() {
-        report_line(text.as_bytes(), fault_out);
-        return REFUSED;
+        return report_usage_error(text.as_bytes(), fault_out);
     }
     match streams::write_all(out, text.as_bytes()) {
         Ok(()) => DONE,

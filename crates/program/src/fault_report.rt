@@ -2,7 +2,7 @@
 ghost use Rattle.std.specs.Prelude.{◌≡◌};
 ghost use Rattle.streams.specs.Part.{AppendsPart};
 ghost use Rattle.program.specs.FaultLine.{IsReported};
-ghost use Rattle.program.specs.declared.fault_report.TheConstants.{FAULT};
+ghost use Rattle.program.specs.declared.fault_report.TheConstants.{FAULT, REFUSED};
 
 use crate::fault::Fault;
 use std::alloc::Global;
@@ -34,6 +34,14 @@ pub fn report_fault<X: CountedWrite>(alloc: Global, fault: Fault, fault_out: &mu
     }
     report_line(OUT_OF_MEMORY, fault_out);
     FAULT
+}
+
+/// Reports a usage error by its line.
+pub fn report_usage_error<X: CountedWrite>(line: &[u8], fault_out: &mut X) -> u8
+    ensures { result ≡ REFUSED }
+{
+    report_line(line, fault_out);
+    REFUSED
 }
 
 /// Writes a line to the fault output; where that fails too, the status alone reports.

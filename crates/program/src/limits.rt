@@ -4,8 +4,8 @@ ghost use Rattle.std.specs.Prelude.{◌≡◌, [], ◌∷◌};
 ghost use Rattle.step_record.specs.declared.job.Policy.TheVariants.{Clairvoyant, Lru, SegmentedLru, TinyLfuLru};
 ghost use Rattle.step_record.specs.declared.job.Policy.TheVariants.{TinyLfuSegmented, WindowTinyLfu};
 ghost use Rattle.step_record.specs.declared.job.TheConstants.{POLICIES};
+ghost use Rattle.program.specs.declared.fault_report.TheConstants.{DONE, FAULT, REFUSED};
 
-use crate::fault_report::{DONE, FAULT, REFUSED};
 use crate::files::MAX_FILE_BYTES;
 use debug_commands::{MAX_BREAKPOINTS, MAX_COMMAND_BYTES};
 use journal_text::MAX_JOURNAL_BYTES;
@@ -54,11 +54,10 @@ const _: () = prove!(MAX_BREAKPOINTS == 64);
 
 const _: () = prove!(INTERRUPTIONS == 1_000_000);
 
-const _: () = prove!(DONE == 0);
-
-const _: () = prove!(FAULT == 1);
-
-const _: () = prove!(REFUSED == 2);
+// The statuses.
+fn statuses()
+    ensures { (DONE ≡ 0) × (FAULT ≡ 1) × (REFUSED ≡ 2) }
+{}
 
 // Each policy, and none twice.
 fn policies()

@@ -1,5 +1,6 @@
 //! The subcommand `sweep`: a trace to the reports of policies at several capacities.
 ghost use Rattle.std.specs.Prelude.{◌≡◌, ◌≢◌, ◌⊎◌, IfErr, IfOk, IfSome, None, OnOk, Some, true};
+ghost use Rattle.command_line.specs.Accepted.{IsAcceptedSweep};
 ghost use Rattle.sweeps.specs.Sweep.{jobs_over};
 ghost use Rattle.program.specs.CallFaults.{BlamesNoCall, TellsOfCalls};
 ghost use Rattle.program.specs.FaultCauses.{IsFoundIn, IsOfMachine, IsTooMany};
@@ -9,7 +10,7 @@ ghost use Rattle.program.specs.ReportOutput.{Reports};
 use crate::fault::Fault;
 use crate::run::jobs;
 use command_line::SweepArguments;
-use policies::MAX_ACTORS;
+use policies::{ActorFault, MAX_ACTORS};
 use progress::{Watch, Work};
 use report::{Report, write_reports};
 use std::alloc::Global;
@@ -30,6 +31,7 @@ pub fn sweep<T: Threads + Sync, R: CountedRead, W: CountedWrite, P: Watch>(
     out: &mut W,
     watch: &P,
 ) -> Result<(), Fault>
+    requires { IsAcceptedSweep arguments.now }
     ensures ok { OnOk result (Reports arguments.now.format
         (jobs_over (jobs_by_policy arguments.now.config arguments.now.policies) arguments.now.capacities)
         (R.remaining input.old) (W.contents out.old) (W.contents out.new)) }
@@ -54,6 +56,7 @@ fn reports<T: Threads + Sync, P: Watch>(
     arguments: &SweepArguments,
     watch: &P,
 ) -> Result<Vec<Report>, Fault>
+    requires { IsAcceptedSweep arguments.now }
     ensures reports { IfOk result (λ reports. reports.items ≡ reports_on
         (jobs_over (jobs_by_policy arguments.now.config arguments.now.policies) arguments.now.capacities)
         trace.now) }
@@ -71,9 +74,11 @@ fn reports<T: Threads + Sync, P: Watch>(
     });
     let reports = sweep_each(rt, alloc, trace, jobs.as_slice(), capacities, watch);
     watch.end();
-    // A parse gives configurations that are accepted, so the one fault is out of memory.
     match reports {
         Ok(reports) => Ok(reports),
-        Err(_) => Err(Fault::OutOfMemory),
+        Err(fault) => {
+            prove!(fault == ActorFault::OutOfMemory);
+            Err(Fault::OutOfMemory)
+        }
     }
 }
