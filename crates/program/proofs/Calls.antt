@@ -21,6 +21,19 @@ use Rattle.program.specs.declared.files.FileFault.TheVariants as file
 use Rattle.program.specs.declared.fault.Fault.{Fault}
 use Rattle.program.specs.declared.fault.Fault.TheVariants.{Debug, Trace, Write}
 
+-- what the calls beneath say of their reader or writer
+abbrev pub TraceReads : {A : Type 0} → Result A TraceFault → Tally → Tally → Type 0
+TraceReads result old new = FailsWhere (result ≡ Err trace.Read) old new
+
+abbrev pub TextWrites : {A : Type 0} → Result A WriteFault → Tally → Tally → Type 0
+TextWrites result old new = FailsWhere (result ≡ Err write.Write) old new
+
+abbrev pub DialogueReads : {A : Type 0} → Result A DebugFault → Tally → Tally → Type 0
+DialogueReads result old new = FailsWhere (result ≡ Err debug.Read) old new
+
+abbrev pub DialogueWrites : {A : Type 0} → Result A DebugFault → Tally → Tally → Type 0
+DialogueWrites result old new = FailsWhere (result ≡ Err debug.Write) old new
+
 -- an error that is handed on
 pub told : {A : Type 0} (r : Result A Fault) (fault : Fault) (i j o p : Tally) → IsErrAnd r (λ f. f ≡ fault)
     → BlamesCalls fault i j o p → TellsOfCalls r i j o p
@@ -29,7 +42,7 @@ told (Err f) fault i j o p h blames = subst (λ x. BlamesCalls x i j o p) (sym h
 
 -- the fault of a trace, before anything is written
 pub of_trace : {A : Type 0} (fault : TraceFault) (i j o : Tally)
-    → FailsWhere (Err {T = A} fault ≡ Err trace.Read) i j → BlamesCalls (Trace fault) i j o o
+    → TraceReads {A = A} (Err fault) i j → BlamesCalls (Trace fault) i j o o
 of_trace trace.Read i j o h = (h.failing refl, uncalled o)
 of_trace trace.OutOfMemory i j o h = (h.served (λ q. absurd (cc q)), uncalled o)
 of_trace (trace.BadNumber n) i j o h = (h.served (λ q. absurd (cc q)), uncalled o)
@@ -40,7 +53,7 @@ of_trace trace.TooLarge i j o h = (h.served (λ q. absurd (cc q)), uncalled o)
 
 -- that of a trace in memory
 pub of_bytes : {A : Type 0} (fault : TraceFault) (i o : Tally)
-    → FailsWhere (Err {T = A} fault ≡ Err trace.Read) no_calls no_calls → BlamesCalls (Trace fault) i i o o
+    → TraceReads {A = A} (Err fault) no_calls no_calls → BlamesCalls (Trace fault) i i o o
 of_bytes trace.Read i o h = elim (h.failing refl) [ inl q ↦ absurd (cc q) | inr q ↦ absurd (cc q) ]
 of_bytes trace.OutOfMemory i o h = (uncalled i, uncalled o)
 of_bytes (trace.BadNumber n) i o h = (uncalled i, uncalled o)
@@ -51,7 +64,7 @@ of_bytes trace.TooLarge i o h = (uncalled i, uncalled o)
 
 -- the fault of a text that is written behind what was read
 pub of_text : {A : Type 0} (fault : WriteFault) (i j o p : Tally) → IsServed i j
-    → FailsWhere (Err {T = A} fault ≡ Err write.Write) o p → BlamesCalls (of_write fault) i j o p
+    → TextWrites {A = A} (Err fault) o p → BlamesCalls (of_write fault) i j o p
 of_text write.OutOfMemory i j o p read h = (read, h.served (λ q. absurd (cc q)))
 of_text write.Write i j o p read h = (read, h.failing refl)
 
@@ -61,8 +74,8 @@ of_journal journal.OutOfMemory i o = (uncalled i, uncalled o)
 of_journal _ i o = (uncalled i, uncalled o)
 
 -- that of a debugger
-pub of_dialogue : {A : Type 0} (fault : DebugFault) (i j o p : Tally) → FailsWhere (Err {T = A} fault ≡ Err debug.Read) i j
-    → FailsWhere (Err {T = A} fault ≡ Err debug.Write) o p → BlamesCalls (of_debug fault) i j o p
+pub of_dialogue : {A : Type 0} (fault : DebugFault) (i j o p : Tally) → DialogueReads {A = A} (Err fault) i j
+    → DialogueWrites {A = A} (Err fault) o p → BlamesCalls (of_debug fault) i j o p
 of_dialogue debug.Read i j o p reads writes = (reads.failing refl, writes.served (λ q. absurd (cc q)))
 of_dialogue debug.Write i j o p reads writes = (reads.served (λ q. absurd (cc q)), writes.failing refl)
 of_dialogue debug.OutOfMemory i j o p reads writes = (reads.served (λ q. absurd (cc q)), writes.served (λ q. absurd (cc q)))
@@ -102,8 +115,8 @@ of_stop cause.Memory i j o p read written = (read, written)
 of_stop cause.JournalFull i j o p read written = (read, written)
 
 -- one call of a reader or a writer that did not end in its fault
-pub reads_served : {A : Type 0} (x : A) (i j : Tally) → FailsWhere (Ok {E = TraceFault} x ≡ Err trace.Read) i j → IsServed i j
+pub reads_served : {A : Type 0} (x : A) (i j : Tally) → TraceReads (Ok x) i j → IsServed i j
 reads_served x i j h = h.served (λ q. absurd (cc q))
 
-pub writes_served : {A : Type 0} (x : A) (o p : Tally) → FailsWhere (Ok {E = WriteFault} x ≡ Err write.Write) o p → IsServed o p
+pub writes_served : {A : Type 0} (x : A) (o p : Tally) → TextWrites (Ok x) o p → IsServed o p
 writes_served x o p h = h.served (λ q. absurd (cc q))
