@@ -10,7 +10,7 @@ use std::alloc::{AllocError, Global};
 use std::io::{ErrorKind, IsTerminal};
 use std::process::ExitCode;
 use std::{env, fs};
-use streams::ReadAllFault;
+use streams::{CountedReader, CountedWriter, ReadAllFault};
 
 // The line of a word that is no text, which is a usage error.
 const NOT_TEXT: &[u8] = b"error: a word of the call is not UTF-8 text\n";
@@ -28,10 +28,10 @@ impl<'a> Files for HostFiles<'a> {
     ghost known = { λ files path. None };
 
     fn bytes(&self, alloc: Global, path: &str) -> Result<Vec<u8>, FileFault> {
-        let Ok(mut file) = fs::open(self.rt, path) else {
+        let Ok(file) = fs::open(self.rt, path) else {
             return Err(FileFault::NoFile);
         };
-        match streams::read_all(alloc, &mut file, MAX_FILE_BYTES) {
+        match streams::read_all(alloc, &mut CountedReader::new(file), MAX_FILE_BYTES) {
             Ok(bytes) => Ok(bytes),
             Err(ReadAllFault::OutOfMemory) => Err(FileFault::OutOfMemory),
             Err(_) => Err(FileFault::NoFile),
@@ -41,7 +41,7 @@ impl<'a> Files for HostFiles<'a> {
 
 fn main(rt: HostRuntime) -> ExitCode {
     let alloc = rt.alloc();
-    let mut fault_out = rt.stderr();
+    let mut fault_out = CountedWriter::new(rt.stderr());
     // `InvalidData` where a word is no UTF-8 text; the other error is out of memory.
     let words = env::args(&rt).and_then(|args| {
         let words: Vec<String> = args.skip(1).collect(alloc)?;
@@ -62,13 +62,13 @@ fn main(rt: HostRuntime) -> ExitCode {
     let Ok(texts) = texts else {
         return ExitCode::from(report_fault(alloc, Fault::OutOfMemory, &mut fault_out));
     };
-    let line = ProgressLine::new(&rt, fault_out.is_terminal());
+    let line = ProgressLine::new(&rt, fault_out.get_ref().is_terminal());
     let status = command(
         &rt,
         alloc,
         texts.as_slice(),
-        &mut rt.stdin(),
-        &mut rt.stdout(),
+        &mut CountedReader::new(rt.stdin()),
+        &mut CountedWriter::new(rt.stdout()),
         &mut fault_out,
         &HostFiles { rt: &rt },
         &line,

@@ -1,5 +1,5 @@
 //! The reading and answering of commands, a line at a time.
-ghost use Rattle.std.specs.Prelude.{◌≡◌, ◌+◌, ◌-◌, ◌++◌, ℕ, List, [], Ok, Err, IfOk, IfSome, OnOk, length, true, false};
+ghost use Rattle.std.specs.Prelude.{◌≡◌, ◌≢◌, ◌+◌, ◌-◌, ◌++◌, ℕ, List, [], Ok, Err, IfOk, IfSome, OnOk, length, true, false};
 ghost use Rattle.std.specs.Io.KnownBytes.{Consumes, IsAtEnd};
 ghost use Rattle.debug_commands.specs.Answers.{answer_to, position_line, response_to, stop_after, stop_line};
 ghost use Rattle.debug_commands.specs.AnswerText.{IsAnswer};
@@ -8,6 +8,7 @@ ghost use Rattle.debug_commands.specs.InputBytes.{feed, IsTooLarge};
 ghost use Rattle.debug_commands.specs.Timeline.{TimelineData};
 ghost use Rattle.debug_commands.specs.declared.breakpoint.Breakpoint.{Breakpoint};
 ghost use Rattle.debug_commands.specs.declared.command.Command.TheVariants as command;
+ghost use Rattle.streams.specs.Tally.{Exhausts, FailsWhere, Spends};
 ghost use Rattle.text_lines.specs.Feeds.{HasNoFeed};
 
 use crate::breakpoint::{Breakpoint, first_holding};
@@ -16,8 +17,8 @@ use crate::fault::DebugFault;
 use crate::grammar;
 use crate::timeline::Timeline;
 use std::alloc::{AllocError, Global};
-use std::io::{Read, Write};
-use streams::{Patience, flush, read_some, write_some};
+use std::io::Write;
+use streams::{CountedRead, CountedWrite, Patience, flush, read_some, write_some};
 
 /// As many bytes of commands as are read at most, line feeds included: 2^20.
 pub const MAX_COMMAND_BYTES: usize = 1 << 20;
@@ -30,7 +31,7 @@ pub const MAX_BREAKPOINTS: usize = 64;
 ///
 /// Errors: `TooLarge` where a line goes past `MAX_COMMAND_BYTES` bytes of input; the lines before it are answered.
 /// `OutOfMemory`, `Read` and `Write` where an allocation, the input or the output failed; output may be partial then.
-pub fn answer_commands<T: Timeline, R: Read, W: Write>(
+pub fn answer_commands<T: Timeline, R: CountedRead, W: CountedWrite>(
     alloc: Global,
     timeline: &mut T,
     input: &mut R,
@@ -50,6 +51,10 @@ pub fn answer_commands<T: Timeline, R: Read, W: Write>(
     ensures whole { OnOk result (T.IsWhole timeline.new) }
     ensures same { OnOk result (T.timeline timeline.new ≡ T.timeline timeline.old) }
     ensures config { (i : ℕ) → result ≡ Err (DebugFault.Config i) → ⊥ }
+    ensures flushed { OnOk result (W.is_flushed out.new ≡ true) }
+    // `Read` comes just where a read failed or the millionth was interrupted, and `Write` where a write or a flush did.
+    ensures reads { FailsWhere (result ≡ Err DebugFault.Read) (R.tally input.old) (R.tally input.new) }
+    ensures writes { FailsWhere (result ≡ Err DebugFault.Write) (W.tally out.old) (W.tally out.new) }
 {
     let mut breaks = Vec::new(alloc);
     let mut line = Vec::new(alloc);
@@ -77,7 +82,7 @@ pub fn answer_commands<T: Timeline, R: Read, W: Write>(
 // Reads the next line into an empty buffer, without its line feed, and returns whether it had one: the last line may
 // lack it. It reads no byte past the line feed, so that a line is answered before the next one is asked for. `room` is
 // how many bytes may still be read, and falls by those that were.
-fn read_line<R: Read>(
+fn read_line<R: CountedRead>(
     input: &mut R,
     text: &mut Vec<u8>,
     room: &mut usize,
@@ -92,6 +97,11 @@ fn read_line<R: Read>(
     ensures large { result ≡ Err DebugFault.TooLarge
         → IsTooLarge room.old (R.remaining input.old) (R.remaining input.new) }
     ensures config { (i : ℕ) → result ≡ Err (DebugFault.Config i) → ⊥ }
+    ensures unwritten { result ≢ Err DebugFault.Write }
+    ensures spent { result ≢ Err DebugFault.Read
+        → Spends patience.old patience.new (R.tally input.old) (R.tally input.new) }
+    ensures exhausted { result ≡ Err DebugFault.Read
+        → Exhausts patience.old (R.tally input.old) (R.tally input.new) }
 {
     let mut byte = [0u8; 1];
     'bytes: loop {

@@ -6,14 +6,15 @@ ghost use Rattle.step_record.specs.Config.{config_fault};
 ghost use Rattle.debug_policies.specs.ConfigFault.{ReturnsConfig, UntouchedAtConfig};
 ghost use Rattle.debug_policies.specs.TwoPolicies.{access_facts, just_one, left_on_access, policies_timeline};
 ghost use Rattle.debug_policies.specs.TwoPolicies.{IsPartWalk};
+ghost use Rattle.streams.specs.Tally.{FailsWhere};
 
 use crate::divergence::{hits, part, push_part};
 use crate::one_policy::OnePolicy;
 use debug_commands::{DebugFault, Dialect, StepFacts, Timeline, answer_commands};
 use policies::theorems;
 use std::alloc::{AllocError, Global};
-use std::io::{Read, Write};
 use step_record::{Job, Key, Outcome, Trace};
+use streams::{CountedRead, CountedWrite};
 
 /// Reads commands line by line and answers each at once, about two policies over a trace: where they part, and what
 /// they hold after any number of accesses. It ends at `quit` or the end of the input.
@@ -21,7 +22,7 @@ use step_record::{Job, Key, Outcome, Trace};
 /// Errors: `Config` with the index of the first job whose configuration `Config::check` refuses, before anything is
 /// read; `TooLarge` where a line goes past 2^20 bytes of input, with the lines before it answered; `OutOfMemory`,
 /// `Read` and `Write` where an allocation, the input or the output failed, after which output may be partial.
-pub fn run_debug<R: Read, W: Write>(
+pub fn run_debug<R: CountedRead, W: CountedWrite>(
     alloc: Global,
     trace: &Trace,
     first: &Job,
@@ -40,6 +41,10 @@ pub fn run_debug<R: Read, W: Write>(
     // A refused configuration is reported, and no other; nothing is read or written then.
     ensures config { ReturnsConfig (faulty_in (first.now ∷ second.now ∷ [])) result }
     ensures untouched { IfErr result (UntouchedAtConfig (commands.new ≡ commands.old) (out.new ≡ out.old)) }
+    ensures flushed { OnOk result (W.is_flushed out.new ≡ true) }
+    // `Read` comes just where a read failed or the millionth was interrupted, and `Write` where a write or a flush did.
+    ensures reads { FailsWhere (result ≡ Err DebugFault.Read) (R.tally commands.old) (R.tally commands.new) }
+    ensures writes { FailsWhere (result ≡ Err DebugFault.Write) (W.tally out.old) (W.tally out.new) }
 {
     if first.config.check().is_err() {
         return Err(DebugFault::Config { index: 0 });

@@ -3,6 +3,7 @@ ghost use Rattle.std.specs.Prelude.{◌≡◌, ◌++◌, ℕ, Err, IfSome, OnOk,
 ghost use Rattle.debug_commands.specs.Dialogue.{dialogue_of, WritesDialogue};
 ghost use Rattle.journal.specs.Session.{IsMovedTo};
 ghost use Rattle.debug_replay.specs.Replay.{replay_timeline, step_facts, hit_key, is_dropped, left_on_step};
+ghost use Rattle.streams.specs.Tally.{FailsWhere};
 
 use crate::shell_text::push_shell;
 use debug_commands::{DebugFault, Dialect, StepFacts, Timeline, answer_commands};
@@ -10,8 +11,8 @@ use journal::Session;
 use journal_text::write_journal;
 use maintenance::Shell;
 use std::alloc::{AllocError, Global};
-use std::io::{Read, Write};
 use step_record::{Act, Key, Reply};
+use streams::{CountedRead, CountedWrite, CountedWriter};
 
 /// Reads commands line by line and answers each at once, about the session of a concurrent cache: what it holds after
 /// any number of its steps, the undone ones included. It ends at `quit` or the end of the input, and leaves the session
@@ -19,7 +20,7 @@ use step_record::{Act, Key, Reply};
 ///
 /// Errors: `TooLarge` where a line goes past 2^20 bytes of input, with the lines before it answered; `OutOfMemory`,
 /// `Read` and `Write` where an allocation, the input or the output failed, after which output may be partial.
-pub fn run_replay<R: Read, W: Write>(
+pub fn run_replay<R: CountedRead, W: CountedWrite>(
     alloc: Global,
     session: &mut Session<Shell>,
     commands: &mut R,
@@ -39,6 +40,10 @@ pub fn run_replay<R: Read, W: Write>(
     // Whatever comes, the session stands somewhere in its own steps.
     ensures walked { IsMovedTo (length session.new.kept) session.old session.new }
     ensures config { (i : ℕ) → result ≡ Err (DebugFault.Config i) → ⊥ }
+    ensures flushed { OnOk result (W.is_flushed out.new ≡ true) }
+    // `Read` comes just where a read failed or the millionth was interrupted, and `Write` where a write or a flush did.
+    ensures reads { FailsWhere (result ≡ Err DebugFault.Read) (R.tally commands.old) (R.tally commands.new) }
+    ensures writes { FailsWhere (result ≡ Err DebugFault.Write) (W.tally out.old) (W.tally out.new) }
 {
     answer_commands(alloc, &mut Replay { session }, commands, out)
 }
@@ -106,9 +111,9 @@ impl<'a> Timeline for Replay<'a> {
     }
 
     fn own(&self, alloc: Global, text: &mut Vec<u8>) -> Result<(), AllocError> {
-        let mut journal = Vec::new(alloc);
+        let mut journal = CountedWriter::new(Vec::new(alloc));
         match write_journal(alloc, self.session, &mut journal) {
-            Ok(()) => text.extend_from_slice(journal.as_slice()),
+            Ok(()) => text.extend_from_slice(journal.get_ref().as_slice()),
             Err(_) => Err(AllocError),
         }
     }

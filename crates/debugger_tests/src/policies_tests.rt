@@ -7,6 +7,7 @@ use std::alloc::Global;
 use std::process::Abort;
 use std::test::Fail;
 use step_record::{Config, Job, Key, Policy, Spread, Trace};
+use streams::{CountedReader, CountedWriter};
 
 const fn at_two(policy: Policy) -> Job {
     Job {
@@ -53,12 +54,13 @@ fn the_first_access_at_which_just_one_hits(rt: HostRuntime) -> Result<(), Fail> 
 // The answer to commands about the trace 1 1 2 3 1 at capacity 2, with lru as `a` and slru as `b`, through these ends.
 fn answer_through(
     alloc: Global,
-    input: &mut Pipe<'_>,
-    output: &mut Pipe<'_>,
+    input: Pipe<'_>,
+    output: &mut CountedWriter<Pipe<'_>>,
 ) -> Result<Result<(), DebugFault>, Fail> {
     let trace = trace_of(alloc, &[1, 1, 2, 3, 1])?;
     let (lru, segmented) = (at_two(Policy::Lru), at_two(Policy::SegmentedLru));
-    match run_debug(alloc, &trace, &lru, &segmented, input, output) {
+    let mut input = CountedReader::new(input);
+    match run_debug(alloc, &trace, &lru, &segmented, &mut input, output) {
         Err(DebugFault::OutOfMemory) => Err(Fail::from("out of memory")),
         answer => Ok(answer),
     }
@@ -85,11 +87,11 @@ ok
 fault: PastEnd
 fault: Command
 ";
-    let mut input = Pipe::of(rt.alloc(), commands.as_bytes(), ROOM)?;
-    let mut output = Pipe::of(rt.alloc(), b"", ROOM)?;
-    let answer = answer_through(rt.alloc(), &mut input, &mut output)?;
+    let input = Pipe::of(rt.alloc(), commands.as_bytes(), ROOM)?;
+    let mut output = CountedWriter::new(Pipe::of(rt.alloc(), b"", ROOM)?);
+    let answer = answer_through(rt.alloc(), input, &mut output)?;
     assert_equal(&rt, answer, Ok(()));
-    assert_equal(&rt, output.taken.as_slice(), text.as_bytes());
+    assert_equal(&rt, output.get_ref().taken.as_slice(), text.as_bytes());
     Ok(())
 }
 
@@ -124,10 +126,11 @@ fn assert_through(
     let mut output = Pipe::of(alloc, b"", ends.writes)?;
     input.interruptions = ends.interruptions.0;
     output.interruptions = ends.interruptions.1;
-    let answer = answer_through(alloc, &mut input, &mut output)?;
+    let mut output = CountedWriter::new(output);
+    let answer = answer_through(alloc, input, &mut output)?;
     assert_eq!(rt; answer, wanted, "{ends:?}");
-    assert!(rt; ANSWERS.starts_with(output.taken.as_slice()));
-    assert!(rt; answer.is_err() || output.taken.len() == ANSWERS.len());
+    assert!(rt; ANSWERS.starts_with(output.get_ref().taken.as_slice()));
+    assert!(rt; answer.is_err() || output.get_ref().taken.len() == ANSWERS.len());
     Ok(())
 }
 

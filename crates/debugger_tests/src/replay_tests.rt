@@ -9,6 +9,7 @@ use std::alloc::Global;
 use std::process::Abort;
 use std::test::Fail;
 use step_record::{Config, Spread};
+use streams::CountedWriter;
 
 const CONFIG: Config = Config {
     capacity: 8,
@@ -70,9 +71,9 @@ fn assert_answers(
     alloc: Global,
     session: &mut Session<Shell>,
 ) -> Result<(), Fail> {
-    let mut out = Vec::with_capacity(alloc, ROOM)?;
+    let mut out = CountedWriter::new(Vec::with_capacity(alloc, ROOM)?);
     match run_replay(alloc, session, &mut COMMANDS.as_bytes(), &mut out) {
-        Ok(()) => assert_equal(rt, out.as_slice(), ANSWERS.as_bytes()),
+        Ok(()) => assert_equal(rt, out.get_ref().as_slice(), ANSWERS.as_bytes()),
         Err(DebugFault::OutOfMemory) => return Err(Fail::from("out of memory")),
         Err(_) => return Err(Fail::from("a fault")),
     }

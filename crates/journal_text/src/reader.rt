@@ -1,16 +1,17 @@
 //! A session's journal from a reader.
-ghost use Rattle.std.specs.Prelude.{◌≡◌, ◌<◌, [], OnOk, IfErr, IfSome, length};
+ghost use Rattle.std.specs.Prelude.{◌≡◌, ◌<◌, [], Err, OnOk, IfErr, IfSome, length};
 ghost use Rattle.step_record.specs.History.{Entries};
 ghost use Rattle.journal_text.specs.Faults.{Accepts, IsFault, IsRefusedAsLarge, IsUnread};
 ghost use Rattle.journal_text.specs.Journal.{IsJournalText};
 ghost use Rattle.journal.specs.Session.{IsSameSession};
+ghost use Rattle.streams.specs.Tally.{FailsWhere};
 
 use super::JournalFault;
 use super::replay::read_text;
 use journal::Session;
 use std::alloc::Global;
-use std::io::Read;
 use step_record::{Engine, Reply, Step};
+use streams::CountedRead;
 
 /// As many bytes as a journal has at most.
 pub const MAX_JOURNAL_BYTES: usize = 1 << 30;
@@ -22,7 +23,7 @@ pub const MAX_JOURNAL_BYTES: usize = 1 << 30;
 /// session alone, as does `Header`. Any other fault is that of the first line that is wrong, and
 /// the steps of the lines before it are applied; after `FalseReply` the step of its own line is
 /// too, with the reply that it got. After a fault it is not said how much was read.
-pub fn read_journal<R: Read, E: Engine<Step = Step, Reply = Reply>>(
+pub fn read_journal<R: CountedRead, E: Engine<Step = Step, Reply = Reply>>(
     alloc: Global,
     reader: &mut R,
     session: &mut Session<E>,
@@ -46,6 +47,8 @@ pub fn read_journal<R: Read, E: Engine<Step = Step, Reply = Reply>>(
     ensures opening { session.new.opening ≡ session.old.opening }
     ensures limit { session.new.limit ≡ session.old.limit }
     ensures tail { session.new.tail ≡ [] }
+    // `Read` comes just where a read failed, or the millionth was interrupted.
+    ensures tally { FailsWhere (result ≡ Err JournalFault.Read) (R.tally reader.old) (R.tally reader.new) }
 {
     let bytes = streams::read_all(alloc, reader, MAX_JOURNAL_BYTES)?;
     read_text(bytes.as_slice(), session)

@@ -1,5 +1,5 @@
 //! The lines of a journal, whose steps are made one after another.
-ghost use Rattle.std.specs.Prelude.{◌≡◌, ◌≢◌, ◌≤◌, ◌<◌, ◌+◌, ◌++◌, ℕ, List, [], IfErr, OnOk, MatchOption, length};
+ghost use Rattle.std.specs.Prelude.{◌≡◌, ◌≢◌, ◌≤◌, ◌<◌, ◌+◌, ◌++◌, ℕ, List, [], Err, IfErr, OnOk, MatchOption, length};
 ghost use Rattle.journal_text.specs.Faults.{IsFault, IsUnread, KeepsSession};
 ghost use Rattle.text_lines.specs.Feeds.{HasNoFeed};
 ghost use Rattle.journal_text.specs.Journal.{ended_line, header, IsTextOf};
@@ -25,6 +25,7 @@ pub fn read_text<E: Engine<Step = Step, Reply = Reply>>(
     ensures err { IfErr result (λ f.
         IsFault E.act session.old.opening session.old.limit f bytes.now session.new.kept) }
     ensures unread { IfErr result (λ f. IsUnread f → IsSameSession E.seen session.old session.new) }
+    ensures unfailed { result ≢ Err JournalFault.Read }
     ensures session { KeepsSession E.act session.old session.new }
 {
     match header_of(bytes) {

@@ -1,9 +1,10 @@
 //! A session's journal to a writer.
-ghost use Rattle.std.specs.Prelude.{◌≡◌, ◌≤◌, ◌+◌, Err, OnOk, [], vec_len, vec_capacity};
+ghost use Rattle.std.specs.Prelude.{◌≡◌, ◌≤◌, ◌+◌, Err, OnOk, OnErr, [], true, vec_len, vec_capacity};
 ghost use Rattle.std.specs.Io.KnownBytes.{append_known, Appends, Keeps};
 ghost use Rattle.step_record.specs.Answers.{AnswersItsActs};
 ghost use Rattle.journal_text.specs.Journal.{begun, journal_of, AreLines};
 ghost use Rattle.journal_text.specs.TextBuffer.{AreFit, IsTextWritten};
+ghost use Rattle.streams.specs.Tally.{Exhausts, FailsWhere, Spends};
 ghost use Rattle.journal_text.specs.declared.line_text.TheConstants.{MAX_LINE};
 ghost use Rattle.journal_text.specs.declared.writer.TheConstants.{BUFFER};
 ghost use Rattle.journal_text.specs.declared.version.Version.TheVariants.{Two};
@@ -12,9 +13,8 @@ use super::WriteFault;
 use super::line_text::{MAX_LINE, push_bytes, push_count_line, push_entry_line};
 use journal::Session;
 use std::alloc::Global;
-use std::io::Write;
 use step_record::{Engine, Reply, Step};
-use streams::{Patience, WriteAllFault, flush, write_some};
+use streams::{CountedWrite, Patience, WriteAllFault, flush, write_some};
 
 // How many bytes are gathered before they are written.
 const BUFFER: usize = 65_536;
@@ -22,7 +22,7 @@ const BUFFER: usize = 65_536;
 /// Writes the journal of the applied steps, in version 2, and flushes. The undone steps are not in
 /// it. The text goes through a buffer, whose memory is taken before the first write: `OutOfMemory`
 /// has written nothing, and after `Write` output may be partial.
-pub fn write_journal<E: Engine<Step = Step, Reply = Reply>, W: Write>(
+pub fn write_journal<E: Engine<Step = Step, Reply = Reply>, W: CountedWrite>(
     alloc: Global,
     session: &Session<E>,
     writer: &mut W,
@@ -33,6 +33,9 @@ pub fn write_journal<E: Engine<Step = Step, Reply = Reply>, W: Write>(
     ensures lines { OnOk result (AnswersItsActs E.act → AreLines Two session.now.kept) }
     // Out of memory, nothing was written.
     ensures out_of_memory { result ≡ Err WriteFault.OutOfMemory → W.contents writer.new ≡ W.contents writer.old }
+    ensures flushed { OnOk result (W.is_flushed writer.new ≡ true) }
+    // `Write` comes just where a write or the flush failed, or the millionth was interrupted.
+    ensures tally { FailsWhere (result ≡ Err WriteFault.Write) (W.tally writer.old) (W.tally writer.new) }
 {
     let mut text = Vec::with_capacity(alloc, BUFFER)?;
     let mut patience = Patience::new();
@@ -45,7 +48,7 @@ pub fn write_journal<E: Engine<Step = Step, Reply = Reply>, W: Write>(
 }
 
 // Writes the header and the lines of the entries; the last of them may wait in the buffer.
-fn write_entries<E: Engine<Step = Step, Reply = Reply>, W: Write>(
+fn write_entries<E: Engine<Step = Step, Reply = Reply>, W: CountedWrite>(
     session: &Session<E>,
     writer: &mut W,
     text: &mut Vec<u8>,
@@ -57,6 +60,8 @@ fn write_entries<E: Engine<Step = Step, Reply = Reply>, W: Write>(
         (begun Two session.now.kept)) }
     ensures room { OnOk result (BUFFER ≤ vec_capacity text.new) }
     ensures fit { OnOk result (AreFit session.now.kept) }
+    ensures spent { OnOk result (Spends patience.old patience.new (W.tally writer.old) (W.tally writer.new)) }
+    ensures exhausted { OnErr result (Exhausts patience.old (W.tally writer.old) (W.tally writer.new)) }
 {
     push_bytes(text, b"cachesim journal 2\n");
     for n in 0..session.len() {
@@ -70,7 +75,7 @@ fn write_entries<E: Engine<Step = Step, Reply = Reply>, W: Write>(
 }
 
 // Writes the buffer, where it has no room for a line more.
-fn make_room_for_line<W: Write>(
+fn make_room_for_line<W: CountedWrite>(
     writer: &mut W,
     text: &mut Vec<u8>,
     patience: &mut Patience,
@@ -80,6 +85,8 @@ fn make_room_for_line<W: Write>(
     ensures capacity { OnOk result (BUFFER ≤ vec_capacity text.new) }
     ensures written { OnOk result (Keeps (append_known (W.contents writer.old) text.old.items)
         (append_known (W.contents writer.new) text.new.items)) }
+    ensures spent { OnOk result (Spends patience.old patience.new (W.tally writer.old) (W.tally writer.new)) }
+    ensures exhausted { OnErr result (Exhausts patience.old (W.tally writer.old) (W.tally writer.new)) }
 {
     if text.len() > BUFFER - MAX_LINE {
         write_some(writer, text.as_slice(), patience)?;

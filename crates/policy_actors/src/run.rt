@@ -1,5 +1,5 @@
 //! Each job on a thread of its own.
-ghost use Rattle.std.specs.Prelude.{◌≡◌, ◌<◌, ◌≤◌, ℕ, List, length, map, Ok, None, Some, IfOk, IfSome, MatchResult};
+ghost use Rattle.std.specs.Prelude.{◌≡◌, ◌<◌, ◌≤◌, ℕ, List, length, map, Ok, Err, None, Some, IfOk, IfSome, MatchResult};
 ghost use denote.Param.Send.{IsSync};
 ghost use Rattle.step_record.specs.Config.{config_fault};
 ghost use Rattle.policies.specs.declared.job_checks.TheConstants.{MAX_ACTORS};
@@ -8,6 +8,7 @@ ghost use Rattle.policy_actors.specs.Faults.{actor_fault};
 ghost use Rattle.policy_actors.specs.ReadRun.{IsReadTo};
 ghost use Rattle.policies.specs.FaultyJobs.{faulty_in, ReturnsFault};
 ghost use Rattle.policies.specs.Reports.{report_on};
+ghost use Rattle.streams.specs.Tally.{FailsWhere};
 ghost use Rattle.trace_read.specs.TraceText.{keys_in};
 
 use crate::actor::act;
@@ -17,13 +18,13 @@ use crate::mail::channel;
 use crate::source::{AccessSource, ReaderSource, TraceSource};
 use policies::{ActorFault, MAX_ACTORS, Report, check_jobs};
 use std::alloc::{AllocError, Global};
-use std::io::Read;
 use std::marker::{Brand, PhantomData};
 use std::sync::Wait;
 use std::sync::atomic::AtomicU64;
 use std::thread;
 use std::thread::{Promise, Threads};
 use step_record::{Gate, Job, MAX_BATCH, Trace};
+use streams::CountedRead;
 use trace_read::{Format, TraceFault};
 
 /// The reports of the jobs over the trace, in the order of the jobs. Each job is an actor on a thread of its own, fed
@@ -62,7 +63,7 @@ pub fn run_actors<R: Threads + Wait + Sync, G: Gate>(
 ///
 /// Errors: those of `read_trace`, and `OutOfMemory` also where the actors are out of memory. An actor that is fed no
 /// last batch has no report.
-pub fn run_reading<T: Threads + Wait + Sync, R: Read, G: Gate>(
+pub fn run_reading<T: Threads + Wait + Sync, R: CountedRead, G: Gate>(
     rt: &T,
     alloc: Global,
     reader: &mut R,
@@ -75,6 +76,8 @@ pub fn run_reading<T: Threads + Wait + Sync, R: Read, G: Gate>(
     ensures reports { IfOk result (λ v. IfSome (R.remaining reader.old)
         (λ bytes. v.items ≡ map (λ j. report_on j (keys_in format bytes)) jobs.now)) }
     ensures read { IsReadTo format (R.remaining reader.old) (R.remaining reader.new) result }
+    // `Read` comes just where a read failed, or the millionth was interrupted.
+    ensures tally { FailsWhere (result ≡ Err TraceFault.Read) (R.tally reader.old) (R.tally reader.new) }
 {
     let finished = AtomicU64::new(0);
     let source = ReaderSource { reader, format };

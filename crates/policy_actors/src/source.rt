@@ -6,9 +6,9 @@ ghost use Rattle.policy_actors.specs.ReadRun.{IsReadTo};
 use crate::feeder::Feeder;
 use crate::lump::FedTrace;
 use std::alloc::AllocError;
-use std::io::Read;
 use std::sync::Wait;
 use step_record::{MAX_ACCESSES, Trace};
+use streams::CountedRead;
 use trace_read::{Follower, Format, TraceFault, read_followed};
 
 // How many accesses of a trace that is there the feeder gets at a time.
@@ -92,17 +92,18 @@ pub struct ReaderSource<'r, R> {
     pub format: Format,
 }
 
-impl<'r, R: Read> AccessSource for ReaderSource<'r, R> {
+impl<'r, R: CountedRead> AccessSource for ReaderSource<'r, R> {
     type Outcome = (&'r mut R, Result<(), TraceFault>);
 
     ghost use Rattle.std.specs.Prelude.{◌≡◌};
     ghost use Rattle.trace_read.specs.TraceText.{AreOfFile};
-    ghost use Rattle.policy_actors.specs.ReadRun.{IsReadTo};
+    ghost use Rattle.policy_actors.specs.ReadRun.{FailsAsRead, IsReadTo};
 
     ghost gives = { λ s known. AreOfFile s.format (R.remaining s.reader.now) known };
 
     ghost becomes = { λ s o. (o.0.ghost_name ≡ s.reader.ghost_name)
-        × IsReadTo s.format (R.remaining s.reader.now) (R.remaining o.0.now) o.1 };
+        × IsReadTo s.format (R.remaining s.reader.now) (R.remaining o.0.now) o.1
+        × FailsAsRead o.1 (R.tally s.reader.now) (R.tally o.0.now) };
 
     fn most(&self) -> usize {
         MAX_ACCESSES

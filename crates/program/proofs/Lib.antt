@@ -5,3 +5,4 @@ pub mod TooLarge
 pub mod Found
 pub mod Stopping
 pub mod Accepting
+pub mod Calls

@@ -9,3 +9,4 @@ pub mod IntervalsOutput
 pub mod PartOutput
 pub mod ReportOutput
 pub mod WorkerReads
+pub mod CallFaults

@@ -1,6 +1,9 @@
 //! The whole program, over readers and writers.
-ghost use Rattle.std.specs.Prelude.{◌≡◌, ◌≢◌, ◌≤◌, ◌⊎◌, map};
+ghost use Rattle.std.specs.Prelude.{◌≡◌, ◌≢◌, ◌≤◌, ◌⊎◌, map, true};
 ghost use Rattle.clap.specs.Words.{kind_of};
+ghost use Rattle.streams.specs.Tally.{IsServed};
+ghost use Rattle.streams.specs.declared.tally.Tally.{Tally};
+ghost use Rattle.program.specs.CallFaults.{AreServed, ReportsCalls};
 ghost use Rattle.program.specs.FaultLine.{IsReported};
 ghost use Rattle.program.specs.FaultCauses.{EndsInFault};
 ghost use Rattle.program.specs.Outcome.{DoneBy, RefusedBy, is_help};
@@ -15,9 +18,9 @@ use clap::error::ErrorKind;
 use command_line::ParseFault;
 use progress::Watch;
 use std::alloc::Global;
-use std::io::{Read, Write};
 use std::sync::Wait;
 use std::thread::Threads;
+use streams::{CountedRead, CountedWrite};
 
 // The line of a number of read buffers that no cache has, which is a usage error.
 const STRIPES: &[u8] = b"fault: Stripes\n";
@@ -28,7 +31,14 @@ const INCOMPLETE: &[u8] = b"error: a policy or a number is missing\n";
 /// The program, of the words after its name, over an input and two outputs: it returns the
 /// status. `DONE` is 0, `FAULT` 1, with one line on the fault output, and `REFUSED` 2, a usage
 /// error. `debug` and `replay` read a file too; `run`, `sweep`, `part` and `drive` are watched.
-pub fn command<T: Threads + Wait + Sync, R: Read, W: Write, X: Write, F: Files, P: Watch>(
+pub fn command<
+    T: Threads + Wait + Sync,
+    R: CountedRead,
+    W: CountedWrite,
+    X: CountedWrite,
+    F: Files,
+    P: Watch,
+>(
     rt: &T,
     alloc: Global,
     words: &[&str],
@@ -55,6 +65,12 @@ pub fn command<T: Threads + Wait + Sync, R: Read, W: Write, X: Write, F: Files, 
     ensures faulted { result ≡ FAULT → EndsInFault (map (λ s. s.now) words.now) (F.known files.now)
         (R.remaining input.old) (W.contents out.old) (W.contents out.new) (X.contents fault_out.old)
         (X.contents fault_out.new) (out.new ≡ out.old) }
+    // With status 0 no call of the input or the output failed, and the output is flushed; with status 1 one failed just
+    // where the fault says so.
+    ensures served { result ≡ DONE → AreServed (R.tally input.old) (R.tally input.new) (W.tally out.old)
+        (W.tally out.new) × (W.is_flushed out.new ≡ true) }
+    ensures blamed { result ≡ FAULT → ReportsCalls (X.contents fault_out.old) (X.contents fault_out.new)
+        (R.tally input.old) (R.tally input.new) (W.tally out.old) (W.tally out.new) }
     // A usage error comes only where it is due, before anything is read or written.
     ensures refused { result ≡ REFUSED → RefusedBy (map (λ s. s.now) words.now)
         × (input.new ≡ input.old) × (out.new ≡ out.old) }
@@ -77,13 +93,21 @@ pub fn command<T: Threads + Wait + Sync, R: Read, W: Write, X: Write, F: Files, 
 }
 
 // Writes help or the version to the output, and what else clap answers to the fault output.
-fn answer<W: Write, X: Write>(alloc: Global, error: &Error, out: &mut W, fault_out: &mut X) -> u8
+fn answer<W: CountedWrite, X: CountedWrite>(
+    alloc: Global,
+    error: &Error,
+    out: &mut W,
+    fault_out: &mut X,
+) -> u8
     ensures status { result ≤ REFUSED }
     ensures done { result ≡ DONE → is_help (kind_of error.now) }
     ensures silent { result ≡ DONE → fault_out.new ≡ fault_out.old }
     ensures faulted { result ≡ FAULT
         → (IsReported Fault.OutOfMemory (X.contents fault_out.old) (X.contents fault_out.new) × (out.new ≡ out.old))
         ⊎ (IsReported Fault.Write (X.contents fault_out.old) (X.contents fault_out.new) × is_help (kind_of error.now)) }
+    ensures served { result ≡ DONE → IsServed (W.tally out.old) (W.tally out.new) × (W.is_flushed out.new ≡ true) }
+    ensures blamed { result ≡ FAULT → (input : Tally) → ReportsCalls (X.contents fault_out.old)
+        (X.contents fault_out.new) input input (W.tally out.old) (W.tally out.new) }
     ensures refused { result ≡ REFUSED → (¬ is_help (kind_of error.now))
         × (kind_of error.now ≢ ErrorKind.OutOfMemory) × (out.new ≡ out.old) }
 {

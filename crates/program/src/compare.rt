@@ -1,5 +1,6 @@
 //! The subcommand `compare`: a trace to how often two policies hit at the same accesses.
-ghost use Rattle.std.specs.Prelude.{◌≡◌, ◌≢◌, ◌⊎◌, IfErr, IfSome, OnOk};
+ghost use Rattle.std.specs.Prelude.{◌≡◌, ◌≢◌, ◌⊎◌, IfErr, IfSome, OnOk, true};
+ghost use Rattle.program.specs.CallFaults.{TellsOfCalls};
 ghost use Rattle.program.specs.FaultCauses.{IsFoundIn, IsOfMachine};
 ghost use Rattle.program.specs.PartOutput.{Comparing};
 
@@ -7,12 +8,12 @@ use crate::fault::Fault;
 use command_line::PartArguments;
 use debug_policies::push_comparison;
 use std::alloc::Global;
-use std::io::{Read, Write};
+use streams::{CountedRead, CountedWrite};
 use trace_read::read_trace;
 
 /// Reads the trace and writes a header and a row: at how many accesses both of the two policies hit, only one of them,
 /// and neither. A fault has written nothing, but for `Write`, after which the output may be partial.
-pub fn compare<R: Read, W: Write>(
+pub fn compare<R: CountedRead, W: CountedWrite>(
     alloc: Global,
     arguments: &PartArguments,
     input: &mut R,
@@ -24,6 +25,8 @@ pub fn compare<R: Read, W: Write>(
     // The fault is one of the machine, or that of the trace.
     ensures fault { IfErr result (λ fault. IsOfMachine fault ⊎ IfSome (R.remaining input.old)
         (IsFoundIn arguments.now.format (λ f. ⊥) fault)) }
+    ensures calls { TellsOfCalls result (R.tally input.old) (R.tally input.new) (W.tally out.old) (W.tally out.new) }
+    ensures flushed { OnOk result (W.is_flushed out.new ≡ true) }
 {
     let trace = read_trace(alloc, input, arguments.format)?;
     // A parse gives configurations that are accepted, so the one fault is out of memory.

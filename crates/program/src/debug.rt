@@ -2,6 +2,7 @@
 ghost use Rattle.std.specs.Prelude.{◌≡◌, ◌⊎◌, true, false, [], IfErr, Ok, Err, OnOk};
 ghost use Rattle.command_line.specs.Accepted.{IsAcceptedPart};
 ghost use Rattle.step_record.specs.Config.{config_fault};
+ghost use Rattle.program.specs.CallFaults.{TellsOfCalls};
 ghost use Rattle.program.specs.DebugOutput.{Debugging, IsReplayedFrom, Replaying};
 ghost use Rattle.program.specs.FaultCauses.{IsBeforeOutput, IsFoundIn, IsFoundInFile, IsOfCommands, IsOfMachine};
 ghost use Rattle.program.specs.FaultCauses.{IsOfReplay, IsOfReplayFrom};
@@ -17,12 +18,12 @@ use journal::Session;
 use journal_text::read_journal;
 use maintenance::Shell;
 use std::alloc::Global;
-use std::io::{Read, Write};
+use streams::{CountedRead, CountedWrite};
 use trace_read::read_trace;
 
 /// Reads the trace of the file, and answers the commands of the input about the two policies over
 /// it, each at once.
-pub fn debug<R: Read, W: Write, F: Files>(
+pub fn debug<R: CountedRead, W: CountedWrite, F: Files>(
     alloc: Global,
     arguments: &DebugArguments,
     input: &mut R,
@@ -42,6 +43,8 @@ pub fn debug<R: Read, W: Write, F: Files>(
     ensures fault { IfErr result (λ fault. IsOfMachine fault
         ⊎ IsFoundInFile (F.known files.now arguments.now.trace)
         (IsFoundIn arguments.now.policies.format (IsOfCommands (R.remaining input.old))) fault) }
+    ensures calls { TellsOfCalls result (R.tally input.old) (R.tally input.new) (W.tally out.old) (W.tally out.new) }
+    ensures flushed { OnOk result (W.is_flushed out.new ≡ true) }
 {
     let bytes = files.bytes(alloc, arguments.trace.as_str())?;
     let policies = &arguments.policies;
@@ -52,7 +55,7 @@ pub fn debug<R: Read, W: Write, F: Files>(
 
 /// Reads the journal of the file into a session of an empty cache, and answers the commands of the
 /// input about it, each at once.
-pub fn replay<R: Read, W: Write, F: Files>(
+pub fn replay<R: CountedRead, W: CountedWrite, F: Files>(
     alloc: Global,
     arguments: &ReplayArguments,
     input: &mut R,
@@ -69,6 +72,8 @@ pub fn replay<R: Read, W: Write, F: Files>(
     ensures fault { IfErr result (λ fault. IsOfMachine fault
         ⊎ IsFoundInFile (F.known files.now arguments.now.journal)
         (IsOfReplay arguments.now.config (R.remaining input.old)) fault) }
+    ensures calls { TellsOfCalls result (R.tally input.old) (R.tally input.new) (W.tally out.old) (W.tally out.new) }
+    ensures flushed { OnOk result (W.is_flushed out.new ≡ true) }
 {
     let bytes = files.bytes(alloc, arguments.journal.as_str())?;
     let mut session = open(alloc, &arguments.config)?;
@@ -76,7 +81,7 @@ pub fn replay<R: Read, W: Write, F: Files>(
 }
 
 // Reads the journal into a session of no step, and answers the commands of the input about it.
-fn replay_in<R: Read, W: Write>(
+fn replay_in<R: CountedRead, W: CountedWrite>(
     alloc: Global,
     session: &mut Session<Shell>,
     mut journal: &[u8],
@@ -92,6 +97,8 @@ fn replay_in<R: Read, W: Write>(
         session.old.limit journal.entry.now (R.remaining input.old) (W.contents out.old) (W.contents out.new) }
     ensures fault { IfErr result (λ fault. IsOfMachine fault
         ⊎ IsOfReplayFrom session.old.opening session.old.limit (R.remaining input.old) fault journal.entry.now) }
+    ensures calls { TellsOfCalls result (R.tally input.old) (R.tally input.new) (W.tally out.old) (W.tally out.new) }
+    ensures flushed { OnOk result (W.is_flushed out.new ≡ true) }
 {
     read_journal(alloc, &mut journal, session)?;
     run_replay(alloc, session, input, out)?;

@@ -1,5 +1,5 @@
 //! The subcommand `drive`: a trace to the journal of workers on threads.
-ghost use Rattle.std.specs.Prelude.{◌≡◌, ◌≤◌, ◌⊎◌, ℕ, Ok, [], IfErr, IfOk, IfSome, IsOkAnd, None, OnOk, get_or, length};
+ghost use Rattle.std.specs.Prelude.{◌≡◌, ◌≤◌, ◌⊎◌, ℕ, Ok, [], IfErr, IfOk, IfSome, IsOkAnd, None, OnOk, get_or, length, true};
 ghost use Rattle.std.specs.Prelude.{map};
 ghost use Rattle.std.specs.Io.KnownBytes.{Appends};
 ghost use Rattle.step_record.specs.Config.{config_fault};
@@ -7,6 +7,7 @@ ghost use Rattle.step_record.specs.declared.worker.TheConstants.{MAX_WORKERS};
 ghost use Rattle.trace_read.specs.TraceText.{fault_in, keys_in};
 ghost use Rattle.journal_text.specs.Journal.{journal_of};
 ghost use Rattle.journal_text.specs.declared.version.Version.TheVariants.{Two};
+ghost use Rattle.program.specs.CallFaults.{TellsOfCalls, TellsOfReads, TellsOfWrites};
 ghost use Rattle.program.specs.WorkerReads.{IsDealt};
 ghost use Rattle.program.specs.DriveOutput.{IsDriven, IsEmptySession, IsOfReading, IsOfRun, LeavesDrive, LeavesRun};
 ghost use Rattle.program.specs.FaultCauses.{IsFoundIn, IsOfMachine};
@@ -18,10 +19,10 @@ use journal_text::write_journal;
 use maintenance::Shell;
 use progress::{Watch, Work};
 use std::alloc::{AllocError, Global};
-use std::io::{Read, Write};
 use std::sync::Wait;
 use std::thread::Threads;
 use step_record::{Call, Config, Key};
+use streams::{CountedRead, CountedWrite};
 use trace_read::{Format, read_trace};
 use workers::{DriveFault, Driven};
 
@@ -39,7 +40,7 @@ pub fn open(alloc: Global, config: &Config) -> Result<Session<Shell>, AllocError
 /// Reads the trace, lets the workers read its keys in a concurrent cache, each on a thread of its
 /// own, and writes the journal of their steps. Where a worker was refused a step, the journal is
 /// written too, and the fault is the cause. Any other fault but `Write` has written nothing.
-pub fn drive<T: Threads + Wait + Sync, R: Read, W: Write, P: Watch>(
+pub fn drive<T: Threads + Wait + Sync, R: CountedRead, W: CountedWrite, P: Watch>(
     rt: &T,
     alloc: Global,
     arguments: &DriveArguments,
@@ -58,6 +59,8 @@ pub fn drive<T: Threads + Wait + Sync, R: Read, W: Write, P: Watch>(
     // The fault is one of the machine, or that of the trace, or else that the journal was full.
     ensures fault { IfErr result (λ fault. IsOfMachine fault ⊎ IfSome (R.remaining input.old)
         (IsFoundIn arguments.now.format (λ f. f ≡ Fault.JournalFull) fault)) }
+    ensures calls { TellsOfCalls result (R.tally input.old) (R.tally input.new) (W.tally out.old) (W.tally out.new) }
+    ensures flushed { OnOk result (W.is_flushed out.new ≡ true) }
 {
     let pieces = pieces_of(alloc, input, arguments.format, arguments.workers)?;
     let session = open(alloc, &arguments.config)?;
@@ -106,7 +109,7 @@ fn deal(alloc: Global, keys: &[Key], workers: u8) -> Result<Vec<Vec<Call>>, Allo
 }
 
 // The calls of each worker for the accesses of the trace.
-fn pieces_of<R: Read>(
+fn pieces_of<R: CountedRead>(
     alloc: Global,
     input: &mut R,
     format: Format,
@@ -119,6 +122,7 @@ fn pieces_of<R: Read>(
     ensures fault { IfErr result (λ fault. IsOfMachine fault
         ⊎ IfSome (R.remaining input.old) (IsFoundIn format (λ f. f ≡ Fault.JournalFull) fault)) }
     ensures reading { IfErr result IsOfReading }
+    ensures calls { TellsOfReads result (R.tally input.old) (R.tally input.new) }
 {
     let trace = read_trace(alloc, input, format)?;
     let pieces = deal(alloc, trace.keys(), workers)?;
@@ -126,7 +130,7 @@ fn pieces_of<R: Read>(
 }
 
 // Writes the journal of a run, also of one that was stopped, and reports why it did not make all walks.
-fn write_run<W: Write>(
+fn write_run<W: CountedWrite>(
     alloc: Global,
     run: &Result<Driven, DriveFault>,
     out: &mut W,
@@ -136,6 +140,8 @@ fn write_run<W: Write>(
     ensures few { OnOk result (IsOkAnd run.now (λ driven. length driven.session.kept ≤ driven.session.limit)) }
     ensures written { OnOk result (IsOkAnd run.now (λ driven.
         Appends (W.contents out.old) (W.contents out.new) (journal_of Two driven.session.kept))) }
+    ensures calls { TellsOfWrites result (W.tally out.old) (W.tally out.new) }
+    ensures flushed { OnOk result (W.is_flushed out.new ≡ true) }
 {
     match run {
         Ok(driven) => {

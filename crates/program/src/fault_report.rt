@@ -6,7 +6,7 @@ ghost use Rattle.program.specs.declared.fault_report.TheConstants.{FAULT, REFUSE
 
 use crate::fault::Fault;
 use std::alloc::Global;
-use std::io::Write;
+use streams::CountedWrite;
 
 /// The program did what it was asked to.
 pub const DONE: u8 = 0;
@@ -22,7 +22,7 @@ const OUT_OF_MEMORY: &[u8] = b"fault: OutOfMemory\n";
 
 /// Reports a fault by its line. That of a failed allocation takes no memory, and stands for a line for which there was
 /// none.
-pub fn report_fault<X: Write>(alloc: Global, fault: Fault, fault_out: &mut X) -> u8
+pub fn report_fault<X: CountedWrite>(alloc: Global, fault: Fault, fault_out: &mut X) -> u8
     ensures status { result ≡ FAULT }
     ensures reported { IsReported fault (X.contents fault_out.old) (X.contents fault_out.new) }
 {
@@ -37,7 +37,7 @@ pub fn report_fault<X: Write>(alloc: Global, fault: Fault, fault_out: &mut X) ->
 }
 
 /// Reports a usage error by its line.
-pub fn report_usage_error<X: Write>(line: &[u8], fault_out: &mut X) -> u8
+pub fn report_usage_error<X: CountedWrite>(line: &[u8], fault_out: &mut X) -> u8
     ensures { result ≡ REFUSED }
 {
     report_line(line, fault_out);
@@ -45,7 +45,7 @@ pub fn report_usage_error<X: Write>(line: &[u8], fault_out: &mut X) -> u8
 }
 
 /// Writes a line to the fault output; where that fails too, the status alone reports.
-pub fn report_line<X: Write>(line: &[u8], fault_out: &mut X)
+pub fn report_line<X: CountedWrite>(line: &[u8], fault_out: &mut X)
     ensures { AppendsPart (X.contents fault_out.old) (X.contents fault_out.new) line.now }
 {
     let _ = streams::write_all(fault_out, line);

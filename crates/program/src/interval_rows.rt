@@ -1,6 +1,7 @@
 //! The subcommand `intervals`: a trace to what policies make of each interval of it.
-ghost use Rattle.std.specs.Prelude.{◌≡◌, ◌≢◌, ◌⊎◌, IfErr, IfOk, IfSome, OnOk};
+ghost use Rattle.std.specs.Prelude.{◌≡◌, ◌≢◌, ◌⊎◌, IfErr, IfOk, IfSome, OnOk, true};
 ghost use Rattle.command_line.specs.Accepted.{AreAcceptedIntervals};
+ghost use Rattle.program.specs.CallFaults.{BlamesNoCall, TellsOfCalls};
 ghost use Rattle.program.specs.FaultCauses.{IsFoundIn, IsOfMachine, IsTooMany};
 ghost use Rattle.program.specs.IntervalsOutput.{IntervalRows, rows_on};
 ghost use Rattle.program.specs.Jobs.{jobs_by_policy};
@@ -11,15 +12,15 @@ use command_line::IntervalsArguments;
 use policies::MAX_ACTORS;
 use report::{Interval, write_intervals};
 use std::alloc::Global;
-use std::io::{Read, Write};
 use std::thread::Threads;
 use step_record::Trace;
+use streams::{CountedRead, CountedWrite};
 use trace_read::read_trace;
 
 /// Reads the trace and writes the rows of the policies that the arguments name, one for each interval: all of the first
 /// policy, then those of the second, and so on. A fault has written nothing, but for `Write`, after which the output may
 /// be partial.
-pub fn intervals<T: Threads + Sync, R: Read, W: Write>(
+pub fn intervals<T: Threads + Sync, R: CountedRead, W: CountedWrite>(
     rt: &T,
     alloc: Global,
     arguments: &IntervalsArguments,
@@ -34,6 +35,8 @@ pub fn intervals<T: Threads + Sync, R: Read, W: Write>(
     // The fault is one of the machine, or that of the trace, or else that too many policies were named.
     ensures fault { IfErr result (λ fault. IsOfMachine fault ⊎ IfSome (R.remaining input.old)
         (IsFoundIn arguments.now.format (IsTooMany arguments.now.policies) fault)) }
+    ensures calls { TellsOfCalls result (R.tally input.old) (R.tally input.new) (W.tally out.old) (W.tally out.new) }
+    ensures flushed { OnOk result (W.is_flushed out.new ≡ true) }
 {
     let trace = read_trace(alloc, input, arguments.format)?;
     let rows = rows(rt, alloc, &trace, arguments)?;
@@ -52,6 +55,7 @@ fn rows<T: Threads + Sync>(
     ensures rows { IfOk result (λ rows. rows.items ≡ rows_on arguments.now.every
         (jobs_by_policy arguments.now.config arguments.now.policies) trace.now) }
     ensures fault { IfErr result (λ fault. IsOfMachine fault ⊎ IsTooMany arguments.now.policies fault) }
+    ensures calls { BlamesNoCall result }
 {
     let jobs = jobs(alloc, arguments.config, arguments.policies.as_slice())?;
     if jobs.len() > MAX_ACTORS {

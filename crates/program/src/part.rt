@@ -1,6 +1,7 @@
 //! The subcommand `part`: a trace to the access at which two policies part.
-ghost use Rattle.std.specs.Prelude.{◌≡◌, ◌≢◌, ◌⊎◌, IfErr, IfSome, OnOk};
+ghost use Rattle.std.specs.Prelude.{◌≡◌, ◌≢◌, ◌⊎◌, IfErr, IfSome, OnOk, true};
 ghost use Rattle.command_line.specs.Accepted.{IsAcceptedPart};
+ghost use Rattle.program.specs.CallFaults.{TellsOfCalls};
 ghost use Rattle.program.specs.FaultCauses.{IsFoundIn, IsOfMachine};
 ghost use Rattle.program.specs.PartOutput.{Parting};
 
@@ -10,13 +11,13 @@ use debug_policies::{STRETCH, part_watched, push_part};
 use policies::ActorFault;
 use progress::{Watch, Work};
 use std::alloc::Global;
-use std::io::{Read, Write};
+use streams::{CountedRead, CountedWrite};
 use trace_read::read_trace;
 
 /// Reads the trace and writes one line: the first access at which just one of the two policies
 /// hits, counted from 1, or `none`. A fault has written nothing, but for `Write`, after which the
 /// output may be partial.
-pub fn part<R: Read, W: Write, P: Watch>(
+pub fn part<R: CountedRead, W: CountedWrite, P: Watch>(
     alloc: Global,
     arguments: &PartArguments,
     input: &mut R,
@@ -30,6 +31,8 @@ pub fn part<R: Read, W: Write, P: Watch>(
     // The fault is one of the machine, or that of the trace.
     ensures fault { IfErr result (λ fault. IsOfMachine fault ⊎ IfSome (R.remaining input.old)
         (IsFoundIn arguments.now.format (λ f. ⊥) fault)) }
+    ensures calls { TellsOfCalls result (R.tally input.old) (R.tally input.new) (W.tally out.old) (W.tally out.new) }
+    ensures flushed { OnOk result (W.is_flushed out.new ≡ true) }
 {
     let trace = read_trace(alloc, input, arguments.format)?;
     watch.begin(Work {

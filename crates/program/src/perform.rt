@@ -1,6 +1,7 @@
 //! What typed arguments ask for.
-ghost use Rattle.std.specs.Prelude.{◌≡◌, ◌⊎◌, IfErr, OnOk};
+ghost use Rattle.std.specs.Prelude.{◌≡◌, ◌⊎◌, IfErr, OnOk, true};
 ghost use Rattle.command_line.specs.Accepted.{AreAccepted};
+ghost use Rattle.program.specs.CallFaults.{TellsOfCalls};
 ghost use Rattle.program.specs.FaultCauses.{IsFound, IsOfMachine, Leaves};
 ghost use Rattle.program.specs.Outcome.{IsDone};
 
@@ -16,13 +17,13 @@ use crate::sweep::sweep;
 use command_line::Arguments;
 use progress::Watch;
 use std::alloc::Global;
-use std::io::{Read, Write};
 use std::sync::Wait;
 use std::thread::Threads;
+use streams::{CountedRead, CountedWrite};
 
 /// Does what the arguments ask for, over an input and an output. `debug` and `replay` read a file too; `run`, `sweep`,
 /// `part` and `drive` are watched.
-pub fn perform<T: Threads + Wait + Sync, R: Read, W: Write, F: Files, P: Watch>(
+pub fn perform<T: Threads + Wait + Sync, R: CountedRead, W: CountedWrite, F: Files, P: Watch>(
     rt: &T,
     alloc: Global,
     arguments: &Arguments,
@@ -39,6 +40,8 @@ pub fn perform<T: Threads + Wait + Sync, R: Read, W: Write, F: Files, P: Watch>(
     // The fault is one of the machine, or that of the input, the file or the arguments.
     ensures fault { IfErr result (λ fault. IsOfMachine fault
         ⊎ IsFound arguments.now (F.known files.now) (R.remaining input.old) fault) }
+    ensures calls { TellsOfCalls result (R.tally input.old) (R.tally input.new) (W.tally out.old) (W.tally out.new) }
+    ensures flushed { OnOk result (W.is_flushed out.new ≡ true) }
 {
     match arguments {
         Arguments::Run(arguments) => run(rt, alloc, arguments, input, out, watch),

@@ -1,6 +1,7 @@
 //! The subcommand `run`: a trace to the reports of policies.
-ghost use Rattle.std.specs.Prelude.{◌≡◌, ◌≢◌, ◌⊎◌, IfErr, IfOk, IfSome, None, OnOk, Some};
+ghost use Rattle.std.specs.Prelude.{◌≡◌, ◌≢◌, ◌⊎◌, IfErr, IfOk, IfSome, None, OnOk, Some, true};
 ghost use Rattle.command_line.specs.Accepted.{IsAcceptedRun};
+ghost use Rattle.program.specs.CallFaults.{TellsOfCalls, TellsOfReads};
 ghost use Rattle.program.specs.FaultCauses.{IsFoundIn, IsOfMachine, IsTooMany};
 ghost use Rattle.program.specs.Jobs.{jobs_by_policy};
 ghost use Rattle.program.specs.ReportOutput.{AreReportsOn, Reports};
@@ -12,10 +13,10 @@ use policy_actors::run_reading;
 use progress::{Watch, Work};
 use report::{Report, write_reports};
 use std::alloc::{AllocError, Global};
-use std::io::{Read, Write};
 use std::sync::Wait;
 use std::thread::Threads;
 use step_record::{Config, Job, Policy};
+use streams::{CountedRead, CountedWrite};
 use trace_read::read_trace;
 
 /// A job for each policy, in order, all on one configuration. The one error is out of memory.
@@ -35,7 +36,7 @@ pub fn jobs(alloc: Global, config: Config, policies: &[Policy]) -> Result<Vec<Jo
 /// Reads the trace and writes the report of each policy that the arguments name; each policy runs
 /// on a thread of its own. A fault has written nothing, but for `Write`, after which the output may
 /// be partial.
-pub fn run<T: Threads + Wait + Sync, R: Read, W: Write, P: Watch>(
+pub fn run<T: Threads + Wait + Sync, R: CountedRead, W: CountedWrite, P: Watch>(
     rt: &T,
     alloc: Global,
     arguments: &RunArguments,
@@ -51,6 +52,8 @@ pub fn run<T: Threads + Wait + Sync, R: Read, W: Write, P: Watch>(
     // The fault is one of the machine, or that of the trace, or else that too many policies were named.
     ensures fault { IfErr result (λ fault. IsOfMachine fault ⊎ IfSome (R.remaining input.old)
         (IsFoundIn arguments.now.format (IsTooMany arguments.now.policies) fault)) }
+    ensures calls { TellsOfCalls result (R.tally input.old) (R.tally input.new) (W.tally out.old) (W.tally out.new) }
+    ensures flushed { OnOk result (W.is_flushed out.new ≡ true) }
 {
     let jobs = jobs(alloc, arguments.config, arguments.policies.as_slice())?;
     let reports = reports(rt, alloc, arguments, jobs.as_slice(), input, watch)?;
@@ -60,7 +63,7 @@ pub fn run<T: Threads + Wait + Sync, R: Read, W: Write, P: Watch>(
 
 // The reports of the jobs, each run on a thread of its own while the trace is read. That they are too many is the fault
 // of a trace without one.
-fn reports<T: Threads + Wait + Sync, R: Read, P: Watch>(
+fn reports<T: Threads + Wait + Sync, R: CountedRead, P: Watch>(
     rt: &T,
     alloc: Global,
     arguments: &RunArguments,
@@ -74,6 +77,7 @@ fn reports<T: Threads + Wait + Sync, R: Read, P: Watch>(
         (AreReportsOn arguments.now.format jobs.now reports.items)) }
     ensures fault { IfErr result (λ fault. IsOfMachine fault ⊎ IfSome (R.remaining input.old)
         (IsFoundIn arguments.now.format (IsTooMany arguments.now.policies) fault)) }
+    ensures calls { TellsOfReads result (R.tally input.old) (R.tally input.new) }
 {
     if jobs.len() > MAX_ACTORS {
         read_trace(alloc, input, arguments.format)?;

@@ -1,7 +1,8 @@
 //! The subcommand `sweep`: a trace to the reports of policies at several capacities.
-ghost use Rattle.std.specs.Prelude.{◌≡◌, ◌≢◌, ◌⊎◌, IfErr, IfOk, IfSome, None, OnOk, Some};
+ghost use Rattle.std.specs.Prelude.{◌≡◌, ◌≢◌, ◌⊎◌, IfErr, IfOk, IfSome, None, OnOk, Some, true};
 ghost use Rattle.command_line.specs.Accepted.{IsAcceptedSweep};
 ghost use Rattle.sweeps.specs.Sweep.{jobs_over};
+ghost use Rattle.program.specs.CallFaults.{BlamesNoCall, TellsOfCalls};
 ghost use Rattle.program.specs.FaultCauses.{IsFoundIn, IsOfMachine, IsTooMany};
 ghost use Rattle.program.specs.Jobs.{jobs_by_policy, reports_on};
 ghost use Rattle.program.specs.ReportOutput.{Reports};
@@ -13,16 +14,16 @@ use policies::{ActorFault, MAX_ACTORS};
 use progress::{Watch, Work};
 use report::{Report, write_reports};
 use std::alloc::Global;
-use std::io::{Read, Write};
 use std::thread::Threads;
 use step_record::Trace;
+use streams::{CountedRead, CountedWrite};
 use sweeps::{sweep_batches, sweep_each};
 use trace_read::read_trace;
 
 /// Reads the trace and writes the reports of the policies that the arguments name at each of the capacities: those of
 /// the first policy in the order of the capacities, then those of the second, and so on. A fault has written nothing, but
 /// for `Write`, after which the output may be partial.
-pub fn sweep<T: Threads + Sync, R: Read, W: Write, P: Watch>(
+pub fn sweep<T: Threads + Sync, R: CountedRead, W: CountedWrite, P: Watch>(
     rt: &T,
     alloc: Global,
     arguments: &SweepArguments,
@@ -38,6 +39,8 @@ pub fn sweep<T: Threads + Sync, R: Read, W: Write, P: Watch>(
     // The fault is one of the machine, or that of the trace, or else that too many policies were named.
     ensures fault { IfErr result (λ fault. IsOfMachine fault ⊎ IfSome (R.remaining input.old)
         (IsFoundIn arguments.now.format (IsTooMany arguments.now.policies) fault)) }
+    ensures calls { TellsOfCalls result (R.tally input.old) (R.tally input.new) (W.tally out.old) (W.tally out.new) }
+    ensures flushed { OnOk result (W.is_flushed out.new ≡ true) }
 {
     let trace = read_trace(alloc, input, arguments.format)?;
     let reports = reports(rt, alloc, &trace, arguments, watch)?;
@@ -58,6 +61,7 @@ fn reports<T: Threads + Sync, P: Watch>(
         (jobs_over (jobs_by_policy arguments.now.config arguments.now.policies) arguments.now.capacities)
         trace.now) }
     ensures fault { IfErr result (λ fault. IsOfMachine fault ⊎ IsTooMany arguments.now.policies fault) }
+    ensures calls { BlamesNoCall result }
 {
     let jobs = jobs(alloc, arguments.config, arguments.policies.as_slice())?;
     if jobs.len() > MAX_ACTORS {

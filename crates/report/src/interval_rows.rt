@@ -1,22 +1,24 @@
 //! The rows of intervals.
-ghost use Rattle.std.specs.Prelude.{◌≡◌, Err, IfOk, OnOk};
+ghost use Rattle.std.specs.Prelude.{◌≡◌, Err, IfOk, OnOk, true};
 ghost use Rattle.std.specs.Io.KnownBytes.{Appends};
 ghost use Rattle.csv.specs.Writing.{text_written};
 ghost use Rattle.report.specs.ReadyWriter.{IsWriterReady};
 ghost use Rattle.report.specs.IntervalText.{interval_header, interval_line, intervals_text};
 ghost use Rattle.report.specs.Text.{line_text};
 ghost use Rattle.streams.specs.Part.{AppendsPart};
+ghost use Rattle.streams.specs.Tally.{FailsWhere};
 
 use super::{Interval, WriteFault};
 use crate::rows::{number_text, rate_text, write_row};
 use csv::{Writer, WriterBuilder};
-use std::alloc::Global;
+use std::alloc::{AllocError, Global};
 use std::io::Write;
+use streams::CountedWrite;
 
 /// Writes the header and a line for each interval, in order, and flushes. The writes and flushes of one call share its
 /// interruptions, of which the millionth is `Write`. `OutOfMemory` has written nothing; after `Write` a beginning of the
 /// text was written.
-pub fn write_intervals<W: Write>(
+pub fn write_intervals<W: CountedWrite>(
     alloc: Global,
     intervals: &[Interval],
     writer: &mut W,
@@ -25,6 +27,9 @@ pub fn write_intervals<W: Write>(
     ensures none { result ≡ Err WriteFault.OutOfMemory → writer.new ≡ writer.old }
     ensures part { result ≡ Err WriteFault.Write
         → AppendsPart (W.contents writer.old) (W.contents writer.new) (intervals_text intervals.now) }
+    ensures flushed { OnOk result (W.is_flushed writer.new ≡ true) }
+    // `Write` comes just where a write or the flush failed, or the millionth was interrupted.
+    ensures tally { FailsWhere (result ≡ Err WriteFault.Write) (W.tally writer.old) (W.tally writer.new) }
 {
     let text = intervals_text(alloc, intervals)?;
     streams::write_all(writer, text.as_slice())?;
@@ -32,7 +37,7 @@ pub fn write_intervals<W: Write>(
 }
 
 // The header and a row for each interval.
-fn intervals_text(alloc: Global, intervals: &[Interval]) -> Result<Vec<u8>, WriteFault>
+fn intervals_text(alloc: Global, intervals: &[Interval]) -> Result<Vec<u8>, AllocError>
     ensures { IfOk result (λ v. v.items ≡ intervals_text intervals.now) }
 {
     let mut writer = WriterBuilder::new().from_writer(Vec::new(alloc));
@@ -42,12 +47,12 @@ fn intervals_text(alloc: Global, intervals: &[Interval]) -> Result<Vec<u8>, Writ
     }
     match writer.into_inner() {
         Ok(text) => Ok(text),
-        Err(_) => Err(WriteFault::OutOfMemory),
+        Err(_) => Err(AllocError),
     }
 }
 
 // Writes the names of the fields.
-fn write_interval_header<W: Write + Drop>(writer: &mut Writer<W>) -> Result<(), WriteFault>
+fn write_interval_header<W: Write + Drop>(writer: &mut Writer<W>) -> Result<(), AllocError>
     ensures ready { IsWriterReady writer.old → OnOk result (IsWriterReady writer.new) }
     ensures text { IsWriterReady writer.old → OnOk result (Appends (text_written W.contents writer.old)
         (text_written W.contents writer.new) (line_text interval_header)) }
@@ -71,7 +76,7 @@ fn write_interval<W: Write + Drop>(
     alloc: Global,
     writer: &mut Writer<W>,
     interval: &Interval,
-) -> Result<(), WriteFault>
+) -> Result<(), AllocError>
     ensures ready { IsWriterReady writer.old → OnOk result (IsWriterReady writer.new) }
     ensures text { IsWriterReady writer.old → OnOk result (Appends (text_written W.contents writer.old)
         (text_written W.contents writer.new) (interval_line interval.now)) }

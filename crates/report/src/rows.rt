@@ -1,21 +1,23 @@
 //! The rows of reports.
-ghost use Rattle.std.specs.Prelude.{◌≡◌, Err, IfOk, OnOk, map, string_bytes};
+ghost use Rattle.std.specs.Prelude.{◌≡◌, Err, IfOk, OnOk, map, string_bytes, true};
 ghost use Rattle.std.specs.Fmt.{decimal};
 ghost use Rattle.std.specs.Io.KnownBytes.{Appends};
 ghost use Rattle.csv.specs.Writing.{default_writer, row_text, text_written};
 ghost use Rattle.report.specs.ReadyWriter.{IsWriterReady};
 ghost use Rattle.report.specs.Text.{header_fields, line_text, rate_text_of, report_line, reports_text};
 ghost use Rattle.streams.specs.Part.{AppendsPart};
+ghost use Rattle.streams.specs.Tally.{FailsWhere};
 
 use super::{Report, WriteFault};
 use csv::{Writer, WriterBuilder};
 use std::alloc::{AllocError, Global};
 use std::io::Write;
+use streams::CountedWrite;
 
 /// Writes the header and a line for each report, in order, and flushes. The writes and flushes of
 /// one call share its interruptions, of which the millionth is `Write`. `OutOfMemory` has written
 /// nothing; after `Write` a beginning of the text was written.
-pub fn write_reports<W: Write>(
+pub fn write_reports<W: CountedWrite>(
     alloc: Global,
     reports: &[Report],
     writer: &mut W,
@@ -24,6 +26,9 @@ pub fn write_reports<W: Write>(
     ensures none { result ≡ Err WriteFault.OutOfMemory → writer.new ≡ writer.old }
     ensures part { result ≡ Err WriteFault.Write
         → AppendsPart (W.contents writer.old) (W.contents writer.new) (reports_text reports.now) }
+    ensures flushed { OnOk result (W.is_flushed writer.new ≡ true) }
+    // `Write` comes just where a write or the flush failed, or the millionth was interrupted.
+    ensures tally { FailsWhere (result ≡ Err WriteFault.Write) (W.tally writer.old) (W.tally writer.new) }
 {
     let text = reports_text(alloc, reports)?;
     streams::write_all(writer, text.as_slice())?;
@@ -51,19 +56,19 @@ pub fn number_text(alloc: Global, n: u64) -> Result<String, AllocError>
 pub fn write_row<W: Write + Drop>(
     writer: &mut Writer<W>,
     fields: &[&[u8]],
-) -> Result<(), WriteFault>
+) -> Result<(), AllocError>
     ensures ready { IsWriterReady writer.old → OnOk result (IsWriterReady writer.new) }
     ensures text { IsWriterReady writer.old → OnOk result (Appends (text_written W.contents writer.old)
         (text_written W.contents writer.new) (row_text default_writer (map (λ f. f.now) fields.now))) }
 {
     match writer.write_fields(fields) {
         Ok(()) => Ok(()),
-        Err(_) => Err(WriteFault::OutOfMemory),
+        Err(_) => Err(AllocError),
     }
 }
 
 // Writes the names of the fields.
-fn write_header<W: Write + Drop>(writer: &mut Writer<W>) -> Result<(), WriteFault>
+fn write_header<W: Write + Drop>(writer: &mut Writer<W>) -> Result<(), AllocError>
     ensures ready { IsWriterReady writer.old → OnOk result (IsWriterReady writer.new) }
     ensures text { IsWriterReady writer.old → OnOk result (Appends (text_written W.contents writer.old)
         (text_written W.contents writer.new) (line_text header_fields)) }
@@ -86,7 +91,7 @@ fn write_report<W: Write + Drop>(
     alloc: Global,
     writer: &mut Writer<W>,
     report: &Report,
-) -> Result<(), WriteFault>
+) -> Result<(), AllocError>
     ensures ready { IsWriterReady writer.old → OnOk result (IsWriterReady writer.new) }
     ensures text { IsWriterReady writer.old → OnOk result (Appends (text_written W.contents writer.old)
         (text_written W.contents writer.new) (report_line report.now)) }
@@ -112,7 +117,7 @@ fn write_report<W: Write + Drop>(
 }
 
 // The header and a row for each report.
-fn reports_text(alloc: Global, reports: &[Report]) -> Result<Vec<u8>, WriteFault>
+fn reports_text(alloc: Global, reports: &[Report]) -> Result<Vec<u8>, AllocError>
     ensures { IfOk result (λ v. v.items ≡ reports_text reports.now) }
 {
     let mut writer = WriterBuilder::new().from_writer(Vec::new(alloc));
@@ -122,6 +127,6 @@ fn reports_text(alloc: Global, reports: &[Report]) -> Result<Vec<u8>, WriteFault
     }
     match writer.into_inner() {
         Ok(text) => Ok(text),
-        Err(_) => Err(WriteFault::OutOfMemory),
+        Err(_) => Err(AllocError),
     }
 }

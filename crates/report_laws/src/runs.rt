@@ -1,11 +1,12 @@
 //! The calls that make reports, with the laws that their reports obey. The calls are those of `policy_actors` and
 //! `sweeps`; what is added is the clause `laws`, which follows from what they promise.
-ghost use Rattle.std.specs.Prelude.{◌≡◌, IfOk, IfSome, None, length, map};
+ghost use Rattle.std.specs.Prelude.{◌≡◌, Err, IfOk, IfSome, None, length, map};
 ghost use Rattle.policy_actors.specs.Faults.{actor_fault};
 ghost use Rattle.policy_actors.specs.ReadRun.{IsReadTo};
 ghost use Rattle.policies.specs.Reports.{report_on};
 ghost use Rattle.sweeps.specs.Sweep.{jobs_over, sweep_fault};
 ghost use Rattle.policies.specs.FaultyJobs.{ReturnsFault};
+ghost use Rattle.streams.specs.Tally.{FailsWhere};
 ghost use Rattle.trace_read.specs.TraceText.{keys_in};
 ghost use Rattle.report_laws.specs.ReportLaws.{ObeyLaws};
 
@@ -13,10 +14,10 @@ use crate::theorems::reports_obey_laws;
 use policies::{ActorFault, Report};
 use policy_actors::{run_actors, run_reading};
 use std::alloc::Global;
-use std::io::Read;
 use std::sync::Wait;
 use std::thread::Threads;
 use step_record::{Gate, Job, Trace};
+use streams::CountedRead;
 use sweeps::sweep_each;
 use trace_read::{Format, TraceFault};
 
@@ -43,7 +44,7 @@ pub fn run_actors_by_laws<R: Threads + Wait + Sync, G: Gate>(
 /// accepts.
 ///
 /// Errors: those of `run_reading`.
-pub fn run_reading_by_laws<T: Threads + Wait + Sync, R: Read, G: Gate>(
+pub fn run_reading_by_laws<T: Threads + Wait + Sync, R: CountedRead, G: Gate>(
     rt: &T,
     alloc: Global,
     reader: &mut R,
@@ -58,6 +59,7 @@ pub fn run_reading_by_laws<T: Threads + Wait + Sync, R: Read, G: Gate>(
     ensures laws { IfOk result (λ v. IfSome (R.remaining reader.old)
         (λ bytes. ObeyLaws (length (keys_in format bytes)) v.items)) }
     ensures read { IsReadTo format (R.remaining reader.old) (R.remaining reader.new) result }
+    ensures tally { FailsWhere (result ≡ Err TraceFault.Read) (R.tally reader.old) (R.tally reader.new) }
 {
     reports_obey_laws();
     run_reading(rt, alloc, reader, format, jobs, batch, gate)

@@ -1,15 +1,13 @@
-//! Tests of sessions over the concurrent cache: journals that are read, undone, redone and written, ends that fail, and
-//! calls at both ends of their ranges.
+//! Tests of sessions over the concurrent cache: journals that are read, undone, redone and written, and calls at both ends
+//! of their ranges.
 #![tactic(auto)]
 
 #[cfg(test)]
 mod assertions;
 #[cfg(test)]
+mod buffer_tests;
+#[cfg(test)]
 mod copy_tests;
-#[cfg(test)]
-mod ends;
-#[cfg(test)]
-mod ends_tests;
 #[cfg(test)]
 mod journal_tests;
 #[cfg(test)]

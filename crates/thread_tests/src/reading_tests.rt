@@ -12,6 +12,7 @@ use std::sync::Wait;
 use std::test::Fail;
 use std::thread::Threads;
 use step_record::{Gate, Job, OpenGate, Policy};
+use streams::CountedReader;
 use trace_read::{Format, TraceFault};
 
 /// A reader of a text so many times, in pieces of a size, that then ends or fails. It reads its last text only once a
@@ -68,12 +69,13 @@ impl Read for Pieces<'_> {
 fn assert_reading<G: Gate, R: Threads + Wait + Sync + Abort>(
     rt: &R,
     alloc: Global,
-    mut reader: Pieces<'_>,
+    text: Pieces<'_>,
     (jobs, batch): (&[Job], u32),
     gate: &G,
     wanted: Result<&[Report], TraceFault>,
 ) -> Result<(), Fail> {
     check_run(batch, jobs).map_err(failed)?;
+    let mut reader = CountedReader::new(text);
     match run_reading(rt, alloc, &mut reader, Format::Lirs, jobs, batch, gate) {
         Ok(reports) => assert_equal(rt, Ok(reports.as_slice()), wanted),
         Err(fault) => assert_equal(rt, Err(fault), wanted),

@@ -1,8 +1,9 @@
-use Rattle.std.proofs.Common.{arith, take, drop, length, ◌+◌, ◌-◌, ◌≡◌, List, ℕ, Option}
+use Rattle.std.proofs.Common.{arith, rules, take, drop, length, ◌+◌, ◌-◌, ◌≡◌, List, ℕ, Option}
 use Rattle.std.proofs.KnownBytes.{Appends-trans}
 use Rattle.std.specs.Io.KnownBytes.{Appends}
 use Rattle.std.proofs.Math.Seq.{take-add}
 use Rattle.std.proofs.lemmas.Grind.{common_steps}
+use Rattle.streams.proofs.Tallies.{refused}
 use Rattle.streams.proofs.write_some.Goals as goal
 
 -- the part up to k, and then c bytes of the rest
@@ -20,4 +21,9 @@ writes-preserved-in-Ok g c =
       sent = more _ _ _ c.writes.sent c.in-Ok.count c.args.bytes.now _ rest c.writes.invariant.sent
           c.in-Ok.ensures.bytes;
       counted = c.writes.invariant.counted;
+      spent = search (rules, arith);
     }
+
+pub returns-then-not-allows-clause-exhausted : goal.returns-then-not-allows-clause-exhausted
+returns-then-not-allows-clause-exhausted g c =
+    refused _ _ _ _ _ _ c.writes.invariant.spent c.in-Err.ensures.counted (c.allows.ensures.refused c.if-not-allows.true)

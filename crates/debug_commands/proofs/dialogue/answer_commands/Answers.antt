@@ -1,5 +1,6 @@
 use Rattle.std.proofs.Common.{rules, ◌≡◌, ◌∙◌, Ok, Err, ap, sym, subst, refl}
 use Rattle.std.specs.Result.{IsErrAnd}
+use Rattle.streams.proofs.Tallies.{further, unspent}
 use Rattle.debug_commands.specs.Commands.{command_line_of}
 use Rattle.debug_commands.specs.Dialogue.{is_quit}
 use Rattle.debug_commands.specs.Timeline.{TimelineData}
@@ -16,7 +17,9 @@ lines-init g c = record {
   whole = c.requires;
   same = refl;
   ahead = begins (g.T.Timeline.timeline c.args.timeline.now) (g.T.Timeline.position c.args.timeline.now) 1048576 c.new-breaks.result.items
-      (g.R.Read.remaining c.args.input.now) (g.W.Write.contents c.args.out.now) c.new-breaks.ensures.items refl;
+      (g.R.CountedRead.remaining c.args.input.now) (g.W.CountedWrite.contents c.args.out.now) c.new-breaks.ensures.items refl;
+  reads = rw c.new-reads.ensures (unspent _ _);
+  writes = rw c.new-writes.ensures (unspent _ _);
 }
 
 pub returns-in_err-fed-clause-large : goal.returns-in_err-fed-clause-large
@@ -27,9 +30,9 @@ returns-in_err-fed-clause-large g c e =
 
 pub returns-then-not-fed-clause-done : goal.returns-then-not-fed-clause-done
 returns-then-not-fed-clause-done g c = ends_at_last
-    (a_round (g.R.Read.remaining c.read_line.new.input) (g.W.Write.contents c.flush.new.writer) c.lines.invariant.ahead c.lines.invariant.same
+    (a_round (g.R.CountedRead.remaining c.read_line.new.input) (g.W.CountedWrite.contents c.flush.new.writer) c.lines.invariant.ahead c.lines.invariant.same
     c.dialect.ensures c.as_slice.ensures.value c.line-said.ensures c.clear-in-lines.ensures.items c.in_ok-answer.ensures.answer
-    c.in_ok-fed.ensures.read c.in_ok-fed.ensures.feeds c.in_ok-fed.ensures.room c.as_slice-in-lines.ensures.value (flushed (g.W.Write.contents c.lines.out) (g.W.Write.contents c.write_some.new.writer) (g.W.Write.contents c.flush.new.writer) c.as_slice-in-lines.result.now
+    c.in_ok-fed.ensures.read c.in_ok-fed.ensures.feeds c.in_ok-fed.ensures.room c.as_slice-in-lines.ensures.value (flushed (g.W.CountedWrite.contents c.lines.out) (g.W.CountedWrite.contents c.write_some.new.writer) (g.W.CountedWrite.contents c.flush.new.writer) c.as_slice-in-lines.result.now
     c.in_ok-write_some.ensures.bytes c.in_ok-flush.ensures.bytes))
     c.if-not-fed.true (c.in_ok-fed.ensures.end (ap Ok c.if-not-fed.true))
 
@@ -40,9 +43,9 @@ returns-then-eq-clause-done g c =
     said_is c.lines.invariant.same c.dialect.ensures c.as_slice.ensures.value c.line-said.ensures in
     let quits : c.line-said.result ≡ Known command.Quit = search rules in
     ends_at_quit
-    (a_round (g.R.Read.remaining c.read_line.new.input) (g.W.Write.contents c.flush.new.writer) c.lines.invariant.ahead c.lines.invariant.same
+    (a_round (g.R.CountedRead.remaining c.read_line.new.input) (g.W.CountedWrite.contents c.flush.new.writer) c.lines.invariant.ahead c.lines.invariant.same
     c.dialect.ensures c.as_slice.ensures.value c.line-said.ensures c.clear-in-lines.ensures.items c.in_ok-answer.ensures.answer
-    c.in_ok-fed.ensures.read c.in_ok-fed.ensures.feeds c.in_ok-fed.ensures.room c.as_slice-in-lines.ensures.value (flushed (g.W.Write.contents c.lines.out) (g.W.Write.contents c.write_some.new.writer) (g.W.Write.contents c.flush.new.writer) c.as_slice-in-lines.result.now
+    c.in_ok-fed.ensures.read c.in_ok-fed.ensures.feeds c.in_ok-fed.ensures.room c.as_slice-in-lines.ensures.value (flushed (g.W.CountedWrite.contents c.lines.out) (g.W.CountedWrite.contents c.write_some.new.writer) (g.W.CountedWrite.contents c.flush.new.writer) c.as_slice-in-lines.result.now
     c.in_ok-write_some.ensures.bytes c.in_ok-flush.ensures.bytes))
     c.if-not-fed.false (sym (ap is_quit said) ∙ ap is_quit quits)
 
@@ -57,9 +60,12 @@ lines-preserved g c =
       whole = c.in_ok-answer.ensures.whole;
       same = c.in_ok-answer.ensures.same ∙ c.lines.invariant.same;
       ahead = goes_on
-          (a_round (g.R.Read.remaining c.read_line.new.input) (g.W.Write.contents c.flush.new.writer) c.lines.invariant.ahead c.lines.invariant.same
+          (a_round (g.R.CountedRead.remaining c.read_line.new.input) (g.W.CountedWrite.contents c.flush.new.writer) c.lines.invariant.ahead c.lines.invariant.same
           c.dialect.ensures c.as_slice.ensures.value c.line-said.ensures c.clear-in-lines.ensures.items c.in_ok-answer.ensures.answer
-          c.in_ok-fed.ensures.read c.in_ok-fed.ensures.feeds c.in_ok-fed.ensures.room c.as_slice-in-lines.ensures.value (flushed (g.W.Write.contents c.lines.out) (g.W.Write.contents c.write_some.new.writer) (g.W.Write.contents c.flush.new.writer) c.as_slice-in-lines.result.now
+          c.in_ok-fed.ensures.read c.in_ok-fed.ensures.feeds c.in_ok-fed.ensures.room c.as_slice-in-lines.ensures.value (flushed (g.W.CountedWrite.contents c.lines.out) (g.W.CountedWrite.contents c.write_some.new.writer) (g.W.CountedWrite.contents c.flush.new.writer) c.as_slice-in-lines.result.now
           c.in_ok-write_some.ensures.bytes c.in_ok-flush.ensures.bytes))
           c.if-not-fed.false (sym (ap is_quit said) ∙ not_quit c.line-said.result goes);
+      reads = further _ _ _ _ _ _ c.lines.invariant.reads (c.in_ok-fed.ensures.spent (λ same. absurd (cc same)));
+      writes = further _ _ _ _ _ _ c.lines.invariant.writes
+          (further _ _ _ _ _ _ c.in_ok-write_some.ensures.spent c.in_ok-flush.ensures.spent);
     }

@@ -1,4 +1,6 @@
 use Rattle.std.proofs.Common.{◌≡◌}
+use Rattle.streams.specs.Tally.{Spends}
+use Rattle.streams.specs.declared.patience.TheConstants.{INTERRUPTIONS}
 use Rattle.debug_commands.proofs.Ahead.{IsAhead}
 use Rattle.debug_commands.proofs.dialogue.answer_commands.Given as goal
 
@@ -9,7 +11,9 @@ invariant-lines g l = record {
   same : g.T.Timeline.timeline l.timeline ≡ g.T.Timeline.timeline l.initial.timeline;
   ahead : IsAhead (g.T.Timeline.timeline l.initial.timeline) (g.T.Timeline.position l.initial.timeline)
       (record { at = g.T.Timeline.position l.timeline; breaks = l.breaks.items }) l.room
-      (g.R.Read.remaining l.initial.input) (g.R.Read.remaining l.input) (g.W.Write.contents l.initial.out) (g.W.Write.contents l.out);
+      (g.R.CountedRead.remaining l.initial.input) (g.R.CountedRead.remaining l.input) (g.W.CountedWrite.contents l.initial.out) (g.W.CountedWrite.contents l.out);
+  reads : Spends INTERRUPTIONS l.reads (g.R.CountedRead.tally l.initial.input) (g.R.CountedRead.tally l.input);
+  writes : Spends INTERRUPTIONS l.writes (g.W.CountedWrite.tally l.initial.out) (g.W.CountedWrite.tally l.out);
 }
 
 abbrev pub decreases-lines : goal.decreases-lines

@@ -1,12 +1,13 @@
 use Rattle.std.proofs.Common.{◌≡◌, ◌∙◌, ◌+◌, ℕ, List, length, get_or, ap, arith, length-append}
+use Rattle.streams.proofs.Tallies.{further}
 use Rattle.debug_commands.proofs.OneByte.{feeds_more, line_more, one_more}
 use Rattle.debug_commands.proofs.dialogue.read_line.Goals as goal
 
 pub returns-then-room-eq0-clause-large : goal.returns-then-room-eq0-clause-large
 returns-then-room-eq0-clause-large g c _ =
-    let old = g.R.Read.remaining c.args.input.now in
-    let mid = g.R.Read.remaining c.bytes.input in
-    let new = g.R.Read.remaining c.read_some.new.reader in
+    let old = g.R.CountedRead.remaining c.args.input.now in
+    let mid = g.R.CountedRead.remaining c.bytes.input in
+    let new = g.R.CountedRead.remaining c.read_some.new.reader in
     let chunk : List ℕ = c.read_some.new.chunk in
     let one : length chunk ≡ 1 = omega arith in
     record {
@@ -20,9 +21,9 @@ returns-then-room-eq0-clause-large g c _ =
 
 pub bytes-preserved : goal.bytes-preserved
 bytes-preserved g c =
-    let old = g.R.Read.remaining c.args.input.now in
-    let mid = g.R.Read.remaining c.bytes.input in
-    let new = g.R.Read.remaining c.read_some.new.reader in
+    let old = g.R.CountedRead.remaining c.args.input.now in
+    let mid = g.R.CountedRead.remaining c.bytes.input in
+    let new = g.R.CountedRead.remaining c.read_some.new.reader in
     let chunk : List ℕ = c.read_some.new.chunk in
     let text : List ℕ = c.bytes.text.items in
     let now : List ℕ = c.extend_from_slice.new.self.items in
@@ -33,4 +34,5 @@ bytes-preserved g c =
           c.in_ok-extend_from_slice.ensures.items c.bytes.invariant.read c.in_ok-count.ensures.bytes;
       feeds = feeds_more text chunk now one c.if-byte-eq10.false c.in_ok-extend_from_slice.ensures.items c.bytes.invariant.feeds;
       room = omega (arith, long, one, c.bytes.invariant.room, c.if-room-eq0.false);
+      spent = further _ _ _ _ _ _ c.bytes.invariant.spent c.in_ok-count.ensures.spent;
     }

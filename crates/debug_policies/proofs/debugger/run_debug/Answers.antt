@@ -6,13 +6,13 @@ use Rattle.debug_policies.proofs.debugger.run_debug.Goals as goal
 
 pub returns-clause-done : goal.returns-clause-done
 returns-clause-done g c =
-    done_held c.answer_commands.result (g.R.Read.remaining c.args.commands.now) _ _ _ true (g.W.Write.contents c.args.out.now)
-    (g.W.Write.contents c.answer_commands.new.out) c.answer_commands.new.timeline.first.at refl (ap (λ (w : OnePolicyState). w.at) c.in_ok-open.ensures) c.answer_commands.ensures.done
+    done_held c.answer_commands.result (g.R.CountedRead.remaining c.args.commands.now) _ _ _ true (g.W.CountedWrite.contents c.args.out.now)
+    (g.W.CountedWrite.contents c.answer_commands.new.out) c.answer_commands.new.timeline.first.at refl (ap (λ (w : OnePolicyState). w.at) c.in_ok-open.ensures) c.answer_commands.ensures.done
 
 pub returns-clause-large : goal.returns-clause-large
 returns-clause-large g c e =
-    large_held (g.R.Read.remaining c.args.commands.now) _ _ _ false (g.W.Write.contents c.args.out.now)
-    (g.W.Write.contents c.answer_commands.new.out) c.answer_commands.new.timeline.first.at refl (ap (λ (w : OnePolicyState). w.at) c.in_ok-open.ensures) (c.answer_commands.ensures.large e)
+    large_held (g.R.CountedRead.remaining c.args.commands.now) _ _ _ false (g.W.CountedWrite.contents c.args.out.now)
+    (g.W.CountedWrite.contents c.answer_commands.new.out) c.answer_commands.new.timeline.first.at refl (ap (λ (w : OnePolicyState). w.at) c.in_ok-open.ensures) (c.answer_commands.ensures.large e)
 
 pub returns-clause-config : goal.returns-clause-config
 returns-clause-config g c =

@@ -16,7 +16,7 @@ returns-clause-accepts g c =
     let opening = c.args.session.now.opening in
     let limit = c.args.session.now.limit in
     let kept = c.read_text.new.session.kept in
-    let known = g.R.Read.remaining c.args.reader.now in
+    let known = g.R.CountedRead.remaining c.args.reader.now in
     let bytes = c.as_slice.result.now in
     some_is (λ b. (es : Entries) → IsJournalText act opening limit b es → Accepts c.read_text.result kept es) known bytes
     (subst (λ i. IfSome known (λ xs. i ≡ xs)) (sym c.as_slice.ensures.value) c.in_ok-bytes.ensures.bytes)

@@ -5,6 +5,7 @@ use Rattle.journal_text.specs.Journal.{begun, ended_line, entry_line, header}
 use Rattle.journal_text.specs.Table.{entry_words, FitWords}
 use Rattle.journal_text.specs.TextBuffer.{AreFit}
 use Rattle.journal_text.specs.declared.version.Version.TheVariants.{Two}
+use Rattle.streams.proofs.Tallies.{further, unspent}
 use Rattle.journal_text.proofs.Fronts.{begun_more, begun_none}
 use Rattle.journal_text.proofs.Written.{gathered, passed, started}
 use Rattle.journal_text.proofs.writer.write_entries.Goals as goal
@@ -22,10 +23,11 @@ taken_at xs n x h =
 
 pub loop-n-init : goal.loop-n-init
 loop-n-init g c = record {
-  written = started (g.W.Write.contents c.args.writer.now) c.push_bytes.new.text.items (begun Two [])
+  written = started (g.W.CountedWrite.contents c.args.writer.now) c.push_bytes.new.text.items (begun Two [])
       (c.push_bytes.ensures.items ∙ ap (λ t. t ++ ended_line (header Two)) c.requires.empty ∙ sym (begun_none Two));
   room = omega (arith, c.push_bytes.ensures.capacity, c.requires.room);
   fit = All-nil (λ e. FitWords (entry_words e));
+  spent = unspent _ _;
 }
 
 pub loop-n-preserved : goal.loop-n-preserved
@@ -35,13 +37,14 @@ loop-n-preserved g c =
     let e = c.in-Some.entry.now in
     let front = take n kept in
     let next = taken_at kept n e c.in-Some.ensures in
-    let old = g.W.Write.contents c.args.writer.now in
-    let mid = g.W.Write.contents c.loop-n.writer in
-    let new = g.W.Write.contents c.make_room_for_line.new.writer in
+    let old = g.W.CountedWrite.contents c.args.writer.now in
+    let mid = g.W.CountedWrite.contents c.loop-n.writer in
+    let new = g.W.CountedWrite.contents c.make_room_for_line.new.writer in
     let passed_on = passed old mid new c.loop-n.text.items c.make_room_for_line.new.text.items (begun Two front) c.loop-n.invariant.written c.in_ok-make_room_for_line.ensures.written in
     record {
       written = gathered old new c.make_room_for_line.new.text.items c.push_entry_line.new.text.items (entry_line e) (begun Two front) (begun Two (take (n + 1) kept))
           c.push_entry_line.ensures.items (ap (begun Two) next ∙ begun_more Two front e) passed_on;
       room = omega (arith, c.push_entry_line.ensures.capacity, c.in_ok-make_room_for_line.ensures.capacity);
+      spent = further _ _ _ _ _ _ c.loop-n.invariant.spent c.in_ok-make_room_for_line.ensures.spent;
       fit = subst AreFit (sym next) (All-push (λ e. FitWords (entry_words e)) front e c.loop-n.invariant.fit c.push_entry_line.ensures.fit);
     }

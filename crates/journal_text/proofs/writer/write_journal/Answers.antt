@@ -10,11 +10,11 @@ use Rattle.journal_text.proofs.writer.write_journal.Goals as goal
 pub returns-clause-text : goal.returns-clause-text
 returns-clause-text g c =
     let kept = c.args.session.now.kept in
-    let old = g.W.Write.contents c.args.writer.now in
-    let first = g.W.Write.contents c.write_entries.new.writer in
-    let mid = g.W.Write.contents c.make_room_for_line.new.writer in
-    let new = g.W.Write.contents c.write_some.new.writer in
-    let last = g.W.Write.contents c.flush.new.writer in
+    let old = g.W.CountedWrite.contents c.args.writer.now in
+    let first = g.W.CountedWrite.contents c.write_entries.new.writer in
+    let mid = g.W.CountedWrite.contents c.make_room_for_line.new.writer in
+    let new = g.W.CountedWrite.contents c.write_some.new.writer in
+    let last = g.W.CountedWrite.contents c.flush.new.writer in
     let before = passed old first mid c.write_entries.new.text.items c.make_room_for_line.new.text.items (begun Two kept) c.in_ok-write_entries.ensures.written c.in_ok-make_room_for_line.ensures.written in
     let count : c.push_count_line.new.text.items ≡ c.make_room_for_line.new.text.items ++ ended_line (text_of (Steps (length kept))) =
     c.push_count_line.ensures.items ∙ ap (λ n. c.make_room_for_line.new.text.items ++ ended_line (text_of (Steps n))) c.len.ensures.len in

@@ -15,5 +15,5 @@ returns-clause-read g c = with_fault _ _ _ _ _ c.in-Err.is (search rules)
 
 pub returns-in-Ok-reports-clause-reports : goal.returns-in-Ok-reports-clause-reports
 returns-in-Ok-reports-clause-reports g c =
-    subst (λ r. IfOk r (λ v. IfSome (g.R.Read.remaining c.args.reader.now) (λ bytes. v.items ≡ map (λ j. report_on j (keys_in c.args.format bytes)) c.args.jobs.now))) c.in-Ok-reports.is
+    subst (λ r. IfOk r (λ v. IfSome (g.R.CountedRead.remaining c.args.reader.now) (λ bytes. v.items ≡ map (λ j. report_on j (keys_in c.args.format bytes)) c.args.jobs.now))) c.in-Ok-reports.is
     (of_bytes (λ all v. v.items ≡ map (λ j. report_on j all) c.args.jobs.now) c.args.format _ _ c.run_actors_from-reader.ensures.reports)

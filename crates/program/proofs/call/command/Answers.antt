@@ -4,6 +4,9 @@ use Rattle.command_line.specs.ParseResult.{ParsedBy}
 use Rattle.command_line.specs.declared.arguments.Arguments.{Arguments}
 use Rattle.command_line.specs.declared.fault.ParseFault.{ParseFault}
 use Rattle.command_line.specs.declared.fault.ParseFault.TheVariants.{Incomplete, Stripes}
+use Rattle.streams.proofs.Tallies.{uncalled}
+use Rattle.program.specs.declared.fault.Fault.TheVariants.{OutOfMemory}
+use Rattle.program.proofs.Calls.{blamed_at, served_at}
 use Rattle.program.proofs.Faulting.{at_err, at_ok, ended_by, ended_in_help, ended_out_of_memory, helped_by, refused_by}
 use Rattle.program.proofs.call.command.Goals as goal
 
@@ -51,3 +54,22 @@ returns-in-Err-clause-faulted g c one =
     let due = at_err _ c.perform-done.result c.in-Err.fault c.in-Err.is c.perform-done.ensures.fault in
     let leaves = at_err _ c.perform-done.result c.in-Err.fault c.in-Err.is c.perform-done.ensures.leaves in
     ended_by _ _ _ _ _ _ _ _ c.in-Ok.arguments p c.in-Err.fault due leaves c.report_fault-in-Err.ensures.reported
+
+pub returns-in-Err-OutOfMemory-clause-blamed : goal.returns-in-Err-OutOfMemory-clause-blamed
+returns-in-Err-OutOfMemory-clause-blamed g c one = (OutOfMemory, c.report_fault.ensures.reported, (uncalled _, uncalled _))
+
+pub returns-in-Err-Refused-clause-blamed : goal.returns-in-Err-Refused-clause-blamed
+returns-in-Err-Refused-clause-blamed g c one = c.answer.ensures.blamed one _
+
+pub returns-in-Err-Refused-clause-served : goal.returns-in-Err-Refused-clause-served
+returns-in-Err-Refused-clause-served g c zero =
+    let done = c.answer.ensures.served zero in
+    ((uncalled _, done.0), done.1)
+
+pub returns-in-Ok-done-clause-served : goal.returns-in-Ok-done-clause-served
+returns-in-Ok-done-clause-served g c zero =
+    (served_at _ _ _ _ _ _ c.in-Ok-done.is c.perform-done.ensures.calls, at_ok _ c.perform-done.result _ c.in-Ok-done.is c.perform-done.ensures.flushed)
+
+pub returns-in-Err-clause-blamed : goal.returns-in-Err-clause-blamed
+returns-in-Err-clause-blamed g c one =
+    (c.in-Err.fault, c.report_fault-in-Err.ensures.reported, blamed_at _ _ _ _ _ _ c.in-Err.is c.perform-done.ensures.calls)

@@ -4,16 +4,26 @@ use Rattle.program.proofs.Faulting.{err_is}
 use Rattle.program.proofs.Found.{over_journal}
 use Rattle.program.proofs.TooLarge.{past_limit}
 use Rattle.program.proofs.Replayed.{replayed_from}
+use Rattle.program.proofs.Calls.{of_dialogue, of_journal, told}
 use Rattle.program.proofs.debug.replay_in.Goals as goal
 
 pub returns-clause-ok : goal.returns-clause-ok
 returns-clause-ok g c =
-    replayed_from true c.args.journal.now (g.R.Read.remaining c.args.input.now) (g.W.Write.contents c.args.out.now) (g.W.Write.contents c.run_replay.new.out)
+    replayed_from true c.args.journal.now (g.R.CountedRead.remaining c.args.input.now) (g.W.CountedWrite.contents c.args.out.now) (g.W.CountedWrite.contents c.run_replay.new.out)
     c.args.session.now c.read_journal.new.session (length c.run_replay.new.session.kept)
     c.in_ok-read_journal.ensures.ok c.read_journal.ensures.opening c.read_journal.ensures.tail c.in_ok-run_replay.ensures.done
 
 pub returns-in_err-run_replay-clause-fault : goal.returns-in_err-run_replay-clause-fault
 returns-in_err-run_replay-clause-fault g c =
-    let commands = g.R.Read.remaining c.args.input.now in
+    let commands = g.R.CountedRead.remaining c.args.input.now in
     err_is _ c.from_residual-in_err-run_replay.result _ c.from_residual-in_err-run_replay.ensures.1 (over_journal _ _ commands c.args.journal.now _ (λ i same. c.in_err-run_replay.ensures.config i (ap Err same))
     (λ same. IfSome_then commands (c.in_err-run_replay.ensures.large (ap Err same)) (λ bytes writes. past_limit _ _ bytes writes.fits)))
+
+pub returns-in_err-read_journal-clause-calls : goal.returns-in_err-read_journal-clause-calls
+returns-in_err-read_journal-clause-calls g c =
+    told _ _ _ _ _ _ c.from_residual.ensures.1 (of_journal _ _ _)
+
+pub returns-in_err-run_replay-clause-calls : goal.returns-in_err-run_replay-clause-calls
+returns-in_err-run_replay-clause-calls g c =
+    told _ _ _ _ _ _ c.from_residual-in_err-run_replay.ensures.1
+    (of_dialogue _ _ _ _ _ c.in_err-run_replay.ensures.reads c.in_err-run_replay.ensures.writes)

@@ -9,6 +9,7 @@ use Rattle.program.specs.WorkerReads.{AreOfReads}
 use Rattle.program.proofs.Dealing.{reads_walked}
 use Rattle.program.proofs.Faulting.{err_is}
 use Rattle.program.proofs.Stopping.{could_begin, leaves, leaves_early, of_run}
+use Rattle.program.proofs.Calls.{told, told_behind}
 use Rattle.program.proofs.drive.drive.Goals as goal
 
 -- what follows from what is said of the value in an `Ok`
@@ -27,7 +28,7 @@ returns-clause-ok g c =
     let first = c.in_ok-session.ensures.first in
     let workers = c.args.arguments.now.workers in
     let stripes = ap (λ x. x.config.stripes) (first.same ∙ first.opened.is) in
-    let input = g.R.Read.remaining c.args.input.now in
+    let input = g.R.CountedRead.remaining c.args.input.now in
     on_ok_both c.write_run-written.result (λ few done. held c.drive-run.result few done c.drive-run.ensures.run c.drive-run.ensures.legal (λ driven few written run legal. record {
       faultless = IfSome_then input c.in_ok-pieces.ensures.dealt (λ bytes h. h.0);
       opening = c.in_ok-session.session.opening;
@@ -43,19 +44,19 @@ returns-clause-ok g c =
 pub returns-in_err-pieces-clause-leaves : goal.returns-in_err-pieces-clause-leaves
 returns-in_err-pieces-clause-leaves g c =
     let arguments = c.args.arguments.now in
-    err_is _ c.from_residual.result _ c.from_residual.ensures.1 (leaves_early arguments.config arguments.workers arguments.format (g.R.Read.remaining c.args.input.now) _ _ _ _ c.in_err-pieces.ensures.reading refl refl)
+    err_is _ c.from_residual.result _ c.from_residual.ensures.1 (leaves_early arguments.config arguments.workers arguments.format (g.R.CountedRead.remaining c.args.input.now) _ _ _ _ c.in_err-pieces.ensures.reading refl refl)
 
 pub returns-clause-leaves : goal.returns-clause-leaves
 returns-clause-leaves g c =
     let arguments = c.args.arguments.now in
-    IfErr-weaker c.write_run-written.result _ _ (λ fault left. leaves arguments.config arguments.workers arguments.format (g.R.Read.remaining c.args.input.now) _ _ _
+    IfErr-weaker c.write_run-written.result _ _ (λ fault left. leaves arguments.config arguments.workers arguments.format (g.R.CountedRead.remaining c.args.input.now) _ _ _
     (map (λ p. p.items) c.in_ok-pieces.pieces.items) c.in_ok-session.session c.drive-run.result c.in_ok-session.ensures.first c.in_ok-session.ensures.limit c.in_ok-pieces.ensures.dealt c.drive-run.ensures.fault fault left)
     c.write_run-written.ensures.leaves
 
 pub returns-clause-fault : goal.returns-clause-fault
 returns-clause-fault g c =
     let arguments = c.args.arguments.now in
-    IfErr-weaker c.write_run-written.result _ _ (λ fault left. of_run arguments.config arguments.workers arguments.format (g.R.Read.remaining c.args.input.now) _ _ (Unit {0})
+    IfErr-weaker c.write_run-written.result _ _ (λ fault left. of_run arguments.config arguments.workers arguments.format (g.R.CountedRead.remaining c.args.input.now) _ _ (Unit {0})
     (map (λ p. p.items) c.in_ok-pieces.pieces.items) c.in_ok-session.session c.drive-run.result c.in_ok-session.ensures.first c.in_ok-session.ensures.limit c.in_ok-pieces.ensures.dealt c.drive-run.ensures.fault fault left)
     c.write_run-written.ensures.leaves
 
@@ -66,3 +67,15 @@ write_run-written-requires g c =
     let n : length pieces ≡ c.args.arguments.now.workers = c.in_ok-pieces.ensures.many in
     IfErr-weaker c.drive-run.result _ _ (λ fault left. could_begin fault pieces c.in_ok-session.session left (omega (n, c.requires.some, arith))
     (omega (n, c.requires.few, arith)) (ap (λ x. x.holder) (first.same ∙ first.opened.is))) c.drive-run.ensures.fault
+
+pub returns-in_err-pieces-clause-calls : goal.returns-in_err-pieces-clause-calls
+returns-in_err-pieces-clause-calls g c =
+    told _ _ _ _ _ _ c.from_residual.ensures.1 (c.in_err-pieces.ensures.calls _)
+
+pub returns-in_err-session-clause-calls : goal.returns-in_err-session-clause-calls
+returns-in_err-session-clause-calls g c =
+    told _ _ _ _ _ _ c.from_residual-in_err-session.ensures.1 (c.in_ok-pieces.ensures.calls _)
+
+pub returns-clause-calls : goal.returns-clause-calls
+returns-clause-calls g c =
+    told_behind _ _ _ _ _ (c.in_ok-pieces.ensures.calls (g.W.CountedWrite.tally c.args.out.now)).0 c.write_run-written.ensures.calls

@@ -1,4 +1,4 @@
-use Rattle.std.proofs.Common.{◌≡◌, ◌∙◌, ◌++◌, List, ℕ, ap, sym, subst, false}
+use Rattle.std.proofs.Common.{rules, ◌≡◌, ◌∙◌, ◌++◌, [], List, ℕ, ap, sym, subst, false}
 use Rattle.std.specs.Prelude.{is_err}
 use Rattle.step_record.specs.Answers.{AnswersItsActs}
 use Rattle.step_record.specs.History.{data_after}
@@ -15,10 +15,12 @@ returns-clause-taken c =
     let good : is_err c.write_journal.result ≡ false = sym c.is_err.ensures.value ∙ c.if-is_err.false in
     let lines : AreLines Two s.kept =
     of_ok c.write_journal.result (AnswersItsActs act → AreLines Two s.kept) good c.write_journal.ensures.lines c.replies_belong.ensures in
-    let wrote : c.write_journal.new.writer.items ≡ c.new-text.result.items ++ journal_of Two s.kept =
-    of_ok c.write_journal.result (c.write_journal.new.writer.items ≡ c.new-text.result.items ++ journal_of Two s.kept) good c.write_journal.ensures.text in
+    let wrote : c.write_journal.new.writer.inner.items ≡ c.new-text.result.inner.items ++ journal_of Two s.kept =
+    of_ok c.write_journal.result (c.write_journal.new.writer.inner.items ≡ c.new-text.result.inner.items ++ journal_of Two s.kept) good c.write_journal.ensures.text in
+    let empty : c.new-text.result.inner.items ≡ [] = search rules in
+    let held : c.as_slice-reader.result.now ≡ c.write_journal.new.writer.inner.items = search rules in
     let text : c.as_slice-reader.result.now ≡ journal_of Two s.kept =
-    c.as_slice-reader.ensures.value ∙ wrote ∙ ap (λ (t : List ℕ). t ++ journal_of Two s.kept) c.new-text.ensures.items in
+    held ∙ wrote ∙ ap (λ (t : List ℕ). t ++ journal_of Two s.kept) empty in
     let legal = c.sound.ensures.legal in
     let stands = c.engine.ensures in
     let reachable : IsReachable s.opening =

@@ -1,0 +1,51 @@
+-- Which faults are those of a call of the input or the output. They come just where one failed.
+use Rattle.std.specs.Prelude.{ℕ, List, Option, Result, MatchResult}
+use Rattle.streams.specs.Tally.{Exhausts, IsServed}
+use Rattle.streams.specs.declared.patience.TheConstants.{INTERRUPTIONS}
+use Rattle.streams.specs.declared.tally.Tally.{Tally}
+use Rattle.trace_read.specs.declared.fault.TraceFault.TheVariants as trace
+use Rattle.debug_commands.specs.declared.fault.DebugFault.TheVariants as debug
+use Rattle.program.specs.FaultLine.{IsReported}
+use Rattle.program.specs.declared.fault.Fault.{Fault}
+use Rattle.program.specs.declared.fault.Fault.TheVariants.{Debug, Trace, Write}
+
+-- What the input counted before and after, and the output. No call failed, and fewer than a million of either were
+-- interrupted; or a read failed, or the millionth was interrupted; or so of a write or a flush.
+abbrev pub AreServed : Tally → Tally → Tally → Tally → Type 0
+AreServed input read output written = IsServed input read × IsServed output written
+
+abbrev pub IsReadFailed : Tally → Tally → Tally → Tally → Type 0
+IsReadFailed input read output written = Exhausts INTERRUPTIONS input read × IsServed output written
+
+abbrev pub IsWriteFailed : Tally → Tally → Tally → Tally → Type 0
+IsWriteFailed input read output written = IsServed input read × Exhausts INTERRUPTIONS output written
+
+-- what became of the calls where this is the fault
+abbrev pub BlamesCalls : Fault → Tally → Tally → Tally → Tally → Type 0
+BlamesCalls (Trace trace.Read) input read output written = IsReadFailed input read output written
+BlamesCalls (Debug debug.Read) input read output written = IsReadFailed input read output written
+BlamesCalls (Debug debug.Write) input read output written = IsWriteFailed input read output written
+BlamesCalls Write input read output written = IsWriteFailed input read output written
+BlamesCalls fault input read output written = AreServed input read output written
+
+-- what became of them where this is the result
+abbrev pub TellsOfCalls : {A : Type 0} → Result A Fault → Tally → Tally → Tally → Tally → Type 0
+TellsOfCalls result input read output written = MatchResult result (λ _. AreServed input read output written)
+    (λ fault. BlamesCalls fault input read output written)
+
+-- the fault, if it is one, is of no call
+abbrev pub BlamesNoCall : {A : Type 0} → Result A Fault → Type 0
+BlamesNoCall result = (input output : Tally) → TellsOfCalls result input input output output
+
+-- where the output is not there yet, and where the input is no longer
+abbrev pub TellsOfReads : {A : Type 0} → Result A Fault → Tally → Tally → Type 0
+TellsOfReads result input read = (output : Tally) → TellsOfCalls result input read output output
+
+abbrev pub TellsOfWrites : {A : Type 0} → Result A Fault → Tally → Tally → Type 0
+TellsOfWrites result output written = (input : Tally) → TellsOfCalls result input input output written
+
+-- A fault was reported, by its line on the fault output from `silent` to `line`, that is one of these calls just where one
+-- failed.
+abbrev pub ReportsCalls : Option (List ℕ) → Option (List ℕ) → Tally → Tally → Tally → Tally → Type 0
+ReportsCalls silent line input read output written =
+    (fault : Fault) × IsReported fault silent line × BlamesCalls fault input read output written
