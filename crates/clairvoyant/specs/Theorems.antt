@@ -7,8 +7,8 @@ use Rattle.clairvoyant.specs.Clairvoyant.{ClairvoyantState, clairvoyant_at, clai
 
 -- For a cache that made the first accesses of its trace, an accepted step is the next of them, answers the outcome
 -- that the definition gives at its place, and leaves a cache that made one access more.
-abbrev pub ClairvoyantStands : Type 0
-ClairvoyantStands = (d : ClairvoyantState) (k : ℕ) (o : Outcome) (e : ClairvoyantState)
+abbrev pub ClairvoyantStepLaw : Type 0
+ClairvoyantStepLaw = (d : ClairvoyantState) (k : ℕ) (o : Outcome) (e : ClairvoyantState)
     → d ≡ clairvoyant_at d.capacity d.trace d.stats.accesses → clairvoyant_act d k ≡ Some (o, e)
     → (d.stats.accesses < length d.trace) × (k ≡ slice_index d.trace d.stats.accesses)
     × (o ≡ belady_outcome d.capacity d.trace d.stats.accesses)

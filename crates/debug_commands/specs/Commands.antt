@@ -45,8 +45,8 @@ command_named d name.Run ws = Some (command.Run, ws)
 command_named d name.Break ws = point_at d ws >>= λ b. Some (command.Break b.0, b.1)
 command_named d name.Clear ws = Some (command.Clear, ws)
 command_named d name.Show ws = Some (command.Show, ws)
-command_named Policies name.Part ws = Some (command.Special, ws)
-command_named Journal name.Save ws = Some (command.Special, ws)
+command_named Policies name.Part ws = Some (command.Own, ws)
+command_named Journal name.Save ws = Some (command.Own, ws)
 command_named d name.Quit ws = Some (command.Quit, ws)
 command_named d _ ws = None
 

@@ -31,7 +31,7 @@ pub enum Command {
     /// What is seen at the position.
     Show,
     /// The command that only this dialect has: `part` or `save`.
-    Special,
+    Own,
     /// Ends the run.
     Quit,
 }

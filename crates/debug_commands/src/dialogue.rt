@@ -162,7 +162,7 @@ fn answer<T: Timeline>(
             text.extend_from_slice(b"ok\n")
         }
         InputLine::Known(Command::Show) => timeline.show(alloc, text),
-        InputLine::Known(Command::Special) => timeline.own(alloc, text),
+        InputLine::Known(Command::Own) => timeline.own(alloc, text),
     }
 }
 

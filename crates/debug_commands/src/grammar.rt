@@ -90,12 +90,12 @@ fn named_command(dialect: Dialect, name: Name, words: &mut Words) -> Option<Comm
         Name::Clear => Some(Command::Clear),
         Name::Show => Some(Command::Show),
         Name::Part => match dialect {
-            Dialect::Policies => Some(Command::Special),
+            Dialect::Policies => Some(Command::Own),
             Dialect::Journal => None,
         },
         Name::Save => match dialect {
             Dialect::Policies => None,
-            Dialect::Journal => Some(Command::Special),
+            Dialect::Journal => Some(Command::Own),
         },
         Name::Quit => Some(Command::Quit),
         _ => None,

@@ -13,7 +13,7 @@ use Rattle.journal.specs.Session.{SessionState, IsMovedTo}
 use Rattle.policies.specs.declared.any_policy.AnyPolicy.{AnyPolicy}
 use Rattle.policies.specs.AnyPolicy.{outcomes_on, HasAccessed}
 use Rattle.policies.specs.AnyStep.{any_act}
-use Rattle.policies.specs.Theorems.{AnyAnswers, AnyStands}
+use Rattle.policies.specs.Theorems.{AnyAnswers, AnyStepLaw}
 use Rattle.debug_policies.specs.OnePolicy.{outcome_at, steps_of, IsPolicyAt}
 use Rattle.debug_policies.proofs.Walked.{moves, next-of}
 
@@ -43,7 +43,7 @@ unmoved j trace old new is kept engine opening limit = record {
 }
 
 -- the next access was made
-pub one_more : AnyStands → (j : Job) (trace keys : List ℕ) (old new : State) (key : ℕ) (o : Outcome) → IsPolicyAt j trace old → keys ≡ trace
+pub one_more : AnyStepLaw → (j : Job) (trace keys : List ℕ) (old new : State) (key : ℕ) (o : Outcome) → IsPolicyAt j trace old → keys ≡ trace
     → length old.kept < length keys → key ≡ slice_index keys (length old.kept) → any_act old.engine key ≡ Some (o, new.engine)
     → new.kept ≡ old.kept ++ record { step = key; reply = o } ∷ [] → new.opening ≡ old.opening → new.limit ≡ old.limit → IsPolicyAt j trace new
 one_more law j trace keys old new key o is same lt key_is made kept opening limit =
@@ -65,7 +65,7 @@ one_more law j trace keys old new key o is same lt key_is made kept opening limi
     }
 
 -- the next access was made, or nothing was done
-pub after_step : AnyStands → (r : Result Outcome AllocError) (j : Job) (trace keys : List ℕ) (old new : State) (key : ℕ) → IsPolicyAt j trace old → keys ≡ trace
+pub after_step : AnyStepLaw → (r : Result Outcome AllocError) (j : Job) (trace keys : List ℕ) (old new : State) (key : ℕ) → IsPolicyAt j trace old → keys ≡ trace
     → length old.kept < length keys → key ≡ slice_index keys (length old.kept) → IfOk r (λ o. any_act old.engine key ≡ Some (o, new.engine))
     → IfOk r (λ o. new.kept ≡ old.kept ++ record { step = key; reply = o } ∷ [])
     → OnErr r ((new.kept ≡ old.kept) × (new.engine ≡ old.engine)) → new.opening ≡ old.opening → new.limit ≡ old.limit → IsPolicyAt j trace new
@@ -90,7 +90,7 @@ answered law (Ok o) j trace keys i d e key same lt s key_is h =
 
 -- ---- going back
 
-stands_after : AnyStands → (j : Job) (trace keys : List ℕ) (x : AnyPolicy) (es : List (Entry ℕ Outcome)) → HasAccessed j trace keys x → IsLegal any_act x es
+stands_after : AnyStepLaw → (j : Job) (trace keys : List ℕ) (x : AnyPolicy) (es : List (Entry ℕ Outcome)) → HasAccessed j trace keys x → IsLegal any_act x es
     → HasAccessed j trace (keys ++ steps_of es) (data_after any_act x es)
 stands_after law j trace keys x [] s legal = subst (λ l. HasAccessed j trace l x) (sym (append-nil keys)) s
 stands_after law j trace keys x (e ∷ es) s legal =
@@ -109,7 +109,7 @@ pub undone_within : (at n m : ℕ) → n ≤ at → IsOnTheWay at n m → m ≤ 
 undone_within at n m le (inl back) = back.1
 undone_within at n m le (inr on) = omega (arith, le, on.0, on.1)
 
-pub moved : AnyStands → (j : Job) (trace : List ℕ) (n : ℕ) (old new : State) → IsPolicyAt j trace old → IsMovedTo n old new → n ≤ length old.kept
+pub moved : AnyStepLaw → (j : Job) (trace : List ℕ) (n : ℕ) (old new : State) → IsPolicyAt j trace old → IsMovedTo n old new → n ≤ length old.kept
     → IsLegal any_act new.opening new.kept → new.engine ≡ data_after any_act new.opening new.kept → IsPolicyAt j trace new
 moved law j trace n old new is to le legal shows =
     let kept : new.kept ≡ take n old.kept = to.kept ∙ take-append-le n old.kept old.tail le in

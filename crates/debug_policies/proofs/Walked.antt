@@ -12,7 +12,7 @@ use Rattle.step_record.specs.Stats.{is_hit}
 use Rattle.policies.specs.declared.any_policy.AnyPolicy.{AnyPolicy}
 use Rattle.policies.specs.AnyPolicy.{HasAccessed, outcomes_on}
 use Rattle.policies.specs.AnyStep.{any_act}
-use Rattle.policies.specs.Theorems.{AnyStands, AnyAccepts, AnyAnswers}
+use Rattle.policies.specs.Theorems.{AnyStepLaw, AnyAccepts, AnyAnswers}
 use Rattle.policies.proofs.Stretches.{next-ahead, added-next}
 use Rattle.debug_policies.specs.Part.{is_hit_at, AgreeBelow, IsPart, IsNoted, IsFirstOther}
 
@@ -34,7 +34,7 @@ ready law j trace keys i d same lt few s none =
     law j trace (take i trace) (drop (suc i) trace ++ []) (slice_index trace i) d (next-of trace i below) few s
     (subst (λ (l : List ℕ). any_act d (slice_index l i) ≡ None) same none)
 
-pub moves : AnyStands → (j : Job) (trace keys : List ℕ) (i : ℕ) (d : AnyPolicy) (o : Outcome) (e : AnyPolicy) → keys ≡ trace
+pub moves : AnyStepLaw → (j : Job) (trace keys : List ℕ) (i : ℕ) (d : AnyPolicy) (o : Outcome) (e : AnyPolicy) → keys ≡ trace
     → i < length keys → HasAccessed j trace (take i trace) d → any_act d (slice_index keys i) ≡ Some (o, e)
     → HasAccessed j trace (take (i + 1) trace) e
 moves law j trace keys i d o e same lt s h =

@@ -129,7 +129,7 @@ fn walk_both<G: Gate>(
     ensures { (j k : Job) → HasAccessed j trace.now [] one.old → HasAccessed k trace.now [] other.old
         → IfOk result (IsPart (outcomes_on j trace.now) (outcomes_on k trace.now)) }
 {
-    theorems::any_stands();
+    theorems::any_step_law();
     theorems::any_covers_trace();
     let mut noted = [false; STRETCH];
     let len = trace.keys().len();
@@ -213,7 +213,7 @@ pub fn hit_at<C>(cache: &mut AnyPolicy, trace: &Trace, i: usize) -> Result<bool,
         → IfOk result (λ hit. hit ≡ is_hit_at (outcomes_on j trace.now) (i + 1)) }
 {
     theorems::any_accepts();
-    theorems::any_stands();
+    theorems::any_step_law();
     theorems::any_answers();
     let keys = trace.keys();
     cache.prefetch_at(keys, i);

@@ -65,7 +65,7 @@ impl<'a> OnePolicy<'a> {
         ensures at { OnOk result (self.new.at ≡ self.old.at + 1) }
         ensures outcome { IfOk result (λ o. o ≡ outcome_at self.old.job self.old.trace (self.old.at + 1)) }
     {
-        theorems::any_stands();
+        theorems::any_step_law();
         theorems::any_accepts();
         theorems::any_answers();
         let key = self.trace.keys()[self.session.len()];
@@ -79,7 +79,7 @@ impl<'a> OnePolicy<'a> {
         ensures trace { self.new.trace ≡ self.old.trace }
         ensures at { OnOk result (self.new.at ≡ self.old.at - n) }
     {
-        theorems::any_stands();
+        theorems::any_step_law();
         match self.session.back(n) {
             Ok(()) => Ok(()),
             Err(BackFault::OutOfMemory { .. }) => Err(AllocError),

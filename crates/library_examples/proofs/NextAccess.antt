@@ -9,7 +9,7 @@ use Rattle.step_record.specs.declared.outcome.Outcome.TheVariants.{Kept}
 use Rattle.policies.specs.declared.any_policy.AnyPolicy.{AnyPolicy}
 use Rattle.policies.specs.AnyPolicy.{HasAccessed, outcomes_on}
 use Rattle.policies.specs.AnyStep.{any_act}
-use Rattle.policies.specs.Theorems.{AnyStands, AnyAccepts, AnyAnswers, AnyCoversTrace}
+use Rattle.policies.specs.Theorems.{AnyStepLaw, AnyAccepts, AnyAnswers, AnyCoversTrace}
 use Rattle.policies.proofs.Stretches.{next-ahead, added-next}
 
 module _ (j : Job) (trace : List ℕ) where
@@ -26,7 +26,7 @@ module _ (j : Job) (trace : List ℕ) where
       (subst (λ (l : List ℕ). any_act d (slice_index l i) ≡ None) same none)
 
   -- once it is made, the cache made one access more, and its outcome is that of the job over the whole trace
-  pub made : AnyStands → AnyAnswers → AnyCoversTrace → (keys : List ℕ) (i : ℕ) (d e : AnyPolicy) (o : Outcome) (before after : List Outcome)
+  pub made : AnyStepLaw → AnyAnswers → AnyCoversTrace → (keys : List ℕ) (i : ℕ) (d e : AnyPolicy) (o : Outcome) (before after : List Outcome)
       → keys ≡ trace → i < length keys → HasAccessed j trace (take i trace) d → any_act d (slice_index keys i) ≡ Some (o, e)
       → before ≡ take i (outcomes_on j trace) → after ≡ before ++ o ∷ []
       → HasAccessed j trace (take (i + 1) trace) e × (after ≡ take (i + 1) (outcomes_on j trace))

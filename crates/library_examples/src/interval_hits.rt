@@ -40,7 +40,7 @@ pub fn outcomes(alloc: Global, job: &Job, trace: &Trace) -> Result<Vec<Outcome>,
     requires checked { config_fault job.now.config ≡ Ok tt }
     ensures { IfOk result (λ outcomes. outcomes.items ≡ outcomes_on job.now trace.now) }
 {
-    theorems::any_stands();
+    theorems::any_step_law();
     theorems::any_accepts();
     theorems::any_answers();
     theorems::any_covers_trace();

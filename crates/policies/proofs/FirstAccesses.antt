@@ -11,7 +11,7 @@ use Rattle.policies.specs.declared.any_policy.AnyPolicy.TheVariants.{Queues, Opt
 use Rattle.policies.specs.AnyPolicy.{stats_in, stats_on, outcomes_on, HasAccessed}
 use Rattle.policies.specs.QueueCache.{QueueState, queue_state_after, frequency_after, empty_queue_state, outcomes_after, outcomes_from, access_response}
 use Rattle.policies.proofs.Answered.{outcomes-length}
-use Rattle.policies.proofs.AnyStanding.{any_covers_trace, any_reports}
+use Rattle.policies.proofs.StepLaws.{any_covers_trace, any_reports}
 use Rattle.policies.proofs.Counting.{after-counts}
 
 from_first : (j : Job) (past : List ℕ) (d : QueueState) (n : ℕ) (keys : List ℕ) → outcomes_from j past d (take n keys) ≡ take n (outcomes_from j past d keys)

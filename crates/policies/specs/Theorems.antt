@@ -17,8 +17,8 @@ use Rattle.policies.specs.AnyStep.{any_act, any_record_of, any_asks}
 
 -- For a cache of queues that made some accesses, an accepted step answers the outcome that the definition gives after
 -- all of them, and leaves a cache that made one access more.
-abbrev pub QueuesStand : Type 0
-QueuesStand = (j : Job) (keys : List ℕ) (d : QueueState) (k : ℕ) (o : Outcome) (e : QueueState) → StandsFor j keys d
+abbrev pub QueuesStepLaw : Type 0
+QueuesStepLaw = (j : Job) (keys : List ℕ) (d : QueueState) (k : ℕ) (o : Outcome) (e : QueueState) → StandsFor j keys d
     → queue_act d k ≡ Some (o, e) → (o ≡ outcome_after j keys k) × StandsFor j (keys ++ k ∷ []) e
 
 -- It refuses a key only after MAX_STEPS accesses.
@@ -43,14 +43,14 @@ RecordsShowLeaver = (d : QueueState) (k : ℕ) → IsReached d
 
 -- For every list of accesses, a cache of Lru holds the last distinct keys, and the outcome of an access is the one that
 -- the whole list gives.
-abbrev pub LruStands : Type 0
-LruStands = (j : Job) (keys : List ℕ) (k : ℕ) → j.policy ≡ Lru → 1 ≤ j.config.capacity
+abbrev pub LruStepLaw : Type 0
+LruStepLaw = (j : Job) (keys : List ℕ) (k : ℕ) → j.policy ≡ Lru → 1 ≤ j.config.capacity
     → ((state_after j keys).queues ≡ single_queue (lru_residents j.config.capacity keys))
     × (outcome_after j keys k ≡ lru_outcome j.config.capacity keys k)
 
 -- A cache of any policy that made some accesses made one more after an accepted step.
-abbrev pub AnyStands : Type 0
-AnyStands = (j : Job) (trace keys : List ℕ) (d : AnyPolicy) (k : ℕ) (o : Outcome) (e : AnyPolicy)
+abbrev pub AnyStepLaw : Type 0
+AnyStepLaw = (j : Job) (trace keys : List ℕ) (d : AnyPolicy) (k : ℕ) (o : Outcome) (e : AnyPolicy)
     → HasAccessed j trace keys d → any_act d k ≡ Some (o, e) → HasAccessed j trace (keys ++ k ∷ []) e
 
 -- One that made the first accesses of a trace, fewer than all, accepts the next of them.

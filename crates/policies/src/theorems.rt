@@ -2,14 +2,14 @@
 //! nothing: its contract is the theorem.
 ghost use Rattle.policies.specs.Residents.{ResidentsFit, ResidentsDistinct, ResidentsCounted};
 ghost use Rattle.policies.specs.Residents.{HitsAreResidents, FetchesOnDemand, StatsAddUp, MissesFit};
-ghost use Rattle.policies.specs.Theorems.{QueuesStand, QueuesAccept, QueuesCount, HitsKeepAll, RecordsShowLeaver};
-ghost use Rattle.policies.specs.Theorems.{LruStands, AnyHitsKeepAll};
-ghost use Rattle.policies.specs.Theorems.{AnyStands, AnyAccepts, AnyIsOne, AnyReports, AnyAnswers, AnyCoversTrace};
+ghost use Rattle.policies.specs.Theorems.{QueuesStepLaw, QueuesAccept, QueuesCount, HitsKeepAll, RecordsShowLeaver};
+ghost use Rattle.policies.specs.Theorems.{LruStepLaw, AnyHitsKeepAll};
+ghost use Rattle.policies.specs.Theorems.{AnyStepLaw, AnyAccepts, AnyIsOne, AnyReports, AnyAnswers, AnyCoversTrace};
 
 /// An accepted step of a cache of queues answers what the definition gives over the whole list of accesses, and leaves
 /// that list with the key at its end.
-pub fn queues_stand()
-    ensures { QueuesStand }
+pub fn queues_step_law()
+    ensures { QueuesStepLaw }
 {}
 
 /// A cache of queues refuses a key only after 2^32 accesses.
@@ -34,15 +34,15 @@ pub fn records_show_leaver()
 {}
 
 /// What the table of moves gives for Lru is what the last distinct keys give, over the whole list of accesses.
-pub fn lru_stands()
-    ensures { LruStands }
+pub fn lru_step_law()
+    ensures { LruStepLaw }
 {}
 
 /// A cache of any policy that made some accesses made one more after an accepted step.
-pub fn any_stands()
-    ensures { AnyStands }
+pub fn any_step_law()
+    ensures { AnyStepLaw }
 {
-    clairvoyant::theorems::clairvoyant_stands();
+    clairvoyant::theorems::clairvoyant_step_law();
 }
 
 /// A cache of any policy that made the first accesses of a trace accepts the next of them.
@@ -66,7 +66,7 @@ pub fn any_reports()
 pub fn any_answers()
     ensures { AnyAnswers }
 {
-    clairvoyant::theorems::clairvoyant_stands();
+    clairvoyant::theorems::clairvoyant_step_law();
 }
 
 /// A job over a trace has one outcome for each access.

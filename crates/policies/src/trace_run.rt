@@ -18,7 +18,7 @@ pub fn access_all(cache: &mut AnyPolicy, keys: &[Key]) -> Result<(), AllocError>
     ensures { (j : Job) (trace done : List ℕ) → HasAccessed j trace done cache.old
         → OnOk result (HasAccessed j trace (done ++ keys.now) cache.new) }
 {
-    theorems::any_stands();
+    theorems::any_step_law();
     theorems::any_accepts();
     for i in 0..keys.len() {
         cache.prefetch_at(keys, i);

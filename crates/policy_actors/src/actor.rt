@@ -131,7 +131,7 @@ fn access_whole(cache: &mut AnyPolicy, uses: &NextUse) -> Result<(), AllocError>
     ensures { (j : Job) (trace done : List ℕ) → HasAccessed j trace done cache.old
         → OnOk result (HasAccessed j trace (done ++ uses.now) cache.new) }
 {
-    theorems::any_stands();
+    theorems::any_step_law();
     theorems::any_accepts();
     for i in 0..uses.len() {
         match cache.access::<CountedLate>(uses.key(i)) {

@@ -15,7 +15,7 @@ use Rattle.policies.specs.Lru.{distinct_keys, lru_residents}
 use Rattle.policies.specs.QueueCache.{residents_in}
 use Rattle.policies.specs.SingleQueue.{single_queue}
 use Rattle.policies.specs.AnyPolicy.{outcomes_on, stats_on}
-use Rattle.policies.specs.Theorems.{LruStands, AnyCoversTrace}
+use Rattle.policies.specs.Theorems.{LruStepLaw, AnyCoversTrace}
 use Rattle.policies.proofs.Counting.{hits-misses}
 use Rattle.policies.proofs.OneQueue.{residents-distinct}
 use Rattle.policies.proofs.Recency.{moved, residents-snoc}
@@ -149,7 +149,7 @@ nothing : (l : List ℕ) → length l ≤ 0 → l ≡ []
 nothing [] h = refl
 nothing (a ∷ l) h = absurd (omega (arith, h))
 
-lru-kept : LruStands → (j : Job) (trace : List ℕ) (i : ℕ) → j.policy ≡ Lru → kept j trace i ≡ lru_at j.config.capacity trace i
+lru-kept : LruStepLaw → (j : Job) (trace : List ℕ) (i : ℕ) → j.policy ≡ Lru → kept j trace i ≡ lru_at j.config.capacity trace i
 lru-kept stands j trace i is =
     let c : ℕ = j.config.capacity in
     elim (cases_lt 0 c) [
@@ -160,13 +160,13 @@ lru-kept stands j trace i is =
           nothing (kept j trace i) (omega (arith, few, empty)) ∙ sym (nothing (lru_at c trace i) (omega (arith, few_too, empty)))
     ]
 
-pub lru-misses : LruStands → AnyCoversTrace → (j : Job) (trace : List ℕ) (n : ℕ) → j.policy ≡ Lru → n ≤ length trace
+pub lru-misses : LruStepLaw → AnyCoversTrace → (j : Job) (trace : List ℕ) (n : ℕ) → j.policy ≡ Lru → n ≤ length trace
     → (stats_on j (take n trace)).misses ≡ strategy_misses trace (lru_at j.config.capacity trace) n
 lru-misses stands covers j trace n is l =
     queue-misses covers j trace n (ap knows_trace is) l
     ∙ ap (λ m. n - m) (hits-agree trace (kept j trace) (lru_at j.config.capacity trace) n (λ i. lru-kept stands j trace i is))
 
-pub lru_competes : LruStands → AnyCoversTrace → LruCompetes
+pub lru_competes : LruStepLaw → AnyCoversTrace → LruCompetes
 lru_competes stands covers j trace h residents n is s l =
     rw (lru-misses stands covers j trace n is l) (competes j.config.capacity h trace residents n s l)
 
@@ -223,12 +223,12 @@ hits-more t r s (suc i) h =
       | inr e ↦ rw e (omega (arith, rest))
     ]
 
-lru-hits : LruStands → (j : Job) (trace : List ℕ) → j.policy ≡ Lru → (stats_on j trace).hits ≡ strategy_hits trace (lru_at j.config.capacity trace) (length trace)
+lru-hits : LruStepLaw → (j : Job) (trace : List ℕ) → j.policy ≡ Lru → (stats_on j trace).hits ≡ strategy_hits trace (lru_at j.config.capacity trace) (length trace)
 lru-hits stands j trace is =
     stats-queues j trace (ap knows_trace is) ∙ (sym (all-hits j trace)
     ∙ hits-agree trace (kept j trace) (lru_at j.config.capacity trace) (length trace) (λ i. lru-kept stands j trace i is))
 
-pub lru_hits_grow : LruStands → LruHitsGrow
+pub lru_hits_grow : LruStepLaw → LruHitsGrow
 lru_hits_grow stands small large trace is are le =
     let few = lru-hits stands small trace is in
     let many = lru-hits stands large trace are in

@@ -6,7 +6,7 @@ use Rattle.std.proofs.lemmas.Bool.{cases_Bool, cases_lt, eqb-true, eq-eqb, ltb-f
 use Rattle.step_record.specs.Keys.{has_key, keys_without}
 use Rattle.step_record.specs.Stats.{one_if}
 use Rattle.clairvoyant.proofs.Keys.{has-without}
-use Rattle.policies.specs.Theorems.{LruStands, AnyCoversTrace}
+use Rattle.policies.specs.Theorems.{LruStepLaw, AnyCoversTrace}
 use Rattle.policies.proofs.Recency.{IsDistinct, moved}
 use Rattle.optimality.specs.Strategy.{IsStrategy, strategy_misses}
 use Rattle.optimality.proofs.Counting.{count_keys, no, count-short, count-without, count-subset, count-passing, count-agree}
@@ -114,7 +114,7 @@ module _ (c h d : ℕ) (t : List ℕ) (residents : ℕ → List ℕ) (is : IsStr
   pays-always zero l = record { bound = rw (is.empty, drop-nil {A = ℕ} (0 - c)) (omega arith) }
   pays-always (suc i) l = pays-next i (omega (arith, l)) (pays-always i (omega (arith, l)))
 
-pub lru_competes_without_bypass : LruStands → AnyCoversTrace → LruCompetesWithoutBypass
+pub lru_competes_without_bypass : LruStepLaw → AnyCoversTrace → LruCompetesWithoutBypass
 lru_competes_without_bypass stands covers j trace h residents n is room s keeps l =
     let c : ℕ = j.config.capacity in
     rw (lru-misses stands covers j trace n is l) (elim (cases_lt h (c + 1)) [

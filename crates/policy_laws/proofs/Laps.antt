@@ -10,7 +10,7 @@ use Rattle.step_record.specs.Keys.{has_key}
 use Rattle.step_record.specs.Stats.{one_if}
 use Rattle.policies.specs.AnyPolicy.{stats_on}
 use Rattle.policies.specs.Lru.{distinct_keys, lru_residents}
-use Rattle.policies.specs.Theorems.{LruStands, AnyCoversTrace}
+use Rattle.policies.specs.Theorems.{LruStepLaw, AnyCoversTrace}
 use Rattle.policies.proofs.Recency.{IsDistinct, moved, residents-snoc}
 use Rattle.optimality.specs.Strategy.{IsStrategy, strategy_hits, strategy_misses}
 use Rattle.clairvoyant.proofs.Belady.{later}
@@ -246,7 +246,7 @@ worst-few c h r m k le less more =
     let all : d * (r * w) ≤ d * m = mul-le-mul_left d more in
     omega (arith, scaled, out, same, all)
 
-pub lru_bound_is_tight : LruStands → AnyCoversTrace → LruBoundIsTight
+pub lru_bound_is_tight : LruStepLaw → AnyCoversTrace → LruBoundIsTight
 lru_bound_is_tight stands covers j h n is le =
     let c : ℕ = j.config.capacity in
     let m : List ℕ = down (suc c) in

@@ -30,7 +30,7 @@ pub fn optimal_hits_grow()
 pub fn lru_hits_grow()
     ensures { LruHitsGrow }
 {
-    policies::theorems::lru_stands();
+    policies::theorems::lru_step_law();
 }
 
 /// At each place of every trace, Lru's misses at capacity c are at most (c + 1) / (c + 1 - h) times those of any
@@ -38,7 +38,7 @@ pub fn lru_hits_grow()
 pub fn lru_competes()
     ensures { LruCompetes }
 {
-    policies::theorems::lru_stands();
+    policies::theorems::lru_step_law();
     policies::theorems::any_covers_trace();
 }
 
@@ -46,7 +46,7 @@ pub fn lru_competes()
 pub fn lru_competes_without_bypass()
     ensures { LruCompetesWithoutBypass }
 {
-    policies::theorems::lru_stands();
+    policies::theorems::lru_step_law();
     policies::theorems::any_covers_trace();
 }
 
@@ -70,7 +70,7 @@ pub fn lru_competes_with_any()
 pub fn lru_bound_is_tight()
     ensures { LruBoundIsTight }
 {
-    policies::theorems::lru_stands();
+    policies::theorems::lru_step_law();
     policies::theorems::any_covers_trace();
 }
 

@@ -1,5 +1,5 @@
 use Rattle.std.proofs.Common.{◌≡◌, ℕ, ◌∙◌, ◌+◌, ◌<◌, ◌≤◌, length, take, subst, sym, arith}
-use Rattle.policies.proofs.AnyStanding.{any_covers_trace}
+use Rattle.policies.proofs.StepLaws.{any_covers_trace}
 use Rattle.policies.specs.AnyPolicy.{HasAccessed, outcomes_on}
 use Rattle.debug_policies.specs.declared.comparison.Comparison.{Comparison}
 use Rattle.debug_policies.specs.Comparison.{IsUpTo}

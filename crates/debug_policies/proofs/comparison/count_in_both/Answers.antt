@@ -1,5 +1,5 @@
 use Rattle.std.proofs.Common.{◌≡◌, ◌∙◌, length, ap, arith}
-use Rattle.policies.proofs.AnyStanding.{any_covers_trace}
+use Rattle.policies.proofs.StepLaws.{any_covers_trace}
 use Rattle.policies.specs.AnyPolicy.{outcomes_on}
 use Rattle.debug_policies.specs.Comparison.{compared_on}
 use Rattle.debug_policies.proofs.Compared.{compared-all}

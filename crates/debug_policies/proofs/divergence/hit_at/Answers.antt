@@ -24,7 +24,7 @@ access-requires g c =
 pub returns-clause-stands : goal.returns-clause-stands
 returns-clause-stands g c = λ j s.
     let at = (goal.at.returns-clause-stands g c).After-prefetch_at in
-    moves c.any_stands.ensures j c.args.trace.now c.keys-keys.result.now c.args.i c.prefetch_at.new.self c.in_ok-outcome.outcome c.access.new.cache
+    moves c.any_step_law.ensures j c.args.trace.now c.keys-keys.result.now c.args.i c.prefetch_at.new.self c.in_ok-outcome.outcome c.access.new.cache
     c.keys-keys.ensures.keys (below g at) (stands g at j s) c.in_ok-outcome.ensures
 
 pub returns-clause-hit : goal.returns-clause-hit

@@ -1,6 +1,6 @@
 use Rattle.std.proofs.Common.{◌≡◌, ◌∙◌, ◌+◌, ◌*◌, ◌<◌, ℕ, suc, min, List, [], ◌∷◌, ◌++◌, length, take, drop, ap, sym, subst, arith, append-nil}
 use Rattle.std.specs.Int.{div_ceil}
-use Rattle.policies.proofs.AnyStanding.{any_covers_trace}
+use Rattle.policies.proofs.StepLaws.{any_covers_trace}
 use Rattle.policies.proofs.Batches.{next-piece, taken-more}
 use Rattle.policies.specs.AnyPolicy.{HasAccessed, outcomes_on}
 use Rattle.intervals.specs.Intervals.{first_intervals, intervals_on}

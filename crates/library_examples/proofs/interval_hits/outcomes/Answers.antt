@@ -9,5 +9,5 @@ unreachable-requires c =
 
 pub loop-i-preserved : goal.loop-i-preserved
 loop-i-preserved c =
-    made c.args.job.now c.args.trace.now c.any_stands.ensures c.any_answers.ensures c.any_covers_trace.ensures c.keys-keys.result.now c.loop-i.i _ _ _ _ _
+    made c.args.job.now c.args.trace.now c.any_step_law.ensures c.any_answers.ensures c.any_covers_trace.ensures c.keys-keys.result.now c.loop-i.i _ _ _ _ _
     c.keys-keys.ensures.keys c.loop-i-test.true c.loop-i.invariant.0 c.in-Ok.ensures.accepted c.loop-i.invariant.1 c.in_ok-push-in-Ok.ensures.items

@@ -1,4 +1,4 @@
-use Rattle.policies.proofs.AnyStanding.{any_accepts}
+use Rattle.policies.proofs.StepLaws.{any_accepts}
 use Rattle.policies.proofs.theorems.any_accepts.Goals as goal
 
 pub returns : goal.returns

@@ -1,4 +1,4 @@
-use Rattle.policies.proofs.AnyStanding.{any_hits_keep_all}
+use Rattle.policies.proofs.StepLaws.{any_hits_keep_all}
 use Rattle.policies.proofs.theorems.any_hits_keep_all.Goals as goal
 
 pub returns : goal.returns

@@ -18,7 +18,7 @@ pub loop-i-preserved : goal.loop-i-preserved
 loop-i-preserved c = λ j trace done s.
     let i = c.loop-i.i in let keys = c.args.keys.now in
     subst (λ l. HasAccessed j trace l c.access.new.self) (added-next done keys i c.loop-i-test.true)
-    (c.any_stands.ensures j trace (done ++ take i keys) c.prefetch_at.new.self (slice_index keys i) _ c.access.new.self
+    (c.any_step_law.ensures j trace (done ++ take i keys) c.prefetch_at.new.self (slice_index keys i) _ c.access.new.self
     (subst (λ (d : AnyPolicy). HasAccessed j trace (done ++ take i keys) d) (sym c.prefetch_at.ensures) (c.loop-i.invariant j trace done s)) c.in-Ok.ensures.accepted)
 
 pub returns : goal.returns

@@ -20,7 +20,7 @@ loop-i-preserved c = λ j trace done s.
     let i = c.loop-i.i in let keys = c.args.uses.now in
     let within : i < length keys = omega (arith, c.len-i-end.ensures.len, c.loop-i-test.true) in
     subst (λ l. HasAccessed j trace l c.access.new.self) (ap (λ (k : ℕ). (done ++ take i keys) ++ k ∷ []) c.key.ensures ∙ added-next done keys i within)
-    (c.any_stands.ensures j trace (done ++ take i keys) c.loop-i.cache c.key.result _ c.access.new.self
+    (c.any_step_law.ensures j trace (done ++ take i keys) c.loop-i.cache c.key.result _ c.access.new.self
     (c.loop-i.invariant j trace done s) c.in-Ok.ensures.accepted)
 
 pub returns : goal.returns

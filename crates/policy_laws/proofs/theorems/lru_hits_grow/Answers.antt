@@ -2,4 +2,4 @@ use Rattle.policy_laws.proofs.Competition.{lru_hits_grow}
 use Rattle.policy_laws.proofs.theorems.lru_hits_grow.Goals as goal
 
 pub returns : goal.returns
-returns c = lru_hits_grow c.lru_stands.ensures
+returns c = lru_hits_grow c.lru_step_law.ensures

@@ -11,11 +11,11 @@ invariant_of-self c =
     let s = c.self.inside.session in
     let fewer : (m : ℕ) → length s.kept - m ≤ length s.kept = λ m. omega arith in
     elim c.match-back.branch [
-      | in-Ok w ↦ moved c.any_stands.ensures c.self.inside.job trace (length s.kept - c.args.n) s c.back.new.self c.self.invariant
+      | in-Ok w ↦ moved c.any_step_law.ensures c.self.inside.job trace (length s.kept - c.args.n) s c.back.new.self c.self.invariant
           w.in-Ok.ensures.ok (fewer c.args.n) c.back.ensures.sound.legal c.back.ensures.sound.stands
       | in-Err-OutOfMemory w ↦
           let m : ℕ = w.in-Err-OutOfMemory.field-0-0 in
           let to = subst (λ f. StandsBack (λ (p : AnyPolicy). p) s c.back.new.self c.args.n f) w.in-Err-OutOfMemory.field-0-is w.in-Err-OutOfMemory.ensures.err in
-          moved c.any_stands.ensures c.self.inside.job trace (length s.kept - m) s c.back.new.self c.self.invariant
+          moved c.any_step_law.ensures c.self.inside.job trace (length s.kept - m) s c.back.new.self c.self.invariant
           to.2 (fewer m) c.back.ensures.sound.legal c.back.ensures.sound.stands
     ]

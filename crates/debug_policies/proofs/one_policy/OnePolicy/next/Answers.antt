@@ -11,7 +11,7 @@ invariant_of-self c =
     let s = c.self.inside.session in
     let below : length s.kept < length trace = subst (λ (w : OnePolicyState). w.at < length w.trace) (sym c.self.view_is) c.requires in
     let lt : length s.kept < length keys = subst (λ (l : List ℕ). length s.kept < length l) (sym c.keys.ensures.keys) below in
-    after_step c.any_stands.ensures c.make.result c.self.inside.job trace keys s c.make.new.session (slice_index keys c.len.result) c.self.invariant
+    after_step c.any_step_law.ensures c.make.result c.self.inside.job trace keys s c.make.new.session (slice_index keys c.len.result) c.self.invariant
     c.keys.ensures.keys lt (ap (slice_index keys) c.len.ensures.len) c.make.ensures.made c.make.ensures.kept c.make.ensures.err
     c.make.ensures.opening c.make.ensures.limit
 

@@ -7,7 +7,7 @@ use Rattle.step_record.specs.declared.outcome.Outcome.{Outcome}
 use Rattle.step_record.specs.declared.outcome.Outcome.TheVariants.{Hit}
 use Rattle.step_record.specs.Stats.{stats_of}
 use Rattle.clairvoyant.specs.Belady.{belady_outcomes, belady_outcome as outcome_at}
-use Rattle.clairvoyant.specs.Theorems.{ClairvoyantStands, ClairvoyantAccepts}
+use Rattle.clairvoyant.specs.Theorems.{ClairvoyantStepLaw, ClairvoyantAccepts}
 use Rattle.clairvoyant.specs.Clairvoyant.{ClairvoyantState, clairvoyant_at, clairvoyant_act}
 use Rattle.policies.specs.declared.any_policy.AnyPolicy.TheVariants.{Queues, Optimal}
 use Rattle.policies.specs.QueueCache.{QueueState, outcomes_after}
@@ -16,7 +16,7 @@ use Rattle.policies.specs.Design.{knows_trace}
 use Rattle.policies.specs.AnyPolicy.{stats_on, IsBeladyAt}
 use Rattle.policies.specs.AnyStep.{as_queues, as_optimal}
 use Rattle.policies.specs.AnyCounts.{IsQueueStep, IsOptimalStep, queue_step, optimal_step}
-use Rattle.policies.specs.Theorems.{AnyStands, AnyAccepts, AnyIsOne, AnyReports, AnyAnswers, AnyCoversTrace, AnyHitsKeepAll}
+use Rattle.policies.specs.Theorems.{AnyStepLaw, AnyAccepts, AnyIsOne, AnyReports, AnyAnswers, AnyCoversTrace, AnyHitsKeepAll}
 use Rattle.policies.proofs.Leaving.{hits_keep_all}
 use Rattle.policies.proofs.Counting.{after-counts}
 use Rattle.policies.proofs.Answered.{after-answers, after-length, at-answers, outcomes-length}
@@ -41,7 +41,7 @@ at_place j trace keys d s =
       here = s.gives ∙ (ap (λ x. clairvoyant_at x trace (length keys)) (sym c) ∙ (ap (λ x. clairvoyant_at d.capacity x (length keys)) (sym t) ∙ ap (λ x. clairvoyant_at d.capacity d.trace x) (sym n)));
     }
 
-optimal_stands : ClairvoyantStands → (j : Job) (trace keys : List ℕ) (d : ClairvoyantState) (k : ℕ) (o : Outcome) (e : ClairvoyantState)
+optimal_stands : ClairvoyantStepLaw → (j : Job) (trace keys : List ℕ) (d : ClairvoyantState) (k : ℕ) (o : Outcome) (e : ClairvoyantState)
     → IsBeladyAt j trace keys d → clairvoyant_act d k ≡ Some (o, e) → IsBeladyAt j trace (keys ++ k ∷ []) e
 optimal_stands law j trace keys d k o e s h =
     let p : IsAtPlace j trace keys d = at_place j trace keys d s in
@@ -60,11 +60,11 @@ optimal_stands law j trace keys d k o e s h =
       gives = l.3 ∙ (ap (λ x. clairvoyant_at x d.trace (suc d.stats.accesses)) p.capacity ∙ (ap (λ x. clairvoyant_at j.config.capacity x (suc d.stats.accesses)) p.trace_is ∙ ap (λ x. clairvoyant_at j.config.capacity trace x) next));
     }
 
-pub any_stands : ClairvoyantStands → AnyStands
-any_stands law j trace keys (Queues d) k o e s h =
+pub any_step_law : ClairvoyantStepLaw → AnyStepLaw
+any_step_law law j trace keys (Queues d) k o e s h =
     let q : IsQueueStep (queue_act d k) o e = queue_step (queue_act d k) o e h in
     rw q.is (s.0, (act_stands j keys d k o q.next s.1 q.steps).1)
-any_stands law j trace keys (Optimal d) k o e s h =
+any_step_law law j trace keys (Optimal d) k o e s h =
     let q : IsOptimalStep (clairvoyant_act d k) o e = optimal_step (clairvoyant_act d k) o e h in
     rw q.is (optimal_stands law j trace keys d k o q.next s q.steps)
 
@@ -125,7 +125,7 @@ any_covers_trace j trace =
       | inr f ↦ rw f (after-length j trace)
     ]
 
-pub any_answers : ClairvoyantStands → AnyAnswers
+pub any_answers : ClairvoyantStepLaw → AnyAnswers
 any_answers law j trace keys rest k (Queues d) o e x t s h =
     let q : IsQueueStep (queue_act d k) o e = queue_step (queue_act d k) o e h in
     rw (s.0, t) ((act_stands j keys d k o q.next s.1 q.steps).0 ∙ sym (after-answers j keys rest k x))
