@@ -40,7 +40,7 @@ const LONG_LENGTH: usize = 19 + 4000 * 35 + 11;
 // Looks up the greatest key again and again.
 fn look(rt: &impl Abort, session: &mut Session<Shell>) -> Result<(), Fail> {
     for _ in 0..LINES {
-        let reply = ask(rt, session, 0, Act::Look { key: u64::MAX });
+        let reply = ask(rt, session, Act::Look { key: u64::MAX });
         assert_equal(rt, reply, Ok(Reply::Miss));
     }
     Ok(())
@@ -74,6 +74,6 @@ fn write_long(rt: &impl Abort, alloc: Global, session: &mut Session<Shell>) -> R
 
 #[test]
 fn a_long_journal_is_written_buffer_by_buffer(rt: HostRuntime) -> Result<(), Fail> {
-    let mut session = opened(&rt, rt.alloc(), CONFIG, LINES)?;
+    let mut session = opened(&rt, rt.alloc(), &CONFIG, LINES)?;
     write_long(&rt, rt.alloc(), &mut session)
 }

@@ -8,6 +8,7 @@ use std::alloc::Global;
 use std::process::Abort;
 use std::test::Fail;
 use step_record::Config;
+use streams::CountedWriter;
 
 // A key is read, removed and read again, each with a round.
 const THREE_ROUNDS: &str = "cachesim journal 2
@@ -100,9 +101,9 @@ fn assert_written(
     wanted: &str,
 ) -> Result<(), Fail> {
     // A vector that grows while it is written to would answer `Write` where it is out of memory.
-    let mut text = Vec::with_capacity(alloc, 1024)?;
+    let mut text = CountedWriter::new(Vec::with_capacity(alloc, 1024)?);
     write_journal(alloc, session, &mut text)?;
-    assert_equal(rt, text.as_slice(), wanted.as_bytes());
+    assert_equal(rt, text.get_ref().as_slice(), wanted.as_bytes());
     Ok(())
 }
 
