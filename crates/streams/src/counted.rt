@@ -1,5 +1,5 @@
 //! Readers and writers that count what became of their calls.
-ghost use Rattle.std.specs.Prelude.{◌≡◌, ◌<◌, ℕ, List, Option, Some, IfOk, OnOk, length, true, Bool};
+ghost use Rattle.std.specs.Prelude.{◌≡◌, ◌<◌, ℕ, List, Option, Some, IfOk, OnOk, length, true, false, Bool};
 ghost use Rattle.std.specs.Io.{ReadsAtMost, WritesAtMost};
 ghost use Rattle.std.specs.Io.KnownBytes.{Keeps, ReadConsumes, WriteAppends};
 ghost use Rattle.streams.specs.Tally.{Counts, no_calls};
@@ -36,11 +36,12 @@ pub trait CountedWrite {
     ghost is_flushed: { Self → Bool };
 
     /// A write as by `std::io::Write::write`, which is counted. That no byte was taken is an error,
-    /// unless there is none.
+    /// unless there is none. What was flushed before it is flushed no more.
     fn write(&mut self, bytes: &[u8]) -> Result<usize>
         ensures bound { WritesAtMost result bytes.now }
         ensures bytes { WriteAppends (contents self.old) (contents self.new) result bytes.now }
         ensures some { IfOk result (λ n. 0 < length bytes.now → 0 < n) }
+        ensures unflushed { is_flushed self.new ≡ false }
         ensures counted { Counts result (tally self.old) (tally self.new) };
 
     /// A flush as by `std::io::Write::flush`, which is counted.
