@@ -52,13 +52,7 @@ pub fn run_debug<R: CountedRead, W: CountedWrite>(
     if second.config.check().is_err() {
         return Err(DebugFault::Config { index: 1 });
     }
-    let mut both = TwoPolicies {
-        trace,
-        first_job: *first,
-        second_job: *second,
-        first: OnePolicy::open(alloc, first, trace)?,
-        second: OnePolicy::open(alloc, second, trace)?,
-    };
+    let mut both = TwoPolicies::open(alloc, trace, first, second)?;
     answer_commands(alloc, &mut both, commands, out)
 }
 
@@ -70,6 +64,31 @@ struct TwoPolicies<'a> {
     second_job: Job,
     first: OnePolicy<'a>,
     second: OnePolicy<'a>,
+}
+
+impl<'a> TwoPolicies<'a> {
+    // Both before the first access. The one error is that an allocation failed.
+    fn open(
+        alloc: Global,
+        trace: &'a Trace,
+        first: &Job,
+        second: &Job,
+    ) -> Result<TwoPolicies<'a>, AllocError>
+        requires first { config_fault first.now.config ≡ Ok tt }
+        requires second { config_fault second.now.config ≡ Ok tt }
+        ensures timeline { IfOk result (λ w. policies_timeline w.trace.now w.first_job w.second_job
+            ≡ policies_timeline trace.now first.now second.now) }
+        ensures start { IfOk result (λ w. w.first.at ≡ 0) }
+        ensures whole { IfOk result (λ w. IsPartWalk w.trace.now w.first_job w.second_job w.first w.second) }
+    {
+        Ok(TwoPolicies {
+            trace,
+            first_job: *first,
+            second_job: *second,
+            first: OnePolicy::open(alloc, first, trace)?,
+            second: OnePolicy::open(alloc, second, trace)?,
+        })
+    }
 }
 
 impl<'a> Timeline for TwoPolicies<'a> {

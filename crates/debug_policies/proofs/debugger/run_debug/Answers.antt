@@ -1,18 +1,17 @@
-use Rattle.std.proofs.Common.{◌≡◌, ◌∙◌, ap, refl, sym, Ok, true, false}
+use Rattle.std.proofs.Common.{◌≡◌, ◌∙◌, sym, Ok, true, false}
 use Rattle.step_record.specs.Config.{config_fault}
-use Rattle.debug_policies.specs.OnePolicy.{OnePolicyState}
 use Rattle.debug_policies.proofs.Facts.{accepted, done_held, large_held, no_fault, untouched}
 use Rattle.debug_policies.proofs.debugger.run_debug.Goals as goal
 
 pub returns-clause-done : goal.returns-clause-done
 returns-clause-done g c =
     done_held c.answer_commands.result (g.R.CountedRead.remaining c.args.commands.now) _ _ _ true (g.W.CountedWrite.contents c.args.out.now)
-    (g.W.CountedWrite.contents c.answer_commands.new.out) c.answer_commands.new.timeline.first.at refl (ap (λ (w : OnePolicyState). w.at) c.in_ok-open.ensures) c.answer_commands.ensures.done
+    (g.W.CountedWrite.contents c.answer_commands.new.out) c.answer_commands.new.timeline.first.at c.in_ok-both.ensures.timeline c.in_ok-both.ensures.start c.answer_commands.ensures.done
 
 pub returns-clause-large : goal.returns-clause-large
 returns-clause-large g c e =
     large_held (g.R.CountedRead.remaining c.args.commands.now) _ _ _ false (g.W.CountedWrite.contents c.args.out.now)
-    (g.W.CountedWrite.contents c.answer_commands.new.out) c.answer_commands.new.timeline.first.at refl (ap (λ (w : OnePolicyState). w.at) c.in_ok-open.ensures) (c.answer_commands.ensures.large e)
+    (g.W.CountedWrite.contents c.answer_commands.new.out) c.answer_commands.new.timeline.first.at c.in_ok-both.ensures.timeline c.in_ok-both.ensures.start (c.answer_commands.ensures.large e)
 
 pub returns-clause-config : goal.returns-clause-config
 returns-clause-config g c =
