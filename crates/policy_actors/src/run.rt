@@ -1,5 +1,5 @@
 //! Each job on a thread of its own.
-ghost use Rattle.std.specs.Prelude.{◌≡◌, ◌<◌, ◌≤◌, ℕ, List, length, map, Ok, Err, None, Some, IfOk, IfSome, MatchResult};
+ghost use Rattle.std.specs.Prelude.{◌≡◌, ◌<◌, ◌≤◌, ◌++◌, ◌∷◌, [], ℕ, List, length, map, Ok, Err, None, Some, IfOk, OnOk, IfSome, IsSome, MatchResult};
 ghost use denote.Param.Send.{IsSync};
 ghost use Rattle.step_record.specs.Config.{config_fault};
 ghost use Rattle.policies.specs.declared.job_checks.TheConstants.{MAX_ACTORS};
@@ -207,10 +207,16 @@ fn join_all<S: FedTrace, R: Threads>(
 {
     let mut reports = Vec::new(alloc);
     for handle in handles {
-        let Some(one) = handle.join(rt) else {
-            return Err(AllocError);
-        };
-        reports.push(one)?;
+        push_report(&mut reports, handle.join(rt))?;
     }
     Ok(reports)
+}
+
+// The report of an actor behind those before, where it has one.
+fn push_report(reports: &mut Vec<Report>, one: Option<Report>) -> Result<(), AllocError>
+    ensures none { OnOk result (IsSome one) }
+    ensures pushed { OnOk result (IfSome one (λ r. reports.new.items ≡ reports.old.items ++ r ∷ [])) }
+{
+    reports.push(one.ok_or(AllocError)?)?;
+    Ok(())
 }
