@@ -1,5 +1,5 @@
 //! Several policies over a trace, side by side.
-ghost use Rattle.std.specs.Prelude.{◌≡◌, ◌≤◌, ◌++◌, IfOk, OnOk, flat_map, map};
+ghost use Rattle.std.specs.Prelude.{◌≡◌, ◌≤◌, IfOk, flat_map, map};
 ghost use Rattle.policies.specs.FaultyJobs.{ReturnsFault};
 ghost use Rattle.intervals.specs.Intervals.{intervals_fault, intervals_on};
 
@@ -83,18 +83,7 @@ fn joined(alloc: Global, lists: &[Vec<Interval>]) -> Result<Vec<Interval>, Alloc
 {
     let mut all = Vec::new(alloc);
     for rows in lists {
-        add_rows(&mut all, rows.as_slice())?;
+        all.extend_from_slice(rows.as_slice())?;
     }
     Ok(all)
-}
-
-// Adds the rows.
-fn add_rows(all: &mut Vec<Interval>, rows: &[Interval]) -> Result<(), AllocError>
-    ensures { OnOk result (all.new.items ≡ all.old.items ++ rows.now) }
-{
-    all.reserve(rows.len())?;
-    for row in rows {
-        all.push(*row)?;
-    }
-    Ok(())
 }
