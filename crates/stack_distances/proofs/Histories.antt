@@ -1,9 +1,7 @@
 -- A pass over a trace, one access after another.
-use Rattle.std.proofs.Common.{◌≡◌, ◌≢◌, ℕ, suc, zero, ◌+◌, ◌<◌, ◌≤◌, Bool, true, false, not, cond, eqb, nat_eq, Option, Some, None, List, [], ◌∷◌, ◌++◌, length, count_by, drop, get_or, set, ap, ◌∙◌, sym, refl, arith, ◌⊎◌, inl, inr, append_assoc, append-nil, get_or-set_other, get_or-set_same}
-use Rattle.std.proofs.Math.ListN.{length-set}
+use Rattle.std.proofs.Common.{◌≡◌, ℕ, suc, zero, ◌+◌, ◌<◌, ◌≤◌, Bool, true, false, not, cond, eqb, nat_eq, Option, Some, None, List, [], ◌∷◌, ◌++◌, length, count_by, drop, get_or, ap, ◌∙◌, sym, refl, arith, ◌⊎◌, inl, inr, append_assoc, append-nil}
 use Rattle.std.proofs.lemmas.Bool.{cases_eq, eqb-true, eq-eqb, ne_eqb}
 use Rattle.std.proofs.lemmas.Bool.Decides.{nat_tests}
-use Rattle.std.proofs.lemmas.List.{length_push}
 use Rattle.std.proofs.lemmas.List.Sums.{sum_by_push, count_by-le-length}
 use Rattle.step_record.specs.Keys.{has_key}
 use Rattle.policies.specs.Lru.{distinct_keys, keys_since}
@@ -232,79 +230,65 @@ push-zero [] (suc d) = refl
 push-zero (c ∷ cs) zero = refl
 push-zero (c ∷ cs) (suc d) = push-zero cs d
 
--- none of the counts is above the number of accesses
-pub counts-few : (xs : List ℕ) (places : ℕ → Option ℕ) (marks : ℕ → Bool) (counts : List ℕ) → IsHistogram xs places marks counts → (d : ℕ) → get_or counts d 0 ≤ length xs
-counts-few xs places marks counts h d =
-    let c : get_or counts d 0 ≡ count_by (is_at (suc d)) (distances xs) = h.counted d in
-    let few : count_by (is_at (suc d)) (distances xs) ≤ length (distances xs) = count_by-le-length (is_at (suc d)) (distances xs) in
-    let l : length (distances xs) ≡ length xs = distances-long [] xs in
-    omega (arith, c, few, l)
+module _ (xs : List ℕ) (places : ℕ → Option ℕ) (marks : ℕ → Bool) (len : ℕ) (counts : ℕ → ℕ) (h : IsHistogram xs places marks len counts) where
+  -- none of the counts is above the number of accesses
+  pub counts-few : (d : ℕ) → counts d ≤ length xs
+  counts-few d = omega (arith, h.counted d, count_by-le-length (is_at (suc d)) (distances xs), distances-long [] xs)
 
-module _ (xs : List ℕ) (k : ℕ) (places next : ℕ → Option ℕ) (marks new : ℕ → Bool) (counts : List ℕ) (h : IsHistogram xs places marks counts) (puts : (x : ℕ) → next x ≡ cond (nat_eq k x) (Some (length xs)) (places x)) where
+  marks-same : (n : ℕ) → sum_below (λ q. cond (marks q) 1 0) n ≡ sum_below (mark_in xs) n
+  marks-same n = sum-same (λ q. cond (marks q) 1 0) (mark_in xs) n (λ q. ap (λ b. cond b 1 0) (h.marked q))
+
   pub passed-few : (n : ℕ) → sum_below (λ q. cond (marks q) 1 0) n ≤ length xs
-  passed-few n =
-      let same : sum_below (λ q. cond (marks q) 1 0) n ≡ sum_below (mark_in xs) n = sum-same (λ q. cond (marks q) 1 0) (mark_in xs) n (λ q. ap (λ b. cond b 1 0) (h.marked q)) in
-      let few : sum_below (mark_in xs) n ≤ length xs = marks-few xs n in
-      omega (arith, same, few)
+  passed-few n = omega (arith, marks-same n, marks-few xs n)
 
-  last-next : (x : ℕ) → next x ≡ last_in x (xs ++ k ∷ [])
-  last-next x = puts x ∙ (ap (cond (nat_eq k x) (Some (length xs))) (h.last x) ∙ sym (last-snoc x k xs))
+  -- an access to k, whose place is marked
+  module _ (k : ℕ) (next : ℕ → Option ℕ) (new : ℕ → Bool) (m : ℕ) (more : ℕ → ℕ) (puts : (x : ℕ) → next x ≡ cond (nat_eq k x) (Some (length xs)) (places x)) where
+    last-next : (x : ℕ) → next x ≡ last_in x (xs ++ k ∷ [])
+    last-next x = puts x ∙ (ap (cond (nat_eq k x) (Some (length xs))) (h.last x) ∙ sym (last-snoc x k xs))
 
-  -- to a new key
-  pub passed-first : places k ≡ None → ((q : ℕ) → new q ≡ cond (eqb q (length xs)) true (marks q)) → IsHistogram (xs ++ k ∷ []) next new (counts ++ 0 ∷ [])
-  passed-first none marked =
-      let no_place : last_in k xs ≡ None = sym (h.last k) ∙ none in
-      let no : has_key k xs ≡ false = last-none k xs no_place in
-      record {
-        last = last-next;
-        marked = λ q. marked q ∙ (ap (cond (eqb q (length xs)) true) (h.marked q) ∙ sym (marks-snoc k xs q ∙ ap (λ (o : Option ℕ). cond (eqb q (length xs)) true (cleared o q (get_or (are_last xs) q false))) no_place));
-        long = length_push counts 0 ∙ (let l : length counts ≡ length (distinct_keys xs) = h.long in let g : length (distinct_keys (xs ++ k ∷ [])) ≡ suc (length (distinct_keys xs)) = grows k xs ∙ rw no refl in omega (arith, l, g));
-        counted = λ d. push-zero counts d ∙ (h.counted d ∙ sym (count-snoc (is_at (suc d)) xs k ∙ (ap (λ (o : Option ℕ). count_by (is_at (suc d)) (distances xs) + cond (is_at (suc d) o) 1 0) (distance-none xs k no) ∙ omega arith)));
-      }
-
-  -- to a key that came before, last at p
-  module _ (p : ℕ) (some : places k ≡ Some p) where
-    before : IsLast k xs p
-    before = last-some k xs p (sym (h.last k) ∙ some)
-
-    pub before-within : p < length xs
-    before-within = before.within
-
-    pub before-marked : marks p ≡ true
-    before-marked = h.marked p ∙ before.marked
-
-    pub before-depth : (below : ℕ) → below ≡ sum_below (λ q. cond (marks q) 1 0) p → below + suc (length (distinct_keys (keys_since k xs))) ≡ length counts
-    before-depth below is =
-        let same : sum_below (λ q. cond (marks q) 1 0) p ≡ sum_below (mark_in xs) p = sum-same (λ q. cond (marks q) 1 0) (mark_in xs) p (λ q. ap (λ b. cond b 1 0) (h.marked q)) in
-        let w : p < length xs = before.within in
-        let cut : sum_below (mark_in xs) p + length (distinct_keys (drop p xs)) ≡ length (distinct_keys xs) = stack-below xs p (omega arith) in
-        let deep : length (distinct_keys (drop p xs)) ≡ suc (length (distinct_keys (keys_since k xs))) = before.depth in
-        let l : length counts ≡ length (distinct_keys xs) = h.long in
-        omega (arith, is, same, cut, deep, l)
-
-    pub passed-again : (d y : ℕ) → d ≡ length (distinct_keys (keys_since k xs)) → d < length counts → y ≡ suc (get_or counts d 0) → ((q : ℕ) → new q ≡ cond (eqb q (length xs)) true (cond (eqb q p) false (marks q))) → IsHistogram (xs ++ k ∷ []) next new (set counts d y)
-    passed-again d y deep in_it more marked =
-        let place : last_in k xs ≡ Some p = sym (h.last k) ∙ some in
-        let here : distance xs k ≡ Some (suc d) = distance-some xs k before.came ∙ ap (λ n. Some (suc n)) (sym deep) in
+    -- to a new key
+    pub passed-first : places k ≡ None → ((q : ℕ) → new q ≡ cond (eqb q (length xs)) true (marks q)) → m ≡ len + 1 → ((d : ℕ) → more d ≡ counts d) → IsHistogram (xs ++ k ∷ []) next new m more
+    passed-first none marked longer same =
+        let no_place : last_in k xs ≡ None = sym (h.last k) ∙ none in
+        let no : has_key k xs ≡ false = last-none k xs no_place in
         record {
           last = last-next;
-          marked = λ q. marked q ∙ (ap (λ b. cond (eqb q (length xs)) true (cond (eqb q p) false b)) (h.marked q) ∙ sym (marks-snoc k xs q ∙ ap (λ (o : Option ℕ). cond (eqb q (length xs)) true (cleared o q (get_or (are_last xs) q false))) place));
-          long = length-set counts d y ∙ (h.long ∙ sym (grows k xs ∙ rw before.came refl));
-          counted = λ e.
-              let sum : count_by (is_at (suc e)) (distances (xs ++ k ∷ [])) ≡ count_by (is_at (suc e)) (distances xs) + cond (eqb (suc e) (suc d)) 1 0 = count-snoc (is_at (suc e)) xs k ∙ ap (λ (o : Option ℕ). count_by (is_at (suc e)) (distances xs) + cond (is_at (suc e) o) 1 0) here in
-              let was : get_or counts e 0 ≡ count_by (is_at (suc e)) (distances xs) = h.counted e in
-              elim (cases_eq e d) [
-                | inl s ↦
-                    let t : eqb (suc e) (suc d) ≡ true = eq-eqb (suc e) (suc d) (ap suc s) in
-                    let at : get_or (set counts d y) e 0 ≡ y = ap (λ n. get_or (set counts d y) n 0) s ∙ (rw get_or-set_same refl) in
-                    let old : get_or counts d 0 ≡ get_or counts e 0 = ap (λ n. get_or counts n 0) (sym s) in
-                    let plus : cond {A = ℕ} (eqb (suc e) (suc d)) 1 0 ≡ 1 = ap (λ b. cond b 1 0) t in
-                    omega (arith, sum, was, at, old, plus, more)
-                | inr n ↦
-                    let ne : e ≢ d = n in
-                    let t : eqb (suc e) (suc d) ≡ false = ne_eqb (suc e) (suc d) (λ q. n (omega (arith, q))) in
-                    let at : get_or (set counts d y) e 0 ≡ get_or counts e 0 = rw get_or-set_other refl in
-                    let plus : cond {A = ℕ} (eqb (suc e) (suc d)) 1 0 ≡ 0 = ap (λ b. cond b 1 0) t in
-                    omega (arith, sum, was, at, plus)
-              ];
+          marked = λ q. marked q ∙ (ap (cond (eqb q (length xs)) true) (h.marked q) ∙ sym (marks-snoc k xs q ∙ ap (λ (o : Option ℕ). cond (eqb q (length xs)) true (cleared o q (get_or (are_last xs) q false))) no_place));
+          long = let g : length (distinct_keys (xs ++ k ∷ [])) ≡ suc (length (distinct_keys xs)) = grows k xs ∙ rw no refl in omega (arith, h.long, longer, g);
+          counted = λ d. same d ∙ (h.counted d ∙ sym (count-snoc (is_at (suc d)) xs k ∙ (ap (λ (o : Option ℕ). count_by (is_at (suc d)) (distances xs) + cond (is_at (suc d) o) 1 0) (distance-none xs k no) ∙ omega arith)));
         }
+
+    -- to a key that came before, last at p
+    module _ (p : ℕ) (some : places k ≡ Some p) where
+      before : IsLast k xs p
+      before = last-some k xs p (sym (h.last k) ∙ some)
+
+      pub before-within : p < length xs
+      before-within = before.within
+
+      pub before-marked : marks p ≡ true
+      before-marked = h.marked p ∙ before.marked
+
+      pub before-depth : sum_below (λ q. cond (marks q) 1 0) p + suc (length (distinct_keys (keys_since k xs))) ≡ len
+      before-depth =
+          let cut : sum_below (mark_in xs) p + length (distinct_keys (drop p xs)) ≡ length (distinct_keys xs) = stack-below xs p (omega (arith, before.within)) in
+          omega (arith, marks-same p, cut, before.depth, h.long)
+
+      -- its last place is not the new one
+      swapped : (q : ℕ) (b : Bool) → cond (eqb q p) false (cond (eqb q (length xs)) true b) ≡ cond (eqb q (length xs)) true (cond (eqb q p) false b)
+      swapped q b = elim (cases_eq q p) [
+        | inl e ↦ let no : eqb q (length xs) ≡ false = ne_eqb q (length xs) (λ s. omega (arith, s, e, before.within)) in rw no refl
+        | inr n ↦ let no : eqb q p ≡ false = ne_eqb q p n in rw no refl
+      ]
+
+      pub passed-again : (e : ℕ) → e ≡ length (distinct_keys (keys_since k xs)) → ((q : ℕ) → new q ≡ cond (eqb q p) false (cond (eqb q (length xs)) true (marks q))) → m ≡ len → ((d : ℕ) → more d ≡ counts d + cond (eqb d e) 1 0) → IsHistogram (xs ++ k ∷ []) next new m more
+      passed-again e deep marked same one =
+          let place : last_in k xs ≡ Some p = sym (h.last k) ∙ some in
+          let here : distance xs k ≡ Some (suc e) = distance-some xs k before.came ∙ ap (λ n. Some (suc n)) (sym deep) in
+          record {
+            last = last-next;
+            marked = λ q. marked q ∙ (swapped q (marks q) ∙ (ap (λ b. cond (eqb q (length xs)) true (cond (eqb q p) false b)) (h.marked q) ∙ sym (marks-snoc k xs q ∙ ap (λ (o : Option ℕ). cond (eqb q (length xs)) true (cleared o q (get_or (are_last xs) q false))) place)));
+            long = same ∙ (h.long ∙ sym (grows k xs ∙ rw before.came refl));
+            counted = λ d. one d ∙ (ap (λ n. n + cond (eqb d e) 1 0) (h.counted d) ∙ (ap (λ b. count_by (is_at (suc d)) (distances xs) + cond b 1 0) (sym (suc-eqb d e))
+                ∙ sym (count-snoc (is_at (suc d)) xs k ∙ ap (λ (o : Option ℕ). count_by (is_at (suc d)) (distances xs) + cond (is_at (suc d) o) 1 0) here)));
+          }

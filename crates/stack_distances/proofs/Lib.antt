@@ -7,4 +7,5 @@ pub mod Prefix
 pub mod Reading
 pub mod Windows
 pub mod Clear
-pub mod Tallies
+pub mod FenwickTree
+pub mod Noted

@@ -103,3 +103,9 @@ hits-held c keys =
       | inl l ↦ let m : min (length (distinct_keys keys)) c ≡ c = omega arith in ap (λ n. hits_within n keys) m
       | inr g ↦ let m : min (length (distinct_keys keys)) c ≡ length (distinct_keys keys) = omega arith in ap (λ n. hits_within n keys) m ∙ full-after (length (distinct_keys keys)) c [] keys (omega arith) g
     ]
+
+-- no distance is over the number of distinct keys
+pub none-deeper : (keys : List ℕ) (d : ℕ) → length (distinct_keys keys) ≤ d → count_by (is_at (suc d)) (distances_after [] keys) ≡ 0
+none-deeper keys d past =
+    let same = full-after (suc d) d [] keys (omega (arith, past)) past in
+    omega (arith, same, within-more d (distances_after [] keys))

@@ -37,11 +37,11 @@ none-summed keys hits l h = record {
 }
 
 -- at the end of a pass
-pub passed-summed : (keys trace hits counts : List ℕ) (place : ℕ) (places : ℕ → Option ℕ) (marks : ℕ → Bool) → length keys ≤ place → keys ≡ trace → hits ≡ counts → IsHistogram (take place keys) places marks counts → IsSummed trace hits 0 0
-passed-summed keys trace hits counts place places marks all same taken passed =
+pub passed-summed : (keys trace hits : List ℕ) (counts : ℕ → ℕ) (place len : ℕ) (places : ℕ → Option ℕ) (marks : ℕ → Bool) → length keys ≤ place → keys ≡ trace → length hits ≡ len → ((d : ℕ) → get_or hits d 0 ≡ counts d) → IsHistogram (take place keys) places marks len counts → IsSummed trace hits 0 0
+passed-summed keys trace hits counts place len places marks all same long taken passed =
     let whole : take place keys ≡ keys = take_all place keys all in
-    let p : IsHistogram trace places marks counts = rw (whole, same) at passed in
-    none-summed trace hits (ap length taken ∙ p.long) (λ d. ap (λ l. get_or l d 0) taken ∙ p.counted d)
+    let p : IsHistogram trace places marks len counts = rw (whole, same) at passed in
+    none-summed trace hits (long ∙ p.long) (λ d. taken d ∙ p.counted d)
 
 pub next-sum : (keys hits : List ℕ) (sum c : ℕ) → IsSummed keys hits sum c → sum + get_or hits c 0 ≡ hits_within (suc c) keys
 next-sum keys hits sum c s =

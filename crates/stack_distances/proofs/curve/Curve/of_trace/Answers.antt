@@ -1,30 +1,23 @@
-use Rattle.std.proofs.Common.{◌≡◌, ◌+◌, ◌<◌, ◌≤◌, suc, length, length-take, take, get_or, ap, arith}
+use Rattle.std.proofs.Common.{◌≡◌, ◌+◌, ◌<◌, ◌≤◌, suc, length, get_or, ap, arith}
 use Rattle.std.proofs.lemmas.List.{get_or_read}
 use Rattle.bits_and_lists.specs.Bits.{bit_of}
 use Rattle.trace_index.specs.KeyPlaces.{place_of}
 use Rattle.stack_distances.specs.Distances.{hits_within}
-use Rattle.stack_distances.proofs.Histories.{counts-few}
+use Rattle.stack_distances.specs.Histogram.{count_at}
+use Rattle.stack_distances.proofs.Noted.{may-count}
 use Rattle.stack_distances.proofs.Reading.{IsSummed, passed-summed, next-sum, sum-small, more-summed, curve-summed}
 use Rattle.stack_distances.proofs.curve.Curve.of_trace.Goals as goal
 
-pub begin_access-requires : goal.begin_access-requires
-begin_access-requires c = λ d.
-    let inv = c.loop-place.invariant in
-    let few = counts-few (take c.loop-place.place c.keys-keys.result.now) _ _ c.loop-place.histogram.counts inv.passed d in
-    omega (arith, few, length-take c.loop-place.place c.keys-keys.result.now, inv.few)
-
 pub into_counts-hits-requires : goal.into_counts-hits-requires
-into_counts-hits-requires c = λ d.
-    let inv = c.loop-place.invariant in
-    let few = counts-few (take c.loop-place.place c.keys-keys.result.now) _ _ c.loop-place.histogram.counts inv.passed d in
-    omega (arith, few, length-take c.loop-place.place c.keys-keys.result.now, inv.few)
+into_counts-hits-requires c = let inv = c.loop-place.invariant in may-count c.keys-keys.result.now c.loop-place.place c.loop-place.histogram inv.few inv.counted
 
 pub loop-c-init : goal.loop-c-init
 loop-c-init c =
     let inv = c.loop-place.invariant in
+    let h = c.loop-place.histogram in
     let hits = c.into_counts-hits.result.items in
-    let summed : IsSummed c.args.trace.now hits 0 0 = passed-summed c.keys-keys.result.now c.args.trace.now hits c.loop-place.histogram.counts c.loop-place.place
-    (place_of c.loop-place.histogram.last) (bit_of c.loop-place.histogram.marks.words.items) (omega arith) inv.same c.into_counts-hits.ensures inv.passed in
+    let summed : IsSummed c.args.trace.now hits 0 0 = passed-summed c.keys-keys.result.now c.args.trace.now hits (count_at h.counts.items h.noted.items) c.loop-place.place (length h.counts.items)
+    (place_of h.last) (bit_of h.marks.words.items) (omega arith) inv.same c.into_counts-hits.ensures.len c.into_counts-hits.ensures.counts inv.counted.counted in
     record {
       same = inv.same;
       few = inv.few;

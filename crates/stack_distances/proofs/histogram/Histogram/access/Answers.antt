@@ -1,151 +1,141 @@
-use Rattle.std.proofs.Common.{◌≡◌, ◌+◌, ◌-◌, ◌*◌, ◌<◌, ◌≤◌, ℕ, suc, Bool, true, false, cond, eqb, nat_eq, Option, Some, None, List, [], ◌∷◌, ◌++◌, length, take, get_or, set, ap, ◌∙◌, sym, refl, arith}
-use Rattle.std.proofs.lemmas.List.{get_or_past, length-take-le, take_more}
+use Rattle.std.proofs.Common.{◌≡◌, ◌+◌, ◌-◌, ◌*◌, ◌<◌, ◌≤◌, ℕ, suc, Bool, true, false, cond, eqb, nat_eq, Option, Some, None, List, length, take, count_by, get_or, refl, ap, ◌∙◌, sym, arith}
+use Rattle.std.proofs.lemmas.List.{get_or_past, length-take-le, length_push, take_more}
+use Rattle.step_record.specs.declared.limits.TheConstants.{MAX_ACCESSES}
 use Rattle.bits_and_lists.specs.Bits.{bit_of}
 use Rattle.trace_index.specs.KeyPlaces.{place_of}
 use Rattle.policies.specs.Lru.{distinct_keys, keys_since}
 use Rattle.stack_distances.specs.Sums.{mark_of, sum_below}
-use Rattle.stack_distances.specs.Histogram.{are_last, IsHistogram}
-use Rattle.stack_distances.proofs.Bits.{take-mark}
-use Rattle.stack_distances.proofs.Sums.{added-more}
-use Rattle.stack_distances.proofs.Histories.{are-last-long, passed-few, passed-first, passed-again, before-within, before-marked, before-depth}
+use Rattle.stack_distances.specs.Histogram.{are_last, count_at, HasCounted, IsHistogram}
+use Rattle.stack_distances.specs.declared.histogram.Histogram.{Histogram}
+use Rattle.stack_distances.proofs.Bits.{put-mark}
+use Rattle.stack_distances.proofs.Sums.{added-low}
+use Rattle.stack_distances.proofs.Noted.{noted-more}
+use Rattle.stack_distances.proofs.Histories.{are-last-long, passed-few, passed-first, passed-again, before-within, before-marked, before-depth, push-zero}
 use Rattle.stack_distances.proofs.histogram.Histogram.access.Goals as goal
+use Rattle.stack_distances.proofs.histogram.Histogram.access.Goals.{In-Some, After-below, After-put-2}
 
 -- ---- over plain terms
 
-module _ (keys : List ℕ) (place : ℕ) (places next : ℕ → Option ℕ) (words : List ℕ) (counts : List ℕ) (in_it : place < length keys) (few : length keys ≤ 16777216) (room : length keys ≤ 64 * length words) (passed : IsHistogram (take place keys) places (bit_of words) counts) (updates : (x : ℕ) → next x ≡ cond (nat_eq (get_or keys place 0) x) (Some place) (places x)) where
+module _ (keys : List ℕ) (place : ℕ) (h : Histogram) (in_it : place < length keys) (few : length keys ≤ MAX_ACCESSES) (counted : HasCounted keys place h) where
+  abbrev words : List ℕ
+  words = h.marks.words.items
+
+  abbrev key : ℕ
+  key = get_or keys place 0
+
   long : length (take place keys) ≡ place
   long = length-take-le place keys (omega (arith, in_it))
 
-  puts : (x : ℕ) → next x ≡ cond (nat_eq (get_or keys place 0) x) (Some (length (take place keys))) (places x)
-  puts x = updates x ∙ ap (λ n. cond (nat_eq (get_or keys place 0) x) (Some n) (places x)) (sym long)
-
   free : bit_of words place ≡ false
-  free = passed.marked place ∙ get_or_past (are_last (take place keys)) place false (are-last-long (take place keys) place long)
+  free = counted.counted.marked place ∙ get_or_past (are_last (take place keys)) place false (are-last-long (take place keys) place long)
 
-  marks-few : (n : ℕ) → sum_below (mark_of words) n ≤ 16777216
-  marks-few n = let f : sum_below (mark_of words) n ≤ length (take place keys) = passed-few (take place keys) (get_or keys place 0) places next (bit_of words) (bit_of words) counts passed puts n in omega (arith, f, long, in_it, few)
+  marks-few : (n : ℕ) → sum_below (mark_of words) n < MAX_ACCESSES
+  marks-few n =
+      let f : sum_below (mark_of words) n ≤ length (take place keys) = passed-few (take place keys) (place_of h.last) (bit_of words) (length h.counts.items) (count_at h.counts.items h.noted.items) counted.counted n in
+      omega (arith, f, long, in_it, few)
 
-  first : (new : ℕ → Bool) → places (get_or keys place 0) ≡ None → ((q : ℕ) → new q ≡ cond (eqb q place) true (bit_of words q)) → IsHistogram (take (place + 1) keys) next new (counts ++ 0 ∷ [])
-  first new none marked =
-      rw (take_more keys place 0 in_it)
-      (passed-first (take place keys) (get_or keys place 0) places next (bit_of words) new counts passed puts none (λ q. marked q ∙ ap (λ n. cond (eqb q n) true (bit_of words q)) (sym long)))
+  -- the access, its place marked
+  module _ (next : ℕ → Option ℕ) (marked : List ℕ) (updates : (x : ℕ) → next x ≡ cond (nat_eq key x) (Some place) (place_of h.last x)) (puts : (q : ℕ) → bit_of marked q ≡ cond (eqb q place) true (bit_of words q)) where
+    to-end : (x : ℕ) → next x ≡ cond (nat_eq key x) (Some (length (take place keys))) (place_of h.last x)
+    to-end x = updates x ∙ ap (λ n. cond (nat_eq key x) (Some n) (place_of h.last x)) (sym long)
 
-  module _ (p : ℕ) (some : places (get_or keys place 0) ≡ Some p) where
-    within : p < 64 * length words
-    within = let b : p < length (take place keys) = before-within (take place keys) (get_or keys place 0) places next (bit_of words) (bit_of words) counts passed puts p some in omega (arith, b, long, in_it, room)
+    at-end : (q : ℕ) → bit_of marked q ≡ cond (eqb q (length (take place keys))) true (bit_of words q)
+    at-end q = puts q ∙ ap (λ n. cond (eqb q n) true (bit_of words q)) (sym long)
 
-    marked-there : bit_of words p ≡ true
-    marked-there = before-marked (take place keys) (get_or keys place 0) places next (bit_of words) (bit_of words) counts passed puts p some
-
-    depth : (below : ℕ) → below ≡ sum_below (mark_of words) p → below + suc (length (distinct_keys (keys_since (get_or keys place 0) (take place keys)))) ≡ length counts
-    depth below is = before-depth (take place keys) (get_or keys place 0) places next (bit_of words) (bit_of words) counts passed puts p some below is
-
-    still-free : (new : ℕ → Bool) → ((q : ℕ) → new q ≡ cond (eqb q p) false (bit_of words q)) → new place ≡ false
-    still-free new takes = takes place ∙ (ap (cond (eqb place p) false) free ∙ none-of (eqb place p))
-      where
-        none-of : (b : Bool) → cond b false false ≡ false
-        none-of true = refl
-        none-of false = refl
-
-    still-few : (new : List ℕ) → ((q : ℕ) → bit_of new q ≡ cond (eqb q p) false (bit_of words q)) → (n : ℕ) → sum_below (mark_of new) n ≤ 16777216
-    still-few new takes n =
-        let less : sum_below (mark_of new) n ≤ sum_below (mark_of words) n = added-more (mark_of new) (mark_of words) p (take-mark words new p marked-there takes) n in
-        let f : sum_below (mark_of words) n ≤ 16777216 = marks-few n in
-        omega (arith, less, f)
-
-    again : (below y : ℕ) (new : ℕ → Bool) → below ≡ sum_below (mark_of words) p → y ≡ suc (get_or counts (length counts - below - 1) 0) → ((q : ℕ) → new q ≡ cond (eqb q place) true (cond (eqb q p) false (bit_of words q))) → IsHistogram (take (place + 1) keys) next new (set counts (length counts - below - 1) y)
-    again below y new is more marked =
-        let deep : below + suc (length (distinct_keys (keys_since (get_or keys place 0) (take place keys)))) ≡ length counts = depth below is in
+    first : (m : ℕ) (more : ℕ → ℕ) → place_of h.last key ≡ None → m ≡ length h.counts.items + 1 → ((d : ℕ) → more d ≡ count_at h.counts.items h.noted.items d) → IsHistogram (take (place + 1) keys) next (bit_of marked) m more
+    first m more none longer same =
         rw (take_more keys place 0 in_it)
-        (passed-again (take place keys) (get_or keys place 0) places next (bit_of words) new counts passed puts p some (length counts - below - 1) y (omega (arith, deep)) (omega (arith, deep)) more
-        (λ q. marked q ∙ ap (λ n. cond (eqb q n) true (cond (eqb q p) false (bit_of words q))) (sym long)))
+        (passed-first (take place keys) (place_of h.last) (bit_of words) (length h.counts.items) (count_at h.counts.items h.noted.items) counted.counted key next (bit_of marked) m more to-end none at-end longer same)
+
+    module _ (p : ℕ) (some : place_of h.last key ≡ Some p) where
+      low : p < place
+      low =
+          let b = before-within (take place keys) (place_of h.last) (bit_of words) (length h.counts.items) (count_at h.counts.items h.noted.items) counted.counted key next (bit_of marked) 0 (λ d. 0) to-end p some in
+          omega (arith, b, long)
+
+      there : bit_of marked p ≡ true
+      there =
+          let was = before-marked (take place keys) (place_of h.last) (bit_of words) (length h.counts.items) (count_at h.counts.items h.noted.items) counted.counted key next (bit_of marked) 0 (λ d. 0) to-end p some in
+          puts p ∙ (ap (cond (eqb p place) true) was ∙ either (eqb p place))
+        where
+          either : (b : Bool) → cond b true true ≡ true
+          either true = refl
+          either false = refl
+
+      same-below : sum_below (mark_of marked) p ≡ sum_below (mark_of words) p
+      same-below = added-low (mark_of words) (mark_of marked) place (put-mark words marked place free puts) p (omega (arith, low))
+
+      depth : sum_below (mark_of marked) p + suc (length (distinct_keys (keys_since key (take place keys)))) ≡ length h.counts.items
+      depth =
+          let was = before-depth (take place keys) (place_of h.last) (bit_of words) (length h.counts.items) (count_at h.counts.items h.noted.items) counted.counted key next (bit_of marked) 0 (λ d. 0) to-end p some in
+          omega (arith, was, same-below)
+
+      again : (new : ℕ → Bool) (e : ℕ) (more : ℕ → ℕ) → e + 1 + sum_below (mark_of marked) p ≡ length h.counts.items → ((q : ℕ) → new q ≡ cond (eqb q p) false (bit_of marked q)) → ((d : ℕ) → more d ≡ count_at h.counts.items h.noted.items d + cond (eqb d e) 1 0) → IsHistogram (take (place + 1) keys) next new (length h.counts.items) more
+      again new e more deep takes one =
+          rw (take_more keys place 0 in_it)
+          (passed-again (take place keys) (place_of h.last) (bit_of words) (length h.counts.items) (count_at h.counts.items h.noted.items) counted.counted key next new (length h.counts.items) more to-end p some e (omega (arith, deep, depth)) (λ q. takes q ∙ ap (cond (eqb q p) false) (at-end q)) refl one)
 
 -- ---- the goals
 
-pub put-requires-in-None-clause-free : goal.put-requires-in-None-clause-free
-put-requires-in-None-clause-free c =
-    let old = c.args.self.now in
-    free c.args.keys.now c.args.place (place_of old.last) (place_of c.put.new.self) old.marks.words.items old.counts
-    c.requires.next c.requires.few c.requires.size c.requires.counted c.in_ok-put.ensures.updates
+pub put-requires-clause-free : goal.put-requires-clause-free
+put-requires-clause-free c = free c.args.keys.now c.args.place c.args.self.now c.requires.next c.requires.few c.requires.counted
 
-pub put-requires-in-None-clause-few : goal.put-requires-in-None-clause-few
-put-requires-in-None-clause-few c =
-    let old = c.args.self.now in
-    marks-few c.args.keys.now c.args.place (place_of old.last) (place_of c.put.new.self) old.marks.words.items old.counts
-    c.requires.next c.requires.few c.requires.size c.requires.counted c.in_ok-put.ensures.updates
+pub put-requires-clause-few : goal.put-requires-clause-few
+put-requires-clause-few c = marks-few c.args.keys.now c.args.place c.args.self.now c.requires.next c.requires.few c.requires.counted (c.args.place + 1)
+
+below-place : (c : goal.In-Some) → c.in-Some.before < c.args.place
+below-place c = low c.args.keys.now c.args.place c.args.self.now c.requires.next c.requires.few c.requires.counted (place_of c.put-2.new.self) c.put.new.self.words.items c.in_ok-put-2.ensures.updates c.in_ok-put.ensures.puts c.in-Some.before (sym c.in_ok-put-2.ensures.old ∙ c.in-Some.is)
+
+inside : (c : goal.In-Some) → c.in-Some.before < 64 * length c.put.new.self.words.items
+inside c = omega (arith, below-place c, c.requires.next, c.requires.counted.room, c.in_ok-put.ensures.size)
+
+deep : (c : goal.In-Some) → sum_below (mark_of c.put.new.self.words.items) c.in-Some.before + suc (length (distinct_keys (keys_since (get_or c.args.keys.now c.args.place 0) (take c.args.place c.args.keys.now)))) ≡ length c.args.self.now.counts.items
+deep c = depth c.args.keys.now c.args.place c.args.self.now c.requires.next c.requires.few c.requires.counted (place_of c.put-2.new.self) c.put.new.self.words.items c.in_ok-put-2.ensures.updates c.in_ok-put.ensures.puts c.in-Some.before (sym c.in_ok-put-2.ensures.old ∙ c.in-Some.is)
+
+pub below-requires-clause-within : goal.below-requires-clause-within
+below-requires-clause-within c = inside (goal.at.below-requires-clause-within c).In-Some
+
+pub below-requires-clause-tree : goal.below-requires-clause-tree
+below-requires-clause-tree c = let low = below-place (goal.at.below-requires-clause-tree c).In-Some in omega (arith, low, c.in_ok-put.ensures.tree)
 
 pub below-requires-clause-few : goal.below-requires-clause-few
 below-requires-clause-few c =
-    let old = c.args.self.now in
-    marks-few c.args.keys.now c.args.place (place_of old.last) (place_of c.put.new.self) old.marks.words.items old.counts
-    c.requires.next c.requires.few c.requires.size c.requires.counted c.in_ok-put.ensures.updates
-
-pub below-requires-clause-within : goal.below-requires-clause-within
-below-requires-clause-within c =
-    let old = c.args.self.now in
-    within c.args.keys.now c.args.place (place_of old.last) (place_of c.put.new.self) old.marks.words.items old.counts
-    c.requires.next c.requires.few c.requires.size c.requires.counted c.in_ok-put.ensures.updates c.in-Some.before (sym c.in_ok-put.ensures.old ∙ c.in-Some.is)
-
-pub take-requires-clause-within : goal.take-requires-clause-within
-take-requires-clause-within c =
-    let old = c.args.self.now in
-    within c.args.keys.now c.args.place (place_of old.last) (place_of c.put.new.self) old.marks.words.items old.counts
-    c.requires.next c.requires.few c.requires.size c.requires.counted c.in_ok-put.ensures.updates c.in-Some.before (sym c.in_ok-put.ensures.old ∙ c.in-Some.is)
-
-pub take-requires-clause-marked : goal.take-requires-clause-marked
-take-requires-clause-marked c =
-    let old = c.args.self.now in
-    marked-there c.args.keys.now c.args.place (place_of old.last) (place_of c.put.new.self) old.marks.words.items old.counts
-    c.requires.next c.requires.few c.requires.size c.requires.counted c.in_ok-put.ensures.updates c.in-Some.before (sym c.in_ok-put.ensures.old ∙ c.in-Some.is)
-
-pub put-requires-in-Some-clause-free : goal.put-requires-in-Some-clause-free
-put-requires-in-Some-clause-free c =
-    let old = c.args.self.now in
-    still-free c.args.keys.now c.args.place (place_of old.last) (place_of c.put.new.self) old.marks.words.items old.counts
-    c.requires.next c.requires.few c.requires.size c.requires.counted c.in_ok-put.ensures.updates c.in-Some.before (sym c.in_ok-put.ensures.old ∙ c.in-Some.is) (bit_of c.take.new.self.words.items) c.take.ensures.takes
-
-pub put-requires-in-Some-clause-few : goal.put-requires-in-Some-clause-few
-put-requires-in-Some-clause-few c =
-    let old = c.args.self.now in
-    still-few c.args.keys.now c.args.place (place_of old.last) (place_of c.put.new.self) old.marks.words.items old.counts
-    c.requires.next c.requires.few c.requires.size c.requires.counted c.in_ok-put.ensures.updates c.in-Some.before (sym c.in_ok-put.ensures.old ∙ c.in-Some.is) c.take.new.self.words.items c.take.ensures.takes
+    let at = (goal.at.below-requires-clause-few c).In-Some in
+    let same = same-below c.args.keys.now c.args.place c.args.self.now c.requires.next c.requires.few c.requires.counted (place_of c.put-2.new.self) c.put.new.self.words.items c.in_ok-put-2.ensures.updates c.in_ok-put.ensures.puts c.in-Some.before (sym c.in_ok-put-2.ensures.old ∙ c.in-Some.is) in
+    omega (arith, same, marks-few c.args.keys.now c.args.place c.args.self.now c.requires.next c.requires.few c.requires.counted c.in-Some.before)
 
 pub overflow_sub-distance : goal.overflow_sub-distance
-overflow_sub-distance c =
-    let old = c.args.self.now in
-    let deep = depth c.args.keys.now c.args.place (place_of old.last) (place_of c.put.new.self) old.marks.words.items old.counts
-    c.requires.next c.requires.few c.requires.size c.requires.counted c.in_ok-put.ensures.updates c.in-Some.before (sym c.in_ok-put.ensures.old ∙ c.in-Some.is) c.below.result c.below.ensures in
-    omega (arith, deep, c.len.ensures)
+overflow_sub-distance c = omega (arith, deep (goal.at.overflow_sub-distance c).In-Some, c.below.ensures, c.len.ensures)
 
 pub overflow_sub-distance-in-Some : goal.overflow_sub-distance-in-Some
-overflow_sub-distance-in-Some c =
-    let old = c.args.self.now in
-    let deep = depth c.args.keys.now c.args.place (place_of old.last) (place_of c.put.new.self) old.marks.words.items old.counts
-    c.requires.next c.requires.few c.requires.size c.requires.counted c.in_ok-put.ensures.updates c.in-Some.before (sym c.in_ok-put.ensures.old ∙ c.in-Some.is) c.below.result c.below.ensures in
-    omega (arith, deep, c.len.ensures)
+overflow_sub-distance-in-Some c = omega (arith, deep (goal.at.overflow_sub-distance-in-Some c).In-Some, c.below.ensures, c.len.ensures)
 
-pub returns-in_ok-push-in-None-clause-counted : goal.returns-in_ok-push-in-None-clause-counted
-returns-in_ok-push-in-None-clause-counted c =
-    let old = c.args.self.now in
-    let cs = old.counts in
-    rw c.in_ok-push-in-None.ensures
-    (first c.args.keys.now c.args.place (place_of old.last) (place_of c.put.new.self) old.marks.words.items cs
-    c.requires.next c.requires.few c.requires.size c.requires.counted c.in_ok-put.ensures.updates (bit_of c.put-in-None.new.self.words.items) (sym c.in_ok-put.ensures.old ∙ c.in-None.is) c.put-in-None.ensures.puts)
+pub take-requires-clause-within : goal.take-requires-clause-within
+take-requires-clause-within c = inside (goal.at.take-requires-clause-within c).In-Some
 
-pub add-requires : goal.add-requires
-add-requires c =
-    let old = c.args.self.now in
-    let deep = depth c.args.keys.now c.args.place (place_of old.last) (place_of c.put.new.self) old.marks.words.items old.counts
-    c.requires.next c.requires.few c.requires.size c.requires.counted c.in_ok-put.ensures.updates c.in-Some.before (sym c.in_ok-put.ensures.old ∙ c.in-Some.is) c.below.result c.below.ensures in
-    omega (arith, deep, c.len.ensures)
+pub take-requires-clause-marked : goal.take-requires-clause-marked
+take-requires-clause-marked c = there c.args.keys.now c.args.place c.args.self.now c.requires.next c.requires.few c.requires.counted (place_of c.put-2.new.self) c.put.new.self.words.items c.in_ok-put-2.ensures.updates c.in_ok-put.ensures.puts c.in-Some.before (sym c.in_ok-put-2.ensures.old ∙ c.in-Some.is)
 
-pub returns-in_ok-add-in-Some-clause-counted : goal.returns-in_ok-add-in-Some-clause-counted
-returns-in_ok-add-in-Some-clause-counted c =
-    let old = c.args.self.now in
-    let cs = old.counts in
-    let l : c.len.result ≡ length cs = omega (arith, c.len.ensures) in
-    let d = length cs - c.below.result - 1 in
-    rw (c.in_ok-add-in-Some.ensures, l)
-    (again c.args.keys.now c.args.place (place_of old.last) (place_of c.put.new.self) old.marks.words.items cs
-    c.requires.next c.requires.few c.requires.size c.requires.counted c.in_ok-put.ensures.updates c.in-Some.before (sym c.in_ok-put.ensures.old ∙ c.in-Some.is) c.below.result (get_or cs d 0 + 1) (bit_of c.put-in-Some.new.self.words.items) c.below.ensures (omega arith)
-    (λ q. c.put-in-Some.ensures.puts q ∙ ap (cond (eqb q c.args.place) true) (c.take.ensures.takes q)))
+pub returns-in_ok-push-in-None : goal.returns-in_ok-push-in-None
+returns-in_ok-push-in-None c =
+    let counts = c.args.self.now.counts.items in let noted = c.args.self.now.noted.items in
+    record {
+      room = omega (arith, c.requires.counted.room, c.in_ok-put.ensures.size);
+      summed = c.in_ok-put.ensures.tree;
+      counted = first c.args.keys.now c.args.place c.args.self.now c.requires.next c.requires.few c.requires.counted (place_of c.put-2.new.self) c.put.new.self.words.items c.in_ok-put-2.ensures.updates c.in_ok-put.ensures.puts
+          (length c.push.new.self.items) (count_at c.push.new.self.items noted) (sym c.in_ok-put-2.ensures.old ∙ c.in-None.is) (ap length c.in_ok-push-in-None.ensures.items ∙ length_push counts 0)
+          (λ d. ap (λ l. count_at l noted d) c.in_ok-push-in-None.ensures.items ∙ ap (λ n. n + count_by (eqb d) noted) (push-zero counts d));
+    }
+
+pub returns-in_ok-push-in-Some : goal.returns-in_ok-push-in-Some
+returns-in_ok-push-in-Some c =
+    let counts = c.args.self.now.counts.items in let noted = c.args.self.now.noted.items in let e = c.len.result - c.below.result - 1 in
+    let far = deep (goal.at.returns-in_ok-push-in-Some c).In-Some in
+    record {
+      room = omega (arith, c.requires.counted.room, c.in_ok-put.ensures.size, c.take.ensures.size);
+      summed = c.take.ensures.tree ∙ c.in_ok-put.ensures.tree;
+      counted = again c.args.keys.now c.args.place c.args.self.now c.requires.next c.requires.few c.requires.counted (place_of c.put-2.new.self) c.put.new.self.words.items c.in_ok-put-2.ensures.updates c.in_ok-put.ensures.puts
+          c.in-Some.before (sym c.in_ok-put-2.ensures.old ∙ c.in-Some.is) (bit_of c.take.new.self.words.items) e (count_at counts c.push-in-Some.new.self.items)
+          (omega (arith, far, c.below.ensures, c.len.ensures)) c.take.ensures.takes
+          (λ d. ap (λ (l : List ℕ). count_at counts l d) c.in_ok-push-in-Some.ensures.items ∙ noted-more counts noted e d);
+    }
