@@ -16,7 +16,7 @@ use Rattle.policies.proofs.Reached.{after-snoc, after-job}
 use Rattle.policies.proofs.OneQueue.{outcome-lru}
 use Rattle.stack_distances.specs.Distances.{distance, distances_after, distances, is_within, hits_within, stats_within}
 use Rattle.policies.proofs.Recency.{two}
-use Rattle.stack_distances.proofs.Stack.{grows, since-short}
+use Rattle.stack_distances.proofs.Stack.{grows, since-within}
 
 -- ---- one access
 
@@ -90,7 +90,7 @@ no-rejections c past (k ∷ ks) =
 fills : (c : ℕ) (xs : List ℕ) (k : ℕ) → one_if (is_eviction (lru_outcome c xs k)) + min c (length (distinct_keys (xs ++ k ∷ []))) ≡ one_if (is_miss (lru_outcome c xs k)) + min c (length (distinct_keys xs))
 fills c xs k = rw (grows k xs) (elim (two (has_key k xs)) [
   | inl h ↦
-      let short : length (distinct_keys (keys_since k xs)) ≤ length (distinct_keys xs) = since-short k xs in
+      let short : suc (length (distinct_keys (keys_since k xs))) ≤ length (distinct_keys xs) = since-within k 0 xs h in
       rw h (elim (two (nat_lt (length (distinct_keys (keys_since k xs))) c)) [
         | inl e ↦ rw e refl
         | inr e ↦ let full : nat_lt (length (distinct_keys xs)) c ≡ false = grind (arith, nat_tests) in rw (e, full) refl

@@ -1,4 +1,5 @@
 pub mod Stack
+pub mod Places
 pub mod Counting
 pub mod Sums
 pub mod Bits

@@ -1,15 +1,16 @@
 -- What was noted, to be counted.
-use Rattle.std.proofs.Common.{◌≡◌, ℕ, ◌+◌, ◌<◌, ◌≤◌, cond, eqb, List, [], ◌∷◌, ◌++◌, length, length-take, take, count_by, get_or, set, ap, ◌∙◌, refl, arith, inl, inr, get_or-set_other}
+use Rattle.std.proofs.Common.{◌≡◌, ℕ, suc, ◌+◌, ◌<◌, ◌≤◌, cond, eqb, List, [], ◌∷◌, ◌++◌, length, length-take, take, count_by, get_or, set, ap, ◌∙◌, refl, arith, inl, inr, get_or-set_other}
 use Rattle.std.proofs.lemmas.Bool.{cases_eq, cases_lt, eq-eqb, ne_eqb}
 use Rattle.std.proofs.lemmas.Grind.{get_or-set_at}
 use Rattle.std.proofs.lemmas.List.{get_or_past}
-use Rattle.std.proofs.lemmas.List.Sums.{sum_by_push}
+use Rattle.std.proofs.lemmas.List.Sums.{sum_by_push, count_by-le-length}
 use Rattle.step_record.specs.declared.limits.TheConstants.{MAX_ACCESSES}
 use Rattle.bits_and_lists.specs.Bits.{bit_of}
 use Rattle.trace_index.specs.KeyPlaces.{place_of}
-use Rattle.stack_distances.specs.Histogram.{count_at, HasCounted, IsNoted}
+use Rattle.stack_distances.specs.Distances.{distances}
+use Rattle.stack_distances.specs.Histogram.{count_at, is_at, IsHistogram, IsNoted}
 use Rattle.stack_distances.specs.declared.histogram.Histogram.{Histogram}
-use Rattle.stack_distances.proofs.Histories.{counts-few}
+use Rattle.stack_distances.proofs.Histories.{distances-long}
 use Rattle.stack_distances.proofs.Prefix.{none-deeper}
 
 module _ (counts noted : List ℕ) (d : ℕ) where
@@ -37,23 +38,18 @@ module _ (counts noted : List ℕ) (d : ℕ) where
     last-few = omega (arith, same d, noted-there, may.few d)
 
 -- what a histogram noted may be counted
-pub may-count : (keys : List ℕ) (place : ℕ) (h : Histogram) → length keys ≤ MAX_ACCESSES → HasCounted keys place h → IsNoted h.counts.items h.noted.items
+pub may-count : (keys : List ℕ) (place : ℕ) (h : Histogram) → length keys ≤ MAX_ACCESSES → IsHistogram keys place h → IsNoted h.counts.items h.noted.items
 may-count keys place h few c = record {
-  within = λ d past.
-      let e = c.counted.counted d in let none = none-deeper (take place keys) d (omega (arith, past, c.counted.long)) in omega (arith, e, none);
-  few = λ d.
-      let f = counts-few (take place keys) (place_of h.last) (bit_of h.marks.words.items) (length h.counts.items) (count_at h.counts.items h.noted.items) c.counted d in
-      omega (arith, f, length-take place keys, few);
+  within = λ d past. omega (arith, c.counted d, none-deeper (take place keys) d (omega (arith, past, c.long)));
+  few = λ d. omega (arith, c.counted d, count_by-le-length (is_at (suc d)) (distances (take place keys)), distances-long [] (take place keys), length-take place keys, few);
 }
 
-pub same-counted : (keys : List ℕ) (place : ℕ) (h g : Histogram) → g.last ≡ h.last → g.marks ≡ h.marks → length g.counts.items ≡ length h.counts.items → ((d : ℕ) → count_at g.counts.items g.noted.items d ≡ count_at h.counts.items h.noted.items d) → HasCounted keys place h → HasCounted keys place g
-same-counted keys place h g last marks len counts c = record {
+pub same-histogram : (keys : List ℕ) (place : ℕ) (h g : Histogram) → g.last ≡ h.last → g.marks ≡ h.marks → length g.counts.items ≡ length h.counts.items → ((d : ℕ) → count_at g.counts.items g.noted.items d ≡ count_at h.counts.items h.noted.items d) → IsHistogram keys place h → IsHistogram keys place g
+same-histogram keys place h g last marks len counts c = record {
+  last = λ k. ap (λ l. place_of l k) last ∙ c.last k;
+  marked = λ q. ap (λ m. bit_of m.words.items q) marks ∙ c.marked q;
   room = rw marks c.room;
   summed = rw marks c.summed;
-  counted = record {
-    last = λ k. ap (λ l. place_of l k) last ∙ c.counted.last k;
-    marked = λ q. ap (λ m. bit_of m.words.items q) marks ∙ c.counted.marked q;
-    long = len ∙ c.counted.long;
-    counted = λ d. counts d ∙ c.counted.counted d;
-  };
+  long = len ∙ c.long;
+  counted = λ d. counts d ∙ c.counted d;
 }

@@ -1,5 +1,5 @@
 -- The hits at each capacity, as sums of the counts of distances.
-use Rattle.std.proofs.Common.{◌≡◌, ℕ, suc, ◌+◌, ◌≤◌, min, Bool, true, false, cond, eqb, nat_le, Option, Some, None, List, [], ◌∷◌, ◌++◌, length, count_by, ap, ◌∙◌, sym, refl, arith, inl, inr, append_assoc, append-nil}
+use Rattle.std.proofs.Common.{◌≡◌, ℕ, suc, ◌+◌, ◌≤◌, min, true, false, cond, eqb, nat_le, Option, Some, None, List, [], ◌∷◌, ◌++◌, length, count_by, ap, ◌∙◌, sym, refl, arith, inl, inr, append_assoc, append-nil}
 use Rattle.std.proofs.lemmas.Bool.{cases_lt}
 use Rattle.std.proofs.lemmas.Bool.Decides.{nat_tests}
 use Rattle.step_record.specs.Keys.{has_key}
@@ -8,7 +8,7 @@ use Rattle.stack_distances.specs.Distances.{distance, distances_after, is_within
 use Rattle.stack_distances.specs.Histogram.{is_at}
 use Rattle.policies.proofs.Counting.{count-cons}
 use Rattle.policies.proofs.Recency.{two}
-use Rattle.stack_distances.proofs.Stack.{grows}
+use Rattle.stack_distances.proofs.Stack.{grows, since-within}
 
 -- ---- one distance more
 
@@ -49,29 +49,10 @@ no-hits keys = none-after [] keys
 
 -- ---- no distance is over the number of distinct keys
 
-deep : (k : ℕ) (xs : List ℕ) → has_key k xs ≡ true → suc (length (distinct_keys (keys_since k xs))) ≤ length (distinct_keys xs)
-deep k [] h = absurd (cc h)
-deep k (a ∷ xs) h =
-    elim (two (has_key k xs)) as (λ _. suc (length (distinct_keys (cond (has_key k xs) (keys_since k xs) xs))) ≤ length (distinct_keys (a ∷ xs))) [
-      | inl c ↦
-          let tail : length (distinct_keys xs) ≤ length (distinct_keys (a ∷ xs)) = elim (two (has_key a xs)) as (λ _. length (distinct_keys xs) ≤ length (cond (has_key a xs) (distinct_keys xs) (a ∷ distinct_keys xs))) [ inl e ↦ rw e (omega arith) | inr e ↦ rw e (omega arith) ] in
-          let rest : suc (length (distinct_keys (keys_since k xs))) ≤ length (distinct_keys xs) = deep k xs c in
-          rw c (omega (arith, tail, rest))
-      | inr c ↦
-          let e : eqb k a ≡ true = is-front (eqb k a) (rw c at h) in
-          let same : k ≡ a = grind (arith, nat_tests) in
-          let gone : has_key a xs ≡ false = rw same at c in
-          rw (c, gone) (omega arith)
-    ]
-  where
-    is-front : (b : Bool) → cond b true false ≡ true → b ≡ true
-    is-front true h = refl
-    is-front false h = absurd (cc h)
-
 full : (c : ℕ) (xs : List ℕ) (k : ℕ) → length (distinct_keys xs) ≤ c → is_within c (distance xs k) ≡ has_key k xs
 full c xs k h =
     elim (two (has_key k xs)) as (λ _. is_within c (distance xs k) ≡ has_key k xs) [
-      | inl e ↦ let d : suc (length (distinct_keys (keys_since k xs))) ≤ length (distinct_keys xs) = deep k xs e in rw e (grind (arith, nat_tests))
+      | inl e ↦ let d : suc (length (distinct_keys (keys_since k xs))) ≤ length (distinct_keys xs) = since-within k 0 xs e in rw e (grind (arith, nat_tests))
       | inr e ↦ rw e refl
     ]
 

@@ -1,5 +1,5 @@
 -- A curve and what is read off it.
-use Rattle.std.proofs.Common.{◌≡◌, ◌≢◌, ℕ, Bool, Option, take, suc, ◌+◌, ◌-◌, ◌<◌, ◌≤◌, min, List, [], length, count_by, get_or, set, ap, ◌∙◌, sym, refl, arith, inl, inr, get_or-set_other, get_or-set_same}
+use Rattle.std.proofs.Common.{◌≡◌, ◌≢◌, ℕ, take, suc, ◌+◌, ◌-◌, ◌<◌, ◌≤◌, min, List, [], length, count_by, get_or, set, ap, ◌∙◌, sym, refl, arith, inl, inr, get_or-set_other, get_or-set_same}
 use Rattle.std.proofs.Math.ListN.{length-set}
 use Rattle.std.proofs.lemmas.Bool.{cases_eq}
 use Rattle.std.proofs.lemmas.List.{take_all}
@@ -13,7 +13,8 @@ use Rattle.bits_and_lists.proofs.Places.{length-by_place, get_or-by_place}
 use Rattle.policies.specs.Lru.{distinct_keys}
 use Rattle.policies.specs.AnyPolicy.{stats_on}
 use Rattle.stack_distances.specs.Distances.{distances, is_within, hits_within, stats_within}
-use Rattle.stack_distances.specs.Histogram.{is_at, IsHistogram}
+use Rattle.stack_distances.specs.Histogram.{count_at, is_at, IsHistogram}
+use Rattle.stack_distances.specs.declared.histogram.Histogram.{Histogram}
 use Rattle.stack_distances.specs.Curve.{CurveData, curve_of}
 use Rattle.stack_distances.proofs.Counting.{lru-counts, hits-and-held}
 use Rattle.stack_distances.proofs.Histories.{distances-long}
@@ -37,11 +38,10 @@ none-summed keys hits l h = record {
 }
 
 -- at the end of a pass
-pub passed-summed : (keys trace hits : List ℕ) (counts : ℕ → ℕ) (place len : ℕ) (places : ℕ → Option ℕ) (marks : ℕ → Bool) → length keys ≤ place → keys ≡ trace → length hits ≡ len → ((d : ℕ) → get_or hits d 0 ≡ counts d) → IsHistogram (take place keys) places marks len counts → IsSummed trace hits 0 0
-passed-summed keys trace hits counts place len places marks all same long taken passed =
-    let whole : take place keys ≡ keys = take_all place keys all in
-    let p : IsHistogram trace places marks len counts = rw (whole, same) at passed in
-    none-summed trace hits (long ∙ p.long) (λ d. taken d ∙ p.counted d)
+pub passed-summed : (keys trace hits : List ℕ) (place : ℕ) (h : Histogram) → length keys ≤ place → keys ≡ trace → length hits ≡ length h.counts.items → ((d : ℕ) → get_or hits d 0 ≡ count_at h.counts.items h.noted.items d) → IsHistogram keys place h → IsSummed trace hits 0 0
+passed-summed keys trace hits place h all same long taken passed =
+    let whole : take place keys ≡ trace = take_all place keys all ∙ same in
+    none-summed trace hits (long ∙ (passed.long ∙ ap (λ l. length (distinct_keys l)) whole)) (λ d. taken d ∙ (passed.counted d ∙ ap (λ l. count_by (is_at (suc d)) (distances l)) whole))
 
 pub next-sum : (keys hits : List ℕ) (sum c : ℕ) → IsSummed keys hits sum c → sum + get_or hits c 0 ≡ hits_within (suc c) keys
 next-sum keys hits sum c s =

@@ -1,7 +1,7 @@
 //! How many accesses of a trace have each stack distance.
 ghost use Rattle.std.specs.Prelude.{◌≡◌, ◌+◌, ◌<◌, ◌≤◌, ℕ, [], length, slice_index, IfOk, OnOk};
 ghost use Rattle.step_record.specs.declared.limits.TheConstants.{MAX_ACCESSES};
-ghost use Rattle.stack_distances.specs.Histogram.{HasCounted, IsNoted, count_at};
+ghost use Rattle.stack_distances.specs.Histogram.{IsHistogram, IsNoted, count_at};
 
 use crate::marks::Marks;
 use std::alloc::{AllocError, Global};
@@ -34,7 +34,7 @@ impl Histogram {
     /// The histogram of no access, with room for those of a trace. The only error is out of memory.
     pub(crate) fn new(alloc: Global, keys: &[Key]) -> Result<Histogram, AllocError>
         requires { length keys.now ≤ MAX_ACCESSES }
-        ensures { IfOk result (λ h. HasCounted keys.now 0 h) }
+        ensures { IfOk result (λ h. IsHistogram keys.now 0 h) }
     {
         let last = KeyPlaces::new(alloc);
         let marks = Marks::new(alloc, keys.len())?;
@@ -53,8 +53,8 @@ impl Histogram {
     #[inline(always)]
     pub(crate) fn begin_access(&mut self, keys: &[Key], place: usize)
         requires few { length keys.now ≤ MAX_ACCESSES }
-        requires counted { HasCounted keys.now place self.old }
-        ensures { HasCounted keys.now place self.new }
+        requires counted { IsHistogram keys.now place self.old }
+        ensures { IsHistogram keys.now place self.new }
     {
         if place % STRETCH == 0 {
             count_noted(&mut self.counts, &mut self.noted);
@@ -67,8 +67,8 @@ impl Histogram {
     pub(crate) fn access(&mut self, keys: &[Key], place: usize) -> Result<(), AllocError>
         requires next { place < length keys.now }
         requires few { length keys.now ≤ MAX_ACCESSES }
-        requires counted { HasCounted keys.now place self.old }
-        ensures { OnOk result (HasCounted keys.now (place + 1) self.new) }
+        requires counted { IsHistogram keys.now place self.old }
+        ensures { OnOk result (IsHistogram keys.now (place + 1) self.new) }
     {
         self.marks.put(place)?;
         match self.last.put(keys[place], place as u32)? {

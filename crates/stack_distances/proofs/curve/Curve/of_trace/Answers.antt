@@ -1,9 +1,6 @@
 use Rattle.std.proofs.Common.{◌≡◌, ◌+◌, ◌<◌, ◌≤◌, suc, length, get_or, ap, arith}
 use Rattle.std.proofs.lemmas.List.{get_or_read}
-use Rattle.bits_and_lists.specs.Bits.{bit_of}
-use Rattle.trace_index.specs.KeyPlaces.{place_of}
 use Rattle.stack_distances.specs.Distances.{hits_within}
-use Rattle.stack_distances.specs.Histogram.{count_at}
 use Rattle.stack_distances.proofs.Noted.{may-count}
 use Rattle.stack_distances.proofs.Reading.{IsSummed, passed-summed, next-sum, sum-small, more-summed, curve-summed}
 use Rattle.stack_distances.proofs.curve.Curve.of_trace.Goals as goal
@@ -14,10 +11,8 @@ into_counts-hits-requires c = let inv = c.loop-place.invariant in may-count c.ke
 pub loop-c-init : goal.loop-c-init
 loop-c-init c =
     let inv = c.loop-place.invariant in
-    let h = c.loop-place.histogram in
     let hits = c.into_counts-hits.result.items in
-    let summed : IsSummed c.args.trace.now hits 0 0 = passed-summed c.keys-keys.result.now c.args.trace.now hits (count_at h.counts.items h.noted.items) c.loop-place.place (length h.counts.items)
-    (place_of h.last) (bit_of h.marks.words.items) (omega arith) inv.same c.into_counts-hits.ensures.len c.into_counts-hits.ensures.counts inv.counted.counted in
+    let summed : IsSummed c.args.trace.now hits 0 0 = passed-summed c.keys-keys.result.now c.args.trace.now hits c.loop-place.place c.loop-place.histogram (omega arith) inv.same c.into_counts-hits.ensures.len c.into_counts-hits.ensures.counts inv.counted in
     record {
       same = inv.same;
       few = inv.few;

@@ -1,7 +1,7 @@
 use Rattle.std.proofs.Common.{◌≡◌, ◌≤◌, length}
 use Rattle.step_record.specs.declared.limits.TheConstants.{MAX_ACCESSES}
 use Rattle.policies.specs.Lru.{distinct_keys}
-use Rattle.stack_distances.specs.Histogram.{HasCounted}
+use Rattle.stack_distances.specs.Histogram.{IsHistogram}
 use Rattle.stack_distances.proofs.Reading.{IsSummed}
 use Rattle.stack_distances.proofs.curve.Curve.of_trace.Given as goal
 
@@ -9,7 +9,7 @@ abbrev pub invariant-loop-place : goal.invariant-loop-place
 invariant-loop-place l = record {
   same : l.keys ≡ l.trace;
   few : length l.keys ≤ MAX_ACCESSES;
-  counted : HasCounted l.keys l.place l.histogram;
+  counted : IsHistogram l.keys l.place l.histogram;
 }
 
 abbrev pub invariant-loop-c : goal.invariant-loop-c
