@@ -51,44 +51,29 @@ next-high j = omega (arith, le_or_r j (j + 1))
 start-above : (j m : ℕ) → j ≡ 2 * m + 1 → start_of j ≡ 2 * start_of m
 start-above j m e = let half : j / 2 ≡ m = omega (arith, e) in start-odd j (omega (arith, e)) ∙ ap (λ n. 2 * start_of n) half
 
--- the next stretch begins no later
-nested-even : (j : ℕ) → j % 2 ≡ 0 → start_of (next_of j) ≤ start_of j
+-- the next stretch begins no later, and one that ends between the two begins behind the first
+abbrev IsNested : ℕ → Type 0
+IsNested j = (start_of (next_of j) ≤ start_of j) × ((k : ℕ) → j < k → k < next_of j → j < start_of k)
+
+nested-even : (j : ℕ) → j % 2 ≡ 0 → IsNested j
 nested-even j e =
     let next : start_of (next_of j) ≡ 2 * start_of (j / 2) = start-above (next_of j) (j / 2) (omega (arith, next-even j e, e)) in
-    omega (arith, next, start-low (j / 2), start-even j e, e)
+    (omega (arith, next, start-low (j / 2), start-even j e, e), λ k more less. absurd (omega (arith, next-even j e, more, less)))
 
-nested-odd : (j : ℕ) → j % 2 ≡ 1 → start_of (next_of (j / 2)) ≤ start_of (j / 2) → start_of (next_of j) ≤ start_of j
+nested-odd : (j : ℕ) → j % 2 ≡ 1 → IsNested (j / 2) → IsNested j
 nested-odd j e half =
     let next : start_of (next_of j) ≡ 2 * start_of (next_of (j / 2)) = start-above (next_of j) (next_of (j / 2)) (next-odd j e) in
-    omega (arith, next, start-odd j e, half)
-
-pub nested : (j : ℕ) → start_of (next_of j) ≤ start_of j
-nested = bin_ind (λ j. start_of (next_of j) ≤ start_of j) (nested-even 0 (omega arith)) (λ j half. elim (cases_eq (j % 2) 0) [
-  | inl e ↦ nested-even j e
-  | inr n ↦ nested-odd j (omega (arith, n)) half
-])
-
--- and one that ends between the two begins behind the first
-abbrev Apart : ℕ → Type 0
-Apart j = (k : ℕ) → j < k → k < next_of j → j < start_of k
-
-apart-even : (j : ℕ) → j % 2 ≡ 0 → Apart j
-apart-even j e k more less = absurd (omega (arith, next-even j e, more, less))
-
-apart-odd : (j : ℕ) → j % 2 ≡ 1 → Apart (j / 2) → Apart j
-apart-odd j e half k more less =
-    elim (cases_eq (k % 2) 0) [
+    (omega (arith, next, start-odd j e, half.0), λ k more less. elim (cases_eq (k % 2) 0) [
       | inl even ↦ omega (arith, start-even k even, more)
       | inr n ↦
           let odd : k % 2 ≡ 1 = omega (arith, n) in
-          let above : j / 2 < start_of (k / 2) = half (k / 2) (omega (arith, more, e, odd)) (omega (arith, next-odd j e, less, odd)) in
-          omega (arith, start-odd k odd, above, e)
-    ]
+          omega (arith, start-odd k odd, half.1 (k / 2) (omega (arith, more, e, odd)) (omega (arith, next-odd j e, less, odd)), e)
+    ])
 
-pub apart : (j : ℕ) → Apart j
-apart = bin_ind Apart (apart-even 0 (omega arith)) (λ j half. elim (cases_eq (j % 2) 0) [
-  | inl e ↦ apart-even j e
-  | inr n ↦ apart-odd j (omega (arith, n)) half
+pub nested : (j : ℕ) → IsNested j
+nested = bin_ind IsNested (nested-even 0 (omega arith)) (λ j half. elim (cases_eq (j % 2) 0) [
+  | inl e ↦ nested-even j e
+  | inr n ↦ nested-odd j (omega (arith, n)) half
 ])
 
 -- ---- sums
@@ -149,7 +134,7 @@ module _ (place : ℕ) (before sums : List ℕ) (at : ℕ) (h : IsTaken place be
   pub next-taken : (y : ℕ) → at < length before → y + 1 ≡ get_or sums at 0 → IsTaken place before (set sums at y) (next_of at)
   next-taken y within one = record {
     long = length-set sums at y ∙ h.long;
-    from = omega (arith, nested at, h.from);
+    from = omega (arith, (nested at).0, h.from);
     behind = omega (arith, next-high at, h.behind);
     taken = λ j less in_it from behind. elim (cases_eq j at) [
       | inl same ↦
@@ -157,7 +142,7 @@ module _ (place : ℕ) (before sums : List ℕ) (at : ℕ) (h : IsTaken place be
           omega (arith, here, one, h.left at (omega arith), ap (λ n. get_or before n 0) same)
       | inr other ↦ elim (cases_lt j at) [
         | inl lower ↦ omega (arith, there y j other, h.taken j lower in_it from behind)
-        | inr higher ↦ absurd (omega (arith, apart at j (omega (arith, higher, other)) less, from, h.behind))
+        | inr higher ↦ absurd (omega (arith, (nested at).1 j (omega (arith, higher, other)) less, from, h.behind))
       ]
     ];
     past = λ j later. there y j (λ same. omega (arith, ap start_of same, later, h.from)) ∙ h.past j later;

@@ -7,7 +7,7 @@ use Rattle.std.proofs.lemmas.List.Sums.{sum_by_push}
 use Rattle.step_record.specs.Keys.{has_key}
 use Rattle.bits_and_lists.specs.Bits.{bit_of}
 use Rattle.policies.specs.Lru.{distinct_keys, keys_since}
-use Rattle.policies.proofs.Recency.{two}
+use Rattle.policies.proofs.Recency.{has-drop, two}
 use Rattle.trace_index.specs.KeyPlaces.{place_of}
 use Rattle.trace_index.specs.Uses.{last_below, number_of}
 use Rattle.stack_distances.specs.Distances.{distance, distances_after, distances}
@@ -16,7 +16,7 @@ use Rattle.stack_distances.specs.Histogram.{is_last, is_at, IsHistogram}
 use Rattle.stack_distances.specs.declared.histogram.Histogram.{Histogram}
 use Rattle.stack_distances.proofs.Bits.{put-mark}
 use Rattle.stack_distances.proofs.Places.{again-next, came-by, front-at, last_number, last-key, last-low, past-end}
-use Rattle.stack_distances.proofs.Stack.{came-there, front-again, front-last, grows, since-beyond, since-within}
+use Rattle.stack_distances.proofs.Stack.{front-again, front-last, grows, since-beyond, since-within}
 use Rattle.stack_distances.proofs.Sums.{added-low}
 
 -- ---- the distances
@@ -165,7 +165,7 @@ module _ (keys : List ℕ) (place : ℕ) (in_it : place < length keys) (h : Hist
       last-there = ap (λ k. has_key k (drop (suc p) (take place keys))) (sym is-key) ∙ behind
 
       came : has_key key (take place keys) ≡ true
-      came = came-there key p (take place keys) in-stack
+      came = has-drop key p (take place keys) in-stack
 
       pub there : bit_of vs p ≡ true
       there =

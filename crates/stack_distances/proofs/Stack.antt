@@ -4,7 +4,7 @@ use Rattle.std.proofs.lemmas.Bool.{eqb-true}
 use Rattle.std.proofs.lemmas.Bool.Decides.{nat_tests}
 use Rattle.step_record.specs.Keys.{has_key}
 use Rattle.policies.specs.Lru.{distinct_keys, keys_since}
-use Rattle.policies.proofs.Recency.{two}
+use Rattle.policies.proofs.Recency.{has-drop, two}
 
 pub eqb-sym : (a b : ℕ) → eqb a b ≡ eqb b a
 eqb-sym a b = grind (arith, nat_tests)
@@ -56,14 +56,6 @@ fewer-behind zero xs = omega arith
 fewer-behind (suc f) [] = omega arith
 fewer-behind (suc f) (a ∷ xs) = let r = fewer-behind f xs in let m = front-more a xs in omega (arith, r, m)
 
--- a key that comes from a place on comes
-pub came-there : (k f : ℕ) (xs : List ℕ) → has_key k (drop f xs) ≡ true → has_key k xs ≡ true
-came-there k zero xs h = h
-came-there k (suc f) [] h = h
-came-there k (suc f) (a ∷ xs) h =
-    let r : has_key k xs ≡ true = came-there k f xs h in
-    elim (two (eqb k a)) as (λ _. cond (eqb k a) true (has_key k xs) ≡ true) [ inl e ↦ rw e refl | inr e ↦ rw e r ]
-
 -- what came since the last access to k is within what came from a place on, where k came there
 pub since-within : (k f : ℕ) (xs : List ℕ) → has_key k (drop f xs) ≡ true → suc (length (distinct_keys (keys_since k xs))) ≤ length (distinct_keys (drop f xs))
 since-within k zero [] h = absurd (cc h)
@@ -87,7 +79,7 @@ since-within k zero (a ∷ xs) h =
     ]
 since-within k (suc f) [] h = absurd (cc h)
 since-within k (suc f) (a ∷ xs) h =
-    let e : has_key k xs ≡ true = came-there k f xs h in
+    let e : has_key k xs ≡ true = has-drop k f xs h in
     let r : suc (length (distinct_keys (keys_since k xs))) ≤ length (distinct_keys (drop f xs)) = since-within k f xs h in
     rw e r
 

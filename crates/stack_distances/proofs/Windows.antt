@@ -10,7 +10,7 @@ use Rattle.step_record.specs.declared.job.Job.{Job}
 use Rattle.step_record.specs.declared.job.Policy.TheVariants.{Lru}
 use Rattle.policies.specs.Lru.{distinct_keys, keys_since}
 use Rattle.policies.specs.AnyPolicy.{stats_on}
-use Rattle.policies.proofs.Recency.{two}
+use Rattle.policies.proofs.Recency.{has-drop, two}
 use Rattle.stack_distances.specs.Distances.{distance, is_within, hits_within, stats_within}
 use Rattle.trace_index.specs.Uses.{last_below, number_of}
 use Rattle.stack_distances.specs.Window.{IsWindow, IsFirstClear, stats_in}
@@ -19,7 +19,7 @@ use Rattle.stack_distances.proofs.Counting.{lru-counts, hits-and-held}
 use Rattle.stack_distances.proofs.Histories.{count-next}
 use Rattle.stack_distances.proofs.Places.{again-next, came-by, front-at, last-low, past-end, past-length}
 use Rattle.stack_distances.proofs.Reading.{sum-small}
-use Rattle.stack_distances.proofs.Stack.{came-there, fewer-behind, front-again, front-last, grows, since-within, since-beyond}
+use Rattle.stack_distances.proofs.Stack.{fewer-behind, front-again, front-last, grows, since-within, since-beyond}
 
 -- ---- hits
 
@@ -32,7 +32,7 @@ within-none c xs k h = rw h refl
 -- an access to a key of the window
 hit-within : (c f : ℕ) (xs : List ℕ) (k : ℕ) → length (distinct_keys (drop f xs)) ≤ c → has_key k (drop f xs) ≡ true → is_within c (distance xs k) ≡ true
 hit-within c f xs k fits h =
-    let came : has_key k xs ≡ true = came-there k f xs h in
+    let came : has_key k xs ≡ true = has-drop k f xs h in
     let less : suc (length (distinct_keys (keys_since k xs))) ≤ length (distinct_keys (drop f xs)) = since-within k f xs h in
     let yes : nat_le (suc (length (distinct_keys (keys_since k xs)))) c ≡ true = grind (arith, nat_tests) in
     within-some c xs k came ∙ yes
