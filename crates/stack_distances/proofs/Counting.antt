@@ -6,6 +6,7 @@ use Rattle.step_record.specs.Keys.{has_key}
 use Rattle.step_record.specs.declared.job.Job.{Job}
 use Rattle.step_record.specs.declared.job.Policy.TheVariants.{Lru}
 use Rattle.step_record.specs.declared.outcome.Outcome.{Outcome}
+use Rattle.step_record.specs.declared.stats.Stats.{Stats}
 use Rattle.step_record.specs.Stats.{is_hit, is_miss, is_eviction, is_rejection, stats_of, one_if}
 use Rattle.policies.specs.Lru.{distinct_keys, keys_since, is_lru_hit, lru_outcome}
 use Rattle.policies.specs.QueueCache.{QueueState, queue_state_after, frequency_after, state_after, outcomes_from, outcomes_after, outcome_after}
@@ -109,6 +110,13 @@ unfolding stats_on
 lru-counts j keys p room =
     let by_queues : outcomes_on j keys ≡ outcomes_after j keys = rw (ap knows_trace p) refl in
     ap stats_of by_queues ∙ (ap stats_of (all-outcomes j p room keys) ∙ stats-by j.config.capacity keys)
+
+-- as the misses less the keys that are left at the end
+pub stats-read : (j : Job) (keys : List ℕ) (n h held c : ℕ) → j.policy ≡ Lru → j.config.capacity ≡ c → 1 ≤ c → n ≡ length keys → h ≡ hits_within c keys → held ≡ min c (length (distinct_keys keys))
+    → ◌≡◌ {A = Stats} (record { accesses = n; hits = h; misses = n - h; evictions = n - h - held; rejections = 0 }) (stats_on j keys)
+stats-read j keys n h held c lru cap some all hits left =
+    let is : ◌≡◌ {A = Stats} (record { accesses = n; hits = h; misses = n - h; evictions = n - h - held; rejections = 0 }) (stats_within c keys) = rw (all, hits, left) refl in
+    is ∙ (ap (λ m. stats_within m keys) (sym cap) ∙ sym (lru-counts j keys lru (rw cap some)))
 
 -- a miss fills a place of the cache, or evicts
 pub hits-and-held : (c : ℕ) (keys : List ℕ) → hits_within c keys + min c (length (distinct_keys keys)) ≤ length keys

@@ -19,26 +19,22 @@ next_of j = bit_or j (j + 1)
 start-even : (j : ℕ) → j % 2 ≡ 0 → start_of j ≡ j
 start-even j e =
     let half : (j + 1) / 2 ≡ j / 2 = omega (arith, e) in
-    let same : bit_and (j / 2) ((j + 1) / 2) ≡ j / 2 = ap (bit_and (j / 2)) half ∙ and_self (j / 2) in
-    omega (arith, and_step j (j + 1), same, e)
+    omega (arith, and_step j (j + 1), ap (bit_and (j / 2)) half ∙ and_self (j / 2), e)
 
 start-odd : (j : ℕ) → j % 2 ≡ 1 → start_of j ≡ 2 * start_of (j / 2)
 start-odd j e =
     let half : (j + 1) / 2 ≡ j / 2 + 1 = omega (arith, e) in
-    let same : bit_and (j / 2) ((j + 1) / 2) ≡ start_of (j / 2) = ap (bit_and (j / 2)) half in
-    omega (arith, and_step j (j + 1), same, e)
+    omega (arith, and_step j (j + 1), ap (bit_and (j / 2)) half, e)
 
 next-even : (j : ℕ) → j % 2 ≡ 0 → next_of j ≡ j + 1
 next-even j e =
     let half : (j + 1) / 2 ≡ j / 2 = omega (arith, e) in
-    let same : bit_or (j / 2) ((j + 1) / 2) ≡ j / 2 = ap (bit_or (j / 2)) half ∙ or_self (j / 2) in
-    omega (arith, or_step j (j + 1), same, e)
+    omega (arith, or_step j (j + 1), ap (bit_or (j / 2)) half ∙ or_self (j / 2), e)
 
 next-odd : (j : ℕ) → j % 2 ≡ 1 → next_of j ≡ 2 * next_of (j / 2) + 1
 next-odd j e =
     let half : (j + 1) / 2 ≡ j / 2 + 1 = omega (arith, e) in
-    let same : bit_or (j / 2) ((j + 1) / 2) ≡ next_of (j / 2) = ap (bit_or (j / 2)) half in
-    omega (arith, or_step j (j + 1), same, e)
+    omega (arith, or_step j (j + 1), ap (bit_or (j / 2)) half, e)
 
 -- ---- the stretches are nested
 
@@ -57,13 +53,11 @@ IsNested j = (start_of (next_of j) ≤ start_of j) × ((k : ℕ) → j < k → k
 
 nested-even : (j : ℕ) → j % 2 ≡ 0 → IsNested j
 nested-even j e =
-    let next : start_of (next_of j) ≡ 2 * start_of (j / 2) = start-above (next_of j) (j / 2) (omega (arith, next-even j e, e)) in
-    (omega (arith, next, start-low (j / 2), start-even j e, e), λ k more less. absurd (omega (arith, next-even j e, more, less)))
+    (omega (arith, start-above (next_of j) (j / 2) (omega (arith, next-even j e, e)), start-low (j / 2), start-even j e, e), λ k more less. absurd (omega (arith, next-even j e, more, less)))
 
 nested-odd : (j : ℕ) → j % 2 ≡ 1 → IsNested (j / 2) → IsNested j
 nested-odd j e half =
-    let next : start_of (next_of j) ≡ 2 * start_of (next_of (j / 2)) = start-above (next_of j) (next_of (j / 2)) (next-odd j e) in
-    (omega (arith, next, start-odd j e, half.0), λ k more less. elim (cases_eq (k % 2) 0) [
+    (omega (arith, start-above (next_of j) (next_of (j / 2)) (next-odd j e), start-odd j e, half.0), λ k more less. elim (cases_eq (k % 2) 0) [
       | inl even ↦ omega (arith, start-even k even, more)
       | inr n ↦
           let odd : k % 2 ≡ 1 = omega (arith, n) in
@@ -95,8 +89,7 @@ module _ (total : ℕ → ℕ) (sums : List ℕ) (tree : IsFenwickTree total sum
       | inl less ↦ ap (λ n. total (start_of j) + n) (get_or_append_left sums (s ∷ []) 0 j less) ∙ tree.summed j less
       | inr more ↦
           let last : j ≡ length sums = omega (arith, more, within, length_push sums s) in
-          let at : get_or (sums ++ s ∷ []) j 0 ≡ s = ap (λ n. get_or (sums ++ s ∷ []) n 0) last ∙ get_or_push sums s 0 (length sums) refl in
-          omega (arith, is, at, ap (λ n. total (start_of n)) last, ap (λ n. total (n + 1)) last)
+          omega (arith, is, ap (λ n. get_or (sums ++ s ∷ []) n 0) last ∙ get_or_push sums s 0 (length sums) refl, ap (λ n. total (start_of n)) last, ap (λ n. total (n + 1)) last)
     ];
   }
 
@@ -118,17 +111,6 @@ pub record IsTaken (place : ℕ) (before sums : List ℕ) (at : ℕ) : Type 0 wh
   pub past : (j : ℕ) → place < start_of j → get_or sums j 0 ≡ get_or before j 0
   pub low : (j : ℕ) → j < place → get_or sums j 0 ≡ get_or before j 0
   pub left : (j : ℕ) → at ≤ j → get_or sums j 0 ≡ get_or before j 0
-
-pub none-taken : (place : ℕ) (before : List ℕ) → IsTaken place before before place
-none-taken place before = record {
-  long = refl;
-  from = start-low place;
-  behind = omega arith;
-  taken = λ j less within from behind. absurd (omega (arith, less, behind));
-  past = λ j h. refl;
-  low = λ j h. refl;
-  left = λ j h. refl;
-}
 
 module _ (place : ℕ) (before sums : List ℕ) (at : ℕ) (h : IsTaken place before sums at) where
   pub next-taken : (y : ℕ) → at < length before → y + 1 ≡ get_or sums at 0 → IsTaken place before (set sums at y) (next_of at)

@@ -178,10 +178,9 @@ module _ (keys : List ℕ) (place : ℕ) (in_it : place < length keys) (h : Hist
 
       pub depth : sum_below (mark_of vs) p + suc (length (distinct_keys (keys_since key (take place keys)))) ≡ length h.counts.items
       depth =
-          let same : sum_below (mark_of vs) p ≡ sum_below (mark_of words) p = added-low (mark_of words) (mark_of vs) place (put-mark words vs place free puts) p (omega (arith, low)) in
           let front = ap (λ l. length (distinct_keys l)) (front-at keys place p low (omega (arith, in_it))) in
           let on = front-last (get_or keys p 0) (drop (suc p) (take place keys)) last-there in
-          omega (arith, same, stack-below p (omega (arith, low)), front, on, since-within key p (take place keys) in-stack, since-beyond key (suc p) (take place keys) came behind, c.long)
+          omega (arith, added-low (mark_of words) (mark_of vs) place (put-mark words vs place free puts) p (omega (arith, low)), stack-below p (omega (arith, low)), front, on, since-within key p (take place keys) in-stack, since-beyond key (suc p) (take place keys) came behind, c.long)
 
       pub again-marked : (q : ℕ) → cond (eqb q p) false (bit_of vs q) ≡ is_last keys (place + 1) q
       again-marked q =

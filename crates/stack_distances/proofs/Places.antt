@@ -16,20 +16,17 @@ past-length keys place in_it = length-take-le place keys (omega (arith, in_it))
 
 pub front-at : (keys : List ℕ) (n s : ℕ) → s < n → n ≤ length keys → drop s (take n keys) ≡ get_or keys s 0 ∷ drop (suc s) (take n keys)
 front-at keys n s h all =
-    let l : length (take n keys) ≡ n = length-take-le n keys all in
-    let short : s < length (take n keys) = omega (arith, l, h) in
+    let short : s < length (take n keys) = omega (arith, length-take-le n keys all, h) in
     drop-cons (take n keys) s 0 short ∙ ap (λ a. a ∷ drop (suc s) (take n keys)) (get_or-take n keys s 0 h)
 
 -- what comes from a place on, with one access more
 pub drop-next : (keys : List ℕ) (place f : ℕ) → place < length keys → f ≤ place → drop f (take (place + 1) keys) ≡ drop f (take place keys) ++ get_or keys place 0 ∷ []
 drop-next keys place f in_it h =
-    let l : length (take place keys) ≡ place = past-length keys place in_it in
-    ap (drop f) (take_more keys place 0 in_it) ∙ drop-append-le f (take place keys) (get_or keys place 0 ∷ []) (omega (arith, l, h))
+    ap (drop f) (take_more keys place 0 in_it) ∙ drop-append-le f (take place keys) (get_or keys place 0 ∷ []) (omega (arith, past-length keys place in_it, h))
 
 pub past-end : (keys : List ℕ) (n f : ℕ) → n ≤ length keys → n ≤ f → drop f (take n keys) ≡ []
 past-end keys n f all h =
-    let l : length (take n keys) ≡ n = length-take-le n keys all in
-    drop_of_length-le (take n keys) {i = f} (omega (arith, l, h))
+    drop_of_length-le (take n keys) {i = f} (omega (arith, length-take-le n keys all, h))
 
 or-true : (v : Bool) → cond v true true ≡ true
 or-true true = refl

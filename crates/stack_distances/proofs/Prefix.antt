@@ -41,8 +41,7 @@ none-within xs k =
 none-after : (past keys : List ℕ) → count_by (is_within 0) (distances_after past keys) ≡ 0
 none-after past [] = refl
 none-after past (k ∷ ks) =
-    let n : cond {A = ℕ} (is_within 0 (distance past k)) 1 0 ≡ 0 = ap (λ b. cond b 1 0) (none-within past k) in
-    omega (arith, none-after (past ++ k ∷ []) ks, n, count-cons (is_within 0) (distance past k) (distances_after (past ++ k ∷ []) ks))
+    omega (arith, none-after (past ++ k ∷ []) ks, ap (λ b. cond {A = ℕ} b 1 0) (none-within past k), count-cons (is_within 0) (distance past k) (distances_after (past ++ k ∷ []) ks))
 
 pub no-hits : (keys : List ℕ) → hits_within 0 keys ≡ 0
 no-hits keys = none-after [] keys
@@ -62,20 +61,14 @@ one-grows past k = rw (grows k past) (elim (two (has_key k past)) as (λ _. leng
 pub more-distinct : (past keys : List ℕ) → length (distinct_keys past) ≤ length (distinct_keys (past ++ keys))
 more-distinct past [] = rw (append-nil past) (omega arith)
 more-distinct past (k ∷ ks) =
-    let first : length (distinct_keys past) ≤ length (distinct_keys (past ++ k ∷ [])) = one-grows past k in
-    let rest : length (distinct_keys (past ++ k ∷ [])) ≤ length (distinct_keys ((past ++ k ∷ []) ++ ks)) = more-distinct (past ++ k ∷ []) ks in
-    let same : length (distinct_keys ((past ++ k ∷ []) ++ ks)) ≡ length (distinct_keys (past ++ k ∷ ks)) = ap (λ l. length (distinct_keys l)) (append_assoc past (k ∷ []) ks) in
-    omega (arith, first, rest, same)
+    omega (arith, one-grows past k, more-distinct (past ++ k ∷ []) ks, ap (λ l. length (distinct_keys l)) (append_assoc past (k ∷ []) ks))
 
 full-after : (c d : ℕ) (past keys : List ℕ) → length (distinct_keys (past ++ keys)) ≤ c → length (distinct_keys (past ++ keys)) ≤ d → count_by (is_within c) (distances_after past keys) ≡ count_by (is_within d) (distances_after past keys)
 full-after c d past [] h g = refl
 full-after c d past (k ∷ ks) h g =
-    let fewer : length (distinct_keys past) ≤ length (distinct_keys (past ++ k ∷ ks)) = more-distinct past (k ∷ ks) in
     let same : length (distinct_keys ((past ++ k ∷ []) ++ ks)) ≡ length (distinct_keys (past ++ k ∷ ks)) = ap (λ l. length (distinct_keys l)) (append_assoc past (k ∷ []) ks) in
-    let rest : count_by (is_within c) (distances_after (past ++ k ∷ []) ks) ≡ count_by (is_within d) (distances_after (past ++ k ∷ []) ks) = full-after c d (past ++ k ∷ []) ks (omega (arith, same, h)) (omega (arith, same, g)) in
-    let first : is_within c (distance past k) ≡ is_within d (distance past k) = full c past k (omega (arith, fewer, h)) ∙ sym (full d past k (omega (arith, fewer, g))) in
-    let one : cond {A = ℕ} (is_within c (distance past k)) 1 0 ≡ cond {A = ℕ} (is_within d (distance past k)) 1 0 = ap (λ b. cond b 1 0) first in
-    omega (arith, rest, one, count-cons (is_within c) (distance past k) (distances_after (past ++ k ∷ []) ks), count-cons (is_within d) (distance past k) (distances_after (past ++ k ∷ []) ks))
+    let first : is_within c (distance past k) ≡ is_within d (distance past k) = full c past k (omega (arith, more-distinct past (k ∷ ks), h)) ∙ sym (full d past k (omega (arith, more-distinct past (k ∷ ks), g))) in
+    omega (arith, full-after c d (past ++ k ∷ []) ks (omega (arith, same, h)) (omega (arith, same, g)), ap (λ b. cond {A = ℕ} b 1 0) first, count-cons (is_within c) (distance past k) (distances_after (past ++ k ∷ []) ks), count-cons (is_within d) (distance past k) (distances_after (past ++ k ∷ []) ks))
 
 -- past the number of distinct keys the hits stay
 pub hits-held : (c : ℕ) (keys : List ℕ) → hits_within (min (length (distinct_keys keys)) c) keys ≡ hits_within c keys

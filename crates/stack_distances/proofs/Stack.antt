@@ -62,16 +62,13 @@ since-within k zero [] h = absurd (cc h)
 since-within k zero (a ∷ xs) h =
     elim (two (has_key k xs)) as (λ _. suc (length (distinct_keys (cond (has_key k xs) (keys_since k xs) xs))) ≤ length (distinct_keys (a ∷ xs))) [
       | inl e ↦
-          let r : suc (length (distinct_keys (keys_since k xs))) ≤ length (distinct_keys xs) = since-within k zero xs e in
-          let m : length (distinct_keys xs) ≤ length (distinct_keys (a ∷ xs)) = front-more a xs in
-          rw e (omega (arith, r, m))
+          rw e (omega (arith, since-within k zero xs e, front-more a xs))
       | inr e ↦
           elim (two (eqb k a)) [
             | inl s ↦
                 let same : k ≡ a = eqb-true k a s in
                 let gone : has_key a xs ≡ false = rw same at e in
-                let m : length (distinct_keys (a ∷ xs)) ≡ suc (length (distinct_keys xs)) = front-last a xs gone in
-                rw e (omega (arith, m))
+                rw e (omega (arith, front-last a xs gone))
             | inr s ↦
                 let none : cond (eqb k a) true (has_key k xs) ≡ false = rw s e in
                 absurd (cc (none, h))

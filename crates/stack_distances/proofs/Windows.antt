@@ -1,21 +1,20 @@
 -- The window of a trace whose keys Lru holds, one access after another.
-use Rattle.std.proofs.Common.{◌≡◌, ◌≢◌, ℕ, suc, zero, ◌+◌, ◌-◌, ◌*◌, ◌<◌, ◌≤◌, min, Bool, true, false, ◌||◌, cond, eqb, nat_lt, nat_le, List, [], ◌∷◌, ◌++◌, length, take, drop, get_or, ap, ◌∙◌, sym, refl, arith, inl, inr}
+use Rattle.std.proofs.Common.{◌≡◌, ℕ, suc, zero, ◌+◌, ◌-◌, ◌<◌, ◌≤◌, min, Bool, true, false, ◌||◌, cond, eqb, nat_lt, nat_le, List, [], ◌∷◌, ◌++◌, length, take, drop, get_or, ap, ◌∙◌, sym, refl, arith, inl, inr}
 use Rattle.std.proofs.lemmas.Bool.{cases_eq, cases_lt, eq-eqb, ne_eqb}
 use Rattle.std.proofs.lemmas.Bool.Decides.{nat_tests}
 use Rattle.std.proofs.lemmas.List.{drop-append-le, take_more, take_all}
 use Rattle.step_record.specs.Keys.{has_key}
-use Rattle.step_record.specs.declared.limits.TheConstants.{MAX_ACCESSES}
 use Rattle.bits_and_lists.specs.Bits.{bit_of}
 use Rattle.step_record.specs.declared.job.Job.{Job}
 use Rattle.step_record.specs.declared.job.Policy.TheVariants.{Lru}
 use Rattle.policies.specs.Lru.{distinct_keys, keys_since}
 use Rattle.policies.specs.AnyPolicy.{stats_on}
 use Rattle.policies.proofs.Recency.{has-drop, two}
-use Rattle.stack_distances.specs.Distances.{distance, is_within, hits_within, stats_within}
+use Rattle.stack_distances.specs.Distances.{distance, is_within, hits_within}
 use Rattle.trace_index.specs.Uses.{last_below, number_of}
 use Rattle.stack_distances.specs.Window.{IsWindow, IsFirstClear, stats_in}
 use Rattle.stack_distances.specs.declared.window.Window.{Window}
-use Rattle.stack_distances.proofs.Counting.{lru-counts, hits-and-held}
+use Rattle.stack_distances.proofs.Counting.{stats-read, hits-and-held}
 use Rattle.stack_distances.proofs.Histories.{count-next}
 use Rattle.stack_distances.proofs.Places.{again-next, came-by, front-at, last-low, past-end, past-length}
 use Rattle.stack_distances.proofs.Reading.{sum-small}
@@ -84,8 +83,7 @@ module _ (keys : List ℕ) (place : ℕ) (in_it : place < length keys) (before :
   past-fresh : (s : ℕ) → s ≤ place → has_key (get_or keys s 0) (drop (suc s) (take (place + 1) keys)) ≡ false → length (distinct_keys (drop (s + 1) (take (place + 1) keys))) + 1 ≡ length (distinct_keys (drop s (take (place + 1) keys)))
   past-fresh s h gone =
       let e : s + 1 ≡ suc s = omega arith in
-      let m : length (distinct_keys (drop s (take (place + 1) keys))) ≡ suc (length (distinct_keys (drop (suc s) (take (place + 1) keys)))) = ap (λ l. length (distinct_keys l)) (cut-front s h) ∙ front-last (get_or keys s 0) (drop (suc s) (take (place + 1) keys)) gone in
-      rw e (omega (arith, m))
+      rw e (omega (arith, ap (λ l. length (distinct_keys l)) (cut-front s h) ∙ front-last (get_or keys s 0) (drop (suc s) (take (place + 1) keys)) gone))
 
   -- past several that come again
   past-run : (f n : ℕ) → f + n ≤ place → ((i : ℕ) → f ≤ i → i < f + n → has_key (get_or keys i 0) (drop (suc i) (take (place + 1) keys)) ≡ true) → length (distinct_keys (drop (f + n) (take (place + 1) keys))) ≡ length (distinct_keys (drop f (take (place + 1) keys)))
@@ -117,10 +115,7 @@ module _ (keys : List ℕ) (place : ℕ) (in_it : place < length keys) (before :
   module _ (w : Window) (h : IsWindow keys place w) where
     pub hits-small : w.hits ≤ place
     hits-small =
-        let few : hits_within w.capacity (take place keys) ≤ length (take place keys) = sum-small (take place keys) w.capacity in
-        let l : length (take place keys) ≡ place = past-length keys place in_it in
-        let was : w.hits ≡ hits_within w.capacity (take place keys) = h.hits in
-        omega (arith, few, l, was)
+        omega (arith, sum-small (take place keys) w.capacity, past-length keys place in_it, h.hits)
 
     -- the bits of a place that hits
     hit-bit : w.first < before → (i : ℕ) → w.first ≤ i → (bit_of w.renewed.items i || eqb (before - 1) i) ≡ has_key (get_or keys i 0) (drop (suc i) (take (place + 1) keys))
@@ -143,10 +138,9 @@ module _ (keys : List ℕ) (place : ℕ) (in_it : place < length keys) (before :
         let came : has_key (get_or keys place 0) (drop w.first (take place keys)) ≡ true = sym (came-since w.first) ∙ low in
         let fits : length (distinct_keys (drop w.first (take place keys))) ≤ w.capacity = omega (arith, h.held, h.fits) in
         let yes : is_within w.capacity (distance (take place keys) (get_or keys place 0)) ≡ true = hit-within w.capacity w.first (take place keys) (get_or keys place 0) fits came in
-        let one : cond {A = ℕ} (is_within w.capacity (distance (take place keys) (get_or keys place 0))) 1 0 ≡ 1 = ap (λ b. cond b 1 0) yes in
         let more : hits_within w.capacity (take (place + 1) keys) ≡ hits_within w.capacity (take place keys) + cond (is_within w.capacity (distance (take place keys) (get_or keys place 0))) 1 0 = hits-next w.capacity in
         let was : w.hits ≡ hits_within w.capacity (take place keys) = h.hits in
-        let counted : v.hits ≡ hits_within w.capacity (take (place + 1) keys) = omega (arith, one, more, was, hits) in
+        let counted : v.hits ≡ hits_within w.capacity (take (place + 1) keys) = omega (arith, ap (λ b. cond {A = ℕ} b 1 0) yes, more, was, hits) in
         record {
           begun = omega (arith, h.begun, first);
           held = held ∙ (h.held ∙ (sym (same-held w.first h.begun came) ∙ ap (λ (f : ℕ). length (distinct_keys (drop f (take (place + 1) keys)))) (sym first)));
@@ -164,18 +158,15 @@ module _ (keys : List ℕ) (place : ℕ) (in_it : place < length keys) (before :
     same-hits : before ≤ w.first → w.hits ≡ hits_within w.capacity (take (place + 1) keys)
     same-hits early =
         let no : is_within w.capacity (distance (take place keys) (get_or keys place 0)) ≡ false = miss-beyond w.capacity w.first (take place keys) (get_or keys place 0) (λ some. sym h.held ∙ h.full some) (missed early) in
-        let none : cond {A = ℕ} (is_within w.capacity (distance (take place keys) (get_or keys place 0))) 1 0 ≡ 0 = ap (λ b. cond b 1 0) no in
         let more : hits_within w.capacity (take (place + 1) keys) ≡ hits_within w.capacity (take place keys) + cond (is_within w.capacity (distance (take place keys) (get_or keys place 0))) 1 0 = hits-next w.capacity in
         let was : w.hits ≡ hits_within w.capacity (take place keys) = h.hits in
-        omega (arith, none, more, was)
+        omega (arith, ap (λ b. cond {A = ℕ} b 1 0) no, more, was)
 
     pub filled-window : before ≤ w.first → w.held < w.capacity → IsWindow keys (place + 1) (record { capacity = w.capacity; first = w.first; held = w.held + 1; hits = w.hits; renewed = w.renewed })
     filled-window early room =
-        let more : length (distinct_keys (drop w.first (take (place + 1) keys))) ≡ suc (length (distinct_keys (drop w.first (take place keys)))) = more-held w.first h.begun (missed early) in
-        let was : w.held ≡ length (distinct_keys (drop w.first (take place keys))) = h.held in
         record {
           begun = omega (arith, h.begun);
-          held = omega (arith, more, was);
+          held = omega (arith, more-held w.first h.begun (missed early), h.held);
           fits = omega (arith, room);
           full = λ some. let all : w.held ≡ w.capacity = h.full some in absurd (omega (arith, all, room));
           hits = same-hits early;
@@ -207,14 +198,10 @@ module _ (keys : List ℕ) (place : ℕ) (in_it : place < length keys) (before :
 
       pub moved-window : IsWindow keys (place + 1) (record { capacity = w.capacity; first = o + 1; held = w.held; hits = w.hits; renewed = w.renewed })
       moved-window =
-          let more : length (distinct_keys (drop w.first (take (place + 1) keys))) ≡ suc (length (distinct_keys (drop w.first (take place keys)))) = more-held w.first h.begun (missed early) in
-          let one : length (distinct_keys (drop (o + 1) (take (place + 1) keys))) + 1 ≡ length (distinct_keys (drop w.first (take (place + 1) keys))) = one-less in
-          let was : w.held ≡ length (distinct_keys (drop w.first (take place keys))) = h.held in
           let fits : w.held ≤ w.capacity = h.fits in
-          let low : o ≤ place = oldest-low in
           record {
-            begun = omega (arith, low);
-            held = omega (arith, more, was, one);
+            begun = omega (arith, oldest-low);
+            held = omega (arith, more-held w.first h.begun (missed early), h.held, one-less);
             fits = h.fits;
             full = λ some. omega (arith, fits, crowded);
             hits = same-hits early;
@@ -224,18 +211,6 @@ module _ (keys : List ℕ) (place : ℕ) (in_it : place < length keys) (before :
           }
 
 -- ---- the whole trace
-
-pub empty-window : (keys : List ℕ) (w : Window) → w.first ≡ 0 → w.held ≡ 0 → w.hits ≡ 0 → length keys ≤ 64 * length w.renewed.items → length w.renewed.items ≤ MAX_ACCESSES → ((i : ℕ) → bit_of w.renewed.items i ≡ false) → IsWindow keys 0 w
-empty-window keys w first held hits room few none = record {
-  begun = omega (arith, first);
-  held = held ∙ sym (ap (λ (f : ℕ). length (distinct_keys (drop f (take 0 keys)))) first);
-  fits = omega (arith, held);
-  full = λ some. absurd (omega (arith, some, first));
-  hits = hits;
-  room = room;
-  few = few;
-  renewed = λ i from. none i;
-}
 
 module _ (keys : List ℕ) (w : Window) (place : ℕ) (all : length keys ≤ place) (h : IsWindow keys place w) where
   whole : take place keys ≡ keys
@@ -247,29 +222,16 @@ module _ (keys : List ℕ) (w : Window) (place : ℕ) (all : length keys ≤ pla
   whole-held : w.held ≡ min w.capacity (length (distinct_keys keys))
   whole-held =
       let is : w.held ≡ length (distinct_keys (drop w.first keys)) = h.held ∙ ap (λ l. length (distinct_keys (drop w.first l))) whole in
-      let few : length (distinct_keys (drop w.first keys)) ≤ length (distinct_keys keys) = fewer-behind w.first keys in
-      let fits : w.held ≤ w.capacity = h.fits in
       elim (cases_eq w.first 0) [
         | inl e ↦
-            let same : length (distinct_keys (drop w.first keys)) ≡ length (distinct_keys keys) = ap (λ f. length (distinct_keys (drop f keys))) e in
-            omega (arith, is, same, fits)
+            omega (arith, is, ap (λ f. length (distinct_keys (drop f keys))) e, h.fits)
         | inr d ↦
-            let ne : w.first ≢ 0 = d in
-            let full : w.held ≡ w.capacity = h.full (omega (arith, ne)) in
-            omega (arith, is, few, full)
+            omega (arith, is, fewer-behind w.first keys, h.full (omega (arith, d)))
       ]
 
   pub window-room : w.hits + w.held ≤ length keys
   window-room =
-      let fits : hits_within w.capacity keys + min w.capacity (length (distinct_keys keys)) ≤ length keys = hits-and-held w.capacity keys in
-      let a : w.hits ≡ hits_within w.capacity keys = whole-hits in
-      let b : w.held ≡ min w.capacity (length (distinct_keys keys)) = whole-held in
-      omega (arith, fits, a, b)
+      omega (arith, hits-and-held w.capacity keys, whole-hits, whole-held)
 
   pub window-stats : (j : Job) (n : ℕ) → j.policy ≡ Lru → j.config.capacity ≡ w.capacity → 1 ≤ w.capacity → n ≡ length keys → stats_in w n ≡ stats_on j keys
-  window-stats j n lru cap some e =
-      let room : 1 ≤ j.config.capacity = rw cap some in
-      let a : w.hits ≡ hits_within w.capacity keys = whole-hits in
-      let b : w.held ≡ min w.capacity (length (distinct_keys keys)) = whole-held in
-      let is : stats_in w n ≡ stats_within w.capacity keys = rw (e, a, b) refl in
-      is ∙ (ap (λ m. stats_within m keys) (sym cap) ∙ sym (lru-counts j keys lru room))
+  window-stats j n lru cap some e = stats-read j keys n w.hits w.held w.capacity lru cap some e whole-hits whole-held

@@ -18,8 +18,7 @@ index_mut-requires c = let low = within (goal.at.index_mut-requires c).In-Some i
 pub overflow_add-index_mut : goal.overflow_add-index_mut
 overflow_add-index_mut c =
     let at = (goal.at.overflow_add-index_mut c).In-Some in let counts = c.loop-place.counts.items in
-    let read : c.index_mut.result.now ≡ get_or counts c.in-Some.place 0 = get_or_read counts _ _ (within at) c.index_mut.ensures.value 0 in
-    omega (arith, read, last-few counts c.pop.new.self.items c.in-Some.place c.args.counts.now.items c.args.noted.now.items c.requires (same at))
+    omega (arith, get_or_read counts _ _ (within at) c.index_mut.ensures.value 0, last-few counts c.pop.new.self.items c.in-Some.place c.args.counts.now.items c.args.noted.now.items c.requires (same at))
 
 pub loop-place-preserved : goal.loop-place-preserved
 loop-place-preserved c =
