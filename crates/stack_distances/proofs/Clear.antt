@@ -29,15 +29,12 @@ module _ (ws : List ℕ) (from at x : ℕ) (is : x ≡ get_or ws (at / 64) 0) (f
   -- a bit that the inverse does not have is set, and one that it has is not
   set-there : (t : ℕ) → at % 64 + t < 64 → bit_at (clear_from x at) t ≡ 0 → bit_of ws (at + t) ≡ true
   set-there t h none =
-      let e : bit_at (clear_from x at) t ≡ 1 - bit_at x (at % 64 + t) = turned t h in
-      let small : bit_at x (at % 64 + t) < 2 = bit_at-lt x (at % 64 + t) in
-      let one : bit_at x (at % 64 + t) ≡ 1 = omega (arith, e, none, small) in
+      let one : bit_at x (at % 64 + t) ≡ 1 = omega (arith, turned t h, none, bit_at-lt x (at % 64 + t)) in
       in-word t h ∙ ap (λ (b : ℕ). eqb b 1) one
 
   clear-there : (t : ℕ) → at % 64 + t < 64 → bit_at (clear_from x at) t ≡ 1 → bit_of ws (at + t) ≡ false
   clear-there t h some =
-      let e : bit_at (clear_from x at) t ≡ 1 - bit_at x (at % 64 + t) = turned t h in
-      let none : bit_at x (at % 64 + t) ≡ 0 = omega (arith, e, some) in
+      let none : bit_at x (at % 64 + t) ≡ 0 = omega (arith, turned t h, some) in
       in-word t h ∙ ap (λ (b : ℕ). eqb b 1) none
 
   set-up-to : (n : ℕ) → at % 64 + n ≤ 64 → ((t : ℕ) → t < n → bit_at (clear_from x at) t ≡ 0) → (i : ℕ) → from ≤ i → i < at + n → bit_of ws i ≡ true
@@ -57,9 +54,7 @@ module _ (ws : List ℕ) (from at x : ℕ) (is : x ≡ get_or ws (at / 64) 0) (f
       let within : at % 64 + t < 64 = elim (cases_lt (at % 64 + t) 64) [
         | inl less ↦ less
         | inr more ↦
-            let none : bit_at (clear_from x at) t ≡ 0 = left t ∙ bit_at_above (bit_not w64 x) 64 (at % 64 + t) inverse (omega (arith, more)) in
-            let one : bit_at (clear_from x at) t ≡ 1 = low.1 in
-            absurd (omega (arith, none, one))
+            absurd (omega (arith, left t ∙ bit_at_above (bit_not w64 x) 64 (at % 64 + t) inverse (omega (arith, more)), low.1))
       ] in
       record {
         behind = omega (arith, order);

@@ -6,6 +6,7 @@ use Rattle.step_record.specs.Keys.{has_key}
 use Rattle.step_record.specs.declared.job.Job.{Job}
 use Rattle.step_record.specs.declared.job.Policy.TheVariants.{Lru}
 use Rattle.step_record.specs.declared.outcome.Outcome.{Outcome}
+use Rattle.step_record.specs.declared.stats.Stats.{Stats}
 use Rattle.step_record.specs.Stats.{is_hit, is_miss, is_eviction, is_rejection, stats_of, one_if}
 use Rattle.policies.specs.Lru.{distinct_keys, keys_since, is_lru_hit, lru_outcome}
 use Rattle.policies.specs.QueueCache.{QueueState, queue_state_after, frequency_after, state_after, outcomes_from, outcomes_after, outcome_after}
@@ -16,7 +17,7 @@ use Rattle.policies.proofs.Reached.{after-snoc, after-job}
 use Rattle.policies.proofs.OneQueue.{outcome-lru}
 use Rattle.stack_distances.specs.Distances.{distance, distances_after, distances, is_within, hits_within, stats_within}
 use Rattle.policies.proofs.Recency.{two}
-use Rattle.stack_distances.proofs.Stack.{grows, since-short}
+use Rattle.stack_distances.proofs.Stack.{grows, since-within}
 
 -- ---- one access
 
@@ -27,15 +28,15 @@ within-hits c xs k =
       | inr h ↦ rw h refl
     ]
 
-outcome-hit : (c : ℕ) (xs : List ℕ) (k : ℕ) → is_hit (lru_outcome c xs k) ≡ is_lru_hit c xs k
-outcome-hit c xs k =
+outcome-is : (c : ℕ) (xs : List ℕ) (k : ℕ) → (is_hit (lru_outcome c xs k) ≡ is_lru_hit c xs k) × (is_rejection (lru_outcome c xs k) ≡ false)
+outcome-is c xs k =
     elim (two (is_lru_hit c xs k)) [
-      | inl h ↦ rw h refl
-      | inr h ↦ rw h (elim (two (nat_lt (length (distinct_keys xs)) c)) [ inl e ↦ rw e refl | inr e ↦ rw e refl ])
+      | inl h ↦ rw h (refl, refl)
+      | inr h ↦ rw h (elim (two (nat_lt (length (distinct_keys xs)) c)) [ inl e ↦ rw e (refl, refl) | inr e ↦ rw e (refl, refl) ])
     ]
 
 pub lru-hits : (j : Job) (keys : List ℕ) (k : ℕ) → j.policy ≡ Lru → 1 ≤ j.config.capacity → is_hit (outcome_after j keys k) ≡ is_within j.config.capacity (distance keys k)
-lru-hits j keys k p room = ap is_hit (outcome-lru j p room keys k (after-job j keys)) ∙ (outcome-hit j.config.capacity keys k ∙ sym (within-hits j.config.capacity keys k))
+lru-hits j keys k p room = ap is_hit (outcome-lru j p room keys k (after-job j keys)) ∙ ((outcome-is j.config.capacity keys k).0 ∙ sym (within-hits j.config.capacity keys k))
 
 -- ---- a list of accesses
 
@@ -59,38 +60,11 @@ module _ (j : Job) (is_lru : j.policy ≡ Lru) (room : 1 ≤ j.config.capacity) 
 
 -- ---- counts
 
-count-hits : (c : ℕ) (past keys : List ℕ) → count_by is_hit (lru_outcomes c past keys) ≡ count_by (is_within c) (distances_after past keys)
-count-hits c past [] = refl
-count-hits c past (k ∷ ks) =
-    let head : is_hit (lru_outcome c past k) ≡ is_within c (distance past k) = outcome-hit c past k ∙ sym (within-hits c past k) in
-    count-cons is_hit (lru_outcome c past k) (lru_outcomes c (past ++ k ∷ []) ks)
-    ∙ (ap (λ b. one_if b + count_by is_hit (lru_outcomes c (past ++ k ∷ []) ks)) head
-    ∙ (ap (λ n. one_if (is_within c (distance past k)) + n) (count-hits c (past ++ k ∷ []) ks)
-    ∙ sym (count-cons (is_within c) (distance past k) (distances_after (past ++ k ∷ []) ks))))
-
-outcomes-length : (c : ℕ) (past keys : List ℕ) → length (lru_outcomes c past keys) ≡ length keys
-outcomes-length c past [] = refl
-outcomes-length c past (k ∷ ks) = ap suc (outcomes-length c (past ++ k ∷ []) ks)
-
-never-rejects : (c : ℕ) (xs : List ℕ) (k : ℕ) → is_rejection (lru_outcome c xs k) ≡ false
-never-rejects c xs k =
-    elim (two (is_lru_hit c xs k)) [
-      | inl h ↦ rw h refl
-      | inr h ↦ rw h (elim (two (nat_lt (length (distinct_keys xs)) c)) [ inl e ↦ rw e refl | inr e ↦ rw e refl ])
-    ]
-
-no-rejections : (c : ℕ) (past keys : List ℕ) → count_by is_rejection (lru_outcomes c past keys) ≡ 0
-no-rejections c past [] = refl
-no-rejections c past (k ∷ ks) =
-    count-cons is_rejection (lru_outcome c past k) (lru_outcomes c (past ++ k ∷ []) ks)
-    ∙ (ap (λ b. one_if b + count_by is_rejection (lru_outcomes c (past ++ k ∷ []) ks)) (never-rejects c past k)
-    ∙ (ap (λ n. 0 + n) (no-rejections c (past ++ k ∷ []) ks)))
-
 -- a miss without an eviction fills one place
 fills : (c : ℕ) (xs : List ℕ) (k : ℕ) → one_if (is_eviction (lru_outcome c xs k)) + min c (length (distinct_keys (xs ++ k ∷ []))) ≡ one_if (is_miss (lru_outcome c xs k)) + min c (length (distinct_keys xs))
 fills c xs k = rw (grows k xs) (elim (two (has_key k xs)) [
   | inl h ↦
-      let short : length (distinct_keys (keys_since k xs)) ≤ length (distinct_keys xs) = since-short k xs in
+      let short : suc (length (distinct_keys (keys_since k xs))) ≤ length (distinct_keys xs) = since-within k 0 xs h in
       rw h (elim (two (nat_lt (length (distinct_keys (keys_since k xs))) c)) [
         | inl e ↦ rw e refl
         | inr e ↦ let full : nat_lt (length (distinct_keys xs)) c ≡ false = grind (arith, nat_tests) in rw (e, full) refl
@@ -102,33 +76,34 @@ fills c xs k = rw (grows k xs) (elim (two (has_key k xs)) [
       ])
 ])
 
-evictions-misses : (c : ℕ) (past keys : List ℕ) → count_by is_eviction (lru_outcomes c past keys) + min c (length (distinct_keys (past ++ keys))) ≡ count_by is_miss (lru_outcomes c past keys) + min c (length (distinct_keys past))
-evictions-misses c past [] = rw (append-nil past) refl
-evictions-misses c past (k ∷ ks) =
+abbrev IsCounted : ℕ → List ℕ → List ℕ → List Outcome → Type 0
+IsCounted c past keys os = (count_by is_hit os ≡ count_by (is_within c) (distances_after past keys)) × (length os ≡ length keys) × (count_by is_rejection os ≡ 0)
+    × (count_by is_eviction os + min c (length (distinct_keys (past ++ keys))) ≡ count_by is_miss os + min c (length (distinct_keys past)))
+
+counted : (c : ℕ) (past keys : List ℕ) → IsCounted c past keys (lru_outcomes c past keys)
+counted c past [] = (refl, refl, refl, rw (append-nil past) refl)
+counted c past (k ∷ ks) =
     let o : Outcome = lru_outcome c past k in
     let os : List Outcome = lru_outcomes c (past ++ k ∷ []) ks in
-    let rest : count_by is_eviction os + min c (length (distinct_keys ((past ++ k ∷ []) ++ ks))) ≡ count_by is_miss os + min c (length (distinct_keys (past ++ k ∷ []))) = evictions-misses c (past ++ k ∷ []) ks in
-    let here : one_if (is_eviction o) + min c (length (distinct_keys (past ++ k ∷ []))) ≡ one_if (is_miss o) + min c (length (distinct_keys past)) = fills c past k in
-    let whole : length (distinct_keys ((past ++ k ∷ []) ++ ks)) ≡ length (distinct_keys (past ++ k ∷ ks)) = ap (λ l. length (distinct_keys l)) (append_assoc past (k ∷ []) ks) in
-    let ce : count_by is_eviction (o ∷ os) ≡ one_if (is_eviction o) + count_by is_eviction os = count-cons is_eviction o os in
-    let cm : count_by is_miss (o ∷ os) ≡ one_if (is_miss o) + count_by is_miss os = count-cons is_miss o os in
-    let n : min c (length (distinct_keys ((past ++ k ∷ []) ++ ks))) ≡ min c (length (distinct_keys (past ++ k ∷ ks))) = ap (min c) whole in
-    omega (arith, rest, here, ce, cm, n)
+    let rest = counted c (past ++ k ∷ []) ks in
+    let is = outcome-is c past k in
+    let whole = ap (λ l. min c (length (distinct_keys l))) (append_assoc past (k ∷ []) ks) in (
+      omega (arith, rest.0, ap one_if (is.0 ∙ sym (within-hits c past k)), count-cons is_hit o os, count-cons (is_within c) (distance past k) (distances_after (past ++ k ∷ []) ks)),
+      ap suc rest.1,
+      omega (arith, rest.2, ap one_if is.1, count-cons is_rejection o os),
+      omega (arith, rest.3, fills c past k, whole, count-cons is_eviction o os, count-cons is_miss o os),
+    )
 
 -- ---- the statistics
 
 stats-by : (c : ℕ) (keys : List ℕ) → stats_of (lru_outcomes c [] keys) ≡ stats_within c keys
 stats-by c keys =
     let os : List Outcome = lru_outcomes c [] keys in
-    let l : length os ≡ length keys = outcomes-length c [] keys in
-    let h : count_by is_hit os ≡ hits_within c keys = count-hits c [] keys in
-    let hm : count_by is_hit os + count_by is_miss os ≡ length os = hits-misses os in
-    let m : count_by is_miss os ≡ length keys - hits_within c keys = omega (arith, l, h, hm) in
-    let em : count_by is_eviction os + min c (length (distinct_keys keys)) ≡ count_by is_miss os + min c 0 = evictions-misses c [] keys in
-    let z : min c 0 ≡ 0 = omega arith in
-    let e : count_by is_eviction os ≡ length keys - hits_within c keys - min c (length (distinct_keys keys)) = omega (arith, em, z, m) in
-    let r : count_by is_rejection os ≡ 0 = no-rejections c [] keys in
-    rw (l, h, m, e, r) refl
+    let n = counted c [] keys in
+    let all = hits-misses os in
+    let m : count_by is_miss os ≡ length keys - hits_within c keys = omega (arith, n.0, n.1, all) in
+    let e : count_by is_eviction os ≡ length keys - hits_within c keys - min c (length (distinct_keys keys)) = omega (arith, n.3, m) in
+    rw (n.1, n.0, m, e, n.2) refl
 
 pub lru-counts : (j : Job) (keys : List ℕ) → j.policy ≡ Lru → 1 ≤ j.config.capacity → stats_on j keys ≡ stats_within j.config.capacity keys
 unfolding stats_on
@@ -136,16 +111,16 @@ lru-counts j keys p room =
     let by_queues : outcomes_on j keys ≡ outcomes_after j keys = rw (ap knows_trace p) refl in
     ap stats_of by_queues ∙ (ap stats_of (all-outcomes j p room keys) ∙ stats-by j.config.capacity keys)
 
+-- as the misses less the keys that are left at the end
+pub stats-read : (j : Job) (keys : List ℕ) (n h held c : ℕ) → j.policy ≡ Lru → j.config.capacity ≡ c → 1 ≤ c → n ≡ length keys → h ≡ hits_within c keys → held ≡ min c (length (distinct_keys keys))
+    → ◌≡◌ {A = Stats} (record { accesses = n; hits = h; misses = n - h; evictions = n - h - held; rejections = 0 }) (stats_on j keys)
+stats-read j keys n h held c lru cap some all hits left =
+    let is : ◌≡◌ {A = Stats} (record { accesses = n; hits = h; misses = n - h; evictions = n - h - held; rejections = 0 }) (stats_within c keys) = rw (all, hits, left) refl in
+    is ∙ (ap (λ m. stats_within m keys) (sym cap) ∙ sym (lru-counts j keys lru (rw cap some)))
+
 -- a miss fills a place of the cache, or evicts
 pub hits-and-held : (c : ℕ) (keys : List ℕ) → hits_within c keys + min c (length (distinct_keys keys)) ≤ length keys
-hits-and-held c keys =
-    let os : List Outcome = lru_outcomes c [] keys in
-    let l : length os ≡ length keys = outcomes-length c [] keys in
-    let h : count_by is_hit os ≡ hits_within c keys = count-hits c [] keys in
-    let hm : count_by is_hit os + count_by is_miss os ≡ length os = hits-misses os in
-    let em : count_by is_eviction os + min c (length (distinct_keys keys)) ≡ count_by is_miss os + min c 0 = evictions-misses c [] keys in
-    let z : min c 0 ≡ 0 = omega arith in
-    omega (arith, l, h, hm, em, z)
+hits-and-held c keys = let n = counted c [] keys in omega (arith, n.0, n.1, n.3, hits-misses (lru_outcomes c [] keys))
 
 -- ---- larger capacities
 

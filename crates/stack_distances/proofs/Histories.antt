@@ -1,206 +1,23 @@
--- A pass over a trace, one access after another.
-use Rattle.std.proofs.Common.{◌≡◌, ◌≢◌, ℕ, suc, zero, ◌+◌, ◌<◌, ◌≤◌, Bool, true, false, not, cond, eqb, nat_eq, Option, Some, None, List, [], ◌∷◌, ◌++◌, length, count_by, drop, get_or, set, ap, ◌∙◌, sym, refl, arith, ◌⊎◌, inl, inr, append_assoc, append-nil, get_or-set_other, get_or-set_same}
-use Rattle.std.proofs.Math.ListN.{length-set}
+-- A histogram, one access of the trace after another.
+use Rattle.std.proofs.Common.{◌≡◌, ◌≢◌, ℕ, suc, zero, ◌+◌, ◌<◌, ◌≤◌, Bool, true, false, cond, ◌&&◌, eqb, nat_eq, nat_lt, Option, Some, None, List, [], ◌∷◌, ◌++◌, length, count_by, take, drop, get_or, ap, ◌∙◌, sym, refl, arith, inl, inr, append_assoc, append-nil}
 use Rattle.std.proofs.lemmas.Bool.{cases_eq, eqb-true, eq-eqb, ne_eqb}
 use Rattle.std.proofs.lemmas.Bool.Decides.{nat_tests}
-use Rattle.std.proofs.lemmas.List.{length_push}
-use Rattle.std.proofs.lemmas.List.Sums.{sum_by_push, count_by-le-length}
+use Rattle.std.proofs.lemmas.List.{take_more}
+use Rattle.std.proofs.lemmas.List.Sums.{sum_by_push}
 use Rattle.step_record.specs.Keys.{has_key}
+use Rattle.bits_and_lists.specs.Bits.{bit_of}
 use Rattle.policies.specs.Lru.{distinct_keys, keys_since}
+use Rattle.policies.proofs.Recency.{has-drop, two}
+use Rattle.trace_index.specs.KeyPlaces.{place_of}
+use Rattle.trace_index.specs.Uses.{last_below, number_of}
 use Rattle.stack_distances.specs.Distances.{distance, distances_after, distances}
-use Rattle.stack_distances.specs.Sums.{sum_below}
-use Rattle.trace_index.specs.Uses.{last_below}
-use Rattle.stack_distances.specs.Histogram.{are_last, is_at, IsHistogram}
-use Rattle.policies.proofs.Recency.{two}
-use Rattle.stack_distances.proofs.Stack.{has-snoc, grows}
-use Rattle.stack_distances.proofs.Sums.{sum-none}
-
--- ---- the last place of a key
-
-abbrev last_in : ℕ → List ℕ → Option ℕ
-last_in k xs = last_below xs (length xs) k
-
--- one place further, or the first, if that is it
-abbrev one_further : Bool → Option ℕ → Option ℕ
-one_further first (Some p) = Some (suc p)
-one_further first None = cond first (Some 0) None
-
-last-front : (k a : ℕ) (xs : List ℕ) (n : ℕ) → last_below (a ∷ xs) (suc n) k ≡ one_further (eqb k a) (last_below xs n k)
-last-front k a xs zero = refl
-last-front k a xs (suc n) =
-    ap (cond (eqb k (get_or xs n 0)) (Some (suc n))) (last-front k a xs n)
-    ∙ (elim (two (eqb k (get_or xs n 0))) as (λ _. cond (eqb k (get_or xs n 0)) (Some (suc n)) (one_further (eqb k a) (last_below xs n k)) ≡ one_further (eqb k a) (cond (eqb k (get_or xs n 0)) (Some n) (last_below xs n k))) [ inl e ↦ rw e refl | inr e ↦ rw e refl ])
-
-last-more : (k a : ℕ) (xs : List ℕ) → last_in k (a ∷ xs) ≡ one_further (eqb k a) (last_in k xs)
-last-more k a xs = last-front k a xs (length xs)
-
-further-none : (b : Bool) (o : Option ℕ) → one_further b o ≡ None → (b ≡ false) × (o ≡ None)
-further-none true None h = absurd (cc h)
-further-none false None h = (refl, refl)
-further-none b (Some p) h = absurd (cc h)
-
-last-none : (k : ℕ) (xs : List ℕ) → last_in k xs ≡ None → has_key k xs ≡ false
-last-none k [] h = refl
-last-none k (a ∷ xs) h =
-    let f = further-none (eqb k a) (last_in k xs) (sym (last-more k a xs) ∙ h) in
-    let rest : has_key k xs ≡ false = last-none k xs f.1 in
-    rw (f.0, rest) refl
-
-unsome : (a b : ℕ) → Some a ≡ Some b → a ≡ b
-unsome a b h = cc h
-
-further-some : (b : Bool) (o : Option ℕ) (p : ℕ) → one_further b o ≡ Some p → ((q : ℕ) × (o ≡ Some q) × (p ≡ suc q)) ⊎ ((o ≡ None) × (b ≡ true) × (p ≡ 0))
-further-some true None p h = inr (refl, refl, sym (unsome 0 p h))
-further-some false None p h = absurd (cc h)
-further-some b (Some q) p h = inl (q, refl, sym (unsome (suc q) p h))
-
--- the last access to k is the one at p, and its distance is the depth of the stack from there
-record IsLast (k : ℕ) (xs : List ℕ) (p : ℕ) : Type 0 where
-  pub within : p < length xs
-  pub came : has_key k xs ≡ true
-  pub marked : get_or (are_last xs) p false ≡ true
-  pub depth : length (distinct_keys (drop p xs)) ≡ suc (length (distinct_keys (keys_since k xs)))
-
-last-some : (k : ℕ) (xs : List ℕ) (p : ℕ) → last_in k xs ≡ Some p → IsLast k xs p
-last-some k [] p h = absurd (cc h)
-last-some k (a ∷ xs) p h =
-    elim (further-some (eqb k a) (last_in k xs) p (sym (last-more k a xs) ∙ h)) [
-      | inl f ↦
-          let r : IsLast k xs f.0 = last-some k xs f.0 f.1 in
-          let w : f.0 < length xs = r.within in
-          rw f.2 (record {
-            within = omega arith;
-            came = elim (two (eqb k a)) as (λ _. cond (eqb k a) true (has_key k xs) ≡ true) [ inl e ↦ rw e refl | inr e ↦ rw e r.came ];
-            marked = r.marked;
-            depth = rw r.came r.depth;
-          })
-      | inr f ↦
-          let none : has_key k xs ≡ false = last-none k xs f.0 in
-          let same : k ≡ a = eqb-true k a f.1 in
-          let gone : has_key a xs ≡ false = rw same at none in
-          let e : eqb k a ≡ true = f.1 in
-          rw f.2 (record {
-            within = omega arith;
-            came = rw e refl;
-            marked = rw gone refl;
-            depth = rw (none, gone) refl;
-          })
-    ]
-
-last-snoc : (x k : ℕ) (xs : List ℕ) → last_in x (xs ++ k ∷ []) ≡ cond (nat_eq k x) (Some (length xs)) (last_in x xs)
-last-snoc x k [] =
-    let flip : nat_eq k x ≡ eqb x k = grind (arith, nat_tests) in
-    rw flip (elim (two (eqb x k)) as (λ _. one_further (eqb x k) None ≡ cond (eqb x k) (Some 0) None) [ inl e ↦ rw e refl | inr e ↦ rw e refl ])
-last-snoc x k (a ∷ xs) =
-    last-more x a (xs ++ k ∷ [])
-    ∙ (ap (one_further (eqb x a)) (last-snoc x k xs)
-    ∙ ((elim (two (nat_eq k x)) as (λ _. one_further (eqb x a) (cond (nat_eq k x) (Some (length xs)) (last_in x xs)) ≡ cond (nat_eq k x) (Some (suc (length xs))) (one_further (eqb x a) (last_in x xs))) [ inl e ↦ rw e refl | inr e ↦ rw e refl ])
-    ∙ ap (cond (nat_eq k x) (Some (suc (length xs)))) (sym (last-more x a xs))))
-
--- ---- the marks
-
--- the mark at the key's last place taken away
-abbrev cleared : Option ℕ → ℕ → Bool → Bool
-cleared None q b = b
-cleared (Some p) q b = cond (eqb q p) false b
-
-suc-eqb : (a b : ℕ) → eqb (suc a) (suc b) ≡ eqb a b
-suc-eqb a b = grind (arith, nat_tests)
-
-zero-suc : (a : ℕ) → eqb zero (suc a) ≡ false
-zero-suc a = ne_eqb zero (suc a) (λ e. omega (arith, e))
-
-suc-zero : (a : ℕ) → eqb (suc a) zero ≡ false
-suc-zero a = ne_eqb (suc a) zero (λ e. omega (arith, e))
-
-eqb-sym : (a b : ℕ) → eqb a b ≡ eqb b a
-eqb-sym a b = grind (arith, nat_tests)
-
-cond-same : (b : Bool) → cond b true false ≡ b
-cond-same true = refl
-cond-same false = refl
-
--- at the front
-front-mark : (k a : ℕ) (xs : List ℕ) (o : Option ℕ) → last_in k xs ≡ o → not (cond (has_key a xs) true (eqb a k)) ≡ cleared (one_further (eqb k a) o) zero (not (has_key a xs))
-front-mark k a xs None h =
-    let none : has_key k xs ≡ false = last-none k xs h in
-    rw (eqb-sym a k) (elim (two (eqb k a)) as (λ _. not (cond (has_key a xs) true (eqb k a)) ≡ cleared (one_further (eqb k a) None) zero (not (has_key a xs))) [
-      | inl e ↦
-          let same : k ≡ a = eqb-true k a e in
-          let gone : has_key a xs ≡ false = rw same at none in
-          let z : eqb 0 0 ≡ true = eq-eqb 0 0 refl in
-          rw (e, gone) refl
-      | inr e ↦ rw (e, cond-same (has_key a xs)) refl
-    ])
-front-mark k a xs (Some p) h =
-    let r : IsLast k xs p = last-some k xs p h in
-    rw (zero-suc p, eqb-sym a k) (elim (two (eqb k a)) as (λ _. not (cond (has_key a xs) true (eqb k a)) ≡ not (has_key a xs)) [
-      | inl e ↦
-          let same : k ≡ a = eqb-true k a e in
-          let came : has_key a xs ≡ true = rw same at r.came in
-          rw (e, came) refl
-      | inr e ↦ rw (e, cond-same (has_key a xs)) refl
-    ])
-
--- behind it
-later-mark : (b m : Bool) (o : Option ℕ) (q n : ℕ) → cond (eqb q n) true (cleared o q m) ≡ cond (eqb (suc q) (suc n)) true (cleared (one_further b o) (suc q) m)
-later-mark true m None q n = rw (suc-eqb q n, suc-zero q) refl
-later-mark false m None q n = rw (suc-eqb q n) refl
-later-mark b m (Some p) q n = rw (suc-eqb q n, suc-eqb q p) refl
-
-marks-snoc : (k : ℕ) (xs : List ℕ) (q : ℕ) → get_or (are_last (xs ++ k ∷ [])) q false ≡ cond (eqb q (length xs)) true (cleared (last_in k xs) q (get_or (are_last xs) q false))
-marks-snoc k [] zero = refl
-marks-snoc k [] (suc q) = rw (suc-zero q) refl
-marks-snoc k (a ∷ xs) zero = rw (last-more k a xs, has-snoc a k xs, zero-suc (length xs)) (front-mark k a xs (last_in k xs) refl)
-marks-snoc k (a ∷ xs) (suc q) =
-    marks-snoc k xs q
-    ∙ (later-mark (eqb k a) (get_or (are_last xs) q false) (last_in k xs) q (length xs)
-    ∙ ap (λ (o : Option ℕ). cond (eqb (suc q) (suc (length xs))) true (cleared o (suc q) (get_or (are_last xs) q false))) (sym (last-more k a xs)))
-
-are-last-length : (xs : List ℕ) → length (are_last xs) ≡ length xs
-are-last-length [] = refl
-are-last-length (a ∷ xs) = ap suc (are-last-length xs)
-
-pub are-last-long : (xs : List ℕ) (n : ℕ) → length xs ≡ n → length (are_last xs) ≤ n
-are-last-long xs n h = omega (arith, are-last-length xs, h)
-
--- ---- sums of marks
-
-abbrev pub mark_in : List ℕ → ℕ → ℕ
-mark_in xs q = cond (get_or (are_last xs) q false) 1 0
-
-pub sum-same : (f g : ℕ → ℕ) (n : ℕ) → ((q : ℕ) → f q ≡ g q) → sum_below f n ≡ sum_below g n
-sum-same f g zero h = refl
-sum-same f g (suc n) h = let rest : sum_below f n ≡ sum_below g n = sum-same f g n h in let last : f n ≡ g n = h n in omega (arith, rest, last)
-
-sum-front : (f : ℕ → ℕ) (n : ℕ) → sum_below f (suc n) ≡ f 0 + sum_below (λ q. f (suc q)) n
-sum-front f zero = omega arith
-sum-front f (suc n) = let rest : sum_below f (suc n) ≡ f 0 + sum_below (λ q. f (suc q)) n = sum-front f n in omega (arith, rest)
-
-stack-front : (a : ℕ) (xs : List ℕ) → length (distinct_keys (a ∷ xs)) ≡ cond (not (has_key a xs)) 1 0 + length (distinct_keys xs)
-stack-front a xs = elim (two (has_key a xs)) as (λ _. length (cond (has_key a xs) (distinct_keys xs) (a ∷ distinct_keys xs)) ≡ cond (not (has_key a xs)) 1 0 + length (distinct_keys xs)) [ inl e ↦ rw e (omega arith) | inr e ↦ rw e (omega arith) ]
-
--- of the distinct keys, those whose last access is below p are marked there, and the others make up the stack from p on
-pub stack-below : (xs : List ℕ) (p : ℕ) → p ≤ length xs → sum_below (mark_in xs) p + length (distinct_keys (drop p xs)) ≡ length (distinct_keys xs)
-stack-below xs zero h = omega arith
-stack-below [] (suc p) h = absurd (omega arith)
-stack-below (a ∷ xs) (suc p) h =
-    let front : sum_below (mark_in (a ∷ xs)) (suc p) ≡ cond (not (has_key a xs)) 1 0 + sum_below (mark_in xs) p = sum-front (mark_in (a ∷ xs)) p in
-    let rest : sum_below (mark_in xs) p + length (distinct_keys (drop p xs)) ≡ length (distinct_keys xs) = stack-below xs p (omega arith) in
-    let whole : length (distinct_keys (a ∷ xs)) ≡ cond (not (has_key a xs)) 1 0 + length (distinct_keys xs) = stack-front a xs in
-    omega (arith, front, rest, whole)
-
-one-le : (b : Bool) → cond b 1 0 ≤ 1
-one-le true = omega arith
-one-le false = omega arith
-
-pub marks-few : (xs : List ℕ) (n : ℕ) → sum_below (mark_in xs) n ≤ length xs
-marks-few xs zero = omega arith
-marks-few [] (suc n) = let z : sum_below (mark_in []) (suc n) ≡ 0 = sum-none (mark_in []) (λ q. refl) (suc n) in omega (arith, z)
-marks-few (a ∷ xs) (suc n) =
-    let front : sum_below (mark_in (a ∷ xs)) (suc n) ≡ cond (not (has_key a xs)) 1 0 + sum_below (mark_in xs) n = sum-front (mark_in (a ∷ xs)) n in
-    let rest : sum_below (mark_in xs) n ≤ length xs = marks-few xs n in
-    omega (arith, front, rest, one-le (not (has_key a xs)))
+use Rattle.stack_distances.specs.Sums.{mark_of, sum_below}
+use Rattle.stack_distances.specs.Histogram.{is_last, is_at, IsHistogram}
+use Rattle.stack_distances.specs.declared.histogram.Histogram.{Histogram}
+use Rattle.stack_distances.proofs.Bits.{put-mark}
+use Rattle.stack_distances.proofs.Places.{again-next, came-by, front-at, last_number, last-key, last-low, past-end}
+use Rattle.stack_distances.proofs.Stack.{front-again, front-last, grows, since-beyond, since-within}
+use Rattle.stack_distances.proofs.Sums.{added-low}
 
 -- ---- the distances
 
@@ -224,87 +41,159 @@ distance-none xs k h = rw h refl
 distance-some : (xs : List ℕ) (k : ℕ) → has_key k xs ≡ true → distance xs k ≡ Some (suc (length (distinct_keys (keys_since k xs))))
 distance-some xs k h = rw h refl
 
--- ---- one access
-
 pub push-zero : (cs : List ℕ) (d : ℕ) → get_or (cs ++ 0 ∷ []) d 0 ≡ get_or cs d 0
 push-zero [] zero = refl
 push-zero [] (suc d) = refl
 push-zero (c ∷ cs) zero = refl
 push-zero (c ∷ cs) (suc d) = push-zero cs d
 
--- none of the counts is above the number of accesses
-pub counts-few : (xs : List ℕ) (places : ℕ → Option ℕ) (marks : ℕ → Bool) (counts : List ℕ) → IsHistogram xs places marks counts → (d : ℕ) → get_or counts d 0 ≤ length xs
-counts-few xs places marks counts h d =
-    let c : get_or counts d 0 ≡ count_by (is_at (suc d)) (distances xs) = h.counted d in
-    let few : count_by (is_at (suc d)) (distances xs) ≤ length (distances xs) = count_by-le-length (is_at (suc d)) (distances xs) in
-    let l : length (distances xs) ≡ length xs = distances-long [] xs in
-    omega (arith, c, few, l)
+-- with the access at a place of a trace
+pub count-next : (p : Option ℕ → Bool) (keys : List ℕ) (place : ℕ) → place < length keys → count_by p (distances (take (place + 1) keys)) ≡ count_by p (distances (take place keys)) + cond (p (distance (take place keys) (get_or keys place 0))) 1 0
+count-next p keys place in_it = ap (λ l. count_by p (distances l)) (take_more keys place 0 in_it) ∙ count-snoc p (take place keys) (get_or keys place 0)
 
-module _ (xs : List ℕ) (k : ℕ) (places next : ℕ → Option ℕ) (marks new : ℕ → Bool) (counts : List ℕ) (h : IsHistogram xs places marks counts) (puts : (x : ℕ) → next x ≡ cond (nat_eq k x) (Some (length xs)) (places x)) where
-  pub passed-few : (n : ℕ) → sum_below (λ q. cond (marks q) 1 0) n ≤ length xs
-  passed-few n =
-      let same : sum_below (λ q. cond (marks q) 1 0) n ≡ sum_below (mark_in xs) n = sum-same (λ q. cond (marks q) 1 0) (mark_in xs) n (λ q. ap (λ b. cond b 1 0) (h.marked q)) in
-      let few : sum_below (mark_in xs) n ≤ length xs = marks-few xs n in
-      omega (arith, same, few)
+-- ---- the marks
 
-  last-next : (x : ℕ) → next x ≡ last_in x (xs ++ k ∷ [])
-  last-next x = puts x ∙ (ap (cond (nat_eq k x) (Some (length xs))) (h.last x) ∙ sym (last-snoc x k xs))
+and-false : (b : Bool) → (b && false) ≡ false
+and-false true = refl
+and-false false = refl
 
-  -- to a new key
-  pub passed-first : places k ≡ None → ((q : ℕ) → new q ≡ cond (eqb q (length xs)) true (marks q)) → IsHistogram (xs ++ k ∷ []) next new (counts ++ 0 ∷ [])
-  passed-first none marked =
-      let no_place : last_in k xs ≡ None = sym (h.last k) ∙ none in
-      let no : has_key k xs ≡ false = last-none k xs no_place in
-      record {
-        last = last-next;
-        marked = λ q. marked q ∙ (ap (cond (eqb q (length xs)) true) (h.marked q) ∙ sym (marks-snoc k xs q ∙ ap (λ (o : Option ℕ). cond (eqb q (length xs)) true (cleared o q (get_or (are_last xs) q false))) no_place));
-        long = length_push counts 0 ∙ (let l : length counts ≡ length (distinct_keys xs) = h.long in let g : length (distinct_keys (xs ++ k ∷ [])) ≡ suc (length (distinct_keys xs)) = grows k xs ∙ rw no refl in omega (arith, l, g));
-        counted = λ d. push-zero counts d ∙ (h.counted d ∙ sym (count-snoc (is_at (suc d)) xs k ∙ (ap (λ (o : Option ℕ). count_by (is_at (suc d)) (distances xs) + cond (is_at (suc d) o) 1 0) (distance-none xs k no) ∙ omega arith)));
-      }
+sum-low : (ws : List ℕ) (n : ℕ) → sum_below (mark_of ws) n ≤ n
+sum-low ws zero = omega arith
+sum-low ws (suc n) =
+    let one : mark_of ws n ≤ 1 = elim (two (bit_of ws n)) [ inl e ↦ rw e (omega arith) | inr e ↦ rw e (omega arith) ] in
+    omega (arith, sum-low ws n, one)
 
-  -- to a key that came before, last at p
-  module _ (p : ℕ) (some : places k ≡ Some p) where
-    before : IsLast k xs p
-    before = last-some k xs p (sym (h.last k) ∙ some)
+-- an access is the last one to its key, and that to the same key before it is no more
+next-last : (keys : List ℕ) (place : ℕ) (in_it : place < length keys) (before : ℕ) → before ≡ last_number keys place (get_or keys place 0) → (q : ℕ) → is_last keys (place + 1) q ≡ cond (eqb (q + 1) before) false (cond (eqb q place) true (is_last keys place q))
+next-last keys place in_it before noted q =
+    elim (cases_eq q place) [
+      | inl e ↦
+          let none : has_key (get_or keys q 0) (drop (suc q) (take (place + 1) keys)) ≡ false = ap (has_key (get_or keys q 0)) (past-end keys (place + 1) (suc q) (omega (arith, in_it)) (omega (arith, e))) in
+          let yes : nat_lt q (place + 1) ≡ true = grind (arith, nat_tests) in
+          let other : eqb (q + 1) before ≡ false = ne_eqb (q + 1) before (λ s. omega (arith, s, e, noted, last-low keys place (get_or keys place 0))) in
+          rw (yes, none, other, eq-eqb q place e) refl
+      | inr d ↦
+          let same : nat_lt q (place + 1) ≡ nat_lt q place = (let ne : q ≢ place = d in grind (arith, nat_tests)) in
+          rw (same, again-next keys place in_it before noted q, ne_eqb q place d) (elim (two (eqb (q + 1) before)) [
+            | inl s ↦ rw s (and-false (nat_lt q place))
+            | inr s ↦ rw s refl
+          ])
+    ]
 
-    pub before-within : p < length xs
-    before-within = before.within
+-- ---- one access
 
-    pub before-marked : marks p ≡ true
-    before-marked = h.marked p ∙ before.marked
+module _ (keys : List ℕ) (place : ℕ) (in_it : place < length keys) (h : Histogram) (c : IsHistogram keys place h) where
+  abbrev key : ℕ
+  key = get_or keys place 0
 
-    pub before-depth : (below : ℕ) → below ≡ sum_below (λ q. cond (marks q) 1 0) p → below + suc (length (distinct_keys (keys_since k xs))) ≡ length counts
-    before-depth below is =
-        let same : sum_below (λ q. cond (marks q) 1 0) p ≡ sum_below (mark_in xs) p = sum-same (λ q. cond (marks q) 1 0) (mark_in xs) p (λ q. ap (λ b. cond b 1 0) (h.marked q)) in
-        let w : p < length xs = before.within in
-        let cut : sum_below (mark_in xs) p + length (distinct_keys (drop p xs)) ≡ length (distinct_keys xs) = stack-below xs p (omega arith) in
-        let deep : length (distinct_keys (drop p xs)) ≡ suc (length (distinct_keys (keys_since k xs))) = before.depth in
-        let l : length counts ≡ length (distinct_keys xs) = h.long in
-        omega (arith, is, same, cut, deep, l)
+  abbrev words : List ℕ
+  words = h.marks.words.items
 
-    pub passed-again : (d y : ℕ) → d ≡ length (distinct_keys (keys_since k xs)) → d < length counts → y ≡ suc (get_or counts d 0) → ((q : ℕ) → new q ≡ cond (eqb q (length xs)) true (cond (eqb q p) false (marks q))) → IsHistogram (xs ++ k ∷ []) next new (set counts d y)
-    passed-again d y deep in_it more marked =
-        let place : last_in k xs ≡ Some p = sym (h.last k) ∙ some in
-        let here : distance xs k ≡ Some (suc d) = distance-some xs k before.came ∙ ap (λ n. Some (suc n)) (sym deep) in
-        record {
-          last = last-next;
-          marked = λ q. marked q ∙ (ap (λ b. cond (eqb q (length xs)) true (cond (eqb q p) false b)) (h.marked q) ∙ sym (marks-snoc k xs q ∙ ap (λ (o : Option ℕ). cond (eqb q (length xs)) true (cleared o q (get_or (are_last xs) q false))) place));
-          long = length-set counts d y ∙ (h.long ∙ sym (grows k xs ∙ rw before.came refl));
-          counted = λ e.
-              let sum : count_by (is_at (suc e)) (distances (xs ++ k ∷ [])) ≡ count_by (is_at (suc e)) (distances xs) + cond (eqb (suc e) (suc d)) 1 0 = count-snoc (is_at (suc e)) xs k ∙ ap (λ (o : Option ℕ). count_by (is_at (suc e)) (distances xs) + cond (is_at (suc e) o) 1 0) here in
-              let was : get_or counts e 0 ≡ count_by (is_at (suc e)) (distances xs) = h.counted e in
-              elim (cases_eq e d) [
-                | inl s ↦
-                    let t : eqb (suc e) (suc d) ≡ true = eq-eqb (suc e) (suc d) (ap suc s) in
-                    let at : get_or (set counts d y) e 0 ≡ y = ap (λ n. get_or (set counts d y) n 0) s ∙ (rw get_or-set_same refl) in
-                    let old : get_or counts d 0 ≡ get_or counts e 0 = ap (λ n. get_or counts n 0) (sym s) in
-                    let plus : cond {A = ℕ} (eqb (suc e) (suc d)) 1 0 ≡ 1 = ap (λ b. cond b 1 0) t in
-                    omega (arith, sum, was, at, old, plus, more)
-                | inr n ↦
-                    let ne : e ≢ d = n in
-                    let t : eqb (suc e) (suc d) ≡ false = ne_eqb (suc e) (suc d) (λ q. n (omega (arith, q))) in
-                    let at : get_or (set counts d y) e 0 ≡ get_or counts e 0 = rw get_or-set_other refl in
-                    let plus : cond {A = ℕ} (eqb (suc e) (suc d)) 1 0 ≡ 0 = ap (λ b. cond b 1 0) t in
-                    omega (arith, sum, was, at, plus)
-              ];
-        }
+  pub free : bit_of words place ≡ false
+  free = c.marked place ∙ (let no : nat_lt place place ≡ false = grind (arith, nat_tests) in rw no refl)
+
+  pub marks-few : sum_below (mark_of words) (place + 1) ≤ place
+  marks-few = let on : place + 1 ≡ suc place = omega arith in let none : mark_of words place ≡ 0 = rw free refl in rw on (omega (arith, sum-low words place, none))
+
+  -- of the distinct keys, those whose last access is below p are marked there, and the others make up the stack from p
+  stack-below : (p : ℕ) → p ≤ place → sum_below (mark_of words) p + length (distinct_keys (drop p (take place keys))) ≡ length (distinct_keys (take place keys))
+  stack-below zero low = omega arith
+  stack-below (suc p) low =
+      let front = ap (λ l. length (distinct_keys l)) (front-at keys place p (omega (arith, low)) (omega (arith, in_it))) in
+      let yes : nat_lt p place ≡ true = grind (arith, nat_tests) in
+      elim (two (has_key (get_or keys p 0) (drop (suc p) (take place keys)))) [
+        | inl e ↦
+            let none : mark_of words p ≡ 0 = ap (λ b. cond b 1 0) (c.marked p) ∙ rw (yes, e) refl in
+            omega (arith, stack-below p (omega (arith, low)), front, front-again (get_or keys p 0) (drop (suc p) (take place keys)) e, none)
+        | inr e ↦
+            let one : mark_of words p ≡ 1 = ap (λ b. cond b 1 0) (c.marked p) ∙ rw (yes, e) refl in
+            omega (arith, stack-below p (omega (arith, low)), front, front-last (get_or keys p 0) (drop (suc p) (take place keys)) e, one)
+      ]
+
+  distinct-next : length (distinct_keys (take (place + 1) keys)) ≡ cond (has_key key (take place keys)) (length (distinct_keys (take place keys))) (suc (length (distinct_keys (take place keys))))
+  distinct-next = ap (λ l. length (distinct_keys l)) (take_more keys place 0 in_it) ∙ grows key (take place keys)
+
+  pub last-next : (places : ℕ → Option ℕ) → ((x : ℕ) → places x ≡ cond (nat_eq key x) (Some place) (place_of h.last x)) → (x : ℕ) → places x ≡ last_below keys (place + 1) x
+  last-next places updates x =
+      let flip : nat_eq key x ≡ eqb x key = grind (arith, nat_tests) in
+      let on : suc place ≡ place + 1 = omega arith in
+      updates x ∙ (ap (λ b. cond b (Some place) (place_of h.last x)) flip ∙ (ap (cond (eqb x key) (Some place)) (c.last x) ∙ ap (λ n. last_below keys n x) on))
+
+  module _ (vs : List ℕ) (puts : (q : ℕ) → bit_of vs q ≡ cond (eqb q place) true (bit_of words q)) where
+    marked-next : (before : ℕ) → before ≡ last_number keys place key → (q : ℕ) → cond (eqb (q + 1) before) false (bit_of vs q) ≡ is_last keys (place + 1) q
+    marked-next before noted q = ap (cond (eqb (q + 1) before) false) (puts q ∙ ap (cond (eqb q place) true) (c.marked q)) ∙ sym (next-last keys place in_it before noted q)
+
+    -- to a new key
+    module _ (none : place_of h.last key ≡ None) where
+      never : last_below keys place key ≡ None
+      never = sym (c.last key) ∙ none
+
+      gone : has_key key (take place keys) ≡ false
+      gone = sym (came-by keys place 0 key (omega (arith, in_it))) ∙ rw never refl
+
+      pub first-marked : (q : ℕ) → bit_of vs q ≡ is_last keys (place + 1) q
+      first-marked q =
+          let no : eqb (q + 1) 0 ≡ false = ne_eqb (q + 1) 0 (λ e. omega (arith, e)) in
+          sym (ap (λ b. cond b false (bit_of vs q)) no) ∙ marked-next 0 (sym (ap number_of never)) q
+
+      pub first-long : length h.counts.items + 1 ≡ length (distinct_keys (take (place + 1) keys))
+      first-long = let more : length (distinct_keys (take (place + 1) keys)) ≡ suc (length (distinct_keys (take place keys))) = distinct-next ∙ rw gone refl in omega (arith, more, c.long)
+
+      pub first-counted : (d : ℕ) → count_by (is_at (suc d)) (distances (take place keys)) ≡ count_by (is_at (suc d)) (distances (take (place + 1) keys))
+      first-counted d = sym (count-next (is_at (suc d)) keys place in_it ∙ (ap (λ o. count_by (is_at (suc d)) (distances (take place keys)) + cond (is_at (suc d) o) 1 0) (distance-none (take place keys) key gone) ∙ omega arith))
+
+    -- to a key that came before, last at p
+    module _ (p : ℕ) (some : place_of h.last key ≡ Some p) where
+      number : suc p ≡ last_number keys place key
+      number = sym (ap number_of (sym (c.last key) ∙ some))
+
+      pub low : p < place
+      low = omega (arith, number, last-low keys place key)
+
+      in-stack : has_key key (drop p (take place keys)) ≡ true
+      in-stack = let yes : nat_lt p (suc p) ≡ true = grind (arith, nat_tests) in
+          sym (came-by keys place p key (omega (arith, in_it))) ∙ (ap (nat_lt p) (sym number) ∙ yes)
+
+      behind : has_key key (drop (suc p) (take place keys)) ≡ false
+      behind = let no : nat_lt (suc p) (suc p) ≡ false = grind (arith, nat_tests) in
+          sym (came-by keys place (suc p) key (omega (arith, in_it))) ∙ (ap (nat_lt (suc p)) (sym number) ∙ no)
+
+      is-key : key ≡ get_or keys p 0
+      is-key = eqb-true key (get_or keys p 0) (last-key keys place key p (sym number))
+
+      last-there : has_key (get_or keys p 0) (drop (suc p) (take place keys)) ≡ false
+      last-there = ap (λ k. has_key k (drop (suc p) (take place keys))) (sym is-key) ∙ behind
+
+      came : has_key key (take place keys) ≡ true
+      came = has-drop key p (take place keys) in-stack
+
+      pub there : bit_of vs p ≡ true
+      there =
+          let yes : nat_lt p place ≡ true = (let l : p < place = low in grind (arith, nat_tests)) in
+          let other : eqb p place ≡ false = ne_eqb p place (λ e. omega (arith, e, low)) in
+          puts p ∙ (ap (λ b. cond b true (bit_of words p)) other ∙ (c.marked p ∙ rw (yes, last-there) refl))
+
+      pub below-few : sum_below (mark_of vs) p ≤ place
+      below-few = omega (arith, sum-low vs p, low)
+
+      pub depth : sum_below (mark_of vs) p + suc (length (distinct_keys (keys_since key (take place keys)))) ≡ length h.counts.items
+      depth =
+          let front = ap (λ l. length (distinct_keys l)) (front-at keys place p low (omega (arith, in_it))) in
+          let on = front-last (get_or keys p 0) (drop (suc p) (take place keys)) last-there in
+          omega (arith, added-low (mark_of words) (mark_of vs) place (put-mark words vs place free puts) p (omega (arith, low)), stack-below p (omega (arith, low)), front, on, since-within key p (take place keys) in-stack, since-beyond key (suc p) (take place keys) came behind, c.long)
+
+      pub again-marked : (q : ℕ) → cond (eqb q p) false (bit_of vs q) ≡ is_last keys (place + 1) q
+      again-marked q =
+          let same : eqb q p ≡ eqb (q + 1) (suc p) = grind (arith, nat_tests) in
+          ap (λ b. cond b false (bit_of vs q)) same ∙ marked-next (suc p) number q
+
+      pub again-long : length h.counts.items ≡ length (distinct_keys (take (place + 1) keys))
+      again-long = c.long ∙ sym (distinct-next ∙ rw came refl)
+
+      pub again-counted : (e : ℕ) → e + 1 + sum_below (mark_of vs) p ≡ length h.counts.items → (d : ℕ) → count_by (is_at (suc d)) (distances (take place keys)) + cond (eqb d e) 1 0 ≡ count_by (is_at (suc d)) (distances (take (place + 1) keys))
+      again-counted e deep d =
+          let is : suc (length (distinct_keys (keys_since key (take place keys)))) ≡ suc e = omega (arith, depth, deep) in
+          let here : distance (take place keys) key ≡ Some (suc e) = distance-some (take place keys) key came ∙ ap (λ n. Some n) is in
+          let same : eqb d e ≡ eqb (suc d) (suc e) = grind (arith, nat_tests) in
+          ap (λ b. count_by (is_at (suc d)) (distances (take place keys)) + cond b 1 0) same
+          ∙ sym (count-next (is_at (suc d)) keys place in_it ∙ ap (λ o. count_by (is_at (suc d)) (distances (take place keys)) + cond (is_at (suc d) o) 1 0) here)

@@ -1,4 +1,5 @@
 pub mod Stack
+pub mod Places
 pub mod Counting
 pub mod Sums
 pub mod Bits
@@ -7,4 +8,5 @@ pub mod Prefix
 pub mod Reading
 pub mod Windows
 pub mod Clear
-pub mod Tallies
+pub mod FenwickTree
+pub mod Noted

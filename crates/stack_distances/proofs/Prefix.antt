@@ -1,5 +1,5 @@
 -- The hits at each capacity, as sums of the counts of distances.
-use Rattle.std.proofs.Common.{◌≡◌, ℕ, suc, ◌+◌, ◌≤◌, min, Bool, true, false, cond, eqb, nat_le, Option, Some, None, List, [], ◌∷◌, ◌++◌, length, count_by, ap, ◌∙◌, sym, refl, arith, inl, inr, append_assoc, append-nil}
+use Rattle.std.proofs.Common.{◌≡◌, ℕ, suc, ◌+◌, ◌≤◌, min, true, false, cond, eqb, nat_le, Option, Some, None, List, [], ◌∷◌, ◌++◌, length, count_by, ap, ◌∙◌, sym, refl, arith, inl, inr, append_assoc, append-nil}
 use Rattle.std.proofs.lemmas.Bool.{cases_lt}
 use Rattle.std.proofs.lemmas.Bool.Decides.{nat_tests}
 use Rattle.step_record.specs.Keys.{has_key}
@@ -8,7 +8,7 @@ use Rattle.stack_distances.specs.Distances.{distance, distances_after, is_within
 use Rattle.stack_distances.specs.Histogram.{is_at}
 use Rattle.policies.proofs.Counting.{count-cons}
 use Rattle.policies.proofs.Recency.{two}
-use Rattle.stack_distances.proofs.Stack.{grows}
+use Rattle.stack_distances.proofs.Stack.{grows, since-within}
 
 -- ---- one distance more
 
@@ -41,37 +41,17 @@ none-within xs k =
 none-after : (past keys : List ℕ) → count_by (is_within 0) (distances_after past keys) ≡ 0
 none-after past [] = refl
 none-after past (k ∷ ks) =
-    let n : cond {A = ℕ} (is_within 0 (distance past k)) 1 0 ≡ 0 = ap (λ b. cond b 1 0) (none-within past k) in
-    omega (arith, none-after (past ++ k ∷ []) ks, n, count-cons (is_within 0) (distance past k) (distances_after (past ++ k ∷ []) ks))
+    omega (arith, none-after (past ++ k ∷ []) ks, ap (λ b. cond {A = ℕ} b 1 0) (none-within past k), count-cons (is_within 0) (distance past k) (distances_after (past ++ k ∷ []) ks))
 
 pub no-hits : (keys : List ℕ) → hits_within 0 keys ≡ 0
 no-hits keys = none-after [] keys
 
 -- ---- no distance is over the number of distinct keys
 
-deep : (k : ℕ) (xs : List ℕ) → has_key k xs ≡ true → suc (length (distinct_keys (keys_since k xs))) ≤ length (distinct_keys xs)
-deep k [] h = absurd (cc h)
-deep k (a ∷ xs) h =
-    elim (two (has_key k xs)) as (λ _. suc (length (distinct_keys (cond (has_key k xs) (keys_since k xs) xs))) ≤ length (distinct_keys (a ∷ xs))) [
-      | inl c ↦
-          let tail : length (distinct_keys xs) ≤ length (distinct_keys (a ∷ xs)) = elim (two (has_key a xs)) as (λ _. length (distinct_keys xs) ≤ length (cond (has_key a xs) (distinct_keys xs) (a ∷ distinct_keys xs))) [ inl e ↦ rw e (omega arith) | inr e ↦ rw e (omega arith) ] in
-          let rest : suc (length (distinct_keys (keys_since k xs))) ≤ length (distinct_keys xs) = deep k xs c in
-          rw c (omega (arith, tail, rest))
-      | inr c ↦
-          let e : eqb k a ≡ true = is-front (eqb k a) (rw c at h) in
-          let same : k ≡ a = grind (arith, nat_tests) in
-          let gone : has_key a xs ≡ false = rw same at c in
-          rw (c, gone) (omega arith)
-    ]
-  where
-    is-front : (b : Bool) → cond b true false ≡ true → b ≡ true
-    is-front true h = refl
-    is-front false h = absurd (cc h)
-
 full : (c : ℕ) (xs : List ℕ) (k : ℕ) → length (distinct_keys xs) ≤ c → is_within c (distance xs k) ≡ has_key k xs
 full c xs k h =
     elim (two (has_key k xs)) as (λ _. is_within c (distance xs k) ≡ has_key k xs) [
-      | inl e ↦ let d : suc (length (distinct_keys (keys_since k xs))) ≤ length (distinct_keys xs) = deep k xs e in rw e (grind (arith, nat_tests))
+      | inl e ↦ let d : suc (length (distinct_keys (keys_since k xs))) ≤ length (distinct_keys xs) = since-within k 0 xs e in rw e (grind (arith, nat_tests))
       | inr e ↦ rw e refl
     ]
 
@@ -81,20 +61,14 @@ one-grows past k = rw (grows k past) (elim (two (has_key k past)) as (λ _. leng
 pub more-distinct : (past keys : List ℕ) → length (distinct_keys past) ≤ length (distinct_keys (past ++ keys))
 more-distinct past [] = rw (append-nil past) (omega arith)
 more-distinct past (k ∷ ks) =
-    let first : length (distinct_keys past) ≤ length (distinct_keys (past ++ k ∷ [])) = one-grows past k in
-    let rest : length (distinct_keys (past ++ k ∷ [])) ≤ length (distinct_keys ((past ++ k ∷ []) ++ ks)) = more-distinct (past ++ k ∷ []) ks in
-    let same : length (distinct_keys ((past ++ k ∷ []) ++ ks)) ≡ length (distinct_keys (past ++ k ∷ ks)) = ap (λ l. length (distinct_keys l)) (append_assoc past (k ∷ []) ks) in
-    omega (arith, first, rest, same)
+    omega (arith, one-grows past k, more-distinct (past ++ k ∷ []) ks, ap (λ l. length (distinct_keys l)) (append_assoc past (k ∷ []) ks))
 
 full-after : (c d : ℕ) (past keys : List ℕ) → length (distinct_keys (past ++ keys)) ≤ c → length (distinct_keys (past ++ keys)) ≤ d → count_by (is_within c) (distances_after past keys) ≡ count_by (is_within d) (distances_after past keys)
 full-after c d past [] h g = refl
 full-after c d past (k ∷ ks) h g =
-    let fewer : length (distinct_keys past) ≤ length (distinct_keys (past ++ k ∷ ks)) = more-distinct past (k ∷ ks) in
     let same : length (distinct_keys ((past ++ k ∷ []) ++ ks)) ≡ length (distinct_keys (past ++ k ∷ ks)) = ap (λ l. length (distinct_keys l)) (append_assoc past (k ∷ []) ks) in
-    let rest : count_by (is_within c) (distances_after (past ++ k ∷ []) ks) ≡ count_by (is_within d) (distances_after (past ++ k ∷ []) ks) = full-after c d (past ++ k ∷ []) ks (omega (arith, same, h)) (omega (arith, same, g)) in
-    let first : is_within c (distance past k) ≡ is_within d (distance past k) = full c past k (omega (arith, fewer, h)) ∙ sym (full d past k (omega (arith, fewer, g))) in
-    let one : cond {A = ℕ} (is_within c (distance past k)) 1 0 ≡ cond {A = ℕ} (is_within d (distance past k)) 1 0 = ap (λ b. cond b 1 0) first in
-    omega (arith, rest, one, count-cons (is_within c) (distance past k) (distances_after (past ++ k ∷ []) ks), count-cons (is_within d) (distance past k) (distances_after (past ++ k ∷ []) ks))
+    let first : is_within c (distance past k) ≡ is_within d (distance past k) = full c past k (omega (arith, more-distinct past (k ∷ ks), h)) ∙ sym (full d past k (omega (arith, more-distinct past (k ∷ ks), g))) in
+    omega (arith, full-after c d (past ++ k ∷ []) ks (omega (arith, same, h)) (omega (arith, same, g)), ap (λ b. cond {A = ℕ} b 1 0) first, count-cons (is_within c) (distance past k) (distances_after (past ++ k ∷ []) ks), count-cons (is_within d) (distance past k) (distances_after (past ++ k ∷ []) ks))
 
 -- past the number of distinct keys the hits stay
 pub hits-held : (c : ℕ) (keys : List ℕ) → hits_within (min (length (distinct_keys keys)) c) keys ≡ hits_within c keys
@@ -103,3 +77,9 @@ hits-held c keys =
       | inl l ↦ let m : min (length (distinct_keys keys)) c ≡ c = omega arith in ap (λ n. hits_within n keys) m
       | inr g ↦ let m : min (length (distinct_keys keys)) c ≡ length (distinct_keys keys) = omega arith in ap (λ n. hits_within n keys) m ∙ full-after (length (distinct_keys keys)) c [] keys (omega arith) g
     ]
+
+-- no distance is over the number of distinct keys
+pub none-deeper : (keys : List ℕ) (d : ℕ) → length (distinct_keys keys) ≤ d → count_by (is_at (suc d)) (distances_after [] keys) ≡ 0
+none-deeper keys d past =
+    let same = full-after (suc d) d [] keys (omega (arith, past)) past in
+    omega (arith, same, within-more d (distances_after [] keys))

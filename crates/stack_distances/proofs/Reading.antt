@@ -1,21 +1,17 @@
 -- A curve and what is read off it.
-use Rattle.std.proofs.Common.{◌≡◌, ◌≢◌, ℕ, Bool, Option, take, suc, ◌+◌, ◌-◌, ◌<◌, ◌≤◌, min, List, [], length, count_by, get_or, set, ap, ◌∙◌, sym, refl, arith, inl, inr, get_or-set_other, get_or-set_same}
+use Rattle.std.proofs.Common.{◌≡◌, ◌≢◌, ℕ, take, suc, ◌+◌, ◌<◌, ◌≤◌, min, List, [], length, count_by, get_or, set, ap, ◌∙◌, sym, refl, arith, inl, inr, get_or-set_other, get_or-set_same}
 use Rattle.std.proofs.Math.ListN.{length-set}
 use Rattle.std.proofs.lemmas.Bool.{cases_eq}
 use Rattle.std.proofs.lemmas.List.{take_all}
 use Rattle.std.proofs.lemmas.List.FromFn.{fill_by_all}
 use Rattle.std.proofs.lemmas.List.Sums.{count_by-le-length}
-use Rattle.step_record.specs.declared.job.Job.{Job}
-use Rattle.step_record.specs.declared.job.Policy.TheVariants.{Lru}
-use Rattle.step_record.specs.declared.stats.Stats.{Stats}
 use Rattle.bits_and_lists.specs.Places.{by_place}
 use Rattle.bits_and_lists.proofs.Places.{length-by_place, get_or-by_place}
 use Rattle.policies.specs.Lru.{distinct_keys}
-use Rattle.policies.specs.AnyPolicy.{stats_on}
-use Rattle.stack_distances.specs.Distances.{distances, is_within, hits_within, stats_within}
-use Rattle.stack_distances.specs.Histogram.{is_at, IsHistogram}
+use Rattle.stack_distances.specs.Distances.{distances, is_within, hits_within}
+use Rattle.stack_distances.specs.Histogram.{count_at, is_at, IsHistogram}
+use Rattle.stack_distances.specs.declared.histogram.Histogram.{Histogram}
 use Rattle.stack_distances.specs.Curve.{CurveData, curve_of}
-use Rattle.stack_distances.proofs.Counting.{lru-counts, hits-and-held}
 use Rattle.stack_distances.proofs.Histories.{distances-long}
 use Rattle.stack_distances.proofs.Prefix.{within-more, no-hits, hits-held}
 
@@ -28,33 +24,24 @@ pub record IsSummed (keys hits : List ℕ) (sum c : ℕ) : Type 0 where
   pub below : (d : ℕ) → d < c → get_or hits d 0 ≡ hits_within (suc d) keys
   pub ahead : (d : ℕ) → c ≤ d → get_or hits d 0 ≡ count_by (is_at (suc d)) (distances keys)
 
-pub none-summed : (keys hits : List ℕ) → length hits ≡ length (distinct_keys keys) → ((d : ℕ) → get_or hits d 0 ≡ count_by (is_at (suc d)) (distances keys)) → IsSummed keys hits 0 0
-none-summed keys hits l h = record {
-  long = l;
-  so_far = sym (no-hits keys);
-  below = λ d lt. absurd (omega (arith, lt));
-  ahead = λ d le. h d;
-}
-
 -- at the end of a pass
-pub passed-summed : (keys trace hits counts : List ℕ) (place : ℕ) (places : ℕ → Option ℕ) (marks : ℕ → Bool) → length keys ≤ place → keys ≡ trace → hits ≡ counts → IsHistogram (take place keys) places marks counts → IsSummed trace hits 0 0
-passed-summed keys trace hits counts place places marks all same taken passed =
-    let whole : take place keys ≡ keys = take_all place keys all in
-    let p : IsHistogram trace places marks counts = rw (whole, same) at passed in
-    none-summed trace hits (ap length taken ∙ p.long) (λ d. ap (λ l. get_or l d 0) taken ∙ p.counted d)
+pub passed-summed : (keys trace hits : List ℕ) (place : ℕ) (h : Histogram) → length keys ≤ place → keys ≡ trace → length hits ≡ length h.counts.items → ((d : ℕ) → get_or hits d 0 ≡ count_at h.counts.items h.noted.items d) → IsHistogram keys place h → IsSummed trace hits 0 0
+passed-summed keys trace hits place h all same long taken passed =
+    let whole : take place keys ≡ trace = take_all place keys all ∙ same in
+    record {
+      long = long ∙ (passed.long ∙ ap (λ l. length (distinct_keys l)) whole);
+      so_far = sym (no-hits trace);
+      below = λ d lt. absurd (omega (arith, lt));
+      ahead = λ d le. taken d ∙ (passed.counted d ∙ ap (λ l. count_by (is_at (suc d)) (distances l)) whole);
+    }
 
 pub next-sum : (keys hits : List ℕ) (sum c : ℕ) → IsSummed keys hits sum c → sum + get_or hits c 0 ≡ hits_within (suc c) keys
 next-sum keys hits sum c s =
-    let at : get_or hits c 0 ≡ count_by (is_at (suc c)) (distances keys) = s.ahead c (omega arith) in
-    let so : sum ≡ hits_within c keys = s.so_far in
-    let more : hits_within (suc c) keys ≡ hits_within c keys + count_by (is_at (suc c)) (distances keys) = within-more c (distances keys) in
-    omega (arith, at, so, more)
+    omega (arith, s.ahead c (omega arith), s.so_far, within-more c (distances keys))
 
 pub sum-small : (keys : List ℕ) (c : ℕ) → hits_within c keys ≤ length keys
 sum-small keys c =
-    let few : hits_within c keys ≤ length (distances keys) = count_by-le-length (is_within c) (distances keys) in
-    let l : length (distances keys) ≡ length keys = distances-long [] keys in
-    omega (arith, few, l)
+    omega (arith, count_by-le-length (is_within c) (distances keys), distances-long [] keys)
 
 pub more-summed : (keys hits : List ℕ) (sum c x : ℕ) → c < length hits → IsSummed keys hits sum c → x ≡ sum + get_or hits c 0 → IsSummed keys (set hits c x) x (suc c)
 more-summed keys hits sum c x in_it s e =
@@ -82,49 +69,19 @@ accesses_of d = d.accesses
 abbrev hits_of : CurveData → List ℕ
 hits_of d = d.hits
 
-module _ (keys hits : List ℕ) (n c held h : ℕ) (gives : ◌≡◌ {A = CurveData} (record { accesses = n; hits = hits }) (curve_of keys)) (is_held : held ≡ min (length hits) c) (none : held ≡ 0 → h ≡ 0) (some : held ≢ 0 → h ≡ get_or hits (held - 1) 0) where
-  counted : n ≡ length keys
+module _ (keys hits : List ℕ) (n : ℕ) (gives : ◌≡◌ {A = CurveData} (record { accesses = n; hits = hits }) (curve_of keys)) where
+  pub counted : n ≡ length keys
   counted = ap accesses_of gives
 
   listed : hits ≡ by_place (length (distinct_keys keys)) (λ d. hits_within (suc d) keys)
   listed = ap hits_of gives
 
-  hits-long : length hits ≡ length (distinct_keys keys)
+  pub hits-long : length hits ≡ length (distinct_keys keys)
   hits-long = ap length listed ∙ length-by_place (length (distinct_keys keys)) (λ d. hits_within (suc d) keys)
 
-  held-is : held ≡ min (length (distinct_keys keys)) c
-  held-is = is_held ∙ ap (λ m. min m c) hits-long
+  pub hits-there : (d : ℕ) → d < length hits → get_or hits d 0 ≡ hits_within (suc d) keys
+  hits-there d within = ap (λ l. get_or l d 0) listed ∙ get_or-by_place (length (distinct_keys keys)) (λ d. hits_within (suc d) keys) d 0 (omega (arith, within, hits-long))
 
-  at-held : h ≡ hits_within held keys
-  at-held =
-      elim (cases_eq held 0) [
-        | inl e ↦ none e ∙ sym (ap (λ m. hits_within m keys) e ∙ no-hits keys)
-        | inr d ↦
-            let ne : held ≢ 0 = d in
-            let pos : suc (held - 1) ≡ held = omega arith in
-            let low : held - 1 < length (distinct_keys keys) = omega (arith, held-is) in
-            some d ∙ (ap (λ l. get_or l (held - 1) 0) listed ∙ (get_or-by_place (length (distinct_keys keys)) (λ d. hits_within (suc d) keys) (held - 1) 0 low ∙ ap (λ m. hits_within m keys) pos))
-      ]
-
-  pub read-hits : h ≡ hits_within c keys
-  read-hits = at-held ∙ (ap (λ m. hits_within m keys) held-is ∙ hits-held c keys)
-
-  pub room : h + held ≤ n
-  room =
-      let fits : hits_within c keys + min c (length (distinct_keys keys)) ≤ length keys = hits-and-held c keys in
-      let e : h ≡ hits_within c keys = read-hits in
-      let m : held ≡ min (length (distinct_keys keys)) c = held-is in
-      let a : n ≡ length keys = counted in
-      omega (arith, fits, e, m, a)
-
-  stats-read : ◌≡◌ {A = Stats} (record { accesses = n; hits = h; misses = n - h; evictions = n - h - held; rejections = 0 }) (stats_within c keys)
-  stats-read =
-      let e : h ≡ hits_within c keys = read-hits in
-      let m : held ≡ min c (length (distinct_keys keys)) = let k : held ≡ min (length (distinct_keys keys)) c = held-is in omega (arith, k) in
-      let a : n ≡ length keys = counted in
-      rw (a, e, m) refl
-
-  pub stats-right : (j : Job) → j.policy ≡ Lru → j.config.capacity ≡ c → 1 ≤ c → ◌≡◌ {A = Stats} (record { accesses = n; hits = h; misses = n - h; evictions = n - h - held; rejections = 0 }) (stats_on j keys)
-  stats-right j lru cap some_room =
-      let room_of : 1 ≤ j.config.capacity = rw cap some_room in
-      stats-read ∙ (ap (λ m. stats_within m keys) (sym cap) ∙ sym (lru-counts j keys lru room_of))
+  -- past the number of distinct keys the hits stay
+  pub hits-read : (c held : ℕ) → held ≡ min (length hits) c → hits_within held keys ≡ hits_within c keys
+  hits-read c held is = ap (λ m. hits_within m keys) (is ∙ ap (λ m. min m c) hits-long) ∙ hits-held c keys

@@ -1,12 +1,12 @@
 -- The stack of the distinct keys, one access after another.
-use Rattle.std.proofs.Common.{◌≡◌, ℕ, suc, ◌≤◌, true, false, cond, eqb, List, [], ◌∷◌, ◌++◌, length, refl, arith, inl, inr}
+use Rattle.std.proofs.Common.{◌≡◌, ℕ, suc, zero, ◌≤◌, true, false, cond, eqb, List, [], ◌∷◌, ◌++◌, length, drop, refl, arith, inl, inr}
 use Rattle.std.proofs.lemmas.Bool.{eqb-true}
 use Rattle.std.proofs.lemmas.Bool.Decides.{nat_tests}
 use Rattle.step_record.specs.Keys.{has_key}
 use Rattle.policies.specs.Lru.{distinct_keys, keys_since}
-use Rattle.policies.proofs.Recency.{two}
+use Rattle.policies.proofs.Recency.{has-drop, two}
 
-eqb-sym : (a b : ℕ) → eqb a b ≡ eqb b a
+pub eqb-sym : (a b : ℕ) → eqb a b ≡ eqb b a
 eqb-sym a b = grind (arith, nat_tests)
 
 pub has-snoc : (a k : ℕ) (xs : List ℕ) → has_key a (xs ++ k ∷ []) ≡ cond (has_key a xs) true (eqb a k)
@@ -35,9 +35,57 @@ grows k (a ∷ xs) =
       ])
     ]
 
-pub since-short : (k : ℕ) (xs : List ℕ) → length (distinct_keys (keys_since k xs)) ≤ length (distinct_keys xs)
-since-short k [] = omega arith
-since-short k (a ∷ xs) =
-    let tail : length (distinct_keys xs) ≤ length (distinct_keys (a ∷ xs)) = elim (two (has_key a xs)) as (λ _. length (distinct_keys xs) ≤ length (cond (has_key a xs) (distinct_keys xs) (a ∷ distinct_keys xs))) [ inl h ↦ rw h (omega arith) | inr h ↦ rw h (omega arith) ] in
-    let rest : length (distinct_keys (keys_since k xs)) ≤ length (distinct_keys xs) = since-short k xs in
-    elim (two (has_key k xs)) as (λ _. length (distinct_keys (cond (has_key k xs) (keys_since k xs) xs)) ≤ length (distinct_keys (a ∷ xs))) [ inl h ↦ rw h (omega arith) | inr h ↦ rw h tail ]
+-- ---- the distinct keys from a place on
+
+-- the key at the front comes again, or it is one of its own
+pub front-again : (a : ℕ) (xs : List ℕ) → has_key a xs ≡ true → length (distinct_keys (a ∷ xs)) ≡ length (distinct_keys xs)
+front-again a xs h = rw h refl
+
+pub front-last : (a : ℕ) (xs : List ℕ) → has_key a xs ≡ false → length (distinct_keys (a ∷ xs)) ≡ suc (length (distinct_keys xs))
+front-last a xs h = rw h refl
+
+front-more : (a : ℕ) (xs : List ℕ) → length (distinct_keys xs) ≤ length (distinct_keys (a ∷ xs))
+front-more a xs =
+    elim (two (has_key a xs)) [
+      | inl h ↦ let e = front-again a xs h in omega (arith, e)
+      | inr h ↦ let e = front-last a xs h in omega (arith, e)
+    ]
+
+pub fewer-behind : (f : ℕ) (xs : List ℕ) → length (distinct_keys (drop f xs)) ≤ length (distinct_keys xs)
+fewer-behind zero xs = omega arith
+fewer-behind (suc f) [] = omega arith
+fewer-behind (suc f) (a ∷ xs) = let r = fewer-behind f xs in let m = front-more a xs in omega (arith, r, m)
+
+-- what came since the last access to k is within what came from a place on, where k came there
+pub since-within : (k f : ℕ) (xs : List ℕ) → has_key k (drop f xs) ≡ true → suc (length (distinct_keys (keys_since k xs))) ≤ length (distinct_keys (drop f xs))
+since-within k zero [] h = absurd (cc h)
+since-within k zero (a ∷ xs) h =
+    elim (two (has_key k xs)) as (λ _. suc (length (distinct_keys (cond (has_key k xs) (keys_since k xs) xs))) ≤ length (distinct_keys (a ∷ xs))) [
+      | inl e ↦
+          rw e (omega (arith, since-within k zero xs e, front-more a xs))
+      | inr e ↦
+          elim (two (eqb k a)) [
+            | inl s ↦
+                let same : k ≡ a = eqb-true k a s in
+                let gone : has_key a xs ≡ false = rw same at e in
+                rw e (omega (arith, front-last a xs gone))
+            | inr s ↦
+                let none : cond (eqb k a) true (has_key k xs) ≡ false = rw s e in
+                absurd (cc (none, h))
+          ]
+    ]
+since-within k (suc f) [] h = absurd (cc h)
+since-within k (suc f) (a ∷ xs) h =
+    let e : has_key k xs ≡ true = has-drop k f xs h in
+    let r : suc (length (distinct_keys (keys_since k xs))) ≤ length (distinct_keys (drop f xs)) = since-within k f xs h in
+    rw e r
+
+-- and reaches further, where k came before that place alone
+pub since-beyond : (k f : ℕ) (xs : List ℕ) → has_key k xs ≡ true → has_key k (drop f xs) ≡ false → length (distinct_keys (drop f xs)) ≤ length (distinct_keys (keys_since k xs))
+since-beyond k zero xs came h = absurd (cc (came, h))
+since-beyond k (suc f) [] came h = absurd (cc came)
+since-beyond k (suc f) (a ∷ xs) came h =
+    elim (two (has_key k xs)) as (λ _. length (distinct_keys (drop f xs)) ≤ length (distinct_keys (cond (has_key k xs) (keys_since k xs) xs))) [
+      | inl e ↦ let r : length (distinct_keys (drop f xs)) ≤ length (distinct_keys (keys_since k xs)) = since-beyond k f xs e h in rw e r
+      | inr e ↦ let r : length (distinct_keys (drop f xs)) ≤ length (distinct_keys xs) = fewer-behind f xs in rw e r
+    ]

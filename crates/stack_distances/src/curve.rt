@@ -64,11 +64,7 @@ impl Curve {
             → j.config.capacity ≡ capacity → result ≡ stats_on j keys }
     {
         let held = self.hits.len().min(capacity as usize);
-        let hits = if held == 0 {
-            0
-        } else {
-            self.hits[held - 1] as u64
-        };
+        let hits = self.hits_at(held);
         let misses = self.accesses - hits;
         Stats {
             accesses: self.accesses,
@@ -77,5 +73,16 @@ impl Curve {
             evictions: misses - held as u64,
             rejections: 0,
         }
+    }
+
+    // The hits at a capacity of at most the number of distinct keys.
+    fn hits_at(&self, capacity: usize) -> u64
+        requires { capacity ≤ length self.now.hits }
+        ensures { (keys : List ℕ) → self.now ≡ curve_of keys → result ≡ hits_within capacity keys }
+    {
+        if capacity == 0 {
+            return 0;
+        }
+        self.hits[capacity - 1] as u64
     }
 }

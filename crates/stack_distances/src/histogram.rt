@@ -1,14 +1,9 @@
 //! How many accesses of a trace have each stack distance.
-ghost use Rattle.std.specs.Prelude.{◌≡◌, ◌+◌, ◌*◌, ◌<◌, ◌≤◌, ℕ, [], length, take, slice_index, IfOk, OnOk};
+ghost use Rattle.std.specs.Prelude.{◌≡◌, ◌+◌, ◌<◌, ◌≤◌, ℕ, [], length, slice_index, IfOk, OnOk};
 ghost use Rattle.step_record.specs.declared.limits.TheConstants.{MAX_ACCESSES};
-ghost use Rattle.bits_and_lists.specs.Bits.{bit_of};
-ghost use Rattle.trace_index.specs.KeyPlaces.{place_of};
-ghost use Rattle.stack_distances.specs.declared.limits.TheConstants.{FAN_OUT};
-ghost use Rattle.stack_distances.specs.Sums.{mark_of, sum_below};
-ghost use Rattle.stack_distances.specs.Histogram.{IsHistogram};
+ghost use Rattle.stack_distances.specs.Histogram.{IsHistogram, IsNoted, count_at};
 
 use crate::marks::Marks;
-use crate::tally::Tally;
 use std::alloc::{AllocError, Global};
 use step_record::Key;
 use trace_index::KeyPlaces;
@@ -26,8 +21,11 @@ pub(crate) struct Histogram {
     last: KeyPlaces,
     // A mark at each of these places.
     marks: Marks,
-    // At d - 1, how many accesses have the distance d; as many as there are distinct keys.
-    counts: Tally,
+    // At d - 1, how many accesses have the distance d, less those that are noted; as many as there are distinct keys.
+    counts: Vec<u32>,
+    // Where one more is to be counted. Each count lies far from the last one, and where many are added to at once the
+    // processor overlaps the reads.
+    noted: Vec<usize>,
     // A sum over what `read_ahead` read, kept so that the compiler cannot drop the reads.
     read: u64,
 }
@@ -36,16 +34,15 @@ impl Histogram {
     /// The histogram of no access, with room for those of a trace. The only error is out of memory.
     pub(crate) fn new(alloc: Global, keys: &[Key]) -> Result<Histogram, AllocError>
         requires { length keys.now ≤ MAX_ACCESSES }
-        ensures counted { IfOk result (λ p. IsHistogram [] (place_of p.last)
-            (bit_of p.marks.words.items) p.counts) }
-        ensures size { IfOk result (λ p. length keys.now ≤ FAN_OUT * length p.marks.words.items) }
+        ensures { IfOk result (λ h. IsHistogram keys.now 0 h) }
     {
         let last = KeyPlaces::new(alloc);
         let marks = Marks::new(alloc, keys.len())?;
         Ok(Histogram {
             last,
             marks,
-            counts: Tally::new(alloc, STRETCH)?,
+            counts: Vec::new(alloc),
+            noted: Vec::with_capacity(alloc, STRETCH)?,
             read: 0,
         })
     }
@@ -55,15 +52,48 @@ impl Histogram {
     /// not depend on one another, so the processor overlaps them.
     #[inline(always)]
     pub(crate) fn begin_access(&mut self, keys: &[Key], place: usize)
-        requires { (d : ℕ) → slice_index self.old.counts d ≤ MAX_ACCESSES }
-        ensures last { self.new.last ≡ self.old.last }
-        ensures marks { self.new.marks ≡ self.old.marks }
-        ensures counts { self.new.counts ≡ self.old.counts }
+        requires few { length keys.now ≤ MAX_ACCESSES }
+        requires counted { IsHistogram keys.now place self.old }
+        ensures { IsHistogram keys.now place self.new }
     {
         if place % STRETCH == 0 {
-            self.counts.settle();
+            count_noted(&mut self.counts, &mut self.noted);
             self.read_stretch(keys, place);
         }
+    }
+
+    /// Counts the distance of the next access of the trace, the one at `place`. The only error is out of memory, after
+    /// which the histogram counts nothing more.
+    pub(crate) fn access(&mut self, keys: &[Key], place: usize) -> Result<(), AllocError>
+        requires next { place < length keys.now }
+        requires few { length keys.now ≤ MAX_ACCESSES }
+        requires counted { IsHistogram keys.now place self.old }
+        ensures { OnOk result (IsHistogram keys.now (place + 1) self.new) }
+    {
+        self.marks.put(place)?;
+        match self.last.put(keys[place], place as u32)? {
+            None => {
+                self.counts.push(0)?;
+                Ok(())
+            }
+            Some(before) => {
+                let before = before as usize;
+                let distance = self.counts.len() - self.marks.below(before) as usize;
+                self.noted.push(distance - 1)?;
+                self.marks.take(before);
+                Ok(())
+            }
+        }
+    }
+
+    /// How many accesses have each distance: at d - 1 those of distance d, up to the number of distinct keys.
+    pub(crate) fn into_counts(mut self) -> Vec<u32>
+        requires { IsNoted self.counts.items self.noted.items }
+        ensures len { length result.items ≡ length self.counts.items }
+        ensures counts { (d : ℕ) → slice_index result.items d ≡ count_at self.counts.items self.noted.items d }
+    {
+        count_noted(&mut self.counts, &mut self.noted);
+        self.counts
     }
 
     #[inline(never)]
@@ -71,6 +101,7 @@ impl Histogram {
         ensures last { self.new.last ≡ self.old.last }
         ensures marks { self.new.marks ≡ self.old.marks }
         ensures counts { self.new.counts ≡ self.old.counts }
+        ensures noted { self.new.noted ≡ self.old.noted }
     {
         let mut read = 0;
         for place in from..keys.len().min(from.saturating_add(STRETCH)) {
@@ -80,42 +111,16 @@ impl Histogram {
         }
         self.read ^= read;
     }
+}
 
-    /// Counts the distance of the next access of the trace, the one at `place`. The only error is out of memory, after
-    /// which the histogram counts nothing more.
-    pub(crate) fn access(&mut self, keys: &[Key], place: usize) -> Result<(), AllocError>
-        requires next { place < length keys.now }
-        requires few { length keys.now ≤ MAX_ACCESSES }
-        requires size { length keys.now ≤ FAN_OUT * length self.old.marks.words.items }
-        requires counted { IsHistogram (take place keys.now) (place_of self.old.last)
-            (bit_of self.old.marks.words.items) self.old.counts }
-        ensures counted { OnOk result (IsHistogram (take (place + 1) keys.now)
-            (place_of self.new.last) (bit_of self.new.marks.words.items)
-            self.new.counts) }
-        ensures size { OnOk result (length self.new.marks.words.items ≡ length self.old.marks.words.items) }
-    {
-        match self.last.put(keys[place], place as u32)? {
-            None => {
-                self.counts.push()?;
-                self.marks.put(place);
-                Ok(())
-            }
-            Some(before) => {
-                let before = before as usize;
-                let distance = self.counts.len() - self.marks.below(before) as usize;
-                self.counts.add(distance - 1)?;
-                self.marks.take(before);
-                self.marks.put(place);
-                Ok(())
-            }
-        }
-    }
-
-    /// How many accesses have each distance: at d - 1 those of distance d, up to the number of distinct keys.
-    pub(crate) fn into_counts(self) -> Vec<u32>
-        requires { (d : ℕ) → slice_index self.counts d ≤ MAX_ACCESSES }
-        ensures { result.items ≡ self.counts }
-    {
-        self.counts.into_counts()
+// Counts one more at each place that was noted.
+fn count_noted(counts: &mut Vec<u32>, noted: &mut Vec<usize>)
+    requires { IsNoted counts.old.items noted.old.items }
+    ensures len { length counts.new.items ≡ length counts.old.items }
+    ensures counts { (d : ℕ) → slice_index counts.new.items d ≡ count_at counts.old.items noted.old.items d }
+    ensures none { noted.new.items ≡ [] }
+{
+    while let Some(place) = noted.pop() {
+        counts[place] += 1;
     }
 }

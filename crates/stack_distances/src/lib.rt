@@ -16,16 +16,13 @@
 //! that trace. Making a curve or the reuses asks for memory, and so does a pass over the reuses: a bit for each access.
 #![tactic(auto)]
 
-mod counts;
 mod curve;
+mod fenwick_tree;
 mod histogram;
 mod limits;
 mod marks;
 mod reuses;
-mod sum_layer;
-mod tally;
 pub mod theorems;
-mod total;
 mod window;
 
 pub use curve::Curve;

@@ -3,7 +3,7 @@ ghost use Rattle.std.specs.Prelude.{◌≡◌, ℕ, ◌+◌, ◌≤◌, List, If
 ghost use Rattle.step_record.specs.declared.limits.TheConstants.{MAX_ACCESSES};
 ghost use Rattle.stack_distances.specs.Window.{IsWindow, IsFirstClear, stats_in};
 
-use crate::limits::FAN_OUT;
+use crate::limits::WORD_BITS;
 use std::alloc::{AllocError, Global};
 use step_record::Stats;
 
@@ -25,7 +25,7 @@ impl Window {
         ensures window { IfOk result (λ w. (keys : List ℕ) → length keys ≡ accesses → IsWindow keys 0 w) }
         ensures capacity { IfOk result (λ w. w.capacity ≡ capacity) }
     {
-        let count = accesses.div_ceil(FAN_OUT);
+        let count = accesses.div_ceil(WORD_BITS);
         let renewed: Vec<u64> = vec![in alloc; 0; count]?;
         Ok(Window {
             capacity: capacity as usize,
@@ -68,12 +68,12 @@ fn first_clear(words: &[u64], from: usize) -> usize
     ensures { IsFirstClear words.now from result }
 {
     let mut at = from;
-    'words: while at / FAN_OUT < words.len() {
-        let clear = !words[at / FAN_OUT] >> (at % FAN_OUT);
+    'words: while at / WORD_BITS < words.len() {
+        let clear = !words[at / WORD_BITS] >> (at % WORD_BITS);
         if clear != 0 {
             return at + clear.trailing_zeros() as usize;
         }
-        at = (at / FAN_OUT + 1) * FAN_OUT;
+        at = (at / WORD_BITS + 1) * WORD_BITS;
     }
     at
 }

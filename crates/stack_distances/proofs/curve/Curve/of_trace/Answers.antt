@@ -1,30 +1,17 @@
-use Rattle.std.proofs.Common.{◌≡◌, ◌+◌, ◌<◌, ◌≤◌, suc, length, length-take, take, get_or, ap, arith}
+use Rattle.std.proofs.Common.{◌≡◌, ◌+◌, ◌<◌, suc, length, get_or, ap, arith}
 use Rattle.std.proofs.lemmas.List.{get_or_read}
-use Rattle.bits_and_lists.specs.Bits.{bit_of}
-use Rattle.trace_index.specs.KeyPlaces.{place_of}
-use Rattle.stack_distances.specs.Distances.{hits_within}
-use Rattle.stack_distances.proofs.Histories.{counts-few}
+use Rattle.stack_distances.proofs.Noted.{may-count}
 use Rattle.stack_distances.proofs.Reading.{IsSummed, passed-summed, next-sum, sum-small, more-summed, curve-summed}
 use Rattle.stack_distances.proofs.curve.Curve.of_trace.Goals as goal
 
-pub begin_access-requires : goal.begin_access-requires
-begin_access-requires c = λ d.
-    let inv = c.loop-place.invariant in
-    let few = counts-few (take c.loop-place.place c.keys-keys.result.now) _ _ c.loop-place.histogram.counts inv.passed d in
-    omega (arith, few, length-take c.loop-place.place c.keys-keys.result.now, inv.few)
-
 pub into_counts-hits-requires : goal.into_counts-hits-requires
-into_counts-hits-requires c = λ d.
-    let inv = c.loop-place.invariant in
-    let few = counts-few (take c.loop-place.place c.keys-keys.result.now) _ _ c.loop-place.histogram.counts inv.passed d in
-    omega (arith, few, length-take c.loop-place.place c.keys-keys.result.now, inv.few)
+into_counts-hits-requires c = let inv = c.loop-place.invariant in may-count c.keys-keys.result.now c.loop-place.place c.loop-place.histogram inv.few inv.counted
 
 pub loop-c-init : goal.loop-c-init
 loop-c-init c =
     let inv = c.loop-place.invariant in
     let hits = c.into_counts-hits.result.items in
-    let summed : IsSummed c.args.trace.now hits 0 0 = passed-summed c.keys-keys.result.now c.args.trace.now hits c.loop-place.histogram.counts c.loop-place.place
-    (place_of c.loop-place.histogram.last) (bit_of c.loop-place.histogram.marks.words.items) (omega arith) inv.same c.into_counts-hits.ensures inv.passed in
+    let summed : IsSummed c.args.trace.now hits 0 0 = passed-summed c.keys-keys.result.now c.args.trace.now hits c.loop-place.place c.loop-place.histogram (omega arith) inv.same c.into_counts-hits.ensures.len c.into_counts-hits.ensures.counts inv.counted in
     record {
       same = inv.same;
       few = inv.few;
@@ -37,11 +24,7 @@ overflow_add-sum c =
     let inv = c.loop-c.invariant in
     let hits = c.loop-c.hits.items in
     let in_it : c.loop-c.c < length hits = omega (arith, inv.end, inv.summed.long) in
-    let read : c.index.result.now ≡ get_or hits c.loop-c.c 0 = get_or_read hits _ _ in_it c.index.ensures 0 in
-    let is : c.loop-c.sum + get_or hits c.loop-c.c 0 ≡ hits_within (suc c.loop-c.c) c.args.trace.now = next-sum c.args.trace.now hits c.loop-c.sum c.loop-c.c inv.summed in
-    let small : hits_within (suc c.loop-c.c) c.args.trace.now ≤ length c.args.trace.now = sum-small c.args.trace.now (suc c.loop-c.c) in
-    let same : length c.keys-keys.result.now ≡ length c.args.trace.now = ap length inv.same in
-    omega (arith, read, is, small, same, inv.few)
+    omega (arith, get_or_read hits _ _ in_it c.index.ensures 0, next-sum c.args.trace.now hits c.loop-c.sum c.loop-c.c inv.summed, sum-small c.args.trace.now (suc c.loop-c.c), ap length inv.same, inv.few)
 
 pub loop-c-preserved : goal.loop-c-preserved
 loop-c-preserved c =
@@ -65,9 +48,8 @@ returns c =
 pub invariant_of-result : goal.invariant_of-result
 invariant_of-result c =
     let inv = c.loop-c.invariant in
-    let same : length c.keys-keys.result.now ≡ length c.args.trace.now = ap length inv.same in
     record {
       keys = c.args.trace.now;
       gives = curve-summed c.args.trace.now c.loop-c.hits.items (length c.keys-keys.result.now) c.loop-c.sum c.loop-c.c (ap length inv.same) (omega (arith, inv.end, inv.summed.long)) inv.summed;
-      few = omega (arith, same, inv.few);
+      few = omega (arith, ap length inv.same, inv.few);
     }

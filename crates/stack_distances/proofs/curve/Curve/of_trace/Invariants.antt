@@ -1,8 +1,6 @@
-use Rattle.std.proofs.Common.{◌≡◌, ◌*◌, ◌≤◌, length, take}
+use Rattle.std.proofs.Common.{◌≡◌, ◌≤◌, length}
 use Rattle.step_record.specs.declared.limits.TheConstants.{MAX_ACCESSES}
-use Rattle.bits_and_lists.specs.Bits.{bit_of}
 use Rattle.policies.specs.Lru.{distinct_keys}
-use Rattle.trace_index.specs.KeyPlaces.{place_of}
 use Rattle.stack_distances.specs.Histogram.{IsHistogram}
 use Rattle.stack_distances.proofs.Reading.{IsSummed}
 use Rattle.stack_distances.proofs.curve.Curve.of_trace.Given as goal
@@ -11,8 +9,7 @@ abbrev pub invariant-loop-place : goal.invariant-loop-place
 invariant-loop-place l = record {
   same : l.keys ≡ l.trace;
   few : length l.keys ≤ MAX_ACCESSES;
-  size : length l.keys ≤ 64 * length l.histogram.marks.words.items;
-  passed : IsHistogram (take l.place l.keys) (place_of l.histogram.last) (bit_of l.histogram.marks.words.items) l.histogram.counts;
+  counted : IsHistogram l.keys l.place l.histogram;
 }
 
 abbrev pub invariant-loop-c : goal.invariant-loop-c

@@ -1,151 +1,83 @@
-use Rattle.std.proofs.Common.{◌≡◌, ◌+◌, ◌-◌, ◌*◌, ◌<◌, ◌≤◌, ℕ, suc, Bool, true, false, cond, eqb, nat_eq, Option, Some, None, List, [], ◌∷◌, ◌++◌, length, take, get_or, set, ap, ◌∙◌, sym, refl, arith}
-use Rattle.std.proofs.lemmas.List.{get_or_past, length-take-le, take_more}
-use Rattle.bits_and_lists.specs.Bits.{bit_of}
-use Rattle.trace_index.specs.KeyPlaces.{place_of}
+use Rattle.std.proofs.Common.{◌≡◌, ◌+◌, ◌-◌, ◌*◌, ◌<◌, ℕ, suc, cond, eqb, None, Some, List, length, count_by, get_or, take, ap, ◌∙◌, sym, arith}
+use Rattle.std.proofs.lemmas.List.{length_push}
 use Rattle.policies.specs.Lru.{distinct_keys, keys_since}
+use Rattle.trace_index.specs.KeyPlaces.{place_of}
 use Rattle.stack_distances.specs.Sums.{mark_of, sum_below}
-use Rattle.stack_distances.specs.Histogram.{are_last, IsHistogram}
-use Rattle.stack_distances.proofs.Bits.{take-mark}
-use Rattle.stack_distances.proofs.Sums.{added-more}
-use Rattle.stack_distances.proofs.Histories.{are-last-long, passed-few, passed-first, passed-again, before-within, before-marked, before-depth}
+use Rattle.stack_distances.specs.Histogram.{count_at}
+use Rattle.stack_distances.proofs.Noted.{noted-more}
+use Rattle.stack_distances.proofs.Histories.{free, marks-few, last-next, first-marked, first-long, first-counted, low, there, below-few, depth, again-marked, again-long, again-counted, push-zero}
 use Rattle.stack_distances.proofs.histogram.Histogram.access.Goals as goal
+use Rattle.stack_distances.proofs.histogram.Histogram.access.Goals.{In-Some}
 
--- ---- over plain terms
+pub put-requires-clause-free : goal.put-requires-clause-free
+put-requires-clause-free c = free c.args.keys.now c.args.place c.requires.next c.args.self.now c.requires.counted
 
-module _ (keys : List ℕ) (place : ℕ) (places next : ℕ → Option ℕ) (words : List ℕ) (counts : List ℕ) (in_it : place < length keys) (few : length keys ≤ 16777216) (room : length keys ≤ 64 * length words) (passed : IsHistogram (take place keys) places (bit_of words) counts) (updates : (x : ℕ) → next x ≡ cond (nat_eq (get_or keys place 0) x) (Some place) (places x)) where
-  long : length (take place keys) ≡ place
-  long = length-take-le place keys (omega (arith, in_it))
+pub put-requires-clause-few : goal.put-requires-clause-few
+put-requires-clause-few c = omega (arith, marks-few c.args.keys.now c.args.place c.requires.next c.args.self.now c.requires.counted, c.requires.next, c.requires.few)
 
-  puts : (x : ℕ) → next x ≡ cond (nat_eq (get_or keys place 0) x) (Some (length (take place keys))) (places x)
-  puts x = updates x ∙ ap (λ n. cond (nat_eq (get_or keys place 0) x) (Some n) (places x)) (sym long)
+-- the key came before
+is-last : (c : goal.In-Some) → place_of c.args.self.now.last (get_or c.args.keys.now c.args.place 0) ≡ Some c.in-Some.before
+is-last c = sym c.in_ok-put-2.ensures.old ∙ c.in-Some.is
 
-  free : bit_of words place ≡ false
-  free = passed.marked place ∙ get_or_past (are_last (take place keys)) place false (are-last-long (take place keys) place long)
+below-place : (c : goal.In-Some) → c.in-Some.before < c.args.place
+below-place c = low c.args.keys.now c.args.place c.requires.next c.args.self.now c.requires.counted c.put.new.self.words.items c.in_ok-put.ensures.puts c.in-Some.before (is-last c)
 
-  marks-few : (n : ℕ) → sum_below (mark_of words) n ≤ 16777216
-  marks-few n = let f : sum_below (mark_of words) n ≤ length (take place keys) = passed-few (take place keys) (get_or keys place 0) places next (bit_of words) (bit_of words) counts passed puts n in omega (arith, f, long, in_it, few)
+inside : (c : goal.In-Some) → c.in-Some.before < 64 * length c.put.new.self.words.items
+inside c = omega (arith, below-place c, c.requires.next, c.requires.counted.room, c.in_ok-put.ensures.size)
 
-  first : (new : ℕ → Bool) → places (get_or keys place 0) ≡ None → ((q : ℕ) → new q ≡ cond (eqb q place) true (bit_of words q)) → IsHistogram (take (place + 1) keys) next new (counts ++ 0 ∷ [])
-  first new none marked =
-      rw (take_more keys place 0 in_it)
-      (passed-first (take place keys) (get_or keys place 0) places next (bit_of words) new counts passed puts none (λ q. marked q ∙ ap (λ n. cond (eqb q n) true (bit_of words q)) (sym long)))
+deep : (c : goal.In-Some) → sum_below (mark_of c.put.new.self.words.items) c.in-Some.before + suc (length (distinct_keys (keys_since (get_or c.args.keys.now c.args.place 0) (take c.args.place c.args.keys.now)))) ≡ length c.args.self.now.counts.items
+deep c = depth c.args.keys.now c.args.place c.requires.next c.args.self.now c.requires.counted c.put.new.self.words.items c.in_ok-put.ensures.puts c.in-Some.before (is-last c)
 
-  module _ (p : ℕ) (some : places (get_or keys place 0) ≡ Some p) where
-    within : p < 64 * length words
-    within = let b : p < length (take place keys) = before-within (take place keys) (get_or keys place 0) places next (bit_of words) (bit_of words) counts passed puts p some in omega (arith, b, long, in_it, room)
+pub below-requires-clause-within : goal.below-requires-clause-within
+below-requires-clause-within c = inside (goal.at.below-requires-clause-within c).In-Some
 
-    marked-there : bit_of words p ≡ true
-    marked-there = before-marked (take place keys) (get_or keys place 0) places next (bit_of words) (bit_of words) counts passed puts p some
-
-    depth : (below : ℕ) → below ≡ sum_below (mark_of words) p → below + suc (length (distinct_keys (keys_since (get_or keys place 0) (take place keys)))) ≡ length counts
-    depth below is = before-depth (take place keys) (get_or keys place 0) places next (bit_of words) (bit_of words) counts passed puts p some below is
-
-    still-free : (new : ℕ → Bool) → ((q : ℕ) → new q ≡ cond (eqb q p) false (bit_of words q)) → new place ≡ false
-    still-free new takes = takes place ∙ (ap (cond (eqb place p) false) free ∙ none-of (eqb place p))
-      where
-        none-of : (b : Bool) → cond b false false ≡ false
-        none-of true = refl
-        none-of false = refl
-
-    still-few : (new : List ℕ) → ((q : ℕ) → bit_of new q ≡ cond (eqb q p) false (bit_of words q)) → (n : ℕ) → sum_below (mark_of new) n ≤ 16777216
-    still-few new takes n =
-        let less : sum_below (mark_of new) n ≤ sum_below (mark_of words) n = added-more (mark_of new) (mark_of words) p (take-mark words new p marked-there takes) n in
-        let f : sum_below (mark_of words) n ≤ 16777216 = marks-few n in
-        omega (arith, less, f)
-
-    again : (below y : ℕ) (new : ℕ → Bool) → below ≡ sum_below (mark_of words) p → y ≡ suc (get_or counts (length counts - below - 1) 0) → ((q : ℕ) → new q ≡ cond (eqb q place) true (cond (eqb q p) false (bit_of words q))) → IsHistogram (take (place + 1) keys) next new (set counts (length counts - below - 1) y)
-    again below y new is more marked =
-        let deep : below + suc (length (distinct_keys (keys_since (get_or keys place 0) (take place keys)))) ≡ length counts = depth below is in
-        rw (take_more keys place 0 in_it)
-        (passed-again (take place keys) (get_or keys place 0) places next (bit_of words) new counts passed puts p some (length counts - below - 1) y (omega (arith, deep)) (omega (arith, deep)) more
-        (λ q. marked q ∙ ap (λ n. cond (eqb q n) true (cond (eqb q p) false (bit_of words q))) (sym long)))
-
--- ---- the goals
-
-pub put-requires-in-None-clause-free : goal.put-requires-in-None-clause-free
-put-requires-in-None-clause-free c =
-    let old = c.args.self.now in
-    free c.args.keys.now c.args.place (place_of old.last) (place_of c.put.new.self) old.marks.words.items old.counts
-    c.requires.next c.requires.few c.requires.size c.requires.counted c.in_ok-put.ensures.updates
-
-pub put-requires-in-None-clause-few : goal.put-requires-in-None-clause-few
-put-requires-in-None-clause-few c =
-    let old = c.args.self.now in
-    marks-few c.args.keys.now c.args.place (place_of old.last) (place_of c.put.new.self) old.marks.words.items old.counts
-    c.requires.next c.requires.few c.requires.size c.requires.counted c.in_ok-put.ensures.updates
+pub below-requires-clause-tree : goal.below-requires-clause-tree
+below-requires-clause-tree c = omega (arith, below-place (goal.at.below-requires-clause-tree c).In-Some, c.in_ok-put.ensures.tree)
 
 pub below-requires-clause-few : goal.below-requires-clause-few
 below-requires-clause-few c =
-    let old = c.args.self.now in
-    marks-few c.args.keys.now c.args.place (place_of old.last) (place_of c.put.new.self) old.marks.words.items old.counts
-    c.requires.next c.requires.few c.requires.size c.requires.counted c.in_ok-put.ensures.updates
+    let at = (goal.at.below-requires-clause-few c).In-Some in
+    omega (arith, below-few c.args.keys.now c.args.place c.requires.next c.args.self.now c.requires.counted c.put.new.self.words.items c.in_ok-put.ensures.puts c.in-Some.before (is-last at), c.requires.next, c.requires.few)
 
-pub below-requires-clause-within : goal.below-requires-clause-within
-below-requires-clause-within c =
-    let old = c.args.self.now in
-    within c.args.keys.now c.args.place (place_of old.last) (place_of c.put.new.self) old.marks.words.items old.counts
-    c.requires.next c.requires.few c.requires.size c.requires.counted c.in_ok-put.ensures.updates c.in-Some.before (sym c.in_ok-put.ensures.old ∙ c.in-Some.is)
+pub overflow_sub-distance : goal.overflow_sub-distance
+overflow_sub-distance c = omega (arith, deep (goal.at.overflow_sub-distance c).In-Some, c.below.ensures, c.len.ensures)
+
+pub overflow_sub-distance-in-Some : goal.overflow_sub-distance-in-Some
+overflow_sub-distance-in-Some c = omega (arith, deep (goal.at.overflow_sub-distance-in-Some c).In-Some, c.below.ensures, c.len.ensures)
 
 pub take-requires-clause-within : goal.take-requires-clause-within
-take-requires-clause-within c =
-    let old = c.args.self.now in
-    within c.args.keys.now c.args.place (place_of old.last) (place_of c.put.new.self) old.marks.words.items old.counts
-    c.requires.next c.requires.few c.requires.size c.requires.counted c.in_ok-put.ensures.updates c.in-Some.before (sym c.in_ok-put.ensures.old ∙ c.in-Some.is)
+take-requires-clause-within c = inside (goal.at.take-requires-clause-within c).In-Some
 
 pub take-requires-clause-marked : goal.take-requires-clause-marked
 take-requires-clause-marked c =
-    let old = c.args.self.now in
-    marked-there c.args.keys.now c.args.place (place_of old.last) (place_of c.put.new.self) old.marks.words.items old.counts
-    c.requires.next c.requires.few c.requires.size c.requires.counted c.in_ok-put.ensures.updates c.in-Some.before (sym c.in_ok-put.ensures.old ∙ c.in-Some.is)
+    there c.args.keys.now c.args.place c.requires.next c.args.self.now c.requires.counted c.put.new.self.words.items c.in_ok-put.ensures.puts c.in-Some.before (is-last (goal.at.take-requires-clause-marked c).In-Some)
 
-pub put-requires-in-Some-clause-free : goal.put-requires-in-Some-clause-free
-put-requires-in-Some-clause-free c =
-    let old = c.args.self.now in
-    still-free c.args.keys.now c.args.place (place_of old.last) (place_of c.put.new.self) old.marks.words.items old.counts
-    c.requires.next c.requires.few c.requires.size c.requires.counted c.in_ok-put.ensures.updates c.in-Some.before (sym c.in_ok-put.ensures.old ∙ c.in-Some.is) (bit_of c.take.new.self.words.items) c.take.ensures.takes
+pub returns-in_ok-push-in-None : goal.returns-in_ok-push-in-None
+returns-in_ok-push-in-None c =
+    let keys = c.args.keys.now in let place = c.args.place in let h = c.args.self.now in
+    let noted = h.noted.items in
+    let vs = c.put.new.self.words.items in let puts = c.in_ok-put.ensures.puts in let items = c.in_ok-push-in-None.ensures.items in
+    let none : place_of h.last (get_or keys place 0) ≡ None = sym c.in_ok-put-2.ensures.old ∙ c.in-None.is in
+    record {
+      last = last-next keys place c.requires.next h c.requires.counted (place_of c.put-2.new.self) c.in_ok-put-2.ensures.updates;
+      marked = first-marked keys place c.requires.next h c.requires.counted vs puts none;
+      room = omega (arith, c.requires.counted.room, c.in_ok-put.ensures.size);
+      summed = c.in_ok-put.ensures.tree;
+      long = ap length items ∙ (length_push h.counts.items 0 ∙ first-long keys place c.requires.next h c.requires.counted vs puts none);
+      counted = λ d. ap (λ l. count_at l noted d) items ∙ (ap (λ n. n + count_by (eqb d) noted) (push-zero h.counts.items d) ∙ (c.requires.counted.counted d ∙ first-counted keys place c.requires.next h c.requires.counted vs puts none d));
+    }
 
-pub put-requires-in-Some-clause-few : goal.put-requires-in-Some-clause-few
-put-requires-in-Some-clause-few c =
-    let old = c.args.self.now in
-    still-few c.args.keys.now c.args.place (place_of old.last) (place_of c.put.new.self) old.marks.words.items old.counts
-    c.requires.next c.requires.few c.requires.size c.requires.counted c.in_ok-put.ensures.updates c.in-Some.before (sym c.in_ok-put.ensures.old ∙ c.in-Some.is) c.take.new.self.words.items c.take.ensures.takes
-
-pub overflow_sub-distance : goal.overflow_sub-distance
-overflow_sub-distance c =
-    let old = c.args.self.now in
-    let deep = depth c.args.keys.now c.args.place (place_of old.last) (place_of c.put.new.self) old.marks.words.items old.counts
-    c.requires.next c.requires.few c.requires.size c.requires.counted c.in_ok-put.ensures.updates c.in-Some.before (sym c.in_ok-put.ensures.old ∙ c.in-Some.is) c.below.result c.below.ensures in
-    omega (arith, deep, c.len.ensures)
-
-pub overflow_sub-distance-in-Some : goal.overflow_sub-distance-in-Some
-overflow_sub-distance-in-Some c =
-    let old = c.args.self.now in
-    let deep = depth c.args.keys.now c.args.place (place_of old.last) (place_of c.put.new.self) old.marks.words.items old.counts
-    c.requires.next c.requires.few c.requires.size c.requires.counted c.in_ok-put.ensures.updates c.in-Some.before (sym c.in_ok-put.ensures.old ∙ c.in-Some.is) c.below.result c.below.ensures in
-    omega (arith, deep, c.len.ensures)
-
-pub returns-in_ok-push-in-None-clause-counted : goal.returns-in_ok-push-in-None-clause-counted
-returns-in_ok-push-in-None-clause-counted c =
-    let old = c.args.self.now in
-    let cs = old.counts in
-    rw c.in_ok-push-in-None.ensures
-    (first c.args.keys.now c.args.place (place_of old.last) (place_of c.put.new.self) old.marks.words.items cs
-    c.requires.next c.requires.few c.requires.size c.requires.counted c.in_ok-put.ensures.updates (bit_of c.put-in-None.new.self.words.items) (sym c.in_ok-put.ensures.old ∙ c.in-None.is) c.put-in-None.ensures.puts)
-
-pub add-requires : goal.add-requires
-add-requires c =
-    let old = c.args.self.now in
-    let deep = depth c.args.keys.now c.args.place (place_of old.last) (place_of c.put.new.self) old.marks.words.items old.counts
-    c.requires.next c.requires.few c.requires.size c.requires.counted c.in_ok-put.ensures.updates c.in-Some.before (sym c.in_ok-put.ensures.old ∙ c.in-Some.is) c.below.result c.below.ensures in
-    omega (arith, deep, c.len.ensures)
-
-pub returns-in_ok-add-in-Some-clause-counted : goal.returns-in_ok-add-in-Some-clause-counted
-returns-in_ok-add-in-Some-clause-counted c =
-    let old = c.args.self.now in
-    let cs = old.counts in
-    let l : c.len.result ≡ length cs = omega (arith, c.len.ensures) in
-    let d = length cs - c.below.result - 1 in
-    rw (c.in_ok-add-in-Some.ensures, l)
-    (again c.args.keys.now c.args.place (place_of old.last) (place_of c.put.new.self) old.marks.words.items cs
-    c.requires.next c.requires.few c.requires.size c.requires.counted c.in_ok-put.ensures.updates c.in-Some.before (sym c.in_ok-put.ensures.old ∙ c.in-Some.is) c.below.result (get_or cs d 0 + 1) (bit_of c.put-in-Some.new.self.words.items) c.below.ensures (omega arith)
-    (λ q. c.put-in-Some.ensures.puts q ∙ ap (cond (eqb q c.args.place) true) (c.take.ensures.takes q)))
+pub returns-in_ok-push-in-Some : goal.returns-in_ok-push-in-Some
+returns-in_ok-push-in-Some c =
+    let keys = c.args.keys.now in let place = c.args.place in let h = c.args.self.now in
+    let vs = c.put.new.self.words.items in let puts = c.in_ok-put.ensures.puts in let p = c.in-Some.before in let e = c.len.result - c.below.result - 1 in
+    let at = (goal.at.returns-in_ok-push-in-Some c).In-Some in let some = is-last at in let far = deep at in
+    record {
+      last = last-next keys place c.requires.next h c.requires.counted (place_of c.put-2.new.self) c.in_ok-put-2.ensures.updates;
+      marked = λ q. c.take.ensures.takes q ∙ again-marked keys place c.requires.next h c.requires.counted vs puts p some q;
+      room = omega (arith, c.requires.counted.room, c.in_ok-put.ensures.size, c.take.ensures.size);
+      summed = c.take.ensures.tree ∙ c.in_ok-put.ensures.tree;
+      long = again-long keys place c.requires.next h c.requires.counted vs puts p some;
+      counted = λ d. ap (λ (l : List ℕ). count_at h.counts.items l d) c.in_ok-push-in-Some.ensures.items ∙ (noted-more h.counts.items h.noted.items e d
+          ∙ (ap (λ n. n + cond (eqb d e) 1 0) (c.requires.counted.counted d) ∙ again-counted keys place c.requires.next h c.requires.counted vs puts p some e (omega (arith, far, c.below.ensures, c.len.ensures)) d));
+    }

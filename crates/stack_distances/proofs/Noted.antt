@@ -1,0 +1,55 @@
+-- What was noted, to be counted.
+use Rattle.std.proofs.Common.{◌≡◌, ℕ, suc, ◌+◌, ◌<◌, ◌≤◌, cond, eqb, List, [], ◌∷◌, ◌++◌, length, length-take, take, count_by, get_or, set, ap, ◌∙◌, refl, arith, inl, inr, get_or-set_other}
+use Rattle.std.proofs.lemmas.Bool.{cases_eq, cases_lt, eq-eqb, ne_eqb}
+use Rattle.std.proofs.lemmas.Grind.{get_or-set_at}
+use Rattle.std.proofs.lemmas.List.{get_or_past}
+use Rattle.std.proofs.lemmas.List.Sums.{sum_by_push, count_by-le-length}
+use Rattle.step_record.specs.declared.limits.TheConstants.{MAX_ACCESSES}
+use Rattle.bits_and_lists.specs.Bits.{bit_of}
+use Rattle.trace_index.specs.KeyPlaces.{place_of}
+use Rattle.stack_distances.specs.Distances.{distances}
+use Rattle.stack_distances.specs.Histogram.{count_at, is_at, IsHistogram, IsNoted}
+use Rattle.stack_distances.specs.declared.histogram.Histogram.{Histogram}
+use Rattle.stack_distances.proofs.Histories.{distances-long}
+use Rattle.stack_distances.proofs.Prefix.{none-deeper}
+
+module _ (counts noted : List ℕ) (d : ℕ) where
+  pub noted-more : (q : ℕ) → count_at counts (noted ++ d ∷ []) q ≡ count_at counts noted q + cond (eqb q d) 1 0
+  noted-more q = omega (arith, sum_by_push (λ x. cond {A = ℕ} (eqb q x) 1 0) noted d)
+
+  noted-there : count_at counts (noted ++ d ∷ []) d ≡ count_at counts noted d + 1
+  noted-there = noted-more d ∙ ap (λ b. count_at counts noted d + cond b 1 0) (eq-eqb d d refl)
+
+  -- the last one is counted
+  pub counted-last : d < length counts → (q : ℕ) → count_at (set counts d (get_or counts d 0 + 1)) noted q ≡ count_at counts (noted ++ d ∷ []) q
+  counted-last within q = elim (cases_eq q d) [
+    | inl e ↦ omega (arith, get_or-set_at counts d q (get_or counts d 0 + 1) 0 e within, noted-there, ap (λ n. count_at counts (noted ++ d ∷ []) n) e, ap (λ n. count_by (eqb n) noted) e)
+    | inr n ↦ omega (arith, get_or-set_other counts d q (get_or counts d 0 + 1) 0 n, noted-more q, ap (λ b. cond {A = ℕ} b 1 0) (ne_eqb q d n))
+  ]
+
+  module _ (first-counts first-noted : List ℕ) (may : IsNoted first-counts first-noted) (same : (q : ℕ) → count_at counts (noted ++ d ∷ []) q ≡ count_at first-counts first-noted q) where
+    pub last-within : length counts ≡ length first-counts → d < length counts
+    last-within long = elim (cases_lt d (length counts)) [
+      | inl l ↦ l
+      | inr past ↦ absurd (omega (arith, same d, noted-there, may.within d (omega (arith, past, long)), get_or_past first-counts d 0 (omega (arith, past, long))))
+    ]
+
+    pub last-few : get_or counts d 0 + 1 ≤ MAX_ACCESSES
+    last-few = omega (arith, same d, noted-there, may.few d)
+
+-- what a histogram noted may be counted
+pub may-count : (keys : List ℕ) (place : ℕ) (h : Histogram) → length keys ≤ MAX_ACCESSES → IsHistogram keys place h → IsNoted h.counts.items h.noted.items
+may-count keys place h few c = record {
+  within = λ d past. omega (arith, c.counted d, none-deeper (take place keys) d (omega (arith, past, c.long)));
+  few = λ d. omega (arith, c.counted d, count_by-le-length (is_at (suc d)) (distances (take place keys)), distances-long [] (take place keys), length-take place keys, few);
+}
+
+pub same-histogram : (keys : List ℕ) (place : ℕ) (h g : Histogram) → g.last ≡ h.last → g.marks ≡ h.marks → length g.counts.items ≡ length h.counts.items → ((d : ℕ) → count_at g.counts.items g.noted.items d ≡ count_at h.counts.items h.noted.items d) → IsHistogram keys place h → IsHistogram keys place g
+same-histogram keys place h g last marks len counts c = record {
+  last = λ k. ap (λ l. place_of l k) last ∙ c.last k;
+  marked = λ q. ap (λ m. bit_of m.words.items q) marks ∙ c.marked q;
+  room = rw marks c.room;
+  summed = rw marks c.summed;
+  long = len ∙ c.long;
+  counted = λ d. counts d ∙ c.counted d;
+}
