@@ -3,7 +3,7 @@
 ghost use Rattle.std.specs.Prelude.{◌≡◌, ◌≢◌, ◌<◌, ◌≤◌, ◌+◌, ◌^◌, ℕ, Bool, true, false, IfOk, length, slice_index};
 ghost use Rattle.step_record.specs.declared.item.Item.{Item};
 ghost use Rattle.slot_index.specs.Trees.{Tree, branch, tally, turn, IsSorted, grafted, plucked, lowest, lifted, detached};
-ghost use Rattle.slot_index.specs.Places.{IsWhole, IsFree, IsThere, Replaces};
+ghost use Rattle.slot_index.specs.Places.{IsWhole, IsBare, IsFree, IsThere, Replaces};
 ghost use Rattle.slot_index.specs.Index.{bucket, capacity, IsIndexed, LacksSlot, HasSlot, IsAdded, IsRemoved, CanFind, IsFound};
 ghost use Rattle.slot_index.specs.Walks.{HasTree, HasTreeWithin, IsOnWay};
 
@@ -101,9 +101,6 @@ impl SlotIndex {
             → IsAdded at item item_of item_of2 used used2 → IsIndexed self.new item_of2 used2 }
         ensures bits { self.new.bits ≡ self.old.bits }
     {
-        let left = branch_of(self.bits, at, false);
-        self.links[left] = 0;
-        self.links[left + 1] = 0;
         let bucket = bucket_of(self.bits, item);
         self.graft(bucket, at, item, 0);
     }
@@ -162,6 +159,7 @@ impl SlotIndex {
         ensures detached { (t : Tree) (item_of : ℕ → Item) → IsWhole self.old.links.items (2 ^ self.old.bits) place t
             → IsThere item_of at item depth t
             → Replaces (2 ^ self.old.bits) self.old.links.items self.new.links.items place t (detached depth item at t) }
+        ensures bare { IsBare self.new.links.items (2 ^ self.old.bits) at }
         ensures bits { self.new.bits ≡ self.old.bits }
     {
         let next = self.links[place];
@@ -173,7 +171,8 @@ impl SlotIndex {
         self.detach(below, at, item, depth + 1)
     }
 
-    // Takes the first slot out of the tree at a place: the lowest slot below it comes in its place.
+    // Takes the first slot out of the tree at a place: the lowest slot below it comes in its place. A slot that is out
+    // keeps no branches, so that none has to be cleared where it comes in again.
     #[inline(always)]
     fn lift(&mut self, place: usize, at: u32)
         requires tree { HasTree self.old place 0 }
@@ -181,6 +180,7 @@ impl SlotIndex {
         requires some { 1 ≤ at }
         ensures lifted { (t : Tree) → IsWhole self.old.links.items (2 ^ self.old.bits) place t
             → Replaces (2 ^ self.old.bits) self.old.links.items self.new.links.items place t (lifted t) }
+        ensures bare { IsBare self.new.links.items (2 ^ self.old.bits) at }
         ensures bits { self.new.bits ≡ self.old.bits }
     {
         let lowest = self.pluck(place);
@@ -192,6 +192,8 @@ impl SlotIndex {
         self.links[to] = self.links[from];
         self.links[to + 1] = self.links[from + 1];
         self.links[place] = lowest;
+        self.links[from] = 0;
+        self.links[from + 1] = 0;
     }
 
     // Takes a slot without branches out of the tree at a place, and returns it.
@@ -201,6 +203,7 @@ impl SlotIndex {
         ensures plucked { (t : Tree) → IsWhole self.old.links.items (2 ^ self.old.bits) place t
             → Replaces (2 ^ self.old.bits) self.old.links.items self.new.links.items place t (plucked t) }
         ensures lowest { (t : Tree) → IsWhole self.old.links.items (2 ^ self.old.bits) place t → result ≡ lowest 0 t }
+        ensures bare { IsBare self.new.links.items (2 ^ self.old.bits) result }
         ensures bits { self.new.bits ≡ self.old.bits }
     {
         let at = self.links[place];
