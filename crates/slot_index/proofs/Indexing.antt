@@ -6,9 +6,10 @@ use Rattle.step_record.specs.declared.item.Item.{Item}
 use Rattle.slot_index.specs.declared.index.SlotIndex.{SlotIndex}
 use Rattle.slot_index.specs.Trees.{Tree, leaf, tally, branch, IsTree, IsSorted, grafted, detached}
 use Rattle.slot_index.specs.Places.{IsWhole, IsBare, IsFree, IsThere, Replaces}
-use Rattle.slot_index.specs.Index.{IsMapped, IsIndexed, IsAdded, IsRemoved, IsFound, bucket, capacity}
-use Rattle.slot_index.specs.Walks.{HasTree}
-use Rattle.slot_index.proofs.Trees.{same-slot, same-tree, size-few}
+use Rattle.slot_index.specs.Index.{IsMapped, IsIndexed, IsAdded, IsRemoved, IsFound, IsInBucket, CanFind, bucket, capacity}
+use Rattle.slot_index.specs.Walks.{HasTree, HasTreeWithin}
+use Rattle.slot_index.proofs.Trees.{same-slot, same-tree, size-few, no-slots}
+use Rattle.slot_index.proofs.Walking.{step}
 use Rattle.slot_index.proofs.Sorting.{sorted-same, grafted-tally, grafted-sorted, detached-tally, detached-sorted}
 
 module _ (links : List ℕ) (bits : ℕ) (item_of : ℕ → Item) (used : ℕ → ℕ) (x : IsMapped links bits item_of used) where
@@ -174,6 +175,20 @@ module _ (links : List ℕ) (bits : ℕ) (item_of : ℕ → Item) (used : ℕ �
     missing = λ z k m e. f.missing z k (let h = placed-here b k v (ap (bucket bits) e ∙ sym bk) in omega (arith, h, m)) e;
   }
 
+  -- the first slot of the item's bucket
+  pub first-in-bucket : (b : ℕ) (item : Item) (r : ℕ) → b ≡ bucket bits item → b < 2 ^ bits → r ≡ get_or links b 0 → IsInBucket item bits item_of used r
+  first-in-bucket b item r bk v n = record {
+    there = λ m.
+        let h = (step links (2 ^ bits) b r (branch (2 ^ bits) r true) true (x.trees b) (root-whole b v) n (λ z. omega (arith, m, z)) refl).here in
+        elim (cases_eq (bucket bits (item_of r)) b) [
+          | inl e ↦ ((let p = placed-used b r v in omega (arith, p, h)), e ∙ bk)
+          | inr d ↦ absurd (let z = placed-past b r v d in omega (arith, z, h))
+        ];
+    missing = λ z k m e.
+        let p = placed-here b k v (e ∙ sym bk) in
+        no-slots links (2 ^ bits) b (x.trees b) k (sym n ∙ z) (x.rooted b v) (omega (arith, p, m));
+  }
+
 -- the same map in other words
 pub same-map : (links : List ℕ) (bits : ℕ) (item_of item_of2 : ℕ → Item) (used used2 : ℕ → ℕ) → ((k : ℕ) → item_of2 k ≡ item_of k) → ((k : ℕ) → used2 k ≡ used k) → IsMapped links bits item_of used → IsMapped links bits item_of2 used2
 same-map links bits item_of item_of2 used used2 f g x = record {
@@ -193,6 +208,13 @@ root-has index item_of used x b w =
     let h = root-whole index.links.items index.bits item_of used x b w in
     let f = size-few index.links.items (2 ^ index.bits) b (x.trees b) h.tree h.once in
     record { shown = x.trees b; whole = h; few = omega (arith, f); bits = x.some.1 }
+
+-- and a search
+pub root-within : (index : SlotIndex) (slots : ℕ) → CanFind index slots → (b : ℕ) → b < 2 ^ index.bits → HasTreeWithin index b 0 slots
+root-within index slots q b w = record {
+  has = root-has index q.item_of q.used q.indexed b w;
+  within = λ k m. q.within k (let p = placed-used _ _ q.item_of q.used q.indexed b k w in omega (arith, p, m));
+}
 
 -- empty trees
 pub empty-mapped : (links : List ℕ) (bits : ℕ) (item_of : ℕ → Item) → links ≡ replicate (2 ^ bits + 2 * capacity bits) 0 → (1 ≤ bits) × (bits < 32) → IsMapped links bits item_of (λ k. 0)

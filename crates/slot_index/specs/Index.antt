@@ -72,3 +72,8 @@ pub record CanFind (index : SlotIndex) (slots : ℕ) : Type 0 where
 pub record IsFound (item : Item) (item_of : ℕ → Item) (used : ℕ → ℕ) (at : ℕ) : Type 0 where
   pub there : 1 ≤ at → (1 ≤ used at) × (item_of at ≡ item)
   pub missing : at ≡ 0 → (k : ℕ) → 1 ≤ used k → item_of k ≡ item → ⊥
+
+-- the slot is used, and its item shares the other one's bucket; or the slot is 0, and no used slot's item does
+pub record IsInBucket (item : Item) (bits : ℕ) (item_of : ℕ → Item) (used : ℕ → ℕ) (at : ℕ) : Type 0 where
+  pub there : 1 ≤ at → (1 ≤ used at) × (bucket bits (item_of at) ≡ bucket bits item)
+  pub missing : at ≡ 0 → (k : ℕ) → 1 ≤ used k → bucket bits (item_of k) ≡ bucket bits item → ⊥

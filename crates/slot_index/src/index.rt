@@ -4,7 +4,7 @@ ghost use Rattle.std.specs.Prelude.{◌≡◌, ◌≢◌, ◌<◌, ◌≤◌, �
 ghost use Rattle.step_record.specs.declared.item.Item.{Item};
 ghost use Rattle.slot_index.specs.Trees.{Tree, branch, tally, turn, IsSorted, grafted, plucked, lowest, lifted, detached};
 ghost use Rattle.slot_index.specs.Places.{IsWhole, IsBare, IsFree, IsThere, Replaces};
-ghost use Rattle.slot_index.specs.Index.{bucket, capacity, IsIndexed, LacksSlot, HasSlot, IsAdded, IsRemoved, CanFind, IsFound};
+ghost use Rattle.slot_index.specs.Index.{bucket, capacity, IsIndexed, LacksSlot, HasSlot, IsAdded, IsRemoved, CanFind, IsFound, IsInBucket};
 ghost use Rattle.slot_index.specs.Walks.{HasTree, HasTreeWithin, IsOnWay};
 
 use std::alloc::{AllocError, Global};
@@ -68,7 +68,8 @@ impl SlotIndex {
         self.bits
     }
 
-    /// The slot that holds the item, 0 where none does.
+    /// The slot that holds the item, 0 where none does. Most buckets have one slot at most, which is looked at before
+    /// there is a way to go.
     #[inline(always)]
     pub fn find<I: SlotItems>(&self, items: &I, item: Item) -> u32
         requires { CanFind self.now (I.len items.now) }
@@ -76,12 +77,23 @@ impl SlotIndex {
             → IsFound item (I.item_at items.now) used result }
     {
         let bucket = bucket_of(self.bits, item);
-        self.find_below(items, bucket, item, 0)
+        let at = self.links[bucket];
+        if at == 0 {
+            return 0;
+        }
+        if is_same(&items.item(at), &item) {
+            return at;
+        }
+        let below = branch_of(self.bits, at, turns_right(item, 0));
+        self.find_below(items, below, item, 1)
     }
 
     /// The first slot of the item's bucket, 0 where there is none: what a search reads first. A prefetch reads it.
     #[inline(always)]
-    pub fn first_slot(&self, item: Item) -> u32 {
+    pub fn first_slot(&self, item: Item) -> u32
+        ensures { (item_of : ℕ → Item) (used : ℕ → ℕ) → IsIndexed self.now item_of used
+            → IsInBucket item self.now.bits item_of used result }
+    {
         if self.bits < 1 || self.bits > 31 {
             return 0;
         }
@@ -102,7 +114,13 @@ impl SlotIndex {
         ensures bits { self.new.bits ≡ self.old.bits }
     {
         let bucket = bucket_of(self.bits, item);
-        self.graft(bucket, at, item, 0);
+        let next = self.links[bucket];
+        if next == 0 {
+            self.links[bucket] = at;
+            return;
+        }
+        let below = branch_of(self.bits, next, turns_right(item, 0));
+        self.graft(below, at, item, 1);
     }
 
     /// Forgets a slot that it knows; the item is that of the slot.
