@@ -1,5 +1,5 @@
 -- What holds of a table while one of its calls works on the slots.
-use Rattle.std.proofs.Common.{◌≡◌, ℕ, ◌<◌, ◌≤◌, ◌+◌, ◌^◌, List, [], ◌∷◌, ◌++◌, length, length-append, sym, subst, arith, refl}
+use Rattle.std.proofs.Common.{◌≡◌, ℕ, ◌<◌, ◌≤◌, ◌+◌, ◌^◌, List, [], ◌∷◌, ◌++◌, get_or, length, length-append, sym, subst, arith, refl}
 use Rattle.step_record.specs.declared.item.Item.{Item}
 use Rattle.slot_index.specs.declared.index.SlotIndex.{SlotIndex}
 use Rattle.segments.specs.declared.records.Queue.{Queue}
@@ -7,13 +7,14 @@ use Rattle.segments.specs.declared.records.Queue.TheVariants.{Window, Probation,
 use Rattle.segments.specs.declared.lengths.Lengths.{Lengths}
 use Rattle.segments.specs.declared.slot.Slot.{Slot}
 use Rattle.segments.specs.Queues.{IsDistinct}
-use Rattle.segments.specs.Ring.{count, used, Order, ring, order_of, lists, IsQueued}
-use Rattle.slot_index.specs.Index.{capacity}
+use Rattle.segments.specs.Ring.{items, slot_item, count, used, Order, ring, order_of, lists, IsQueued}
+use Rattle.slot_index.specs.Index.{capacity, HasSlot}
 use Rattle.segments.specs.SlotTable.{IsLoaded, spare_in, lengths_of, raised, lowered, IsInSlots, IsKept}
 use Rattle.segments.proofs.Growing.{still_loaded}
 use Rattle.segments.proofs.Finding.{slots-length}
 use Rattle.segments.proofs.Holding.{used-real, used-within}
 use Rattle.segments.proofs.Calls.{some-slots}
+use Rattle.segments.proofs.SlotWrites.{no_slot, field_at}
 
 pub some-used : (slots : List Slot) (k : ℕ) → 1 ≤ count k (used (order_of slots)) → 0 < length slots
 some-used [] k n = absurd (omega (arith, n))
@@ -75,3 +76,13 @@ used-slot slots k h u =
     let w = used-within slots (order_of slots) h k u in
     let l = slots-length slots in
     (r, omega (arith, w, l))
+
+-- and the index knows it, with its item
+pub known : (slots : List Slot) (index : SlotIndex) (k : ℕ) → IsInSlots slots index (order_of slots) → 1 ≤ count k (used (order_of slots)) → HasSlot k (get_or slots k no_slot).item index
+known slots index k h u = record {
+  item_of = slot_item (items slots);
+  used = λ j. count j (used (order_of slots));
+  indexed = h.indexed;
+  there = u;
+  its = field_at (λ (s : Slot). s.item) slots k no_slot;
+}

@@ -19,7 +19,7 @@ pub struct Segments {
     alloc: Global,
     table: SlotTable,
     /// A sum over what `prefetch` read, kept so that the compiler cannot drop the reads.
-    prefetched: u32,
+    prefetched: u64,
 }
 
 impl Model for Segments {
@@ -70,7 +70,7 @@ impl Segments {
     pub fn prefetch(&mut self, keys: &[Key], node: Node)
         ensures { self.new ≡ self.old }
     {
-        self.prefetched ^= self.table.touch(keys, node);
+        self.prefetched ^= self.table.prefetch(keys, node);
     }
 
     /// Makes room for at least one more item; where there is room, it allocates nothing and returns Ok. The one error

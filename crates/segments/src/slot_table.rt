@@ -68,14 +68,15 @@ impl SlotTable {
         }
     }
 
-    /// Reads what a search for each of these keys with this node reads first.
+    /// Reads what a search for each of these keys with this node reads first: of a slot both the item and a link, since
+    /// it may lie in two lines of the processor's cache.
     #[inline(always)]
-    pub(crate) fn touch(&self, keys: &[Key], node: Node) -> u32 {
+    pub(crate) fn prefetch(&self, keys: &[Key], node: Node) -> u64 {
         let mut read = 0;
         for key in keys {
             let at = self.index.first_slot(Item { key: *key, node }) as usize;
             if at < self.slots.len() {
-                read ^= self.slots[at].newer;
+                read ^= self.slots[at].item.key ^ self.slots[at].newer as u64;
             }
         }
         read

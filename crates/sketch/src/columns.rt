@@ -21,7 +21,7 @@ pub fn column(spread: Spread, key: Key, row: u32, width: u32) -> u32
     if width.is_power_of_two() {
         masked(spread, key, row, width)
     } else {
-        divided(spread, key, row, width)
+        column_by_division(spread, key, row, width)
     }
 }
 
@@ -75,7 +75,7 @@ fn masked(spread: Spread, key: Key, row: u32, width: u32) -> u32
 
 // The column by division, of any width.
 #[cold]
-fn divided(spread: Spread, key: Key, row: u32, width: u32) -> u32
+fn column_by_division(spread: Spread, key: Key, row: u32, width: u32) -> u32
     requires row { row < 7 }
     requires some { 1 ≤ width }
     requires few { width ≤ 2 ^ 23 }

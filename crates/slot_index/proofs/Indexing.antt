@@ -1,14 +1,15 @@
 -- The index after a slot came or went.
-use Rattle.std.proofs.Common.{◌≡◌, ℕ, suc, zero, ◌+◌, ◌*◌, ◌^◌, ◌<◌, ◌≤◌, Bool, true, false, cond, eqb, List, replicate, length, get_or, set, ap, ◌∙◌, sym, refl, arith, inl, inr, get_or-set_same, get_or-set_other, length-set}
+use Rattle.std.proofs.Common.{◌≡◌, ℕ, suc, zero, ◌+◌, ◌*◌, ◌^◌, ◌<◌, ◌≤◌, true, false, cond, eqb, List, replicate, get_or, ap, ◌∙◌, sym, refl, arith, inl, inr}
 use Rattle.std.proofs.Math.ListN.{length-replicate}
 use Rattle.std.proofs.lemmas.Bool.{eq-eqb, ne_eqb, cases_Bool, cases_eq}
 use Rattle.step_record.specs.declared.item.Item.{Item}
 use Rattle.slot_index.specs.declared.index.SlotIndex.{SlotIndex}
 use Rattle.slot_index.specs.Trees.{Tree, leaf, tally, branch, IsTree, IsSorted, grafted, detached}
-use Rattle.slot_index.specs.Places.{IsWhole, IsFree, IsThere, Replaces}
-use Rattle.slot_index.specs.Index.{IsMapped, IsIndexed, IsAdded, IsRemoved, IsFound, bucket, capacity}
-use Rattle.slot_index.specs.Walks.{HasTree}
-use Rattle.slot_index.proofs.Trees.{same-slot, same-tree, size-few}
+use Rattle.slot_index.specs.Places.{IsWhole, IsBare, IsFree, IsThere, Replaces}
+use Rattle.slot_index.specs.Index.{IsMapped, IsIndexed, IsAdded, IsRemoved, IsFound, IsInBucket, CanFind, bucket, capacity}
+use Rattle.slot_index.specs.Walks.{HasTree, HasTreeWithin}
+use Rattle.slot_index.proofs.Trees.{same-slot, same-tree, size-few, no-slots}
+use Rattle.slot_index.proofs.Walking.{step}
 use Rattle.slot_index.proofs.Sorting.{sorted-same, grafted-tally, grafted-sorted, detached-tally, detached-sorted}
 
 module _ (links : List ℕ) (bits : ℕ) (item_of : ℕ → Item) (used : ℕ → ℕ) (x : IsMapped links bits item_of used) where
@@ -45,39 +46,13 @@ module _ (links : List ℕ) (bits : ℕ) (item_of : ℕ → Item) (used : ℕ �
     within = (let s = x.size in omega (arith, s, w));
   }
 
-  -- the branches of a slot that is not in use do not matter
-  pub bared : (at left : ℕ) → left ≡ branch (2 ^ bits) at false → used at ≡ 0 → IsMapped (set (set links left 0) (left + 1) 0) bits item_of used
-  bared at left e z =
-      let stays : (q : ℕ) → ((side : Bool) → q ≡ branch (2 ^ bits) at side → ⊥) → get_or (set (set links left 0) (left + 1) 0) q 0 ≡ get_or links q 0 =
-      λ q f. get_or-set_other (set links left 0) (left + 1) q 0 0 (λ d. f true (omega (arith, d, e))) ∙ get_or-set_other links left q 0 0 (λ d. f false (d ∙ e)) in
-      let long : length (set (set links left 0) (left + 1) 0) ≡ length links = length-set (set links left 0) (left + 1) 0 ∙ length-set links left 0 in
-      record {
-        size = long ∙ x.size;
-        some = x.some;
-        trees = x.trees;
-        rooted = λ b w. same-tree links (set (set links left 0) (left + 1) 0) (2 ^ bits) b b (x.trees b) long (stays b (λ side d. omega (arith, w, d)))
-            (λ k side m. stays (branch (2 ^ bits) k side) (λ other d. let s = same-slot (2 ^ bits) k at side other d in let a = ap used s in let p = placed-used b k w in omega (arith, a, z, p, m)))
-            (x.rooted b w);
-        placed = x.placed;
-        sorted = x.sorted;
-        once = x.once;
-      }
-
-  pub free : (at left b : ℕ) (e : left ≡ branch (2 ^ bits) at false) (z : used at ≡ 0) → at < capacity bits → b < 2 ^ bits → (t : Tree) → tally at t ≤ used at → IsFree (set (set links left 0) (left + 1) 0) (2 ^ bits) b at t
-  free at left b e z room v t few = record {
-    fresh = omega (arith, few, z);
-    bare = zero_at;
+  -- a slot that is not in use can be put into the tree of a bucket
+  pub free : (at b : ℕ) → used at ≡ 0 → b < 2 ^ bits → IsFree links (2 ^ bits) b at (x.trees b)
+  free at b z v = record {
+    fresh = (let p = placed-used b at v in omega (arith, p, z));
+    bare = x.bare at z;
     apart = λ side q. omega (arith, v, q);
   }
-    where
-      up : left + 1 ≡ branch (2 ^ bits) at true
-      up = omega (arith, e)
-
-      zero_at : (side : Bool) → get_or (set (set links left 0) (left + 1) 0) (branch (2 ^ bits) at side) 0 ≡ 0
-      zero_at true = ap (λ q. get_or (set (set links left 0) (left + 1) 0) q 0) (sym up) ∙ get_or-set_same (set links left 0) (left + 1) 0 0 (let s = x.size in let l = length-set links left 0 in omega (arith, s, l, e, room))
-      zero_at false =
-          ap (λ q. get_or (set (set links left 0) (left + 1) 0) q 0) (sym e)
-          ∙ (get_or-set_other (set links left 0) (left + 1) left 0 0 (λ q. omega (arith, q)) ∙ get_or-set_same links left 0 0 (let s = x.size in omega (arith, s, e, room)))
 
   -- another tree in one bucket
   module _ (links2 : List ℕ) (b : ℕ) (t2 : Tree) (v : b < 2 ^ bits) (p : Replaces (2 ^ bits) links links2 b (x.trees b) t2) where
@@ -90,13 +65,20 @@ module _ (links : List ℕ) (bits : ℕ) (item_of : ℕ → Item) (used : ℕ �
           (x.rooted c u))
     ]
 
+    -- a slot that is not in use has no branches still
+    bared : (k : ℕ) → used k ≡ 0 → IsBare links2 (2 ^ bits) k
+    bared k z side =
+        p.others (branch (2 ^ bits) k side) (λ q. omega (arith, v, q))
+        (λ j other n q. let s = same-slot (2 ^ bits) k j side other q in let a = ap used s in let m = placed-used b j v in omega (arith, a, z, n, m))
+        ∙ x.bare k z side
+
     -- the slot k is in this tree as often as it is in use, and in no other, and nothing else has changed
     changed : (item_of2 : ℕ → Item) (used2 : ℕ → ℕ) (k : ℕ) → bucket bits (item_of2 k) ≡ b →
         ((j : ℕ) → (j ≡ k → ⊥) → item_of2 j ≡ item_of j) → ((j : ℕ) → (j ≡ k → ⊥) → used2 j ≡ used j) →
         ((j : ℕ) → (j ≡ k → ⊥) → tally j t2 ≡ tally j (x.trees b)) → tally k t2 ≡ used2 k → used2 k ≤ 1 →
         ((c : ℕ) → c < 2 ^ bits → (c ≡ b → ⊥) → tally k (x.trees c) ≡ 0) → IsSorted item_of2 0 t2 →
-        IsMapped links2 bits item_of2 used2
-    changed item_of2 used2 k bk others uses tallies here few past st = record {
+        (used2 k ≡ 0 → IsBare links2 (2 ^ bits) k) → IsMapped links2 bits item_of2 used2
+    changed item_of2 used2 k bk others uses tallies here few past st own = record {
       size = p.size ∙ x.size;
       some = x.some;
       trees = λ c. cond (eqb c b) t2 (x.trees c);
@@ -131,6 +113,10 @@ module _ (links : List ℕ) (bits : ℕ) (item_of : ℕ → Item) (used : ℕ �
         | inl s ↦ rw s few
         | inr d ↦ let m = uses j d in let o = x.once j in omega (arith, m, o)
       ];
+      bare = λ j z. elim (cases_eq j k) [
+        | inl s ↦ rw s (own (ap used2 (sym s) ∙ z))
+        | inr d ↦ bared j (sym (uses j d) ∙ z)
+      ];
     }
 
   -- a slot comes
@@ -152,6 +138,7 @@ module _ (links : List ℕ) (bits : ℕ) (item_of : ℕ → Item) (used : ℕ �
         (omega (arith, more, absent))
         (λ c u d. let pc = placed-used c at u in omega (arith, pc, absent))
         (grafted-sorted item_of2 0 item at (x.trees b) j.its st)
+        (λ z. absurd (omega (arith, z, more)))
 
   -- a slot goes
   module _ (at : ℕ) (item : Item) (used2 : ℕ → ℕ) (j : IsRemoved at item item_of used used2) (b : ℕ) (bk : b ≡ bucket bits item) (v : b < 2 ^ bits) where
@@ -165,8 +152,8 @@ module _ (links : List ℕ) (bits : ℕ) (item_of : ℕ → Item) (used : ℕ �
       sorted = x.sorted b v;
     }
 
-    pub removed : (links2 : List ℕ) → Replaces (2 ^ bits) links links2 b (x.trees b) (detached 0 item at (x.trees b)) → IsMapped links2 bits item_of used2
-    removed links2 p =
+    pub removed : (links2 : List ℕ) → Replaces (2 ^ bits) links links2 b (x.trees b) (detached 0 item at (x.trees b)) → IsBare links2 (2 ^ bits) at → IsMapped links2 bits item_of used2
+    removed links2 p bare =
         let aa : eqb at at ≡ true = eq-eqb at at refl in
         let m : used2 at ≡ 0 = j.counted at ∙ (rw aa refl) in
         let dt = detached-tally item_of 0 item at at (x.trees b) (x.sorted b v) j.its stands.stands in
@@ -179,12 +166,27 @@ module _ (links : List ℕ) (bits : ℕ) (item_of : ℕ → Item) (used : ℕ �
         (omega (arith, m))
         (λ c u d. placed-past c at u (λ z. d (sym z ∙ here)))
         (detached-sorted item_of 0 item at (x.trees b) (x.sorted b v) j.its stands.stands)
+        (λ z. bare)
 
   -- what is found in the tree of the item's bucket
   pub found-root : (b : ℕ) (item : Item) (r : ℕ) → b ≡ bucket bits item → (v : b < 2 ^ bits) → IsFound item item_of (λ k. tally k (x.trees b)) r → IsFound item item_of used r
   found-root b item r bk v f = record {
     there = λ n. (let t = f.there n in ((let m = t.0 in let p = placed-used b r v in omega (arith, m, p)), t.1));
     missing = λ z k m e. f.missing z k (let h = placed-here b k v (ap (bucket bits) e ∙ sym bk) in omega (arith, h, m)) e;
+  }
+
+  -- the first slot of the item's bucket
+  pub first-in-bucket : (b : ℕ) (item : Item) (r : ℕ) → b ≡ bucket bits item → b < 2 ^ bits → r ≡ get_or links b 0 → IsInBucket item bits item_of used r
+  first-in-bucket b item r bk v n = record {
+    there = λ m.
+        let h = (step links (2 ^ bits) b r (branch (2 ^ bits) r true) true (x.trees b) (root-whole b v) n (λ z. omega (arith, m, z)) refl).here in
+        elim (cases_eq (bucket bits (item_of r)) b) [
+          | inl e ↦ ((let p = placed-used b r v in omega (arith, p, h)), e ∙ bk)
+          | inr d ↦ absurd (let z = placed-past b r v d in omega (arith, z, h))
+        ];
+    missing = λ z k m e.
+        let p = placed-here b k v (e ∙ sym bk) in
+        no-slots links (2 ^ bits) b (x.trees b) k (sym n ∙ z) (x.rooted b v) (omega (arith, p, m));
   }
 
 -- the same map in other words
@@ -197,6 +199,7 @@ same-map links bits item_of item_of2 used used2 f g x = record {
   placed = λ b k w. x.placed b k w ∙ (ap (λ i. cond (eqb (bucket bits i) b) (used k) 0) (sym (f k)) ∙ ap (λ n. cond (eqb (bucket bits (item_of2 k)) b) n 0) (sym (g k)));
   sorted = λ b w. sorted-same item_of item_of2 0 (x.trees b) (λ k m. f k) (x.sorted b w);
   once = λ k. (let o = x.once k in let e = g k in omega (arith, o, e));
+  bare = λ k z. x.bare k (sym (g k) ∙ z);
 }
 
 -- what the walks begin with
@@ -205,6 +208,13 @@ root-has index item_of used x b w =
     let h = root-whole index.links.items index.bits item_of used x b w in
     let f = size-few index.links.items (2 ^ index.bits) b (x.trees b) h.tree h.once in
     record { shown = x.trees b; whole = h; few = omega (arith, f); bits = x.some.1 }
+
+-- and a search
+pub root-within : (index : SlotIndex) (slots : ℕ) → CanFind index slots → (b : ℕ) → b < 2 ^ index.bits → HasTreeWithin index b 0 slots
+root-within index slots q b w = record {
+  has = root-has index q.item_of q.used q.indexed b w;
+  within = λ k m. q.within k (let p = placed-used _ _ q.item_of q.used q.indexed b k w in omega (arith, p, m));
+}
 
 -- empty trees
 pub empty-mapped : (links : List ℕ) (bits : ℕ) (item_of : ℕ → Item) → links ≡ replicate (2 ^ bits + 2 * capacity bits) 0 → (1 ≤ bits) × (bits < 32) → IsMapped links bits item_of (λ k. 0)
@@ -216,6 +226,7 @@ empty-mapped links bits item_of e s = rw e record {
   placed = λ b k w. elim (cases_Bool (eqb (bucket bits (item_of k)) b)) as (λ _. ◌≡◌ {A = ℕ} 0 (cond (eqb (bucket bits (item_of k)) b) 0 0)) [ inl y ↦ rw y refl | inr y ↦ rw y refl ];
   sorted = λ b w. tt;
   once = λ k. omega arith;
+  bare = λ k z side. none (2 ^ bits + 2 * capacity bits) (branch (2 ^ bits) k side);
 }
   where
     none : (n b : ℕ) → ◌≡◌ {A = ℕ} (get_or (replicate n 0) b 0) 0

@@ -4,7 +4,7 @@ use Rattle.std.proofs.lemmas.Bool.{eq-eqb}
 use Rattle.slot_index.specs.Trees.{Tree, leaf, fork, tally, branch, lowest, plucked, lifted}
 use Rattle.slot_index.specs.Places.{IsWhole, Replaces}
 use Rattle.slot_index.proofs.Trees.{tally-here, members, same-slot, same-tree}
-use Rattle.slot_index.proofs.Sorting.{plucked-tally}
+use Rattle.slot_index.proofs.Sorting.{plucked-tally, lifted-tally}
 
 -- the lowest slot has branches
 pub lowest-real : (links : List ℕ) (roots place at last : ℕ) (t : Tree) → IsWhole links roots place t → get_or links place 0 ≡ at → 1 ≤ at → last ≡ lowest 0 t → (1 ≤ last) × (branch roots last true < length links)
@@ -130,3 +130,35 @@ lift-more roots links links1 place at last (fork i (fork j a b) r) w e s n z p =
 lift-more roots links links1 place at last (fork i leaf (fork j a b)) w e s n z p =
     let is : at ≡ i = sym e ∙ w.tree.0 in
     rw (z, is) (lift-put roots links links1 place i (lowest 0 (fork i leaf (fork j a b))) leaf (fork j a b) leaf (plucked (fork j a b)) w p (λ k. plucked-tally k i leaf (fork j a b)) (λ q. n (z ∙ (q ∙ sym is))))
+
+-- the branches of a slot that went out cleared
+module _ (roots : ℕ) (links : List ℕ) (at left : ℕ) (e : left ≡ branch roots at false) where
+  abbrev pub links_cleared : List ℕ
+  links_cleared = set (set links left 0) (left + 1) 0
+
+  kept : (q : ℕ) → ((side : Bool) → q ≡ branch roots at side → ⊥) → get_or links_cleared q 0 ≡ get_or links q 0
+  kept q f =
+      get_or-set_other (set links left 0) (left + 1) q 0 0 (λ d. f true (omega (arith, d, e)))
+      ∙ get_or-set_other links left q 0 0 (λ d. f false (d ∙ e))
+
+  long : length links_cleared ≡ length links
+  long = length-set (set links left 0) (left + 1) 0 ∙ length-set links left 0
+
+  pub cleared-replaces : (links0 : List ℕ) (place : ℕ) (t t2 : Tree) → IsWhole links0 roots place t → 1 ≤ tally at t → tally at t2 ≡ 0 → Replaces roots links0 links place t t2 → Replaces roots links0 links_cleared place t t2
+  cleared-replaces links0 place t t2 w there gone p = record {
+    tree = same-tree links links_cleared roots place place t2 long (kept place (λ side d. w.outside at side there d))
+        (λ k side m. kept (branch roots k side) (λ other d. let s = same-slot roots k at side other d in let a = ap (λ j. tally j t2) s in omega (arith, a, m, gone))) p.tree;
+    others = λ q d o. kept q (λ side f. o at side there f) ∙ p.others q d o;
+    size = long ∙ p.size;
+  }
+
+-- the first slot of a tree stands in it, and not in what is left without it
+pub first-gone : (links : List ℕ) (roots place at : ℕ) (t : Tree) → IsWhole links roots place t → get_or links place 0 ≡ at → 1 ≤ at → (1 ≤ tally at t) × (tally at (lifted t) ≡ 0)
+first-gone links roots place at leaf w e s = absurd (let x = w.tree in omega (arith, x, e, s))
+first-gone links roots place at (fork i l r) w e s =
+    let is : at ≡ i = sym e ∙ w.tree.0 in
+    let one : ◌≡◌ {A = ℕ} (cond (eqb i i) 1 0) 1 = ap (λ b. cond b 1 0) (eq-eqb i i refl) in
+    let here = tally-here i l r in
+    let less = lifted-tally i i l r in
+    let o = w.once i in
+    subst (λ k. (1 ≤ tally k (fork i l r)) × (tally k (lifted (fork i l r)) ≡ 0)) (sym is) (omega (arith, here), omega (arith, one, less, o))

@@ -28,6 +28,11 @@ members links roots place (fork i l r) k x m =
           ])
     ]
 
+-- where the link is none, so is the tree
+pub no-slots : (links : List ℕ) (roots place : ℕ) (t : Tree) (k : ℕ) → get_or links place 0 ≡ 0 → IsTree links roots place t → 1 ≤ tally k t → ⊥
+no-slots links roots place leaf k z x m = omega (arith, m)
+no-slots links roots place (fork i l r) k z x m = let a = x.0 in let b = x.1 in omega (arith, a, b, z)
+
 -- a tree in which no slot stands twice has no more slots than there are numbers below a bound of theirs
 
 abbrev sum : (ℕ → ℕ) → ℕ → ℕ

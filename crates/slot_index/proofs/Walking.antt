@@ -43,6 +43,11 @@ step links roots place next below false (fork i l r) w n z b =
       room = w.tree.2;
     }
 
+-- the links have both branches of the first slot
+pub top-room : (index : SlotIndex) (place at : ℕ) → HasTree index place 0 → get_or index.links.items place 0 ≡ at → 1 ≤ at → branch (2 ^ index.bits) at true < length index.links.items
+top-room index place at h n s =
+    (step index.links.items (2 ^ index.bits) place at (branch (2 ^ index.bits) at false) false h.shown h.whole (sym n) (λ z. omega (arith, z, s)) refl).room
+
 module _ (index : SlotIndex) (place depth next below : ℕ) (side : Bool) (n : next ≡ get_or index.links.items place 0) (b : below ≡ branch (2 ^ index.bits) next side) where
   abbrev pub has-below : HasTree index place depth → (next ≡ 0 → ⊥) → HasTree index below (depth + 1)
   has-below h z =

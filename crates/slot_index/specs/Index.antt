@@ -3,6 +3,7 @@ use Rattle.std.specs.Prelude.{◌≡◌, ℕ, ◌+◌, ◌-◌, ◌*◌, ◌/◌
 use Rattle.step_record.specs.declared.item.Item.{Item}
 use Rattle.slot_index.specs.declared.index.SlotIndex.{SlotIndex}
 use Rattle.slot_index.specs.Trees.{Tree, tally, IsTree, IsSorted}
+use Rattle.slot_index.specs.Places.{IsBare}
 
 -- a key and a node spread over the upper bits of one product by a number near 2^64 over the golden ratio (Knuth's
 -- multiplicative hashing)
@@ -16,7 +17,8 @@ bucket bits i = hash i / 2 ^ (64 - bits)
 abbrev pub capacity : ℕ → ℕ
 capacity bits = 2 ^ bits / 2 + 2
 
--- each slot stands in the tree of its item's bucket as often as it is used, and in no other
+-- each slot stands in the tree of its item's bucket as often as it is used, and in no other; one that is not used has no
+-- branches
 pub record IsMapped (links : List ℕ) (bits : ℕ) (item_of : ℕ → Item) (used : ℕ → ℕ) : Type 0 where
   pub size : length links ≡ 2 ^ bits + 2 * capacity bits
   pub some : (1 ≤ bits) × (bits < 32)
@@ -25,6 +27,7 @@ pub record IsMapped (links : List ℕ) (bits : ℕ) (item_of : ℕ → Item) (us
   pub placed : (b k : ℕ) → b < 2 ^ bits → tally k (trees b) ≡ cond (eqb (bucket bits (item_of k)) b) (used k) 0
   pub sorted : (b : ℕ) → b < 2 ^ bits → IsSorted item_of 0 (trees b)
   pub once : (k : ℕ) → used k ≤ 1
+  pub bare : (k : ℕ) → used k ≡ 0 → IsBare links (2 ^ bits) k
 
 -- the index knows the used slots, with their items
 abbrev pub IsIndexed : SlotIndex → (ℕ → Item) → (ℕ → ℕ) → Type 0
@@ -69,3 +72,8 @@ pub record CanFind (index : SlotIndex) (slots : ℕ) : Type 0 where
 pub record IsFound (item : Item) (item_of : ℕ → Item) (used : ℕ → ℕ) (at : ℕ) : Type 0 where
   pub there : 1 ≤ at → (1 ≤ used at) × (item_of at ≡ item)
   pub missing : at ≡ 0 → (k : ℕ) → 1 ≤ used k → item_of k ≡ item → ⊥
+
+-- the slot is used, and its item shares the other one's bucket; or the slot is 0, and no used slot's item does
+pub record IsInBucket (item : Item) (bits : ℕ) (item_of : ℕ → Item) (used : ℕ → ℕ) (at : ℕ) : Type 0 where
+  pub there : 1 ≤ at → (1 ≤ used at) × (bucket bits (item_of at) ≡ bucket bits item)
+  pub missing : at ≡ 0 → (k : ℕ) → 1 ≤ used k → bucket bits (item_of k) ≡ bucket bits item → ⊥

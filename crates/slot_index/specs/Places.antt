@@ -14,10 +14,14 @@ pub record IsWhole (links : List ℕ) (roots place : ℕ) (t : Tree) : Type 0 wh
   pub outside : IsOutside roots place t
   pub within : place < length links
 
+-- the slot has no branches
+abbrev pub IsBare : List ℕ → ℕ → ℕ → Type 0
+IsBare links roots at = (side : Bool) → slice_index links (branch roots at side) ≡ 0
+
 -- the slot has no branches and is not in the tree
 pub record IsFree (links : List ℕ) (roots place at : ℕ) (t : Tree) : Type 0 where
   pub fresh : tally at t ≡ 0
-  pub bare : (side : Bool) → slice_index links (branch roots at side) ≡ 0
+  pub bare : IsBare links roots at
   pub apart : (side : Bool) → place ≡ branch roots at side → ⊥
 
 -- the slot stands in the tree, on its item's way

@@ -3,8 +3,8 @@
 ghost use Rattle.std.specs.Prelude.{◌≡◌, ◌≢◌, ◌<◌, ◌≤◌, ◌+◌, ◌^◌, ℕ, Bool, true, false, IfOk, length, slice_index};
 ghost use Rattle.step_record.specs.declared.item.Item.{Item};
 ghost use Rattle.slot_index.specs.Trees.{Tree, branch, tally, turn, IsSorted, grafted, plucked, lowest, lifted, detached};
-ghost use Rattle.slot_index.specs.Places.{IsWhole, IsFree, IsThere, Replaces};
-ghost use Rattle.slot_index.specs.Index.{bucket, capacity, IsIndexed, LacksSlot, HasSlot, IsAdded, IsRemoved, CanFind, IsFound};
+ghost use Rattle.slot_index.specs.Places.{IsWhole, IsBare, IsFree, IsThere, Replaces};
+ghost use Rattle.slot_index.specs.Index.{bucket, capacity, IsIndexed, LacksSlot, HasSlot, IsAdded, IsRemoved, CanFind, IsFound, IsInBucket};
 ghost use Rattle.slot_index.specs.Walks.{HasTree, HasTreeWithin, IsOnWay};
 
 use std::alloc::{AllocError, Global};
@@ -68,7 +68,8 @@ impl SlotIndex {
         self.bits
     }
 
-    /// The slot that holds the item, 0 where none does.
+    /// The slot that holds the item, 0 where none does. Most buckets have one slot at most, which is looked at before
+    /// there is a way to go.
     #[inline(always)]
     pub fn find<I: SlotItems>(&self, items: &I, item: Item) -> u32
         requires { CanFind self.now (I.len items.now) }
@@ -76,12 +77,23 @@ impl SlotIndex {
             → IsFound item (I.item_at items.now) used result }
     {
         let bucket = bucket_of(self.bits, item);
-        self.find_below(items, bucket, item, 0)
+        let at = self.links[bucket];
+        if at == 0 {
+            return 0;
+        }
+        if is_same(&items.item(at), &item) {
+            return at;
+        }
+        let below = branch_of(self.bits, at, turns_right(item, 0));
+        self.find_below(items, below, item, 1)
     }
 
     /// The first slot of the item's bucket, 0 where there is none: what a search reads first. A prefetch reads it.
     #[inline(always)]
-    pub fn first_slot(&self, item: Item) -> u32 {
+    pub fn first_slot(&self, item: Item) -> u32
+        ensures { (item_of : ℕ → Item) (used : ℕ → ℕ) → IsIndexed self.now item_of used
+            → IsInBucket item self.now.bits item_of used result }
+    {
         if self.bits < 1 || self.bits > 31 {
             return 0;
         }
@@ -101,11 +113,14 @@ impl SlotIndex {
             → IsAdded at item item_of item_of2 used used2 → IsIndexed self.new item_of2 used2 }
         ensures bits { self.new.bits ≡ self.old.bits }
     {
-        let left = branch_of(self.bits, at, false);
-        self.links[left] = 0;
-        self.links[left + 1] = 0;
         let bucket = bucket_of(self.bits, item);
-        self.graft(bucket, at, item, 0);
+        let next = self.links[bucket];
+        if next == 0 {
+            self.links[bucket] = at;
+            return;
+        }
+        let below = branch_of(self.bits, next, turns_right(item, 0));
+        self.graft(below, at, item, 1);
     }
 
     /// Forgets a slot that it knows; the item is that of the slot.
@@ -162,6 +177,7 @@ impl SlotIndex {
         ensures detached { (t : Tree) (item_of : ℕ → Item) → IsWhole self.old.links.items (2 ^ self.old.bits) place t
             → IsThere item_of at item depth t
             → Replaces (2 ^ self.old.bits) self.old.links.items self.new.links.items place t (detached depth item at t) }
+        ensures bare { IsBare self.new.links.items (2 ^ self.old.bits) at }
         ensures bits { self.new.bits ≡ self.old.bits }
     {
         let next = self.links[place];
@@ -173,7 +189,8 @@ impl SlotIndex {
         self.detach(below, at, item, depth + 1)
     }
 
-    // Takes the first slot out of the tree at a place: the lowest slot below it comes in its place.
+    // Takes the first slot out of the tree at a place: the lowest slot below it comes in its place. A slot that is out
+    // keeps no branches, so that none has to be cleared where it comes in again.
     #[inline(always)]
     fn lift(&mut self, place: usize, at: u32)
         requires tree { HasTree self.old place 0 }
@@ -181,6 +198,7 @@ impl SlotIndex {
         requires some { 1 ≤ at }
         ensures lifted { (t : Tree) → IsWhole self.old.links.items (2 ^ self.old.bits) place t
             → Replaces (2 ^ self.old.bits) self.old.links.items self.new.links.items place t (lifted t) }
+        ensures bare { IsBare self.new.links.items (2 ^ self.old.bits) at }
         ensures bits { self.new.bits ≡ self.old.bits }
     {
         let lowest = self.pluck(place);
@@ -192,6 +210,8 @@ impl SlotIndex {
         self.links[to] = self.links[from];
         self.links[to + 1] = self.links[from + 1];
         self.links[place] = lowest;
+        self.links[from] = 0;
+        self.links[from + 1] = 0;
     }
 
     // Takes a slot without branches out of the tree at a place, and returns it.
@@ -201,6 +221,7 @@ impl SlotIndex {
         ensures plucked { (t : Tree) → IsWhole self.old.links.items (2 ^ self.old.bits) place t
             → Replaces (2 ^ self.old.bits) self.old.links.items self.new.links.items place t (plucked t) }
         ensures lowest { (t : Tree) → IsWhole self.old.links.items (2 ^ self.old.bits) place t → result ≡ lowest 0 t }
+        ensures bare { IsBare self.new.links.items (2 ^ self.old.bits) result }
         ensures bits { self.new.bits ≡ self.old.bits }
     {
         let at = self.links[place];

@@ -11,4 +11,4 @@ pub returns-then-is_power_of_two-clause-below : goal.returns-then-is_power_of_tw
 returns-then-is_power_of_two-clause-below c = rw c.masked.ensures (column_below c.args.spread c.args.key c.args.row c.args.width c.requires.some)
 
 pub returns-else-is_power_of_two-clause-below : goal.returns-else-is_power_of_two-clause-below
-returns-else-is_power_of_two-clause-below c = rw c.divided.ensures (column_below c.args.spread c.args.key c.args.row c.args.width c.requires.some)
+returns-else-is_power_of_two-clause-below c = rw c.column_by_division.ensures (column_below c.args.spread c.args.key c.args.row c.args.width c.requires.some)

@@ -7,7 +7,7 @@ use Rattle.segments.proofs.Orders.{order-is}
 use Rattle.segments.proofs.Holding.{held-freed}
 use Rattle.segments.proofs.Tables.{take-front}
 use Rattle.segments.proofs.Calls.{lengths-out, lengths-freed, remove-lists}
-use Rattle.segments.proofs.Kept.{free-lowered, held-used, used-slot, room-kept, kept-on}
+use Rattle.segments.proofs.Kept.{free-lowered, held-used, used-slot, known, room-kept, kept-on}
 use Rattle.segments.proofs.SlotWrites.{no_slot, field_at}
 use Rattle.segments.proofs.Renewing.{leaves}
 use Rattle.segments.proofs.slot_table.SlotTable.remove.Goals as goal
@@ -42,13 +42,7 @@ bounds-slots-at c =
 pub remove-requires : goal.remove-requires
 remove-requires c =
     let a = (goal.at.remove-requires c).After-deref_mut-slots in
-    record {
-      item_of = slot_item (items c.deref_mut-slots.result.now);
-      used = λ k. count k (used (order_of c.deref_mut-slots.result.now));
-      indexed = (held-there a).indexed;
-      there = used-there a;
-      its = field_at (λ (s : Slot). s.item) c.deref_mut-slots.result.now c.args.at no_slot;
-    }
+    known c.deref_mut-slots.result.now c.self.inside.index c.args.at (held-there a) (used-there a)
 
 pub release-requires-clause-at : goal.release-requires-clause-at
 release-requires-clause-at c =

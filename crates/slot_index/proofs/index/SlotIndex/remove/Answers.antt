@@ -16,4 +16,5 @@ pub returns-clause-indexed : goal.returns-clause-indexed
 returns-clause-indexed c item_of used used2 x j =
     let b = c.bucket_of-bucket in
     rw c.detach.ensures.bits (removed _ _ item_of used x c.args.at c.args.item used2 j b.result b.ensures.bucket b.ensures.within _
-    (c.detach.ensures.detached (x.trees b.result) item_of (root-whole _ _ item_of used x b.result b.ensures.within) (stands _ _ item_of used x c.args.at c.args.item used2 j b.result b.ensures.bucket b.ensures.within)))
+    (c.detach.ensures.detached (x.trees b.result) item_of (root-whole _ _ item_of used x b.result b.ensures.within) (stands _ _ item_of used x c.args.at c.args.item used2 j b.result b.ensures.bucket b.ensures.within))
+    c.detach.ensures.bare)

@@ -1,7 +1,7 @@
 use Rattle.std.proofs.Common.{◌%◌, ◌∙◌, ap}
 use Rattle.sketch.specs.Columns.{column as column_of}
-use Rattle.sketch.proofs.columns.divided.Goals as goal
-use Rattle.sketch.proofs.columns.divided.Goals.{in-Mixed, in-Plain}
+use Rattle.sketch.proofs.columns.column_by_division.Goals as goal
+use Rattle.sketch.proofs.columns.column_by_division.Goals.{in-Mixed, in-Plain}
 
 pub returns : goal.returns
 unfolding column_of
