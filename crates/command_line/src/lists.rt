@@ -5,9 +5,9 @@ use std::marker::Model;
 use step_record::Policy;
 
 /// Policies, in the order in which they were named.
-#[derive(Debug, Drop)]
+#[derive(Drop)]
 pub struct PolicyList {
-    policies: Vec<Policy>,
+    pub(crate) policies: Vec<Policy>,
 }
 
 impl Model for PolicyList {
@@ -20,12 +20,6 @@ impl Model for PolicyList {
 }
 
 impl PolicyList {
-    pub(crate) fn new(policies: Vec<Policy>) -> PolicyList
-        ensures { result ≡ policies.items }
-    {
-        PolicyList { policies }
-    }
-
     /// The policies, as a slice.
     pub fn as_slice(&self) -> &[Policy]
         ensures { result.now ≡ self.now }
@@ -35,9 +29,9 @@ impl PolicyList {
 }
 
 /// Capacities, in the order in which they were named.
-#[derive(Debug, Drop)]
+#[derive(Drop)]
 pub struct CapacityList {
-    capacities: Vec<u32>,
+    pub(crate) capacities: Vec<u32>,
 }
 
 impl Model for CapacityList {
@@ -49,12 +43,6 @@ impl Model for CapacityList {
 }
 
 impl CapacityList {
-    pub(crate) fn new(capacities: Vec<u32>) -> CapacityList
-        ensures { result ≡ capacities.items }
-    {
-        CapacityList { capacities }
-    }
-
     /// The capacities, as a slice.
     pub fn as_slice(&self) -> &[u32]
         ensures { result.now ≡ self.now }
@@ -64,9 +52,9 @@ impl CapacityList {
 }
 
 /// The path of a file.
-#[derive(Debug, Drop)]
+#[derive(Drop)]
 pub struct FilePath {
-    path: String,
+    pub(crate) path: String,
 }
 
 impl Model for FilePath {
@@ -78,12 +66,6 @@ impl Model for FilePath {
 }
 
 impl FilePath {
-    pub(crate) fn new(path: String) -> FilePath
-        ensures { result ≡ string_bytes path }
-    {
-        FilePath { path }
-    }
-
     /// The path, as text.
     pub fn as_str(&self) -> &str
         ensures { result.now ≡ self.now }

@@ -62,7 +62,7 @@ pub enum Place {
 }
 
 /// All subcommands, in the order in which help lists them.
-pub const SUBCOMMANDS: [Subcommand; 8] = [
+pub static SUBCOMMANDS: [Subcommand; 8] = [
     RUN, SWEEP, INTERVALS, PART, COMPARE, DRIVE, DEBUG, REPLAY,
 ];
 

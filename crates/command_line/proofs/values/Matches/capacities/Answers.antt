@@ -5,7 +5,7 @@ use Rattle.std.proofs.lemmas.Result.{IfOk-weaker}
 use Rattle.step_record.specs.Config.{is_from_one}
 use Rattle.step_record.specs.declared.limits.TheConstants.{MAX_CAPACITY}
 use Rattle.command_line.proofs.Capacities.{all-fit}
-use Rattle.command_line.proofs.values.capacities.Goals as goal
+use Rattle.command_line.proofs.values.Matches.capacities.Goals as goal
 
 pub returns-in-Some-clause-accepted : goal.returns-in-Some-clause-accepted
 returns-in-Some-clause-accepted c =
