@@ -1,7 +1,9 @@
 -- From clap's clauses to those of a parse.
-use Rattle.std.proofs.Common.{◌≡◌, ◌∙◌, ap, subst, sym, List, [], Result, Ok, Err}
+use Rattle.std.proofs.Common.{◌≡◌, ◌∙◌, ap, refl, subst, sym, true, List, [], Result, Ok, Err}
 use Rattle.std.specs.Prelude.{IsErrAnd}
-use Rattle.clap.specs.Words.{App, HasKind, Text, fault_of, subcommand_of, subcommand_rows_of}
+use Rattle.clap.specs.Words.{App, HasKind, Text, fault_of, is_simple, is_simple_and_free}
+use Rattle.clap.specs.Words.{subcommand_of, subcommand_rows_of}
+use Rattle.clap.proofs.OnLiterals.{clap_on_literals}
 use Rattle.clap.specs.declared.Error.{Error}
 use Rattle.clap.specs.declared.ArgMatches.{ArgMatches}
 use Rattle.command_line.specs.Choices.{AreLists}
@@ -12,6 +14,15 @@ use Rattle.command_line.specs.declared.arguments.Arguments.{Arguments}
 use Rattle.command_line.specs.declared.choices.WordLists.{WordLists}
 use Rattle.command_line.specs.declared.fault.ParseFault.{ParseFault}
 use Rattle.command_line.specs.declared.fault.ParseFault.TheVariants.{OutOfMemory, Refused, Incomplete, Stripes}
+
+-- the program's command is one whose matches clap gives as a function of the words
+pub program-simple : (lists : WordLists) → is_simple (program_app lists) ≡ true
+unfolding clap_on_literals
+program-simple lists = refl
+
+pub program-free : (lists : WordLists) → is_simple_and_free (program_app lists) ≡ true
+unfolding clap_on_literals
+program-free lists = refl
 
 pub out_of_memory : (words : List Text) (r : Result Arguments ParseFault) → IsErrAnd r (λ f. f ≡ OutOfMemory) → ParsedBy words r
 out_of_memory words (Ok a) h = absurd h

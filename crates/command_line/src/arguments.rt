@@ -129,12 +129,11 @@ pub(crate) fn run(alloc: Global, asked: &Matches<'_, '_>) -> Result<Option<Argum
     let Some(policies) = asked.policies(alloc, &POLICIES)? else {
         return Ok(None);
     };
-    let format = asked.format(&FORMAT);
     Ok(Some(Arguments::Run(RunArguments {
         config,
         policies,
         batch,
-        format,
+        format: asked.format(&FORMAT),
     })))
 }
 
@@ -152,12 +151,11 @@ pub(crate) fn sweep(alloc: Global, asked: &Matches<'_, '_>) -> Result<Option<Arg
     let Some(capacities) = asked.capacities(alloc)? else {
         return Ok(None);
     };
-    let format = asked.format(&FORMAT);
     Ok(Some(Arguments::Sweep(SweepArguments {
         config,
         policies,
         capacities,
-        format,
+        format: asked.format(&FORMAT),
     })))
 }
 
@@ -178,12 +176,11 @@ pub(crate) fn intervals(
     let Some(policies) = asked.policies(alloc, &POLICIES)? else {
         return Ok(None);
     };
-    let format = asked.format(&FORMAT);
     Ok(Some(Arguments::Intervals(IntervalsArguments {
         config,
         policies,
         every,
-        format,
+        format: asked.format(&FORMAT),
     })))
 }
 

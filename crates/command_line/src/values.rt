@@ -1,5 +1,5 @@
 //! The values that the matches of a subcommand have for an option.
-ghost use Rattle.std.specs.Prelude.{◌≡◌, IfOk, IfSome, map, option_and_then, option_map};
+ghost use Rattle.std.specs.Prelude.{◌≡◌, IfOk, IfSome, map, option_map, true};
 ghost use Rattle.std.specs.List.{AllPass};
 ghost use Rattle.clap.specs.Words.{all_of, first_of, found_of, one_of, rows_of};
 ghost use Rattle.step_record.specs.Config.{is_from_one};
@@ -170,7 +170,8 @@ fn policies_named(alloc: Global, words: &[&str]) -> Result<Option<PolicyList>, A
 
 // The capacities that the words name; none where one of the words names none.
 fn capacities_named(alloc: Global, words: &[&str]) -> Result<Option<CapacityList>, AllocError>
-    ensures { IfOk result (λ capacities. capacities
+    ensures accepted { IfOk result (λ capacities. IfSome capacities (AllPass (is_from_one MAX_CAPACITY))) }
+    ensures value { IfOk result (λ capacities. capacities
         ≡ all_named (value_by capacity_row) (map (λ s. s.now) words.now)) }
 {
     let mut capacities = Vec::new(alloc);
@@ -185,7 +186,8 @@ fn capacities_named(alloc: Global, words: &[&str]) -> Result<Option<CapacityList
 
 // The capacity that a word names.
 fn capacity_named(word: &str) -> Option<u32>
-    ensures { result ≡ value_by capacity_row word.now }
+    ensures accepted { IfSome result (λ capacity. is_from_one MAX_CAPACITY capacity ≡ true) }
+    ensures value { result ≡ value_by capacity_row word.now }
 {
     in_range(CAPACITIES.value, number_named(word)?)
 }

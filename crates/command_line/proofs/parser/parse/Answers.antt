@@ -3,8 +3,7 @@ use Rattle.clap.specs.Words.{app_of, is_simple, is_simple_and_free}
 use Rattle.command_line.specs.Choices.{AreLists}
 use Rattle.command_line.specs.Program.{program_app}
 use Rattle.command_line.specs.declared.choices.WordLists.{WordLists}
-use Rattle.command_line.proofs.Outcomes.{ended, out_of_memory, refused}
-use Rattle.command_line.proofs.Simple.{program-free, program-simple}
+use Rattle.command_line.proofs.Outcomes.{ended, out_of_memory, program-free, program-simple, refused}
 use Rattle.command_line.proofs.parser.parse.Goals as goal
 
 pub returns-in_err-program-clause-parsed : goal.returns-in_err-program-clause-parsed
