@@ -1,8 +1,9 @@
 -- What the matches of a subcommand name: the value of each option, and the arguments made of them.
-use Rattle.std.specs.Prelude.{ℕ, List, Option, Some, None, Result, Ok, Err, ◌&&◌, nat_le}
+use Rattle.std.specs.Prelude.{ℕ, List, Option, Some, None, Result, Ok, Err, codes, ◌&&◌, nat_le}
 use Rattle.std.specs.Prelude.{◌≤◌, Bool, false, if◌then◌else◌, is_none, option_and_then, option_map}
 use Rattle.std.specs.Int.{is_power_of_two}
 use Rattle.std.specs.Option.{option_map_or}
+use Rattle.std.specs.Result.{result_ok}
 use Rattle.std.specs.Str.{bytes_eq}
 use Rattle.std.specs.Str.Parse.{digits_value, without_leading_plus}
 use Rattle.clap.specs.Words.{Row, Text, all_of, first_of, one_of}
@@ -10,7 +11,6 @@ use Rattle.clap.specs.ValueTests.{is_unsigned_in}
 use Rattle.step_record.specs.Config.{config_fault}
 use Rattle.step_record.specs.declared.limits.TheConstants.{MAX_STRIPES}
 use Rattle.step_record.specs.declared.config.Config.{Config}
-use Rattle.step_record.specs.declared.config.ConfigFault.{ConfigFault}
 use Rattle.step_record.specs.declared.config.Spread.{Spread}
 use Rattle.step_record.specs.declared.job.Policy.{Policy}
 use Rattle.trace_read.specs.declared.format.Format.{Format}
@@ -77,23 +77,14 @@ stripes_from n = if is_power_of_two n && nat_le n MAX_STRIPES then Some n else N
 
 -- ---- configurations
 
-abbrev pub accepted : Config → Result (Unit {0}) ConfigFault → Option Config
-accepted config (Ok u) = Some config
-accepted config (Err fault) = None
-
 -- the configuration, where all its numbers are in their ranges
 abbrev pub checked : Config → Option Config
-checked config = accepted config (config_fault config)
+checked config = option_map (λ u. config) (result_ok (config_fault config))
 
 -- the configuration of a cache of this capacity, with so many read buffers and steps of a journal
 abbrev pub config_at : ℕ → ℕ → ℕ → List Row → Option Config
-config_at capacity stripes limit rows = option_and_then (λ main. checked (record {
-  capacity = capacity;
-  main_percent = main;
-  spread = spread_in row.spread rows;
-  stripes = stripes;
-  journal_limit = limit;
-})) (number_in row.main rows)
+config_at capacity stripes limit rows = option_and_then (λ main. checked
+    (record { capacity = capacity; main_percent = main; spread = spread_in row.spread rows; stripes = stripes; journal_limit = limit })) (number_in row.main rows)
 
 -- The configuration of a policy: it has no read buffers and no journal, and so one of each.
 abbrev pub config_in : List Row → Option Config
@@ -109,12 +100,8 @@ concurrent_in rows = option_and_then (λ stripes. option_and_then (λ capacity. 
 -- ---- what a subcommand is asked for; none where its matches are incomplete
 
 abbrev pub run_in : List Row → Option Arguments
-run_in rows = option_and_then (λ config. option_and_then (λ batch. option_map (λ policies. asked.Run (record {
-  config = config;
-  policies = policies;
-  batch = batch;
-  format = format_in row.format rows;
-})) (policies_in row.policies rows)) (number_in row.batch rows)) (config_in rows)
+run_in rows = option_and_then (λ config. option_and_then (λ batch. option_map (λ policies.
+    asked.Run (record { config = config; policies = policies; batch = batch; format = format_in row.format rows })) (policies_in row.policies rows)) (number_in row.batch rows)) (config_in rows)
 
 -- each capacity replaces the configuration's
 abbrev pub sweep_in : List Row → Option Arguments
@@ -126,12 +113,8 @@ sweep_in rows = option_and_then (λ config. option_and_then (λ policies. option
 })) (capacities_in rows)) (policies_in row.swept_policies rows)) (config_at 1 1 1 rows)
 
 abbrev pub intervals_in : List Row → Option Arguments
-intervals_in rows = option_and_then (λ config. option_and_then (λ every. option_map (λ policies. asked.Intervals (record {
-  config = config;
-  policies = policies;
-  every = every;
-  format = format_in row.format rows;
-})) (policies_in row.policies rows)) (number_in row.every rows)) (config_in rows)
+intervals_in rows = option_and_then (λ config. option_and_then (λ every. option_map (λ policies.
+    asked.Intervals (record { config = config; policies = policies; every = every; format = format_in row.format rows })) (policies_in row.policies rows)) (number_in row.every rows)) (config_in rows)
 
 -- two policies on one configuration
 abbrev pub part_in : List Row → Option PartArguments
@@ -142,36 +125,29 @@ part_in rows = option_and_then (λ config. option_and_then (λ first. option_map
 }) (policy_in row.second rows)) (policy_in row.first rows)) (config_in rows)
 
 abbrev pub drive_in : List Row → Option Arguments
-drive_in rows = option_and_then (λ config. option_map (λ workers. asked.Drive (record {
-  config = config;
-  workers = workers;
-  format = format_in row.format rows;
-})) (number_in row.workers rows)) (concurrent_in rows)
+drive_in rows = option_and_then (λ config. option_map (λ workers.
+    asked.Drive (record { config = config; workers = workers; format = format_in row.format rows })) (number_in row.workers rows)) (concurrent_in rows)
 
 abbrev pub debug_in : List Row → Option Arguments
-debug_in rows = option_and_then (λ policies. option_map (λ trace. asked.Debug (record {
-  policies = policies;
-  trace = trace;
-})) (first_of row.trace.id rows)) (part_in rows)
+debug_in rows = option_and_then (λ policies. option_map (λ trace.
+    asked.Debug (record { policies = policies; trace = trace })) (first_of row.trace.id rows)) (part_in rows)
 
 abbrev pub replay_in : List Row → Option Arguments
-replay_in rows = option_and_then (λ config. option_map (λ journal. asked.Replay (record {
-  config = config;
-  journal = journal;
-})) (first_of row.journal.id rows)) (concurrent_in rows)
+replay_in rows = option_and_then (λ config. option_map (λ journal.
+    asked.Replay (record { config = config; journal = journal })) (first_of row.journal.id rows)) (concurrent_in rows)
 
 -- ---- the subcommand that was called
 
 -- what the matches of the subcommand of this name ask for
 abbrev pub asked_of : Text → List Row → Option Arguments
-asked_of name rows = if bytes_eq name row.run_command.name then run_in rows
-    else (if bytes_eq name row.sweep_command.name then sweep_in rows
-    else (if bytes_eq name row.intervals_command.name then intervals_in rows
-    else (if bytes_eq name row.part_command.name then option_map asked.Part (part_in rows)
-    else (if bytes_eq name row.compare_command.name then option_map asked.Compare (part_in rows)
-    else (if bytes_eq name row.drive_command.name then drive_in rows
-    else (if bytes_eq name row.debug_command.name then debug_in rows
-    else (if bytes_eq name row.replay_command.name then replay_in rows
+asked_of name rows = if bytes_eq name (codes "run") then run_in rows
+    else (if bytes_eq name (codes "sweep") then sweep_in rows
+    else (if bytes_eq name (codes "intervals") then intervals_in rows
+    else (if bytes_eq name (codes "part") then option_map asked.Part (part_in rows)
+    else (if bytes_eq name (codes "compare") then option_map asked.Compare (part_in rows)
+    else (if bytes_eq name (codes "drive") then drive_in rows
+    else (if bytes_eq name (codes "debug") then debug_in rows
+    else (if bytes_eq name (codes "replay") then replay_in rows
     else None)))))))
 
 -- the number of read buffers is none of a cache

@@ -190,15 +190,13 @@ pub(crate) fn part(asked: &Matches<'_, '_>) -> Option<PartArguments>
     ensures accepted { IfSome result IsAcceptedPart }
 {
     let config = policy_config(asked)?;
-    let first = asked.policy(&FIRST)?;
-    let second = asked.policy(&SECOND)?;
     Some(PartArguments {
         first: Job {
-            policy: first,
+            policy: asked.policy(&FIRST)?,
             config,
         },
         second: Job {
-            policy: second,
+            policy: asked.policy(&SECOND)?,
             config,
         },
         format: asked.format(&FORMAT),

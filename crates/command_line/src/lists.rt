@@ -4,50 +4,32 @@ ghost use Rattle.std.specs.Prelude.{◌≡◌, string_bytes};
 use std::marker::Model;
 use step_record::Policy;
 
-/// Policies, in the order in which they were named.
+/// What was named, in order.
 #[derive(Drop)]
-pub struct PolicyList {
-    pub(crate) policies: Vec<Policy>,
+pub struct NamedList<T> {
+    pub(crate) named: Vec<T>,
 }
 
-impl Model for PolicyList {
-    ghost use Rattle.std.specs.Prelude.{List};
-    ghost use Rattle.step_record.specs.declared.job.Policy.{Policy};
-
-    ghost Value = { List Policy };
-
-    ghost view = { λ l. l.policies.items };
-}
-
-impl PolicyList {
-    /// The policies, as a slice.
-    pub fn as_slice(&self) -> &[Policy]
-        ensures { result.now ≡ self.now }
-    {
-        self.policies.as_slice()
-    }
-}
+/// Policies, in the order in which they were named.
+pub type PolicyList = NamedList<Policy>;
 
 /// Capacities, in the order in which they were named.
-#[derive(Drop)]
-pub struct CapacityList {
-    pub(crate) capacities: Vec<u32>,
+pub type CapacityList = NamedList<u32>;
+
+impl<T> Model for NamedList<T> {
+    ghost use Rattle.std.specs.Prelude.{List};
+
+    ghost Value = { List T };
+
+    ghost view = { λ l. l.named.items };
 }
 
-impl Model for CapacityList {
-    ghost use Rattle.std.specs.Prelude.{ℕ, List};
-
-    ghost Value = { List ℕ };
-
-    ghost view = { λ l. l.capacities.items };
-}
-
-impl CapacityList {
-    /// The capacities, as a slice.
-    pub fn as_slice(&self) -> &[u32]
+impl<T> NamedList<T> {
+    /// The list, as a slice.
+    pub fn as_slice(&self) -> &[T]
         ensures { result.now ≡ self.now }
     {
-        self.capacities.as_slice()
+        self.named.as_slice()
     }
 }
 

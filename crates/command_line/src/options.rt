@@ -63,84 +63,75 @@ pub enum Place {
 
 /// All subcommands, in the order in which help lists them.
 pub static SUBCOMMANDS: [Subcommand; 8] = [
-    RUN, SWEEP, INTERVALS, PART, COMPARE, DRIVE, DEBUG, REPLAY,
-];
-
-pub const RUN: Subcommand = Subcommand {
-    name: "run",
-    about: "Runs policies over the trace on standard input and prints a report of each",
-    whole: "Runs policies over the trace on standard input and prints a report of each.
+    Subcommand {
+        name: "run",
+        about: "Runs policies over the trace on standard input and prints a report of each",
+        whole: "Runs policies over the trace on standard input and prints a report of each.
 The trace comes by a redirection (< FILE) or a pipe. Without one, at a terminal, the program waits
 for you to type the trace, a line each, up to Ctrl-D.",
-    example: "Example: cachesim run --capacity 100 lru wtinylfu clairvoyant < trace.lirs",
-    options: &[CAPACITY, MAIN, SPREAD, FORMAT, BATCH, POLICIES],
-};
-
-pub const SWEEP: Subcommand = Subcommand {
-    name: "sweep",
-    about: "Runs policies over the trace on standard input and prints a report of each at each capacity",
-    whole: "Runs policies over the trace on standard input and prints a report of each at each capacity.
+        example: "Example: cachesim run --capacity 100 lru wtinylfu clairvoyant < trace.lirs",
+        options: &[CAPACITY, MAIN, SPREAD, FORMAT, BATCH, POLICIES],
+    },
+    Subcommand {
+        name: "sweep",
+        about: "Runs policies over the trace on standard input and prints a report of each at each capacity",
+        whole: "Runs policies over the trace on standard input and prints a report of each at each capacity.
 The trace comes by a redirection (< FILE) or a pipe.",
-    example: "Example: cachesim sweep --policy wtinylfu 50 100 200 400 < trace.lirs",
-    options: &[MAIN, SPREAD, FORMAT, SWEPT_POLICIES, CAPACITIES],
-};
-
-pub const INTERVALS: Subcommand = Subcommand {
-    name: "intervals",
-    about: "Runs policies over the trace on standard input and prints what each makes of each interval of it",
-    whole: "Runs policies over the trace on standard input and prints what each makes of each interval of it: a row for
+        example: "Example: cachesim sweep --policy wtinylfu 50 100 200 400 < trace.lirs",
+        options: &[MAIN, SPREAD, FORMAT, SWEPT_POLICIES, CAPACITIES],
+    },
+    Subcommand {
+        name: "intervals",
+        about: "Runs policies over the trace on standard input and prints what each makes of each interval of it",
+        whole: "Runs policies over the trace on standard input and prints what each makes of each interval of it: a row for
 each --every accesses. The caches stay as they are from one interval to the next. The trace comes by a
 redirection (< FILE) or a pipe.",
-    example: "Example: cachesim intervals --capacity 100 --every 1000 lru wtinylfu < trace.lirs",
-    options: &[CAPACITY, EVERY, MAIN, SPREAD, FORMAT, POLICIES],
-};
-
-pub const PART: Subcommand = Subcommand {
-    name: "part",
-    about: "Prints the first access of the trace on standard input at which just one of two policies hits",
-    whole: "Prints where two policies diverge: `part P`, P the first access of the trace on standard input, counted
+        example: "Example: cachesim intervals --capacity 100 --every 1000 lru wtinylfu < trace.lirs",
+        options: &[CAPACITY, EVERY, MAIN, SPREAD, FORMAT, POLICIES],
+    },
+    Subcommand {
+        name: "part",
+        about: "Prints the first access of the trace on standard input at which just one of two policies hits",
+        whole: "Prints where two policies diverge: `part P`, P the first access of the trace on standard input, counted
 from 1, at which just one of them hits, or `part none`. The trace comes by a redirection (< FILE) or a pipe.",
-    example: "Example: cachesim part --capacity 100 --first lru --second slru < trace.lirs",
-    options: &[CAPACITY, MAIN, SPREAD, FORMAT, FIRST, SECOND],
-};
-
-pub const COMPARE: Subcommand = Subcommand {
-    name: "compare",
-    about: "Prints at how many accesses of the trace on standard input both of two policies hit, one alone, or neither",
-    whole: "Prints at how many accesses of the trace on standard input both of two policies hit, only the first, only
+        example: "Example: cachesim part --capacity 100 --first lru --second slru < trace.lirs",
+        options: &[CAPACITY, MAIN, SPREAD, FORMAT, FIRST, SECOND],
+    },
+    Subcommand {
+        name: "compare",
+        about: "Prints at how many accesses of the trace on standard input both of two policies hit, one alone, or neither",
+        whole: "Prints at how many accesses of the trace on standard input both of two policies hit, only the first, only
 the second, and neither. The trace comes by a redirection (< FILE) or a pipe.",
-    example: "Example: cachesim compare --capacity 100 --first lru --second slru < trace.lirs",
-    options: &[CAPACITY, MAIN, SPREAD, FORMAT, FIRST, SECOND],
-};
-
-pub const DRIVE: Subcommand = Subcommand {
-    name: "drive",
-    about: "Runs the concurrent cache on threads over the trace on standard input and prints its journal",
-    whole: "Runs the concurrent cache on threads over the trace on standard input and prints its journal, which
+        example: "Example: cachesim compare --capacity 100 --first lru --second slru < trace.lirs",
+        options: &[CAPACITY, MAIN, SPREAD, FORMAT, FIRST, SECOND],
+    },
+    Subcommand {
+        name: "drive",
+        about: "Runs the concurrent cache on threads over the trace on standard input and prints its journal",
+        whole: "Runs the concurrent cache on threads over the trace on standard input and prints its journal, which
 `replay` reads. The trace comes by a redirection (< FILE) or a pipe.",
-    example: "Example: cachesim drive --capacity 100 --workers 4 < trace.lirs > run.journal",
-    options: &[CAPACITY, MAIN, SPREAD, FORMAT, WORKERS, STRIPES, LIMIT],
-};
-
-pub const DEBUG: Subcommand = Subcommand {
-    name: "debug",
-    about: "Answers commands on standard input about two policies over the trace of a file",
-    whole: "Answers commands on standard input about two policies over the trace of a file. A command is a line:
+        example: "Example: cachesim drive --capacity 100 --workers 4 < trace.lirs > run.journal",
+        options: &[CAPACITY, MAIN, SPREAD, FORMAT, WORKERS, STRIPES, LIMIT],
+    },
+    Subcommand {
+        name: "debug",
+        about: "Answers commands on standard input about two policies over the trace of a file",
+        whole: "Answers commands on standard input about two policies over the trace of a file. A command is a line:
 step N, back N, goto N, run, break hit K, break evict K, break halve, break part, clear, show, part, quit.
 Here standard input has the commands, and --trace names the file of the trace.",
-    example: "Example: cachesim debug --trace trace.lirs --capacity 100 --first lru --second slru",
-    options: &[CAPACITY, MAIN, SPREAD, FORMAT, FIRST, SECOND, TRACE],
-};
-
-pub const REPLAY: Subcommand = Subcommand {
-    name: "replay",
-    about: "Answers commands on standard input about the concurrent run whose journal is in a file",
-    whole: "Answers commands on standard input about the concurrent run whose journal is in a file. A command is a
+        example: "Example: cachesim debug --trace trace.lirs --capacity 100 --first lru --second slru",
+        options: &[CAPACITY, MAIN, SPREAD, FORMAT, FIRST, SECOND, TRACE],
+    },
+    Subcommand {
+        name: "replay",
+        about: "Answers commands on standard input about the concurrent run whose journal is in a file",
+        whole: "Answers commands on standard input about the concurrent run whose journal is in a file. A command is a
 line: step N, back N, goto N, run, break hit K, break evict K, break halve, break drop, clear, show, save, quit.
 Give --capacity, --stripes, --main, --spread and --limit as they were given to `drive`.",
-    example: "Example: cachesim replay --journal run.journal --capacity 100",
-    options: &[CAPACITY, MAIN, SPREAD, JOURNAL, STRIPES, LIMIT],
-};
+        example: "Example: cachesim replay --journal run.journal --capacity 100",
+        options: &[CAPACITY, MAIN, SPREAD, JOURNAL, STRIPES, LIMIT],
+    },
+];
 
 pub const CAPACITY: OptionRow = OptionRow {
     id: "capacity",

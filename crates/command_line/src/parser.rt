@@ -41,7 +41,7 @@ fn arguments(alloc: Global, matches: &ArgMatches<'_>) -> Result<Arguments, Parse
     ensures accepted { IfOk result AreAccepted }
 {
     match matches.subcommand() {
-        Some((name, asked)) => complete(alloc, name, &Matches::new(asked)),
+        Some((name, asked)) => complete(alloc, name, &Matches { matches: asked }),
         None => Err(ParseFault::Incomplete),
     }
 }

@@ -11,7 +11,7 @@ ghost use Rattle.command_line.specs.Values.{stripes_from as stripes_by, value_na
 ghost use Rattle.command_line.specs.Options.{capacities as capacity_row, defined};
 
 use crate::choices::{format_named, policy_named, spread_named};
-use crate::lists::{CapacityList, FilePath, PolicyList};
+use crate::lists::{CapacityList, FilePath, NamedList, PolicyList};
 use crate::options::{CAPACITIES, OptionRow, ValueKind};
 use clap::ArgMatches;
 use std::alloc::{AllocError, Global};
@@ -22,7 +22,7 @@ use trace_read::Format;
 /// The matches of a subcommand, which contracts see as the rows of what was found.
 #[derive(Drop)]
 pub(crate) struct Matches<'m, 'a> {
-    matches: &'m ArgMatches<'a>,
+    pub(crate) matches: &'m ArgMatches<'a>,
 }
 
 impl<'m, 'a> Model for Matches<'m, 'a> {
@@ -35,12 +35,6 @@ impl<'m, 'a> Model for Matches<'m, 'a> {
 }
 
 impl<'m, 'a> Matches<'m, 'a> {
-    pub(crate) fn new(matches: &'m ArgMatches<'a>) -> Matches<'m, 'a>
-        ensures { result ≡ rows_of (found_of matches.now) }
-    {
-        Matches { matches }
-    }
-
     /// The number that is given to an option, where it is in the option's range.
     pub(crate) fn number(&self, option: &OptionRow) -> Option<u32>
         ensures value { result ≡ number_in (defined option.now) self.now }
@@ -165,7 +159,7 @@ fn policies_named(alloc: Global, words: &[&str]) -> Result<Option<PolicyList>, A
         };
         policies.push(policy)?;
     }
-    Ok(Some(PolicyList { policies }))
+    Ok(Some(NamedList { named: policies }))
 }
 
 // The capacities that the words name; none where one of the words names none.
@@ -181,7 +175,7 @@ fn capacities_named(alloc: Global, words: &[&str]) -> Result<Option<CapacityList
         };
         capacities.push(capacity)?;
     }
-    Ok(Some(CapacityList { capacities }))
+    Ok(Some(NamedList { named: capacities }))
 }
 
 // The capacity that a word names.
