@@ -8,7 +8,7 @@ use Rattle.step_record.specs.declared.job.Policy.TheVariants.{Lru, WindowTinyLfu
 use Rattle.step_record.specs.declared.config.Spread.TheVariants.{Mixed}
 use Rattle.trace_read.specs.declared.format.Format.TheVariants.{Lirs}
 use Rattle.command_line.specs.Choices.{format_words, policy_words, spread_words}
-use Rattle.command_line.specs.Program.{call_words, program_app}
+use Rattle.command_line.specs.Program.{program_app}
 use Rattle.command_line.specs.Values.{asked_in}
 use Rattle.command_line.specs.declared.arguments.Arguments.TheVariants.{Run}
 use Rattle.command_line.specs.declared.choices.WordLists.{WordLists}
@@ -26,11 +26,11 @@ lists = record {
 abbrev words : List Text
 words = codes "run" ∷ codes "--capacity" ∷ codes "3" ∷ codes "--main" ∷ codes "50" ∷ codes "wtinylfu" ∷ codes "lru" ∷ []
 
-taken : fault_of (program_app lists) (call_words words) ≡ []
+taken : fault_of (program_app lists) words ≡ []
 unfolding clap_on_literals
 taken = refl
 
-named : asked_in (subcommand_of (program_app lists) (call_words words)) ≡ Ok (Run (record {
+named : asked_in (subcommand_of (program_app lists) words) ≡ Ok (Run (record {
   config = record { capacity = 3; main_percent = 50; spread = Mixed; stripes = 1; journal_limit = 1 };
   policies = WindowTinyLfu ∷ Lru ∷ [];
   batch = 1024;
@@ -39,18 +39,18 @@ named : asked_in (subcommand_of (program_app lists) (call_words words)) ≡ Ok (
 unfolding clap_on_literals lib.Count.ones
 named = refl
 
-helped : fault_of (program_app lists) (call_words (codes "run" ∷ codes "--help" ∷ [])) ≡ kind.DisplayHelp ∷ []
+helped : fault_of (program_app lists) (codes "run" ∷ codes "--help" ∷ []) ≡ kind.DisplayHelp ∷ []
 unfolding clap_on_literals
 helped = refl
 
-versioned : fault_of (program_app lists) (call_words (codes "--version" ∷ [])) ≡ kind.DisplayVersion ∷ []
+versioned : fault_of (program_app lists) (codes "--version" ∷ []) ≡ kind.DisplayVersion ∷ []
 unfolding clap_on_literals
 versioned = refl
 
-refused : fault_of (program_app lists) (call_words (codes "run" ∷ codes "--capacity" ∷ codes "0" ∷ codes "lru" ∷ [])) ≡ kind.ValueValidation ∷ []
+refused : fault_of (program_app lists) (codes "run" ∷ codes "--capacity" ∷ codes "0" ∷ codes "lru" ∷ []) ≡ kind.ValueValidation ∷ []
 unfolding clap_on_literals
 refused = refl
 
-mistaken : fault_of (program_app lists) (call_words (codes "run" ∷ codes "--capacity" ∷ codes "3" ∷ codes "mru" ∷ [])) ≡ kind.InvalidValue ∷ []
+mistaken : fault_of (program_app lists) (codes "run" ∷ codes "--capacity" ∷ codes "3" ∷ codes "mru" ∷ []) ≡ kind.InvalidValue ∷ []
 unfolding clap_on_literals
 mistaken = refl

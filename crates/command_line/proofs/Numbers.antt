@@ -1,28 +1,35 @@
--- A typed getter reads the number that its text writes: of k bits, where `most` is the largest.
-use Rattle.std.proofs.Common.{◌≡◌, ◌<◌, ◌+◌, ◌^◌, ap, refl, arith, List, ℕ, Bool, true, false, Some, None, Option, Result, Ok, Err}
+-- A `u64` is read from a text just where `number_named` gives a number, and it is that one.
+use Rattle.std.proofs.Common.{◌≡◌, ap, refl, arith, List, ℕ, Bool, true, false, Some, None, Option, Result, Ok, Err}
 use Rattle.std.specs.Prelude.{option_and_then}
-use Rattle.std.specs.Str.Parse.{ParsesUnsigned}
+use Rattle.std.specs.Str.Parse.{ExplainsUnsignedError, HasUnsignedDigitsIfOk, ParsesUnsigned}
+use Rattle.std.specs.declared.num.ParseIntError.{ParseIntError}
 use Rattle.clap.specs.Words.{ReadsOne}
 use Rattle.clap.specs.ValueTests.{is_unsigned_in}
 use Rattle.clap.specs.declared.builder.value_parser.ValueParser.TheVariants as parser
 use Rattle.clap.proofs.ValueTestLemmas.{Accepts-accepts, accepts-Accepts}
-use Rattle.command_line.specs.Values.{number_up_to}
+use Rattle.command_line.specs.Values.{number_named}
 
-module _ {E : Type 0} (G : List ℕ → Result ℕ E → Type 0) (k most : ℕ) (width : most + 1 ≡ 2 ^ k) (small : most < 2 ^ 64)
-    (only : (u : List ℕ) (x : Result ℕ E) → G u x → ParsesUnsigned k 10 u x) where
-  taken : (t : List ℕ) (v : ℕ) → ParsesUnsigned {E = E} k 10 t (Ok v) → Some v ≡ number_up_to most t
-  taken t v g =
-      let yes : is_unsigned_in 0 most t ≡ true = Accepts-accepts false (parser.Unsigned 0 most) t (g.0.0, omega (arith, g.0.1, width, small), omega arith, omega (arith, g.0.1, width, small)) in
-      rw yes (ap Some g.1)
+abbrev most : ℕ
+most = 18446744073709551615
 
-  refused : (t : List ℕ) (bad : E) → ParsesUnsigned k 10 t (Err bad) → (b : Bool) → is_unsigned_in 0 most t ≡ b → None ≡ number_up_to most t
-  refused t bad g true e = let a = accepts-Accepts false (parser.Unsigned 0 most) t e in absurd (g (a.0, omega (arith, a.3, width)))
-  refused t bad g false e = rw e refl
+taken : (t : List ℕ) (v : ℕ) → ParsesUnsigned {E = ParseIntError} 64 10 t (Ok v) → Some v ≡ number_named t
+taken t v g =
+    let yes : is_unsigned_in 0 most t ≡ true = Accepts-accepts false (parser.Unsigned 0 most) t (g.0.0, omega (arith, g.0.1), omega arith, omega (arith, g.0.1)) in
+    rw yes (ap Some g.1)
 
-  pub read : (t : List ℕ) (r : Option ℕ) → ReadsOne G t r → r ≡ number_up_to most t
-  read t (Some v) g = taken t v (only t (Ok v) g)
-  read t None g = refused t g.0 (only t (Err g.0) g.1) (is_unsigned_in 0 most t) refl
+refused : (t : List ℕ) (bad : ParseIntError) → ParsesUnsigned 64 10 t (Err bad) → (b : Bool) → is_unsigned_in 0 most t ≡ b → None ≡ number_named t
+refused t bad g true e = let a = accepts-Accepts false (parser.Unsigned 0 most) t e in absurd (g (a.0, omega (arith, a.3)))
+refused t bad g false e = rw e refl
 
-  pub reads : (o : Option (List ℕ)) (r : Option ℕ) → (o ≡ None → r ≡ None) → ((t : List ℕ) → o ≡ Some t → ReadsOne G t r) → r ≡ option_and_then (number_up_to most) o
-  reads None r none value = none refl
-  reads (Some t) r none value = read t r (value t refl)
+-- as `u64`'s `from_str` reads a text
+abbrev Reads : List ℕ → Result ℕ ParseIntError → Type 0
+Reads t r = ParsesUnsigned 64 10 t r × ExplainsUnsignedError 10 t r × HasUnsignedDigitsIfOk t r
+
+pub read : (t : List ℕ) (r : Option ℕ) → ReadsOne Reads t r → r ≡ number_named t
+read t (Some v) g = taken t v g.0
+read t None g = refused t g.0 g.1.0 (is_unsigned_in 0 most t) refl
+
+pub reads : (o : Option (List ℕ)) (r : Option ℕ) → (o ≡ None → r ≡ None) → ((t : List ℕ) → o ≡ Some t → ReadsOne Reads t r)
+    → r ≡ option_and_then number_named o
+reads None r none value = none refl
+reads (Some t) r none value = read t r (value t refl)

@@ -84,30 +84,13 @@ named name options = record { name = name; options = options }
 abbrev pub defined_subcommand : Subcommand → SubcommandDefinition
 defined_subcommand given = named given.name.now (map defined given.options.now)
 
-abbrev pub run_command : SubcommandDefinition
-run_command = named (codes "run") (capacity ∷ main ∷ spread ∷ format ∷ batch ∷ policies ∷ [])
-
-abbrev pub sweep_command : SubcommandDefinition
-sweep_command = named (codes "sweep") (main ∷ spread ∷ format ∷ swept_policies ∷ capacities ∷ [])
-
-abbrev pub intervals_command : SubcommandDefinition
-intervals_command = named (codes "intervals") (capacity ∷ every ∷ main ∷ spread ∷ format ∷ policies ∷ [])
-
-abbrev pub part_command : SubcommandDefinition
-part_command = named (codes "part") (capacity ∷ main ∷ spread ∷ format ∷ first ∷ second ∷ [])
-
-abbrev pub compare_command : SubcommandDefinition
-compare_command = named (codes "compare") (capacity ∷ main ∷ spread ∷ format ∷ first ∷ second ∷ [])
-
-abbrev pub drive_command : SubcommandDefinition
-drive_command = named (codes "drive") (capacity ∷ main ∷ spread ∷ format ∷ workers ∷ stripes ∷ limit ∷ [])
-
-abbrev pub debug_command : SubcommandDefinition
-debug_command = named (codes "debug") (capacity ∷ main ∷ spread ∷ format ∷ first ∷ second ∷ trace ∷ [])
-
-abbrev pub replay_command : SubcommandDefinition
-replay_command = named (codes "replay") (capacity ∷ main ∷ spread ∷ journal ∷ stripes ∷ limit ∷ [])
-
 abbrev pub subcommands : List SubcommandDefinition
-subcommands = run_command ∷ sweep_command ∷ intervals_command ∷ part_command ∷ compare_command
-    ∷ drive_command ∷ debug_command ∷ replay_command ∷ []
+subcommands = named (codes "run") (capacity ∷ main ∷ spread ∷ format ∷ batch ∷ policies ∷ [])
+    ∷ named (codes "sweep") (main ∷ spread ∷ format ∷ swept_policies ∷ capacities ∷ [])
+    ∷ named (codes "intervals") (capacity ∷ every ∷ main ∷ spread ∷ format ∷ policies ∷ [])
+    ∷ named (codes "part") (capacity ∷ main ∷ spread ∷ format ∷ first ∷ second ∷ [])
+    ∷ named (codes "compare") (capacity ∷ main ∷ spread ∷ format ∷ first ∷ second ∷ [])
+    ∷ named (codes "drive") (capacity ∷ main ∷ spread ∷ format ∷ workers ∷ stripes ∷ limit ∷ [])
+    ∷ named (codes "debug") (capacity ∷ main ∷ spread ∷ format ∷ first ∷ second ∷ trace ∷ [])
+    ∷ named (codes "replay") (capacity ∷ main ∷ spread ∷ journal ∷ stripes ∷ limit ∷ [])
+    ∷ []

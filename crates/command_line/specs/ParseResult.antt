@@ -2,7 +2,7 @@
 use Rattle.std.specs.Prelude.{◌≡◌, ⊤, List, [], Result, Err}
 use Rattle.clap.specs.Words.{HasKind, Kinds, Text, fault_of, subcommand_of}
 use Rattle.command_line.specs.Choices.{AreLists}
-use Rattle.command_line.specs.Program.{call_words, program_app}
+use Rattle.command_line.specs.Program.{program_app}
 use Rattle.command_line.specs.Values.{asked_in}
 use Rattle.command_line.specs.declared.arguments.Arguments.{Arguments}
 use Rattle.command_line.specs.declared.choices.WordLists.{WordLists}
@@ -13,14 +13,14 @@ use Rattle.command_line.specs.declared.fault.ParseFault.TheVariants as fault
 pub record AsksFor (words : List Text) (asked : Result Arguments ParseFault) : Type 0 where
   pub lists : WordLists
   pub are : AreLists lists
-  pub taken : fault_of (program_app lists) (call_words words) ≡ []
-  pub asks : asked_in (subcommand_of (program_app lists) (call_words words)) ≡ asked
+  pub taken : fault_of (program_app lists) words ≡ []
+  pub asks : asked_in (subcommand_of (program_app lists) words) ≡ asked
 
 -- clap's answer to the words is an error with P
 pub record IsRefused (words : List Text) (P : Kinds → Type 0) : Type 0 where
   pub lists : WordLists
   pub are : AreLists lists
-  pub refused : P (fault_of (program_app lists) (call_words words))
+  pub refused : P (fault_of (program_app lists) words)
 
 -- The arguments are what clap's rules and the rows of options make of the words, and a fault comes only where it is due.
 abbrev pub ParsedBy : List Text → Result Arguments ParseFault → Type 0

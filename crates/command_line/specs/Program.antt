@@ -1,6 +1,5 @@
 -- The program's commands, as clap reads them, made of the rows of options and subcommands.
 use Rattle.std.specs.Prelude.{◌≡◌, pos, true, false, List, [], ◌∷◌, Option, Some, None, codes}
-use Rattle.std.specs.Prelude.{Result, IfOk}
 use Rattle.clap.specs.Lexer.{usize_max}
 use Rattle.clap.specs.Words.{App, Rule, Text, app_of, new_app, new_rule, with_rule, with_subcommand}
 use Rattle.clap.specs.declared.builder.ArgAction.TheVariants.{Append}
@@ -15,14 +14,14 @@ use Rattle.command_line.specs.declared.options.Place.TheVariants.{Named, NamedOf
 use Rattle.command_line.specs.declared.options.ValueKind.{ValueKind}
 use Rattle.command_line.specs.declared.options.ValueKind.TheVariants.{AnyNumber, File, Format, Number, Policy, Spread}
 
--- what clap accepts as a value
-abbrev pub parser_of : WordLists → ValueKind → Option ValueParser
-parser_of lists (Number least most) = Some (parser.Signed (pos least) (pos most))
-parser_of lists AnyNumber = Some (parser.Unsigned 0 18446744073709551615)
-parser_of lists Policy = Some (parser.Names lists.policies)
-parser_of lists Format = Some (parser.Names lists.formats)
-parser_of lists Spread = Some (parser.Names lists.spreads)
-parser_of lists File = None
+-- what clap takes as a value
+abbrev pub parser_of : WordLists → ValueKind → ValueParser
+parser_of lists (Number least most) = parser.Signed (pos least) (pos most)
+parser_of lists AnyNumber = parser.Unsigned 0 18446744073709551615
+parser_of lists Policy = parser.Names lists.policies
+parser_of lists Format = parser.Names lists.formats
+parser_of lists Spread = parser.Names lists.spreads
+parser_of lists File = parser.String
 
 -- how values are given to the option of this name
 abbrev pub with_place : Place → Text → Rule → Rule
@@ -40,9 +39,10 @@ with_default (Some word) rule = record rule { defaults = word ∷ [] }
 
 -- the option as clap reads it
 abbrev pub rule_of_row : WordLists → OptionDefinition → Rule
-rule_of_row lists row = with_default row.default
-    (with_place row.place row.id
-    (record (new_rule row.id) { parser = parser_of lists row.value; value_names = 1 }))
+rule_of_row lists row = with_default row.default (record (with_place row.place row.id (new_rule row.id)) {
+  parser = Some (parser_of lists row.value);
+  value_names = 1;
+})
 
 abbrev pub with_options : WordLists → List OptionDefinition → App → App
 with_options lists [] app = app
@@ -56,10 +56,11 @@ with_subcommands lists [] app = app
 with_subcommands lists (subcommand ∷ rest) app =
     with_subcommands lists rest (with_subcommand app (app_of_subcommand lists subcommand).top)
 
--- `cachesim`, which has a version and wants a subcommand
+-- `cachesim`, which has a version, wants a subcommand, and is handed the words after its name
 abbrev pub empty_app : App
 empty_app = record (new_app (codes "cachesim")) {
   top = record (new_app (codes "cachesim")).top {
+    no_binary_name = true;
     has_version = true;
     subcommand_required = true;
   };
@@ -68,10 +69,6 @@ empty_app = record (new_app (codes "cachesim")) {
 abbrev pub program_app : WordLists → App
 program_app lists = with_subcommands lists subcommands empty_app
 
--- a command that was made is this one, and none of its arguments is one for its subcommands too
-abbrev pub Makes : {E : Type 0} → App → Result Command E → Type 0
-Makes app made = IfOk made (λ c. (app_of c ≡ app) × ((out-Command c).has_globals ≡ false))
-
--- the words of a call: the program's name, and those after it
-abbrev pub call_words : List Text → List Text
-call_words words = codes "cachesim" ∷ words
+-- the command is this one, and none of its arguments is one for its subcommands too
+abbrev pub IsCommandOf : App → Command → Type 0
+IsCommandOf app c = (app_of c ≡ app) × ((out-Command c).has_globals ≡ false)

@@ -1,7 +1,9 @@
 -- What the matches of a subcommand name: the value of each option, and the arguments made of them.
-use Rattle.std.specs.Prelude.{ℕ, List, Option, Some, None, Result, Ok, Err, ◌&&◌, nat_le}
-use Rattle.std.specs.Prelude.{if◌then◌else◌, option_and_then, option_map}
+use Rattle.std.specs.Prelude.{ℕ, List, Option, Some, None, Result, Ok, Err, codes, ◌&&◌, nat_le}
+use Rattle.std.specs.Prelude.{◌≤◌, Bool, false, if◌then◌else◌, is_none, option_and_then, option_map}
 use Rattle.std.specs.Int.{is_power_of_two}
+use Rattle.std.specs.Option.{option_map_or}
+use Rattle.std.specs.Result.{result_ok}
 use Rattle.std.specs.Str.{bytes_eq}
 use Rattle.std.specs.Str.Parse.{digits_value, without_leading_plus}
 use Rattle.clap.specs.Words.{Row, Text, all_of, first_of, one_of}
@@ -9,7 +11,6 @@ use Rattle.clap.specs.ValueTests.{is_unsigned_in}
 use Rattle.step_record.specs.Config.{config_fault}
 use Rattle.step_record.specs.declared.limits.TheConstants.{MAX_STRIPES}
 use Rattle.step_record.specs.declared.config.Config.{Config}
-use Rattle.step_record.specs.declared.config.ConfigFault.{ConfigFault}
 use Rattle.step_record.specs.declared.config.Spread.{Spread}
 use Rattle.step_record.specs.declared.job.Policy.{Policy}
 use Rattle.trace_read.specs.declared.format.Format.{Format}
@@ -18,13 +19,7 @@ use Rattle.command_line.specs.Options.{OptionDefinition}
 use Rattle.command_line.specs.Choices.{all_named, format_named, policy_named, spread_named}
 use Rattle.command_line.specs.declared.arguments.Arguments.{Arguments}
 use Rattle.command_line.specs.declared.arguments.Arguments.TheVariants as asked
-use Rattle.command_line.specs.declared.arguments.DebugArguments.{DebugArguments}
-use Rattle.command_line.specs.declared.arguments.DriveArguments.{DriveArguments}
-use Rattle.command_line.specs.declared.arguments.IntervalsArguments.{IntervalsArguments}
 use Rattle.command_line.specs.declared.arguments.PartArguments.{PartArguments}
-use Rattle.command_line.specs.declared.arguments.ReplayArguments.{ReplayArguments}
-use Rattle.command_line.specs.declared.arguments.RunArguments.{RunArguments}
-use Rattle.command_line.specs.declared.arguments.SweepArguments.{SweepArguments}
 use Rattle.command_line.specs.declared.fault.ParseFault.{ParseFault}
 use Rattle.command_line.specs.declared.fault.ParseFault.TheVariants.{Incomplete, Stripes}
 use Rattle.command_line.specs.declared.options.ValueKind.{ValueKind}
@@ -32,36 +27,31 @@ use Rattle.command_line.specs.declared.options.ValueKind.TheVariants.{Number}
 
 -- ---- the value of an option
 
--- the number up to `most` that a text writes in decimal digits: a plus may stand before them
-abbrev pub number_up_to : ℕ → Text → Option ℕ
-number_up_to most text = if is_unsigned_in 0 most text
-    then Some (digits_value 10 (without_leading_plus text)) else None
-
--- the number of 64 bits that a text writes
+-- the number of 64 bits that a text writes in decimal digits: a plus may stand before them
 abbrev pub number_named : Text → Option ℕ
-number_named text = number_up_to 18446744073709551615 text
+number_named text = if is_unsigned_in 0 18446744073709551615 text
+    then Some (digits_value 10 (without_leading_plus text)) else None
 
 -- the number, where it is in the range of the values
 abbrev pub in_range : ValueKind → ℕ → Option ℕ
 in_range (Number least most) n = if nat_le least n && nat_le n most then Some n else None
 in_range other n = None
 
--- the least number that is a value, and the largest
-abbrev pub least_of : ValueKind → ℕ
-least_of (Number least most) = least
-least_of other = 0
-
-abbrev pub most_of : ValueKind → ℕ
-most_of (Number least most) = most
-most_of other = 0
+-- a number in the range of the values
+abbrev pub IsIn : ValueKind → ℕ → Type 0
+IsIn (Number least most) n = (least ≤ n) × (n ≤ most)
+IsIn other n = ⊥
 
 -- the number that a text names as a value of an option
 abbrev pub value_named : OptionDefinition → Text → Option ℕ
 value_named option text = option_and_then (in_range option.value) (number_named text)
 
--- the number that is given to an option
+-- the number of 64 bits that is given to an option, and the number in its range
+abbrev pub wide_number_in : OptionDefinition → List Row → Option ℕ
+wide_number_in option rows = option_and_then number_named (one_of option.id rows)
+
 abbrev pub number_in : OptionDefinition → List Row → Option ℕ
-number_in option rows = option_and_then (value_named option) (one_of option.id rows)
+number_in option rows = option_and_then (in_range option.value) (wide_number_in option rows)
 
 abbrev pub spread_in : OptionDefinition → List Row → Spread
 spread_in option rows = spread_named (first_of option.id rows)
@@ -85,66 +75,46 @@ capacities_in rows = option_and_then (all_named (value_named row.capacities)) (a
 abbrev pub stripes_from : ℕ → Option ℕ
 stripes_from n = if is_power_of_two n && nat_le n MAX_STRIPES then Some n else None
 
--- how many read buffers the cache has
-abbrev pub stripes_in : List Row → Option ℕ
-stripes_in rows = option_and_then stripes_from (option_and_then number_named (one_of row.stripes.id rows))
-
 -- ---- configurations
-
-abbrev pub accepted : Config → Result (Unit {0}) ConfigFault → Option Config
-accepted config (Ok u) = Some config
-accepted config (Err fault) = None
 
 -- the configuration, where all its numbers are in their ranges
 abbrev pub checked : Config → Option Config
-checked config = accepted config (config_fault config)
+checked config = option_map (λ u. config) (result_ok (config_fault config))
 
 -- the configuration of a cache of this capacity, with so many read buffers and steps of a journal
 abbrev pub config_at : ℕ → ℕ → ℕ → List Row → Option Config
-config_at capacity stripes limit rows = option_and_then (λ main. checked (record {
-  capacity = capacity;
-  main_percent = main;
-  spread = spread_in row.spread rows;
-  stripes = stripes;
-  journal_limit = limit;
-})) (number_in row.main rows)
+config_at capacity stripes limit rows = option_and_then (λ main. checked
+    (record { capacity = capacity; main_percent = main; spread = spread_in row.spread rows; stripes = stripes; journal_limit = limit })) (number_in row.main rows)
 
 -- The configuration of a policy: it has no read buffers and no journal, and so one of each.
 abbrev pub config_in : List Row → Option Config
 config_in rows = option_and_then (λ capacity. config_at capacity 1 1 rows) (number_in row.capacity rows)
 
--- the configuration of a concurrent cache with so many read buffers
-abbrev pub concurrent_in : ℕ → List Row → Option Config
-concurrent_in stripes rows = option_and_then
-    (λ capacity. option_and_then (λ limit. config_at capacity stripes limit rows) (number_in row.limit rows))
-    (number_in row.capacity rows)
+-- the configuration of a concurrent cache
+abbrev pub concurrent_in : List Row → Option Config
+concurrent_in rows = option_and_then (λ stripes. option_and_then (λ capacity. option_and_then (λ limit.
+    config_at capacity stripes limit rows)
+    (number_in row.limit rows)) (number_in row.capacity rows))
+    (option_and_then stripes_from (wide_number_in row.stripes rows))
 
--- ---- the arguments of a subcommand; none where its matches are incomplete
+-- ---- what a subcommand is asked for; none where its matches are incomplete
 
-abbrev pub run_in : List Row → Option RunArguments
-run_in rows = option_and_then (λ config. option_and_then (λ batch. option_map (λ policies. record {
-  config = config;
-  policies = policies;
-  batch = batch;
-  format = format_in row.format rows;
-}) (policies_in row.policies rows)) (number_in row.batch rows)) (config_in rows)
+abbrev pub run_in : List Row → Option Arguments
+run_in rows = option_and_then (λ config. option_and_then (λ batch. option_map (λ policies.
+    asked.Run (record { config = config; policies = policies; batch = batch; format = format_in row.format rows })) (policies_in row.policies rows)) (number_in row.batch rows)) (config_in rows)
 
 -- each capacity replaces the configuration's
-abbrev pub sweep_in : List Row → Option SweepArguments
-sweep_in rows = option_and_then (λ config. option_and_then (λ policies. option_map (λ capacities. record {
+abbrev pub sweep_in : List Row → Option Arguments
+sweep_in rows = option_and_then (λ config. option_and_then (λ policies. option_map (λ capacities. asked.Sweep (record {
   config = config;
   policies = policies;
   capacities = capacities;
   format = format_in row.format rows;
-}) (capacities_in rows)) (policies_in row.swept_policies rows)) (config_at 1 1 1 rows)
+})) (capacities_in rows)) (policies_in row.swept_policies rows)) (config_at 1 1 1 rows)
 
-abbrev pub intervals_in : List Row → Option IntervalsArguments
-intervals_in rows = option_and_then (λ config. option_and_then (λ every. option_map (λ policies. record {
-  config = config;
-  policies = policies;
-  every = every;
-  format = format_in row.format rows;
-}) (policies_in row.policies rows)) (number_in row.every rows)) (config_in rows)
+abbrev pub intervals_in : List Row → Option Arguments
+intervals_in rows = option_and_then (λ config. option_and_then (λ every. option_map (λ policies.
+    asked.Intervals (record { config = config; policies = policies; every = every; format = format_in row.format rows })) (policies_in row.policies rows)) (number_in row.every rows)) (config_in rows)
 
 -- two policies on one configuration
 abbrev pub part_in : List Row → Option PartArguments
@@ -154,51 +124,42 @@ part_in rows = option_and_then (λ config. option_and_then (λ first. option_map
   format = format_in row.format rows;
 }) (policy_in row.second rows)) (policy_in row.first rows)) (config_in rows)
 
-abbrev pub drive_in : ℕ → List Row → Option DriveArguments
-drive_in stripes rows = option_and_then (λ config. option_map (λ workers. record {
-  config = config;
-  workers = workers;
-  format = format_in row.format rows;
-}) (number_in row.workers rows)) (concurrent_in stripes rows)
+abbrev pub drive_in : List Row → Option Arguments
+drive_in rows = option_and_then (λ config. option_map (λ workers.
+    asked.Drive (record { config = config; workers = workers; format = format_in row.format rows })) (number_in row.workers rows)) (concurrent_in rows)
 
-abbrev pub debug_in : List Row → Option DebugArguments
-debug_in rows = option_and_then (λ policies. option_map (λ trace. record {
-  policies = policies;
-  trace = trace;
-}) (first_of row.trace.id rows)) (part_in rows)
+abbrev pub debug_in : List Row → Option Arguments
+debug_in rows = option_and_then (λ policies. option_map (λ trace.
+    asked.Debug (record { policies = policies; trace = trace })) (first_of row.trace.id rows)) (part_in rows)
 
-abbrev pub replay_in : ℕ → List Row → Option ReplayArguments
-replay_in stripes rows = option_and_then (λ config. option_map (λ journal. record {
-  config = config;
-  journal = journal;
-}) (first_of row.journal.id rows)) (concurrent_in stripes rows)
+abbrev pub replay_in : List Row → Option Arguments
+replay_in rows = option_and_then (λ config. option_map (λ journal.
+    asked.Replay (record { config = config; journal = journal })) (first_of row.journal.id rows)) (concurrent_in rows)
 
 -- ---- the subcommand that was called
 
-abbrev pub complete : {A : Type 0} → Option A → Result A ParseFault
-complete None = Err Incomplete
-complete (Some arguments) = Ok arguments
-
--- the arguments with the number of read buffers, if that is one of a cache
-abbrev pub striped : {A : Type 0} → (ℕ → Option A) → Option ℕ → Result A ParseFault
-striped arguments None = Err Stripes
-striped arguments (Some stripes) = complete (arguments stripes)
-
 -- what the matches of the subcommand of this name ask for
-abbrev pub asked_of : Text → List Row → Result Arguments ParseFault
-asked_of name rows = if bytes_eq name row.run_command.name then complete (option_map asked.Run (run_in rows))
-    else (if bytes_eq name row.sweep_command.name then complete (option_map asked.Sweep (sweep_in rows))
-    else (if bytes_eq name row.intervals_command.name then complete (option_map asked.Intervals (intervals_in rows))
-    else (if bytes_eq name row.part_command.name then complete (option_map asked.Part (part_in rows))
-    else (if bytes_eq name row.compare_command.name then complete (option_map asked.Compare (part_in rows))
-    else (if bytes_eq name row.drive_command.name
-    then striped (λ n. option_map asked.Drive (drive_in n rows)) (stripes_in rows)
-    else (if bytes_eq name row.debug_command.name then complete (option_map asked.Debug (debug_in rows))
-    else (if bytes_eq name row.replay_command.name
-    then striped (λ n. option_map asked.Replay (replay_in n rows)) (stripes_in rows)
-    else Err Incomplete)))))))
+abbrev pub asked_of : Text → List Row → Option Arguments
+asked_of name rows = if bytes_eq name (codes "run") then run_in rows
+    else (if bytes_eq name (codes "sweep") then sweep_in rows
+    else (if bytes_eq name (codes "intervals") then intervals_in rows
+    else (if bytes_eq name (codes "part") then option_map asked.Part (part_in rows)
+    else (if bytes_eq name (codes "compare") then option_map asked.Compare (part_in rows)
+    else (if bytes_eq name (codes "drive") then drive_in rows
+    else (if bytes_eq name (codes "debug") then debug_in rows
+    else (if bytes_eq name (codes "replay") then replay_in rows
+    else None)))))))
+
+-- the number of read buffers is none of a cache
+abbrev pub has_wrong_stripes : List Row → Bool
+has_wrong_stripes rows = option_map_or (λ n. is_none (stripes_from n)) (wide_number_in row.stripes rows) false
+
+-- the arguments, or why there are none
+abbrev pub complete : List Row → Option Arguments → Result Arguments ParseFault
+complete rows None = Err (if has_wrong_stripes rows then Stripes else Incomplete)
+complete rows (Some arguments) = Ok arguments
 
 -- what is asked for by the subcommand that was called
 abbrev pub asked_in : Option (Text × List Row) → Result Arguments ParseFault
 asked_in None = Err Incomplete
-asked_in (Some (name, rows)) = asked_of name rows
+asked_in (Some (name, rows)) = complete rows (asked_of name rows)

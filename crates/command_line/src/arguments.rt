@@ -1,25 +1,22 @@
 //! What a call asks for, as typed values, and how they are made of the matches of a subcommand.
 ghost use Rattle.std.specs.Prelude.{◌≡◌, Ok, IfOk, IfSome};
-ghost use Rattle.clap.specs.Words.{found_of, rows_of};
 ghost use Rattle.step_record.specs.Config.{config_fault};
-ghost use Rattle.command_line.specs.Accepted.{AreAcceptedIntervals, IsAcceptedDrive, IsAcceptedPart, IsAcceptedRun};
-ghost use Rattle.command_line.specs.Accepted.{IsAcceptedSweep};
-ghost use Rattle.command_line.specs.Values.{concurrent_in, config_at, config_in, debug_in, drive_in, part_in};
-ghost use Rattle.command_line.specs.Values.{intervals_in, replay_in, run_in, sweep_in};
+ghost use Rattle.command_line.specs.Accepted.{AreAccepted, IsAcceptedPart};
+ghost use Rattle.command_line.specs.Values.{concurrent_in, config_at, config_in, debug_in, drive_in, intervals_in};
+ghost use Rattle.command_line.specs.Values.{part_in, replay_in, run_in, sweep_in};
 
 use crate::lists::{CapacityList, FilePath, PolicyList};
 use crate::options::{
-    BATCH, CAPACITY, EVERY, FIRST, FORMAT, JOURNAL, LIMIT, MAIN, POLICIES, SECOND, SPREAD,
+    BATCH, CAPACITY, EVERY, FIRST, FORMAT, JOURNAL, LIMIT, MAIN, POLICIES, SECOND, SPREAD, STRIPES,
     SWEPT_POLICIES, TRACE, WORKERS,
 };
-use crate::values::{capacities, format, number, path, policies, policy, small_number, spread};
-use clap::ArgMatches;
+use crate::values::{Matches, stripes_from};
 use std::alloc::{AllocError, Global};
 use step_record::{Config, Job};
 use trace_read::Format;
 
 /// What a call asks for: its subcommand, with its arguments.
-#[derive(Debug, Drop)]
+#[derive(Drop)]
 pub enum Arguments {
     /// `run`
     Run(RunArguments),
@@ -40,7 +37,7 @@ pub enum Arguments {
 }
 
 /// The arguments of `run`.
-#[derive(Debug, Drop)]
+#[derive(Drop)]
 pub struct RunArguments {
     /// The configuration of each policy. Its numbers are in their ranges.
     pub config: Config,
@@ -53,7 +50,7 @@ pub struct RunArguments {
 }
 
 /// The arguments of `sweep`.
-#[derive(Debug, Drop)]
+#[derive(Drop)]
 pub struct SweepArguments {
     /// The configuration of each policy at capacity 1, which each of `capacities` replaces.
     pub config: Config,
@@ -66,7 +63,7 @@ pub struct SweepArguments {
 }
 
 /// The arguments of `intervals`.
-#[derive(Debug, Drop)]
+#[derive(Drop)]
 pub struct IntervalsArguments {
     /// The configuration of each policy. Its numbers are in their ranges.
     pub config: Config,
@@ -79,7 +76,7 @@ pub struct IntervalsArguments {
 }
 
 /// The arguments of `part` and of `compare`.
-#[derive(Clone, Copy, Debug)]
+#[derive(Clone, Copy)]
 pub struct PartArguments {
     /// The one policy, with the configuration of both.
     pub first: Job,
@@ -90,7 +87,7 @@ pub struct PartArguments {
 }
 
 /// The arguments of `drive`.
-#[derive(Clone, Copy, Debug)]
+#[derive(Clone, Copy)]
 pub struct DriveArguments {
     /// The configuration of the cache and its journal. Its numbers are in their ranges.
     pub config: Config,
@@ -101,7 +98,7 @@ pub struct DriveArguments {
 }
 
 /// The arguments of `debug`.
-#[derive(Debug, Drop)]
+#[derive(Drop)]
 pub struct DebugArguments {
     /// The two policies, and the format of the trace.
     pub policies: PartArguments,
@@ -110,7 +107,7 @@ pub struct DebugArguments {
 }
 
 /// The arguments of `replay`.
-#[derive(Debug, Drop)]
+#[derive(Drop)]
 pub struct ReplayArguments {
     /// The configuration of the cache and its journal. Its numbers are in their ranges.
     pub config: Config,
@@ -118,180 +115,169 @@ pub struct ReplayArguments {
     pub journal: FilePath,
 }
 
-/// The arguments of `run` that the matches name; none where these are incomplete. The one error is out of memory.
-pub(crate) fn run_arguments(
-    alloc: Global,
-    matches: &ArgMatches<'_>,
-) -> Result<Option<RunArguments>, AllocError>
-    ensures value { IfOk result (λ arguments. arguments ≡ run_in (rows_of (found_of matches.now))) }
-    ensures accepted { IfOk result (λ arguments. IfSome arguments IsAcceptedRun) }
+/// What `run` is asked for by its matches; none where these are incomplete. The one error is out of memory.
+pub(crate) fn run(alloc: Global, asked: &Matches<'_, '_>) -> Result<Option<Arguments>, AllocError>
+    ensures value { IfOk result (λ arguments. arguments ≡ run_in asked.now) }
+    ensures accepted { IfOk result (λ arguments. IfSome arguments AreAccepted) }
 {
-    let Some(config) = policy_config(matches) else {
+    let Some(config) = policy_config(asked) else {
         return Ok(None);
     };
-    let Some(batch) = number(matches, &BATCH) else {
+    let Some(batch) = asked.number(&BATCH) else {
         return Ok(None);
     };
-    let Some(policies) = policies(alloc, matches, &POLICIES)? else {
+    let Some(policies) = asked.policies(alloc, &POLICIES)? else {
         return Ok(None);
     };
-    Ok(Some(RunArguments {
+    Ok(Some(Arguments::Run(RunArguments {
         config,
         policies,
         batch,
-        format: format(matches, &FORMAT),
-    }))
+        format: asked.format(&FORMAT),
+    })))
 }
 
-/// The arguments of `sweep`, in the same way.
-pub(crate) fn sweep_arguments(
-    alloc: Global,
-    matches: &ArgMatches<'_>,
-) -> Result<Option<SweepArguments>, AllocError>
-    ensures value { IfOk result (λ arguments. arguments ≡ sweep_in (rows_of (found_of matches.now))) }
-    ensures accepted { IfOk result (λ arguments. IfSome arguments IsAcceptedSweep) }
+/// What `sweep` is asked for, in the same way.
+pub(crate) fn sweep(alloc: Global, asked: &Matches<'_, '_>) -> Result<Option<Arguments>, AllocError>
+    ensures value { IfOk result (λ arguments. arguments ≡ sweep_in asked.now) }
+    ensures accepted { IfOk result (λ arguments. IfSome arguments AreAccepted) }
 {
-    let Some(config) = config(matches, 1, 1, 1) else {
+    let Some(config) = config(asked, 1, 1, 1) else {
         return Ok(None);
     };
-    let Some(policies) = policies(alloc, matches, &SWEPT_POLICIES)? else {
+    let Some(policies) = asked.policies(alloc, &SWEPT_POLICIES)? else {
         return Ok(None);
     };
-    let Some(capacities) = capacities(alloc, matches)? else {
+    let Some(capacities) = asked.capacities(alloc)? else {
         return Ok(None);
     };
-    Ok(Some(SweepArguments {
+    Ok(Some(Arguments::Sweep(SweepArguments {
         config,
         policies,
         capacities,
-        format: format(matches, &FORMAT),
-    }))
+        format: asked.format(&FORMAT),
+    })))
 }
 
-/// The arguments of `intervals`, in the same way.
-pub(crate) fn intervals_arguments(
+/// What `intervals` is asked for, in the same way.
+pub(crate) fn intervals(
     alloc: Global,
-    matches: &ArgMatches<'_>,
-) -> Result<Option<IntervalsArguments>, AllocError>
-    ensures value { IfOk result (λ arguments. arguments ≡ intervals_in (rows_of (found_of matches.now))) }
-    ensures accepted { IfOk result (λ arguments. IfSome arguments AreAcceptedIntervals) }
+    asked: &Matches<'_, '_>,
+) -> Result<Option<Arguments>, AllocError>
+    ensures value { IfOk result (λ arguments. arguments ≡ intervals_in asked.now) }
+    ensures accepted { IfOk result (λ arguments. IfSome arguments AreAccepted) }
 {
-    let Some(config) = policy_config(matches) else {
+    let Some(config) = policy_config(asked) else {
         return Ok(None);
     };
-    let Some(every) = number(matches, &EVERY) else {
+    let Some(every) = asked.number(&EVERY) else {
         return Ok(None);
     };
-    let Some(policies) = policies(alloc, matches, &POLICIES)? else {
+    let Some(policies) = asked.policies(alloc, &POLICIES)? else {
         return Ok(None);
     };
-    Ok(Some(IntervalsArguments {
+    Ok(Some(Arguments::Intervals(IntervalsArguments {
         config,
         policies,
         every,
-        format: format(matches, &FORMAT),
-    }))
+        format: asked.format(&FORMAT),
+    })))
 }
 
-/// The arguments of `part` and of `compare`, in the same way.
-pub(crate) fn part_arguments(matches: &ArgMatches<'_>) -> Option<PartArguments>
-    ensures value { result ≡ part_in (rows_of (found_of matches.now)) }
+/// What `part` and `compare` are asked for, in the same way.
+pub(crate) fn part(asked: &Matches<'_, '_>) -> Option<PartArguments>
+    ensures value { result ≡ part_in asked.now }
     ensures accepted { IfSome result IsAcceptedPart }
 {
-    let config = policy_config(matches)?;
-    let first = policy(matches, &FIRST)?;
-    let second = policy(matches, &SECOND)?;
+    let config = policy_config(asked)?;
     Some(PartArguments {
         first: Job {
-            policy: first,
+            policy: asked.policy(&FIRST)?,
             config,
         },
         second: Job {
-            policy: second,
+            policy: asked.policy(&SECOND)?,
             config,
         },
-        format: format(matches, &FORMAT),
+        format: asked.format(&FORMAT),
     })
 }
 
-/// The arguments of `drive` with so many read buffers, in the same way.
-pub(crate) fn drive_arguments(matches: &ArgMatches<'_>, stripes: u8) -> Option<DriveArguments>
-    ensures value { result ≡ drive_in stripes (rows_of (found_of matches.now)) }
-    ensures accepted { IfSome result IsAcceptedDrive }
+/// What `drive` is asked for, in the same way.
+pub(crate) fn drive(asked: &Matches<'_, '_>) -> Option<Arguments>
+    ensures value { result ≡ drive_in asked.now }
+    ensures accepted { IfSome result AreAccepted }
 {
-    let config = concurrent_config(matches, stripes)?;
-    let workers = small_number(matches, &WORKERS)?;
-    Some(DriveArguments {
+    let config = concurrent_config(asked)?;
+    let workers = asked.number(&WORKERS)?;
+    Some(Arguments::Drive(DriveArguments {
         config,
-        workers,
-        format: format(matches, &FORMAT),
-    })
+        workers: workers as u8,
+        format: asked.format(&FORMAT),
+    }))
 }
 
-/// The arguments of `debug`, in the same way.
-pub(crate) fn debug_arguments(
-    alloc: Global,
-    matches: &ArgMatches<'_>,
-) -> Result<Option<DebugArguments>, AllocError>
-    ensures value { IfOk result (λ arguments. arguments ≡ debug_in (rows_of (found_of matches.now))) }
-    ensures accepted { IfOk result (λ arguments. IfSome arguments (λ debug. IsAcceptedPart debug.policies)) }
+/// What `debug` is asked for, in the same way.
+pub(crate) fn debug(alloc: Global, asked: &Matches<'_, '_>) -> Result<Option<Arguments>, AllocError>
+    ensures value { IfOk result (λ arguments. arguments ≡ debug_in asked.now) }
+    ensures accepted { IfOk result (λ arguments. IfSome arguments AreAccepted) }
 {
-    let Some(policies) = part_arguments(matches) else {
+    let Some(policies) = part(asked) else {
         return Ok(None);
     };
-    let Some(trace) = path(alloc, matches, &TRACE)? else {
+    let Some(trace) = asked.path(alloc, &TRACE)? else {
         return Ok(None);
     };
-    Ok(Some(DebugArguments { policies, trace }))
+    Ok(Some(Arguments::Debug(DebugArguments { policies, trace })))
 }
 
-/// The arguments of `replay` with so many read buffers, in the same way.
-pub(crate) fn replay_arguments(
+/// What `replay` is asked for, in the same way.
+pub(crate) fn replay(
     alloc: Global,
-    matches: &ArgMatches<'_>,
-    stripes: u8,
-) -> Result<Option<ReplayArguments>, AllocError>
-    ensures value { IfOk result (λ arguments. arguments ≡ replay_in stripes (rows_of (found_of matches.now))) }
-    ensures accepted { IfOk result (λ arguments. IfSome arguments (λ replay. config_fault replay.config ≡ Ok tt)) }
+    asked: &Matches<'_, '_>,
+) -> Result<Option<Arguments>, AllocError>
+    ensures value { IfOk result (λ arguments. arguments ≡ replay_in asked.now) }
+    ensures accepted { IfOk result (λ arguments. IfSome arguments AreAccepted) }
 {
-    let Some(config) = concurrent_config(matches, stripes) else {
+    let Some(config) = concurrent_config(asked) else {
         return Ok(None);
     };
-    let Some(journal) = path(alloc, matches, &JOURNAL)? else {
+    let Some(journal) = asked.path(alloc, &JOURNAL)? else {
         return Ok(None);
     };
-    Ok(Some(ReplayArguments { config, journal }))
+    Ok(Some(Arguments::Replay(ReplayArguments { config, journal })))
 }
 
 // The configuration of a policy that the matches name.
-fn policy_config(matches: &ArgMatches<'_>) -> Option<Config>
-    ensures value { result ≡ config_in (rows_of (found_of matches.now)) }
+fn policy_config(asked: &Matches<'_, '_>) -> Option<Config>
+    ensures value { result ≡ config_in asked.now }
     ensures accepted { IfSome result (λ config. config_fault config ≡ Ok tt) }
 {
-    let capacity = number(matches, &CAPACITY)?;
-    config(matches, capacity, 1, 1)
+    let capacity = asked.number(&CAPACITY)?;
+    config(asked, capacity, 1, 1)
 }
 
-// The configuration of a concurrent cache with so many read buffers that the matches name.
-fn concurrent_config(matches: &ArgMatches<'_>, stripes: u8) -> Option<Config>
-    ensures value { result ≡ concurrent_in stripes (rows_of (found_of matches.now)) }
+// The configuration of a concurrent cache that the matches name.
+fn concurrent_config(asked: &Matches<'_, '_>) -> Option<Config>
+    ensures value { result ≡ concurrent_in asked.now }
     ensures accepted { IfSome result (λ config. config_fault config ≡ Ok tt) }
 {
-    let capacity = number(matches, &CAPACITY)?;
-    let limit = number(matches, &LIMIT)?;
-    config(matches, capacity, stripes, limit)
+    let stripes = stripes_from(asked.wide_number(&STRIPES)?)?;
+    let capacity = asked.number(&CAPACITY)?;
+    let limit = asked.number(&LIMIT)?;
+    config(asked, capacity, stripes, limit)
 }
 
 // The configuration of these numbers and what the matches name beside them, where it is accepted.
-fn config(matches: &ArgMatches<'_>, capacity: u32, stripes: u8, limit: u32) -> Option<Config>
-    ensures value { result ≡ config_at capacity stripes limit (rows_of (found_of matches.now)) }
+fn config(asked: &Matches<'_, '_>, capacity: u32, stripes: u8, limit: u32) -> Option<Config>
+    ensures value { result ≡ config_at capacity stripes limit asked.now }
     ensures accepted { IfSome result (λ config. config_fault config ≡ Ok tt) }
 {
-    let main_percent = small_number(matches, &MAIN)?;
+    let main_percent = asked.number(&MAIN)?;
     let config = Config {
         capacity,
-        main_percent,
-        spread: spread(matches, &SPREAD),
+        main_percent: main_percent as u8,
+        spread: asked.spread(&SPREAD),
         stripes,
         journal_limit: limit,
     };

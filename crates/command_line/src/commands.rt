@@ -1,10 +1,11 @@
 //! The program's commands, as `clap` builds them from the rows.
 ghost use Rattle.std.specs.Prelude.{◌≡◌, false, IfOk, map};
-ghost use Rattle.clap.specs.Words.{App, Rule, app_of, new_app, new_rule, rule_of, with_rule, with_subcommand};
+ghost use Rattle.clap.specs.Words.{app_of, new_app, new_rule, rule_of};
 ghost use Rattle.clap.specs.declared.builder.command.Command.TheViews.{out-Command};
-ghost use Rattle.command_line.specs.Options.{defined, defined_subcommand};
-ghost use Rattle.command_line.specs.Program.{Makes, app_of_subcommand, empty_app, parser_of, program_app};
-ghost use Rattle.command_line.specs.Program.{rule_of_row, with_options, with_place, with_subcommands};
+ghost use Rattle.command_line.specs.Options.{defined, defined_subcommand, subcommands};
+ghost use Rattle.command_line.specs.Program.{IsCommandOf, app_of_subcommand, empty_app, parser_of, program_app};
+ghost use Rattle.command_line.specs.Program.{rule_of_row, with_options, with_place};
+ghost use Rattle.command_line.specs.Program.{with_subcommands};
 
 use crate::choices::WordLists;
 use crate::options::{OptionRow, Place, SUBCOMMANDS, Subcommand, ValueKind};
@@ -19,68 +20,47 @@ const VERSION: &str = "0.1.0";
 pub(crate) fn program<'a>(alloc: Global, lists: &WordLists<'a>) -> Result<Command<'a>, AllocError>
     ensures { IfOk result (λ c. app_of c ≡ program_app lists.now) }
 {
-    added(alloc, top_command(alloc), SUBCOMMANDS.as_slice(), lists)
+    let top = top_command(alloc)?;
+    with_subcommands(alloc, top, rows(), lists)
 }
 
-// `cachesim` itself, which has a version and wants a subcommand.
-fn top_command<'a>(alloc: Global) -> Result<Command<'a>, AllocError>
-    ensures { Makes empty_app result }
+// The rows of all subcommands.
+fn rows() -> &'static [Subcommand]
+    ensures { map defined_subcommand result.now ≡ subcommands }
 {
-    let named = Command::new(alloc, "cachesim");
-    let top = named.about("Simulates cache policies over recorded block traces");
-    let versioned = top.version(VERSION);
-    Ok(versioned.subcommand_required(true))
+    &SUBCOMMANDS
 }
 
-// The command that was made, with these subcommands more; or what failed.
-fn added<'a>(
+// `cachesim` itself, which has a version, wants a subcommand, and is handed the words after its name.
+fn top_command<'a>(alloc: Global) -> Result<Command<'a>, AllocError>
+    ensures { IfOk result (IsCommandOf empty_app) }
+{
+    Command::new(alloc, "cachesim")
+        .about("Simulates cache policies over recorded block traces")
+        .version(VERSION)
+        .subcommand_required(true)
+        .no_binary_name(true)
+        .bin_name("cachesim")
+}
+
+// The command, with these subcommands more.
+fn with_subcommands<'a>(
     alloc: Global,
-    made: Result<Command<'a>, AllocError>,
+    command: Command<'a>,
     subcommands: &[Subcommand],
     lists: &WordLists<'a>,
 ) -> Result<Command<'a>, AllocError>
-    ensures { (app : App) → Makes app made.entry → Makes (with_subcommands lists.now (map defined_subcommand subcommands.now) app) result }
+    requires { (out-Command command).has_globals ≡ false }
+    ensures { IfOk result (IsCommandOf (with_subcommands lists.now (map defined_subcommand subcommands.now) (app_of command.entry))) }
 {
     match subcommands.split_first() {
-        None => made,
+        None => Ok(command),
         Some((first, rest)) => {
-            let one_more = with_added(made, subcommand(alloc, first, lists));
-            added(alloc, one_more, rest, lists)
-        }
-    }
-}
-
-// The command that was made, with a subcommand more; or what failed.
-fn with_added<'a>(
-    made: Result<Command<'a>, AllocError>,
-    subcommand: Result<Command<'a>, AllocError>,
-) -> Result<Command<'a>, AllocError>
-    ensures { (app sub : App) → Makes app made.entry → Makes sub subcommand.entry
-        → Makes (with_subcommand app sub.top) result }
-{
-    match made {
-        Ok(command) => joined(command, subcommand),
-        Err(error) => {
-            drop(subcommand);
-            Err(error)
-        }
-    }
-}
-
-// The command with a subcommand more, where memory sufficed for that.
-fn joined<'a>(
-    command: Command<'a>,
-    made: Result<Command<'a>, AllocError>,
-) -> Result<Command<'a>, AllocError>
-    ensures { (app sub : App) → app_of command.entry ≡ app
-        → (out-Command command.entry).has_globals ≡ false → Makes sub made.entry
-        → Makes (with_subcommand app sub.top) result }
-{
-    match made {
-        Ok(subcommand) => command.subcommand(subcommand),
-        Err(error) => {
-            drop(command);
-            Err(error)
+            let subcommand = subcommand(alloc, first, lists)?;
+            match command.subcommand(subcommand) {
+                Ok(command) => with_subcommands(alloc, command, rest, lists),
+                Err(error) => Err(error),
+            }
         }
     }
 }
@@ -91,57 +71,43 @@ fn subcommand<'a>(
     subcommand: &Subcommand,
     lists: &WordLists<'a>,
 ) -> Result<Command<'a>, AllocError>
-    ensures { Makes (app_of_subcommand lists.now (defined_subcommand subcommand.now)) result }
+    ensures { IfOk result (IsCommandOf (app_of_subcommand lists.now (defined_subcommand subcommand.now))) }
 {
-    extended(
+    with_options(
         alloc,
-        described(alloc, subcommand),
+        without_options(alloc, subcommand),
         subcommand.options,
         lists,
     )
 }
 
 // The subcommand without options, whose help has its texts.
-fn described<'a>(alloc: Global, subcommand: &Subcommand) -> Result<Command<'a>, AllocError>
-    ensures { Makes (new_app subcommand.now.name.now) result }
+fn without_options<'a>(alloc: Global, subcommand: &Subcommand) -> Command<'a>
+    ensures { IsCommandOf (new_app subcommand.now.name.now) result }
 {
-    let named = Command::new(alloc, subcommand.name);
-    let listed = named.about(subcommand.about);
-    let explained = listed.long_about(subcommand.whole);
-    Ok(explained.after_help(subcommand.example))
+    Command::new(alloc, subcommand.name)
+        .about(subcommand.about)
+        .long_about(subcommand.whole)
+        .after_help(subcommand.example)
 }
 
-// The command that was made, with these options more; or what failed.
-fn extended<'a>(
+// The command, with these options more.
+fn with_options<'a>(
     alloc: Global,
-    made: Result<Command<'a>, AllocError>,
+    command: Command<'a>,
     options: &[OptionRow],
     lists: &WordLists<'a>,
 ) -> Result<Command<'a>, AllocError>
-    ensures { (app : App) → Makes app made.entry → Makes (with_options lists.now (map defined options.now) app) result }
+    requires { (out-Command command).has_globals ≡ false }
+    ensures { IfOk result (IsCommandOf (with_options lists.now (map defined options.now) (app_of command.entry))) }
 {
     match options.split_first() {
-        None => made,
+        None => Ok(command),
         Some((first, rest)) => {
-            let one_more = with_arg(made, arg(alloc, first, lists));
-            extended(alloc, one_more, rest, lists)
-        }
-    }
-}
-
-// The command that was made, with an argument more; or what failed.
-fn with_arg<'a>(
-    made: Result<Command<'a>, AllocError>,
-    arg: Arg<'a>,
-) -> Result<Command<'a>, AllocError>
-    ensures { (app : App) (rule : Rule) → Makes app made.entry → rule_of arg.entry ≡ rule
-        → arg.entry.global ≡ false → Makes (with_rule app rule) result }
-{
-    match made {
-        Ok(command) => command.arg(arg),
-        Err(error) => {
-            drop(arg);
-            Err(error)
+            match command.arg(arg(alloc, first, lists)) {
+                Ok(command) => with_options(alloc, command, rest, lists),
+                Err(error) => Err(error),
+            }
         }
     }
 }
@@ -151,41 +117,39 @@ fn arg<'a>(alloc: Global, row: &OptionRow, lists: &WordLists<'a>) -> Arg<'a>
     ensures rule { rule_of result ≡ rule_of_row lists.now (defined row.now) }
     ensures local { result.global ≡ false }
 {
-    let valued = valued(alloc, row, lists);
-    let described = valued.value_name(row.value_name).help(row.help);
-    let placed = placed(described, row);
+    let arg = placed(alloc, row)
+        .value_parser(parser(row.value, lists))
+        .value_name(row.value_name)
+        .help(row.help);
     match row.default {
-        Some(word) => placed.default_value(word),
-        None => placed.required(true),
+        Some(word) => arg.default_value(word),
+        None => arg.required(true),
     }
 }
 
-// An argument of the row's name, which takes the row's values.
-fn valued<'a>(alloc: Global, row: &OptionRow, lists: &WordLists<'a>) -> Arg<'a>
-    ensures rule { rule_of result ≡ record (new_rule row.now.id.now) { parser = parser_of lists.now row.now.value } }
+// An argument of the row's name, given as the row says.
+fn placed<'a>(alloc: Global, row: &OptionRow) -> Arg<'a>
+    ensures rule { rule_of result ≡ with_place row.now.place row.now.id.now (new_rule row.now.id.now) }
     ensures local { result.global ≡ false }
 {
     let arg = Arg::new(alloc, row.id);
-    match row.value {
-        ValueKind::Number(least, most) => {
-            arg.value_parser(ValueParser::Signed(i64::from(least), i64::from(most)))
-        }
-        ValueKind::AnyNumber => arg.value_parser(ValueParser::Unsigned(0, u64::MAX)),
-        ValueKind::Policy => arg.value_parser(lists.policies),
-        ValueKind::Format => arg.value_parser(lists.formats),
-        ValueKind::Spread => arg.value_parser(lists.spreads),
-        ValueKind::File => arg,
-    }
-}
-
-// The argument, given as the row says.
-fn placed<'a>(arg: Arg<'a>, row: &OptionRow) -> Arg<'a>
-    ensures rule { rule_of result ≡ with_place row.now.place row.now.id.now (rule_of arg.entry) }
-    ensures local { result.global ≡ arg.entry.global }
-{
     match row.place {
         Place::Named => arg.long(row.id),
         Place::NamedOften => arg.long(row.id).action(ArgAction::Append),
         Place::Positional => arg.num_args(1..).action(ArgAction::Append),
+    }
+}
+
+// What `clap` takes as a value.
+fn parser<'a>(value: ValueKind, lists: &WordLists<'a>) -> ValueParser<'a>
+    ensures { result ≡ parser_of lists.now value }
+{
+    match value {
+        ValueKind::Number(least, most) => ValueParser::Signed(i64::from(least), i64::from(most)),
+        ValueKind::AnyNumber => ValueParser::Unsigned(0, u64::MAX),
+        ValueKind::Policy => ValueParser::Names(lists.policies),
+        ValueKind::Format => ValueParser::Names(lists.formats),
+        ValueKind::Spread => ValueParser::Names(lists.spreads),
+        ValueKind::File => ValueParser::String,
     }
 }

@@ -6,7 +6,7 @@ use clap::Error;
 use std::alloc::AllocError;
 
 /// Why the words of a call gave no arguments.
-#[derive(Debug, Drop)]
+#[derive(Drop)]
 pub enum ParseFault {
     /// The allocation failed.
     OutOfMemory,

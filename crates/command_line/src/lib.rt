@@ -22,5 +22,5 @@ pub use arguments::{
     RunArguments, SweepArguments,
 };
 pub use fault::ParseFault;
-pub use lists::{CapacityList, FilePath, PolicyList};
+pub use lists::{CapacityList, FilePath, NamedList, PolicyList};
 pub use parser::parse;

@@ -4,69 +4,39 @@ ghost use Rattle.std.specs.Prelude.{◌≡◌, string_bytes};
 use std::marker::Model;
 use step_record::Policy;
 
+/// What was named, in order.
+#[derive(Drop)]
+pub struct NamedList<T> {
+    pub(crate) named: Vec<T>,
+}
+
 /// Policies, in the order in which they were named.
-#[derive(Debug, Drop)]
-pub struct PolicyList {
-    policies: Vec<Policy>,
-}
-
-impl Model for PolicyList {
-    ghost use Rattle.std.specs.Prelude.{List};
-    ghost use Rattle.step_record.specs.declared.job.Policy.{Policy};
-
-    ghost Value = { List Policy };
-
-    ghost view = { λ l. l.policies.items };
-}
-
-impl PolicyList {
-    pub(crate) fn new(policies: Vec<Policy>) -> PolicyList
-        ensures { result ≡ policies.items }
-    {
-        PolicyList { policies }
-    }
-
-    /// The policies, as a slice.
-    pub fn as_slice(&self) -> &[Policy]
-        ensures { result.now ≡ self.now }
-    {
-        self.policies.as_slice()
-    }
-}
+pub type PolicyList = NamedList<Policy>;
 
 /// Capacities, in the order in which they were named.
-#[derive(Debug, Drop)]
-pub struct CapacityList {
-    capacities: Vec<u32>,
+pub type CapacityList = NamedList<u32>;
+
+impl<T> Model for NamedList<T> {
+    ghost use Rattle.std.specs.Prelude.{List};
+
+    ghost Value = { List T };
+
+    ghost view = { λ l. l.named.items };
 }
 
-impl Model for CapacityList {
-    ghost use Rattle.std.specs.Prelude.{ℕ, List};
-
-    ghost Value = { List ℕ };
-
-    ghost view = { λ l. l.capacities.items };
-}
-
-impl CapacityList {
-    pub(crate) fn new(capacities: Vec<u32>) -> CapacityList
-        ensures { result ≡ capacities.items }
-    {
-        CapacityList { capacities }
-    }
-
-    /// The capacities, as a slice.
-    pub fn as_slice(&self) -> &[u32]
+impl<T> NamedList<T> {
+    /// The list, as a slice.
+    pub fn as_slice(&self) -> &[T]
         ensures { result.now ≡ self.now }
     {
-        self.capacities.as_slice()
+        self.named.as_slice()
     }
 }
 
 /// The path of a file.
-#[derive(Debug, Drop)]
+#[derive(Drop)]
 pub struct FilePath {
-    path: String,
+    pub(crate) path: String,
 }
 
 impl Model for FilePath {
@@ -78,12 +48,6 @@ impl Model for FilePath {
 }
 
 impl FilePath {
-    pub(crate) fn new(path: String) -> FilePath
-        ensures { result ≡ string_bytes path }
-    {
-        FilePath { path }
-    }
-
     /// The path, as text.
     pub fn as_str(&self) -> &str
         ensures { result.now ≡ self.now }

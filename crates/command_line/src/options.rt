@@ -62,95 +62,77 @@ pub enum Place {
 }
 
 /// All subcommands, in the order in which help lists them.
-pub const SUBCOMMANDS: [Subcommand; 8] = [
-    RUN, SWEEP, INTERVALS, PART, COMPARE, DRIVE, DEBUG, REPLAY,
-];
-
-/// `run`, which prints a report for each policy that is named.
-pub const RUN: Subcommand = Subcommand {
-    name: "run",
-    about: "Runs policies over the trace on standard input and prints a report of each",
-    whole: "Runs policies over the trace on standard input and prints a report of each.
+pub static SUBCOMMANDS: [Subcommand; 8] = [
+    Subcommand {
+        name: "run",
+        about: "Runs policies over the trace on standard input and prints a report of each",
+        whole: "Runs policies over the trace on standard input and prints a report of each.
 The trace comes by a redirection (< FILE) or a pipe. Without one, at a terminal, the program waits
 for you to type the trace, a line each, up to Ctrl-D.",
-    example: "Example: cachesim run --capacity 100 lru wtinylfu clairvoyant < trace.lirs",
-    options: &[CAPACITY, MAIN, SPREAD, FORMAT, BATCH, POLICIES],
-};
-
-/// `sweep`, which prints a report of each policy that is named at each capacity.
-pub const SWEEP: Subcommand = Subcommand {
-    name: "sweep",
-    about: "Runs policies over the trace on standard input and prints a report of each at each capacity",
-    whole: "Runs policies over the trace on standard input and prints a report of each at each capacity.
+        example: "Example: cachesim run --capacity 100 lru wtinylfu clairvoyant < trace.lirs",
+        options: &[CAPACITY, MAIN, SPREAD, FORMAT, BATCH, POLICIES],
+    },
+    Subcommand {
+        name: "sweep",
+        about: "Runs policies over the trace on standard input and prints a report of each at each capacity",
+        whole: "Runs policies over the trace on standard input and prints a report of each at each capacity.
 The trace comes by a redirection (< FILE) or a pipe.",
-    example: "Example: cachesim sweep --policy wtinylfu 50 100 200 400 < trace.lirs",
-    options: &[MAIN, SPREAD, FORMAT, SWEPT_POLICIES, CAPACITIES],
-};
-
-/// `intervals`, which prints what each policy that is named makes of each interval of the trace.
-pub const INTERVALS: Subcommand = Subcommand {
-    name: "intervals",
-    about: "Runs policies over the trace on standard input and prints what each makes of each interval of it",
-    whole: "Runs policies over the trace on standard input and prints what each makes of each interval of it: a row for
+        example: "Example: cachesim sweep --policy wtinylfu 50 100 200 400 < trace.lirs",
+        options: &[MAIN, SPREAD, FORMAT, SWEPT_POLICIES, CAPACITIES],
+    },
+    Subcommand {
+        name: "intervals",
+        about: "Runs policies over the trace on standard input and prints what each makes of each interval of it",
+        whole: "Runs policies over the trace on standard input and prints what each makes of each interval of it: a row for
 each --every accesses. The caches stay as they are from one interval to the next. The trace comes by a
 redirection (< FILE) or a pipe.",
-    example: "Example: cachesim intervals --capacity 100 --every 1000 lru wtinylfu < trace.lirs",
-    options: &[CAPACITY, EVERY, MAIN, SPREAD, FORMAT, POLICIES],
-};
-
-/// `part`, which prints the first access at which just one of two policies hits.
-pub const PART: Subcommand = Subcommand {
-    name: "part",
-    about: "Prints the first access of the trace on standard input at which just one of two policies hits",
-    whole: "Prints where two policies diverge: `part P`, P the first access of the trace on standard input, counted
+        example: "Example: cachesim intervals --capacity 100 --every 1000 lru wtinylfu < trace.lirs",
+        options: &[CAPACITY, EVERY, MAIN, SPREAD, FORMAT, POLICIES],
+    },
+    Subcommand {
+        name: "part",
+        about: "Prints the first access of the trace on standard input at which just one of two policies hits",
+        whole: "Prints where two policies diverge: `part P`, P the first access of the trace on standard input, counted
 from 1, at which just one of them hits, or `part none`. The trace comes by a redirection (< FILE) or a pipe.",
-    example: "Example: cachesim part --capacity 100 --first lru --second slru < trace.lirs",
-    options: &[CAPACITY, MAIN, SPREAD, FORMAT, FIRST, SECOND],
-};
-
-/// `compare`, which prints how often two policies hit at the same accesses.
-pub const COMPARE: Subcommand = Subcommand {
-    name: "compare",
-    about: "Prints at how many accesses of the trace on standard input both of two policies hit, one alone, or neither",
-    whole: "Prints at how many accesses of the trace on standard input both of two policies hit, only the first, only
+        example: "Example: cachesim part --capacity 100 --first lru --second slru < trace.lirs",
+        options: &[CAPACITY, MAIN, SPREAD, FORMAT, FIRST, SECOND],
+    },
+    Subcommand {
+        name: "compare",
+        about: "Prints at how many accesses of the trace on standard input both of two policies hit, one alone, or neither",
+        whole: "Prints at how many accesses of the trace on standard input both of two policies hit, only the first, only
 the second, and neither. The trace comes by a redirection (< FILE) or a pipe.",
-    example: "Example: cachesim compare --capacity 100 --first lru --second slru < trace.lirs",
-    options: &[CAPACITY, MAIN, SPREAD, FORMAT, FIRST, SECOND],
-};
-
-/// `drive`, which prints the journal of workers on threads.
-pub const DRIVE: Subcommand = Subcommand {
-    name: "drive",
-    about: "Runs the concurrent cache on threads over the trace on standard input and prints its journal",
-    whole: "Runs the concurrent cache on threads over the trace on standard input and prints its journal, which
+        example: "Example: cachesim compare --capacity 100 --first lru --second slru < trace.lirs",
+        options: &[CAPACITY, MAIN, SPREAD, FORMAT, FIRST, SECOND],
+    },
+    Subcommand {
+        name: "drive",
+        about: "Runs the concurrent cache on threads over the trace on standard input and prints its journal",
+        whole: "Runs the concurrent cache on threads over the trace on standard input and prints its journal, which
 `replay` reads. The trace comes by a redirection (< FILE) or a pipe.",
-    example: "Example: cachesim drive --capacity 100 --workers 4 < trace.lirs > run.journal",
-    options: &[CAPACITY, MAIN, SPREAD, FORMAT, WORKERS, STRIPES, LIMIT],
-};
-
-/// `debug`, which answers commands about two policies over a trace.
-pub const DEBUG: Subcommand = Subcommand {
-    name: "debug",
-    about: "Answers commands on standard input about two policies over the trace of a file",
-    whole: "Answers commands on standard input about two policies over the trace of a file. A command is a line:
+        example: "Example: cachesim drive --capacity 100 --workers 4 < trace.lirs > run.journal",
+        options: &[CAPACITY, MAIN, SPREAD, FORMAT, WORKERS, STRIPES, LIMIT],
+    },
+    Subcommand {
+        name: "debug",
+        about: "Answers commands on standard input about two policies over the trace of a file",
+        whole: "Answers commands on standard input about two policies over the trace of a file. A command is a line:
 step N, back N, goto N, run, break hit K, break evict K, break halve, break part, clear, show, part, quit.
 Here standard input has the commands, and --trace names the file of the trace.",
-    example: "Example: cachesim debug --trace trace.lirs --capacity 100 --first lru --second slru",
-    options: &[CAPACITY, MAIN, SPREAD, FORMAT, FIRST, SECOND, TRACE],
-};
-
-/// `replay`, which answers commands about a journal.
-pub const REPLAY: Subcommand = Subcommand {
-    name: "replay",
-    about: "Answers commands on standard input about the concurrent run whose journal is in a file",
-    whole: "Answers commands on standard input about the concurrent run whose journal is in a file. A command is a
+        example: "Example: cachesim debug --trace trace.lirs --capacity 100 --first lru --second slru",
+        options: &[CAPACITY, MAIN, SPREAD, FORMAT, FIRST, SECOND, TRACE],
+    },
+    Subcommand {
+        name: "replay",
+        about: "Answers commands on standard input about the concurrent run whose journal is in a file",
+        whole: "Answers commands on standard input about the concurrent run whose journal is in a file. A command is a
 line: step N, back N, goto N, run, break hit K, break evict K, break halve, break drop, clear, show, save, quit.
 Give --capacity, --stripes, --main, --spread and --limit as they were given to `drive`.",
-    example: "Example: cachesim replay --journal run.journal --capacity 100",
-    options: &[CAPACITY, MAIN, SPREAD, JOURNAL, STRIPES, LIMIT],
-};
+        example: "Example: cachesim replay --journal run.journal --capacity 100",
+        options: &[CAPACITY, MAIN, SPREAD, JOURNAL, STRIPES, LIMIT],
+    },
+];
 
-/// The capacity of a cache.
 pub const CAPACITY: OptionRow = OptionRow {
     id: "capacity",
     value_name: "N",
@@ -160,7 +142,6 @@ pub const CAPACITY: OptionRow = OptionRow {
     default: None,
 };
 
-/// The capacities of a sweep.
 pub const CAPACITIES: OptionRow = OptionRow {
     id: "capacities",
     value_name: "CAPACITY",
@@ -170,7 +151,6 @@ pub const CAPACITIES: OptionRow = OptionRow {
     default: None,
 };
 
-/// The share of the main part, in percent.
 pub const MAIN: OptionRow = OptionRow {
     id: "main",
     value_name: "N",
@@ -180,7 +160,6 @@ pub const MAIN: OptionRow = OptionRow {
     default: Some("99"),
 };
 
-/// How keys are spread.
 pub const SPREAD: OptionRow = OptionRow {
     id: "spread",
     value_name: "SPREAD",
@@ -190,7 +169,6 @@ pub const SPREAD: OptionRow = OptionRow {
     default: Some("mixed"),
 };
 
-/// The format of the trace.
 pub const FORMAT: OptionRow = OptionRow {
     id: "format",
     value_name: "FORMAT",
@@ -200,7 +178,6 @@ pub const FORMAT: OptionRow = OptionRow {
     default: Some("lirs"),
 };
 
-/// The size of a batch.
 pub const BATCH: OptionRow = OptionRow {
     id: "batch",
     value_name: "N",
@@ -210,7 +187,6 @@ pub const BATCH: OptionRow = OptionRow {
     default: Some("1024"),
 };
 
-/// The length of an interval.
 pub const EVERY: OptionRow = OptionRow {
     id: "every",
     value_name: "M",
@@ -220,7 +196,6 @@ pub const EVERY: OptionRow = OptionRow {
     default: None,
 };
 
-/// The policies of a run.
 pub const POLICIES: OptionRow = OptionRow {
     id: "policy",
     value_name: "POLICY",
@@ -230,7 +205,6 @@ pub const POLICIES: OptionRow = OptionRow {
     default: None,
 };
 
-/// The policies of a sweep.
 pub const SWEPT_POLICIES: OptionRow = OptionRow {
     id: "policy",
     value_name: "POLICY",
@@ -240,7 +214,6 @@ pub const SWEPT_POLICIES: OptionRow = OptionRow {
     default: None,
 };
 
-/// The one policy of two.
 pub const FIRST: OptionRow = OptionRow {
     id: "first",
     value_name: "POLICY",
@@ -250,7 +223,6 @@ pub const FIRST: OptionRow = OptionRow {
     default: None,
 };
 
-/// The other policy of two.
 pub const SECOND: OptionRow = OptionRow {
     id: "second",
     value_name: "POLICY",
@@ -260,7 +232,6 @@ pub const SECOND: OptionRow = OptionRow {
     default: None,
 };
 
-/// The number of workers.
 pub const WORKERS: OptionRow = OptionRow {
     id: "workers",
     value_name: "N",
@@ -270,7 +241,6 @@ pub const WORKERS: OptionRow = OptionRow {
     default: Some("2"),
 };
 
-/// The number of read buffers.
 pub const STRIPES: OptionRow = OptionRow {
     id: "stripes",
     value_name: "N",
@@ -280,7 +250,6 @@ pub const STRIPES: OptionRow = OptionRow {
     default: Some("4"),
 };
 
-/// The limit of the journal.
 pub const LIMIT: OptionRow = OptionRow {
     id: "limit",
     value_name: "N",
@@ -290,7 +259,6 @@ pub const LIMIT: OptionRow = OptionRow {
     default: Some("1048576"),
 };
 
-/// The file of a trace.
 pub const TRACE: OptionRow = OptionRow {
     id: "trace",
     value_name: "FILE",
@@ -300,7 +268,6 @@ pub const TRACE: OptionRow = OptionRow {
     default: None,
 };
 
-/// The file of a journal.
 pub const JOURNAL: OptionRow = OptionRow {
     id: "journal",
     value_name: "FILE",
