@@ -1,5 +1,5 @@
 -- Configurations that are accepted give no fault of jobs.
-use Rattle.std.proofs.Common.{◌≡◌, ◌≤◌, ◌+◌, refl, Bool, true, false, ℕ, List, [], ◌∷◌, length, map, None, Result, Ok, Err}
+use Rattle.std.proofs.Common.{◌≡◌, ◌≤◌, ◌+◌, refl, Bool, true, false, ℕ, List, [], ◌∷◌, length, map, subst, Option, None, Result, Ok, Err}
 use Rattle.std.specs.List.{AllPass}
 use Rattle.std.specs.Prelude.{if◌then◌else◌}
 use Rattle.std.proofs.lemmas.List.Elements.{All-head, All-tail}
@@ -11,15 +11,19 @@ use Rattle.step_record.specs.declared.job.Policy.{Policy}
 use Rattle.step_record.specs.declared.config.ConfigFault.{ConfigFault}
 use Rattle.step_record.specs.declared.config.ConfigFault.TheVariants.{Capacity}
 use Rattle.step_record.specs.declared.limits.TheConstants.{MAX_BATCH, MAX_CAPACITY}
-use Rattle.policies.specs.FaultyJobs.{at_capacity, faulty_from, faulty_in}
+use Rattle.policies.specs.FaultyJobs.{at_capacity, faulty_from, faulty_in, ReturnsFault}
+use Rattle.policies.specs.declared.actor_fault.ActorFault.{ActorFault}
+use Rattle.policies.specs.declared.actor_fault.ActorFault.TheVariants.{OutOfMemory}
 use Rattle.sweeps.specs.Sweep.{first_config_fault, sweep_fault}
 use Rattle.policy_actors.specs.Faults.{actor_fault}
+use Rattle.intervals.specs.Intervals.{intervals_fault}
 use Rattle.policies.specs.declared.job_checks.TheConstants.{MAX_ACTORS}
 use Rattle.command_line.specs.Accepted.{IsAcceptedPart, IsAcceptedRun, IsAcceptedSweep}
 use Rattle.command_line.specs.declared.arguments.PartArguments.{PartArguments}
 use Rattle.command_line.specs.declared.arguments.RunArguments.{RunArguments}
 use Rattle.command_line.specs.declared.arguments.SweepArguments.{SweepArguments}
-use Rattle.program.specs.Jobs.{jobs_by_policy}
+use Rattle.program.specs.TraceOutput.{jobs_by_policy}
+use Rattle.program.proofs.Faulting.{at_err}
 
 no_fault : (config : Config) (i : ℕ) (policies : List Policy) → config_fault config ≡ Ok tt → faulty_from i (jobs_by_policy config policies) ≡ None
 no_fault config i [] ok = refl
@@ -53,12 +57,21 @@ pub can_sweep : (sweep : SweepArguments) (jobs : List Job) (capacities : List �
 can_sweep sweep jobs capacities accepted is same few =
     rw (le-leb (length jobs) MAX_ACTORS few, is, same) (no_config_fault sweep.config sweep.policies sweep.capacities accepted.config accepted.capacities)
 
--- so the jobs of an accepted `run` can be run, if they are not too many
+-- so those of an accepted `intervals` have none
+pub can_count : (config : Config) (policies : List Policy) (jobs : List Job) → config_fault config ≡ Ok tt → jobs ≡ jobs_by_policy config policies
+    → length jobs ≤ MAX_ACTORS → intervals_fault jobs ≡ None
+can_count config policies jobs ok is few = rw (le-leb (length jobs) MAX_ACTORS few, is) (no_fault config 0 policies ok)
+
+-- and those of an accepted `run` can be run, if they are not too many
 pub can_run : (run : RunArguments) (jobs : List Job) → IsAcceptedRun run → jobs ≡ jobs_by_policy run.config run.policies → length jobs ≤ MAX_ACTORS
     → actor_fault run.batch jobs ≡ None
 can_run run jobs accepted is few =
-    rw (in_batch run.batch accepted.some accepted.few, le-leb (length jobs) MAX_ACTORS few, is) (no_fault run.config 0 run.policies accepted.config)
+    rw (in_batch run.batch accepted.some accepted.few) (can_count run.config run.policies jobs accepted.config is few)
 
 -- and the two of an accepted `part` have no fault
 pub pair_accepted : (part : PartArguments) → IsAcceptedPart part → faulty_in (part.first ∷ part.second ∷ []) ≡ None
 pair_accepted part accepted = rw (accepted.first, accepted.second) refl
+
+-- where no fault is due, the one that came is out of memory
+pub memory_alone : {A : Type 0} (due : Option ActorFault) (r : Result A ActorFault) (f : ActorFault) → due ≡ None → ReturnsFault due r → r ≡ Err f → f ≡ OutOfMemory
+memory_alone due r f none h is = at_err (λ e. e ≡ OutOfMemory) r f is (subst (λ (d : Option ActorFault). ReturnsFault d r) none h)

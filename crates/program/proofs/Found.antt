@@ -1,71 +1,46 @@
 -- Which fault is found, from what the parts of a call say.
-use Rattle.std.proofs.Common.{◌≡◌, ◌<◌, ◌∙◌, ◌⊎◌, refl, subst, sym, inl, inr, ℕ, List, Option, None, Some, length}
+use Rattle.std.proofs.Common.{◌≡◌, ◌<◌, ◌∙◌, ◌⊎◌, refl, subst, inl, inr, ℕ, List, Option, length}
 use Rattle.std.specs.Prelude.{IfSome}
 use Rattle.std.proofs.lemmas.Option.{IfSome_then}
 use Rattle.step_record.specs.declared.config.Config.{Config}
 use Rattle.shell_model.specs.Shell.{Shell}
 use Rattle.maintenance.specs.EmptyShell.{IsOpened}
-use Rattle.trace_read.specs.TraceText.{fault_in}
-use Rattle.trace_read.specs.declared.format.Format.{Format}
 use Rattle.program.specs.DebugOutput.{KnownFiles}
 use Rattle.debug_commands.specs.declared.fault.DebugFault.{DebugFault}
-use Rattle.debug_commands.specs.declared.fault.DebugFault.TheVariants as large
+use Rattle.debug_commands.specs.declared.fault.DebugFault.TheVariants as debug
 use Rattle.debug_commands.specs.declared.dialogue.TheConstants.{MAX_COMMAND_BYTES}
 use Rattle.program.specs.Fault.{of_debug}
-use Rattle.program.specs.FaultCauses.{IsFoundIn, IsFoundInFile, IsOfCommands, IsOfMachine, IsOfReplay, IsOfReplayFrom}
+use Rattle.program.specs.FaultCauses.{IsFoundInFile, IsOfMachine, IsOfReplay, IsOfReplayFrom}
 use Rattle.program.specs.declared.fault.Fault.{Fault}
 use Rattle.program.specs.declared.fault.Fault.TheVariants as fault
 
--- a fault that is found in the bytes of a file
-in_file : (file : Option (List ℕ)) (P : Fault → List ℕ → Type 0) (f : Fault) → ¬ (f ≡ fault.NoFile) → IfSome file (P f) → IsFoundInFile file P f
-in_file file P fault.NoFile n h = absurd (n refl)
-in_file file P _ n h = h
+-- the bytes that were read are those of the file, where these are known
+pub known_text : (known : KnownFiles) (path file bytes text : List ℕ) → path ≡ file → IfSome (known path) (λ xs. bytes ≡ xs) → text ≡ bytes → IfSome (known file) (λ xs. text ≡ xs)
+known_text known path file bytes text named has is =
+    IfSome_then (known file) (subst (λ (p : List ℕ). IfSome (known p) (λ xs. bytes ≡ xs)) named has) (λ xs h. is ∙ h)
 
--- a missing file is nothing that is found in a file
-no_file : (opening : Shell) (limit : ℕ) (commands : Option (List ℕ)) (text : List ℕ) (f : Fault) → IsOfReplayFrom opening limit commands f text → ¬ (f ≡ fault.NoFile)
-no_file opening limit commands text f h is =
-    let of_none : IsOfReplayFrom opening limit commands fault.NoFile text = subst (λ (g : Fault). IsOfReplayFrom opening limit commands g text) is h in
-    absurd (cc (of_none.0))
+pub of_text : (file : Option (List ℕ)) (text : List ℕ) (P : List ℕ → Type 0) → IfSome file (λ xs. text ≡ xs) → P text → IfSome file P
+of_text file text P has h = IfSome_then file has (λ xs is. subst P is h)
 
--- the bytes that were read are those that are known
-pub known_bytes : (file : Option (List ℕ)) (bytes text : List ℕ) (P : List ℕ → Type 0) → IfSome file (λ xs. bytes ≡ xs) → text ≡ bytes → P text → IfSome file P
-known_bytes None bytes text P has is h = tt
-known_bytes (Some xs) bytes text P has is h = subst P (is ∙ has) h
+-- a fault that is found in the bytes of a journal
+in_journal : (config : Config) (file commands : Option (List ℕ)) (text : List ℕ) (f : Fault) → IfSome file (λ xs. text ≡ xs)
+    → IsOfReplay config commands f text → IsFoundInFile file (IsOfReplay config commands) f
+in_journal config file commands text fault.NoFile has h = absurd (cc h.2.0)
+in_journal config file commands text _ has h = of_text file text _ has h
 
-pub of_replay : (config : Config) (known : KnownFiles) (commands : Option (List ℕ)) (path journal bytes text : List ℕ) (opening : Shell) (limit : ℕ) (f : Fault) → path ≡ journal
-    → IfSome (known path) (λ xs. bytes ≡ xs) → text ≡ bytes → IsOpened config opening → limit ≡ config.journal_limit
-    → IsOfMachine f ⊎ IsOfReplayFrom opening limit commands f text → IsOfMachine f ⊎ IsFoundInFile (known journal) (IsOfReplay config commands) f
-of_replay config known commands path journal bytes text opening limit f named has is opened same (inl h) = inl h
-of_replay config known commands path journal bytes text opening limit f named has is opened same (inr h) =
-    let here = subst (λ (p : List ℕ). IfSome (known p) (λ xs. bytes ≡ xs)) named has in
-    let found : IsOfReplay config commands f text = (opening, opened, subst (λ (l : ℕ). IsOfReplayFrom opening l commands f text) same h) in
-    inr (in_file (known journal) (IsOfReplay config commands) f (no_file opening limit commands text f h) (known_bytes (known journal) bytes text (IsOfReplay config commands f) here is found))
+pub of_replay : (config : Config) (file commands : Option (List ℕ)) (text : List ℕ) (opening : Shell) (limit : ℕ) (f : Fault)
+    → IfSome file (λ xs. text ≡ xs) → IsOpened config opening → limit ≡ config.journal_limit
+    → IsOfMachine f ⊎ IsOfReplayFrom opening limit commands f text → IsOfMachine f ⊎ IsFoundInFile file (IsOfReplay config commands) f
+of_replay config file commands text opening limit f has opened same (inl h) = inl h
+of_replay config file commands text opening limit f has opened same (inr h) =
+    inr (in_journal config file commands text f has (opening, opened, subst (λ (l : ℕ). IsOfReplayFrom opening l commands f text) same h))
 
--- a fault of the debugger of which no configuration is refused is one of the machine or of the commands
-of_commands : (commands : Option (List ℕ)) (e : DebugFault) → ((i : ℕ) → e ≡ large.Config i → ⊥)
-    → (e ≡ large.TooLarge → IfSome commands (λ bytes. MAX_COMMAND_BYTES < length bytes))
-    → IsOfMachine (of_debug e) ⊎ IsOfCommands commands (of_debug e)
-of_commands commands large.OutOfMemory none past = inl tt
-of_commands commands large.Read none past = inl tt
-of_commands commands large.Write none past = inl tt
-of_commands commands large.TooLarge none past = inr (refl, past refl)
-of_commands commands (large.Config i) none past = absurd (none i refl)
-
--- so it is over a journal, and over a trace without a fault
-pub over_journal : (opening : Shell) (limit : ℕ) (commands : Option (List ℕ)) (text : List ℕ) (e : DebugFault)
-    → ((i : ℕ) → e ≡ large.Config i → ⊥)
-    → (e ≡ large.TooLarge → IfSome commands (λ bytes. MAX_COMMAND_BYTES < length bytes))
-    → IsOfMachine (of_debug e) ⊎ IsOfReplayFrom opening limit commands (of_debug e) text
-over_journal opening limit commands text e none past = elim (of_commands commands e none past) [
-  | inl h ↦ inl h
-  | inr h ↦ inr (subst (λ (f : Fault). IsOfReplayFrom opening limit commands f text) (sym h.0) (refl, h.1))
-]
-
-pub over_trace : (format : Format) (file commands : Option (List ℕ)) (e : DebugFault) → IfSome file (λ bytes. fault_in format bytes ≡ None)
-    → ((i : ℕ) → e ≡ large.Config i → ⊥)
-    → (e ≡ large.TooLarge → IfSome commands (λ bytes. MAX_COMMAND_BYTES < length bytes))
-    → IsOfMachine (of_debug e) ⊎ IsFoundInFile file (IsFoundIn format (IsOfCommands commands)) (of_debug e)
-over_trace format file commands e read none past = elim (of_commands commands e none past) [
-  | inl h ↦ inl h
-  | inr h ↦ inr (subst (λ (f : Fault). IsFoundInFile file (IsFoundIn format (IsOfCommands commands)) f) (sym h.0) (IfSome_then file read (λ bytes sound. (sound, (refl, h.1)))))
-]
+-- a fault of a debugger of which no configuration is refused is one of the machine, or that of a line that is too large
+pub of_dialogue : (Q : Fault → Type 0) (commands : Option (List ℕ)) (e : DebugFault)
+    → (IfSome commands (λ bytes. MAX_COMMAND_BYTES < length bytes) → Q (fault.Debug debug.TooLarge)) → ((i : ℕ) → e ≡ debug.Config i → ⊥)
+    → (e ≡ debug.TooLarge → IfSome commands (λ bytes. MAX_COMMAND_BYTES < length bytes)) → IsOfMachine (of_debug e) ⊎ Q (of_debug e)
+of_dialogue Q commands debug.OutOfMemory large none past = inl tt
+of_dialogue Q commands debug.Read large none past = inl tt
+of_dialogue Q commands debug.Write large none past = inl tt
+of_dialogue Q commands debug.TooLarge large none past = inr (large (past refl))
+of_dialogue Q commands (debug.Config i) large none past = absurd (none i refl)

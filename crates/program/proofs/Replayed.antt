@@ -12,7 +12,7 @@ use Rattle.journal.specs.Session.{SessionState}
 use Rattle.journal_text.specs.Journal.{IsJournalText}
 use Rattle.debug_commands.specs.Dialogue.{dialogue_of, WritesDialogue}
 use Rattle.debug_replay.specs.Replay.{replay_timeline}
-use Rattle.program.specs.DebugOutput.{Answering, IsReplayedFrom, KnownFiles, Replaying}
+use Rattle.program.specs.DebugOutput.{Answering, IsReplayed, IsReplayedFrom}
 
 abbrev State : Type 0
 State = SessionState Shell Shell Step Reply
@@ -37,19 +37,10 @@ replayed_from all journal input before after first now position read same none h
       (ap (λ t. now.kept ++ t) none ∙ append-nil now.kept) h);
 }
 
-replaying : (all : Bool) (config : Config) (file : Option (List ℕ)) (bytes text : List ℕ) (input before after : Option (List ℕ)) (first : State)
-    → IfSome file (λ xs. bytes ≡ xs) → text ≡ bytes → IsOpened config first.opening → first.limit ≡ config.journal_limit
-    → IsReplayedFrom all first.opening first.limit text input before after → Replaying all config file input before after
-replaying all config None bytes text input before after first has is opened limit h = tt
-replaying all config (Some xs) bytes text input before after first has is opened limit h = record {
-  opening = first.opening;
+pub replayed : {all : Bool} {config : Config} {text : List ℕ} {input before after : Option (List ℕ)} {opening : Shell} {limit : ℕ} → IsOpened config opening
+    → limit ≡ config.journal_limit → IsReplayedFrom all opening limit text input before after → IsReplayed all config text input before after
+replayed {all = all} {text = text} {input = input} {before = before} {after = after} {opening = opening} opened same h = record {
+  opening = opening;
   opened = opened;
-  replayed = subst (λ l. IsReplayedFrom all first.opening l xs input before after) limit
-      (subst (λ b. IsReplayedFrom all first.opening first.limit b input before after) (is ∙ has) h);
+  replayed = subst (λ l. IsReplayedFrom all opening l text input before after) same h;
 }
-
-pub replayed : (all : Bool) (config : Config) (known : KnownFiles) (path journal bytes text : List ℕ) (input before after : Option (List ℕ)) (first : State)
-    → path ≡ journal → IfSome (known path) (λ xs. bytes ≡ xs) → text ≡ bytes → IsOpened config first.opening → first.limit ≡ config.journal_limit
-    → IsReplayedFrom all first.opening first.limit text input before after → Replaying all config (known journal) input before after
-replayed all config known path journal bytes text input before after first named has is opened limit h =
-    replaying all config (known journal) bytes text input before after first (subst (λ p. IfSome (known p) (λ xs. bytes ≡ xs)) named has) is opened limit h

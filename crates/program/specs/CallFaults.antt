@@ -1,5 +1,5 @@
 -- Which faults are those of a call of the input or the output. They come just where one failed.
-use Rattle.std.specs.Prelude.{ℕ, List, Option, Result, MatchResult}
+use Rattle.std.specs.Prelude.{◌≡◌, ◌⊎◌, ℕ, List, Option, Result, Err}
 use Rattle.streams.specs.Tally.{Exhausts, IsServed}
 use Rattle.streams.specs.declared.patience.TheConstants.{INTERRUPTIONS}
 use Rattle.streams.specs.declared.tally.Tally.{Tally}
@@ -20,6 +20,13 @@ IsReadFailed input read output written = Exhausts INTERRUPTIONS input read × Is
 abbrev pub IsWriteFailed : Tally → Tally → Tally → Tally → Type 0
 IsWriteFailed input read output written = IsServed input read × Exhausts INTERRUPTIONS output written
 
+-- the result is the fault of a read, or of a write or a flush
+abbrev pub IsOfRead : {A : Type 0} → Result A Fault → Type 0
+IsOfRead result = (result ≡ Err (Trace trace.Read)) ⊎ (result ≡ Err (Debug debug.Read))
+
+abbrev pub IsOfWrite : {A : Type 0} → Result A Fault → Type 0
+IsOfWrite result = (result ≡ Err Write) ⊎ (result ≡ Err (Debug debug.Write))
+
 -- what became of the calls where this is the fault
 abbrev pub BlamesCalls : Fault → Tally → Tally → Tally → Tally → Type 0
 BlamesCalls (Trace trace.Read) input read output written = IsReadFailed input read output written
@@ -27,22 +34,6 @@ BlamesCalls (Debug debug.Read) input read output written = IsReadFailed input re
 BlamesCalls (Debug debug.Write) input read output written = IsWriteFailed input read output written
 BlamesCalls Write input read output written = IsWriteFailed input read output written
 BlamesCalls fault input read output written = AreServed input read output written
-
--- what became of them where this is the result
-abbrev pub TellsOfCalls : {A : Type 0} → Result A Fault → Tally → Tally → Tally → Tally → Type 0
-TellsOfCalls result input read output written = MatchResult result (λ _. AreServed input read output written)
-    (λ fault. BlamesCalls fault input read output written)
-
--- the fault, if it is one, is of no call
-abbrev pub BlamesNoCall : {A : Type 0} → Result A Fault → Type 0
-BlamesNoCall result = (input output : Tally) → TellsOfCalls result input input output output
-
--- where the output is not there yet, and where the input is no longer
-abbrev pub TellsOfReads : {A : Type 0} → Result A Fault → Tally → Tally → Type 0
-TellsOfReads result input read = (output : Tally) → TellsOfCalls result input read output output
-
-abbrev pub TellsOfWrites : {A : Type 0} → Result A Fault → Tally → Tally → Type 0
-TellsOfWrites result output written = (input : Tally) → TellsOfCalls result input input output written
 
 -- A fault was reported, by its line on the fault output from `silent` to `line`, that is one of these calls just where one
 -- failed.

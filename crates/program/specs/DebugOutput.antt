@@ -1,9 +1,8 @@
 -- What `debug` and `replay` write: answers to the commands of the input, about what a file has.
-use Rattle.std.specs.Prelude.{◌≡◌, ℕ, Bool, List, Option, None, IfSome, length}
+use Rattle.std.specs.Prelude.{ℕ, Bool, List, Option, IfSome, length}
 use Rattle.step_record.specs.declared.config.Config.{Config}
 use Rattle.step_record.specs.declared.job.Job.{Job}
 use Rattle.step_record.specs.History.{Entries}
-use Rattle.trace_read.specs.TraceText.{fault_in, keys_in}
 use Rattle.trace_read.specs.declared.format.Format.{Format}
 use Rattle.shell_model.specs.Shell.{Shell, act}
 use Rattle.maintenance.specs.EmptyShell.{IsOpened}
@@ -12,6 +11,7 @@ use Rattle.debug_commands.specs.Dialogue.{dialogue_of, WritesDialogue}
 use Rattle.debug_commands.specs.Timeline.{TimelineData}
 use Rattle.debug_policies.specs.TwoPolicies.{policies_timeline}
 use Rattle.debug_replay.specs.Replay.{replay_timeline}
+use Rattle.program.specs.TraceOutput.{IfFaultless}
 
 -- what is known of the bytes of the file at a path
 abbrev pub KnownFiles : Type 0
@@ -27,8 +27,8 @@ Answering all t at input before after =
 -- at first
 abbrev pub Debugging : Bool → Format → Job → Job → Option (List ℕ) → Option (List ℕ) → Option (List ℕ) → Option (List ℕ)
     → Type 0
-Debugging all format first second file input before after = IfSome file (λ bytes. (fault_in format bytes ≡ None)
-    × Answering all (policies_timeline (keys_in format bytes) first second) 0 input before after)
+Debugging all format first second file input before after =
+    IfFaultless format file (λ keys. Answering all (policies_timeline keys first second) 0 input before after)
 
 -- the bytes are a journal of steps from the opening state on, and the answers are about them, all of them made at first
 pub record IsReplayedFrom (all : Bool) (opening : Shell) (limit : ℕ) (bytes : List ℕ) (input before after : Option (List ℕ)) : Type 0 where

@@ -5,7 +5,6 @@ use Rattle.step_record.specs.History.{IsLegal, Entries}
 use Rattle.step_record.specs.declared.config.Config.{Config}
 use Rattle.step_record.specs.declared.step.Reply.{Reply}
 use Rattle.step_record.specs.declared.step.Step.{Step}
-use Rattle.trace_read.specs.TraceText.{fault_in, keys_in}
 use Rattle.trace_read.specs.declared.format.Format.{Format}
 use Rattle.shell_model.specs.Shell.{Shell, act}
 use Rattle.maintenance.specs.EmptyShell.{IsOpened}
@@ -15,7 +14,8 @@ use Rattle.workers.specs.declared.run.DriveFault.{DriveFault}
 use Rattle.workers.specs.declared.run.DriveFault.TheVariants.{Workers, Held, OutOfMemory, Stopped}
 use Rattle.workers.specs.declared.run.Cause.{Cause}
 use Rattle.workers.specs.declared.run.Cause.TheVariants as cause
-use Rattle.program.specs.WorkerReads.{AreOfReads, AreOfReadsUpTo}
+use Rattle.program.specs.TraceOutput.{IfFaultless}
+use Rattle.program.specs.WorkerReads.{AreOfReadsUpTo, AreWalksOfReads}
 use Rattle.program.specs.declared.fault.Fault.{Fault}
 use Rattle.program.specs.declared.fault.Fault.TheVariants as fault
 use Rattle.journal_text.specs.Journal.{journal_of}
@@ -28,31 +28,30 @@ pub record IsEmptySession (config : Config) (session : SessionState Shell Shell 
   pub none : session.kept ≡ []
 
 -- The bytes read have no fault, and those written are the journal of steps that the cache of the configuration accepts
--- one after another, each with its reply, from the empty state on, as many as the limit of its journal at most. They are
--- the walks of the accesses in the bytes read, each by the worker whose turn it is.
-pub record IsDriven (config : Config) (workers : ℕ) (format : Format)
+-- one after another, each with its reply, from the empty state on. `Walks` holds of the accesses in the bytes read and of
+-- the steps, and `Room` of how many these are.
+pub record IsJournalOf (Walks : List ℕ → Entries → Type 0) (Room : ℕ → Type 0) (config : Config) (format : Format)
     (input before after : Option (List ℕ)) : Type 0 where
-  pub faultless : IfSome input (λ bytes. fault_in format bytes ≡ None)
   pub opening : Shell
   pub opened : IsOpened config opening
   pub steps : Entries
   pub legal : IsLegal act opening steps
-  pub few : length steps ≤ config.journal_limit
-  pub walks : IfSome input (λ bytes. AreOfReads workers config.stripes (keys_in format bytes) steps)
+  pub room : Room (length steps)
+  pub walks : IfFaultless format input (λ keys. Walks keys steps)
   pub written : Appends before after (journal_of Two steps)
 
--- A worker was refused a step for this cause, and the bytes written are the journal of the legal steps that were made up
--- to the refusals. A full journal is a cause only where as many steps were made as its limit.
-pub record IsStopped (why : Cause) (config : Config) (workers : ℕ) (format : Format) (input before after : Option (List ℕ))
-    : Type 0 where
-  pub faultless : IfSome input (λ bytes. fault_in format bytes ≡ None)
-  pub opening : Shell
-  pub opened : IsOpened config opening
-  pub steps : Entries
-  pub legal : IsLegal act opening steps
-  pub walks : IfSome input (λ bytes. AreOfReadsUpTo why workers config.stripes (keys_in format bytes) steps)
-  pub full : why ≡ cause.JournalFull → length steps ≡ config.journal_limit
-  pub written : Appends before after (journal_of Two steps)
+-- The steps are the walks of the accesses, each by the worker whose turn it is, and as many as the limit of the journal
+-- at most.
+abbrev pub IsDriven : Config → ℕ → Format → Option (List ℕ) → Option (List ℕ) → Option (List ℕ) → Type 0
+IsDriven config workers format input before after =
+    IsJournalOf (AreWalksOfReads config.stripes workers) (λ n. n ≤ config.journal_limit) config format input before after
+
+-- A worker was refused a step for this cause, and the steps are those that were made up to the refusals. A full journal
+-- is a cause only where as many steps were made as its limit.
+abbrev pub IsStopped : Cause → Config → ℕ → Format → Option (List ℕ) → Option (List ℕ) → Option (List ℕ) → Type 0
+IsStopped why config workers format input before after =
+    IsJournalOf (AreOfReadsUpTo why config.stripes workers) (λ n. why ≡ cause.JournalFull → n ≡ config.journal_limit)
+    config format input before after
 
 -- What `drive` leaves at a fault. A run that was stopped is written; all else but a failed write leaves the output as it
 -- was, out of memory at least its bytes.

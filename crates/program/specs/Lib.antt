@@ -1,12 +1,9 @@
+pub mod CallFaults
 pub mod DebugOutput
 pub mod DriveOutput
 pub mod Fault
 pub mod FaultCauses
 pub mod FaultLine
-pub mod Jobs
 pub mod Outcome
-pub mod IntervalsOutput
-pub mod PartOutput
-pub mod ReportOutput
+pub mod TraceOutput
 pub mod WorkerReads
-pub mod CallFaults

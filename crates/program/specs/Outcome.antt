@@ -10,10 +10,7 @@ use Rattle.command_line.specs.declared.fault.ParseFault.{ParseFault}
 use Rattle.sweeps.specs.Sweep.{jobs_over}
 use Rattle.program.specs.DebugOutput.{Debugging, KnownFiles, Replaying}
 use Rattle.program.specs.DriveOutput.{IsDriven}
-use Rattle.program.specs.Jobs.{jobs_by_policy}
-use Rattle.program.specs.IntervalsOutput.{IntervalRows}
-use Rattle.program.specs.PartOutput.{Comparing, Parting}
-use Rattle.program.specs.ReportOutput.{Reports}
+use Rattle.program.specs.TraceOutput.{Comparing, IntervalRows, jobs_by_policy, Parting, Reports}
 
 -- What these arguments ask for is done: `run` and `sweep` have written the report of each policy, at each capacity;
 -- `intervals` the rows of each policy; `part` where the two policies part; `compare` what is counted of both; `drive` the journal of its workers' walks in an empty cache; `debug` and `replay` have

@@ -1,12 +1,15 @@
 //! The subcommand `compare`: a trace to how often two policies hit at the same accesses.
 ghost use Rattle.std.specs.Prelude.{◌≡◌, ◌≢◌, ◌⊎◌, IfErr, IfSome, OnOk, true};
-ghost use Rattle.program.specs.CallFaults.{TellsOfCalls};
+ghost use Rattle.command_line.specs.Accepted.{IsAcceptedPart};
+ghost use Rattle.streams.specs.Tally.{FailsWhere};
+ghost use Rattle.program.specs.CallFaults.{IsOfRead, IsOfWrite};
 ghost use Rattle.program.specs.FaultCauses.{IsFoundIn, IsOfMachine};
-ghost use Rattle.program.specs.PartOutput.{Comparing};
+ghost use Rattle.program.specs.TraceOutput.{Comparing};
 
 use crate::fault::Fault;
 use command_line::PartArguments;
 use debug_policies::push_comparison;
+use policies::ActorFault;
 use std::alloc::Global;
 use streams::{CountedRead, CountedWrite};
 use trace_read::read_trace;
@@ -19,20 +22,24 @@ pub fn compare<R: CountedRead, W: CountedWrite>(
     input: &mut R,
     out: &mut W,
 ) -> Result<(), Fault>
+    requires { IsAcceptedPart arguments.now }
     ensures ok { OnOk result (Comparing arguments.now.format arguments.now.first arguments.now.second
         (R.remaining input.old) (W.contents out.old) (W.contents out.new)) }
     ensures kept { IfErr result (λ fault. fault ≢ Fault.Write → out.new ≡ out.old) }
     // The fault is one of the machine, or that of the trace.
     ensures fault { IfErr result (λ fault. IsOfMachine fault ⊎ IfSome (R.remaining input.old)
         (IsFoundIn arguments.now.format (λ f. ⊥) fault)) }
-    ensures calls { TellsOfCalls result (R.tally input.old) (R.tally input.new) (W.tally out.old) (W.tally out.new) }
+    ensures reads { FailsWhere (IsOfRead result) (R.tally input.old) (R.tally input.new) }
+    ensures writes { FailsWhere (IsOfWrite result) (W.tally out.old) (W.tally out.new) }
     ensures flushed { OnOk result (W.is_flushed out.new ≡ true) }
 {
     let trace = read_trace(alloc, input, arguments.format)?;
-    // A parse gives configurations that are accepted, so the one fault is out of memory.
-    let Ok(counts) = debug_policies::compare(alloc, &trace, &arguments.first, &arguments.second)
-    else {
-        return Err(Fault::OutOfMemory);
+    let counts = match debug_policies::compare(alloc, &trace, &arguments.first, &arguments.second) {
+        Ok(counts) => counts,
+        Err(fault) => {
+            prove!(fault == ActorFault::OutOfMemory);
+            return Err(Fault::OutOfMemory);
+        }
     };
     let mut text = Vec::new(alloc);
     push_comparison(&mut text, &arguments.first, &arguments.second, &counts)?;

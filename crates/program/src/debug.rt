@@ -2,7 +2,8 @@
 ghost use Rattle.std.specs.Prelude.{◌≡◌, ◌⊎◌, true, false, [], IfErr, Ok, Err, OnOk};
 ghost use Rattle.command_line.specs.Accepted.{IsAcceptedPart};
 ghost use Rattle.step_record.specs.Config.{config_fault};
-ghost use Rattle.program.specs.CallFaults.{TellsOfCalls};
+ghost use Rattle.streams.specs.Tally.{FailsWhere};
+ghost use Rattle.program.specs.CallFaults.{IsOfRead, IsOfWrite};
 ghost use Rattle.program.specs.DebugOutput.{Debugging, IsReplayedFrom, Replaying};
 ghost use Rattle.program.specs.FaultCauses.{IsBeforeOutput, IsFoundIn, IsFoundInFile, IsOfCommands, IsOfMachine};
 ghost use Rattle.program.specs.FaultCauses.{IsOfReplay, IsOfReplayFrom};
@@ -43,7 +44,8 @@ pub fn debug<R: CountedRead, W: CountedWrite, F: Files>(
     ensures fault { IfErr result (λ fault. IsOfMachine fault
         ⊎ IsFoundInFile (F.known files.now arguments.now.trace)
         (IsFoundIn arguments.now.policies.format (IsOfCommands (R.remaining input.old))) fault) }
-    ensures calls { TellsOfCalls result (R.tally input.old) (R.tally input.new) (W.tally out.old) (W.tally out.new) }
+    ensures reads { FailsWhere (IsOfRead result) (R.tally input.old) (R.tally input.new) }
+    ensures writes { FailsWhere (IsOfWrite result) (W.tally out.old) (W.tally out.new) }
     ensures flushed { OnOk result (W.is_flushed out.new ≡ true) }
 {
     let bytes = files.bytes(alloc, arguments.trace.as_str())?;
@@ -72,7 +74,8 @@ pub fn replay<R: CountedRead, W: CountedWrite, F: Files>(
     ensures fault { IfErr result (λ fault. IsOfMachine fault
         ⊎ IsFoundInFile (F.known files.now arguments.now.journal)
         (IsOfReplay arguments.now.config (R.remaining input.old)) fault) }
-    ensures calls { TellsOfCalls result (R.tally input.old) (R.tally input.new) (W.tally out.old) (W.tally out.new) }
+    ensures reads { FailsWhere (IsOfRead result) (R.tally input.old) (R.tally input.new) }
+    ensures writes { FailsWhere (IsOfWrite result) (W.tally out.old) (W.tally out.new) }
     ensures flushed { OnOk result (W.is_flushed out.new ≡ true) }
 {
     let bytes = files.bytes(alloc, arguments.journal.as_str())?;
@@ -97,7 +100,8 @@ fn replay_in<R: CountedRead, W: CountedWrite>(
         session.old.limit journal.entry.now (R.remaining input.old) (W.contents out.old) (W.contents out.new) }
     ensures fault { IfErr result (λ fault. IsOfMachine fault
         ⊎ IsOfReplayFrom session.old.opening session.old.limit (R.remaining input.old) fault journal.entry.now) }
-    ensures calls { TellsOfCalls result (R.tally input.old) (R.tally input.new) (W.tally out.old) (W.tally out.new) }
+    ensures reads { FailsWhere (IsOfRead result) (R.tally input.old) (R.tally input.new) }
+    ensures writes { FailsWhere (IsOfWrite result) (W.tally out.old) (W.tally out.new) }
     ensures flushed { OnOk result (W.is_flushed out.new ≡ true) }
 {
     read_journal(alloc, &mut journal, session)?;

@@ -4,10 +4,11 @@ ghost use Rattle.std.specs.Prelude.{map};
 ghost use Rattle.std.specs.Io.KnownBytes.{Appends};
 ghost use Rattle.step_record.specs.Config.{config_fault};
 ghost use Rattle.step_record.specs.declared.worker.TheConstants.{MAX_WORKERS};
-ghost use Rattle.trace_read.specs.TraceText.{fault_in, keys_in};
+ghost use Rattle.program.specs.TraceOutput.{IfFaultless};
 ghost use Rattle.journal_text.specs.Journal.{journal_of};
 ghost use Rattle.journal_text.specs.declared.version.Version.TheVariants.{Two};
-ghost use Rattle.program.specs.CallFaults.{TellsOfCalls, TellsOfReads, TellsOfWrites};
+ghost use Rattle.streams.specs.Tally.{FailsWhere};
+ghost use Rattle.program.specs.CallFaults.{IsOfRead, IsOfWrite};
 ghost use Rattle.program.specs.WorkerReads.{IsDealt};
 ghost use Rattle.program.specs.DriveOutput.{IsDriven, IsEmptySession, IsOfReading, IsOfRun, LeavesDrive, LeavesRun};
 ghost use Rattle.program.specs.FaultCauses.{IsFoundIn, IsOfMachine};
@@ -59,7 +60,8 @@ pub fn drive<T: Threads + Wait + Sync, R: CountedRead, W: CountedWrite, P: Watch
     // The fault is one of the machine, or that of the trace, or else that the journal was full.
     ensures fault { IfErr result (λ fault. IsOfMachine fault ⊎ IfSome (R.remaining input.old)
         (IsFoundIn arguments.now.format (λ f. f ≡ Fault.JournalFull) fault)) }
-    ensures calls { TellsOfCalls result (R.tally input.old) (R.tally input.new) (W.tally out.old) (W.tally out.new) }
+    ensures reads { FailsWhere (IsOfRead result) (R.tally input.old) (R.tally input.new) }
+    ensures writes { FailsWhere (IsOfWrite result) (W.tally out.old) (W.tally out.new) }
     ensures flushed { OnOk result (W.is_flushed out.new ≡ true) }
 {
     let pieces = pieces_of(alloc, input, arguments.format, arguments.workers)?;
@@ -117,12 +119,13 @@ fn pieces_of<R: CountedRead>(
 ) -> Result<Vec<Vec<Call>>, Fault>
     requires { 1 ≤ workers }
     ensures many { IfOk result (λ pieces. length (map (λ p. p.items) pieces.items) ≡ workers) }
-    ensures dealt { IfOk result (λ pieces. IfSome (R.remaining input.old) (λ bytes. (fault_in format bytes ≡ None)
-        × IsDealt workers (keys_in format bytes) (map (λ p. p.items) pieces.items))) }
+    ensures dealt { IfOk result (λ pieces. IfFaultless format (R.remaining input.old)
+        (λ keys. IsDealt workers keys (map (λ p. p.items) pieces.items))) }
     ensures fault { IfErr result (λ fault. IsOfMachine fault
         ⊎ IfSome (R.remaining input.old) (IsFoundIn format (λ f. f ≡ Fault.JournalFull) fault)) }
     ensures reading { IfErr result IsOfReading }
-    ensures calls { TellsOfReads result (R.tally input.old) (R.tally input.new) }
+    ensures reads { FailsWhere (IsOfRead result) (R.tally input.old) (R.tally input.new) }
+    ensures unwritten { ¬ IsOfWrite result }
 {
     let trace = read_trace(alloc, input, format)?;
     let pieces = deal(alloc, trace.keys(), workers)?;
@@ -137,10 +140,10 @@ fn write_run<W: CountedWrite>(
 ) -> Result<(), Fault>
     requires { IfErr run.now IsOfRun }
     ensures leaves { IfErr result (LeavesRun run.now (W.contents out.old) (W.contents out.new)) }
-    ensures few { OnOk result (IsOkAnd run.now (λ driven. length driven.session.kept ≤ driven.session.limit)) }
-    ensures written { OnOk result (IsOkAnd run.now (λ driven.
-        Appends (W.contents out.old) (W.contents out.new) (journal_of Two driven.session.kept))) }
-    ensures calls { TellsOfWrites result (W.tally out.old) (W.tally out.new) }
+    ensures written { OnOk result (IsOkAnd run.now (λ driven. (length driven.session.kept ≤ driven.session.limit)
+        × Appends (W.contents out.old) (W.contents out.new) (journal_of Two driven.session.kept))) }
+    ensures unread { ¬ IsOfRead result }
+    ensures writes { FailsWhere (IsOfWrite result) (W.tally out.old) (W.tally out.new) }
     ensures flushed { OnOk result (W.is_flushed out.new ≡ true) }
 {
     match run {

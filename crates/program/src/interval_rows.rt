@@ -1,15 +1,15 @@
 //! The subcommand `intervals`: a trace to what policies make of each interval of it.
 ghost use Rattle.std.specs.Prelude.{◌≡◌, ◌≢◌, ◌⊎◌, IfErr, IfOk, IfSome, OnOk, true};
 ghost use Rattle.command_line.specs.Accepted.{AreAcceptedIntervals};
-ghost use Rattle.program.specs.CallFaults.{BlamesNoCall, TellsOfCalls};
+ghost use Rattle.streams.specs.Tally.{FailsWhere};
+ghost use Rattle.program.specs.CallFaults.{IsOfRead, IsOfWrite};
 ghost use Rattle.program.specs.FaultCauses.{IsFoundIn, IsOfMachine, IsTooMany};
-ghost use Rattle.program.specs.IntervalsOutput.{IntervalRows, rows_on};
-ghost use Rattle.program.specs.Jobs.{jobs_by_policy};
+ghost use Rattle.program.specs.TraceOutput.{IntervalRows, jobs_by_policy, rows_on};
 
 use crate::fault::Fault;
 use crate::run::jobs;
 use command_line::IntervalsArguments;
-use policies::MAX_ACTORS;
+use policies::{ActorFault, MAX_ACTORS};
 use report::{Interval, write_intervals};
 use std::alloc::Global;
 use std::thread::Threads;
@@ -35,7 +35,8 @@ pub fn intervals<T: Threads + Sync, R: CountedRead, W: CountedWrite>(
     // The fault is one of the machine, or that of the trace, or else that too many policies were named.
     ensures fault { IfErr result (λ fault. IsOfMachine fault ⊎ IfSome (R.remaining input.old)
         (IsFoundIn arguments.now.format (IsTooMany arguments.now.policies) fault)) }
-    ensures calls { TellsOfCalls result (R.tally input.old) (R.tally input.new) (W.tally out.old) (W.tally out.new) }
+    ensures reads { FailsWhere (IsOfRead result) (R.tally input.old) (R.tally input.new) }
+    ensures writes { FailsWhere (IsOfWrite result) (W.tally out.old) (W.tally out.new) }
     ensures flushed { OnOk result (W.is_flushed out.new ≡ true) }
 {
     let trace = read_trace(alloc, input, arguments.format)?;
@@ -54,16 +55,17 @@ fn rows<T: Threads + Sync>(
     requires { AreAcceptedIntervals arguments.now }
     ensures rows { IfOk result (λ rows. rows.items ≡ rows_on arguments.now.every
         (jobs_by_policy arguments.now.config arguments.now.policies) trace.now) }
-    ensures fault { IfErr result (λ fault. IsOfMachine fault ⊎ IsTooMany arguments.now.policies fault) }
-    ensures calls { BlamesNoCall result }
+    ensures fault { IfErr result (λ fault. (fault ≡ Fault.OutOfMemory) ⊎ IsTooMany arguments.now.policies fault) }
 {
     let jobs = jobs(alloc, arguments.config, arguments.policies.as_slice())?;
     if jobs.len() > MAX_ACTORS {
         return Err(Fault::Actors);
     }
-    // A parse gives configurations that are accepted, so the one fault is out of memory.
     match intervals::intervals(rt, alloc, trace, jobs.as_slice(), arguments.every as usize) {
         Ok(rows) => Ok(rows),
-        Err(_) => Err(Fault::OutOfMemory),
+        Err(fault) => {
+            prove!(fault == ActorFault::OutOfMemory);
+            Err(Fault::OutOfMemory)
+        }
     }
 }

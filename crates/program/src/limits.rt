@@ -18,41 +18,26 @@ use step_record::{
 use streams::INTERRUPTIONS;
 use turn_book::MAX_TURNS;
 
-const _: () = prove!(MAX_CAPACITY == 1_048_576);
-
-const _: () = prove!(MAX_MAIN_PERCENT == 99);
-
-const _: () = prove!(MAX_STRIPES == 64);
-
-const _: () = prove!(MAX_ITEMS == 16);
-
-const _: () = prove!(MAX_TASKS == 128);
-
-const _: () = prove!(MAX_TURNS == 4_294_967_296);
-
-const _: () = prove!(MAX_JOURNAL_LIMIT == 16_777_216);
-
-const _: () = prove!(MAX_STEPS == 4_294_967_296);
-
-const _: () = prove!(MAX_WORKERS == 64);
-
-const _: () = prove!(MAX_ACTORS == 64);
-
-const _: () = prove!(MAX_BATCH == 65_536);
-
-const _: () = prove!(MAX_ACCESSES == 16_777_216);
-
-const _: () = prove!(MAX_TRACE_BYTES == 1_073_741_824);
-
-const _: () = prove!(MAX_FILE_BYTES == 1_073_741_824);
-
-const _: () = prove!(MAX_JOURNAL_BYTES == 1_073_741_824);
-
-const _: () = prove!(MAX_COMMAND_BYTES == 1_048_576);
-
-const _: () = prove!(MAX_BREAKPOINTS == 64);
-
-const _: () = prove!(INTERRUPTIONS == 1_000_000);
+const _: () = prove!(
+    MAX_CAPACITY == 1_048_576
+        && MAX_MAIN_PERCENT == 99
+        && MAX_STRIPES == 64
+        && MAX_ITEMS == 16
+        && MAX_TASKS == 128
+        && MAX_TURNS == 4_294_967_296
+        && MAX_JOURNAL_LIMIT == 16_777_216
+        && MAX_STEPS == 4_294_967_296
+        && MAX_WORKERS == 64
+        && MAX_ACTORS == 64
+        && MAX_BATCH == 65_536
+        && MAX_ACCESSES == 16_777_216
+        && MAX_TRACE_BYTES == 1_073_741_824
+        && MAX_FILE_BYTES == 1_073_741_824
+        && MAX_JOURNAL_BYTES == 1_073_741_824
+        && MAX_COMMAND_BYTES == 1_048_576
+        && MAX_BREAKPOINTS == 64
+        && INTERRUPTIONS == 1_000_000
+);
 
 // The statuses.
 fn statuses()

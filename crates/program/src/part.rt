@@ -1,9 +1,10 @@
 //! The subcommand `part`: a trace to the access at which two policies part.
 ghost use Rattle.std.specs.Prelude.{◌≡◌, ◌≢◌, ◌⊎◌, IfErr, IfSome, OnOk, true};
 ghost use Rattle.command_line.specs.Accepted.{IsAcceptedPart};
-ghost use Rattle.program.specs.CallFaults.{TellsOfCalls};
+ghost use Rattle.streams.specs.Tally.{FailsWhere};
+ghost use Rattle.program.specs.CallFaults.{IsOfRead, IsOfWrite};
 ghost use Rattle.program.specs.FaultCauses.{IsFoundIn, IsOfMachine};
-ghost use Rattle.program.specs.PartOutput.{Parting};
+ghost use Rattle.program.specs.TraceOutput.{Parting};
 
 use crate::fault::Fault;
 use command_line::PartArguments;
@@ -31,7 +32,8 @@ pub fn part<R: CountedRead, W: CountedWrite, P: Watch>(
     // The fault is one of the machine, or that of the trace.
     ensures fault { IfErr result (λ fault. IsOfMachine fault ⊎ IfSome (R.remaining input.old)
         (IsFoundIn arguments.now.format (λ f. ⊥) fault)) }
-    ensures calls { TellsOfCalls result (R.tally input.old) (R.tally input.new) (W.tally out.old) (W.tally out.new) }
+    ensures reads { FailsWhere (IsOfRead result) (R.tally input.old) (R.tally input.new) }
+    ensures writes { FailsWhere (IsOfWrite result) (W.tally out.old) (W.tally out.new) }
     ensures flushed { OnOk result (W.is_flushed out.new ≡ true) }
 {
     let trace = read_trace(alloc, input, arguments.format)?;

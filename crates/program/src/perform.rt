@@ -1,7 +1,8 @@
 //! What typed arguments ask for.
 ghost use Rattle.std.specs.Prelude.{◌≡◌, ◌⊎◌, IfErr, OnOk, true};
 ghost use Rattle.command_line.specs.Accepted.{AreAccepted};
-ghost use Rattle.program.specs.CallFaults.{TellsOfCalls};
+ghost use Rattle.streams.specs.Tally.{FailsWhere};
+ghost use Rattle.program.specs.CallFaults.{IsOfRead, IsOfWrite};
 ghost use Rattle.program.specs.FaultCauses.{IsFound, IsOfMachine, Leaves};
 ghost use Rattle.program.specs.Outcome.{IsDone};
 
@@ -40,7 +41,8 @@ pub fn perform<T: Threads + Wait + Sync, R: CountedRead, W: CountedWrite, F: Fil
     // The fault is one of the machine, or that of the input, the file or the arguments.
     ensures fault { IfErr result (λ fault. IsOfMachine fault
         ⊎ IsFound arguments.now (F.known files.now) (R.remaining input.old) fault) }
-    ensures calls { TellsOfCalls result (R.tally input.old) (R.tally input.new) (W.tally out.old) (W.tally out.new) }
+    ensures reads { FailsWhere (IsOfRead result) (R.tally input.old) (R.tally input.new) }
+    ensures writes { FailsWhere (IsOfWrite result) (W.tally out.old) (W.tally out.new) }
     ensures flushed { OnOk result (W.is_flushed out.new ≡ true) }
 {
     match arguments {

@@ -1,10 +1,10 @@
 //! The subcommand `run`: a trace to the reports of policies.
 ghost use Rattle.std.specs.Prelude.{◌≡◌, ◌≢◌, ◌⊎◌, IfErr, IfOk, IfSome, None, OnOk, Some, true};
 ghost use Rattle.command_line.specs.Accepted.{IsAcceptedRun};
-ghost use Rattle.program.specs.CallFaults.{TellsOfCalls, TellsOfReads};
+ghost use Rattle.streams.specs.Tally.{FailsWhere};
+ghost use Rattle.program.specs.CallFaults.{IsOfRead, IsOfWrite};
 ghost use Rattle.program.specs.FaultCauses.{IsFoundIn, IsOfMachine, IsTooMany};
-ghost use Rattle.program.specs.Jobs.{jobs_by_policy};
-ghost use Rattle.program.specs.ReportOutput.{AreReportsOn, Reports};
+ghost use Rattle.program.specs.TraceOutput.{IfFaultless, jobs_by_policy, Reports, reports_on};
 
 use crate::fault::Fault;
 use command_line::RunArguments;
@@ -23,14 +23,13 @@ use trace_read::read_trace;
 pub fn jobs(alloc: Global, config: Config, policies: &[Policy]) -> Result<Vec<Job>, AllocError>
     ensures { IfOk result (λ jobs. jobs.items ≡ jobs_by_policy config policies.now) }
 {
-    let mut jobs = Vec::new(alloc);
-    for policy in policies {
-        jobs.push(Job {
+    policies
+        .iter()
+        .map(|policy| Job {
             policy: *policy,
             config,
-        })?;
-    }
-    Ok(jobs)
+        })
+        .collect(alloc)
 }
 
 /// Reads the trace and writes the report of each policy that the arguments name; each policy runs
@@ -52,7 +51,8 @@ pub fn run<T: Threads + Wait + Sync, R: CountedRead, W: CountedWrite, P: Watch>(
     // The fault is one of the machine, or that of the trace, or else that too many policies were named.
     ensures fault { IfErr result (λ fault. IsOfMachine fault ⊎ IfSome (R.remaining input.old)
         (IsFoundIn arguments.now.format (IsTooMany arguments.now.policies) fault)) }
-    ensures calls { TellsOfCalls result (R.tally input.old) (R.tally input.new) (W.tally out.old) (W.tally out.new) }
+    ensures reads { FailsWhere (IsOfRead result) (R.tally input.old) (R.tally input.new) }
+    ensures writes { FailsWhere (IsOfWrite result) (W.tally out.old) (W.tally out.new) }
     ensures flushed { OnOk result (W.is_flushed out.new ≡ true) }
 {
     let jobs = jobs(alloc, arguments.config, arguments.policies.as_slice())?;
@@ -73,11 +73,12 @@ fn reports<T: Threads + Wait + Sync, R: CountedRead, P: Watch>(
 ) -> Result<Vec<Report>, Fault>
     requires accepted { IsAcceptedRun arguments.now }
     requires jobs { jobs.now ≡ jobs_by_policy arguments.now.config arguments.now.policies }
-    ensures reports { IfOk result (λ reports. IfSome (R.remaining input.old)
-        (AreReportsOn arguments.now.format jobs.now reports.items)) }
+    ensures reports { IfOk result (λ reports. IfFaultless arguments.now.format (R.remaining input.old)
+        (λ keys. reports.items ≡ reports_on jobs.now keys)) }
     ensures fault { IfErr result (λ fault. IsOfMachine fault ⊎ IfSome (R.remaining input.old)
         (IsFoundIn arguments.now.format (IsTooMany arguments.now.policies) fault)) }
-    ensures calls { TellsOfReads result (R.tally input.old) (R.tally input.new) }
+    ensures reads { FailsWhere (IsOfRead result) (R.tally input.old) (R.tally input.new) }
+    ensures unwritten { ¬ IsOfWrite result }
 {
     if jobs.len() > MAX_ACTORS {
         read_trace(alloc, input, arguments.format)?;

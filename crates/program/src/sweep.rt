@@ -2,10 +2,10 @@
 ghost use Rattle.std.specs.Prelude.{◌≡◌, ◌≢◌, ◌⊎◌, IfErr, IfOk, IfSome, None, OnOk, Some, true};
 ghost use Rattle.command_line.specs.Accepted.{IsAcceptedSweep};
 ghost use Rattle.sweeps.specs.Sweep.{jobs_over};
-ghost use Rattle.program.specs.CallFaults.{BlamesNoCall, TellsOfCalls};
+ghost use Rattle.streams.specs.Tally.{FailsWhere};
+ghost use Rattle.program.specs.CallFaults.{IsOfRead, IsOfWrite};
 ghost use Rattle.program.specs.FaultCauses.{IsFoundIn, IsOfMachine, IsTooMany};
-ghost use Rattle.program.specs.Jobs.{jobs_by_policy, reports_on};
-ghost use Rattle.program.specs.ReportOutput.{Reports};
+ghost use Rattle.program.specs.TraceOutput.{jobs_by_policy, Reports, reports_on};
 
 use crate::fault::Fault;
 use crate::run::jobs;
@@ -39,7 +39,8 @@ pub fn sweep<T: Threads + Sync, R: CountedRead, W: CountedWrite, P: Watch>(
     // The fault is one of the machine, or that of the trace, or else that too many policies were named.
     ensures fault { IfErr result (λ fault. IsOfMachine fault ⊎ IfSome (R.remaining input.old)
         (IsFoundIn arguments.now.format (IsTooMany arguments.now.policies) fault)) }
-    ensures calls { TellsOfCalls result (R.tally input.old) (R.tally input.new) (W.tally out.old) (W.tally out.new) }
+    ensures reads { FailsWhere (IsOfRead result) (R.tally input.old) (R.tally input.new) }
+    ensures writes { FailsWhere (IsOfWrite result) (W.tally out.old) (W.tally out.new) }
     ensures flushed { OnOk result (W.is_flushed out.new ≡ true) }
 {
     let trace = read_trace(alloc, input, arguments.format)?;
@@ -60,8 +61,7 @@ fn reports<T: Threads + Sync, P: Watch>(
     ensures reports { IfOk result (λ reports. reports.items ≡ reports_on
         (jobs_over (jobs_by_policy arguments.now.config arguments.now.policies) arguments.now.capacities)
         trace.now) }
-    ensures fault { IfErr result (λ fault. IsOfMachine fault ⊎ IsTooMany arguments.now.policies fault) }
-    ensures calls { BlamesNoCall result }
+    ensures fault { IfErr result (λ fault. (fault ≡ Fault.OutOfMemory) ⊎ IsTooMany arguments.now.policies fault) }
 {
     let jobs = jobs(alloc, arguments.config, arguments.policies.as_slice())?;
     if jobs.len() > MAX_ACTORS {

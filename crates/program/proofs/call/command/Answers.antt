@@ -68,8 +68,8 @@ returns-in-Err-Refused-clause-served g c zero =
 
 pub returns-in-Ok-done-clause-served : goal.returns-in-Ok-done-clause-served
 returns-in-Ok-done-clause-served g c zero =
-    (served_at _ _ _ _ _ _ c.in-Ok-done.is c.perform-done.ensures.calls, at_ok _ c.perform-done.result _ c.in-Ok-done.is c.perform-done.ensures.flushed)
+    (served_at _ _ _ _ c.perform-done.result _ c.in-Ok-done.is c.perform-done.ensures.reads c.perform-done.ensures.writes, at_ok _ c.perform-done.result _ c.in-Ok-done.is c.perform-done.ensures.flushed)
 
 pub returns-in-Err-clause-blamed : goal.returns-in-Err-clause-blamed
 returns-in-Err-clause-blamed g c one =
-    (c.in-Err.fault, c.report_fault-in-Err.ensures.reported, blamed_at _ _ _ _ _ _ c.in-Err.is c.perform-done.ensures.calls)
+    (c.in-Err.fault, c.report_fault-in-Err.ensures.reported, blamed_at _ _ _ _ c.perform-done.result _ c.in-Err.is c.perform-done.ensures.reads c.perform-done.ensures.writes)

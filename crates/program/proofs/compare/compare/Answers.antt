@@ -2,8 +2,6 @@ use Rattle.std.proofs.Common.{◌∙◌, ◌++◌, List, ℕ, ap, subst}
 use Rattle.std.proofs.lemmas.Option.{IfSome_then}
 use Rattle.std.specs.Io.KnownBytes.{Appends}
 use Rattle.debug_policies.specs.Comparison.{compared_on, comparison_text}
-use Rattle.streams.proofs.Tallies.{uncalled}
-use Rattle.program.proofs.Calls.{of_trace, reads_served, told}
 use Rattle.program.proofs.compare.compare.Goals as goal
 
 pub returns-in-Ok-write_all-clause-ok : goal.returns-in-Ok-write_all-clause-ok
@@ -19,11 +17,3 @@ returns-in-Ok-write_all-clause-ok g c =
           ∙ ap row (c.in-Ok.ensures.counts ∙ ap (compared_on first second) h.2))
           c.in-Ok-write_all.ensures.bytes,
     ))
-
-pub returns-in_err-trace-clause-calls : goal.returns-in_err-trace-clause-calls
-returns-in_err-trace-clause-calls g c =
-    told _ _ _ _ _ _ c.from_residual.ensures.1 (of_trace _ _ _ _ c.in_err-trace.ensures.tally)
-
-pub returns-in_err-push_comparison-clause-calls : goal.returns-in_err-push_comparison-clause-calls
-returns-in_err-push_comparison-clause-calls g c =
-    told _ _ _ _ _ _ c.from_residual-in_err-push_comparison.ensures.1 (reads_served _ _ _ c.in_ok-trace.ensures.tally, uncalled _)

@@ -1,10 +1,10 @@
-use Rattle.std.proofs.Common.{ap, length, true, Err}
+use Rattle.std.proofs.Common.{ap, refl, length, true, Err}
 use Rattle.std.proofs.lemmas.Option.{IfSome_then}
+use Rattle.program.specs.FaultCauses.{IsOfReplayFrom}
 use Rattle.program.proofs.Faulting.{err_is}
-use Rattle.program.proofs.Found.{over_journal}
+use Rattle.program.proofs.Found.{of_dialogue}
 use Rattle.program.proofs.TooLarge.{past_limit}
 use Rattle.program.proofs.Replayed.{replayed_from}
-use Rattle.program.proofs.Calls.{of_dialogue, of_journal, told}
 use Rattle.program.proofs.debug.replay_in.Goals as goal
 
 pub returns-clause-ok : goal.returns-clause-ok
@@ -16,14 +16,6 @@ returns-clause-ok g c =
 pub returns-in_err-run_replay-clause-fault : goal.returns-in_err-run_replay-clause-fault
 returns-in_err-run_replay-clause-fault g c =
     let commands = g.R.CountedRead.remaining c.args.input.now in
-    err_is _ c.from_residual-in_err-run_replay.result _ c.from_residual-in_err-run_replay.ensures.1 (over_journal _ _ commands c.args.journal.now _ (λ i same. c.in_err-run_replay.ensures.config i (ap Err same))
+    err_is _ c.from_residual-in_err-run_replay.result _ c.from_residual-in_err-run_replay.ensures.1
+    (of_dialogue (λ f. IsOfReplayFrom c.args.session.now.opening c.args.session.now.limit commands f c.args.journal.now) commands _ (λ h. (refl, h)) (λ i same. c.in_err-run_replay.ensures.config i (ap Err same))
     (λ same. IfSome_then commands (c.in_err-run_replay.ensures.large (ap Err same)) (λ bytes writes. past_limit _ _ bytes writes.fits)))
-
-pub returns-in_err-read_journal-clause-calls : goal.returns-in_err-read_journal-clause-calls
-returns-in_err-read_journal-clause-calls g c =
-    told _ _ _ _ _ _ c.from_residual.ensures.1 (of_journal _ _ _)
-
-pub returns-in_err-run_replay-clause-calls : goal.returns-in_err-run_replay-clause-calls
-returns-in_err-run_replay-clause-calls g c =
-    told _ _ _ _ _ _ c.from_residual-in_err-run_replay.ensures.1
-    (of_dialogue _ _ _ _ _ c.in_err-run_replay.ensures.reads c.in_err-run_replay.ensures.writes)

@@ -1,13 +1,9 @@
-use Rattle.std.proofs.Common.{◌≡◌, ◌∙◌, ap, ap₂, arith, rules, subst, length, List, map, Option, None, Result, Err}
+use Rattle.std.proofs.Common.{◌∙◌, ap, ap₂, arith, rules, length, List, map}
 use Rattle.step_record.specs.declared.job.Job.{Job}
-use Rattle.policies.specs.FaultyJobs.{ReturnsFault}
 use Rattle.policies.specs.Reports.{report_on}
-use Rattle.policies.specs.declared.actor_fault.ActorFault.{ActorFault}
-use Rattle.policies.specs.declared.actor_fault.ActorFault.TheVariants.{OutOfMemory}
 use Rattle.sweeps.specs.Sweep.{jobs_over}
-use Rattle.program.specs.Jobs.{jobs_by_policy}
-use Rattle.program.proofs.Accepting.{can_sweep}
-use Rattle.program.proofs.Faulting.{at_err}
+use Rattle.program.specs.TraceOutput.{jobs_by_policy}
+use Rattle.program.proofs.Accepting.{can_sweep, memory_alone}
 use Rattle.program.proofs.sweep.reports.Goals as goal
 
 pub returns-in-Ok-clause-reports : goal.returns-in-Ok-clause-reports
@@ -15,10 +11,6 @@ returns-in-Ok-clause-reports g c =
     let jobs = c.as_slice-3.ensures.value ∙ c.in_ok-jobs.ensures ∙ ap (jobs_by_policy c.args.arguments.now.config) c.as_slice.ensures in
     let rows = ap₂ jobs_over jobs c.as_slice-capacities.ensures in
     c.in-Ok.ensures.reports ∙ ap (λ (l : List Job). map (λ job. report_on job c.args.trace.now) l) rows
-
--- where no fault is due, the one that came is out of memory
-memory_alone : {A : Type 0} (due : Option ActorFault) (r : Result A ActorFault) (f : ActorFault) → due ≡ None → ReturnsFault due r → r ≡ Err f → f ≡ OutOfMemory
-memory_alone due r f none h is = at_err (λ e. e ≡ OutOfMemory) r f is (subst (λ (d : Option ActorFault). ReturnsFault d r) none h)
 
 pub prove-unreachable-requires : goal.prove-unreachable-requires
 prove-unreachable-requires g c =
