@@ -1,6 +1,6 @@
 -- The window of a trace whose keys Lru holds, one access after another.
-use Rattle.std.proofs.Common.{◌≡◌, ℕ, suc, zero, ◌+◌, ◌-◌, ◌<◌, ◌≤◌, min, Bool, true, false, ◌||◌, cond, eqb, nat_lt, nat_le, List, [], ◌∷◌, ◌++◌, length, take, drop, get_or, ap, ◌∙◌, sym, refl, arith, inl, inr}
-use Rattle.std.proofs.lemmas.Bool.{cases_eq, cases_lt, eq-eqb, ne_eqb}
+use Rattle.std.proofs.Common.{◌≡◌, ℕ, suc, zero, ◌+◌, ◌-◌, ◌<◌, ◌≤◌, min, true, false, ◌||◌, cond, eqb, nat_lt, nat_le, List, [], ◌∷◌, length, take, drop, get_or, ap, ◌∙◌, sym, refl, arith, inl, inr}
+use Rattle.std.proofs.lemmas.Bool.{cases_eq, cases_lt, ne_eqb}
 use Rattle.std.proofs.lemmas.Bool.Decides.{nat_tests}
 use Rattle.std.proofs.lemmas.List.{drop-append-le, take_more, take_all}
 use Rattle.step_record.specs.Keys.{has_key}
@@ -49,19 +49,8 @@ miss-beyond c (suc f) xs k full h =
       | inr none ↦ within-none c xs k none
     ]
 
-or-true : (v w : Bool) → w ≡ true → (v || w) ≡ true
-or-true true w h = refl
-or-true false w h = h
-
-or-false : (v w : Bool) → w ≡ false → (v || w) ≡ v
-or-false true w h = refl
-or-false false w h = h
-
 -- the access at the place, and the number of the last one to its key
 module _ (keys : List ℕ) (place : ℕ) (in_it : place < length keys) (before : ℕ) (noted : before ≡ number_of (last_below keys place (get_or keys place 0))) where
-  next-past : take (place + 1) keys ≡ take place keys ++ get_or keys place 0 ∷ []
-  next-past = take_more keys place 0 in_it
-
   cut-front : (s : ℕ) → s ≤ place → drop s (take (place + 1) keys) ≡ get_or keys s 0 ∷ drop (suc s) (take (place + 1) keys)
   cut-front s h = front-at keys (place + 1) s (omega (arith, h)) (omega (arith, in_it))
 
@@ -100,7 +89,7 @@ module _ (keys : List ℕ) (place : ℕ) (in_it : place < length keys) (before :
   grown f h =
       let l : length (take place keys) ≡ place = past-length keys place in_it in
       let within : f ≤ length (take place keys) = omega (arith, l, h) in
-      ap (λ l. length (distinct_keys (drop f l))) next-past
+      ap (λ l. length (distinct_keys (drop f l))) (take_more keys place 0 in_it)
       ∙ (ap (λ l. length (distinct_keys l)) (drop-append-le f (take place keys) (get_or keys place 0 ∷ []) within) ∙ grows (get_or keys place 0) (drop f (take place keys)))
 
   same-held : (f : ℕ) → f ≤ place → has_key (get_or keys place 0) (drop f (take place keys)) ≡ true → length (distinct_keys (drop f (take (place + 1) keys))) ≡ length (distinct_keys (drop f (take place keys)))
@@ -109,9 +98,6 @@ module _ (keys : List ℕ) (place : ℕ) (in_it : place < length keys) (before :
   more-held : (f : ℕ) → f ≤ place → has_key (get_or keys place 0) (drop f (take place keys)) ≡ false → length (distinct_keys (drop f (take (place + 1) keys))) ≡ suc (length (distinct_keys (drop f (take place keys))))
   more-held f h came = grown f h ∙ rw came refl
 
-  hits-next : (c : ℕ) → hits_within c (take (place + 1) keys) ≡ hits_within c (take place keys) + cond (is_within c (distance (take place keys) (get_or keys place 0))) 1 0
-  hits-next c = count-next (is_within c) keys place in_it
-
   module _ (w : Window) (h : IsWindow keys place w) where
     pub hits-small : w.hits ≤ place
     hits-small =
@@ -119,13 +105,7 @@ module _ (keys : List ℕ) (place : ℕ) (in_it : place < length keys) (before :
 
     -- the bits of a place that hits
     hit-bit : w.first < before → (i : ℕ) → w.first ≤ i → (bit_of w.renewed.items i || eqb (before - 1) i) ≡ has_key (get_or keys i 0) (drop (suc i) (take (place + 1) keys))
-    hit-bit later i from =
-        elim (cases_eq (i + 1) before) [
-          | inl e ↦ or-true (bit_of w.renewed.items i) (eqb (before - 1) i) (eq-eqb (before - 1) i (omega (arith, e)))
-              ∙ sym (again-next keys place in_it before noted i ∙ rw (eq-eqb (i + 1) before e) refl)
-          | inr d ↦ or-false (bit_of w.renewed.items i) (eqb (before - 1) i) (ne_eqb (before - 1) i (λ e. d (omega (arith, e, later))))
-              ∙ (h.renewed i from ∙ sym (again-next keys place in_it before noted i ∙ rw (ne_eqb (i + 1) before d) refl))
-        ]
+    hit-bit later i from = rw (h.renewed i from, again-next keys place in_it before noted i) (grind (arith, nat_tests))
 
     -- and those of one that misses
     missed-bit : before ≤ w.first → (i : ℕ) → w.first ≤ i → bit_of w.renewed.items i ≡ has_key (get_or keys i 0) (drop (suc i) (take (place + 1) keys))
@@ -138,7 +118,7 @@ module _ (keys : List ℕ) (place : ℕ) (in_it : place < length keys) (before :
         let came : has_key (get_or keys place 0) (drop w.first (take place keys)) ≡ true = sym (came-since w.first) ∙ low in
         let fits : length (distinct_keys (drop w.first (take place keys))) ≤ w.capacity = omega (arith, h.held, h.fits) in
         let yes : is_within w.capacity (distance (take place keys) (get_or keys place 0)) ≡ true = hit-within w.capacity w.first (take place keys) (get_or keys place 0) fits came in
-        let more : hits_within w.capacity (take (place + 1) keys) ≡ hits_within w.capacity (take place keys) + cond (is_within w.capacity (distance (take place keys) (get_or keys place 0))) 1 0 = hits-next w.capacity in
+        let more : hits_within w.capacity (take (place + 1) keys) ≡ hits_within w.capacity (take place keys) + cond (is_within w.capacity (distance (take place keys) (get_or keys place 0))) 1 0 = count-next (is_within w.capacity) keys place in_it in
         let was : w.hits ≡ hits_within w.capacity (take place keys) = h.hits in
         let counted : v.hits ≡ hits_within w.capacity (take (place + 1) keys) = omega (arith, ap (λ b. cond {A = ℕ} b 1 0) yes, more, was, hits) in
         record {
@@ -158,7 +138,7 @@ module _ (keys : List ℕ) (place : ℕ) (in_it : place < length keys) (before :
     same-hits : before ≤ w.first → w.hits ≡ hits_within w.capacity (take (place + 1) keys)
     same-hits early =
         let no : is_within w.capacity (distance (take place keys) (get_or keys place 0)) ≡ false = miss-beyond w.capacity w.first (take place keys) (get_or keys place 0) (λ some. sym h.held ∙ h.full some) (missed early) in
-        let more : hits_within w.capacity (take (place + 1) keys) ≡ hits_within w.capacity (take place keys) + cond (is_within w.capacity (distance (take place keys) (get_or keys place 0))) 1 0 = hits-next w.capacity in
+        let more : hits_within w.capacity (take (place + 1) keys) ≡ hits_within w.capacity (take place keys) + cond (is_within w.capacity (distance (take place keys) (get_or keys place 0))) 1 0 = count-next (is_within w.capacity) keys place in_it in
         let was : w.hits ≡ hits_within w.capacity (take place keys) = h.hits in
         omega (arith, ap (λ b. cond {A = ℕ} b 1 0) no, more, was)
 
