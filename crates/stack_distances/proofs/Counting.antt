@@ -1,5 +1,5 @@
 -- What Lru counts, by the distances.
-use Rattle.std.proofs.Common.{◌≡◌, ℕ, suc, ◌+◌, ◌-◌, ◌≤◌, min, false, nat_lt, Option, Some, None, List, [], ◌∷◌, ◌++◌, length, count_by, ap, ◌∙◌, sym, refl, arith, inl, inr, append_assoc, append-nil}
+use Rattle.std.proofs.Common.{◌≡◌, ℕ, suc, ◌+◌, ◌-◌, ◌≤◌, min, false, Option, Some, None, List, [], ◌∷◌, ◌++◌, length, count_by, ap, ◌∙◌, sym, refl, arith, inl, inr, append_assoc, append-nil}
 use Rattle.std.proofs.lemmas.Bool.Decides.{nat_tests}
 use Rattle.std.proofs.lemmas.List.Sums.{sum_by-le-sum_by}
 use Rattle.step_record.specs.Keys.{has_key}
@@ -25,11 +25,7 @@ pub within-hits : (c : ℕ) (xs : List ℕ) (k : ℕ) → is_within c (distance 
 within-hits c xs k = elim (two (has_key k xs)) [ inl h ↦ rw h refl | inr h ↦ rw h refl ]
 
 outcome-is : (c : ℕ) (xs : List ℕ) (k : ℕ) → (is_hit (lru_outcome c xs k) ≡ is_lru_hit c xs k) × (is_rejection (lru_outcome c xs k) ≡ false)
-outcome-is c xs k =
-    elim (two (is_lru_hit c xs k)) [
-      | inl h ↦ rw h (refl, refl)
-      | inr h ↦ rw h (elim (two (nat_lt (length (distinct_keys xs)) c)) [ inl e ↦ rw e (refl, refl) | inr e ↦ rw e (refl, refl) ])
-    ]
+outcome-is c xs k = (grind arith, grind arith)
 
 pub lru-hits : (j : Job) (keys : List ℕ) (k : ℕ) → j.policy ≡ Lru → 1 ≤ j.config.capacity → is_hit (outcome_after j keys k) ≡ is_within j.config.capacity (distance keys k)
 lru-hits j keys k p room = ap is_hit (outcome-lru j p room keys k (after-job j keys)) ∙ ((outcome-is j.config.capacity keys k).0 ∙ sym (within-hits j.config.capacity keys k))
