@@ -1,5 +1,5 @@
 -- What Lru counts, by the distances.
-use Rattle.std.proofs.Common.{◌≡◌, ℕ, suc, ◌+◌, ◌-◌, ◌<◌, ◌≤◌, min, true, false, cond, ◌&&◌, nat_lt, nat_le, Option, Some, None, List, [], ◌∷◌, ◌++◌, length, count_by, ap, ◌∙◌, sym, refl, arith, inl, inr, append_assoc, append-nil}
+use Rattle.std.proofs.Common.{◌≡◌, ℕ, suc, ◌+◌, ◌-◌, ◌≤◌, min, false, Option, Some, None, List, [], ◌∷◌, ◌++◌, length, count_by, ap, ◌∙◌, sym, refl, arith, inl, inr, append_assoc, append-nil}
 use Rattle.std.proofs.lemmas.Bool.Decides.{nat_tests}
 use Rattle.std.proofs.lemmas.List.Sums.{sum_by-le-sum_by}
 use Rattle.step_record.specs.Keys.{has_key}
@@ -22,18 +22,10 @@ use Rattle.stack_distances.proofs.Stack.{grows, since-within}
 -- ---- one access
 
 pub within-hits : (c : ℕ) (xs : List ℕ) (k : ℕ) → is_within c (distance xs k) ≡ is_lru_hit c xs k
-within-hits c xs k =
-    elim (two (has_key k xs)) as (λ _. is_within c (cond (has_key k xs) (Some (suc (length (distinct_keys (keys_since k xs))))) None) ≡ (has_key k xs && nat_lt (length (distinct_keys (keys_since k xs))) c)) [
-      | inl h ↦ rw h refl
-      | inr h ↦ rw h refl
-    ]
+within-hits c xs k = elim (two (has_key k xs)) [ inl h ↦ rw h refl | inr h ↦ rw h refl ]
 
 outcome-is : (c : ℕ) (xs : List ℕ) (k : ℕ) → (is_hit (lru_outcome c xs k) ≡ is_lru_hit c xs k) × (is_rejection (lru_outcome c xs k) ≡ false)
-outcome-is c xs k =
-    elim (two (is_lru_hit c xs k)) [
-      | inl h ↦ rw h (refl, refl)
-      | inr h ↦ rw h (elim (two (nat_lt (length (distinct_keys xs)) c)) [ inl e ↦ rw e (refl, refl) | inr e ↦ rw e (refl, refl) ])
-    ]
+outcome-is c xs k = (grind arith, grind arith)
 
 pub lru-hits : (j : Job) (keys : List ℕ) (k : ℕ) → j.policy ≡ Lru → 1 ≤ j.config.capacity → is_hit (outcome_after j keys k) ≡ is_within j.config.capacity (distance keys k)
 lru-hits j keys k p room = ap is_hit (outcome-lru j p room keys k (after-job j keys)) ∙ ((outcome-is j.config.capacity keys k).0 ∙ sym (within-hits j.config.capacity keys k))
@@ -63,17 +55,8 @@ module _ (j : Job) (is_lru : j.policy ≡ Lru) (room : 1 ≤ j.config.capacity) 
 -- a miss without an eviction fills one place
 fills : (c : ℕ) (xs : List ℕ) (k : ℕ) → one_if (is_eviction (lru_outcome c xs k)) + min c (length (distinct_keys (xs ++ k ∷ []))) ≡ one_if (is_miss (lru_outcome c xs k)) + min c (length (distinct_keys xs))
 fills c xs k = rw (grows k xs) (elim (two (has_key k xs)) [
-  | inl h ↦
-      let short : suc (length (distinct_keys (keys_since k xs))) ≤ length (distinct_keys xs) = since-within k 0 xs h in
-      rw h (elim (two (nat_lt (length (distinct_keys (keys_since k xs))) c)) [
-        | inl e ↦ rw e refl
-        | inr e ↦ let full : nat_lt (length (distinct_keys xs)) c ≡ false = grind (arith, nat_tests) in rw (e, full) refl
-      ])
-  | inr h ↦
-      rw h (elim (two (nat_lt (length (distinct_keys xs)) c)) [
-        | inl e ↦ let room : length (distinct_keys xs) < c = grind (arith, nat_tests) in rw e (omega arith)
-        | inr e ↦ let full : c ≤ length (distinct_keys xs) = grind (arith, nat_tests) in rw e (omega arith)
-      ])
+  | inl h ↦ let short : suc (length (distinct_keys (keys_since k xs))) ≤ length (distinct_keys xs) = since-within k 0 xs h in rw h (grind (arith, nat_tests))
+  | inr h ↦ rw h (grind (arith, nat_tests))
 ])
 
 abbrev IsCounted : ℕ → List ℕ → List ℕ → List Outcome → Type 0
@@ -126,11 +109,7 @@ hits-and-held c keys = let n = counted c [] keys in omega (arith, n.0, n.1, n.3,
 
 within-more : (c d : ℕ) (x : Option ℕ) → c ≤ d → one_if (is_within c x) ≤ one_if (is_within d x)
 within-more c d None h = omega arith
-within-more c d (Some n) h =
-    elim (two (nat_le n c)) [
-      | inl e ↦ let f : nat_le n d ≡ true = grind (arith, nat_tests) in rw (e, f) (omega arith)
-      | inr e ↦ rw e (omega arith)
-    ]
+within-more c d (Some n) h = grind (arith, nat_tests)
 
 pub hits-grow : (c d : ℕ) (keys : List ℕ) → c ≤ d → hits_within c keys ≤ hits_within d keys
 hits-grow c d keys h = sum_by-le-sum_by (λ x. one_if (is_within c x)) (λ x. one_if (is_within d x)) (distances keys) (λ x. within-more c d x h)

@@ -1,5 +1,5 @@
 -- The stretches of a Fenwick tree.
-use Rattle.std.proofs.Common.{◌≡◌, ◌≢◌, ℕ, ◌+◌, ◌-◌, ◌*◌, ◌/◌, ◌%◌, ◌<◌, ◌≤◌, bit_and, bit_or, true, false, cond, nat_lt, List, [], ◌∷◌, ◌++◌, length, get_or, set, refl, ap, ◌∙◌, arith, inl, inr, get_or-set_other}
+use Rattle.std.proofs.Common.{◌≡◌, ◌≢◌, ℕ, ◌+◌, ◌-◌, ◌*◌, ◌/◌, ◌%◌, ◌<◌, ◌≤◌, bit_and, bit_or, cond, nat_lt, List, [], ◌∷◌, ◌++◌, length, get_or, set, refl, ap, ◌∙◌, arith, inl, inr, get_or-set_other}
 use lib.Arith.{bin_ind}
 use lib.Bits.{and_step, or_step, and_self, or_self, and_le_l}
 use Rattle.std.proofs.Math.ListN.{length-set}
@@ -56,13 +56,15 @@ nested-even j e =
     (omega (arith, start-above (next_of j) (j / 2) (omega (arith, next-even j e, e)), start-low (j / 2), start-even j e, e), λ k more less. absurd (omega (arith, next-even j e, more, less)))
 
 nested-odd : (j : ℕ) → j % 2 ≡ 1 → IsNested (j / 2) → IsNested j
-nested-odd j e half =
-    (omega (arith, start-above (next_of j) (next_of (j / 2)) (next-odd j e), start-odd j e, half.0), λ k more less. elim (cases_eq (k % 2) 0) [
-      | inl even ↦ omega (arith, start-even k even, more)
-      | inr n ↦
-          let odd : k % 2 ≡ 1 = omega (arith, n) in
-          omega (arith, start-odd k odd, half.1 (k / 2) (omega (arith, more, e, odd)) (omega (arith, next-odd j e, less, odd)), e)
-    ])
+nested-odd j e half = (
+  omega (arith, start-above (next_of j) (next_of (j / 2)) (next-odd j e), start-odd j e, half.0),
+  λ k more less. elim (cases_eq (k % 2) 0) [
+    | inl even ↦ omega (arith, start-even k even, more)
+    | inr n ↦
+        let odd : k % 2 ≡ 1 = omega (arith, n) in
+        omega (arith, start-odd k odd, half.1 (k / 2) (omega (arith, more, e, odd)) (omega (arith, next-odd j e, less, odd)), e)
+  ],
+)
 
 pub nested : (j : ℕ) → IsNested j
 nested = bin_ind IsNested (nested-even 0 (omega arith)) (λ j half. elim (cases_eq (j % 2) 0) [
@@ -141,20 +143,14 @@ module _ (place : ℕ) (before sums : List ℕ) (at : ℕ) (h : IsTaken place be
     some-there within = omega (arith, tree.summed at within, h.left at (omega arith), tree.grows (start_of at) place h.from, tree.grows (place + 1) (at + 1) (omega (arith, h.behind)), some)
 
     module _ (less : ℕ → ℕ) (one : (n : ℕ) → total n ≡ less n + cond (nat_lt place n) 1 0) where
-      up-to : (n : ℕ) → n ≤ place → total n ≡ less n
-      up-to n h = let no : nat_lt place n ≡ false = grind (arith, nat_tests) in omega (arith, one n, ap (λ b. cond {A = ℕ} b 1 0) no)
-
-      beyond : (n : ℕ) → place < n → total n ≡ less n + 1
-      beyond n h = let yes : nat_lt place n ≡ true = grind (arith, nat_tests) in omega (arith, one n, ap (λ b. cond {A = ℕ} b 1 0) yes)
-
       grows : (m n : ℕ) → m ≤ n → less m ≤ less n
       grows m n order =
-          let more = tree.grows m n order in
+          let both = tree.grows m n order in
           elim (cases_lt place m) [
-            | inl l ↦ omega (arith, more, beyond m l, beyond n (omega (arith, l, order)))
-            | inr h ↦ elim (cases_lt place n) [
-              | inl l ↦ omega (arith, up-to m h, beyond n l, tree.grows m place h, tree.grows (place + 1) n (omega (arith, l)), some)
-              | inr k ↦ omega (arith, more, up-to m h, up-to n k)
+            | inl l ↦ grind (arith, nat_tests, one m, one n)
+            | inr h ↦ let low = tree.grows m place h in elim (cases_lt place n) [
+              | inl l ↦ let high = tree.grows (place + 1) n (omega (arith, l)) in grind (arith, nat_tests, one m, one n)
+              | inr k ↦ grind (arith, nat_tests, one m, one n)
             ]
           ]
 
@@ -165,11 +161,12 @@ module _ (place : ℕ) (before sums : List ℕ) (at : ℕ) (h : IsTaken place be
         summed = λ j in_sums.
             let within : j < length before = omega (arith, in_sums, h.long) in
             let was = tree.summed j within in
+            let low = start-low j in
             elim (cases_lt j place) [
-              | inl l ↦ omega (arith, was, h.low j l, up-to (start_of j) (omega (arith, start-low j, l)), up-to (j + 1) (omega (arith, l)))
+              | inl l ↦ let same = h.low j l in grind (arith, nat_tests, one (start_of j), one (j + 1))
               | inr m ↦ elim (cases_lt place (start_of j)) [
-                | inl l ↦ omega (arith, was, h.past j l, beyond (start_of j) l, beyond (j + 1) (omega (arith, m)))
-                | inr f ↦ omega (arith, was, h.taken j (omega (arith, within, end)) within f m, up-to (start_of j) f, beyond (j + 1) (omega (arith, m)))
+                | inl l ↦ let same = h.past j l in grind (arith, nat_tests, one (start_of j), one (j + 1))
+                | inr f ↦ let fewer = h.taken j (omega (arith, within, end)) within f m in grind (arith, nat_tests, one (start_of j), one (j + 1))
               ]
             ];
       }

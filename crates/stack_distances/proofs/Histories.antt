@@ -1,5 +1,5 @@
 -- A histogram, one access of the trace after another.
-use Rattle.std.proofs.Common.{◌≡◌, ◌≢◌, ℕ, suc, zero, ◌+◌, ◌<◌, ◌≤◌, Bool, true, false, cond, ◌&&◌, eqb, nat_eq, nat_lt, Option, Some, None, List, [], ◌∷◌, ◌++◌, length, count_by, take, drop, get_or, ap, ◌∙◌, sym, refl, arith, inl, inr, append_assoc, append-nil}
+use Rattle.std.proofs.Common.{◌≡◌, ◌≢◌, ℕ, suc, zero, ◌+◌, ◌<◌, ◌≤◌, Bool, true, false, cond, eqb, nat_eq, nat_lt, Option, Some, None, List, [], ◌∷◌, ◌++◌, length, count_by, take, drop, get_or, ap, ◌∙◌, sym, refl, arith, inl, inr, append_assoc, append-nil}
 use Rattle.std.proofs.lemmas.Bool.{cases_eq, eqb-true, eq-eqb, ne_eqb}
 use Rattle.std.proofs.lemmas.Bool.Decides.{nat_tests}
 use Rattle.std.proofs.lemmas.List.{take_more}
@@ -14,10 +14,9 @@ use Rattle.stack_distances.specs.Distances.{distance, distances_after, distances
 use Rattle.stack_distances.specs.Sums.{mark_of, sum_below}
 use Rattle.stack_distances.specs.Histogram.{is_last, is_at, IsHistogram}
 use Rattle.stack_distances.specs.declared.histogram.Histogram.{Histogram}
-use Rattle.stack_distances.proofs.Bits.{put-mark}
+use Rattle.stack_distances.proofs.Bits.{put-marks}
 use Rattle.stack_distances.proofs.Places.{again-next, came-by, front-at, last_number, last-key, last-low, past-end}
 use Rattle.stack_distances.proofs.Stack.{front-again, front-last, grows, since-beyond, since-within}
-use Rattle.stack_distances.proofs.Sums.{added-low}
 
 -- ---- the distances
 
@@ -53,10 +52,6 @@ count-next p keys place in_it = ap (λ l. count_by p (distances l)) (take_more k
 
 -- ---- the marks
 
-and-false : (b : Bool) → (b && false) ≡ false
-and-false true = refl
-and-false false = refl
-
 sum-low : (ws : List ℕ) (n : ℕ) → sum_below (mark_of ws) n ≤ n
 sum-low ws zero = omega arith
 sum-low ws (suc n) =
@@ -73,11 +68,7 @@ next-last keys place in_it before noted q =
           let other : eqb (q + 1) before ≡ false = ne_eqb (q + 1) before (λ s. omega (arith, s, e, noted, last-low keys place (get_or keys place 0))) in
           rw (yes, none, other, eq-eqb q place e) refl
       | inr d ↦
-          let same : nat_lt q (place + 1) ≡ nat_lt q place = (let ne : q ≢ place = d in grind (arith, nat_tests)) in
-          rw (same, again-next keys place in_it before noted q, ne_eqb q place d) (elim (two (eqb (q + 1) before)) [
-            | inl s ↦ rw s (and-false (nat_lt q place))
-            | inr s ↦ rw s refl
-          ])
+          let ne : q ≢ place = d in rw (again-next keys place in_it before noted q) (grind (arith, nat_tests))
     ]
 
 -- ---- one access
@@ -178,9 +169,10 @@ module _ (keys : List ℕ) (place : ℕ) (in_it : place < length keys) (h : Hist
 
       pub depth : sum_below (mark_of vs) p + suc (length (distinct_keys (keys_since key (take place keys)))) ≡ length h.counts.items
       depth =
+          let none : cond {A = ℕ} (nat_lt place p) 1 0 ≡ 0 = (let l : p < place = low in grind (arith, nat_tests)) in
           let front = ap (λ l. length (distinct_keys l)) (front-at keys place p low (omega (arith, in_it))) in
           let on = front-last (get_or keys p 0) (drop (suc p) (take place keys)) last-there in
-          omega (arith, added-low (mark_of words) (mark_of vs) place (put-mark words vs place free puts) p (omega (arith, low)), stack-below p (omega (arith, low)), front, on, since-within key p (take place keys) in-stack, since-beyond key (suc p) (take place keys) came behind, c.long)
+          omega (arith, put-marks words vs place free puts p, none, stack-below p (omega (arith, low)), front, on, since-within key p (take place keys) in-stack, since-beyond key (suc p) (take place keys) came behind, c.long)
 
       pub again-marked : (q : ℕ) → cond (eqb q p) false (bit_of vs q) ≡ is_last keys (place + 1) q
       again-marked q =

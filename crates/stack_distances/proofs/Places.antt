@@ -1,5 +1,5 @@
 -- Where keys of a trace came last.
-use Rattle.std.proofs.Common.{◌≡◌, ℕ, suc, zero, ◌+◌, ◌<◌, ◌≤◌, Bool, true, false, cond, eqb, nat_lt, List, [], ◌∷◌, ◌++◌, length, take, drop, get_or, ap, ◌∙◌, sym, refl, arith, inl, inr, drop-cons}
+use Rattle.std.proofs.Common.{◌≡◌, ℕ, suc, zero, ◌+◌, ◌<◌, ◌≤◌, true, false, cond, eqb, nat_lt, List, [], ◌∷◌, ◌++◌, length, take, drop, get_or, ap, ◌∙◌, sym, refl, arith, inl, inr, drop-cons}
 use Rattle.std.proofs.lemmas.Bool.{cases_eq, cases_lt, eqb-true, eq-eqb, ne_eqb}
 use Rattle.std.proofs.lemmas.Bool.Decides.{nat_tests}
 use Rattle.std.proofs.lemmas.List.{get_or-take, drop-append-le, length-take-le, take_more}
@@ -28,14 +28,6 @@ pub past-end : (keys : List ℕ) (n f : ℕ) → n ≤ length keys → n ≤ f �
 past-end keys n f all h =
     drop_of_length-le (take n keys) {i = f} (omega (arith, length-take-le n keys all, h))
 
-or-true : (v : Bool) → cond v true true ≡ true
-or-true true = refl
-or-true false = refl
-
-or-false : (v : Bool) → cond v true false ≡ v
-or-false true = refl
-or-false false = refl
-
 -- the number of the last access to a key is above f exactly where the key came at f or later
 pub came-by : (keys : List ℕ) (n f k : ℕ) → n ≤ length keys → nat_lt f (number_of (last_below keys n k)) ≡ has_key k (drop f (take n keys))
 came-by keys zero f k h =
@@ -49,18 +41,12 @@ came-by keys (suc n) f k h =
       | inl past ↦
           let gone : has_key k (drop f (take (suc n) keys)) ≡ false = ap (has_key k) (past-end keys (suc n) f h (omega (arith, past))) in
           let none : has_key k (drop f (take n keys)) ≡ false = ap (has_key k) (past-end keys n f (omega (arith, h)) (omega (arith, past))) in
-          elim (two (eqb k (get_or keys n 0))) [
-            | inl e ↦ let no : nat_lt f (suc n) ≡ false = grind (arith, nat_tests) in rw (e, gone) no
-            | inr e ↦ rw (e, gone) (rest ∙ none)
-          ]
+          rw gone (grind (arith, nat_tests))
       | inr within ↦
           let on : n + 1 ≡ suc n = omega arith in
           let more : has_key k (drop f (take (suc n) keys)) ≡ cond (has_key k (drop f (take n keys))) true (eqb k (get_or keys n 0)) =
           ap (λ (m : ℕ). has_key k (drop f (take m keys))) (sym on) ∙ (ap (has_key k) (drop-next keys n f in_it (omega (arith, within))) ∙ has-snoc k (get_or keys n 0) (drop f (take n keys))) in
-          elim (two (eqb k (get_or keys n 0))) [
-            | inl e ↦ let yes : nat_lt f (suc n) ≡ true = grind (arith, nat_tests) in rw (more, e) (yes ∙ sym (or-true (has_key k (drop f (take n keys)))))
-            | inr e ↦ rw (more, e) (rest ∙ sym (or-false (has_key k (drop f (take n keys)))))
-          ]
+          rw more (grind (arith, nat_tests))
     ]
 
 -- ---- the last place of a key, by its number
@@ -97,20 +83,10 @@ module _ (keys : List ℕ) where
           let same : last_number place (get_or keys i 0) ≡ before = ap (last_number place) (eqb-true (get_or keys i 0) (get_or keys place 0) e) ∙ sym noted in
           let low : before ≤ place = omega (arith, noted, last-low place (get_or keys place 0)) in
           let high : i < place → i < before = (λ l. omega (arith, same, last-high place (get_or keys i 0) i l (eq-eqb (get_or keys i 0) (get_or keys i 0) refl))) in
-          rw (e, same) (elim (cases_eq (i + 1) before) [
-            | inl s ↦ let yes : nat_lt (suc i) (suc place) ≡ true = (let l : i < place = omega (arith, s, low) in grind (arith, nat_tests)) in rw (eq-eqb (i + 1) before s) yes
-            | inr d ↦ rw (ne_eqb (i + 1) before d) (elim (cases_lt i place) [
-              | inl l ↦
-                  let more : suc i < before = (let h : i < before = high l in omega (arith, h, d)) in
-                  let yes : nat_lt (suc i) before ≡ true = grind (arith, nat_tests) in
-                  let also : nat_lt (suc i) (suc place) ≡ true = grind (arith, nat_tests) in
-                  also ∙ sym yes
-              | inr g ↦
-                  let no : nat_lt (suc i) before ≡ false = grind (arith, nat_tests) in
-                  let also : nat_lt (suc i) (suc place) ≡ false = grind (arith, nat_tests) in
-                  also ∙ sym no
-            ])
-          ])
+          elim (cases_lt i place) [
+            | inl l ↦ let more : i < before = high l in rw (e, same) (grind (arith, nat_tests))
+            | inr g ↦ rw (e, same) (grind (arith, nat_tests))
+          ]
       | inr e ↦
           let other : eqb (i + 1) before ≡ false = ne_eqb (i + 1) before (λ s.
           let same = last-key place (get_or keys place 0) i (sym noted ∙ (sym s ∙ omega arith)) in

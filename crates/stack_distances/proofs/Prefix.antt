@@ -1,9 +1,9 @@
 -- The hits at each capacity, as sums of the counts of distances.
-use Rattle.std.proofs.Common.{◌≡◌, ℕ, suc, ◌+◌, ◌≤◌, min, true, false, cond, eqb, nat_le, Option, Some, None, List, [], ◌∷◌, ◌++◌, length, count_by, ap, ◌∙◌, sym, refl, arith, inl, inr, append_assoc, append-nil}
+use Rattle.std.proofs.Common.{◌≡◌, ℕ, suc, ◌+◌, ◌≤◌, min, false, cond, Option, Some, None, List, [], ◌∷◌, ◌++◌, length, count_by, ap, ◌∙◌, sym, refl, arith, inl, inr, append_assoc, append-nil}
 use Rattle.std.proofs.lemmas.Bool.{cases_lt}
 use Rattle.std.proofs.lemmas.Bool.Decides.{nat_tests}
 use Rattle.step_record.specs.Keys.{has_key}
-use Rattle.policies.specs.Lru.{distinct_keys, keys_since}
+use Rattle.policies.specs.Lru.{distinct_keys}
 use Rattle.stack_distances.specs.Distances.{distance, distances_after, is_within, hits_within}
 use Rattle.stack_distances.specs.Histogram.{is_at}
 use Rattle.policies.proofs.Counting.{count-cons}
@@ -14,17 +14,7 @@ use Rattle.stack_distances.proofs.Stack.{grows, since-within}
 
 one-more : (d : ℕ) (x : Option ℕ) → cond (is_within (suc d) x) 1 0 ≡ cond (is_within d x) 1 0 + cond (is_at (suc d) x) 1 0
 one-more d None = omega arith
-one-more d (Some e) =
-    elim (two (nat_le e d)) [
-      | inl l ↦
-          let a : nat_le e (suc d) ≡ true = grind (arith, nat_tests) in
-          let b : eqb (suc d) e ≡ false = grind (arith, nat_tests) in
-          rw (a, b, l) (omega arith)
-      | inr g ↦ elim (two (eqb (suc d) e)) [
-        | inl s ↦ let a : nat_le e (suc d) ≡ true = grind (arith, nat_tests) in rw (a, s, g) (omega arith)
-        | inr n ↦ let a : nat_le e (suc d) ≡ false = grind (arith, nat_tests) in rw (a, n, g) (omega arith)
-      ]
-    ]
+one-more d (Some e) = grind (arith, nat_tests)
 
 pub within-more : (d : ℕ) (ds : List (Option ℕ)) → count_by (is_within (suc d)) ds ≡ count_by (is_within d) ds + count_by (is_at (suc d)) ds
 within-more d [] = omega arith
@@ -32,11 +22,7 @@ within-more d (x ∷ ds) = omega (arith, within-more d ds, one-more d x, count-c
 
 -- no distance is 0
 none-within : (xs : List ℕ) (k : ℕ) → is_within 0 (distance xs k) ≡ false
-none-within xs k =
-    elim (two (has_key k xs)) [
-      | inl h ↦ rw h (grind (arith, nat_tests))
-      | inr h ↦ rw h refl
-    ]
+none-within xs k = grind (arith, nat_tests)
 
 none-after : (past keys : List ℕ) → count_by (is_within 0) (distances_after past keys) ≡ 0
 none-after past [] = refl
@@ -50,10 +36,7 @@ no-hits keys = none-after [] keys
 
 full : (c : ℕ) (xs : List ℕ) (k : ℕ) → length (distinct_keys xs) ≤ c → is_within c (distance xs k) ≡ has_key k xs
 full c xs k h =
-    elim (two (has_key k xs)) as (λ _. is_within c (distance xs k) ≡ has_key k xs) [
-      | inl e ↦ let d : suc (length (distinct_keys (keys_since k xs))) ≤ length (distinct_keys xs) = since-within k 0 xs e in rw e (grind (arith, nat_tests))
-      | inr e ↦ rw e refl
-    ]
+    elim (two (has_key k xs)) [ inl e ↦ let d = since-within k 0 xs e in rw e (grind (arith, nat_tests)) | inr e ↦ rw e refl ]
 
 one-grows : (past : List ℕ) (k : ℕ) → length (distinct_keys past) ≤ length (distinct_keys (past ++ k ∷ []))
 one-grows past k = rw (grows k past) (elim (two (has_key k past)) as (λ _. length (distinct_keys past) ≤ cond (has_key k past) (length (distinct_keys past)) (suc (length (distinct_keys past)))) [ inl e ↦ rw e (omega arith) | inr e ↦ rw e (omega arith) ])

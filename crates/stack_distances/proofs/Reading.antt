@@ -36,12 +36,10 @@ passed-summed keys trace hits place h all same long taken passed =
     }
 
 pub next-sum : (keys hits : List ℕ) (sum c : ℕ) → IsSummed keys hits sum c → sum + get_or hits c 0 ≡ hits_within (suc c) keys
-next-sum keys hits sum c s =
-    omega (arith, s.ahead c (omega arith), s.so_far, within-more c (distances keys))
+next-sum keys hits sum c s = omega (arith, s.ahead c (omega arith), s.so_far, within-more c (distances keys))
 
 pub sum-small : (keys : List ℕ) (c : ℕ) → hits_within c keys ≤ length keys
-sum-small keys c =
-    omega (arith, count_by-le-length (is_within c) (distances keys), distances-long [] keys)
+sum-small keys c = omega (arith, count_by-le-length (is_within c) (distances keys), distances-long [] keys)
 
 pub more-summed : (keys hits : List ℕ) (sum c x : ℕ) → c < length hits → IsSummed keys hits sum c → x ≡ sum + get_or hits c 0 → IsSummed keys (set hits c x) x (suc c)
 more-summed keys hits sum c x in_it s e =
@@ -51,7 +49,7 @@ more-summed keys hits sum c x in_it s e =
       so_far = is;
       below = λ d lt. elim (cases_eq d c) [
         | inl q ↦ ap (λ n. get_or (set hits c x) n 0) q ∙ ((rw get_or-set_same is) ∙ ap (λ n. hits_within (suc n) keys) (sym q))
-        | inr n ↦ let ne : d ≢ c = n in (rw get_or-set_other refl) ∙ s.below d (omega arith)
+        | inr ne ↦ (rw get_or-set_other refl) ∙ s.below d (omega (arith, lt, ne))
       ];
       ahead = λ d le. let ne : d ≢ c = (λ q. omega (arith, q, le)) in (rw get_or-set_other refl) ∙ s.ahead d (omega (arith, le));
     }

@@ -1,13 +1,13 @@
 -- The window of a trace whose keys Lru holds, one access after another.
-use Rattle.std.proofs.Common.{◌≡◌, ℕ, suc, zero, ◌+◌, ◌-◌, ◌<◌, ◌≤◌, min, Bool, true, false, ◌||◌, cond, eqb, nat_lt, nat_le, List, [], ◌∷◌, ◌++◌, length, take, drop, get_or, ap, ◌∙◌, sym, refl, arith, inl, inr}
-use Rattle.std.proofs.lemmas.Bool.{cases_eq, cases_lt, eq-eqb, ne_eqb}
+use Rattle.std.proofs.Common.{◌≡◌, ℕ, suc, zero, ◌+◌, ◌-◌, ◌<◌, ◌≤◌, min, true, false, ◌||◌, cond, eqb, nat_lt, List, [], ◌∷◌, length, take, drop, get_or, ap, ◌∙◌, sym, refl, arith, inl, inr}
+use Rattle.std.proofs.lemmas.Bool.{cases_eq, cases_lt, ne_eqb}
 use Rattle.std.proofs.lemmas.Bool.Decides.{nat_tests}
 use Rattle.std.proofs.lemmas.List.{drop-append-le, take_more, take_all}
 use Rattle.step_record.specs.Keys.{has_key}
 use Rattle.bits_and_lists.specs.Bits.{bit_of}
 use Rattle.step_record.specs.declared.job.Job.{Job}
 use Rattle.step_record.specs.declared.job.Policy.TheVariants.{Lru}
-use Rattle.policies.specs.Lru.{distinct_keys, keys_since}
+use Rattle.policies.specs.Lru.{distinct_keys}
 use Rattle.policies.specs.AnyPolicy.{stats_on}
 use Rattle.policies.proofs.Recency.{has-drop, two}
 use Rattle.stack_distances.specs.Distances.{distance, is_within, hits_within}
@@ -22,46 +22,21 @@ use Rattle.stack_distances.proofs.Stack.{fewer-behind, front-again, front-last, 
 
 -- ---- hits
 
-within-some : (c : ℕ) (xs : List ℕ) (k : ℕ) → has_key k xs ≡ true → is_within c (distance xs k) ≡ nat_le (suc (length (distinct_keys (keys_since k xs)))) c
-within-some c xs k h = rw h refl
-
-within-none : (c : ℕ) (xs : List ℕ) (k : ℕ) → has_key k xs ≡ false → is_within c (distance xs k) ≡ false
-within-none c xs k h = rw h refl
-
 -- an access to a key of the window
 hit-within : (c f : ℕ) (xs : List ℕ) (k : ℕ) → length (distinct_keys (drop f xs)) ≤ c → has_key k (drop f xs) ≡ true → is_within c (distance xs k) ≡ true
-hit-within c f xs k fits h =
-    let came : has_key k xs ≡ true = has-drop k f xs h in
-    let less : suc (length (distinct_keys (keys_since k xs))) ≤ length (distinct_keys (drop f xs)) = since-within k f xs h in
-    let yes : nat_le (suc (length (distinct_keys (keys_since k xs)))) c ≡ true = grind (arith, nat_tests) in
-    within-some c xs k came ∙ yes
+hit-within c f xs k fits h = let less = since-within k f xs h in rw (has-drop k f xs h) (grind (arith, nat_tests))
 
 -- and to any other, where the window is full or the whole trace so far
 miss-beyond : (c f : ℕ) (xs : List ℕ) (k : ℕ) → (1 ≤ f → length (distinct_keys (drop f xs)) ≡ c) → has_key k (drop f xs) ≡ false → is_within c (distance xs k) ≡ false
-miss-beyond c zero xs k full h = within-none c xs k h
+miss-beyond c zero xs k full h = rw h refl
 miss-beyond c (suc f) xs k full h =
     elim (two (has_key k xs)) [
-      | inl came ↦
-          let more : length (distinct_keys (drop (suc f) xs)) ≤ length (distinct_keys (keys_since k xs)) = since-beyond k (suc f) xs came h in
-          let all : length (distinct_keys (drop (suc f) xs)) ≡ c = full (omega arith) in
-          let no : nat_le (suc (length (distinct_keys (keys_since k xs)))) c ≡ false = grind (arith, nat_tests) in
-          within-some c xs k came ∙ no
-      | inr none ↦ within-none c xs k none
+      | inl came ↦ let more = since-beyond k (suc f) xs came h in let all = full (omega arith) in rw came (grind (arith, nat_tests))
+      | inr none ↦ rw none refl
     ]
-
-or-true : (v w : Bool) → w ≡ true → (v || w) ≡ true
-or-true true w h = refl
-or-true false w h = h
-
-or-false : (v w : Bool) → w ≡ false → (v || w) ≡ v
-or-false true w h = refl
-or-false false w h = h
 
 -- the access at the place, and the number of the last one to its key
 module _ (keys : List ℕ) (place : ℕ) (in_it : place < length keys) (before : ℕ) (noted : before ≡ number_of (last_below keys place (get_or keys place 0))) where
-  next-past : take (place + 1) keys ≡ take place keys ++ get_or keys place 0 ∷ []
-  next-past = take_more keys place 0 in_it
-
   cut-front : (s : ℕ) → s ≤ place → drop s (take (place + 1) keys) ≡ get_or keys s 0 ∷ drop (suc s) (take (place + 1) keys)
   cut-front s h = front-at keys (place + 1) s (omega (arith, h)) (omega (arith, in_it))
 
@@ -100,7 +75,7 @@ module _ (keys : List ℕ) (place : ℕ) (in_it : place < length keys) (before :
   grown f h =
       let l : length (take place keys) ≡ place = past-length keys place in_it in
       let within : f ≤ length (take place keys) = omega (arith, l, h) in
-      ap (λ l. length (distinct_keys (drop f l))) next-past
+      ap (λ l. length (distinct_keys (drop f l))) (take_more keys place 0 in_it)
       ∙ (ap (λ l. length (distinct_keys l)) (drop-append-le f (take place keys) (get_or keys place 0 ∷ []) within) ∙ grows (get_or keys place 0) (drop f (take place keys)))
 
   same-held : (f : ℕ) → f ≤ place → has_key (get_or keys place 0) (drop f (take place keys)) ≡ true → length (distinct_keys (drop f (take (place + 1) keys))) ≡ length (distinct_keys (drop f (take place keys)))
@@ -109,28 +84,17 @@ module _ (keys : List ℕ) (place : ℕ) (in_it : place < length keys) (before :
   more-held : (f : ℕ) → f ≤ place → has_key (get_or keys place 0) (drop f (take place keys)) ≡ false → length (distinct_keys (drop f (take (place + 1) keys))) ≡ suc (length (distinct_keys (drop f (take place keys))))
   more-held f h came = grown f h ∙ rw came refl
 
-  hits-next : (c : ℕ) → hits_within c (take (place + 1) keys) ≡ hits_within c (take place keys) + cond (is_within c (distance (take place keys) (get_or keys place 0))) 1 0
-  hits-next c = count-next (is_within c) keys place in_it
-
   module _ (w : Window) (h : IsWindow keys place w) where
     pub hits-small : w.hits ≤ place
-    hits-small =
-        omega (arith, sum-small (take place keys) w.capacity, past-length keys place in_it, h.hits)
+    hits-small = omega (arith, sum-small (take place keys) w.capacity, past-length keys place in_it, h.hits)
 
     -- the bits of a place that hits
     hit-bit : w.first < before → (i : ℕ) → w.first ≤ i → (bit_of w.renewed.items i || eqb (before - 1) i) ≡ has_key (get_or keys i 0) (drop (suc i) (take (place + 1) keys))
-    hit-bit later i from =
-        elim (cases_eq (i + 1) before) [
-          | inl e ↦ or-true (bit_of w.renewed.items i) (eqb (before - 1) i) (eq-eqb (before - 1) i (omega (arith, e)))
-              ∙ sym (again-next keys place in_it before noted i ∙ rw (eq-eqb (i + 1) before e) refl)
-          | inr d ↦ or-false (bit_of w.renewed.items i) (eqb (before - 1) i) (ne_eqb (before - 1) i (λ e. d (omega (arith, e, later))))
-              ∙ (h.renewed i from ∙ sym (again-next keys place in_it before noted i ∙ rw (ne_eqb (i + 1) before d) refl))
-        ]
+    hit-bit later i from = rw (h.renewed i from, again-next keys place in_it before noted i) (grind (arith, nat_tests))
 
     -- and those of one that misses
     missed-bit : before ≤ w.first → (i : ℕ) → w.first ≤ i → bit_of w.renewed.items i ≡ has_key (get_or keys i 0) (drop (suc i) (take (place + 1) keys))
-    missed-bit early i from =
-        h.renewed i from ∙ sym (again-next keys place in_it before noted i ∙ rw (ne_eqb (i + 1) before (λ e. omega (arith, e, early, from))) refl)
+    missed-bit early i from = h.renewed i from ∙ sym (again-next keys place in_it before noted i ∙ rw (ne_eqb (i + 1) before (λ e. omega (arith, e, early, from))) refl)
 
     pub hit-window : (v : Window) → w.first < before → v.capacity ≡ w.capacity → v.first ≡ w.first → v.held ≡ w.held → v.hits ≡ w.hits + 1 → length v.renewed.items ≡ length w.renewed.items → ((i : ℕ) → bit_of v.renewed.items i ≡ (bit_of w.renewed.items i || eqb (before - 1) i)) → IsWindow keys (place + 1) v
     hit-window v later capacity first held hits size sets =
@@ -138,7 +102,7 @@ module _ (keys : List ℕ) (place : ℕ) (in_it : place < length keys) (before :
         let came : has_key (get_or keys place 0) (drop w.first (take place keys)) ≡ true = sym (came-since w.first) ∙ low in
         let fits : length (distinct_keys (drop w.first (take place keys))) ≤ w.capacity = omega (arith, h.held, h.fits) in
         let yes : is_within w.capacity (distance (take place keys) (get_or keys place 0)) ≡ true = hit-within w.capacity w.first (take place keys) (get_or keys place 0) fits came in
-        let more : hits_within w.capacity (take (place + 1) keys) ≡ hits_within w.capacity (take place keys) + cond (is_within w.capacity (distance (take place keys) (get_or keys place 0))) 1 0 = hits-next w.capacity in
+        let more : hits_within w.capacity (take (place + 1) keys) ≡ hits_within w.capacity (take place keys) + cond (is_within w.capacity (distance (take place keys) (get_or keys place 0))) 1 0 = count-next (is_within w.capacity) keys place in_it in
         let was : w.hits ≡ hits_within w.capacity (take place keys) = h.hits in
         let counted : v.hits ≡ hits_within w.capacity (take (place + 1) keys) = omega (arith, ap (λ b. cond {A = ℕ} b 1 0) yes, more, was, hits) in
         record {
@@ -158,7 +122,7 @@ module _ (keys : List ℕ) (place : ℕ) (in_it : place < length keys) (before :
     same-hits : before ≤ w.first → w.hits ≡ hits_within w.capacity (take (place + 1) keys)
     same-hits early =
         let no : is_within w.capacity (distance (take place keys) (get_or keys place 0)) ≡ false = miss-beyond w.capacity w.first (take place keys) (get_or keys place 0) (λ some. sym h.held ∙ h.full some) (missed early) in
-        let more : hits_within w.capacity (take (place + 1) keys) ≡ hits_within w.capacity (take place keys) + cond (is_within w.capacity (distance (take place keys) (get_or keys place 0))) 1 0 = hits-next w.capacity in
+        let more : hits_within w.capacity (take (place + 1) keys) ≡ hits_within w.capacity (take place keys) + cond (is_within w.capacity (distance (take place keys) (get_or keys place 0))) 1 0 = count-next (is_within w.capacity) keys place in_it in
         let was : w.hits ≡ hits_within w.capacity (take place keys) = h.hits in
         omega (arith, ap (λ b. cond {A = ℕ} b 1 0) no, more, was)
 
@@ -230,8 +194,7 @@ module _ (keys : List ℕ) (w : Window) (place : ℕ) (all : length keys ≤ pla
       ]
 
   pub window-room : w.hits + w.held ≤ length keys
-  window-room =
-      omega (arith, hits-and-held w.capacity keys, whole-hits, whole-held)
+  window-room = omega (arith, hits-and-held w.capacity keys, whole-hits, whole-held)
 
   pub window-stats : (j : Job) (n : ℕ) → j.policy ≡ Lru → j.config.capacity ≡ w.capacity → 1 ≤ w.capacity → n ≡ length keys → stats_in w n ≡ stats_on j keys
   window-stats j n lru cap some e = stats-read j keys n w.hits w.held w.capacity lru cap some e whole-hits whole-held
