@@ -4,6 +4,7 @@ use Rattle.std.specs.List.{AllPass}
 use Rattle.std.specs.Prelude.{if◌then◌else◌}
 use Rattle.std.proofs.lemmas.List.Elements.{All-head, All-tail}
 use Rattle.std.proofs.lemmas.Bool.{le-leb}
+use Rattle.std.proofs.lemmas.Result.{IfErr-at_err}
 use Rattle.step_record.specs.Config.{config_fault, is_from_one}
 use Rattle.step_record.specs.declared.config.Config.{Config}
 use Rattle.step_record.specs.declared.job.Job.{Job}
@@ -23,7 +24,6 @@ use Rattle.command_line.specs.declared.arguments.PartArguments.{PartArguments}
 use Rattle.command_line.specs.declared.arguments.RunArguments.{RunArguments}
 use Rattle.command_line.specs.declared.arguments.SweepArguments.{SweepArguments}
 use Rattle.program.specs.TraceOutput.{jobs_by_policy}
-use Rattle.program.proofs.Faulting.{at_err}
 
 no_fault : (config : Config) (i : ℕ) (policies : List Policy) → config_fault config ≡ Ok tt → faulty_from i (jobs_by_policy config policies) ≡ None
 no_fault config i [] ok = refl
@@ -74,4 +74,4 @@ pair_accepted part accepted = rw (accepted.first, accepted.second) refl
 
 -- where no fault is due, the one that came is out of memory
 pub memory_alone : {A : Type 0} (due : Option ActorFault) (r : Result A ActorFault) (f : ActorFault) → due ≡ None → ReturnsFault due r → r ≡ Err f → f ≡ OutOfMemory
-memory_alone due r f none h is = at_err (λ e. e ≡ OutOfMemory) r f is (subst (λ (d : Option ActorFault). ReturnsFault d r) none h)
+memory_alone due r f none h is = IfErr-at_err (λ e. e ≡ OutOfMemory) is (subst (λ (d : Option ActorFault). ReturnsFault d r) none h)

@@ -1,6 +1,6 @@
 -- Which fault is found, from what the parts of a call say.
-use Rattle.std.proofs.Common.{◌≡◌, ◌<◌, ◌∙◌, ◌⊎◌, refl, subst, inl, inr, ℕ, List, Option, length}
-use Rattle.std.specs.Prelude.{IfSome}
+use Rattle.std.proofs.Common.{◌≡◌, ◌<◌, ◌∙◌, ◌⊎◌, refl, subst, sym, inl, inr, ℕ, List, Option, Result, Ok, Err, length}
+use Rattle.std.specs.Prelude.{IfErr, IfSome, IsErrAnd}
 use Rattle.std.proofs.lemmas.Option.{IfSome_then}
 use Rattle.step_record.specs.declared.config.Config.{Config}
 use Rattle.shell_model.specs.Shell.{Shell}
@@ -13,6 +13,11 @@ use Rattle.program.specs.Fault.{of_debug}
 use Rattle.program.specs.FaultCauses.{IsFoundInFile, IsOfMachine, IsOfReplay, IsOfReplayFrom}
 use Rattle.program.specs.declared.fault.Fault.{Fault}
 use Rattle.program.specs.declared.fault.Fault.TheVariants as fault
+
+-- an error that a `?` hands on
+pub err_is : {X Y : Type 0} (P : Y → Type 0) (r : Result X Y) (e : Y) → IsErrAnd r (λ f. f ≡ e) → P e → IfErr r P
+err_is P (Ok x) e h p = absurd h
+err_is P (Err f) e h p = subst P (sym h) p
 
 -- the bytes that were read are those of the file, where these are known
 pub known_text : (known : KnownFiles) (path file bytes text : List ℕ) → path ≡ file → IfSome (known path) (λ xs. bytes ≡ xs) → text ≡ bytes → IfSome (known file) (λ xs. text ≡ xs)

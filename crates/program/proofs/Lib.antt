@@ -1,6 +1,5 @@
 pub mod Replayed
 pub mod Dealing
-pub mod Faulting
 pub mod TooLarge
 pub mod Found
 pub mod Stopping

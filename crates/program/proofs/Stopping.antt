@@ -3,6 +3,7 @@ use Rattle.std.proofs.Common.{◌≡◌, ◌≤◌, ◌⊎◌, ◌∙◌, ap, re
 use Rattle.std.specs.Prelude.{IfErr, IfSome}
 use Rattle.std.specs.Io.KnownBytes.{Appends}
 use Rattle.std.proofs.lemmas.Option.{IfSome_then}
+use Rattle.std.proofs.lemmas.Result.{IfErr-at_err}
 use Rattle.step_record.specs.History.{Entries, IsLegal}
 use Rattle.step_record.specs.declared.config.Config.{Config}
 use Rattle.step_record.specs.declared.step.Call.{Call}
@@ -11,7 +12,8 @@ use Rattle.step_record.specs.declared.step.Step.{Step}
 use Rattle.step_record.specs.declared.worker.TheConstants.{MAX_WORKERS}
 use Rattle.shell_model.specs.Shell.{Shell, act}
 use Rattle.shell_model.specs.ReachableShell.{worker_of}
-use Rattle.trace_read.specs.TraceText.{keys_in}
+use Rattle.step_record.specs.declared.limits.TheConstants.{MAX_TRACE_BYTES}
+use Rattle.trace_read.specs.TraceText.{fault_in, keys_in}
 use Rattle.trace_read.specs.declared.format.Format.{Format}
 use Rattle.journal.specs.Session.{SessionState}
 use Rattle.journal_text.specs.Journal.{journal_of}
@@ -23,14 +25,12 @@ use Rattle.workers.specs.declared.run.Cause.{Cause}
 use Rattle.workers.specs.declared.run.Cause.TheVariants as cause
 use Rattle.workers.specs.declared.run.DriveFault.{DriveFault}
 use Rattle.workers.specs.declared.run.DriveFault.TheVariants.{Workers, Held, OutOfMemory, Stopped}
-use Rattle.program.specs.DriveOutput.{IsEmptySession, IsJournalOf, IsOfReading, IsOfRun, IsStopped, IsStoppedRun, LeavesDrive, LeavesRun}
+use Rattle.program.specs.DriveOutput.{IsEmptySession, IsJournalOf, IsOfRun, IsStopped, IsStoppedRun, LeavesDrive, LeavesRun}
 use Rattle.program.specs.FaultCauses.{IsFoundIn, IsOfMachine}
-use Rattle.program.specs.TraceOutput.{IfFaultless}
 use Rattle.program.specs.WorkerReads.{AreOfReadsUpTo, IsDealt}
 use Rattle.program.specs.declared.fault.Fault.{Fault}
 use Rattle.program.specs.declared.fault.Fault.TheVariants as fault
 use Rattle.program.proofs.Dealing.{reads_made}
-use Rattle.program.proofs.Faulting.{at_err}
 
 abbrev State : Type 0
 State = SessionState Shell Shell Step Reply
@@ -48,61 +48,56 @@ refused_one [] why e = absurd (cc e)
 refused_one (None ∷ refusals) why e = let one = refused_one refusals why e in (suc one.0, one.1)
 refused_one (Some other ∷ refusals) why e = (0, sym e)
 
-module _ (config : Config) (workers : ℕ) (format : Format) (input before after : Option (List ℕ)) where
-  -- the trace was not read
-  pub leaves_early : (Kept : Type 0) (f : Fault) → IsOfReading f → after ≡ before → Kept → LeavesDrive config workers format f input before after Kept
-  leaves_early Kept fault.OutOfMemory h same kept = inl same
-  leaves_early Kept (fault.Trace e) h same kept = kept
-  leaves_early Kept _ h same kept = absurd h
+module _ (config : Config) (workers : ℕ) (format : Format) (input before after : Option (List ℕ)) (pieces : List (List Call)) (session : State)
+    (empty : IsEmptySession config session) (keys : List ℕ)
+    (read : IfSome input (λ bytes. (length bytes ≤ MAX_TRACE_BYTES) × (fault_in format bytes ≡ None) × (keys ≡ keys_in format bytes)))
+    (dealt : IsDealt workers keys pieces) where
+  -- the journal of a run over dealt pieces is one of the accesses
+  pub journal_of_run : (Walks : ℕ → ℕ → List ℕ → Entries → Type 0) (Room : ℕ → Type 0) (new : State)
+      → Walks session.engine.config.stripes workers keys new.kept
+      → new.opening ≡ session.opening → IsLegal act new.opening new.kept → Room (length new.kept) → Appends before after (journal_of Two new.kept)
+      → IsJournalOf (Walks config.stripes workers) Room config format input before after
+  journal_of_run Walks Room new made opening legal room written = record {
+    opening = session.opening;
+    opened = empty.opened;
+    steps = new.kept;
+    legal = subst (λ o. IsLegal act o new.kept) opening legal;
+    room = room;
+    walks = IfSome_then input read (λ bytes h. (
+      h.1,
+      subst (λ ks. Walks config.stripes workers ks new.kept) h.2
+          (subst (λ n. Walks n workers keys new.kept) (ap (λ x. x.config.stripes) (empty.same ∙ empty.opened.is)) made),
+    ));
+    written = written;
+  }
 
-  module _ (pieces : List (List Call)) (session : State) (empty : IsEmptySession config session)
-      (dealt : IfFaultless format input (λ keys. IsDealt workers keys pieces)) where
-    -- the journal of a run over dealt pieces is one of the accesses
-    pub journal_of_run : (Walks : ℕ → ℕ → List ℕ → Entries → Type 0) (Room : ℕ → Type 0) (new : State)
-        → ((keys : List ℕ) → IsDealt workers keys pieces → Walks session.engine.config.stripes workers keys new.kept)
-        → new.opening ≡ session.opening → IsLegal act new.opening new.kept → Room (length new.kept) → Appends before after (journal_of Two new.kept)
-        → IsJournalOf (Walks config.stripes workers) Room config format input before after
-    journal_of_run Walks Room new made opening legal room written = record {
-      opening = session.opening;
-      opened = empty.opened;
-      steps = new.kept;
-      legal = subst (λ o. IsLegal act o new.kept) opening legal;
-      room = room;
-      walks = IfSome_then input dealt (λ bytes h. (
-        h.0,
-        subst (λ n. Walks n workers (keys_in format bytes) new.kept)
-            (ap (λ x. x.config.stripes) (empty.same ∙ empty.opened.is)) (made (keys_in format bytes) h.1),
-      ));
-      written = written;
-    }
+  module _ (Kept : Type 0) (run : Result Driven DriveFault) (limit : session.limit ≡ config.journal_limit)
+      (left : IfErr run (λ f. LeavesFault f pieces session)) where
+    stopped : (why : Cause) → IsStoppedRun run why before after → IsStopped why config workers format input before after
+    stopped why (driven, is, written) =
+        let all = IfErr-at_err (λ f. LeavesFault f pieces session) is left in
+        let up_to = all.2 in
+        journal_of_run (AreOfReadsUpTo why) _ driven.session (record {
+          refusals = up_to.refusals;
+          of_each = up_to.of_each ∙ dealt.many;
+          first = up_to.first;
+          walks = reads_made _ workers keys pieces session driven.session dealt empty.none up_to.run;
+        }) up_to.run.opening all.1 (λ same. (
+        let one = refused_one up_to.refusals cause.JournalFull (subst (λ k. Some k ≡ first_cause up_to.refusals) same up_to.first) in
+        let here : IfSome (Some cause.JournalFull) (IsCauseIn one.0 session.kept up_to.run.news session.limit) =
+        subst (λ r. IfSome r (IsCauseIn one.0 session.kept up_to.run.news session.limit)) one.1 (up_to.refused one.0) in
+        ap (λ (es : Entries). length es) up_to.run.entered ∙ here ∙ limit
+        )) written
 
-    module _ (Kept : Type 0) (run : Result Driven DriveFault) (limit : session.limit ≡ config.journal_limit)
-        (left : IfErr run (λ f. LeavesFault f pieces session)) where
-      stopped : (why : Cause) → IsStoppedRun run why before after → IsStopped why config workers format input before after
-      stopped why (driven, is, written) =
-          let all = at_err (λ f. LeavesFault f pieces session) run (Stopped driven why) is left in
-          let up_to = all.2 in
-          journal_of_run (AreOfReadsUpTo why) _ driven.session (λ keys d. record {
-            refusals = up_to.refusals;
-            of_each = up_to.of_each ∙ d.many;
-            first = up_to.first;
-            walks = reads_made _ workers keys pieces session driven.session d empty.none up_to.run;
-          }) up_to.run.opening all.1 (λ same. (
-          let one = refused_one up_to.refusals cause.JournalFull (subst (λ k. Some k ≡ first_cause up_to.refusals) same up_to.first) in
-          let here : IfSome (Some cause.JournalFull) (IsCauseIn one.0 session.kept up_to.run.news session.limit) =
-          subst (λ r. IfSome r (IsCauseIn one.0 session.kept up_to.run.news session.limit)) one.1 (up_to.refused one.0) in
-          ap (λ (es : Entries). length es) up_to.run.entered ∙ here ∙ limit
-          )) written
+    pub leaves : (f : Fault) → LeavesRun run before after f → LeavesDrive config workers format f input before after Kept
+    leaves fault.JournalFull h = stopped cause.JournalFull h
+    leaves fault.OutOfMemory (inl same) = inl same
+    leaves fault.OutOfMemory (inr h) = inr (stopped cause.Memory h)
+    leaves fault.Write h = tt
+    leaves _ h = absurd h
 
-      pub leaves : (f : Fault) → LeavesRun run before after f → LeavesDrive config workers format f input before after Kept
-      leaves fault.JournalFull h = stopped cause.JournalFull h
-      leaves fault.OutOfMemory (inl same) = inl same
-      leaves fault.OutOfMemory (inr h) = inr (stopped cause.Memory h)
-      leaves fault.Write h = tt
-      leaves _ h = absurd h
-
-      pub of_run : (f : Fault) → LeavesRun run before after f → IsOfMachine f ⊎ IfSome input (IsFoundIn format (λ g. g ≡ fault.JournalFull) f)
-      of_run fault.OutOfMemory h = inl tt
-      of_run fault.Write h = inl tt
-      of_run fault.JournalFull h = inr (IfSome_then input dealt (λ bytes d. (d.0, refl)))
-      of_run _ h = absurd h
+    pub of_run : (f : Fault) → LeavesRun run before after f → IsOfMachine f ⊎ IfSome input (IsFoundIn format (λ g. g ≡ fault.JournalFull) f)
+    of_run fault.OutOfMemory h = inl tt
+    of_run fault.Write h = inl tt
+    of_run fault.JournalFull h = inr (IfSome_then input read (λ bytes sound. (sound.1, refl)))
+    of_run _ h = absurd h

@@ -1,5 +1,5 @@
 -- What `drive` writes.
-use Rattle.std.specs.Prelude.{◌≡◌, ◌≤◌, ◌⊎◌, ⊤, ℕ, List, [], Option, None, Result, Err, IfSome, length}
+use Rattle.std.specs.Prelude.{◌≡◌, ◌≤◌, ◌⊎◌, ⊤, ℕ, List, [], Option, Result, Err, length}
 use Rattle.std.specs.Io.KnownBytes.{Appends}
 use Rattle.step_record.specs.History.{IsLegal, Entries}
 use Rattle.step_record.specs.declared.config.Config.{Config}
@@ -81,9 +81,3 @@ LeavesRun run before after fault.JournalFull = IsStoppedRun run cause.JournalFul
 LeavesRun run before after fault.OutOfMemory = (after ≡ before) ⊎ IsStoppedRun run cause.Memory before after
 LeavesRun run before after fault.Write = ⊤
 LeavesRun run before after fault = ⊥
-
--- a fault of reading the trace
-abbrev pub IsOfReading : Fault → Type 0
-IsOfReading fault.OutOfMemory = ⊤
-IsOfReading (fault.Trace trace) = ⊤
-IsOfReading fault = ⊥

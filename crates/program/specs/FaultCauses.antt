@@ -96,18 +96,15 @@ IsBeforeOutput fault = Unit {0}
 -- What is left at this fault of the arguments' subcommand; `Kept` says that the output is as it was. `run`, `sweep`,
 -- `intervals`, `part` and `compare` write once, at their end; `debug` and `replay` have answered the commands before a line that is too large.
 abbrev pub Leaves : Arguments → KnownFiles → Fault → Option (List ℕ) → Option (List ℕ) → Option (List ℕ) → Type 0 → Type 0
-Leaves (asked.Run run) files fault input before after Kept = fault ≢ Write → Kept
-Leaves (asked.Sweep sweep) files fault input before after Kept = fault ≢ Write → Kept
-Leaves (asked.Intervals intervals) files fault input before after Kept = fault ≢ Write → Kept
-Leaves (asked.Part part) files fault input before after Kept = fault ≢ Write → Kept
-Leaves (asked.Compare compare) files fault input before after Kept = fault ≢ Write → Kept
 Leaves (asked.Drive drive) files fault input before after Kept =
     LeavesDrive drive.config drive.workers drive.format fault input before after Kept
 Leaves (asked.Debug debug) files (Debug large.TooLarge) input before after Kept = Debugging false debug.policies.format
     debug.policies.first debug.policies.second (files debug.trace) input before after
 Leaves (asked.Replay replay) files (Debug large.TooLarge) input before after Kept =
     Replaying false replay.config (files replay.journal) input before after
-Leaves arguments files fault input before after Kept = IsBeforeOutput fault → Kept
+Leaves (asked.Debug debug) files fault input before after Kept = IsBeforeOutput fault → Kept
+Leaves (asked.Replay replay) files fault input before after Kept = IsBeforeOutput fault → Kept
+Leaves arguments files fault input before after Kept = fault ≢ Write → Kept
 
 -- What these arguments ask for ended in the fault: one of the machine, or one that is found in the input, the file or
 -- the arguments.

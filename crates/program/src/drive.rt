@@ -4,13 +4,12 @@ ghost use Rattle.std.specs.Prelude.{map};
 ghost use Rattle.std.specs.Io.KnownBytes.{Appends};
 ghost use Rattle.step_record.specs.Config.{config_fault};
 ghost use Rattle.step_record.specs.declared.worker.TheConstants.{MAX_WORKERS};
-ghost use Rattle.program.specs.TraceOutput.{IfFaultless};
 ghost use Rattle.journal_text.specs.Journal.{journal_of};
 ghost use Rattle.journal_text.specs.declared.version.Version.TheVariants.{Two};
 ghost use Rattle.streams.specs.Tally.{FailsWhere};
 ghost use Rattle.program.specs.CallFaults.{IsOfRead, IsOfWrite};
 ghost use Rattle.program.specs.WorkerReads.{IsDealt};
-ghost use Rattle.program.specs.DriveOutput.{IsDriven, IsEmptySession, IsOfReading, IsOfRun, LeavesDrive, LeavesRun};
+ghost use Rattle.program.specs.DriveOutput.{IsDriven, IsEmptySession, IsOfRun, LeavesDrive, LeavesRun};
 ghost use Rattle.program.specs.FaultCauses.{IsFoundIn, IsOfMachine};
 
 use crate::fault::Fault;
@@ -22,9 +21,9 @@ use progress::{Watch, Work};
 use std::alloc::{AllocError, Global};
 use std::sync::Wait;
 use std::thread::Threads;
-use step_record::{Call, Config, Key};
+use step_record::{Call, Config, Trace};
 use streams::{CountedRead, CountedWrite};
-use trace_read::{Format, read_trace};
+use trace_read::read_trace;
 use workers::{DriveFault, Driven};
 
 /// A session of no step over an empty cache. The one error is out of memory.
@@ -64,26 +63,19 @@ pub fn drive<T: Threads + Wait + Sync, R: CountedRead, W: CountedWrite, P: Watch
     ensures writes { FailsWhere (IsOfWrite result) (W.tally out.old) (W.tally out.new) }
     ensures flushed { OnOk result (W.is_flushed out.new ≡ true) }
 {
-    let pieces = pieces_of(alloc, input, arguments.format, arguments.workers)?;
+    let trace = read_trace(alloc, input, arguments.format)?;
+    let accesses = trace.len() as u64;
+    let pieces = deal(alloc, trace, arguments.workers)?;
     let session = open(alloc, &arguments.config)?;
     watch.begin(Work {
         name: "drive",
-        batches: Some(count_calls(pieces.as_slice())),
+        batches: Some(accesses),
     });
     let run = workers::drive(rt, alloc, session, pieces, watch);
     watch.end();
     let written = write_run(alloc, &run, out);
     drop(run);
     written
-}
-
-// How many calls there are in all, for the line of progress alone.
-fn count_calls(pieces: &[Vec<Call>]) -> u64 {
-    let mut calls: u64 = 0;
-    for piece in pieces {
-        calls = calls.saturating_add(piece.len() as u64);
-    }
-    calls
 }
 
 // A list of no call for each worker.
@@ -99,36 +91,15 @@ fn empty_pieces(alloc: Global, workers: u8) -> Result<Vec<Vec<Call>>, AllocError
 }
 
 // The calls of each worker: access i, counted from 0, is a read by the worker i modulo their number.
-fn deal(alloc: Global, keys: &[Key], workers: u8) -> Result<Vec<Vec<Call>>, AllocError>
+fn deal(alloc: Global, trace: Trace, workers: u8) -> Result<Vec<Vec<Call>>, AllocError>
     requires { 1 ≤ workers }
-    ensures { IfOk result (λ pieces. IsDealt workers keys.now (map (λ p. p.items) pieces.items)) }
+    ensures { IfOk result (λ pieces. IsDealt workers trace (map (λ p. p.items) pieces.items)) }
 {
     let mut pieces = empty_pieces(alloc, workers)?;
+    let keys = trace.keys();
     for (i, key) in keys.iter().enumerate() {
         pieces[i % usize::from(workers)].push(Call::Read(*key))?;
     }
-    Ok(pieces)
-}
-
-// The calls of each worker for the accesses of the trace.
-fn pieces_of<R: CountedRead>(
-    alloc: Global,
-    input: &mut R,
-    format: Format,
-    workers: u8,
-) -> Result<Vec<Vec<Call>>, Fault>
-    requires { 1 ≤ workers }
-    ensures many { IfOk result (λ pieces. length (map (λ p. p.items) pieces.items) ≡ workers) }
-    ensures dealt { IfOk result (λ pieces. IfFaultless format (R.remaining input.old)
-        (λ keys. IsDealt workers keys (map (λ p. p.items) pieces.items))) }
-    ensures fault { IfErr result (λ fault. IsOfMachine fault
-        ⊎ IfSome (R.remaining input.old) (IsFoundIn format (λ f. f ≡ Fault.JournalFull) fault)) }
-    ensures reading { IfErr result IsOfReading }
-    ensures reads { FailsWhere (IsOfRead result) (R.tally input.old) (R.tally input.new) }
-    ensures unwritten { ¬ IsOfWrite result }
-{
-    let trace = read_trace(alloc, input, format)?;
-    let pieces = deal(alloc, trace.keys(), workers)?;
     Ok(pieces)
 }
 

@@ -9,12 +9,11 @@ use journal_text::JournalFault;
 use std::alloc::AllocError;
 use std::fmt;
 use streams::WriteFault;
-use thiserror::Error;
 use trace_read::TraceFault;
 use workers::Cause;
 
 /// Why a subcommand printed no result. It is displayed as the program prints it after `fault: `.
-#[derive(Clone, Copy, Debug, PartialEq, Eq, Error)]
+#[derive(Clone, Copy)]
 pub enum Fault {
     /// The allocation failed.
     OutOfMemory,

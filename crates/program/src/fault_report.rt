@@ -26,7 +26,7 @@ pub fn report_fault<X: CountedWrite>(alloc: Global, fault: Fault, fault_out: &mu
     ensures status { result ≡ FAULT }
     ensures reported { IsReported fault (X.contents fault_out.old) (X.contents fault_out.new) }
 {
-    if fault != Fault::OutOfMemory
+    if !matches!(fault, Fault::OutOfMemory)
         && let Ok(line) = format!(in alloc; "fault: {fault}\n")
     {
         report_line(line.as_bytes(), fault_out);

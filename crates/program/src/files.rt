@@ -8,7 +8,7 @@ use std::alloc::Global;
 pub const MAX_FILE_BYTES: usize = 1 << 30;
 
 /// Why a file gave no bytes.
-#[derive(Clone, Copy, Debug, PartialEq, Eq)]
+#[derive(Clone, Copy)]
 pub enum FileFault {
     /// The allocation for the bytes failed.
     OutOfMemory,

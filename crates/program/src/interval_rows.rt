@@ -57,7 +57,7 @@ fn rows<T: Threads + Sync>(
         (jobs_by_policy arguments.now.config arguments.now.policies) trace.now) }
     ensures fault { IfErr result (λ fault. (fault ≡ Fault.OutOfMemory) ⊎ IsTooMany arguments.now.policies fault) }
 {
-    let jobs = jobs(alloc, arguments.config, arguments.policies.as_slice())?;
+    let jobs = jobs(alloc, arguments.config, &arguments.policies)?;
     if jobs.len() > MAX_ACTORS {
         return Err(Fault::Actors);
     }

@@ -7,7 +7,7 @@ ghost use Rattle.program.specs.FaultCauses.{IsFoundIn, IsOfMachine, IsTooMany};
 ghost use Rattle.program.specs.TraceOutput.{IfFaultless, jobs_by_policy, Reports, reports_on};
 
 use crate::fault::Fault;
-use command_line::RunArguments;
+use command_line::{PolicyList, RunArguments};
 use policies::MAX_ACTORS;
 use policy_actors::run_reading;
 use progress::{Watch, Work};
@@ -15,15 +15,16 @@ use report::{Report, write_reports};
 use std::alloc::{AllocError, Global};
 use std::sync::Wait;
 use std::thread::Threads;
-use step_record::{Config, Job, Policy};
+use step_record::{Config, Job};
 use streams::{CountedRead, CountedWrite};
 use trace_read::read_trace;
 
 /// A job for each policy, in order, all on one configuration. The one error is out of memory.
-pub fn jobs(alloc: Global, config: Config, policies: &[Policy]) -> Result<Vec<Job>, AllocError>
+pub fn jobs(alloc: Global, config: Config, policies: &PolicyList) -> Result<Vec<Job>, AllocError>
     ensures { IfOk result (λ jobs. jobs.items ≡ jobs_by_policy config policies.now) }
 {
     policies
+        .as_slice()
         .iter()
         .map(|policy| Job {
             policy: *policy,
@@ -55,7 +56,7 @@ pub fn run<T: Threads + Wait + Sync, R: CountedRead, W: CountedWrite, P: Watch>(
     ensures writes { FailsWhere (IsOfWrite result) (W.tally out.old) (W.tally out.new) }
     ensures flushed { OnOk result (W.is_flushed out.new ≡ true) }
 {
-    let jobs = jobs(alloc, arguments.config, arguments.policies.as_slice())?;
+    let jobs = jobs(alloc, arguments.config, &arguments.policies)?;
     let reports = reports(rt, alloc, arguments, jobs.as_slice(), input, watch)?;
     write_reports(alloc, reports.as_slice(), out)?;
     Ok(())

@@ -63,7 +63,7 @@ fn reports<T: Threads + Sync, P: Watch>(
         trace.now) }
     ensures fault { IfErr result (λ fault. (fault ≡ Fault.OutOfMemory) ⊎ IsTooMany arguments.now.policies fault) }
 {
-    let jobs = jobs(alloc, arguments.config, arguments.policies.as_slice())?;
+    let jobs = jobs(alloc, arguments.config, &arguments.policies)?;
     if jobs.len() > MAX_ACTORS {
         return Err(Fault::Actors);
     }

@@ -1,18 +1,35 @@
-use Rattle.std.proofs.Common.{◌∙◌, ◌≡◌, ap, inl, inr, subst, refl, rules, List, Result, Err}
-use Rattle.clap.specs.Words.{Text}
-use Rattle.command_line.specs.ParseResult.{ParsedBy}
+use Rattle.std.proofs.Common.{◌∙◌, ◌≡◌, ◌≢◌, ap, inl, inr, subst, refl, rules, List, Result, Err}
+use Rattle.std.proofs.lemmas.Result.{IfErr-at_err, IfOk-at_ok}
+use Rattle.clap.specs.Words.{HasKind, IsAmong, Kinds, Text, kind_of}
+use Rattle.clap.specs.declared.Error.{Error}
+use Rattle.clap.specs.declared.error.ErrorKind.TheVariants as kind
+use Rattle.command_line.specs.ParseResult.{IsRefused, ParsedBy}
 use Rattle.command_line.specs.declared.arguments.Arguments.{Arguments}
 use Rattle.command_line.specs.declared.fault.ParseFault.{ParseFault}
-use Rattle.command_line.specs.declared.fault.ParseFault.TheVariants.{Incomplete, Stripes}
+use Rattle.command_line.specs.declared.fault.ParseFault.TheVariants.{Incomplete, Refused, Stripes}
 use Rattle.streams.proofs.Tallies.{uncalled}
-use Rattle.program.specs.declared.fault.Fault.TheVariants.{OutOfMemory}
+use Rattle.program.specs.Outcome.{AsksHelp, RefusedBy, is_help}
+use Rattle.program.specs.declared.fault.Fault.TheVariants.{OutOfMemory, Write}
 use Rattle.program.proofs.Calls.{blamed_at, served_at}
-use Rattle.program.proofs.Faulting.{at_err, at_ok, ended_by, ended_in_help, ended_out_of_memory, helped_by, refused_by}
 use Rattle.program.proofs.call.command.Goals as goal
 
 -- what is said of the parse, where it gave this
 parsed : (words : List Text) (r s : Result Arguments ParseFault) → r ≡ s → ParsedBy words r → ParsedBy words s
 parsed words r s is h = subst (λ (x : Result Arguments ParseFault). ParsedBy words x) is h
+
+among : (kinds : Kinds) (e : Error) → HasKind kinds e → kind_of e ≢ kind.OutOfMemory → IsAmong (kind_of e) kinds
+among kinds e (inl h) n = absurd (n h)
+among kinds e (inr h) n = h
+
+refused_by : (words : List Text) (e : Error) → ParsedBy words (Err (Refused e)) → ¬ is_help (kind_of e) → kind_of e ≢ kind.OutOfMemory → RefusedBy words
+refused_by words e p h n = inl (record { lists = p.lists; are = p.are; refused = (kind_of e, h, among _ e p.refused n) })
+
+help_out : (e : Error) → is_help (kind_of e) → kind_of e ≢ kind.OutOfMemory
+help_out e (inl h) same = let no : kind.DisplayHelp ≡ kind.OutOfMemory = subst (λ k. k ≡ kind.OutOfMemory) h same in absurd (cc no)
+help_out e (inr h) same = let no : kind.DisplayVersion ≡ kind.OutOfMemory = subst (λ k. k ≡ kind.OutOfMemory) h same in absurd (cc no)
+
+helped_by : (words : List Text) (e : Error) → ParsedBy words (Err (Refused e)) → is_help (kind_of e) → IsRefused words AsksHelp
+helped_by words e p h = record { lists = p.lists; are = p.are; refused = (kind_of e, h, among _ e p.refused (help_out e h)) }
 
 pub returns-in-Err-Refused-clause-done : goal.returns-in-Err-Refused-clause-done
 returns-in-Err-Refused-clause-done g c zero =
@@ -38,22 +55,27 @@ returns-in-Err-Incomplete-clause-refused g c two =
 pub returns-in-Err-Refused-clause-faulted : goal.returns-in-Err-Refused-clause-faulted
 returns-in-Err-Refused-clause-faulted g c one =
     let p = parsed _ _ _ (c.in-Err-Refused.is ∙ ap Err c.in-Err-Refused.field-0-is) c.parse.ensures.parsed in
-    ended_in_help _ _ _ _ _ _ _ _ c.in-Err-Refused.error p (c.answer.ensures.faulted one)
+    elim (c.answer.ensures.faulted one) [
+      | inl h ↦ record { fault = OutOfMemory; reported = h.0; ended = inr h.1 }
+      | inr h ↦ record { fault = Write; reported = h.0; ended = inr (helped_by _ c.in-Err-Refused.error p h.1) }
+    ]
 
 pub returns-in-Err-OutOfMemory-clause-faulted : goal.returns-in-Err-OutOfMemory-clause-faulted
-returns-in-Err-OutOfMemory-clause-faulted g c one = ended_out_of_memory _ _ _ _ _ _ _ _ c.report_fault.ensures.reported refl
+returns-in-Err-OutOfMemory-clause-faulted g c one = record { fault = OutOfMemory; reported = c.report_fault.ensures.reported; ended = inr refl }
 
 pub returns-in-Ok-done-clause-done : goal.returns-in-Ok-done-clause-done
 returns-in-Ok-done-clause-done g c zero =
-    let p = parsed _ _ _ c.in-Ok.is c.parse.ensures.parsed in
-    inl (c.in-Ok.arguments, p, at_ok _ c.perform-done.result _ c.in-Ok-done.is c.perform-done.ensures.done)
+    inl (c.in-Ok.arguments, parsed _ _ _ c.in-Ok.is c.parse.ensures.parsed, IfOk-at_ok _ c.in-Ok-done.is c.perform-done.ensures.done)
 
 pub returns-in-Err-clause-faulted : goal.returns-in-Err-clause-faulted
 returns-in-Err-clause-faulted g c one =
-    let p = parsed _ _ _ c.in-Ok.is c.parse.ensures.parsed in
-    let due = at_err _ c.perform-done.result c.in-Err.fault c.in-Err.is c.perform-done.ensures.fault in
-    let leaves = at_err _ c.perform-done.result c.in-Err.fault c.in-Err.is c.perform-done.ensures.leaves in
-    ended_by _ _ _ _ _ _ _ _ c.in-Ok.arguments p c.in-Err.fault due leaves c.report_fault-in-Err.ensures.reported
+    let due = IfErr-at_err _ c.in-Err.is c.perform-done.ensures.fault in
+    let leaves = IfErr-at_err _ c.in-Err.is c.perform-done.ensures.leaves in
+    record {
+      fault = c.in-Err.fault;
+      reported = c.report_fault-in-Err.ensures.reported;
+      ended = inl (c.in-Ok.arguments, parsed _ _ _ c.in-Ok.is c.parse.ensures.parsed, record { due = due; leaves = leaves });
+    }
 
 pub returns-in-Err-OutOfMemory-clause-blamed : goal.returns-in-Err-OutOfMemory-clause-blamed
 returns-in-Err-OutOfMemory-clause-blamed g c one = (OutOfMemory, c.report_fault.ensures.reported, (uncalled _, uncalled _))
@@ -68,7 +90,7 @@ returns-in-Err-Refused-clause-served g c zero =
 
 pub returns-in-Ok-done-clause-served : goal.returns-in-Ok-done-clause-served
 returns-in-Ok-done-clause-served g c zero =
-    (served_at _ _ _ _ c.perform-done.result _ c.in-Ok-done.is c.perform-done.ensures.reads c.perform-done.ensures.writes, at_ok _ c.perform-done.result _ c.in-Ok-done.is c.perform-done.ensures.flushed)
+    (served_at _ _ _ _ c.perform-done.result _ c.in-Ok-done.is c.perform-done.ensures.reads c.perform-done.ensures.writes, IfOk-at_ok _ c.in-Ok-done.is c.perform-done.ensures.flushed)
 
 pub returns-in-Err-clause-blamed : goal.returns-in-Err-clause-blamed
 returns-in-Err-clause-blamed g c one =

@@ -5,8 +5,7 @@ use Rattle.policies.specs.declared.actor_fault.ActorFault.{ActorFault}
 use Rattle.debug_policies.specs.ConfigFault.{ReturnsConfig}
 use Rattle.program.specs.FaultCauses.{IsFoundIn, IsFoundInFile, IsOfCommands}
 use Rattle.program.proofs.Accepting.{pair_accepted}
-use Rattle.program.proofs.Faulting.{err_is}
-use Rattle.program.proofs.Found.{known_text, of_dialogue, of_text}
+use Rattle.program.proofs.Found.{err_is, known_text, of_dialogue, of_text}
 use Rattle.program.proofs.TooLarge.{past_limit}
 use Rattle.program.proofs.debug.debug.Goals as goal
 

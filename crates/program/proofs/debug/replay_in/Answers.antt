@@ -1,8 +1,7 @@
 use Rattle.std.proofs.Common.{ap, refl, length, true, Err}
 use Rattle.std.proofs.lemmas.Option.{IfSome_then}
 use Rattle.program.specs.FaultCauses.{IsOfReplayFrom}
-use Rattle.program.proofs.Faulting.{err_is}
-use Rattle.program.proofs.Found.{of_dialogue}
+use Rattle.program.proofs.Found.{err_is, of_dialogue}
 use Rattle.program.proofs.TooLarge.{past_limit}
 use Rattle.program.proofs.Replayed.{replayed_from}
 use Rattle.program.proofs.debug.replay_in.Goals as goal
