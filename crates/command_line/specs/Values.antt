@@ -99,12 +99,12 @@ concurrent_in rows = option_and_then (λ stripes. option_and_then (λ capacity. 
 
 -- ---- what a subcommand is asked for; none where its matches are incomplete
 
-abbrev pub run_in : List Row → Option Arguments
+unfoldable pub run_in : List Row → Option Arguments
 run_in rows = option_and_then (λ config. option_and_then (λ batch. option_map (λ policies.
     asked.Run (record { config = config; policies = policies; batch = batch; format = format_in row.format rows })) (policies_in row.policies rows)) (number_in row.batch rows)) (config_in rows)
 
 -- each capacity replaces the configuration's
-abbrev pub sweep_in : List Row → Option Arguments
+unfoldable pub sweep_in : List Row → Option Arguments
 sweep_in rows = option_and_then (λ config. option_and_then (λ policies. option_map (λ capacities. asked.Sweep (record {
   config = config;
   policies = policies;
@@ -112,27 +112,27 @@ sweep_in rows = option_and_then (λ config. option_and_then (λ policies. option
   format = format_in row.format rows;
 })) (capacities_in rows)) (policies_in row.swept_policies rows)) (config_at 1 1 1 rows)
 
-abbrev pub intervals_in : List Row → Option Arguments
+unfoldable pub intervals_in : List Row → Option Arguments
 intervals_in rows = option_and_then (λ config. option_and_then (λ every. option_map (λ policies.
     asked.Intervals (record { config = config; policies = policies; every = every; format = format_in row.format rows })) (policies_in row.policies rows)) (number_in row.every rows)) (config_in rows)
 
 -- two policies on one configuration
-abbrev pub part_in : List Row → Option PartArguments
+unfoldable pub part_in : List Row → Option PartArguments
 part_in rows = option_and_then (λ config. option_and_then (λ first. option_map (λ second. record {
   first = record { policy = first; config = config };
   second = record { policy = second; config = config };
   format = format_in row.format rows;
 }) (policy_in row.second rows)) (policy_in row.first rows)) (config_in rows)
 
-abbrev pub drive_in : List Row → Option Arguments
+unfoldable pub drive_in : List Row → Option Arguments
 drive_in rows = option_and_then (λ config. option_map (λ workers.
     asked.Drive (record { config = config; workers = workers; format = format_in row.format rows })) (number_in row.workers rows)) (concurrent_in rows)
 
-abbrev pub debug_in : List Row → Option Arguments
+unfoldable pub debug_in : List Row → Option Arguments
 debug_in rows = option_and_then (λ policies. option_map (λ trace.
     asked.Debug (record { policies = policies; trace = trace })) (first_of row.trace.id rows)) (part_in rows)
 
-abbrev pub replay_in : List Row → Option Arguments
+unfoldable pub replay_in : List Row → Option Arguments
 replay_in rows = option_and_then (λ config. option_map (λ journal.
     asked.Replay (record { config = config; journal = journal })) (first_of row.journal.id rows)) (concurrent_in rows)
 

@@ -116,6 +116,7 @@ pub struct ReplayArguments {
 }
 
 /// What `run` is asked for by its matches; none where these are incomplete. The one error is out of memory.
+#[tactic(auto, unfolding(crate::specs::Values::run_in))]
 pub(crate) fn run(alloc: Global, asked: &Matches<'_, '_>) -> Result<Option<Arguments>, AllocError>
     ensures value { IfOk result (λ arguments. arguments ≡ run_in asked.now) }
     ensures accepted { IfOk result (λ arguments. IfSome arguments AreAccepted) }
@@ -138,6 +139,7 @@ pub(crate) fn run(alloc: Global, asked: &Matches<'_, '_>) -> Result<Option<Argum
 }
 
 /// What `sweep` is asked for, in the same way.
+#[tactic(auto, unfolding(crate::specs::Values::sweep_in))]
 pub(crate) fn sweep(alloc: Global, asked: &Matches<'_, '_>) -> Result<Option<Arguments>, AllocError>
     ensures value { IfOk result (λ arguments. arguments ≡ sweep_in asked.now) }
     ensures accepted { IfOk result (λ arguments. IfSome arguments AreAccepted) }
@@ -160,6 +162,7 @@ pub(crate) fn sweep(alloc: Global, asked: &Matches<'_, '_>) -> Result<Option<Arg
 }
 
 /// What `intervals` is asked for, in the same way.
+#[tactic(auto, unfolding(crate::specs::Values::intervals_in))]
 pub(crate) fn intervals(
     alloc: Global,
     asked: &Matches<'_, '_>,
@@ -185,6 +188,7 @@ pub(crate) fn intervals(
 }
 
 /// What `part` and `compare` are asked for, in the same way.
+#[tactic(auto, unfolding(crate::specs::Values::part_in))]
 pub(crate) fn part(asked: &Matches<'_, '_>) -> Option<PartArguments>
     ensures value { result ≡ part_in asked.now }
     ensures accepted { IfSome result IsAcceptedPart }
@@ -204,6 +208,7 @@ pub(crate) fn part(asked: &Matches<'_, '_>) -> Option<PartArguments>
 }
 
 /// What `drive` is asked for, in the same way.
+#[tactic(auto, unfolding(crate::specs::Values::drive_in))]
 pub(crate) fn drive(asked: &Matches<'_, '_>) -> Option<Arguments>
     ensures value { result ≡ drive_in asked.now }
     ensures accepted { IfSome result AreAccepted }
@@ -218,6 +223,7 @@ pub(crate) fn drive(asked: &Matches<'_, '_>) -> Option<Arguments>
 }
 
 /// What `debug` is asked for, in the same way.
+#[tactic(auto, unfolding(crate::specs::Values::debug_in))]
 pub(crate) fn debug(alloc: Global, asked: &Matches<'_, '_>) -> Result<Option<Arguments>, AllocError>
     ensures value { IfOk result (λ arguments. arguments ≡ debug_in asked.now) }
     ensures accepted { IfOk result (λ arguments. IfSome arguments AreAccepted) }
@@ -232,6 +238,7 @@ pub(crate) fn debug(alloc: Global, asked: &Matches<'_, '_>) -> Result<Option<Arg
 }
 
 /// What `replay` is asked for, in the same way.
+#[tactic(auto, unfolding(crate::specs::Values::replay_in))]
 pub(crate) fn replay(
     alloc: Global,
     asked: &Matches<'_, '_>,
