@@ -26,7 +26,7 @@ pub(crate) struct Histogram {
     // Where one more is to be counted. Each count lies far from the last one, and where many are added to at once the
     // processor overlaps the reads.
     noted: Vec<usize>,
-    // A sum over what `read_ahead` read, kept so that the compiler cannot drop the reads.
+    // A sum over what `read_stretch` read, kept so that the compiler cannot drop the reads.
     read: u64,
 }
 
