@@ -27,8 +27,6 @@ pub struct Frequency {
     door: Doorkeeper,
     age: u32,
     halvings: u64,
-    // A sum over what `prefetch` read, kept so that the compiler cannot drop the reads.
-    prefetched: u8,
 }
 
 impl Model for Frequency {
@@ -64,7 +62,6 @@ impl Frequency {
             door: Doorkeeper::new(alloc, size, spread)?,
             age: 0,
             halvings: 0,
-            prefetched: 0,
         })
     }
 
@@ -125,19 +122,6 @@ impl Frequency {
         let known = self.door.has(key);
         let least = self.sketch.least(key);
         least + known as u8
-    }
-
-    /// Prefetches what recording each of these keys reads: unlike the reads of a recording, these do not wait for one
-    /// another. Changes nothing that a caller can see.
-    #[inline(never)]
-    pub fn prefetch(&mut self, keys: &[Key])
-        ensures { self.new ≡ self.old }
-    {
-        let mut read = 0;
-        for key in keys {
-            read ^= self.estimate(*key);
-        }
-        self.prefetched ^= read;
     }
 
     /// Whether the candidate is estimated above the victim. A tie admits nobody.

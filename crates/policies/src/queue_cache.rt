@@ -23,9 +23,6 @@ use step_record::{Config, Engine, Item, Job, Key, MAX_STEPS, Outcome, Stats, Ste
 // Queues of so many keys are read ahead.
 const PREFETCH_FROM: usize = 4096;
 
-// And of so many, how often keys came too: the counts of fewer fit the processor's second cache.
-const PREFETCH_COUNTS_FROM: usize = 1 << 18;
-
 /// Marks a cache whose policy is known by its job alone.
 #[derive(Drop)]
 pub struct ByJob;
@@ -88,11 +85,6 @@ impl<P: Drop> QueueCache<P> {
     {
         if self.rules.capacity >= PREFETCH_FROM {
             self.segments.prefetch(keys, 0);
-        }
-        if self.rules.capacity >= PREFETCH_COUNTS_FROM {
-            if let Some(frequency) = &mut self.frequency {
-                frequency.prefetch(keys);
-            }
         }
     }
 
