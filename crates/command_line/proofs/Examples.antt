@@ -7,9 +7,9 @@ use Rattle.clap.proofs.OnLiterals.{clap_on_literals}
 use Rattle.step_record.specs.declared.job.Policy.TheVariants.{Lru, WindowTinyLfu}
 use Rattle.step_record.specs.declared.config.Spread.TheVariants.{Mixed}
 use Rattle.trace_read.specs.declared.format.Format.TheVariants.{Lirs}
-use Rattle.command_line.specs.Choices.{format_words, policy_words, spread_words}
+use Rattle.command_line.specs.Choices.{format_words, policy_named, policy_words, spread_words}
 use Rattle.command_line.specs.Program.{program_app}
-use Rattle.command_line.specs.Values.{asked_in, run_in}
+use Rattle.command_line.specs.Values.{asked_in, config_at, number_named, run_in}
 use Rattle.command_line.specs.declared.arguments.Arguments.TheVariants.{Run}
 use Rattle.command_line.specs.declared.choices.WordLists.{WordLists}
 
@@ -36,7 +36,7 @@ named : asked_in (subcommand_of (program_app lists) words) ≡ Ok (Run (record {
   batch = 1024;
   format = Lirs;
 }))
-unfolding clap_on_literals lib.Count.ones run_in
+unfolding clap_on_literals lib.Count.ones config_at number_named policy_named run_in
 named = refl
 
 helped : fault_of (program_app lists) (codes "run" ∷ codes "--help" ∷ []) ≡ kind.DisplayHelp ∷ []

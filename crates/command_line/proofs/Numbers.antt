@@ -13,11 +13,13 @@ abbrev most : ℕ
 most = 18446744073709551615
 
 taken : (t : List ℕ) (v : ℕ) → ParsesUnsigned {E = ParseIntError} 64 10 t (Ok v) → Some v ≡ number_named t
+unfolding number_named
 taken t v g =
     let yes : is_unsigned_in 0 most t ≡ true = Accepts-accepts false (parser.Unsigned 0 most) t (g.0.0, omega (arith, g.0.1), omega arith, omega (arith, g.0.1)) in
     rw yes (ap Some g.1)
 
 refused : (t : List ℕ) (bad : ParseIntError) → ParsesUnsigned 64 10 t (Err bad) → (b : Bool) → is_unsigned_in 0 most t ≡ b → None ≡ number_named t
+unfolding number_named
 refused t bad g true e = let a = accepts-Accepts false (parser.Unsigned 0 most) t e in absurd (g (a.0, omega (arith, a.3)))
 refused t bad g false e = rw e refl
 

@@ -35,7 +35,7 @@ pub record AreLists (lists : WordLists) : Type 0 where
   pub spreads : AreWords spread_words lists.spreads.now
 
 -- the policy that a word names
-abbrev pub policy_named : Text → Option Policy
+unfoldable pub policy_named : Text → Option Policy
 policy_named word = find (λ policy. bytes_eq (word_of policy) word) POLICIES
 
 abbrev pub and_more : {A : Type 0} → Option A → Option (List A) → Option (List A)

@@ -28,7 +28,7 @@ use Rattle.command_line.specs.declared.options.ValueKind.TheVariants.{Number}
 -- ---- the value of an option
 
 -- the number of 64 bits that a text writes in decimal digits: a plus may stand before them
-abbrev pub number_named : Text → Option ℕ
+unfoldable pub number_named : Text → Option ℕ
 number_named text = if is_unsigned_in 0 18446744073709551615 text
     then Some (digits_value 10 (without_leading_plus text)) else None
 
@@ -82,7 +82,7 @@ abbrev pub checked : Config → Option Config
 checked config = option_map (λ u. config) (result_ok (config_fault config))
 
 -- the configuration of a cache of this capacity, with so many read buffers and steps of a journal
-abbrev pub config_at : ℕ → ℕ → ℕ → List Row → Option Config
+unfoldable pub config_at : ℕ → ℕ → ℕ → List Row → Option Config
 config_at capacity stripes limit rows = option_and_then (λ main. checked
     (record { capacity = capacity; main_percent = main; spread = spread_in row.spread rows; stripes = stripes; journal_limit = limit })) (number_in row.main rows)
 

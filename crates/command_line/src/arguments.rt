@@ -276,6 +276,7 @@ fn concurrent_config(asked: &Matches<'_, '_>) -> Option<Config>
 }
 
 // The configuration of these numbers and what the matches name beside them, where it is accepted.
+#[tactic(auto, unfolding(crate::specs::Values::config_at))]
 fn config(asked: &Matches<'_, '_>, capacity: u32, stripes: u8, limit: u32) -> Option<Config>
     ensures value { result ≡ config_at capacity stripes limit asked.now }
     ensures accepted { IfSome result (λ config. config_fault config ≡ Ok tt) }

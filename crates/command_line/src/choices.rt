@@ -59,6 +59,7 @@ fn first_named(policies: &[Policy], word: &str) -> Option<Policy>
 }
 
 /// The policy that the word names, if it names one.
+#[tactic(auto, unfolding(crate::specs::Choices::policy_named))]
 pub(crate) fn policy_named(word: &str) -> Option<Policy>
     ensures { result ≡ policy_by word.now }
 {
