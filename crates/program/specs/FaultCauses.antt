@@ -94,7 +94,8 @@ IsBeforeOutput Write = ⊥
 IsBeforeOutput fault = Unit {0}
 
 -- What is left at this fault of the arguments' subcommand; `Kept` says that the output is as it was. `run`, `sweep`,
--- `intervals`, `part` and `compare` write once, at their end; `debug` and `replay` have answered the commands before a line that is too large.
+-- `intervals`, `part` and `compare` write once, at their end; `debug` and `replay` have answered the commands before a
+-- line that is too large.
 abbrev pub Leaves : Arguments → KnownFiles → Fault → Option (List ℕ) → Option (List ℕ) → Option (List ℕ) → Type 0 → Type 0
 Leaves (asked.Drive drive) files fault input before after Kept =
     LeavesDrive drive.config drive.workers drive.format fault input before after Kept

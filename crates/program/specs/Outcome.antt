@@ -13,8 +13,9 @@ use Rattle.program.specs.DriveOutput.{IsDriven}
 use Rattle.program.specs.TraceOutput.{Comparing, IntervalRows, jobs_by_policy, Parting, Reports}
 
 -- What these arguments ask for is done: `run` and `sweep` have written the report of each policy, at each capacity;
--- `intervals` the rows of each policy; `part` where the two policies part; `compare` what is counted of both; `drive` the journal of its workers' walks in an empty cache; `debug` and `replay` have
--- answered the commands of the input about the trace or the journal of the file.
+-- `intervals` the rows of each policy; `part` where the two policies part; `compare` what is counted of both; `drive`
+-- the journal of its workers' walks in an empty cache; `debug` and `replay` have answered the commands of the input
+-- about the trace or the journal of the file.
 abbrev pub IsDone : Arguments → KnownFiles → Option (List ℕ) → Option (List ℕ) → Option (List ℕ) → Type 0
 IsDone (asked.Run run) files input before after =
     Reports run.format (jobs_by_policy run.config run.policies) input before after

@@ -20,7 +20,7 @@ mod sweep;
 
 pub use call::command;
 pub use fault::Fault;
-pub use fault_report::{DONE, FAULT, REFUSED, report_fault, report_line};
+pub use fault_report::{DONE, FAULT, REFUSED};
 pub use file_in_memory::FileInMemory;
 pub use files::{FileFault, Files, MAX_FILE_BYTES};
 pub use host::run_process;
