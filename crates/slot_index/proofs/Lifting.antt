@@ -2,7 +2,7 @@
 use Rattle.std.proofs.Common.{◌≡◌, ℕ, ◌+◌, ◌<◌, ◌≤◌, Bool, true, false, cond, eqb, List, length, get_or, set, ap, ◌∙◌, sym, refl, subst, arith, get_or-set_same, get_or-set_other, length-set}
 use Rattle.std.proofs.lemmas.Bool.{eq-eqb}
 use Rattle.slot_index.specs.Trees.{Tree, leaf, fork, tally, branch, lowest, plucked, lifted}
-use Rattle.slot_index.specs.Places.{IsWhole, Replaces}
+use Rattle.slot_index.specs.Places.{IsWhole, IsBare, Replaces}
 use Rattle.slot_index.proofs.Trees.{tally-here, members, same-slot, same-tree}
 use Rattle.slot_index.proofs.Sorting.{plucked-tally, lifted-tally}
 
@@ -118,6 +118,19 @@ module _ (roots : ℕ) (links links1 : List ℕ) (place i last : ℕ) (l r a b :
         others = λ q d o. stays q d (λ side e. o last side here e) ∙ p.others q d o;
         size = long3 ∙ p.size;
       }
+
+-- a first slot without branches is the whole tree
+pub lift-bare : (roots : ℕ) (links : List ℕ) (place at : ℕ) (t : Tree) → IsWhole links roots place t → get_or links place 0 ≡ at → 1 ≤ at → IsBare links roots at → Replaces roots links (set links place 0) place t (lifted t)
+lift-bare roots links place at leaf w e s bare = absurd (let x = w.tree in omega (arith, x, e, s))
+lift-bare roots links place at (fork i leaf leaf) w e s bare = record {
+  tree = get_or-set_same links place 0 0 w.within;
+  others = λ q d o. get_or-set_other links place q 0 0 d;
+  size = length-set links place 0;
+}
+lift-bare roots links place at (fork i (fork j a b) r) w e s bare = absurd (
+    let z = subst (λ k. get_or links (branch roots k false) 0 ≡ 0) (sym e ∙ w.tree.0) (bare false) in let c = w.tree.3.0 in let d = w.tree.3.1 in omega (arith, z, c, d))
+lift-bare roots links place at (fork i leaf (fork j a b)) w e s bare = absurd (
+    let z = subst (λ k. get_or links (branch roots k true) 0 ≡ 0) (sym e ∙ w.tree.0) (bare true) in let c = w.tree.4.0 in let d = w.tree.4.1 in omega (arith, z, c, d))
 
 -- a tree of several slots
 pub lift-more : (roots : ℕ) (links links1 : List ℕ) (place at last : ℕ) (t : Tree) → IsWhole links roots place t → get_or links place 0 ≡ at → 1 ≤ at → (last ≡ at → ⊥) → last ≡ lowest 0 t →

@@ -182,11 +182,27 @@ impl SlotIndex {
     {
         let next = self.links[place];
         if next == at {
-            self.lift(place, at);
+            if self.is_bare(at) {
+                self.links[place] = 0;
+            } else {
+                self.lift(place, at);
+            }
             return;
         }
         let below = branch_of(self.bits, next, turns_right(item, depth));
         self.detach(below, at, item, depth + 1)
+    }
+
+    // Whether a slot has no branches. They are found by its number and not by the link to it, so that the processor
+    // reads both at once.
+    #[inline(always)]
+    fn is_bare(&self, at: u32) -> bool
+        requires within { branch (2 ^ self.now.bits) at true < length self.now.links.items }
+        requires bits { self.now.bits < 32 }
+        ensures { result ≡ true → IsBare self.now.links.items (2 ^ self.now.bits) at }
+    {
+        let left = branch_of(self.bits, at, false);
+        self.links[left] == 0 && self.links[left + 1] == 0
     }
 
     // Takes the first slot out of the tree at a place: the lowest slot below it comes in its place. A slot that is out

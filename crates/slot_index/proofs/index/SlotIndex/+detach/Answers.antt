@@ -1,7 +1,8 @@
 use Rattle.std.proofs.Common.{◌∙◌, ap, sym, arith}
 use Rattle.slot_index.specs.Trees.{branch}
 use Rattle.slot_index.proofs.Trees.{any_default, members}
-use Rattle.slot_index.proofs.Walking.{has-top, way-below}
+use Rattle.slot_index.proofs.Walking.{has-top, top-room, way-below}
+use Rattle.slot_index.proofs.Lifting.{lift-bare}
 use Rattle.slot_index.proofs.Placing.{detach-end, detach-on}
 use Rattle.slot_index.proofs.index.SlotIndex.+detach.Goals as goal
 
@@ -15,8 +16,21 @@ lift-requires t c =
       some = (members _ _ c.args.place h.shown c.args.at h.whole.tree c.requires.there.stands).0;
     }
 
-pub returns-then-next-at-clause-detached : goal.returns-then-next-at-clause-detached
-returns-then-next-at-clause-detached t c u item_of w there =
+pub is_bare-requires-clause-within : goal.is_bare-requires-clause-within
+is_bare-requires-clause-within t c =
+    let h = c.requires.has in
+    let n = c.index-next.ensures ∙ any_default _ _ _ 0 h.whole.within in
+    top-room c.args.self.now c.args.place c.args.at (has-top _ _ _ h) (sym n ∙ c.if-next-at.true) (members _ _ c.args.place h.shown c.args.at h.whole.tree c.requires.there.stands).0
+
+pub returns-then-is_bare-clause-detached : goal.returns-then-is_bare-clause-detached
+returns-then-is_bare-clause-detached t c u item_of w there =
+    let n = c.index-next.ensures ∙ any_default _ _ _ 0 w.within in
+    let some = (members _ _ c.args.place u c.args.at w.tree there.stands).0 in
+    detach-end _ _ _ c.args.place c.args.at c.args.depth c.args.item u w there.stands (sym n ∙ c.if-next-at.true)
+    (lift-bare _ _ c.args.place c.args.at u w (sym n ∙ c.if-next-at.true) some (c.is_bare.ensures c.if-is_bare.true))
+
+pub returns-else-is_bare-clause-detached : goal.returns-else-is_bare-clause-detached
+returns-else-is_bare-clause-detached t c u item_of w there =
     let n = c.index-next.ensures ∙ any_default _ _ _ 0 w.within in
     detach-end _ _ _ c.args.place c.args.at c.args.depth c.args.item u w there.stands (sym n ∙ c.if-next-at.true) (c.lift.ensures.lifted u w)
 
