@@ -150,7 +150,7 @@ asked_of name rows = if bytes_eq name (codes "run") then run_in rows
     else (if bytes_eq name (codes "replay") then replay_in rows
     else None)))))))
 
--- the number of read buffers is none of a cache
+-- a number of read buffers was given that no cache has
 abbrev pub has_wrong_stripes : List Row → Bool
 has_wrong_stripes rows = option_map_or (λ n. is_none (stripes_from n)) (wide_number_in row.stripes rows) false
 

@@ -80,7 +80,7 @@ fn arguments_of(
     }
 }
 
-// Whether the number of read buffers is none of a cache.
+// Whether a number of read buffers was given that no cache has.
 fn has_wrong_stripes(asked: &Matches<'_, '_>) -> bool
     ensures { result ≡ has_wrong_stripes asked.now }
 {
