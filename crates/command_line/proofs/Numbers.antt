@@ -1,6 +1,7 @@
 -- A `u64` is read from a text just where `number_named` gives a number, and it is that one.
 use Rattle.std.proofs.Common.{◌≡◌, ap, refl, arith, List, ℕ, Bool, true, false, Some, None, Option, Result, Ok, Err}
 use Rattle.std.specs.Prelude.{option_and_then}
+use Rattle.std.specs.Result.{result_ok}
 use Rattle.std.specs.Str.Parse.{ExplainsUnsignedError, HasUnsignedDigitsIfOk, ParsesUnsigned}
 use Rattle.std.specs.declared.num.ParseIntError.{ParseIntError}
 use Rattle.clap.specs.Words.{ReadsOne}
@@ -27,11 +28,12 @@ refused t bad g false e = rw e refl
 abbrev Reads : List ℕ → Result ℕ ParseIntError → Type 0
 Reads t r = ParsesUnsigned 64 10 t r × ExplainsUnsignedError 10 t r × HasUnsignedDigitsIfOk t r
 
-pub read : (t : List ℕ) (r : Option ℕ) → ReadsOne Reads t r → r ≡ number_named t
-read t (Some v) g = taken t v g.0
-read t None g = refused t g.0 g.1.0 (is_unsigned_in 0 most t) refl
+pub parsed : (t : List ℕ) (r : Result ℕ ParseIntError) → Reads t r → result_ok r ≡ number_named t
+parsed t (Ok v) g = taken t v g.0
+parsed t (Err e) g = refused t e g.0 (is_unsigned_in 0 most t) refl
 
 pub reads : (o : Option (List ℕ)) (r : Option ℕ) → (o ≡ None → r ≡ None) → ((t : List ℕ) → o ≡ Some t → ReadsOne Reads t r)
     → r ≡ option_and_then number_named o
 reads None r none value = none refl
-reads (Some t) r none value = read t r (value t refl)
+reads (Some t) (Some v) none value = taken t v (value t refl).0
+reads (Some t) None none value = let g = value t refl in refused t g.0 g.1.0 (is_unsigned_in 0 most t) refl

@@ -1,6 +1,6 @@
 -- What the matches of a subcommand name: the value of each option, and the arguments made of them.
-use Rattle.std.specs.Prelude.{ℕ, List, Option, Some, None, Result, Ok, Err, codes, ◌&&◌, nat_le}
-use Rattle.std.specs.Prelude.{◌≤◌, Bool, false, if◌then◌else◌, is_none, option_and_then, option_map}
+use Rattle.std.specs.Prelude.{◌≡◌, ⊤, ℕ, List, Option, Some, None, Result, Ok, Err, codes, ◌&&◌, nat_le}
+use Rattle.std.specs.Prelude.{Bool, false, if◌then◌else◌, is_none, option_and_then, option_map}
 use Rattle.std.specs.Int.{is_power_of_two}
 use Rattle.std.specs.Option.{option_map_or}
 use Rattle.std.specs.Result.{result_ok}
@@ -14,16 +14,25 @@ use Rattle.step_record.specs.declared.config.Config.{Config}
 use Rattle.step_record.specs.declared.config.Spread.{Spread}
 use Rattle.step_record.specs.declared.job.Policy.{Policy}
 use Rattle.trace_read.specs.declared.format.Format.{Format}
-use Rattle.command_line.specs.Options as row
-use Rattle.command_line.specs.Options.{OptionDefinition}
+use Rattle.command_line.specs.Options.{row_of}
 use Rattle.command_line.specs.Choices.{all_named, format_named, policy_named, spread_named}
 use Rattle.command_line.specs.declared.arguments.Arguments.{Arguments}
 use Rattle.command_line.specs.declared.arguments.Arguments.TheVariants as asked
 use Rattle.command_line.specs.declared.arguments.PartArguments.{PartArguments}
 use Rattle.command_line.specs.declared.fault.ParseFault.{ParseFault}
 use Rattle.command_line.specs.declared.fault.ParseFault.TheVariants.{Incomplete, Stripes}
+use Rattle.command_line.specs.declared.fault.ValueFault.{ValueFault}
+use Rattle.command_line.specs.declared.fault.ValueFault.TheVariants as fault
+use Rattle.command_line.specs.declared.options.OptionName.{OptionName}
+use Rattle.command_line.specs.declared.options.OptionName.TheVariants as option
 use Rattle.command_line.specs.declared.options.ValueKind.{ValueKind}
 use Rattle.command_line.specs.declared.options.ValueKind.TheVariants.{Number}
+
+-- the value that is asked for; an error says that there is none, or that the allocation failed
+abbrev pub AnswersWith : {A : Type 0} → Option A → Result A ValueFault → Type 0
+AnswersWith asked (Ok value) = asked ≡ Some value
+AnswersWith asked (Err fault.Incomplete) = asked ≡ None
+AnswersWith asked (Err fault.OutOfMemory) = ⊤
 
 -- ---- the value of an option
 
@@ -37,39 +46,34 @@ abbrev pub in_range : ValueKind → ℕ → Option ℕ
 in_range (Number least most) n = if nat_le least n && nat_le n most then Some n else None
 in_range other n = None
 
--- a number in the range of the values
-abbrev pub IsIn : ValueKind → ℕ → Type 0
-IsIn (Number least most) n = (least ≤ n) × (n ≤ most)
-IsIn other n = ⊥
-
 -- the number that a text names as a value of an option
-abbrev pub value_named : OptionDefinition → Text → Option ℕ
-value_named option text = option_and_then (in_range option.value) (number_named text)
+abbrev pub value_named : OptionName → Text → Option ℕ
+value_named name text = option_and_then (in_range (row_of name).value) (number_named text)
 
 -- the number of 64 bits that is given to an option, and the number in its range
-abbrev pub wide_number_in : OptionDefinition → List Row → Option ℕ
-wide_number_in option rows = option_and_then number_named (one_of option.id rows)
+abbrev pub wide_number_in : OptionName → List Row → Option ℕ
+wide_number_in name rows = option_and_then number_named (one_of (row_of name).id rows)
 
-abbrev pub number_in : OptionDefinition → List Row → Option ℕ
-number_in option rows = option_and_then (in_range option.value) (wide_number_in option rows)
+abbrev pub number_in : OptionName → List Row → Option ℕ
+number_in name rows = option_and_then (in_range (row_of name).value) (wide_number_in name rows)
 
-abbrev pub spread_in : OptionDefinition → List Row → Spread
-spread_in option rows = spread_named (first_of option.id rows)
+abbrev pub spread_in : List Row → Spread
+spread_in rows = spread_named (first_of (row_of option.Spread).id rows)
 
-abbrev pub format_in : OptionDefinition → List Row → Format
-format_in option rows = format_named (first_of option.id rows)
+abbrev pub format_in : List Row → Format
+format_in rows = format_named (first_of (row_of option.Format).id rows)
 
 -- the policy that is given to an option
-abbrev pub policy_in : OptionDefinition → List Row → Option Policy
-policy_in option rows = option_and_then policy_named (first_of option.id rows)
+abbrev pub policy_in : OptionName → List Row → Option Policy
+policy_in name rows = option_and_then policy_named (first_of (row_of name).id rows)
 
 -- the policies that are given to an option
-abbrev pub policies_in : OptionDefinition → List Row → Option (List Policy)
-policies_in option rows = option_and_then (all_named policy_named) (all_of option.id rows)
+abbrev pub policies_in : OptionName → List Row → Option (List Policy)
+policies_in name rows = option_and_then (all_named policy_named) (all_of (row_of name).id rows)
 
 -- the capacities of a sweep
 abbrev pub capacities_in : List Row → Option (List ℕ)
-capacities_in rows = option_and_then (all_named (value_named row.capacities)) (all_of row.capacities.id rows)
+capacities_in rows = option_and_then (all_named (value_named option.Capacities)) (all_of (row_of option.Capacities).id rows)
 
 -- the number of read buffers, where it is one of a cache: a power of two from 1 to 64
 abbrev pub stripes_from : ℕ → Option ℕ
@@ -84,24 +88,24 @@ checked config = option_map (λ u. config) (result_ok (config_fault config))
 -- the configuration of a cache of this capacity, with so many read buffers and steps of a journal
 unfoldable pub config_at : ℕ → ℕ → ℕ → List Row → Option Config
 config_at capacity stripes limit rows = option_and_then (λ main. checked
-    (record { capacity = capacity; main_percent = main; spread = spread_in row.spread rows; stripes = stripes; journal_limit = limit })) (number_in row.main rows)
+    (record { capacity = capacity; main_percent = main; spread = spread_in rows; stripes = stripes; journal_limit = limit })) (number_in option.Main rows)
 
 -- The configuration of a policy: it has no read buffers and no journal, and so one of each.
 abbrev pub config_in : List Row → Option Config
-config_in rows = option_and_then (λ capacity. config_at capacity 1 1 rows) (number_in row.capacity rows)
+config_in rows = option_and_then (λ capacity. config_at capacity 1 1 rows) (number_in option.Capacity rows)
 
 -- the configuration of a concurrent cache
 abbrev pub concurrent_in : List Row → Option Config
 concurrent_in rows = option_and_then (λ stripes. option_and_then (λ capacity. option_and_then (λ limit.
     config_at capacity stripes limit rows)
-    (number_in row.limit rows)) (number_in row.capacity rows))
-    (option_and_then stripes_from (wide_number_in row.stripes rows))
+    (number_in option.Limit rows)) (number_in option.Capacity rows))
+    (option_and_then stripes_from (wide_number_in option.Stripes rows))
 
 -- ---- what a subcommand is asked for; none where its matches are incomplete
 
 unfoldable pub run_in : List Row → Option Arguments
 run_in rows = option_and_then (λ config. option_and_then (λ batch. option_map (λ policies.
-    asked.Run (record { config = config; policies = policies; batch = batch; format = format_in row.format rows })) (policies_in row.policies rows)) (number_in row.batch rows)) (config_in rows)
+    asked.Run (record { config = config; policies = policies; batch = batch; format = format_in rows })) (policies_in option.Policies rows)) (number_in option.Batch rows)) (config_in rows)
 
 -- each capacity replaces the configuration's
 unfoldable pub sweep_in : List Row → Option Arguments
@@ -109,32 +113,32 @@ sweep_in rows = option_and_then (λ config. option_and_then (λ policies. option
   config = config;
   policies = policies;
   capacities = capacities;
-  format = format_in row.format rows;
-})) (capacities_in rows)) (policies_in row.swept_policies rows)) (config_at 1 1 1 rows)
+  format = format_in rows;
+})) (capacities_in rows)) (policies_in option.SweptPolicies rows)) (config_at 1 1 1 rows)
 
 unfoldable pub intervals_in : List Row → Option Arguments
 intervals_in rows = option_and_then (λ config. option_and_then (λ every. option_map (λ policies.
-    asked.Intervals (record { config = config; policies = policies; every = every; format = format_in row.format rows })) (policies_in row.policies rows)) (number_in row.every rows)) (config_in rows)
+    asked.Intervals (record { config = config; policies = policies; every = every; format = format_in rows })) (policies_in option.Policies rows)) (number_in option.Every rows)) (config_in rows)
 
 -- two policies on one configuration
 unfoldable pub part_in : List Row → Option PartArguments
 part_in rows = option_and_then (λ config. option_and_then (λ first. option_map (λ second. record {
   first = record { policy = first; config = config };
   second = record { policy = second; config = config };
-  format = format_in row.format rows;
-}) (policy_in row.second rows)) (policy_in row.first rows)) (config_in rows)
+  format = format_in rows;
+}) (policy_in option.Second rows)) (policy_in option.First rows)) (config_in rows)
 
 unfoldable pub drive_in : List Row → Option Arguments
 drive_in rows = option_and_then (λ config. option_map (λ workers.
-    asked.Drive (record { config = config; workers = workers; format = format_in row.format rows })) (number_in row.workers rows)) (concurrent_in rows)
+    asked.Drive (record { config = config; workers = workers; format = format_in rows })) (number_in option.Workers rows)) (concurrent_in rows)
 
 unfoldable pub debug_in : List Row → Option Arguments
 debug_in rows = option_and_then (λ policies. option_map (λ trace.
-    asked.Debug (record { policies = policies; trace = trace })) (first_of row.trace.id rows)) (part_in rows)
+    asked.Debug (record { policies = policies; trace = trace })) (first_of (row_of option.Trace).id rows)) (part_in rows)
 
 unfoldable pub replay_in : List Row → Option Arguments
 replay_in rows = option_and_then (λ config. option_map (λ journal.
-    asked.Replay (record { config = config; journal = journal })) (first_of row.journal.id rows)) (concurrent_in rows)
+    asked.Replay (record { config = config; journal = journal })) (first_of (row_of option.Journal).id rows)) (concurrent_in rows)
 
 -- ---- the subcommand that was called
 
@@ -152,7 +156,7 @@ asked_of name rows = if bytes_eq name (codes "run") then run_in rows
 
 -- a number of read buffers was given that no cache has
 abbrev pub has_wrong_stripes : List Row → Bool
-has_wrong_stripes rows = option_map_or (λ n. is_none (stripes_from n)) (wide_number_in row.stripes rows) false
+has_wrong_stripes rows = option_map_or (λ n. is_none (stripes_from n)) (wide_number_in option.Stripes rows) false
 
 -- the arguments, or why there are none
 abbrev pub complete : List Row → Option Arguments → Result Arguments ParseFault

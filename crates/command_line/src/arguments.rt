@@ -1,17 +1,13 @@
 //! What a call asks for, as typed values, and how they are made of the matches of a subcommand.
-ghost use Rattle.std.specs.Prelude.{◌≡◌, Ok, IfOk, IfSome};
-ghost use Rattle.step_record.specs.Config.{config_fault};
-ghost use Rattle.command_line.specs.Accepted.{AreAccepted, IsAcceptedPart};
-ghost use Rattle.command_line.specs.Values.{concurrent_in, config_at, config_in, debug_in, drive_in, intervals_in};
-ghost use Rattle.command_line.specs.Values.{part_in, replay_in, run_in, sweep_in};
+ghost use Rattle.std.specs.Prelude.{◌≡◌};
+ghost use Rattle.command_line.specs.Values.{AnswersWith, concurrent_in, config_at, config_in, debug_in, drive_in};
+ghost use Rattle.command_line.specs.Values.{intervals_in, part_in, replay_in, run_in, sweep_in};
 
+use crate::fault::ValueFault;
 use crate::lists::{CapacityList, FilePath, PolicyList};
-use crate::options::{
-    BATCH, CAPACITY, EVERY, FIRST, FORMAT, JOURNAL, LIMIT, MAIN, POLICIES, SECOND, SPREAD, STRIPES,
-    SWEPT_POLICIES, TRACE, WORKERS,
-};
+use crate::options::OptionName;
 use crate::values::{Matches, stripes_from};
-use std::alloc::{AllocError, Global};
+use std::alloc::Global;
 use step_record::{Config, Job};
 use trace_read::Format;
 
@@ -115,180 +111,150 @@ pub struct ReplayArguments {
     pub journal: FilePath,
 }
 
-/// What `run` is asked for by its matches; none where these are incomplete. The one error is out of memory.
+/// What `run` is asked for by its matches.
 #[tactic(auto, unfolding(crate::specs::Values::run_in))]
-pub(crate) fn run(alloc: Global, asked: &Matches<'_, '_>) -> Result<Option<Arguments>, AllocError>
-    ensures value { IfOk result (λ arguments. arguments ≡ run_in asked.now) }
-    ensures accepted { IfOk result (λ arguments. IfSome arguments AreAccepted) }
+pub(crate) fn run(alloc: Global, asked: &Matches<'_, '_>) -> Result<Arguments, ValueFault>
+    ensures { AnswersWith (run_in asked.now) result }
 {
-    let Some(config) = policy_config(asked) else {
-        return Ok(None);
-    };
-    let Some(batch) = asked.number(&BATCH) else {
-        return Ok(None);
-    };
-    let Some(policies) = asked.policies(alloc, &POLICIES)? else {
-        return Ok(None);
-    };
-    Ok(Some(Arguments::Run(RunArguments {
+    let config = policy_config(asked)?;
+    let batch = asked.number(OptionName::Batch)?;
+    let policies = asked.policies(alloc, OptionName::Policies)?;
+    Ok(Arguments::Run(RunArguments {
         config,
         policies,
         batch,
-        format: asked.format(&FORMAT),
-    })))
-}
-
-/// What `sweep` is asked for, in the same way.
-#[tactic(auto, unfolding(crate::specs::Values::sweep_in))]
-pub(crate) fn sweep(alloc: Global, asked: &Matches<'_, '_>) -> Result<Option<Arguments>, AllocError>
-    ensures value { IfOk result (λ arguments. arguments ≡ sweep_in asked.now) }
-    ensures accepted { IfOk result (λ arguments. IfSome arguments AreAccepted) }
-{
-    let Some(config) = config(asked, 1, 1, 1) else {
-        return Ok(None);
-    };
-    let Some(policies) = asked.policies(alloc, &SWEPT_POLICIES)? else {
-        return Ok(None);
-    };
-    let Some(capacities) = asked.capacities(alloc)? else {
-        return Ok(None);
-    };
-    Ok(Some(Arguments::Sweep(SweepArguments {
-        config,
-        policies,
-        capacities,
-        format: asked.format(&FORMAT),
-    })))
-}
-
-/// What `intervals` is asked for, in the same way.
-#[tactic(auto, unfolding(crate::specs::Values::intervals_in))]
-pub(crate) fn intervals(
-    alloc: Global,
-    asked: &Matches<'_, '_>,
-) -> Result<Option<Arguments>, AllocError>
-    ensures value { IfOk result (λ arguments. arguments ≡ intervals_in asked.now) }
-    ensures accepted { IfOk result (λ arguments. IfSome arguments AreAccepted) }
-{
-    let Some(config) = policy_config(asked) else {
-        return Ok(None);
-    };
-    let Some(every) = asked.number(&EVERY) else {
-        return Ok(None);
-    };
-    let Some(policies) = asked.policies(alloc, &POLICIES)? else {
-        return Ok(None);
-    };
-    Ok(Some(Arguments::Intervals(IntervalsArguments {
-        config,
-        policies,
-        every,
-        format: asked.format(&FORMAT),
-    })))
-}
-
-/// What `part` and `compare` are asked for, in the same way.
-#[tactic(auto, unfolding(crate::specs::Values::part_in))]
-pub(crate) fn part(asked: &Matches<'_, '_>) -> Option<PartArguments>
-    ensures value { result ≡ part_in asked.now }
-    ensures accepted { IfSome result IsAcceptedPart }
-{
-    let config = policy_config(asked)?;
-    Some(PartArguments {
-        first: Job {
-            policy: asked.policy(&FIRST)?,
-            config,
-        },
-        second: Job {
-            policy: asked.policy(&SECOND)?,
-            config,
-        },
-        format: asked.format(&FORMAT),
-    })
-}
-
-/// What `drive` is asked for, in the same way.
-#[tactic(auto, unfolding(crate::specs::Values::drive_in))]
-pub(crate) fn drive(asked: &Matches<'_, '_>) -> Option<Arguments>
-    ensures value { result ≡ drive_in asked.now }
-    ensures accepted { IfSome result AreAccepted }
-{
-    let config = concurrent_config(asked)?;
-    let workers = asked.number(&WORKERS)?;
-    Some(Arguments::Drive(DriveArguments {
-        config,
-        workers: workers as u8,
-        format: asked.format(&FORMAT),
+        format: asked.format(),
     }))
 }
 
-/// What `debug` is asked for, in the same way.
-#[tactic(auto, unfolding(crate::specs::Values::debug_in))]
-pub(crate) fn debug(alloc: Global, asked: &Matches<'_, '_>) -> Result<Option<Arguments>, AllocError>
-    ensures value { IfOk result (λ arguments. arguments ≡ debug_in asked.now) }
-    ensures accepted { IfOk result (λ arguments. IfSome arguments AreAccepted) }
+/// What `sweep` is asked for by its matches.
+#[tactic(auto, unfolding(crate::specs::Values::sweep_in))]
+pub(crate) fn sweep(alloc: Global, asked: &Matches<'_, '_>) -> Result<Arguments, ValueFault>
+    ensures { AnswersWith (sweep_in asked.now) result }
 {
-    let Some(policies) = part(asked) else {
-        return Ok(None);
-    };
-    let Some(trace) = asked.path(alloc, &TRACE)? else {
-        return Ok(None);
-    };
-    Ok(Some(Arguments::Debug(DebugArguments { policies, trace })))
+    let config = config(asked, 1, 1, 1)?;
+    let policies = asked.policies(alloc, OptionName::SweptPolicies)?;
+    let capacities = asked.capacities(alloc)?;
+    Ok(Arguments::Sweep(SweepArguments {
+        config,
+        policies,
+        capacities,
+        format: asked.format(),
+    }))
 }
 
-/// What `replay` is asked for, in the same way.
-#[tactic(auto, unfolding(crate::specs::Values::replay_in))]
-pub(crate) fn replay(
-    alloc: Global,
-    asked: &Matches<'_, '_>,
-) -> Result<Option<Arguments>, AllocError>
-    ensures value { IfOk result (λ arguments. arguments ≡ replay_in asked.now) }
-    ensures accepted { IfOk result (λ arguments. IfSome arguments AreAccepted) }
+/// What `intervals` is asked for by its matches.
+#[tactic(auto, unfolding(crate::specs::Values::intervals_in))]
+pub(crate) fn intervals(alloc: Global, asked: &Matches<'_, '_>) -> Result<Arguments, ValueFault>
+    ensures { AnswersWith (intervals_in asked.now) result }
 {
-    let Some(config) = concurrent_config(asked) else {
-        return Ok(None);
-    };
-    let Some(journal) = asked.path(alloc, &JOURNAL)? else {
-        return Ok(None);
-    };
-    Ok(Some(Arguments::Replay(ReplayArguments { config, journal })))
+    let config = policy_config(asked)?;
+    let every = asked.number(OptionName::Every)?;
+    let policies = asked.policies(alloc, OptionName::Policies)?;
+    Ok(Arguments::Intervals(IntervalsArguments {
+        config,
+        policies,
+        every,
+        format: asked.format(),
+    }))
+}
+
+/// What `part` and `compare` are asked for by their matches.
+#[tactic(auto, unfolding(crate::specs::Values::part_in))]
+pub(crate) fn part(asked: &Matches<'_, '_>) -> Result<PartArguments, ValueFault>
+    ensures { AnswersWith (part_in asked.now) result }
+{
+    let config = policy_config(asked)?;
+    let first = asked.policy(OptionName::First)?;
+    let second = asked.policy(OptionName::Second)?;
+    Ok(PartArguments {
+        first: Job {
+            policy: first,
+            config,
+        },
+        second: Job {
+            policy: second,
+            config,
+        },
+        format: asked.format(),
+    })
+}
+
+/// What `drive` is asked for by its matches.
+#[tactic(auto, unfolding(crate::specs::Values::drive_in))]
+pub(crate) fn drive(asked: &Matches<'_, '_>) -> Result<Arguments, ValueFault>
+    ensures { AnswersWith (drive_in asked.now) result }
+{
+    let config = concurrent_config(asked)?;
+    let workers = asked.number(OptionName::Workers)?;
+    Ok(Arguments::Drive(DriveArguments {
+        config,
+        workers: workers as u8,
+        format: asked.format(),
+    }))
+}
+
+/// What `debug` is asked for by its matches.
+#[tactic(auto, unfolding(crate::specs::Values::debug_in))]
+pub(crate) fn debug(alloc: Global, asked: &Matches<'_, '_>) -> Result<Arguments, ValueFault>
+    ensures { AnswersWith (debug_in asked.now) result }
+{
+    let policies = part(asked)?;
+    let trace = asked.path(alloc, OptionName::Trace)?;
+    Ok(Arguments::Debug(DebugArguments { policies, trace }))
+}
+
+/// What `replay` is asked for by its matches.
+#[tactic(auto, unfolding(crate::specs::Values::replay_in))]
+pub(crate) fn replay(alloc: Global, asked: &Matches<'_, '_>) -> Result<Arguments, ValueFault>
+    ensures { AnswersWith (replay_in asked.now) result }
+{
+    let config = concurrent_config(asked)?;
+    let journal = asked.path(alloc, OptionName::Journal)?;
+    Ok(Arguments::Replay(ReplayArguments { config, journal }))
 }
 
 // The configuration of a policy that the matches name.
-fn policy_config(asked: &Matches<'_, '_>) -> Option<Config>
-    ensures value { result ≡ config_in asked.now }
-    ensures accepted { IfSome result (λ config. config_fault config ≡ Ok tt) }
+fn policy_config(asked: &Matches<'_, '_>) -> Result<Config, ValueFault>
+    ensures { AnswersWith (config_in asked.now) result }
 {
-    let capacity = asked.number(&CAPACITY)?;
+    let capacity = asked.number(OptionName::Capacity)?;
     config(asked, capacity, 1, 1)
 }
 
 // The configuration of a concurrent cache that the matches name.
-fn concurrent_config(asked: &Matches<'_, '_>) -> Option<Config>
-    ensures value { result ≡ concurrent_in asked.now }
-    ensures accepted { IfSome result (λ config. config_fault config ≡ Ok tt) }
+fn concurrent_config(asked: &Matches<'_, '_>) -> Result<Config, ValueFault>
+    ensures { AnswersWith (concurrent_in asked.now) result }
 {
-    let stripes = stripes_from(asked.wide_number(&STRIPES)?)?;
-    let capacity = asked.number(&CAPACITY)?;
-    let limit = asked.number(&LIMIT)?;
+    let stripes = asked
+        .wide_number(OptionName::Stripes)
+        .and_then(stripes_from)
+        .ok_or(ValueFault::Incomplete)?;
+    let capacity = asked.number(OptionName::Capacity)?;
+    let limit = asked.number(OptionName::Limit)?;
     config(asked, capacity, stripes, limit)
 }
 
 // The configuration of these numbers and what the matches name beside them, where it is accepted.
 #[tactic(auto, unfolding(crate::specs::Values::config_at))]
-fn config(asked: &Matches<'_, '_>, capacity: u32, stripes: u8, limit: u32) -> Option<Config>
-    ensures value { result ≡ config_at capacity stripes limit asked.now }
-    ensures accepted { IfSome result (λ config. config_fault config ≡ Ok tt) }
+fn config(
+    asked: &Matches<'_, '_>,
+    capacity: u32,
+    stripes: u8,
+    limit: u32,
+) -> Result<Config, ValueFault>
+    ensures { AnswersWith (config_at capacity stripes limit asked.now) result }
 {
-    let main_percent = asked.number(&MAIN)?;
+    let main_percent = asked.number(OptionName::Main)?;
     let config = Config {
         capacity,
         main_percent: main_percent as u8,
-        spread: asked.spread(&SPREAD),
+        spread: asked.spread(),
         stripes,
         journal_limit: limit,
     };
-    config.check().ok()?;
-    Some(config)
+    match config.check() {
+        Ok(()) => Ok(config),
+        Err(_) => Err(ValueFault::Incomplete),
+    }
 }

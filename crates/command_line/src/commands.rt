@@ -2,13 +2,13 @@
 ghost use Rattle.std.specs.Prelude.{◌≡◌, false, IfOk, map};
 ghost use Rattle.clap.specs.Words.{app_of, new_app, new_rule, rule_of};
 ghost use Rattle.clap.specs.declared.builder.command.Command.TheViews.{out-Command};
-ghost use Rattle.command_line.specs.Options.{defined, defined_subcommand, subcommands};
+ghost use Rattle.command_line.specs.Options.{defined, defined_subcommand, row_of, subcommands};
 ghost use Rattle.command_line.specs.Program.{IsCommandOf, app_of_subcommand, empty_app, parser_of, program_app};
 ghost use Rattle.command_line.specs.Program.{rule_of_row, with_options, with_place};
 ghost use Rattle.command_line.specs.Program.{with_subcommands};
 
 use crate::choices::WordLists;
-use crate::options::{OptionRow, Place, SUBCOMMANDS, Subcommand, ValueKind};
+use crate::options::{OptionName, OptionRow, Place, SUBCOMMANDS, Subcommand, ValueKind};
 use clap::builder::ValueParser;
 use clap::{Arg, ArgAction, Command};
 use std::alloc::{AllocError, Global};
@@ -95,16 +95,16 @@ fn without_options<'a>(alloc: Global, subcommand: &Subcommand) -> Command<'a>
 fn with_options<'a>(
     alloc: Global,
     command: Command<'a>,
-    options: &[OptionRow],
+    options: &[OptionName],
     lists: &WordLists<'a>,
 ) -> Result<Command<'a>, AllocError>
     requires { (out-Command command).has_globals ≡ false }
-    ensures { IfOk result (IsCommandOf (with_options lists.now (map defined options.now) (app_of command.entry))) }
+    ensures { IfOk result (IsCommandOf (with_options lists.now (map row_of options.now) (app_of command.entry))) }
 {
     match options.split_first() {
         None => Ok(command),
         Some((first, rest)) => {
-            match command.arg(arg(alloc, first, lists)) {
+            match command.arg(arg(alloc, first.row(), lists)) {
                 Ok(command) => with_options(alloc, command, rest, lists),
                 Err(error) => Err(error),
             }

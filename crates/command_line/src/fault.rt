@@ -1,9 +1,10 @@
 //! Why the words of a call gave no arguments.
 ghost use Rattle.std.specs.Prelude.{◌≡◌};
 ghost use Rattle.command_line.specs.declared.fault.ParseFault.TheVariants.{OutOfMemory, Refused};
+ghost use Rattle.command_line.specs.declared.fault.ValueFault.TheVariants as value;
 
 use clap::Error;
-use std::alloc::AllocError;
+use std::alloc::{AllocError, AllocFailed};
 
 /// Why the words of a call gave no arguments.
 #[derive(Drop)]
@@ -32,5 +33,30 @@ impl From<Error> for ParseFault {
 
     fn from(error: Error) -> ParseFault {
         ParseFault::Refused(error)
+    }
+}
+
+/// Why matches do not give a value.
+#[derive(Clone, Copy)]
+pub(crate) enum ValueFault {
+    /// The allocation failed.
+    OutOfMemory,
+    /// The words lack it.
+    Incomplete,
+}
+
+impl From<AllocError> for ValueFault {
+    ghost from_gives = { λ _ fault. fault ≡ value.OutOfMemory };
+
+    fn from(_error: AllocError) -> ValueFault {
+        ValueFault::OutOfMemory
+    }
+}
+
+impl<T: Drop> From<AllocFailed<T>> for ValueFault {
+    ghost from_gives = { λ _ fault. fault ≡ value.OutOfMemory };
+
+    fn from(_error: AllocFailed<T>) -> ValueFault {
+        ValueFault::OutOfMemory
     }
 }

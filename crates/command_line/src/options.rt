@@ -1,5 +1,12 @@
 //! The program's options and subcommands, each a row: the commands that `clap` reads, their help, the arguments and the
 //! definition of what words ask for are all made of these.
+ghost use Rattle.std.specs.Prelude.{◌≡◌};
+ghost use Rattle.command_line.specs.Options.{defined, row_of};
+
+use OptionName::{
+    Batch, Capacities, Capacity, Every, First, Format, Journal, Limit, Main, Policies, Second,
+    Spread, Stripes, SweptPolicies, Trace, Workers,
+};
 use step_record::{
     MAX_ACCESSES, MAX_BATCH, MAX_CAPACITY, MAX_JOURNAL_LIMIT, MAX_MAIN_PERCENT, MAX_WORKERS,
 };
@@ -15,7 +22,7 @@ pub struct Subcommand {
     /// The end of help: a call.
     pub example: &'static str,
     /// In the order in which help lists them.
-    pub options: &'static [OptionRow],
+    pub options: &'static [OptionName],
 }
 
 /// An option.
@@ -31,6 +38,36 @@ pub struct OptionRow {
     pub place: Place,
     /// Its value where none is given; an option with no default is required.
     pub default: Option<&'static str>,
+}
+
+/// The name of an option, whose row is the one at its place in `OPTIONS`.
+#[derive(Clone, Copy)]
+pub enum OptionName {
+    Capacity,
+    Capacities,
+    Main,
+    Spread,
+    Format,
+    Batch,
+    Every,
+    Policies,
+    SweptPolicies,
+    First,
+    Second,
+    Workers,
+    Stripes,
+    Limit,
+    Trace,
+    Journal,
+}
+
+impl OptionName {
+    /// Its row.
+    pub fn row(self) -> &'static OptionRow
+        ensures { defined result.now ≡ row_of self }
+    {
+        &OPTIONS[self as usize]
+    }
 }
 
 /// What a value of an option is.
@@ -70,7 +107,7 @@ pub static SUBCOMMANDS: [Subcommand; 8] = [
 The trace comes by a redirection (< FILE) or a pipe. Without one, at a terminal, the program waits
 for you to type the trace, a line each, up to Ctrl-D.",
         example: "Example: cachesim run --capacity 100 lru wtinylfu clairvoyant < trace.lirs",
-        options: &[CAPACITY, MAIN, SPREAD, FORMAT, BATCH, POLICIES],
+        options: &[Capacity, Main, Spread, Format, Batch, Policies],
     },
     Subcommand {
         name: "sweep",
@@ -78,7 +115,7 @@ for you to type the trace, a line each, up to Ctrl-D.",
         whole: "Runs policies over the trace on standard input and prints a report of each at each capacity.
 The trace comes by a redirection (< FILE) or a pipe.",
         example: "Example: cachesim sweep --policy wtinylfu 50 100 200 400 < trace.lirs",
-        options: &[MAIN, SPREAD, FORMAT, SWEPT_POLICIES, CAPACITIES],
+        options: &[Main, Spread, Format, SweptPolicies, Capacities],
     },
     Subcommand {
         name: "intervals",
@@ -87,7 +124,7 @@ The trace comes by a redirection (< FILE) or a pipe.",
 each --every accesses. The caches stay as they are from one interval to the next. The trace comes by a
 redirection (< FILE) or a pipe.",
         example: "Example: cachesim intervals --capacity 100 --every 1000 lru wtinylfu < trace.lirs",
-        options: &[CAPACITY, EVERY, MAIN, SPREAD, FORMAT, POLICIES],
+        options: &[Capacity, Every, Main, Spread, Format, Policies],
     },
     Subcommand {
         name: "part",
@@ -95,7 +132,7 @@ redirection (< FILE) or a pipe.",
         whole: "Prints where two policies diverge: `part P`, P the first access of the trace on standard input, counted
 from 1, at which just one of them hits, or `part none`. The trace comes by a redirection (< FILE) or a pipe.",
         example: "Example: cachesim part --capacity 100 --first lru --second slru < trace.lirs",
-        options: &[CAPACITY, MAIN, SPREAD, FORMAT, FIRST, SECOND],
+        options: &[Capacity, Main, Spread, Format, First, Second],
     },
     Subcommand {
         name: "compare",
@@ -103,7 +140,7 @@ from 1, at which just one of them hits, or `part none`. The trace comes by a red
         whole: "Prints at how many accesses of the trace on standard input both of two policies hit, only the first, only
 the second, and neither. The trace comes by a redirection (< FILE) or a pipe.",
         example: "Example: cachesim compare --capacity 100 --first lru --second slru < trace.lirs",
-        options: &[CAPACITY, MAIN, SPREAD, FORMAT, FIRST, SECOND],
+        options: &[Capacity, Main, Spread, Format, First, Second],
     },
     Subcommand {
         name: "drive",
@@ -111,7 +148,7 @@ the second, and neither. The trace comes by a redirection (< FILE) or a pipe.",
         whole: "Runs the concurrent cache on threads over the trace on standard input and prints its journal, which
 `replay` reads. The trace comes by a redirection (< FILE) or a pipe.",
         example: "Example: cachesim drive --capacity 100 --workers 4 < trace.lirs > run.journal",
-        options: &[CAPACITY, MAIN, SPREAD, FORMAT, WORKERS, STRIPES, LIMIT],
+        options: &[Capacity, Main, Spread, Format, Workers, Stripes, Limit],
     },
     Subcommand {
         name: "debug",
@@ -120,7 +157,7 @@ the second, and neither. The trace comes by a redirection (< FILE) or a pipe.",
 step N, back N, goto N, run, break hit K, break evict K, break halve, break part, clear, show, part, quit.
 Here standard input has the commands, and --trace names the file of the trace.",
         example: "Example: cachesim debug --trace trace.lirs --capacity 100 --first lru --second slru",
-        options: &[CAPACITY, MAIN, SPREAD, FORMAT, FIRST, SECOND, TRACE],
+        options: &[Capacity, Main, Spread, Format, First, Second, Trace],
     },
     Subcommand {
         name: "replay",
@@ -129,150 +166,138 @@ Here standard input has the commands, and --trace names the file of the trace.",
 line: step N, back N, goto N, run, break hit K, break evict K, break halve, break drop, clear, show, save, quit.
 Give --capacity, --stripes, --main, --spread and --limit as they were given to `drive`.",
         example: "Example: cachesim replay --journal run.journal --capacity 100",
-        options: &[CAPACITY, MAIN, SPREAD, JOURNAL, STRIPES, LIMIT],
+        options: &[Capacity, Main, Spread, Journal, Stripes, Limit],
     },
 ];
 
-pub const CAPACITY: OptionRow = OptionRow {
-    id: "capacity",
-    value_name: "N",
-    help: "How many entries the cache holds, from 1 to 1048576",
-    value: ValueKind::Number(1, MAX_CAPACITY),
-    place: Place::Named,
-    default: None,
-};
-
-pub const CAPACITIES: OptionRow = OptionRow {
-    id: "capacities",
-    value_name: "CAPACITY",
-    help: "How many entries the caches hold, from 1 to 1048576 each, in the order of their reports",
-    value: ValueKind::Number(1, MAX_CAPACITY),
-    place: Place::Positional,
-    default: None,
-};
-
-pub const MAIN: OptionRow = OptionRow {
-    id: "main",
-    value_name: "N",
-    help: "How much of the capacity of wtinylfu is the main part, in percent, from 0 to 99; the rest is the window",
-    value: ValueKind::Number(0, MAX_MAIN_PERCENT as u32),
-    place: Place::Named,
-    default: Some("99"),
-};
-
-pub const SPREAD: OptionRow = OptionRow {
-    id: "spread",
-    value_name: "SPREAD",
-    help: "How keys are spread over the columns of a sketch: mixed by a mixing function, plain by remainders",
-    value: ValueKind::Spread,
-    place: Place::Named,
-    default: Some("mixed"),
-};
-
-pub const FORMAT: OptionRow = OptionRow {
-    id: "format",
-    value_name: "FORMAT",
-    help: "The format of the trace: lirs has a block number a line, arc a first block and how many blocks",
-    value: ValueKind::Format,
-    place: Place::Named,
-    default: Some("lirs"),
-};
-
-pub const BATCH: OptionRow = OptionRow {
-    id: "batch",
-    value_name: "N",
-    help: "How many accesses a policy is given at once, from 1 to 65536; no report depends on it",
-    value: ValueKind::Number(1, MAX_BATCH),
-    place: Place::Named,
-    default: Some("1024"),
-};
-
-pub const EVERY: OptionRow = OptionRow {
-    id: "every",
-    value_name: "M",
-    help: "How many accesses an interval has, from 1 to 16777216; the last one may have fewer",
-    value: ValueKind::Number(1, MAX_ACCESSES as u32),
-    place: Place::Named,
-    default: None,
-};
-
-pub const POLICIES: OptionRow = OptionRow {
-    id: "policy",
-    value_name: "POLICY",
-    help: "The policies to run, in the order of their reports; no file is named here",
-    value: ValueKind::Policy,
-    place: Place::Positional,
-    default: None,
-};
-
-pub const SWEPT_POLICIES: OptionRow = OptionRow {
-    id: "policy",
-    value_name: "POLICY",
-    help: "A policy to run; given more than once, the reports of the first come first",
-    value: ValueKind::Policy,
-    place: Place::NamedOften,
-    default: None,
-};
-
-pub const FIRST: OptionRow = OptionRow {
-    id: "first",
-    value_name: "POLICY",
-    help: "The one policy",
-    value: ValueKind::Policy,
-    place: Place::Named,
-    default: None,
-};
-
-pub const SECOND: OptionRow = OptionRow {
-    id: "second",
-    value_name: "POLICY",
-    help: "The other policy",
-    value: ValueKind::Policy,
-    place: Place::Named,
-    default: None,
-};
-
-pub const WORKERS: OptionRow = OptionRow {
-    id: "workers",
-    value_name: "N",
-    help: "How many threads read the keys of the trace, from 1 to 64; access i is made by thread i modulo their number",
-    value: ValueKind::Number(1, MAX_WORKERS as u32),
-    place: Place::Named,
-    default: Some("2"),
-};
-
-pub const STRIPES: OptionRow = OptionRow {
-    id: "stripes",
-    value_name: "N",
-    help: "How many read buffers the cache has, a power of two from 1 to 64",
-    value: ValueKind::AnyNumber,
-    place: Place::Named,
-    default: Some("4"),
-};
-
-pub const LIMIT: OptionRow = OptionRow {
-    id: "limit",
-    value_name: "N",
-    help: "How many steps the journal holds, from 1 to 16777216",
-    value: ValueKind::Number(1, MAX_JOURNAL_LIMIT),
-    place: Place::Named,
-    default: Some("1048576"),
-};
-
-pub const TRACE: OptionRow = OptionRow {
-    id: "trace",
-    value_name: "FILE",
-    help: "The file of the trace, of at most 2^30 bytes",
-    value: ValueKind::File,
-    place: Place::Named,
-    default: None,
-};
-
-pub const JOURNAL: OptionRow = OptionRow {
-    id: "journal",
-    value_name: "FILE",
-    help: "The file of the journal, of at most 2^30 bytes",
-    value: ValueKind::File,
-    place: Place::Named,
-    default: None,
-};
+// The options, in the order of their names.
+static OPTIONS: [OptionRow; 16] = [
+    OptionRow {
+        id: "capacity",
+        value_name: "N",
+        help: "How many entries the cache holds, from 1 to 1048576",
+        value: ValueKind::Number(1, MAX_CAPACITY),
+        place: Place::Named,
+        default: None,
+    },
+    OptionRow {
+        id: "capacities",
+        value_name: "CAPACITY",
+        help: "How many entries the caches hold, from 1 to 1048576 each, in the order of their reports",
+        value: ValueKind::Number(1, MAX_CAPACITY),
+        place: Place::Positional,
+        default: None,
+    },
+    OptionRow {
+        id: "main",
+        value_name: "N",
+        help: "How much of the capacity of wtinylfu is the main part, in percent, from 0 to 99; the rest is the window",
+        value: ValueKind::Number(0, MAX_MAIN_PERCENT as u32),
+        place: Place::Named,
+        default: Some("99"),
+    },
+    OptionRow {
+        id: "spread",
+        value_name: "SPREAD",
+        help: "How keys are spread over the columns of a sketch: mixed by a mixing function, plain by remainders",
+        value: ValueKind::Spread,
+        place: Place::Named,
+        default: Some("mixed"),
+    },
+    OptionRow {
+        id: "format",
+        value_name: "FORMAT",
+        help: "The format of the trace: lirs has a block number a line, arc a first block and how many blocks",
+        value: ValueKind::Format,
+        place: Place::Named,
+        default: Some("lirs"),
+    },
+    OptionRow {
+        id: "batch",
+        value_name: "N",
+        help: "How many accesses a policy is given at once, from 1 to 65536; no report depends on it",
+        value: ValueKind::Number(1, MAX_BATCH),
+        place: Place::Named,
+        default: Some("1024"),
+    },
+    OptionRow {
+        id: "every",
+        value_name: "M",
+        help: "How many accesses an interval has, from 1 to 16777216; the last one may have fewer",
+        value: ValueKind::Number(1, MAX_ACCESSES as u32),
+        place: Place::Named,
+        default: None,
+    },
+    OptionRow {
+        id: "policy",
+        value_name: "POLICY",
+        help: "The policies to run, in the order of their reports; no file is named here",
+        value: ValueKind::Policy,
+        place: Place::Positional,
+        default: None,
+    },
+    OptionRow {
+        id: "policy",
+        value_name: "POLICY",
+        help: "A policy to run; given more than once, the reports of the first come first",
+        value: ValueKind::Policy,
+        place: Place::NamedOften,
+        default: None,
+    },
+    OptionRow {
+        id: "first",
+        value_name: "POLICY",
+        help: "The one policy",
+        value: ValueKind::Policy,
+        place: Place::Named,
+        default: None,
+    },
+    OptionRow {
+        id: "second",
+        value_name: "POLICY",
+        help: "The other policy",
+        value: ValueKind::Policy,
+        place: Place::Named,
+        default: None,
+    },
+    OptionRow {
+        id: "workers",
+        value_name: "N",
+        help: "How many threads read the keys of the trace, from 1 to 64; access i is made by thread i modulo their number",
+        value: ValueKind::Number(1, MAX_WORKERS as u32),
+        place: Place::Named,
+        default: Some("2"),
+    },
+    OptionRow {
+        id: "stripes",
+        value_name: "N",
+        help: "How many read buffers the cache has, a power of two from 1 to 64",
+        value: ValueKind::AnyNumber,
+        place: Place::Named,
+        default: Some("4"),
+    },
+    OptionRow {
+        id: "limit",
+        value_name: "N",
+        help: "How many steps the journal holds, from 1 to 16777216",
+        value: ValueKind::Number(1, MAX_JOURNAL_LIMIT),
+        place: Place::Named,
+        default: Some("1048576"),
+    },
+    OptionRow {
+        id: "trace",
+        value_name: "FILE",
+        help: "The file of the trace, of at most 2^30 bytes",
+        value: ValueKind::File,
+        place: Place::Named,
+        default: None,
+    },
+    OptionRow {
+        id: "journal",
+        value_name: "FILE",
+        help: "The file of the journal, of at most 2^30 bytes",
+        value: ValueKind::File,
+        place: Place::Named,
+        default: None,
+    },
+];

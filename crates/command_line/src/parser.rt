@@ -1,18 +1,18 @@
 //! The words of a call, to its arguments.
-ghost use Rattle.std.specs.Prelude.{◌≡◌, IfOk, IfSome, map};
+ghost use Rattle.std.specs.Prelude.{◌≡◌, IfOk, map};
 ghost use Rattle.clap.specs.Words.{subcommand_rows_of};
 ghost use Rattle.command_line.specs.Accepted.{AreAccepted};
 ghost use Rattle.command_line.specs.ParseResult.{IsAskedFor, ParsedBy};
-ghost use Rattle.command_line.specs.Values.{asked_in, asked_of, complete, has_wrong_stripes};
+ghost use Rattle.command_line.specs.Values.{AnswersWith, asked_in, asked_of, complete, has_wrong_stripes};
 
 use crate::arguments::{Arguments, debug, drive, intervals, part, replay, run, sweep};
 use crate::choices::{WordLists, format_words, policy_words, spread_words};
 use crate::commands::program;
-use crate::fault::ParseFault;
-use crate::options::STRIPES;
+use crate::fault::{ParseFault, ValueFault};
+use crate::options::OptionName;
 use crate::values::{Matches, stripes_from};
 use clap::ArgMatches;
-use std::alloc::{AllocError, Global};
+use std::alloc::Global;
 
 /// What the words after the program's name ask for. `Refused` comes exactly where `clap` refuses
 /// them by the commands' rules, also where they ask for help or the version, or where it ran out
@@ -37,8 +37,7 @@ pub fn parse(alloc: Global, words: &[&str]) -> Result<Arguments, ParseFault>
 
 // What the matches ask for.
 fn arguments(alloc: Global, matches: &ArgMatches<'_>) -> Result<Arguments, ParseFault>
-    ensures asked { IsAskedFor (asked_in (subcommand_rows_of matches.now)) result }
-    ensures accepted { IfOk result AreAccepted }
+    ensures { IsAskedFor (asked_in (subcommand_rows_of matches.now)) result }
 {
     match matches.subcommand() {
         Some((name, asked)) => complete(alloc, name, &Matches { matches: asked }),
@@ -48,35 +47,30 @@ fn arguments(alloc: Global, matches: &ArgMatches<'_>) -> Result<Arguments, Parse
 
 // What the matches of the subcommand of this name ask for, or why they ask for nothing.
 fn complete(alloc: Global, name: &str, asked: &Matches<'_, '_>) -> Result<Arguments, ParseFault>
-    ensures asked { IsAskedFor (complete asked.now (asked_of name.now asked.now)) result }
-    ensures accepted { IfOk result AreAccepted }
+    ensures { IsAskedFor (complete asked.now (asked_of name.now asked.now)) result }
 {
-    match arguments_of(alloc, name, asked)? {
-        Some(arguments) => Ok(arguments),
-        None if has_wrong_stripes(asked) => Err(ParseFault::Stripes),
-        None => Err(ParseFault::Incomplete),
+    match arguments_of(alloc, name, asked) {
+        Ok(arguments) => Ok(arguments),
+        Err(ValueFault::OutOfMemory) => Err(ParseFault::OutOfMemory),
+        Err(ValueFault::Incomplete) if has_wrong_stripes(asked) => Err(ParseFault::Stripes),
+        Err(ValueFault::Incomplete) => Err(ParseFault::Incomplete),
     }
 }
 
-// What the matches of the subcommand of this name ask for; none where they are incomplete.
-fn arguments_of(
-    alloc: Global,
-    name: &str,
-    asked: &Matches<'_, '_>,
-) -> Result<Option<Arguments>, AllocError>
-    ensures value { IfOk result (λ arguments. arguments ≡ asked_of name.now asked.now) }
-    ensures accepted { IfOk result (λ arguments. IfSome arguments AreAccepted) }
+// What the matches of the subcommand of this name ask for.
+fn arguments_of(alloc: Global, name: &str, asked: &Matches<'_, '_>) -> Result<Arguments, ValueFault>
+    ensures { AnswersWith (asked_of name.now asked.now) result }
 {
     match name {
         "run" => run(alloc, asked),
         "sweep" => sweep(alloc, asked),
         "intervals" => intervals(alloc, asked),
-        "part" => Ok(part(asked).map(Arguments::Part)),
-        "compare" => Ok(part(asked).map(Arguments::Compare)),
-        "drive" => Ok(drive(asked)),
+        "part" => part(asked).map(Arguments::Part),
+        "compare" => part(asked).map(Arguments::Compare),
+        "drive" => drive(asked),
         "debug" => debug(alloc, asked),
         "replay" => replay(alloc, asked),
-        _ => Ok(None),
+        _ => Err(ValueFault::Incomplete),
     }
 }
 
@@ -84,7 +78,7 @@ fn arguments_of(
 fn has_wrong_stripes(asked: &Matches<'_, '_>) -> bool
     ensures { result ≡ has_wrong_stripes asked.now }
 {
-    match asked.wide_number(&STRIPES) {
+    match asked.wide_number(OptionName::Stripes) {
         Some(number) => stripes_from(number).is_none(),
         None => false,
     }

@@ -1,20 +1,19 @@
 //! The values that the matches of a subcommand have for an option.
-ghost use Rattle.std.specs.Prelude.{◌≡◌, IfOk, IfSome, map, option_map, true};
-ghost use Rattle.std.specs.List.{AllPass};
-ghost use Rattle.clap.specs.Words.{all_of, first_of, found_of, one_of, rows_of};
-ghost use Rattle.step_record.specs.Config.{is_from_one};
-ghost use Rattle.step_record.specs.declared.limits.TheConstants.{MAX_CAPACITY};
+ghost use Rattle.std.specs.Prelude.{◌≡◌, map, option_and_then, option_map};
+ghost use Rattle.clap.specs.Words.{all_of, first_of};
 ghost use Rattle.command_line.specs.Choices.{all_named, policy_named as policy_by};
-ghost use Rattle.command_line.specs.Values.{IsIn, capacities_in, format_in, in_range as within, number_in};
+ghost use Rattle.command_line.specs.Options.{row_of};
+ghost use Rattle.command_line.specs.Values.{AnswersWith, capacities_in, format_in, in_range as within, number_in};
 ghost use Rattle.command_line.specs.Values.{number_named as number_by, policies_in, policy_in, spread_in};
 ghost use Rattle.command_line.specs.Values.{stripes_from as stripes_by, value_named as value_by, wide_number_in};
-ghost use Rattle.command_line.specs.Options.{capacities as capacity_row, defined};
+ghost use Rattle.command_line.specs.declared.options.OptionName.TheVariants.{Capacities};
 
 use crate::choices::{format_named, policy_named, spread_named};
+use crate::fault::ValueFault;
 use crate::lists::{CapacityList, FilePath, NamedList, PolicyList};
-use crate::options::{CAPACITIES, OptionRow, ValueKind};
+use crate::options::{OptionName, ValueKind};
 use clap::ArgMatches;
-use std::alloc::{AllocError, Global};
+use std::alloc::Global;
 use std::marker::Model;
 use step_record::{MAX_STRIPES, Policy, Spread};
 use trace_read::Format;
@@ -36,93 +35,108 @@ impl<'m, 'a> Model for Matches<'m, 'a> {
 
 impl<'m, 'a> Matches<'m, 'a> {
     /// The number that is given to an option, where it is in the option's range.
-    pub(crate) fn number(&self, option: &OptionRow) -> Option<u32>
-        ensures value { result ≡ number_in (defined option.now) self.now }
-        ensures range { IfSome result (IsIn option.now.value) }
+    pub(crate) fn number(&self, option: OptionName) -> Result<u32, ValueFault>
+        ensures { AnswersWith (number_in option self.now) result }
     {
-        in_range(option.value, self.wide_number(option)?)
+        self.wide_number(option)
+            .and_then(|number| in_range(option.row().value, number))
+            .ok_or(ValueFault::Incomplete)
     }
 
     /// The number of 64 bits that is given to an option.
-    pub(crate) fn wide_number(&self, option: &OptionRow) -> Option<u64>
-        ensures { result ≡ wide_number_in (defined option.now) self.now }
+    pub(crate) fn wide_number(&self, option: OptionName) -> Option<u64>
+        ensures { result ≡ wide_number_in option self.now }
     {
-        self.matches.get_one::<u64>(option.id)
+        self.matches.get_one::<u64>(option.row().id)
     }
 
-    /// How keys are spread, as an option says.
-    pub(crate) fn spread(&self, option: &OptionRow) -> Spread
-        ensures { result ≡ spread_in (defined option.now) self.now }
+    /// How keys are spread.
+    pub(crate) fn spread(&self) -> Spread
+        ensures { result ≡ spread_in self.now }
     {
-        spread_named(self.word(option))
+        spread_named(self.word(OptionName::Spread))
     }
 
-    /// The format of the trace, as an option says.
-    pub(crate) fn format(&self, option: &OptionRow) -> Format
-        ensures { result ≡ format_in (defined option.now) self.now }
+    /// The format of the trace.
+    pub(crate) fn format(&self) -> Format
+        ensures { result ≡ format_in self.now }
     {
-        format_named(self.word(option))
+        format_named(self.word(OptionName::Format))
     }
 
     /// The policy that is given to an option.
-    pub(crate) fn policy(&self, option: &OptionRow) -> Option<Policy>
-        ensures { result ≡ policy_in (defined option.now) self.now }
+    pub(crate) fn policy(&self, option: OptionName) -> Result<Policy, ValueFault>
+        ensures { AnswersWith (policy_in option self.now) result }
     {
-        policy_named(self.word(option)?)
+        self.word(option)
+            .and_then(policy_named)
+            .ok_or(ValueFault::Incomplete)
     }
 
     /// The path of the file that is given to an option.
-    pub(crate) fn path(
-        &self,
-        alloc: Global,
-        option: &OptionRow,
-    ) -> Result<Option<FilePath>, AllocError>
-        ensures { IfOk result (λ path. path ≡ first_of option.now.id.now self.now) }
+    pub(crate) fn path(&self, alloc: Global, option: OptionName) -> Result<FilePath, ValueFault>
+        ensures { AnswersWith (first_of (row_of option).id self.now) result }
     {
-        let Some(word) = self.word(option) else {
-            return Ok(None);
-        };
-        let path = word.to_string(alloc)?;
-        Ok(Some(FilePath { path }))
+        let word = self.word(option).ok_or(ValueFault::Incomplete)?;
+        Ok(FilePath {
+            path: word.to_string(alloc)?,
+        })
     }
 
     /// The policies that are given to an option.
     pub(crate) fn policies(
         &self,
         alloc: Global,
-        option: &OptionRow,
-    ) -> Result<Option<PolicyList>, AllocError>
-        ensures { IfOk result (λ policies. policies ≡ policies_in (defined option.now) self.now) }
+        option: OptionName,
+    ) -> Result<PolicyList, ValueFault>
+        ensures { AnswersWith (policies_in option self.now) result }
     {
-        match self.words(option) {
-            Some(words) => policies_named(alloc, words),
-            None => Ok(None),
-        }
+        self.named(alloc, option, policy_named)
     }
 
     /// The capacities of a sweep.
-    pub(crate) fn capacities(&self, alloc: Global) -> Result<Option<CapacityList>, AllocError>
-        ensures accepted { IfOk result (λ capacities. IfSome capacities (AllPass (is_from_one MAX_CAPACITY))) }
-        ensures value { IfOk result (λ capacities. capacities ≡ capacities_in self.now) }
+    pub(crate) fn capacities(&self, alloc: Global) -> Result<CapacityList, ValueFault>
+        ensures { AnswersWith (capacities_in self.now) result }
     {
-        match self.words(&CAPACITIES) {
-            Some(words) => capacities_named(alloc, words),
-            None => Ok(None),
+        self.named(alloc, OptionName::Capacities, capacity_named)
+    }
+
+    // What the words that are given to an option name, in order.
+    fn named<T: Drop, F: Fn(&str) -> Option<T>>(
+        &self,
+        alloc: Global,
+        option: OptionName,
+        name: F,
+    ) -> Result<NamedList<T>, ValueFault>
+        requires { F.IsAlwaysCallable name }
+        ensures { (by : _) → ((word : _) (thing : _) → F.post name word thing → thing ≡ by word.now)
+            → AnswersWith (option_and_then (all_named by) (all_of (row_of option).id self.now)) result }
+    {
+        let Some(words) = self.words(option) else {
+            return Err(ValueFault::Incomplete);
+        };
+        let mut named = Vec::new(alloc);
+        for word in words {
+            let Some(thing) = name(word) else {
+                return Err(ValueFault::Incomplete);
+            };
+            named.push(thing)?;
         }
+        Ok(NamedList { named })
     }
 
     // The first word that is given to an option.
-    fn word(&self, option: &OptionRow) -> Option<&'a str>
-        ensures { option_map (λ s. s.now) result ≡ first_of option.now.id.now self.now }
+    fn word(&self, option: OptionName) -> Option<&'a str>
+        ensures { option_map (λ s. s.now) result ≡ first_of (row_of option).id self.now }
     {
-        self.matches.get_str(option.id)
+        self.matches.get_str(option.row().id)
     }
 
     // All words that are given to an option.
-    fn words(&self, option: &OptionRow) -> Option<&'m [&'a str]>
-        ensures { option_map (λ s. map (λ v. v.now) s.now) result ≡ all_of option.now.id.now self.now }
+    fn words(&self, option: OptionName) -> Option<&'m [&'a str]>
+        ensures { option_map (λ s. map (λ v. v.now) s.now) result ≡ all_of (row_of option).id self.now }
     {
-        self.matches.get_strs(option.id)
+        self.matches.get_strs(option.row().id)
     }
 }
 
@@ -138,8 +152,7 @@ pub(crate) fn stripes_from(number: u64) -> Option<u8>
 
 // The number, where it is in the range of the values.
 fn in_range(value: ValueKind, number: u64) -> Option<u32>
-    ensures value { result ≡ within value number }
-    ensures range { IfSome result (IsIn value) }
+    ensures { result ≡ within value number }
 {
     match value {
         ValueKind::Number(least, most) if u64::from(least) <= number && number <= u64::from(most) =>
@@ -148,50 +161,16 @@ fn in_range(value: ValueKind, number: u64) -> Option<u32>
     }
 }
 
-// The policies that the words name; none where one of the words names none.
-fn policies_named(alloc: Global, words: &[&str]) -> Result<Option<PolicyList>, AllocError>
-    ensures { IfOk result (λ policies. policies ≡ all_named policy_by (map (λ s. s.now) words.now)) }
-{
-    let mut policies = Vec::new(alloc);
-    for word in words {
-        let Some(policy) = policy_named(word) else {
-            return Ok(None);
-        };
-        policies.push(policy)?;
-    }
-    Ok(Some(NamedList { named: policies }))
-}
-
-// The capacities that the words name; none where one of the words names none.
-fn capacities_named(alloc: Global, words: &[&str]) -> Result<Option<CapacityList>, AllocError>
-    ensures accepted { IfOk result (λ capacities. IfSome capacities (AllPass (is_from_one MAX_CAPACITY))) }
-    ensures value { IfOk result (λ capacities. capacities
-        ≡ all_named (value_by capacity_row) (map (λ s. s.now) words.now)) }
-{
-    let mut capacities = Vec::new(alloc);
-    for word in words {
-        let Some(capacity) = capacity_named(word) else {
-            return Ok(None);
-        };
-        capacities.push(capacity)?;
-    }
-    Ok(Some(NamedList { named: capacities }))
-}
-
 // The capacity that a word names.
 fn capacity_named(word: &str) -> Option<u32>
-    ensures accepted { IfSome result (λ capacity. is_from_one MAX_CAPACITY capacity ≡ true) }
-    ensures value { result ≡ value_by capacity_row word.now }
+    ensures { result ≡ value_by Capacities word.now }
 {
-    in_range(CAPACITIES.value, number_named(word)?)
+    in_range(OptionName::Capacities.row().value, number_named(word)?)
 }
 
 // The number that a word writes in decimal digits.
 fn number_named(word: &str) -> Option<u64>
     ensures { result ≡ number_by word.now }
 {
-    match word.parse::<u64>() {
-        Ok(number) => Some(number),
-        Err(_) => None,
-    }
+    word.parse::<u64>().ok()
 }

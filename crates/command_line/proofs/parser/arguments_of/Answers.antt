@@ -7,8 +7,8 @@ use Rattle.command_line.proofs.parser.arguments_of.Goals as goal
 other : {name word : List ℕ} → (name ≡ word → ⊥) → bytes_eq name word ≡ false
 other {name} {word} differs = false_from_ne_true (bytes_eq name word) (λ same. differs ((bytes_eq-Decides name word).0 same))
 
-pub returns-in_default-clause-value : goal.returns-in_default-clause-value
-returns-in_default-clause-value c =
+pub returns-in_default : goal.returns-in_default
+returns-in_default c =
     let others = c.in_default in
     rw (
       other others.not-run,

@@ -1,9 +1,6 @@
-use Rattle.std.proofs.Common.{Some, None}
-use Rattle.command_line.proofs.Numbers.{read}
+use Rattle.std.proofs.Common.{◌∙◌}
+use Rattle.command_line.proofs.Numbers.{parsed}
 use Rattle.command_line.proofs.values.number_named.Goals as goal
 
-pub returns-in-Ok : goal.returns-in-Ok
-returns-in-Ok c = read c.args.word.now (Some c.in-Ok.number) c.in-Ok.ensures.value
-
-pub returns-in-Err : goal.returns-in-Err
-returns-in-Err c = read c.args.word.now None (c.in-Err.field-0, c.in-Err.ensures.value)
+pub returns : goal.returns
+returns c = c.ok.ensures.value ∙ parsed c.args.word.now c.parse.result c.parse.ensures.value

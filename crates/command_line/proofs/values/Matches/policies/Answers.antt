@@ -1,0 +1,5 @@
+use Rattle.command_line.specs.Choices.{policy_named}
+use Rattle.command_line.proofs.values.Matches.policies.Goals as goal
+
+pub returns : goal.returns
+returns c = c.named.ensures policy_named (λ word thing h. h)
