@@ -2,4 +2,4 @@ pub mod Examples
 pub mod Numbers
 pub mod Naming
 pub mod Outcomes
-pub mod Ranges
+pub mod Folds

@@ -2,6 +2,7 @@
 use Rattle.std.specs.Prelude.{◌≡◌, ◌≤◌, Ok}
 use Rattle.std.specs.List.{AllPass}
 use Rattle.step_record.specs.Config.{config_fault, is_from_one}
+use Rattle.step_record.specs.declared.config.Config.{Config}
 use Rattle.step_record.specs.declared.limits.TheConstants.{MAX_ACCESSES, MAX_BATCH, MAX_CAPACITY}
 use Rattle.step_record.specs.declared.worker.TheConstants.{MAX_WORKERS}
 use Rattle.command_line.specs.declared.arguments.Arguments.{Arguments}
@@ -12,6 +13,10 @@ use Rattle.command_line.specs.declared.arguments.IntervalsArguments.{IntervalsAr
 use Rattle.command_line.specs.declared.arguments.PartArguments.{PartArguments}
 use Rattle.command_line.specs.declared.arguments.RunArguments.{RunArguments}
 use Rattle.command_line.specs.declared.arguments.SweepArguments.{SweepArguments}
+
+-- the configuration is accepted
+abbrev pub IsConfig : Config → Type 0
+IsConfig config = config_fault config ≡ Ok tt
 
 pub record IsAcceptedRun (run : RunArguments) : Type 0 where
   pub config : config_fault run.config ≡ Ok tt

@@ -1,5 +1,6 @@
 -- The program's commands, as clap reads them, made of the rows of options and subcommands.
-use Rattle.std.specs.Prelude.{◌≡◌, pos, true, false, List, [], ◌∷◌, Option, Some, None, codes}
+use Rattle.std.specs.Prelude.{◌≡◌, pos, true, false, [], ◌∷◌, Option, Some, None, codes}
+use Rattle.std.specs.List.{fold}
 use Rattle.clap.specs.Lexer.{usize_max}
 use Rattle.clap.specs.Words.{App, Rule, Text, app_of, new_app, new_rule, with_rule, with_subcommand}
 use Rattle.clap.specs.declared.builder.ArgAction.TheVariants.{Append}
@@ -44,17 +45,14 @@ rule_of_row lists row = with_default row.default (record (with_place row.place r
   value_names = 1;
 })
 
-abbrev pub with_options : WordLists → List OptionDefinition → App → App
-with_options lists [] app = app
-with_options lists (row ∷ rows) app = with_options lists rows (with_rule app (rule_of_row lists row))
+abbrev pub with_option : WordLists → App → OptionDefinition → App
+with_option lists app row = with_rule app (rule_of_row lists row)
 
 abbrev pub app_of_subcommand : WordLists → SubcommandDefinition → App
-app_of_subcommand lists subcommand = with_options lists subcommand.options (new_app subcommand.name)
+app_of_subcommand lists subcommand = fold (with_option lists) (new_app subcommand.name) subcommand.options
 
-abbrev pub with_subcommands : WordLists → List SubcommandDefinition → App → App
-with_subcommands lists [] app = app
-with_subcommands lists (subcommand ∷ rest) app =
-    with_subcommands lists rest (with_subcommand app (app_of_subcommand lists subcommand).top)
+abbrev pub with_row : WordLists → App → SubcommandDefinition → App
+with_row lists app subcommand = with_subcommand app (app_of_subcommand lists subcommand).top
 
 -- `cachesim`, which has a version, wants a subcommand, and is handed the words after its name
 abbrev pub empty_app : App
@@ -67,7 +65,7 @@ empty_app = record (new_app (codes "cachesim")) {
 }
 
 abbrev pub program_app : WordLists → App
-program_app lists = with_subcommands lists subcommands empty_app
+program_app lists = fold (with_row lists) empty_app subcommands
 
 -- the command is this one, and none of its arguments is one for its subcommands too
 abbrev pub IsCommandOf : App → Command → Type 0

@@ -1,6 +1,6 @@
 -- What the matches of a subcommand name: the value of each option, and the arguments made of them.
 use Rattle.std.specs.Prelude.{◌≡◌, ⊤, ℕ, List, Option, Some, None, Result, Ok, Err, codes, ◌&&◌, nat_le}
-use Rattle.std.specs.Prelude.{Bool, false, if◌then◌else◌, is_none, option_and_then, option_map}
+use Rattle.std.specs.Prelude.{◌≤◌, Bool, false, if◌then◌else◌, is_none, option_and_then, option_map}
 use Rattle.std.specs.Int.{is_power_of_two}
 use Rattle.std.specs.Option.{option_map_or}
 use Rattle.std.specs.Result.{result_ok}
@@ -28,11 +28,14 @@ use Rattle.command_line.specs.declared.options.OptionName.TheVariants as option
 use Rattle.command_line.specs.declared.options.ValueKind.{ValueKind}
 use Rattle.command_line.specs.declared.options.ValueKind.TheVariants.{Number}
 
--- the value that is asked for; an error says that there is none, or that the allocation failed
+-- the value that is asked for, and P; an error says that there is none, or that the allocation failed
+abbrev pub Answers : {A : Type 0} → Option A → (A → Type 0) → Result A ValueFault → Type 0
+Answers asked P (Ok value) = (asked ≡ Some value) × P value
+Answers asked P (Err fault.Incomplete) = asked ≡ None
+Answers asked P (Err fault.OutOfMemory) = ⊤
+
 abbrev pub AnswersWith : {A : Type 0} → Option A → Result A ValueFault → Type 0
-AnswersWith asked (Ok value) = asked ≡ Some value
-AnswersWith asked (Err fault.Incomplete) = asked ≡ None
-AnswersWith asked (Err fault.OutOfMemory) = ⊤
+AnswersWith asked result = Answers asked (λ x. ⊤) result
 
 -- ---- the value of an option
 
@@ -45,6 +48,11 @@ number_named text = if is_unsigned_in 0 18446744073709551615 text
 abbrev pub in_range : ValueKind → ℕ → Option ℕ
 in_range (Number least most) n = if nat_le least n && nat_le n most then Some n else None
 in_range other n = None
+
+-- a number in the range of the values
+abbrev pub IsIn : ValueKind → ℕ → Type 0
+IsIn (Number least most) n = (least ≤ n) × (n ≤ most)
+IsIn other n = ⊥
 
 -- the number that a text names as a value of an option
 abbrev pub value_named : OptionName → Text → Option ℕ

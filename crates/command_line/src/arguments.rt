@@ -1,6 +1,7 @@
 //! What a call asks for, as typed values, and how they are made of the matches of a subcommand.
 ghost use Rattle.std.specs.Prelude.{◌≡◌};
-ghost use Rattle.command_line.specs.Values.{AnswersWith, concurrent_in, config_at, config_in, debug_in, drive_in};
+ghost use Rattle.command_line.specs.Accepted.{AreAccepted, IsAcceptedPart, IsConfig};
+ghost use Rattle.command_line.specs.Values.{Answers, concurrent_in, config_at, config_in, debug_in, drive_in};
 ghost use Rattle.command_line.specs.Values.{intervals_in, part_in, replay_in, run_in, sweep_in};
 
 use crate::fault::ValueFault;
@@ -114,7 +115,7 @@ pub struct ReplayArguments {
 /// What `run` is asked for by its matches.
 #[tactic(auto, unfolding(crate::specs::Values::run_in))]
 pub(crate) fn run(alloc: Global, asked: &Matches<'_, '_>) -> Result<Arguments, ValueFault>
-    ensures { AnswersWith (run_in asked.now) result }
+    ensures { Answers (run_in asked.now) AreAccepted result }
 {
     let config = policy_config(asked)?;
     let batch = asked.number(OptionName::Batch)?;
@@ -130,7 +131,7 @@ pub(crate) fn run(alloc: Global, asked: &Matches<'_, '_>) -> Result<Arguments, V
 /// What `sweep` is asked for by its matches.
 #[tactic(auto, unfolding(crate::specs::Values::sweep_in))]
 pub(crate) fn sweep(alloc: Global, asked: &Matches<'_, '_>) -> Result<Arguments, ValueFault>
-    ensures { AnswersWith (sweep_in asked.now) result }
+    ensures { Answers (sweep_in asked.now) AreAccepted result }
 {
     let config = config(asked, 1, 1, 1)?;
     let policies = asked.policies(alloc, OptionName::SweptPolicies)?;
@@ -146,7 +147,7 @@ pub(crate) fn sweep(alloc: Global, asked: &Matches<'_, '_>) -> Result<Arguments,
 /// What `intervals` is asked for by its matches.
 #[tactic(auto, unfolding(crate::specs::Values::intervals_in))]
 pub(crate) fn intervals(alloc: Global, asked: &Matches<'_, '_>) -> Result<Arguments, ValueFault>
-    ensures { AnswersWith (intervals_in asked.now) result }
+    ensures { Answers (intervals_in asked.now) AreAccepted result }
 {
     let config = policy_config(asked)?;
     let every = asked.number(OptionName::Every)?;
@@ -162,7 +163,7 @@ pub(crate) fn intervals(alloc: Global, asked: &Matches<'_, '_>) -> Result<Argume
 /// What `part` and `compare` are asked for by their matches.
 #[tactic(auto, unfolding(crate::specs::Values::part_in))]
 pub(crate) fn part(asked: &Matches<'_, '_>) -> Result<PartArguments, ValueFault>
-    ensures { AnswersWith (part_in asked.now) result }
+    ensures { Answers (part_in asked.now) IsAcceptedPart result }
 {
     let config = policy_config(asked)?;
     let first = asked.policy(OptionName::First)?;
@@ -183,7 +184,7 @@ pub(crate) fn part(asked: &Matches<'_, '_>) -> Result<PartArguments, ValueFault>
 /// What `drive` is asked for by its matches.
 #[tactic(auto, unfolding(crate::specs::Values::drive_in))]
 pub(crate) fn drive(asked: &Matches<'_, '_>) -> Result<Arguments, ValueFault>
-    ensures { AnswersWith (drive_in asked.now) result }
+    ensures { Answers (drive_in asked.now) AreAccepted result }
 {
     let config = concurrent_config(asked)?;
     let workers = asked.number(OptionName::Workers)?;
@@ -197,7 +198,7 @@ pub(crate) fn drive(asked: &Matches<'_, '_>) -> Result<Arguments, ValueFault>
 /// What `debug` is asked for by its matches.
 #[tactic(auto, unfolding(crate::specs::Values::debug_in))]
 pub(crate) fn debug(alloc: Global, asked: &Matches<'_, '_>) -> Result<Arguments, ValueFault>
-    ensures { AnswersWith (debug_in asked.now) result }
+    ensures { Answers (debug_in asked.now) AreAccepted result }
 {
     let policies = part(asked)?;
     let trace = asked.path(alloc, OptionName::Trace)?;
@@ -207,7 +208,7 @@ pub(crate) fn debug(alloc: Global, asked: &Matches<'_, '_>) -> Result<Arguments,
 /// What `replay` is asked for by its matches.
 #[tactic(auto, unfolding(crate::specs::Values::replay_in))]
 pub(crate) fn replay(alloc: Global, asked: &Matches<'_, '_>) -> Result<Arguments, ValueFault>
-    ensures { AnswersWith (replay_in asked.now) result }
+    ensures { Answers (replay_in asked.now) AreAccepted result }
 {
     let config = concurrent_config(asked)?;
     let journal = asked.path(alloc, OptionName::Journal)?;
@@ -216,7 +217,7 @@ pub(crate) fn replay(alloc: Global, asked: &Matches<'_, '_>) -> Result<Arguments
 
 // The configuration of a policy that the matches name.
 fn policy_config(asked: &Matches<'_, '_>) -> Result<Config, ValueFault>
-    ensures { AnswersWith (config_in asked.now) result }
+    ensures { Answers (config_in asked.now) IsConfig result }
 {
     let capacity = asked.number(OptionName::Capacity)?;
     config(asked, capacity, 1, 1)
@@ -224,7 +225,7 @@ fn policy_config(asked: &Matches<'_, '_>) -> Result<Config, ValueFault>
 
 // The configuration of a concurrent cache that the matches name.
 fn concurrent_config(asked: &Matches<'_, '_>) -> Result<Config, ValueFault>
-    ensures { AnswersWith (concurrent_in asked.now) result }
+    ensures { Answers (concurrent_in asked.now) IsConfig result }
 {
     let stripes = asked
         .wide_number(OptionName::Stripes)
@@ -243,7 +244,7 @@ fn config(
     stripes: u8,
     limit: u32,
 ) -> Result<Config, ValueFault>
-    ensures { AnswersWith (config_at capacity stripes limit asked.now) result }
+    ensures { Answers (config_at capacity stripes limit asked.now) IsConfig result }
 {
     let main_percent = asked.number(OptionName::Main)?;
     let config = Config {

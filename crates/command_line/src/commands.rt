@@ -1,14 +1,12 @@
 //! The program's commands, as `clap` builds them from the rows.
 ghost use Rattle.std.specs.Prelude.{◌≡◌, false, IfOk, map};
 ghost use Rattle.clap.specs.Words.{app_of, new_app, new_rule, rule_of};
-ghost use Rattle.clap.specs.declared.builder.command.Command.TheViews.{out-Command};
-ghost use Rattle.command_line.specs.Options.{defined, defined_subcommand, row_of, subcommands};
+ghost use Rattle.command_line.specs.Options.{defined, defined_subcommand, subcommands};
 ghost use Rattle.command_line.specs.Program.{IsCommandOf, app_of_subcommand, empty_app, parser_of, program_app};
-ghost use Rattle.command_line.specs.Program.{rule_of_row, with_options, with_place};
-ghost use Rattle.command_line.specs.Program.{with_subcommands};
+ghost use Rattle.command_line.specs.Program.{rule_of_row, with_place};
 
 use crate::choices::WordLists;
-use crate::options::{OptionName, OptionRow, Place, SUBCOMMANDS, Subcommand, ValueKind};
+use crate::options::{OptionRow, Place, SUBCOMMANDS, Subcommand, ValueKind};
 use clap::builder::ValueParser;
 use clap::{Arg, ArgAction, Command};
 use std::alloc::{AllocError, Global};
@@ -20,8 +18,12 @@ const VERSION: &str = "0.1.0";
 pub(crate) fn program<'a>(alloc: Global, lists: &WordLists<'a>) -> Result<Command<'a>, AllocError>
     ensures { IfOk result (λ c. app_of c ≡ program_app lists.now) }
 {
-    let top = top_command(alloc)?;
-    with_subcommands(alloc, top, rows(), lists)
+    let mut command = top_command(alloc)?;
+    for row in rows() {
+        let subcommand = subcommand(alloc, row, lists)?;
+        command = command.subcommand(subcommand)?;
+    }
+    Ok(command)
 }
 
 // The rows of all subcommands.
@@ -43,73 +45,29 @@ fn top_command<'a>(alloc: Global) -> Result<Command<'a>, AllocError>
         .bin_name("cachesim")
 }
 
-// The command, with these subcommands more.
-fn with_subcommands<'a>(
-    alloc: Global,
-    command: Command<'a>,
-    subcommands: &[Subcommand],
-    lists: &WordLists<'a>,
-) -> Result<Command<'a>, AllocError>
-    requires { (out-Command command).has_globals ≡ false }
-    ensures { IfOk result (IsCommandOf (with_subcommands lists.now (map defined_subcommand subcommands.now) (app_of command.entry))) }
-{
-    match subcommands.split_first() {
-        None => Ok(command),
-        Some((first, rest)) => {
-            let subcommand = subcommand(alloc, first, lists)?;
-            match command.subcommand(subcommand) {
-                Ok(command) => with_subcommands(alloc, command, rest, lists),
-                Err(error) => Err(error),
-            }
-        }
-    }
-}
-
 // The subcommand, with its options.
 fn subcommand<'a>(
     alloc: Global,
-    subcommand: &Subcommand,
+    row: &Subcommand,
     lists: &WordLists<'a>,
 ) -> Result<Command<'a>, AllocError>
-    ensures { IfOk result (IsCommandOf (app_of_subcommand lists.now (defined_subcommand subcommand.now))) }
+    ensures { IfOk result (IsCommandOf (app_of_subcommand lists.now (defined_subcommand row.now))) }
 {
-    with_options(
-        alloc,
-        without_options(alloc, subcommand),
-        subcommand.options,
-        lists,
-    )
+    let mut command = without_options(alloc, row);
+    for option in row.options {
+        command = command.arg(arg(alloc, option.row(), lists))?;
+    }
+    Ok(command)
 }
 
 // The subcommand without options, whose help has its texts.
-fn without_options<'a>(alloc: Global, subcommand: &Subcommand) -> Command<'a>
-    ensures { IsCommandOf (new_app subcommand.now.name.now) result }
+fn without_options<'a>(alloc: Global, row: &Subcommand) -> Command<'a>
+    ensures { IsCommandOf (new_app row.now.name.now) result }
 {
-    Command::new(alloc, subcommand.name)
-        .about(subcommand.about)
-        .long_about(subcommand.whole)
-        .after_help(subcommand.example)
-}
-
-// The command, with these options more.
-fn with_options<'a>(
-    alloc: Global,
-    command: Command<'a>,
-    options: &[OptionName],
-    lists: &WordLists<'a>,
-) -> Result<Command<'a>, AllocError>
-    requires { (out-Command command).has_globals ≡ false }
-    ensures { IfOk result (IsCommandOf (with_options lists.now (map row_of options.now) (app_of command.entry))) }
-{
-    match options.split_first() {
-        None => Ok(command),
-        Some((first, rest)) => {
-            match command.arg(arg(alloc, first.row(), lists)) {
-                Ok(command) => with_options(alloc, command, rest, lists),
-                Err(error) => Err(error),
-            }
-        }
-    }
+    Command::new(alloc, row.name)
+        .about(row.about)
+        .long_about(row.whole)
+        .after_help(row.example)
 }
 
 // The argument of an option.

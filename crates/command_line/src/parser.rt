@@ -3,7 +3,7 @@ ghost use Rattle.std.specs.Prelude.{◌≡◌, IfOk, map};
 ghost use Rattle.clap.specs.Words.{subcommand_rows_of};
 ghost use Rattle.command_line.specs.Accepted.{AreAccepted};
 ghost use Rattle.command_line.specs.ParseResult.{IsAskedFor, ParsedBy};
-ghost use Rattle.command_line.specs.Values.{AnswersWith, asked_in, asked_of, complete, has_wrong_stripes};
+ghost use Rattle.command_line.specs.Values.{Answers, asked_in, asked_of, complete, has_wrong_stripes};
 
 use crate::arguments::{Arguments, debug, drive, intervals, part, replay, run, sweep};
 use crate::choices::{WordLists, format_words, policy_words, spread_words};
@@ -37,7 +37,8 @@ pub fn parse(alloc: Global, words: &[&str]) -> Result<Arguments, ParseFault>
 
 // What the matches ask for.
 fn arguments(alloc: Global, matches: &ArgMatches<'_>) -> Result<Arguments, ParseFault>
-    ensures { IsAskedFor (asked_in (subcommand_rows_of matches.now)) result }
+    ensures asked { IsAskedFor (asked_in (subcommand_rows_of matches.now)) result }
+    ensures accepted { IfOk result AreAccepted }
 {
     match matches.subcommand() {
         Some((name, asked)) => complete(alloc, name, &Matches { matches: asked }),
@@ -47,7 +48,8 @@ fn arguments(alloc: Global, matches: &ArgMatches<'_>) -> Result<Arguments, Parse
 
 // What the matches of the subcommand of this name ask for, or why they ask for nothing.
 fn complete(alloc: Global, name: &str, asked: &Matches<'_, '_>) -> Result<Arguments, ParseFault>
-    ensures { IsAskedFor (complete asked.now (asked_of name.now asked.now)) result }
+    ensures asked { IsAskedFor (complete asked.now (asked_of name.now asked.now)) result }
+    ensures accepted { IfOk result AreAccepted }
 {
     match arguments_of(alloc, name, asked) {
         Ok(arguments) => Ok(arguments),
@@ -59,7 +61,7 @@ fn complete(alloc: Global, name: &str, asked: &Matches<'_, '_>) -> Result<Argume
 
 // What the matches of the subcommand of this name ask for.
 fn arguments_of(alloc: Global, name: &str, asked: &Matches<'_, '_>) -> Result<Arguments, ValueFault>
-    ensures { AnswersWith (asked_of name.now asked.now) result }
+    ensures { Answers (asked_of name.now asked.now) AreAccepted result }
 {
     match name {
         "run" => run(alloc, asked),

@@ -1,9 +1,12 @@
 //! The values that the matches of a subcommand have for an option.
-ghost use Rattle.std.specs.Prelude.{◌≡◌, map, option_and_then, option_map};
+ghost use Rattle.std.specs.Prelude.{◌≡◌, IfSome, map, option_and_then, option_map};
+ghost use Rattle.std.specs.List.{AllPass};
 ghost use Rattle.clap.specs.Words.{all_of, first_of};
+ghost use Rattle.step_record.specs.Config.{is_from_one};
+ghost use Rattle.step_record.specs.declared.limits.TheConstants.{MAX_CAPACITY};
 ghost use Rattle.command_line.specs.Choices.{all_named, policy_named as policy_by};
 ghost use Rattle.command_line.specs.Options.{row_of};
-ghost use Rattle.command_line.specs.Values.{AnswersWith, capacities_in, format_in, in_range as within, number_in};
+ghost use Rattle.command_line.specs.Values.{Answers, AnswersWith, IsIn, capacities_in, format_in, in_range as within, number_in};
 ghost use Rattle.command_line.specs.Values.{number_named as number_by, policies_in, policy_in, spread_in};
 ghost use Rattle.command_line.specs.Values.{stripes_from as stripes_by, value_named as value_by, wide_number_in};
 ghost use Rattle.command_line.specs.declared.options.OptionName.TheVariants.{Capacities};
@@ -36,7 +39,7 @@ impl<'m, 'a> Model for Matches<'m, 'a> {
 impl<'m, 'a> Matches<'m, 'a> {
     /// The number that is given to an option, where it is in the option's range.
     pub(crate) fn number(&self, option: OptionName) -> Result<u32, ValueFault>
-        ensures { AnswersWith (number_in option self.now) result }
+        ensures { Answers (number_in option self.now) (IsIn (row_of option).value) result }
     {
         self.wide_number(option)
             .and_then(|number| in_range(option.row().value, number))
@@ -96,7 +99,7 @@ impl<'m, 'a> Matches<'m, 'a> {
 
     /// The capacities of a sweep.
     pub(crate) fn capacities(&self, alloc: Global) -> Result<CapacityList, ValueFault>
-        ensures { AnswersWith (capacities_in self.now) result }
+        ensures { Answers (capacities_in self.now) (AllPass (is_from_one MAX_CAPACITY)) result }
     {
         self.named(alloc, OptionName::Capacities, capacity_named)
     }
@@ -152,7 +155,8 @@ pub(crate) fn stripes_from(number: u64) -> Option<u8>
 
 // The number, where it is in the range of the values.
 fn in_range(value: ValueKind, number: u64) -> Option<u32>
-    ensures { result ≡ within value number }
+    ensures value { result ≡ within value number }
+    ensures range { IfSome result (IsIn value) }
 {
     match value {
         ValueKind::Number(least, most) if u64::from(least) <= number && number <= u64::from(most) =>

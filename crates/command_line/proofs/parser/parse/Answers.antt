@@ -1,10 +1,9 @@
 use Rattle.std.proofs.Common.{◌≡◌, ◌∙◌, ap, rules}
-use Rattle.clap.specs.Words.{app_of, is_simple, is_simple_and_free, subcommand_rows_of}
+use Rattle.clap.specs.Words.{app_of, is_simple, is_simple_and_free}
 use Rattle.command_line.specs.Choices.{AreLists}
 use Rattle.command_line.specs.Program.{program_app}
 use Rattle.command_line.specs.declared.choices.WordLists.{WordLists}
 use Rattle.command_line.proofs.Outcomes.{ended, out_of_memory, program-free, program-simple, refused}
-use Rattle.command_line.proofs.Ranges.{accepted}
 use Rattle.command_line.proofs.parser.parse.Goals as goal
 
 pub returns-in_err-program-clause-parsed : goal.returns-in_err-program-clause-parsed
@@ -25,7 +24,4 @@ returns-clause-parsed c =
     let is : app_of c.in_ok-program.program ≡ program_app lists = c.in_ok-program.ensures in
     let taken = c.in_ok-matches.ensures.kinds (ap is_simple_and_free is ∙ program-free lists) in
     let rows = (c.in_ok-matches.ensures.matches (ap is_simple is ∙ program-simple lists)).1 in
-    ended lists are _ _ is c.in_ok-matches.matches taken rows c.arguments.result c.arguments.ensures
-
-pub returns-clause-accepted : goal.returns-clause-accepted
-returns-clause-accepted c = accepted (subcommand_rows_of c.in_ok-matches.matches) c.arguments.result c.arguments.ensures
+    ended lists are _ _ is c.in_ok-matches.matches taken rows c.arguments.result c.arguments.ensures.asked

@@ -1,5 +1,0 @@
-use Rattle.std.proofs.Common.{length}
-use Rattle.command_line.proofs.commands.+with_subcommands.Given as goal
-
-abbrev pub decreases-with_subcommands : goal.decreases-with_subcommands
-decreases-with_subcommands l = length l.subcommands.now
