@@ -5,8 +5,8 @@ ghost use Rattle.program.specs.declared.fault_report.TheConstants.{REFUSED};
 use crate::call::command;
 use crate::fault::Fault;
 use crate::fault_report::{REFUSED, report_fault, report_usage_error};
-use crate::files::{FileFault, Files, MAX_FILE_BYTES};
-use progress::ProgressLine;
+use crate::files::{Files, MAX_FILE_BYTES};
+use progress::{ProgressLine, Watch};
 use std::alloc::{AllocError, Global};
 use std::env::Env;
 use std::io::{ErrorKind, IsTerminal, Read, Write};
@@ -14,7 +14,7 @@ use std::rt::Clock;
 use std::sync::Wait;
 use std::thread::Threads;
 use std::{env, fs};
-use streams::{CountedReader, CountedWriter, ReadAllFault};
+use streams::{CountedRead, CountedReader, CountedWrite, CountedWriter, ReadAllFault};
 
 // The line of a word that is no text, which is a usage error.
 const NOT_TEXT: &[u8] = b"error: a word of the call is not UTF-8 text\n";
@@ -28,38 +28,62 @@ pub fn run_process<
 >(rt: &T, input: R, out: W, fault_out: X) -> u8
     ensures { result ≤ REFUSED }
 {
-    let alloc = rt.alloc();
+    let line = ProgressLine::new(rt, fault_out.is_terminal());
     let mut fault_out = CountedWriter::new(fault_out);
-    // `InvalidData` where a word is no UTF-8 text; the other error is out of memory.
+    match words(rt) {
+        Ok(words) => run_words(
+            rt,
+            words.as_slice(),
+            &mut CountedReader::new(input),
+            &mut CountedWriter::new(out),
+            &mut fault_out,
+            &line,
+        ),
+        Err(ErrorKind::InvalidData) => report_usage_error(NOT_TEXT, &mut fault_out),
+        Err(_) => report_fault(rt.alloc(), Fault::OutOfMemory, &mut fault_out),
+    }
+}
+
+// The words after the program's name. `InvalidData` where one is no UTF-8 text; the other error is out of memory.
+fn words<T: AllocGlobal + Env>(rt: &T) -> Result<Vec<String>, ErrorKind> {
     let words = env::args(rt).and_then(|args| {
-        let words: Vec<String> = args.skip(1).collect(alloc)?;
+        let words: Vec<String> = args.skip(1).collect(rt.alloc())?;
         Ok(words)
     });
-    let words = match words {
-        Ok(words) => words,
-        Err(error) if error.kind() == ErrorKind::InvalidData => {
-            return report_usage_error(NOT_TEXT, &mut fault_out);
-        }
-        Err(_) => return report_fault(alloc, Fault::OutOfMemory, &mut fault_out),
-    };
+    words.map_err(|error| error.kind())
+}
+
+// The program, of these words.
+fn run_words<
+    T: Threads + Wait + Sync + AllocGlobal + fs::Files,
+    R: CountedRead,
+    W: CountedWrite,
+    X: CountedWrite,
+    P: Watch,
+>(rt: &T, words: &[String], input: &mut R, out: &mut W, fault_out: &mut X, watch: &P) -> u8
+    ensures { result ≤ REFUSED }
+{
+    let alloc = rt.alloc();
     let texts: Result<Vec<&str>, AllocError> = words
         .iter()
         .map(|word| word.as_str())
         .collect(alloc);
-    let Ok(texts) = texts else {
-        return report_fault(alloc, Fault::OutOfMemory, &mut fault_out);
-    };
-    let line = ProgressLine::new(rt, fault_out.get_ref().is_terminal());
-    command(
-        rt,
-        alloc,
-        texts.as_slice(),
-        &mut CountedReader::new(input),
-        &mut CountedWriter::new(out),
-        &mut fault_out,
-        &HostFiles { rt },
-        &line,
-    )
+    match texts {
+        Ok(texts) => {
+            let files = HostFiles { rt };
+            command(
+                rt,
+                alloc,
+                texts.as_slice(),
+                input,
+                out,
+                fault_out,
+                &files,
+                watch,
+            )
+        }
+        Err(_) => report_fault(alloc, Fault::OutOfMemory, fault_out),
+    }
 }
 
 // The files of this machine.
@@ -74,14 +98,14 @@ impl<'a, T: fs::Files> Files for HostFiles<'a, T> {
     // No contract says what a file of the machine has.
     ghost known = { λ files path. None };
 
-    fn bytes(&self, alloc: Global, path: &str) -> Result<Vec<u8>, FileFault> {
+    fn bytes(&self, alloc: Global, path: &str) -> Result<Vec<u8>, Fault> {
         let Ok(file) = fs::open(self.rt, path) else {
-            return Err(FileFault::NoFile);
+            return Err(Fault::NoFile);
         };
         match streams::read_all(alloc, &mut CountedReader::new(file), MAX_FILE_BYTES) {
             Ok(bytes) => Ok(bytes),
-            Err(ReadAllFault::OutOfMemory) => Err(FileFault::OutOfMemory),
-            Err(_) => Err(FileFault::NoFile),
+            Err(ReadAllFault::OutOfMemory) => Err(Fault::OutOfMemory),
+            Err(_) => Err(Fault::NoFile),
         }
     }
 }
