@@ -57,11 +57,11 @@ impl fmt::Display for Fault {
         match self {
             Fault::OutOfMemory => f.write_str("OutOfMemory"),
             Fault::Actors => f.write_str("Actors"),
-            Fault::Trace(fault) => write!(f, "{fault}"),
+            Fault::Trace(fault) => fault.fmt(f),
             Fault::JournalFull => f.write_str("JournalFull"),
             Fault::NoFile => f.write_str("NoFile"),
-            Fault::Journal(fault) => write!(f, "{fault}"),
-            Fault::Debug(fault) => write!(f, "{fault}"),
+            Fault::Journal(fault) => fault.fmt(f),
+            Fault::Debug(fault) => fault.fmt(f),
             Fault::Write => f.write_str("Write"),
         }
     }

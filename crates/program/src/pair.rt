@@ -1,11 +1,8 @@
 //! The subcommands `part` and `compare`: a trace to where two policies part, or how often they hit at the same accesses.
-ghost use Rattle.std.specs.Prelude.{◌≡◌, IfErr, IfOk, None};
+ghost use Rattle.std.specs.Prelude.{◌≡◌, IfErr, IfOk};
 ghost use Rattle.command_line.specs.Accepted.{IsAcceptedPart};
 ghost use Rattle.command_line.specs.declared.arguments.Arguments.TheVariants.{Compare, Part};
-ghost use Rattle.streams.specs.Tally.{FailsWhere};
-ghost use Rattle.program.specs.CallFaults.{IsOfRead, IsOfWrite};
-ghost use Rattle.program.specs.FaultCauses.{IsDue};
-ghost use Rattle.program.specs.TraceOutput.{IsText, IsTextOf};
+ghost use Rattle.program.specs.TraceOutput.{IsText};
 
 use crate::fault::{Fault, accepted};
 use command_line::PartArguments;
@@ -13,44 +10,9 @@ use debug_policies::{STRETCH, part_watched, push_comparison, push_part};
 use progress::{Watch, Work};
 use std::alloc::Global;
 use step_record::Trace;
-use streams::CountedRead;
-use trace_read::read_trace;
 
 /// One line: the first access at which just one of the two policies hits, counted from 1, or `none`.
-pub fn part<R: CountedRead, P: Watch>(
-    alloc: Global,
-    arguments: &PartArguments,
-    input: &mut R,
-    watch: &P,
-) -> Result<Vec<u8>, Fault>
-    requires { IsAcceptedPart arguments.now }
-    ensures text { IfOk result (λ text. IsTextOf (Part arguments.now) (R.remaining input.old) text.items) }
-    ensures fault { IfErr result (IsDue (Part arguments.now) (λ path. None) (R.remaining input.old)) }
-    ensures reads { FailsWhere (IsOfRead result) (R.tally input.old) (R.tally input.new) }
-    ensures unwritten { ¬ IsOfWrite result }
-{
-    let trace = read_trace(alloc, input, arguments.format)?;
-    part_trace(alloc, arguments, &trace, watch)
-}
-
-/// A header and a row: at how many accesses both of the two policies hit, only one of them, and neither.
-pub fn compare<R: CountedRead>(
-    alloc: Global,
-    arguments: &PartArguments,
-    input: &mut R,
-) -> Result<Vec<u8>, Fault>
-    requires { IsAcceptedPart arguments.now }
-    ensures text { IfOk result (λ text. IsTextOf (Compare arguments.now) (R.remaining input.old) text.items) }
-    ensures fault { IfErr result (IsDue (Compare arguments.now) (λ path. None) (R.remaining input.old)) }
-    ensures reads { FailsWhere (IsOfRead result) (R.tally input.old) (R.tally input.new) }
-    ensures unwritten { ¬ IsOfWrite result }
-{
-    let trace = read_trace(alloc, input, arguments.format)?;
-    compare_trace(alloc, arguments, &trace)
-}
-
-// The text that `part` is asked for of a trace.
-fn part_trace<P: Watch>(
+pub fn part<P: Watch>(
     alloc: Global,
     arguments: &PartArguments,
     trace: &Trace,
@@ -71,8 +33,8 @@ fn part_trace<P: Watch>(
     Ok(line)
 }
 
-// The text that `compare` is asked for of a trace.
-fn compare_trace(alloc: Global, arguments: &PartArguments, trace: &Trace) -> Result<Vec<u8>, Fault>
+/// A header and a row: at how many accesses both of the two policies hit, only one of them, and neither.
+pub fn compare(alloc: Global, arguments: &PartArguments, trace: &Trace) -> Result<Vec<u8>, Fault>
     requires { IsAcceptedPart arguments.now }
     ensures text { IfOk result (λ text. IsText (Compare arguments.now) trace.now text.items) }
     ensures fault { IfErr result (λ fault. fault ≡ Fault.OutOfMemory) }

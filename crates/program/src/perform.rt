@@ -20,6 +20,7 @@ use std::alloc::Global;
 use std::sync::Wait;
 use std::thread::Threads;
 use streams::{CountedRead, CountedWrite};
+use trace_read::read_trace;
 
 /// Does what the arguments ask for, over an input and an output. `debug` and `replay` read a file too; `run`, `sweep`,
 /// `part` and `drive` are watched.
@@ -35,8 +36,8 @@ pub fn perform<T: Threads + Wait + Sync, R: CountedRead, W: CountedWrite, F: Fil
     requires { AreAccepted arguments.now }
     ensures done { OnOk result (IsDone arguments.now (F.known files.now) (R.remaining input.old) (W.contents out.old)
         (W.contents out.new)) }
-    ensures leaves { IfErr result (λ fault. Leaves arguments.now (F.known files.now) fault (R.remaining input.old) (W.contents out.old)
-        (W.contents out.new) (out.new ≡ out.old)) }
+    ensures leaves { IfErr result (λ fault. Leaves arguments.now (F.known files.now) fault (R.remaining input.old)
+        (W.contents out.old) (W.contents out.new) (out.new ≡ out.old)) }
     ensures fault { IfErr result (IsDue arguments.now (F.known files.now) (R.remaining input.old)) }
     ensures reads { FailsWhere (IsOfRead result) (R.tally input.old) (R.tally input.new) }
     ensures writes { FailsWhere (IsOfWrite result) (W.tally out.old) (W.tally out.new) }
@@ -44,10 +45,22 @@ pub fn perform<T: Threads + Wait + Sync, R: CountedRead, W: CountedWrite, F: Fil
 {
     match arguments {
         Arguments::Run(arguments) => write_text(run(rt, alloc, arguments, input, watch), out),
-        Arguments::Sweep(arguments) => write_text(sweep(rt, alloc, arguments, input, watch), out),
-        Arguments::Intervals(arguments) => write_text(intervals(rt, alloc, arguments, input), out),
-        Arguments::Part(arguments) => write_text(part(alloc, arguments, input, watch), out),
-        Arguments::Compare(arguments) => write_text(compare(alloc, arguments, input), out),
+        Arguments::Sweep(arguments) => {
+            let trace = read_trace(alloc, input, arguments.format)?;
+            write_text(sweep(rt, alloc, arguments, &trace, watch), out)
+        }
+        Arguments::Intervals(arguments) => {
+            let trace = read_trace(alloc, input, arguments.format)?;
+            write_text(intervals(rt, alloc, arguments, &trace), out)
+        }
+        Arguments::Part(arguments) => {
+            let trace = read_trace(alloc, input, arguments.format)?;
+            write_text(part(alloc, arguments, &trace, watch), out)
+        }
+        Arguments::Compare(arguments) => {
+            let trace = read_trace(alloc, input, arguments.format)?;
+            write_text(compare(alloc, arguments, &trace), out)
+        }
         Arguments::Drive(arguments) => drive(rt, alloc, arguments, input, out, watch),
         Arguments::Debug(arguments) => debug(alloc, arguments, input, out, files),
         Arguments::Replay(arguments) => replay(alloc, arguments, input, out, files),

@@ -44,39 +44,44 @@ pub fn run<T: Threads + Wait + Sync, R: CountedRead, P: Watch>(
 
 /// The reports of the policies that the arguments name at each of the capacities, as text: those of the first policy in
 /// the order of the capacities, then those of the second, and so on.
-pub fn sweep<T: Threads + Sync, R: CountedRead, P: Watch>(
+pub fn sweep<T: Threads + Sync, P: Watch>(
     rt: &T,
     alloc: Global,
     arguments: &SweepArguments,
-    input: &mut R,
+    trace: &Trace,
     watch: &P,
 ) -> Result<Vec<u8>, Fault>
     requires { IsAcceptedSweep arguments.now }
-    ensures text { IfOk result (λ text. IsTextOf (Sweep arguments.now) (R.remaining input.old) text.items) }
-    ensures fault { IfErr result (IsDue (Sweep arguments.now) (λ path. None) (R.remaining input.old)) }
-    ensures reads { FailsWhere (IsOfRead result) (R.tally input.old) (R.tally input.new) }
-    ensures unwritten { ¬ IsOfWrite result }
+    ensures text { IfOk result (λ text. IsText (Sweep arguments.now) trace.now text.items) }
+    ensures fault { IfErr result (λ fault. (fault ≡ Fault.OutOfMemory) ⊎ IsTooMany arguments.now.policies fault) }
 {
-    let trace = read_trace(alloc, input, arguments.format)?;
-    sweep_trace(rt, alloc, arguments, &trace, watch)
+    let jobs = few_jobs(alloc, arguments.config, &arguments.policies)?;
+    let capacities = arguments.capacities.as_slice();
+    watch.begin(Work {
+        name: "sweep",
+        batches: Some(sweep_batches(trace, jobs.as_slice(), capacities)),
+    });
+    let reports = sweep_each(rt, alloc, trace, jobs.as_slice(), capacities, watch);
+    watch.end();
+    Ok(reports_text(alloc, accepted(reports)?.as_slice())?)
 }
 
 /// The rows of the policies that the arguments name, one for each interval, as text: all of the first policy, then those
 /// of the second, and so on.
-pub fn intervals<T: Threads + Sync, R: CountedRead>(
+pub fn intervals<T: Threads + Sync>(
     rt: &T,
     alloc: Global,
     arguments: &IntervalsArguments,
-    input: &mut R,
+    trace: &Trace,
 ) -> Result<Vec<u8>, Fault>
     requires { AreAcceptedIntervals arguments.now }
-    ensures text { IfOk result (λ text. IsTextOf (Intervals arguments.now) (R.remaining input.old) text.items) }
-    ensures fault { IfErr result (IsDue (Intervals arguments.now) (λ path. None) (R.remaining input.old)) }
-    ensures reads { FailsWhere (IsOfRead result) (R.tally input.old) (R.tally input.new) }
-    ensures unwritten { ¬ IsOfWrite result }
+    ensures text { IfOk result (λ text. IsText (Intervals arguments.now) trace.now text.items) }
+    ensures fault { IfErr result (λ fault. (fault ≡ Fault.OutOfMemory) ⊎ IsTooMany arguments.now.policies fault) }
 {
-    let trace = read_trace(alloc, input, arguments.format)?;
-    cut_trace(rt, alloc, arguments, &trace)
+    let jobs = few_jobs(alloc, arguments.config, &arguments.policies)?;
+    let every = arguments.every as usize;
+    let rows = intervals::intervals(rt, alloc, trace, jobs.as_slice(), every);
+    Ok(intervals_text(alloc, accepted(rows)?.as_slice())?)
 }
 
 // A job for each policy, in order, all on one configuration. The one error is out of memory.
@@ -135,44 +140,4 @@ fn run_jobs<T: Threads + Wait + Sync, R: CountedRead, P: Watch>(
     let reports = run_reading(rt, alloc, input, format, jobs, arguments.batch, watch);
     watch.end();
     Ok(reports?)
-}
-
-// The text that `sweep` is asked for of a trace.
-fn sweep_trace<T: Threads + Sync, P: Watch>(
-    rt: &T,
-    alloc: Global,
-    arguments: &SweepArguments,
-    trace: &Trace,
-    watch: &P,
-) -> Result<Vec<u8>, Fault>
-    requires { IsAcceptedSweep arguments.now }
-    ensures text { IfOk result (λ text. IsText (Sweep arguments.now) trace.now text.items) }
-    ensures fault { IfErr result (λ fault. (fault ≡ Fault.OutOfMemory) ⊎ IsTooMany arguments.now.policies fault) }
-{
-    let jobs = few_jobs(alloc, arguments.config, &arguments.policies)?;
-    let capacities = arguments.capacities.as_slice();
-    watch.begin(Work {
-        name: "sweep",
-        batches: Some(sweep_batches(trace, jobs.as_slice(), capacities)),
-    });
-    let reports = sweep_each(rt, alloc, trace, jobs.as_slice(), capacities, watch);
-    watch.end();
-    Ok(reports_text(alloc, accepted(reports)?.as_slice())?)
-}
-
-// The text that `intervals` is asked for of a trace.
-fn cut_trace<T: Threads + Sync>(
-    rt: &T,
-    alloc: Global,
-    arguments: &IntervalsArguments,
-    trace: &Trace,
-) -> Result<Vec<u8>, Fault>
-    requires { AreAcceptedIntervals arguments.now }
-    ensures text { IfOk result (λ text. IsText (Intervals arguments.now) trace.now text.items) }
-    ensures fault { IfErr result (λ fault. (fault ≡ Fault.OutOfMemory) ⊎ IsTooMany arguments.now.policies fault) }
-{
-    let jobs = few_jobs(alloc, arguments.config, &arguments.policies)?;
-    let every = arguments.every as usize;
-    let rows = intervals::intervals(rt, alloc, trace, jobs.as_slice(), every);
-    Ok(intervals_text(alloc, accepted(rows)?.as_slice())?)
 }
