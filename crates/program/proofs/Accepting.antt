@@ -1,10 +1,9 @@
 -- Configurations that are accepted give no fault of jobs.
 use Rattle.std.proofs.Common.{◌≡◌, ◌≤◌, ◌+◌, refl, Bool, true, false, ℕ, List, [], ◌∷◌, length, map, subst, Option, None, Result, Ok, Err}
 use Rattle.std.specs.List.{AllPass}
-use Rattle.std.specs.Prelude.{if◌then◌else◌}
+use Rattle.std.specs.Prelude.{IfErr, if◌then◌else◌}
 use Rattle.std.proofs.lemmas.List.Elements.{All-head, All-tail}
 use Rattle.std.proofs.lemmas.Bool.{le-leb}
-use Rattle.std.proofs.lemmas.Result.{IfErr-at_err}
 use Rattle.step_record.specs.Config.{config_fault, is_from_one}
 use Rattle.step_record.specs.declared.config.Config.{Config}
 use Rattle.step_record.specs.declared.job.Job.{Job}
@@ -73,5 +72,5 @@ pub pair_accepted : (part : PartArguments) → IsAcceptedPart part → faulty_in
 pair_accepted part accepted = rw (accepted.first, accepted.second) refl
 
 -- where no fault is due, the one that came is out of memory
-pub memory_alone : {A : Type 0} (due : Option ActorFault) (r : Result A ActorFault) (f : ActorFault) → due ≡ None → ReturnsFault due r → r ≡ Err f → f ≡ OutOfMemory
-memory_alone due r f none h is = IfErr-at_err (λ e. e ≡ OutOfMemory) is (subst (λ (d : Option ActorFault). ReturnsFault d r) none h)
+pub memory_alone : {A : Type 0} (due : Option ActorFault) (r : Result A ActorFault) → due ≡ None → ReturnsFault due r → IfErr r (λ f. f ≡ OutOfMemory)
+memory_alone due r none h = subst (λ (d : Option ActorFault). ReturnsFault d r) none h

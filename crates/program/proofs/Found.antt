@@ -10,7 +10,7 @@ use Rattle.debug_commands.specs.declared.fault.DebugFault.{DebugFault}
 use Rattle.debug_commands.specs.declared.fault.DebugFault.TheVariants as debug
 use Rattle.debug_commands.specs.declared.dialogue.TheConstants.{MAX_COMMAND_BYTES}
 use Rattle.program.specs.Fault.{of_debug}
-use Rattle.program.specs.FaultCauses.{IsFoundInFile, IsOfMachine, IsOfReplay, IsOfReplayFrom}
+use Rattle.program.specs.FaultCauses.{IsFoundInFile, IsOfMachine, IsOfReplay, IsOfReplayFrom, LeavesAnswers}
 use Rattle.program.specs.declared.fault.Fault.{Fault}
 use Rattle.program.specs.declared.fault.Fault.TheVariants as fault
 
@@ -49,3 +49,11 @@ of_dialogue Q commands debug.Read large none past = inl tt
 of_dialogue Q commands debug.Write large none past = inl tt
 of_dialogue Q commands debug.TooLarge large none past = inr (large (past refl))
 of_dialogue Q commands (debug.Config i) large none past = absurd (none i refl)
+
+-- what a debugger leaves at a fault
+pub answers_left : (Answered Kept : Type 0) (e : DebugFault) → (e ≡ debug.TooLarge → Answered) → LeavesAnswers Answered (of_debug e) Kept
+answers_left Answered Kept debug.OutOfMemory large = λ before. absurd before
+answers_left Answered Kept debug.Read large = λ before. absurd before
+answers_left Answered Kept debug.Write large = λ before. absurd before
+answers_left Answered Kept debug.TooLarge large = large refl
+answers_left Answered Kept (debug.Config i) large = λ before. absurd before

@@ -7,12 +7,12 @@ use Rattle.step_record.specs.declared.step.Reply.{Reply}
 use Rattle.step_record.specs.declared.step.Step.{Step}
 use Rattle.step_record.specs.History.{Entries}
 use Rattle.shell_model.specs.Shell.{Shell, act}
-use Rattle.maintenance.specs.EmptyShell.{IsOpened}
 use Rattle.journal.specs.Session.{SessionState}
 use Rattle.journal_text.specs.Journal.{IsJournalText}
 use Rattle.debug_commands.specs.Dialogue.{dialogue_of, WritesDialogue}
 use Rattle.debug_replay.specs.Replay.{replay_timeline}
-use Rattle.program.specs.DebugOutput.{Answering, IsReplayed, IsReplayedFrom}
+use Rattle.program.specs.DebugOutput.{Answering, IsReplayed}
+use Rattle.program.specs.DriveOutput.{IsEmptySession}
 
 abbrev State : Type 0
 State = SessionState Shell Shell Step Reply
@@ -24,23 +24,17 @@ answering all opening steps more at position None before after e h = tt
 answering all opening steps more at position (Some commands) before after e h =
     (position, subst (λ es. WritesDialogue (dialogue_of (replay_timeline opening es) at commands) all before after position) e h)
 
--- what a session holds that read the journal and answered the commands
-pub replayed_from : (all : Bool) (journal : List ℕ) (input before after : Option (List ℕ)) (first now : State) (position : ℕ)
-    → IsJournalText act first.opening first.limit journal now.kept → now.opening ≡ first.opening → now.tail ≡ []
+-- what a session of an empty cache holds that read the journal and answered the commands
+pub replayed : (all : Bool) (config : Config) (journal : List ℕ) (input before after : Option (List ℕ)) (first now : State) (position : ℕ)
+    → IsEmptySession config first → IsJournalText act first.opening first.limit journal now.kept → now.opening ≡ first.opening → now.tail ≡ []
     → IfSome input (λ commands. WritesDialogue (dialogue_of (replay_timeline now.opening (now.kept ++ now.tail)) (length now.kept) commands) all before after position)
-    → IsReplayedFrom all first.opening first.limit journal input before after
-replayed_from all journal input before after first now position read same none h = record {
+    → IsReplayed all config journal input before after
+replayed all config journal input before after first now position empty read same none h = record {
+  opening = first.opening;
+  opened = empty.opened;
   steps = now.kept;
-  journal = read;
+  journal = subst (λ l. IsJournalText act first.opening l journal now.kept) empty.limit read;
   answers = subst (λ o. Answering all (replay_timeline o now.kept) (length now.kept) input before after) same
       (answering all now.opening now.kept (now.kept ++ now.tail) (length now.kept) position input before after
       (ap (λ t. now.kept ++ t) none ∙ append-nil now.kept) h);
-}
-
-pub replayed : {all : Bool} {config : Config} {text : List ℕ} {input before after : Option (List ℕ)} {opening : Shell} {limit : ℕ} → IsOpened config opening
-    → limit ≡ config.journal_limit → IsReplayedFrom all opening limit text input before after → IsReplayed all config text input before after
-replayed {all = all} {text = text} {input = input} {before = before} {after = after} {opening = opening} opened same h = record {
-  opening = opening;
-  opened = opened;
-  replayed = subst (λ l. IsReplayedFrom all opening l text input before after) same h;
 }

@@ -30,17 +30,14 @@ abbrev pub Debugging : Bool → Format → Job → Job → Option (List ℕ) →
 Debugging all format first second file input before after =
     IfFaultless format file (λ keys. Answering all (policies_timeline keys first second) 0 input before after)
 
--- the bytes are a journal of steps from the opening state on, and the answers are about them, all of them made at first
-pub record IsReplayedFrom (all : Bool) (opening : Shell) (limit : ℕ) (bytes : List ℕ) (input before after : Option (List ℕ)) : Type 0 where
-  pub steps : Entries
-  pub journal : IsJournalText act opening limit bytes steps
-  pub answers : Answering all (replay_timeline opening steps) (length steps) input before after
-
--- so it is for the bytes of the file, from the empty cache of the configuration on
+-- the bytes are a journal of steps from the empty cache of the configuration on, and the answers are about them, all of
+-- them made at first
 pub record IsReplayed (all : Bool) (config : Config) (bytes : List ℕ) (input before after : Option (List ℕ)) : Type 0 where
   pub opening : Shell
   pub opened : IsOpened config opening
-  pub replayed : IsReplayedFrom all opening config.journal_limit bytes input before after
+  pub steps : Entries
+  pub journal : IsJournalText act opening config.journal_limit bytes steps
+  pub answers : Answering all (replay_timeline opening steps) (length steps) input before after
 
 abbrev pub Replaying : Bool → Config → Option (List ℕ) → Option (List ℕ) → Option (List ℕ) → Option (List ℕ) → Type 0
 Replaying all config file input before after = IfSome file (λ bytes. IsReplayed all config bytes input before after)

@@ -26,6 +26,8 @@ pub record IsEmptySession (config : Config) (session : SessionState Shell Shell 
   pub opened : IsOpened config session.opening
   pub same : session.engine ≡ session.opening
   pub none : session.kept ≡ []
+  pub undone : session.tail ≡ []
+  pub limit : session.limit ≡ config.journal_limit
 
 -- The bytes read have no fault, and those written are the journal of steps that the cache of the configuration accepts
 -- one after another, each with its reply, from the empty state on. `Walks` holds of the accesses in the bytes read and of

@@ -72,7 +72,7 @@ abbrev pub IsFoundInFile : Option (List ℕ) → (Fault → List ℕ → Type 0)
 IsFoundInFile file P NoFile = file ≡ None
 IsFoundInFile file P fault = IfSome file (P fault)
 
--- the call of these arguments finds the fault in the bytes of the input or of its file
+-- the call of these arguments finds the fault in the bytes of the input or of its file, or in the arguments
 abbrev pub IsFound : Arguments → KnownFiles → Option (List ℕ) → Fault → Type 0
 IsFound (asked.Run run) files input fault = IfSome input (IsFoundIn run.format (IsTooMany run.policies) fault)
 IsFound (asked.Sweep sweep) files input fault = IfSome input (IsFoundIn sweep.format (IsTooMany sweep.policies) fault)
@@ -86,6 +86,10 @@ IsFound (asked.Debug debug) files input fault = IsFoundInFile (files debug.trace
 IsFound (asked.Replay replay) files input fault =
     IsFoundInFile (files replay.journal) (IsOfReplay replay.config input) fault
 
+-- the fault is one of the machine, or found by the call of these arguments
+abbrev pub IsDue : Arguments → KnownFiles → Option (List ℕ) → Fault → Type 0
+IsDue arguments files input fault = IsOfMachine fault ⊎ IsFound arguments files input fault
+
 -- faults that are found before anything is written
 abbrev pub IsBeforeOutput : Fault → Type 0
 IsBeforeOutput OutOfMemory = ⊥
@@ -93,25 +97,26 @@ IsBeforeOutput (Debug fault) = ⊥
 IsBeforeOutput Write = ⊥
 IsBeforeOutput fault = Unit {0}
 
--- What is left at this fault of the arguments' subcommand; `Kept` says that the output is as it was. `run`, `sweep`,
--- `intervals`, `part` and `compare` write once, at their end; `debug` and `replay` have answered the commands before a
--- line that is too large.
+-- What `debug` and `replay` leave at this fault, where `Answered` says that the commands before a line that is too large
+-- are answered, and `Kept` that the output is as it was.
+abbrev pub LeavesAnswers : Type 0 → Fault → Type 0 → Type 0
+LeavesAnswers Answered (Debug large.TooLarge) Kept = Answered
+LeavesAnswers Answered fault Kept = IsBeforeOutput fault → Kept
+
+-- What is left at this fault of the arguments' subcommand. Those that ask for a text write once, at their end.
 abbrev pub Leaves : Arguments → KnownFiles → Fault → Option (List ℕ) → Option (List ℕ) → Option (List ℕ) → Type 0 → Type 0
 Leaves (asked.Drive drive) files fault input before after Kept =
     LeavesDrive drive.config drive.workers drive.format fault input before after Kept
-Leaves (asked.Debug debug) files (Debug large.TooLarge) input before after Kept = Debugging false debug.policies.format
-    debug.policies.first debug.policies.second (files debug.trace) input before after
-Leaves (asked.Replay replay) files (Debug large.TooLarge) input before after Kept =
-    Replaying false replay.config (files replay.journal) input before after
-Leaves (asked.Debug debug) files fault input before after Kept = IsBeforeOutput fault → Kept
-Leaves (asked.Replay replay) files fault input before after Kept = IsBeforeOutput fault → Kept
+Leaves (asked.Debug debug) files fault input before after Kept = LeavesAnswers (Debugging false debug.policies.format
+    debug.policies.first debug.policies.second (files debug.trace) input before after) fault Kept
+Leaves (asked.Replay replay) files fault input before after Kept =
+    LeavesAnswers (Replaying false replay.config (files replay.journal) input before after) fault Kept
 Leaves arguments files fault input before after Kept = fault ≢ Write → Kept
 
--- What these arguments ask for ended in the fault: one of the machine, or one that is found in the input, the file or
--- the arguments.
+-- what these arguments ask for ended in the fault
 pub record IsEnded (arguments : Arguments) (files : KnownFiles) (fault : Fault) (input before after : Option (List ℕ))
     (Kept : Type 0) : Type 0 where
-  pub due : IsOfMachine fault ⊎ IsFound arguments files input fault
+  pub due : IsDue arguments files input fault
   pub leaves : Leaves arguments files fault input before after Kept
 
 -- The call ended in the fault before it asked for anything: memory did not suffice, or help was not written whole.

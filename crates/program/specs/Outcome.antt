@@ -1,5 +1,6 @@
 -- What the program has done at its end, by status.
 use Rattle.std.specs.Prelude.{◌≡◌, ◌⊎◌, ℕ, true, List, Option, Ok, Err}
+use Rattle.std.specs.Io.KnownBytes.{Appends}
 use Rattle.clap.specs.Words.{IsAmong, Kinds, Text}
 use Rattle.clap.specs.declared.error.ErrorKind.{ErrorKind}
 use Rattle.clap.specs.declared.error.ErrorKind.TheVariants.{DisplayHelp, DisplayVersion}
@@ -7,31 +8,22 @@ use Rattle.command_line.specs.ParseResult.{AsksFor, IsRefused}
 use Rattle.command_line.specs.declared.arguments.Arguments.{Arguments}
 use Rattle.command_line.specs.declared.arguments.Arguments.TheVariants as asked
 use Rattle.command_line.specs.declared.fault.ParseFault.{ParseFault}
-use Rattle.sweeps.specs.Sweep.{jobs_over}
 use Rattle.program.specs.DebugOutput.{Debugging, KnownFiles, Replaying}
 use Rattle.program.specs.DriveOutput.{IsDriven}
-use Rattle.program.specs.TraceOutput.{Comparing, IntervalRows, jobs_by_policy, Parting, Reports}
+use Rattle.program.specs.TraceOutput.{IsTextOf}
 
--- What these arguments ask for is done: `run` and `sweep` have written the report of each policy, at each capacity;
--- `intervals` the rows of each policy; `part` where the two policies part; `compare` what is counted of both; `drive`
--- the journal of its workers' walks in an empty cache; `debug` and `replay` have answered the commands of the input
--- about the trace or the journal of the file.
+-- What these arguments ask for is done: `drive` has written the journal of its workers' walks in an empty cache; `debug`
+-- and `replay` have answered the commands of the input about the trace or the journal of the file; and each other has
+-- written the text that it asks for.
 abbrev pub IsDone : Arguments → KnownFiles → Option (List ℕ) → Option (List ℕ) → Option (List ℕ) → Type 0
-IsDone (asked.Run run) files input before after =
-    Reports run.format (jobs_by_policy run.config run.policies) input before after
-IsDone (asked.Sweep sweep) files input before after =
-    Reports sweep.format (jobs_over (jobs_by_policy sweep.config sweep.policies) sweep.capacities) input before after
-IsDone (asked.Intervals intervals) files input before after = IntervalRows intervals.format intervals.every
-    (jobs_by_policy intervals.config intervals.policies) input before after
-IsDone (asked.Part part) files input before after = Parting part.format part.first part.second input before after
-IsDone (asked.Compare compare) files input before after =
-    Comparing compare.format compare.first compare.second input before after
 IsDone (asked.Drive drive) files input before after =
     IsDriven drive.config drive.workers drive.format input before after
 IsDone (asked.Debug debug) files input before after = Debugging true debug.policies.format debug.policies.first
     debug.policies.second (files debug.trace) input before after
 IsDone (asked.Replay replay) files input before after =
     Replaying true replay.config (files replay.journal) input before after
+IsDone arguments files input before after =
+    (text : List ℕ) × IsTextOf arguments input text × Appends before after text
 
 -- the words ask for these arguments, and P holds of them
 abbrev pub AsksForSome : List Text → (Arguments → Type 0) → Type 0

@@ -1,9 +1,11 @@
--- What the subcommands write that read a trace and write once: `run` and `sweep`, `intervals`, `part` and `compare`.
+-- What the subcommands write that read a trace and write a text: `run` and `sweep`, `intervals`, `part` and `compare`.
 use Rattle.std.specs.Prelude.{◌≡◌, ℕ, List, Option, None, IfSome, flat_map, map}
-use Rattle.std.specs.Io.KnownBytes.{Appends}
 use Rattle.step_record.specs.declared.config.Config.{Config}
 use Rattle.step_record.specs.declared.job.Job.{Job}
 use Rattle.step_record.specs.declared.job.Policy.{Policy}
+use Rattle.command_line.specs.declared.arguments.Arguments.{Arguments}
+use Rattle.command_line.specs.declared.arguments.Arguments.TheVariants as asked
+use Rattle.sweeps.specs.Sweep.{jobs_over}
 use Rattle.trace_read.specs.TraceText.{fault_in, keys_in}
 use Rattle.trace_read.specs.declared.format.Format.{Format}
 use Rattle.policies.specs.AnyPolicy.{outcomes_on}
@@ -32,22 +34,29 @@ rows_on every jobs keys = flat_map (λ job. intervals_on job every keys) jobs
 abbrev pub IfFaultless : Format → Option (List ℕ) → (List ℕ → Type 0) → Type 0
 IfFaultless format input P = IfSome input (λ bytes. (fault_in format bytes ≡ None) × P (keys_in format bytes))
 
--- so it is, and the bytes written are the text of the jobs' reports,
-abbrev pub Reports : Format → List Job → Option (List ℕ) → Option (List ℕ) → Option (List ℕ) → Type 0
-Reports format jobs input before after =
-    IfFaultless format input (λ keys. Appends before after (reports_text (reports_on jobs keys)))
+-- The text that these arguments ask for, over the accesses: of `run` and `sweep` the report of each policy, at each
+-- capacity; of `intervals` the rows of each policy; of `part` the line of the access at which the two policies part; of
+-- `compare` the header and the row of what is counted of both.
+abbrev pub IsText : Arguments → List ℕ → List ℕ → Type 0
+IsText (asked.Run run) keys text = text ≡ reports_text (reports_on (jobs_by_policy run.config run.policies) keys)
+IsText (asked.Sweep sweep) keys text =
+    text ≡ reports_text (reports_on (jobs_over (jobs_by_policy sweep.config sweep.policies) sweep.capacities) keys)
+IsText (asked.Intervals intervals) keys text =
+    text ≡ intervals_text (rows_on intervals.every (jobs_by_policy intervals.config intervals.policies) keys)
+IsText (asked.Part part) keys text = (found : Option ℕ)
+    × IsPart (outcomes_on part.first keys) (outcomes_on part.second keys) found × (text ≡ part_line found)
+IsText (asked.Compare pair) keys text =
+    text ≡ comparison_text pair.first pair.second (compared_on pair.first pair.second keys)
+IsText arguments keys text = ⊥
 
--- of the jobs' rows,
-abbrev pub IntervalRows : Format → ℕ → List Job → Option (List ℕ) → Option (List ℕ) → Option (List ℕ) → Type 0
-IntervalRows format every jobs input before after =
-    IfFaultless format input (λ keys. Appends before after (intervals_text (rows_on every jobs keys)))
-
--- the line of the access at which the two jobs part,
-abbrev pub Parting : Format → Job → Job → Option (List ℕ) → Option (List ℕ) → Option (List ℕ) → Type 0
-Parting format first second input before after = IfFaultless format input (λ keys. (found : Option ℕ)
-    × IsPart (outcomes_on first keys) (outcomes_on second keys) found × Appends before after (part_line found))
-
--- or the header and the row of what is counted of the two jobs
-abbrev pub Comparing : Format → Job → Job → Option (List ℕ) → Option (List ℕ) → Option (List ℕ) → Type 0
-Comparing format first second input before after = IfFaultless format input
-    (λ keys. Appends before after (comparison_text first second (compared_on first second keys)))
+-- so it is of the bytes of a trace, which have no fault
+abbrev pub IsTextOf : Arguments → Option (List ℕ) → List ℕ → Type 0
+IsTextOf (asked.Run run) input text = IfFaultless run.format input (λ keys. IsText (asked.Run run) keys text)
+IsTextOf (asked.Sweep sweep) input text =
+    IfFaultless sweep.format input (λ keys. IsText (asked.Sweep sweep) keys text)
+IsTextOf (asked.Intervals intervals) input text =
+    IfFaultless intervals.format input (λ keys. IsText (asked.Intervals intervals) keys text)
+IsTextOf (asked.Part part) input text = IfFaultless part.format input (λ keys. IsText (asked.Part part) keys text)
+IsTextOf (asked.Compare pair) input text =
+    IfFaultless pair.format input (λ keys. IsText (asked.Compare pair) keys text)
+IsTextOf arguments input text = ⊥

@@ -1,18 +1,18 @@
 //! The subcommands `debug` and `replay`: commands on the input, about what a file has.
-ghost use Rattle.std.specs.Prelude.{◌≡◌, ◌⊎◌, true, false, [], IfErr, Ok, Err, OnOk};
+ghost use Rattle.std.specs.Prelude.{◌≡◌, true, IfErr, Ok, OnOk};
 ghost use Rattle.command_line.specs.Accepted.{IsAcceptedPart};
+ghost use Rattle.command_line.specs.declared.arguments.Arguments.TheVariants.{Debug, Replay};
 ghost use Rattle.step_record.specs.Config.{config_fault};
 ghost use Rattle.streams.specs.Tally.{FailsWhere};
 ghost use Rattle.program.specs.CallFaults.{IsOfRead, IsOfWrite};
-ghost use Rattle.program.specs.DebugOutput.{Debugging, IsReplayedFrom, Replaying};
-ghost use Rattle.program.specs.FaultCauses.{IsBeforeOutput, IsFoundIn, IsFoundInFile, IsOfCommands, IsOfMachine};
-ghost use Rattle.program.specs.FaultCauses.{IsOfReplay, IsOfReplayFrom};
+ghost use Rattle.program.specs.DriveOutput.{IsEmptySession};
+ghost use Rattle.program.specs.FaultCauses.{IsDue, Leaves};
+ghost use Rattle.program.specs.Outcome.{IsDone};
 
 use crate::drive::open;
 use crate::fault::Fault;
 use crate::files::Files;
 use command_line::{DebugArguments, ReplayArguments};
-use debug_commands::DebugFault;
 use debug_policies::run_debug;
 use debug_replay::run_replay;
 use journal::Session;
@@ -32,18 +32,11 @@ pub fn debug<R: CountedRead, W: CountedWrite, F: Files>(
     files: &F,
 ) -> Result<(), Fault>
     requires { IsAcceptedPart arguments.now.policies }
-    ensures ok { OnOk result (Debugging true arguments.now.policies.format arguments.now.policies.first
-        arguments.now.policies.second (F.known files.now arguments.now.trace)
-        (R.remaining input.old) (W.contents out.old) (W.contents out.new)) }
-    ensures kept { IfErr result (λ fault. IsBeforeOutput fault → out.new ≡ out.old) }
-    // The commands before a line that is too large are answered.
-    ensures large { result ≡ Err (Fault.Debug DebugFault.TooLarge) → Debugging false arguments.now.policies.format
-        arguments.now.policies.first arguments.now.policies.second (F.known files.now arguments.now.trace)
-        (R.remaining input.old) (W.contents out.old) (W.contents out.new) }
-    // The fault is one of the machine, or that of the file's trace, or else that of the commands.
-    ensures fault { IfErr result (λ fault. IsOfMachine fault
-        ⊎ IsFoundInFile (F.known files.now arguments.now.trace)
-        (IsFoundIn arguments.now.policies.format (IsOfCommands (R.remaining input.old))) fault) }
+    ensures done { OnOk result (IsDone (Debug arguments.now) (F.known files.now) (R.remaining input.old)
+        (W.contents out.old) (W.contents out.new)) }
+    ensures leaves { IfErr result (λ fault. Leaves (Debug arguments.now) (F.known files.now) fault (R.remaining input.old)
+        (W.contents out.old) (W.contents out.new) (out.new ≡ out.old)) }
+    ensures fault { IfErr result (IsDue (Debug arguments.now) (F.known files.now) (R.remaining input.old)) }
     ensures reads { FailsWhere (IsOfRead result) (R.tally input.old) (R.tally input.new) }
     ensures writes { FailsWhere (IsOfWrite result) (W.tally out.old) (W.tally out.new) }
     ensures flushed { OnOk result (W.is_flushed out.new ≡ true) }
@@ -65,46 +58,40 @@ pub fn replay<R: CountedRead, W: CountedWrite, F: Files>(
     files: &F,
 ) -> Result<(), Fault>
     requires { config_fault arguments.now.config ≡ Ok tt }
-    ensures ok { OnOk result (Replaying true arguments.now.config (F.known files.now arguments.now.journal)
-        (R.remaining input.old) (W.contents out.old) (W.contents out.new)) }
-    ensures kept { IfErr result (λ fault. IsBeforeOutput fault → out.new ≡ out.old) }
-    ensures large { result ≡ Err (Fault.Debug DebugFault.TooLarge) → Replaying false arguments.now.config
-        (F.known files.now arguments.now.journal) (R.remaining input.old) (W.contents out.old) (W.contents out.new) }
-    // The fault is one of the machine, or that of the file's journal, or else that of the commands.
-    ensures fault { IfErr result (λ fault. IsOfMachine fault
-        ⊎ IsFoundInFile (F.known files.now arguments.now.journal)
-        (IsOfReplay arguments.now.config (R.remaining input.old)) fault) }
+    ensures done { OnOk result (IsDone (Replay arguments.now) (F.known files.now) (R.remaining input.old)
+        (W.contents out.old) (W.contents out.new)) }
+    ensures leaves { IfErr result (λ fault. Leaves (Replay arguments.now) (F.known files.now) fault (R.remaining input.old)
+        (W.contents out.old) (W.contents out.new) (out.new ≡ out.old)) }
+    ensures fault { IfErr result (IsDue (Replay arguments.now) (F.known files.now) (R.remaining input.old)) }
+    ensures reads { FailsWhere (IsOfRead result) (R.tally input.old) (R.tally input.new) }
+    ensures writes { FailsWhere (IsOfWrite result) (W.tally out.old) (W.tally out.new) }
+    ensures flushed { OnOk result (W.is_flushed out.new ≡ true) }
+{
+    let mut session = open(alloc, &arguments.config)?;
+    replay_in(alloc, arguments, &mut session, input, out, files)
+}
+
+// The same in a session of an empty cache.
+fn replay_in<R: CountedRead, W: CountedWrite, F: Files>(
+    alloc: Global,
+    arguments: &ReplayArguments,
+    session: &mut Session<Shell>,
+    input: &mut R,
+    out: &mut W,
+    files: &F,
+) -> Result<(), Fault>
+    requires { IsEmptySession arguments.now.config session.old }
+    ensures done { OnOk result (IsDone (Replay arguments.now) (F.known files.now) (R.remaining input.old)
+        (W.contents out.old) (W.contents out.new)) }
+    ensures leaves { IfErr result (λ fault. Leaves (Replay arguments.now) (F.known files.now) fault (R.remaining input.old)
+        (W.contents out.old) (W.contents out.new) (out.new ≡ out.old)) }
+    ensures fault { IfErr result (IsDue (Replay arguments.now) (F.known files.now) (R.remaining input.old)) }
     ensures reads { FailsWhere (IsOfRead result) (R.tally input.old) (R.tally input.new) }
     ensures writes { FailsWhere (IsOfWrite result) (W.tally out.old) (W.tally out.new) }
     ensures flushed { OnOk result (W.is_flushed out.new ≡ true) }
 {
     let bytes = files.bytes(alloc, arguments.journal.as_str())?;
-    let mut session = open(alloc, &arguments.config)?;
-    replay_in(alloc, &mut session, bytes.as_slice(), input, out)
-}
-
-// Reads the journal into a session of no step, and answers the commands of the input about it.
-fn replay_in<R: CountedRead, W: CountedWrite>(
-    alloc: Global,
-    session: &mut Session<Shell>,
-    mut journal: &[u8],
-    input: &mut R,
-    out: &mut W,
-) -> Result<(), Fault>
-    requires kept { session.old.kept ≡ [] }
-    requires tail { session.old.tail ≡ [] }
-    ensures ok { OnOk result (IsReplayedFrom true session.old.opening session.old.limit journal.entry.now
-        (R.remaining input.old) (W.contents out.old) (W.contents out.new)) }
-    ensures kept { IfErr result (λ fault. IsBeforeOutput fault → out.new ≡ out.old) }
-    ensures large { result ≡ Err (Fault.Debug DebugFault.TooLarge) → IsReplayedFrom false session.old.opening
-        session.old.limit journal.entry.now (R.remaining input.old) (W.contents out.old) (W.contents out.new) }
-    ensures fault { IfErr result (λ fault. IsOfMachine fault
-        ⊎ IsOfReplayFrom session.old.opening session.old.limit (R.remaining input.old) fault journal.entry.now) }
-    ensures reads { FailsWhere (IsOfRead result) (R.tally input.old) (R.tally input.new) }
-    ensures writes { FailsWhere (IsOfWrite result) (W.tally out.old) (W.tally out.new) }
-    ensures flushed { OnOk result (W.is_flushed out.new ≡ true) }
-{
-    read_journal(alloc, &mut journal, session)?;
+    read_journal(alloc, &mut bytes.as_slice(), session)?;
     run_replay(alloc, session, input, out)?;
     Ok(())
 }

@@ -1,16 +1,18 @@
 //! The subcommand `drive`: a trace to the journal of workers on threads.
-ghost use Rattle.std.specs.Prelude.{◌≡◌, ◌≤◌, ◌⊎◌, ℕ, Ok, [], IfErr, IfOk, IfSome, IsOkAnd, None, OnOk, get_or, length, true};
+ghost use Rattle.std.specs.Prelude.{◌≡◌, ◌≤◌, ◌⊎◌, ℕ, Ok, [], IfErr, IfOk, IsOkAnd, None, OnOk, get_or, length, true};
 ghost use Rattle.std.specs.Prelude.{map};
 ghost use Rattle.std.specs.Io.KnownBytes.{Appends};
 ghost use Rattle.step_record.specs.Config.{config_fault};
-ghost use Rattle.step_record.specs.declared.worker.TheConstants.{MAX_WORKERS};
+ghost use Rattle.command_line.specs.Accepted.{IsAcceptedDrive};
+ghost use Rattle.command_line.specs.declared.arguments.Arguments.TheVariants.{Drive};
 ghost use Rattle.journal_text.specs.Journal.{journal_of};
 ghost use Rattle.journal_text.specs.declared.version.Version.TheVariants.{Two};
 ghost use Rattle.streams.specs.Tally.{FailsWhere};
 ghost use Rattle.program.specs.CallFaults.{IsOfRead, IsOfWrite};
 ghost use Rattle.program.specs.WorkerReads.{IsDealt};
-ghost use Rattle.program.specs.DriveOutput.{IsDriven, IsEmptySession, IsOfRun, LeavesDrive, LeavesRun};
-ghost use Rattle.program.specs.FaultCauses.{IsFoundIn, IsOfMachine};
+ghost use Rattle.program.specs.DriveOutput.{IsEmptySession, IsOfRun, LeavesRun};
+ghost use Rattle.program.specs.Outcome.{IsDone};
+ghost use Rattle.program.specs.FaultCauses.{IsDue, Leaves};
 
 use crate::fault::Fault;
 use command_line::DriveArguments;
@@ -29,9 +31,7 @@ use workers::{DriveFault, Driven};
 /// A session of no step over an empty cache. The one error is out of memory.
 pub fn open(alloc: Global, config: &Config) -> Result<Session<Shell>, AllocError>
     requires { config_fault config.now ≡ Ok tt }
-    ensures first { IfOk result (IsEmptySession config.now) }
-    ensures tail { IfOk result (λ session. session.tail ≡ []) }
-    ensures limit { IfOk result (λ session. session.limit ≡ config.now.journal_limit) }
+    ensures { IfOk result (IsEmptySession config.now) }
 {
     let shell = Shell::new(alloc, config)?;
     Ok(Session::open(alloc, shell, config.journal_limit as usize))
@@ -48,17 +48,12 @@ pub fn drive<T: Threads + Wait + Sync, R: CountedRead, W: CountedWrite, P: Watch
     out: &mut W,
     watch: &P,
 ) -> Result<(), Fault>
-    requires checked { config_fault arguments.now.config ≡ Ok tt }
-    requires some { 1 ≤ arguments.now.workers }
-    requires few { arguments.now.workers ≤ MAX_WORKERS }
-    ensures ok { OnOk result (IsDriven arguments.now.config arguments.now.workers arguments.now.format
-        (R.remaining input.old) (W.contents out.old) (W.contents out.new)) }
-    // A run that was stopped is written, and before its first step nothing is.
-    ensures leaves { IfErr result (λ fault. LeavesDrive arguments.now.config arguments.now.workers arguments.now.format
-        fault (R.remaining input.old) (W.contents out.old) (W.contents out.new) (out.new ≡ out.old)) }
-    // The fault is one of the machine, or that of the trace, or else that the journal was full.
-    ensures fault { IfErr result (λ fault. IsOfMachine fault ⊎ IfSome (R.remaining input.old)
-        (IsFoundIn arguments.now.format (λ f. f ≡ Fault.JournalFull) fault)) }
+    requires { IsAcceptedDrive arguments.now }
+    ensures done { OnOk result (IsDone (Drive arguments.now) (λ path. None) (R.remaining input.old)
+        (W.contents out.old) (W.contents out.new)) }
+    ensures leaves { IfErr result (λ fault. Leaves (Drive arguments.now) (λ path. None) fault (R.remaining input.old)
+        (W.contents out.old) (W.contents out.new) (out.new ≡ out.old)) }
+    ensures fault { IfErr result (IsDue (Drive arguments.now) (λ path. None) (R.remaining input.old)) }
     ensures reads { FailsWhere (IsOfRead result) (R.tally input.old) (R.tally input.new) }
     ensures writes { FailsWhere (IsOfWrite result) (W.tally out.old) (W.tally out.new) }
     ensures flushed { OnOk result (W.is_flushed out.new ≡ true) }

@@ -1,11 +1,11 @@
 //! Why a subcommand printed no result.
-ghost use Rattle.std.specs.Prelude.{◌≡◌};
-ghost use Rattle.program.specs.Fault.{of_cause, of_debug, of_file, of_reading, of_write};
+ghost use Rattle.std.specs.Prelude.{◌≡◌, IfErr, MatchResult, Ok};
+ghost use Rattle.program.specs.Fault.{of_cause, of_debug, of_reading, of_write};
 ghost use Rattle.program.specs.declared.fault.Fault.TheVariants.{OutOfMemory, Trace};
 
-use crate::files::FileFault;
 use debug_commands::DebugFault;
 use journal_text::JournalFault;
+use policies::ActorFault;
 use std::alloc::AllocError;
 use std::fmt;
 use streams::WriteFault;
@@ -33,6 +33,20 @@ pub enum Fault {
     Write,
 }
 
+/// What came of jobs in which no check finds a fault: out of memory is the only one.
+pub fn accepted<A>(made: Result<A, ActorFault>) -> Result<A, Fault>
+    requires { IfErr made (λ fault. fault ≡ ActorFault.OutOfMemory) }
+    ensures { MatchResult result (λ value. made ≡ Ok value) (λ fault. fault ≡ Fault.OutOfMemory) }
+{
+    match made {
+        Ok(value) => Ok(value),
+        Err(fault) => {
+            prove!(fault == ActorFault::OutOfMemory);
+            Err(Fault::OutOfMemory)
+        }
+    }
+}
+
 impl fmt::Display for Fault {
     ghost use Rattle.std.specs.Prelude.{Some};
     ghost use Rattle.program.specs.FaultLine.{fault_text};
@@ -43,11 +57,11 @@ impl fmt::Display for Fault {
         match self {
             Fault::OutOfMemory => f.write_str("OutOfMemory"),
             Fault::Actors => f.write_str("Actors"),
-            Fault::Trace(fault) => write!(f, "{fault}"),
+            Fault::Trace(fault) => fault.fmt(f),
             Fault::JournalFull => f.write_str("JournalFull"),
             Fault::NoFile => f.write_str("NoFile"),
-            Fault::Journal(fault) => write!(f, "{fault}"),
-            Fault::Debug(fault) => write!(f, "{fault}"),
+            Fault::Journal(fault) => fault.fmt(f),
+            Fault::Debug(fault) => fault.fmt(f),
             Fault::Write => f.write_str("Write"),
         }
     }
@@ -87,17 +101,6 @@ impl From<Cause> for Fault {
         match cause {
             Cause::Memory => Fault::OutOfMemory,
             Cause::JournalFull => Fault::JournalFull,
-        }
-    }
-}
-
-impl From<FileFault> for Fault {
-    ghost from_gives = { λ fault e. e ≡ of_file fault };
-
-    fn from(fault: FileFault) -> Fault {
-        match fault {
-            FileFault::OutOfMemory => Fault::OutOfMemory,
-            FileFault::NoFile => Fault::NoFile,
         }
     }
 }

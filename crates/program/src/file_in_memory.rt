@@ -1,5 +1,6 @@
 //! A file in memory, whose bytes are known.
-use crate::files::{FileFault, Files};
+use crate::fault::Fault;
+use crate::files::Files;
 use std::alloc::Global;
 
 /// One file, at a path, and no other.
@@ -15,13 +16,10 @@ impl<'a> Files for FileInMemory<'a> {
 
     ghost known = { λ file path. if bytes_eq path file.path.now then Some file.bytes.now else None };
 
-    fn bytes(&self, alloc: Global, path: &str) -> Result<Vec<u8>, FileFault> {
+    fn bytes(&self, alloc: Global, path: &str) -> Result<Vec<u8>, Fault> {
         if path != self.path {
-            return Err(FileFault::NoFile);
+            return Err(Fault::NoFile);
         }
-        match self.bytes.to_vec(alloc) {
-            Ok(bytes) => Ok(bytes),
-            Err(_) => Err(FileFault::OutOfMemory),
-        }
+        Ok(self.bytes.to_vec(alloc)?)
     }
 }

@@ -3,7 +3,6 @@
 #![tactic(auto)]
 
 mod call;
-mod compare;
 mod debug;
 mod drive;
 mod fault;
@@ -11,16 +10,14 @@ mod fault_report;
 mod file_in_memory;
 mod files;
 mod host;
-mod interval_rows;
 mod limits;
-mod part;
+mod pair;
 mod perform;
-mod run;
-mod sweep;
+mod reports;
 
 pub use call::command;
 pub use fault::Fault;
 pub use fault_report::{DONE, FAULT, REFUSED};
 pub use file_in_memory::FileInMemory;
-pub use files::{FileFault, Files, MAX_FILE_BYTES};
+pub use files::{Files, MAX_FILE_BYTES};
 pub use host::run_process;

@@ -1,43 +1,19 @@
 //! The rows of intervals.
-ghost use Rattle.std.specs.Prelude.{◌≡◌, Err, IfOk, OnOk, true};
+ghost use Rattle.std.specs.Prelude.{IfOk, OnOk, ◌≡◌};
 ghost use Rattle.std.specs.Io.KnownBytes.{Appends};
 ghost use Rattle.csv.specs.Writing.{text_written};
 ghost use Rattle.report.specs.ReadyWriter.{IsWriterReady};
 ghost use Rattle.report.specs.IntervalText.{interval_header, interval_line, intervals_text};
 ghost use Rattle.report.specs.Text.{line_text};
-ghost use Rattle.streams.specs.Part.{AppendsPart};
-ghost use Rattle.streams.specs.Tally.{FailsWhere};
 
-use super::{Interval, WriteFault};
+use super::Interval;
 use crate::rows::{number_text, rate_text, write_row};
 use csv::{Writer, WriterBuilder};
 use std::alloc::{AllocError, Global};
 use std::io::Write;
-use streams::CountedWrite;
 
-/// Writes the header and a line for each interval, in order, and flushes. The writes and flushes of one call share its
-/// interruptions, of which the millionth is `Write`. `OutOfMemory` has written nothing; after `Write` a beginning of the
-/// text was written.
-pub fn write_intervals<W: CountedWrite>(
-    alloc: Global,
-    intervals: &[Interval],
-    writer: &mut W,
-) -> Result<(), WriteFault>
-    ensures text { OnOk result (Appends (W.contents writer.old) (W.contents writer.new) (intervals_text intervals.now)) }
-    ensures none { result ≡ Err WriteFault.OutOfMemory → writer.new ≡ writer.old }
-    ensures part { result ≡ Err WriteFault.Write
-        → AppendsPart (W.contents writer.old) (W.contents writer.new) (intervals_text intervals.now) }
-    ensures flushed { OnOk result (W.is_flushed writer.new ≡ true) }
-    // `Write` comes just where a write or the flush failed, or the millionth was interrupted.
-    ensures tally { FailsWhere (result ≡ Err WriteFault.Write) (W.tally writer.old) (W.tally writer.new) }
-{
-    let text = intervals_text(alloc, intervals)?;
-    streams::write_all(writer, text.as_slice())?;
-    Ok(())
-}
-
-// The header and a row for each interval.
-fn intervals_text(alloc: Global, intervals: &[Interval]) -> Result<Vec<u8>, AllocError>
+/// The header and a line for each interval, in order. The one error is out of memory.
+pub fn intervals_text(alloc: Global, intervals: &[Interval]) -> Result<Vec<u8>, AllocError>
     ensures { IfOk result (λ v. v.items ≡ intervals_text intervals.now) }
 {
     let mut writer = WriterBuilder::new().from_writer(Vec::new(alloc));

@@ -1,38 +1,29 @@
 //! The rows of reports.
-ghost use Rattle.std.specs.Prelude.{◌≡◌, Err, IfOk, OnOk, map, string_bytes, true};
+ghost use Rattle.std.specs.Prelude.{◌≡◌, IfOk, OnOk, map, string_bytes};
 ghost use Rattle.std.specs.Fmt.{decimal};
 ghost use Rattle.std.specs.Io.KnownBytes.{Appends};
 ghost use Rattle.csv.specs.Writing.{default_writer, row_text, text_written};
 ghost use Rattle.report.specs.ReadyWriter.{IsWriterReady};
 ghost use Rattle.report.specs.Text.{header_fields, line_text, rate_text_of, report_line, reports_text};
-ghost use Rattle.streams.specs.Part.{AppendsPart};
-ghost use Rattle.streams.specs.Tally.{FailsWhere};
 
-use super::{Report, WriteFault};
+use super::Report;
 use csv::{Writer, WriterBuilder};
 use std::alloc::{AllocError, Global};
 use std::io::Write;
-use streams::CountedWrite;
 
-/// Writes the header and a line for each report, in order, and flushes. The writes and flushes of
-/// one call share its interruptions, of which the millionth is `Write`. `OutOfMemory` has written
-/// nothing; after `Write` a beginning of the text was written.
-pub fn write_reports<W: CountedWrite>(
-    alloc: Global,
-    reports: &[Report],
-    writer: &mut W,
-) -> Result<(), WriteFault>
-    ensures text { OnOk result (Appends (W.contents writer.old) (W.contents writer.new) (reports_text reports.now)) }
-    ensures none { result ≡ Err WriteFault.OutOfMemory → writer.new ≡ writer.old }
-    ensures part { result ≡ Err WriteFault.Write
-        → AppendsPart (W.contents writer.old) (W.contents writer.new) (reports_text reports.now) }
-    ensures flushed { OnOk result (W.is_flushed writer.new ≡ true) }
-    // `Write` comes just where a write or the flush failed, or the millionth was interrupted.
-    ensures tally { FailsWhere (result ≡ Err WriteFault.Write) (W.tally writer.old) (W.tally writer.new) }
+/// The header and a line for each report, in order. The one error is out of memory.
+pub fn reports_text(alloc: Global, reports: &[Report]) -> Result<Vec<u8>, AllocError>
+    ensures { IfOk result (λ v. v.items ≡ reports_text reports.now) }
 {
-    let text = reports_text(alloc, reports)?;
-    streams::write_all(writer, text.as_slice())?;
-    Ok(())
+    let mut writer = WriterBuilder::new().from_writer(Vec::new(alloc));
+    write_header(&mut writer)?;
+    for report in reports {
+        write_report(alloc, &mut writer, report)?;
+    }
+    match writer.into_inner() {
+        Ok(text) => Ok(text),
+        Err(_) => Err(AllocError),
+    }
 }
 
 /// The rate in percent, with two decimals.
@@ -114,19 +105,4 @@ fn write_report<W: Write + Drop>(
         rate.as_bytes(),
     ];
     write_row(writer, fields.as_slice())
-}
-
-// The header and a row for each report.
-fn reports_text(alloc: Global, reports: &[Report]) -> Result<Vec<u8>, AllocError>
-    ensures { IfOk result (λ v. v.items ≡ reports_text reports.now) }
-{
-    let mut writer = WriterBuilder::new().from_writer(Vec::new(alloc));
-    write_header(&mut writer)?;
-    for report in reports {
-        write_report(alloc, &mut writer, report)?;
-    }
-    match writer.into_inner() {
-        Ok(text) => Ok(text),
-        Err(_) => Err(AllocError),
-    }
 }

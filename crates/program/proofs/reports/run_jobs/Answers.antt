@@ -1,7 +1,7 @@
 use Rattle.std.proofs.Common.{◌≡◌, arith, rules, None}
 use Rattle.policy_actors.specs.Faults.{actor_fault}
 use Rattle.program.proofs.Accepting.{can_run}
-use Rattle.program.proofs.run.reports.Goals as goal
+use Rattle.program.proofs.reports.run_jobs.Goals as goal
 
 pub run_reading-reports-requires : goal.run_reading-reports-requires
 run_reading-reports-requires g c =
