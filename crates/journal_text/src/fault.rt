@@ -8,7 +8,7 @@ use thiserror::Error;
 
 /// Why a journal was not read. Steps count from 1. It is displayed by its name, with the step where it
 /// has one: `FalseReply step 1`.
-#[derive(Clone, Copy, Debug, PartialEq, Eq, Error)]
+#[derive(Clone, Copy, Debug, Error)]
 pub enum JournalFault {
     /// Out of memory for the bytes, or for a step.
     OutOfMemory,

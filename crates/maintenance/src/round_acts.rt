@@ -1,18 +1,21 @@
 //! The acts of a round of maintenance: it drains the reads and the writes, evicts, and ends.
-ghost use Rattle.std.specs.Prelude.{◌≡◌, ◌≤◌, cond, Some, None, IfOk, IfSome, IfNone, IsSome, OnOk, OnErr};
+ghost use Rattle.std.specs.Prelude.{◌≡◌, ◌<◌, ◌≤◌, cond, true, false, length, Some, None};
+ghost use Rattle.std.specs.Prelude.{IfOk, IfSome, IfNone, IsSome, OnOk, OnErr};
 ghost use Rattle.step_record.specs.declared.item.Item.{Item as ItemValue};
 ghost use Rattle.step_record.specs.declared.limits.TheConstants.{MAX_STEPS};
 ghost use Rattle.step_record.specs.declared.step.Act.TheVariants as act;
 ghost use Rattle.step_record.specs.declared.drain.Phase.TheVariants as phase;
 ghost use Rattle.shell_buffers.specs.declared.write_tasks.TheConstants.{MAX_TASKS};
 ghost use Rattle.shell_buffers.specs.declared.task.Task.TheVariants.{Add};
+ghost use Rattle.shell_buffers.specs.Buffers.{stripe_at};
 ghost use Rattle.segments.specs.Queues.{IsDistinct, queue_holding};
 ghost use Rattle.replacement.specs.Plan.{candidate_of};
 ghost use Rattle.replacement.specs.Rules.{three_queues};
 ghost use Rattle.replacement.specs.PlanMoves.{queues_after, moves_of};
 ghost use Rattle.replacement.specs.KeptMoves.{IsKeepable};
 ghost use Rattle.shell_model.specs.Frequency.{frequency_recorded, shell_frequency_record};
-ghost use Rattle.shell_model.specs.Shell.{act_effect, apply_task, drain_at_end, end_effect, evict_effect, in_phase, is_over};
+ghost use Rattle.shell_model.specs.Shell.{act_effect, apply_task, drain_at_end, drain_read, end_effect, evict_effect};
+ghost use Rattle.shell_model.specs.Shell.{in_phase, is_over};
 ghost use Rattle.shell_model.specs.Shell.{queues_cleared, reply_by, shell_after_touch, unlisted_by};
 ghost use Rattle.shell_model.specs.Records.{added_of, change_of, cleared_of, evict_change, leaves_table};
 ghost use Rattle.shell_model.specs.Records.{task_change, touched_of};
@@ -45,10 +48,8 @@ impl ShellCore {
         ensures accepted { OnErr result (IsSome (act_effect worker (act.DrainRead stripe) self.old)) }
         ensures err { OnErr result (self.new ≡ self.old) }
     {
-        match self.held_by(worker) {
-            Some(holder)
-                if (stripe as usize) < self.stripes.count() && holder.phase == Phase::Reads => {}
-            _ => return Ok(None),
+        if !self.reads_stripe(worker, stripe) {
+            return Ok(None);
         }
         let [item, ..] = self.stripes.items(stripe) else {
             return Ok(Some((Reply::Empty, Change::Nothing)));
@@ -158,6 +159,21 @@ impl ShellCore {
                 now,
             },
         )
+    }
+
+    // Whether the worker is in a round that still drains reads, and there is such a read buffer.
+    fn reads_stripe(&self, worker: Worker, stripe: u8) -> bool
+        ensures yes { result ≡ true → (stripe < length self.now.stripes)
+            × (act_effect worker (act.DrainRead stripe) self.now
+            ≡ Some (drain_read stripe (stripe_at stripe self.now.stripes) self.now)) }
+        ensures no { result ≡ false → act_effect worker (act.DrainRead stripe) self.now ≡ None }
+    {
+        match self.held_by(worker) {
+            None => false,
+            Some(holder) => {
+                (stripe as usize) < self.stripes.count() && holder.phase == Phase::Reads
+            }
+        }
     }
 
     // A key is recorded, and its item moves where it is queued.

@@ -2,7 +2,7 @@
 use step_record::Item;
 
 /// What became of an entry of the table, which the queues are still to follow.
-#[derive(Clone, Copy, Debug, PartialEq, Eq)]
+#[derive(Clone, Copy)]
 pub enum Task {
     /// The item was added to the table.
     Add(Item),

@@ -2,7 +2,7 @@
 use step_record::{Phase, Worker};
 
 /// The worker that does the maintenance: which one, at which phase, and how many more tasks it may apply.
-#[derive(Clone, Copy, Debug, PartialEq, Eq)]
+#[derive(Clone, Copy)]
 pub struct Holder {
     pub worker: Worker,
     pub phase: Phase,

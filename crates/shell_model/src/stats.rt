@@ -6,7 +6,7 @@ ghost use Rattle.shell_model.specs.ShellStats.{shell_stats_after, shell_stats_be
 use step_record::Reply;
 
 /// How often each kind of reply was given by the applied steps.
-#[derive(Clone, Copy, Debug, PartialEq, Eq)]
+#[derive(Clone, Copy)]
 pub struct ShellStats {
     /// Looks that found their key.
     pub hits: u64,
@@ -111,7 +111,7 @@ impl ShellStats {
 }
 
 /// Which count a reply raises: all that it takes to take it back.
-#[derive(Clone, Copy, Debug, PartialEq, Eq)]
+#[derive(Clone, Copy)]
 pub enum Counted {
     /// None.
     Nothing,
