@@ -10,13 +10,13 @@ ghost use Rattle.debug_policies.specs.Comparison.{IsUpTo, no_counts};
 ghost use Rattle.debug_policies.specs.Part.{IsNoted, IsPrepared};
 
 use crate::divergence::{STRETCH, hit_at, note_hits};
-use debug_commands::push_count;
 use policies::{ActorFault, AnyPolicy};
 use std::alloc::{AllocError, Global};
+use std::io::Write;
 use step_record::{Job, Trace};
 
 /// At how many accesses of a trace both of two policies hit, only the first, only the second, and neither.
-#[derive(Clone, Copy, Debug, PartialEq, Eq)]
+#[derive(Clone, Copy)]
 pub struct Comparison {
     pub accesses: u64,
     pub both: u64,
@@ -92,10 +92,14 @@ pub fn push_comparison(
     text.extend_from_slice(
         b"first,second,capacity,accesses,both,first_only,second_only,neither\n",
     )?;
-    text.extend_from_slice(first.policy.word().as_bytes())?;
-    text.extend_from_slice(b",")?;
-    text.extend_from_slice(second.policy.word().as_bytes())?;
-    push_count(text, b",", u64::from(first.config.capacity))?;
+    write!(
+        text,
+        "{},{},{}",
+        first.policy.word(),
+        second.policy.word(),
+        first.config.capacity
+    )
+    .map_err(|_| AllocError)?;
     push_counts(text, counts)
 }
 
@@ -103,12 +107,12 @@ pub fn push_comparison(
 fn push_counts(text: &mut Vec<u8>, counts: &Comparison) -> Result<(), AllocError>
     ensures { OnOk result (text.new.items ≡ text.old.items ++ counts_text counts.now) }
 {
-    push_count(text, b",", counts.accesses)?;
-    push_count(text, b",", counts.both)?;
-    push_count(text, b",", counts.first_only)?;
-    push_count(text, b",", counts.second_only)?;
-    push_count(text, b",", counts.neither)?;
-    text.extend_from_slice(b"\n")
+    writeln!(
+        text,
+        ",{},{},{},{},{}",
+        counts.accesses, counts.both, counts.first_only, counts.second_only, counts.neither
+    )
+    .map_err(|_| AllocError)
 }
 
 // The caller in the second cache's loop.
@@ -126,7 +130,9 @@ fn count_in_first(
     ensures { IfOk result (λ counts. counts ≡ compared_on first.now second.now trace.now) }
 {
     let mut one = AnyPolicy::open(alloc, first, trace)?;
-    count_in_second(alloc, trace, second, &mut one)
+    let counts = count_in_second(alloc, trace, second, &mut one);
+    drop(one);
+    counts
 }
 
 // Opens the cache of the second job, beside that of the first, and counts.

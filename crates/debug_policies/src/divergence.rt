@@ -9,9 +9,9 @@ ghost use Rattle.policies.specs.AnyStep.{any_act};
 ghost use Rattle.policies.specs.FaultyJobs.{faulty_in, ReturnsFault};
 ghost use Rattle.debug_policies.specs.Part.{part_line, is_hit_at, IsPart, IsNoted, IsFirstOther, IsPrepared};
 
-use debug_commands::push_count;
 use policies::{ActorFault, AnyPolicy, theorems};
 use std::alloc::{AllocError, Global};
+use std::io::Write;
 use step_record::{Gate, Job, Key, OpenGate, Outcome, StepFault, Trace};
 
 /// So many accesses are made in one cache before the other makes them: each has a loop of its own, of which the code of
@@ -63,10 +63,7 @@ pub fn push_part(text: &mut Vec<u8>, found: Option<u64>) -> Result<(), AllocErro
     ensures { OnOk result (text.new.items ≡ text.old.items ++ part_line found) }
 {
     match found {
-        Some(access) => {
-            push_count(text, b"part ", access)?;
-            text.extend_from_slice(b"\n")
-        }
+        Some(access) => writeln!(text, "part {access}").map_err(|_| AllocError),
         None => text.extend_from_slice(b"part none\n"),
     }
 }
@@ -97,7 +94,9 @@ fn walk<G: Gate>(
     ensures { IfOk result (IsPart (outcomes_on first.now trace.now) (outcomes_on second.now trace.now)) }
 {
     let mut one = AnyPolicy::open(alloc, first, trace)?;
-    walk_beside(alloc, trace, second, &mut one, gate)
+    let found = walk_beside(alloc, trace, second, &mut one, gate);
+    drop(one);
+    found
 }
 
 // Opens the cache of the second job, beside that of the first, and walks.
