@@ -9,7 +9,7 @@ ghost use Rattle.debug_policies.specs.Comparison.{compared_on, compared_up_to, c
 ghost use Rattle.debug_policies.specs.Comparison.{IsUpTo, no_counts};
 ghost use Rattle.debug_policies.specs.Part.{IsNoted, IsPrepared};
 
-use crate::divergence::{STRETCH, hit_at, note_hits};
+use crate::divergence::{STRETCH, hit_at, note_hits, open_both};
 use policies::{ActorFault, AnyPolicy};
 use std::alloc::{AllocError, Global};
 use std::io::Write;
@@ -75,7 +75,7 @@ pub fn compare(
     if second.config.check().is_err() {
         return Err(ActorFault::Config { index: 1 });
     }
-    let counts = count_in_first(alloc, trace, first, second)?;
+    let counts = open_and_count(alloc, trace, first, second)?;
     Ok(counts)
 }
 
@@ -118,8 +118,8 @@ fn push_counts(text: &mut Vec<u8>, counts: &Comparison) -> Result<(), AllocError
 // The caller in the second cache's loop.
 struct Counting;
 
-// Opens the cache of the first job, and counts.
-fn count_in_first(
+// Opens the caches of both jobs, and counts.
+fn open_and_count(
     alloc: Global,
     trace: &Trace,
     first: &Job,
@@ -129,26 +129,11 @@ fn count_in_first(
     requires second { config_fault second.now.config ≡ Ok tt }
     ensures { IfOk result (λ counts. counts ≡ compared_on first.now second.now trace.now) }
 {
-    let mut one = AnyPolicy::open(alloc, first, trace)?;
-    let counts = count_in_second(alloc, trace, second, &mut one);
+    let (mut one, mut other) = open_both(alloc, trace, first, second)?;
+    let counts = count_in_both(trace, &mut one, &mut other);
     drop(one);
+    drop(other);
     counts
-}
-
-// Opens the cache of the second job, beside that of the first, and counts.
-fn count_in_second(
-    alloc: Global,
-    trace: &Trace,
-    second: &Job,
-    one: &mut AnyPolicy,
-) -> Result<Comparison, AllocError>
-    requires one { IsPrepared trace.now 0 one.old }
-    requires second { config_fault second.now.config ≡ Ok tt }
-    ensures { (j : Job) → HasAccessed j trace.now [] one.old
-        → IfOk result (λ counts. counts ≡ compared_on j second.now trace.now) }
-{
-    let mut other = AnyPolicy::open(alloc, second, trace)?;
-    count_in_both(trace, one, &mut other)
 }
 
 // Makes the accesses of the trace in both caches, and counts at which of them they hit.

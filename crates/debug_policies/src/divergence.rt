@@ -68,6 +68,28 @@ pub fn push_part(text: &mut Vec<u8>, found: Option<u64>) -> Result<(), AllocErro
     }
 }
 
+/// Empty caches of both jobs over the trace. The one error is out of memory.
+pub fn open_both(
+    alloc: Global,
+    trace: &Trace,
+    first: &Job,
+    second: &Job,
+) -> Result<(AnyPolicy, AnyPolicy), AllocError>
+    requires first { config_fault first.now.config ≡ Ok tt }
+    requires second { config_fault second.now.config ≡ Ok tt }
+    ensures { IfOk result (λ both. HasAccessed first.now trace.now [] both.0
+        × HasAccessed second.now trace.now [] both.1) }
+{
+    let one = AnyPolicy::open(alloc, first, trace)?;
+    match AnyPolicy::open(alloc, second, trace) {
+        Ok(other) => Ok((one, other)),
+        Err(fault) => {
+            drop(one);
+            Err(fault)
+        }
+    }
+}
+
 /// Whether the outcome is a hit.
 #[inline(always)]
 pub fn hits(outcome: Outcome) -> bool
@@ -93,27 +115,11 @@ fn walk<G: Gate>(
     requires second { config_fault second.now.config ≡ Ok tt }
     ensures { IfOk result (IsPart (outcomes_on first.now trace.now) (outcomes_on second.now trace.now)) }
 {
-    let mut one = AnyPolicy::open(alloc, first, trace)?;
-    let found = walk_beside(alloc, trace, second, &mut one, gate);
+    let (mut one, mut other) = open_both(alloc, trace, first, second)?;
+    let found = walk_both(trace, &mut one, &mut other, gate);
     drop(one);
+    drop(other);
     found
-}
-
-// Opens the cache of the second job, beside that of the first, and walks.
-fn walk_beside<G: Gate>(
-    alloc: Global,
-    trace: &Trace,
-    second: &Job,
-    one: &mut AnyPolicy,
-    gate: &G,
-) -> Result<Option<u64>, AllocError>
-    requires one { IsPrepared trace.now 0 one.old }
-    requires second { config_fault second.now.config ≡ Ok tt }
-    ensures { (j : Job) → HasAccessed j trace.now [] one.old
-        → IfOk result (IsPart (outcomes_on j trace.now) (outcomes_on second.now trace.now)) }
-{
-    let mut other = AnyPolicy::open(alloc, second, trace)?;
-    walk_both(trace, one, &mut other, gate)
 }
 
 // Makes the accesses of the trace in both caches, up to the first at which just one of them hits.

@@ -7,7 +7,7 @@ use step_record::{Job, Stats};
 
 /// What a policy made of the accesses from one of a trace up to another, which are counted from 1. The cache was open
 /// through the accesses before them.
-#[derive(Clone, Copy, Debug, PartialEq, Eq)]
+#[derive(Clone, Copy)]
 pub struct Interval {
     pub first: u64,
     pub last: u64,

@@ -1,9 +1,9 @@
 use Rattle.std.proofs.Common.{[], ap, ◌∙◌, sym, append-nil}
 use Rattle.policies.specs.Reports.{report_on}
-use Rattle.policy_actors.proofs.actor.report_over.Goals as goal
+use Rattle.policies.proofs.cache_run.report_over_uses.Goals as goal
 
-pub access_whole-requires : goal.access_whole-requires
-access_whole-requires c =
+pub access_whole-made-requires : goal.access_whole-made-requires
+access_whole-made-requires c =
     record {
       job = c.args.job.now;
       trace = c.in_ok-uses.uses;
@@ -16,5 +16,5 @@ access_whole-requires c =
 
 pub returns : goal.returns
 returns c =
-    c.report_by.ensures c.in_ok-uses.uses (c.in_ok-access_whole.ensures c.args.job.now c.in_ok-uses.uses [] c.in_ok-cache.ensures.stands)
+    c.report_by-report.ensures c.in_ok-uses.uses (c.in_ok-made.ensures c.args.job.now c.in_ok-uses.uses [] c.in_ok-cache.ensures.stands)
     ∙ ap (report_on c.args.job.now) c.in_ok-uses.ensures

@@ -4,7 +4,7 @@ use Rattle.std.proofs.lemmas.List.{take_all}
 use Rattle.policies.specs.AnyPolicy.{HasAccessed}
 use Rattle.policies.specs.AnyStep.{any_act}
 use Rattle.policies.proofs.Stretches.{next-ahead, added-next}
-use Rattle.policy_actors.proofs.actor.access_whole.Goals as goal
+use Rattle.policies.proofs.cache_run.access_whole.Goals as goal
 
 pub unreachable-requires : goal.unreachable-requires
 unreachable-requires c =

@@ -1,9 +1,13 @@
-use Rattle.std.proofs.Common.{◌++◌, ap, sym, ◌∙◌, subst, rules}
+use Rattle.std.proofs.Common.{◌≡◌, ◌++◌, false, true≢false, Result, Ok, Err, OnOk, ap, sym, ◌∙◌, subst, rules}
 use Rattle.std.specs.Result.{is_err}
-use Rattle.policy_actors.specs.CacheRuns.{HasTaken}
-use Rattle.policy_actors.proofs.CacheRuns.{went}
-use Rattle.policy_actors.proofs.actor.CacheRun.take.Goals.{in-Cache, in-NextUses}
-use Rattle.policy_actors.proofs.actor.CacheRun.take.Goals as goal
+use Rattle.policies.specs.CacheRun.{HasTaken}
+use Rattle.policies.proofs.cache_run.CacheRun.take.Goals.{in-Cache, in-NextUses}
+use Rattle.policies.proofs.cache_run.CacheRun.take.Goals as goal
+
+-- what comes where there was no error
+went : {T E P : Type 0} (r : Result T E) → is_err r ≡ false → OnOk r P → P
+went (Ok v) none h = h
+went (Err e) none h = absurd (true≢false none)
 
 pub returns-else-is_err : goal.returns-else-is_err
 returns-else-is_err c = elim c.match-self.branch [
