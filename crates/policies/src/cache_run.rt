@@ -63,6 +63,9 @@ impl CacheRun {
         }
     }
 
+    /// Ends a run that is given no more accesses.
+    pub fn abandon(self) {}
+
     /// The report of the job once all accesses were taken; `None` where there was no memory.
     pub fn finish(self, alloc: Global, job: &Job) -> Option<Report>
         requires { config_fault job.now.config ≡ Ok tt }
@@ -78,11 +81,7 @@ impl CacheRun {
 }
 
 // The report of a job over a trace whose next uses were found: all accesses are made now.
-fn report_over_uses(
-    alloc: Global,
-    finder: NextUseFinder,
-    job: &Job,
-) -> Result<Report, AllocError>
+fn report_over_uses(alloc: Global, finder: NextUseFinder, job: &Job) -> Result<Report, AllocError>
     requires { config_fault job.now.config ≡ Ok tt }
     ensures { IfOk result (λ r. r ≡ report_on job.now finder) }
 {

@@ -31,7 +31,7 @@ pub fn act<S: FedTrace, R: Wait, G: Gate>(
     let mut run = CacheRun::open(alloc, &job);
     for _ in rt.forever() {
         let Some(batch) = inbox.take(rt) else {
-            drop(run);
+            run.abandon();
             return None;
         };
         gate.before(who, batch.number);
