@@ -10,7 +10,7 @@ ghost use Rattle.debug_policies.specs.Comparison.{IsUpTo, no_counts};
 ghost use Rattle.debug_policies.specs.Part.{IsNoted, IsPrepared};
 
 use crate::divergence::{STRETCH, hit_at, note_hits, open_both};
-use policies::{ActorFault, AnyPolicy};
+use policies::{ActorFault, AnyPolicy, check_jobs};
 use std::alloc::{AllocError, Global};
 use std::io::Write;
 use step_record::{Job, Trace};
@@ -69,12 +69,7 @@ pub fn compare(
     ensures counts { IfOk result (λ counts. counts ≡ compared_on first.now second.now trace.now) }
     ensures fault { ReturnsFault (faulty_in (first.now ∷ second.now ∷ [])) result }
 {
-    if first.config.check().is_err() {
-        return Err(ActorFault::Config { index: 0 });
-    }
-    if second.config.check().is_err() {
-        return Err(ActorFault::Config { index: 1 });
-    }
+    check_jobs(&[*first, *second])?;
     let counts = open_and_count(alloc, trace, first, second)?;
     Ok(counts)
 }

@@ -9,7 +9,7 @@ ghost use Rattle.policies.specs.AnyStep.{any_act};
 ghost use Rattle.policies.specs.FaultyJobs.{faulty_in, ReturnsFault};
 ghost use Rattle.debug_policies.specs.Part.{part_line, is_hit_at, IsPart, IsNoted, IsFirstOther, IsPrepared};
 
-use policies::{ActorFault, AnyPolicy, theorems};
+use policies::{ActorFault, AnyPolicy, check_jobs, theorems};
 use std::alloc::{AllocError, Global};
 use std::io::Write;
 use step_record::{Gate, Job, Key, OpenGate, Outcome, StepFault, Trace};
@@ -48,12 +48,7 @@ pub fn part_watched<G: Gate>(
     ensures part { IfOk result (IsPart (outcomes_on first.now trace.now) (outcomes_on second.now trace.now)) }
     ensures fault { ReturnsFault (faulty_in (first.now ∷ second.now ∷ [])) result }
 {
-    if first.config.check().is_err() {
-        return Err(ActorFault::Config { index: 0 });
-    }
-    if second.config.check().is_err() {
-        return Err(ActorFault::Config { index: 1 });
-    }
+    check_jobs(&[*first, *second])?;
     let found = walk(alloc, trace, first, second, gate)?;
     Ok(found)
 }

@@ -117,8 +117,8 @@ impl<'a> OnePolicy<'a> {
             ≡ text.old.items ++ policy_lines label.now self.now.job self.now.trace self.now.at) }
     {
         let cache = self.session.engine();
-        let keys = cache.residents(alloc)?;
         push_counts(text, label, &self.job, &cache.stats())?;
+        let keys = cache.residents(alloc)?;
         push_holds(text, label, keys.as_slice())
     }
 }
