@@ -36,7 +36,7 @@ pub use job_checks::{MAX_ACTORS, check_capacities, check_jobs, with_capacity};
 pub use lru::{Lru, LruMark};
 pub use queue_cache::{ByJob, QueueCache};
 pub use record::AccessRecord;
-pub use report::Report;
+pub use report::{Interval, Report};
 pub use same::{clone_of_report, clone_of_stats, is_same_report, is_same_stats};
 pub use segmented_lru::{SegmentedLru, SegmentedLruMark};
 pub use tiny_lfu::{TinyLfu, TinyLfuMark};

@@ -61,7 +61,7 @@ fn rows<T: Threads + Sync>(
     if jobs.len() > MAX_ACTORS {
         return Err(Fault::Actors);
     }
-    match intervals::intervals(rt, alloc, trace, jobs.as_slice(), arguments.every as usize) {
+    match sweeps::intervals(rt, alloc, trace, jobs.as_slice(), arguments.every as usize) {
         Ok(rows) => Ok(rows),
         Err(fault) => {
             prove!(fault == ActorFault::OutOfMemory);

@@ -9,7 +9,6 @@ mod interval_rows;
 mod rows;
 
 pub use interval_rows::write_intervals;
-pub use intervals::Interval;
-pub use policies::Report;
+pub use policies::{Interval, Report};
 pub use rows::write_reports;
 pub use streams::WriteFault;

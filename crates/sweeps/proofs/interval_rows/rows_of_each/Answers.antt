@@ -1,10 +1,10 @@
 use Rattle.std.proofs.Common.{◌≡◌, IfOk, map, ap, ◌∙◌, subst}
 use Rattle.std.specs.declared.alloc.AllocError.{AllocError}
 use Rattle.step_record.specs.declared.job.Job.{Job}
-use Rattle.intervals.specs.Intervals.{intervals_on}
-use Rattle.intervals.specs.declared.single.CutTrace.{CutTrace}
-use Rattle.intervals.proofs.Joined.{made}
-use Rattle.intervals.proofs.several.rows_of_each.Goals as goal
+use Rattle.sweeps.specs.Intervals.{intervals_on}
+use Rattle.sweeps.specs.declared.interval_run.CutTrace.{CutTrace}
+use Rattle.sweeps.proofs.Joined.{made}
+use Rattle.sweeps.proofs.interval_rows.rows_of_each.Goals as goal
 
 pub returns : goal.returns
 returns g c =

@@ -1,8 +1,8 @@
 use Rattle.std.proofs.Common.{◌∙◌, ap}
 use Rattle.std.specs.Prelude.{flat_map}
-use Rattle.intervals.specs.Intervals.{intervals_on}
-use Rattle.intervals.proofs.Joined.{flat-same, then}
-use Rattle.intervals.proofs.several.rows.Goals as goal
+use Rattle.sweeps.specs.Intervals.{intervals_on}
+use Rattle.sweeps.proofs.Joined.{flat-same, then}
+use Rattle.sweeps.proofs.interval_rows.rows.Goals as goal
 
 pub returns : goal.returns
 returns g c =

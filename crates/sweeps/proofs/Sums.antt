@@ -10,9 +10,9 @@ use Rattle.policies.specs.declared.report.Report.{Report}
 use Rattle.policies.specs.AnyPolicy.{outcomes_on, stats_on}
 use Rattle.policies.specs.Reports.{report_of, report_on}
 use Rattle.policies.specs.Theorems.{AnyCoversTrace}
-use Rattle.intervals.specs.Intervals.{first_intervals, interval_at, intervals_on}
-use Rattle.intervals.specs.Theorems.{sum_over, IntervalsAddUp}
-use Rattle.intervals.proofs.Pieces.{piece-more, pieces-cover}
+use Rattle.sweeps.specs.Intervals.{first_intervals, interval_at, intervals_on}
+use Rattle.sweeps.specs.Theorems.{sum_over, IntervalsAddUp}
+use Rattle.sweeps.proofs.Pieces.{piece-more, pieces-cover}
 
 -- a number of a report that is counted of the outcomes, with what it counts of lists one behind the other
 module _ (j : Job) (number : Report → ℕ) (count : List Outcome → ℕ) (is : (os : List Outcome) → number (report_of j (stats_of os)) ≡ count os)

@@ -1,14 +1,13 @@
-//! One policy over a trace, on this thread.
+//! What one job makes of each interval of a trace, on this thread.
 ghost use Rattle.std.specs.Prelude.{◌≡◌, ◌≤◌, Ok, IfOk, [], ◌∷◌};
 ghost use Rattle.step_record.specs.Config.{config_fault};
 ghost use Rattle.policies.specs.AnyPolicy.{HasAccessed};
 ghost use Rattle.policies.specs.FaultyJobs.{faulty_in, ReturnsFault};
-ghost use Rattle.intervals.specs.Intervals.{intervals_on};
+ghost use Rattle.sweeps.specs.Intervals.{between, intervals_on, IsLater};
 
-use crate::interval::Interval;
-use policies::{ActorFault, AnyPolicy, access_all};
+use policies::{ActorFault, AnyPolicy, Interval, Report, access_all};
 use std::alloc::{AllocError, Global};
-use step_record::{Job, Trace};
+use step_record::{Job, Stats, Trace};
 
 // A trace, cut into intervals of so many accesses.
 #[derive(Drop)]
@@ -75,8 +74,27 @@ fn walk(
         let before = cache.stats();
         access_all(cache, piece)?;
         let after = cache.stats();
-        rows.push(Interval::between(job, &before, &after))?;
+        rows.push(between(job, &before, &after))?;
         rest = later;
     }
     Ok(rows)
+}
+
+// The interval of the accesses, at least one, that a job made between two counts of all its accesses.
+fn between(job: &Job, before: &Stats, after: &Stats) -> Interval
+    requires { IsLater before.now after.now }
+    ensures { result ≡ between job.now before.now after.now }
+{
+    let stats = Stats {
+        accesses: after.accesses - before.accesses,
+        hits: after.hits - before.hits,
+        misses: after.misses - before.misses,
+        evictions: after.evictions - before.evictions,
+        rejections: after.rejections - before.rejections,
+    };
+    Interval {
+        first: before.accesses + 1,
+        last: after.accesses,
+        report: Report::of(job, stats),
+    }
 }

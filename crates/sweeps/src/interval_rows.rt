@@ -1,11 +1,10 @@
-//! Several policies over a trace, side by side.
+//! What jobs make of each interval of a trace, side by side.
 ghost use Rattle.std.specs.Prelude.{◌≡◌, ◌≤◌, IfOk, flat_map, map};
 ghost use Rattle.policies.specs.FaultyJobs.{ReturnsFault};
-ghost use Rattle.intervals.specs.Intervals.{intervals_fault, intervals_on};
+ghost use Rattle.sweeps.specs.Intervals.{intervals_fault, intervals_on};
 
-use crate::interval::Interval;
-use crate::single::{CutTrace, intervals_of};
-use policies::{ActorFault, MAX_ACTORS, check_jobs};
+use crate::interval_run::{CutTrace, intervals_of};
+use policies::{ActorFault, Interval, MAX_ACTORS, check_jobs};
 use rayon::prelude::*;
 use std::alloc::{AllocError, Global};
 use std::thread::Threads;

@@ -9,8 +9,8 @@ use Rattle.step_record.specs.declared.job.Job.{Job}
 use Rattle.step_record.specs.declared.outcome.Outcome.{Outcome}
 use Rattle.step_record.specs.declared.stats.Stats.{Stats}
 use Rattle.step_record.specs.Stats.{stats_of}
-use Rattle.intervals.specs.Intervals.{between, interval_at, IsLater}
-use Rattle.intervals.proofs.Counts.{between-counts, later-counts}
+use Rattle.sweeps.specs.Intervals.{between, interval_at, IsLater}
+use Rattle.sweeps.proofs.Counts.{between-counts, later-counts}
 
 -- of a list that is shorter than asked for all is taken
 take-least : {X : Type 0} (n k : ℕ) (xs : List X) → k ≡ min n (length xs) → take k xs ≡ take n xs

@@ -3,12 +3,12 @@ use Rattle.std.specs.Int.{div_ceil}
 use Rattle.policies.proofs.StepLaws.{any_covers_trace}
 use Rattle.policies.proofs.Batches.{next-piece, taken-more}
 use Rattle.policies.specs.AnyPolicy.{HasAccessed, outcomes_on}
-use Rattle.intervals.specs.Intervals.{first_intervals, intervals_on}
-use Rattle.intervals.specs.declared.interval.Interval.{Interval}
+use Rattle.sweeps.specs.Intervals.{first_intervals, intervals_on}
+use Rattle.policies.specs.declared.report.Interval.{Interval}
 use Rattle.policies.proofs.FirstAccesses.{first-counts}
-use Rattle.intervals.proofs.Pieces.{cut-piece, cut-rest, piece-begins, next-interval, next-later}
-use Rattle.intervals.proofs.single.walk.Goals.{After-stats-after}
-use Rattle.intervals.proofs.single.walk.Goals as goal
+use Rattle.sweeps.proofs.Pieces.{cut-piece, cut-rest, piece-begins, next-interval, next-later}
+use Rattle.sweeps.proofs.interval_run.walk.Goals.{After-stats-after}
+use Rattle.sweeps.proofs.interval_run.walk.Goals as goal
 
 pub access_all-requires : goal.access_all-requires
 access_all-requires c =

@@ -12,7 +12,7 @@ use Rattle.policies.specs.declared.job_checks.TheConstants.{MAX_ACTORS}
 use Rattle.policies.specs.AnyPolicy.{outcomes_on}
 use Rattle.policies.specs.FaultyJobs.{faulty_in}
 use Rattle.policies.specs.Reports.{report_of}
-use Rattle.intervals.specs.declared.interval.Interval.{Interval}
+use Rattle.policies.specs.declared.report.Interval.{Interval}
 
 -- ---- the definition
 

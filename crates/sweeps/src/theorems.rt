@@ -1,5 +1,5 @@
 //! Theorems on the rows of intervals. Each of these functions does nothing: its contract is the theorem.
-ghost use Rattle.intervals.specs.Theorems.{IntervalsAddUp};
+ghost use Rattle.sweeps.specs.Theorems.{IntervalsAddUp};
 
 use policies::theorems;
 
