@@ -1,5 +1,5 @@
 -- What is ahead in a dialogue: the text so far, and the dialogue over the bytes that still follow, whatever they are.
-use Rattle.std.proofs.Common.{◌≡◌, ◌∙◌, ◌≤◌, ◌<◌, ◌+◌, ◌-◌, ◌==◌, ℕ, Bool, true, false, Option, Some, None, List, [], ◌∷◌, ◌++◌, length, refl, ap, sym, subst, arith, append_assoc, length-append, true≢false}
+use Rattle.std.proofs.Common.{◌≡◌, ◌∙◌, ◌≤◌, ◌<◌, ◌+◌, ◌-◌, ◌==◌, ℕ, Bool, true, false, inl, inr, Option, Some, None, List, [], ◌∷◌, ◌++◌, length, refl, ap, sym, subst, arith, append_assoc, length-append, true≢false}
 use Rattle.std.proofs.KnownBytes.{Appends-trans, Consumes-trans}
 use Rattle.std.proofs.lemmas.Bool.{cond-true, cond-false, eqb-true, lt-ltb, le-ltb}
 use Rattle.std.proofs.lemmas.List.{append-nil}
@@ -7,11 +7,11 @@ use Rattle.std.proofs.lemmas.List.Elements.{All-head, All-tail, All-push}
 use Rattle.std.proofs.lemmas.List.Splits.{slice_split-cons_no}
 use Rattle.std.specs.Io.KnownBytes.{Appends, Consumes, IsAtEnd, Keeps}
 use Rattle.std.specs.List.{onto_first}
-use Rattle.std.specs.Prelude.{IfSome}
+use Rattle.std.specs.Prelude.{◌||◌, ◌⊎◌, not, IfSome}
 use Rattle.debug_commands.specs.AnswerText.{IsAnswer}
 use Rattle.debug_commands.specs.Answers.{TimelinePlace, CommandResponse, answer_to, response_to}
 use Rattle.debug_commands.specs.Commands.{command_line_of}
-use Rattle.debug_commands.specs.Dialogue.{Dialogue, answers, dialogue_from, dialogue_of, ends, is_quit, WritesDialogue}
+use Rattle.debug_commands.specs.Dialogue.{Dialogue, answers, dialogue_from, dialogue_of, ends, is_last, is_quit, WritesDialogue}
 use Rattle.debug_commands.specs.InputBytes.{feed, IsTooLarge}
 use Rattle.text_lines.proofs.Feeds.{has_lines, lines_fed, one_unfed}
 use Rattle.text_lines.specs.Feeds.{lines_of, HasNoFeed}
@@ -78,6 +78,14 @@ unfed_room : (fed : Bool) (less n room : ℕ) → fed ≡ false → less + n + l
 unfed_room false less n room h e = omega (arith, e)
 unfed_room true less n room h e = absurd (true≢false h)
 
+either : (fed quits : Bool) → (not fed || quits) ≡ true → (fed ≡ false) ⊎ ((fed ≡ true) × (quits ≡ true))
+either false quits last = inl refl
+either true quits last = inr (refl, last)
+
+neither : (fed quits : Bool) → (not fed || quits) ≡ false → (fed ≡ true) × (quits ≡ false)
+neither false quits more = absurd (true≢false more)
+neither true quits more = (refl, more)
+
 -- ---- the whole so far
 
 -- what was read and written so far, and what follows from here
@@ -121,11 +129,13 @@ pub record Round (t : TimelineData) (first : ℕ) (p : TimelinePlace) (room less
   pub answer : IsAnswer (answer_to t p (command_line_of t.dialect l)) [] text at breaks
   pub sent : Appends has more text
 
--- a line with its line feed was answered
+-- a line with others behind it was answered
 pub goes_on : {t : TimelineData} {first : ℕ} {p : TimelinePlace} {room less : ℕ} {given left rest had has more : Option (List ℕ)} {fed : Bool} {l text : List ℕ} {at : ℕ}
-    {breaks : List Breakpoint} → Round t first p room less given left rest had has more fed l text at breaks → fed ≡ true
-    → is_quit (command_line_of t.dialect l) ≡ false → IsAhead t first (record { at = at; breaks = breaks }) less given rest had more
-goes_on {t} {first} {p} {room} {less} {given} {left} {rest} {had} {has} {more} {fed} {l} {text} {at} {breaks} round has_feed other =
+    {breaks : List Breakpoint} → Round t first p room less given left rest had has more fed l text at breaks
+    → is_last fed (command_line_of t.dialect l) ≡ false → IsAhead t first (record { at = at; breaks = breaks }) less given rest had more
+goes_on {t} {first} {p} {room} {less} {given} {left} {rest} {had} {has} {more} {fed} {l} {text} {at} {breaks} round others =
+    let has_feed = (neither fed (is_quit (command_line_of t.dialect l)) others).0 in
+    let other = (neither fed (is_quit (command_line_of t.dialect l)) others).1 in
     let a = round.ahead in
     let r = answer_to t p (command_line_of t.dialect l) in
     let now : record { at = at; breaks = breaks } ≡ r.place = place_is r.place at breaks round.answer.at round.answer.breaks in
@@ -174,7 +184,7 @@ at_the_end None P e h = tt
 at_the_end (Some xs) P e h = subst P (sym e) h
 
 -- the last line was answered, which had no line feed
-pub ends_at_last : {t : TimelineData} {first : ℕ} {p : TimelinePlace} {room less : ℕ} {given left rest had has more : Option (List ℕ)} {fed : Bool} {l text : List ℕ}
+ends_at_last : {t : TimelineData} {first : ℕ} {p : TimelinePlace} {room less : ℕ} {given left rest had has more : Option (List ℕ)} {fed : Bool} {l text : List ℕ}
     {at : ℕ} {breaks : List Breakpoint} → Round t first p room less given left rest had has more fed l text at breaks → fed ≡ false → IsAtEnd rest
     → IfSome given (λ bytes. WritesDialogue (dialogue_of t first bytes) true had more at)
 ends_at_last {t} {first} {p} {room} {less} {given} {left} {rest} {had} {has} {more} {fed} {l} {text} {at} {breaks} round no_feed end =
@@ -204,16 +214,12 @@ quit_line t p (Known command.Show) h = absurd (true≢false (sym h))
 quit_line t p (Known command.Own) h = absurd (true≢false (sym h))
 quit_line t p (Known command.Quit) h = refl
 
-pub not_quit : (line : InputLine) → (line ≡ Known command.Quit → ⊥) → is_quit line ≡ false
-not_quit (Known command.Quit) other = absurd (other refl)
-not_quit _ other = refl
-
 quit_answer : (t : TimelineData) (p : TimelinePlace) (l : List ℕ) → is_quit (command_line_of t.dialect l) ≡ true
     → answer_to t p (command_line_of t.dialect l) ≡ record { text = []; place = p }
 quit_answer t p l h = quit_line t p (command_line_of t.dialect l) h
 
 -- a `quit` was read
-pub ends_at_quit : {t : TimelineData} {first : ℕ} {p : TimelinePlace} {room less : ℕ} {given left rest had has more : Option (List ℕ)} {fed : Bool} {l text : List ℕ}
+ends_at_quit : {t : TimelineData} {first : ℕ} {p : TimelinePlace} {room less : ℕ} {given left rest had has more : Option (List ℕ)} {fed : Bool} {l text : List ℕ}
     {at : ℕ} {breaks : List Breakpoint} → Round t first p room less given left rest had has more fed l text at breaks → fed ≡ true
     → is_quit (command_line_of t.dialect l) ≡ true → IfSome given (λ bytes. WritesDialogue (dialogue_of t first bytes) true had more at)
 ends_at_quit {t} {first} {p} {room} {less} {given} {left} {rest} {had} {has} {more} {fed} {l} {text} {at} {breaks} round has_feed quits =
@@ -227,6 +233,17 @@ ends_at_quit {t} {first} {p} {room} {less} {given} {left} {rest} {had} {has} {mo
     ∙ ap (λ x. record { text = text; at = x; fits = true }) (sym (round.answer.at ∙ ap (λ (x : CommandResponse). x.place.at) none)) in
     over t first p room given left rest had has more (l ++ 10 ∷ []) d round.ahead (fed_read fed left rest l has_feed round.read) round.sent
     (always rest (λ bytes. dialogue_from t room (lines_of ((l ++ 10 ∷ []) ++ bytes)) p ≡ d) is)
+
+-- either of the two
+pub ends_here : {t : TimelineData} {first : ℕ} {p : TimelinePlace} {room less : ℕ} {given left rest had has more : Option (List ℕ)} {fed : Bool} {l text : List ℕ}
+    {at : ℕ} {breaks : List Breakpoint} → Round t first p room less given left rest had has more fed l text at breaks
+    → is_last fed (command_line_of t.dialect l) ≡ true → (fed ≡ false → IsAtEnd rest)
+    → IfSome given (λ bytes. WritesDialogue (dialogue_of t first bytes) true had more at)
+ends_here {t} {first} {p} {room} {less} {given} {left} {rest} {had} {has} {more} {fed} {l} round last end =
+    elim (either fed (is_quit (command_line_of t.dialect l)) last) [
+      | inl no_feed ↦ ends_at_last round no_feed (end no_feed)
+      | inr quits ↦ ends_at_quit round quits.0 quits.1
+    ]
 
 -- ---- a line that is too large
 

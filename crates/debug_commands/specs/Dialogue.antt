@@ -1,5 +1,5 @@
 -- What the debugger writes for the bytes of its input, line by line up to `quit`, the end, or a line that is too large.
-use Rattle.std.specs.Prelude.{◌≡◌, ℕ, ◌+◌, ◌-◌, nat_lt, Bool, true, false, if◌then◌else◌, Option, List, [], ◌∷◌}
+use Rattle.std.specs.Prelude.{◌≡◌, ℕ, ◌+◌, ◌-◌, nat_lt, Bool, true, false, not, ◌||◌, if◌then◌else◌, Option, List, [], ◌∷◌}
 use Rattle.std.specs.Prelude.{◌++◌, length}
 use Rattle.std.specs.Io.KnownBytes.{Appends}
 use Rattle.text_lines.specs.Feeds.{lines_of}
@@ -14,6 +14,10 @@ use Rattle.debug_commands.specs.declared.dialogue.TheConstants.{MAX_COMMAND_BYTE
 abbrev pub is_quit : InputLine → Bool
 is_quit (Known Quit) = true
 is_quit _ = false
+
+-- nothing is read behind a line without a line feed, or `quit`
+abbrev pub is_last : Bool → InputLine → Bool
+is_last fed line = not fed || is_quit line
 
 pub record Dialogue : Type 0 where
   pub text : List ℕ

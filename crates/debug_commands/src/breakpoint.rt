@@ -6,7 +6,7 @@ use crate::grammar::Name;
 use step_record::Key;
 
 /// Where `run` stops: behind a step at which the breakpoint holds.
-#[derive(Clone, Copy, Debug, PartialEq, Eq)]
+#[derive(Clone, Copy)]
 pub enum Breakpoint {
     /// A cache hit this key.
     Hit(Key),
@@ -21,7 +21,7 @@ pub enum Breakpoint {
 }
 
 /// What breakpoints look at in a step.
-#[derive(Clone, Copy, Debug, PartialEq, Eq)]
+#[derive(Clone, Copy)]
 pub struct StepFacts {
     /// The key that a cache hit.
     pub hit: Option<Key>,

@@ -3,7 +3,7 @@
 use crate::breakpoint::Breakpoint;
 
 /// What a line says.
-#[derive(Clone, Copy, Debug, PartialEq, Eq)]
+#[derive(Clone, Copy)]
 pub enum InputLine {
     /// Nothing: blanks alone.
     Empty,
@@ -14,7 +14,7 @@ pub enum InputLine {
 }
 
 /// A command of the debugger.
-#[derive(Clone, Copy, Debug, PartialEq, Eq)]
+#[derive(Clone, Copy)]
 pub enum Command {
     /// So many steps onward.
     Step(u64),
@@ -37,7 +37,7 @@ pub enum Command {
 }
 
 /// Which of the two debuggers the commands are for. They differ by one command and one breakpoint.
-#[derive(Clone, Copy, Debug, PartialEq, Eq)]
+#[derive(Clone, Copy)]
 pub enum Dialect {
     /// Two policies over a trace: `part` and `break part`.
     Policies,

@@ -3,7 +3,7 @@ ghost use Rattle.std.specs.Prelude.{◌≡◌, ◌≢◌, ◌+◌, ◌-◌, ◌+
 ghost use Rattle.std.specs.Io.KnownBytes.{Consumes, IsAtEnd};
 ghost use Rattle.debug_commands.specs.Answers.{answer_to, position_line, response_to, stop_after, stop_line};
 ghost use Rattle.debug_commands.specs.AnswerText.{IsAnswer};
-ghost use Rattle.debug_commands.specs.Dialogue.{dialogue_of, WritesDialogue};
+ghost use Rattle.debug_commands.specs.Dialogue.{dialogue_of, is_last, WritesDialogue};
 ghost use Rattle.debug_commands.specs.InputBytes.{feed, IsTooLarge};
 ghost use Rattle.debug_commands.specs.Timeline.{TimelineData};
 ghost use Rattle.debug_commands.specs.declared.breakpoint.Breakpoint.{Breakpoint};
@@ -70,13 +70,17 @@ pub fn answer_commands<T: Timeline, R: CountedRead, W: CountedWrite>(
         answer(alloc, timeline, &mut breaks, said, &mut text)?;
         write_some(out, text.as_slice(), &mut writes)?;
         flush(out, &mut writes)?;
-        if !fed {
-            return Ok(());
-        }
-        if said == InputLine::Known(Command::Quit) {
+        if is_last(fed, said) {
             return Ok(());
         }
     }
+}
+
+// Whether the dialogue ends with this line, which had a line feed or not.
+fn is_last(fed: bool, said: InputLine) -> bool
+    ensures { result ≡ is_last fed said }
+{
+    !fed || matches!(said, InputLine::Known(Command::Quit))
 }
 
 // Reads the next line into an empty buffer, without its line feed, and returns whether it had one: the last line may

@@ -35,7 +35,7 @@ pub fn line(dialect: Dialect, text: &[u8]) -> InputLine
 }
 
 /// A word of a command that is no number.
-#[derive(Clone, Copy, Debug, PartialEq, Eq)]
+#[derive(Clone, Copy)]
 pub enum Name {
     Step,
     Back,

@@ -9,14 +9,14 @@ ghost use Rattle.debug_policies.specs.Comparison.{compared_on, compared_up_to, c
 ghost use Rattle.debug_policies.specs.Comparison.{IsUpTo, no_counts};
 ghost use Rattle.debug_policies.specs.Part.{IsNoted, IsPrepared};
 
-use crate::divergence::{STRETCH, hit_at, note_hits};
-use debug_commands::push_count;
-use policies::{ActorFault, AnyPolicy};
+use crate::divergence::{STRETCH, hit_at, note_hits, open_both};
+use policies::{ActorFault, AnyPolicy, check_jobs};
 use std::alloc::{AllocError, Global};
+use std::io::Write;
 use step_record::{Job, Trace};
 
 /// At how many accesses of a trace both of two policies hit, only the first, only the second, and neither.
-#[derive(Clone, Copy, Debug, PartialEq, Eq)]
+#[derive(Clone, Copy)]
 pub struct Comparison {
     pub accesses: u64,
     pub both: u64,
@@ -69,13 +69,8 @@ pub fn compare(
     ensures counts { IfOk result (λ counts. counts ≡ compared_on first.now second.now trace.now) }
     ensures fault { ReturnsFault (faulty_in (first.now ∷ second.now ∷ [])) result }
 {
-    if first.config.check().is_err() {
-        return Err(ActorFault::Config { index: 0 });
-    }
-    if second.config.check().is_err() {
-        return Err(ActorFault::Config { index: 1 });
-    }
-    let counts = count_in_first(alloc, trace, first, second)?;
+    check_jobs(&[*first, *second])?;
+    let counts = open_and_count(alloc, trace, first, second)?;
     Ok(counts)
 }
 
@@ -92,10 +87,14 @@ pub fn push_comparison(
     text.extend_from_slice(
         b"first,second,capacity,accesses,both,first_only,second_only,neither\n",
     )?;
-    text.extend_from_slice(first.policy.word().as_bytes())?;
-    text.extend_from_slice(b",")?;
-    text.extend_from_slice(second.policy.word().as_bytes())?;
-    push_count(text, b",", u64::from(first.config.capacity))?;
+    write!(
+        text,
+        "{},{},{}",
+        first.policy.word(),
+        second.policy.word(),
+        first.config.capacity
+    )
+    .map_err(|_| AllocError)?;
     push_counts(text, counts)
 }
 
@@ -103,19 +102,19 @@ pub fn push_comparison(
 fn push_counts(text: &mut Vec<u8>, counts: &Comparison) -> Result<(), AllocError>
     ensures { OnOk result (text.new.items ≡ text.old.items ++ counts_text counts.now) }
 {
-    push_count(text, b",", counts.accesses)?;
-    push_count(text, b",", counts.both)?;
-    push_count(text, b",", counts.first_only)?;
-    push_count(text, b",", counts.second_only)?;
-    push_count(text, b",", counts.neither)?;
-    text.extend_from_slice(b"\n")
+    writeln!(
+        text,
+        ",{},{},{},{},{}",
+        counts.accesses, counts.both, counts.first_only, counts.second_only, counts.neither
+    )
+    .map_err(|_| AllocError)
 }
 
 // The caller in the second cache's loop.
 struct Counting;
 
-// Opens the cache of the first job, and counts.
-fn count_in_first(
+// Opens the caches of both jobs, and counts.
+fn open_and_count(
     alloc: Global,
     trace: &Trace,
     first: &Job,
@@ -125,24 +124,11 @@ fn count_in_first(
     requires second { config_fault second.now.config ≡ Ok tt }
     ensures { IfOk result (λ counts. counts ≡ compared_on first.now second.now trace.now) }
 {
-    let mut one = AnyPolicy::open(alloc, first, trace)?;
-    count_in_second(alloc, trace, second, &mut one)
-}
-
-// Opens the cache of the second job, beside that of the first, and counts.
-fn count_in_second(
-    alloc: Global,
-    trace: &Trace,
-    second: &Job,
-    one: &mut AnyPolicy,
-) -> Result<Comparison, AllocError>
-    requires one { IsPrepared trace.now 0 one.old }
-    requires second { config_fault second.now.config ≡ Ok tt }
-    ensures { (j : Job) → HasAccessed j trace.now [] one.old
-        → IfOk result (λ counts. counts ≡ compared_on j second.now trace.now) }
-{
-    let mut other = AnyPolicy::open(alloc, second, trace)?;
-    count_in_both(trace, one, &mut other)
+    let (mut one, mut other) = open_both(alloc, trace, first, second)?;
+    let counts = count_in_both(trace, &mut one, &mut other);
+    drop(one);
+    drop(other);
+    counts
 }
 
 // Makes the accesses of the trace in both caches, and counts at which of them they hit.

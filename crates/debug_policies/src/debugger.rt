@@ -53,7 +53,9 @@ pub fn run_debug<R: CountedRead, W: CountedWrite>(
         return Err(DebugFault::Config { index: 1 });
     }
     let mut both = TwoPolicies::open(alloc, trace, first, second)?;
-    answer_commands(alloc, &mut both, commands, out)
+    let answered = answer_commands(alloc, &mut both, commands, out);
+    drop(both);
+    answered
 }
 
 // Two policies over one trace, both with as many accesses made.
@@ -140,8 +142,8 @@ impl<'a> Timeline for TwoPolicies<'a> {
     }
 
     fn show(&self, alloc: Global, text: &mut Vec<u8>) -> Result<(), AllocError> {
-        self.first.show(alloc, b"a", text)?;
-        self.second.show(alloc, b"b", text)
+        self.first.show(alloc, "a", text)?;
+        self.second.show(alloc, "b", text)
     }
 
     fn own(&self, alloc: Global, text: &mut Vec<u8>) -> Result<(), AllocError> {

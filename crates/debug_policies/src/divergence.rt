@@ -9,9 +9,9 @@ ghost use Rattle.policies.specs.AnyStep.{any_act};
 ghost use Rattle.policies.specs.FaultyJobs.{faulty_in, ReturnsFault};
 ghost use Rattle.debug_policies.specs.Part.{part_line, is_hit_at, IsPart, IsNoted, IsFirstOther, IsPrepared};
 
-use debug_commands::push_count;
-use policies::{ActorFault, AnyPolicy, theorems};
+use policies::{ActorFault, AnyPolicy, check_jobs, theorems};
 use std::alloc::{AllocError, Global};
+use std::io::Write;
 use step_record::{Gate, Job, Key, OpenGate, Outcome, StepFault, Trace};
 
 /// So many accesses are made in one cache before the other makes them: each has a loop of its own, of which the code of
@@ -48,12 +48,7 @@ pub fn part_watched<G: Gate>(
     ensures part { IfOk result (IsPart (outcomes_on first.now trace.now) (outcomes_on second.now trace.now)) }
     ensures fault { ReturnsFault (faulty_in (first.now ∷ second.now ∷ [])) result }
 {
-    if first.config.check().is_err() {
-        return Err(ActorFault::Config { index: 0 });
-    }
-    if second.config.check().is_err() {
-        return Err(ActorFault::Config { index: 1 });
-    }
+    check_jobs(&[*first, *second])?;
     let found = walk(alloc, trace, first, second, gate)?;
     Ok(found)
 }
@@ -63,11 +58,30 @@ pub fn push_part(text: &mut Vec<u8>, found: Option<u64>) -> Result<(), AllocErro
     ensures { OnOk result (text.new.items ≡ text.old.items ++ part_line found) }
 {
     match found {
-        Some(access) => {
-            push_count(text, b"part ", access)?;
-            text.extend_from_slice(b"\n")
-        }
+        Some(access) => writeln!(text, "part {access}").map_err(|_| AllocError),
         None => text.extend_from_slice(b"part none\n"),
+    }
+}
+
+/// Empty caches of both jobs over the trace. The one error is out of memory.
+pub fn open_both(
+    alloc: Global,
+    trace: &Trace,
+    first: &Job,
+    second: &Job,
+) -> Result<(AnyPolicy, AnyPolicy), AllocError>
+    requires first { config_fault first.now.config ≡ Ok tt }
+    requires second { config_fault second.now.config ≡ Ok tt }
+    ensures { IfOk result (λ both. HasAccessed first.now trace.now [] both.0
+        × HasAccessed second.now trace.now [] both.1) }
+{
+    let one = AnyPolicy::open(alloc, first, trace)?;
+    match AnyPolicy::open(alloc, second, trace) {
+        Ok(other) => Ok((one, other)),
+        Err(fault) => {
+            drop(one);
+            Err(fault)
+        }
     }
 }
 
@@ -96,25 +110,11 @@ fn walk<G: Gate>(
     requires second { config_fault second.now.config ≡ Ok tt }
     ensures { IfOk result (IsPart (outcomes_on first.now trace.now) (outcomes_on second.now trace.now)) }
 {
-    let mut one = AnyPolicy::open(alloc, first, trace)?;
-    walk_beside(alloc, trace, second, &mut one, gate)
-}
-
-// Opens the cache of the second job, beside that of the first, and walks.
-fn walk_beside<G: Gate>(
-    alloc: Global,
-    trace: &Trace,
-    second: &Job,
-    one: &mut AnyPolicy,
-    gate: &G,
-) -> Result<Option<u64>, AllocError>
-    requires one { IsPrepared trace.now 0 one.old }
-    requires second { config_fault second.now.config ≡ Ok tt }
-    ensures { (j : Job) → HasAccessed j trace.now [] one.old
-        → IfOk result (IsPart (outcomes_on j trace.now) (outcomes_on second.now trace.now)) }
-{
-    let mut other = AnyPolicy::open(alloc, second, trace)?;
-    walk_both(trace, one, &mut other, gate)
+    let (mut one, mut other) = open_both(alloc, trace, first, second)?;
+    let found = walk_both(trace, &mut one, &mut other, gate);
+    drop(one);
+    drop(other);
+    found
 }
 
 // Makes the accesses of the trace in both caches, up to the first at which just one of them hits.

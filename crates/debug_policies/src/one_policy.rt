@@ -11,6 +11,7 @@ use debug_commands::push_count;
 use journal::{BackFault, Session, SessionFault};
 use policies::{AnyPolicy, theorems};
 use std::alloc::{AllocError, Global};
+use std::io::Write;
 use std::marker::Model;
 use step_record::{Job, Key, MAX_JOURNAL_LIMIT, Outcome, Stats, Trace};
 
@@ -111,13 +112,13 @@ impl<'a> OnePolicy<'a> {
     }
 
     /// Adds the lines that show it. The one error is that an allocation failed.
-    pub fn show(&self, alloc: Global, label: &[u8], text: &mut Vec<u8>) -> Result<(), AllocError>
+    pub fn show(&self, alloc: Global, label: &str, text: &mut Vec<u8>) -> Result<(), AllocError>
         ensures { OnOk result (text.new.items
             ≡ text.old.items ++ policy_lines label.now self.now.job self.now.trace self.now.at) }
     {
         let cache = self.session.engine();
-        let keys = cache.residents(alloc)?;
         push_counts(text, label, &self.job, &cache.stats())?;
+        let keys = cache.residents(alloc)?;
         push_holds(text, label, keys.as_slice())
     }
 }
@@ -141,25 +142,26 @@ fn make(session: &mut Session<AnyPolicy>, key: Key) -> Result<Outcome, AllocErro
 }
 
 // Adds the line of the counts.
-fn push_counts(text: &mut Vec<u8>, label: &[u8], job: &Job, stats: &Stats) -> Result<(), AllocError>
+fn push_counts(text: &mut Vec<u8>, label: &str, job: &Job, stats: &Stats) -> Result<(), AllocError>
     ensures { OnOk result (text.new.items ≡ text.old.items ++ counts_line label.now job.now stats.now) }
 {
-    text.extend_from_slice(label)?;
-    text.extend_from_slice(b" ")?;
-    text.extend_from_slice(job.policy.word().as_bytes())?;
-    push_count(text, b" hits ", stats.hits)?;
-    push_count(text, b" misses ", stats.misses)?;
-    push_count(text, b" evictions ", stats.evictions)?;
-    push_count(text, b" rejections ", stats.rejections)?;
-    text.extend_from_slice(b"\n")
+    writeln!(
+        text,
+        "{label} {} hits {} misses {} evictions {} rejections {}",
+        job.policy.word(),
+        stats.hits,
+        stats.misses,
+        stats.evictions,
+        stats.rejections
+    )
+    .map_err(|_| AllocError)
 }
 
 // Adds the line of the residents.
-fn push_holds(text: &mut Vec<u8>, label: &[u8], keys: &[Key]) -> Result<(), AllocError>
+fn push_holds(text: &mut Vec<u8>, label: &str, keys: &[Key]) -> Result<(), AllocError>
     ensures { OnOk result (text.new.items ≡ text.old.items ++ holds_line label.now keys.now) }
 {
-    text.extend_from_slice(label)?;
-    text.extend_from_slice(b" holds")?;
+    write!(text, "{label} holds").map_err(|_| AllocError)?;
     push_keys(text, keys)?;
     text.extend_from_slice(b"\n")
 }

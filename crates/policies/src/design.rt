@@ -7,7 +7,7 @@ use replacement::{HitRule, Rules};
 use step_record::{Config, Policy};
 
 /// What a policy is.
-#[derive(Clone, Copy, Debug, PartialEq, Eq)]
+#[derive(Clone, Copy)]
 pub enum Design {
     /// A policy of queues.
     Queues(QueueDesign),
@@ -16,7 +16,7 @@ pub enum Design {
 }
 
 /// What a policy of queues goes by.
-#[derive(Clone, Copy, Debug, PartialEq, Eq)]
+#[derive(Clone, Copy)]
 pub struct QueueDesign {
     /// Which queues it has.
     pub layout: Layout,
@@ -27,7 +27,7 @@ pub struct QueueDesign {
 }
 
 /// The queues of a policy.
-#[derive(Clone, Copy, Debug, PartialEq, Eq)]
+#[derive(Clone, Copy)]
 pub enum Layout {
     /// One queue.
     OneQueue,

@@ -14,6 +14,7 @@
 
 mod actor_fault;
 mod any_policy;
+mod cache_run;
 mod design;
 mod job_checks;
 mod lru;
@@ -29,14 +30,15 @@ mod window_tiny_lfu;
 
 pub use actor_fault::ActorFault;
 pub use any_policy::{AnyPolicy, AnyRecord};
+pub use cache_run::CacheRun;
 pub use design::{Design, Layout, QueueDesign, design_of};
 pub use job_checks::{MAX_ACTORS, check_capacities, check_jobs, with_capacity};
 pub use lru::{Lru, LruMark};
 pub use queue_cache::{ByJob, QueueCache};
 pub use record::AccessRecord;
-pub use report::Report;
+pub use report::{Interval, Report};
 pub use same::{clone_of_report, clone_of_stats, is_same_report, is_same_stats};
 pub use segmented_lru::{SegmentedLru, SegmentedLruMark};
 pub use tiny_lfu::{TinyLfu, TinyLfuMark};
-pub use trace_run::{access_all, access_in_batches, report_by};
+pub use trace_run::{access_all, report_over};
 pub use window_tiny_lfu::{WindowTinyLfu, WindowTinyLfuMark};

@@ -43,3 +43,13 @@ impl Report {
         u128::from(self.hits) * 10_000 / u128::from(self.accesses)
     }
 }
+
+/// What a policy made of the accesses from one of a trace up to another, which are counted from 1. The cache was open
+/// through the accesses before them.
+#[derive(Clone, Copy)]
+pub struct Interval {
+    pub first: u64,
+    pub last: u64,
+    /// How many accesses these are, and how many of each kind.
+    pub report: Report,
+}

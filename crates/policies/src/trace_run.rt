@@ -1,5 +1,6 @@
 //! The accesses of a trace by a cache, and its report at their end.
-ghost use Rattle.std.specs.Prelude.{◌≡◌, ◌++◌, ℕ, List, take, drop, OnOk};
+ghost use Rattle.std.specs.Prelude.{◌≡◌, ◌++◌, [], ℕ, List, take, drop, Ok, IfOk, IfSome, OnOk};
+ghost use Rattle.step_record.specs.Config.{config_fault};
 ghost use Rattle.step_record.specs.declared.job.Job.{Job};
 ghost use Rattle.policies.specs.AnyPolicy.{HasAccessed};
 ghost use Rattle.policies.specs.Accesses.{IsNext};
@@ -8,8 +9,30 @@ ghost use Rattle.policies.specs.Reports.{report_on};
 use crate::any_policy::AnyPolicy;
 use crate::report::Report;
 use crate::theorems;
+use clairvoyant::NextUse;
 use std::alloc::{AllocError, Global};
-use step_record::{Gate, Job, Key, MAX_BATCH, StepFault};
+use step_record::{Gate, Job, Key, MAX_BATCH, StepFault, Trace};
+
+/// The report of a job over a trace, by a cache that makes its accesses in turn. It requires a configuration that
+/// `Config::check` accepts. Belady's policy goes by the next uses, where there are some. The gate is called before and
+/// after each batch of `MAX_BATCH` accesses, as worker 0, with the batch's number. The one error is out of memory.
+pub fn report_over<G: Gate>(
+    alloc: Global,
+    trace: &Trace,
+    uses: Option<&NextUse>,
+    job: &Job,
+    gate: &G,
+) -> Result<Report, AllocError>
+    requires checked { config_fault job.now.config ≡ Ok tt }
+    requires uses { IfSome uses (λ u. u.now ≡ trace.now) }
+    ensures { IfOk result (λ r. r ≡ report_on job.now trace.now) }
+{
+    let mut cache = open(alloc, trace, uses, job)?;
+    let made = access_in_batches(&mut cache, trace.keys(), gate);
+    let report = report_by(cache, job);
+    made?;
+    Ok(report)
+}
 
 /// Makes the accesses in turn, which are the next ones of a trace. The one error is out of memory; the cache has made
 /// some of them then, and is of no more use.
@@ -31,9 +54,17 @@ pub fn access_all(cache: &mut AnyPolicy, keys: &[Key]) -> Result<(), AllocError>
     Ok(())
 }
 
-/// The same in batches of `MAX_BATCH` accesses, with the gate called before and after each, as worker 0, with the
-/// batch's number.
-pub fn access_in_batches<G: Gate>(
+/// The report of a cache that ran its job over the whole trace, and is of no more use.
+pub(crate) fn report_by(cache: AnyPolicy, job: &Job) -> Report
+    ensures { (trace : List ℕ) → HasAccessed job.now trace trace cache → result ≡ report_on job.now trace }
+{
+    theorems::any_reports();
+    Report::of(job, cache.stats())
+}
+
+// The accesses in turn, in batches of `MAX_BATCH`, with the gate called before and after each, as worker 0, with the
+// batch's number.
+fn access_in_batches<G: Gate>(
     cache: &mut AnyPolicy,
     keys: &[Key],
     gate: &G,
@@ -54,12 +85,21 @@ pub fn access_in_batches<G: Gate>(
     Ok(())
 }
 
-/// The report of a cache that ran its job over the whole trace.
-pub fn report_by(cache: &AnyPolicy, job: &Job) -> Report
-    ensures { (trace : List ℕ) → HasAccessed job.now trace trace cache.now → result ≡ report_on job.now trace }
+// An empty cache for the job over the trace.
+fn open(
+    alloc: Global,
+    trace: &Trace,
+    uses: Option<&NextUse>,
+    job: &Job,
+) -> Result<AnyPolicy, AllocError>
+    requires checked { config_fault job.now.config ≡ Ok tt }
+    requires uses { IfSome uses (λ u. u.now ≡ trace.now) }
+    ensures { IfOk result (λ cache. HasAccessed job.now trace.now [] cache) }
 {
-    theorems::any_reports();
-    Report::of(job, cache.stats())
+    match uses {
+        Some(uses) => AnyPolicy::open_with(alloc, job, uses),
+        None => AnyPolicy::open(alloc, job, trace),
+    }
 }
 
 // The first keys of the rest, `size` where there are so many, and what is left.

@@ -1,30 +1,16 @@
 -- What an actor has of the accesses, batch after batch.
-use Rattle.std.proofs.Common.{◌≡◌, ℕ, ◌+◌, ◌*◌, ◌<◌, ◌≤◌, false, true≢false, List, [], ◌++◌, length, take, drop, Option, Some, None, IfSome, Result, Ok, Err, OnOk, IsTrue, ⊎_elim, sym, ap, subst, ◌∙◌, arith, append-nil, length-append}
+use Rattle.std.proofs.Common.{◌≡◌, ℕ, ◌+◌, ◌*◌, ◌<◌, ◌≤◌, List, [], ◌++◌, length, take, drop, Option, Some, None, IfSome, IsTrue, ⊎_elim, sym, ap, subst, ◌∙◌, arith, append-nil, length-append}
 use Rattle.std.specs.Prelude.{◌↔◌}
-use Rattle.std.specs.Result.{is_err}
 use Rattle.std.proofs.lemmas.Bool.{cases_lt}
 use Rattle.step_record.specs.declared.job.Job.{Job}
 use Rattle.step_record.specs.declared.limits.TheConstants.{MAX_ACCESSES}
-use Rattle.policies.specs.declared.any_policy.AnyPolicy.{AnyPolicy}
-use Rattle.policies.specs.declared.any_policy.AnyPolicy.TheVariants.{Queues, Optimal}
-use Rattle.policies.specs.Design.{knows_trace}
-use Rattle.policies.specs.AnyPolicy.{HasAccessed}
-use Rattle.policy_actors.specs.CacheRuns.{CanTake, HasTaken, IsAfter}
-use Rattle.policy_actors.specs.declared.actor.CacheRun.{CacheRun}
-use Rattle.policy_actors.specs.declared.actor.CacheRun.TheVariants.{Cache, NextUses, OutOfMemory}
+use Rattle.policy_actors.specs.CacheRuns.{IsAfter}
+use Rattle.policies.specs.CacheRun.{CanTake, HasTaken}
+use Rattle.policies.specs.declared.cache_run.CacheRun.{CacheRun}
+use Rattle.policies.specs.declared.cache_run.CacheRun.TheVariants.{Cache, NextUses, OutOfMemory}
 use Rattle.policy_actors.specs.ChannelProtocol.{IsBatch}
 use Rattle.policy_actors.specs.declared.channel_protocol.Batch.{Batch}
 use Rattle.policies.proofs.Batches.{taken-more, all-taken}
-
--- a cache of a policy that goes by no trace
-pub of_any : (j : Job) (trace other keys : List ℕ) (d : AnyPolicy) → knows_trace j.policy ≡ false → HasAccessed j trace keys d → HasAccessed j other keys d
-of_any j trace other keys (Queues d) none h = h
-of_any j trace other keys (Optimal d) none h = absurd (true≢false (sym h.policy ∙ none))
-
--- what comes where there was no error
-pub went : {T E P : Type 0} (r : Result T E) → is_err r ≡ false → OnOk r P → P
-went (Ok v) none h = h
-went (Err e) none h = absurd (true≢false none)
 
 nothing : (known : Option (List ℕ)) (size : ℕ) → IfSome known (λ all. [] ≡ take (0 * size) all)
 nothing None size = tt

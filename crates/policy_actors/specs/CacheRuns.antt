@@ -1,23 +1,9 @@
 -- What an actor has of the accesses while batches come.
-use Rattle.std.specs.Prelude.{⊤, ◌≡◌, ℕ, ◌+◌, ◌*◌, ◌≤◌, Option, IfSome, List, length, take}
+use Rattle.std.specs.Prelude.{◌≡◌, ℕ, ◌*◌, ◌≤◌, Option, IfSome, List, length, take}
 use Rattle.step_record.specs.declared.job.Job.{Job}
 use Rattle.step_record.specs.declared.limits.TheConstants.{MAX_ACCESSES}
-use Rattle.policies.specs.AnyPolicy.{HasAccessed}
-use Rattle.policies.specs.Accesses.{IsNext}
-use Rattle.policy_actors.specs.declared.actor.CacheRun.{CacheRun}
-use Rattle.policy_actors.specs.declared.actor.CacheRun.TheVariants.{Cache, NextUses, OutOfMemory}
-
--- a cache made these accesses of the trace, or they are those whose next uses are found, or there was no memory for them
-abbrev pub HasTaken : Job → List ℕ → List ℕ → CacheRun → Type 0
-HasTaken job trace done (Cache d) = HasAccessed job trace done d
-HasTaken job trace done (NextUses found) = found ≡ done
-HasTaken job trace done OutOfMemory = ⊤
-
--- these keys can be its next accesses
-abbrev pub CanTake : List ℕ → CacheRun → Type 0
-CanTake keys (Cache d) = IsNext keys d
-CanTake keys (NextUses found) = length found + length keys ≤ MAX_ACCESSES
-CanTake keys OutOfMemory = ⊤
+use Rattle.policies.specs.CacheRun.{HasTaken}
+use Rattle.policies.specs.declared.cache_run.CacheRun.{CacheRun}
 
 -- it took the accesses of the first k batches, of so many keys each; they may be those of any trace
 pub record IsAfter (known : Option (List ℕ)) (job : Job) (size k : ℕ) (run : CacheRun) : Type 0 where

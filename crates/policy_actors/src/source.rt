@@ -57,8 +57,8 @@ impl<'t> AccessSource for TraceSource<'t> {
         self.trace.len()
     }
 
-    fn feed<S: FedTrace, W: Wait>(self, feeder: Feeder<'_, S, W>) {
-        let _ = feed_trace(feeder, self.trace);
+    fn feed<S: FedTrace, W: Wait>(self, mut feeder: Feeder<'_, S, W>) {
+        let _ = feed_trace(&mut feeder, self.trace);
     }
 
     fn leave(self) {}
@@ -66,11 +66,11 @@ impl<'t> AccessSource for TraceSource<'t> {
 
 // Gives the feeder a trace that is there, piece by piece. The one error is out of memory.
 fn feed_trace<S: FedTrace, W: Wait>(
-    mut feeder: Feeder<'_, S, W>,
+    feeder: &mut Feeder<'_, S, W>,
     trace: &Trace,
 ) -> Result<(), AllocError>
     requires known { S.known ≡ Some trace.now }
-    requires none { feeder.place ≡ 0 }
+    requires none { feeder.old.place ≡ 0 }
 {
     let mut read = Vec::new(feeder.alloc);
     let mut rest = trace.keys();

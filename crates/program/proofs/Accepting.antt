@@ -16,7 +16,7 @@ use Rattle.policies.specs.declared.actor_fault.ActorFault.{ActorFault}
 use Rattle.policies.specs.declared.actor_fault.ActorFault.TheVariants.{OutOfMemory}
 use Rattle.sweeps.specs.Sweep.{first_config_fault, sweep_fault}
 use Rattle.policy_actors.specs.Faults.{actor_fault}
-use Rattle.intervals.specs.Intervals.{intervals_fault}
+use Rattle.sweeps.specs.Intervals.{intervals_fault}
 use Rattle.policies.specs.declared.job_checks.TheConstants.{MAX_ACTORS}
 use Rattle.command_line.specs.Accepted.{IsAcceptedPart, IsAcceptedRun, IsAcceptedSweep}
 use Rattle.command_line.specs.declared.arguments.PartArguments.{PartArguments}

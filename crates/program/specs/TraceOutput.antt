@@ -11,8 +11,8 @@ use Rattle.trace_read.specs.declared.format.Format.{Format}
 use Rattle.policies.specs.AnyPolicy.{outcomes_on}
 use Rattle.policies.specs.Reports.{report_on}
 use Rattle.policies.specs.declared.report.Report.{Report}
-use Rattle.intervals.specs.Intervals.{intervals_on}
-use Rattle.intervals.specs.declared.interval.Interval.{Interval}
+use Rattle.sweeps.specs.Intervals.{intervals_on}
+use Rattle.policies.specs.declared.report.Interval.{Interval}
 use Rattle.report.specs.IntervalText.{intervals_text}
 use Rattle.report.specs.Text.{reports_text}
 use Rattle.debug_policies.specs.Comparison.{compared_on, comparison_text}

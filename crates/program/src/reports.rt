@@ -80,7 +80,7 @@ pub fn intervals<T: Threads + Sync>(
 {
     let jobs = few_jobs(alloc, arguments.config, &arguments.policies)?;
     let every = arguments.every as usize;
-    let rows = intervals::intervals(rt, alloc, trace, jobs.as_slice(), every);
+    let rows = sweeps::intervals(rt, alloc, trace, jobs.as_slice(), every);
     Ok(intervals_text(alloc, accepted(rows)?.as_slice())?)
 }
 

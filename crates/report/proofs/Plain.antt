@@ -15,7 +15,7 @@ use Rattle.step_record.specs.Job.{word_of}
 use Rattle.step_record.specs.declared.job.Policy.{Policy}
 use Rattle.step_record.specs.declared.job.Policy.TheVariants.{Lru}
 use Rattle.policies.specs.declared.report.Report.{Report}
-use Rattle.intervals.specs.declared.interval.Interval.{Interval}
+use Rattle.policies.specs.declared.report.Interval.{Interval}
 use Rattle.report.specs.IntervalText.{interval_fields}
 
 abbrev pub IsPlain : List ℕ → Type 0

@@ -4,7 +4,7 @@ use Rattle.std.specs.List.{flat_map}
 use Rattle.std.specs.Fmt.{decimal}
 use Rattle.step_record.specs.Job.{word_of}
 use Rattle.policies.specs.Reports.{rate_of}
-use Rattle.intervals.specs.declared.interval.Interval.{Interval}
+use Rattle.policies.specs.declared.report.Interval.{Interval}
 use Rattle.report.specs.Text.{line_text, rate_text_of}
 
 abbrev pub interval_header : List (List ℕ)

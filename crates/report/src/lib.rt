@@ -8,6 +8,5 @@ mod interval_rows;
 mod rows;
 
 pub use interval_rows::intervals_text;
-pub use intervals::Interval;
-pub use policies::Report;
+pub use policies::{Interval, Report};
 pub use rows::reports_text;

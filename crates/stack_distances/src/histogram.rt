@@ -36,13 +36,13 @@ impl Histogram {
         requires { length keys.now ≤ MAX_ACCESSES }
         ensures { IfOk result (λ h. IsHistogram keys.now 0 h) }
     {
-        let last = KeyPlaces::new(alloc);
+        let noted = Vec::with_capacity(alloc, STRETCH)?;
         let marks = Marks::new(alloc, keys.len())?;
         Ok(Histogram {
-            last,
+            last: KeyPlaces::new(alloc),
             marks,
             counts: Vec::new(alloc),
-            noted: Vec::with_capacity(alloc, STRETCH)?,
+            noted,
             read: 0,
         })
     }

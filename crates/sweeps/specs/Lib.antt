@@ -1,1 +1,3 @@
 pub mod Sweep
+pub mod Intervals
+pub mod Theorems

@@ -1,11 +1,19 @@
-//! Reports of jobs over a whole trace, made on this thread or side by side by `rayon`: `run_one` of one job, `sweep` of a
-//! job at several capacities, `sweep_each` of several jobs at the same capacities.
+//! Jobs over a whole trace, made on this thread or side by side by `rayon`. Reports: `run_one` of one job, `sweep` of a
+//! job at several capacities, `sweep_each` of several jobs at the same capacities. And what jobs make of a trace over
+//! time: `intervals` cuts the accesses into intervals of the same length, of which the last may be shorter, and each job
+//! has a row for each of them.
 //!
-//! The three promise the same: with `Ok`, each report is `report_on` of its job and the trace, in the order asked for.
+//! The first three promise the same: with `Ok`, each report is `report_on` of its job and the trace, in the order asked
+//! for. `intervals` promises that each row counts the outcomes that the policy's definition gives at the row's accesses,
+//! over the whole trace; `theorems::intervals_add_up` says that the rows of a policy sum up to its report.
 #![tactic(auto)]
 
 mod capacities;
+mod interval_rows;
+mod interval_run;
 mod single_run;
+pub mod theorems;
 
 pub use capacities::{sweep, sweep_batches, sweep_each};
+pub use interval_rows::intervals;
 pub use single_run::run_one;

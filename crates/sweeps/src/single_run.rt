@@ -3,12 +3,11 @@ ghost use Rattle.std.specs.Prelude.{◌≡◌, ℕ, List, Ok, IfOk, IfSome, [], 
 ghost use Rattle.std.proofs.Props.{props};
 ghost use Rattle.step_record.specs.Config.{config_fault};
 ghost use Rattle.policies.specs.FaultyJobs.{faulty_in, ReturnsFault};
-ghost use Rattle.policies.specs.AnyPolicy.{HasAccessed};
 ghost use Rattle.policies.specs.Reports.{report_on};
 ghost use Rattle.stack_distances.specs.Curve.{curve_of};
 
 use clairvoyant::NextUse;
-use policies::{ActorFault, AnyPolicy, Report, access_in_batches, report_by};
+use policies::{ActorFault, Report, report_over};
 use stack_distances::{Curve, Reuses};
 use std::alloc::{AllocError, Global};
 use step_record::{Gate, Job, OpenGate, Policy, Trace};
@@ -95,20 +94,7 @@ fn run_checked<G: Gate>(
     {
         return window_report(alloc, reuses, job);
     }
-    let mut cache = open(alloc, prepared, job)?;
-    access_in_batches(&mut cache, prepared.trace.keys(), gate)?;
-    Ok(report_by(&cache, job))
-}
-
-// An empty cache for the job over the trace.
-fn open(alloc: Global, prepared: &PreparedTrace<'_>, job: &Job) -> Result<AnyPolicy, AllocError>
-    requires { config_fault job.now.config ≡ Ok tt }
-    ensures { IfOk result (λ cache. HasAccessed job.now prepared.now.trace.now [] cache) }
-{
-    match prepared.uses {
-        Some(uses) => AnyPolicy::open_with(alloc, job, uses),
-        None => AnyPolicy::open(alloc, job, prepared.trace),
-    }
+    report_over(alloc, prepared.trace, prepared.uses, job, gate)
 }
 
 // The report of a job of Lru, read off the curve of the trace.

@@ -12,7 +12,7 @@ const BLOCK: usize = 64;
 pub const BEHIND: usize = 16;
 
 /// The place of a run of digits, maybe of none: of its first byte, and of the byte behind its last.
-#[derive(Clone, Copy, Debug)]
+#[derive(Clone, Copy)]
 pub struct DigitRun {
     pub start: usize,
     pub end: usize,

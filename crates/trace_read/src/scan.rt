@@ -27,7 +27,7 @@ use text_lines::place_of;
 ///
 /// What it says is what the whole file comes to, for each list of bytes that may still follow: so
 /// no contract names the bytes that it took.
-#[derive(Debug, Drop)]
+#[derive(Drop)]
 pub struct Scan {
     alloc: Global,
     format: Format,

@@ -1,14 +1,12 @@
-use Rattle.std.proofs.Common.{rules, ◌≡◌, ◌∙◌, Ok, Err, ap, sym, subst, refl}
+use Rattle.std.proofs.Common.{◌≡◌, ◌∙◌, Ok, Err, ap, sym, subst, refl}
 use Rattle.std.specs.Result.{IsErrAnd}
 use Rattle.streams.proofs.Tallies.{further, unspent}
 use Rattle.debug_commands.specs.Commands.{command_line_of}
-use Rattle.debug_commands.specs.Dialogue.{is_quit}
+use Rattle.debug_commands.specs.Dialogue.{is_last}
 use Rattle.debug_commands.specs.Timeline.{TimelineData}
-use Rattle.debug_commands.specs.declared.command.Command.TheVariants as command
-use Rattle.debug_commands.specs.declared.command.InputLine.TheVariants.{Known}
 use Rattle.debug_commands.specs.declared.fault.DebugFault.{DebugFault}
 use Rattle.debug_commands.specs.declared.fault.DebugFault.TheVariants.{TooLarge}
-use Rattle.debug_commands.proofs.Ahead.{a_round, begins, ends_at_large, ends_at_last, ends_at_quit, flushed, goes_on, not_quit, said_is}
+use Rattle.debug_commands.proofs.Ahead.{a_round, begins, ends_at_large, ends_here, flushed, goes_on, said_is}
 use Rattle.debug_commands.proofs.dialogue.answer_commands.Goals as goal
 
 pub lines-init : goal.lines-init
@@ -28,33 +26,23 @@ returns-in_err-fed-clause-large g c e =
     let fault : c.in_err-fed.field-0.0 ≡ TooLarge = sym gives in
     ends_at_large c.lines.invariant.ahead (c.in_err-fed.ensures.large (ap Err fault))
 
-pub returns-then-not-fed-clause-done : goal.returns-then-not-fed-clause-done
-returns-then-not-fed-clause-done g c = ends_at_last
-    (a_round (g.R.CountedRead.remaining c.read_line.new.input) (g.W.CountedWrite.contents c.flush.new.writer) c.lines.invariant.ahead c.lines.invariant.same
-    c.dialect.ensures c.as_slice.ensures.value c.line-said.ensures c.clear-in-lines.ensures.items c.in_ok-answer.ensures.answer
-    c.in_ok-fed.ensures.read c.in_ok-fed.ensures.feeds c.in_ok-fed.ensures.room c.as_slice-in-lines.ensures.value (flushed (g.W.CountedWrite.contents c.lines.out) (g.W.CountedWrite.contents c.write_some.new.writer) (g.W.CountedWrite.contents c.flush.new.writer) c.as_slice-in-lines.result.now
-    c.in_ok-write_some.ensures.bytes c.in_ok-flush.ensures.bytes))
-    c.if-not-fed.true (c.in_ok-fed.ensures.end (ap Ok c.if-not-fed.true))
-
-pub returns-then-eq-clause-done : goal.returns-then-eq-clause-done
-returns-then-eq-clause-done g c =
+pub returns-then-is_last-clause-done : goal.returns-then-is_last-clause-done
+returns-then-is_last-clause-done g c =
     let t : TimelineData = g.T.Timeline.timeline c.args.timeline.now in
     let said : c.line-said.result ≡ command_line_of t.dialect c.read_line.new.text.items =
     said_is c.lines.invariant.same c.dialect.ensures c.as_slice.ensures.value c.line-said.ensures in
-    let quits : c.line-said.result ≡ Known command.Quit = search rules in
-    ends_at_quit
+    ends_here
     (a_round (g.R.CountedRead.remaining c.read_line.new.input) (g.W.CountedWrite.contents c.flush.new.writer) c.lines.invariant.ahead c.lines.invariant.same
     c.dialect.ensures c.as_slice.ensures.value c.line-said.ensures c.clear-in-lines.ensures.items c.in_ok-answer.ensures.answer
     c.in_ok-fed.ensures.read c.in_ok-fed.ensures.feeds c.in_ok-fed.ensures.room c.as_slice-in-lines.ensures.value (flushed (g.W.CountedWrite.contents c.lines.out) (g.W.CountedWrite.contents c.write_some.new.writer) (g.W.CountedWrite.contents c.flush.new.writer) c.as_slice-in-lines.result.now
     c.in_ok-write_some.ensures.bytes c.in_ok-flush.ensures.bytes))
-    c.if-not-fed.false (sym (ap is_quit said) ∙ ap is_quit quits)
+    (sym (c.is_last.ensures ∙ ap (is_last c.in_ok-fed.fed) said) ∙ c.if-is_last.true) (λ none. c.in_ok-fed.ensures.end (ap Ok none))
 
 pub lines-preserved : goal.lines-preserved
 lines-preserved g c =
     let t : TimelineData = g.T.Timeline.timeline c.args.timeline.now in
     let said : c.line-said.result ≡ command_line_of t.dialect c.read_line.new.text.items =
     said_is c.lines.invariant.same c.dialect.ensures c.as_slice.ensures.value c.line-said.ensures in
-    let goes : c.line-said.result ≡ Known command.Quit → ⊥ = search rules in
     record {
       source = c.answer.ensures.source ∙ c.lines.invariant.source;
       whole = c.in_ok-answer.ensures.whole;
@@ -64,7 +52,7 @@ lines-preserved g c =
           c.dialect.ensures c.as_slice.ensures.value c.line-said.ensures c.clear-in-lines.ensures.items c.in_ok-answer.ensures.answer
           c.in_ok-fed.ensures.read c.in_ok-fed.ensures.feeds c.in_ok-fed.ensures.room c.as_slice-in-lines.ensures.value (flushed (g.W.CountedWrite.contents c.lines.out) (g.W.CountedWrite.contents c.write_some.new.writer) (g.W.CountedWrite.contents c.flush.new.writer) c.as_slice-in-lines.result.now
           c.in_ok-write_some.ensures.bytes c.in_ok-flush.ensures.bytes))
-          c.if-not-fed.false (sym (ap is_quit said) ∙ not_quit c.line-said.result goes);
+          (sym (c.is_last.ensures ∙ ap (is_last c.in_ok-fed.fed) said) ∙ c.if-is_last.false);
       reads = further _ _ _ _ _ _ c.lines.invariant.reads (c.in_ok-fed.ensures.spent (λ same. absurd (cc same)));
       writes = further _ _ _ _ _ _ c.lines.invariant.writes
           (further _ _ _ _ _ _ c.in_ok-write_some.ensures.spent c.in_ok-flush.ensures.spent);

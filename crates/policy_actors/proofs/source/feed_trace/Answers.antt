@@ -3,7 +3,7 @@ use Rattle.policy_actors.proofs.Pieces.{begun, ended, followed, grown, next, roo
 use Rattle.policy_actors.proofs.source.feed_trace.Goals as goal
 
 pub loop-rest-init : goal.loop-rest-init
-loop-rest-init g c = begun c.args.trace.now c.new-read.result.items c.keys-rest.result.now c.args.feeder.place c.requires.none c.new-read.ensures.items c.keys-rest.ensures.keys
+loop-rest-init g c = begun c.args.trace.now c.new-read.result.items c.keys-rest.result.now c.args.feeder.now.place c.requires.none c.new-read.ensures.items c.keys-rest.ensures.keys
 
 pub follow-requires-clause-few : goal.follow-requires-clause-few
 follow-requires-clause-few g c = let l = c.loop-rest in let all = c.args.trace.now in let s = c.split_at in let read = c.extend_from_slice.new.self.items in

@@ -1,4 +1,0 @@
-pub mod Counts
-pub mod Pieces
-pub mod Sums
-pub mod Joined

@@ -1,5 +1,0 @@
-use Rattle.intervals.proofs.Sums.{add-up}
-use Rattle.intervals.proofs.theorems.intervals_add_up.Goals as goal
-
-pub returns : goal.returns
-returns c = add-up c.any_covers_trace.ensures

@@ -1,0 +1,81 @@
+-- Pieces of a list, cut off one after another.
+use Rattle.std.proofs.Common.{◌≡◌, ◌∙◌, ◌+◌, ◌*◌, ◌<◌, ◌≤◌, ℕ, zero, suc, min, List, [], ◌∷◌, ◌++◌, inl, inr, length, take, drop, refl, ap, sym, arith, take-add, length-drop, length-take-le}
+use Rattle.std.proofs.lemmas.Nat.{mul-le}
+use Rattle.std.specs.Int.{div_ceil}
+use Rattle.std.proofs.lemmas.Bool.{cases_lt}
+use Rattle.std.proofs.lemmas.Grind.{div_ceil_times}
+use Rattle.std.proofs.lemmas.List.{take_all, drop_all, drop-drop}
+use Rattle.step_record.specs.declared.job.Job.{Job}
+use Rattle.step_record.specs.declared.outcome.Outcome.{Outcome}
+use Rattle.step_record.specs.declared.stats.Stats.{Stats}
+use Rattle.step_record.specs.Stats.{stats_of}
+use Rattle.sweeps.specs.Intervals.{between, interval_at, IsLater}
+use Rattle.sweeps.proofs.Counts.{between-counts, later-counts}
+
+-- of a list that is shorter than asked for all is taken
+take-least : {X : Type 0} (n k : ℕ) (xs : List X) → k ≡ min n (length xs) → take k xs ≡ take n xs
+take-least n k xs is =
+    elim (cases_lt n (length xs)) [
+      | inl below ↦ (let same : k ≡ n = omega (arith, is, below) in ap (λ m. take m xs) same)
+      | inr past ↦ (
+          let all : k ≡ length xs = omega (arith, is, past) in
+          take_all k xs (omega (arith, all)) ∙ sym (take_all n xs past))
+    ]
+
+drop-least : {X : Type 0} (n k : ℕ) (xs : List X) → k ≡ min n (length xs) → drop k xs ≡ drop n xs
+drop-least n k xs is =
+    elim (cases_lt n (length xs)) [
+      | inl below ↦ (let same : k ≡ n = omega (arith, is, below) in ap (λ m. drop m xs) same)
+      | inr past ↦ (
+          let all : k ≡ length xs = omega (arith, is, past) in
+          drop_all k xs (omega (arith, all)) ∙ sym (drop_all n xs past))
+    ]
+
+-- the piece that is cut off next, and what is left behind it
+pub cut-piece : {X : Type 0} (every n k : ℕ) (xs rest piece : List X) → k ≡ min every (length rest) → rest ≡ drop (n * every) xs → piece ≡ take k rest
+    → piece ≡ take every (drop (n * every) xs)
+cut-piece every n k xs rest piece least is front = front ∙ take-least every k rest least ∙ ap (take every) is
+
+pub cut-rest : {X : Type 0} (every n k : ℕ) (xs rest later : List X) → k ≡ min every (length rest) → rest ≡ drop (n * every) xs → later ≡ drop k rest
+    → later ≡ drop ((n + 1) * every) xs
+cut-rest every n k xs rest later least is back =
+    let e : (n + 1) * every ≡ n * every + every = omega arith in
+    back ∙ drop-least every k rest least ∙ ap (drop every) is ∙ drop-drop every (n * every) xs ∙ ap (λ m. drop m xs) (sym e)
+
+-- one piece more
+pub piece-more : {X : Type 0} (every n : ℕ) (xs : List X) → take ((n + 1) * every) xs ≡ take (n * every) xs ++ take every (drop (n * every) xs)
+piece-more every n xs =
+    let e : (n + 1) * every ≡ n * every + every = omega arith in
+    ap (λ m. take m xs) e ∙ take-add (n * every) every xs
+
+-- before each piece that is needed to cover a list something is left
+pub piece-begins : (every n long : ℕ) → 1 ≤ every → n < div_ceil long every → n * every < long
+piece-begins every n long some below =
+    let cover = (div_ceil_times long every some).1 in
+    let next : (n + 1) * every ≤ div_ceil long every * every = mul-le (n + 1) every (div_ceil long every) every (omega (arith, below)) (omega arith) in
+    let e : (n + 1) * every ≡ n * every + every = omega arith in
+    omega (arith, cover, next, e)
+
+-- the last piece ends the list
+pub pieces-cover : (every long : ℕ) → 1 ≤ every → long ≤ div_ceil long every * every
+pieces-cover every long some = (div_ceil_times long every some).0
+
+some-taken : {X : Type 0} (n : ℕ) (xs : List X) → 1 ≤ n → 0 < length xs → 0 < length (take n xs)
+some-taken zero xs some full = absurd (omega (arith, some))
+some-taken (suc n) [] some full = absurd (omega (arith, full))
+some-taken (suc n) (x ∷ xs) some full = omega arith
+
+-- what two counts say of the piece between them
+module _ (j : Job) (every n : ℕ) (os : List Outcome) (before after : Stats) (some : 1 ≤ every) (below : n * every < length os)
+    (first : before ≡ stats_of (take (n * every) os)) (second : after ≡ stats_of (take ((n + 1) * every) os)) where
+  next : after ≡ stats_of (take (n * every) os ++ take every (drop (n * every) os))
+  next = second ∙ ap stats_of (piece-more every n os)
+
+  pub next-interval : between j before after ≡ interval_at j every os n
+  next-interval =
+      rw (first, next, between-counts j (take (n * every) os) (take every (drop (n * every) os)), length-take-le (n * every) os (omega (arith, below))) refl
+
+  pub next-later : IsLater before after
+  next-later =
+      rw (first, next) (later-counts (take (n * every) os) (take every (drop (n * every) os))
+      (some-taken every (drop (n * every) os) some (omega (arith, below, length-drop (n * every) os))))

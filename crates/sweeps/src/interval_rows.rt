@@ -1,0 +1,88 @@
+//! What jobs make of each interval of a trace, side by side.
+ghost use Rattle.std.specs.Prelude.{◌≡◌, ◌≤◌, IfOk, flat_map, map};
+ghost use Rattle.policies.specs.FaultyJobs.{ReturnsFault};
+ghost use Rattle.sweeps.specs.Intervals.{intervals_fault, intervals_on};
+
+use crate::interval_run::{CutTrace, intervals_of};
+use policies::{ActorFault, Interval, MAX_ACTORS, check_jobs};
+use rayon::prelude::*;
+use std::alloc::{AllocError, Global};
+use std::thread::Threads;
+use step_record::{Job, Trace};
+
+/// The rows of each job over the trace, cut into intervals of `every` accesses, of which the last may be shorter: all
+/// rows of the first job, in order, then those of the second, and so on. `rayon` runs the jobs side by side where there
+/// are threads.
+///
+/// Errors: `Actors` for more than `MAX_ACTORS` jobs, `Config` with the index of the first job whose configuration
+/// `Config::check` refuses, and `OutOfMemory`.
+pub fn intervals<R: Threads + Sync>(
+    rt: &R,
+    alloc: Global,
+    trace: &Trace,
+    jobs: &[Job],
+    every: usize,
+) -> Result<Vec<Interval>, ActorFault>
+    requires { 1 ≤ every }
+    ensures rows { IfOk result (λ rows. rows.items ≡ flat_map (λ j. intervals_on j every trace.now) jobs.now) }
+    ensures fault { ReturnsFault (intervals_fault jobs.now) result }
+{
+    if jobs.len() > MAX_ACTORS {
+        return Err(ActorFault::Actors);
+    }
+    check_jobs(jobs)?;
+    let cut = CutTrace::new(trace, every);
+    let rows = rows(rt, alloc, &cut, jobs)?;
+    Ok(rows)
+}
+
+// The rows of jobs that were checked before, so that out of memory is the one error.
+fn rows<R: Threads + Sync>(
+    rt: &R,
+    alloc: Global,
+    cut: &CutTrace<'_>,
+    jobs: &[Job],
+) -> Result<Vec<Interval>, AllocError>
+    ensures { IfOk result (λ rows.
+        rows.items ≡ flat_map (λ j. intervals_on j cut.now.every cut.now.trace.now) jobs.now) }
+{
+    let lists = rows_of_each(rt, alloc, cut, jobs)?;
+    joined(alloc, lists.as_slice())
+}
+
+// The rows of each of the jobs, side by side.
+fn rows_of_each<R: Threads + Sync>(
+    rt: &R,
+    alloc: Global,
+    cut: &CutTrace<'_>,
+    jobs: &[Job],
+) -> Result<Vec<Vec<Interval>>, AllocError>
+    ensures { IfOk result (λ lists. map (λ rows. rows.items) lists.items
+        ≡ map (λ j. intervals_on j cut.now.every cut.now.trace.now) jobs.now) }
+{
+    jobs.par_iter()
+        .with_min_len(1)
+        .map(
+            |job: &Job| -> Result<Vec<Interval>, AllocError>
+                ensures { IfOk result (λ rows. rows.items
+                    ≡ intervals_on job.now cut.entry.now.every cut.entry.now.trace.now) }
+            {
+                match intervals_of(alloc, cut, job) {
+                    Ok(rows) => Ok(rows),
+                    Err(_) => Err(AllocError),
+                }
+            },
+        )
+        .collect::<Result<Vec<_>, _>>(rt, alloc)?
+}
+
+// All rows of the lists, one list behind the other.
+fn joined(alloc: Global, lists: &[Vec<Interval>]) -> Result<Vec<Interval>, AllocError>
+    ensures { IfOk result (λ all. all.items ≡ flat_map (λ rows. rows.items) lists.now) }
+{
+    let mut all = Vec::new(alloc);
+    for rows in lists {
+        all.extend_from_slice(rows.as_slice())?;
+    }
+    Ok(all)
+}
