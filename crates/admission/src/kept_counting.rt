@@ -1,6 +1,6 @@
 //! The undo record of a recorded key, as it is kept until it is undone.
 ghost use Rattle.std.specs.Prelude.{◌≡◌, ◌≤◌, ◌*◌, Some};
-ghost use Rattle.bits_and_lists.specs.declared.bit_list.TheConstants.{MAX_LIST_WORDS};
+ghost use Rattle.step_record.specs.declared.bit_list.TheConstants.{MAX_LIST_WORDS};
 ghost use Rattle.admission.specs.KeptCounting.{counting_in, counting_words};
 
 use crate::door_record::{DoorRecord, SetProbes};

@@ -1,6 +1,6 @@
 //! The undo record of a recorded key, as it is kept where a key is always recorded.
 ghost use Rattle.std.specs.Prelude.{◌≡◌, ◌≤◌, ◌*◌};
-ghost use Rattle.bits_and_lists.specs.declared.bit_list.TheConstants.{MAX_LIST_WORDS};
+ghost use Rattle.step_record.specs.declared.bit_list.TheConstants.{MAX_LIST_WORDS};
 ghost use Rattle.admission.specs.FreqRecord.{size_of};
 
 use crate::freq_record::FreqRecord;

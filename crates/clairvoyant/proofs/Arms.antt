@@ -7,7 +7,7 @@ use Rattle.step_record.specs.Keys.{has_key, keys_without}
 use Rattle.clairvoyant.specs.Keys.{residents_with}
 use Rattle.clairvoyant.specs.Ranks.{rank, key_at}
 use Rattle.clairvoyant.specs.Belady.{farthest, belady_residents}
-use Rattle.rank_tree.specs.Bits.{is_in_set}
+use Rattle.clairvoyant.specs.Bits.{is_in_set}
 use Rattle.clairvoyant.specs.RankSet.{IsTied}
 use Rattle.clairvoyant.proofs.Keys.{without-put}
 use Rattle.clairvoyant.proofs.Belady.{residents-seen}

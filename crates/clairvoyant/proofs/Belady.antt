@@ -7,7 +7,7 @@ use Rattle.clairvoyant.specs.Keys.{residents_with, IsAscendingKeys}
 use Rattle.clairvoyant.specs.Ranks.{rank, key_at}
 use Rattle.clairvoyant.specs.Belady.{leaves_first, farthest, belady_residents_after, belady_answer, belady_residents}
 use Rattle.clairvoyant.proofs.Keys.{has-put, has-without, ascending-put, ascending-without, length-put, length-without}
-use Rattle.clairvoyant.proofs.Ranks.{IsSeen, seen-own, seen-more, named, leaves-rank}
+use Rattle.clairvoyant.proofs.Ranking.{IsSeen, seen-own, seen-more, named, leaves-rank}
 
 served-ascending : (c : ℕ) (t : List ℕ) (i k : ℕ) (r : List ℕ) → IsAscendingKeys r → IsAscendingKeys (belady_residents_after c t i k r)
 served-ascending c t i k r s =

@@ -7,13 +7,13 @@ use Rattle.std.proofs.lemmas.List.Sorted.{sum_by-IsPermutation}
 use Rattle.std.proofs.lemmas.Bool.{cases_Bool, cases_eq, cases_lt, eqb-true, eq-eqb, ne_eqb, lt-ltb, le-ltb}
 use Rattle.step_record.specs.Stats.{one_if}
 use Rattle.step_record.specs.Keys.{has_key}
-use Rattle.rank_tree.specs.Bits.{is_in_set}
+use Rattle.clairvoyant.specs.Bits.{is_in_set}
 use Rattle.clairvoyant.specs.Keys.{IsAscendingKeys}
 use Rattle.clairvoyant.specs.Ranks.{rank, key_at}
 use Rattle.clairvoyant.specs.RankSet.{IsTied, is_ranked}
 use Rattle.clairvoyant.specs.Belady.{belady_residents}
 use Rattle.clairvoyant.proofs.Keys.{below-none, below-has}
-use Rattle.clairvoyant.proofs.Ranks.{IsSeen, named}
+use Rattle.clairvoyant.proofs.Ranking.{IsSeen, named}
 use Rattle.clairvoyant.proofs.Belady.{residents-seen, residents-ascending}
 
 pub one-few : (b : Bool) → one_if b ≤ 1

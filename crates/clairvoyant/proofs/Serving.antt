@@ -6,10 +6,10 @@ use Rattle.step_record.specs.Keys.{has_key, keys_without}
 use Rattle.clairvoyant.specs.Keys.{residents_with, IsAscendingKeys}
 use Rattle.clairvoyant.specs.Ranks.{rank, key_at}
 use Rattle.clairvoyant.specs.Belady.{farthest, belady_residents_after, belady_answer, belady_departure}
-use Rattle.rank_tree.specs.Bits.{is_in_set}
+use Rattle.clairvoyant.specs.Bits.{is_in_set}
 use Rattle.clairvoyant.specs.RankSet.{IsTied}
 use Rattle.clairvoyant.proofs.Keys.{without-put, without-swap, put-without}
-use Rattle.clairvoyant.proofs.Ranks.{IsSeen, seen-own, seen-more, IsNamed, named, rank-other}
+use Rattle.clairvoyant.proofs.Ranking.{IsSeen, seen-own, seen-more, IsNamed, named, rank-other}
 use Rattle.clairvoyant.proofs.Belady.{farthest-is}
 use Rattle.clairvoyant.proofs.Steps.{same, in-own, step-hit, step-kept, step-rejected, step-evicted, key-own, is-at}
 

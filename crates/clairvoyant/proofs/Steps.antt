@@ -7,7 +7,7 @@ use Rattle.clairvoyant.specs.Keys.{residents_with}
 use Rattle.clairvoyant.specs.Ranks.{rank, key_at}
 use Rattle.clairvoyant.specs.RankSet.{is_ranked}
 use Rattle.clairvoyant.proofs.Keys.{has-put, has-without}
-use Rattle.clairvoyant.proofs.Ranks.{seen-own, named, rank-own, rank-other}
+use Rattle.clairvoyant.proofs.Ranking.{seen-own, named, rank-own, rank-other}
 
 pub same : (k : ℕ) → eqb k k ≡ true
 same k = eq-eqb k k refl

@@ -6,10 +6,10 @@ use Rattle.step_record.specs.Keys.{has_key, keys_without}
 use Rattle.clairvoyant.specs.Keys.{residents_with}
 use Rattle.clairvoyant.specs.Ranks.{rank, key_at}
 use Rattle.clairvoyant.specs.Belady.{farthest, belady_residents}
-use Rattle.rank_tree.specs.Bits.{is_in_set}
+use Rattle.clairvoyant.specs.Bits.{is_in_set}
 use Rattle.clairvoyant.specs.RankSet.{is_ranked, IsTied}
 use Rattle.clairvoyant.proofs.Keys.{without-put}
-use Rattle.clairvoyant.proofs.Ranks.{IsNamed, named, seen-more, rank-other}
+use Rattle.clairvoyant.proofs.Ranking.{IsNamed, named, seen-more, rank-other}
 use Rattle.clairvoyant.proofs.Belady.{residents-seen}
 use Rattle.clairvoyant.proofs.Steps.{in-own, is-at, and-of, key-own, key-new, step-hit, step-kept, step-rejected, step-evicted, not-in, restore, restore-one}
 use Rattle.clairvoyant.proofs.Records.{was-in}

@@ -1,6 +1,6 @@
 -- The residents as the set of their ranks.
 use Rattle.std.specs.Prelude.{◌≡◌, ℕ, ◌*◌, ◌<◌, Bool, eqb, ◌&&◌, List, length}
-use Rattle.rank_tree.specs.Bits.{is_in_set}
+use Rattle.clairvoyant.specs.Bits.{is_in_set}
 use Rattle.step_record.specs.Keys.{has_key}
 use Rattle.clairvoyant.specs.Ranks.{rank, key_at}
 

@@ -7,8 +7,8 @@ ghost use Rattle.clairvoyant.specs.RankSet.{IsTied};
 ghost use Rattle.clairvoyant.specs.Belady.{belady_residents, belady_outcome};
 ghost use Rattle.clairvoyant.specs.OptimalRecord.{record_at};
 
+use crate::Ranks;
 use crate::optimal_record::{EvictedKey, OptimalRecord};
-use rank_tree::Ranks;
 use std::alloc::{AllocError, Global};
 use std::marker::Model;
 use step_record::{Engine, Key, Outcome, Stats, StepFault};

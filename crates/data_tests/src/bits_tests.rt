@@ -1,6 +1,6 @@
 //! Bits in words, and a packed list of them.
 use super::assertions::assert_equal;
-use bits_and_lists::{BitList, bits};
+use step_record::{BitList, bits};
 use std::test::Fail;
 
 #[test]

@@ -1,6 +1,6 @@
 //! A set of ranks, filled and emptied.
 use super::assertions::assert_equal;
-use rank_tree::Ranks;
+use clairvoyant::Ranks;
 use std::test::Fail;
 
 #[test]

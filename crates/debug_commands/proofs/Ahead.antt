@@ -13,8 +13,8 @@ use Rattle.debug_commands.specs.Answers.{TimelinePlace, CommandResponse, answer_
 use Rattle.debug_commands.specs.Commands.{command_line_of}
 use Rattle.debug_commands.specs.Dialogue.{Dialogue, answers, dialogue_from, dialogue_of, ends, is_last, is_quit, WritesDialogue}
 use Rattle.debug_commands.specs.InputBytes.{feed, IsTooLarge}
-use Rattle.text_lines.proofs.Feeds.{has_lines, lines_fed, one_unfed}
-use Rattle.text_lines.specs.Feeds.{lines_of, HasNoFeed}
+use Rattle.streams.proofs.Feeds.{has_lines, lines_fed, one_unfed}
+use Rattle.streams.specs.Feeds.{lines_of, HasNoFeed}
 use Rattle.debug_commands.specs.Timeline.{TimelineData}
 use Rattle.debug_commands.specs.declared.breakpoint.Breakpoint.{Breakpoint}
 use Rattle.debug_commands.specs.declared.command.Command.TheVariants as command

@@ -4,7 +4,7 @@ use Rattle.std.proofs.KnownBytes.{Consumes-trans}
 use Rattle.std.proofs.lemmas.Bool.{ne_eqb}
 use Rattle.std.proofs.lemmas.List.Elements.{All-push}
 use Rattle.std.specs.Io.KnownBytes.{Consumes}
-use Rattle.text_lines.specs.Feeds.{HasNoFeed}
+use Rattle.streams.specs.Feeds.{HasNoFeed}
 
 -- a chunk of one byte, of which some was read, is that byte
 one_byte : (n : ℕ) (chunk : List ℕ) → length chunk ≡ 1 → n ≤ length chunk → (n ≡ 0 → ⊥) → take n chunk ≡ get_or chunk 0 0 ∷ []

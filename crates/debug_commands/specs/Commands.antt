@@ -1,8 +1,8 @@
 -- What a line of commands says. (Grammar of this project: the words of a command, and nothing behind them.)
 use Rattle.std.specs.Prelude.{ℕ, Option, Some, None, List, [], ◌∷◌}
-use Rattle.text_lines.specs.Blanks.{trimmed_text}
-use Rattle.text_lines.specs.Numbers.{number_of}
-use Rattle.text_lines.specs.Reads.{◌>>=◌, with_rest, Reads, at_end}
+use Rattle.streams.specs.Blanks.{trimmed_text}
+use Rattle.streams.specs.Numbers.{number_of}
+use Rattle.streams.specs.Reads.{◌>>=◌, with_rest, Reads, at_end}
 use Rattle.debug_commands.specs.Names.{name_of}
 use Rattle.debug_commands.specs.Words.{words_in}
 use Rattle.debug_commands.specs.declared.breakpoint.Breakpoint.{Breakpoint}

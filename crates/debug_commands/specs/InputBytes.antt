@@ -1,7 +1,7 @@
 -- One line of the input, as it is read.
 use Rattle.std.specs.Prelude.{◌≡◌, ℕ, Bool, true, false, Option, List, [], ◌∷◌, ◌++◌, length}
 use Rattle.std.specs.Io.KnownBytes.{Consumes}
-use Rattle.text_lines.specs.Feeds.{HasNoFeed}
+use Rattle.streams.specs.Feeds.{HasNoFeed}
 
 -- the line feed, where the line has one
 abbrev pub feed : Bool → List ℕ

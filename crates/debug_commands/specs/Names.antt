@@ -4,7 +4,7 @@ use Rattle.debug_commands.specs.declared.grammar.Name.{Name}
 use Rattle.debug_commands.specs.declared.grammar.Name.TheVariants.{Step, Back, Goto, Run, Break, Clear, Show, Part, Save}
 use Rattle.debug_commands.specs.declared.grammar.Name.TheVariants.{Quit, Hit, Evict, Halve, Drop}
 use Rattle.debug_commands.specs.declared.grammar.TheConstants.{NAMES}
-use Rattle.text_lines.specs.Reads.{first_named}
+use Rattle.streams.specs.Reads.{first_named}
 
 abbrev pub command_spelling : Name → List ℕ
 command_spelling Step = codes "step"

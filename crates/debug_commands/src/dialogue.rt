@@ -9,7 +9,7 @@ ghost use Rattle.debug_commands.specs.Timeline.{TimelineData};
 ghost use Rattle.debug_commands.specs.declared.breakpoint.Breakpoint.{Breakpoint};
 ghost use Rattle.debug_commands.specs.declared.command.Command.TheVariants as command;
 ghost use Rattle.streams.specs.Tally.{Exhausts, FailsWhere, Spends};
-ghost use Rattle.text_lines.specs.Feeds.{HasNoFeed};
+ghost use Rattle.streams.specs.Feeds.{HasNoFeed};
 
 use crate::breakpoint::{Breakpoint, first_holding};
 use crate::command::{Command, InputLine};

@@ -4,12 +4,12 @@ ghost use Rattle.std.specs.Option.{option_map_or};
 ghost use Rattle.debug_commands.specs.Commands.{command_line_of, command_name_at, command_named, number_at, point_at};
 ghost use Rattle.debug_commands.specs.Names.{command_spelling};
 ghost use Rattle.debug_commands.specs.Words.{words_in};
-ghost use Rattle.text_lines.specs.Reads.{first_named, with_rest};
+ghost use Rattle.streams.specs.Reads.{first_named, with_rest};
 
 use crate::breakpoint::Breakpoint;
 use crate::command::{Command, Dialect, InputLine};
 use std::marker::Model;
-use text_lines::{cut, number, trimmed};
+use streams::{cut, number, trimmed};
 
 /// What a line says, which is given without its line feed.
 #[tactic(auto, unfolding(crate::specs::Commands::line_in, crate::specs::Commands::command_in, crate::specs::Commands::command_at, crate::specs::Commands::command_name_at, crate::specs::Names::name_of))]

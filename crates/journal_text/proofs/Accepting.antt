@@ -19,7 +19,7 @@ use Rattle.step_record.specs.History.{data_after, next_data, IsLegal, Entries}
 use Rattle.step_record.specs.declared.entry.Entry.{Entry}
 use Rattle.step_record.specs.declared.step.Reply.{Reply}
 use Rattle.step_record.specs.declared.step.Step.{Step}
-use Rattle.text_lines.specs.Feeds.{HasNoFeed}
+use Rattle.streams.specs.Feeds.{HasNoFeed}
 
 -- what stands behind the lines of the first entries
 record Rest (v : Version) (n : ℕ) (es fs : Entries) (z : List ℕ) : Type 0 where

@@ -15,8 +15,8 @@ use Rattle.step_record.specs.declared.entry.Entry.{Entry}
 use Rattle.step_record.specs.declared.step.Reply.{Reply}
 use Rattle.step_record.specs.declared.step.Step.{Step}
 use Rattle.step_record.specs.History.{Entries}
-use Rattle.text_lines.proofs.Feeds.{has_lines, lines_fed, one_unfed}
-use Rattle.text_lines.specs.Feeds.{lines_of, HasNoFeed}
+use Rattle.streams.proofs.Feeds.{has_lines, lines_fed, one_unfed}
+use Rattle.streams.specs.Feeds.{lines_of, HasNoFeed}
 
 pub begun_none : (v : Version) → begun v [] ≡ ended_line (header v)
 unfolding begun

@@ -27,8 +27,8 @@ use Rattle.step_record.specs.declared.step.Answer.TheVariants as answer
 use Rattle.step_record.specs.declared.step.Reply.TheVariants as reply
 use Rattle.step_record.specs.declared.step.Reply.{Reply}
 use Rattle.step_record.specs.declared.step.Step.{Step}
-use Rattle.text_lines.specs.Numbers.{number_of}
-use Rattle.text_lines.specs.Reads.{◌>>=◌, at_end}
+use Rattle.streams.specs.Numbers.{number_of}
+use Rattle.streams.specs.Reads.{◌>>=◌, at_end}
 
 -- ---- words and entries
 

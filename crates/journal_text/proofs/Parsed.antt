@@ -17,7 +17,7 @@ use Rattle.step_record.specs.declared.step.Answer.{Answer}
 use Rattle.step_record.specs.declared.step.Answer.TheVariants as answer
 use Rattle.step_record.specs.declared.step.Reply.{Reply}
 use Rattle.step_record.specs.declared.step.Reply.TheVariants as reply
-use Rattle.text_lines.specs.Reads.{◌>>=◌, first_named, with_rest}
+use Rattle.streams.specs.Reads.{◌>>=◌, first_named, with_rest}
 
 -- ---- what is spelled is read again
 

@@ -15,7 +15,7 @@ use Rattle.step_record.specs.History.{data_after, Entries, IsLegal}
 use Rattle.step_record.specs.declared.entry.Entry.{Entry}
 use Rattle.step_record.specs.declared.step.Reply.{Reply}
 use Rattle.step_record.specs.declared.step.Step.{Step}
-use Rattle.text_lines.specs.Feeds.{HasNoFeed}
+use Rattle.streams.specs.Feeds.{HasNoFeed}
 
 -- Reading leaves where the session was opened, its limit, no undone step where there was none, and applied steps that
 -- are legal and within the limit.

@@ -19,8 +19,8 @@ use Rattle.step_record.specs.declared.step.Reply.{Reply}
 use Rattle.step_record.specs.declared.step.Reply.TheVariants as reply
 use Rattle.step_record.specs.declared.step.Step.{Step}
 use Rattle.step_record.specs.declared.worker.TheConstants.{MAX_WORKERS}
-use Rattle.text_lines.specs.Numbers.{number_of}
-use Rattle.text_lines.specs.Reads.{◌>>=◌, at_end, first_named, with_rest, Reads}
+use Rattle.streams.specs.Numbers.{number_of}
+use Rattle.streams.specs.Reads.{◌>>=◌, at_end, first_named, with_rest, Reads}
 
 -- a number, whose first digit is 0 (48) only where it is alone
 unfoldable pub numeral_of : List ℕ → Option ℕ

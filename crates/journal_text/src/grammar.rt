@@ -4,7 +4,7 @@ ghost use Rattle.journal_text.specs.Table.{text_of, IsLine};
 ghost use Rattle.journal_text.specs.declared.line.JournalLine.{JournalLine};
 ghost use Rattle.journal_text.specs.LineGrammar.{act_at, count_in, entry_in, journal_line_in, made_in};
 ghost use Rattle.journal_text.specs.LineGrammar.{reply_at, words_of};
-ghost use Rattle.text_lines.specs.Reads.{with_rest};
+ghost use Rattle.streams.specs.Reads.{with_rest};
 
 use super::table::{EQUALS, STEPS, is_answer_in};
 use super::words::JournalWords;

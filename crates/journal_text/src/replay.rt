@@ -1,7 +1,7 @@
 //! The lines of a journal, whose steps are made one after another.
 ghost use Rattle.std.specs.Prelude.{◌≡◌, ◌≢◌, ◌≤◌, ◌<◌, ◌+◌, ◌++◌, ℕ, List, [], Err, IfErr, OnOk, MatchOption, length};
 ghost use Rattle.journal_text.specs.Faults.{IsFault, IsUnread, KeepsSession};
-ghost use Rattle.text_lines.specs.Feeds.{HasNoFeed};
+ghost use Rattle.streams.specs.Feeds.{HasNoFeed};
 ghost use Rattle.journal_text.specs.Journal.{ended_line, header, IsTextOf};
 ghost use Rattle.journal_text.specs.declared.version.Version.{Version};
 ghost use Rattle.journal_text.specs.declared.version.Version.TheVariants.{One};
@@ -12,7 +12,7 @@ use super::steps::take;
 use super::{JournalFault, Version};
 use journal::Session;
 use step_record::{Engine, Reply, Step};
-use text_lines::cut;
+use streams::cut;
 
 /// Reads the bytes as a journal, into a session that has made no step: makes the step of each line
 /// and looks whether it gets the reply of the line.

@@ -2,7 +2,7 @@
 //! version has.
 ghost use Rattle.std.specs.Prelude.{◌≡◌, ◌≤◌, length};
 ghost use Rattle.journal_text.specs.Table.{act_word, answer_reply, is_answer_in, is_in_version, reply_word};
-ghost use Rattle.text_lines.specs.Reads.{first_named};
+ghost use Rattle.streams.specs.Reads.{first_named};
 
 use super::Version;
 use step_record::{Act, Answer, Item, Reply};

@@ -3,8 +3,8 @@ use Rattle.std.proofs.Common.{◌≡◌, ◌≢◌, ℕ, ◌+◌, ◌*◌, ◌/�
 use Rattle.std.proofs.lemmas.Nat.{div-mul-add, mod-mul-add, div-add-mod'}
 use Rattle.std.proofs.lemmas.Bool.{cases_eq, cases_lt, eq-eqb, ne_eqb}
 use Rattle.std.proofs.lemmas.Bool.Decides.{nat_tests}
-use Rattle.bits_and_lists.specs.Places.{by_place}
-use Rattle.bits_and_lists.proofs.Places.{get_or-by_place, past-by_place}
+use Rattle.step_record.specs.Places.{by_place}
+use Rattle.step_record.proofs.Places.{get_or-by_place, past-by_place}
 
 module _ (w : ℕ) (c : ℕ → ℕ) (g : ℕ → ℕ → ℕ) (f0 f f' : ℕ → ℕ) (r : ℕ) (within : c r < w)
     (before : (i : ℕ) → f i ≡ cond (nat_lt (i / w) r && eqb (c (i / w)) (i % w)) (g (i / w) (f0 i)) (f0 i))

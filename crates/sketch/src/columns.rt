@@ -2,7 +2,7 @@
 ghost use Rattle.std.specs.Prelude.{◌≡◌, ◌<◌, ◌≤◌, ◌+◌, ◌*◌, ◌^◌, slice_index, ℕ};
 ghost use Rattle.std.specs.Int.{IsPowerOfTwo};
 ghost use Rattle.sketch.specs.Columns.{column as column_of, mix as mix_of, wrap};
-ghost use Rattle.bits_and_lists.specs.Places.{by_place};
+ghost use Rattle.step_record.specs.Places.{by_place};
 
 use step_record::{Key, Spread};
 

@@ -4,7 +4,7 @@ ghost use Rattle.std.specs.Prelude.{length, slice_index, ℕ};
 ghost use Rattle.step_record.specs.declared.limits.TheConstants.{MAX_CAPACITY};
 ghost use Rattle.sketch.specs.Counters.{counter_at};
 ghost use Rattle.sketch.specs.Columns.{column as column_of};
-ghost use Rattle.bits_and_lists.specs.Places.{by_place};
+ghost use Rattle.step_record.specs.Places.{by_place};
 ghost use Rattle.sketch.specs.Sketch.{is_of};
 ghost use Rattle.sketch.specs.TouchRecord.{rose as rose_of};
 

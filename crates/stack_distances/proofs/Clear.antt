@@ -5,7 +5,7 @@ use Rattle.std.proofs.lemmas.Nat.{shr-shr}
 use Rattle.std.proofs.lemmas.Nat.Bits.{bit_at-zero, bit_at-lt, bit_at_not, bit_at_above, bit_at-trailing_zeros}
 use Rattle.std.proofs.lemmas.Bool.{cases_lt}
 use Rattle.std.proofs.lemmas.List.{get_or_past}
-use Rattle.bits_and_lists.specs.Bits.{bit_of}
+use Rattle.step_record.specs.Bits.{bit_of}
 use Rattle.stack_distances.specs.Window.{IsFirstClear}
 
 -- what is left of the inverse of the word that has a bit, from that bit on

@@ -5,7 +5,7 @@ use Rattle.std.proofs.lemmas.Bool.Decides.{nat_tests}
 use Rattle.std.proofs.lemmas.List.{take_more}
 use Rattle.std.proofs.lemmas.List.Sums.{sum_by_push}
 use Rattle.step_record.specs.Keys.{has_key}
-use Rattle.bits_and_lists.specs.Bits.{bit_of}
+use Rattle.step_record.specs.Bits.{bit_of}
 use Rattle.policies.specs.Lru.{distinct_keys, keys_since}
 use Rattle.policies.proofs.Recency.{has-drop, two}
 use Rattle.trace_index.specs.KeyPlaces.{place_of}

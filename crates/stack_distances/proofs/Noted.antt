@@ -5,7 +5,7 @@ use Rattle.std.proofs.lemmas.Grind.{get_or-set_at}
 use Rattle.std.proofs.lemmas.List.{get_or_past}
 use Rattle.std.proofs.lemmas.List.Sums.{sum_by_push, count_by-le-length}
 use Rattle.step_record.specs.declared.limits.TheConstants.{MAX_ACCESSES}
-use Rattle.bits_and_lists.specs.Bits.{bit_of}
+use Rattle.step_record.specs.Bits.{bit_of}
 use Rattle.trace_index.specs.KeyPlaces.{place_of}
 use Rattle.stack_distances.specs.Distances.{distances}
 use Rattle.stack_distances.specs.Histogram.{count_at, is_at, IsHistogram, IsNoted}

@@ -4,7 +4,7 @@ use Rattle.std.proofs.lemmas.Bool.{cases_eq, cases_lt, ne_eqb}
 use Rattle.std.proofs.lemmas.Bool.Decides.{nat_tests}
 use Rattle.std.proofs.lemmas.List.{drop-append-le, take_more, take_all}
 use Rattle.step_record.specs.Keys.{has_key}
-use Rattle.bits_and_lists.specs.Bits.{bit_of}
+use Rattle.step_record.specs.Bits.{bit_of}
 use Rattle.step_record.specs.declared.job.Job.{Job}
 use Rattle.step_record.specs.declared.job.Policy.TheVariants.{Lru}
 use Rattle.policies.specs.Lru.{distinct_keys}

@@ -4,7 +4,7 @@ use Rattle.std.specs.Prelude.{slice_index}
 use Rattle.step_record.specs.declared.limits.TheConstants.{MAX_ACCESSES}
 use Rattle.step_record.specs.Keys.{has_key}
 use Rattle.step_record.specs.declared.stats.Stats.{Stats}
-use Rattle.bits_and_lists.specs.Bits.{bit_of}
+use Rattle.step_record.specs.Bits.{bit_of}
 use Rattle.policies.specs.Lru.{distinct_keys}
 use Rattle.stack_distances.specs.Distances.{hits_within}
 use Rattle.stack_distances.specs.declared.window.Window.{Window}

@@ -5,10 +5,9 @@ ghost use Rattle.policies.specs.AnyPolicy.{stats_on};
 ghost use Rattle.stack_distances.specs.Window.{IsWindow};
 
 use crate::window::Window;
-use bits_and_lists::bits;
 use std::alloc::{AllocError, Global};
 use std::marker::Model;
-use step_record::{Policy, Stats, Trace};
+use step_record::{Policy, Stats, Trace, bits};
 use trace_index::PreviousUse;
 
 /// A trace, with the place of the last access to its key before each access: 4 bytes an access.

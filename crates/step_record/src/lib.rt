@@ -5,8 +5,13 @@
 //! The crate promises that a configuration is accepted exactly where each of its numbers is in
 //! its range, and states the law that every engine keeps: a step's reply and new data depend on
 //! the step and the data before it alone, and undoing the step's record gives those data back.
+//!
+//! Plain data stands here too: [`bits`] reads and writes one bit of a slice of words, and [`BitList`] is a list of bits,
+//! packed, that does not change. Their definitions and lemmas are for every crate above.
 #![tactic(auto)]
 
+mod bit_list;
+pub mod bits;
 mod config;
 mod drain;
 mod engine;
@@ -22,6 +27,7 @@ mod step;
 mod trace;
 mod worker;
 
+pub use bit_list::{BitList, MAX_LIST_WORDS};
 pub use config::{Config, ConfigFault, Spread};
 pub use drain::{Drain, Phase};
 pub use engine::{Engine, StepFault};

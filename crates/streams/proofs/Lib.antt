@@ -1,1 +1,5 @@
 pub mod Tallies
+pub mod Cuts
+pub mod Feeds
+pub mod Numbers
+pub mod Trims

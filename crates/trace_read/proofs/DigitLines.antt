@@ -5,8 +5,8 @@ use Rattle.std.proofs.lemmas.Bool.Decides.{nat_tests}
 use Rattle.std.specs.Char.{digit_value, is_ascii_digit}
 use Rattle.std.specs.Str.{all_ascii_digits, bytes_eq}
 use Rattle.std.specs.Str.Parse.{digits_value, digits_value_after}
-use Rattle.text_lines.proofs.Numbers.{a_number}
-use Rattle.text_lines.specs.Blanks.{is_blank, is_empty, trimmed_text, without_back, without_front}
+use Rattle.streams.proofs.Numbers.{a_number}
+use Rattle.streams.specs.Blanks.{is_blank, is_empty, trimmed_text, without_back, without_front}
 use Rattle.trace_read.specs.Lines.{lirs_keys, one_key}
 
 pub no_blank : (d : ℕ) → is_ascii_digit d ≡ true → is_blank d ≡ false

@@ -9,10 +9,10 @@ use Rattle.std.proofs.lemmas.List.{get_or-take}
 use Rattle.std.proofs.lemmas.List.Sums.{position_or_len_is}
 use Rattle.std.specs.Char.{digit_value, is_ascii_digit}
 use Rattle.std.specs.Str.{all_ascii_digits}
-use Rattle.text_lines.specs.Feeds.{feed_in}
+use Rattle.streams.specs.Feeds.{feed_in}
 use Rattle.trace_read.specs.DigitRuns.{is_other, AreDigits, DigitsBetween, NoFeedBetween}
 use Rattle.std.specs.Str.Parse.{digits_value}
-use Rattle.text_lines.specs.Blanks.{trimmed_text}
+use Rattle.streams.specs.Blanks.{trimmed_text}
 use Rattle.trace_read.proofs.DigitLines.{plain_read}
 use Rattle.trace_read.specs.Lines.{is_feed, lirs_keys}
 

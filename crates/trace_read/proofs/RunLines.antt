@@ -8,9 +8,9 @@ use Rattle.std.specs.Char.{is_ascii_digit}
 use Rattle.std.specs.List.{position_or_len}
 use Rattle.std.specs.Str.{all_ascii_digits}
 use Rattle.std.specs.Str.Parse.{digits_value}
-use Rattle.text_lines.proofs.Numbers.{a_number}
-use Rattle.text_lines.specs.Blanks.{is_blank, is_empty, trimmed_text, without_back, without_front}
-use Rattle.text_lines.specs.Numbers.{number_of}
+use Rattle.streams.proofs.Numbers.{a_number}
+use Rattle.streams.specs.Blanks.{is_blank, is_empty, trimmed_text, without_back, without_front}
+use Rattle.streams.specs.Numbers.{number_of}
 use Rattle.trace_read.proofs.DigitLines.{no_blank}
 use Rattle.trace_read.specs.Lines.{arc_keys, first_field, is_gap, later_fields, run_of, without_gap}
 

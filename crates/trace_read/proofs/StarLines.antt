@@ -10,7 +10,7 @@ use Rattle.trace_read.proofs.LineFeeds.{no_feed_on}
 use Rattle.trace_read.proofs.Taken.{line_taken, nothing_read, taken_then}
 use Rattle.trace_read.specs.DigitRuns.{is_other, DigitsBetween}
 use Rattle.trace_read.specs.Lines.{is_feed, AreStarLines}
-use Rattle.text_lines.specs.Feeds.{HasNoFeed}
+use Rattle.streams.specs.Feeds.{HasNoFeed}
 use Rattle.trace_read.specs.TraceText.{IsRead}
 use Rattle.trace_read.specs.ScanState.{IsEnded, IsScan, IsTakenUpTo}
 use Rattle.trace_read.specs.declared.format.Format.TheVariants.{Lirs}

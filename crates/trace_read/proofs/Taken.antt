@@ -3,10 +3,10 @@ use Rattle.std.proofs.Common.{◌≡◌, ◌∙◌, ◌<◌, ◌≤◌, ◌+◌,
 use Rattle.std.proofs.lemmas.Bool.{cond-false, le-ltb}
 use Rattle.std.proofs.lemmas.List.{append-nil}
 use Rattle.step_record.specs.declared.limits.TheConstants.{MAX_ACCESSES}
-use Rattle.text_lines.proofs.Feeds.{cut_line}
+use Rattle.streams.proofs.Feeds.{cut_line}
 use Rattle.trace_read.proofs.LineFeeds.{feed_at}
 use Rattle.trace_read.specs.DigitRuns.{NoFeedBetween}
-use Rattle.text_lines.specs.Feeds.{feed_in}
+use Rattle.streams.specs.Feeds.{feed_in}
 use Rattle.trace_read.proofs.Steps.{ended_ahead, of_line, refused_here}
 use Rattle.trace_read.specs.Lines.{line_of, run_of}
 use Rattle.trace_read.specs.TraceText.{fault_after, keys_or_none, IsRead, IsStopped, IsTraceRefused}

@@ -1,7 +1,7 @@
 -- What a scan of the lines comes to, whatever bytes still follow.
 use Rattle.std.specs.Prelude.{◌≡◌, ℕ, ◌+◌, ◌-◌, ◌*◌, ◌^◌, ◌≤◌, ◌<◌, ◌⊎◌, vec_capacity, vec_len, List, [], ◌++◌, Option, Some, None, IfSome, length, drop}
 use Rattle.step_record.specs.declared.limits.TheConstants.{MAX_ACCESSES}
-use Rattle.text_lines.specs.Feeds.{lines_of, HasNoFeed}
+use Rattle.streams.specs.Feeds.{lines_of, HasNoFeed}
 use Rattle.trace_read.specs.DigitRuns.{IsDigitRuns, IsNextRun}
 use Rattle.trace_read.specs.TraceText.{all_keys, first_fault, IsOfLine, IsRead}
 use Rattle.trace_read.specs.declared.digit_runs.DigitRun.{DigitRun}

@@ -7,7 +7,7 @@ ghost use Rattle.trace_read.specs.declared.digit_runs.TheConstants.{BEHIND};
 ghost use Rattle.step_record.specs.declared.limits.TheConstants.{MAX_ACCESSES};
 ghost use Rattle.trace_read.specs.TraceText.{fault_in, keys_in, IsOfLine, IsRead, IsTraceRefused, IsStopped};
 ghost use Rattle.trace_read.specs.ScanState.{fault_ahead, keys_ahead, AreLinesTaken, CanTakeFrom, CanTakeLines, IsEnded, IsGiven, IsScan, IsStretchTaken, HasRoom, IsPieceTaken, IsRefusedFrom, IsTakenUpTo};
-ghost use Rattle.text_lines.specs.Feeds.{feed_in};
+ghost use Rattle.streams.specs.Feeds.{feed_in};
 
 use super::arc::{add_arc, begins_usual_line, push_reserved_run, usual_line};
 use super::digit_runs::{DigitRun, DigitRuns};
@@ -20,7 +20,7 @@ use super::{Trace, TraceFault};
 use std::alloc::{AllocError, Global};
 use std::mem;
 use step_record::{Key, MAX_ACCESSES};
-use text_lines::place_of;
+use streams::place_of;
 
 /// A scan of the lines of a trace file, whose bytes come in pieces. It keeps no byte but those of
 /// the line that the last piece cut in two.

@@ -1,6 +1,6 @@
 use Rattle.std.proofs.Common.{◌≡◌, ◌+◌, length}
 use Rattle.std.specs.Io.KnownBytes.{Consumes}
-use Rattle.text_lines.specs.Feeds.{HasNoFeed}
+use Rattle.streams.specs.Feeds.{HasNoFeed}
 use Rattle.streams.specs.Tally.{Spends}
 use Rattle.debug_commands.proofs.dialogue.read_line.Given as goal
 

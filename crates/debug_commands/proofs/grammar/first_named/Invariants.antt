@@ -1,6 +1,6 @@
 use Rattle.std.proofs.Common.{◌≡◌, drop}
 use Rattle.debug_commands.specs.Names.{command_spelling}
-use Rattle.text_lines.specs.Reads.{first_named}
+use Rattle.streams.specs.Reads.{first_named}
 use Rattle.debug_commands.proofs.grammar.first_named.Given as goal
 
 abbrev pub invariant-loop-name : goal.invariant-loop-name

@@ -1,6 +1,6 @@
 use Rattle.std.proofs.Common.{◌≡◌, drop}
 use Rattle.journal_text.specs.Table.{act_word}
-use Rattle.text_lines.specs.Reads.{first_named}
+use Rattle.streams.specs.Reads.{first_named}
 use Rattle.journal_text.proofs.table.act_named.Given as goal
 
 abbrev pub invariant-loop-act : goal.invariant-loop-act

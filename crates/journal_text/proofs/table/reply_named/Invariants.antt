@@ -1,6 +1,6 @@
 use Rattle.std.proofs.Common.{◌≡◌, drop}
 use Rattle.journal_text.specs.Table.{reply_word}
-use Rattle.text_lines.specs.Reads.{first_named}
+use Rattle.streams.specs.Reads.{first_named}
 use Rattle.journal_text.proofs.table.reply_named.Given as goal
 
 abbrev pub invariant-loop-reply : goal.invariant-loop-reply

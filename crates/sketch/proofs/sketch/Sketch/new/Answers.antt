@@ -1,7 +1,7 @@
 use Rattle.std.proofs.Common.{arith, rules, replicate, ap, ◌≡◌, ◌*◌, ◌/◌, length, List, ℕ}
 use Rattle.sketch.specs.Counters.{counter_at}
 use Rattle.sketch.specs.Sketch.{Table}
-use Rattle.bits_and_lists.proofs.Places.{by_place_same}
+use Rattle.step_record.proofs.Places.{by_place_same}
 use Rattle.sketch.proofs.Digits.{nibble_zero}
 use Rattle.sketch.proofs.Tables.{sixteenth}
 use Rattle.sketch.proofs.sketch.Sketch.new.Goals as goal

@@ -1,9 +1,9 @@
 use Rattle.std.proofs.Common.{◌≡◌, ◌∙◌, Bool, List, ap, arith, ◌*◌, ◌<◌, length}
 use Rattle.std.specs.Vec.{with_items}
 use Rattle.std.proofs.lemmas.List.{with_items_is}
-use Rattle.bits_and_lists.specs.Places.{by_place}
-use Rattle.bits_and_lists.specs.Bits.{bit_of}
-use Rattle.bits_and_lists.proofs.Places.{length-by_place, get_or-by_place}
+use Rattle.step_record.specs.Places.{by_place}
+use Rattle.step_record.specs.Bits.{bit_of}
+use Rattle.step_record.proofs.Places.{length-by_place, get_or-by_place}
 use Rattle.sketch.specs.Counters.{counter_at}
 use Rattle.sketch.specs.HalveRecord.{table_before_halving}
 use Rattle.sketch.proofs.Halves.{unhalve_after, low_everywhere}

@@ -1,0 +1,23 @@
+use Rattle.std.proofs.Common.{◌≡◌, ◌<◌, ◌^◌, length, get_or, arith, w64}
+use Rattle.std.specs.Int.{trailing_zeros}
+use Rattle.std.proofs.lemmas.List.{get_or_read}
+use Rattle.std.proofs.lemmas.Nat.Bits.{bit_at-trailing_zeros}
+use Rattle.clairvoyant.proofs.Words.{above-some, above-none, word-there, least-held, none-held}
+use Rattle.clairvoyant.proofs.layer.LayerNumberSet.least.Goals as goal
+
+pub returns-in-Some : goal.returns-in-Some
+returns-in-Some g c =
+    let ws = c.args.self.now.words.items in
+    let w = c.in-Some.word in
+    let x = c.index.result.now in
+    let e = c.in-Some.ensures in
+    let up = c.args.self.now.above in
+    let in_it : w < length ws = word-there ws _ _ w up e.1 in
+    let read : x ≡ get_or ws w 0 = get_or_read ws _ _ in_it c.index.ensures 0 in
+    let fits : x < 2 ^ 64 = omega arith in
+    let some : 0 < x = rw read (above-some _ (get_or ws w 0) e.1 (up.some w)) in
+    let low = bit_at-trailing_zeros w64 x some fits in (
+      omega (arith, low.0, in_it),
+      least-held ws w x (trailing_zeros w64 x) in_it read low.0 low.1,
+      none-held ws w x (trailing_zeros w64 x) in_it read low.0 low.2 (λ v lt. above-none _ (get_or ws v 0) (e.2 v lt) (up.some v)),
+    )

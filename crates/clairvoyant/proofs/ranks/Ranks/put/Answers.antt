@@ -1,0 +1,14 @@
+use Rattle.std.proofs.Common.{true, arith}
+use Rattle.step_record.specs.Bits.{bit_of}
+use Rattle.clairvoyant.proofs.Shown.{view-long, view-changed}
+use Rattle.clairvoyant.proofs.ranks.Ranks.put.Goals as goal
+
+pub put-requires : goal.put-requires
+put-requires c =
+    let s = c.self.inside in
+    omega (arith, view-long s.size (bit_of s.tree.words.items) c.args.self.now c.self.view_is, c.requires, c.self.invariant)
+
+pub returns-clause-puts : goal.returns-clause-puts
+returns-clause-puts c =
+    let s = c.self.inside in
+    view-changed s.size (bit_of s.tree.words.items) c.args.self.now c.self.view_is (bit_of c.put.new.self.words.items) true c.args.rank c.requires c.put.ensures.puts

@@ -1,4 +1,0 @@
-pub mod Cuts
-pub mod Feeds
-pub mod Numbers
-pub mod Trims

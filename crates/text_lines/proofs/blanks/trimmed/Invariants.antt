@@ -1,9 +1,0 @@
-use Rattle.std.proofs.Common.{◌≡◌, length}
-use Rattle.text_lines.specs.Blanks.{without_front}
-use Rattle.text_lines.proofs.blanks.trimmed.Given as goal
-
-abbrev pub invariant-front : goal.invariant-front
-invariant-front l = without_front l.rest ≡ without_front l.line
-
-abbrev pub decreases-front : goal.decreases-front
-decreases-front l = length l.rest
