@@ -1,5 +1,5 @@
 -- The rows of options and subcommands.
-use Rattle.std.specs.Prelude.{List, [], ◌∷◌, codes, map}
+use Rattle.std.specs.Prelude.{List, [], ◌∷◌, Option, Some, None, codes, map, option_map}
 use Rattle.clap.specs.Words.{Text}
 use Rattle.step_record.specs.declared.limits.TheConstants.{MAX_ACCESSES, MAX_BATCH, MAX_CAPACITY, MAX_JOURNAL_LIMIT}
 use Rattle.step_record.specs.declared.limits.TheConstants.{MAX_MAIN_PERCENT}
@@ -15,38 +15,38 @@ use Rattle.command_line.specs.declared.options.Subcommand.{Subcommand}
 use Rattle.command_line.specs.declared.options.ValueKind.{ValueKind}
 use Rattle.command_line.specs.declared.options.ValueKind.TheVariants as kind
 
--- an option: its name, what its values are, how they are given, and its defaults; with none it is required
+-- an option: its name, what its values are, how they are given, and its default; with no default it is required
 pub record OptionDefinition : Type 0 where
   pub id : Text
   pub value : ValueKind
   pub place : Place
-  pub defaults : List Text
+  pub default : Option Text
 
-abbrev pub row : Text → ValueKind → Place → List Text → OptionDefinition
-row id value place defaults = record { id = id; value = value; place = place; defaults = defaults }
+abbrev pub row : Text → ValueKind → Place → Option Text → OptionDefinition
+row id value place default = record { id = id; value = value; place = place; default = default }
 
 -- what a row of the program says
 abbrev pub defined : OptionRow → OptionDefinition
-defined given = row given.id.now given.value given.place (map (λ s. s.now) given.defaults.now)
+defined given = row given.id.now given.value given.place (option_map (λ s. s.now) given.default)
 
 -- the definition of each option
 abbrev pub row_of : OptionName → OptionDefinition
-row_of Capacity = row (codes "capacity") (kind.Number 1 MAX_CAPACITY) Named []
-row_of Capacities = row (codes "capacities") (kind.Number 1 MAX_CAPACITY) Positional []
-row_of Main = row (codes "main") (kind.Number 0 MAX_MAIN_PERCENT) Named (codes "99" ∷ [])
-row_of Spread = row (codes "spread") kind.Spread Named (codes "mixed" ∷ [])
-row_of Format = row (codes "format") kind.Format Named (codes "lirs" ∷ [])
-row_of Batch = row (codes "batch") (kind.Number 1 MAX_BATCH) Named (codes "1024" ∷ [])
-row_of Every = row (codes "every") (kind.Number 1 MAX_ACCESSES) Named []
-row_of Policies = row (codes "policy") kind.Policy Positional []
-row_of SweptPolicies = row (codes "policy") kind.Policy NamedOften []
-row_of First = row (codes "first") kind.Policy Named []
-row_of Second = row (codes "second") kind.Policy Named []
-row_of Workers = row (codes "workers") (kind.Number 1 MAX_WORKERS) Named (codes "2" ∷ [])
-row_of Stripes = row (codes "stripes") kind.AnyNumber Named (codes "4" ∷ [])
-row_of Limit = row (codes "limit") (kind.Number 1 MAX_JOURNAL_LIMIT) Named (codes "1048576" ∷ [])
-row_of Trace = row (codes "trace") kind.File Named []
-row_of Journal = row (codes "journal") kind.File Named []
+row_of Capacity = row (codes "capacity") (kind.Number 1 MAX_CAPACITY) Named None
+row_of Capacities = row (codes "capacities") (kind.Number 1 MAX_CAPACITY) Positional None
+row_of Main = row (codes "main") (kind.Number 0 MAX_MAIN_PERCENT) Named (Some (codes "99"))
+row_of Spread = row (codes "spread") kind.Spread Named (Some (codes "mixed"))
+row_of Format = row (codes "format") kind.Format Named (Some (codes "lirs"))
+row_of Batch = row (codes "batch") (kind.Number 1 MAX_BATCH) Named (Some (codes "1024"))
+row_of Every = row (codes "every") (kind.Number 1 MAX_ACCESSES) Named None
+row_of Policies = row (codes "policy") kind.Policy Positional None
+row_of SweptPolicies = row (codes "policy") kind.Policy NamedOften None
+row_of First = row (codes "first") kind.Policy Named None
+row_of Second = row (codes "second") kind.Policy Named None
+row_of Workers = row (codes "workers") (kind.Number 1 MAX_WORKERS) Named (Some (codes "2"))
+row_of Stripes = row (codes "stripes") kind.AnyNumber Named (Some (codes "4"))
+row_of Limit = row (codes "limit") (kind.Number 1 MAX_JOURNAL_LIMIT) Named (Some (codes "1048576"))
+row_of Trace = row (codes "trace") kind.File Named None
+row_of Journal = row (codes "journal") kind.File Named None
 
 -- a subcommand: its name, and its options in the order in which help lists them
 pub record SubcommandDefinition : Type 0 where

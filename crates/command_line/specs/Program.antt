@@ -1,5 +1,5 @@
 -- The program's commands, as clap reads them, made of the rows of options and subcommands.
-use Rattle.std.specs.Prelude.{◌≡◌, ◌==◌, length, pos, true, false, Some, codes}
+use Rattle.std.specs.Prelude.{◌≡◌, pos, true, false, [], ◌∷◌, Option, Some, None, codes}
 use Rattle.std.specs.List.{fold}
 use Rattle.clap.specs.Lexer.{usize_max}
 use Rattle.clap.specs.Words.{App, Rule, Text, app_of, new_app, new_rule, with_rule, with_subcommand}
@@ -33,14 +33,17 @@ with_place Positional id rule = record rule {
   action = Some Append;
 }
 
--- the option as clap reads it; with no default it is required
+-- an option with no default is required
+abbrev pub with_default : Option Text → Rule → Rule
+with_default None rule = record rule { required = true }
+with_default (Some word) rule = record rule { defaults = word ∷ [] }
+
+-- the option as clap reads it
 abbrev pub rule_of_row : WordLists → OptionDefinition → Rule
-rule_of_row lists row = record (with_place row.place row.id (new_rule row.id)) {
+rule_of_row lists row = with_default row.default (record (with_place row.place row.id (new_rule row.id)) {
   parser = Some (parser_of lists row.value);
   value_names = 1;
-  defaults = row.defaults;
-  required = length row.defaults == 0;
-}
+})
 
 abbrev pub with_option : WordLists → App → OptionDefinition → App
 with_option lists app row = with_rule app (rule_of_row lists row)

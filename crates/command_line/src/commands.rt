@@ -74,12 +74,14 @@ fn arg<'a>(alloc: Global, row: &OptionRow, lists: &WordLists<'a>) -> Arg<'a>
     ensures rule { rule_of result ≡ rule_of_row lists.now (defined row.now) }
     ensures local { result.global ≡ false }
 {
-    placed(alloc, row)
+    let arg = placed(alloc, row)
         .value_parser(parser(row.value, lists))
         .value_name(row.value_name)
-        .help(row.help)
-        .default_values(row.defaults)
-        .required(row.defaults.is_empty())
+        .help(row.help);
+    match row.default {
+        Some(word) => arg.default_value(word),
+        None => arg.required(true),
+    }
 }
 
 // An argument of the row's name, given as the row says.

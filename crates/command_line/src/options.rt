@@ -36,8 +36,8 @@ pub struct OptionRow {
     pub help: &'static str,
     pub value: ValueKind,
     pub place: Place,
-    /// Its values where none is given; an option with no default is required.
-    pub defaults: &'static [&'static str],
+    /// Its value where none is given; an option with no default is required.
+    pub default: Option<&'static str>,
 }
 
 /// The name of an option, whose row is the one at its place in `OPTIONS`.
@@ -178,7 +178,7 @@ static OPTIONS: [OptionRow; 16] = [
         help: "How many entries the cache holds, from 1 to 1048576",
         value: ValueKind::Number(1, MAX_CAPACITY),
         place: Place::Named,
-        defaults: &[],
+        default: None,
     },
     OptionRow {
         id: "capacities",
@@ -186,7 +186,7 @@ static OPTIONS: [OptionRow; 16] = [
         help: "How many entries the caches hold, from 1 to 1048576 each, in the order of their reports",
         value: ValueKind::Number(1, MAX_CAPACITY),
         place: Place::Positional,
-        defaults: &[],
+        default: None,
     },
     OptionRow {
         id: "main",
@@ -194,7 +194,7 @@ static OPTIONS: [OptionRow; 16] = [
         help: "How much of the capacity of wtinylfu is the main part, in percent, from 0 to 99; the rest is the window",
         value: ValueKind::Number(0, MAX_MAIN_PERCENT as u32),
         place: Place::Named,
-        defaults: &["99"],
+        default: Some("99"),
     },
     OptionRow {
         id: "spread",
@@ -202,7 +202,7 @@ static OPTIONS: [OptionRow; 16] = [
         help: "How keys are spread over the columns of a sketch: mixed by a mixing function, plain by remainders",
         value: ValueKind::Spread,
         place: Place::Named,
-        defaults: &["mixed"],
+        default: Some("mixed"),
     },
     OptionRow {
         id: "format",
@@ -210,7 +210,7 @@ static OPTIONS: [OptionRow; 16] = [
         help: "The format of the trace: lirs has a block number a line, arc a first block and how many blocks",
         value: ValueKind::Format,
         place: Place::Named,
-        defaults: &["lirs"],
+        default: Some("lirs"),
     },
     OptionRow {
         id: "batch",
@@ -218,7 +218,7 @@ static OPTIONS: [OptionRow; 16] = [
         help: "How many accesses a policy is given at once, from 1 to 65536; no report depends on it",
         value: ValueKind::Number(1, MAX_BATCH),
         place: Place::Named,
-        defaults: &["1024"],
+        default: Some("1024"),
     },
     OptionRow {
         id: "every",
@@ -226,7 +226,7 @@ static OPTIONS: [OptionRow; 16] = [
         help: "How many accesses an interval has, from 1 to 16777216; the last one may have fewer",
         value: ValueKind::Number(1, MAX_ACCESSES as u32),
         place: Place::Named,
-        defaults: &[],
+        default: None,
     },
     OptionRow {
         id: "policy",
@@ -234,7 +234,7 @@ static OPTIONS: [OptionRow; 16] = [
         help: "The policies to run, in the order of their reports; no file is named here",
         value: ValueKind::Policy,
         place: Place::Positional,
-        defaults: &[],
+        default: None,
     },
     OptionRow {
         id: "policy",
@@ -242,7 +242,7 @@ static OPTIONS: [OptionRow; 16] = [
         help: "A policy to run; given more than once, the reports of the first come first",
         value: ValueKind::Policy,
         place: Place::NamedOften,
-        defaults: &[],
+        default: None,
     },
     OptionRow {
         id: "first",
@@ -250,7 +250,7 @@ static OPTIONS: [OptionRow; 16] = [
         help: "The one policy",
         value: ValueKind::Policy,
         place: Place::Named,
-        defaults: &[],
+        default: None,
     },
     OptionRow {
         id: "second",
@@ -258,7 +258,7 @@ static OPTIONS: [OptionRow; 16] = [
         help: "The other policy",
         value: ValueKind::Policy,
         place: Place::Named,
-        defaults: &[],
+        default: None,
     },
     OptionRow {
         id: "workers",
@@ -266,7 +266,7 @@ static OPTIONS: [OptionRow; 16] = [
         help: "How many threads read the keys of the trace, from 1 to 64; access i is made by thread i modulo their number",
         value: ValueKind::Number(1, MAX_WORKERS as u32),
         place: Place::Named,
-        defaults: &["2"],
+        default: Some("2"),
     },
     OptionRow {
         id: "stripes",
@@ -274,7 +274,7 @@ static OPTIONS: [OptionRow; 16] = [
         help: "How many read buffers the cache has, a power of two from 1 to 64",
         value: ValueKind::AnyNumber,
         place: Place::Named,
-        defaults: &["4"],
+        default: Some("4"),
     },
     OptionRow {
         id: "limit",
@@ -282,7 +282,7 @@ static OPTIONS: [OptionRow; 16] = [
         help: "How many steps the journal holds, from 1 to 16777216",
         value: ValueKind::Number(1, MAX_JOURNAL_LIMIT),
         place: Place::Named,
-        defaults: &["1048576"],
+        default: Some("1048576"),
     },
     OptionRow {
         id: "trace",
@@ -290,7 +290,7 @@ static OPTIONS: [OptionRow; 16] = [
         help: "The file of the trace, of at most 2^30 bytes",
         value: ValueKind::File,
         place: Place::Named,
-        defaults: &[],
+        default: None,
     },
     OptionRow {
         id: "journal",
@@ -298,6 +298,6 @@ static OPTIONS: [OptionRow; 16] = [
         help: "The file of the journal, of at most 2^30 bytes",
         value: ValueKind::File,
         place: Place::Named,
-        defaults: &[],
+        default: None,
     },
 ];
