@@ -39,18 +39,9 @@ named : asked_in (subcommand_of (program_app lists) words) ≡ Ok (Run (record {
 unfolding clap_on_literals lib.Count.ones config_at number_named policy_named run_in
 named = refl
 
-helped : fault_of (program_app lists) (codes "run" ∷ codes "--help" ∷ []) ≡ kind.DisplayHelp ∷ []
+answered : (fault_of (program_app lists) (codes "run" ∷ codes "--help" ∷ []) ≡ kind.DisplayHelp ∷ [])
+    × (fault_of (program_app lists) (codes "--version" ∷ []) ≡ kind.DisplayVersion ∷ [])
+    × (fault_of (program_app lists) (codes "run" ∷ codes "--capacity" ∷ codes "0" ∷ codes "lru" ∷ []) ≡ kind.ValueValidation ∷ [])
+    × (fault_of (program_app lists) (codes "run" ∷ codes "--capacity" ∷ codes "3" ∷ codes "mru" ∷ []) ≡ kind.InvalidValue ∷ [])
 unfolding clap_on_literals
-helped = refl
-
-versioned : fault_of (program_app lists) (codes "--version" ∷ []) ≡ kind.DisplayVersion ∷ []
-unfolding clap_on_literals
-versioned = refl
-
-refused : fault_of (program_app lists) (codes "run" ∷ codes "--capacity" ∷ codes "0" ∷ codes "lru" ∷ []) ≡ kind.ValueValidation ∷ []
-unfolding clap_on_literals
-refused = refl
-
-mistaken : fault_of (program_app lists) (codes "run" ∷ codes "--capacity" ∷ codes "3" ∷ codes "mru" ∷ []) ≡ kind.InvalidValue ∷ []
-unfolding clap_on_literals
-mistaken = refl
+answered = (refl, refl, refl, refl)

@@ -5,8 +5,9 @@ use Rattle.step_record.specs.declared.limits.TheConstants.{MAX_ACCESSES, MAX_BAT
 use Rattle.step_record.specs.declared.limits.TheConstants.{MAX_MAIN_PERCENT}
 use Rattle.step_record.specs.declared.worker.TheConstants.{MAX_WORKERS}
 use Rattle.command_line.specs.declared.options.OptionName.{OptionName}
-use Rattle.command_line.specs.declared.options.OptionName.TheVariants.{Capacity, Capacities, Main, Spread, Format, Batch, Every, Policies, SweptPolicies}
-use Rattle.command_line.specs.declared.options.OptionName.TheVariants.{First, Second, Workers, Stripes, Limit, Trace, Journal}
+use Rattle.command_line.specs.declared.options.OptionName.TheVariants.{Batch, Capacities, Capacity, Every, First}
+use Rattle.command_line.specs.declared.options.OptionName.TheVariants.{Format, Journal, Limit, Main, Policies, Second}
+use Rattle.command_line.specs.declared.options.OptionName.TheVariants.{Spread, Stripes, SweptPolicies, Trace, Workers}
 use Rattle.command_line.specs.declared.options.OptionRow.{OptionRow}
 use Rattle.command_line.specs.declared.options.Place.{Place}
 use Rattle.command_line.specs.declared.options.Place.TheVariants.{Named, NamedOften, Positional}

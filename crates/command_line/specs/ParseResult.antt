@@ -22,7 +22,7 @@ pub record IsRefused (words : List Text) (P : Kinds → Type 0) : Type 0 where
   pub are : AreLists lists
   pub refused : P (fault_of (program_app lists) words)
 
--- The arguments are what clap's rules and the rows of options make of the words, and a fault comes only where it is due.
+-- The arguments are what clap's rules and the rows of options make of the words; a fault comes only where it is due.
 abbrev pub ParsedBy : List Text → Result Arguments ParseFault → Type 0
 ParsedBy words (Err fault.OutOfMemory) = ⊤
 ParsedBy words (Err (fault.Refused error)) = IsRefused words (λ kinds. HasKind kinds error)

@@ -81,7 +81,8 @@ policies_in name rows = option_and_then (all_named policy_named) (all_of (row_of
 
 -- the capacities of a sweep
 abbrev pub capacities_in : List Row → Option (List ℕ)
-capacities_in rows = option_and_then (all_named (value_named option.Capacities)) (all_of (row_of option.Capacities).id rows)
+capacities_in rows =
+    option_and_then (all_named (value_named option.Capacities)) (all_of (row_of option.Capacities).id rows)
 
 -- the number of read buffers, where it is one of a cache: a power of two from 1 to 64
 abbrev pub stripes_from : ℕ → Option ℕ
@@ -95,8 +96,13 @@ checked config = option_map (λ u. config) (result_ok (config_fault config))
 
 -- the configuration of a cache of this capacity, with so many read buffers and steps of a journal
 unfoldable pub config_at : ℕ → ℕ → ℕ → List Row → Option Config
-config_at capacity stripes limit rows = option_and_then (λ main. checked
-    (record { capacity = capacity; main_percent = main; spread = spread_in rows; stripes = stripes; journal_limit = limit })) (number_in option.Main rows)
+config_at capacity stripes limit rows = option_and_then (λ main. checked (record {
+  capacity = capacity;
+  main_percent = main;
+  spread = spread_in rows;
+  stripes = stripes;
+  journal_limit = limit;
+})) (number_in option.Main rows)
 
 -- The configuration of a policy: it has no read buffers and no journal, and so one of each.
 abbrev pub config_in : List Row → Option Config
@@ -113,7 +119,8 @@ concurrent_in rows = option_and_then (λ stripes. option_and_then (λ capacity. 
 
 unfoldable pub run_in : List Row → Option Arguments
 run_in rows = option_and_then (λ config. option_and_then (λ batch. option_map (λ policies.
-    asked.Run (record { config = config; policies = policies; batch = batch; format = format_in rows })) (policies_in option.Policies rows)) (number_in option.Batch rows)) (config_in rows)
+    asked.Run (record { config = config; policies = policies; batch = batch; format = format_in rows }))
+    (policies_in option.Policies rows)) (number_in option.Batch rows)) (config_in rows)
 
 -- each capacity replaces the configuration's
 unfoldable pub sweep_in : List Row → Option Arguments
@@ -126,7 +133,8 @@ sweep_in rows = option_and_then (λ config. option_and_then (λ policies. option
 
 unfoldable pub intervals_in : List Row → Option Arguments
 intervals_in rows = option_and_then (λ config. option_and_then (λ every. option_map (λ policies.
-    asked.Intervals (record { config = config; policies = policies; every = every; format = format_in rows })) (policies_in option.Policies rows)) (number_in option.Every rows)) (config_in rows)
+    asked.Intervals (record { config = config; policies = policies; every = every; format = format_in rows }))
+    (policies_in option.Policies rows)) (number_in option.Every rows)) (config_in rows)
 
 -- two policies on one configuration
 unfoldable pub part_in : List Row → Option PartArguments
@@ -138,15 +146,18 @@ part_in rows = option_and_then (λ config. option_and_then (λ first. option_map
 
 unfoldable pub drive_in : List Row → Option Arguments
 drive_in rows = option_and_then (λ config. option_map (λ workers.
-    asked.Drive (record { config = config; workers = workers; format = format_in rows })) (number_in option.Workers rows)) (concurrent_in rows)
+    asked.Drive (record { config = config; workers = workers; format = format_in rows }))
+    (number_in option.Workers rows)) (concurrent_in rows)
 
 unfoldable pub debug_in : List Row → Option Arguments
 debug_in rows = option_and_then (λ policies. option_map (λ trace.
-    asked.Debug (record { policies = policies; trace = trace })) (first_of (row_of option.Trace).id rows)) (part_in rows)
+    asked.Debug (record { policies = policies; trace = trace }))
+    (first_of (row_of option.Trace).id rows)) (part_in rows)
 
 unfoldable pub replay_in : List Row → Option Arguments
 replay_in rows = option_and_then (λ config. option_map (λ journal.
-    asked.Replay (record { config = config; journal = journal })) (first_of (row_of option.Journal).id rows)) (concurrent_in rows)
+    asked.Replay (record { config = config; journal = journal }))
+    (first_of (row_of option.Journal).id rows)) (concurrent_in rows)
 
 -- ---- the subcommand that was called
 

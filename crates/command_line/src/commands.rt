@@ -18,12 +18,12 @@ const VERSION: &str = "0.1.0";
 pub(crate) fn program<'a>(alloc: Global, lists: &WordLists<'a>) -> Result<Command<'a>, AllocError>
     ensures { IfOk result (λ c. app_of c ≡ program_app lists.now) }
 {
-    let mut command = top_command(alloc)?;
+    let mut command = top_command(alloc);
     for row in rows() {
         let subcommand = subcommand(alloc, row, lists)?;
         command = command.subcommand(subcommand)?;
     }
-    Ok(command)
+    command.bin_name("cachesim")
 }
 
 // The rows of all subcommands.
@@ -34,15 +34,14 @@ fn rows() -> &'static [Subcommand]
 }
 
 // `cachesim` itself, which has a version, wants a subcommand, and is handed the words after its name.
-fn top_command<'a>(alloc: Global) -> Result<Command<'a>, AllocError>
-    ensures { IfOk result (IsCommandOf empty_app) }
+fn top_command<'a>(alloc: Global) -> Command<'a>
+    ensures { IsCommandOf empty_app result }
 {
     Command::new(alloc, "cachesim")
         .about("Simulates cache policies over recorded block traces")
         .version(VERSION)
         .subcommand_required(true)
         .no_binary_name(true)
-        .bin_name("cachesim")
 }
 
 // The subcommand, with its options.

@@ -3,7 +3,7 @@ ghost use Rattle.std.specs.Prelude.{◌≡◌, IfOk, map};
 ghost use Rattle.clap.specs.Words.{subcommand_rows_of};
 ghost use Rattle.command_line.specs.Accepted.{AreAccepted};
 ghost use Rattle.command_line.specs.ParseResult.{IsAskedFor, ParsedBy};
-ghost use Rattle.command_line.specs.Values.{Answers, asked_in, asked_of, complete, has_wrong_stripes};
+ghost use Rattle.command_line.specs.Values.{Answers, asked_in, asked_of, has_wrong_stripes};
 
 use crate::arguments::{Arguments, debug, drive, intervals, part, replay, run, sweep};
 use crate::choices::{WordLists, format_words, policy_words, spread_words};
@@ -35,26 +35,19 @@ pub fn parse(alloc: Global, words: &[&str]) -> Result<Arguments, ParseFault>
     arguments(alloc, &matches)
 }
 
-// What the matches ask for.
+// What the matches ask for, or why they ask for nothing.
 fn arguments(alloc: Global, matches: &ArgMatches<'_>) -> Result<Arguments, ParseFault>
     ensures asked { IsAskedFor (asked_in (subcommand_rows_of matches.now)) result }
     ensures accepted { IfOk result AreAccepted }
 {
-    match matches.subcommand() {
-        Some((name, asked)) => complete(alloc, name, &Matches { matches: asked }),
-        None => Err(ParseFault::Incomplete),
-    }
-}
-
-// What the matches of the subcommand of this name ask for, or why they ask for nothing.
-fn complete(alloc: Global, name: &str, asked: &Matches<'_, '_>) -> Result<Arguments, ParseFault>
-    ensures asked { IsAskedFor (complete asked.now (asked_of name.now asked.now)) result }
-    ensures accepted { IfOk result AreAccepted }
-{
-    match arguments_of(alloc, name, asked) {
+    let Some((name, asked)) = matches.subcommand() else {
+        return Err(ParseFault::Incomplete);
+    };
+    let asked = Matches { matches: asked };
+    match arguments_of(alloc, name, &asked) {
         Ok(arguments) => Ok(arguments),
         Err(ValueFault::OutOfMemory) => Err(ParseFault::OutOfMemory),
-        Err(ValueFault::Incomplete) if has_wrong_stripes(asked) => Err(ParseFault::Stripes),
+        Err(ValueFault::Incomplete) if has_wrong_stripes(&asked) => Err(ParseFault::Stripes),
         Err(ValueFault::Incomplete) => Err(ParseFault::Incomplete),
     }
 }
