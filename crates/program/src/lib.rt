@@ -11,9 +11,8 @@ mod file_in_memory;
 mod files;
 mod host;
 mod limits;
-mod pair;
 mod perform;
-mod reports;
+mod texts;
 
 pub use call::command;
 pub use fault::Fault;
