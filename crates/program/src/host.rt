@@ -5,7 +5,7 @@ ghost use Rattle.program.specs.declared.fault_report.TheConstants.{REFUSED};
 use crate::call::command;
 use crate::fault::Fault;
 use crate::fault_report::{REFUSED, report_fault, report_usage_error};
-use crate::files::{Files, MAX_FILE_BYTES};
+use crate::files::{FileFault, Files, MAX_FILE_BYTES};
 use progress::{ProgressLine, Watch};
 use std::alloc::Global;
 use std::env::Env;
@@ -72,14 +72,14 @@ impl<'a, T: fs::Files> Files for HostFiles<'a, T> {
     // No contract says what a file of the machine has.
     ghost known = { λ files path. None };
 
-    fn bytes(&self, alloc: Global, path: &str) -> Result<Vec<u8>, Fault> {
+    fn bytes(&self, alloc: Global, path: &str) -> Result<Vec<u8>, FileFault> {
         let Ok(file) = fs::open(self.rt, path) else {
-            return Err(Fault::NoFile);
+            return Err(FileFault::NoFile);
         };
         match streams::read_all(alloc, &mut CountedReader::new(file), MAX_FILE_BYTES) {
             Ok(bytes) => Ok(bytes),
-            Err(ReadAllFault::OutOfMemory) => Err(Fault::OutOfMemory),
-            Err(_) => Err(Fault::NoFile),
+            Err(ReadAllFault::OutOfMemory) => Err(FileFault::OutOfMemory),
+            Err(_) => Err(FileFault::NoFile),
         }
     }
 }

@@ -18,5 +18,5 @@ pub use call::command;
 pub use fault::Fault;
 pub use fault_report::{DONE, FAULT, REFUSED};
 pub use file_in_memory::FileInMemory;
-pub use files::{Files, MAX_FILE_BYTES};
+pub use files::{FileFault, Files, MAX_FILE_BYTES};
 pub use host::run_process;
