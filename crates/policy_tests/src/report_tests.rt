@@ -1,8 +1,9 @@
 //! Reports as text.
 use super::assertions::assert_equal;
-use report::{Report, reports_text};
+use report::{Report, write_reports};
 use std::test::Fail;
 use step_record::Policy;
+use streams::CountedWriter;
 
 const COUNTED: Report = Report {
     policy: Policy::Lru,
@@ -42,8 +43,9 @@ clairvoyant,1048576,18446744073709551615,18446744073709551615,0,7,4,100.00
 
 #[test]
 fn the_text_of_reports(rt: HostRuntime) -> Result<(), Fail> {
-    let text = reports_text(rt.alloc(), &[COUNTED, EMPTY, LARGE])?;
-    assert_equal(&rt, text.as_slice(), TEXT.as_bytes());
+    let mut out = CountedWriter::new(Vec::with_capacity(rt.alloc(), TEXT.len())?);
+    write_reports(rt.alloc(), &[COUNTED, EMPTY, LARGE], &mut out)?;
+    assert_equal(&rt, out.get_ref().as_slice(), TEXT.as_bytes());
     assert_equal(&rt, COUNTED.rate(), 1666);
     assert_equal(&rt, EMPTY.rate(), 0);
     Ok(())

@@ -2,15 +2,12 @@
 use Rattle.std.proofs.Common.{◌≡◌, ◌<◌, ◌∙◌, ◌⊎◌, refl, subst, sym, inl, inr, ℕ, List, Option, Result, Ok, Err, length}
 use Rattle.std.specs.Prelude.{IfErr, IfSome, IsErrAnd}
 use Rattle.std.proofs.lemmas.Option.{IfSome_then}
-use Rattle.step_record.specs.declared.config.Config.{Config}
-use Rattle.shell_model.specs.Shell.{Shell}
-use Rattle.maintenance.specs.EmptyShell.{IsOpened}
 use Rattle.program.specs.DebugOutput.{KnownFiles}
 use Rattle.debug_commands.specs.declared.fault.DebugFault.{DebugFault}
 use Rattle.debug_commands.specs.declared.fault.DebugFault.TheVariants as debug
 use Rattle.debug_commands.specs.declared.dialogue.TheConstants.{MAX_COMMAND_BYTES}
 use Rattle.program.specs.Fault.{of_debug}
-use Rattle.program.specs.FaultCauses.{IsFoundInFile, IsOfMachine, IsOfReplay, IsOfReplayFrom, LeavesAnswers}
+use Rattle.program.specs.FaultCauses.{IsOfMachine, LeavesAnswers}
 use Rattle.program.specs.declared.fault.Fault.{Fault}
 use Rattle.program.specs.declared.fault.Fault.TheVariants as fault
 
@@ -26,19 +23,6 @@ known_text known path file bytes text named has is =
 
 pub of_text : (file : Option (List ℕ)) (text : List ℕ) (P : List ℕ → Type 0) → IfSome file (λ xs. text ≡ xs) → P text → IfSome file P
 of_text file text P has h = IfSome_then file has (λ xs is. subst P is h)
-
--- a fault that is found in the bytes of a journal
-in_journal : (config : Config) (file commands : Option (List ℕ)) (text : List ℕ) (f : Fault) → IfSome file (λ xs. text ≡ xs)
-    → IsOfReplay config commands f text → IsFoundInFile file (IsOfReplay config commands) f
-in_journal config file commands text fault.NoFile has h = absurd (cc h.2.0)
-in_journal config file commands text _ has h = of_text file text _ has h
-
-pub of_replay : (config : Config) (file commands : Option (List ℕ)) (text : List ℕ) (opening : Shell) (limit : ℕ) (f : Fault)
-    → IfSome file (λ xs. text ≡ xs) → IsOpened config opening → limit ≡ config.journal_limit
-    → IsOfMachine f ⊎ IsOfReplayFrom opening limit commands f text → IsOfMachine f ⊎ IsFoundInFile file (IsOfReplay config commands) f
-of_replay config file commands text opening limit f has opened same (inl h) = inl h
-of_replay config file commands text opening limit f has opened same (inr h) =
-    inr (in_journal config file commands text f has (opening, opened, subst (λ (l : ℕ). IsOfReplayFrom opening l commands f text) same h))
 
 -- a fault of a debugger of which no configuration is refused is one of the machine, or that of a line that is too large
 pub of_dialogue : (Q : Fault → Type 0) (commands : Option (List ℕ)) (e : DebugFault)

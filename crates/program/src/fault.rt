@@ -1,8 +1,9 @@
 //! Why a subcommand printed no result.
 ghost use Rattle.std.specs.Prelude.{◌≡◌, IfErr, MatchResult, Ok};
-ghost use Rattle.program.specs.Fault.{of_cause, of_debug, of_reading, of_write};
+ghost use Rattle.program.specs.Fault.{of_cause, of_debug, of_file, of_reading, of_write};
 ghost use Rattle.program.specs.declared.fault.Fault.TheVariants.{OutOfMemory, Trace};
 
+use crate::files::FileFault;
 use debug_commands::DebugFault;
 use journal_text::JournalFault;
 use policies::ActorFault;
@@ -90,6 +91,17 @@ impl From<WriteFault> for Fault {
         match fault {
             WriteFault::OutOfMemory => Fault::OutOfMemory,
             WriteFault::Write => Fault::Write,
+        }
+    }
+}
+
+impl From<FileFault> for Fault {
+    ghost from_gives = { λ fault e. e ≡ of_file fault };
+
+    fn from(fault: FileFault) -> Fault {
+        match fault {
+            FileFault::OutOfMemory => Fault::OutOfMemory,
+            FileFault::NoFile => Fault::NoFile,
         }
     }
 }

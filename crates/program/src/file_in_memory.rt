@@ -1,6 +1,5 @@
 //! A file in memory, whose bytes are known.
-use crate::fault::Fault;
-use crate::files::Files;
+use crate::files::{FileFault, Files};
 use std::alloc::Global;
 
 /// One file, at a path, and no other.
@@ -16,10 +15,13 @@ impl<'a> Files for FileInMemory<'a> {
 
     ghost known = { λ file path. if bytes_eq path file.path.now then Some file.bytes.now else None };
 
-    fn bytes(&self, alloc: Global, path: &str) -> Result<Vec<u8>, Fault> {
+    fn bytes(&self, alloc: Global, path: &str) -> Result<Vec<u8>, FileFault> {
         if path != self.path {
-            return Err(Fault::NoFile);
+            return Err(FileFault::NoFile);
         }
-        Ok(self.bytes.to_vec(alloc)?)
+        match self.bytes.to_vec(alloc) {
+            Ok(bytes) => Ok(bytes),
+            Err(_) => Err(FileFault::OutOfMemory),
+        }
     }
 }

@@ -1,15 +1,15 @@
 //! The program over the words, the streams and the files of a process.
-ghost use Rattle.std.specs.Prelude.{◌≤◌, IfOk};
+ghost use Rattle.std.specs.Prelude.{◌≤◌};
 ghost use Rattle.program.specs.declared.fault_report.TheConstants.{REFUSED};
 
 use crate::call::command;
 use crate::fault::Fault;
 use crate::fault_report::{REFUSED, report_fault, report_usage_error};
-use crate::files::{Files, MAX_FILE_BYTES};
+use crate::files::{FileFault, Files, MAX_FILE_BYTES};
 use progress::{ProgressLine, Watch};
-use std::alloc::Global;
+use std::alloc::{AllocError, Global};
 use std::env::Env;
-use std::io::{self, ErrorKind, IsTerminal, Read, Write};
+use std::io::{ErrorKind, IsTerminal, Read, Write};
 use std::rt::Clock;
 use std::sync::Wait;
 use std::thread::Threads;
@@ -29,35 +29,61 @@ pub fn run_process<
     ensures { result ≤ REFUSED }
 {
     let line = ProgressLine::new(rt, fault_out.is_terminal());
-    let mut input = CountedReader::new(input);
-    let mut out = CountedWriter::new(out);
     let mut fault_out = CountedWriter::new(fault_out);
-    match run_words(rt, &mut input, &mut out, &mut fault_out, &line) {
-        Ok(status) => status,
-        Err(error) if error.kind() == ErrorKind::InvalidData => {
-            report_usage_error(NOT_TEXT, &mut fault_out)
-        }
+    match words(rt) {
+        Ok(words) => run_words(
+            rt,
+            words.as_slice(),
+            &mut CountedReader::new(input),
+            &mut CountedWriter::new(out),
+            &mut fault_out,
+            &line,
+        ),
+        Err(ErrorKind::InvalidData) => report_usage_error(NOT_TEXT, &mut fault_out),
         Err(_) => report_fault(rt.alloc(), Fault::OutOfMemory, &mut fault_out),
     }
 }
 
-// The same, which fails before the program begins: with `InvalidData` where a word is no UTF-8 text, and else out of
-// memory.
+// The words after the program's name. `InvalidData` where one is no UTF-8 text; the other error is out of memory.
+fn words<T: AllocGlobal + Env>(rt: &T) -> Result<Vec<String>, ErrorKind> {
+    let words = env::args(rt).and_then(|args| {
+        let words: Vec<String> = args.skip(1).collect(rt.alloc())?;
+        Ok(words)
+    });
+    words.map_err(|error| error.kind())
+}
+
+// The program, of these words.
 fn run_words<
-    T: Threads + Wait + Sync + AllocGlobal + Env + fs::Files,
+    T: Threads + Wait + Sync + AllocGlobal + fs::Files,
     R: CountedRead,
     W: CountedWrite,
     X: CountedWrite,
     P: Watch,
->(rt: &T, input: &mut R, out: &mut W, fault_out: &mut X, watch: &P) -> io::Result<u8>
-    ensures { IfOk result (λ status. status ≤ REFUSED) }
+>(rt: &T, words: &[String], input: &mut R, out: &mut W, fault_out: &mut X, watch: &P) -> u8
+    ensures { result ≤ REFUSED }
 {
     let alloc = rt.alloc();
-    let words: Vec<String> = env::args(rt)?.skip(1).collect(alloc)?;
-    let texts: Vec<&str> = words.iter().map(|word| word.as_str()).collect(alloc)?;
-    let files = HostFiles { rt };
-    let texts = texts.as_slice();
-    Ok(command(rt, alloc, texts, input, out, fault_out, &files, watch))
+    let texts: Result<Vec<&str>, AllocError> = words
+        .iter()
+        .map(|word| word.as_str())
+        .collect(alloc);
+    match texts {
+        Ok(texts) => {
+            let files = HostFiles { rt };
+            command(
+                rt,
+                alloc,
+                texts.as_slice(),
+                input,
+                out,
+                fault_out,
+                &files,
+                watch,
+            )
+        }
+        Err(_) => report_fault(alloc, Fault::OutOfMemory, fault_out),
+    }
 }
 
 // The files of this machine.
@@ -72,14 +98,14 @@ impl<'a, T: fs::Files> Files for HostFiles<'a, T> {
     // No contract says what a file of the machine has.
     ghost known = { λ files path. None };
 
-    fn bytes(&self, alloc: Global, path: &str) -> Result<Vec<u8>, Fault> {
+    fn bytes(&self, alloc: Global, path: &str) -> Result<Vec<u8>, FileFault> {
         let Ok(file) = fs::open(self.rt, path) else {
-            return Err(Fault::NoFile);
+            return Err(FileFault::NoFile);
         };
         match streams::read_all(alloc, &mut CountedReader::new(file), MAX_FILE_BYTES) {
             Ok(bytes) => Ok(bytes),
-            Err(ReadAllFault::OutOfMemory) => Err(Fault::OutOfMemory),
-            Err(_) => Err(Fault::NoFile),
+            Err(ReadAllFault::OutOfMemory) => Err(FileFault::OutOfMemory),
+            Err(_) => Err(FileFault::NoFile),
         }
     }
 }

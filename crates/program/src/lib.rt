@@ -11,13 +11,12 @@ mod file_in_memory;
 mod files;
 mod host;
 mod limits;
-mod pair;
 mod perform;
-mod reports;
+mod texts;
 
 pub use call::command;
 pub use fault::Fault;
 pub use fault_report::{DONE, FAULT, REFUSED};
 pub use file_in_memory::FileInMemory;
-pub use files::{Files, MAX_FILE_BYTES};
+pub use files::{FileFault, Files, MAX_FILE_BYTES};
 pub use host::run_process;

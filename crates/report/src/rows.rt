@@ -1,15 +1,38 @@
 //! The rows of reports.
-ghost use Rattle.std.specs.Prelude.{◌≡◌, IfOk, OnOk, map, string_bytes};
+ghost use Rattle.std.specs.Prelude.{◌≡◌, Err, IfOk, OnOk, map, string_bytes, true};
 ghost use Rattle.std.specs.Fmt.{decimal};
 ghost use Rattle.std.specs.Io.KnownBytes.{Appends};
 ghost use Rattle.csv.specs.Writing.{default_writer, row_text, text_written};
 ghost use Rattle.report.specs.ReadyWriter.{IsWriterReady};
 ghost use Rattle.report.specs.Text.{header_fields, line_text, rate_text_of, report_line, reports_text};
+ghost use Rattle.streams.specs.Part.{AppendsPart};
+ghost use Rattle.streams.specs.Tally.{FailsWhere};
 
-use super::Report;
+use super::{Report, WriteFault};
 use csv::{Writer, WriterBuilder};
 use std::alloc::{AllocError, Global};
 use std::io::Write;
+use streams::CountedWrite;
+
+/// Writes the text of the reports, and flushes. The writes and flushes of one call share its interruptions, of which the
+/// millionth is `Write`. `OutOfMemory` has written nothing; after `Write` a beginning of the text was written.
+pub fn write_reports<W: CountedWrite>(
+    alloc: Global,
+    reports: &[Report],
+    writer: &mut W,
+) -> Result<(), WriteFault>
+    ensures text { OnOk result (Appends (W.contents writer.old) (W.contents writer.new) (reports_text reports.now)) }
+    ensures none { result ≡ Err WriteFault.OutOfMemory → writer.new ≡ writer.old }
+    ensures part { result ≡ Err WriteFault.Write
+        → AppendsPart (W.contents writer.old) (W.contents writer.new) (reports_text reports.now) }
+    ensures flushed { OnOk result (W.is_flushed writer.new ≡ true) }
+    // `Write` comes just where a write or the flush failed, or the millionth was interrupted.
+    ensures tally { FailsWhere (result ≡ Err WriteFault.Write) (W.tally writer.old) (W.tally writer.new) }
+{
+    let text = reports_text(alloc, reports)?;
+    streams::write_all(writer, text.as_slice())?;
+    Ok(())
+}
 
 /// The header and a line for each report, in order. The one error is out of memory.
 pub fn reports_text(alloc: Global, reports: &[Report]) -> Result<Vec<u8>, AllocError>

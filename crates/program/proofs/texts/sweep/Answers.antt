@@ -2,7 +2,7 @@ use Rattle.std.proofs.Common.{◌∙◌, ◌≤◌, sym, subst, length, List}
 use Rattle.step_record.specs.declared.job.Job.{Job}
 use Rattle.policies.specs.declared.job_checks.TheConstants.{MAX_ACTORS}
 use Rattle.program.proofs.Accepting.{can_sweep, memory_alone}
-use Rattle.program.proofs.reports.sweep.Goals as goal
+use Rattle.program.proofs.texts.sweep.Goals as goal
 
 pub accepted-requires : goal.accepted-requires
 accepted-requires g c =

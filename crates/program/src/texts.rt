@@ -1,19 +1,20 @@
-//! The subcommands `run`, `sweep` and `intervals`: a trace to what policies make of it.
+//! The subcommands that make a text of a trace: `run`, `sweep`, `intervals`, `part` and `compare`.
 ghost use Rattle.std.specs.Prelude.{◌≡◌, ◌≤◌, ◌⊎◌, IfErr, IfOk, None, length};
-ghost use Rattle.command_line.specs.Accepted.{AreAcceptedIntervals, IsAcceptedRun, IsAcceptedSweep};
-ghost use Rattle.command_line.specs.declared.arguments.Arguments.TheVariants.{Intervals, Run, Sweep};
+ghost use Rattle.command_line.specs.Accepted.{AreAcceptedIntervals, IsAcceptedPart, IsAcceptedRun, IsAcceptedSweep};
+ghost use Rattle.command_line.specs.declared.arguments.Arguments.TheVariants.{Compare, Intervals, Part, Run, Sweep};
 ghost use Rattle.policies.specs.declared.job_checks.TheConstants.{MAX_ACTORS};
 ghost use Rattle.streams.specs.Tally.{FailsWhere};
 ghost use Rattle.program.specs.CallFaults.{IsOfRead, IsOfWrite};
 ghost use Rattle.program.specs.FaultCauses.{IsDue, IsTooMany};
-ghost use Rattle.program.specs.TraceOutput.{IfFaultless, IsText, IsTextOf, jobs_by_policy, reports_on};
+ghost use Rattle.program.specs.TraceOutput.{IsText, IsTextOf, jobs_by_policy};
 
 use crate::fault::{Fault, accepted};
-use command_line::{IntervalsArguments, PolicyList, RunArguments, SweepArguments};
+use command_line::{IntervalsArguments, PartArguments, PolicyList, RunArguments, SweepArguments};
+use debug_policies::{STRETCH, part_watched, push_comparison, push_part};
 use policies::MAX_ACTORS;
 use policy_actors::run_reading;
 use progress::{Watch, Work};
-use report::{Report, intervals_text, reports_text};
+use report::{intervals_text, reports_text};
 use std::alloc::{AllocError, Global};
 use std::sync::Wait;
 use std::thread::Threads;
@@ -23,7 +24,7 @@ use sweeps::{sweep_batches, sweep_each};
 use trace_read::read_trace;
 
 /// The report of each policy that the arguments name, as text; each policy runs on a thread of its own while the trace
-/// is read.
+/// is read. That they are too many is the fault of a trace without one.
 pub fn run<T: Threads + Wait + Sync, R: CountedRead, P: Watch>(
     rt: &T,
     alloc: Global,
@@ -37,9 +38,20 @@ pub fn run<T: Threads + Wait + Sync, R: CountedRead, P: Watch>(
     ensures reads { FailsWhere (IsOfRead result) (R.tally input.old) (R.tally input.new) }
     ensures unwritten { ¬ IsOfWrite result }
 {
+    let policies = arguments.policies.as_slice();
+    if policies.len() > MAX_ACTORS {
+        read_trace(alloc, input, arguments.format)?;
+        return Err(Fault::Actors);
+    }
     let jobs = jobs(alloc, arguments.config, &arguments.policies)?;
-    let reports = run_jobs(rt, alloc, arguments, jobs.as_slice(), input, watch)?;
-    Ok(reports_text(alloc, reports.as_slice())?)
+    watch.begin(Work {
+        name: "run",
+        batches: None,
+    });
+    let (format, batch) = (arguments.format, arguments.batch);
+    let reports = run_reading(rt, alloc, input, format, jobs.as_slice(), batch, watch);
+    watch.end();
+    Ok(reports_text(alloc, reports?.as_slice())?)
 }
 
 /// The reports of the policies that the arguments name at each of the capacities, as text: those of the first policy in
@@ -84,6 +96,41 @@ pub fn intervals<T: Threads + Sync>(
     Ok(intervals_text(alloc, accepted(rows)?.as_slice())?)
 }
 
+/// One line: the first access at which just one of the two policies hits, counted from 1, or `none`.
+pub fn part<P: Watch>(
+    alloc: Global,
+    arguments: &PartArguments,
+    trace: &Trace,
+    watch: &P,
+) -> Result<Vec<u8>, Fault>
+    requires { IsAcceptedPart arguments.now }
+    ensures text { IfOk result (λ text. IsText (Part arguments.now) trace.now text.items) }
+    ensures fault { IfErr result (λ fault. fault ≡ Fault.OutOfMemory) }
+{
+    watch.begin(Work {
+        name: "part",
+        batches: Some(trace.len().div_ceil(STRETCH) as u64),
+    });
+    let found = part_watched(alloc, trace, &arguments.first, &arguments.second, watch);
+    watch.end();
+    let mut line = Vec::new(alloc);
+    push_part(&mut line, accepted(found)?)?;
+    Ok(line)
+}
+
+/// A header and a row: at how many accesses both of the two policies hit, only one of them, and neither.
+pub fn compare(alloc: Global, arguments: &PartArguments, trace: &Trace) -> Result<Vec<u8>, Fault>
+    requires { IsAcceptedPart arguments.now }
+    ensures text { IfOk result (λ text. IsText (Compare arguments.now) trace.now text.items) }
+    ensures fault { IfErr result (λ fault. fault ≡ Fault.OutOfMemory) }
+{
+    let (first, second) = (&arguments.first, &arguments.second);
+    let counts = accepted(debug_policies::compare(alloc, trace, first, second))?;
+    let mut text = Vec::new(alloc);
+    push_comparison(&mut text, first, second, &counts)?;
+    Ok(text)
+}
+
 // A job for each policy, in order, all on one configuration. The one error is out of memory.
 fn jobs(alloc: Global, config: Config, policies: &PolicyList) -> Result<Vec<Job>, AllocError>
     ensures { IfOk result (λ jobs. jobs.items ≡ jobs_by_policy config policies.now) }
@@ -109,35 +156,4 @@ fn few_jobs(alloc: Global, config: Config, policies: &PolicyList) -> Result<Vec<
         return Err(Fault::Actors);
     }
     Ok(jobs)
-}
-
-// The reports of the jobs. That they are too many is the fault of a trace without one.
-fn run_jobs<T: Threads + Wait + Sync, R: CountedRead, P: Watch>(
-    rt: &T,
-    alloc: Global,
-    arguments: &RunArguments,
-    jobs: &[Job],
-    input: &mut R,
-    watch: &P,
-) -> Result<Vec<Report>, Fault>
-    requires accepted { IsAcceptedRun arguments.now }
-    requires jobs { jobs.now ≡ jobs_by_policy arguments.now.config arguments.now.policies }
-    ensures reports { IfOk result (λ reports. IfFaultless arguments.now.format (R.remaining input.old)
-        (λ keys. reports.items ≡ reports_on jobs.now keys)) }
-    ensures fault { IfErr result (IsDue (Run arguments.now) (λ path. None) (R.remaining input.old)) }
-    ensures reads { FailsWhere (IsOfRead result) (R.tally input.old) (R.tally input.new) }
-    ensures unwritten { ¬ IsOfWrite result }
-{
-    if jobs.len() > MAX_ACTORS {
-        read_trace(alloc, input, arguments.format)?;
-        return Err(Fault::Actors);
-    }
-    watch.begin(Work {
-        name: "run",
-        batches: None,
-    });
-    let format = arguments.format;
-    let reports = run_reading(rt, alloc, input, format, jobs, arguments.batch, watch);
-    watch.end();
-    Ok(reports?)
 }
