@@ -1,11 +1,12 @@
 //! What is shown of a concurrent cache.
-ghost use Rattle.std.specs.Prelude.{◌≡◌, ◌++◌, OnOk};
+ghost use Rattle.std.specs.Prelude.{◌≡◌, ◌++◌, OnOk, codes};
 ghost use Rattle.std.specs.List.{flat_map};
 ghost use Rattle.debug_replay.specs.ShownState.{age_line, count_line, drain_line, drain_word, evictions_text};
 ghost use Rattle.debug_replay.specs.ShownState.{holder_line, item_text, items_line, lists_text, looks_text};
 ghost use Rattle.debug_replay.specs.ShownState.{maintenance_text, offers_text, phase_word, queues_text, shown_text};
 ghost use Rattle.debug_replay.specs.ShownState.{state_text, stats_line, stripe_line, stripe_lines, task_text};
 ghost use Rattle.debug_replay.specs.ShownState.{tasks_line, writes_text};
+ghost use Rattle.segments.specs.Queues.{queue_of};
 
 use admission::Frequency;
 use debug_commands::push_count;
@@ -59,22 +60,39 @@ fn push_holder(shell: &Shell, text: &mut Vec<u8>) -> Result<(), AllocError>
 fn push_lists(alloc: Global, shell: &Shell, text: &mut Vec<u8>) -> Result<(), AllocError>
     ensures { OnOk result (text.new.items ≡ text.old.items ++ lists_text shell.now) }
 {
-    let table = shell.table(alloc)?;
-    push_items_line(text, b"table", table.as_slice())?;
+    push_table(alloc, shell, text)?;
     push_queues(alloc, shell, text)?;
     push_stripes(shell, text)?;
     push_tasks_line(text, shell.tasks())
 }
 
+fn push_table(alloc: Global, shell: &Shell, text: &mut Vec<u8>) -> Result<(), AllocError>
+    ensures { OnOk result (text.new.items ≡ text.old.items ++ items_line (codes "table") shell.now.table) }
+{
+    let items = shell.table(alloc)?;
+    push_items_line(text, b"table", items.as_slice())
+}
+
 fn push_queues(alloc: Global, shell: &Shell, text: &mut Vec<u8>) -> Result<(), AllocError>
     ensures { OnOk result (text.new.items ≡ text.old.items ++ queues_text shell.now) }
 {
-    let window = shell.list(alloc, Queue::Window)?;
-    let probation = shell.list(alloc, Queue::Probation)?;
-    let protected = shell.list(alloc, Queue::Protected)?;
-    push_items_line(text, b"window", window.as_slice())?;
-    push_items_line(text, b"probation", probation.as_slice())?;
-    push_items_line(text, b"protected", protected.as_slice())
+    push_queue(alloc, shell, b"window", Queue::Window, text)?;
+    push_queue(alloc, shell, b"probation", Queue::Probation, text)?;
+    push_queue(alloc, shell, b"protected", Queue::Protected, text)
+}
+
+fn push_queue(
+    alloc: Global,
+    shell: &Shell,
+    name: &[u8],
+    queue: Queue,
+    text: &mut Vec<u8>,
+) -> Result<(), AllocError>
+    ensures { OnOk result (text.new.items ≡ text.old.items
+        ++ items_line name.now (queue_of queue shell.now.queues)) }
+{
+    let items = shell.list(alloc, queue)?;
+    push_items_line(text, name, items.as_slice())
 }
 
 fn push_stripes(shell: &Shell, text: &mut Vec<u8>) -> Result<(), AllocError>
