@@ -1,5 +1,5 @@
 -- What `show` prints of a concurrent cache. (Format of this project.)
-use Rattle.std.specs.Prelude.{ℕ, zero, suc, Option, Some, None, List, [], ◌++◌, codes}
+use Rattle.std.specs.Prelude.{ℕ, zero, suc, Option, Some, None, List, [], ◌∷◌, ◌++◌, codes}
 use Rattle.std.specs.Fmt.{decimal}
 use Rattle.std.specs.List.{flat_map}
 use Rattle.step_record.specs.declared.drain.Drain.{Drain}
@@ -77,26 +77,15 @@ stripe_lines stripes (suc s) = stripe_lines stripes s ++ stripe_line s (stripe_a
 abbrev pub age_line : FrequencyData → List ℕ
 age_line f = count_text (codes "age ") f.age ++ count_line (codes " halvings ") f.halvings
 
-abbrev pub looks_text : ShellStats → List ℕ
-looks_text s = count_text (codes "hits ") s.hits ++ count_text (codes " misses ") s.misses
-
-abbrev pub offers_text : ShellStats → List ℕ
-offers_text s =
-    count_text (codes " kept ") s.kept ++ (count_text (codes " full ") s.full ++ count_text (codes " lost ") s.lost)
-
-abbrev pub writes_text : ShellStats → List ℕ
-writes_text s = count_text (codes " added ") s.added
-    ++ (count_text (codes " updated ") s.updated ++ count_text (codes " refused ") s.refused)
-
-abbrev pub evictions_text : ShellStats → List ℕ
-evictions_text s = count_text (codes " evictions ") s.evictions ++ count_text (codes " rejections ") s.rejections
-
-abbrev pub maintenance_text : ShellStats → List ℕ
-maintenance_text s = count_text (codes " begun ") s.begun
-    ++ (count_text (codes " busy ") s.busy ++ count_line (codes " removed ") s.removed)
-
-abbrev pub stats_line : ShellStats → List ℕ
-stats_line s = looks_text s ++ (offers_text s ++ (writes_text s ++ (evictions_text s ++ maintenance_text s)))
+unfoldable pub stats_line : ShellStats → List ℕ
+stats_line s = flat_map
+    (λ (c : List ℕ × ℕ). count_text c.0 c.1)
+    ((codes "hits ", s.hits) ∷ (codes " misses ", s.misses)
+    ∷ (codes " kept ", s.kept) ∷ (codes " full ", s.full) ∷ (codes " lost ", s.lost)
+    ∷ (codes " added ", s.added) ∷ (codes " updated ", s.updated) ∷ (codes " refused ", s.refused)
+    ∷ (codes " evictions ", s.evictions) ∷ (codes " rejections ", s.rejections)
+    ∷ (codes " begun ", s.begun) ∷ (codes " busy ", s.busy) ∷ (codes " removed ", s.removed) ∷ [])
+    ++ codes "\n"
 
 -- ---- the whole
 

@@ -1,11 +1,13 @@
 //! What is shown of a concurrent cache.
-ghost use Rattle.std.specs.Prelude.{◌≡◌, ◌++◌, OnOk};
+ghost use Rattle.std.specs.Prelude.{◌≡◌, ◌++◌, OnOk, codes};
 ghost use Rattle.std.specs.List.{flat_map};
-ghost use Rattle.debug_replay.specs.ShownState.{age_line, count_line, drain_line, drain_word, evictions_text};
-ghost use Rattle.debug_replay.specs.ShownState.{holder_line, item_text, items_line, lists_text, looks_text};
-ghost use Rattle.debug_replay.specs.ShownState.{maintenance_text, offers_text, phase_word, queues_text, shown_text};
+ghost use Rattle.debug_replay.specs.ShownState.{age_line, count_line, drain_line, drain_word};
+ghost use Rattle.debug_replay.specs.ShownState.{holder_line, item_text, items_line, lists_text};
+ghost use Rattle.debug_replay.specs.ShownState.{phase_word, queues_text, shown_text};
 ghost use Rattle.debug_replay.specs.ShownState.{state_text, stats_line, stripe_line, stripe_lines, task_text};
-ghost use Rattle.debug_replay.specs.ShownState.{tasks_line, writes_text};
+ghost use Rattle.debug_replay.specs.ShownState.{tasks_line};
+ghost use Rattle.debug_commands.specs.Texts.{count_text};
+ghost use Rattle.segments.specs.Queues.{queue_of};
 
 use admission::Frequency;
 use debug_commands::push_count;
@@ -59,22 +61,39 @@ fn push_holder(shell: &Shell, text: &mut Vec<u8>) -> Result<(), AllocError>
 fn push_lists(alloc: Global, shell: &Shell, text: &mut Vec<u8>) -> Result<(), AllocError>
     ensures { OnOk result (text.new.items ≡ text.old.items ++ lists_text shell.now) }
 {
-    let table = shell.table(alloc)?;
-    push_items_line(text, b"table", table.as_slice())?;
+    push_table(alloc, shell, text)?;
     push_queues(alloc, shell, text)?;
     push_stripes(shell, text)?;
     push_tasks_line(text, shell.tasks())
 }
 
+fn push_table(alloc: Global, shell: &Shell, text: &mut Vec<u8>) -> Result<(), AllocError>
+    ensures { OnOk result (text.new.items ≡ text.old.items ++ items_line (codes "table") shell.now.table) }
+{
+    let items = shell.table(alloc)?;
+    push_items_line(text, b"table", items.as_slice())
+}
+
 fn push_queues(alloc: Global, shell: &Shell, text: &mut Vec<u8>) -> Result<(), AllocError>
     ensures { OnOk result (text.new.items ≡ text.old.items ++ queues_text shell.now) }
 {
-    let window = shell.list(alloc, Queue::Window)?;
-    let probation = shell.list(alloc, Queue::Probation)?;
-    let protected = shell.list(alloc, Queue::Protected)?;
-    push_items_line(text, b"window", window.as_slice())?;
-    push_items_line(text, b"probation", probation.as_slice())?;
-    push_items_line(text, b"protected", protected.as_slice())
+    push_queue(alloc, shell, b"window", Queue::Window, text)?;
+    push_queue(alloc, shell, b"probation", Queue::Probation, text)?;
+    push_queue(alloc, shell, b"protected", Queue::Protected, text)
+}
+
+fn push_queue(
+    alloc: Global,
+    shell: &Shell,
+    name: &[u8],
+    queue: Queue,
+    text: &mut Vec<u8>,
+) -> Result<(), AllocError>
+    ensures { OnOk result (text.new.items ≡ text.old.items
+        ++ items_line name.now (queue_of queue shell.now.queues)) }
+{
+    let items = shell.list(alloc, queue)?;
+    push_items_line(text, name, items.as_slice())
 }
 
 fn push_stripes(shell: &Shell, text: &mut Vec<u8>) -> Result<(), AllocError>
@@ -101,52 +120,37 @@ fn push_age(frequency: &Frequency, text: &mut Vec<u8>) -> Result<(), AllocError>
     push_count_line(text, b" halvings ", frequency.halvings())
 }
 
+#[tactic(auto, unfolding(crate::specs::ShownState::stats_line))]
 fn push_stats(stats: &ShellStats, text: &mut Vec<u8>) -> Result<(), AllocError>
     ensures { OnOk result (text.new.items ≡ text.old.items ++ stats_line stats.now) }
 {
-    push_looks(stats, text)?;
-    push_offers(stats, text)?;
-    push_writes(stats, text)?;
-    push_evictions(stats, text)?;
-    push_maintenance(stats, text)
+    let counts: [(&[u8], u64); 13] = [
+        (b"hits ", stats.hits),
+        (b" misses ", stats.misses),
+        (b" kept ", stats.kept),
+        (b" full ", stats.full),
+        (b" lost ", stats.lost),
+        (b" added ", stats.added),
+        (b" updated ", stats.updated),
+        (b" refused ", stats.refused),
+        (b" evictions ", stats.evictions),
+        (b" rejections ", stats.rejections),
+        (b" begun ", stats.begun),
+        (b" busy ", stats.busy),
+        (b" removed ", stats.removed),
+    ];
+    push_counts_line(text, &counts)
 }
 
-fn push_looks(stats: &ShellStats, text: &mut Vec<u8>) -> Result<(), AllocError>
-    ensures { OnOk result (text.new.items ≡ text.old.items ++ looks_text stats.now) }
+// Adds a line of counts, each behind its name.
+fn push_counts_line(text: &mut Vec<u8>, counts: &[(&[u8], u64)]) -> Result<(), AllocError>
+    ensures { OnOk result (text.new.items
+        ≡ text.old.items ++ (flat_map (λ c. count_text c.0.now c.1) counts.now ++ codes "\n")) }
 {
-    push_count(text, b"hits ", stats.hits)?;
-    push_count(text, b" misses ", stats.misses)
-}
-
-fn push_offers(stats: &ShellStats, text: &mut Vec<u8>) -> Result<(), AllocError>
-    ensures { OnOk result (text.new.items ≡ text.old.items ++ offers_text stats.now) }
-{
-    push_count(text, b" kept ", stats.kept)?;
-    push_count(text, b" full ", stats.full)?;
-    push_count(text, b" lost ", stats.lost)
-}
-
-fn push_writes(stats: &ShellStats, text: &mut Vec<u8>) -> Result<(), AllocError>
-    ensures { OnOk result (text.new.items ≡ text.old.items ++ writes_text stats.now) }
-{
-    push_count(text, b" added ", stats.added)?;
-    push_count(text, b" updated ", stats.updated)?;
-    push_count(text, b" refused ", stats.refused)
-}
-
-fn push_evictions(stats: &ShellStats, text: &mut Vec<u8>) -> Result<(), AllocError>
-    ensures { OnOk result (text.new.items ≡ text.old.items ++ evictions_text stats.now) }
-{
-    push_count(text, b" evictions ", stats.evictions)?;
-    push_count(text, b" rejections ", stats.rejections)
-}
-
-fn push_maintenance(stats: &ShellStats, text: &mut Vec<u8>) -> Result<(), AllocError>
-    ensures { OnOk result (text.new.items ≡ text.old.items ++ maintenance_text stats.now) }
-{
-    push_count(text, b" begun ", stats.begun)?;
-    push_count(text, b" busy ", stats.busy)?;
-    push_count_line(text, b" removed ", stats.removed)
+    for (name, count) in counts {
+        push_count(text, name, *count)?;
+    }
+    text.extend_from_slice(b"\n")
 }
 
 // The word of a drain state.
