@@ -13,7 +13,7 @@ mod frequency_tests;
 #[cfg(test)]
 mod next_use_tests;
 #[cfg(test)]
-mod rank_tree_tests;
+mod ranks_tests;
 #[cfg(test)]
 mod segments_tests;
 #[cfg(test)]
