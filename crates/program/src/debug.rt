@@ -34,8 +34,8 @@ pub fn debug<R: CountedRead, W: CountedWrite, F: Files>(
     requires { IsAcceptedPart arguments.now.policies }
     ensures done { OnOk result (IsDone (Debug arguments.now) (F.known files.now) (R.remaining input.old)
         (W.contents out.old) (W.contents out.new)) }
-    ensures leaves { IfErr result (λ fault. Leaves (Debug arguments.now) (F.known files.now) fault (R.remaining input.old)
-        (W.contents out.old) (W.contents out.new) (out.new ≡ out.old)) }
+    ensures leaves { IfErr result (λ fault. Leaves (Debug arguments.now) (F.known files.now) fault
+        (R.remaining input.old) (W.contents out.old) (W.contents out.new) (out.new ≡ out.old)) }
     ensures fault { IfErr result (IsDue (Debug arguments.now) (F.known files.now) (R.remaining input.old)) }
     ensures reads { FailsWhere (IsOfRead result) (R.tally input.old) (R.tally input.new) }
     ensures writes { FailsWhere (IsOfWrite result) (W.tally out.old) (W.tally out.new) }
@@ -60,8 +60,8 @@ pub fn replay<R: CountedRead, W: CountedWrite, F: Files>(
     requires { config_fault arguments.now.config ≡ Ok tt }
     ensures done { OnOk result (IsDone (Replay arguments.now) (F.known files.now) (R.remaining input.old)
         (W.contents out.old) (W.contents out.new)) }
-    ensures leaves { IfErr result (λ fault. Leaves (Replay arguments.now) (F.known files.now) fault (R.remaining input.old)
-        (W.contents out.old) (W.contents out.new) (out.new ≡ out.old)) }
+    ensures leaves { IfErr result (λ fault. Leaves (Replay arguments.now) (F.known files.now) fault
+        (R.remaining input.old) (W.contents out.old) (W.contents out.new) (out.new ≡ out.old)) }
     ensures fault { IfErr result (IsDue (Replay arguments.now) (F.known files.now) (R.remaining input.old)) }
     ensures reads { FailsWhere (IsOfRead result) (R.tally input.old) (R.tally input.new) }
     ensures writes { FailsWhere (IsOfWrite result) (W.tally out.old) (W.tally out.new) }
@@ -83,8 +83,8 @@ fn replay_in<R: CountedRead, W: CountedWrite, F: Files>(
     requires { IsEmptySession arguments.now.config session.old }
     ensures done { OnOk result (IsDone (Replay arguments.now) (F.known files.now) (R.remaining input.old)
         (W.contents out.old) (W.contents out.new)) }
-    ensures leaves { IfErr result (λ fault. Leaves (Replay arguments.now) (F.known files.now) fault (R.remaining input.old)
-        (W.contents out.old) (W.contents out.new) (out.new ≡ out.old)) }
+    ensures leaves { IfErr result (λ fault. Leaves (Replay arguments.now) (F.known files.now) fault
+        (R.remaining input.old) (W.contents out.old) (W.contents out.new) (out.new ≡ out.old)) }
     ensures fault { IfErr result (IsDue (Replay arguments.now) (F.known files.now) (R.remaining input.old)) }
     ensures reads { FailsWhere (IsOfRead result) (R.tally input.old) (R.tally input.new) }
     ensures writes { FailsWhere (IsOfWrite result) (W.tally out.old) (W.tally out.new) }

@@ -72,7 +72,8 @@ fn write_text<W: CountedWrite>(text: Result<Vec<u8>, Fault>, out: &mut W) -> Res
     ensures text { OnOk result (IsOkAnd text (λ text. Appends (W.contents out.old) (W.contents out.new) text.items)) }
     ensures kept { IfErr result (λ fault. fault ≢ Fault.Write → out.new ≡ out.old) }
     ensures fault { IfErr result (λ fault. (fault ≡ Fault.Write) ⊎ IsErrAnd text (λ made. made ≡ fault)) }
-    ensures reads { (old : Tally) (new : Tally) → FailsWhere (IsOfRead text) old new → FailsWhere (IsOfRead result) old new }
+    ensures reads { (old : Tally) (new : Tally) → FailsWhere (IsOfRead text) old new
+        → FailsWhere (IsOfRead result) old new }
     ensures writes { FailsWhere (IsOfWrite result) (W.tally out.old) (W.tally out.new) }
     ensures flushed { OnOk result (W.is_flushed out.new ≡ true) }
 {

@@ -78,8 +78,8 @@ pub fn sweep<T: Threads + Sync, P: Watch>(
     Ok(reports_text(alloc, accepted(reports)?.as_slice())?)
 }
 
-/// The rows of the policies that the arguments name, one for each interval, as text: all of the first policy, then those
-/// of the second, and so on.
+/// The rows of the policies that the arguments name, one for each interval, as text: all of the first policy, then
+/// those of the second, and so on.
 pub fn intervals<T: Threads + Sync>(
     rt: &T,
     alloc: Global,
