@@ -83,13 +83,20 @@ impl<'a> TwoPolicies<'a> {
         ensures start { IfOk result (λ w. w.first.at ≡ 0) }
         ensures whole { IfOk result (λ w. IsPartWalk w.trace.now w.first_job w.second_job w.first w.second) }
     {
-        Ok(TwoPolicies {
-            trace,
-            first_job: *first,
-            second_job: *second,
-            first: OnePolicy::open(alloc, first, trace)?,
-            second: OnePolicy::open(alloc, second, trace)?,
-        })
+        let one = OnePolicy::open(alloc, first, trace)?;
+        match OnePolicy::open(alloc, second, trace) {
+            Ok(other) => Ok(TwoPolicies {
+                trace,
+                first_job: *first,
+                second_job: *second,
+                first: one,
+                second: other,
+            }),
+            Err(fault) => {
+                drop(one);
+                Err(fault)
+            }
+        }
     }
 }
 
