@@ -30,7 +30,7 @@ use turn_book::{MAX_TURNS, OpenFault, Pass, TurnBook};
 use walks::{Local, Next, next_step};
 
 /// Why a worker was refused a step.
-#[derive(Clone, Copy, Debug, PartialEq, Eq)]
+#[derive(Clone, Copy, PartialEq, Eq)]
 pub enum Cause {
     /// Out of memory.
     Memory,
@@ -144,9 +144,7 @@ fn assign_passes(
     ensures counts { AreNumbered 0 result.items × (length result.items ≡ length passes.items) }
 {
     for pass in passes {
-        let Some(worker) = Worker::new(states.len() as u8) else {
-            unreachable!()
-        };
+        let worker = Worker::new(states.len() as u8).unwrap();
         states.push_reserved(WorkerState {
             pass: Some(pass),
             worker,
@@ -188,9 +186,7 @@ fn work_all<G: Gate, R: Threads + Wait + Sync>(
             × HasWorked stripes book.entry.now.opening (calls_of pieces.entry.now) state.exit.now
             × (state.exit.now.worker ≡ state.entry.now.worker) }
     {
-        let Some(pass) = state.pass.take() else {
-            unreachable!()
-        };
+        let pass = state.pass.take().unwrap();
         let worker = state.worker;
         let calls = pieces[usize::from(worker.number())].as_slice();
         let (pass, answer) = work_in_turns(rt, gate, book, pass, worker, stripes, calls);

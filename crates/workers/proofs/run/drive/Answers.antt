@@ -1,4 +1,4 @@
-use Rattle.std.proofs.Common.{rules, arith, ◌≡◌, ◌≤◌, ◌<◌, map, vec_items, length, sym, ap, subst, ◌∙◌}
+use Rattle.std.proofs.Common.{rules, arith, ◌≡◌, ◌≤◌, ◌<◌, map, vec_items, length, refl, sym, ap, subst, ◌∙◌}
 use Rattle.std.proofs.lemmas.List.{length-map}
 use Rattle.step_record.specs.declared.worker.TheConstants.{MAX_WORKERS}
 use Rattle.turn_book.specs.Faults.{value_in, IsOpenCause}
@@ -15,17 +15,17 @@ use Rattle.workers.proofs.Collecting.{came_back, every_map, run_up_to}
 use Rattle.workers.proofs.RunResults.{moved_run, whole_run, free_of}
 use Rattle.workers.proofs.Turning.{within_first}
 use Rattle.workers.proofs.run.drive.Goals as goal
-use Rattle.workers.proofs.run.drive.Goals.{After-len-earlier, After-sound}
+use Rattle.workers.proofs.run.drive.Goals.{In_default, After-sound}
 
 -- what was looked at before the run began: so many workers can run
-can-run : (g : _) (c : goal.After-len-earlier g) → CanRun (map (λ p. vec_items p) c.args.pieces.items) c.args.session.engine
+can-run : (g : _) (c : goal.In_default g) → CanRun (map (λ p. vec_items p) c.args.pieces.items) c.args.session.engine
 can-run g c =
     let many = length-map c.args.pieces.items (λ p. vec_items p) in
     let ok = c.args.pieces.ok.0 in
     let len = c.len-workers.ensures in
-    let free = free_of _ _ (sym c.holder.ensures ∙ c.in_default.is) in
     let some : 1 ≤ c.len-workers.result = search rules in
     let few : c.len-workers.result ≤ MAX_WORKERS = search rules in
+    let free = free_of _ _ (sym c.holder.ensures ∙ c.in_default.is) in
     record {
       some = omega arith;
       few = omega arith;
@@ -103,12 +103,12 @@ returns-in-None-clause-free g c =
     (ap (λ x. length x.stripes) (sym shell) ∙ stripes.count ∙ stripes.stripes ∙ ap (λ x. x.config.stripes) shell) c.engine-shell.ensures.sound.stands run c.sound.ensures.legal c.sound.ensures.stands
 
 pub returns-in-None-clause-accepted : goal.returns-in-None-clause-accepted
-returns-in-None-clause-accepted g c = can-run g (goal.at.returns-in-None-clause-accepted g c).After-len-earlier
+returns-in-None-clause-accepted g c = can-run g (goal.at.returns-in-None-clause-accepted g c).In_default
 
 pub returns-in-Ok-open-clause-fault : goal.returns-in-Ok-open-clause-fault
 returns-in-Ok-open-clause-fault g c =
     let here = (goal.at.returns-in-Ok-open-clause-fault g c).After-sound in (
-      can-run g (goal.at.returns-in-Ok-open-clause-fault g c).After-len-earlier,
+      can-run g (goal.at.returns-in-Ok-open-clause-fault g c).In_default,
       c.sound.ensures.legal,
       subst (λ o. IsRunUpTo o c.args.session.engine.config.stripes (map (λ p. vec_items p) c.args.pieces.items) c.args.session c.close-session.result) c.in-Some-cause.is (run-of g here),
       c.len-earlier.ensures.len,
@@ -117,7 +117,7 @@ returns-in-Ok-open-clause-fault g c =
 pub returns-in-Err-OutOfMemory-clause-fault : goal.returns-in-Err-OutOfMemory-clause-fault
 returns-in-Err-OutOfMemory-clause-fault g c = (
   subst (λ f. value_in f ≡ c.args.session) c.in-Err-OutOfMemory.field-0-is c.in-Err-OutOfMemory.ensures.returned,
-  can-run g (goal.at.returns-in-Err-OutOfMemory-clause-fault g c).After-len-earlier,
+  can-run g (goal.at.returns-in-Err-OutOfMemory-clause-fault g c).In_default,
 )
 
 pub unreachable-requires : goal.unreachable-requires
@@ -132,3 +132,9 @@ unreachable-requires-in-Err-Turns g c =
     let cause = subst (λ f. IsOpenCause f c.len-workers.result MAX_TURNS) c.in-Err-Turns.field-0-is c.in-Err-Turns.ensures.cause in
     let much : MAX_TURNS < MAX_TURNS = cause.2 (omega arith) in
     absurd (omega (much, arith))
+
+pub returns-in_default-with_capacity-clause-fault : goal.returns-in_default-with_capacity-clause-fault
+returns-in_default-with_capacity-clause-fault g c = (refl, can-run g (goal.at.returns-in_default-with_capacity-clause-fault g c).In_default)
+
+pub returns-in_default-with_capacity-2-clause-fault : goal.returns-in_default-with_capacity-2-clause-fault
+returns-in_default-with_capacity-2-clause-fault g c = (refl, can-run g (goal.at.returns-in_default-with_capacity-2-clause-fault g c).In_default)
