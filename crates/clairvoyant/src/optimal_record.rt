@@ -8,7 +8,7 @@ use step_record::{Key, Outcome};
 /// resident. Of a trace of `n` accesses, a key that is used next at place `p` has rank
 /// `2 * n - 1 - p`, and a key that is never used again has the place of its last access for its
 /// rank. So the key whose next use is farthest ranks least.
-#[derive(Clone, Copy, Debug, PartialEq, Eq)]
+#[derive(Clone, Copy)]
 pub struct EvictedKey {
     pub(crate) key: Key,
     pub(crate) rank: u32,
@@ -16,7 +16,7 @@ pub struct EvictedKey {
 
 /// The undo record of an access: what it changed of the residents. The accessed key is the
 /// trace's, at the place of the access.
-#[derive(Clone, Copy, Debug, PartialEq, Eq)]
+#[derive(Clone, Copy)]
 pub enum OptimalRecord {
     /// The key was a resident.
     Hit,

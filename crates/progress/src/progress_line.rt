@@ -17,7 +17,7 @@ pub trait Watch: Gate {
 }
 
 /// What is under way.
-#[derive(Clone, Copy, Debug, PartialEq, Eq)]
+#[derive(Clone, Copy)]
 pub struct Work {
     /// The name of the subcommand.
     pub name: &'static str,

@@ -19,7 +19,7 @@ use thiserror::Error;
 use walks::{Local, Next, next_step};
 
 /// Why a maintenance was not finished. The steps that were made stay applied.
-#[derive(Clone, Copy, Debug, PartialEq, Eq, Error)]
+#[derive(Clone, Copy, Debug, Error)]
 pub enum SettleFault {
     /// Out of memory after this many steps.
     #[error("OutOfMemory")]

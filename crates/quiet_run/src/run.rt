@@ -22,7 +22,7 @@ use thiserror::Error;
 use walks::Local;
 
 /// Why keys were not all accessed. The steps that were made stay applied.
-#[derive(Clone, Copy, Debug, PartialEq, Eq, Error)]
+#[derive(Clone, Copy, Debug, Error)]
 pub enum QuietFault {
     /// Out of memory after this many steps.
     #[error("OutOfMemory")]

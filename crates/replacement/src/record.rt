@@ -3,7 +3,7 @@ use segments::MoveRecord;
 use step_record::Outcome;
 
 /// The undo record of an access or an eviction: what was moved, in turn. At most one item left the queues.
-#[derive(Clone, Copy, Debug, PartialEq, Eq)]
+#[derive(Clone, Copy)]
 pub struct Moves {
     /// The item that went to a recent end first.
     pub first: Option<MoveRecord>,
@@ -23,7 +23,7 @@ impl Moves {
 }
 
 /// What an access or an eviction came to: its outcome, and the undo record of what it moved.
-#[derive(Clone, Copy, Debug, PartialEq, Eq)]
+#[derive(Clone, Copy)]
 pub struct Effect {
     /// The outcome.
     pub outcome: Outcome,

@@ -7,7 +7,7 @@ use segments::Queue;
 use step_record::Config;
 
 /// Where a new item goes.
-#[derive(Clone, Copy, Debug, PartialEq, Eq)]
+#[derive(Clone, Copy)]
 pub enum Placement {
     /// To a queue: where the cache is full, that queue's oldest item leaves for it, or it is rejected.
     Direct(Queue),
@@ -16,7 +16,7 @@ pub enum Placement {
 }
 
 /// What a hit does to its item.
-#[derive(Clone, Copy, Debug, PartialEq, Eq)]
+#[derive(Clone, Copy)]
 pub enum HitRule {
     /// An item of the window goes to the window's recent end, any other to protected's.
     Renews,
@@ -25,7 +25,7 @@ pub enum HitRule {
 }
 
 /// The sizes that a policy of queues goes by, where new items go, and what a hit does.
-#[derive(Clone, Copy, Debug, PartialEq, Eq)]
+#[derive(Clone, Copy)]
 pub struct Rules {
     /// How many items the cache holds.
     pub capacity: usize,

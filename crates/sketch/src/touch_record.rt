@@ -5,7 +5,7 @@ ghost use Rattle.sketch.specs.TouchRecord.{rose};
 use step_record::Key;
 
 /// Which of a key's four counters a touch raised: all that it takes to undo it. It holds no list.
-#[derive(Clone, Copy, Debug, PartialEq, Eq)]
+#[derive(Clone, Copy)]
 pub struct TouchRecord {
     /// The key.
     pub key: Key,
@@ -14,7 +14,7 @@ pub struct TouchRecord {
 }
 
 /// A flag for each row of a sketch: whether the key's counter there rose.
-#[derive(Clone, Copy, Debug, PartialEq, Eq)]
+#[derive(Clone, Copy)]
 pub struct RaisedRows {
     pub row_0: bool,
     pub row_1: bool,

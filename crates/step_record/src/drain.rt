@@ -1,7 +1,7 @@
 //! How the maintenance of the concurrent cache stands (Caffeine's Design page).
 
 /// Whether maintenance is due or under way.
-#[derive(Clone, Copy, Debug, PartialEq, Eq)]
+#[derive(Clone, Copy, PartialEq, Eq)]
 pub enum Drain {
     /// None is under way, and none is due.
     Idle,
@@ -14,7 +14,7 @@ pub enum Drain {
 }
 
 /// What the worker that holds the maintenance is at. A phase does not go back.
-#[derive(Clone, Copy, Debug, PartialEq, Eq)]
+#[derive(Clone, Copy, PartialEq, Eq)]
 pub enum Phase {
     /// It drains the read buffers.
     Reads,

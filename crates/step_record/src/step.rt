@@ -7,7 +7,7 @@ use super::kept::ByWorker;
 use super::worker::Worker;
 
 /// What a caller asks of the concurrent cache; a worker carries each call out by several steps.
-#[derive(Clone, Copy, Debug, PartialEq, Eq)]
+#[derive(Clone, Copy, PartialEq, Eq)]
 pub enum Call {
     /// Reads a key, and adds it where the cache does not have it.
     Read(Key),
@@ -16,7 +16,7 @@ pub enum Call {
 }
 
 /// A step: one act of one worker.
-#[derive(Clone, Copy, Debug, PartialEq, Eq)]
+#[derive(Clone, Copy, PartialEq, Eq)]
 pub struct Step {
     pub worker: Worker,
     pub act: Act,

@@ -6,7 +6,7 @@ use super::Key;
 use std::marker::Model;
 
 /// The accesses of a trace, in order: at most `MAX_ACCESSES` of them.
-#[derive(Debug, Drop)]
+#[derive(Drop)]
 pub struct Trace {
     keys: Vec<Key>,
 }

@@ -8,7 +8,7 @@ use std::marker::Model;
 pub const MAX_WORKERS: u8 = 64;
 
 /// The number of a worker, from 0 on and below `MAX_WORKERS`.
-#[derive(Clone, Copy, Debug, PartialEq, Eq)]
+#[derive(Clone, Copy, PartialEq, Eq)]
 pub struct Worker {
     number: u8,
 }

@@ -52,7 +52,7 @@ pub trait CountedWrite {
 }
 
 /// A reader, and what became of its reads since it was made.
-#[derive(Debug, Drop)]
+#[derive(Drop)]
 pub struct CountedReader<R> {
     inner: R,
     tally: Tally,
@@ -104,7 +104,7 @@ impl CountedRead for &[u8] {
 
 /// A writer, what became of its writes and flushes since it was made, and whether it was flushed
 /// after the last write.
-#[derive(Debug, Drop)]
+#[derive(Drop)]
 pub struct CountedWriter<W> {
     inner: W,
     tally: Tally,

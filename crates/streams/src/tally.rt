@@ -5,7 +5,7 @@ ghost use Rattle.streams.specs.Tally.{CountsError, no_calls};
 use std::io::{Error, ErrorKind};
 
 /// How often the calls of a reader or a writer were interrupted, and whether one failed.
-#[derive(Clone, Copy, Debug, PartialEq, Eq)]
+#[derive(Clone, Copy)]
 pub struct Tally {
     /// Whether a call failed otherwise than by an interruption.
     pub has_failed: bool,
