@@ -1,4 +1,5 @@
-use Rattle.std.proofs.Common.{◌≡◌, ◌∙◌, Ok, Err, ap, sym, subst, refl}
+use Rattle.std.proofs.lemmas.Grind.{common_steps}
+use Rattle.std.proofs.Common.{◌≡◌, ◌∙◌, Ok, Err, ap, sym, subst, refl, arith}
 use Rattle.std.specs.Result.{IsErrAnd}
 use Rattle.streams.proofs.Tallies.{further, unspent}
 use Rattle.debug_commands.specs.Commands.{command_line_of}
@@ -57,3 +58,24 @@ lines-preserved g c =
       writes = further _ _ _ _ _ _ c.lines.invariant.writes
           (further _ _ _ _ _ _ c.in_ok-write_some.ensures.spent c.in_ok-flush.ensures.spent);
     }
+
+pub returns-in_err-answer-clause-reads : goal.returns-in_err-answer-clause-reads
+returns-in_err-answer-clause-reads g c = grind (arith, common_steps)
+
+pub returns-in_err-answer-clause-writes : goal.returns-in_err-answer-clause-writes
+returns-in_err-answer-clause-writes g c = grind (arith, common_steps)
+
+pub returns-in_err-write_some-clause-source : goal.returns-in_err-write_some-clause-source
+returns-in_err-write_some-clause-source g c = grind (arith, common_steps)
+
+pub returns-in_err-write_some-clause-whole : goal.returns-in_err-write_some-clause-whole
+returns-in_err-write_some-clause-whole g c = grind (arith, common_steps)
+
+pub returns-in_err-write_some-clause-writes : goal.returns-in_err-write_some-clause-writes
+returns-in_err-write_some-clause-writes g c = grind (arith, common_steps)
+
+pub returns-then-is_last-clause-reads : goal.returns-then-is_last-clause-reads
+returns-then-is_last-clause-reads g c = grind (arith, common_steps)
+
+pub returns-then-is_last-clause-source : goal.returns-then-is_last-clause-source
+returns-then-is_last-clause-source g c = grind (arith, common_steps)

@@ -1,3 +1,4 @@
+use Rattle.std.proofs.lemmas.Grind.{common_steps}
 use Rattle.std.proofs.Common.{◌≡◌, ◌∙◌, ◌+◌, ℕ, List, length, get_or, ap, arith, length-append}
 use Rattle.streams.proofs.Tallies.{further}
 use Rattle.debug_commands.proofs.OneByte.{feeds_more, line_more, one_more}
@@ -36,3 +37,6 @@ bytes-preserved g c =
       room = omega (arith, long, one, c.bytes.invariant.room, c.if-room-eq0.false);
       spent = further _ _ _ _ _ _ c.bytes.invariant.spent c.in_ok-count.ensures.spent;
     }
+
+pub returns-then-byte-eq10-clause-read : goal.returns-then-byte-eq10-clause-read
+returns-then-byte-eq10-clause-read g c = grind (arith, common_steps)

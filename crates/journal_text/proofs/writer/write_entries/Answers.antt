@@ -1,3 +1,4 @@
+use Rattle.std.proofs.lemmas.Grind.{common_steps}
 use Rattle.std.proofs.Common.{◌≡◌, ◌∙◌, ◌+◌, ◌-◌, ◌++◌, ◌∷◌, [], List, ℕ, zero, suc, Some, ap, sym, subst, arith, take}
 use Rattle.std.proofs.lemmas.List.Elements.{All-nil, All-push}
 use Rattle.std.specs.Prelude.{slice_get}
@@ -48,3 +49,9 @@ loop-n-preserved g c =
       spent = further _ _ _ _ _ _ c.loop-n.invariant.spent c.in_ok-make_room_for_line.ensures.spent;
       fit = subst AreFit (sym next) (All-push (λ e. FitWords (entry_words e)) front e c.loop-n.invariant.fit c.push_entry_line.ensures.fit);
     }
+
+pub returns-clause-fit : goal.returns-clause-fit
+returns-clause-fit g c = grind (arith, common_steps)
+
+pub returns-clause-written : goal.returns-clause-written
+returns-clause-written g c = grind (arith, common_steps)

@@ -1,4 +1,5 @@
-use Rattle.std.proofs.Common.{ℕ, ◌-◌, ◌<◌, cond}
+use Rattle.std.proofs.lemmas.Grind.{common_steps, elements}
+use Rattle.std.proofs.Common.{ℕ, ◌-◌, ◌<◌, cond, arith}
 use Rattle.sketch.specs.Counters.{counter_at}
 use Rattle.sketch.specs.TouchRecord.{rose}
 use Rattle.sketch.specs.Columns.{column, column_below}
@@ -21,3 +22,15 @@ loop-row-preserved c =
     let same = rw c.column.ensures.value at c.lower.ensures.same in
     let here = rw (c.column.ensures.value, c.rose_in-rose.ensures) at c.lower.ensures.here in
     row_more c.args.width cols down (counter_at c.args.words.now) (counter_at c.loop-row.words) (counter_at c.lower.new.words) c.loop-row.row below c.loop-row.invariant same here
+
+pub lower-requires-clause-within : goal.lower-requires-clause-within
+lower-requires-clause-within c = grind (arith, common_steps)
+
+pub overflow_add-at : goal.overflow_add-at
+overflow_add-at c = grind (arith, common_steps)
+
+pub overflow_mul-at : goal.overflow_mul-at
+overflow_mul-at c = grind (arith, common_steps)
+
+pub returns : goal.returns
+returns c = grind (arith, elements)

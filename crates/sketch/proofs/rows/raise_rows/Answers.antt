@@ -1,3 +1,4 @@
+use Rattle.std.proofs.lemmas.Grind.{elements}
 use Rattle.std.proofs.Common.{ℕ, ◌+◌, ◌*◌, ◌<◌, min, get_or, length, arith, ◌∙◌, below_more, get_or-set_same, get_or-set_other, ◌≢◌, length-set}
 use Rattle.std.proofs.lemmas.List.FromFn.{fill_by_all}
 use Rattle.sketch.specs.Counters.{counter_at}
@@ -24,3 +25,6 @@ pub returns-clause-were : goal.returns-clause-were
 returns-clause-were c =
     fill_by_all (λ row. counter_at c.args.words.now (row * c.args.width + get_or c.args.columns row 0)) c.loop-row.were 4 0 c.loop-row.invariant.2
     (λ row h. c.loop-row.invariant.1 row (omega (arith, c.loop-row-test.false)))
+
+pub returns-clause-counters : goal.returns-clause-counters
+returns-clause-counters c = grind (arith, elements)

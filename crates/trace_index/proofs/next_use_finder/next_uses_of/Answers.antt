@@ -1,3 +1,4 @@
+use Rattle.std.proofs.lemmas.Grind.{common_steps}
 use Rattle.std.proofs.Common.{◌≡◌, ◌-◌, ◌<◌, get_or, ◌∙◌, arith}
 use Rattle.trace_index.specs.PackedKeys.{unpacked}
 use Rattle.trace_index.specs.Uses.{next, next_from, number_of}
@@ -22,3 +23,6 @@ loop-back-preserved c =
           (number-back t len back key c.in_ok-next.next lt c.get.ensures found) i
           (λ ne. inv.right i (omega (arith, from, to, ne)) to);
     }
+
+pub loop-back-init : goal.loop-back-init
+loop-back-init c = grind (arith, common_steps)

@@ -1,3 +1,4 @@
+use Rattle.std.proofs.lemmas.Grind.{common_steps}
 use Rattle.std.proofs.Common.{◌∙◌, sym, ap, arith}
 use Rattle.clairvoyant.specs.Clairvoyant.{ClairvoyantState}
 use Rattle.clairvoyant.specs.OptimalRecord.{outcome_of, record_at}
@@ -41,3 +42,9 @@ pub returns-clause-record_is : goal.returns-clause-record_is
 returns-clause-record_is c =
     c.serve-record.ensures.record
     ∙ ap (λ (x : ClairvoyantState). record_at x.capacity x.trace x.stats.accesses) c.self.view_is
+
+pub count-requires : goal.count-requires
+count-requires c = grind (arith, common_steps)
+
+pub returns-clause-not_now : goal.returns-clause-not_now
+returns-clause-not_now c = grind (arith, common_steps)

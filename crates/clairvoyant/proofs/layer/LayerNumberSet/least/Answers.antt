@@ -1,3 +1,4 @@
+use Rattle.std.proofs.lemmas.Grind.{common_steps}
 use Rattle.std.proofs.Common.{◌≡◌, ◌<◌, ◌^◌, length, get_or, arith, w64}
 use Rattle.std.specs.Int.{trailing_zeros}
 use Rattle.std.proofs.lemmas.List.{get_or_read}
@@ -21,3 +22,15 @@ returns-in-Some g c =
       least-held ws w x (trailing_zeros w64 x) in_it read low.0 low.1,
       none-held ws w x (trailing_zeros w64 x) in_it read low.0 low.2 (λ v lt. above-none _ (get_or ws v 0) (e.2 v lt) (up.some v)),
     )
+
+pub index-requires : goal.index-requires
+index-requires g c = grind (arith, common_steps)
+
+pub overflow_add-result : goal.overflow_add-result
+overflow_add-result g c = grind (arith, common_steps)
+
+pub overflow_mul-result : goal.overflow_mul-result
+overflow_mul-result g c = grind (arith, common_steps)
+
+pub returns-in-None : goal.returns-in-None
+returns-in-None g c = grind (arith, common_steps)

@@ -1,3 +1,4 @@
+use Rattle.std.proofs.lemmas.Grind.{common_steps}
 use Rattle.std.proofs.Common.{true, arith}
 use Rattle.step_record.specs.Bits.{bit_of}
 use Rattle.clairvoyant.proofs.Shown.{view-long, view-changed}
@@ -12,3 +13,6 @@ pub returns-clause-puts : goal.returns-clause-puts
 returns-clause-puts c =
     let s = c.self.inside in
     view-changed s.size (bit_of s.tree.words.items) c.args.self.now c.self.view_is (bit_of c.put.new.self.words.items) true c.args.rank c.requires c.put.ensures.puts
+
+pub returns-clause-size : goal.returns-clause-size
+returns-clause-size c = grind (arith, common_steps)

@@ -1,3 +1,4 @@
+use Rattle.std.proofs.lemmas.Grind.{common_steps}
 use Rattle.std.proofs.Common.{◌≡◌, ◌∙◌, ◌≤◌, ◌++◌, ap, sym, subst, arith, List, ℕ, length, take, drop, None, set, get_or-set_same, get_or-set_other}
 use Rattle.std.proofs.lemmas.List.{length-map}
 use Rattle.segments.specs.declared.lengths.Lengths.{Lengths}
@@ -130,3 +131,9 @@ returns-clause-back c =
     let e : c.deref_mut-slots.result.now ≡ c.args.self.now = c.deref_mut-slots.ensures.value ∙ c.self.view_is in
     let whole : take c.self.inside.slots.len (c.send.new.slots ++ drop (length c.send.new.slots) c.self.inside.slots.items) ≡ c.send.new.slots = take-front _ _ _ (omega arith) in
     rw (whole, ← e) (λ older newer b. insert-back c.deref_mut-slots.result.now c.send.new.slots (order_of c.deref_mut-slots.result.now) (held-there at.After-deref_mut-slots).queued c.newest_free-at.result c.newest_free-at.ensures c.args.queue c.args.before c.args.item (c.send.ensures.items ∙ c.set_item.ensures.items) (order-after at.After-send) older newer b.gap b.slot)
+
+pub send-requires-clause-ring : goal.send-requires-clause-ring
+send-requires-clause-ring c = grind (arith, common_steps)
+
+pub raise-requires : goal.raise-requires
+raise-requires c = grind (arith, common_steps)

@@ -1,3 +1,4 @@
+use Rattle.std.proofs.lemmas.Grind.{common_steps}
 use Rattle.std.proofs.Common.{◌≡◌, ◌∙◌, ◌≤◌, ◌++◌, sym, ap, subst, arith, List, length, take, drop}
 use Rattle.segments.specs.declared.lengths.Lengths.{Lengths}
 use Rattle.segments.specs.declared.slot.Slot.{Slot}
@@ -81,3 +82,12 @@ returns-clause-lists c =
     let e : c.deref_mut-slots.result.now ≡ c.args.self.now = c.deref_mut-slots.ensures.value ∙ c.self.view_is in
     let whole : take c.self.inside.slots.len (c.release.new.slots ++ drop (length c.release.new.slots) c.self.inside.slots.items) ≡ c.release.new.slots = take-front _ _ _ (omega arith) in
     rw (whole, ← e) (remove-lists c.deref_mut-slots.result.now c.release.new.slots (order_of c.deref_mut-slots.result.now) (held-there at.After-deref_mut-slots).queued c.args.at (used-there at.After-deref_mut-slots) c.release.ensures.only.items (order-after at.After-release))
+
+pub release-requires-clause-ring : goal.release-requires-clause-ring
+release-requires-clause-ring c = grind (arith, common_steps)
+
+pub lower-requires : goal.lower-requires
+lower-requires c = grind (arith, common_steps)
+
+pub overflow_add-self : goal.overflow_add-self
+overflow_add-self c = grind (arith, common_steps)

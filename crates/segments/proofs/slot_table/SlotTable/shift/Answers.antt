@@ -1,3 +1,4 @@
+use Rattle.std.proofs.lemmas.Grind.{common_steps, elements}
 use Rattle.std.proofs.Common.{◌≡◌, ◌∙◌, ◌≤◌, ◌++◌, sym, ap, subst, arith, List, length, take, drop, refl}
 use Rattle.segments.specs.declared.lengths.Lengths.{Lengths}
 use Rattle.segments.specs.declared.slot.Slot.{Slot}
@@ -75,3 +76,12 @@ returns-clause-back c =
     let e : c.deref_mut-slots.result.now ≡ c.args.self.now = c.deref_mut-slots.ensures.value ∙ c.self.view_is in
     let whole : take c.self.inside.slots.len (c.send.new.slots ++ drop (length c.send.new.slots) c.self.inside.slots.items) ≡ c.send.new.slots = take-front _ _ _ (omega arith) in
     rw (whole, ← e) (λ older newer b. shift-back c.deref_mut-slots.result.now c.send.new.slots (order_of c.deref_mut-slots.result.now) q c.args.at u c.args.queue c.args.before c.send.ensures.items eo older newer (subst (λ (s : Queues). IsGap older newer (queue_of c.args.queue s)) (sym (taken-is c.deref_mut-slots.result.now c.send.new.slots (order_of c.deref_mut-slots.result.now) q c.args.at u c.args.queue c.args.before c.send.ensures.items eo)) b.gap) b.slot)
+
+pub send-requires-clause-ring : goal.send-requires-clause-ring
+send-requires-clause-ring c = grind (arith, common_steps)
+
+pub lower-requires : goal.lower-requires
+lower-requires c = grind (arith, common_steps)
+
+pub raise-requires : goal.raise-requires
+raise-requires c = grind (arith, elements)
