@@ -1,3 +1,4 @@
+use Rattle.std.proofs.lemmas.Grind.{common_steps}
 use Rattle.std.proofs.Common.{arith, length, ap, List, ℕ, length-drop}
 use Rattle.policy_actors.proofs.Pieces.{begun, ended, followed, grown, next, room}
 use Rattle.policy_actors.proofs.source.feed_trace.Goals as goal
@@ -32,3 +33,9 @@ loop-rest-preserved g c = let l = c.loop-rest in let all = c.args.trace.now in l
 pub new-requires : goal.new-requires
 new-requires g c = let l = c.loop-rest in let all = c.args.trace.now in
     omega (arith, c.keys-rest.ensures.few, (ended all l.read.items l.rest.now _ l.feeder.place l.invariant.0 l.invariant.1 c.in_ok-extend_from_slice-2.ensures.items).0)
+
+pub give-requires-clause-few : goal.give-requires-clause-few
+give-requires-clause-few g c = grind (arith, common_steps)
+
+pub give-requires-clause-next : goal.give-requires-clause-next
+give-requires-clause-next g c = grind (arith, common_steps)

@@ -1,3 +1,4 @@
+use Rattle.std.proofs.lemmas.Grind.{common_steps}
 use Rattle.std.proofs.Common.{rules, ◌≡◌, [], ◌∷◌, refl, sym, ap, subst, ◌∙◌, length, arith}
 use Rattle.std.specs.Vec.Iter.{into_iter_items}
 use Rattle.turn_book.specs.Turns.{Every}
@@ -32,3 +33,6 @@ loop-pass-preserved c =
       total = omega arith;
       room = search rules;
     }
+
+pub loop-pass-init : goal.loop-pass-init
+loop-pass-init c = grind (arith, common_steps)

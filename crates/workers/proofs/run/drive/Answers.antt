@@ -1,3 +1,4 @@
+use Rattle.std.proofs.lemmas.Grind.{common_steps, elements}
 use Rattle.std.proofs.Common.{rules, arith, ◌≡◌, ◌≤◌, ◌<◌, map, vec_items, length, refl, sym, ap, subst, ◌∙◌}
 use Rattle.std.proofs.lemmas.List.{length-map}
 use Rattle.step_record.specs.declared.worker.TheConstants.{MAX_WORKERS}
@@ -138,3 +139,15 @@ returns-in_default-with_capacity-clause-fault g c = (refl, can-run g (goal.at.re
 
 pub returns-in_default-with_capacity-2-clause-fault : goal.returns-in_default-with_capacity-2-clause-fault
 returns-in_default-with_capacity-2-clause-fault g c = (refl, can-run g (goal.at.returns-in_default-with_capacity-2-clause-fault g c).In_default)
+
+pub collect_passes-passes-requires-clause-holds : goal.collect_passes-passes-requires-clause-holds
+collect_passes-passes-requires-clause-holds g c = grind (arith, elements)
+
+pub returns-in-Some-clause-fault : goal.returns-in-Some-clause-fault
+returns-in-Some-clause-fault g c = grind (arith, elements)
+
+pub returns-then-workers-eq0-clause-fault : goal.returns-then-workers-eq0-clause-fault
+returns-then-workers-eq0-clause-fault g c = grind (arith, common_steps)
+
+pub work_all-states-requires-clause-counts : goal.work_all-states-requires-clause-counts
+work_all-states-requires-clause-counts g c = grind (arith, common_steps)

@@ -1,3 +1,4 @@
+use Rattle.std.proofs.lemmas.Grind.{common_steps}
 use Rattle.std.proofs.Common.{rules, ◌<◌, length, length-append, arith, ap, ◌∙◌, ◌∷◌, ◌++◌, [], sym, Err}
 use Rattle.std.proofs.lemmas.List.{append-nil}
 use Rattle.step_record.specs.declared.entry.Entry.{Entry}
@@ -107,3 +108,9 @@ returns-in-Err-clause-refused g c =
     let draws = ap (λ p. p.draws) spent.0 in
     let enough = spent.1 in
     ap (λ p. length p.last) spent.0 ∙ within_spent c.args.book.now.opening.limit c.args.book.now.turns c.args.pass c.requires.within c.requires.turns (omega (arith, draws, enough))
+
+pub give-requires-in-Err-JournalFull-clause-own : goal.give-requires-in-Err-JournalFull-clause-own
+give-requires-in-Err-JournalFull-clause-own g c = grind (arith, common_steps)
+
+pub returns-in-Err-OutOfMemory-clause-same : goal.returns-in-Err-OutOfMemory-clause-same
+returns-in-Err-OutOfMemory-clause-same g c = grind (arith, common_steps)

@@ -1,4 +1,5 @@
-use Rattle.std.proofs.Common.{refl, sym, subst, ◌∙◌}
+use Rattle.std.proofs.lemmas.Grind.{common_steps}
+use Rattle.std.proofs.Common.{refl, sym, subst, ◌∙◌, arith}
 use Rattle.walks.specs.AdmittedSteps.{MayMake}
 use Rattle.walks.proofs.Coming.{may_make}
 use Rattle.walks.proofs.Walking.{nothing, stopped, stepped, over, known, asks_same, asked_of, Completes}
@@ -43,3 +44,9 @@ pub turn-given-requires-clause-takes : goal.turn-given-requires-clause-takes
 turn-given-requires-clause-takes g c = λ es legal own below.
     c.requires.walker.admits es legal c.in-Do.act (subst (λ l. MayMake c.args.worker c.args.stripes l c.in-Do.act) (sym own)
     (may_make c.args.worker c.args.stripes c.args.call c.requires.walker.walks.0 _ _ c.loop.next c.in-Do.act c.in-Do.local c.requires.walker.walks.1 c.loop.invariant.made c.in-Do.is c.loop.invariant.asks c.in-Do.local.placed)) below
+
+pub returns-in-Err-clause-same : goal.returns-in-Err-clause-same
+returns-in-Err-clause-same g c = grind (arith, common_steps)
+
+pub turn-given-requires-clause-own : goal.turn-given-requires-clause-own
+turn-given-requires-clause-own g c = grind (arith, common_steps)

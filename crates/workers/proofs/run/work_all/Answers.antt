@@ -1,4 +1,5 @@
-use Rattle.std.proofs.Common.{rules, ◌≡◌, ◌<◌, ℕ, [], sym, ap, subst, ◌∙◌, length, get_or}
+use Rattle.std.proofs.lemmas.Grind.{common_steps}
+use Rattle.std.proofs.Common.{rules, ◌≡◌, ◌<◌, ℕ, [], sym, ap, subst, ◌∙◌, length, get_or, arith}
 use Rattle.std.specs.List.{All}
 use Rattle.std.proofs.iter.Serving.{serving}
 use Rattle.turn_book.specs.Turns.{Every}
@@ -33,3 +34,6 @@ returns-clause-counts g c =
     let same : (i : ℕ) (d : WorkerState) → i < length c.as_mut_slice.result.now → (get_or c.for_each_mut.new.s i d).worker ≡ (get_or c.as_mut_slice.result.now i d).worker = search rules in
     let workers = subst (λ xs. (i : ℕ) (d : WorkerState) → i < length xs → (get_or c.for_each_mut.new.s i d).worker ≡ (get_or xs i d).worker) c.as_mut_slice.ensures.value same in
     (subst (AreNumbered 0) (sym back) (counts_same _ _ 0 len workers c.requires.counts.0), ap length back ∙ len ∙ c.requires.counts.1)
+
+pub returns-then-is_empty-clause-holds : goal.returns-then-is_empty-clause-holds
+returns-then-is_empty-clause-holds g c = grind (arith, common_steps)

@@ -1,4 +1,5 @@
-use Rattle.std.proofs.Common.{◌≡◌, ◌<◌, ◌+◌, ap, sym, subst, List, ℕ, length}
+use Rattle.std.proofs.lemmas.Grind.{common_steps}
+use Rattle.std.proofs.Common.{◌≡◌, ◌<◌, ◌+◌, ap, sym, subst, List, ℕ, length, arith}
 use Rattle.std.specs.Prelude.{slice_index, IfOk}
 use Rattle.debug_policies.specs.OnePolicy.{outcome_at, OnePolicyState}
 use Rattle.debug_policies.proofs.Sessions.{after_step, answered}
@@ -25,3 +26,6 @@ returns-clause-outcome c =
     subst (λ (w : OnePolicyState). IfOk c.make.result (λ o. o ≡ outcome_at w.job w.trace (w.at + 1))) c.self.view_is
     (answered c.any_answers.ensures c.make.result c.self.inside.job trace keys (length s.kept) s.engine c.make.new.session.engine (slice_index keys c.len.result)
     c.keys.ensures.keys lt c.self.invariant.stands (ap (slice_index keys) c.len.ensures.len) c.make.ensures.made)
+
+pub returns-clause-at : goal.returns-clause-at
+returns-clause-at c = grind (arith, common_steps)

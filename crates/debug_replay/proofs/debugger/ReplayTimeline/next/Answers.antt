@@ -1,3 +1,4 @@
+use Rattle.std.proofs.lemmas.Grind.{common_steps}
 use Rattle.std.proofs.Common.{◌≡◌, ◌∙◌, ◌+◌, ◌-◌, ◌++◌, ap, sym, ℕ, length, arith}
 use Rattle.std.specs.Prelude.{nat_lt}
 use Rattle.step_record.specs.History.{Entries}
@@ -24,3 +25,15 @@ returns-clause-facts c =
     (stands_here old.opening old.engine old.kept old.tail c.engine.ensures.sound.stands)
     (stands_there old.opening new.opening new.engine new.kept steps n to.opening to.kept c.engine-2.ensures.sound.stands)
     (ap (λ a. nat_lt a c.age-age.result) now ∙ ap (nat_lt new.engine.frequency.age) age) to.kept place c.in-Some.ensures
+
+pub returns-clause-position : goal.returns-clause-position
+returns-clause-position c = grind (arith, common_steps)
+
+pub returns-clause-same : goal.returns-clause-same
+returns-clause-same c = grind (arith, common_steps)
+
+pub returns-clause-source : goal.returns-clause-source
+returns-clause-source c = grind (arith, common_steps)
+
+pub returns-then-is_err-clause-source : goal.returns-then-is_err-clause-source
+returns-then-is_err-clause-source c = grind (arith, common_steps)

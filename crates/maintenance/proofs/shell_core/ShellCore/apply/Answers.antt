@@ -1,3 +1,4 @@
+use Rattle.std.proofs.lemmas.Grind.{common_steps}
 use Rattle.std.proofs.Common.{ap, ◌∙◌, arith}
 use Rattle.shell_model.specs.Shell.{Shell}
 use Rattle.maintenance.proofs.Turning.{perform-stats, perform-applied}
@@ -14,3 +15,6 @@ invariant_of-self c =
     let e = ap (λ (x : Shell). x.applied) c.self-2.view_is ∙ perform-applied c.args.step.worker c.args.step.act _ _ made in
     let f = ap (λ (x : Shell). x.applied) c.self.view_is in
     (c.self-2.invariant.0, omega (arith, e, f, c.if-self-ge-MAX_STEPS.false), c.self-2.invariant.2, c.self-2.invariant.3)
+
+pub returns-in-Ok-Some-clause-some : goal.returns-in-Ok-Some-clause-some
+returns-in-Ok-Some-clause-some c = grind (arith, common_steps)

@@ -1,3 +1,4 @@
+use Rattle.std.proofs.lemmas.Grind.{common_steps}
 use Rattle.std.proofs.Common.{◌≡◌, ◌≤◌, Some, true, not, refl, ap, sym, ◌∙◌, arith}
 use denote.Enum.Bare.{sameb}
 use Rattle.step_record.specs.declared.drain.Phase.{Phase}
@@ -38,3 +39,12 @@ returns-clause-change c =
     (ap (λ (x : Shell). x.writes) now ∙ task-writes _ c.args.self.now ∙ sym tasks) c.in-len1-up.len_at_least c.take_oldest.ensures.none c.take_oldest.ensures.oldest in
     c.in_ok-made.ensures.change
     ∙ sym (task-changes c.args.self.now c.in-Some.holder _ _ (held-is c.args.worker _ _ (sym c.held_by.ensures ∙ c.in-Some.is)) (sym tasks ∙ oldest) c.if-holder-eq0.false)
+
+pub apply_task-requires-clause-absent : goal.apply_task-requires-clause-absent
+apply_task-requires-clause-absent c = grind (arith, common_steps)
+
+pub returns-in_default-tasks-clause-some : goal.returns-in_default-tasks-clause-some
+returns-in_default-tasks-clause-some c = grind (arith, common_steps)
+
+pub returns-then-holder-eq0-clause-change : goal.returns-then-holder-eq0-clause-change
+returns-then-holder-eq0-clause-change c = grind (arith, common_steps)

@@ -1,3 +1,4 @@
+use Rattle.std.proofs.lemmas.Grind.{common_steps}
 use Rattle.std.proofs.Common.{◌≡◌, ℕ, ◌+◌, ◌-◌, ◌==◌, Bool, List, ◌∷◌, ◌++◌, [], Some, get_or, drop, ap, sym, ◌∙◌, add-one, drop-cons, inl, inr, arith, refl}
 use Rattle.std.specs.List.{filter, slice_get}
 use Rattle.std.specs.Prelude.{unwrap_or}
@@ -31,3 +32,9 @@ loop-n-preserved c =
     let same : c.loop-n.n + 1 - 1 ≡ c.loop-n.n = omega arith in
     let here = ap (slice_get c.args.self.now.session.kept) (sym same) ∙ c.in-Some.ensures in
     more (λ e. e.step.worker == c.args.worker) _ _ _ c.loop-n.n c.in-Some.entry.now here c.in_ok-push_own.ensures ∙ c.loop-n.invariant
+
+pub returns : goal.returns
+returns c = grind (arith, common_steps)
+
+pub returns-in_err-push_own : goal.returns-in_err-push_own
+returns-in_err-push_own c = grind (arith, common_steps)

@@ -1,4 +1,5 @@
-use Rattle.std.proofs.Common.{vec_items, take, List, [], ◌∷◌, ◌++◌, ap, ◌∙◌, sym, rules}
+use Rattle.std.proofs.lemmas.Grind.{common_steps}
+use Rattle.std.proofs.Common.{vec_items, take, List, [], ◌∷◌, ◌++◌, ap, ◌∙◌, sym, rules, arith}
 use Rattle.std.proofs.lemmas.List.{map-append, take_more}
 use Rattle.step_record.specs.declared.job.Job.{Job}
 use Rattle.policy_actors.specs.declared.run.Promised.{Promised}
@@ -15,3 +16,6 @@ loop-i-preserved g c = let i = c.loop-i.i in let jobs = c.captures.jobs.now in l
 
 pub spawn_with-requires-clause-runs : goal.spawn_with-requires-clause-runs
 spawn_with-requires-clause-runs g c κs within = ((c.in-Ok.ensures.1, accepted 0 c.captures.jobs.now c.loop-i.i _ c.requires.3 c.loop-i-test.true), search rules)
+
+pub returns : goal.returns
+returns g c = grind (arith, common_steps)
