@@ -1,5 +1,6 @@
 -- The rows of several jobs, made side by side and then joined.
 use Rattle.std.proofs.Common.{◌≡◌, ◌∙◌, IfOk, MatchResult, Result, Ok, Err, List, [], ◌∷◌, ◌++◌, map, refl, ap, sym, subst}
+use Rattle.std.proofs.lemmas.List.{map-id}
 use Rattle.std.specs.List.{AllZip}
 use Rattle.std.specs.Prelude.{flat_map}
 use denote.Ref.{Bor}
@@ -19,6 +20,13 @@ module _ (E : Type 0) {X Y Z : Type 0} (shown : Y → Z) (f : X → Z) where
       ∙ fine zs e.0 (subst (AllZip (λ (z : Bor X) (r : Result Y E). IfOk r (λ y. shown y ≡ f z.now)) zs) e.1 h)
       ∙ ap (map f) is
   made items Q zs s is rs h (Err x) e = tt
+
+-- where a value is what is shown of it
+module _ (E : Type 0) {X Y : Type 0} (f : X → Y) where
+  pub all_made : {V : Type 0} (items : V → List Y) (Q : E → Type 0) (zs : List (Bor X)) (s : List X) → map (λ (z : Bor X). z.now) zs ≡ s → (rs : List (Result Y E)) → AllZip (λ z r. IfOk r (λ y. y ≡ f z.now)) zs rs
+      → (r : Result V E) → MatchResult r (λ v. (ys : List Y) × (rs ≡ map Ok ys) × (items v ≡ ys)) Q → IfOk r (λ v. items v ≡ map f s)
+  all_made items Q zs s is rs h (Ok v) e = sym (map-id (items v)) ∙ made E (λ y. y) f items Q zs s is rs h (Ok v) e
+  all_made items Q zs s is rs h (Err x) e = tt
 
 -- lists that are the same one by one are the same behind one another
 joined_lists : {Z : Type 0} → List (List Z) → List Z

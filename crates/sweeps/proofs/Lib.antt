@@ -1,5 +1,4 @@
 pub mod Rows
-pub mod Swept
 mod Counts
 mod Joined
 mod Pieces
