@@ -1,14 +1,14 @@
 -- What holds of a table while one of its calls works on the slots.
 use Rattle.std.proofs.Common.{◌≡◌, ℕ, ◌<◌, ◌≤◌, ◌+◌, ◌^◌, List, [], ◌∷◌, ◌++◌, get_or, length, length-append, sym, subst, arith, refl}
 use Rattle.step_record.specs.declared.item.Item.{Item}
-use Rattle.slot_index.specs.declared.index.SlotIndex.{SlotIndex}
+use Rattle.segments.specs.declared.slot_index.SlotIndex.{SlotIndex}
 use Rattle.segments.specs.declared.records.Queue.{Queue}
 use Rattle.segments.specs.declared.records.Queue.TheVariants.{Window, Probation, Protected}
 use Rattle.segments.specs.declared.lengths.Lengths.{Lengths}
 use Rattle.segments.specs.declared.slot.Slot.{Slot}
 use Rattle.segments.specs.Queues.{IsDistinct}
 use Rattle.segments.specs.Ring.{items, slot_item, count, used, Order, ring, order_of, lists, IsQueued}
-use Rattle.slot_index.specs.Index.{capacity, HasSlot}
+use Rattle.segments.specs.Index.{capacity, HasSlot}
 use Rattle.segments.specs.SlotTable.{IsLoaded, spare_in, lengths_of, raised, lowered, IsInSlots, IsKept}
 use Rattle.segments.proofs.Growing.{still_loaded}
 use Rattle.segments.proofs.Finding.{slots-length}

@@ -3,14 +3,14 @@ use Rattle.std.proofs.Common.{◌≡◌, ℕ, ◌+◌, ◌-◌, ◌<◌, ◌≤�
 use Rattle.std.proofs.lemmas.Bool.{cases_Bool, eq-eqb, eqb-true}
 use Rattle.std.proofs.lemmas.List.{length-map}
 use Rattle.step_record.specs.declared.item.Item.{Item}
-use Rattle.slot_index.specs.declared.index.SlotIndex.{SlotIndex}
+use Rattle.segments.specs.declared.slot_index.SlotIndex.{SlotIndex}
 use Rattle.segments.specs.declared.records.Queue.{Queue}
 use Rattle.segments.specs.declared.records.Queue.TheVariants.{Window, Probation, Protected}
 use Rattle.segments.specs.declared.slot.Slot.{Slot}
 use Rattle.segments.specs.declared.lengths.Lengths.{Lengths}
 use Rattle.segments.specs.Queues.{queue_holding, queues_after_push, queues_without, IsDistinct}
 use Rattle.segments.specs.Ring.{items, olders, newers, tags, slot_item, count, IsRing, Order, ring, used, section, closing, order_of, order_without, sent, freed, lists_of, lists, IsQueued}
-use Rattle.slot_index.specs.Index.{capacity, IsAdded, IsRemoved}
+use Rattle.segments.specs.Index.{capacity, IsAdded, IsRemoved}
 use Rattle.segments.specs.SlotTable.{IsIndexOf, IsInSlots, length_in, raised, lowered, lengths_of}
 use Rattle.segments.proofs.QueueLists.{absent, still-absent, distinct-taken}
 use Rattle.segments.proofs.Sections.{length-without}

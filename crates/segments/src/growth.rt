@@ -3,14 +3,14 @@ ghost use Rattle.std.specs.Prelude.{◌≡◌, ◌<◌, ◌≤◌, ◌*◌, ◌-
 ghost use Rattle.segments.specs.Ring.{items, olders, newers, tags, IsRing, ring, order_of, no_slots, more_free};
 ghost use Rattle.segments.specs.Ring.{lists, bare_slot, IsQueued};
 ghost use Rattle.step_record.specs.declared.item.Item.{Item};
-ghost use Rattle.slot_index.specs.Index.{capacity, IsIndexed};
+ghost use Rattle.segments.specs.Index.{capacity, IsIndexed};
 ghost use Rattle.segments.specs.SlotTable.{from_four, IsIndexOf, IsLoaded, IsInSlots, lengths_of, one_longer, IsSound, IsSame};
 ghost use Rattle.segments.specs.declared.records.Queue.TheVariants.{Window};
 
 use crate::links::link;
 use crate::records::Queue;
 use crate::slot::Slot;
-use slot_index::SlotIndex;
+use crate::slot_index::SlotIndex;
 use std::alloc::{AllocError, Global};
 use step_record::Item;
 

@@ -12,7 +12,7 @@ use crate::lengths::Lengths;
 use crate::links::{items_in, newest_free, oldest_slot, place_of_slot, release, send, slot_behind};
 use crate::records::{Queue, QueuePlace};
 use crate::slot::{RingItems, Slot, set_item};
-use slot_index::SlotIndex;
+use crate::slot_index::SlotIndex;
 use std::alloc::{AllocError, Global};
 use std::marker::Model;
 use step_record::{Item, Key, Node};

@@ -1,5 +1,5 @@
 use Rattle.std.proofs.Common.{List, length, ap, subst, arith, rules}
-use Rattle.slot_index.specs.Index.{IsFound}
+use Rattle.segments.specs.Index.{IsFound}
 use Rattle.segments.specs.declared.slot.Slot.{Slot}
 use Rattle.segments.specs.Ring.{items, slot_item, count, used, order_of}
 use Rattle.segments.specs.SlotTable.{IsInSlots}

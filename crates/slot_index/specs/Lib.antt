@@ -1,4 +1,0 @@
-pub mod Trees
-pub mod Places
-pub mod Index
-pub mod Walks
