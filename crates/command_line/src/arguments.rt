@@ -254,8 +254,6 @@ fn config(
         stripes,
         journal_limit: limit,
     };
-    match config.check() {
-        Ok(()) => Ok(config),
-        Err(_) => Err(ValueFault::Incomplete),
-    }
+    config.check().map_err(|_| ValueFault::Incomplete)?;
+    Ok(config)
 }

@@ -1,5 +1,5 @@
 //! The values that the matches of a subcommand have for an option.
-ghost use Rattle.std.specs.Prelude.{◌≡◌, IfSome, map, option_and_then, option_map};
+ghost use Rattle.std.specs.Prelude.{◌≡◌, IfOk, IfSome, map, option_and_then, option_map, true};
 ghost use Rattle.std.specs.List.{AllPass};
 ghost use Rattle.clap.specs.Words.{all_of, first_of};
 ghost use Rattle.step_record.specs.Config.{is_from_one};
@@ -112,8 +112,10 @@ impl<'m, 'a> Matches<'m, 'a> {
         name: F,
     ) -> Result<NamedList<T>, ValueFault>
         requires { F.IsAlwaysCallable name }
-        ensures { (by : _) → ((word : _) (thing : _) → F.post name word thing → thing ≡ by word.now)
+        ensures named { (by : _) → ((word : _) (thing : _) → F.post name word thing → thing ≡ by word.now)
             → AnswersWith (option_and_then (all_named by) (all_of (row_of option).id self.now)) result }
+        ensures passed { (test : _) → ((word : _) (thing : _) → F.post name word thing
+            → IfSome thing (λ x. test x ≡ true)) → IfOk result (AllPass test) }
     {
         let Some(words) = self.words(option) else {
             return Err(ValueFault::Incomplete);
@@ -167,7 +169,8 @@ fn in_range(value: ValueKind, number: u64) -> Option<u32>
 
 // The capacity that a word names.
 fn capacity_named(word: &str) -> Option<u32>
-    ensures { result ≡ value_by Capacities word.now }
+    ensures value { result ≡ value_by Capacities word.now }
+    ensures range { IfSome result (λ n. is_from_one MAX_CAPACITY n ≡ true) }
 {
     in_range(OptionName::Capacities.row().value, number_named(word)?)
 }
