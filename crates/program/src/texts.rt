@@ -94,6 +94,7 @@ pub fn intervals<T: Threads + Sync>(
 }
 
 /// One line: the first access at which just one of the two policies hits, counted from 1, or `none`.
+#[tactic(auto, using(crate::proofs::Accepting::memory_alone, crate::proofs::Accepting::pair_accepted))]
 pub fn part<P: Watch>(
     alloc: Global,
     arguments: &PartArguments,
@@ -113,6 +114,7 @@ pub fn part<P: Watch>(
 }
 
 /// A header and a row: at how many accesses both of the two policies hit, only one of them, and neither.
+#[tactic(auto, using(crate::proofs::Accepting::memory_alone, crate::proofs::Accepting::pair_accepted))]
 pub fn compare(alloc: Global, arguments: &PartArguments, trace: &Trace) -> Result<Vec<u8>, Fault>
     requires { IsAcceptedPart arguments.now }
     ensures text { IfOk result (λ text. IsText (Compare arguments.now) trace.now text.items) }

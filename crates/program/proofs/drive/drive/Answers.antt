@@ -1,6 +1,7 @@
 use Rattle.std.proofs.Common.{◌≡◌, ◌≤◌, ◌⊎◌, ◌∙◌, ap, refl, subst, sym, arith, inl, inr, ℕ, suc, List, [], ◌∷◌, length, get_or, Option, None, Some, Result, map, Ok, Err}
 use Rattle.std.specs.Prelude.{IfErr, IfSome, IfOk, IsOkAnd}
 use Rattle.std.specs.Io.KnownBytes.{Appends}
+use Rattle.std.proofs.lemmas.Grind.{pieces}
 use Rattle.std.proofs.lemmas.Option.{IfSome_then}
 use Rattle.std.proofs.lemmas.Result.{IfErr-at_err, IfErr-weaker, on_ok_weaker}
 use Rattle.step_record.specs.History.{Entries, IsLegal}
@@ -116,6 +117,9 @@ returns-clause-done g c =
     journal_of_run arguments.config arguments.workers arguments.format (g.R.CountedRead.remaining c.args.input.now) _ _ _ session first _ c.in_ok-trace.ensures.ok c.in_ok-pieces.ensures
     AreWalksOfReads (λ n. n ≤ arguments.config.journal_limit) driven.session (reads_made _ arguments.workers _ _ session driven.session c.in_ok-pieces.ensures first.none run) run.opening legal
     (subst (λ l. length driven.session.kept ≤ l) (run.limit ∙ c.in_ok-session.ensures.limit) written.0) written.1)) c.write_run-written.ensures.written
+
+pub returns-clause-reads : goal.returns-clause-reads
+returns-clause-reads g c = search (pieces, arith) depth 5 fits 300
 
 pub returns-clause-leaves : goal.returns-clause-leaves
 returns-clause-leaves g c =
