@@ -1,5 +1,4 @@
 pub mod Examples
 pub mod Numbers
 pub mod Naming
-pub mod Outcomes
 pub mod Folds

@@ -48,9 +48,6 @@ abbrev pub all_named : {A : Type 0} → (Text → Option A) → List Text → Op
 all_named named [] = Some []
 all_named named (word ∷ words) = and_more (named word) (all_named named words)
 
-abbrev pub policies_named : List Text → Option (List Policy)
-policies_named words = all_named policy_named words
-
 -- the format that a word names, or where there is none
 abbrev pub format_named : Option Text → Format
 format_named word =

@@ -1,5 +1,5 @@
 -- The rows of options and subcommands.
-use Rattle.std.specs.Prelude.{List, [], ◌∷◌, Option, Some, None, codes, map, option_map}
+use Rattle.std.specs.Prelude.{List, [], ◌∷◌, Option, Some, None, codes, option_map}
 use Rattle.clap.specs.Words.{Text}
 use Rattle.step_record.specs.declared.limits.TheConstants.{MAX_ACCESSES, MAX_BATCH, MAX_CAPACITY, MAX_JOURNAL_LIMIT}
 use Rattle.step_record.specs.declared.limits.TheConstants.{MAX_MAIN_PERCENT}
@@ -51,10 +51,10 @@ row_of Journal = row (codes "journal") kind.File Named None
 -- a subcommand: its name, and its options in the order in which help lists them
 pub record SubcommandDefinition : Type 0 where
   pub name : Text
-  pub options : List OptionDefinition
+  pub options : List OptionName
 
 abbrev pub named : Text → List OptionName → SubcommandDefinition
-named name options = record { name = name; options = map row_of options }
+named name options = record { name = name; options = options }
 
 abbrev pub defined_subcommand : Subcommand → SubcommandDefinition
 defined_subcommand given = named given.name.now given.options.now

@@ -8,8 +8,9 @@ use Rattle.clap.specs.declared.builder.ValueParser.{ValueParser}
 use Rattle.clap.specs.declared.builder.ValueParser.TheVariants as parser
 use Rattle.clap.specs.declared.builder.command.Command.{Command}
 use Rattle.clap.specs.declared.builder.command.Command.TheViews.{out-Command}
-use Rattle.command_line.specs.Options.{OptionDefinition, SubcommandDefinition, subcommands}
+use Rattle.command_line.specs.Options.{OptionDefinition, SubcommandDefinition, row_of, subcommands}
 use Rattle.command_line.specs.declared.choices.WordLists.{WordLists}
+use Rattle.command_line.specs.declared.options.OptionName.{OptionName}
 use Rattle.command_line.specs.declared.options.Place.{Place}
 use Rattle.command_line.specs.declared.options.Place.TheVariants.{Named, NamedOften, Positional}
 use Rattle.command_line.specs.declared.options.ValueKind.{ValueKind}
@@ -45,8 +46,8 @@ rule_of_row lists row = with_default row.default (record (with_place row.place r
   value_names = 1;
 })
 
-abbrev pub with_option : WordLists → App → OptionDefinition → App
-with_option lists app row = with_rule app (rule_of_row lists row)
+abbrev pub with_option : WordLists → App → OptionName → App
+with_option lists app name = with_rule app (rule_of_row lists (row_of name))
 
 abbrev pub app_of_subcommand : WordLists → SubcommandDefinition → App
 app_of_subcommand lists subcommand = fold (with_option lists) (new_app subcommand.name) subcommand.options

@@ -4,7 +4,7 @@ ghost use Rattle.command_line.specs.Accepted.{AreAccepted, IsAcceptedPart, IsCon
 ghost use Rattle.command_line.specs.Values.{Answers, concurrent_in, config_at, config_in, debug_in, drive_in};
 ghost use Rattle.command_line.specs.Values.{intervals_in, part_in, replay_in, run_in, sweep_in};
 
-use crate::fault::ValueFault;
+use crate::fault::{ValueFault, ValueResult};
 use crate::lists::{CapacityList, FilePath, PolicyList};
 use crate::options::OptionName;
 use crate::values::{Matches, stripes_from};
@@ -114,7 +114,7 @@ pub struct ReplayArguments {
 
 /// What `run` is asked for by its matches.
 #[tactic(auto, unfolding(crate::specs::Values::run_in))]
-pub(crate) fn run(alloc: Global, asked: &Matches<'_, '_>) -> Result<Arguments, ValueFault>
+pub(crate) fn run(alloc: Global, asked: &Matches<'_, '_>) -> ValueResult<Arguments>
     ensures { Answers (run_in asked.now) AreAccepted result }
 {
     let config = policy_config(asked)?;
@@ -130,7 +130,7 @@ pub(crate) fn run(alloc: Global, asked: &Matches<'_, '_>) -> Result<Arguments, V
 
 /// What `sweep` is asked for by its matches.
 #[tactic(auto, unfolding(crate::specs::Values::sweep_in))]
-pub(crate) fn sweep(alloc: Global, asked: &Matches<'_, '_>) -> Result<Arguments, ValueFault>
+pub(crate) fn sweep(alloc: Global, asked: &Matches<'_, '_>) -> ValueResult<Arguments>
     ensures { Answers (sweep_in asked.now) AreAccepted result }
 {
     let config = config(asked, 1, 1, 1)?;
@@ -146,7 +146,7 @@ pub(crate) fn sweep(alloc: Global, asked: &Matches<'_, '_>) -> Result<Arguments,
 
 /// What `intervals` is asked for by its matches.
 #[tactic(auto, unfolding(crate::specs::Values::intervals_in))]
-pub(crate) fn intervals(alloc: Global, asked: &Matches<'_, '_>) -> Result<Arguments, ValueFault>
+pub(crate) fn intervals(alloc: Global, asked: &Matches<'_, '_>) -> ValueResult<Arguments>
     ensures { Answers (intervals_in asked.now) AreAccepted result }
 {
     let config = policy_config(asked)?;
@@ -162,7 +162,7 @@ pub(crate) fn intervals(alloc: Global, asked: &Matches<'_, '_>) -> Result<Argume
 
 /// What `part` and `compare` are asked for by their matches.
 #[tactic(auto, unfolding(crate::specs::Values::part_in))]
-pub(crate) fn part(asked: &Matches<'_, '_>) -> Result<PartArguments, ValueFault>
+pub(crate) fn part(asked: &Matches<'_, '_>) -> ValueResult<PartArguments>
     ensures { Answers (part_in asked.now) IsAcceptedPart result }
 {
     let config = policy_config(asked)?;
@@ -183,7 +183,7 @@ pub(crate) fn part(asked: &Matches<'_, '_>) -> Result<PartArguments, ValueFault>
 
 /// What `drive` is asked for by its matches.
 #[tactic(auto, unfolding(crate::specs::Values::drive_in))]
-pub(crate) fn drive(asked: &Matches<'_, '_>) -> Result<Arguments, ValueFault>
+pub(crate) fn drive(asked: &Matches<'_, '_>) -> ValueResult<Arguments>
     ensures { Answers (drive_in asked.now) AreAccepted result }
 {
     let config = concurrent_config(asked)?;
@@ -197,7 +197,7 @@ pub(crate) fn drive(asked: &Matches<'_, '_>) -> Result<Arguments, ValueFault>
 
 /// What `debug` is asked for by its matches.
 #[tactic(auto, unfolding(crate::specs::Values::debug_in))]
-pub(crate) fn debug(alloc: Global, asked: &Matches<'_, '_>) -> Result<Arguments, ValueFault>
+pub(crate) fn debug(alloc: Global, asked: &Matches<'_, '_>) -> ValueResult<Arguments>
     ensures { Answers (debug_in asked.now) AreAccepted result }
 {
     let policies = part(asked)?;
@@ -207,7 +207,7 @@ pub(crate) fn debug(alloc: Global, asked: &Matches<'_, '_>) -> Result<Arguments,
 
 /// What `replay` is asked for by its matches.
 #[tactic(auto, unfolding(crate::specs::Values::replay_in))]
-pub(crate) fn replay(alloc: Global, asked: &Matches<'_, '_>) -> Result<Arguments, ValueFault>
+pub(crate) fn replay(alloc: Global, asked: &Matches<'_, '_>) -> ValueResult<Arguments>
     ensures { Answers (replay_in asked.now) AreAccepted result }
 {
     let config = concurrent_config(asked)?;
@@ -216,7 +216,7 @@ pub(crate) fn replay(alloc: Global, asked: &Matches<'_, '_>) -> Result<Arguments
 }
 
 // The configuration of a policy that the matches name.
-fn policy_config(asked: &Matches<'_, '_>) -> Result<Config, ValueFault>
+fn policy_config(asked: &Matches<'_, '_>) -> ValueResult<Config>
     ensures { Answers (config_in asked.now) IsConfig result }
 {
     let capacity = asked.number(OptionName::Capacity)?;
@@ -224,7 +224,7 @@ fn policy_config(asked: &Matches<'_, '_>) -> Result<Config, ValueFault>
 }
 
 // The configuration of a concurrent cache that the matches name.
-fn concurrent_config(asked: &Matches<'_, '_>) -> Result<Config, ValueFault>
+fn concurrent_config(asked: &Matches<'_, '_>) -> ValueResult<Config>
     ensures { Answers (concurrent_in asked.now) IsConfig result }
 {
     let stripes = asked
@@ -238,12 +238,7 @@ fn concurrent_config(asked: &Matches<'_, '_>) -> Result<Config, ValueFault>
 
 // The configuration of these numbers and what the matches name beside them, where it is accepted.
 #[tactic(auto, unfolding(crate::specs::Values::config_at))]
-fn config(
-    asked: &Matches<'_, '_>,
-    capacity: u32,
-    stripes: u8,
-    limit: u32,
-) -> Result<Config, ValueFault>
+fn config(asked: &Matches<'_, '_>, capacity: u32, stripes: u8, limit: u32) -> ValueResult<Config>
     ensures { Answers (config_at capacity stripes limit asked.now) IsConfig result }
 {
     let main_percent = asked.number(OptionName::Main)?;
@@ -254,8 +249,6 @@ fn config(
         stripes,
         journal_limit: limit,
     };
-    match config.check() {
-        Ok(()) => Ok(config),
-        Err(_) => Err(ValueFault::Incomplete),
-    }
+    config.check().map_err(|_| ValueFault::Incomplete)?;
+    Ok(config)
 }

@@ -36,6 +36,9 @@ impl From<Error> for ParseFault {
     }
 }
 
+/// A value of matches, or why they do not give it.
+pub(crate) type ValueResult<T> = Result<T, ValueFault>;
+
 /// Why matches do not give a value.
 #[derive(Clone, Copy)]
 pub(crate) enum ValueFault {

@@ -8,7 +8,7 @@ ghost use Rattle.command_line.specs.Values.{Answers, asked_in, asked_of, has_wro
 use crate::arguments::{Arguments, debug, drive, intervals, part, replay, run, sweep};
 use crate::choices::{WordLists, format_words, policy_words, spread_words};
 use crate::commands::program;
-use crate::fault::{ParseFault, ValueFault};
+use crate::fault::{ParseFault, ValueFault, ValueResult};
 use crate::options::OptionName;
 use crate::values::{Matches, stripes_from};
 use clap::ArgMatches;
@@ -53,7 +53,7 @@ fn arguments(alloc: Global, matches: &ArgMatches<'_>) -> Result<Arguments, Parse
 }
 
 // What the matches of the subcommand of this name ask for.
-fn arguments_of(alloc: Global, name: &str, asked: &Matches<'_, '_>) -> Result<Arguments, ValueFault>
+fn arguments_of(alloc: Global, name: &str, asked: &Matches<'_, '_>) -> ValueResult<Arguments>
     ensures { Answers (asked_of name.now asked.now) AreAccepted result }
 {
     match name {

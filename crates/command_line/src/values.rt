@@ -1,5 +1,5 @@
 //! The values that the matches of a subcommand have for an option.
-ghost use Rattle.std.specs.Prelude.{◌≡◌, IfSome, map, option_and_then, option_map};
+ghost use Rattle.std.specs.Prelude.{◌≡◌, IfOk, IfSome, map, option_and_then, option_map, true};
 ghost use Rattle.std.specs.List.{AllPass};
 ghost use Rattle.clap.specs.Words.{all_of, first_of};
 ghost use Rattle.step_record.specs.Config.{is_from_one};
@@ -12,7 +12,7 @@ ghost use Rattle.command_line.specs.Values.{stripes_from as stripes_by, value_na
 ghost use Rattle.command_line.specs.declared.options.OptionName.TheVariants.{Capacities};
 
 use crate::choices::{format_named, policy_named, spread_named};
-use crate::fault::ValueFault;
+use crate::fault::{ValueFault, ValueResult};
 use crate::lists::{CapacityList, FilePath, NamedList, PolicyList};
 use crate::options::{OptionName, ValueKind};
 use clap::ArgMatches;
@@ -38,7 +38,7 @@ impl<'m, 'a> Model for Matches<'m, 'a> {
 
 impl<'m, 'a> Matches<'m, 'a> {
     /// The number that is given to an option, where it is in the option's range.
-    pub(crate) fn number(&self, option: OptionName) -> Result<u32, ValueFault>
+    pub(crate) fn number(&self, option: OptionName) -> ValueResult<u32>
         ensures { Answers (number_in option self.now) (IsIn (row_of option).value) result }
     {
         self.wide_number(option)
@@ -68,7 +68,7 @@ impl<'m, 'a> Matches<'m, 'a> {
     }
 
     /// The policy that is given to an option.
-    pub(crate) fn policy(&self, option: OptionName) -> Result<Policy, ValueFault>
+    pub(crate) fn policy(&self, option: OptionName) -> ValueResult<Policy>
         ensures { AnswersWith (policy_in option self.now) result }
     {
         self.word(option)
@@ -77,7 +77,7 @@ impl<'m, 'a> Matches<'m, 'a> {
     }
 
     /// The path of the file that is given to an option.
-    pub(crate) fn path(&self, alloc: Global, option: OptionName) -> Result<FilePath, ValueFault>
+    pub(crate) fn path(&self, alloc: Global, option: OptionName) -> ValueResult<FilePath>
         ensures { AnswersWith (first_of (row_of option).id self.now) result }
     {
         let word = self.word(option).ok_or(ValueFault::Incomplete)?;
@@ -87,18 +87,14 @@ impl<'m, 'a> Matches<'m, 'a> {
     }
 
     /// The policies that are given to an option.
-    pub(crate) fn policies(
-        &self,
-        alloc: Global,
-        option: OptionName,
-    ) -> Result<PolicyList, ValueFault>
+    pub(crate) fn policies(&self, alloc: Global, option: OptionName) -> ValueResult<PolicyList>
         ensures { AnswersWith (policies_in option self.now) result }
     {
         self.named(alloc, option, policy_named)
     }
 
     /// The capacities of a sweep.
-    pub(crate) fn capacities(&self, alloc: Global) -> Result<CapacityList, ValueFault>
+    pub(crate) fn capacities(&self, alloc: Global) -> ValueResult<CapacityList>
         ensures { Answers (capacities_in self.now) (AllPass (is_from_one MAX_CAPACITY)) result }
     {
         self.named(alloc, OptionName::Capacities, capacity_named)
@@ -110,10 +106,12 @@ impl<'m, 'a> Matches<'m, 'a> {
         alloc: Global,
         option: OptionName,
         name: F,
-    ) -> Result<NamedList<T>, ValueFault>
+    ) -> ValueResult<NamedList<T>>
         requires { F.IsAlwaysCallable name }
-        ensures { (by : _) → ((word : _) (thing : _) → F.post name word thing → thing ≡ by word.now)
+        ensures named { (by : _) → ((word : _) (thing : _) → F.post name word thing → thing ≡ by word.now)
             → AnswersWith (option_and_then (all_named by) (all_of (row_of option).id self.now)) result }
+        ensures passed { (test : _) → ((word : _) (thing : _) → F.post name word thing
+            → IfSome thing (λ x. test x ≡ true)) → IfOk result (AllPass test) }
     {
         let Some(words) = self.words(option) else {
             return Err(ValueFault::Incomplete);
@@ -167,7 +165,8 @@ fn in_range(value: ValueKind, number: u64) -> Option<u32>
 
 // The capacity that a word names.
 fn capacity_named(word: &str) -> Option<u32>
-    ensures { result ≡ value_by Capacities word.now }
+    ensures value { result ≡ value_by Capacities word.now }
+    ensures range { IfSome result (λ n. is_from_one MAX_CAPACITY n ≡ true) }
 {
     in_range(OptionName::Capacities.row().value, number_named(word)?)
 }

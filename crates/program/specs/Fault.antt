@@ -3,22 +3,16 @@ use Rattle.streams.specs.declared.WriteFault.{WriteFault}
 use Rattle.streams.specs.declared.WriteFault.TheVariants as write
 use Rattle.journal_text.specs.declared.fault.JournalFault.{JournalFault}
 use Rattle.journal_text.specs.declared.fault.JournalFault.TheVariants as reading
-use Rattle.workers.specs.declared.run.Cause.{Cause}
-use Rattle.workers.specs.declared.run.Cause.TheVariants as cause
 use Rattle.debug_commands.specs.declared.fault.DebugFault.{DebugFault}
 use Rattle.debug_commands.specs.declared.fault.DebugFault.TheVariants as debug
 use Rattle.program.specs.declared.files.FileFault.{FileFault}
 use Rattle.program.specs.declared.files.FileFault.TheVariants as file
 use Rattle.program.specs.declared.fault.Fault.{Fault}
-use Rattle.program.specs.declared.fault.Fault.TheVariants.{Debug, Journal, JournalFull, NoFile, OutOfMemory, Write}
+use Rattle.program.specs.declared.fault.Fault.TheVariants.{Debug, Journal, NoFile, OutOfMemory, Write}
 
 abbrev pub of_write : WriteFault → Fault
 of_write write.OutOfMemory = OutOfMemory
 of_write write.Write = Write
-
-abbrev pub of_cause : Cause → Fault
-of_cause cause.Memory = OutOfMemory
-of_cause cause.JournalFull = JournalFull
 
 abbrev pub of_file : FileFault → Fault
 of_file file.OutOfMemory = OutOfMemory

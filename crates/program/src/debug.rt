@@ -68,7 +68,9 @@ pub fn replay<R: CountedRead, W: CountedWrite, F: Files>(
     ensures flushed { OnOk result (W.is_flushed out.new ≡ true) }
 {
     let mut session = open(alloc, &arguments.config)?;
-    replay_in(alloc, arguments, &mut session, input, out, files)
+    let answered = replay_in(alloc, arguments, &mut session, input, out, files);
+    drop(session);
+    answered
 }
 
 // The same in a session of an empty cache.

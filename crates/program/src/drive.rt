@@ -19,14 +19,14 @@ use command_line::DriveArguments;
 use journal::Session;
 use journal_text::write_journal;
 use maintenance::Shell;
-use progress::{Watch, Work};
+use progress::Watch;
 use std::alloc::{AllocError, Global};
 use std::sync::Wait;
 use std::thread::Threads;
 use step_record::{Call, Config, Trace};
 use streams::{CountedRead, CountedWrite};
 use trace_read::read_trace;
-use workers::{DriveFault, Driven};
+use workers::{Cause, DriveFault, Driven};
 
 /// A session of no step over an empty cache. The one error is out of memory.
 pub fn open(alloc: Global, config: &Config) -> Result<Session<Shell>, AllocError>
@@ -62,10 +62,7 @@ pub fn drive<T: Threads + Wait + Sync, R: CountedRead, W: CountedWrite, P: Watch
     let accesses = trace.len() as u64;
     let pieces = deal(alloc, trace, arguments.workers)?;
     let session = open(alloc, &arguments.config)?;
-    watch.begin(Work {
-        name: "drive",
-        batches: Some(accesses),
-    });
+    watch.begin("drive", Some(accesses));
     let run = workers::drive(rt, alloc, session, pieces, watch);
     watch.end();
     let written = write_run(alloc, &run, out);
@@ -119,15 +116,13 @@ fn write_run<W: CountedWrite>(
         }
         Err(DriveFault::Stopped { driven, cause }) => {
             write_journal(alloc, &driven.session, out)?;
-            Err(Fault::from(*cause))
+            Err(match cause {
+                Cause::Memory => Fault::OutOfMemory,
+                Cause::JournalFull => Fault::JournalFull,
+            })
         }
         Err(DriveFault::OutOfMemory { session: _ }) => Err(Fault::OutOfMemory),
-        Err(DriveFault::Workers { session: _ }) => unreachable!(),
-        Err(
-            DriveFault::Held {
-                worker: _,
-                session: _,
-            },
-        ) => unreachable!(),
+        Err(DriveFault::Workers { .. }) => unreachable!(),
+        Err(DriveFault::Held { .. }) => unreachable!(),
     }
 }

@@ -1,6 +1,6 @@
 //! Why a subcommand printed no result.
 ghost use Rattle.std.specs.Prelude.{◌≡◌, IfErr, MatchResult, Ok};
-ghost use Rattle.program.specs.Fault.{of_cause, of_debug, of_file, of_reading, of_write};
+ghost use Rattle.program.specs.Fault.{of_debug, of_file, of_reading, of_write};
 ghost use Rattle.program.specs.declared.fault.Fault.TheVariants.{OutOfMemory, Trace};
 
 use crate::files::FileFault;
@@ -11,7 +11,6 @@ use std::alloc::AllocError;
 use std::fmt;
 use streams::WriteFault;
 use trace_read::TraceFault;
-use workers::Cause;
 
 /// Why a subcommand printed no result. It is displayed as the program prints it after `fault: `.
 #[derive(Clone, Copy)]
@@ -102,17 +101,6 @@ impl From<FileFault> for Fault {
         match fault {
             FileFault::OutOfMemory => Fault::OutOfMemory,
             FileFault::NoFile => Fault::NoFile,
-        }
-    }
-}
-
-impl From<Cause> for Fault {
-    ghost from_gives = { λ cause e. e ≡ of_cause cause };
-
-    fn from(cause: Cause) -> Fault {
-        match cause {
-            Cause::Memory => Fault::OutOfMemory,
-            Cause::JournalFull => Fault::JournalFull,
         }
     }
 }

@@ -26,3 +26,27 @@ pub trait Files {
         ensures bytes { IfOk result (λ bytes. IfSome (known self.now path.now) (λ xs. bytes.items ≡ xs)) }
         ensures found { IfErr result (λ fault. fault ≡ FileFault.NoFile → known self.now path.now ≡ None) };
 }
+
+/// One file, at a path, and no other.
+#[derive(Drop)]
+pub struct FileInMemory<'a> {
+    pub path: &'a str,
+    pub bytes: &'a [u8],
+}
+
+impl<'a> Files for FileInMemory<'a> {
+    ghost use Rattle.std.specs.Prelude.{if◌then◌else◌, None, Some};
+    ghost use Rattle.std.specs.Str.{bytes_eq};
+
+    ghost known = { λ file path. if bytes_eq path file.path.now then Some file.bytes.now else None };
+
+    fn bytes(&self, alloc: Global, path: &str) -> Result<Vec<u8>, FileFault> {
+        if path != self.path {
+            return Err(FileFault::NoFile);
+        }
+        match self.bytes.to_vec(alloc) {
+            Ok(bytes) => Ok(bytes),
+            Err(_) => Err(FileFault::OutOfMemory),
+        }
+    }
+}

@@ -70,17 +70,8 @@ fn run_words<
         .collect(alloc);
     match texts {
         Ok(texts) => {
-            let files = HostFiles { rt };
-            command(
-                rt,
-                alloc,
-                texts.as_slice(),
-                input,
-                out,
-                fault_out,
-                &files,
-                watch,
-            )
+            let (texts, files) = (texts.as_slice(), HostFiles { rt });
+            command(rt, alloc, texts, input, out, fault_out, &files, watch)
         }
         Err(_) => report_fault(alloc, Fault::OutOfMemory, fault_out),
     }

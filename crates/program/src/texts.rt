@@ -13,7 +13,7 @@ use command_line::{IntervalsArguments, PartArguments, PolicyList, RunArguments, 
 use debug_policies::{STRETCH, part_watched, push_comparison, push_part};
 use policies::MAX_ACTORS;
 use policy_actors::run_reading;
-use progress::{Watch, Work};
+use progress::Watch;
 use report::{intervals_text, reports_text};
 use std::alloc::{AllocError, Global};
 use std::sync::Wait;
@@ -44,10 +44,7 @@ pub fn run<T: Threads + Wait + Sync, R: CountedRead, P: Watch>(
         return Err(Fault::Actors);
     }
     let jobs = jobs(alloc, arguments.config, &arguments.policies)?;
-    watch.begin(Work {
-        name: "run",
-        batches: None,
-    });
+    watch.begin("run", None);
     let (format, batch) = (arguments.format, arguments.batch);
     let reports = run_reading(rt, alloc, input, format, jobs.as_slice(), batch, watch);
     watch.end();
@@ -69,10 +66,10 @@ pub fn sweep<T: Threads + Sync, P: Watch>(
 {
     let jobs = few_jobs(alloc, arguments.config, &arguments.policies)?;
     let capacities = arguments.capacities.as_slice();
-    watch.begin(Work {
-        name: "sweep",
-        batches: Some(sweep_batches(trace, jobs.as_slice(), capacities)),
-    });
+    watch.begin(
+        "sweep",
+        Some(sweep_batches(trace, jobs.as_slice(), capacities)),
+    );
     let reports = sweep_each(rt, alloc, trace, jobs.as_slice(), capacities, watch);
     watch.end();
     Ok(reports_text(alloc, accepted(reports)?.as_slice())?)
@@ -97,6 +94,7 @@ pub fn intervals<T: Threads + Sync>(
 }
 
 /// One line: the first access at which just one of the two policies hits, counted from 1, or `none`.
+#[tactic(auto, using(crate::proofs::Accepting::memory_alone, crate::proofs::Accepting::pair_accepted))]
 pub fn part<P: Watch>(
     alloc: Global,
     arguments: &PartArguments,
@@ -107,10 +105,7 @@ pub fn part<P: Watch>(
     ensures text { IfOk result (λ text. IsText (Part arguments.now) trace.now text.items) }
     ensures fault { IfErr result (λ fault. fault ≡ Fault.OutOfMemory) }
 {
-    watch.begin(Work {
-        name: "part",
-        batches: Some(trace.len().div_ceil(STRETCH) as u64),
-    });
+    watch.begin("part", Some(trace.len().div_ceil(STRETCH) as u64));
     let found = part_watched(alloc, trace, &arguments.first, &arguments.second, watch);
     watch.end();
     let mut line = Vec::new(alloc);
@@ -119,6 +114,7 @@ pub fn part<P: Watch>(
 }
 
 /// A header and a row: at how many accesses both of the two policies hit, only one of them, and neither.
+#[tactic(auto, using(crate::proofs::Accepting::memory_alone, crate::proofs::Accepting::pair_accepted))]
 pub fn compare(alloc: Global, arguments: &PartArguments, trace: &Trace) -> Result<Vec<u8>, Fault>
     requires { IsAcceptedPart arguments.now }
     ensures text { IfOk result (λ text. IsText (Compare arguments.now) trace.now text.items) }

@@ -6,7 +6,7 @@
 
 mod progress_line;
 
-pub use progress_line::{ProgressLine, Watch, Work};
+pub use progress_line::{ProgressLine, Watch};
 
 #[cfg(test)]
 mod tests;

@@ -9,8 +9,9 @@ use step_record::Gate;
 
 /// What watches a subcommand at work: the gate is called around each batch.
 pub trait Watch: Gate {
-    /// So many batches begin. It is called once at most.
-    fn begin(&self, work: Work);
+    /// The batches of the subcommand of this name begin; `None` where it is not known before they are over how many
+    /// these are. It is called once at most.
+    fn begin(&self, name: &'static str, batches: Option<u64>);
 
     /// They are over, or were given up. Nothing of what was shown is left.
     fn end(&self);
@@ -126,8 +127,8 @@ impl<'a, R: Clock + Eprint + Sync> Gate for ProgressLine<'a, R> {
 }
 
 impl<'a, R: Clock + Eprint + Sync> Watch for ProgressLine<'a, R> {
-    fn begin(&self, work: Work) {
-        let _ = self.work.try_set(work);
+    fn begin(&self, name: &'static str, batches: Option<u64>) {
+        let _ = self.work.try_set(Work { name, batches });
     }
 
     fn end(&self) {

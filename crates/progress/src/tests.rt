@@ -75,7 +75,7 @@ fn shown(is_terminal: bool, batches: u64) -> (u64, u64) {
         cleared: AtomicU64::new(0),
     };
     let line = ProgressLine::new(&terminal, is_terminal);
-    line.begin(RUN);
+    line.begin(RUN.name, RUN.batches);
     for n in 0..batches {
         line.after(0, n);
     }

@@ -10,8 +10,7 @@ use Rattle.debug_policies.specs.TwoPolicies.{policies_timeline}
 use Rattle.program.specs.DebugOutput.{Answering, Debugging}
 use Rattle.program.specs.FaultCauses.{IsFoundIn, IsFoundInFile, IsOfCommands}
 use Rattle.program.proofs.Accepting.{pair_accepted}
-use Rattle.program.proofs.Found.{answers_left, err_is, known_text, of_dialogue, of_text}
-use Rattle.program.proofs.TooLarge.{past_limit}
+use Rattle.program.proofs.Found.{answers_left, err_is, known_text, of_dialogue, of_text, past_limit}
 use Rattle.program.proofs.debug.debug.Goals as goal
 
 -- what was answered about the accesses that were read from the file

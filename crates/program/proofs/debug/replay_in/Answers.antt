@@ -1,10 +1,37 @@
-use Rattle.std.proofs.Common.{ap, length, refl, true, false, Err}
+use Rattle.std.proofs.Common.{◌≡◌, ◌∙◌, ap, subst, ℕ, Bool, List, [], ◌++◌, Option, length, refl, true, false, Err}
+use Rattle.std.specs.Prelude.{IfSome}
+use Rattle.std.proofs.lemmas.List.{append-nil}
 use Rattle.std.proofs.lemmas.Option.{IfSome_then}
+use Rattle.step_record.specs.declared.config.Config.{Config}
+use Rattle.step_record.specs.declared.step.Reply.{Reply}
+use Rattle.step_record.specs.declared.step.Step.{Step}
+use Rattle.shell_model.specs.Shell.{Shell, act}
+use Rattle.journal.specs.Session.{SessionState}
+use Rattle.journal_text.specs.Journal.{IsJournalText}
+use Rattle.debug_commands.specs.Dialogue.{dialogue_of, WritesDialogue}
+use Rattle.debug_replay.specs.Replay.{replay_timeline}
+use Rattle.program.specs.DebugOutput.{IsReplayed}
+use Rattle.program.specs.DriveOutput.{IsEmptySession}
 use Rattle.program.specs.FaultCauses.{IsFoundInFile, IsOfReplay}
-use Rattle.program.proofs.Found.{answers_left, err_is, known_text, of_dialogue, of_text}
-use Rattle.program.proofs.TooLarge.{past_limit}
-use Rattle.program.proofs.Replayed.{replayed}
+use Rattle.program.proofs.Found.{answers_left, err_is, known_text, of_dialogue, of_text, past_limit}
 use Rattle.program.proofs.debug.replay_in.Goals as goal
+
+-- what a session of an empty cache holds that read the journal and answered the commands
+replayed : (all : Bool) (config : Config) (journal : List ℕ) (input before after : Option (List ℕ)) (first now : SessionState Shell Shell Step Reply) (position : ℕ)
+    → IsEmptySession config first → IsJournalText act first.opening first.limit journal now.kept → now.opening ≡ first.opening → now.tail ≡ []
+    → IfSome input (λ commands. WritesDialogue (dialogue_of (replay_timeline now.opening (now.kept ++ now.tail)) (length now.kept) commands) all before after position)
+    → IsReplayed all config journal input before after
+replayed all config journal input before after first now position empty read same none h = record {
+  opening = first.opening;
+  opened = empty.opened;
+  steps = now.kept;
+  journal = subst (λ l. IsJournalText act first.opening l journal now.kept) empty.limit read;
+  answers = IfSome_then input h (λ commands writes. (
+    position,
+    subst (λ o. WritesDialogue (dialogue_of (replay_timeline o now.kept) (length now.kept) commands) all before after position) same
+        (subst (λ es. WritesDialogue (dialogue_of (replay_timeline now.opening es) (length now.kept) commands) all before after position) (ap (λ t. now.kept ++ t) none ∙ append-nil now.kept) writes),
+  ));
+}
 
 pub returns-clause-done : goal.returns-clause-done
 returns-clause-done g c =
