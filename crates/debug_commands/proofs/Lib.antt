@@ -1,3 +1,4 @@
 pub mod Stops
 pub mod OneByte
 pub mod Ahead
+pub mod Results

@@ -1,6 +1,6 @@
 //! The reading and answering of commands, a line at a time.
-ghost use Rattle.std.specs.Prelude.{◌≡◌, ◌≢◌, ◌+◌, ◌-◌, ◌++◌, ℕ, List, [], Ok, Err, IfOk, IfSome, OnOk, length, true, false};
-ghost use Rattle.std.specs.Io.KnownBytes.{Consumes, IsAtEnd};
+ghost use Rattle.std.specs.Prelude.{◌≡◌, ◌≢◌, ◌≤◌, ◌+◌, ◌-◌, ◌++◌, ℕ, List, [], Ok, Err, IfOk, IfSome, OnOk, OnErr, length, true, false};
+ghost use Rattle.std.specs.Io.KnownBytes.{Appends, Consumes, IsAtEnd};
 ghost use Rattle.debug_commands.specs.Answers.{answer_to, position_line, response_to, stop_after, stop_line};
 ghost use Rattle.debug_commands.specs.AnswerText.{IsAnswer};
 ghost use Rattle.debug_commands.specs.Dialogue.{dialogue_of, is_last, WritesDialogue};
@@ -15,10 +15,11 @@ use crate::breakpoint::{Breakpoint, first_holding};
 use crate::command::{Command, InputLine};
 use crate::fault::DebugFault;
 use crate::grammar;
+use crate::text::push_pieces;
 use crate::timeline::Timeline;
 use std::alloc::{AllocError, Global};
 use std::io::Write;
-use streams::{CountedRead, CountedWrite, Patience, flush, read_some, write_some};
+use streams::{CountedRead, CountedWrite, Patience, WriteAllFault, flush, read_some, write_some};
 
 /// As many bytes of commands as are read at most, line feeds included: 2^20.
 pub const MAX_COMMAND_BYTES: usize = 1 << 20;
@@ -68,8 +69,7 @@ pub fn answer_commands<T: Timeline, R: CountedRead, W: CountedWrite>(
         let fed = read_line(input, &mut line, &mut room, &mut reads)?;
         let said = grammar::line(timeline.dialect(), line.as_slice());
         answer(alloc, timeline, &mut breaks, said, &mut text)?;
-        write_some(out, text.as_slice(), &mut writes)?;
-        flush(out, &mut writes)?;
+        send(out, text.as_slice(), &mut writes)?;
         if is_last(fed, said) {
             return Ok(());
         }
@@ -124,6 +124,21 @@ fn read_line<R: CountedRead>(
     }
 }
 
+// Writes an answer and flushes. Both share the patience.
+fn send<W: CountedWrite>(
+    out: &mut W,
+    text: &[u8],
+    patience: &mut Patience,
+) -> Result<(), WriteAllFault>
+    ensures bytes { OnOk result (Appends (W.contents out.old) (W.contents out.new) text.now) }
+    ensures flushed { OnOk result (W.is_flushed out.new ≡ true) }
+    ensures spent { OnOk result (Spends patience.old patience.new (W.tally out.old) (W.tally out.new)) }
+    ensures exhausted { OnErr result (Exhausts patience.old (W.tally out.old) (W.tally out.new)) }
+{
+    write_some(out, text, patience)?;
+    flush(out, patience)
+}
+
 // Adds the answer to a line.
 #[tactic(auto, unfolding(crate::specs::Answers::response_to))]
 fn answer<T: Timeline>(
@@ -145,20 +160,25 @@ fn answer<T: Timeline>(
         InputLine::Empty | InputLine::Known(Command::Quit) => Ok(()),
         InputLine::Unknown => text.extend_from_slice(b"fault: Command\n"),
         InputLine::Known(Command::Step(n)) => {
-            if n > (timeline.end() - timeline.position()) as u64 {
+            let at = timeline.position();
+            if n > (timeline.end() - at) as u64 {
                 return text.extend_from_slice(b"fault: PastEnd\n");
             }
-            timeline.forward(alloc, n as usize)?;
-            push_at(text, timeline.position())
+            go(alloc, timeline, at + n as usize, text)
         }
         InputLine::Known(Command::Back(n)) => {
-            if n > timeline.position() as u64 {
+            let at = timeline.position();
+            if n > at as u64 {
                 return text.extend_from_slice(b"fault: PastStart\n");
             }
-            timeline.back(alloc, n as usize)?;
-            push_at(text, timeline.position())
+            go(alloc, timeline, at - n as usize, text)
         }
-        InputLine::Known(Command::Goto(n)) => goto(alloc, timeline, n, text),
+        InputLine::Known(Command::Goto(n)) => {
+            if n > timeline.end() as u64 {
+                return text.extend_from_slice(b"fault: PastEnd\n");
+            }
+            go(alloc, timeline, n as usize, text)
+        }
         InputLine::Known(Command::Run) => run(alloc, timeline, breaks.as_slice(), text),
         InputLine::Known(Command::Break(point)) => set(breaks, point, text),
         InputLine::Known(Command::Clear) => {
@@ -171,27 +191,21 @@ fn answer<T: Timeline>(
 }
 
 // Goes to where so many steps are made.
-#[tactic(auto, unfolding(crate::specs::Answers::response_to))]
-fn goto<T: Timeline>(
+fn go<T: Timeline>(
     alloc: Global,
     timeline: &mut T,
-    n: u64,
+    n: usize,
     text: &mut Vec<u8>,
 ) -> Result<(), AllocError>
-    requires { T.IsWhole timeline.old }
+    requires whole { T.IsWhole timeline.old }
+    requires within { n ≤ (T.timeline timeline.old).end }
     ensures source { T.source timeline.new ≡ T.source timeline.old }
     ensures whole { OnOk result (T.IsWhole timeline.new) }
     ensures same { OnOk result (T.timeline timeline.new ≡ T.timeline timeline.old) }
-    ensures answer { OnOk result ((breaks : List Breakpoint) → IsAnswer
-        (response_to (T.timeline timeline.old) (record { at = T.position timeline.old; breaks = breaks })
-        (command.Goto n))
-        text.old.items text.new.items (T.position timeline.new) breaks) }
+    ensures position { OnOk result (T.position timeline.new ≡ n) }
+    ensures text { OnOk result (text.new.items ≡ text.old.items ++ position_line n) }
 {
-    if n > timeline.end() as u64 {
-        return text.extend_from_slice(b"fault: PastEnd\n");
-    }
     let at = timeline.position();
-    let n = n as usize;
     if n < at {
         timeline.back(alloc, at - n)?;
     } else {
@@ -230,11 +244,7 @@ fn push_stop(text: &mut Vec<u8>, stop: Option<Breakpoint>) -> Result<(), AllocEr
     ensures { OnOk result (text.new.items ≡ text.old.items ++ stop_line stop) }
 {
     match stop {
-        Some(point) => {
-            text.extend_from_slice(b"stop ")?;
-            text.extend_from_slice(point.word())?;
-            text.extend_from_slice(b"\n")
-        }
+        Some(point) => push_pieces(text, &[b"stop ", point.word(), b"\n"]),
         None => text.extend_from_slice(b"end\n"),
     }
 }

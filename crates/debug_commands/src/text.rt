@@ -1,5 +1,6 @@
 //! Text behind what a buffer holds already.
-ghost use Rattle.std.specs.Prelude.{◌≡◌, ◌++◌, OnOk};
+ghost use Rattle.std.specs.Prelude.{◌≡◌, ◌++◌, OnOk, codes};
+ghost use Rattle.std.specs.List.{flat_map};
 ghost use Rattle.debug_commands.specs.Texts.{count_text};
 
 use itoa::Buffer;
@@ -12,4 +13,25 @@ pub fn push_count(text: &mut Vec<u8>, name: &[u8], count: u64) -> Result<(), All
     let mut digits = Buffer::new();
     text.extend_from_slice(name)?;
     text.extend_from_slice(digits.format(count).as_bytes())
+}
+
+/// Adds pieces, one behind another. The one error is that the allocation failed.
+pub fn push_pieces(text: &mut Vec<u8>, pieces: &[&[u8]]) -> Result<(), AllocError>
+    ensures { OnOk result (text.new.items ≡ text.old.items ++ flat_map (λ piece. piece.now) pieces.now) }
+{
+    for piece in pieces {
+        text.extend_from_slice(piece)?;
+    }
+    Ok(())
+}
+
+/// Adds counts, each behind its name, and a line feed. The one error is that the allocation failed.
+pub fn push_counts_line(text: &mut Vec<u8>, counts: &[(&[u8], u64)]) -> Result<(), AllocError>
+    ensures { OnOk result (text.new.items
+        ≡ text.old.items ++ (flat_map (λ c. count_text c.0.now c.1) counts.now ++ codes "\n")) }
+{
+    for (name, count) in counts {
+        push_count(text, name, *count)?;
+    }
+    text.extend_from_slice(b"\n")
 }

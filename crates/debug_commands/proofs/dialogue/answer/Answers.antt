@@ -1,4 +1,4 @@
-use Rattle.std.proofs.lemmas.Grind.{common_steps, elements}
+use Rattle.std.proofs.lemmas.Grind.{elements}
 use Rattle.std.proofs.Common.{rules, ◌≡◌, sym, subst, ℕ, Result, Ok, Err, arith}
 use Rattle.std.specs.Prelude.{OnOk}
 use Rattle.debug_commands.specs.Answers.{answer_to, response_to}
@@ -27,12 +27,6 @@ returns-in-Known-Break-clause-answer g c =
     subst (λ (x : InputLine). OnOk c.set.result (IsAnswer (answer_to t (record { at = at; breaks = breaks }) x) before after at points)) (sym is)
     (at_this c.set.result (λ t at. IsAnswer (response_to t (record { at = at; breaks = breaks }) (command.Break c.in-Known-Break.point)) before after at points)
     c.set.ensures t at)
-
-pub position-requires-in-Known-Back-2 : goal.position-requires-in-Known-Back-2
-position-requires-in-Known-Back-2 g c = grind (arith, common_steps)
-
-pub position-requires-in-Known-Step : goal.position-requires-in-Known-Step
-position-requires-in-Known-Step g c = grind (arith, common_steps)
 
 pub returns-in-Unknown-clause-answer : goal.returns-in-Unknown-clause-answer
 returns-in-Unknown-clause-answer g c = grind (arith, elements)

@@ -7,7 +7,7 @@ use Rattle.debug_commands.specs.Dialogue.{is_last}
 use Rattle.debug_commands.specs.Timeline.{TimelineData}
 use Rattle.debug_commands.specs.declared.fault.DebugFault.{DebugFault}
 use Rattle.debug_commands.specs.declared.fault.DebugFault.TheVariants.{TooLarge}
-use Rattle.debug_commands.proofs.Ahead.{a_round, begins, ends_at_large, ends_here, flushed, goes_on, said_is}
+use Rattle.debug_commands.proofs.Ahead.{a_round, begins, ends_at_large, ends_here, goes_on, said_is}
 use Rattle.debug_commands.proofs.dialogue.answer_commands.Goals as goal
 
 pub lines-init : goal.lines-init
@@ -33,10 +33,9 @@ returns-then-is_last-clause-done g c =
     let said : c.line-said.result ≡ command_line_of t.dialect c.read_line.new.text.items =
     said_is c.lines.invariant.same c.dialect.ensures c.as_slice.ensures.value c.line-said.ensures in
     ends_here
-    (a_round (g.R.CountedRead.remaining c.read_line.new.input) (g.W.CountedWrite.contents c.flush.new.writer) c.lines.invariant.ahead c.lines.invariant.same
+    (a_round (g.R.CountedRead.remaining c.read_line.new.input) (g.W.CountedWrite.contents c.send.new.out) c.lines.invariant.ahead c.lines.invariant.same
     c.dialect.ensures c.as_slice.ensures.value c.line-said.ensures c.clear-in-lines.ensures.items c.in_ok-answer.ensures.answer
-    c.in_ok-fed.ensures.read c.in_ok-fed.ensures.feeds c.in_ok-fed.ensures.room c.as_slice-in-lines.ensures.value (flushed (g.W.CountedWrite.contents c.lines.out) (g.W.CountedWrite.contents c.write_some.new.writer) (g.W.CountedWrite.contents c.flush.new.writer) c.as_slice-in-lines.result.now
-    c.in_ok-write_some.ensures.bytes c.in_ok-flush.ensures.bytes))
+    c.in_ok-fed.ensures.read c.in_ok-fed.ensures.feeds c.in_ok-fed.ensures.room c.as_slice-in-lines.ensures.value c.in_ok-send.ensures.bytes)
     (sym (c.is_last.ensures ∙ ap (is_last c.in_ok-fed.fed) said) ∙ c.if-is_last.true) (λ none. c.in_ok-fed.ensures.end (ap Ok none))
 
 pub lines-preserved : goal.lines-preserved
@@ -49,14 +48,12 @@ lines-preserved g c =
       whole = c.in_ok-answer.ensures.whole;
       same = c.in_ok-answer.ensures.same ∙ c.lines.invariant.same;
       ahead = goes_on
-          (a_round (g.R.CountedRead.remaining c.read_line.new.input) (g.W.CountedWrite.contents c.flush.new.writer) c.lines.invariant.ahead c.lines.invariant.same
+          (a_round (g.R.CountedRead.remaining c.read_line.new.input) (g.W.CountedWrite.contents c.send.new.out) c.lines.invariant.ahead c.lines.invariant.same
           c.dialect.ensures c.as_slice.ensures.value c.line-said.ensures c.clear-in-lines.ensures.items c.in_ok-answer.ensures.answer
-          c.in_ok-fed.ensures.read c.in_ok-fed.ensures.feeds c.in_ok-fed.ensures.room c.as_slice-in-lines.ensures.value (flushed (g.W.CountedWrite.contents c.lines.out) (g.W.CountedWrite.contents c.write_some.new.writer) (g.W.CountedWrite.contents c.flush.new.writer) c.as_slice-in-lines.result.now
-          c.in_ok-write_some.ensures.bytes c.in_ok-flush.ensures.bytes))
+          c.in_ok-fed.ensures.read c.in_ok-fed.ensures.feeds c.in_ok-fed.ensures.room c.as_slice-in-lines.ensures.value c.in_ok-send.ensures.bytes)
           (sym (c.is_last.ensures ∙ ap (is_last c.in_ok-fed.fed) said) ∙ c.if-is_last.false);
       reads = further _ _ _ _ _ _ c.lines.invariant.reads (c.in_ok-fed.ensures.spent (λ same. absurd (cc same)));
-      writes = further _ _ _ _ _ _ c.lines.invariant.writes
-          (further _ _ _ _ _ _ c.in_ok-write_some.ensures.spent c.in_ok-flush.ensures.spent);
+      writes = further _ _ _ _ _ _ c.lines.invariant.writes c.in_ok-send.ensures.spent;
     }
 
 pub returns-in_err-answer-clause-reads : goal.returns-in_err-answer-clause-reads
@@ -65,14 +62,14 @@ returns-in_err-answer-clause-reads g c = grind (arith, common_steps)
 pub returns-in_err-answer-clause-writes : goal.returns-in_err-answer-clause-writes
 returns-in_err-answer-clause-writes g c = grind (arith, common_steps)
 
-pub returns-in_err-write_some-clause-source : goal.returns-in_err-write_some-clause-source
-returns-in_err-write_some-clause-source g c = grind (arith, common_steps)
+pub returns-in_err-send-clause-source : goal.returns-in_err-send-clause-source
+returns-in_err-send-clause-source g c = grind (arith, common_steps)
 
-pub returns-in_err-write_some-clause-whole : goal.returns-in_err-write_some-clause-whole
-returns-in_err-write_some-clause-whole g c = grind (arith, common_steps)
+pub returns-in_err-send-clause-whole : goal.returns-in_err-send-clause-whole
+returns-in_err-send-clause-whole g c = grind (arith, common_steps)
 
-pub returns-in_err-write_some-clause-writes : goal.returns-in_err-write_some-clause-writes
-returns-in_err-write_some-clause-writes g c = grind (arith, common_steps)
+pub returns-in_err-send-clause-writes : goal.returns-in_err-send-clause-writes
+returns-in_err-send-clause-writes g c = grind (arith, common_steps)
 
 pub returns-then-is_last-clause-reads : goal.returns-then-is_last-clause-reads
 returns-then-is_last-clause-reads g c = grind (arith, common_steps)

@@ -1,0 +1,15 @@
+use Rattle.streams.proofs.Tallies.{further, later}
+use Rattle.debug_commands.proofs.Ahead.{flushed}
+use Rattle.debug_commands.proofs.Results.{at_fault, at_success}
+use Rattle.debug_commands.proofs.dialogue.send.Goals as goal
+
+pub returns-clause-bytes : goal.returns-clause-bytes
+returns-clause-bytes g c =
+    at_success c.flush.result _ _ (flushed (g.W.CountedWrite.contents c.args.out.now) (g.W.CountedWrite.contents c.write_some.new.writer) (g.W.CountedWrite.contents c.flush.new.writer)
+    c.args.text.now c.in_ok-write_some.ensures.bytes) c.flush.ensures.bytes
+
+pub returns-clause-spent : goal.returns-clause-spent
+returns-clause-spent g c = at_success c.flush.result _ _ (further _ _ _ _ _ _ c.in_ok-write_some.ensures.spent) c.flush.ensures.spent
+
+pub returns-clause-exhausted : goal.returns-clause-exhausted
+returns-clause-exhausted g c = at_fault c.flush.result _ _ (later _ _ _ _ _ c.in_ok-write_some.ensures.spent) c.flush.ensures.exhausted
