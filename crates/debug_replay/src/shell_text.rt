@@ -1,16 +1,15 @@
 //! What is shown of a concurrent cache.
 ghost use Rattle.std.specs.Prelude.{◌≡◌, ◌++◌, OnOk, codes};
 ghost use Rattle.std.specs.List.{flat_map};
-ghost use Rattle.debug_replay.specs.ShownState.{age_line, count_line, drain_line, drain_word};
+ghost use Rattle.debug_replay.specs.ShownState.{age_line, drain_line, drain_word};
 ghost use Rattle.debug_replay.specs.ShownState.{holder_line, item_text, items_line, lists_text};
 ghost use Rattle.debug_replay.specs.ShownState.{phase_word, queues_text, shown_text};
 ghost use Rattle.debug_replay.specs.ShownState.{state_text, stats_line, stripe_line, stripe_lines, task_text};
 ghost use Rattle.debug_replay.specs.ShownState.{tasks_line};
-ghost use Rattle.debug_commands.specs.Texts.{count_text};
 ghost use Rattle.segments.specs.Queues.{queue_of};
 
 use admission::Frequency;
-use debug_commands::push_count;
+use debug_commands::{push_count, push_counts_line, push_pieces};
 use maintenance::Shell;
 use segments::Queue;
 use shell_buffers::Task;
@@ -34,15 +33,13 @@ fn push_state(shell: &Shell, text: &mut Vec<u8>) -> Result<(), AllocError>
 {
     push_drain(shell.drain(), text)?;
     push_holder(shell, text)?;
-    push_count_line(text, b"next ", shell.next_node())
+    push_counts_line(text, &[(b"next ", shell.next_node())])
 }
 
 fn push_drain(drain: Drain, text: &mut Vec<u8>) -> Result<(), AllocError>
     ensures { OnOk result (text.new.items ≡ text.old.items ++ drain_line drain) }
 {
-    text.extend_from_slice(b"drain ")?;
-    text.extend_from_slice(drain_word(drain))?;
-    text.extend_from_slice(b"\n")
+    push_pieces(text, &[b"drain ", drain_word(drain), b"\n"])
 }
 
 fn push_holder(shell: &Shell, text: &mut Vec<u8>) -> Result<(), AllocError>
@@ -50,10 +47,13 @@ fn push_holder(shell: &Shell, text: &mut Vec<u8>) -> Result<(), AllocError>
 {
     match shell.holder() {
         None => text.extend_from_slice(b"holder none\n"),
-        Some((worker, phase, left)) => {
-            push_count(text, b"holder ", u64::from(worker.number()))?;
-            push_count_line(text, phase_word(phase), u64::from(left))
-        }
+        Some((worker, phase, left)) => push_counts_line(
+            text,
+            &[
+                (b"holder ", u64::from(worker.number())),
+                (phase_word(phase), u64::from(left)),
+            ],
+        ),
     }
 }
 
@@ -116,8 +116,13 @@ fn push_stripe(stripe: u8, items: &[Item], text: &mut Vec<u8>) -> Result<(), All
 fn push_age(frequency: &Frequency, text: &mut Vec<u8>) -> Result<(), AllocError>
     ensures { OnOk result (text.new.items ≡ text.old.items ++ age_line frequency.now) }
 {
-    push_count(text, b"age ", u64::from(frequency.age()))?;
-    push_count_line(text, b" halvings ", frequency.halvings())
+    push_counts_line(
+        text,
+        &[
+            (b"age ", u64::from(frequency.age())),
+            (b" halvings ", frequency.halvings()),
+        ],
+    )
 }
 
 #[tactic(auto, unfolding(crate::specs::ShownState::stats_line))]
@@ -142,17 +147,6 @@ fn push_stats(stats: &ShellStats, text: &mut Vec<u8>) -> Result<(), AllocError>
     push_counts_line(text, &counts)
 }
 
-// Adds a line of counts, each behind its name.
-fn push_counts_line(text: &mut Vec<u8>, counts: &[(&[u8], u64)]) -> Result<(), AllocError>
-    ensures { OnOk result (text.new.items
-        ≡ text.old.items ++ (flat_map (λ c. count_text c.0.now c.1) counts.now ++ codes "\n")) }
-{
-    for (name, count) in counts {
-        push_count(text, name, *count)?;
-    }
-    text.extend_from_slice(b"\n")
-}
-
 // The word of a drain state.
 fn drain_word(drain: Drain) -> &'static [u8]
     ensures { result.now ≡ drain_word drain }
@@ -174,14 +168,6 @@ fn phase_word(phase: Phase) -> &'static [u8]
         Phase::Writes => b" writes ",
         Phase::Evictions => b" evictions ",
     }
-}
-
-// Adds a line of a name and a number.
-fn push_count_line(text: &mut Vec<u8>, name: &[u8], count: u64) -> Result<(), AllocError>
-    ensures { OnOk result (text.new.items ≡ text.old.items ++ count_line name.now count) }
-{
-    push_count(text, name, count)?;
-    text.extend_from_slice(b"\n")
 }
 
 // Adds items, each with a space before it.
