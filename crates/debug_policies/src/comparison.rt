@@ -1,18 +1,19 @@
 //! How often two policies hit at the same accesses of a trace.
-ghost use Rattle.std.specs.Prelude.{◌≡◌, ◌≤◌, ◌-◌, ◌++◌, [], ◌∷◌, length, take, IfOk, OnOk, Ok};
+ghost use Rattle.std.specs.Prelude.{◌≡◌, ◌≤◌, ◌-◌, ◌++◌, List, [], ◌∷◌, length, IfOk, OnOk, Ok};
 ghost use Rattle.step_record.specs.Config.{config_fault};
 ghost use Rattle.step_record.specs.declared.job.Job.{Job};
+ghost use Rattle.step_record.specs.declared.outcome.Outcome.{Outcome};
 ghost use Rattle.step_record.specs.declared.limits.TheConstants.{MAX_ACCESSES};
-ghost use Rattle.policies.specs.AnyPolicy.{HasAccessed, outcomes_on};
+ghost use Rattle.policies.specs.AnyPolicy.{HasAccessed};
 ghost use Rattle.policies.specs.FaultyJobs.{faulty_in, ReturnsFault};
-ghost use Rattle.debug_policies.specs.Comparison.{compared_on, compared_up_to, comparison_text, counts_text, counts_with};
+ghost use Rattle.debug_policies.specs.Comparison.{compared_on, compared_up_to, comparison_text, counts_with};
 ghost use Rattle.debug_policies.specs.Comparison.{IsUpTo, no_counts};
 ghost use Rattle.debug_policies.specs.Part.{IsNoted, IsPrepared};
 
-use crate::divergence::{STRETCH, hit_at, note_hits, open_both};
+use crate::divergence::{STRETCH, note_hits, open_both};
+use debug_commands::{push_counts_line, push_pieces};
 use policies::{ActorFault, AnyPolicy, check_jobs};
 use std::alloc::{AllocError, Global};
-use std::io::Write;
 use step_record::{Job, Trace};
 
 /// At how many accesses of a trace both of two policies hit, only the first, only the second, and neither.
@@ -84,34 +85,27 @@ pub fn push_comparison(
 ) -> Result<(), AllocError>
     ensures { OnOk result (text.new.items ≡ text.old.items ++ comparison_text first.now second.now counts.now) }
 {
-    text.extend_from_slice(
-        b"first,second,capacity,accesses,both,first_only,second_only,neither\n",
+    push_pieces(
+        text,
+        &[
+            b"first,second,capacity,accesses,both,first_only,second_only,neither\n",
+            first.policy.word().as_bytes(),
+            b",",
+            second.policy.word().as_bytes(),
+        ],
     )?;
-    write!(
+    push_counts_line(
         text,
-        "{},{},{}",
-        first.policy.word(),
-        second.policy.word(),
-        first.config.capacity
+        &[
+            (b",", u64::from(first.config.capacity)),
+            (b",", counts.accesses),
+            (b",", counts.both),
+            (b",", counts.first_only),
+            (b",", counts.second_only),
+            (b",", counts.neither),
+        ],
     )
-    .map_err(|_| AllocError)?;
-    push_counts(text, counts)
 }
-
-// Adds the numbers of a row.
-fn push_counts(text: &mut Vec<u8>, counts: &Comparison) -> Result<(), AllocError>
-    ensures { OnOk result (text.new.items ≡ text.old.items ++ counts_text counts.now) }
-{
-    writeln!(
-        text,
-        ",{},{},{},{},{}",
-        counts.accesses, counts.both, counts.first_only, counts.second_only, counts.neither
-    )
-    .map_err(|_| AllocError)
-}
-
-// The caller in the second cache's loop.
-struct Counting;
 
 // Opens the caches of both jobs, and counts.
 fn open_and_count(
@@ -144,43 +138,32 @@ fn count_in_both(
 {
     let mut counts = Comparison::none();
     let mut noted = [false; STRETCH];
+    let mut others = [false; STRETCH];
     let len = trace.keys().len();
     let mut start = 0;
     'stretches: while start < len {
         let end = len.min(start + STRETCH);
         note_hits(one, trace, start, end, &mut noted)?;
-        count_hits(other, trace, start, end, &noted, &mut counts)?;
+        note_hits(other, trace, start, end, &mut others)?;
+        count_hits(&noted, &others, start, end, &mut counts);
         start = end;
     }
     Ok(counts)
 }
 
-// Makes the accesses from one place of the trace up to another, and counts each beside what the other cache noted of it.
-fn count_hits(
-    cache: &mut AnyPolicy,
-    trace: &Trace,
-    start: usize,
-    end: usize,
-    noted: &[bool],
-    counts: &mut Comparison,
-) -> Result<(), AllocError>
+// Counts the accesses from one place up to another by what both caches noted of them.
+fn count_hits(noted: &[bool], others: &[bool], start: usize, end: usize, counts: &mut Comparison)
     requires order { start ≤ end }
-    requires within { end ≤ length trace.now }
+    requires within { end ≤ MAX_ACCESSES }
     requires room { end - start ≤ length noted.now }
-    requires stands { IsPrepared trace.now start cache.old }
+    requires other_room { end - start ≤ length others.now }
     requires few { IsUpTo start counts.old }
-    ensures stands { (k : Job) → HasAccessed k trace.now (take start trace.now) cache.old
-        → OnOk result (HasAccessed k trace.now (take end trace.now) cache.new) }
-    ensures counts { (j k : Job) → HasAccessed k trace.now (take start trace.now) cache.old
-        → IsNoted noted.now (outcomes_on j trace.now) start end
-        → counts.old ≡ compared_up_to start (outcomes_on j trace.now) (outcomes_on k trace.now)
-        → OnOk result (counts.new ≡ compared_up_to end (outcomes_on j trace.now) (outcomes_on k trace.now)) }
-    ensures few { OnOk result (IsUpTo end counts.new) }
+    ensures counts { (os ps : List Outcome) → end ≤ length os → end ≤ length ps
+        → IsNoted noted.now os start end → IsNoted others.now ps start end
+        → counts.old ≡ compared_up_to start os ps → counts.new ≡ compared_up_to end os ps }
+    ensures few { IsUpTo end counts.new }
 {
-    trace.bounded();
     for i in start..end {
-        let hit = hit_at::<Counting>(cache, trace, i)?;
-        counts.count(noted[i - start], hit);
+        counts.count(noted[i - start], others[i - start]);
     }
-    Ok(())
 }

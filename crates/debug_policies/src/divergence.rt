@@ -1,17 +1,18 @@
 //! The first access at which one policy hits and the other does not.
-ghost use Rattle.std.specs.Prelude.{◌≡◌, ◌≢◌, ◌≤◌, ◌<◌, ◌+◌, ◌-◌, ◌++◌, Ok, Some, None, [], ◌∷◌, length, take};
+ghost use Rattle.std.specs.Prelude.{◌≡◌, ◌≢◌, ◌≤◌, ◌<◌, ◌+◌, ◌-◌, ◌++◌, Ok, Some, None, List, [], ◌∷◌, length, take};
 ghost use Rattle.std.specs.Prelude.{IfOk, OnOk, IfSome, IfNone};
 ghost use Rattle.step_record.specs.Config.{config_fault};
 ghost use Rattle.step_record.specs.declared.job.Job.{Job};
+ghost use Rattle.step_record.specs.declared.outcome.Outcome.{Outcome};
 ghost use Rattle.step_record.specs.Stats.{is_hit};
 ghost use Rattle.policies.specs.AnyPolicy.{HasAccessed, outcomes_on};
 ghost use Rattle.policies.specs.AnyStep.{any_act};
 ghost use Rattle.policies.specs.FaultyJobs.{faulty_in, ReturnsFault};
 ghost use Rattle.debug_policies.specs.Part.{part_line, is_hit_at, IsPart, IsNoted, IsFirstOther, IsPrepared};
 
+use debug_commands::push_counts_line;
 use policies::{ActorFault, AnyPolicy, check_jobs, theorems};
 use std::alloc::{AllocError, Global};
-use std::io::Write;
 use step_record::{Gate, Job, Key, OpenGate, Outcome, StepFault, Trace};
 
 /// So many accesses are made in one cache before the other makes them: each has a loop of its own, of which the code of
@@ -58,7 +59,7 @@ pub fn push_part(text: &mut Vec<u8>, found: Option<u64>) -> Result<(), AllocErro
     ensures { OnOk result (text.new.items ≡ text.old.items ++ part_line found) }
 {
     match found {
-        Some(access) => writeln!(text, "part {access}").map_err(|_| AllocError),
+        Some(access) => push_counts_line(text, &[(b"part ", access)]),
         None => text.extend_from_slice(b"part none\n"),
     }
 }
@@ -93,10 +94,8 @@ pub fn hits(outcome: Outcome) -> bool
     matches!(outcome, Outcome::Hit)
 }
 
-// The caller in the first cache's loop, and that in the second's.
+// The caller in a cache's loop.
 struct Noting;
-
-struct Comparing;
 
 // Opens the caches of both jobs, and walks.
 fn walk<G: Gate>(
@@ -132,6 +131,7 @@ fn walk_both<G: Gate>(
     theorems::any_step_law();
     theorems::any_covers_trace();
     let mut noted = [false; STRETCH];
+    let mut others = [false; STRETCH];
     let len = trace.keys().len();
     let mut start = 0;
     'stretches: while start < len {
@@ -139,7 +139,8 @@ fn walk_both<G: Gate>(
         let end = len.min(start + STRETCH);
         gate.before(0, number);
         note_hits(one, trace, start, end, &mut noted)?;
-        match compare_hits(other, trace, start, end, &noted)? {
+        note_hits(other, trace, start, end, &mut others)?;
+        match compare_hits(&noted, &others, start, end) {
             Some(place) => return Ok(Some(place as u64 + 1)),
             None => start = end,
         }
@@ -167,44 +168,34 @@ pub fn note_hits(
     ensures room { length noted.new ≡ length noted.old }
 {
     for i in start..end {
-        let hit = hit_at::<Noting>(cache, trace, i)?;
+        let hit = hit_at(cache, trace, i)?;
         noted[i - start] = hit;
     }
     Ok(())
 }
 
-// Makes the same accesses in the other cache, up to the first of which just one hits, whose place it returns.
-fn compare_hits(
-    cache: &mut AnyPolicy,
-    trace: &Trace,
-    start: usize,
-    end: usize,
-    noted: &[bool],
-) -> Result<Option<usize>, AllocError>
+// The first place from one to another, counted from 0, at which what both caches noted differs.
+fn compare_hits(noted: &[bool], others: &[bool], start: usize, end: usize) -> Option<usize>
     requires order { start ≤ end }
-    requires within { end ≤ length trace.now }
     requires room { end - start ≤ length noted.now }
-    requires stands { IsPrepared trace.now start cache.old }
-    ensures stands { (j : Job) → HasAccessed j trace.now (take start trace.now) cache.old
-        → IfOk result (λ r. IfNone r (HasAccessed j trace.now (take end trace.now) cache.new)) }
-    ensures agree { (j : Job) → HasAccessed j trace.now (take start trace.now) cache.old
-        → IfOk result (λ r. IfNone r (IsNoted noted.now (outcomes_on j trace.now) start end)) }
-    ensures part { (j : Job) → HasAccessed j trace.now (take start trace.now) cache.old
-        → IfOk result (λ r. IfSome r (IsFirstOther noted.now (outcomes_on j trace.now) start end)) }
+    requires other_room { end - start ≤ length others.now }
+    ensures agree { (os : List Outcome) → IsNoted others.now os start end
+        → IfNone result (IsNoted noted.now os start end) }
+    ensures part { (os : List Outcome) → IsNoted others.now os start end
+        → IfSome result (IsFirstOther noted.now os start end) }
 {
     for i in start..end {
-        let hit = hit_at::<Comparing>(cache, trace, i)?;
-        if hit != noted[i - start] {
-            return Ok(Some(i));
+        if others[i - start] != noted[i - start] {
+            return Some(i);
         }
     }
-    Ok(None)
+    None
 }
 
-/// Makes the access at a place, counted from 0, in a cache that made those before it, and says whether it hit. The one
-/// error is out of memory.
+// Makes the access at a place, counted from 0, in a cache that made those before it, and says whether it hit. The one
+// error is out of memory.
 #[inline(always)]
-pub fn hit_at<C>(cache: &mut AnyPolicy, trace: &Trace, i: usize) -> Result<bool, AllocError>
+fn hit_at(cache: &mut AnyPolicy, trace: &Trace, i: usize) -> Result<bool, AllocError>
     requires below { i < length trace.now }
     requires stands { IsPrepared trace.now i cache.old }
     ensures stands { (j : Job) → HasAccessed j trace.now (take i trace.now) cache.old
@@ -217,17 +208,17 @@ pub fn hit_at<C>(cache: &mut AnyPolicy, trace: &Trace, i: usize) -> Result<bool,
     theorems::any_answers();
     let keys = trace.keys();
     cache.prefetch_at(keys, i);
-    let outcome = access::<C>(cache, keys[i])?;
+    let outcome = access(cache, keys[i])?;
     Ok(hits(outcome))
 }
 
 // Makes an access that the cache accepts. The one error is out of memory.
 #[inline(always)]
-fn access<C>(cache: &mut AnyPolicy, key: Key) -> Result<Outcome, AllocError>
+fn access(cache: &mut AnyPolicy, key: Key) -> Result<Outcome, AllocError>
     requires { any_act cache.old key ≢ None }
     ensures { IfOk result (λ o. any_act cache.old key ≡ Some (o, cache.new)) }
 {
-    match cache.access::<C>(key) {
+    match cache.access::<Noting>(key) {
         Ok(outcome) => Ok(outcome),
         Err(StepFault::OutOfMemory) => Err(AllocError),
         Err(StepFault::NotNow) => unreachable!(),

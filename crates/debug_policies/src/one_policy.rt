@@ -7,11 +7,10 @@ ghost use Rattle.policies.specs.AnyStep.{any_act};
 ghost use Rattle.debug_policies.specs.OnePolicy.{age_at, counts_line, holds_line, outcome_at, policy_lines};
 ghost use Rattle.debug_policies.specs.OnePolicy.{spaced_key};
 
-use debug_commands::push_count;
+use debug_commands::{push_count, push_counts_line, push_pieces};
 use journal::{BackFault, Session, SessionFault};
 use policies::{AnyPolicy, theorems};
 use std::alloc::{AllocError, Global};
-use std::io::Write;
 use std::marker::Model;
 use step_record::{Job, Key, MAX_JOURNAL_LIMIT, Outcome, Stats, Trace};
 
@@ -112,7 +111,12 @@ impl<'a> OnePolicy<'a> {
     }
 
     /// Adds the lines that show it. The one error is that an allocation failed.
-    pub fn show(&self, alloc: Global, label: &str, text: &mut Vec<u8>) -> Result<(), AllocError>
+    pub fn show(
+        &self,
+        alloc: Global,
+        label: &'static str,
+        text: &mut Vec<u8>,
+    ) -> Result<(), AllocError>
         ensures { OnOk result (text.new.items
             ≡ text.old.items ++ policy_lines label.now self.now.job self.now.trace self.now.at) }
     {
@@ -142,26 +146,34 @@ fn make(session: &mut Session<AnyPolicy>, key: Key) -> Result<Outcome, AllocErro
 }
 
 // Adds the line of the counts.
-fn push_counts(text: &mut Vec<u8>, label: &str, job: &Job, stats: &Stats) -> Result<(), AllocError>
+fn push_counts(
+    text: &mut Vec<u8>,
+    label: &'static str,
+    job: &Job,
+    stats: &Stats,
+) -> Result<(), AllocError>
     ensures { OnOk result (text.new.items ≡ text.old.items ++ counts_line label.now job.now stats.now) }
 {
-    writeln!(
+    push_pieces(
         text,
-        "{label} {} hits {} misses {} evictions {} rejections {}",
-        job.policy.word(),
-        stats.hits,
-        stats.misses,
-        stats.evictions,
-        stats.rejections
+        &[label.as_bytes(), b" ", job.policy.word().as_bytes()],
+    )?;
+    push_counts_line(
+        text,
+        &[
+            (b" hits ", stats.hits),
+            (b" misses ", stats.misses),
+            (b" evictions ", stats.evictions),
+            (b" rejections ", stats.rejections),
+        ],
     )
-    .map_err(|_| AllocError)
 }
 
 // Adds the line of the residents.
-fn push_holds(text: &mut Vec<u8>, label: &str, keys: &[Key]) -> Result<(), AllocError>
+fn push_holds(text: &mut Vec<u8>, label: &'static str, keys: &[Key]) -> Result<(), AllocError>
     ensures { OnOk result (text.new.items ≡ text.old.items ++ holds_line label.now keys.now) }
 {
-    write!(text, "{label} holds").map_err(|_| AllocError)?;
+    push_pieces(text, &[label.as_bytes(), b" holds"])?;
     push_keys(text, keys)?;
     text.extend_from_slice(b"\n")
 }

@@ -13,6 +13,7 @@ invariant-stretches l =
     × IsUpTo l.start l.counts
     × (l.start ≤ length l.trace)
     × (length l.noted ≡ 1024)
+    × (length l.others ≡ 1024)
 
 abbrev pub decreases-stretches : goal.decreases-stretches
 decreases-stretches l = length l.trace - l.start

@@ -1,10 +1,7 @@
-use Rattle.std.proofs.Common.{take}
-use Rattle.step_record.specs.declared.job.Job.{Job}
-use Rattle.policies.specs.AnyPolicy.{HasAccessed, outcomes_on}
+use Rattle.std.proofs.Common.{List}
+use Rattle.step_record.specs.declared.outcome.Outcome.{Outcome}
 use Rattle.debug_policies.specs.Part.{IsNoted}
 use Rattle.debug_policies.proofs.divergence.compare_hits.Given as goal
 
 abbrev pub invariant-loop-i : goal.invariant-loop-i
-invariant-loop-i l =
-    ((j : Job) → HasAccessed j l.trace (take l.start l.trace) l.initial.cache → HasAccessed j l.trace (take l.i l.trace) l.cache)
-    × ((j : Job) → HasAccessed j l.trace (take l.start l.trace) l.initial.cache → IsNoted l.noted (outcomes_on j l.trace) l.start l.i)
+invariant-loop-i l = (os : List Outcome) → IsNoted l.others os l.start l.end → IsNoted l.noted os l.start l.i

@@ -1,5 +1,5 @@
-use Rattle.std.proofs.Common.{◌≡◌, ◌∙◌, length, take, IfSome, IfNone, ap, subst, arith}
-use Rattle.policies.specs.AnyPolicy.{HasAccessed, outcomes_on}
+use Rattle.std.proofs.Common.{◌≡◌, ◌∙◌, length, IfSome, IfNone, ap, subst, arith}
+use Rattle.policies.specs.AnyPolicy.{outcomes_on}
 use Rattle.debug_policies.specs.Part.{IsNoted, IsFirstOther}
 use Rattle.debug_policies.proofs.Walked.{agree-more, parts-first, agree-everywhere}
 use Rattle.debug_policies.proofs.divergence.walk_both.Goals as goal
@@ -7,14 +7,14 @@ use Rattle.debug_policies.proofs.divergence.walk_both.Goals as goal
 pub note_hits-requires-clause-stands : goal.note_hits-requires-clause-stands
 note_hits-requires-clause-stands g c = (let some = c.requires.one in record { job = some.job; stands = c.stretches.invariant.0 some.job some.stands })
 
-pub compare_hits-requires-clause-stands : goal.compare_hits-requires-clause-stands
-compare_hits-requires-clause-stands g c = (let some = c.requires.other in record { job = some.job; stands = c.stretches.invariant.1 some.job some.stands })
+pub note_hits-requires-in-stretches-clause-stands : goal.note_hits-requires-in-stretches-clause-stands
+note_hits-requires-in-stretches-clause-stands g c = (let some = c.requires.other in record { job = some.job; stands = c.stretches.invariant.1 some.job some.stands })
 
 pub overflow_add-result : goal.overflow_add-result
 overflow_add-result g c =
     let trace = c.args.trace.now in
     let k = c.requires.other.job in
-    let found = c.in_ok-place.ensures.part k (c.stretches.invariant.1 k c.requires.other.stands) in
+    let found = c.compare_hits.ensures.part (outcomes_on k trace) (c.in_ok-note_hits-2.ensures.noted k (c.stretches.invariant.1 k c.requires.other.stands)) in
     let part = subst (λ r. IfSome r (IsFirstOther c.note_hits.new.noted (outcomes_on k trace) c.stretches.start c.min-end.result)) c.in-Some.is found in
     let below = part.below in
     let least = c.min-end.ensures in
@@ -27,7 +27,7 @@ returns-in-Some g c = λ j k s t.
     let noted = c.note_hits.new.noted in
     let start = c.stretches.start in
     let end = c.min-end.result in
-    let part = subst (λ r. IfSome r (IsFirstOther noted outcomes start end)) c.in-Some.is (c.in_ok-place.ensures.part k (c.stretches.invariant.1 k t)) in
+    let part = subst (λ r. IfSome r (IsFirstOther noted outcomes start end)) c.in-Some.is (c.compare_hits.ensures.part outcomes (c.in_ok-note_hits-2.ensures.noted k (c.stretches.invariant.1 k t))) in
     parts-first noted (outcomes_on j trace) outcomes start end c.in-Some.place (c.stretches.invariant.2 j k s t)
     (c.in_ok-note_hits.ensures.noted j (c.stretches.invariant.0 j s)) part
 
@@ -40,12 +40,14 @@ stretches-preserved g c =
     let long : length c.keys-len.result.now ≡ length trace = ap length c.keys-len.ensures.keys in
     let least = c.min-end.ensures in (
       (λ j s. c.in_ok-note_hits.ensures.stands j (c.stretches.invariant.0 j s)),
-      (λ k t. subst (λ r. IfNone r (HasAccessed k trace (take end trace) c.compare_hits.new.cache)) c.in-None.is (c.in_ok-place.ensures.stands k (c.stretches.invariant.1 k t))),
+      (λ k t. c.in_ok-note_hits-2.ensures.stands k (c.stretches.invariant.1 k t)),
       (λ j k s t.
-          let agree = subst (λ r. IfNone r (IsNoted noted (outcomes_on k trace) start end)) c.in-None.is (c.in_ok-place.ensures.agree k (c.stretches.invariant.1 k t)) in
+          let agree = subst (λ r. IfNone r (IsNoted noted (outcomes_on k trace) start end)) c.in-None.is
+          (c.compare_hits.ensures.agree (outcomes_on k trace) (c.in_ok-note_hits-2.ensures.noted k (c.stretches.invariant.1 k t))) in
           agree-more noted (outcomes_on j trace) (outcomes_on k trace) start end (c.stretches.invariant.2 j k s t) (c.in_ok-note_hits.ensures.noted j (c.stretches.invariant.0 j s)) agree),
       omega (arith, long, least),
       c.note_hits.ensures.room ∙ c.stretches.invariant.4,
+      c.note_hits-in-stretches.ensures.room ∙ c.stretches.invariant.5,
     )
 
 pub returns : goal.returns

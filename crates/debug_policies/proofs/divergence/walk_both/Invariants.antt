@@ -11,6 +11,7 @@ invariant-stretches g l =
     × ((j k : Job) → HasAccessed j l.trace [] l.initial.one → HasAccessed k l.trace [] l.initial.other → AgreeBelow (l.start + 1) (outcomes_on j l.trace) (outcomes_on k l.trace))
     × (l.start ≤ length l.trace)
     × (length l.noted ≡ 1024)
+    × (length l.others ≡ 1024)
 
 abbrev pub decreases-stretches : goal.decreases-stretches
 decreases-stretches g l = length l.trace - l.start
