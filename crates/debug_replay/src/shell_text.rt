@@ -1,7 +1,6 @@
 //! What is shown of a concurrent cache.
 ghost use Rattle.std.specs.Prelude.{◌≡◌, ◌++◌, OnOk, codes};
-ghost use Rattle.std.specs.List.{flat_map};
-ghost use Rattle.debug_replay.specs.ShownState.{age_line, drain_line, drain_word};
+ghost use Rattle.debug_replay.specs.ShownState.{age_line, drain_word};
 ghost use Rattle.debug_replay.specs.ShownState.{holder_line, item_text, items_line, lists_text};
 ghost use Rattle.debug_replay.specs.ShownState.{phase_word, queues_text, shown_text};
 ghost use Rattle.debug_replay.specs.ShownState.{state_text, stats_line, stripe_line, stripe_lines, task_text};
@@ -31,15 +30,9 @@ pub fn push_shell(alloc: Global, shell: &Shell, text: &mut Vec<u8>) -> Result<()
 fn push_state(shell: &Shell, text: &mut Vec<u8>) -> Result<(), AllocError>
     ensures { OnOk result (text.new.items ≡ text.old.items ++ state_text shell.now) }
 {
-    push_drain(shell.drain(), text)?;
+    push_pieces(text, &[b"drain ", drain_word(shell.drain()), b"\n"])?;
     push_holder(shell, text)?;
     push_counts_line(text, &[(b"next ", shell.next_node())])
-}
-
-fn push_drain(drain: Drain, text: &mut Vec<u8>) -> Result<(), AllocError>
-    ensures { OnOk result (text.new.items ≡ text.old.items ++ drain_line drain) }
-{
-    push_pieces(text, &[b"drain ", drain_word(drain), b"\n"])
 }
 
 fn push_holder(shell: &Shell, text: &mut Vec<u8>) -> Result<(), AllocError>
@@ -109,8 +102,7 @@ fn push_stripe(stripe: u8, items: &[Item], text: &mut Vec<u8>) -> Result<(), All
     ensures { OnOk result (text.new.items ≡ text.old.items ++ stripe_line stripe items.now) }
 {
     push_count(text, b"stripe ", u64::from(stripe))?;
-    push_items(text, items)?;
-    text.extend_from_slice(b"\n")
+    push_items_line(text, b"", items)
 }
 
 fn push_age(frequency: &Frequency, text: &mut Vec<u8>) -> Result<(), AllocError>
@@ -170,22 +162,14 @@ fn phase_word(phase: Phase) -> &'static [u8]
     }
 }
 
-// Adds items, each with a space before it.
-fn push_items(text: &mut Vec<u8>, items: &[Item]) -> Result<(), AllocError>
-    ensures { OnOk result (text.new.items ≡ text.old.items ++ flat_map item_text items.now) }
-{
-    for item in items {
-        push_item(text, *item)?;
-    }
-    Ok(())
-}
-
-// Adds a line of items.
+// Adds a line of items, each with a space before it.
 fn push_items_line(text: &mut Vec<u8>, name: &[u8], items: &[Item]) -> Result<(), AllocError>
     ensures { OnOk result (text.new.items ≡ text.old.items ++ items_line name.now items.now) }
 {
     text.extend_from_slice(name)?;
-    push_items(text, items)?;
+    for item in items {
+        push_item(text, *item)?;
+    }
     text.extend_from_slice(b"\n")
 }
 
@@ -194,7 +178,9 @@ fn push_tasks_line(text: &mut Vec<u8>, tasks: &[Task]) -> Result<(), AllocError>
     ensures { OnOk result (text.new.items ≡ text.old.items ++ tasks_line tasks.now) }
 {
     text.extend_from_slice(b"writes")?;
-    push_tasks(text, tasks)?;
+    for task in tasks {
+        push_task(text, *task)?;
+    }
     text.extend_from_slice(b"\n")
 }
 
@@ -224,14 +210,4 @@ fn push_task(text: &mut Vec<u8>, task: Task) -> Result<(), AllocError>
     let (word, item) = task_parts(task);
     text.extend_from_slice(word)?;
     push_item(text, item)
-}
-
-// Adds tasks, each with a space before it.
-fn push_tasks(text: &mut Vec<u8>, tasks: &[Task]) -> Result<(), AllocError>
-    ensures { OnOk result (text.new.items ≡ text.old.items ++ flat_map task_text tasks.now) }
-{
-    for task in tasks {
-        push_task(text, *task)?;
-    }
-    Ok(())
 }

@@ -1,9 +1,0 @@
-use Rattle.std.proofs.Common.{arith}
-use Rattle.std.proofs.lemmas.Grind.{common_steps}
-use Rattle.debug_replay.proofs.shell_text.push_tasks.Goals as goal
-
-pub loop-task-preserved : goal.loop-task-preserved
-loop-task-preserved c = grind (arith, common_steps)
-
-pub returns : goal.returns
-returns c = grind (arith, common_steps)
