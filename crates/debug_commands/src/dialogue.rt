@@ -1,5 +1,6 @@
 //! The reading and answering of commands, a line at a time.
-ghost use Rattle.std.specs.Prelude.{◌≡◌, ◌≢◌, ◌≤◌, ◌+◌, ◌-◌, ◌++◌, ℕ, List, [], Ok, Err, IfOk, IfSome, OnOk, OnErr, length, true, false};
+ghost use Rattle.std.specs.Prelude.{◌≡◌, ◌≢◌, ◌≤◌, ◌+◌, ◌-◌, ◌++◌, ℕ, List, [], length, true, false};
+ghost use Rattle.std.specs.Prelude.{Ok, Err, IfOk, IfSome, OnOk, OnErr};
 ghost use Rattle.std.specs.Io.KnownBytes.{Appends, Consumes, IsAtEnd};
 ghost use Rattle.debug_commands.specs.Answers.{answer_to, position_line, response_to, stop_after, stop_line};
 ghost use Rattle.debug_commands.specs.AnswerText.{IsAnswer};
@@ -15,10 +16,9 @@ use crate::breakpoint::{Breakpoint, first_holding};
 use crate::command::{Command, InputLine};
 use crate::fault::DebugFault;
 use crate::grammar;
-use crate::text::push_pieces;
+use crate::text::{push_counts_line, push_pieces};
 use crate::timeline::Timeline;
 use std::alloc::{AllocError, Global};
-use std::io::Write;
 use streams::{CountedRead, CountedWrite, Patience, WriteAllFault, flush, read_some, write_some};
 
 /// As many bytes of commands as are read at most, line feeds included: 2^20.
@@ -150,8 +150,7 @@ fn answer<T: Timeline>(
 ) -> Result<(), AllocError>
     requires { T.IsWhole timeline.old }
     ensures source { T.source timeline.new ≡ T.source timeline.old }
-    ensures whole { OnOk result (T.IsWhole timeline.new) }
-    ensures same { OnOk result (T.timeline timeline.new ≡ T.timeline timeline.old) }
+    ensures kept { OnOk result ((T.IsWhole timeline.new) × (T.timeline timeline.new ≡ T.timeline timeline.old)) }
     ensures answer { OnOk result (IsAnswer
         (answer_to (T.timeline timeline.old) (record { at = T.position timeline.old; breaks = breaks.old.items }) line)
         text.old.items text.new.items (T.position timeline.new) breaks.new.items) }
@@ -200,8 +199,7 @@ fn go<T: Timeline>(
     requires whole { T.IsWhole timeline.old }
     requires within { n ≤ (T.timeline timeline.old).end }
     ensures source { T.source timeline.new ≡ T.source timeline.old }
-    ensures whole { OnOk result (T.IsWhole timeline.new) }
-    ensures same { OnOk result (T.timeline timeline.new ≡ T.timeline timeline.old) }
+    ensures kept { OnOk result ((T.IsWhole timeline.new) × (T.timeline timeline.new ≡ T.timeline timeline.old)) }
     ensures position { OnOk result (T.position timeline.new ≡ n) }
     ensures text { OnOk result (text.new.items ≡ text.old.items ++ position_line n) }
 {
@@ -224,8 +222,7 @@ fn run<T: Timeline>(
 ) -> Result<(), AllocError>
     requires { T.IsWhole timeline.old }
     ensures source { T.source timeline.new ≡ T.source timeline.old }
-    ensures whole { OnOk result (T.IsWhole timeline.new) }
-    ensures same { OnOk result (T.timeline timeline.new ≡ T.timeline timeline.old) }
+    ensures kept { OnOk result ((T.IsWhole timeline.new) × (T.timeline timeline.new ≡ T.timeline timeline.old)) }
     ensures answer { OnOk result (IsAnswer
         (response_to (T.timeline timeline.old)
         (record { at = T.position timeline.old; breaks = breaks.now }) command.Run)
@@ -257,8 +254,7 @@ fn next_stop<T: Timeline>(
 ) -> Result<Option<Breakpoint>, AllocError>
     requires { T.IsWhole timeline.old }
     ensures source { T.source timeline.new ≡ T.source timeline.old }
-    ensures whole { OnOk result (T.IsWhole timeline.new) }
-    ensures same { OnOk result (T.timeline timeline.new ≡ T.timeline timeline.old) }
+    ensures kept { OnOk result ((T.IsWhole timeline.new) × (T.timeline timeline.new ≡ T.timeline timeline.old)) }
     ensures stop { IfOk result (λ stop. stop_after (T.timeline timeline.old).facts breaks.now (T.position timeline.old)
         ((T.timeline timeline.old).end - T.position timeline.old) ≡ (T.position timeline.new, stop)) }
 {
@@ -293,5 +289,5 @@ fn set(
 fn push_at(text: &mut Vec<u8>, position: usize) -> Result<(), AllocError>
     ensures { OnOk result (text.new.items ≡ text.old.items ++ position_line position) }
 {
-    writeln!(text, "at {position}").map_err(|_| AllocError)
+    push_counts_line(text, &[(b"at ", position as u64)])
 }

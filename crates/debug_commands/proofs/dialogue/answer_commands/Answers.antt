@@ -45,8 +45,8 @@ lines-preserved g c =
     said_is c.lines.invariant.same c.dialect.ensures c.as_slice.ensures.value c.line-said.ensures in
     record {
       source = c.answer.ensures.source ∙ c.lines.invariant.source;
-      whole = c.in_ok-answer.ensures.whole;
-      same = c.in_ok-answer.ensures.same ∙ c.lines.invariant.same;
+      whole = c.in_ok-answer.ensures.kept.0;
+      same = c.in_ok-answer.ensures.kept.1 ∙ c.lines.invariant.same;
       ahead = goes_on
           (a_round (g.R.CountedRead.remaining c.read_line.new.input) (g.W.CountedWrite.contents c.send.new.out) c.lines.invariant.ahead c.lines.invariant.same
           c.dialect.ensures c.as_slice.ensures.value c.line-said.ensures c.clear-in-lines.ensures.items c.in_ok-answer.ensures.answer
