@@ -1,3 +1,4 @@
 pub mod EmptyShell
 pub mod NodeTable
 pub mod EvictionPlan
+pub mod Performing

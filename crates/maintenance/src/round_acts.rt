@@ -1,6 +1,6 @@
 //! The acts of a round of maintenance: it drains the reads and the writes, evicts, and ends.
 ghost use Rattle.std.specs.Prelude.{◌≡◌, ◌<◌, ◌≤◌, cond, true, false, length, Some, None};
-ghost use Rattle.std.specs.Prelude.{IfOk, IfSome, IfNone, IsSome, OnOk, OnErr};
+ghost use Rattle.std.specs.Prelude.{IfOk, IsSome, OnOk, OnErr};
 ghost use Rattle.step_record.specs.declared.item.Item.{Item as ItemValue};
 ghost use Rattle.step_record.specs.declared.limits.TheConstants.{MAX_STEPS};
 ghost use Rattle.step_record.specs.declared.step.Act.TheVariants as act;
@@ -17,11 +17,12 @@ ghost use Rattle.shell_model.specs.Frequency.{frequency_recorded, shell_frequenc
 ghost use Rattle.shell_model.specs.Shell.{act_effect, apply_task, drain_at_end, drain_read, end_effect, evict_effect};
 ghost use Rattle.shell_model.specs.Shell.{in_phase, is_over};
 ghost use Rattle.shell_model.specs.Shell.{queues_cleared, reply_by, shell_after_touch, unlisted_by};
-ghost use Rattle.shell_model.specs.Records.{added_of, change_of, cleared_of, evict_change, leaves_table};
+ghost use Rattle.shell_model.specs.Records.{added_of, cleared_of, evict_change, leaves_table};
 ghost use Rattle.shell_model.specs.Records.{task_change, touched_of};
 ghost use Rattle.shell_model.specs.Consistency.{IsConsistent};
 ghost use Rattle.shell_model.specs.declared.record.Change.TheVariants.{Nothing, Passed, Ended};
 ghost use Rattle.maintenance.specs.EvictionPlan.{planned, item_out};
+ghost use Rattle.maintenance.specs.Performing.{IsPerformed};
 
 use crate::shell_core::ShellCore;
 use admission::{FreqRecord, Frequency, KeptRecord};
@@ -40,13 +41,8 @@ impl ShellCore {
         stripe: u8,
     ) -> Result<Option<(Reply, Change)>, AllocError>
         requires few { self.old.frequency.halvings ≤ MAX_STEPS }
-        ensures some { IfOk result (λ o. IfSome o (λ r. act_effect worker (act.DrainRead stripe) self.old
-            ≡ Some (r.0, self.new))) }
-        ensures change { IfOk result (λ o. IfSome o (λ r. r.1 ≡ change_of worker (act.DrainRead stripe) self.old)) }
-        ensures none { IfOk result (λ o. IfNone o ((act_effect worker (act.DrainRead stripe) self.old ≡ None)
-            × (self.new ≡ self.old))) }
-        ensures accepted { OnErr result (IsSome (act_effect worker (act.DrainRead stripe) self.old)) }
-        ensures err { OnErr result (self.new ≡ self.old) }
+        ensures performed { IfOk result (λ o. IsPerformed worker (act.DrainRead stripe) self.old o self.new) }
+        ensures err { OnErr result (IsSome (act_effect worker (act.DrainRead stripe) self.old) × (self.new ≡ self.old)) }
     {
         if !self.reads_stripe(worker, stripe) {
             return Ok(None);
@@ -67,13 +63,8 @@ impl ShellCore {
     ) -> Result<Option<(Reply, Change)>, AllocError>
         requires sound { IsConsistent self.old }
         requires few { self.old.frequency.halvings ≤ MAX_STEPS }
-        ensures some { IfOk result (λ o. IfSome o (λ r. act_effect worker act.DrainWrite self.old
-            ≡ Some (r.0, self.new))) }
-        ensures change { IfOk result (λ o. IfSome o (λ r. r.1 ≡ change_of worker act.DrainWrite self.old)) }
-        ensures none { IfOk result (λ o. IfNone o ((act_effect worker act.DrainWrite self.old ≡ None)
-            × (self.new ≡ self.old))) }
-        ensures accepted { OnErr result (IsSome (act_effect worker act.DrainWrite self.old)) }
-        ensures err { OnErr result (self.new ≡ self.old) }
+        ensures performed { IfOk result (λ o. IsPerformed worker act.DrainWrite self.old o self.new) }
+        ensures err { OnErr result (IsSome (act_effect worker act.DrainWrite self.old) × (self.new ≡ self.old)) }
     {
         let holder = match self.held_by(worker) {
             Some(holder) if holder.phase != Phase::Evictions => holder,

@@ -1,10 +1,11 @@
 //! The parts of the shell together, and one step of it.
-ghost use Rattle.std.specs.Prelude.{◌≡◌, ◌<◌, ◌≤◌, ◌↔◌, Some, None, IfOk, OnErr, Err, IsSome, IfSome, IfNone};
+ghost use Rattle.std.specs.Prelude.{◌≡◌, ◌<◌, ◌≤◌, ◌↔◌, Some, None, IfOk, OnErr, Err, IsSome};
 ghost use Rattle.step_record.specs.declared.limits.TheConstants.{MAX_STEPS};
 ghost use Rattle.shell_model.specs.Shell.{act_effect, act as acted};
 ghost use Rattle.shell_model.specs.Records.{change_of};
 ghost use Rattle.shell_model.specs.ShellStats.{AreAtMost, counted_of};
 ghost use Rattle.shell_model.specs.Consistency.{IsConsistent};
+ghost use Rattle.maintenance.specs.Performing.{IsPerformed};
 
 use crate::node_table::NodeTable;
 use admission::Frequency;
@@ -94,11 +95,9 @@ impl ShellCore {
         requires sound { IsConsistent self.old }
         requires room { self.old.next < MAX_STEPS }
         requires few { self.old.frequency.halvings ≤ MAX_STEPS }
-        ensures some { IfOk result (λ o. IfSome o (λ r. act_effect worker act self.old ≡ Some (r.0, self.new))) }
-        ensures change { IfOk result (λ o. IfSome o (λ r. r.1 ≡ change_of worker act self.old)) }
-        ensures none { IfOk result (λ o. IfNone o ((act_effect worker act self.old ≡ None) × (self.new ≡ self.old))) }
-        ensures accepted { OnErr result (IsSome (act_effect worker act self.old)) }
-        ensures err { OnErr result (self.new ≡ self.old) }
+        ensures performed { IfOk result (λ o. IsPerformed worker act self.old o self.new) }
+        // Memory is missing only for an act that may come now, and nothing has changed then.
+        ensures err { OnErr result (IsSome (act_effect worker act self.old) × (self.new ≡ self.old)) }
     {
         match act {
             Act::Look { key } => Ok(Some((self.look(key), Change::Nothing))),

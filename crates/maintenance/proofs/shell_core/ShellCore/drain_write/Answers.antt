@@ -21,30 +21,19 @@ invariant_of-self c =
     let left : c.in-Some.holder.left ≤ MAX_TASKS = rw h at c.requires.sound.left in
     (c.self-2.invariant.0, c.self-2.invariant.1, omega (arith, left), c.self-2.invariant.3)
 
-pub returns-clause-some : goal.returns-clause-some
-returns-clause-some c =
+pub returns-clause-performed : goal.returns-clause-performed
+returns-clause-performed c =
     let now : the_view c.self-2.inside ≡ _ = c.self-2.view_is ∙ c.in_ok-made.ensures.state in
     let tasks : c.tasks.result.now ≡ c.args.self.now.writes = c.tasks.ensures ∙ ap (λ (x : Shell). x.writes) c.self.view_is in
     let oldest = oldest-task c.take_oldest.result _ c.tasks.result.now _ _
     (ap (λ (x : Shell). x.writes) now ∙ task-writes _ c.args.self.now ∙ sym tasks) c.in-len1-up.len_at_least c.take_oldest.ensures.none c.take_oldest.ensures.oldest in
     let may : may_write c.in-Some.holder.phase ≡ true = may-write c.in-Some.holder.phase (sym c.ne.ensures ∙ c.if-ne.true) in
-    rw (sym c.held_by.ensures ∙ c.in-Some.is, may)
-    (ap Some (task-applies c.args.self.now _ c.in-Some.holder _ _ _ (sym tasks ∙ oldest) c.if-holder-eq0.false c.in_ok-made.ensures.reply now))
-
-pub returns-clause-change : goal.returns-clause-change
-returns-clause-change c =
-    let now : the_view c.self-2.inside ≡ _ = c.self-2.view_is ∙ c.in_ok-made.ensures.state in
-    let tasks : c.tasks.result.now ≡ c.args.self.now.writes = c.tasks.ensures ∙ ap (λ (x : Shell). x.writes) c.self.view_is in
-    let oldest = oldest-task c.take_oldest.result _ c.tasks.result.now _ _
-    (ap (λ (x : Shell). x.writes) now ∙ task-writes _ c.args.self.now ∙ sym tasks) c.in-len1-up.len_at_least c.take_oldest.ensures.none c.take_oldest.ensures.oldest in
-    c.in_ok-made.ensures.change
-    ∙ sym (task-changes c.args.self.now c.in-Some.holder _ _ (held-is c.args.worker _ _ (sym c.held_by.ensures ∙ c.in-Some.is)) (sym tasks ∙ oldest) c.if-holder-eq0.false)
+    let held = held-is c.args.worker _ _ (sym c.held_by.ensures ∙ c.in-Some.is) in (
+      rw (sym c.held_by.ensures ∙ c.in-Some.is, may)
+          (ap Some (task-applies c.args.self.now _ c.in-Some.holder _ _ _ (sym tasks ∙ oldest) c.if-holder-eq0.false c.in_ok-made.ensures.reply now)),
+      c.in_ok-made.ensures.change
+          ∙ sym (task-changes c.args.self.now c.in-Some.holder _ _ held (sym tasks ∙ oldest) c.if-holder-eq0.false),
+    )
 
 pub apply_task-requires-clause-absent : goal.apply_task-requires-clause-absent
 apply_task-requires-clause-absent c = grind (arith, common_steps)
-
-pub returns-in_default-tasks-clause-some : goal.returns-in_default-tasks-clause-some
-returns-in_default-tasks-clause-some c = grind (arith, common_steps)
-
-pub returns-then-holder-eq0-clause-change : goal.returns-then-holder-eq0-clause-change
-returns-then-holder-eq0-clause-change c = grind (arith, common_steps)
