@@ -23,10 +23,9 @@ none_refused (Some cause ∷ causes) e w = absurd (cc (e))
 
 module _ {E D : Type 0} where
   -- the run from the session that the book was opened with
-  pub moved_run : (cause : Option Cause) (n n' : ℕ) (ps ps' : List (List Call)) (o o' t : SessionState E D Step Reply)
-      → n ≡ n' → ps ≡ ps' → o ≡ o' → IsRunUpTo cause n ps o t → IsRunUpTo cause n' ps' o' t
-  moved_run cause n n' ps ps' o o' t a b c h =
-      subst (λ m. IsRunUpTo cause m ps' o' t) a (subst (λ p. IsRunUpTo cause n p o' t) b (subst (λ s. IsRunUpTo cause n ps s t) c h))
+  pub moved_run : (cause : Option Cause) (n n' : ℕ) (ps : List (List Call)) (o o' t : SessionState E D Step Reply)
+      → n ≡ n' → o ≡ o' → IsRunUpTo cause n ps o t → IsRunUpTo cause n' ps o' t
+  moved_run cause n n' ps o o' t a c h = subst (λ m. IsRunUpTo cause m ps o' t) a (subst (λ s. IsRunUpTo cause n ps s t) c h)
 
   -- a run without a cause is one of whole walks
   pub whole_run : (cause : Option Cause) (n : ℕ) (ps : List (List Call)) (o t : SessionState E D Step Reply) → cause ≡ None → IsRunUpTo cause n ps o t → IsRun (λ w. AreWalks w n) ps o t

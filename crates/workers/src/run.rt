@@ -1,7 +1,7 @@
 //! Workers on threads, over one session of the concurrent cache: what each worker has and does, and how all of them
 //! work side by side.
 ghost use Rattle.std.specs.Prelude.{◌≡◌, ◌<◌, ◌≤◌, ◌∷◌, ◌++◌, true, Some, None, Err, [], All, MatchResult};
-ghost use Rattle.std.specs.Prelude.{IfOk, IfErr, OnOk, OnErr, IfSome, IsSome, length, map, vec_capacity};
+ghost use Rattle.std.specs.Prelude.{IfOk, IfErr, OnOk, OnErr, IfSome, IfNone, IsSome, length, map, vec_capacity};
 ghost use Rattle.step_record.specs.declared.limits.TheConstants.{MAX_STRIPES};
 ghost use Rattle.step_record.specs.declared.worker.TheConstants.{MAX_WORKERS};
 ghost use Rattle.step_record.specs.Answers.{AnswersItsActs, is_answer};
@@ -14,14 +14,14 @@ ghost use Rattle.walks.specs.AdmittedSteps.{AdmitsNext};
 ghost use Rattle.walks.specs.WorkerEntries.{Made, IsUnfinished};
 ghost use Rattle.workers.specs.DriveFaults.{CanRun, LeavesFault};
 ghost use Rattle.workers.specs.Draws.{IsWithin};
-ghost use Rattle.workers.specs.Runs.{IsRun, first_cause};
+ghost use Rattle.workers.specs.Runs.{IsRun, IsRunUpTo, first_cause};
 ghost use Rattle.workers.specs.Walkers.{CanWalk, WasRefused};
 ghost use Rattle.workers.specs.WorkerStates.{HoldsPass, HasWorked, AreNumbered, AdmitsAll, calls_of};
 
 use super::driven::Driven;
 use journal::{Session, SessionFault};
 use maintenance::Shell;
-use std::alloc::Global;
+use std::alloc::{AllocError, Global};
 use std::sync::Wait;
 use std::thread;
 use std::thread::Threads;
@@ -90,35 +90,69 @@ pub fn drive<G: Gate, R: Threads + Wait + Sync>(
     if workers == 0 || workers > usize::from(MAX_WORKERS) {
         return Err(DriveFault::Workers { session });
     }
-    let shell = session.engine();
-    let stripes = shell.stripes();
-    if let Some((worker, _, _)) = shell.holder() {
+    if let Some((worker, _, _)) = session.engine().holder() {
         return Err(DriveFault::Held { worker, session });
     }
-    let Ok(states) = Vec::with_capacity(alloc, workers) else {
-        return Err(DriveFault::OutOfMemory { session });
-    };
-    let Ok(collected) = Vec::with_capacity(alloc, workers) else {
-        return Err(DriveFault::OutOfMemory { session });
-    };
     let earlier = session.len();
-    match TurnBook::open(alloc, session, workers as u8, MAX_TURNS) {
-        Ok((book, passes)) => {
-            let states = assign_passes(&book, passes, states);
-            let states = work_all(rt, gate, &book, pieces.as_slice(), stripes, states);
-            let (passes, cause) = collect_passes(states, collected);
-            let session = book.close(passes);
-            session.sound();
+    match run_workers(rt, alloc, session, pieces.as_slice(), gate) {
+        Err(session) => Err(DriveFault::OutOfMemory { session }),
+        Ok((session, cause)) => {
             let driven = Driven { session, earlier };
             match cause {
                 None => Ok(driven),
                 Some(cause) => Err(DriveFault::Stopped { driven, cause }),
             }
         }
-        Err(OpenFault::OutOfMemory(session)) => Err(DriveFault::OutOfMemory { session }),
+    }
+}
+
+// The session with what the workers made of it, and why one of them was refused a step. Where an allocation failed, the
+// session as it was.
+fn run_workers<G: Gate, R: Threads + Wait + Sync>(
+    rt: &R,
+    alloc: Global,
+    session: Session<Shell>,
+    pieces: &[Vec<Call>],
+    gate: &G,
+) -> Result<(Session<Shell>, Option<Cause>), Session<Shell>>
+    requires { CanRun (map (λ p. p.items) pieces.now) session.engine }
+    ensures run { IfOk result (λ r. IsRunUpTo r.1 session.engine.config.stripes
+        (map (λ p. p.items) pieces.now) session r.0) }
+    ensures legal { IfOk result (λ r. IsLegal act r.0.opening r.0.kept) }
+    ensures free { IfOk result (λ r. IfNone r.1 (r.0.engine.holder ≡ None)) }
+    ensures err { IfErr result (λ s. s ≡ session) }
+{
+    let stripes = session.engine().stripes();
+    let workers = pieces.len();
+    let Ok((states, room)) = rooms(alloc, workers) else {
+        return Err(session);
+    };
+    match TurnBook::open(alloc, session, workers as u8, MAX_TURNS) {
+        Ok((book, passes)) => {
+            let states = assign_passes(&book, passes, states);
+            let states = work_all(rt, gate, &book, pieces, stripes, states);
+            let (passes, cause) = collect_passes(states, room);
+            let session = book.close(passes);
+            session.sound();
+            Ok((session, cause))
+        }
+        Err(OpenFault::OutOfMemory(session)) => Err(session),
         Err(OpenFault::Workers(_)) => unreachable!(),
         Err(OpenFault::Turns(_)) => unreachable!(),
     }
+}
+
+// Room for the states of so many workers, and for their passes.
+fn rooms(
+    alloc: Global,
+    workers: usize,
+) -> Result<(Vec<WorkerState>, Vec<Pass<Session<Shell>>>), AllocError>
+    ensures states { IfOk result (λ r. (r.0.items ≡ []) × (workers ≤ vec_capacity r.0)) }
+    ensures passes { IfOk result (λ r. (r.1.items ≡ []) × (workers ≤ vec_capacity r.1)) }
+{
+    let states = Vec::with_capacity(alloc, workers)?;
+    let passes = Vec::with_capacity(alloc, workers)?;
+    Ok((states, passes))
 }
 
 // What one worker has: its pass, which is with it but while it works, and why it was refused a step, where it was.
