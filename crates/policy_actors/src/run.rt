@@ -1,5 +1,5 @@
 //! Each job on a thread of its own.
-ghost use Rattle.std.specs.Prelude.{◌≡◌, ◌<◌, ◌≤◌, ◌++◌, ◌∷◌, [], ℕ, List, length, map, Ok, Err, None, Some, IfOk, OnOk, IfSome, IsSome, MatchResult};
+ghost use Rattle.std.specs.Prelude.{◌≡◌, ◌<◌, ◌≤◌, ◌++◌, ◌∷◌, [], ℕ, List, length, map, Ok, Err, None, Some, IfOk, IsOk, OnOk, IfSome, IsSome, MatchResult};
 ghost use denote.Param.Send.{IsSync};
 ghost use Rattle.step_record.specs.Config.{config_fault};
 ghost use Rattle.policies.specs.declared.job_checks.TheConstants.{MAX_ACTORS};
@@ -14,7 +14,7 @@ ghost use Rattle.trace_read.specs.TraceText.{keys_in};
 use crate::actor::act;
 use crate::feeder::Feeder;
 use crate::lump::{BatchSize, FedTrace};
-use crate::mail::channel;
+use crate::mail::{Inbox, Outbox, channel};
 use crate::source::{AccessSource, ReaderSource, TraceSource};
 use policies::{ActorFault, MAX_ACTORS, Report, check_jobs};
 use std::alloc::{AllocError, Global};
@@ -167,26 +167,21 @@ fn run_actors_from<
             for i in 0..jobs.len() {
                 let job = jobs[i];
                 let who = i as u8;
-                let Ok((outbox, inbox)) = channel(alloc, batches) else {
+                let Ok(inbox) = add_channel(alloc, &mut ends, batches) else {
                     return (source.leave(), Err(AllocError));
                 };
                 let promised: Promised<S> = Promised {
                     job,
                     marker: PhantomData,
                 };
-                let Ok(handle) = scope.spawn_with(
+                let started = scope.spawn_with(
                     promised,
                     move || -> Option<Report>
                         requires { (inbox.taken ≡ 0) × (config_fault job.config ≡ Ok tt) }
                         ensures { (all : List ℕ) → S.known ≡ Some all → IfSome result (λ x. x ≡ report_on job all) }
                     { act::<S, R, G>(rt, alloc, inbox, job, who, gate, finished) },
-                ) else {
-                    return (source.leave(), Err(AllocError));
-                };
-                let Ok(()) = handles.push(handle) else {
-                    return (source.leave(), Err(AllocError));
-                };
-                let Ok(()) = ends.push(outbox) else {
+                );
+                let Ok(()) = push_handle(&mut handles, started) else {
                     return (source.leave(), Err(AllocError));
                 };
             }
@@ -194,6 +189,35 @@ fn run_actors_from<
             (outcome, join_all(rt, alloc, handles))
         },
     )
+}
+
+// Makes a channel with room for so many batches, and puts its sending end behind the others.
+fn add_channel<S: FedTrace>(
+    alloc: Global,
+    ends: &mut Vec<Outbox<S>>,
+    batches: usize,
+) -> Result<Inbox<S>, AllocError>
+    requires { 0 < batches }
+    ensures { IfOk result (λ inbox. inbox.taken ≡ 0) }
+{
+    let (outbox, inbox) = channel(alloc, batches)?;
+    ends.push(outbox)?;
+    Ok(inbox)
+}
+
+// The handle of an actor behind those before, where its thread was started.
+fn push_handle<S: FedTrace, E: Drop>(
+    handles: &mut Vec<Handle<S>>,
+    started: Result<Handle<S>, E>,
+) -> Result<(), AllocError>
+    ensures started { OnOk result (IsOk started) }
+    ensures pushed { OnOk result (IfOk started (λ h. handles.new.items ≡ handles.old.items ++ h ∷ [])) }
+{
+    let Ok(handle) = started else {
+        return Err(AllocError);
+    };
+    handles.push(handle)?;
+    Ok(())
 }
 
 // The reports of all actors, in order, where each has one.
