@@ -40,11 +40,10 @@ impl ShellCore {
 
     pub(crate) fn put(&mut self, key: Key) -> Result<(Reply, Change), AllocError>
         requires { self.old.next < MAX_STEPS }
-        ensures reply { IfOk result (λ r. r.0 ≡ (put_effect key self.old).0) }
-        ensures state { OnOk result (self.new ≡ (put_effect key self.old).1) }
-        ensures change { IfOk result (λ r. r.1
+        ensures made { IfOk result (λ r. (r.0 ≡ (put_effect key self.old).0) × (r.1
             ≡ cond (nat_lt (length self.old.writes) MAX_TASKS) (put_change key (node_of key self.old.table) self.old)
-            Nothing) }
+            Nothing)) }
+        ensures state { OnOk result (self.new ≡ (put_effect key self.old).1) }
         ensures err { OnErr result (self.new ≡ self.old) }
     {
         if self.writes.tasks().len() >= MAX_TASKS {
@@ -68,9 +67,9 @@ impl ShellCore {
     }
 
     pub(crate) fn remove(&mut self, key: Key) -> (Reply, Change)
-        ensures reply { result.0 ≡ (remove_effect key self.old).0 }
+        ensures made { (result.0 ≡ (remove_effect key self.old).0)
+            × (result.1 ≡ remove_change key (node_of key self.old.table) self.old) }
         ensures state { self.new ≡ (remove_effect key self.old).1 }
-        ensures change { result.1 ≡ remove_change key (node_of key self.old.table) self.old }
     {
         match self.table.node_of(key) {
             None => (Reply::Absent, Change::Nothing),

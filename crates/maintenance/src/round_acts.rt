@@ -210,9 +210,8 @@ impl ShellCore {
     fn apply_task(&mut self, before: Phase, task: Task) -> Result<(Reply, Change), AllocError>
         requires few { self.old.frequency.halvings ≤ MAX_STEPS }
         requires absent { (item : ItemValue) → task ≡ Add item → queue_holding item self.old.queues ≡ None }
-        ensures reply { IfOk result (λ r. r.0 ≡ (apply_task task self.old).0) }
+        ensures made { IfOk result (λ r. (r.0 ≡ (apply_task task self.old).0) × (r.1 ≡ task_change before task self.old)) }
         ensures state { OnOk result (self.new ≡ (apply_task task self.old).1) }
-        ensures change { IfOk result (λ r. r.1 ≡ task_change before task self.old) }
         ensures err { OnErr result (self.new ≡ self.old) }
     {
         match task {

@@ -43,9 +43,7 @@ impl ShellCore {
         requires fits { FitsChange change self.old }
         requires left { IsLeft (before_change change self.old).holder }
         ensures ok { OnOk result (self.new ≡ before_change change self.old) }
-        ensures err { OnErr result (self.new ≡ self.old) }
-        ensures returned { IfErr result (λ c. c ≡ change) }
-        ensures asks { OnErr result (change_asks change) }
+        ensures err { IfErr result (λ c. (self.new ≡ self.old) × (c ≡ change) × change_asks change) }
     {
         match change {
             Change::Nothing => {}
@@ -156,8 +154,7 @@ impl ShellCore {
     ) -> Result<(), AllocError>
         requires { FitsChange (Cleared before item out) self.old }
         ensures ok { OnOk result (self.new ≡ before_change (Cleared before item out) self.old) }
-        ensures err { OnErr result (self.new ≡ self.old) }
-        ensures asks { OnErr result (out ≢ None) }
+        ensures err { OnErr result ((self.new ≡ self.old) × (out ≢ None)) }
     {
         if let Some(out) = out {
             self.queues.reserve()?;
@@ -171,8 +168,7 @@ impl ShellCore {
     fn undo_evicted(&mut self, before: Phase, eviction: &EvictionRecord) -> Result<(), AllocError>
         requires { FitsChange (Evicted before eviction.now) self.old }
         ensures ok { OnOk result (self.new ≡ before_change (Evicted before eviction.now) self.old) }
-        ensures err { OnErr result (self.new ≡ self.old) }
-        ensures asks { OnErr result (eviction.now.moves.out ≢ None) }
+        ensures err { OnErr result ((self.new ≡ self.old) × (eviction.now.moves.out ≢ None)) }
     {
         let moves = eviction.moves.moves();
         if let Some(out) = moves.out {

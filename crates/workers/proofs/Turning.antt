@@ -1,5 +1,5 @@
 -- One turn, as the book sees it.
-use Rattle.std.proofs.Common.{◌≡◌, ℕ, ◌+◌, ◌<◌, ◌≤◌, ◌^◌, ◌==◌, List, [], ◌∷◌, ◌++◌, length, length-append, Option, None, refl, sym, ap, ◌∙◌, subst, arith, inl, inr, Result, Ok, Err, MatchResult, OnOk, OnErr}
+use Rattle.std.proofs.Common.{◌≡◌, ℕ, ◌+◌, ◌<◌, ◌≤◌, ◌^◌, ◌==◌, List, [], ◌∷◌, ◌++◌, length, length-append, Option, None, refl, sym, ap, ◌∙◌, subst, arith, inl, inr, Result, Ok, Err, IfOk, IfErr, OnOk}
 use Rattle.std.proofs.lemmas.Bool.{cases_Bool}
 use Rattle.std.proofs.lemmas.List.{append_cancel_left}
 use Rattle.step_record.specs.declared.entry.Entry.{Entry}
@@ -21,17 +21,14 @@ module _ {T E O : Type 0} (origin : T → O) (entries : T → List E) (by : E �
   pub gained : (t : TurnState T E) (p : PassState T E) (es : List E) → Gives origin entries by undone t p → entries t.value ≡ entries t.taken ++ es → p.own ≡ t.pass.own ++ es
   gained t p es g l = ap (λ (q : PassState T E). q.own) g.pass ∙ ap (λ x. t.pass.own ++ x) (append_cancel_left (entries t.taken) g.made es (sym g.adds.list_is ∙ l))
 
-pub at_ok : {T F : Type 0} (r : Result T F) (P : T → Type 0) (Q : F → Type 0) (x : T) → r ≡ Ok x → MatchResult r P Q → P x
-at_ok {T} {F} r P Q x e h = let R : Result T F → Type 0 = λ y. MatchResult y P Q in subst R e h
+pub if_ok_at : {T F : Type 0} (r : Result T F) (P : T → Type 0) (x : T) → r ≡ Ok x → IfOk r P → P x
+if_ok_at {T} {F} r P x e h = let R : Result T F → Type 0 = λ y. IfOk y P in subst R e h
 
-pub at_err : {T F : Type 0} (r : Result T F) (P : T → Type 0) (Q : F → Type 0) (x : F) → r ≡ Err x → MatchResult r P Q → Q x
-at_err {T} {F} r P Q x e h = let R : Result T F → Type 0 = λ y. MatchResult y P Q in subst R e h
+pub if_err_at : {T F : Type 0} (r : Result T F) (P : F → Type 0) (x : F) → r ≡ Err x → IfErr r P → P x
+if_err_at {T} {F} r P x e h = let R : Result T F → Type 0 = λ y. IfErr y P in subst R e h
 
 pub on_ok_at : {T F : Type 0} (r : Result T F) (P : Type 0) (x : T) → r ≡ Ok x → OnOk r P → P
 on_ok_at {T} {F} r P x e h = let R : Result T F → Type 0 = λ y. OnOk y P in subst R e h
-
-pub on_err_at : {T F : Type 0} (r : Result T F) (P : Type 0) (x : F) → r ≡ Err x → OnErr r P → P
-on_err_at {T} {F} r P x e h = let R : Result T F → Type 0 = λ y. OnErr y P in subst R e h
 
 module _ {D S R : Type 0} (act : D → S → Option (R × D)) where
   pub legal_split : (x : D) (es fs : List (Entry S R)) → IsLegal act x (es ++ fs) → IsLegal act (data_after act x es) fs

@@ -1,6 +1,6 @@
 //! Workers on threads, over one session of the concurrent cache: what each worker has and does, and how all of them
 //! work side by side.
-ghost use Rattle.std.specs.Prelude.{◌≡◌, ◌<◌, ◌≤◌, ◌∷◌, ◌++◌, true, Some, None, Err, [], All, MatchResult};
+ghost use Rattle.std.specs.Prelude.{◌≡◌, ◌<◌, ◌≤◌, ◌∷◌, ◌++◌, true, Some, None, Err, [], All};
 ghost use Rattle.std.specs.Prelude.{IfOk, IfErr, OnOk, OnErr, IfSome, IfNone, IsSome, length, map, vec_capacity};
 ghost use Rattle.step_record.specs.declared.limits.TheConstants.{MAX_STRIPES};
 ghost use Rattle.step_record.specs.declared.worker.TheConstants.{MAX_WORKERS};
@@ -273,12 +273,11 @@ fn walk_in_turns<E: Engine<Step = Step, Reply = Reply> + Drop, R: Wait>(
 ) -> (Pass<Session<E>>, Result<(), Cause>)
     requires answers { AnswersItsActs E.act }
     requires walker { CanWalk E.act E.count book.now pass worker stripes }
-    ensures same { result.0.book ≡ pass.book }
-    ensures worker { result.0.worker ≡ worker }
-    ensures ok { OnOk result.1 (Made (IsWalk worker stripes call) pass.own result.0.own) }
-    ensures err { OnErr result.1 (Made (IsUnfinished (IsWalk worker stripes call)) pass.own result.0.own) }
-    ensures refused { IfErr result.1 (λ c. WasRefused c book.now.opening.kept book.now.opening.limit result.0) }
-    ensures within { OnOk result.1 (IsWithin book.now.opening.limit result.0) }
+    ensures same { (result.0.book ≡ pass.book) × (result.0.worker ≡ worker) }
+    ensures ok { OnOk result.1 (Made (IsWalk worker stripes call) pass.own result.0.own
+        × IsWithin book.now.opening.limit result.0) }
+    ensures err { IfErr result.1 (λ c. Made (IsUnfinished (IsWalk worker stripes call)) pass.own result.0.own
+        × WasRefused c book.now.opening.kept book.now.opening.limit result.0) }
 {
     let mut next = next_step(Local::start(worker, stripes, call), None);
     for _ in rt.forever() {
@@ -310,13 +309,11 @@ fn turn<E: Engine<Step = Step, Reply = Reply> + Drop, R: Wait>(
         (data_after E.act book.now.opening.opening book.now.opening.kept) pass.own step }
     requires within { IsWithin book.now.opening.limit pass }
     requires turns { book.now.opening.limit ≤ book.now.turns }
-    ensures same { result.0.book ≡ pass.book }
-    ensures worker { result.0.worker ≡ pass.worker }
-    ensures own { MatchResult result.1 (λ r. result.0.own ≡ pass.own ++ record { step = step; reply = r } ∷ [])
-        (λ _. result.0.own ≡ pass.own) }
-    ensures answer { IfOk result.1 (λ r. is_answer step.act r ≡ true) }
-    ensures refused { IfErr result.1 (λ c. WasRefused c book.now.opening.kept book.now.opening.limit result.0) }
-    ensures within { OnOk result.1 (IsWithin book.now.opening.limit result.0) }
+    ensures same { (result.0.book ≡ pass.book) × (result.0.worker ≡ pass.worker) }
+    ensures ok { IfOk result.1 (λ r. (result.0.own ≡ pass.own ++ record { step = step; reply = r } ∷ [])
+        × (is_answer step.act r ≡ true) × IsWithin book.now.opening.limit result.0) }
+    ensures err { IfErr result.1 (λ c. (result.0.own ≡ pass.own)
+        × WasRefused c book.now.opening.kept book.now.opening.limit result.0) }
 {
     match book.take(rt, pass) {
         Ok(mut turn) => match turn.value().step(step) {

@@ -3,7 +3,7 @@ use Rattle.std.proofs.Common.{refl, sym, subst, ◌∙◌, arith}
 use Rattle.walks.specs.AdmittedSteps.{MayMake}
 use Rattle.walks.proofs.Coming.{may_make}
 use Rattle.walks.proofs.Walking.{nothing, stopped, stepped, over, known, asks_same, asked_of, Completes}
-use Rattle.workers.proofs.Turning.{at_ok, at_err, on_ok_at}
+use Rattle.workers.proofs.Turning.{if_ok_at, if_err_at}
 use Rattle.workers.proofs.run.walk_in_turns.Goals as goal
 
 pub loop-init : goal.loop-init
@@ -19,26 +19,30 @@ loop-init g c = record {
 
 pub returns-in_default-clause-ok : goal.returns-in_default-clause-ok
 returns-in_default-clause-ok g c =
-    known _ _ _ _ (over c.args.worker c.args.stripes c.args.call c.loop.next c.in_default.is) c.loop.invariant.made
+    (known _ _ _ _ (over c.args.worker c.args.stripes c.args.call c.loop.next c.in_default.is) c.loop.invariant.made, c.loop.invariant.within)
 
 pub loop-preserved : goal.loop-preserved
 loop-preserved g c =
     let asked = asked_of c.args.worker c.args.stripes c.args.call c.loop.next c.in-Do.act c.in-Do.local c.in-Do.is c.loop.invariant.asks in
+    let step = if_ok_at _ _ _ c.in-Ok.is c.turn-given.ensures.ok in
     record {
       can = tt;
       finite = tt;
-      same = c.turn-given.ensures.same ∙ c.loop.invariant.same;
-      worker = c.turn-given.ensures.worker ∙ c.loop.invariant.worker;
-      within = on_ok_at _ _ _ c.in-Ok.is c.turn-given.ensures.within;
+      same = c.turn-given.ensures.same.0 ∙ c.loop.invariant.same;
+      worker = c.turn-given.ensures.same.1 ∙ c.loop.invariant.worker;
+      within = step.2;
       made = stepped c.args.worker c.args.stripes c.args.call c.loop.next c.next_step-next-in-Ok.result c.in-Do.act c.in-Do.local c.in-Ok.reply c.in-Do.is c.loop.invariant.asks
-          (λ rest left. (c.next_step-next-in-Ok.ensures.left rest).1 left) _ _ _ (at_ok _ _ _ _ c.in-Ok.is c.turn-given.ensures.own)
+          (λ rest left. (c.next_step-next-in-Ok.ensures.left rest).1 left) _ _ _ step.0
           c.loop.invariant.made;
       asks = asks_same c.args.worker c.args.stripes c.args.call _ _ c.next_step-next-in-Ok.result asked.1 asked.2 c.next_step-next-in-Ok.ensures.asks;
     }
 
 pub returns-in-Err-clause-err : goal.returns-in-Err-clause-err
 returns-in-Err-clause-err g c =
-    stopped c.args.worker c.args.stripes c.args.call _ _ _ c.in-Do.is c.in-Do.local.placed _ _ _ (at_err _ _ _ _ c.in-Err.is c.turn-given.ensures.own) c.loop.invariant.made
+    let refused = if_err_at _ _ _ c.in-Err.is c.turn-given.ensures.err in (
+      stopped c.args.worker c.args.stripes c.args.call _ _ _ c.in-Do.is c.in-Do.local.placed _ _ _ refused.0 c.loop.invariant.made,
+      refused.1,
+    )
 
 pub turn-given-requires-clause-takes : goal.turn-given-requires-clause-takes
 turn-given-requires-clause-takes g c = λ es legal own below.
@@ -46,7 +50,7 @@ turn-given-requires-clause-takes g c = λ es legal own below.
     (may_make c.args.worker c.args.stripes c.args.call c.requires.walker.walks.0 _ _ c.loop.next c.in-Do.act c.in-Do.local c.requires.walker.walks.1 c.loop.invariant.made c.in-Do.is c.loop.invariant.asks c.in-Do.local.placed)) below
 
 pub returns-in-Err-clause-same : goal.returns-in-Err-clause-same
-returns-in-Err-clause-same g c = grind (arith, common_steps)
+returns-in-Err-clause-same g c = (c.turn-given.ensures.same.0 ∙ c.loop.invariant.same, c.turn-given.ensures.same.1 ∙ c.loop.invariant.worker)
 
 pub turn-given-requires-clause-own : goal.turn-given-requires-clause-own
 turn-given-requires-clause-own g c = grind (arith, common_steps)

@@ -30,8 +30,8 @@ returns-clause-performed c =
     let may : may_write c.in-Some.holder.phase ≡ true = may-write c.in-Some.holder.phase (sym c.ne.ensures ∙ c.if-ne.true) in
     let held = held-is c.args.worker _ _ (sym c.held_by.ensures ∙ c.in-Some.is) in (
       rw (sym c.held_by.ensures ∙ c.in-Some.is, may)
-          (ap Some (task-applies c.args.self.now _ c.in-Some.holder _ _ _ (sym tasks ∙ oldest) c.if-holder-eq0.false c.in_ok-made.ensures.reply now)),
-      c.in_ok-made.ensures.change
+          (ap Some (task-applies c.args.self.now _ c.in-Some.holder _ _ _ (sym tasks ∙ oldest) c.if-holder-eq0.false c.in_ok-made.ensures.made.0 now)),
+      c.in_ok-made.ensures.made.1
           ∙ sym (task-changes c.args.self.now c.in-Some.holder _ _ held (sym tasks ∙ oldest) c.if-holder-eq0.false),
     )
 
