@@ -49,7 +49,7 @@ impl<'b, S: FedTrace, W: Wait> Follower for Feeder<'b, S, W> {
 
     fn follow(&mut self, keys: &mut Vec<Key>) {
         let rounds = self.rounds(keys.len());
-        if !self.is_open || rounds == 0 {
+        if rounds == 0 {
             return;
         }
         match take_front(self.alloc, keys, rounds * self.size.accesses) {
@@ -116,7 +116,7 @@ impl<'b, S: FedTrace, W: Wait> Feeder<'b, S, W> {
         let waiting = self.sent.saturating_sub(self.finished.load(Relaxed));
         let is_behind = waiting.saturating_mul(size as u64) > LONG_LUMP as u64;
         let least = if is_behind { LONG_LUMP } else { MIN_LUMP };
-        if read <= least {
+        if !self.is_open || read <= least {
             return 0;
         }
         (read - 1) / size

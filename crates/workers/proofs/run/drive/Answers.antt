@@ -1,3 +1,4 @@
+use Rattle.std.proofs.lemmas.Grind.{common_steps, elements}
 use Rattle.std.proofs.Common.{rules, arith, ◌≤◌, map, vec_items, sym, ap, subst, ◌∙◌}
 use Rattle.std.proofs.lemmas.List.{length-map}
 use Rattle.step_record.specs.declared.worker.TheConstants.{MAX_WORKERS}
@@ -38,3 +39,18 @@ returns-clause-fault g c = (
   subst (λ o. IsRunUpTo o c.args.session.engine.config.stripes (map (λ p. vec_items p) c.args.pieces.items) c.args.session c.in-Ok.session) c.in-Some-cause.is (run-of g (goal.at.returns-clause-fault g c).In-Ok),
   c.len-earlier.ensures.len,
 )
+
+pub returns-in-Err-clause-fault : goal.returns-in-Err-clause-fault
+returns-in-Err-clause-fault g c = (c.in-Err.ensures.err, can-run g (goal.at.returns-in-Err-clause-fault g c).After-as_slice)
+
+pub returns-in-Some-clause-fault : goal.returns-in-Some-clause-fault
+returns-in-Some-clause-fault g c = grind (arith, elements)
+
+pub returns-then-workers-eq0-clause-fault : goal.returns-then-workers-eq0-clause-fault
+returns-then-workers-eq0-clause-fault g c = grind (arith, common_steps)
+
+pub run_workers-requires : goal.run_workers-requires
+run_workers-requires g c =
+    let can : CanRun (map (λ p. vec_items p) c.as_slice.result.now) c.args.session.engine =
+    subst (λ ps. CanRun (map (λ p. vec_items p) ps) c.args.session.engine) (sym c.as_slice.ensures.value) (can-run g (goal.at.run_workers-requires g c).After-as_slice) in
+    search rules
