@@ -10,7 +10,7 @@ ghost use Rattle.debug_policies.specs.Comparison.{compared_on, compared_up_to, c
 ghost use Rattle.debug_policies.specs.Comparison.{IsUpTo, no_counts};
 ghost use Rattle.debug_policies.specs.Part.{IsNoted, IsPrepared};
 
-use crate::divergence::{STRETCH, note_hits, open_both};
+use crate::divergence::{First, STRETCH, Second, note_hits, open_both};
 use debug_commands::{push_counts_line, push_pieces};
 use policies::{ActorFault, AnyPolicy, check_jobs};
 use std::alloc::{AllocError, Global};
@@ -143,8 +143,8 @@ fn count_in_both(
     let mut start = 0;
     'stretches: while start < len {
         let end = len.min(start + STRETCH);
-        note_hits(one, trace, start, end, &mut noted)?;
-        note_hits(other, trace, start, end, &mut others)?;
+        note_hits::<First>(one, trace, start, end, &mut noted)?;
+        note_hits::<Second>(other, trace, start, end, &mut others)?;
         count_hits(&noted, &others, start, end, &mut counts);
         start = end;
     }

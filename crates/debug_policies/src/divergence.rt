@@ -94,8 +94,10 @@ pub fn hits(outcome: Outcome) -> bool
     matches!(outcome, Outcome::Hit)
 }
 
-// The caller in a cache's loop.
-struct Noting;
+/// The caller in the first cache's loop, and that in the second's: each loop has code of its own.
+pub struct First;
+
+pub struct Second;
 
 // Opens the caches of both jobs, and walks.
 fn walk<G: Gate>(
@@ -138,8 +140,8 @@ fn walk_both<G: Gate>(
         let number = (start / STRETCH) as u64;
         let end = len.min(start + STRETCH);
         gate.before(0, number);
-        note_hits(one, trace, start, end, &mut noted)?;
-        note_hits(other, trace, start, end, &mut others)?;
+        note_hits::<First>(one, trace, start, end, &mut noted)?;
+        note_hits::<Second>(other, trace, start, end, &mut others)?;
         match compare_hits(&noted, &others, start, end) {
             Some(place) => return Ok(Some(place as u64 + 1)),
             None => start = end,
@@ -150,7 +152,7 @@ fn walk_both<G: Gate>(
 }
 
 /// Makes the accesses from one place of the trace up to another, and notes which of them hit. The one error is out of memory.
-pub fn note_hits(
+pub fn note_hits<C>(
     cache: &mut AnyPolicy,
     trace: &Trace,
     start: usize,
@@ -168,7 +170,7 @@ pub fn note_hits(
     ensures room { length noted.new ≡ length noted.old }
 {
     for i in start..end {
-        let hit = hit_at(cache, trace, i)?;
+        let hit = hit_at::<C>(cache, trace, i)?;
         noted[i - start] = hit;
     }
     Ok(())
@@ -195,7 +197,7 @@ fn compare_hits(noted: &[bool], others: &[bool], start: usize, end: usize) -> Op
 // Makes the access at a place, counted from 0, in a cache that made those before it, and says whether it hit. The one
 // error is out of memory.
 #[inline(always)]
-fn hit_at(cache: &mut AnyPolicy, trace: &Trace, i: usize) -> Result<bool, AllocError>
+fn hit_at<C>(cache: &mut AnyPolicy, trace: &Trace, i: usize) -> Result<bool, AllocError>
     requires below { i < length trace.now }
     requires stands { IsPrepared trace.now i cache.old }
     ensures stands { (j : Job) → HasAccessed j trace.now (take i trace.now) cache.old
@@ -208,17 +210,17 @@ fn hit_at(cache: &mut AnyPolicy, trace: &Trace, i: usize) -> Result<bool, AllocE
     theorems::any_answers();
     let keys = trace.keys();
     cache.prefetch_at(keys, i);
-    let outcome = access(cache, keys[i])?;
+    let outcome = access::<C>(cache, keys[i])?;
     Ok(hits(outcome))
 }
 
 // Makes an access that the cache accepts. The one error is out of memory.
 #[inline(always)]
-fn access(cache: &mut AnyPolicy, key: Key) -> Result<Outcome, AllocError>
+fn access<C>(cache: &mut AnyPolicy, key: Key) -> Result<Outcome, AllocError>
     requires { any_act cache.old key ≢ None }
     ensures { IfOk result (λ o. any_act cache.old key ≡ Some (o, cache.new)) }
 {
-    match cache.access::<Noting>(key) {
+    match cache.access::<C>(key) {
         Ok(outcome) => Ok(outcome),
         Err(StepFault::OutOfMemory) => Err(AllocError),
         Err(StepFault::NotNow) => unreachable!(),

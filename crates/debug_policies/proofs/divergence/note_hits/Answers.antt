@@ -5,10 +5,10 @@ use Rattle.debug_policies.proofs.Walked.{noted-more}
 use Rattle.debug_policies.proofs.divergence.note_hits.Goals as goal
 
 pub hit_at-requires-clause-stands : goal.hit_at-requires-clause-stands
-hit_at-requires-clause-stands c = (let some = c.requires.stands in record { job = some.job; stands = c.loop-i.invariant.0 some.job some.stands })
+hit_at-requires-clause-stands g c = (let some = c.requires.stands in record { job = some.job; stands = c.loop-i.invariant.0 some.job some.stands })
 
 pub loop-i-preserved : goal.loop-i-preserved
-loop-i-preserved c =
+loop-i-preserved g c =
     let i = c.loop-i.i in
     let hit = c.in_ok-hit.hit in
     let from : c.args.start ≤ i = omega (arith, c.loop-i.auto.i) in
@@ -21,6 +21,6 @@ loop-i-preserved c =
     )
 
 pub returns-clause-stands : goal.returns-clause-stands
-returns-clause-stands c = λ j s.
+returns-clause-stands g c = λ j s.
     let all : c.loop-i.i ≡ c.args.end = omega (arith, c.requires.order, c.loop-i.auto.i, c.loop-i-test.false) in
     subst (λ (n : ℕ). HasAccessed j c.args.trace.now (take n c.args.trace.now) c.loop-i.cache) all (c.loop-i.invariant.0 j s)

@@ -5,7 +5,7 @@ use Rattle.debug_policies.specs.Part.{IsNoted}
 use Rattle.debug_policies.proofs.divergence.note_hits.Given as goal
 
 abbrev pub invariant-loop-i : goal.invariant-loop-i
-invariant-loop-i l =
+invariant-loop-i g l =
     ((j : Job) → HasAccessed j l.trace (take l.start l.trace) l.initial.cache → HasAccessed j l.trace (take l.i l.trace) l.cache)
     × ((j : Job) → HasAccessed j l.trace (take l.start l.trace) l.initial.cache → IsNoted l.noted (outcomes_on j l.trace) l.start l.i)
     × (length l.noted ≡ length l.initial.noted)
