@@ -7,7 +7,7 @@ use Rattle.step_record.specs.declared.config.Config.{Config}
 use Rattle.step_record.specs.declared.item.Item.{Item}
 use Rattle.step_record.specs.declared.job.Job.{Job}
 use Rattle.step_record.specs.declared.job.Policy.{Policy}
-use Rattle.step_record.specs.declared.job.Policy.TheVariants.{Lru, SegmentedLru, TinyLfuLru, TinyLfuSegmented, WindowTinyLfu, Clairvoyant}
+use Rattle.step_record.specs.declared.job.Policy.TheVariants.{Lru, WindowTinyLfu}
 use Rattle.step_record.specs.Keys.{has_key}
 use Rattle.step_record.specs.Stats.{one_if}
 use Rattle.segments.specs.Items.{is_same_item, occurrences}
@@ -47,20 +47,12 @@ next-balanced f k d s =
     }
 
 empty-fits : (p : Policy) (c : Config) → FitsBy (rules_in (design_of p) c).placement (rules_in (design_of p) c) empty_queues
-empty-fits Lru c = omega arith
-empty-fits SegmentedLru c = omega arith
-empty-fits TinyLfuLru c = omega arith
-empty-fits TinyLfuSegmented c = omega arith
 empty-fits WindowTinyLfu c = (omega arith, omega arith)
-empty-fits Clairvoyant c = omega arith
+empty-fits _ c = omega arith
 
 own-capacity : (p : Policy) (c : Config) → (rules_in (design_of p) c).capacity ≡ c.capacity
 own-capacity Lru c = refl
-own-capacity SegmentedLru c = refl
-own-capacity TinyLfuLru c = refl
-own-capacity TinyLfuSegmented c = refl
-own-capacity WindowTinyLfu c = refl
-own-capacity Clairvoyant c = refl
+own-capacity _ c = refl
 
 empty-balanced : (j : Job) → IsBalancedCache (empty_queue_state j)
 empty-balanced j = record { once = λ i. omega arith; nodeless = λ i h. absurd (omega (arith, h)); sizes = empty-fits j.policy j.config; counted = refl }

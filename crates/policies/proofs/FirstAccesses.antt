@@ -1,17 +1,21 @@
 -- What a cache has counted of the first accesses of a trace.
 use Rattle.std.proofs.Common.{◌≡◌, ◌∙◌, ◌≤◌, ℕ, zero, suc, List, [], ◌∷◌, ◌++◌, inl, inr, length, take, refl, ap, subst, sym, arith}
-use Rattle.std.proofs.lemmas.Bool.{cases_lt, cond-false, cond-true}
+use Rattle.std.proofs.lemmas.Bool.{cases_lt}
 use Rattle.std.proofs.lemmas.List.{take_all, take-append-le, length-take-le}
 use Rattle.step_record.specs.declared.job.Job.{Job}
 use Rattle.step_record.specs.Stats.{stats_of}
 use Rattle.clairvoyant.specs.Belady.{belady_outcomes, belady_outcome}
 use Rattle.clairvoyant.specs.Clairvoyant.{ClairvoyantState}
 use Rattle.policies.specs.declared.any_policy.AnyPolicy.{AnyPolicy}
-use Rattle.policies.specs.declared.any_policy.AnyPolicy.TheVariants.{Queues, Optimal}
+use Rattle.policies.specs.declared.any_policy.AnyPolicy.TheVariants.{Queues, Optimal, Demand}
 use Rattle.policies.specs.AnyPolicy.{stats_in, stats_on, outcomes_on, HasAccessed}
 use Rattle.policies.specs.QueueCache.{QueueState, queue_state_after, frequency_after, empty_queue_state, outcomes_after, outcomes_from, access_response}
 use Rattle.policies.proofs.Answered.{outcomes-length}
-use Rattle.policies.proofs.StepLaws.{any_covers_trace, any_reports}
+use Rattle.demand_cache.specs.DemandQueues.{queues_act, empty_queues}
+use Rattle.policies.specs.AnyPolicy.{outcomes_by}
+use Rattle.policies.specs.Design.{design_of}
+use Rattle.policies.proofs.Demand.{outcomes-first}
+use Rattle.policies.proofs.StepLaws.{any_covers_trace, any_reports, outcomes-of-queues, outcomes-of-optimal}
 use Rattle.policies.proofs.Counting.{after-counts}
 
 from_first : (j : Job) (past : List ℕ) (d : QueueState) (n : ℕ) (keys : List ℕ) → outcomes_from j past d (take n keys) ≡ take n (outcomes_from j past d keys)
@@ -42,12 +46,15 @@ within_trace : (j : Job) (trace : List ℕ) (n : ℕ) (d : AnyPolicy) → n ≤ 
 within_trace j trace n (Queues d) le s =
     ap (λ (x : QueueState). x.stats) s.1.gives
     ∙ (after-counts j (take n trace) ∙ ap stats_of (queues_first j n trace))
-    ∙ ap (λ os. stats_of (take n os)) (sym (cond-false _ _ _ s.0))
+    ∙ ap (λ os. stats_of (take n os)) (sym (outcomes-of-queues (design_of j.policy) j trace s.0))
 within_trace j trace n (Optimal d) le s =
     ap (λ (x : ClairvoyantState). x.stats) s.gives
     ∙ ap (λ k. stats_of (belady_outcomes j.config.capacity trace k)) (length-take-le n trace le)
     ∙ ap stats_of (optimal_first j.config.capacity trace n (length trace) le)
-    ∙ ap (λ os. stats_of (take n os)) (sym (cond-true _ _ _ s.policy))
+    ∙ ap (λ os. stats_of (take n os)) (sym (outcomes-of-optimal (design_of j.policy) j trace s.policy))
+within_trace j trace n (Demand d) le s =
+    s.stats ∙ ap stats_of (outcomes-first queues_act (empty_queues s.policy j.config.capacity) n trace)
+    ∙ ap (λ z. stats_of (take n (outcomes_by z j trace))) (sym s.design)
 
 -- a cache that made the first accesses has counted their outcomes, of which there may be fewer
 pub first-counts : (j : Job) (trace : List ℕ) (n : ℕ) (d : AnyPolicy) → HasAccessed j trace (take n trace) d

@@ -1,17 +1,26 @@
 -- How many keys are resident in a cache of any policy.
-use Rattle.std.proofs.Common.{◌≡◌, ℕ, zero, suc, ◌+◌, ◌≤◌, eqb, nat_lt, ◌==◌, Option, Some, None, List, length, get_or, ap, ◌∙◌, sym, refl, subst, arith, inl, inr}
+use Rattle.std.proofs.Common.{◌≡◌, ℕ, zero, suc, ◌+◌, ◌≤◌, eqb, true, nat_lt, ◌==◌, Option, Some, None, List, length, get_or, ap, ◌∙◌, sym, refl, subst, arith, inl, inr}
 use Rattle.std.specs.List.{count_by}
 use Rattle.std.proofs.lemmas.Bool.{cases_Bool}
 use Rattle.step_record.specs.declared.limits.TheConstants.{MAX_STEPS}
 use Rattle.step_record.specs.declared.outcome.Outcome.{Outcome}
 use Rattle.clairvoyant.specs.Clairvoyant.{ClairvoyantState, is_next, clairvoyant_after, clairvoyant_act}
 use Rattle.policies.specs.QueueStep.{recorded_in, queue_act}
-use Rattle.policies.specs.AnyPolicy.{any_residents, outcomes_on, stats_on}
-use Rattle.policies.specs.Design.{knows_trace}
+use Rattle.policies.specs.AnyPolicy.{any_residents, outcomes_by, outcomes_on, stats_on, demand_outcomes}
+use Rattle.policies.specs.declared.design.Design.{Design}
+use Rattle.policies.specs.declared.design.Design.TheVariants as design
+use Rattle.policies.specs.Design.{design_of, is_demand}
+use Rattle.demand_cache.specs.declared.demand_queues.DemandPolicy.{DemandPolicy}
+use Rattle.demand_cache.specs.DemandCache.{demand_act, state_with}
+use Rattle.demand_cache.specs.DemandQueues.{queues_act, queues_residents, empty_queues, IsQueues}
+use Rattle.demand_cache.specs.Theorems.{DemandKeeps}
+use Rattle.queue_policies.specs.Residents.{KeepsResidents, state_after_all}
+use Rattle.queue_policies.proofs.Residents.{counts-residents}
+use Rattle.policies.proofs.Demand.{IsDemandAccess, demand-access, demand-holds, demand-is-access, demand-counted, demand-came-from, times-by, kept-after}
 use Rattle.policies.specs.Theorems.{AnyCoversTrace}
 use Rattle.policies.proofs.Counting.{after-counts, hits-misses}
 use Rattle.step_record.specs.declared.job.Job.{Job}
-use Rattle.policies.specs.AnyCounts.{IsQueueStep, IsOptimalStep, queue_step, optimal_step}
+use Rattle.policies.specs.AnyCounts.{IsQueueStep, IsOptimalStep, IsDemandStep, queue_step, optimal_step, demand_step}
 use Rattle.step_record.specs.Keys.{has_key, keys_without}
 use Rattle.step_record.specs.Stats.{is_hit, is_miss, is_eviction, one_if, stats_of}
 use Rattle.step_record.specs.declared.stats.Stats.{Stats}
@@ -22,16 +31,17 @@ use Rattle.clairvoyant.proofs.Belady.{residents-ascending, full-length, served-h
 use Rattle.clairvoyant.proofs.Listing.{one-few, times-sum, times-has}
 use Rattle.clairvoyant.proofs.Keys.{length-put}
 use Rattle.policies.specs.QueueCache.{QueueState, residents_in, access_response, queue_state_after, state_after}
-use Rattle.policies.specs.declared.any_policy.AnyPolicy.TheVariants.{Queues, Optimal}
+use Rattle.policies.specs.declared.any_policy.AnyPolicy.TheVariants.{Queues, Optimal, Demand}
 use Rattle.policies.specs.Residents.{StatsAddUp, MissesFit, ResidentsFit, ResidentsDistinct, ResidentsCounted, HitsAreResidents, FetchesOnDemand}
 use Rattle.policies.proofs.Balance.{IsBalancedCache, step-balanced, after-balanced, residents-length, residents-fit, resident-queued, came-from, resident-once}
 
-pub residents_fit : ResidentsFit
-residents_fit j trace keys (Queues d) s =
+pub residents_fit : DemandKeeps → ResidentsFit
+residents_fit law j trace keys (Queues d) s =
     subst (λ (x : QueueState). length (residents_in x.queues) ≤ j.config.capacity) (sym s.1.gives) (residents-fit j keys)
-residents_fit j trace keys (Optimal d) s =
+residents_fit law j trace keys (Optimal d) s =
     subst (λ (x : ClairvoyantState). length x.residents ≤ j.config.capacity) (sym s.gives)
     (belady-residents-fit j.config.capacity trace (length keys))
+residents_fit law j trace keys (Demand d) s = (demand-holds law j keys d s).fits
 
 one-in : (c : ℕ) (t : List ℕ) (i k : ℕ) (r : List ℕ) → IsAscendingKeys r → length (belady_residents_after c t i k r) + one_if (is_eviction (belady_answer c t i k r)) ≡ length r + one_if (is_miss (belady_answer c t i k r))
 one-in c t i k r s =
@@ -60,10 +70,11 @@ belady-counted c t (suc i) =
 queues-counted : (d : QueueState) → IsBalancedCache d → length (residents_in d.queues) + d.stats.evictions ≡ d.stats.misses
 queues-counted d s = let counted = s.counted in omega (arith, counted, residents-length d.queues)
 
-pub residents_counted : ResidentsCounted
-residents_counted j trace keys (Queues d) s = queues-counted d (subst IsBalancedCache (sym s.1.gives) (after-balanced j keys))
-residents_counted j trace keys (Optimal d) s =
+pub residents_counted : DemandKeeps → ResidentsCounted
+residents_counted law j trace keys (Queues d) s = queues-counted d (subst IsBalancedCache (sym s.1.gives) (after-balanced j keys))
+residents_counted law j trace keys (Optimal d) s =
     subst (λ (x : ClairvoyantState). length x.residents + x.stats.evictions ≡ x.stats.misses) (sym s.gives) (belady-counted j.config.capacity trace (length keys))
+residents_counted law j trace keys (Demand d) s = demand-counted law j keys d s
 
 -- ---- the statistics of a job over a trace
 
@@ -80,25 +91,39 @@ queues-fit j trace =
 optimal-fit : (c : ℕ) (t : List ℕ) (i : ℕ) → (stats_of (belady_outcomes c t i)).misses ≤ (stats_of (belady_outcomes c t i)).evictions + c
 optimal-fit c t i = let counted = belady-counted c t i in let few = belady-residents-fit c t i in omega (arith, counted, few)
 
-pub misses_fit : MissesFit
+demand-fit : DemandKeeps → (p : DemandPolicy) (c : ℕ) (t : List ℕ) → 1 ≤ c
+    → (stats_of (demand_outcomes p c t)).misses ≤ (stats_of (demand_outcomes p c t)).evictions + c
+demand-fit law p c t h =
+    let all : KeepsResidents c (empty_queues p c) queues_act queues_residents (IsQueues c) = law p c h in
+    let sum = counts-residents c (empty_queues p c) queues_act queues_residents (IsQueues c) all t in
+    let state = state_after_all queues_act (empty_queues p c) t in
+    let few = (all.holds state (kept-after c (empty_queues p c) queues_act queues_residents (IsQueues c) all t)).fits in
+    omega (arith, sum, few)
+
+fit-by : DemandKeeps → (x : Design) (j : Job) (trace : List ℕ) → (is_demand x ≡ true → 1 ≤ j.config.capacity)
+    → (stats_of (outcomes_by x j trace)).misses ≤ (stats_of (outcomes_by x j trace)).evictions + j.config.capacity
+fit-by law (design.Queues q) j trace h = subst (λ (s : Stats). s.misses ≤ s.evictions + j.config.capacity) (after-counts j trace) (queues-fit j trace)
+fit-by law design.KnowsTrace j trace h = optimal-fit j.config.capacity trace (length trace)
+fit-by law (design.Demand p) j trace h = demand-fit law p j.config.capacity trace (h refl)
+
+pub misses_fit : DemandKeeps → MissesFit
 unfolding stats_on
-misses_fit j trace =
-    elim (cases_Bool (knows_trace j.policy)) as (λ _. (stats_on j trace).misses ≤ (stats_on j trace).evictions + j.config.capacity) [
-      | inl e ↦ rw e (optimal-fit j.config.capacity trace (length trace))
-      | inr e ↦ rw e (subst (λ (s : Stats). s.misses ≤ s.evictions + j.config.capacity) (after-counts j trace) (queues-fit j trace))
-    ]
+misses_fit law j trace h = fit-by law (design_of j.policy) j trace h
 
 -- ---- no key twice
 
 ascending-once : (k : ℕ) (r : List ℕ) → IsAscendingKeys r → count_by (eqb k) r ≡ one_if (has_key k r)
 ascending-once k r s = sym (times-sum k r) ∙ times-has k r s
 
-pub residents_distinct : ResidentsDistinct
-residents_distinct j trace keys (Queues d) k s = resident-once k d (subst IsBalancedCache (sym s.1.gives) (after-balanced j keys))
-residents_distinct j trace keys (Optimal d) k s =
+pub residents_distinct : DemandKeeps → ResidentsDistinct
+residents_distinct law j trace keys (Queues d) k s = resident-once k d (subst IsBalancedCache (sym s.1.gives) (after-balanced j keys))
+residents_distinct law j trace keys (Optimal d) k s =
     let r : List ℕ = belady_residents j.config.capacity trace (length keys) in
     let once : count_by (eqb k) r ≤ 1 = omega (arith, ascending-once k r (residents-ascending j.config.capacity trace (length keys)), one-few (has_key k r)) in
     subst (λ (x : ClairvoyantState). count_by (eqb k) x.residents ≤ 1) (sym s.gives) once
+residents_distinct law j trace keys (Demand d) k s =
+    let once = (demand-holds law j keys d s).distinct k in
+    omega (arith, once, times-by k (queues_residents d.queues))
 
 -- ---- an accepted step
 
@@ -146,22 +171,30 @@ optimal-access d k o e h =
       | inr f ↦ absurd (let no : None ≡ Some (o, e) = rw f at h in cc (no))
     ]
 
-pub hits_are_residents : HitsAreResidents
-hits_are_residents j trace keys (Queues d) k o e s h =
+pub hits_are_residents : DemandKeeps → HitsAreResidents
+hits_are_residents law j trace keys (Queues d) k o e s h =
     let sound : IsBalancedCache d = subst IsBalancedCache (sym s.1.gives) (after-balanced j keys) in
     let q : IsQueueStep (queue_act d k) o e = queue_step (queue_act d k) o e h in
     ap is_hit (queue-access d k o q.next q.steps).outcome ∙ ((step-balanced (recorded_in k d.frequency) k d sound).hit ∙ sym (resident-queued k d.queues sound.nodeless))
-hits_are_residents j trace keys (Optimal d) k o e s h =
+hits_are_residents law j trace keys (Optimal d) k o e s h =
     let q : IsOptimalStep (clairvoyant_act d k) o e = optimal_step (clairvoyant_act d k) o e h in
     ap is_hit (optimal-access d k o q.next q.steps).outcome ∙ hit-resident d.capacity d.trace d.stats.accesses k d.residents
+hits_are_residents law j trace keys (Demand d) k o e s h =
+    let q : IsDemandStep (demand_act d k) o e = demand_step (demand_act d k) o e h in
+    ap is_hit (demand-access d k o q.next q.steps).outcome ∙ (demand-is-access law j keys d k s).hits
 
-pub fetches_on_demand : FetchesOnDemand
-fetches_on_demand j trace keys (Queues d) k o e x s h there =
+pub fetches_on_demand : DemandKeeps → FetchesOnDemand
+fetches_on_demand law j trace keys (Queues d) k o e x s h there =
     let sound : IsBalancedCache d = subst IsBalancedCache (sym s.1.gives) (after-balanced j keys) in
     let q : IsQueueStep (queue_act d k) o e = queue_step (queue_act d k) o e h in
     let next : e ≡ Queues (queue_state_after (recorded_in k d.frequency) k d) = q.is ∙ ap Queues (queue-access d k o q.next q.steps).next in
     came-from (recorded_in k d.frequency) k x d sound (ap (λ y. has_key x (any_residents y)) (sym next) ∙ there)
-fetches_on_demand j trace keys (Optimal d) k o e x s h there =
+fetches_on_demand law j trace keys (Optimal d) k o e x s h there =
     let q : IsOptimalStep (clairvoyant_act d k) o e = optimal_step (clairvoyant_act d k) o e h in
     let next : e ≡ Optimal (clairvoyant_after d k) = q.is ∙ ap Optimal (optimal-access d k o q.next q.steps).next in
     served-has d.capacity d.trace d.stats.accesses k x d.residents (ap (λ y. has_key x (any_residents y)) (sym next) ∙ there)
+fetches_on_demand law j trace keys (Demand d) k o e x s h there =
+    let q : IsDemandStep (demand_act d k) o e = demand_step (demand_act d k) o e h in
+    let next : e ≡ Demand (state_with d.stats (queues_act k d.queues)) = q.is ∙ ap Demand (demand-access d k o q.next q.steps).next in
+    demand-came-from j.config.capacity k x (queues_residents d.queues) (queues_act k d.queues).0 (queues_residents (queues_act k d.queues).1)
+    (demand-is-access law j keys d k s) (ap (λ y. has_key x (any_residents y)) (sym next) ∙ there)

@@ -1,7 +1,6 @@
 -- What a cache of any policy stands for.
-use Rattle.std.proofs.Common.{◌≡◌, inl, inr, ℕ, Bool, true, false, cond, suc, ◌+◌, ◌<◌, Option, Some, None, List, [], ◌∷◌, ◌++◌, length, take, get_or, ap, ◌∙◌, sym, refl, arith, subst, length-append}
+use Rattle.std.proofs.Common.{◌≡◌, inl, inr, ℕ, true, false, suc, ◌+◌, ◌<◌, Option, Some, None, List, [], ◌∷◌, ◌++◌, length, take, get_or, ap, ◌∙◌, sym, refl, arith, subst, length-append}
 use Rattle.std.proofs.lemmas.List.{take_more}
-use Rattle.std.proofs.lemmas.Bool.{cases_Bool}
 use Rattle.step_record.specs.declared.job.Job.{Job}
 use Rattle.step_record.specs.declared.outcome.Outcome.{Outcome}
 use Rattle.step_record.specs.declared.outcome.Outcome.TheVariants.{Hit}
@@ -9,17 +8,23 @@ use Rattle.step_record.specs.Stats.{stats_of}
 use Rattle.clairvoyant.specs.Belady.{belady_outcomes, belady_outcome as outcome_at}
 use Rattle.clairvoyant.specs.Theorems.{ClairvoyantStepLaw, ClairvoyantAccepts}
 use Rattle.clairvoyant.specs.Clairvoyant.{ClairvoyantState, clairvoyant_at, clairvoyant_act}
-use Rattle.policies.specs.declared.any_policy.AnyPolicy.TheVariants.{Queues, Optimal}
+use Rattle.policies.specs.declared.any_policy.AnyPolicy.TheVariants.{Queues, Optimal, Demand}
 use Rattle.policies.specs.QueueCache.{QueueState, outcomes_after}
 use Rattle.policies.specs.QueueStep.{queue_act}
-use Rattle.policies.specs.Design.{knows_trace}
-use Rattle.policies.specs.AnyPolicy.{stats_on, IsBeladyAt}
-use Rattle.policies.specs.AnyStep.{as_queues, as_optimal}
-use Rattle.policies.specs.AnyCounts.{IsQueueStep, IsOptimalStep, queue_step, optimal_step}
+use Rattle.demand_cache.specs.DemandCache.{DemandState, demand_act}
+use Rattle.demand_cache.specs.DemandQueues.{queues_act, empty_queues}
+use Rattle.demand_cache.specs.Theorems.{HitsAskNothing}
+use Rattle.policies.specs.declared.design.Design.{Design}
+use Rattle.policies.specs.declared.design.Design.TheVariants as design
+use Rattle.policies.specs.Design.{design_of, is_of_queues, is_optimal}
+use Rattle.policies.specs.AnyPolicy.{stats_on, outcomes_by, IsBeladyAt, IsDemandAfter}
+use Rattle.policies.specs.AnyStep.{as_queues, as_optimal, as_demand}
+use Rattle.policies.specs.AnyCounts.{IsQueueStep, IsOptimalStep, IsDemandStep, queue_step, optimal_step, demand_step}
 use Rattle.policies.specs.Theorems.{AnyStepLaw, AnyAccepts, AnyIsOne, AnyReports, AnyAnswers, AnyCoversTrace, AnyHitsKeepAll}
 use Rattle.policies.proofs.Leaving.{hits_keep_all}
 use Rattle.policies.proofs.Counting.{after-counts}
 use Rattle.policies.proofs.Answered.{after-answers, after-length, at-answers, outcomes-length}
+use Rattle.policies.proofs.Demand.{IsDemandAccess, demand-access, demand_stands, demand-refused, demand-accesses, demand-one, outcomes-long, outcomes-at}
 use Rattle.policies.proofs.Reached.{act_stands, act_accepts, stands-accesses}
 
 -- a cache that knows the trace, at its place
@@ -67,6 +72,9 @@ any_step_law law j trace keys (Queues d) k o e s h =
 any_step_law law j trace keys (Optimal d) k o e s h =
     let q : IsOptimalStep (clairvoyant_act d k) o e = optimal_step (clairvoyant_act d k) o e h in
     rw q.is (optimal_stands law j trace keys d k o q.next s q.steps)
+any_step_law law j trace keys (Demand d) k o e s h =
+    let q : IsDemandStep (demand_act d k) o e = demand_step (demand_act d k) o e h in
+    rw q.is (demand_stands j keys d k o q.next s q.steps)
 
 at-length : (keys rest : List ℕ) (k : ℕ) → get_or (keys ++ k ∷ rest) (length keys) 0 ≡ k
 at-length [] rest k = refl
@@ -79,6 +87,10 @@ no-queues (Some p) h = absurd (cc (h))
 no-optimal : (x : Option (Outcome × ClairvoyantState)) → as_optimal x ≡ None → x ≡ None
 no-optimal None h = refl
 no-optimal (Some p) h = absurd (cc (h))
+
+no-demand : (x : Option (Outcome × DemandState)) → as_demand x ≡ None → x ≡ None
+no-demand None h = refl
+no-demand (Some p) h = absurd (cc (h))
 
 pub any_accepts : ClairvoyantAccepts → AnyAccepts
 any_accepts law j trace keys rest k (Queues d) t few s h =
@@ -96,39 +108,68 @@ any_accepts law j trace keys rest k (Optimal d) t few s h =
     let none : clairvoyant_act d k ≡ None = no-optimal (clairvoyant_act d k) h in
     law d (omega (arith, l, long, place)) (omega (arith, long, few)) (subst (λ x. clairvoyant_act d x ≡ None) (sym key) none)
 
+any_accepts law j trace keys rest k (Demand d) t few s h =
+    let n : d.stats.accesses ≡ length keys = demand-accesses j keys d s in
+    let e : d.stats.accesses ≡ 4294967296 = demand-refused d k (no-demand (demand_act d k) h) in
+    let l : length trace ≡ length keys + length (k ∷ rest) = ap length t ∙ length-append keys (k ∷ rest) in
+    omega (arith, n, e, l, few)
+
+-- no design is of queues and knows the trace
+apart-kinds : (x : Design) → is_of_queues x ≡ true → is_optimal x ≡ true → ⊥
+apart-kinds (design.Queues q) a b = cc (b)
+apart-kinds design.KnowsTrace a b = cc (a)
+apart-kinds (design.Demand p) a b = cc (a)
+
 pub any_one : AnyIsOne
 any_one j trace keys (Queues d) (Queues e) a b = ap Queues (a.1.gives ∙ sym b.1.gives)
-any_one j trace keys (Queues d) (Optimal e) a b = absurd (let no : false ≡ true = sym a.0 ∙ b.policy in cc (no))
-any_one j trace keys (Optimal d) (Queues e) a b = absurd (let no : false ≡ true = sym b.0 ∙ a.policy in cc (no))
+any_one j trace keys (Queues d) (Optimal e) a b = absurd (apart-kinds (design_of j.policy) a.0 b.policy)
+any_one j trace keys (Queues d) (Demand e) a b = absurd (let no : false ≡ true = ap is_of_queues (sym b.design) ∙ a.0 in cc (no))
+any_one j trace keys (Optimal d) (Queues e) a b = absurd (apart-kinds (design_of j.policy) b.0 a.policy)
+any_one j trace keys (Optimal d) (Demand e) a b = absurd (let no : false ≡ true = ap is_optimal (sym b.design) ∙ a.policy in cc (no))
+any_one j trace keys (Demand d) (Queues e) a b = absurd (let no : false ≡ true = ap is_of_queues (sym a.design) ∙ b.0 in cc (no))
+any_one j trace keys (Demand d) (Optimal e) a b = absurd (let no : false ≡ true = ap is_optimal (sym a.design) ∙ b.policy in cc (no))
+any_one j trace keys (Demand d) (Demand e) a b = ap Demand (demand-one j keys d e a b)
 any_one j trace keys (Optimal d) (Optimal e) a b = ap Optimal (a.gives ∙ sym b.gives)
 
 -- the statistics after the whole trace
 
-outcomes-by : Bool → Job → List ℕ → List Outcome
-outcomes-by b j trace = cond b (belady_outcomes j.config.capacity trace (length trace)) (outcomes_after j trace)
+pub outcomes-of-queues : (x : Design) (j : Job) (trace : List ℕ) → is_of_queues x ≡ true → outcomes_by x j trace ≡ outcomes_after j trace
+outcomes-of-queues (design.Queues q) j trace h = refl
+outcomes-of-queues design.KnowsTrace j trace h = absurd (cc (h))
+outcomes-of-queues (design.Demand p) j trace h = absurd (cc (h))
+
+pub outcomes-of-optimal : (x : Design) (j : Job) (trace : List ℕ) → is_optimal x ≡ true
+    → outcomes_by x j trace ≡ belady_outcomes j.config.capacity trace (length trace)
+outcomes-of-optimal (design.Queues q) j trace h = absurd (cc (h))
+outcomes-of-optimal design.KnowsTrace j trace h = refl
+outcomes-of-optimal (design.Demand p) j trace h = absurd (cc (h))
 
 pub any_reports : AnyReports
-unfolding stats_on outcomes-by
+unfolding stats_on
 any_reports j trace (Queues d) s =
     ap (λ (x : QueueState). x.stats) s.1.gives
-    ∙ (after-counts j trace ∙ ap (λ (b : Bool). stats_of (outcomes-by b j trace)) (sym s.0))
+    ∙ (after-counts j trace ∙ ap stats_of (sym (outcomes-of-queues (design_of j.policy) j trace s.0)))
 any_reports j trace (Optimal d) s =
     ap (λ (x : ClairvoyantState). x.stats) s.gives
-    ∙ ap (λ (b : Bool). stats_of (outcomes-by b j trace)) (sym s.policy)
+    ∙ ap stats_of (sym (outcomes-of-optimal (design_of j.policy) j trace s.policy))
+any_reports j trace (Demand d) s = s.stats ∙ ap (λ x. stats_of (outcomes_by x j trace)) (sym s.design)
 
 -- the outcomes over the whole trace
 
+covers-by : (x : Design) (j : Job) (trace : List ℕ) → length (outcomes_by x j trace) ≡ length trace
+covers-by (design.Queues q) j trace = after-length j trace
+covers-by design.KnowsTrace j trace = outcomes-length j.config.capacity trace (length trace)
+covers-by (design.Demand p) j trace = outcomes-long queues_act (empty_queues p j.config.capacity) trace
+
 pub any_covers_trace : AnyCoversTrace
-any_covers_trace j trace =
-    elim (cases_Bool (knows_trace j.policy)) [
-      | inl f ↦ rw f (outcomes-length j.config.capacity trace (length trace))
-      | inr f ↦ rw f (after-length j trace)
-    ]
+any_covers_trace j trace = covers-by (design_of j.policy) j trace
 
 pub any_answers : ClairvoyantStepLaw → AnyAnswers
 any_answers law j trace keys rest k (Queues d) o e x t s h =
     let q : IsQueueStep (queue_act d k) o e = queue_step (queue_act d k) o e h in
-    rw (s.0, t) ((act_stands j keys d k o q.next s.1 q.steps).0 ∙ sym (after-answers j keys rest k x))
+    (act_stands j keys d k o q.next s.1 q.steps).0 ∙ sym (after-answers j keys rest k x)
+    ∙ ap (λ l. get_or (outcomes_after j l) (length keys) x) (sym t)
+    ∙ ap (λ os. get_or os (length keys) x) (sym (outcomes-of-queues (design_of j.policy) j trace s.0))
 any_answers law j trace keys rest k (Optimal d) o e x t s h =
     let q : IsOptimalStep (clairvoyant_act d k) o e = optimal_step (clairvoyant_act d k) o e h in
     let p : IsAtPlace j trace keys d = at_place j trace keys d s in
@@ -136,12 +177,24 @@ any_answers law j trace keys rest k (Optimal d) o e x t s h =
     let here : o ≡ outcome_at d.capacity d.trace d.stats.accesses = (law d k o q.next p.here q.steps).2 in
     let place : o ≡ outcome_at j.config.capacity trace (length keys) = here ∙ (ap (λ c. outcome_at c d.trace d.stats.accesses) p.capacity
     ∙ (ap (λ y. outcome_at j.config.capacity y d.stats.accesses) p.trace_is ∙ ap (λ i. outcome_at j.config.capacity trace i) p.place)) in
-    rw s.policy (place ∙ sym (at-answers j.config.capacity trace (length trace) (length keys) x (omega (arith, l))))
+    place ∙ sym (at-answers j.config.capacity trace (length trace) (length keys) x (omega (arith, l)))
+    ∙ ap (λ os. get_or os (length keys) x) (sym (outcomes-of-optimal (design_of j.policy) j trace s.policy))
+any_answers law j trace keys rest k (Demand d) o e x t s h =
+    let q : IsDemandStep (demand_act d k) o e = demand_step (demand_act d k) o e h in
+    let start = empty_queues s.policy j.config.capacity in
+    (demand-access d k o q.next q.steps).outcome
+    ∙ ap (λ z. (queues_act k z).0) s.queues
+    ∙ sym (outcomes-at queues_act start keys rest k x)
+    ∙ ap (λ l. get_or (outcomes_by (design.Demand s.policy) j l) (length keys) x) (sym t)
+    ∙ ap (λ z. get_or (outcomes_by z j trace) (length keys) x) (sym s.design)
 
 -- undoing a hit asks for no room
 
-pub any_hits_keep_all : AnyHitsKeepAll
-any_hits_keep_all (Queues d) k e h =
+pub any_hits_keep_all : HitsAskNothing → AnyHitsKeepAll
+any_hits_keep_all law (Queues d) k e h =
     let q : IsQueueStep (queue_act d k) Hit e = queue_step (queue_act d k) Hit e h in
     λ asks. asks (hits_keep_all d k q.next q.steps)
-any_hits_keep_all (Optimal d) k e h = λ asks. asks
+any_hits_keep_all law (Optimal d) k e h = λ asks. asks
+any_hits_keep_all law (Demand d) k e h =
+    let q : IsDemandStep (demand_act d k) Hit e = demand_step (demand_act d k) Hit e h in
+    law k d.queues (sym (demand-access d k Hit q.next q.steps).outcome)

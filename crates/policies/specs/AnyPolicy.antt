@@ -1,23 +1,38 @@
 -- What a cache of any policy shows, and what a job over a trace comes to.
-use Rattle.std.specs.Prelude.{◌≡◌, ℕ, ◌≤◌, true, false, if◌then◌else◌, Option, None, List, length, take}
+use Rattle.std.specs.Prelude.{◌≡◌, ℕ, ◌≤◌, true, Option, None, Ok, List, length, take}
 use Rattle.step_record.specs.declared.job.Job.{Job}
 use Rattle.step_record.specs.declared.outcome.Outcome.{Outcome}
 use Rattle.step_record.specs.declared.stats.Stats.{Stats}
+use Rattle.step_record.specs.Config.{config_fault}
 use Rattle.step_record.specs.Stats.{stats_of}
 use Rattle.admission.specs.Frequency.{FrequencyData}
 use Rattle.clairvoyant.specs.Belady.{belady_outcomes}
 use Rattle.clairvoyant.specs.Clairvoyant.{ClairvoyantState, clairvoyant_at}
+use Rattle.queue_policies.specs.Residents.{state_after_all, outcomes_of_all}
+use Rattle.demand_cache.specs.declared.demand_queues.DemandPolicy.{DemandPolicy}
+use Rattle.demand_cache.specs.DemandQueues.{empty_queues, queues_act, queues_residents}
+use Rattle.demand_cache.specs.DemandCache.{DemandState}
 use Rattle.policies.specs.declared.any_policy.AnyPolicy.{AnyPolicy}
-use Rattle.policies.specs.declared.any_policy.AnyPolicy.TheVariants.{Queues, Optimal}
-use Rattle.policies.specs.Design.{knows_trace}
+use Rattle.policies.specs.declared.any_policy.AnyPolicy.TheVariants.{Queues, Optimal, Demand}
+use Rattle.policies.specs.declared.design.Design.{Design}
+use Rattle.policies.specs.declared.design.Design.TheVariants as design
+use Rattle.policies.specs.Design.{design_of, has_queues, knows_trace}
 use Rattle.policies.specs.QueueCache.{outcomes_after, residents_in, StandsFor}
 
 -- ---- a job over a trace
 
+-- the outcomes of the accesses to the keys of a trace by a policy that keeps each missed key, at capacity c
+abbrev pub demand_outcomes : DemandPolicy → ℕ → List ℕ → List Outcome
+demand_outcomes p c trace = outcomes_of_all queues_act (empty_queues p c) trace
+
+abbrev pub outcomes_by : Design → Job → List ℕ → List Outcome
+outcomes_by (design.Queues d) j trace = outcomes_after j trace
+outcomes_by design.KnowsTrace j trace = belady_outcomes j.config.capacity trace (length trace)
+outcomes_by (design.Demand p) j trace = demand_outcomes p j.config.capacity trace
+
 -- the outcomes of a job's accesses to the keys of a trace, in order
 abbrev pub outcomes_on : Job → List ℕ → List Outcome
-outcomes_on j trace =
-    if knows_trace j.policy then belady_outcomes j.config.capacity trace (length trace) else outcomes_after j trace
+outcomes_on j trace = outcomes_by (design_of j.policy) j trace
 
 -- what is counted of them: a report shows these numbers
 unfoldable pub stats_on : Job → List ℕ → Stats
@@ -28,15 +43,18 @@ stats_on j trace = stats_of (outcomes_on j trace)
 abbrev pub stats_in : AnyPolicy → Stats
 stats_in (Queues d) = d.stats
 stats_in (Optimal d) = d.stats
+stats_in (Demand d) = d.stats
 
 -- the keys that are cached
 abbrev pub any_residents : AnyPolicy → List ℕ
 any_residents (Queues d) = residents_in d.queues
 any_residents (Optimal d) = d.residents
+any_residents (Demand d) = queues_residents d.queues
 
 abbrev pub frequency_in : AnyPolicy → Option FrequencyData
 frequency_in (Queues d) = d.frequency
 frequency_in (Optimal d) = None
+frequency_in (Demand d) = None
 
 -- a cache of Belady's optimal policy made the first accesses of its trace
 pub record IsBeladyAt (j : Job) (trace keys : List ℕ) (d : ClairvoyantState) : Type 0 where
@@ -45,7 +63,16 @@ pub record IsBeladyAt (j : Job) (trace keys : List ℕ) (d : ClairvoyantState) :
   pub within : length keys ≤ length trace
   pub gives : d ≡ clairvoyant_at j.config.capacity trace (length keys)
 
+-- a cache of a policy that keeps each missed key made these accesses
+pub record IsDemandAfter (j : Job) (keys : List ℕ) (d : DemandState) : Type 0 where
+  pub policy : DemandPolicy
+  pub design : design_of j.policy ≡ design.Demand policy
+  pub checked : config_fault j.config ≡ Ok tt
+  pub queues : d.queues ≡ state_after_all queues_act (empty_queues policy j.config.capacity) keys
+  pub stats : d.stats ≡ stats_of (demand_outcomes policy j.config.capacity keys)
+
 -- the cache runs the job over the trace, and the keys are the accesses that it made
 abbrev pub HasAccessed : Job → List ℕ → List ℕ → AnyPolicy → Type 0
-HasAccessed j trace keys (Queues d) = (knows_trace j.policy ≡ false) × StandsFor j keys d
+HasAccessed j trace keys (Queues d) = (has_queues j.policy ≡ true) × StandsFor j keys d
 HasAccessed j trace keys (Optimal d) = IsBeladyAt j trace keys d
+HasAccessed j trace keys (Demand d) = IsDemandAfter j keys d

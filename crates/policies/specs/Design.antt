@@ -5,14 +5,16 @@ use Rattle.step_record.specs.declared.config.Config.{Config}
 use Rattle.step_record.specs.declared.job.Job.{Job}
 use Rattle.step_record.specs.declared.job.Policy.{Policy}
 use Rattle.step_record.specs.declared.job.Policy.TheVariants.{Lru, SegmentedLru, TinyLfuLru, TinyLfuSegmented}
-use Rattle.step_record.specs.declared.job.Policy.TheVariants.{WindowTinyLfu, Clairvoyant}
+use Rattle.step_record.specs.declared.job.Policy.TheVariants.{WindowTinyLfu, Clairvoyant, Fifo, Clock, Sieve, S3Fifo, TwoQ, Arc}
 use Rattle.replacement.specs.declared.rules.Rules.{Rules}
 use Rattle.replacement.specs.Rules.{one_queue, two_queues, three_queues}
+use Rattle.demand_cache.specs.declared.demand_queues.DemandPolicy.TheVariants as demand
 use Rattle.policies.specs.declared.design.Design.{Design}
-use Rattle.policies.specs.declared.design.Design.TheVariants.{Queues, KnowsTrace}
+use Rattle.policies.specs.declared.design.Design.TheVariants.{Queues, KnowsTrace, Demand}
 use Rattle.policies.specs.declared.design.Layout.{Layout}
 use Rattle.policies.specs.declared.design.Layout.TheVariants.{OneQueue, TwoQueues, ThreeQueues}
 use Rattle.policies.specs.declared.design.QueueDesign.{QueueDesign}
+use Rattle.policies.specs.Fifo.{fifo}
 use Rattle.policies.specs.Lru.{lru}
 use Rattle.policies.specs.SegmentedLru.{segmented_lru}
 use Rattle.policies.specs.TinyLfu.{tiny_lfu}
@@ -25,6 +27,12 @@ design_of TinyLfuLru = Queues (tiny_lfu lru)
 design_of TinyLfuSegmented = Queues (tiny_lfu segmented_lru)
 design_of WindowTinyLfu = Queues window_tiny_lfu
 design_of Clairvoyant = KnowsTrace
+design_of Fifo = Queues fifo
+design_of Clock = Demand demand.Clock
+design_of Sieve = Demand demand.Sieve
+design_of S3Fifo = Demand demand.S3Fifo
+design_of TwoQ = Demand demand.TwoQ
+design_of Arc = Demand demand.Arc
 
 -- ---- a design of queues
 
@@ -39,18 +47,31 @@ rules_by d c = record (sizes_by d.layout c) { hits = d.hits }
 
 -- ---- any design
 
--- a policy that knows the trace keeps no queues, and its rules are never used
+-- a policy that is not of queues has no rules: these are never used
 abbrev pub rules_in : Design → Config → Rules
 rules_in (Queues d) c = rules_by d c
 rules_in KnowsTrace c = one_queue c
+rules_in (Demand p) c = one_queue c
 
 abbrev pub counts_in : Design → Bool
 counts_in (Queues d) = d.counts_keys
 counts_in KnowsTrace = false
+counts_in (Demand p) = false
 
 abbrev pub is_optimal : Design → Bool
 is_optimal (Queues d) = false
 is_optimal KnowsTrace = true
+is_optimal (Demand p) = false
+
+abbrev pub is_of_queues : Design → Bool
+is_of_queues (Queues d) = true
+is_of_queues KnowsTrace = false
+is_of_queues (Demand p) = false
+
+abbrev pub is_demand : Design → Bool
+is_demand (Queues d) = false
+is_demand KnowsTrace = false
+is_demand (Demand p) = true
 
 -- ---- a policy
 
@@ -65,3 +86,11 @@ is_counting p = counts_in (design_of p)
 -- whether the policy has to know the whole trace (Belady 1966)
 abbrev pub knows_trace : Policy → Bool
 knows_trace p = is_optimal (design_of p)
+
+-- whether the policy is one of the table of moves
+abbrev pub has_queues : Policy → Bool
+has_queues p = is_of_queues (design_of p)
+
+-- whether the policy keeps each missed key in a cache of its own, which takes room for one at least
+abbrev pub keeps_misses : Policy → Bool
+keeps_misses p = is_demand (design_of p)

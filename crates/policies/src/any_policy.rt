@@ -8,6 +8,7 @@ use crate::queue_cache::{ByJob, QueueCache};
 use crate::record::AccessRecord;
 use admission::Frequency;
 use clairvoyant::{Clairvoyant, NextUse, OptimalRecord};
+use demand_cache::{DemandCache, DemandRecord};
 use std::alloc::{AllocError, Global};
 use step_record::{Engine, Job, Key, Outcome, Stats, StepFault, Trace};
 
@@ -21,6 +22,8 @@ pub enum AnyPolicy {
     Queues(QueueCache),
     /// Belady's optimal policy.
     Optimal(Clairvoyant),
+    /// A policy that keeps each missed key, in a cache of its own.
+    Demand(DemandCache),
 }
 
 /// The undo record of an access to a cache of any policy.
@@ -30,6 +33,8 @@ pub enum AnyRecord {
     Queues(AccessRecord),
     /// Of Belady's optimal policy.
     Optimal(OptimalRecord),
+    /// Of a policy that keeps each missed key.
+    Demand(DemandRecord),
 }
 
 impl AnyPolicy {
@@ -54,6 +59,11 @@ impl AnyPolicy {
                 let cache = Clairvoyant::open(alloc, uses, job.config.capacity)?;
                 Ok(AnyPolicy::Optimal(cache))
             }
+            Design::Demand(policy) => Ok(AnyPolicy::Demand(DemandCache::new(
+                alloc,
+                policy,
+                job.config.capacity,
+            ))),
         }
     }
 
@@ -74,6 +84,11 @@ impl AnyPolicy {
                 let cache = QueueCache::with_design(alloc, *job, design)?;
                 Ok(AnyPolicy::Queues(cache))
             }
+            Design::Demand(policy) => Ok(AnyPolicy::Demand(DemandCache::new(
+                alloc,
+                policy,
+                job.config.capacity,
+            ))),
         }
     }
 
@@ -84,7 +99,7 @@ impl AnyPolicy {
     {
         match self {
             AnyPolicy::Queues(cache) => cache.prefetch(keys),
-            AnyPolicy::Optimal(_) => {}
+            AnyPolicy::Optimal(_) | AnyPolicy::Demand(_) => {}
         }
     }
 
@@ -121,6 +136,7 @@ impl AnyPolicy {
                 Ok((outcome, _)) => Ok(outcome),
                 Err(fault) => Err(fault),
             },
+            AnyPolicy::Demand(cache) => cache.access(key),
         }
     }
 
@@ -131,6 +147,7 @@ impl AnyPolicy {
         match self {
             AnyPolicy::Queues(cache) => cache.stats(),
             AnyPolicy::Optimal(cache) => cache.stats(),
+            AnyPolicy::Demand(cache) => cache.stats(),
         }
     }
 
@@ -140,18 +157,19 @@ impl AnyPolicy {
     {
         match self {
             AnyPolicy::Queues(cache) => cache.frequency(),
-            AnyPolicy::Optimal(_) => None,
+            AnyPolicy::Optimal(_) | AnyPolicy::Demand(_) => None,
         }
     }
 
     /// The keys that it holds: of a policy of queues those of the window, of probation and of protected in that order,
-    /// oldest first; of the optimal policy in ascending order. The one error is that an allocation failed.
+    /// oldest first; of the optimal policy in ascending order; of the others queue by queue, oldest first. The one error is that an allocation failed.
     pub fn residents(&self, alloc: Global) -> Result<Vec<Key>, AllocError>
         ensures { IfOk result (λ keys. keys.items ≡ any_residents self.now) }
     {
         match self {
             AnyPolicy::Queues(cache) => cache.residents(alloc),
             AnyPolicy::Optimal(cache) => cache.residents(alloc),
+            AnyPolicy::Demand(cache) => cache.residents(alloc),
         }
     }
 }
@@ -210,6 +228,10 @@ impl Engine for AnyPolicy {
                 Ok((outcome, done)) => Ok((outcome, AnyRecord::Optimal(done))),
                 Err(fault) => Err(fault),
             },
+            AnyPolicy::Demand(cache) => match cache.apply(step) {
+                Ok((outcome, done)) => Ok((outcome, AnyRecord::Demand(done))),
+                Err(fault) => Err(fault),
+            },
         }
     }
 
@@ -227,14 +249,21 @@ impl Engine for AnyPolicy {
                     Ok(()) => Ok(()),
                     Err(done) => Err(AnyRecord::Queues(done)),
                 },
-                AnyRecord::Optimal(_) => unreachable!(),
+                AnyRecord::Optimal(_) | AnyRecord::Demand(_) => unreachable!(),
             },
             AnyPolicy::Optimal(cache) => match done {
                 AnyRecord::Optimal(done) => match cache.undo(done) {
                     Ok(()) => Ok(()),
                     Err(done) => Err(AnyRecord::Optimal(done)),
                 },
-                AnyRecord::Queues(_) => unreachable!(),
+                AnyRecord::Queues(_) | AnyRecord::Demand(_) => unreachable!(),
+            },
+            AnyPolicy::Demand(cache) => match done {
+                AnyRecord::Demand(done) => match cache.undo(done) {
+                    Ok(()) => Ok(()),
+                    Err(done) => Err(AnyRecord::Demand(done)),
+                },
+                AnyRecord::Queues(_) | AnyRecord::Optimal(_) => unreachable!(),
             },
         }
     }
@@ -243,6 +272,7 @@ impl Engine for AnyPolicy {
         match self {
             AnyPolicy::Queues(cache) => cache.standing(),
             AnyPolicy::Optimal(cache) => cache.standing(),
+            AnyPolicy::Demand(cache) => cache.standing(),
         }
     }
 
@@ -252,7 +282,7 @@ impl Engine for AnyPolicy {
     {
         match done {
             AnyRecord::Queues(done) => QueueCache::<ByJob>::words(done),
-            AnyRecord::Optimal(_) => 0,
+            AnyRecord::Optimal(_) | AnyRecord::Demand(_) => 0,
         }
     }
 

@@ -3,6 +3,7 @@ ghost use Rattle.std.specs.Prelude.{◌≡◌, Ok};
 ghost use Rattle.step_record.specs.Config.{config_fault};
 ghost use Rattle.policies.specs.Design.{design_of, rules_by};
 
+use demand_cache::DemandPolicy;
 use replacement::{HitRule, Rules};
 use step_record::{Config, Policy};
 
@@ -13,6 +14,8 @@ pub enum Design {
     Queues(QueueDesign),
     /// A policy that knows the whole trace: Belady's optimal policy.
     KnowsTrace,
+    /// A policy that keeps each missed key, in a cache of its own.
+    Demand(DemandPolicy),
 }
 
 /// What a policy of queues goes by.
@@ -48,12 +51,24 @@ pub fn design_of(policy: Policy) -> Design
         Policy::TinyLfuSegmented => Design::Queues(TINY_LFU_SEGMENTED),
         Policy::WindowTinyLfu => Design::Queues(WINDOW_TINY_LFU),
         Policy::Clairvoyant => Design::KnowsTrace,
+        Policy::Fifo => Design::Queues(FIFO),
+        Policy::Clock => Design::Demand(DemandPolicy::Clock),
+        Policy::Sieve => Design::Demand(DemandPolicy::Sieve),
+        Policy::S3Fifo => Design::Demand(DemandPolicy::S3Fifo),
+        Policy::TwoQ => Design::Demand(DemandPolicy::TwoQ),
+        Policy::Arc => Design::Demand(DemandPolicy::Arc),
     }
 }
 
 pub(crate) const LRU: QueueDesign = QueueDesign {
     layout: Layout::OneQueue,
     hits: HitRule::Renews,
+    counts_keys: false,
+};
+
+const FIFO: QueueDesign = QueueDesign {
+    layout: Layout::OneQueue,
+    hits: HitRule::Stays,
     counts_keys: false,
 };
 

@@ -77,32 +77,44 @@ pub fn any_covers_trace()
 /// Undoing a hit of a cache of any policy asks for no room, so it is never refused.
 pub fn any_hits_keep_all()
     ensures { AnyHitsKeepAll }
-{}
+{
+    demand_cache::theorems::hits_ask_nothing();
+}
 
 /// A cache of any policy never holds more keys than its capacity.
 pub fn residents_fit()
     ensures { ResidentsFit }
-{}
+{
+    demand_cache::theorems::demand_keeps();
+}
 
 /// No key is resident twice.
 pub fn residents_distinct()
     ensures { ResidentsDistinct }
-{}
+{
+    demand_cache::theorems::demand_keeps();
+}
 
 /// The residents of a cache of any policy are its misses minus its evictions.
 pub fn residents_counted()
     ensures { ResidentsCounted }
-{}
+{
+    demand_cache::theorems::demand_keeps();
+}
 
 /// An access is a hit exactly where its key is resident.
 pub fn hits_are_residents()
     ensures { HitsAreResidents }
-{}
+{
+    demand_cache::theorems::demand_keeps();
+}
 
 /// The one key that an access may bring in is its own.
 pub fn fetches_on_demand()
     ensures { FetchesOnDemand }
-{}
+{
+    demand_cache::theorems::demand_keeps();
+}
 
 /// Each access of a trace is a hit or a miss of the job.
 pub fn stats_add_up()
@@ -114,4 +126,6 @@ pub fn stats_add_up()
 /// The misses of a job minus its evictions are at most its capacity.
 pub fn misses_fit()
     ensures { MissesFit }
-{}
+{
+    demand_cache::theorems::demand_keeps();
+}

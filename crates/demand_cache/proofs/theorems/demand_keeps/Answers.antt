@@ -1,0 +1,5 @@
+use Rattle.demand_cache.proofs.Keeping.{demand-keeps}
+use Rattle.demand_cache.proofs.theorems.demand_keeps.Goals as goal
+
+pub returns : goal.returns
+returns c = demand-keeps c.fifo_keeps.ensures

@@ -1,0 +1,4 @@
+pub mod DemandQueues
+pub mod DemandCache
+pub mod DemandCounts
+pub mod Theorems

@@ -1,0 +1,159 @@
+//! The engine: a cache whose accesses are counted and can be undone.
+ghost use Rattle.std.specs.Prelude.{◌≡◌, ◌+◌, ◌≤◌, ◌↔◌, [], Err, Some, None, IfOk, IfErr, OnOk, OnErr};
+ghost use Rattle.step_record.specs.declared.limits.TheConstants.{MAX_CAPACITY};
+ghost use Rattle.step_record.specs.Pace.{words_of_halvings};
+ghost use Rattle.step_record.specs.Stats.{stats_of};
+ghost use Rattle.demand_cache.specs.DemandQueues.{empty_queues, queues_residents};
+
+use crate::demand_queues::{DemandPolicy, DemandQueues, QueuesRecord};
+use std::alloc::{AllocError, Global};
+use std::marker::Model;
+use step_record::{Engine, Key, MAX_STEPS, Outcome, Stats, StepFault};
+
+/// A cache of a policy that keeps each missed key.
+#[derive(Drop)]
+pub struct DemandCache {
+    queues: DemandQueues,
+    stats: Stats,
+}
+
+/// The undo record of an access: of fixed size, whatever the access moved.
+#[derive(Clone, Copy)]
+pub struct DemandRecord {
+    /// What undoes the access to the queues.
+    pub queues: QueuesRecord,
+    /// The outcome that was counted.
+    pub outcome: Outcome,
+}
+
+impl Model for DemandCache {
+    ghost use Rattle.demand_cache.specs.DemandCache.{DemandState, IsTally};
+
+    ghost Value = { DemandState };
+
+    ghost view = { λ t. record { queues = t.queues; stats = t.stats } };
+
+    ghost invariant = { λ t. IsTally t.stats };
+}
+
+impl DemandCache {
+    ghost use Rattle.demand_cache.specs.DemandCache.{demand_act};
+
+    /// An empty cache. Allocates nothing.
+    pub fn new(alloc: Global, policy: DemandPolicy, capacity: u32) -> DemandCache
+        requires least { 1 ≤ capacity }
+        requires most { capacity ≤ MAX_CAPACITY }
+        ensures queues { result.queues ≡ empty_queues policy capacity }
+        ensures stats { result.stats ≡ stats_of [] }
+    {
+        DemandCache {
+            queues: DemandQueues::new(alloc, policy, capacity),
+            stats: Stats::NONE,
+        }
+    }
+
+    /// Makes an access that is not to be undone: that of `apply`, without its undo record.
+    ///
+    /// Errors: `NotNow` exactly where `MAX_STEPS` accesses are applied, and `OutOfMemory`; each leaves the cache as it
+    /// was.
+    pub fn access(&mut self, key: Key) -> Result<Outcome, StepFault>
+        ensures accepted { IfOk result (λ o. demand_act self.old key ≡ Some (o, self.new)) }
+        ensures not_now { result ≡ Err StepFault.NotNow ↔ demand_act self.old key ≡ None }
+        ensures err { OnErr result (self.new ≡ self.old) }
+    {
+        let (outcome, _) = self.apply(&key)?;
+        Ok(outcome)
+    }
+
+    /// What was counted of the applied accesses.
+    pub fn stats(&self) -> Stats
+        ensures { result ≡ self.now.stats }
+    {
+        self.stats
+    }
+
+    /// The resident keys, queue by queue, oldest first. The one error is that an allocation failed.
+    pub fn residents(&self, alloc: Global) -> Result<Vec<Key>, AllocError>
+        ensures { IfOk result (λ keys. keys.items ≡ queues_residents self.now.queues) }
+    {
+        self.queues.residents(alloc)
+    }
+}
+
+impl Engine for DemandCache {
+    ghost use Rattle.demand_cache.specs.DemandCache.{demand_act, demand_record_of, demand_undone, demand_asks, DemandFits};
+    ghost use Rattle.demand_cache.specs.DemandCounts.{act_counts, act_ends};
+    ghost use Rattle.step_record.specs.Pace.{pace_without_sketch, still-paced};
+
+    type Step = Key;
+
+    type Reply = Outcome;
+
+    type Record = DemandRecord;
+
+    type Data = DemandCache;
+
+    ghost seen = { λ t. t };
+
+    ghost act = { demand_act };
+
+    ghost fits = { DemandFits };
+
+    ghost undone = { demand_undone };
+
+    ghost asks = { demand_asks };
+
+    ghost count = { λ d. d.stats.accesses };
+
+    ghost words_of = { λ r. 0 };
+
+    ghost pace = { λ d. pace_without_sketch };
+
+    fn apply(&mut self, step: &Key) -> Result<(Outcome, DemandRecord), StepFault>
+        ensures accepted { IfOk result (λ r. demand_act self.old step.now ≡ Some (r.0, self.new)) }
+        ensures fits { IfOk result (λ r. DemandFits r.1 self.new) }
+        ensures undone { IfOk result (λ r. demand_undone r.1 self.new ≡ self.old) }
+        ensures not_now { result ≡ Err StepFault.NotNow ↔ demand_act self.old step.now ≡ None }
+        ensures err { OnErr result (self.new ≡ self.old) }
+        // The record is that of an access to this key, from the cache before it, and nothing beside.
+        ensures record_is { IfOk result (λ r. r.1 ≡ demand_record_of step.now self.old) }
+    {
+        if self.stats.accesses == MAX_STEPS {
+            return Err(StepFault::NotNow);
+        }
+        let Ok((outcome, queues)) = self.queues.access(*step) else {
+            return Err(StepFault::OutOfMemory);
+        };
+        self.stats.count(outcome);
+        Ok((outcome, DemandRecord { queues, outcome }))
+    }
+
+    fn undo(&mut self, done: DemandRecord) -> Result<(), DemandRecord>
+        requires { DemandFits done self.old }
+        ensures ok { OnOk result (self.new ≡ demand_undone done self.old) }
+        ensures err { OnErr result (self.new ≡ self.old) }
+        ensures returned { IfErr result (λ r. r ≡ done) }
+        // Only a key that comes back asks for room.
+        ensures asks { OnErr result (demand_asks done) }
+    {
+        let Ok(()) = self.queues.undo(done.queues) else {
+            return Err(done);
+        };
+        self.stats.uncount(done.outcome);
+        Ok(())
+    }
+
+    fn standing(&self) -> u64 {
+        self.stats.accesses
+    }
+
+    fn words(_done: &DemandRecord) -> u64 {
+        0
+    }
+
+    ghost counted = { act_counts };
+
+    ghost counted_out = { act_ends };
+
+    ghost paced = { λ d s r e h. still-paced };
+}

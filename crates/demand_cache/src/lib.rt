@@ -1,0 +1,13 @@
+//! The policies that keep each missed key and count no keys beyond a few bits: CLOCK, SIEVE, S3-FIFO, 2Q and ARC, as one
+//! engine.
+//!
+//! Each is a cache in a crate of its own, over its definition on plain lists. What they share stands here once: counts,
+//! the limit of steps, and undoing.
+#![tactic(auto)]
+
+mod demand_cache;
+mod demand_queues;
+pub mod theorems;
+
+pub use demand_cache::{DemandCache, DemandRecord};
+pub use demand_queues::{DemandPolicy, DemandQueues, QueuesRecord};

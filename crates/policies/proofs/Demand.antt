@@ -1,0 +1,175 @@
+-- What a cache of a policy that keeps each missed key stands for.
+use Rattle.std.proofs.Common.{◌≡◌, ◌⊎◌, ℕ, suc, ◌+◌, ◌<◌, ◌≤◌, ◌==◌, true, false, cond, eqb, Option, Some, None, List, [], ◌∷◌, ◌++◌, length, take, zero, get_or, ap, ◌∙◌, sym, refl, subst, arith, inl, inr}
+use Rattle.std.specs.List.{count_by}
+use Rattle.std.proofs.lemmas.Bool.{cases_Bool, eqb-true}
+use Rattle.std.proofs.lemmas.List.Sums.{sum_by-cons}
+use Rattle.step_record.specs.declared.limits.TheConstants.{MAX_STEPS}
+use Rattle.step_record.specs.declared.job.Job.{Job}
+use Rattle.step_record.specs.declared.outcome.Outcome.{Outcome}
+use Rattle.step_record.specs.declared.outcome.Outcome.TheVariants.{Hit, Kept, Evicted, Rejected}
+use Rattle.step_record.specs.declared.stats.Stats.{Stats}
+use Rattle.step_record.specs.Keys.{has_key}
+use Rattle.step_record.specs.Stats.{stats_of, stats_with, one_if, is_hit}
+use Rattle.step_record.proofs.Counting.{stats-snoc}
+use Rattle.queue_policies.specs.Residents.{times, keys_brought, IsAccess, AreResidents, KeepsResidents, CountsResidents, state_after_all, outcomes_of_all}
+use Rattle.queue_policies.proofs.Residents.{times-none, times-some, counts-residents}
+use Rattle.demand_cache.specs.declared.demand_queues.DemandPolicy.{DemandPolicy}
+use Rattle.demand_cache.specs.declared.demand_queues.DemandQueues.{DemandQueues}
+use Rattle.demand_cache.specs.DemandQueues.{empty_queues, queues_act, queues_residents, IsQueues}
+use Rattle.demand_cache.specs.DemandCache.{DemandState, state_with, demand_act}
+use Rattle.demand_cache.specs.Theorems.{DemandKeeps}
+use Rattle.policies.specs.declared.design.Design.{Design}
+use Rattle.policies.specs.declared.design.Design.TheVariants.{Queues, KnowsTrace, Demand}
+use Rattle.policies.specs.AnyPolicy.{IsDemandAfter, demand_outcomes}
+use Rattle.policies.proofs.Reached.{has-room}
+
+-- ---- any machine over lists
+
+module _ {S : Type 0} (act : ℕ → S → Outcome × S) where
+  pub state-push : (s : S) (keys : List ℕ) (k : ℕ) → state_after_all act s (keys ++ k ∷ []) ≡ (act k (state_after_all act s keys)).1
+  state-push s [] k = refl
+  state-push s (a ∷ keys) k = state-push (act a s).1 keys k
+
+  pub outcomes-push : (s : S) (keys : List ℕ) (k : ℕ) → outcomes_of_all act s (keys ++ k ∷ []) ≡ outcomes_of_all act s keys ++ (act k (state_after_all act s keys)).0 ∷ []
+  outcomes-push s [] k = refl
+  outcomes-push s (a ∷ keys) k = ap (λ l. (act a s).0 ∷ l) (outcomes-push (act a s).1 keys k)
+
+  pub outcomes-long : (s : S) (keys : List ℕ) → length (outcomes_of_all act s keys) ≡ length keys
+  outcomes-long s [] = refl
+  outcomes-long s (a ∷ keys) = ap suc (outcomes-long (act a s).1 keys)
+
+  pub outcomes-at : (s : S) (keys rest : List ℕ) (k : ℕ) (x : Outcome) → get_or (outcomes_of_all act s (keys ++ k ∷ rest)) (length keys) x ≡ (act k (state_after_all act s keys)).0
+  outcomes-at s [] rest k x = refl
+  outcomes-at s (a ∷ keys) rest k x = outcomes-at (act a s).1 keys rest k x
+
+  pub outcomes-first : (s : S) (n : ℕ) (keys : List ℕ) → outcomes_of_all act s (take n keys) ≡ take n (outcomes_of_all act s keys)
+  outcomes-first s zero keys = refl
+  outcomes-first s (suc n) [] = refl
+  outcomes-first s (suc n) (a ∷ keys) = ap (λ l. (act a s).0 ∷ l) (outcomes-first (act a s).1 n keys)
+
+module _ {S : Type 0} (c : ℕ) (start : S) (act : ℕ → S → Outcome × S) (residents : S → List ℕ) (IsState : S → Type 0) (all : KeepsResidents c start act residents IsState) where
+  kept-from : (s : S) (keys : List ℕ) → IsState s → IsState (state_after_all act s keys)
+  kept-from s [] h = h
+  kept-from s (k ∷ keys) h = kept-from (act k s).1 keys (all.keeps k s h)
+
+  pub kept-after : (keys : List ℕ) → IsState (state_after_all act start keys)
+  kept-after keys = kept-from start keys all.starts.0
+
+-- ---- an accepted access
+
+demand-outcome : Outcome → Option (Outcome × DemandState) → Outcome
+demand-outcome o None = o
+demand-outcome o (Some p) = p.0
+
+demand-state : DemandState → Option (Outcome × DemandState) → DemandState
+demand-state d None = d
+demand-state d (Some p) = p.1
+
+pub record IsDemandAccess (d : DemandState) (k : ℕ) (o : Outcome) (e : DemandState) : Type 0 where
+  pub outcome : o ≡ (queues_act k d.queues).0
+  pub next : e ≡ state_with d.stats (queues_act k d.queues)
+
+pub demand-access : (d : DemandState) (k : ℕ) (o : Outcome) (e : DemandState) → demand_act d k ≡ Some (o, e) → IsDemandAccess d k o e
+unfolding demand-outcome demand-state
+demand-access d k o e h =
+    elim (cases_Bool (d.stats.accesses == MAX_STEPS)) [
+      | inl f ↦ absurd (let no : None ≡ Some (o, e) = rw f at h in cc (no))
+      | inr f ↦
+          let b : Some ((queues_act k d.queues).0, state_with d.stats (queues_act k d.queues)) ≡ Some (o, e) = rw f at h in
+          record { outcome = sym (ap (demand-outcome o) b); next = sym (ap (demand-state d) b) }
+    ]
+
+pub demand-refused : (d : DemandState) (k : ℕ) → demand_act d k ≡ None → d.stats.accesses ≡ MAX_STEPS
+demand-refused d k h =
+    elim (cases_Bool (d.stats.accesses == MAX_STEPS)) [
+      | inl f ↦ eqb-true d.stats.accesses MAX_STEPS f
+      | inr f ↦ absurd (let no : Some ((queues_act k d.queues).0, state_with d.stats (queues_act k d.queues)) ≡ None = rw f at h in cc (no))
+    ]
+
+-- ---- the accesses that it made
+
+abbrev start_of : (j : Job) (keys : List ℕ) (d : DemandState) → IsDemandAfter j keys d → DemandQueues
+start_of j keys d s = empty_queues s.policy j.config.capacity
+
+pub demand_stands : (j : Job) (keys : List ℕ) (d : DemandState) (k : ℕ) (o : Outcome) (e : DemandState) → IsDemandAfter j keys d
+    → demand_act d k ≡ Some (o, e) → IsDemandAfter j (keys ++ k ∷ []) e
+demand_stands j keys d k o e s h =
+    let a : IsDemandAccess d k o e = demand-access d k o e h in
+    let start : DemandQueues = start_of j keys d s in
+    record {
+      policy = s.policy;
+      design = s.design;
+      checked = s.checked;
+      queues = ap (λ (x : DemandState). x.queues) a.next ∙ (ap (λ q. (queues_act k q).1) s.queues ∙ sym (state-push queues_act start keys k));
+      stats = ap (λ (x : DemandState). x.stats) a.next
+          ∙ (ap (λ q. stats_with (queues_act k q).0 d.stats) s.queues
+          ∙ (ap (stats_with (queues_act k (state_after_all queues_act start keys)).0) s.stats
+          ∙ (sym (stats-snoc (outcomes_of_all queues_act start keys) (queues_act k (state_after_all queues_act start keys)).0)
+          ∙ ap stats_of (sym (outcomes-push queues_act start keys k)))));
+    }
+
+pub demand-accesses : (j : Job) (keys : List ℕ) (d : DemandState) → IsDemandAfter j keys d → d.stats.accesses ≡ length keys
+demand-accesses j keys d s = ap (λ (x : Stats). x.accesses) s.stats ∙ outcomes-long queues_act (start_of j keys d s) keys
+
+abbrev policy_or : DemandPolicy → Design → DemandPolicy
+policy_or p (Queues d) = p
+policy_or p KnowsTrace = p
+policy_or p (Demand q) = q
+
+pub demand-one : (j : Job) (keys : List ℕ) (d e : DemandState) → IsDemandAfter j keys d → IsDemandAfter j keys e → d ≡ e
+demand-one j keys d e a b =
+    let same : a.policy ≡ b.policy = ap (policy_or a.policy) (sym a.design ∙ b.design) in
+    let queues : d.queues ≡ e.queues =
+    a.queues ∙ (ap (λ p. state_after_all queues_act (empty_queues p j.config.capacity) keys) same ∙ sym b.queues) in
+    let stats : d.stats ≡ e.stats = a.stats ∙ (ap (λ p. stats_of (demand_outcomes p j.config.capacity keys)) same ∙ sym b.stats) in
+    ap (λ q. record { queues = q; stats = d.stats }) queues ∙ ap (λ x. record { queues = e.queues; stats = x }) stats
+
+-- ---- the residents
+
+pub demand-keeping : DemandKeeps → (j : Job) (keys : List ℕ) (d : DemandState) (s : IsDemandAfter j keys d)
+    → KeepsResidents j.config.capacity (start_of j keys d s) queues_act queues_residents (IsQueues j.config.capacity)
+demand-keeping law j keys d s = law s.policy j.config.capacity (has-room j.config s.checked)
+
+pub demand-sound : DemandKeeps → (j : Job) (keys : List ℕ) (d : DemandState) → IsDemandAfter j keys d → IsQueues j.config.capacity d.queues
+demand-sound law j keys d s =
+    subst (IsQueues j.config.capacity) (sym s.queues)
+    (kept-after j.config.capacity (start_of j keys d s) queues_act queues_residents (IsQueues j.config.capacity) (demand-keeping law j keys d s) keys)
+
+pub demand-holds : DemandKeeps → (j : Job) (keys : List ℕ) (d : DemandState) → IsDemandAfter j keys d → AreResidents j.config.capacity (queues_residents d.queues)
+demand-holds law j keys d s = (demand-keeping law j keys d s).holds d.queues (demand-sound law j keys d s)
+
+pub demand-is-access : DemandKeeps → (j : Job) (keys : List ℕ) (d : DemandState) (k : ℕ) → IsDemandAfter j keys d
+    → IsAccess j.config.capacity k (queues_residents d.queues) (queues_act k d.queues).0 (queues_residents (queues_act k d.queues).1)
+demand-is-access law j keys d k s = (demand-keeping law j keys d s).accesses k d.queues (demand-sound law j keys d s)
+
+pub demand-counted : DemandKeeps → (j : Job) (keys : List ℕ) (d : DemandState) → IsDemandAfter j keys d
+    → length (queues_residents d.queues) + d.stats.evictions ≡ d.stats.misses
+demand-counted law j keys d s =
+    let start : DemandQueues = start_of j keys d s in
+    let sum = counts-residents j.config.capacity start queues_act queues_residents (IsQueues j.config.capacity) (demand-keeping law j keys d s) keys in
+    let long = ap (λ q. length (queues_residents q)) s.queues in
+    let out = ap (λ (x : Stats). x.evictions) s.stats in
+    let in_ = ap (λ (x : Stats). x.misses) s.stats in
+    omega (arith, sum, long, out, in_)
+
+pub times-by : (x : ℕ) (l : List ℕ) → count_by (eqb x) l ≡ times x l
+times-by x [] = refl
+times-by x (a ∷ l) = sum_by-cons (λ y. cond (eqb x y) 1 0) a l ∙ ap (λ n. one_if (eqb x a) + n) (times-by x l)
+
+brought-once : (x k : ℕ) (o : Outcome) → times x (keys_brought k o) ≤ one_if (eqb x k)
+brought-once x k Hit = omega arith
+brought-once x k Kept = omega arith
+brought-once x k (Evicted v) = omega arith
+brought-once x k (Rejected v) = omega arith
+
+pub demand-came-from : (c k x : ℕ) (old : List ℕ) (o : Outcome) (new : List ℕ) → IsAccess c k old o new → has_key x new ≡ true → (x ≡ k) ⊎ (has_key x old ≡ true)
+demand-came-from c k x old o new a h =
+    elim (cases_Bool (eqb x k)) [
+      | inl e ↦ inl (eqb-true x k e)
+      | inr e ↦ inr (elim (cases_Bool (has_key x old)) [
+        | inl f ↦ f
+        | inr f ↦
+            let none : one_if (eqb x k) ≡ 0 = ap one_if e in
+            absurd (omega (arith, times-some x new h, a.moves x, brought-once x k o, none, times-none x old f))
+      ])
+    ]
