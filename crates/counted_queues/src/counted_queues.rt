@@ -1,12 +1,11 @@
 //! The queues.
 ghost use Rattle.std.specs.Prelude.{◌≡◌, ◌+◌, ◌<◌, ◌≤◌, ◌++◌, ◌∷◌, ◌^◌, length, ℕ, Ok, Some, None, OnOk, IfOk, IfSome, IfNone, IsTrue};
 ghost use Rattle.queue_policies.specs.CountedKeys.{count_of, keys_of};
-ghost use Rattle.counted_queues.specs.Queues.{empty_queues, queue_of, with_queue, holds, counted_key, queues_after_push};
+ghost use Rattle.counted_queues.specs.Queues.{empty_queues, queue_of, with_queue, holds, counted_key, queues_after_push, queues_after_return};
 ghost use Rattle.counted_queues.specs.Queues.{first_or, newest_or, IsAbsent, IsPlace, IsStanding, IsCutAt, pairs_of, IsSound, oldest_entry, newest_entry};
-ghost use Rattle.counted_queues.specs.Table.{pick};
 ghost use Rattle.queue_policies.specs.Queues.{without_oldest, without_newest};
 
-use crate::nodes::{Ends, Node, Nodes, put, set_count, set_newer, set_older, take};
+use crate::nodes::{Ends, Node, Nodes, close_gap, open_gap, put, replace, set_count, take};
 use std::alloc::{AllocError, Global};
 use std::collections::HashMap;
 use std::marker::Model;
@@ -120,22 +119,14 @@ impl CountedQueues {
     {
         // Of every map: it has fewer than 2^63 entries.
         let _ = self.nodes.len();
-        let at = queue as usize;
-        let ends = self.ends[at];
-        set_newer(&mut self.nodes, older, Some(key));
-        set_older(&mut self.nodes, newer, Some(key));
         let node = Node {
             queue,
             count,
             older,
             newer,
         };
+        open_gap(&mut self.nodes, &mut self.ends, key, node);
         put(&mut self.nodes, key, node);
-        self.ends[at] = Ends {
-            oldest: picked(older, Some(key), ends.oldest),
-            newest: picked(newer, Some(key), ends.newest),
-            len: ends.len + 1,
-        };
     }
 
     /// Takes the key out, and says where it stood, and its count. `None`, and nothing moved, where it stands in no queue.
@@ -150,15 +141,7 @@ impl CountedQueues {
     {
         let node = *self.nodes.get(&key)?;
         let _ = take(&mut self.nodes, key);
-        set_newer(&mut self.nodes, node.older, node.newer);
-        set_older(&mut self.nodes, node.newer, node.older);
-        let at = node.queue as usize;
-        let ends = self.ends[at];
-        self.ends[at] = Ends {
-            oldest: picked(node.older, node.newer, ends.oldest),
-            newest: picked(node.newer, node.older, ends.newest),
-            len: ends.len - 1,
-        };
+        close_gap(&mut self.nodes, &mut self.ends, node);
         let place = Place {
             queue: node.queue,
             older: node.older,
@@ -215,11 +198,63 @@ impl CountedQueues {
         requires queue { queue < 5 }
         requires room { 1 ≤ self.old.spare }
         requires absent { IsAbsent key self.old.queues }
-        ensures queues { self.new.queues ≡ with_queue queue (counted_key key count ∷ queue_of queue self.old.queues) self.old.queues }
+        ensures queues { self.new.queues ≡ queues_after_return queue key count self.old.queues }
         ensures spare { self.old.spare ≤ self.new.spare + 1 }
     {
         let oldest = self.oldest(queue);
         self.link(queue, key, count, None, oldest);
+    }
+
+    /// Moves a key from where it stands to the recent end of a queue, its own or another one, and gives it another
+    /// count. It needs no room. Nothing happens where the key stands in no queue.
+    pub fn send_recent(&mut self, key: u64, queue: u8, count: u8)
+        requires { queue < 5 }
+        ensures queues { (n q : ℕ) (p : IsStanding key n q self.old.queues)
+            → self.new.queues ≡ queues_after_push queue key count (with_queue q (p.before ++ p.behind) self.old.queues) }
+        ensures absent { IsAbsent key self.old.queues → self.new.queues ≡ self.old.queues }
+        ensures spare { self.new.spare ≡ self.old.spare }
+    {
+        // Of every map: it has fewer than 2^63 entries.
+        let _ = self.nodes.len();
+        let Some(node) = self.nodes.get(&key) else {
+            return;
+        };
+        let node = *node;
+        close_gap(&mut self.nodes, &mut self.ends, node);
+        let moved = Node {
+            queue,
+            count,
+            older: self.ends[queue as usize].newest,
+            newer: None,
+        };
+        open_gap(&mut self.nodes, &mut self.ends, key, moved);
+        replace(&mut self.nodes, key, moved);
+    }
+
+    /// Moves a key from where it stands to the old end of a queue, its own or another one, and gives it another count.
+    /// It needs no room. Nothing happens where the key stands in no queue.
+    pub fn send_oldest(&mut self, key: u64, queue: u8, count: u8)
+        requires { queue < 5 }
+        ensures queues { (n q : ℕ) (p : IsStanding key n q self.old.queues)
+            → self.new.queues ≡ queues_after_return queue key count (with_queue q (p.before ++ p.behind) self.old.queues) }
+        ensures absent { IsAbsent key self.old.queues → self.new.queues ≡ self.old.queues }
+        ensures spare { self.new.spare ≡ self.old.spare }
+    {
+        // Of every map: it has fewer than 2^63 entries.
+        let _ = self.nodes.len();
+        let Some(node) = self.nodes.get(&key) else {
+            return;
+        };
+        let node = *node;
+        close_gap(&mut self.nodes, &mut self.ends, node);
+        let moved = Node {
+            queue,
+            count,
+            older: None,
+            newer: self.ends[queue as usize].oldest,
+        };
+        open_gap(&mut self.nodes, &mut self.ends, key, moved);
+        replace(&mut self.nodes, key, moved);
     }
 
     // The newer neighbour of a key.
@@ -284,14 +319,5 @@ impl CountedQueues {
             at = node.newer;
         }
         Ok(pairs)
-    }
-}
-
-fn picked(neighbour: Option<u64>, none: Option<u64>, some: Option<u64>) -> Option<u64>
-    ensures { result ≡ pick neighbour none some }
-{
-    match neighbour {
-        None => none,
-        Some(_) => some,
     }
 }
