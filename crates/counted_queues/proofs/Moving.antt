@@ -1,5 +1,5 @@
 -- A key that goes from where it stands to another place: as if it were taken out and put back, without a removal.
-use Rattle.std.proofs.Common.{◌≡◌, ℕ, ◌+◌, ◌-◌, ◌<◌, ◌≤◌, if◌then◌else◌, nat_eq, Option, Some, None, List, [], ◌∷◌, ◌++◌, length, ap, sym, ◌∙◌, refl, inl, inr, arith, append-nil, slice_set}
+use Rattle.std.proofs.Common.{◌≡◌, ◌≢◌, true, false, ℕ, ◌+◌, ◌-◌, ◌<◌, ◌≤◌, if◌then◌else◌, nat_eq, Option, Some, None, List, [], ◌∷◌, ◌++◌, length, ap, sym, ◌∙◌, refl, inl, inr, arith, append-nil, slice_set}
 use Rattle.std.proofs.lemmas.Bool.{cases_Bool, cases_eq, eqb-true}
 use Rattle.std.proofs.lemmas.List.{get_or-set_same, get_or-set_other}
 use Rattle.std.specs.Map.{update}
@@ -7,9 +7,10 @@ use Rattle.queue_policies.specs.CountedKeys.{CountedKey}
 use Rattle.counted_queues.specs.declared.nodes.Node.{Node}
 use Rattle.counted_queues.specs.declared.nodes.Ends.{Ends}
 use Rattle.counted_queues.specs.Links.{newer_at, older_at, with_node}
-use Rattle.counted_queues.specs.Queues.{IsPlace, IsStanding, queue_of, with_queue, IsAbsent, counted_key, newest_or, queues_after_push, queues_after_return}
+use Rattle.counted_queues.specs.Queues.{IsPlace, IsStanding, IsCutAt, first_or, holds, queue_of, with_queue, IsAbsent, counted_key, newest_or, queues_after_push, queues_after_return}
 use Rattle.counted_queues.specs.Table.{Nodes, pick, IsTable, ends_of, no_ends}
 use Rattle.counted_queues.proofs.Parts.{eqb-same, newest-is}
+use Rattle.counted_queues.proofs.Once.{has-middle}
 use Rattle.counted_queues.proofs.Tables.{none-absent, same-table}
 use Rattle.counted_queues.proofs.Linking.{linked-ends}
 use Rattle.counted_queues.proofs.Unlinking.{newer-none, older-none, left-ends}
@@ -104,3 +105,22 @@ module _ (f : Nodes) (ends ends1 : List Ends) (s : List (List CountedKey)) (k n 
         let l : List CountedKey = queue_of queue rest in
         let r : IsPlace older newer l = record { before = []; behind = l; whole = refl; older_last = sym none; newer_first = sym (without-table.queue queue low).oldest ∙ sym at } in
         placed-table r
+
+    -- a place of another queue
+    pub place-table : queue ≢ q → (r : IsCutAt older (queue_of queue s)) → newer ≡ first_or None r.behind
+        → IsTable g ends2 (with_queue queue (r.before ++ counted_key k c ∷ r.behind) rest)
+    place-table apart r at =
+        placed-table record {
+          before = r.before;
+          behind = r.behind;
+          whole = get_or-set_other s q queue (p.before ++ p.behind) [] apart ∙ r.whole;
+          older_last = r.older_last;
+          newer_first = sym at;
+        }
+
+-- a key that stands in one queue and not in another
+pub apart-queues : (k n q p : ℕ) (s : List (List CountedKey)) → IsStanding k n q s → holds k p s ≡ false → p ≢ q
+apart-queues k n q p s r h same =
+    let there : holds k q s ≡ true = rw r.whole (has-middle r.before (counted_key k n) r.behind) in
+    let no : true ≡ false = sym there ∙ ap (λ x. holds k x s) (sym same) ∙ h in
+    cc (no)

@@ -1,5 +1,5 @@
 //! The queues.
-ghost use Rattle.std.specs.Prelude.{◌≡◌, ◌+◌, ◌<◌, ◌≤◌, ◌++◌, ◌∷◌, ◌^◌, length, ℕ, Ok, Some, None, OnOk, IfOk, IfSome, IfNone, IsTrue};
+ghost use Rattle.std.specs.Prelude.{◌≡◌, ◌+◌, ◌<◌, ◌≤◌, ◌++◌, ◌∷◌, ◌^◌, length, ℕ, Ok, Some, None, OnOk, IfOk, IfSome, IfNone, IsTrue, false};
 ghost use Rattle.queue_policies.specs.CountedKeys.{count_of, keys_of};
 ghost use Rattle.counted_queues.specs.Queues.{empty_queues, queue_of, with_queue, holds, counted_key, queues_after_push, queues_after_return};
 ghost use Rattle.counted_queues.specs.Queues.{first_or, newest_or, IsAbsent, IsPlace, IsStanding, IsCutAt, pairs_of, IsSound, oldest_entry, newest_entry};
@@ -255,6 +255,44 @@ impl CountedQueues {
         };
         open_gap(&mut self.nodes, &mut self.ends, key, moved);
         replace(&mut self.nodes, key, moved);
+    }
+
+    /// Moves a key from where it stands to a place of another queue, as `remove` named it, and gives it another count. It
+    /// needs no room. Nothing happens where the key stands in no queue.
+    pub fn send_back(&mut self, key: u64, place: Place, count: u8)
+        requires queue { place.queue < 5 }
+        requires other { holds key place.queue self.old.queues ≡ false }
+        requires place { IsCutAt place.older (queue_of place.queue self.old.queues) }
+        ensures queues { (n q : ℕ) (p : IsStanding key n q self.old.queues)
+            (r : IsCutAt place.older (queue_of place.queue self.old.queues))
+            → self.new.queues ≡ with_queue place.queue (r.before ++ counted_key key count ∷ r.behind)
+                (with_queue q (p.before ++ p.behind) self.old.queues) }
+        ensures spare { self.new.spare ≡ self.old.spare }
+    {
+        // Of every map: it has fewer than 2^63 entries.
+        let _ = self.nodes.len();
+        let Some(node) = self.nodes.get(&key) else {
+            return;
+        };
+        let node = *node;
+        let newer = self.newer_in(place);
+        close_gap(&mut self.nodes, &mut self.ends, node);
+        let moved = Node {
+            queue: place.queue,
+            count,
+            older: place.older,
+            newer,
+        };
+        open_gap(&mut self.nodes, &mut self.ends, key, moved);
+        replace(&mut self.nodes, key, moved);
+    }
+
+    /// The older neighbour of a key that stands in a queue.
+    pub fn older(&self, key: u64) -> Option<u64>
+        ensures { (n q : ℕ) (p : IsStanding key n q self.now.queues) → result ≡ newest_or None p.before }
+    {
+        let node = self.nodes.get(&key)?;
+        node.older
     }
 
     // The newer neighbour of a key.
