@@ -20,8 +20,10 @@ use std::alloc::{AllocError, Global};
 use std::marker::{Model, PhantomData};
 use step_record::{Config, Engine, Item, Job, Key, MAX_STEPS, Outcome, Stats, StepFault};
 
-// Queues of so many keys are read ahead.
-const PREFETCH_FROM: usize = 4096;
+// The least capacity at which keys are prefetched. Smaller queues stay in the processor's caches, where prefetching costs
+// more than it spares; where keys are counted, the sketch shares the caches with them.
+const PREFETCH_FROM: usize = 65_536;
+const PREFETCH_FROM_WHERE_COUNTING: usize = 4096;
 
 /// Marks a cache whose policy is known by its job alone.
 #[derive(Drop)]
@@ -83,7 +85,12 @@ impl<P: Drop> QueueCache<P> {
     pub fn prefetch(&mut self, keys: &[Key])
         ensures { self.new ≡ self.old }
     {
-        if self.rules.capacity >= PREFETCH_FROM {
+        let least = if self.frequency.is_some() {
+            PREFETCH_FROM_WHERE_COUNTING
+        } else {
+            PREFETCH_FROM
+        };
+        if self.rules.capacity >= least {
             self.segments.prefetch(keys, 0);
         }
     }
