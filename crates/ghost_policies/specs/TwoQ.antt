@@ -1,0 +1,143 @@
+-- 2Q, the full version (Johnson and Shasha, VLDB 1994): a new key joins a1in, a first-in first-out queue. A key that
+-- leaves it is remembered in a1out, and joins am, which is in order of last access, when it comes again.
+use Rattle.std.specs.Prelude.{ℕ, ◌+◌, ◌/◌, ◌≤◌, max, nat_lt, ◌==◌, ◌||◌, if◌then◌else◌}
+use Rattle.std.specs.Prelude.{Option, None, List, [], ◌∷◌, ◌++◌, length, drop}
+use Rattle.step_record.specs.Keys.{has_key, keys_without}
+use Rattle.step_record.specs.declared.outcome.Outcome.{Outcome}
+use Rattle.step_record.specs.declared.outcome.Outcome.TheVariants.{Hit, Kept, Evicted}
+use Rattle.queue_policies.specs.Residents.{times}
+use Rattle.queue_policies.specs.Queues.{without_newest}
+use Rattle.queue_policies.specs.Ghost.{ghost_with, forgotten_key, ghost_before}
+use Rattle.queue_policies.specs.Ghost.{ghost_place_of, ghost_with_place}
+use Rattle.queue_policies.specs.declared.ghost_place.GhostPlace.{GhostPlace}
+use Rattle.queue_policies.specs.declared.ghost_place.GhostPlace.TheVariants.{Known, Unknown}
+use Rattle.queue_policies.specs.Ghost.{older_from, put_behind}
+use Rattle.ghost_policies.specs.declared.two_q.TwoQLeaver.{TwoQLeaver}
+use Rattle.ghost_policies.specs.declared.two_q.TwoQLeaver.TheVariants.{NoLeaver, FromA1in, FromAm}
+use Rattle.ghost_policies.specs.declared.two_q.TwoQMiss.{TwoQMiss}
+use Rattle.ghost_policies.specs.declared.two_q.TwoQRecord.{TwoQRecord}
+use Rattle.ghost_policies.specs.declared.two_q.TwoQRecord.TheVariants.{Renewed, Unmoved, Missed}
+
+-- the queues, oldest first
+pub record TwoQState : Type 0 where
+  pub a1in : List ℕ
+  pub a1out : List ℕ
+  pub am : List ℕ
+
+abbrev pub empty_two_q : TwoQState
+empty_two_q = record { a1in = []; a1out = []; am = [] }
+
+abbrev pub two_q_residents : TwoQState → List ℕ
+two_q_residents s = s.a1in ++ s.am
+
+-- a1in is to have a quarter of the capacity c, and a1out remembers as many keys as half of it
+abbrev pub kin : ℕ → ℕ
+kin c = max 1 (c / 4)
+
+abbrev pub kout : ℕ → ℕ
+kout c = max 1 (c / 2)
+
+-- ---- which key leaves
+
+abbrev pub leaver_of_a1in : List ℕ → TwoQLeaver
+leaver_of_a1in [] = NoLeaver
+leaver_of_a1in (v ∷ queue) = FromA1in v
+
+abbrev pub leaver_of_am : List ℕ → TwoQLeaver
+leaver_of_am [] = NoLeaver
+leaver_of_am (v ∷ queue) = FromAm v
+
+-- In a full cache the oldest of a1in leaves where that is over its size or am is empty, else the oldest of am.
+abbrev pub two_q_leaver : ℕ → TwoQState → TwoQLeaver
+two_q_leaver c s =
+    if nat_lt (length (two_q_residents s)) c
+    then NoLeaver
+    else if nat_lt (kin c) (length s.a1in) || length s.am == 0 then leaver_of_a1in s.a1in else leaver_of_am s.am
+
+-- ---- an access
+
+abbrev pub two_q_after_renewal : ℕ → TwoQState → TwoQState
+two_q_after_renewal k s = record s { am = keys_without k s.am ++ k ∷ [] }
+
+-- the key is no longer remembered
+abbrev pub two_q_after_recall : ℕ → TwoQState → TwoQState
+two_q_after_recall k s = record s { a1out = keys_without k s.a1out }
+
+-- a key that leaves a1in is remembered
+abbrev pub two_q_after_eviction : ℕ → TwoQLeaver → TwoQState → TwoQState
+two_q_after_eviction c NoLeaver s = s
+two_q_after_eviction c (FromA1in v) s =
+    record { a1in = drop 1 s.a1in; a1out = ghost_with (kout c) v s.a1out; am = s.am }
+two_q_after_eviction c (FromAm v) s = record s { am = drop 1 s.am }
+
+-- the key joins am where it was remembered, else a1in
+abbrev pub two_q_after_join : GhostPlace → ℕ → TwoQState → TwoQState
+two_q_after_join Unknown k s = record s { a1in = s.a1in ++ k ∷ [] }
+two_q_after_join (Known j older) k s = record s { am = s.am ++ k ∷ [] }
+
+abbrev pub two_q_after_miss : ℕ → ℕ → TwoQState → TwoQState
+two_q_after_miss c k s =
+    two_q_after_join (ghost_place_of k s.a1out) k (two_q_after_eviction c (two_q_leaver c s) (two_q_after_recall k s))
+
+abbrev pub two_q_outcome : TwoQLeaver → Outcome
+two_q_outcome NoLeaver = Kept
+two_q_outcome (FromA1in v) = Evicted v
+two_q_outcome (FromAm v) = Evicted v
+
+-- an access to k at capacity c: its outcome, and the state after it
+abbrev pub two_q_act : ℕ → ℕ → TwoQState → Outcome × TwoQState
+two_q_act c k s =
+    if has_key k s.am
+    then (Hit, two_q_after_renewal k s)
+    else if has_key k s.a1in then (Hit, s) else (two_q_outcome (two_q_leaver c s), two_q_after_miss c k s)
+
+-- ---- its record
+
+-- the key that a1out forgets for the one that leaves
+abbrev pub two_q_forgotten : ℕ → TwoQLeaver → TwoQState → Option ℕ
+two_q_forgotten c NoLeaver s = None
+two_q_forgotten c (FromA1in v) s = forgotten_key (kout c) v s.a1out
+two_q_forgotten c (FromAm v) s = None
+
+abbrev pub two_q_miss_of : ℕ → ℕ → TwoQState → TwoQMiss
+two_q_miss_of c k s = record {
+  place = ghost_place_of k s.a1out;
+  leaver = two_q_leaver c s;
+  forgotten = two_q_forgotten c (two_q_leaver c s) (two_q_after_recall k s);
+}
+
+-- the record of an access to k, from the state before it
+abbrev pub two_q_record_of : ℕ → ℕ → TwoQState → TwoQRecord
+two_q_record_of c k s =
+    if has_key k s.am
+    then Renewed k (older_from None k s.am)
+    else if has_key k s.a1in then Unmoved else Missed (two_q_miss_of c k s)
+
+-- ---- undoing it
+
+abbrev pub two_q_before_join : GhostPlace → TwoQState → TwoQState
+two_q_before_join Unknown s = record s { a1in = without_newest s.a1in }
+two_q_before_join (Known j older) s = record s { am = without_newest s.am }
+
+abbrev pub two_q_before_eviction : TwoQLeaver → Option ℕ → TwoQState → TwoQState
+two_q_before_eviction NoLeaver forgotten s = s
+two_q_before_eviction (FromA1in v) forgotten s =
+    record { a1in = v ∷ s.a1in; a1out = ghost_before forgotten s.a1out; am = s.am }
+two_q_before_eviction (FromAm v) forgotten s = record s { am = v ∷ s.am }
+
+abbrev pub two_q_before_recall : GhostPlace → TwoQState → TwoQState
+two_q_before_recall place s = record s { a1out = ghost_with_place place s.a1out }
+
+-- the state before an access, from its record and the state after it: what a miss did, in the opposite order
+abbrev pub two_q_undone : TwoQRecord → TwoQState → TwoQState
+two_q_undone (Renewed k older) s = record s { am = put_behind older k (without_newest s.am) }
+two_q_undone Unmoved s = s
+two_q_undone (Missed r) s =
+    two_q_before_recall r.place (two_q_before_eviction r.leaver r.forgotten (two_q_before_join r.place s))
+
+-- ---- a state of a cache of capacity c
+
+pub record IsTwoQ (c : ℕ) (s : TwoQState) : Type 0 where
+  pub fits : length s.a1in + length s.am ≤ c
+  pub few : length s.a1out ≤ kout c
+  pub distinct : (x : ℕ) → times x s.a1in + times x s.a1out + times x s.am ≤ 1

@@ -1,0 +1,10 @@
+//! Policies that remember keys which are no longer resident, read from their definitions alone: 2Q and ARC. Each access
+//! can be undone from a record of fixed size, and each miss keeps its key.
+#![tactic(auto)]
+
+mod arc;
+pub mod theorems;
+mod two_q;
+
+pub use arc::{ArcForgets, ArcGhost, ArcLeaver, ArcMiss, ArcPlan, ArcRecord};
+pub use two_q::{TwoQLeaver, TwoQMiss, TwoQRecord};

@@ -1,0 +1,14 @@
+//! The undo record of an access to a SIEVE cache.
+use step_record::Key;
+
+/// What an access to a SIEVE cache leaves to be undone from.
+#[derive(Clone, Copy, Debug)]
+pub enum SieveRecord {
+    /// A hit: the key, and its visited bit before.
+    Hit(Key, u8),
+    /// A miss, and none was evicted.
+    Kept,
+    /// A miss that evicted this key, after the hand had passed so many keys; and whether the hand wrapped when the key
+    /// left.
+    Evicted(Key, u32, bool),
+}
