@@ -1,15 +1,36 @@
-use Rattle.std.proofs.Common.{◌≡◌, true, false, ap, ◌∙◌, sym}
+use Rattle.std.proofs.Common.{◌≡◌, ◌⊎◌, inl, inr, true, false, ap, ◌∙◌, sym}
 use Rattle.step_record.specs.declared.job.Job.{Job}
-use Rattle.step_record.specs.declared.job.Policy.TheVariants.{Clairvoyant}
+use Rattle.step_record.specs.declared.job.Policy.{Policy}
+use Rattle.step_record.specs.declared.job.Policy.TheVariants.{Clairvoyant, Clock, Sieve, S3Fifo, TwoQ, Arc}
 use Rattle.policies.specs.Design.{has_queues}
 use Rattle.policies.specs.QueueCache.{QueueState}
 use Rattle.policies.proofs.Reached.{after-job}
 use Rattle.policies.proofs.access_loops.access_queues.Goals as goal
 
+not-of-queues : (p : Policy) → (p ≡ Clairvoyant) ⊎ ((p ≡ Clock) ⊎ ((p ≡ Sieve) ⊎ ((p ≡ S3Fifo) ⊎ ((p ≡ TwoQ) ⊎ (p ≡ Arc)))))
+    → has_queues p ≡ false
+not-of-queues p e =
+    elim e [
+      | inl x ↦ ap has_queues x
+      | inr f ↦ elim f [
+        | inl x ↦ ap has_queues x
+        | inr g ↦ elim g [
+          | inl x ↦ ap has_queues x
+          | inr h ↦ elim h [
+            | inl x ↦ ap has_queues x
+            | inr i ↦ elim i [
+              | inl x ↦ ap has_queues x
+              | inr x ↦ ap has_queues x
+            ]
+          ]
+        ]
+      ]
+    ]
+
 pub unreachable-requires : goal.unreachable-requires
 unreachable-requires c =
     let n = c.requires in
     let job : c.args.cache.now.job ≡ n.job = ap (λ (d : QueueState). d.job) n.stands.1.gives ∙ after-job n.job n.before in
-    let policy : n.job.policy ≡ Clairvoyant = sym (ap (λ (j : Job). j.policy) (c.job.ensures ∙ job)) ∙ c.in-Clairvoyant.is in
-    let no : false ≡ true = sym (ap has_queues policy) ∙ n.stands.0 in
+    let policy : c.job.result.policy ≡ n.job.policy = ap (λ (j : Job). j.policy) (c.job.ensures ∙ job) in
+    let no : false ≡ true = sym (not-of-queues c.job.result.policy c.in-Clairvoyant.is) ∙ (ap has_queues policy ∙ n.stands.0) in
     cc (no)
