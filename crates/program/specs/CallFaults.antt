@@ -37,6 +37,6 @@ BlamesCalls fault input read output written = AreServed input read output writte
 
 -- A fault was reported, by its line on the fault output from `silent` to `line`, that is one of these calls just where one
 -- failed.
-abbrev pub ReportsCalls : Option (List ℕ) → Option (List ℕ) → Tally → Tally → Tally → Tally → Type 0
-ReportsCalls silent line input read output written =
-    (fault : Fault) × IsReported fault silent line × BlamesCalls fault input read output written
+abbrev pub ReportsCalls : Tally → Tally → Option (List ℕ) → Option (List ℕ) → Tally → Tally → Tally → Tally → Type 0
+ReportsCalls old new silent line input read output written =
+    (fault : Fault) × IsReported fault old new silent line × BlamesCalls fault input read output written

@@ -21,6 +21,7 @@ use Rattle.command_line.specs.declared.arguments.Arguments.{Arguments}
 use Rattle.command_line.specs.declared.arguments.Arguments.TheVariants as asked
 use Rattle.program.specs.DebugOutput.{Debugging, KnownFiles, Replaying}
 use Rattle.program.specs.DriveOutput.{LeavesDrive}
+use Rattle.streams.specs.declared.tally.Tally.{Tally}
 use Rattle.program.specs.FaultLine.{IsReported}
 use Rattle.program.specs.Outcome.{AsksForSome, AsksHelp}
 use Rattle.program.specs.declared.fault.Fault.{Fault}
@@ -126,10 +127,10 @@ IsEndedEarly words Write Kept = IsRefused words AsksHelp
 IsEndedEarly words fault Kept = ⊥
 
 -- A fault ended the call, and its line was written to the fault output, from `silent` to `line`, or that of `OutOfMemory`
--- where there was no memory for it; a beginning of it where a write failed.
-pub record EndsInFault (words : List Text) (files : KnownFiles) (input before after silent line : Option (List ℕ))
-    (Kept : Type 0) : Type 0 where
+-- where there was no memory for it; all of it, or a beginning where the fault output failed, which counted `old` and `new`.
+pub record EndsInFault (words : List Text) (files : KnownFiles) (old new : Tally)
+    (input before after silent line : Option (List ℕ)) (Kept : Type 0) : Type 0 where
   pub fault : Fault
-  pub reported : IsReported fault silent line
+  pub reported : IsReported fault old new silent line
   pub ended : AsksForSome words (λ arguments. IsEnded arguments files fault input before after Kept)
       ⊎ IsEndedEarly words fault Kept

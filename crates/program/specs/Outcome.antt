@@ -1,5 +1,5 @@
 -- What the program has done at its end, by status.
-use Rattle.std.specs.Prelude.{◌≡◌, ◌⊎◌, ℕ, true, List, Option, Ok, Err}
+use Rattle.std.specs.Prelude.{◌≡◌, ◌⊎◌, ℕ, true, List, Option, Ok, Err, codes}
 use Rattle.std.specs.Io.KnownBytes.{Appends}
 use Rattle.clap.specs.Words.{IsAmong, Kinds, Text}
 use Rattle.clap.specs.declared.error.ErrorKind.{ErrorKind}
@@ -8,6 +8,9 @@ use Rattle.command_line.specs.ParseResult.{AsksFor, IsRefused}
 use Rattle.command_line.specs.declared.arguments.Arguments.{Arguments}
 use Rattle.command_line.specs.declared.arguments.Arguments.TheVariants as asked
 use Rattle.command_line.specs.declared.fault.ParseFault.{ParseFault}
+use Rattle.command_line.specs.declared.fault.ParseFault.TheVariants as parse
+use Rattle.streams.specs.declared.tally.Tally.{Tally}
+use Rattle.program.specs.FaultLine.{WritesLine}
 use Rattle.program.specs.DebugOutput.{Debugging, KnownFiles, Replaying}
 use Rattle.program.specs.DriveOutput.{IsDriven}
 use Rattle.program.specs.TraceOutput.{IsTextOf}
@@ -44,7 +47,13 @@ abbrev pub DoneBy : List Text → KnownFiles → Option (List ℕ) → Option (L
 DoneBy words files input before after =
     AsksForSome words (λ arguments. IsDone arguments files input before after) ⊎ IsRefused words AsksHelp
 
+-- the line of arguments that are incomplete
+abbrev pub usage_line : ParseFault → List ℕ
+usage_line parse.Stripes = codes "fault: Stripes\n"
+usage_line fault = codes "error: a policy or a number is missing\n"
+
 -- Status 2: the words are refused by clap, or taken and incomplete: they lack a number in its range or a known policy, or
 -- their number of read buffers is not a power of two from 1 to 64.
-abbrev pub RefusedBy : List Text → Type 0
-RefusedBy words = IsRefused words RefusesWords ⊎ ((fault : ParseFault) × AsksFor words (Err fault))
+abbrev pub RefusedBy : List Text → Tally → Tally → Option (List ℕ) → Option (List ℕ) → Type 0
+RefusedBy words old new silent line = IsRefused words RefusesWords
+    ⊎ ((fault : ParseFault) × AsksFor words (Err fault) × WritesLine old new silent line (usage_line fault))

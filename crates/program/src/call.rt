@@ -60,20 +60,22 @@ pub fn command<
         (W.contents out.old) (W.contents out.new) }
     ensures silent { result ≡ DONE → fault_out.new ≡ fault_out.old }
     // With status 1 a fault was found: one of the machine, or that of the words, the trace or the journal. Its line was
-    // written to the fault output, or a beginning of it where a write failed. What is found before anything is written,
+    // written to the fault output, whole unless a write or the flush of that output failed. What is found before anything is written,
     // as a faulty line of a trace, leaves the output as it was, and so does every fault of `run`, `sweep`,
     // `intervals`, `part` and `compare` but a failed write. A run of workers that was stopped has its journal written.
     ensures faulted { result ≡ FAULT → EndsInFault (map (λ s. s.now) words.now) (F.known files.now)
-        (R.remaining input.old) (W.contents out.old) (W.contents out.new) (X.contents fault_out.old)
-        (X.contents fault_out.new) (out.new ≡ out.old) }
+        (X.tally fault_out.old) (X.tally fault_out.new) (R.remaining input.old) (W.contents out.old) (W.contents out.new)
+        (X.contents fault_out.old) (X.contents fault_out.new) (out.new ≡ out.old) }
     // With status 0 no call of the input or the output failed, and the output is flushed; with status 1 one failed just
     // where the fault says so.
     ensures served { result ≡ DONE → AreServed (R.tally input.old) (R.tally input.new) (W.tally out.old)
         (W.tally out.new) × (W.is_flushed out.new ≡ true) }
-    ensures blamed { result ≡ FAULT → ReportsCalls (X.contents fault_out.old) (X.contents fault_out.new)
+    ensures blamed { result ≡ FAULT → ReportsCalls (X.tally fault_out.old) (X.tally fault_out.new)
+        (X.contents fault_out.old) (X.contents fault_out.new)
         (R.tally input.old) (R.tally input.new) (W.tally out.old) (W.tally out.new) }
-    // A usage error comes only where it is due, before anything is read or written.
-    ensures refused { result ≡ REFUSED → RefusedBy (map (λ s. s.now) words.now)
+    // A usage error comes only where it is due, before anything is read or written. Its line is written likewise.
+    ensures refused { result ≡ REFUSED → RefusedBy (map (λ s. s.now) words.now) (X.tally fault_out.old)
+        (X.tally fault_out.new) (X.contents fault_out.old) (X.contents fault_out.new)
         × (input.new ≡ input.old) × (out.new ≡ out.old) }
 {
     let arguments = match command_line::parse(alloc, words) {
@@ -104,11 +106,13 @@ fn answer<W: CountedWrite, X: CountedWrite>(
     ensures done { result ≡ DONE → is_help (kind_of error.now) }
     ensures silent { result ≡ DONE → fault_out.new ≡ fault_out.old }
     ensures faulted { result ≡ FAULT
-        → (IsReported Fault.OutOfMemory (X.contents fault_out.old) (X.contents fault_out.new) × (out.new ≡ out.old))
-        ⊎ (IsReported Fault.Write (X.contents fault_out.old) (X.contents fault_out.new) × is_help (kind_of error.now)) }
+        → (IsReported Fault.OutOfMemory (X.tally fault_out.old) (X.tally fault_out.new) (X.contents fault_out.old)
+            (X.contents fault_out.new) × (out.new ≡ out.old))
+        ⊎ (IsReported Fault.Write (X.tally fault_out.old) (X.tally fault_out.new) (X.contents fault_out.old)
+            (X.contents fault_out.new) × is_help (kind_of error.now)) }
     ensures served { result ≡ DONE → IsServed (W.tally out.old) (W.tally out.new) × (W.is_flushed out.new ≡ true) }
-    ensures blamed { result ≡ FAULT → (input : Tally) → ReportsCalls (X.contents fault_out.old)
-        (X.contents fault_out.new) input input (W.tally out.old) (W.tally out.new) }
+    ensures blamed { result ≡ FAULT → (input : Tally) → ReportsCalls (X.tally fault_out.old) (X.tally fault_out.new)
+        (X.contents fault_out.old) (X.contents fault_out.new) input input (W.tally out.old) (W.tally out.new) }
     ensures refused { result ≡ REFUSED → (¬ is_help (kind_of error.now))
         × (kind_of error.now ≢ ErrorKind.OutOfMemory) × (out.new ≡ out.old) }
 {

@@ -1,7 +1,6 @@
 //! How the program ends: its statuses, and the line that reports a fault.
 ghost use Rattle.std.specs.Prelude.{◌≡◌};
-ghost use Rattle.streams.specs.Part.{AppendsPart};
-ghost use Rattle.program.specs.FaultLine.{IsReported};
+ghost use Rattle.program.specs.FaultLine.{IsReported, WritesLine};
 ghost use Rattle.program.specs.declared.fault_report.TheConstants.{FAULT, REFUSED};
 
 use crate::fault::Fault;
@@ -24,7 +23,8 @@ const OUT_OF_MEMORY: &[u8] = b"fault: OutOfMemory\n";
 /// none.
 pub fn report_fault<X: CountedWrite>(alloc: Global, fault: Fault, fault_out: &mut X) -> u8
     ensures status { result ≡ FAULT }
-    ensures reported { IsReported fault (X.contents fault_out.old) (X.contents fault_out.new) }
+    ensures reported { IsReported fault (X.tally fault_out.old) (X.tally fault_out.new) (X.contents fault_out.old)
+        (X.contents fault_out.new) }
 {
     if !matches!(fault, Fault::OutOfMemory)
         && let Ok(line) = format!(in alloc; "fault: {fault}\n")
@@ -38,7 +38,9 @@ pub fn report_fault<X: CountedWrite>(alloc: Global, fault: Fault, fault_out: &mu
 
 /// Reports a usage error by its line.
 pub fn report_usage_error<X: CountedWrite>(line: &[u8], fault_out: &mut X) -> u8
-    ensures { result ≡ REFUSED }
+    ensures status { result ≡ REFUSED }
+    ensures line { WritesLine (X.tally fault_out.old) (X.tally fault_out.new) (X.contents fault_out.old)
+        (X.contents fault_out.new) line.now }
 {
     report_line(line, fault_out);
     REFUSED
@@ -46,7 +48,8 @@ pub fn report_usage_error<X: CountedWrite>(line: &[u8], fault_out: &mut X) -> u8
 
 /// Writes a line to the fault output; where that fails too, the status alone reports.
 pub fn report_line<X: CountedWrite>(line: &[u8], fault_out: &mut X)
-    ensures { AppendsPart (X.contents fault_out.old) (X.contents fault_out.new) line.now }
+    ensures { WritesLine (X.tally fault_out.old) (X.tally fault_out.new) (X.contents fault_out.old)
+        (X.contents fault_out.new) line.now }
 {
     let _ = streams::write_all(fault_out, line);
 }

@@ -1,9 +1,6 @@
 //! The limits that the documents name, and the statuses, by their values: where one is changed, its line here is no
 //! longer proved.
-ghost use Rattle.std.specs.Prelude.{◌≡◌, [], ◌∷◌};
-ghost use Rattle.step_record.specs.declared.job.Policy.TheVariants.{Clairvoyant, Lru, SegmentedLru, TinyLfuLru};
-ghost use Rattle.step_record.specs.declared.job.Policy.TheVariants.{TinyLfuSegmented, WindowTinyLfu};
-ghost use Rattle.step_record.specs.declared.job.TheConstants.{POLICIES};
+ghost use Rattle.std.specs.Prelude.{◌≡◌};
 ghost use Rattle.program.specs.declared.fault_report.TheConstants.{DONE, FAULT, REFUSED};
 
 use crate::files::MAX_FILE_BYTES;
@@ -42,9 +39,4 @@ const _: () = prove!(
 // The statuses.
 fn statuses()
     ensures { (DONE ≡ 0) × (FAULT ≡ 1) × (REFUSED ≡ 2) }
-{}
-
-// Each policy, and none twice.
-fn policies()
-    ensures { POLICIES ≡ Lru ∷ SegmentedLru ∷ TinyLfuLru ∷ TinyLfuSegmented ∷ WindowTinyLfu ∷ Clairvoyant ∷ [] }
 {}

@@ -15,7 +15,7 @@ use Rattle.streams.proofs.Tallies.{uncalled}
 use Rattle.program.specs.CallFaults.{AreServed, BlamesCalls, IsOfRead, IsOfWrite}
 use Rattle.program.specs.declared.fault.Fault.{Fault}
 use Rattle.program.specs.declared.fault.Fault.TheVariants.{Debug, Trace, Write, OutOfMemory}
-use Rattle.program.specs.Outcome.{AsksHelp, RefusedBy, is_help}
+use Rattle.program.specs.Outcome.{AsksHelp, RefusesWords, is_help}
 use Rattle.program.proofs.call.command.Goals as goal
 
 neither : {P Q : Type 0} → (P → ⊥) → (Q → ⊥) → P ⊎ Q → ⊥
@@ -49,8 +49,8 @@ among : (kinds : Kinds) (e : Error) → HasKind kinds e → kind_of e ≢ kind.O
 among kinds e (inl h) n = absurd (n h)
 among kinds e (inr h) n = h
 
-refused_by : (words : List Text) (e : Error) → ParsedBy words (Err (Refused e)) → ¬ is_help (kind_of e) → kind_of e ≢ kind.OutOfMemory → RefusedBy words
-refused_by words e p h n = inl (record { lists = p.lists; are = p.are; refused = (kind_of e, h, among _ e p.refused n) })
+refused_by : (words : List Text) (e : Error) → ParsedBy words (Err (Refused e)) → ¬ is_help (kind_of e) → kind_of e ≢ kind.OutOfMemory → IsRefused words RefusesWords
+refused_by words e p h n = record { lists = p.lists; are = p.are; refused = (kind_of e, h, among _ e p.refused n) }
 
 help_out : (e : Error) → is_help (kind_of e) → kind_of e ≢ kind.OutOfMemory
 help_out e (inl h) same = let no : kind.DisplayHelp ≡ kind.OutOfMemory = subst (λ k. k ≡ kind.OutOfMemory) h same in absurd (cc no)
@@ -68,17 +68,17 @@ pub returns-in-Err-Refused-clause-refused : goal.returns-in-Err-Refused-clause-r
 returns-in-Err-Refused-clause-refused g c two =
     let p = parsed _ _ _ (c.in-Err-Refused.is ∙ ap Err c.in-Err-Refused.field-0-is) c.parse.ensures.parsed in
     let a = c.answer.ensures.refused two in
-    (refused_by _ c.in-Err-Refused.error p a.0 a.1, refl, a.2)
+    (inl (refused_by _ c.in-Err-Refused.error p a.0 a.1), refl, a.2)
 
 pub returns-in-Err-Stripes-clause-refused : goal.returns-in-Err-Stripes-clause-refused
 returns-in-Err-Stripes-clause-refused g c two =
     let e : c.parse.result ≡ Err Stripes = search rules in
-    (inr (Stripes, parsed _ _ _ e c.parse.ensures.parsed), refl, refl)
+    (inr (Stripes, parsed _ _ _ e c.parse.ensures.parsed, search rules), refl, refl)
 
 pub returns-in-Err-Incomplete-clause-refused : goal.returns-in-Err-Incomplete-clause-refused
 returns-in-Err-Incomplete-clause-refused g c two =
     let e : c.parse.result ≡ Err Incomplete = search rules in
-    (inr (Incomplete, parsed _ _ _ e c.parse.ensures.parsed), refl, refl)
+    (inr (Incomplete, parsed _ _ _ e c.parse.ensures.parsed, search rules), refl, refl)
 
 pub returns-in-Err-Refused-clause-faulted : goal.returns-in-Err-Refused-clause-faulted
 returns-in-Err-Refused-clause-faulted g c one =
