@@ -1,7 +1,9 @@
 -- The bytes of a journal, line by line.
-use Rattle.std.proofs.Common.{◌≡◌, ◌≢◌, ◌∙◌, ◌<◌, ◌+◌, ◌==◌, inl, inr, ℕ, Bool, true, false, List, [], ◌∷◌, ◌++◌, length, ap, sym, refl, subst, arith, Option, Result, Ok, Err, append_assoc}
+use Rattle.std.proofs.Common.{◌≡◌, ◌≢◌, ◌∙◌, ◌<◌, ◌+◌, ◌==◌, inl, inr, ℕ, Bool, true, false, List, [], ◌∷◌, ◌++◌, length, ap, sym, refl, subst, arith, Option, Result, Ok, Err, append_assoc, take, drop}
+use Rattle.std.specs.List.{flat_map}
+use Rattle.std.proofs.lemmas.Grind.{flat_map-append}
 use Rattle.std.proofs.lemmas.List.Elements.{All-from_recursion, All-push}
-use Rattle.std.proofs.lemmas.List.{append-nil, flat_map_more}
+use Rattle.std.proofs.lemmas.List.{append-nil, flat_map_more, take-append-drop}
 use Rattle.std.specs.Prelude.{IfErr, IsErrAnd, OnOk}
 use Rattle.journal_text.specs.Faults.{IsFault, IsUnread, IsWrong, TakesLine}
 use Rattle.journal_text.specs.Journal.{begun, ended_line, entry_line, header, journal_of, AreLines, IsTextOf}
@@ -25,6 +27,14 @@ begun_none v = append-nil (ended_line (header v))
 pub begun_more : (v : Version) (es : Entries) (e : Entry Step Reply) → begun v (es ++ e ∷ []) ≡ begun v es ++ entry_line e
 unfolding begun
 begun_more v es e = sym (flat_map_more entry_line (ended_line (header v)) es e)
+
+-- the lines of the first entries come before those of the others
+pub begun_front : (v : Version) (n : ℕ) (es : Entries) → begun v es ≡ begun v (take n es) ++ flat_map entry_line (drop n es)
+unfolding begun
+begun_front v n es =
+    ap (λ l. ended_line (header v) ++ flat_map entry_line l) (sym (take-append-drop n es))
+    ∙ ap (λ b. ended_line (header v) ++ b) (flat_map-append entry_line (take n es) (drop n es))
+    ∙ sym (append_assoc (ended_line (header v)) (flat_map entry_line (take n es)) (flat_map entry_line (drop n es)))
 
 -- the first line is one line
 pub same_line : (a b x y : List ℕ) → HasNoFeed a → HasNoFeed b → ended_line a ++ x ≡ ended_line b ++ y → (a ≡ b) × (lines_of x ≡ lines_of y)
