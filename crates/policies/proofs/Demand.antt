@@ -2,6 +2,7 @@
 use Rattle.std.proofs.Common.{◌≡◌, ◌⊎◌, ℕ, suc, ◌+◌, ◌<◌, ◌≤◌, ◌==◌, true, false, cond, eqb, Option, Some, None, List, [], ◌∷◌, ◌++◌, length, take, zero, get_or, ap, ◌∙◌, sym, refl, subst, arith, inl, inr}
 use Rattle.std.specs.List.{count_by}
 use Rattle.std.proofs.lemmas.Bool.{cases_Bool, eqb-true}
+use Rattle.std.proofs.lemmas.List.{length-map}
 use Rattle.std.proofs.lemmas.List.Sums.{sum_by-cons}
 use Rattle.step_record.specs.declared.limits.TheConstants.{MAX_STEPS}
 use Rattle.step_record.specs.declared.job.Job.{Job}
@@ -20,7 +21,7 @@ use Rattle.demand_cache.specs.DemandCache.{DemandState, state_with, demand_act}
 use Rattle.demand_cache.specs.Theorems.{DemandKeeps}
 use Rattle.policies.specs.declared.design.Design.{Design}
 use Rattle.policies.specs.declared.design.Design.TheVariants.{Queues, KnowsTrace, Demand}
-use Rattle.policies.specs.AnyPolicy.{IsDemandAfter, demand_outcomes}
+use Rattle.policies.specs.AnyPolicy.{IsDemandAfter, demand_run, demand_outcomes}
 use Rattle.policies.proofs.Reached.{has-room}
 
 -- ---- any machine over lists
@@ -54,6 +55,19 @@ module _ {S : Type 0} (c : ℕ) (start : S) (act : ℕ → S → Outcome × S) (
 
   pub kept-after : (keys : List ℕ) → IsState (state_after_all act start keys)
   kept-after keys = kept-from start keys all.starts.0
+
+-- ---- with room for a key
+
+pub with-room : (p : DemandPolicy) (c : ℕ) (keys : List ℕ) → 1 ≤ c → demand_outcomes p c keys ≡ demand_run p c keys
+with-room p zero keys h = absurd (omega arith)
+with-room p (suc c) keys h = refl
+
+pub demand-room : (j : Job) (keys : List ℕ) (d : DemandState) → IsDemandAfter j keys d → 1 ≤ j.config.capacity
+demand-room j keys d s = has-room j.config s.checked
+
+pub demand-long : (p : DemandPolicy) (c : ℕ) (keys : List ℕ) → length (demand_outcomes p c keys) ≡ length keys
+demand-long p zero keys = length-map keys (λ k. Rejected k)
+demand-long p (suc c) keys = outcomes-long queues_act (empty_queues p (suc c)) keys
 
 -- ---- an accepted access
 
@@ -121,7 +135,7 @@ demand-one j keys d e a b =
     let same : a.policy ≡ b.policy = ap (policy_or a.policy) (sym a.design ∙ b.design) in
     let queues : d.queues ≡ e.queues =
     a.queues ∙ (ap (λ p. state_after_all queues_act (empty_queues p j.config.capacity) keys) same ∙ sym b.queues) in
-    let stats : d.stats ≡ e.stats = a.stats ∙ (ap (λ p. stats_of (demand_outcomes p j.config.capacity keys)) same ∙ sym b.stats) in
+    let stats : d.stats ≡ e.stats = a.stats ∙ (ap (λ p. stats_of (demand_run p j.config.capacity keys)) same ∙ sym b.stats) in
     ap (λ q. record { queues = q; stats = d.stats }) queues ∙ ap (λ x. record { queues = e.queues; stats = x }) stats
 
 -- ---- the residents

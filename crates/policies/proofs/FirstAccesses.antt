@@ -14,7 +14,7 @@ use Rattle.policies.proofs.Answered.{outcomes-length}
 use Rattle.demand_cache.specs.DemandQueues.{queues_act, empty_queues}
 use Rattle.policies.specs.AnyPolicy.{outcomes_by}
 use Rattle.policies.specs.Design.{design_of}
-use Rattle.policies.proofs.Demand.{outcomes-first}
+use Rattle.policies.proofs.Demand.{outcomes-first, with-room, demand-room}
 use Rattle.policies.proofs.StepLaws.{any_covers_trace, any_reports, outcomes-of-queues, outcomes-of-optimal}
 use Rattle.policies.proofs.Counting.{after-counts}
 
@@ -54,6 +54,7 @@ within_trace j trace n (Optimal d) le s =
     ∙ ap (λ os. stats_of (take n os)) (sym (outcomes-of-optimal (design_of j.policy) j trace s.policy))
 within_trace j trace n (Demand d) le s =
     s.stats ∙ ap stats_of (outcomes-first queues_act (empty_queues s.policy j.config.capacity) n trace)
+    ∙ ap (λ os. stats_of (take n os)) (sym (with-room s.policy j.config.capacity trace (demand-room j (take n trace) d s)))
     ∙ ap (λ z. stats_of (take n (outcomes_by z j trace))) (sym s.design)
 
 -- a cache that made the first accesses has counted their outcomes, of which there may be fewer

@@ -1,5 +1,5 @@
 -- How many keys are resident in a cache of any policy.
-use Rattle.std.proofs.Common.{◌≡◌, ℕ, zero, suc, ◌+◌, ◌≤◌, eqb, true, nat_lt, ◌==◌, Option, Some, None, List, length, get_or, ap, ◌∙◌, sym, refl, subst, arith, inl, inr}
+use Rattle.std.proofs.Common.{◌≡◌, ℕ, zero, suc, ◌+◌, ◌≤◌, eqb, true, nat_lt, ◌==◌, cond, map, Option, Some, None, List, [], ◌∷◌, length, get_or, ap, ◌∙◌, sym, refl, subst, arith, inl, inr}
 use Rattle.std.specs.List.{count_by}
 use Rattle.std.proofs.lemmas.Bool.{cases_Bool}
 use Rattle.step_record.specs.declared.limits.TheConstants.{MAX_STEPS}
@@ -9,7 +9,10 @@ use Rattle.policies.specs.QueueStep.{recorded_in, queue_act}
 use Rattle.policies.specs.AnyPolicy.{any_residents, outcomes_by, outcomes_on, stats_on, demand_outcomes}
 use Rattle.policies.specs.declared.design.Design.{Design}
 use Rattle.policies.specs.declared.design.Design.TheVariants as design
-use Rattle.policies.specs.Design.{design_of, is_demand}
+use Rattle.policies.specs.Design.{design_of}
+use Rattle.demand_cache.specs.declared.demand_queues.DemandQueues.{DemandQueues}
+use Rattle.std.proofs.lemmas.List.Sums.{sum_by-cons}
+use Rattle.step_record.specs.declared.outcome.Outcome.TheVariants.{Rejected}
 use Rattle.demand_cache.specs.declared.demand_queues.DemandPolicy.{DemandPolicy}
 use Rattle.demand_cache.specs.DemandCache.{demand_act, state_with}
 use Rattle.demand_cache.specs.DemandQueues.{queues_act, queues_residents, empty_queues, IsQueues}
@@ -91,24 +94,34 @@ queues-fit j trace =
 optimal-fit : (c : ℕ) (t : List ℕ) (i : ℕ) → (stats_of (belady_outcomes c t i)).misses ≤ (stats_of (belady_outcomes c t i)).evictions + c
 optimal-fit c t i = let counted = belady-counted c t i in let few = belady-residents-fit c t i in omega (arith, counted, few)
 
-demand-fit : DemandKeeps → (p : DemandPolicy) (c : ℕ) (t : List ℕ) → 1 ≤ c
+none-kept : (t : List ℕ) → (stats_of (map (λ k. Rejected k) t)).misses ≤ (stats_of (map (λ k. Rejected k) t)).evictions
+none-kept [] = omega arith
+none-kept (k ∷ t) =
+    let rest = none-kept t in
+    let misses = sum_by-cons (λ x. cond (is_miss x) 1 0) (Rejected k) (map (λ k. Rejected k) t) in
+    let evictions = sum_by-cons (λ x. cond (is_eviction x) 1 0) (Rejected k) (map (λ k. Rejected k) t) in
+    omega (arith, rest, misses, evictions)
+
+demand-fit : DemandKeeps → (p : DemandPolicy) (c : ℕ) (t : List ℕ)
     → (stats_of (demand_outcomes p c t)).misses ≤ (stats_of (demand_outcomes p c t)).evictions + c
-demand-fit law p c t h =
-    let all : KeepsResidents c (empty_queues p c) queues_act queues_residents (IsQueues c) = law p c h in
-    let sum = counts-residents c (empty_queues p c) queues_act queues_residents (IsQueues c) all t in
-    let state = state_after_all queues_act (empty_queues p c) t in
-    let few = (all.holds state (kept-after c (empty_queues p c) queues_act queues_residents (IsQueues c) all t)).fits in
+demand-fit law p zero t = let few = none-kept t in omega (arith, few)
+demand-fit law p (suc c) t =
+    let start : DemandQueues = empty_queues p (suc c) in
+    let all : KeepsResidents (suc c) start queues_act queues_residents (IsQueues (suc c)) = law p (suc c) (omega arith) in
+    let sum = counts-residents (suc c) start queues_act queues_residents (IsQueues (suc c)) all t in
+    let state = state_after_all queues_act start t in
+    let few = (all.holds state (kept-after (suc c) start queues_act queues_residents (IsQueues (suc c)) all t)).fits in
     omega (arith, sum, few)
 
-fit-by : DemandKeeps → (x : Design) (j : Job) (trace : List ℕ) → (is_demand x ≡ true → 1 ≤ j.config.capacity)
+fit-by : DemandKeeps → (x : Design) (j : Job) (trace : List ℕ)
     → (stats_of (outcomes_by x j trace)).misses ≤ (stats_of (outcomes_by x j trace)).evictions + j.config.capacity
-fit-by law (design.Queues q) j trace h = subst (λ (s : Stats). s.misses ≤ s.evictions + j.config.capacity) (after-counts j trace) (queues-fit j trace)
-fit-by law design.KnowsTrace j trace h = optimal-fit j.config.capacity trace (length trace)
-fit-by law (design.Demand p) j trace h = demand-fit law p j.config.capacity trace (h refl)
+fit-by law (design.Queues q) j trace = subst (λ (s : Stats). s.misses ≤ s.evictions + j.config.capacity) (after-counts j trace) (queues-fit j trace)
+fit-by law design.KnowsTrace j trace = optimal-fit j.config.capacity trace (length trace)
+fit-by law (design.Demand p) j trace = demand-fit law p j.config.capacity trace
 
 pub misses_fit : DemandKeeps → MissesFit
 unfolding stats_on
-misses_fit law j trace h = fit-by law (design_of j.policy) j trace h
+misses_fit law j trace = fit-by law (design_of j.policy) j trace
 
 -- ---- no key twice
 

@@ -17,14 +17,14 @@ use Rattle.demand_cache.specs.Theorems.{HitsAskNothing}
 use Rattle.policies.specs.declared.design.Design.{Design}
 use Rattle.policies.specs.declared.design.Design.TheVariants as design
 use Rattle.policies.specs.Design.{design_of, is_of_queues, is_optimal}
-use Rattle.policies.specs.AnyPolicy.{stats_on, outcomes_by, IsBeladyAt, IsDemandAfter}
+use Rattle.policies.specs.AnyPolicy.{stats_on, outcomes_by, demand_run, IsBeladyAt}
 use Rattle.policies.specs.AnyStep.{as_queues, as_optimal, as_demand}
 use Rattle.policies.specs.AnyCounts.{IsQueueStep, IsOptimalStep, IsDemandStep, queue_step, optimal_step, demand_step}
 use Rattle.policies.specs.Theorems.{AnyStepLaw, AnyAccepts, AnyIsOne, AnyReports, AnyAnswers, AnyCoversTrace, AnyHitsKeepAll}
 use Rattle.policies.proofs.Leaving.{hits_keep_all}
 use Rattle.policies.proofs.Counting.{after-counts}
 use Rattle.policies.proofs.Answered.{after-answers, after-length, at-answers, outcomes-length}
-use Rattle.policies.proofs.Demand.{IsDemandAccess, demand-access, demand_stands, demand-refused, demand-accesses, demand-one, outcomes-long, outcomes-at}
+use Rattle.policies.proofs.Demand.{IsDemandAccess, demand-access, demand_stands, demand-refused, demand-accesses, demand-one, outcomes-at, with-room, demand-room, demand-long}
 use Rattle.policies.proofs.Reached.{act_stands, act_accepts, stands-accesses}
 
 -- a cache that knows the trace, at its place
@@ -152,14 +152,16 @@ any_reports j trace (Queues d) s =
 any_reports j trace (Optimal d) s =
     ap (λ (x : ClairvoyantState). x.stats) s.gives
     ∙ ap stats_of (sym (outcomes-of-optimal (design_of j.policy) j trace s.policy))
-any_reports j trace (Demand d) s = s.stats ∙ ap (λ x. stats_of (outcomes_by x j trace)) (sym s.design)
+any_reports j trace (Demand d) s =
+    s.stats ∙ ap stats_of (sym (with-room s.policy j.config.capacity trace (demand-room j trace d s)))
+    ∙ ap (λ x. stats_of (outcomes_by x j trace)) (sym s.design)
 
 -- the outcomes over the whole trace
 
 covers-by : (x : Design) (j : Job) (trace : List ℕ) → length (outcomes_by x j trace) ≡ length trace
 covers-by (design.Queues q) j trace = after-length j trace
 covers-by design.KnowsTrace j trace = outcomes-length j.config.capacity trace (length trace)
-covers-by (design.Demand p) j trace = outcomes-long queues_act (empty_queues p j.config.capacity) trace
+covers-by (design.Demand p) j trace = demand-long p j.config.capacity trace
 
 pub any_covers_trace : AnyCoversTrace
 any_covers_trace j trace = covers-by (design_of j.policy) j trace
@@ -185,7 +187,8 @@ any_answers law j trace keys rest k (Demand d) o e x t s h =
     (demand-access d k o q.next q.steps).outcome
     ∙ ap (λ z. (queues_act k z).0) s.queues
     ∙ sym (outcomes-at queues_act start keys rest k x)
-    ∙ ap (λ l. get_or (outcomes_by (design.Demand s.policy) j l) (length keys) x) (sym t)
+    ∙ ap (λ l. get_or (demand_run s.policy j.config.capacity l) (length keys) x) (sym t)
+    ∙ ap (λ os. get_or os (length keys) x) (sym (with-room s.policy j.config.capacity trace (demand-room j keys d s)))
     ∙ ap (λ z. get_or (outcomes_by z j trace) (length keys) x) (sym s.design)
 
 -- undoing a hit asks for no room

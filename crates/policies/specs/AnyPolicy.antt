@@ -1,7 +1,8 @@
 -- What a cache of any policy shows, and what a job over a trace comes to.
-use Rattle.std.specs.Prelude.{◌≡◌, ℕ, ◌≤◌, true, Option, None, Ok, List, length, take}
+use Rattle.std.specs.Prelude.{◌≡◌, ℕ, zero, suc, ◌≤◌, true, Option, None, Ok, List, length, map, take}
 use Rattle.step_record.specs.declared.job.Job.{Job}
 use Rattle.step_record.specs.declared.outcome.Outcome.{Outcome}
+use Rattle.step_record.specs.declared.outcome.Outcome.TheVariants.{Rejected}
 use Rattle.step_record.specs.declared.stats.Stats.{Stats}
 use Rattle.step_record.specs.Config.{config_fault}
 use Rattle.step_record.specs.Stats.{stats_of}
@@ -22,8 +23,13 @@ use Rattle.policies.specs.QueueCache.{outcomes_after, residents_in, StandsFor}
 -- ---- a job over a trace
 
 -- the outcomes of the accesses to the keys of a trace by a policy that keeps each missed key, at capacity c
+abbrev pub demand_run : DemandPolicy → ℕ → List ℕ → List Outcome
+demand_run p c trace = outcomes_of_all queues_act (empty_queues p c) trace
+
+-- without room each key is rejected (no configuration that is accepted has a capacity of 0)
 abbrev pub demand_outcomes : DemandPolicy → ℕ → List ℕ → List Outcome
-demand_outcomes p c trace = outcomes_of_all queues_act (empty_queues p c) trace
+demand_outcomes p zero trace = map (λ k. Rejected k) trace
+demand_outcomes p (suc c) trace = demand_run p (suc c) trace
 
 abbrev pub outcomes_by : Design → Job → List ℕ → List Outcome
 outcomes_by (design.Queues d) j trace = outcomes_after j trace
@@ -69,7 +75,7 @@ pub record IsDemandAfter (j : Job) (keys : List ℕ) (d : DemandState) : Type 0 
   pub design : design_of j.policy ≡ design.Demand policy
   pub checked : config_fault j.config ≡ Ok tt
   pub queues : d.queues ≡ state_after_all queues_act (empty_queues policy j.config.capacity) keys
-  pub stats : d.stats ≡ stats_of (demand_outcomes policy j.config.capacity keys)
+  pub stats : d.stats ≡ stats_of (demand_run policy j.config.capacity keys)
 
 -- the cache runs the job over the trace, and the keys are the accesses that it made
 abbrev pub HasAccessed : Job → List ℕ → List ℕ → AnyPolicy → Type 0

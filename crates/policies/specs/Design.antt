@@ -77,11 +77,6 @@ is_of_queues (Queues d) = true
 is_of_queues KnowsTrace = false
 is_of_queues (Demand p) = false
 
-abbrev pub is_demand : Design → Bool
-is_demand (Queues d) = false
-is_demand KnowsTrace = false
-is_demand (Demand p) = true
-
 -- ---- a policy
 
 -- the rules of a job's policy
@@ -99,7 +94,3 @@ knows_trace p = is_optimal (design_of p)
 -- whether the policy is one of the table of moves
 abbrev pub has_queues : Policy → Bool
 has_queues p = is_of_queues (design_of p)
-
--- whether the policy keeps each missed key in a cache of its own, which takes room for one at least
-abbrev pub keeps_misses : Policy → Bool
-keeps_misses p = is_demand (design_of p)

@@ -7,7 +7,6 @@ use Rattle.step_record.specs.declared.outcome.Outcome.{Outcome}
 use Rattle.policies.specs.declared.any_policy.AnyPolicy.{AnyPolicy}
 use Rattle.policies.specs.AnyPolicy.{HasAccessed, any_residents, stats_in, stats_on}
 use Rattle.policies.specs.AnyStep.{any_act}
-use Rattle.policies.specs.Design.{keeps_misses}
 
 -- A cache of any policy never holds more keys than its capacity.
 abbrev pub ResidentsFit : Type 0
@@ -41,8 +40,7 @@ abbrev pub StatsAddUp : Type 0
 StatsAddUp = (j : Job) (trace : List ℕ) → ((stats_on j trace).accesses ≡ length trace)
     × ((stats_on j trace).hits + (stats_on j trace).misses ≡ length trace)
 
--- The misses minus the evictions are at most the capacity: that many keys are resident at the end. (A policy that keeps
--- each missed key has room for one at least.)
+-- The misses minus the evictions are at most the capacity: that many keys are resident at the end.
 abbrev pub MissesFit : Type 0
-MissesFit = (j : Job) (trace : List ℕ) → (keeps_misses j.policy ≡ true → 1 ≤ j.config.capacity)
+MissesFit = (j : Job) (trace : List ℕ)
     → (stats_on j trace).misses ≤ (stats_on j trace).evictions + j.config.capacity

@@ -1,21 +1,36 @@
 -- Every policy beside Belady's optimal policy.
-use Rattle.std.proofs.Common.{◌≡◌, ◌⊎◌, ℕ, zero, suc, ◌+◌, ◌<◌, ◌≤◌, true, false, List, [], ◌∷◌, ◌++◌, length, take, get_or, ap, ◌∙◌, sym, refl, arith, inl, inr}
-use Rattle.std.proofs.lemmas.Bool.{cases_Bool}
+use Rattle.std.proofs.Common.{◌≡◌, ◌⊎◌, ℕ, zero, suc, ◌+◌, ◌<◌, ◌≤◌, true, false, cond, map, count_by, List, [], ◌∷◌, ◌++◌, length, take, get_or, ap, ◌∙◌, sym, refl, arith, inl, inr}
+use Rattle.std.proofs.lemmas.List.Sums.{sum_by-cons}
 use Rattle.std.proofs.lemmas.List.{take_more, take_all}
 use Rattle.step_record.specs.Keys.{has_key}
 use Rattle.step_record.specs.Stats.{is_hit, one_if}
 use Rattle.step_record.specs.declared.job.Job.{Job}
 use Rattle.step_record.specs.declared.stats.Stats.{Stats}
-use Rattle.policies.specs.Design.{knows_trace}
+use Rattle.policies.specs.declared.design.Design.{Design}
+use Rattle.policies.specs.declared.design.Design.TheVariants as design
+use Rattle.policies.specs.Design.{design_of, has_queues, is_of_queues, is_optimal, knows_trace}
+use Rattle.step_record.specs.declared.outcome.Outcome.{Outcome}
+use Rattle.step_record.specs.declared.outcome.Outcome.TheVariants.{Rejected}
+use Rattle.step_record.specs.Stats.{stats_of}
+use Rattle.queue_policies.specs.Residents.{KeepsResidents, outcomes_of_all}
+use Rattle.demand_cache.specs.declared.demand_queues.DemandPolicy.{DemandPolicy}
+use Rattle.demand_cache.specs.declared.demand_queues.DemandQueues.{DemandQueues}
+use Rattle.demand_cache.specs.DemandCache.{DemandState}
+use Rattle.demand_cache.specs.DemandQueues.{empty_queues, queues_act, queues_residents, IsQueues}
+use Rattle.demand_cache.specs.Theorems.{DemandKeeps}
+use Rattle.policies.proofs.StepLaws.{outcomes-of-queues, outcomes-of-optimal}
+use Rattle.policies.proofs.Demand.{demand-keeping}
+use Rattle.policy_laws.proofs.Strategies.{residents_at, strategy as demand-strategy, hits-are as demand-hits, beaten}
 use Rattle.policies.specs.QueueCache.{QueueState, residents_in, access_response, queue_state_after, frequency_after, state_after}
-use Rattle.policies.specs.AnyPolicy.{stats_on}
-use Rattle.policies.specs.declared.any_policy.AnyPolicy.TheVariants.{Queues, Optimal}
+use Rattle.policies.specs.AnyPolicy.{IsDemandAfter, demand_outcomes, outcomes_by, stats_on}
+use Rattle.policies.specs.declared.any_policy.AnyPolicy.TheVariants.{Queues, Optimal, Demand}
 use Rattle.clairvoyant.specs.Clairvoyant.{ClairvoyantState}
 use Rattle.step_record.specs.declared.job.Policy.TheVariants.{Clairvoyant}
 use Rattle.policies.proofs.Counting.{after-counts}
 use Rattle.policies.proofs.Reached.{after-snoc}
 use Rattle.optimality.specs.Strategy.{IsStrategy, strategy_hits}
-use Rattle.optimality.specs.Theorems.{belady_hits, BeladyIsOptimal, BeladyHitsGrow}
+use Rattle.clairvoyant.specs.Belady.{belady_residents}
+use Rattle.optimality.specs.Theorems.{belady_hits, BeladyIsOptimal, BeladyIsStrategy, BeladyHitsGrow}
 use Rattle.policy_laws.specs.Theorems.{NoPolicyBeatsBelady, BeladyLeads, OptimalHitsGrow}
 use Rattle.policies.proofs.Balance.{IsBalancedCache, step-balanced, after-balanced, came-from, residents-fit, resident-queued}
 
@@ -71,30 +86,83 @@ module _ (j : Job) (keys : List ℕ) where
 
 -- ---- the statistics of a job
 
-pub stats-queues : (j : Job) (keys : List ℕ) → knows_trace j.policy ≡ false → (stats_on j keys).hits ≡ (state_after j keys).stats.hits
+pub stats-queues : (j : Job) (keys : List ℕ) → has_queues j.policy ≡ true → (stats_on j keys).hits ≡ (state_after j keys).stats.hits
 unfolding stats_on
-stats-queues j keys e = rw e (ap (λ (s : Stats). s.hits) (sym (after-counts j keys)))
+stats-queues j keys e =
+    ap (λ os. (stats_of os).hits) (outcomes-of-queues (design_of j.policy) j keys e) ∙ ap (λ (s : Stats). s.hits) (sym (after-counts j keys))
 
 pub stats-optimal : (j : Job) (keys : List ℕ) → knows_trace j.policy ≡ true → (stats_on j keys).hits ≡ belady_hits j.config.capacity keys (length keys)
 unfolding stats_on
-stats-optimal j keys e = rw e refl
+stats-optimal j keys e = ap (λ os. (stats_of os).hits) (outcomes-of-optimal (design_of j.policy) j keys e)
 
-pub no_policy_beats : BeladyIsOptimal → NoPolicyBeatsBelady
-no_policy_beats law j optimal keys is same =
-    let best : (stats_on optimal keys).hits ≡ belady_hits j.config.capacity keys (length keys) = stats-optimal optimal keys (ap knows_trace is) ∙ ap (λ c. belady_hits c keys (length keys)) same in
-    elim (cases_Bool (knows_trace j.policy)) [
-      | inl e ↦ let own = stats-optimal j keys e in omega (arith, best, own)
-      | inr e ↦
-          let own = stats-queues j keys e in
-          let more : strategy_hits keys (kept j keys) (length keys) ≤ belady_hits j.config.capacity keys (length keys) = law j.config.capacity keys (kept j keys) (length keys) (strategy j keys) (omega arith) in
-          omega (arith, best, own, more, all-hits j keys)
-    ]
+-- ---- every policy as a strategy
 
-no-trace : (j : Job) → j.policy ≡ Clairvoyant → knows_trace j.policy ≡ false → (A : Type 0) → A
-no-trace j is e A = absurd (let no : true ≡ false = sym (ap knows_trace is) ∙ e in cc (no))
+-- the residents of a job's cache over the whole trace, as a strategy with as many hits
+pub record ActsAsStrategy (c : ℕ) (trace : List ℕ) (hits : ℕ) : Type 0 where
+  pub residents : ℕ → List ℕ
+  pub strategy : IsStrategy c trace residents
+  pub same : strategy_hits trace residents (length trace) ≡ hits
 
-pub belady_leads : BeladyIsOptimal → BeladyLeads
-belady_leads law j optimal trace keys (Queues d) (Optimal e) s b is same =
+none-hit : (t : List ℕ) → (stats_of (map (λ k. Rejected k) t)).hits ≡ 0
+none-hit [] = refl
+none-hit (k ∷ t) =
+    let one = sum_by-cons (λ x. cond (is_hit x) 1 0) (Rejected k) (map (λ k. Rejected k) t) in
+    let rest = none-hit t in
+    omega (arith, one, rest)
+
+no-hits : (t : List ℕ) (n : ℕ) → strategy_hits t (λ i. []) n ≡ 0
+no-hits t zero = refl
+no-hits t (suc n) = let rest = no-hits t n in omega (arith, rest)
+
+acts-demand : DemandKeeps → (p : DemandPolicy) (c : ℕ) (trace : List ℕ) → ActsAsStrategy c trace (stats_of (demand_outcomes p c trace)).hits
+acts-demand law p zero trace = record {
+  residents = λ i. [];
+  strategy = record { empty = refl; on_demand = λ i x h g. absurd (cc (g)); fits = λ i h. omega arith };
+  same = no-hits trace (length trace) ∙ sym (none-hit trace);
+}
+acts-demand law p (suc c) trace =
+    let start : DemandQueues = empty_queues p (suc c) in
+    let all : KeepsResidents (suc c) start queues_act queues_residents (IsQueues (suc c)) = law p (suc c) (omega arith) in
+    record {
+      residents = residents_at (suc c) start queues_act queues_residents (IsQueues (suc c)) all trace;
+      strategy = demand-strategy (suc c) start queues_act queues_residents (IsQueues (suc c)) all trace;
+      same = demand-hits (suc c) start queues_act queues_residents (IsQueues (suc c)) all trace (length trace) (omega arith)
+          ∙ ap (λ l. (stats_of (demand_outcomes p (suc c) l)).hits) (take_all (length trace) trace (omega arith));
+    }
+
+acts-by : BeladyIsStrategy → DemandKeeps → (x : Design) (j : Job) (trace : List ℕ) → ActsAsStrategy j.config.capacity trace (stats_of (outcomes_by x j trace)).hits
+acts-by best law (design.Queues q) j trace = record {
+  residents = kept j trace;
+  strategy = strategy j trace;
+  same = all-hits j trace ∙ ap (λ (s : Stats). s.hits) (after-counts j trace);
+}
+acts-by best law design.KnowsTrace j trace = record {
+  residents = belady_residents j.config.capacity trace;
+  strategy = (best j.config.capacity trace).0;
+  same = (best j.config.capacity trace).1 (length trace);
+}
+acts-by best law (design.Demand p) j trace = acts-demand law p j.config.capacity trace
+
+pub acts-as-strategy : BeladyIsStrategy → DemandKeeps → (j : Job) (trace : List ℕ) → ActsAsStrategy j.config.capacity trace (stats_on j trace).hits
+unfolding stats_on
+acts-as-strategy best law j trace = acts-by best law (design_of j.policy) j trace
+
+pub no_policy_beats : BeladyIsOptimal → BeladyIsStrategy → DemandKeeps → NoPolicyBeatsBelady
+no_policy_beats optimal_law best law j optimal keys is same =
+    let most : (stats_on optimal keys).hits ≡ belady_hits j.config.capacity keys (length keys) = stats-optimal optimal keys (ap knows_trace is) ∙ ap (λ c. belady_hits c keys (length keys)) same in
+    let own : ActsAsStrategy j.config.capacity keys (stats_on j keys).hits = acts-as-strategy best law j keys in
+    let more : strategy_hits keys own.residents (length keys) ≤ belady_hits j.config.capacity keys (length keys) = optimal_law j.config.capacity keys own.residents (length keys) own.strategy (omega arith) in
+    omega (arith, most, own.same, more)
+
+-- Belady's policy knows the trace, so a cache of it is of that kind
+not-of-queues : (j : Job) → j.policy ≡ Clairvoyant → has_queues j.policy ≡ true → (A : Type 0) → A
+not-of-queues j is e A = absurd (let no : false ≡ true = sym (ap has_queues is) ∙ e in cc (no))
+
+not-demand : (j : Job) (keys : List ℕ) (d : DemandState) → j.policy ≡ Clairvoyant → IsDemandAfter j keys d → (A : Type 0) → A
+not-demand j keys d is s A = absurd (let no : true ≡ false = sym (ap knows_trace is) ∙ ap is_optimal s.design in cc (no))
+
+pub belady_leads : BeladyIsOptimal → DemandKeeps → BeladyLeads
+belady_leads law keeps j optimal trace keys (Queues d) (Optimal e) s b is same =
     let c : ℕ = j.config.capacity in
     let n : ℕ = length keys in
     let own : d.stats.hits ≡ (state_after j keys).stats.hits = ap (λ (x : QueueState). x.stats.hits) s.1.gives in
@@ -103,12 +171,22 @@ belady_leads law j optimal trace keys (Queues d) (Optimal e) s b is same =
     let within : n ≤ length trace = b.within in
     let more : strategy_hits trace (kept j trace) n ≤ belady_hits c trace n = law c trace (kept j trace) n (strategy j trace) within in
     omega (arith, own, first, best, more, hits-are j trace n within)
-belady_leads law j optimal trace keys (Optimal d) (Optimal e) s b is same =
+belady_leads law keeps j optimal trace keys (Optimal d) (Optimal e) s b is same =
     let own : d.stats.hits ≡ belady_hits j.config.capacity trace (length keys) = ap (λ (x : ClairvoyantState). x.stats.hits) s.gives in
     let best : e.stats.hits ≡ belady_hits j.config.capacity trace (length keys) = ap (λ (x : ClairvoyantState). x.stats.hits) b.gives ∙ ap (λ m. belady_hits m trace (length keys)) same in
     omega (arith, own, best)
-belady_leads law j optimal trace keys (Queues d) (Queues e) s b is same = no-trace optimal is b.0 _
-belady_leads law j optimal trace keys (Optimal d) (Queues e) s b is same = no-trace optimal is b.0 _
+belady_leads law keeps j optimal trace keys (Demand d) (Optimal e) s b is same =
+    let c : ℕ = j.config.capacity in
+    let n : ℕ = length keys in
+    let start : DemandQueues = empty_queues s.policy c in
+    let within : n ≤ length trace = b.within in
+    let own : d.stats.hits ≡ count_by is_hit (outcomes_of_all queues_act start (take n trace)) =
+    ap (λ (x : Stats). x.hits) s.stats ∙ ap (λ l. count_by is_hit (outcomes_of_all queues_act start l)) b.first in
+    let best : e.stats.hits ≡ belady_hits c trace n = ap (λ (x : ClairvoyantState). x.stats.hits) b.gives ∙ ap (λ m. belady_hits m trace n) same in
+    let more = beaten c start queues_act queues_residents (IsQueues c) (demand-keeping keeps j keys d s) trace law n within in
+    omega (arith, own, best, more)
+belady_leads law keeps j optimal trace keys d (Queues e) s b is same = not-of-queues optimal is b.0 _
+belady_leads law keeps j optimal trace keys d (Demand e) s b is same = not-demand optimal keys e is b _
 
 pub optimal_grows : BeladyHitsGrow → OptimalHitsGrow
 optimal_grows law small large keys is are le =

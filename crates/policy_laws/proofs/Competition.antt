@@ -10,7 +10,8 @@ use Rattle.step_record.specs.declared.job.Job.{Job}
 use Rattle.step_record.specs.declared.job.Policy.TheVariants.{Lru}
 use Rattle.clairvoyant.specs.Belady.{belady_residents}
 use Rattle.clairvoyant.proofs.Belady.{later}
-use Rattle.policies.specs.Design.{knows_trace}
+use Rattle.policies.specs.Design.{has_queues}
+use Rattle.demand_cache.specs.Theorems.{DemandKeeps}
 use Rattle.policies.specs.Lru.{distinct_keys, lru_residents}
 use Rattle.policies.specs.QueueCache.{residents_in}
 use Rattle.policies.specs.SingleQueue.{single_queue}
@@ -24,7 +25,7 @@ use Rattle.optimality.specs.Theorems.{BeladyIsStrategy}
 use Rattle.policy_laws.specs.Theorems.{LruHitsGrow, LruCompetes, LruTwiceAsLarge, LruCompetesWithAny}
 use Rattle.policy_laws.proofs.Ages.{potential, recent, resident-among, pays}
 use Rattle.policies.proofs.Balance.{residents-fit}
-use Rattle.policy_laws.proofs.Beaten.{kept, strategy, hits-are, all-hits, stats-queues, stats-optimal}
+use Rattle.policy_laws.proofs.Beaten.{kept, hits-are, all-hits, stats-queues, ActsAsStrategy, acts-as-strategy}
 
 -- ---- the residents of Lru
 
@@ -136,7 +137,7 @@ misses-by : (t : List ℕ) (r : ℕ → List ℕ) (n m k : ℕ) → k ≡ n - m 
 misses-by t r n m k e h = e ∙ ap (λ x. n - x) (sym h)
 
 -- a policy of queues
-queue-misses : AnyCoversTrace → (j : Job) (trace : List ℕ) (n : ℕ) → knows_trace j.policy ≡ false → n ≤ length trace
+queue-misses : AnyCoversTrace → (j : Job) (trace : List ℕ) (n : ℕ) → has_queues j.policy ≡ true → n ≤ length trace
     → (stats_on j (take n trace)).misses ≡ strategy_misses trace (kept j trace) n
 queue-misses covers j trace n e l =
     let all = stats-misses covers j (take n trace) in
@@ -163,7 +164,7 @@ lru-kept stands j trace i is =
 pub lru-misses : LruStepLaw → AnyCoversTrace → (j : Job) (trace : List ℕ) (n : ℕ) → j.policy ≡ Lru → n ≤ length trace
     → (stats_on j (take n trace)).misses ≡ strategy_misses trace (lru_at j.config.capacity trace) n
 lru-misses stands covers j trace n is l =
-    queue-misses covers j trace n (ap knows_trace is) l
+    queue-misses covers j trace n (ap has_queues is) l
     ∙ ap (λ m. n - m) (hits-agree trace (kept j trace) (lru_at j.config.capacity trace) n (λ i. lru-kept stands j trace i is))
 
 pub lru_competes : LruStepLaw → AnyCoversTrace → LruCompetes
@@ -183,22 +184,15 @@ lru_twice_as_large law j trace h residents n is wide s l =
     let all : d * m ≤ d * (2 * k) = omega (arith, most, twice, sum, two) in
     le_of_mul-le-mul_left all (omega (arith, wide))
 
-pub lru_competes_with_any : LruCompetes → AnyCoversTrace → BeladyIsStrategy → LruCompetesWithAny
-lru_competes_with_any law covers best j other trace is =
+pub lru_competes_with_any : LruCompetes → AnyCoversTrace → BeladyIsStrategy → DemandKeeps → LruCompetesWithAny
+lru_competes_with_any law covers best keeps j other trace is =
     let h : ℕ = other.config.capacity in
     let n : ℕ = length trace in
     let all : take n trace ≡ trace = take_all n trace (omega arith) in
     let misses = stats-misses covers other trace in
-    elim (cases_Bool (knows_trace other.policy)) [
-      | inl e ↦
-          let hits : strategy_hits trace (belady_residents h trace) n ≡ (stats_on other trace).hits = (best h trace).1 n ∙ sym (stats-optimal other trace e) in
-          let same = misses-by trace (belady_residents h trace) n _ _ misses hits in
-          rw same (rw all at (law j trace h (belady_residents h trace) n is (best h trace).0 (omega arith)))
-      | inr e ↦
-          let hits : strategy_hits trace (kept other trace) n ≡ (stats_on other trace).hits = all-hits other trace ∙ sym (stats-queues other trace e) in
-          let same = misses-by trace (kept other trace) n _ _ misses hits in
-          rw same (rw all at (law j trace h (kept other trace) n is (strategy other trace) (omega arith)))
-    ]
+    let own : ActsAsStrategy h trace (stats_on other trace).hits = acts-as-strategy best keeps other trace in
+    let same = misses-by trace own.residents n _ _ misses own.same in
+    rw same (rw all at (law j trace h own.residents n is own.strategy (omega arith)))
 
 -- ---- a larger capacity
 
@@ -225,7 +219,7 @@ hits-more t r s (suc i) h =
 
 lru-hits : LruStepLaw → (j : Job) (trace : List ℕ) → j.policy ≡ Lru → (stats_on j trace).hits ≡ strategy_hits trace (lru_at j.config.capacity trace) (length trace)
 lru-hits stands j trace is =
-    stats-queues j trace (ap knows_trace is) ∙ (sym (all-hits j trace)
+    stats-queues j trace (ap has_queues is) ∙ (sym (all-hits j trace)
     ∙ hits-agree trace (kept j trace) (lru_at j.config.capacity trace) (length trace) (λ i. lru-kept stands j trace i is))
 
 pub lru_hits_grow : LruStepLaw → LruHitsGrow

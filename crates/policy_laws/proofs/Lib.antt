@@ -1,3 +1,4 @@
+pub mod Strategies
 pub mod Beaten
 pub mod Ages
 pub mod Competition

@@ -9,6 +9,8 @@ pub fn no_policy_beats_belady()
     ensures { NoPolicyBeatsBelady }
 {
     optimality::theorems::belady_is_optimal();
+    optimality::theorems::belady_is_strategy();
+    demand_cache::theorems::demand_keeps();
 }
 
 /// So it is at each place of a trace, for two caches that made the same accesses.
@@ -16,6 +18,7 @@ pub fn belady_leads()
     ensures { BeladyLeads }
 {
     optimality::theorems::belady_is_optimal();
+    demand_cache::theorems::demand_keeps();
 }
 
 /// At a larger capacity Belady's optimal policy has no fewer hits. (Mattson and others 1970.)
@@ -64,6 +67,7 @@ pub fn lru_competes_with_any()
     lru_competes();
     policies::theorems::any_covers_trace();
     optimality::theorems::belady_is_strategy();
+    demand_cache::theorems::demand_keeps();
 }
 
 /// The factor of that bound is exact: on some traces, however long, a strategy does as well as it allows.

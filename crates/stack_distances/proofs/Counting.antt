@@ -10,8 +10,8 @@ use Rattle.step_record.specs.declared.stats.Stats.{Stats}
 use Rattle.step_record.specs.Stats.{is_hit, is_miss, is_eviction, is_rejection, stats_of, one_if}
 use Rattle.policies.specs.Lru.{distinct_keys, keys_since, is_lru_hit, lru_outcome}
 use Rattle.policies.specs.QueueCache.{QueueState, queue_state_after, frequency_after, state_after, outcomes_from, outcomes_after, outcome_after}
-use Rattle.policies.specs.Design.{knows_trace}
-use Rattle.policies.specs.AnyPolicy.{stats_on, outcomes_on}
+use Rattle.policies.specs.Design.{design_of}
+use Rattle.policies.specs.AnyPolicy.{stats_on, outcomes_by, outcomes_on}
 use Rattle.policies.proofs.Counting.{count-cons, hits-misses}
 use Rattle.policies.proofs.Reached.{after-snoc, after-job}
 use Rattle.policies.proofs.OneQueue.{outcome-lru}
@@ -91,7 +91,7 @@ stats-by c keys =
 pub lru-counts : (j : Job) (keys : List ℕ) → j.policy ≡ Lru → 1 ≤ j.config.capacity → stats_on j keys ≡ stats_within j.config.capacity keys
 unfolding stats_on
 lru-counts j keys p room =
-    let by_queues : outcomes_on j keys ≡ outcomes_after j keys = rw (ap knows_trace p) refl in
+    let by_queues : outcomes_on j keys ≡ outcomes_after j keys = ap (λ x. outcomes_by (design_of x) j keys) p in
     ap stats_of by_queues ∙ (ap stats_of (all-outcomes j p room keys) ∙ stats-by j.config.capacity keys)
 
 -- as the misses less the keys that are left at the end
