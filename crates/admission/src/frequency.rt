@@ -153,6 +153,15 @@ impl Frequency {
         least + known as u8
     }
 
+    /// Works out what the estimate of a key is read by, and keeps it until another key is prepared. Changes nothing that a
+    /// caller can see, and pays for a key that stays the victim of several admissions.
+    pub fn prepare(&mut self, key: Key)
+        ensures { self.new ≡ self.old }
+    {
+        self.door.prepare(key);
+        self.sketch.prepare(key);
+    }
+
     /// Whether the candidate is estimated above the victim. A tie admits nobody.
     pub fn admits(&self, candidate: Key, victim: Key) -> bool
         ensures { result ≡ nat_lt (estimate_of victim self.now) (estimate_of candidate self.now) }

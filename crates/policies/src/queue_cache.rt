@@ -11,7 +11,7 @@ ghost use Rattle.policies.specs.QueueCache.{frequency_by};
 ghost use Rattle.policies.specs.QueueStep.{recorded_in, counting_record, unrecorded, FitsCounting};
 ghost use Rattle.policies.specs.QueueFields.{FewHalvings};
 
-use crate::design::{FixedDesign, QueueDesign};
+use crate::design::{FixedDesign, Layout, QueueDesign};
 use crate::record::AccessRecord;
 use admission::{FreqRecord, Frequency, KeptCounting};
 use replacement::{KeptMoves, Rules, access, open_frequency, undo};
@@ -154,6 +154,7 @@ impl<P: Drop> QueueCache<P> {
         let rules = design.fixed(&self.rules);
         let effect = access::<D>(&mut self.segments, frequency, &rules, item);
         self.stats.count(effect.outcome);
+        prepare_victim(design, &mut self.frequency, &self.segments, effect.outcome);
         Ok(effect.outcome)
     }
 
@@ -369,6 +370,40 @@ fn frequency_where(counts_keys: bool, frequency: &Option<Frequency>) -> Option<&
         frequency.as_ref()
     } else {
         None
+    }
+}
+
+// Prepares the frequency, where keys are counted, for the next victim of an admission, once a miss in a full cache has
+// decided on one. What it is asked of is then the same key for as long as it is not evicted.
+#[inline(always)]
+fn prepare_victim(
+    design: QueueDesign,
+    frequency: &mut Option<Frequency>,
+    segments: &Segments,
+    outcome: Outcome,
+)
+    ensures { frequency.new ≡ frequency.old }
+{
+    if !design.counts_keys || !is_of_full_cache(outcome) {
+        return;
+    }
+    let queue = match design.layout {
+        Layout::OneQueue => Queue::Window,
+        Layout::TwoQueues | Layout::ThreeQueues => Queue::Probation,
+    };
+    if let Some(frequency) = frequency {
+        if let Some(victim) = segments.oldest(queue) {
+            frequency.prepare(victim.key);
+        }
+    }
+}
+
+// Whether an access was a miss in a full cache.
+#[inline(always)]
+fn is_of_full_cache(outcome: Outcome) -> bool {
+    match outcome {
+        Outcome::Evicted(_) | Outcome::Rejected(_) => true,
+        Outcome::Hit | Outcome::Kept => false,
     }
 }
 
