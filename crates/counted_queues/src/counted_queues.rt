@@ -107,6 +107,26 @@ impl CountedQueues {
         self.ends[queue as usize].newest
     }
 
+    /// The oldest key of the queue, with its count.
+    pub fn oldest_entry(&self, queue: u8) -> Option<(u64, u8)>
+        requires { queue < 5 }
+        ensures { result ≡ oldest_entry (queue_of queue self.now.queues) }
+    {
+        let key = self.oldest(queue)?;
+        let node = self.nodes.get(&key)?;
+        Some((key, node.count))
+    }
+
+    /// The newest key of the queue, with its count.
+    pub fn newest_entry(&self, queue: u8) -> Option<(u64, u8)>
+        requires { queue < 5 }
+        ensures { result ≡ newest_entry (queue_of queue self.now.queues) }
+    {
+        let key = self.newest(queue)?;
+        let node = self.nodes.get(&key)?;
+        Some((key, node.count))
+    }
+
     // Puts a key that stands in no queue between two neighbours.
     fn link(&mut self, queue: u8, key: u64, count: u8, older: Option<u64>, newer: Option<u64>)
         requires queue { queue < 5 }
@@ -266,7 +286,7 @@ impl CountedQueues {
         ensures queues { (n q : ℕ) (p : IsStanding key n q self.old.queues)
             (r : IsCutAt place.older (queue_of place.queue self.old.queues))
             → self.new.queues ≡ with_queue place.queue (r.before ++ counted_key key count ∷ r.behind)
-                (with_queue q (p.before ++ p.behind) self.old.queues) }
+            (with_queue q (p.before ++ p.behind) self.old.queues) }
         ensures spare { self.new.spare ≡ self.old.spare }
     {
         // Of every map: it has fewer than 2^63 entries.
