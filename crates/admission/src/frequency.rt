@@ -95,6 +95,35 @@ impl Frequency {
         Ok(FreqRecord { mark, halving })
     }
 
+    /// Records a key as `record` does, and makes no undo record. The one error is out of memory for a halving; nothing is
+    /// changed then.
+    #[inline(always)]
+    pub fn count(&mut self, key: Key) -> Result<(), AllocError>
+        requires { self.old.halvings < 2 ^ 64 - 1 }
+        ensures after { OnOk result (self.new ≡ frequency_with key self.old) }
+        ensures err { OnErr result (self.new ≡ self.old) }
+    {
+        // Only where the key fills the sample is its mark kept, until it is sure that there is memory for the halving.
+        if self.age + 1 == 10 * self.capacity {
+            return self.count_last(key);
+        }
+        let _ = self.mark(key);
+        self.age += 1;
+        Ok(())
+    }
+
+    // The same for the key that fills the sample.
+    #[cold]
+    #[inline(never)]
+    fn count_last(&mut self, key: Key) -> Result<(), AllocError>
+        requires { self.old.halvings < 2 ^ 64 - 1 }
+        ensures after { OnOk result (self.new ≡ frequency_with key self.old) }
+        ensures err { OnErr result (self.new ≡ self.old) }
+    {
+        let _ = self.record(key)?;
+        Ok(())
+    }
+
     /// Undoes the recording of a key. The record has to fit, as that of the last recording that is not undone does.
     pub fn unrecord(&mut self, done: FreqRecord)
         requires { FitsRecord done self.old }

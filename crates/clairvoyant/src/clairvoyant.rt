@@ -45,7 +45,9 @@ struct OptimalCore {
 
 impl OptimalCore {
     // Makes the access at a place: changes the ranks that are held, `held` of them before, and
-    // returns its undo record.
+    // returns its undo record. Part of its caller, as `apply` is: out of line it would write the record and look up the
+    // key that left, whoever calls it.
+    #[inline(always)]
     fn serve(&self, ranks: &mut Ranks, held: usize, place: usize) -> OptimalRecord
         requires place { place < length self.now.uses }
         requires tied { IsTied self.now.uses place (belady_residents self.now.capacity self.now.uses place) ranks.old }
@@ -107,6 +109,7 @@ impl OptimalCore {
     // `p` has rank `2 * n - 1 - p`, and a key that is never used again has the place of its last access for its rank.
     // So the key whose next use is farthest ranks least, and of keys that are never used again the one whose last
     // access is earliest.
+    #[inline(always)]
     fn rank(&self, place: usize) -> u32
         requires { place < length self.now.uses }
         ensures rank { result ≡ rank self.now.uses (suc place) (slice_index self.now.uses place) }

@@ -11,9 +11,6 @@ use clairvoyant::{Clairvoyant, NextUse, OptimalRecord};
 use std::alloc::{AllocError, Global};
 use step_record::{Engine, Job, Key, Outcome, Stats, StepFault, Trace};
 
-// For so many accesses at once what they read first is read ahead.
-const AHEAD: usize = 16;
-
 /// A cache of any policy.
 #[derive(Drop)]
 pub enum AnyPolicy {
@@ -77,26 +74,16 @@ impl AnyPolicy {
         }
     }
 
-    /// Reads ahead what accesses to these keys read first. It changes nothing.
-    #[inline(always)]
-    pub fn prefetch(&mut self, keys: &[Key])
-        ensures { self.new ≡ self.old }
-    {
-        match self {
-            AnyPolicy::Queues(cache) => cache.prefetch(keys),
-            AnyPolicy::Optimal(_) => {}
-        }
-    }
-
-    /// The same from the key at `i` on, once for each few keys: to be called before each access of a loop over them.
+    /// Reads ahead, for each few keys, what accesses to them read first, from the key at `i` on: to be called before each
+    /// access of a loop over them. It changes nothing.
     #[inline(always)]
     pub fn prefetch_at(&mut self, keys: &[Key], i: usize)
         requires { i ≤ length keys.now }
         ensures { self.new ≡ self.old }
     {
-        if i % AHEAD == 0 {
-            let end = keys.len().min(i + AHEAD);
-            self.prefetch(&keys[i..end]);
+        match self {
+            AnyPolicy::Queues(cache) => cache.prefetch_at(keys, i),
+            AnyPolicy::Optimal(_) => {}
         }
     }
 

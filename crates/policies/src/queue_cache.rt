@@ -1,5 +1,5 @@
 //! The policies of queues, as one engine.
-ghost use Rattle.std.specs.Prelude.{◌≡◌, ◌≢◌, ◌+◌, ◌≤◌, ◌<◌, ◌↔◌, [], ◌++◌, option_map, map};
+ghost use Rattle.std.specs.Prelude.{◌≡◌, ◌≢◌, ◌+◌, ◌≤◌, ◌<◌, ◌↔◌, [], ◌++◌, option_map, map, length, false};
 ghost use Rattle.std.specs.Prelude.{IfOk, IfErr, OnOk, OnErr, Ok, Option, Some, None};
 ghost use Rattle.step_record.specs.declared.limits.TheConstants.{MAX_STEPS};
 ghost use Rattle.step_record.specs.Config.{config_fault};
@@ -11,7 +11,7 @@ ghost use Rattle.policies.specs.QueueCache.{frequency_by};
 ghost use Rattle.policies.specs.QueueStep.{recorded_in, counting_record, unrecorded, FitsCounting};
 ghost use Rattle.policies.specs.QueueFields.{FewHalvings};
 
-use crate::design::QueueDesign;
+use crate::design::{FixedDesign, QueueDesign};
 use crate::record::AccessRecord;
 use admission::{FreqRecord, Frequency, KeptCounting};
 use replacement::{KeptMoves, Rules, access, open_frequency, undo};
@@ -20,8 +20,14 @@ use std::alloc::{AllocError, Global};
 use std::marker::{Model, PhantomData};
 use step_record::{Config, Engine, Item, Job, Key, MAX_STEPS, Outcome, Stats, StepFault};
 
-// Queues of so many keys are read ahead.
-const PREFETCH_FROM: usize = 4096;
+// The least capacity at which keys are prefetched. Smaller queues stay in the processor's caches, where prefetching costs
+// more than it spares; where keys are counted, the sketch shares the caches with them.
+const PREFETCH_FROM: usize = 65_536;
+
+const PREFETCH_FROM_WHERE_COUNTING: usize = 4096;
+
+// How many accesses are prefetched at once.
+const AHEAD: usize = 16;
 
 /// Marks a cache whose policy is known by its job alone.
 #[derive(Drop)]
@@ -83,8 +89,25 @@ impl<P: Drop> QueueCache<P> {
     pub fn prefetch(&mut self, keys: &[Key])
         ensures { self.new ≡ self.old }
     {
-        if self.rules.capacity >= PREFETCH_FROM {
+        let least = if self.frequency.is_some() {
+            PREFETCH_FROM_WHERE_COUNTING
+        } else {
+            PREFETCH_FROM
+        };
+        if self.rules.capacity >= least {
             self.segments.prefetch(keys, 0);
+        }
+    }
+
+    /// The same from the key at `i` on, once for each few keys: to be called before each access of a loop over them.
+    #[inline(always)]
+    pub fn prefetch_at(&mut self, keys: &[Key], i: usize)
+        requires { i ≤ length keys.now }
+        ensures { self.new ≡ self.old }
+    {
+        if i % AHEAD == 0 {
+            let end = keys.len().min(i + AHEAD);
+            self.prefetch(&keys[i..end]);
         }
     }
 
@@ -108,6 +131,28 @@ impl<P: Drop> QueueCache<P> {
         let item = Item { key, node: 0 };
         let frequency = self.frequency.as_ref();
         let effect = access::<C>(&mut self.segments, frequency, &self.rules, item);
+        self.stats.count(effect.outcome);
+        Ok(effect.outcome)
+    }
+
+    // Makes an access as `access` does, compiled for a design, which is that of the job's policy.
+    #[inline(always)]
+    pub(crate) fn access_by<D: FixedDesign>(&mut self, key: Key) -> Result<Outcome, StepFault>
+        requires { design_of self.old.job.policy ≡ Queues D.DESIGN }
+        ensures accepted { IfOk result (λ o. queue_act self.old key ≡ Some (o, self.new)) }
+        ensures not_now { result ≡ Err StepFault.NotNow ↔ queue_act self.old key ≡ None }
+        ensures err { OnErr result (self.new ≡ self.old) }
+        ensures job { self.new.job ≡ self.old.job }
+    {
+        let design = D::DESIGN;
+        make_room(&self.stats, &mut self.segments)?;
+        let Ok(()) = count_where(design.counts_keys, &mut self.frequency, key) else {
+            return Err(StepFault::OutOfMemory);
+        };
+        let item = Item { key, node: 0 };
+        let frequency = frequency_where(design.counts_keys, &self.frequency);
+        let rules = design.fixed(&self.rules);
+        let effect = access::<D>(&mut self.segments, frequency, &rules, item);
         self.stats.count(effect.outcome);
         Ok(effect.outcome)
     }
@@ -290,9 +335,41 @@ fn count_in(frequency: &mut Option<Frequency>, key: Key) -> Result<(), AllocErro
     ensures err { OnErr result (frequency.new ≡ frequency.old) }
 {
     if let Some(frequency) = frequency {
-        frequency.record(key)?;
+        frequency.count(key)?;
     }
     Ok(())
+}
+
+// The same where it is known beforehand whether keys are counted.
+#[inline(always)]
+fn count_where(
+    counts_keys: bool,
+    frequency: &mut Option<Frequency>,
+    key: Key,
+) -> Result<(), AllocError>
+    requires few { FewHalvings frequency.old }
+    requires counts { counts_keys ≡ false → frequency.old ≡ None }
+    ensures after { OnOk result (frequency.new ≡ recorded_in key frequency.old) }
+    ensures err { OnErr result (frequency.new ≡ frequency.old) }
+{
+    if counts_keys {
+        count_in(frequency, key)
+    } else {
+        Ok(())
+    }
+}
+
+// The frequency, where it is known beforehand whether keys are counted.
+#[inline(always)]
+fn frequency_where(counts_keys: bool, frequency: &Option<Frequency>) -> Option<&Frequency>
+    requires { counts_keys ≡ false → frequency.now ≡ None }
+    ensures { option_map (λ f. f.now) result ≡ frequency.now }
+{
+    if counts_keys {
+        frequency.as_ref()
+    } else {
+        None
+    }
 }
 
 // Records a key where keys are counted.
