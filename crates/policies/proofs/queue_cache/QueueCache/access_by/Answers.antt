@@ -1,8 +1,8 @@
-use Rattle.std.proofs.Common.{rules, ◌≡◌, false, None, ap, sym, ◌∙◌}
+use Rattle.std.proofs.Common.{rules, ◌≡◌, ap, sym, ◌∙◌}
 use Rattle.std.specs.Option.{option_map}
 use Rattle.policies.specs.declared.design.Design.TheVariants.{Queues}
 use Rattle.policies.specs.declared.design.QueueDesign.{QueueDesign}
-use Rattle.policies.specs.Design.{design_of, counts_in, is_counting}
+use Rattle.policies.specs.Design.{design_of, counts_in}
 use Rattle.policies.specs.QueueStep.{recorded_in}
 use Rattle.policies.proofs.Reached.{reached-halvings, reached-small, reached-uncounted, access-reached}
 use Rattle.policies.proofs.queue_cache.QueueCache.access_by.Goals as goal
