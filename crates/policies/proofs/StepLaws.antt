@@ -4,7 +4,7 @@ use Rattle.std.proofs.lemmas.List.{take_more}
 use Rattle.step_record.specs.declared.job.Job.{Job}
 use Rattle.step_record.specs.declared.outcome.Outcome.{Outcome}
 use Rattle.step_record.specs.declared.outcome.Outcome.TheVariants.{Hit}
-use Rattle.step_record.specs.Stats.{stats_of}
+use Rattle.step_record.specs.Stats.{is_eviction, stats_of}
 use Rattle.clairvoyant.specs.Belady.{belady_outcomes, belady_outcome as outcome_at}
 use Rattle.clairvoyant.specs.Theorems.{ClairvoyantStepLaw, ClairvoyantAccepts}
 use Rattle.clairvoyant.specs.Clairvoyant.{ClairvoyantState, clairvoyant_at, clairvoyant_act}
@@ -13,18 +13,18 @@ use Rattle.policies.specs.QueueCache.{QueueState, outcomes_after}
 use Rattle.policies.specs.QueueStep.{queue_act}
 use Rattle.demand_cache.specs.DemandCache.{DemandState, demand_act}
 use Rattle.demand_cache.specs.DemandQueues.{queues_act, empty_queues}
-use Rattle.demand_cache.specs.Theorems.{HitsAskNothing}
+use Rattle.demand_cache.specs.Theorems.{DemandKeeps, HitsAskNothing, AsksWhereOneLeft}
 use Rattle.policies.specs.declared.design.Design.{Design}
 use Rattle.policies.specs.declared.design.Design.TheVariants as design
 use Rattle.policies.specs.Design.{design_of, is_of_queues, is_optimal}
 use Rattle.policies.specs.AnyPolicy.{stats_on, outcomes_by, demand_run, IsBeladyAt}
 use Rattle.policies.specs.AnyStep.{as_queues, as_optimal, as_demand}
 use Rattle.policies.specs.AnyCounts.{IsQueueStep, IsOptimalStep, IsDemandStep, queue_step, optimal_step, demand_step}
-use Rattle.policies.specs.Theorems.{AnyStepLaw, AnyAccepts, AnyIsOne, AnyReports, AnyAnswers, AnyCoversTrace, AnyHitsKeepAll}
-use Rattle.policies.proofs.Leaving.{hits_keep_all}
+use Rattle.policies.specs.Theorems.{AnyStepLaw, AnyAccepts, AnyIsOne, AnyReports, AnyAnswers, AnyCoversTrace, AnyHitsKeepAll, AnyAsksWhereOneLeft}
+use Rattle.policies.proofs.Leaving.{hits_keep_all, asks-evicts, act-answers}
 use Rattle.policies.proofs.Counting.{after-counts}
 use Rattle.policies.proofs.Answered.{after-answers, after-length, at-answers, outcomes-length}
-use Rattle.policies.proofs.Demand.{IsDemandAccess, demand-access, demand_stands, demand-refused, demand-accesses, demand-one, outcomes-at, with-room, demand-room, demand-long}
+use Rattle.policies.proofs.Demand.{IsDemandAccess, demand-access, demand_stands, demand-refused, demand-accesses, demand-one, outcomes-at, with-room, demand-room, demand-long, demand-sound}
 use Rattle.policies.proofs.Reached.{act_stands, act_accepts, stands-accesses}
 
 -- a cache that knows the trace, at its place
@@ -201,3 +201,13 @@ any_hits_keep_all law (Optimal d) k e h = λ asks. asks
 any_hits_keep_all law (Demand d) k e h =
     let q : IsDemandStep (demand_act d k) Hit e = demand_step (demand_act d k) Hit e h in
     law k d.queues (sym (demand-access d k Hit q.next q.steps).outcome)
+
+pub any_asks_where_one_left : DemandKeeps → AsksWhereOneLeft → AnyAsksWhereOneLeft
+any_asks_where_one_left keeps law j trace keys (Queues d) k o e s h asks =
+    let q : IsQueueStep (queue_act d k) o e = queue_step (queue_act d k) o e h in
+    ap is_eviction (sym (act-answers d k o q.next q.steps)) ∙ asks-evicts j keys d k s.1 asks
+any_asks_where_one_left keeps law j trace keys (Optimal d) k o e s h asks = absurd asks
+any_asks_where_one_left keeps law j trace keys (Demand d) k o e s h asks =
+    let q : IsDemandStep (demand_act d k) o e = demand_step (demand_act d k) o e h in
+    ap is_eviction (demand-access d k o q.next q.steps).outcome
+    ∙ law j.config.capacity k d.queues (demand-sound keeps j keys d s) asks
