@@ -17,24 +17,24 @@ use Rattle.ghost_policies.proofs.Weights.{weight, times-weight, weight-append, w
 use Rattle.ghost_policies.proofs.TwoQUndoing.{Leaves, leaves}
 
 -- what left a1in, and what left am
-abbrev out_of_a1in : TwoQLeaver → List ℕ
+abbrev pub out_of_a1in : TwoQLeaver → List ℕ
 out_of_a1in NoLeaver = []
 out_of_a1in (FromA1in v) = v ∷ []
 out_of_a1in (FromAm v) = []
 
-abbrev out_of_am : TwoQLeaver → List ℕ
+abbrev pub out_of_am : TwoQLeaver → List ℕ
 out_of_am NoLeaver = []
 out_of_am (FromA1in v) = []
 out_of_am (FromAm v) = v ∷ []
 
 -- ---- what each step of a miss moves, by weight
 
-record Leaving (f : ℕ → ℕ) (v : TwoQLeaver) (old new : TwoQState) : Type 0 where
-  a1in : weight f new.a1in + weight f (out_of_a1in v) ≡ weight f old.a1in
-  am : weight f new.am + weight f (out_of_am v) ≡ weight f old.am
-  a1out : weight f new.a1out ≤ weight f old.a1out + weight f (out_of_a1in v)
+pub record Leaving (f : ℕ → ℕ) (v : TwoQLeaver) (old new : TwoQState) : Type 0 where
+  pub a1in : weight f new.a1in + weight f (out_of_a1in v) ≡ weight f old.a1in
+  pub am : weight f new.am + weight f (out_of_am v) ≡ weight f old.am
+  pub a1out : weight f new.a1out ≤ weight f old.a1out + weight f (out_of_a1in v)
 
-leaving : (f : ℕ → ℕ) (c : ℕ) (v : TwoQLeaver) (s : TwoQState) → Leaves v s.a1in s.am → Leaving f v s (two_q_after_eviction c v s)
+pub leaving : (f : ℕ → ℕ) (c : ℕ) (v : TwoQLeaver) (s : TwoQState) → Leaves v s.a1in s.am → Leaving f v s (two_q_after_eviction c v s)
 leaving f c NoLeaver s o = record { a1in = omega arith; am = omega arith; a1out = omega arith }
 leaving f c (FromA1in v) s o =
     let all = ap (weight f) o in

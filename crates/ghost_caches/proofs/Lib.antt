@@ -1,0 +1,5 @@
+pub mod Lists
+pub mod Cuts
+pub mod Moves
+pub mod Ghosts
+pub mod TwoQ
