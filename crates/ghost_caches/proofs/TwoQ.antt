@@ -30,6 +30,7 @@ use Rattle.ghost_caches.specs.QueueLists.{QueueLists, keys_in, with_list, lists_
 use Rattle.ghost_caches.specs.QueueLists.{IsNowhere, entries_without}
 use Rattle.ghost_caches.specs.TwoQCache.{TwoQCacheState, two_q_of, IsTwoQCache, TwoQFits}
 use Rattle.ghost_caches.proofs.Cuts.{keys-without}
+use Rattle.ghost_caches.proofs.Behind.{taken-out}
 use Rattle.ghost_caches.proofs.Ghosts.{some-in, joined-keys, ghost-keys, keys-oldest}
 
 -- ---- an access, once its outcome, state and record are the definition's
@@ -156,14 +157,6 @@ module _ (c entry main : ℕ) (s : QueueLists) (at_entry : entry ≡ length s.en
     main-empty g o h none = rw (is_full, gives_is, g) (sym (main-none s.main (sym h ∙ none)))
 
 -- ---- a missed key is nowhere once a key left
-
-taken-out : (k : ℕ) (l : List ℕ) → has_key k (keys_without k l) ≡ false
-taken-out k [] = refl
-taken-out k (a ∷ l) =
-    elim (cases_Bool (eqb k a)) [
-      | inl e ↦ rw e (taken-out k l)
-      | inr e ↦ rw (e, e) (taken-out k l)
-    ]
 
 module _ (c k : ℕ) (s : TwoQState) (in_entry : has_key k s.a1in ≡ false) (in_main : has_key k s.am ≡ false) where
   abbrev evicted : TwoQState

@@ -1,10 +1,11 @@
 //! The queues of a cache that remembers keys which left, and the moves of keys among them.
-ghost use Rattle.std.specs.Prelude.{◌≡◌, ◌+◌, ◌≤◌, ◌++◌, ℕ, length, true, false, Ok, Some, None, OnOk, IfOk, IfSome};
+ghost use Rattle.std.specs.Prelude.{◌≡◌, ◌+◌, ◌≤◌, ◌++◌, ℕ, length, true, false, Ok, Some, None, OnOk, OnErr, IfOk, IfSome};
 ghost use Rattle.step_record.specs.Keys.{has_key};
 ghost use Rattle.queue_policies.specs.CountedKeys.{count_of, keys_of, with_count};
 ghost use Rattle.queue_policies.specs.Queues.{without_oldest, without_newest};
 ghost use Rattle.queue_policies.specs.Ghost.{older_from, forgotten_key, ghost_place_of};
 ghost use Rattle.counted_queues.specs.Queues.{first_or, newest_or, counted_key};
+ghost use Rattle.ghost_caches.specs.declared.queue_name.QueueName.TheVariants.{Entry, Main};
 ghost use Rattle.ghost_caches.specs.QueueLists.{empty_lists, list_of, keys_in, with_list, lists_after_push, lists_after_return};
 ghost use Rattle.ghost_caches.specs.QueueLists.{IsNowhere, entries_without, HasPlace, is_found_in, IsSomeOf, lists_without_oldest};
 ghost use Rattle.ghost_caches.specs.QueueLists.{lists_without_newest, lists_with_behind, lists_with_ghost_key, lists_with_forgotten};
@@ -90,6 +91,18 @@ impl GhostQueues {
         ensures room { OnOk result (1 ≤ self.new.spare) }
     {
         self.queues.reserve()
+    }
+
+    /// Makes room for a key that comes back, where there is one.
+    pub(crate) fn reserve_for(&mut self, coming_back: Option<Key>) -> Result<(), AllocError>
+        ensures lists { self.new.lists ≡ self.old.lists }
+        ensures room { OnOk result (IsSomeOf coming_back → 1 ≤ self.new.spare) }
+        ensures asks { OnErr result (IsSomeOf coming_back) }
+    {
+        match coming_back {
+            None => Ok(()),
+            Some(_) => self.reserve(),
+        }
     }
 
     /// A key that is nowhere joins the recent end of a queue.
@@ -251,5 +264,15 @@ impl GhostQueues {
     {
         self.queues.sound();
         self.queues.set_count(key, count);
+    }
+
+    /// The resident keys: those of the entry queue and then those of the main queue, each oldest first.
+    pub(crate) fn residents(&self, alloc: Global) -> Result<Vec<Key>, AllocError>
+        ensures { IfOk result (λ keys. keys.items ≡ keys_in Entry self.now.lists ++ keys_in Main self.now.lists) }
+    {
+        let mut keys = Vec::new(alloc);
+        self.queues.push_keys(QueueName::Entry.number(), &mut keys)?;
+        self.queues.push_keys(QueueName::Main.number(), &mut keys)?;
+        Ok(keys)
     }
 }

@@ -1,13 +1,14 @@
 //! A cache by the 2Q policy.
-ghost use Rattle.std.specs.Prelude.{◌≡◌, ◌+◌, ◌++◌, ◌≤◌, length, nat_lt, ◌||◌, ◌==◌, true, false, Ok, Some, None, OnOk, OnErr, IfOk, IfErr};
+ghost use Rattle.std.specs.Prelude.{◌≡◌, ℕ, [], ◌+◌, ◌++◌, ◌≤◌, length, nat_lt, ◌||◌, ◌==◌, true, false, Ok, Some, None, OnOk, OnErr, IfOk, IfErr};
 ghost use Rattle.step_record.specs.Keys.{has_key};
 ghost use Rattle.queue_policies.specs.Ghost.{ghost_place_of};
 ghost use Rattle.ghost_policies.specs.TwoQ.{empty_two_q, two_q_residents, kin, kout, two_q_leaver, two_q_after_recall, two_q_after_eviction};
 ghost use Rattle.ghost_policies.specs.TwoQ.{two_q_after_join, two_q_act, two_q_forgotten, two_q_record_of, two_q_undone};
-ghost use Rattle.ghost_policies.specs.TwoQ.{two_q_after_miss, two_q_miss_of, two_q_outcome};
+ghost use Rattle.ghost_policies.specs.TwoQ.{two_q_after_miss, two_q_miss_of, two_q_outcome, two_q_before_eviction};
+ghost use Rattle.ghost_policies.specs.declared.two_q.TwoQRecord.TheVariants.{Missed};
 ghost use Rattle.ghost_caches.specs.declared.queue_name.QueueName.TheVariants.{Entry, Main, EntryGhost};
-ghost use Rattle.ghost_caches.specs.QueueLists.{keys_in, IsNowhere};
-ghost use Rattle.ghost_caches.specs.TwoQCache.{two_q_of, IsTwoQCache, LeavesFirst, TwoQFits, TwoQAsks};
+ghost use Rattle.ghost_caches.specs.QueueLists.{keys_in, IsNowhere, IsSomeOf};
+ghost use Rattle.ghost_caches.specs.TwoQCache.{two_q_of, IsTwoQCache, LeavesFirst, TwoQFits, TwoQAsks, TwoQMissFits, LeftLast, coming_back};
 
 use crate::ghost_queues::GhostQueues;
 use crate::queue_name::QueueName;
@@ -61,6 +62,31 @@ impl TwoQCache {
         ensures err { OnErr result (self.new ≡ self.old) }
     {
         step(&mut self.queues, self.capacity, key)
+    }
+
+    /// Undoes the last access, by its record. An error, that an allocation failed, gives the record back and leaves the
+    /// cache as before.
+    pub fn undo(&mut self, done: TwoQRecord) -> Result<(), TwoQRecord>
+        requires { TwoQFits done self.old }
+        ensures ok { OnOk result (self.new.state ≡ two_q_undone done self.old.state) }
+        ensures capacity { self.new.capacity ≡ self.old.capacity }
+        ensures err { OnErr result (self.new ≡ self.old) }
+        ensures returned { IfErr result (λ r. r ≡ done) }
+        // Only a key that comes back from nowhere asks for room.
+        ensures asks { OnErr result (TwoQAsks done) }
+    {
+        let Ok(_) = step_back(&mut self.queues, self.capacity, done) else {
+            return Err(done);
+        };
+        Ok(())
+    }
+
+    /// The resident keys: those of `a1in` and then those of `am`, each oldest first. The one error is that an allocation
+    /// failed.
+    pub fn residents(&self, alloc: Global) -> Result<Vec<Key>, AllocError>
+        ensures { IfOk result (λ keys. keys.items ≡ two_q_residents self.now.state) }
+    {
+        self.queues.residents(alloc)
     }
 }
 
@@ -208,5 +234,76 @@ fn outcome_of(leaver: TwoQLeaver) -> Outcome
         TwoQLeaver::NoLeaver => Outcome::Kept,
         TwoQLeaver::FromA1in(key) => Outcome::Evicted(key),
         TwoQLeaver::FromAm(key) => Outcome::Evicted(key),
+    }
+}
+
+// The last access is undone, by its record.
+fn step_back(queues: &mut GhostQueues, capacity: u32, done: TwoQRecord) -> Result<(), AllocError>
+    requires fits { TwoQFits done record { capacity = capacity; state = two_q_of queues.old.lists } }
+    requires unused { queues.old.lists.main_ghost ≡ [] }
+    ensures state { OnOk result (two_q_of queues.new.lists ≡ two_q_undone done (two_q_of queues.old.lists)) }
+    ensures unused { queues.new.lists.main_ghost ≡ queues.old.lists.main_ghost }
+    ensures err { OnErr result (queues.new.lists ≡ queues.old.lists) }
+    ensures asks { OnErr result (TwoQAsks done) }
+{
+    match done {
+        TwoQRecord::Renewed(key, older) => {
+            queues.put_back(key, QueueName::Main, QueueName::Main, older);
+            Ok(())
+        }
+        TwoQRecord::Unmoved => Ok(()),
+        TwoQRecord::Missed(done) => {
+            queues.reserve_for(key_coming_back(done.leaver, done.forgotten))?;
+            undo_miss(queues, done);
+            Ok(())
+        }
+    }
+}
+
+// The key that comes back from nowhere where a miss is undone.
+fn key_coming_back(leaver: TwoQLeaver, forgotten: Option<Key>) -> Option<Key>
+    ensures { result ≡ coming_back leaver forgotten }
+{
+    match leaver {
+        TwoQLeaver::NoLeaver => None,
+        TwoQLeaver::FromA1in(_) => forgotten,
+        TwoQLeaver::FromAm(key) => Some(key),
+    }
+}
+
+// A miss is undone. A key that was remembered goes back to its place last, since it needs no room then.
+fn undo_miss(queues: &mut GhostQueues, done: TwoQMiss)
+    requires room { IsSomeOf (coming_back done.leaver done.forgotten) → 1 ≤ queues.old.spare }
+    requires fits { TwoQMissFits done (two_q_of queues.old.lists) }
+    requires unused { queues.old.lists.main_ghost ≡ [] }
+    ensures state { two_q_of queues.new.lists ≡ two_q_undone (Missed done) (two_q_of queues.old.lists) }
+    ensures unused { queues.new.lists.main_ghost ≡ queues.old.lists.main_ghost }
+{
+    match done.place {
+        GhostPlace::Unknown => {
+            queues.pop_newest(QueueName::Entry);
+            undo_eviction(queues, done.leaver, done.forgotten);
+        }
+        GhostPlace::Known(key, older) => {
+            undo_eviction(queues, done.leaver, done.forgotten);
+            queues.put_back(key, QueueName::Main, QueueName::EntryGhost, older);
+        }
+    }
+}
+
+// The leaver comes back.
+fn undo_eviction(queues: &mut GhostQueues, leaver: TwoQLeaver, forgotten: Option<Key>)
+    requires room { IsSomeOf (coming_back leaver forgotten) → 1 ≤ queues.old.spare }
+    requires nowhere { (x : ℕ) → coming_back leaver forgotten ≡ Some x → IsNowhere x queues.old.lists }
+    requires last { LeftLast leaver forgotten queues.old.lists }
+    ensures state { two_q_of queues.new.lists ≡ two_q_before_eviction leaver forgotten (two_q_of queues.old.lists) }
+    ensures unused { queues.new.lists.main_ghost ≡ queues.old.lists.main_ghost }
+{
+    match leaver {
+        TwoQLeaver::NoLeaver => {}
+        TwoQLeaver::FromA1in(key) => {
+            queues.unremember(key, QueueName::Entry, QueueName::EntryGhost, 0, forgotten);
+        }
+        TwoQLeaver::FromAm(key) => queues.push_oldest(QueueName::Main, key, 0),
     }
 }
