@@ -1,6 +1,6 @@
 //! Approximate access frequencies.
 ghost use Rattle.std.specs.Prelude.{◌≡◌, ◌<◌, ◌≤◌, ◌+◌, ◌-◌, ◌^◌, ◌*◌, ◌++◌, ◌∷◌, List, [], ℕ, nat_lt, cond, Some};
-ghost use Rattle.std.specs.Prelude.{IfOk, OnOk, OnErr};
+ghost use Rattle.std.specs.Prelude.{IfOk, OnOk, OnErr, true};
 ghost use Rattle.step_record.specs.declared.limits.TheConstants.{MAX_CAPACITY};
 ghost use Rattle.admission.specs.Shape.{Shape, IsShape};
 ghost use Rattle.admission.specs.Frequency.{IsFrequencyOf, frequency_of, marked, faded, frequency_with, halves};
@@ -78,6 +78,7 @@ impl Frequency {
         ensures undone { IfOk result (λ r. frequency_before r self.new ≡ self.old) }
         ensures size { IfOk result (λ r. size_of r ≡ cond (halves self.old) (halving_words self.old) 0) }
         ensures err { OnErr result (self.new ≡ self.old) }
+        ensures memory { OnErr result (halves self.old ≡ true) }
 
         // Of the frequency of a list of keys it makes that of the list with the key at its end.
         ensures appends { (s : Shape) (keys : List ℕ) → IsShape s → self.old ≡ frequency_of s keys
@@ -93,6 +94,35 @@ impl Frequency {
             None
         };
         Ok(FreqRecord { mark, halving })
+    }
+
+    /// Records a key as `record` does, and makes no undo record. The one error is out of memory for a halving; nothing is
+    /// changed then.
+    #[inline(always)]
+    pub fn count(&mut self, key: Key) -> Result<(), AllocError>
+        requires { self.old.halvings < 2 ^ 64 - 1 }
+        ensures after { OnOk result (self.new ≡ frequency_with key self.old) }
+        ensures err { OnErr result (self.new ≡ self.old) }
+    {
+        // Only where the key fills the sample is its mark kept, until it is sure that there is memory for the halving.
+        if self.age + 1 == 10 * self.capacity {
+            return self.count_last(key);
+        }
+        let _ = self.mark(key);
+        self.age += 1;
+        Ok(())
+    }
+
+    // The same for the key that fills the sample.
+    #[cold]
+    #[inline(never)]
+    fn count_last(&mut self, key: Key) -> Result<(), AllocError>
+        requires { self.old.halvings < 2 ^ 64 - 1 }
+        ensures after { OnOk result (self.new ≡ frequency_with key self.old) }
+        ensures err { OnErr result (self.new ≡ self.old) }
+    {
+        let _ = self.record(key)?;
+        Ok(())
     }
 
     /// Undoes the recording of a key. The record has to fit, as that of the last recording that is not undone does.
@@ -122,6 +152,15 @@ impl Frequency {
         let known = self.door.has(key);
         let least = self.sketch.least(key);
         least + known as u8
+    }
+
+    /// Works out what the estimate of a key is read by, and keeps it until another key is prepared. Changes nothing that a
+    /// caller can see, and pays for a key that stays the victim of several admissions.
+    pub fn prepare(&mut self, key: Key)
+        ensures { self.new ≡ self.old }
+    {
+        self.door.prepare(key);
+        self.sketch.prepare(key);
     }
 
     /// Whether the candidate is estimated above the victim. A tie admits nobody.

@@ -14,6 +14,7 @@ use Rattle.step_record.specs.Pace.{words_of_halvings}
 use Rattle.step_record.specs.Stats.{stats_of, stats_with, is_hit, is_miss, is_eviction, is_rejection, IsSmall}
 use Rattle.segments.specs.Queues.{Queues, empty_queues}
 use Rattle.admission.specs.declared.freq_record.FreqRecord.{FreqRecord}
+use Rattle.admission.specs.Shape.{Shape}
 use Rattle.admission.specs.Frequency.{FrequencyData, frequency_of}
 use Rattle.admission.proofs.Recording.{recorded_freq}
 use Rattle.admission.proofs.Weighing.{halvings_bounded, weight_falls}
@@ -221,3 +222,13 @@ act_accepts d k h =
 
 pub stands-accesses : (j : Job) (keys : List ℕ) (d : QueueState) → StandsFor j keys d → d.stats.accesses ≡ length keys
 stands-accesses j keys d s = ap (λ (x : QueueState). x.stats.accesses) s.gives ∙ (after-steady j keys).accesses
+
+uncounted-by : (b : Bool) (s : Shape) (keys : List ℕ) → b ≡ false → frequency_by b s keys ≡ None
+uncounted-by false s keys h = refl
+uncounted-by true s keys h = cc (h)
+
+-- where the policy counts no keys, there is no frequency
+pub reached-uncounted : (d : QueueState) → IsReached d → is_counting d.job.policy ≡ false → d.frequency ≡ None
+reached-uncounted d r h =
+    ap (λ (e : QueueState). e.frequency) r.stands.gives ∙ after-frequency d.job r.keys
+    ∙ uncounted-by (is_counting d.job.policy) (shape_of d.job.config) r.keys h

@@ -6,6 +6,9 @@ use Rattle.step_record.specs.declared.job.Job.{Job}
 use Rattle.step_record.specs.declared.job.Policy.{Policy}
 use Rattle.step_record.specs.declared.job.Policy.TheVariants.{Lru, SegmentedLru, TinyLfuLru, TinyLfuSegmented}
 use Rattle.step_record.specs.declared.job.Policy.TheVariants.{WindowTinyLfu, Clairvoyant}
+use Rattle.segments.specs.declared.records.Queue.TheVariants.{Window, Probation}
+use Rattle.replacement.specs.declared.rules.Placement.{Placement}
+use Rattle.replacement.specs.declared.rules.Placement.TheVariants.{Direct, Windowed}
 use Rattle.replacement.specs.declared.rules.Rules.{Rules}
 use Rattle.replacement.specs.Rules.{one_queue, two_queues, three_queues}
 use Rattle.policies.specs.declared.design.Design.{Design}
@@ -32,6 +35,12 @@ abbrev pub sizes_by : Layout → Config → Rules
 sizes_by OneQueue c = one_queue c
 sizes_by TwoQueues c = two_queues c
 sizes_by ThreeQueues c = three_queues c
+
+-- where a new item goes
+abbrev pub placement_by : Layout → Placement
+placement_by OneQueue = Direct Window
+placement_by TwoQueues = Direct Probation
+placement_by ThreeQueues = Windowed
 
 -- the rules for a configuration
 abbrev pub rules_by : QueueDesign → Config → Rules

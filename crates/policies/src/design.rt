@@ -1,9 +1,10 @@
 //! What each policy is: the one table of policies.
 ghost use Rattle.std.specs.Prelude.{◌≡◌, Ok};
 ghost use Rattle.step_record.specs.Config.{config_fault};
-ghost use Rattle.policies.specs.Design.{design_of, rules_by};
+ghost use Rattle.policies.specs.Design.{design_of, placement_by, rules_by};
 
-use replacement::{HitRule, Rules};
+use replacement::{HitRule, Placement, Rules};
+use segments::Queue;
 use step_record::{Config, Policy};
 
 /// What a policy is.
@@ -81,7 +82,35 @@ pub(crate) const WINDOW_TINY_LFU: QueueDesign = QueueDesign {
     counts_keys: true,
 };
 
+/// A design that is known where a loop over accesses is compiled, so that the loop asks nothing of it.
+pub(crate) trait FixedDesign {
+    ghost use Rattle.policies.specs.declared.design.QueueDesign.{QueueDesign};
+
+    ghost DESIGN: { QueueDesign };
+
+    const DESIGN: QueueDesign;
+}
+
 impl QueueDesign {
+    /// The rules of this design as they are, with all that is the same for each configuration written out.
+    #[inline(always)]
+    pub(crate) fn fixed(self, rules: &Rules) -> Rules
+        requires placement { rules.now.placement ≡ placement_by self.layout }
+        requires hits { rules.now.hits ≡ self.hits }
+        ensures { result ≡ rules.now }
+    {
+        let placement = match self.layout {
+            Layout::OneQueue => Placement::Direct(Queue::Window),
+            Layout::TwoQueues => Placement::Direct(Queue::Probation),
+            Layout::ThreeQueues => Placement::Windowed,
+        };
+        Rules {
+            placement,
+            hits: self.hits,
+            ..*rules
+        }
+    }
+
     /// The rules for a configuration, which it requires `Config::check` to accept.
     pub fn rules(&self, config: &Config) -> Rules
         requires { config_fault config.now ≡ Ok tt }

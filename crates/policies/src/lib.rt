@@ -12,6 +12,7 @@
 //! `Report` of a job over it, and which job is refused, with the fault that says so (`ActorFault`).
 #![tactic(auto)]
 
+mod access_loops;
 mod actor_fault;
 mod any_policy;
 mod cache_run;

@@ -1,7 +1,6 @@
-use Rattle.std.proofs.Common.{◌++◌, take, ap, ◌∙◌, sym, subst, arith, Err}
+use Rattle.std.proofs.Common.{◌++◌, take, ap, ◌∙◌, subst, arith, Err}
 use Rattle.std.specs.Prelude.{slice_index}
 use Rattle.std.proofs.lemmas.List.{take_all}
-use Rattle.policies.specs.declared.any_policy.AnyPolicy.{AnyPolicy}
 use Rattle.policies.specs.AnyPolicy.{HasAccessed}
 use Rattle.policies.proofs.Stretches.{next-ahead, added-next}
 use Rattle.policies.proofs.trace_run.access_all.Goals as goal
@@ -9,17 +8,16 @@ use Rattle.policies.proofs.trace_run.access_all.Goals as goal
 pub unreachable-requires : goal.unreachable-requires
 unreachable-requires c =
     let i = c.loop-i.i in let keys = c.args.keys.now in let n = c.requires in
-    c.any_accepts.ensures n.job n.trace (n.before ++ take i keys) _ (slice_index keys i) c.prefetch_at.new.self
-    (next-ahead n.trace n.before keys n.rest i c.loop-i-test.true n.ahead) n.few
-    (subst (λ (d : AnyPolicy). HasAccessed n.job n.trace (n.before ++ take i keys) d) (sym c.prefetch_at.ensures) (c.loop-i.invariant n.job n.trace n.before n.stands))
+    c.any_accepts.ensures n.job n.trace (n.before ++ take i keys) _ (slice_index keys i) c.loop-i.cache
+    (next-ahead n.trace n.before keys n.rest i c.loop-i-test.true n.ahead) n.few (c.loop-i.invariant n.job n.trace n.before n.stands)
     (c.access.ensures.not_now.0 (c.in-Err-NotNow.is ∙ ap Err c.in-Err-NotNow.field-0-is))
 
 pub loop-i-preserved : goal.loop-i-preserved
 loop-i-preserved c = λ j trace done s.
     let i = c.loop-i.i in let keys = c.args.keys.now in
     subst (λ l. HasAccessed j trace l c.access.new.self) (added-next done keys i c.loop-i-test.true)
-    (c.any_step_law.ensures j trace (done ++ take i keys) c.prefetch_at.new.self (slice_index keys i) _ c.access.new.self
-    (subst (λ (d : AnyPolicy). HasAccessed j trace (done ++ take i keys) d) (sym c.prefetch_at.ensures) (c.loop-i.invariant j trace done s)) c.in-Ok.ensures.accepted)
+    (c.any_step_law.ensures j trace (done ++ take i keys) c.loop-i.cache (slice_index keys i) _ c.access.new.self
+    (c.loop-i.invariant j trace done s) c.in-Ok.ensures.accepted)
 
 pub returns : goal.returns
 returns c = λ j trace done s.

@@ -1,0 +1,97 @@
+//! The accesses of a trace by a cache of queues: a loop for each policy, compiled for its design.
+ghost use Rattle.std.specs.Prelude.{◌≡◌, ◌++◌, ℕ, List, OnOk};
+ghost use Rattle.step_record.specs.declared.job.Job.{Job};
+ghost use Rattle.policies.specs.declared.design.QueueDesign.{QueueDesign};
+ghost use Rattle.policies.specs.Design.{design_of};
+ghost use Rattle.policies.specs.Lru.{lru};
+ghost use Rattle.policies.specs.SegmentedLru.{segmented_lru};
+ghost use Rattle.policies.specs.TinyLfu.{tiny_lfu};
+ghost use Rattle.policies.specs.WindowTinyLfu.{window_tiny_lfu};
+ghost use Rattle.policies.specs.AnyPolicy.{HasAccessed};
+ghost use Rattle.policies.specs.Accesses.{IsNext};
+
+use crate::any_policy::AnyPolicy;
+use crate::design::{
+    Design, FixedDesign, LRU, QueueDesign, SEGMENTED_LRU, TINY_LFU_LRU, TINY_LFU_SEGMENTED,
+    WINDOW_TINY_LFU,
+};
+use crate::queue_cache::QueueCache;
+use crate::theorems;
+use std::alloc::AllocError;
+use step_record::{Key, Policy, StepFault};
+
+/// Makes the accesses in turn, which are the next ones of a trace. The one error is out of memory.
+pub(crate) fn access_queues(cache: &mut QueueCache, keys: &[Key]) -> Result<(), AllocError>
+    requires { IsNext keys.now (AnyPolicy.Queues cache.old) }
+    ensures { (j : Job) (trace done : List ℕ) → HasAccessed j trace done (AnyPolicy.Queues cache.old)
+        → OnOk result (HasAccessed j trace (done ++ keys.now) (AnyPolicy.Queues cache.new)) }
+{
+    match cache.job().policy {
+        Policy::Lru => access_each::<LruDesign>(cache, keys),
+        Policy::SegmentedLru => access_each::<SegmentedLruDesign>(cache, keys),
+        Policy::TinyLfuLru => access_each::<TinyLfuLruDesign>(cache, keys),
+        Policy::TinyLfuSegmented => access_each::<TinyLfuSegmentedDesign>(cache, keys),
+        Policy::WindowTinyLfu => access_each::<WindowTinyLfuDesign>(cache, keys),
+        Policy::Clairvoyant => unreachable!(),
+    }
+}
+
+// The same by a cache of one design. Each design has a loop of its own, which an access to it is part of.
+fn access_each<D: FixedDesign>(cache: &mut QueueCache, keys: &[Key]) -> Result<(), AllocError>
+    requires design { design_of cache.old.job.policy ≡ Design.Queues D.DESIGN }
+    requires next { IsNext keys.now (AnyPolicy.Queues cache.old) }
+    ensures { (j : Job) (trace done : List ℕ) → HasAccessed j trace done (AnyPolicy.Queues cache.old)
+        → OnOk result (HasAccessed j trace (done ++ keys.now) (AnyPolicy.Queues cache.new)) }
+{
+    theorems::any_step_law();
+    theorems::any_accepts();
+    for i in 0..keys.len() {
+        cache.prefetch_at(keys, i);
+        match cache.access_by::<D>(keys[i]) {
+            Ok(_) => {}
+            Err(StepFault::OutOfMemory) => return Err(AllocError),
+            Err(StepFault::NotNow) => unreachable!(),
+        }
+    }
+    Ok(())
+}
+
+struct LruDesign;
+
+impl FixedDesign for LruDesign {
+    ghost DESIGN = { lru };
+
+    const DESIGN: QueueDesign = LRU;
+}
+
+struct SegmentedLruDesign;
+
+impl FixedDesign for SegmentedLruDesign {
+    ghost DESIGN = { segmented_lru };
+
+    const DESIGN: QueueDesign = SEGMENTED_LRU;
+}
+
+struct TinyLfuLruDesign;
+
+impl FixedDesign for TinyLfuLruDesign {
+    ghost DESIGN = { tiny_lfu lru };
+
+    const DESIGN: QueueDesign = TINY_LFU_LRU;
+}
+
+struct TinyLfuSegmentedDesign;
+
+impl FixedDesign for TinyLfuSegmentedDesign {
+    ghost DESIGN = { tiny_lfu segmented_lru };
+
+    const DESIGN: QueueDesign = TINY_LFU_SEGMENTED;
+}
+
+struct WindowTinyLfuDesign;
+
+impl FixedDesign for WindowTinyLfuDesign {
+    ghost DESIGN = { window_tiny_lfu };
+
+    const DESIGN: QueueDesign = WINDOW_TINY_LFU;
+}
