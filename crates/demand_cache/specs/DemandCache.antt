@@ -1,12 +1,14 @@
 -- What the engine shows, and one access to it as a step.
-use Rattle.std.specs.Prelude.{◌≡◌, ℕ, ◌+◌, ◌≤◌, ◌==◌, if◌then◌else◌, Option, Some, None}
+use Rattle.std.specs.Prelude.{◌≡◌, ℕ, ◌+◌, ◌≤◌, ◌==◌, false, if◌then◌else◌, Option, Some, None}
 use Rattle.step_record.specs.declared.limits.TheConstants.{MAX_STEPS}
 use Rattle.step_record.specs.declared.outcome.Outcome.{Outcome}
 use Rattle.step_record.specs.declared.stats.Stats.{Stats}
+use Rattle.step_record.specs.Keys.{has_key}
 use Rattle.step_record.specs.Stats.{stats_with, stats_without, IsCounted}
 use Rattle.demand_cache.specs.declared.demand_queues.DemandQueues.{DemandQueues}
 use Rattle.demand_cache.specs.declared.demand_cache.DemandRecord.{DemandRecord}
 use Rattle.demand_cache.specs.DemandQueues.{queues_act, queues_record_of, queues_undone, queues_asks, QueuesFits}
+use Rattle.demand_cache.specs.DemandQueues.{queues_residents}
 
 -- the queues, and what was counted of the applied accesses
 pub record DemandState : Type 0 where
@@ -26,6 +28,10 @@ demand_act d k =
 -- The record of an access to k, from the cache before it. It is this and nothing beside, and holds no list.
 abbrev pub demand_record_of : ℕ → DemandState → DemandRecord
 demand_record_of k d = record { queues = queues_record_of k d.queues; outcome = (queues_act k d.queues).0 }
+
+-- an access may be refused memory: its key is not resident
+abbrev pub demand_may_ask : DemandState → ℕ → Type 0
+demand_may_ask d k = has_key k (queues_residents d.queues) ≡ false
 
 -- the state before an access, from its record and the state after it
 abbrev pub demand_undone : DemandRecord → DemandState → DemandState

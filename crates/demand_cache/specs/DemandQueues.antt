@@ -2,10 +2,11 @@
 -- definition.
 use Rattle.std.specs.Prelude.{◌≡◌, ℕ, List, []}
 use Rattle.step_record.specs.declared.outcome.Outcome.{Outcome}
-use Rattle.queue_policies.specs.Residents.{AreResidents}
-use Rattle.queue_policies.specs.Fifo.{fifo_act, fifo_undone}
-use Rattle.fifo_cache.specs.Queue.{Shown, FifoFits, AsksRoom}
+use Rattle.queue_policies.specs.CountedKeys.{CountedKey, keys_of}
+use Rattle.queue_policies.specs.Clock.{clock_act, clock_record_of, clock_undone, IsClock}
+use Rattle.queue_caches.specs.ClockCache.{ClockFits, ClockAsks}
 use Rattle.demand_cache.specs.declared.demand_queues.DemandPolicy.{DemandPolicy}
+use Rattle.demand_cache.specs.declared.demand_queues.DemandPolicy.TheVariants as policy
 use Rattle.demand_cache.specs.declared.demand_queues.DemandQueues.{DemandQueues}
 use Rattle.demand_cache.specs.declared.demand_queues.DemandQueues.TheVariants.{Clock}
 use Rattle.demand_cache.specs.declared.demand_queues.QueuesRecord.{QueuesRecord}
@@ -13,39 +14,42 @@ use Rattle.demand_cache.specs.declared.demand_queues.QueuesRecord.TheVariants as
 
 -- the queues of an empty cache of capacity c
 abbrev pub empty_queues : DemandPolicy → ℕ → DemandQueues
-empty_queues p c = Clock record { capacity = c; queue = [] }
+empty_queues policy.Clock c = Clock record { capacity = c; queue = [] }
 
 -- the keys that are cached, queue by queue, oldest first
 abbrev pub queues_residents : DemandQueues → List ℕ
-queues_residents (Clock d) = d.queue
+queues_residents (Clock d) = keys_of d.queue
 
 -- ---- an access
 
-abbrev fifo_queues : ℕ → Outcome × List ℕ → Outcome × DemandQueues
-fifo_queues c a = (a.0, Clock record { capacity = c; queue = a.1 })
+abbrev pub clock_queues : ℕ → Outcome × List CountedKey → Outcome × DemandQueues
+clock_queues c a = (a.0, Clock record { capacity = c; queue = a.1 })
 
 -- an access to k: its outcome, and the queues after it
 abbrev pub queues_act : ℕ → DemandQueues → Outcome × DemandQueues
-queues_act k (Clock d) = fifo_queues d.capacity (fifo_act d.capacity k d.queue)
+queues_act k (Clock d) = clock_queues d.capacity (clock_act d.capacity k d.queue)
 
 -- its record, from the queues before it
 abbrev pub queues_record_of : ℕ → DemandQueues → QueuesRecord
-queues_record_of k (Clock d) = done.Clock (fifo_act d.capacity k d.queue).0
+queues_record_of k (Clock d) = done.Clock (clock_record_of d.capacity k d.queue)
 
 -- ---- undoing it
 
--- the queues before an access, from its record and the queues after it
+-- The queues before an access, from its record and the queues after it. A record of another policy undoes nothing.
 abbrev pub queues_undone : QueuesRecord → DemandQueues → DemandQueues
-queues_undone (done.Clock r) (Clock d) = Clock record { capacity = d.capacity; queue = fifo_undone r d.queue }
+queues_undone (done.Clock r) (Clock d) = Clock record { capacity = d.capacity; queue = clock_undone r d.queue }
+queues_undone r d = d
 
 -- the record is that of an access which led to these queues; one of another policy fits nowhere
 abbrev pub QueuesFits : QueuesRecord → DemandQueues → Type 0
-QueuesFits (done.Clock r) (Clock d) = FifoFits r d
+QueuesFits (done.Clock r) (Clock d) = ClockFits r d
+QueuesFits r d = ⊥
 
--- undoing the access takes memory: a key comes back
+-- undoing the access takes memory: a key comes back from nowhere
 abbrev pub queues_asks : QueuesRecord → Type 0
-queues_asks (done.Clock r) = AsksRoom r
+queues_asks (done.Clock r) = ClockAsks r
 
--- what holds of the queues of a cache of capacity c
+-- ---- what holds of the queues of a cache of capacity c
+
 abbrev pub IsQueues : ℕ → DemandQueues → Type 0
-IsQueues c (Clock d) = (d.capacity ≡ c) × AreResidents c d.queue
+IsQueues c (Clock d) = (d.capacity ≡ c) × IsClock c d.queue

@@ -1,5 +1,6 @@
 -- What is known of these policies together.
-use Rattle.std.specs.Prelude.{◌≡◌, ℕ, ◌≤◌}
+use Rattle.std.specs.Prelude.{◌≡◌, ℕ, ◌≤◌, true}
+use Rattle.step_record.specs.Stats.{is_eviction}
 use Rattle.step_record.specs.declared.outcome.Outcome.TheVariants.{Hit}
 use Rattle.queue_policies.specs.Residents.{KeepsResidents}
 use Rattle.demand_cache.specs.declared.demand_queues.DemandPolicy.{DemandPolicy}
@@ -16,3 +17,8 @@ DemandKeeps = (p : DemandPolicy) (c : ℕ) → 1 ≤ c
 -- Undoing a hit takes no memory.
 abbrev pub HitsAskNothing : Type 0
 HitsAskNothing = (k : ℕ) (d : DemandQueues) → (queues_act k d).0 ≡ Hit → queues_asks (queues_record_of k d) → ⊥
+
+-- Undoing an access takes memory only where a key left in it.
+abbrev pub AsksWhereOneLeft : Type 0
+AsksWhereOneLeft = (c k : ℕ) (d : DemandQueues) → IsQueues c d → queues_asks (queues_record_of k d)
+    → is_eviction (queues_act k d).0 ≡ true

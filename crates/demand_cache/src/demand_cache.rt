@@ -37,7 +37,7 @@ impl Model for DemandCache {
 }
 
 impl DemandCache {
-    ghost use Rattle.demand_cache.specs.DemandCache.{demand_act};
+    ghost use Rattle.demand_cache.specs.DemandCache.{demand_act, demand_may_ask};
 
     /// An empty cache. Allocates nothing.
     pub fn new(alloc: Global, policy: DemandPolicy, capacity: u32) -> DemandCache
@@ -59,6 +59,7 @@ impl DemandCache {
     pub fn access(&mut self, key: Key) -> Result<Outcome, StepFault>
         ensures accepted { IfOk result (λ o. demand_act self.old key ≡ Some (o, self.new)) }
         ensures not_now { result ≡ Err StepFault.NotNow ↔ demand_act self.old key ≡ None }
+        ensures memory { result ≡ Err StepFault.OutOfMemory → demand_may_ask self.old key }
         ensures err { OnErr result (self.new ≡ self.old) }
     {
         let (outcome, _) = self.apply(&key)?;
@@ -82,6 +83,7 @@ impl DemandCache {
 
 impl Engine for DemandCache {
     ghost use Rattle.demand_cache.specs.DemandCache.{demand_act, demand_record_of, demand_undone, demand_asks, DemandFits};
+    ghost use Rattle.demand_cache.specs.DemandCache.{demand_may_ask};
     ghost use Rattle.demand_cache.specs.DemandCounts.{act_counts, act_ends};
     ghost use Rattle.step_record.specs.Pace.{pace_without_sketch, still-paced};
 
@@ -97,6 +99,10 @@ impl Engine for DemandCache {
 
     ghost act = { demand_act };
 
+    ghost record_of = { demand_record_of };
+
+    ghost may_ask = { demand_may_ask };
+
     ghost fits = { DemandFits };
 
     ghost undone = { demand_undone };
@@ -109,15 +115,7 @@ impl Engine for DemandCache {
 
     ghost pace = { λ d. pace_without_sketch };
 
-    fn apply(&mut self, step: &Key) -> Result<(Outcome, DemandRecord), StepFault>
-        ensures accepted { IfOk result (λ r. demand_act self.old step.now ≡ Some (r.0, self.new)) }
-        ensures fits { IfOk result (λ r. DemandFits r.1 self.new) }
-        ensures undone { IfOk result (λ r. demand_undone r.1 self.new ≡ self.old) }
-        ensures not_now { result ≡ Err StepFault.NotNow ↔ demand_act self.old step.now ≡ None }
-        ensures err { OnErr result (self.new ≡ self.old) }
-        // The record is that of an access to this key, from the cache before it, and nothing beside.
-        ensures record_is { IfOk result (λ r. r.1 ≡ demand_record_of step.now self.old) }
-    {
+    fn apply(&mut self, step: &Key) -> Result<(Outcome, DemandRecord), StepFault> {
         if self.stats.accesses == MAX_STEPS {
             return Err(StepFault::NotNow);
         }
@@ -128,14 +126,7 @@ impl Engine for DemandCache {
         Ok((outcome, DemandRecord { queues, outcome }))
     }
 
-    fn undo(&mut self, done: DemandRecord) -> Result<(), DemandRecord>
-        requires { DemandFits done self.old }
-        ensures ok { OnOk result (self.new ≡ demand_undone done self.old) }
-        ensures err { OnErr result (self.new ≡ self.old) }
-        ensures returned { IfErr result (λ r. r ≡ done) }
-        // Only a key that comes back asks for room.
-        ensures asks { OnErr result (demand_asks done) }
-    {
+    fn undo(&mut self, done: DemandRecord) -> Result<(), DemandRecord> {
         let Ok(()) = self.queues.undo(done.queues) else {
             return Err(done);
         };

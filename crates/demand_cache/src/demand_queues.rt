@@ -1,40 +1,34 @@
 //! A cache of any of these policies.
-ghost use Rattle.std.specs.Prelude.{◌≡◌, ◌≤◌, IfOk, IfErr, OnOk, OnErr};
+ghost use Rattle.std.specs.Prelude.{◌≡◌, ◌≤◌, false, IfOk, IfErr, OnOk, OnErr};
 ghost use Rattle.step_record.specs.declared.limits.TheConstants.{MAX_CAPACITY};
+ghost use Rattle.step_record.specs.Keys.{has_key};
 ghost use Rattle.demand_cache.specs.DemandQueues.{empty_queues, queues_act, queues_record_of, queues_undone, queues_asks};
 ghost use Rattle.demand_cache.specs.DemandQueues.{QueuesFits, queues_residents};
 
-use fifo_cache::Fifo;
+use queue_caches::ClockCache;
+use queue_policies::ClockRecord;
 use std::alloc::{AllocError, Global};
 use step_record::{Key, Outcome};
 
 /// A policy that keeps each missed key.
 #[derive(Clone, Copy, Debug, PartialEq, Eq)]
 pub enum DemandPolicy {
-    /// Second chance, as an operating system's clock (Corbató 1969).
+    /// Second chance, as the clock of an operating system (Corbató 1969).
     Clock,
-    /// A hand that passes keys which were hit (NSDI 2024).
-    Sieve,
-    /// A small queue before a main one, with a ghost (SOSP 2023).
-    S3Fifo,
-    /// A queue of new keys before an Lru queue, with a ghost (VLDB 1994).
-    TwoQ,
-    /// Recency and frequency with two ghosts and a target that adapts (FAST 2003).
-    Arc,
 }
 
 /// The queues of a cache of one of these policies.
 #[derive(Drop)]
 pub enum DemandQueues {
-    /// First in, first out.
-    Clock(Fifo),
+    /// Of `DemandPolicy::Clock`.
+    Clock(ClockCache),
 }
 
 /// What undoes an access to the queues: a record of fixed size, whatever the access moved.
 #[derive(Clone, Copy)]
 pub enum QueuesRecord {
-    /// First in, first out.
-    Clock(Outcome),
+    /// Of `DemandPolicy::Clock`.
+    Clock(ClockRecord),
 }
 
 impl DemandQueues {
@@ -45,23 +39,25 @@ impl DemandQueues {
         ensures { result ≡ empty_queues policy capacity }
     {
         match policy {
-            _ => DemandQueues::Clock(Fifo::new(alloc, capacity as usize)),
+            DemandPolicy::Clock => DemandQueues::Clock(ClockCache::new(alloc, capacity)),
         }
     }
 
-    /// An access to a key, with the record that undoes it. The one error is that an allocation failed; the queues are
-    /// then as before.
+    /// An access to a key, with the record that undoes it. The one error is that an allocation failed, for a key that is
+    /// not resident; the queues are then as before.
     pub fn access(&mut self, key: Key) -> Result<(Outcome, QueuesRecord), AllocError>
         ensures acts { IfOk result (λ r. (r.0, self.new) ≡ queues_act key self.old) }
         ensures record_is { IfOk result (λ r. r.1 ≡ queues_record_of key self.old) }
         ensures fits { IfOk result (λ r. QueuesFits r.1 self.new) }
         ensures undone { IfOk result (λ r. queues_undone r.1 self.new ≡ self.old) }
+        // A hit asks for no memory.
+        ensures memory { OnErr result (has_key key (queues_residents self.old) ≡ false) }
         ensures err { OnErr result (self.new ≡ self.old) }
     {
         match self {
             DemandQueues::Clock(cache) => {
-                let outcome = cache.access(key)?;
-                Ok((outcome, QueuesRecord::Clock(outcome)))
+                let (outcome, done) = cache.access(key)?;
+                Ok((outcome, QueuesRecord::Clock(done)))
             }
         }
     }
@@ -73,16 +69,15 @@ impl DemandQueues {
         ensures ok { OnOk result (self.new ≡ queues_undone done self.old) }
         ensures err { OnErr result (self.new ≡ self.old) }
         ensures returned { IfErr result (λ r. r ≡ done) }
+        // Only a key that comes back from nowhere asks for room.
         ensures asks { OnErr result (queues_asks done) }
     {
-        match self {
+        let undone = match self {
             DemandQueues::Clock(cache) => match done {
-                QueuesRecord::Clock(outcome) => match cache.undo(outcome) {
-                    Ok(()) => Ok(()),
-                    Err(_) => Err(done),
-                },
+                QueuesRecord::Clock(done) => cache.undo(done).is_ok(),
             },
-        }
+        };
+        if undone { Ok(()) } else { Err(done) }
     }
 
     /// The resident keys, queue by queue, oldest first. The one error is that an allocation failed.

@@ -1,15 +1,20 @@
 //! Theorems on these policies, for callers that see a cache by its steps alone. Each of these functions does nothing: its
 //! contract is the theorem.
-ghost use Rattle.demand_cache.specs.Theorems.{DemandKeeps, HitsAskNothing};
+ghost use Rattle.demand_cache.specs.Theorems.{DemandKeeps, HitsAskNothing, AsksWhereOneLeft};
 
 /// Each policy keeps every missed key, and its residents fit, each once.
 pub fn demand_keeps()
     ensures { DemandKeeps }
 {
-    queue_policies::theorems::fifo_keeps();
+    queue_policies::theorems::clock_keeps();
 }
 
 /// Undoing a hit takes no memory.
 pub fn hits_ask_nothing()
     ensures { HitsAskNothing }
+{}
+
+/// Undoing an access takes memory only where a key left in it.
+pub fn asks_where_one_left()
+    ensures { AsksWhereOneLeft }
 {}
