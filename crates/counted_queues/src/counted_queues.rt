@@ -2,7 +2,7 @@
 ghost use Rattle.std.specs.Prelude.{◌≡◌, ◌+◌, ◌<◌, ◌≤◌, ◌++◌, ◌∷◌, ◌^◌, length, ℕ, Ok, Some, None, OnOk, IfOk, IfSome, IfNone, IsTrue, false};
 ghost use Rattle.queue_policies.specs.CountedKeys.{count_of, keys_of};
 ghost use Rattle.counted_queues.specs.Queues.{empty_queues, queue_of, with_queue, holds, counted_key, queues_after_push, queues_after_return};
-ghost use Rattle.counted_queues.specs.Queues.{first_or, newest_or, IsAbsent, IsPlace, IsStanding, IsCutAt, pairs_of, IsSound, oldest_entry, newest_entry};
+ghost use Rattle.counted_queues.specs.Queues.{first_or, newest_or, IsAbsent, IsPlace, IsStanding, IsCutAt, IsSound, oldest_entry, newest_entry};
 ghost use Rattle.queue_policies.specs.Queues.{without_oldest, without_newest};
 
 use crate::nodes::{Ends, Node, Nodes, close_gap, open_gap, put, replace, set_count, take};
@@ -105,6 +105,26 @@ impl CountedQueues {
         ensures { result ≡ newest_or None (queue_of queue self.now.queues) }
     {
         self.ends[queue as usize].newest
+    }
+
+    /// The oldest key of the queue, with its count.
+    pub fn oldest_entry(&self, queue: u8) -> Option<(u64, u8)>
+        requires { queue < 5 }
+        ensures { result ≡ oldest_entry (queue_of queue self.now.queues) }
+    {
+        let key = self.oldest(queue)?;
+        let node = self.nodes.get(&key)?;
+        Some((key, node.count))
+    }
+
+    /// The newest key of the queue, with its count.
+    pub fn newest_entry(&self, queue: u8) -> Option<(u64, u8)>
+        requires { queue < 5 }
+        ensures { result ≡ newest_entry (queue_of queue self.now.queues) }
+    {
+        let key = self.newest(queue)?;
+        let node = self.nodes.get(&key)?;
+        Some((key, node.count))
     }
 
     // Puts a key that stands in no queue between two neighbours.
@@ -266,7 +286,7 @@ impl CountedQueues {
         ensures queues { (n q : ℕ) (p : IsStanding key n q self.old.queues)
             (r : IsCutAt place.older (queue_of place.queue self.old.queues))
             → self.new.queues ≡ with_queue place.queue (r.before ++ counted_key key count ∷ r.behind)
-                (with_queue q (p.before ++ p.behind) self.old.queues) }
+            (with_queue q (p.before ++ p.behind) self.old.queues) }
         ensures spare { self.new.spare ≡ self.old.spare }
     {
         // Of every map: it has fewer than 2^63 entries.
@@ -338,13 +358,12 @@ impl CountedQueues {
         set_count(&mut self.nodes, key, count);
     }
 
-    /// A copy of the queue's keys with their counts, oldest first.
-    pub fn list(&self, alloc: Global, queue: u8) -> Result<Vec<(u64, u8)>, AllocError>
+    /// Appends the queue's keys, oldest first. The one error is that an allocation failed.
+    pub fn push_keys(&self, queue: u8, keys: &mut Vec<u64>) -> Result<(), AllocError>
         requires { queue < 5 }
-        ensures { IfOk result (λ v. v.items ≡ pairs_of (queue_of queue self.now.queues)) }
+        ensures { OnOk result (keys.new.items ≡ keys.old.items ++ keys_of (queue_of queue self.now.queues)) }
     {
         let ends = self.ends[queue as usize];
-        let mut pairs = Vec::new(alloc);
         let mut at = ends.oldest;
         for step in 0..ends.len {
             let Some(key) = at else {
@@ -353,9 +372,9 @@ impl CountedQueues {
             let Some(node) = self.nodes.get(&key) else {
                 break;
             };
-            pairs.push((key, node.count))?;
+            keys.push(key)?;
             at = node.newer;
         }
-        Ok(pairs)
+        Ok(())
     }
 }

@@ -1,4 +1,4 @@
-use Rattle.std.proofs.Common.{rules, arith, false, ◌≡◌, ◌<◌, ◌≤◌, ◌^◌, None, Some, sym, refl, length, nat_eq}
+use Rattle.std.proofs.Common.{rules, arith, false, ◌≡◌, ◌<◌, ◌≤◌, ◌^◌, None, Some, sym, length, nat_eq}
 use Rattle.std.specs.HashMap.{get}
 use Rattle.counted_queues.specs.Queues.{queue_of, holds, IsStanding, IsCutAt}
 use Rattle.counted_queues.specs.Table.{ends_of, shown}

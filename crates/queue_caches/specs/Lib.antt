@@ -1,0 +1,2 @@
+pub mod ClockCache
+pub mod ClockQueues

@@ -1,0 +1,7 @@
+//! Caches by CLOCK and by SIEVE: each does what its definition in `queue_policies` does, and undoes an access from its
+//! record.
+#![tactic(auto)]
+
+mod clock_cache;
+
+pub use clock_cache::ClockCache;
