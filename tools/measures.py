@@ -80,20 +80,20 @@ def windows_of(trace, rows, capacities):
 
 
 def best_of(survey, capacity):
-    """The policies, Belady's left out, that are within half a point of the best of them at a capacity, from the best on,
-    and the rows of these. Of wtinylfu it is the best window."""
+    """The policies that are as good as the best one at a capacity, Belady's left out, from the best on, and the rows of
+    these. Of wtinylfu it is the best window."""
     rows = [(name, survey.rows[name, capacity]) for name in survey.policies if name != OPTIMAL]
     if survey.windows:
         window = max(WINDOWS, key=lambda it: survey.windows[it, capacity].hits)
         rows = [(f"{name} {window}", survey.windows[window, capacity]) if name == WINDOWED else (name, row)
                 for name, row in rows]
-    return nearly_best(rows)
+    return nearly_best(survey.trace, rows)
 
 
-def nearly_best(rows):
-    """Those of named rows with the same accesses that are within half a point of the one with the most hits."""
-    rows = sorted(rows, key=lambda it: -it[1].hits)
-    return [(name, row) for name, row in rows if (rows[0][1].hits - row.hits) * 200 <= row.accesses]
+def nearly_best(trace, rows):
+    """Those of named rows that are within half a point of the one with the most hits, or of a sample within two points."""
+    rows, part = sorted(rows, key=lambda it: -it[1].hits), 50 if trace.whole else 200
+    return [(name, row) for name, row in rows if (rows[0][1].hits - row.hits) * part <= row.accesses]
 
 
 def between(low, high, count):

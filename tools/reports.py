@@ -36,9 +36,10 @@ class Program:
 
     @staticmethod
     def beside(script):
-        """`cachesim` beside the folder of a script, or in the folder `bin` beside it, also where either is a link."""
+        """`cachesim` beside the folder of a script, or where tools/install puts it, also where the folder or the script is a
+        link; else that on the path."""
         tops = [it.parent.parent for it in (Path(script).absolute(), Path(script).resolve())]
-        files = [top / place for top in [*tops, *(top.parent for top in tops)] for place in ("cachesim", "bin/cachesim")]
+        files = [*(top / "cachesim" for top in tops), tops[1].parent / "bin/cachesim"]
         return next((str(it) for it in files if it.is_file()), "cachesim")
 
     def output(self, words, **how):

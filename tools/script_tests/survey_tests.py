@@ -196,6 +196,9 @@ def check_sampled(survey, folder, _):
            f"{trace},20.0,160,60.00,97.50,lru,37.50\n"
            "trace,% of footprint,capacity,lru,clairvoyant,best,% fewer than lru\n"
            f"{trace},20.0,160,6400,400,lru,0.0\n")
+    close = fake(folder, "None if capacity >= distinct else {'lru': 20, 'slru': 30}.get(policy, 0)")
+    best = run(*words[:3], close, *words[4:7], "64000", "--csv", "--capacity", "160", "--policy", "lru", "--policy", "slru")[0]
+    expect("within two points", rows_of(best)[0]["best"], "slru or lru")
     few = run(*words[:7], "5000", "--csv", "--capacity", "160", "--policy", "lru")[0]
     expect("never below 0", rows_of(few)[0]["lru"], "0.00")
     expect_parts("the traces", run(*words, "--capacity", "160")[0], " 16000        800 ", "one block in 8")
@@ -232,7 +235,8 @@ MISTAKES = {
     "two traces joined": Mistake(check_beside_run, "survey", "Trace(program, name,", "Trace(program, args.trace[0],"),
     "a wrong best": Mistake(check_best, "measures.py", "key=lambda it: -it[1].hits", "key=lambda it: it[1].hits"),
     "a best that knows the future": Mistake(check_best, "measures.py", "if name != OPTIMAL]", "]"),
-    "a best by hundredths": Mistake(check_nearly_best, "measures.py", "* 200 <= row", "* 20000 <= row"),
+    "a sample's best by half a point": Mistake(check_sampled, "measures.py", "50 if trace.whole else", "200 if trace.whole else"),
+    "a best by hundredths": Mistake(check_nearly_best, "measures.py", "else 200", "else 20000"),
     "a window in the place of another": Mistake(check_windows, "measures.py", "100 - window)", "99 - window)"),
     "no window": Mistake(check_windows, "measures.py", "if survey.windows:", "if not survey.windows:"),
     "a misses column of hits": Mistake(check_best, "survey", "it.rows[policy, capacity].misses", "it.rows[policy, capacity].hits"),
