@@ -10,12 +10,10 @@ import tempfile
 from collections import namedtuple
 from pathlib import Path
 
-from policies import OPTIMAL
 from traces import TraceFile, beginning_of
 
 MAX_CAPACITY = 1 << 20
 SWEEP = "policy,capacity,accesses,hits,misses,evictions,rejections,rate".split(",")
-INTERVALS = "policy,capacity,first,last,hits,misses,evictions,rejections,rate".split(",")
 
 Row = namedtuple("Row", "policy capacity accesses hits misses evictions")
 # The options of a call: the format of the trace, --main of wtinylfu, --spread.
@@ -56,13 +54,13 @@ class Program:
             sys.exit(f"{self.tool}: {self.path} does not say which policies it takes")
         return re.split(r",\s*", words.group(1))
 
-    def rows(self, words, trace, header, name):
-        """The rows of a report of a trace, in which all numbers but the rate are numbers."""
+    def rows(self, words, trace, name):
+        """The rows of a sweep of a trace, with their rate left out."""
         ended = self.output(words, stdin=trace)
         if ended.returncode:
             sys.exit(f"{self.tool}: the program refused {name}")
         found, *rows = csv.reader(ended.stdout.decode().splitlines())
-        if found != header:
+        if found != SWEEP:
             self.refuse_reports(name)
         return [(policy, *map(int, numbers)) for policy, *numbers, _ in rows]
 
@@ -110,12 +108,11 @@ class Trace:
     def converted(self, rows, main=None):
         """What the program's reports stand for."""
         if self.warm_up:
+            # What a policy hits in the warm-up does not depend on what follows. Belady's policy knows that, but it has the
+            # most hits of all up to every place, so these too are those of the warm-up alone.
             policies, capacities = ([*dict.fromkeys(it)] for it in zip(*rows))
             os.lseek(self.warm_up.fileno(), 0, os.SEEK_SET)
-            # What a policy does in the warm-up does not depend on what follows, but for Belady's.
-            begun = self.reports([it for it in policies if it != OPTIMAL], capacities, main, self.warm_up.fileno())
-            if OPTIMAL in policies:
-                begun.update({(OPTIMAL, it): self.warm_up_of_optimal(it) for it in capacities})
+            begun = self.reports(policies, capacities, main, self.warm_up.fileno())
             rows = {at: self.without(row, begun[at]) for at, row in rows.items()}
         return {at: self.estimated(row) for at, row in rows.items()}
 
@@ -124,16 +121,10 @@ class Trace:
         if not policies:
             return {}
         words = [*self.words("sweep", main), *(word for policy in policies for word in ("--policy", policy)), *capacities]
-        rows = self.program.rows(words, trace, SWEEP, self.name)
+        rows = self.program.rows(words, trace, self.name)
         if [row[:2] for row in rows] != [(policy, capacity) for policy in policies for capacity in capacities]:
             self.program.refuse_reports(self.name)
         return {row[:2]: Row(*row[:6]) for row in rows}
-
-    def warm_up_of_optimal(self, capacity):
-        """What Belady's policy, which knows the whole trace, makes of its warm-up."""
-        words = [*self.words("intervals"), "--capacity", capacity, "--every", self.after, OPTIMAL]
-        _, _, first, last, *counts = self.program.rows(words, self.file.begun(), INTERVALS, self.name)[0]
-        return Row(OPTIMAL, capacity, last - first + 1, *counts[:3])
 
     @staticmethod
     def without(row, begun):

@@ -6,7 +6,7 @@ import sys
 from collections import namedtuple
 from pathlib import Path
 
-SECONDS = 300
+SECONDS = 120
 POLICIES = ["lru", "slru", "tinylfu-lru", "tinylfu-slru", "wtinylfu", "clairvoyant"]
 
 # A mistake in a script: the test that finds it, the file of tools/ that it is in, what is replaced, and by what.
@@ -21,7 +21,10 @@ def run(script, *words, status=0, typed="", **how):
     """The standard output of a script, or of another program, that ends with this status, and its standard error."""
     command = [sys.executable, script] if Path(script).parent.name == "tools" else [script]
     how = {"input": typed.encode() if isinstance(typed, str) else typed, "stdout": subprocess.PIPE, **how}
-    ended = subprocess.run([str(it) for it in (*command, *words)], stderr=subprocess.PIPE, timeout=SECONDS, check=False, **how)
+    try:
+        ended = subprocess.run([str(it) for it in (*command, *words)], stderr=subprocess.PIPE, timeout=SECONDS, check=False, **how)
+    except subprocess.TimeoutExpired:
+        raise Wrong(f"{words}: no end after {SECONDS} seconds") from None
     out, error = (ended.stdout or b"").decode(errors="replace"), ended.stderr.decode(errors="replace")
     if ended.returncode != status:
         raise Wrong(f"{words}: status {ended.returncode} where {status} is right: {out}{error}")
@@ -73,7 +76,10 @@ option = dict(zip(words, words[1:]))
 lines = [line.split() for line in sys.stdin if line.strip()]
 ranges = [(int(line[0]), int(line[1]) if option["--format"] == "arc" else 1) for line in lines]
 accesses = sum(count for _, count in ranges)
-distinct = len(set().union(*(range(first, first + count) for first, count in ranges)))
+distinct = top = 0
+for first, count in sorted(ranges):
+    distinct += max(0, first + count - max(first, top))
+    top = max(top, first + count)
 main = int(option["--main"])
 rows = ["policy,capacity,accesses,hits,misses,evictions,rejections,rate"]
 for policy in (word for before, word in zip(words, words[1:]) if before == "--policy"):

@@ -63,9 +63,8 @@ def check_marks(plot, folder, _):
     for first, last in ((1000, 362038), (1000, 750378), (5, 1280), (1, 1000000)):
         places = sorted({round(first * (last / first) ** (at / 16)) for at in range(17)})
         rest = drawn(plot, file_of(folder, "log.csv", SWEEP + sweep_rows("lru", *((it, 5) for it in places))))[1]
-        # But for one that would touch the mark at the end.
-        powers = [10 ** it for it in range(7) if first < 10 ** it < last / 2]
-        expect_parts(f"marks from {first} to {last}", rest, *(f"'{it}' {it}" for it in [first, last, *powers]))
+        powers = [10 ** it for it in range(7) if first <= 10 ** it <= last]
+        expect_parts(f"marks from {first} to {last}", rest, *(f"'{it}' {it}" for it in [first, *powers]))
 
 
 def check_styles(plot, folder, _):
@@ -173,13 +172,13 @@ MISTAKES = {
     "a row dropped": Mistake(check_curves, "curves.py", "for row in sorted(rows, key=lambda row: row.begin):", "for row in rows[1:]:"),
     "two traces joined": Mistake(check_refusals, "curves.py", "row.accesses != rows[0].accesses", "row.accesses < 0"),
     "the legend on the curves": Mistake(check_curves, "plot", "set key outside", "set key inside"),
-    "the last interval left out": Mistake(check_intervals, "plot", "in curve.points for place in (begin", "in curve.points[:-1] for place in (begin"),
+    "the last interval left out": Mistake(check_intervals, "plot", "in curve.points for place in (begin, end)]\n    return", "in curve.points[:-1] for place in (begin, end)]\n    return"),
     "a policy in the dash of another": Mistake(check_styles, "policies.py", '8, "(6,3)"', '8, "1"'),
     "a policy in the colour of another": Mistake(check_styles, "policies.py", '"#a50f15"', '"#000000"'),
     "colours by the place of a curve": Mistake(check_styles, "plot", "shade_of(POLICIES[curve.policy].colour, part)",
                                                "shade_of(list(POLICIES.values())[marker].colour, part)"),
     "an axis without its last mark": Mistake(check_curves, "plot", "return sorted(marks)", "return sorted(marks)[:-1]"),
-    "an axis without powers of ten": Mistake(check_marks, "plot", "for it in (1, 2, 5)]\n", "for it in (5, 2)]\n"),
+    "an axis without powers of ten": Mistake(check_marks, "plot", "for it in (1, 2, 5)]\n", "for it in (2, 5, 1)]\n"),
     "a policy beside Belady's at another capacity": Mistake(check_curves, "curves.py", "best.get((row.begin,", "best.get((rows[0].begin,"),
     "heights of whole points": Mistake(check_curves, "plot", "{height:.6f}", "{round(height)}"),
     "every second place of a long curve": Mistake(check_curves, "plot", "for _, end, height in curve.points]",

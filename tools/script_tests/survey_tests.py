@@ -182,6 +182,7 @@ def check_after(survey, folder, program):
     words = survey, arc, "--format", "arc", "--program", program, "--csv", "--capacity", "10", "--after", "100", "--policy", "lru"
     rows = rows_of(run(program, "intervals", "--format", "arc", "--capacity", 10, "--every", 100, "lru", typed=arc.read_text())[0])
     hits = sum(int(it["hits"]) for it in rows[1:])
+    expect("its accesses", run(*words, "--table", "traces")[0].splitlines()[1].split(",")[1], "200")
     expect("of ranges", rows_of(run(*words)[0])[0]["lru"], f"{hits * 10000 // 200 / 100:.2f}")
 
 
@@ -243,7 +244,7 @@ MISTAKES = {
     "a report of the program that is missing": Mistake(check_lost_row, "reports.py", "if [row[:2] for row in rows] !=",
                                                        "if [] and [row[:2] for row in rows] !="),
     "a row at another capacity": Mistake(check_reach, "measures.py", "return between(low, high, LRU_TRIES)",
-                                         "return between(low - 1, high, LRU_TRIES)"),
+                                         "return between(low + 1, high, LRU_TRIES)"),
     "a search that ends early": Mistake(check_percent_of_reach, "measures.py", "max(1, high // 100)", "max(1, high // 10)"),
     "a block that comes twice counted as used once": Mistake(check_beside_run, "measures.py", "if times == 1", "if times <= 2"),
     "options that are not handed on": Mistake(check_beside_run, "reports.py",
@@ -257,12 +258,11 @@ MISTAKES = {
     "--jump ignored": Mistake(check_reach, "measures.py", ">= points * first.accesses", ">= 2 * first.accesses"),
     "the ratio before a jump after it": Mistake(check_jumps_and_powers, "survey", "shown_rate(low), shown_rate(high),",
                                                 "shown_rate(low), shown_rate(low if low.capacity > 9999 else high),"),
-    "the next smaller capacity at 2 or 3 entries": Mistake(check_reach, "measures.py", "return known.get(below), known.get(reached)",
-                                                           "return known.get(below) if (reached or 9) > 3 else None, known.get(reached)"),
+    "the next smaller capacity at 2 or 3 entries": Mistake(check_reach, "survey", "shown_rate(below) if below else",
+                                                           "shown_rate(below) if below and below.capacity > 2 else"),
     "the part of a large footprint": Mistake(check_large, "survey", "100 * capacity / survey.footprint",
                                              "100 * capacity / min(survey.footprint, 99999)"),
     "never for more entries": Mistake(check_large, "survey", "if is_possible else", "if True else"),
-    "a warm-up of the future": Mistake(check_after, "reports.py", "if it != OPTIMAL], capacities", "], capacities"),
     "a warm-up that is not left out": Mistake(check_after, "reports.py", "hits=row.hits - begun.hits", "hits=row.hits"),
     "ranges cut at their lines": Mistake(check_after, "traces.py", "taken = min(count, accesses)", "taken = count"),
     "a sample that is not scaled": Mistake(check_sampled, "reports.py", "row.misses * self.inverse", "row.misses"),
