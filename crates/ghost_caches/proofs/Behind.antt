@@ -1,13 +1,13 @@
 -- Where keys stand that go back: the newest of a queue, and a key with its older neighbour.
 use Rattle.std.proofs.Common.{◌≡◌, ℕ, true, false, eqb, nat_lt, Option, Some, None, List, [], ◌∷◌, ◌++◌, length, ap, sym, ◌∙◌, refl, inl, inr}
-use Rattle.std.proofs.lemmas.Bool.{cases_Bool, eqb-true, eq-eqb}
+use Rattle.std.proofs.lemmas.Bool.{cases_Bool, eq-eqb}
 use Rattle.step_record.specs.Keys.{has_key, keys_without}
 use Rattle.queue_policies.specs.CountedKeys.{CountedKey, keys_of}
 use Rattle.queue_policies.specs.Queues.{oldest_of, without_oldest, without_newest}
 use Rattle.queue_policies.specs.Ghost.{older_from, ghost_with, forgotten_key, ghost_place_of}
 use Rattle.queue_policies.specs.declared.ghost_place.GhostPlace.{GhostPlace}
 use Rattle.queue_policies.specs.declared.ghost_place.GhostPlace.TheVariants.{Unknown, Known}
-use Rattle.counted_queues.specs.Queues.{counted_key, newest_or}
+use Rattle.counted_queues.specs.Queues.{newest_or}
 use Rattle.ghost_caches.specs.QueueLists.{entries_with_forgotten, HasPlace}
 use Rattle.ghost_caches.proofs.Ghosts.{some-in}
 

@@ -1,5 +1,5 @@
 -- Where a key stands in a queue.
-use Rattle.std.proofs.Common.{◌≡◌, ℕ, true, false, eqb, Option, Some, None, List, [], ◌∷◌, ◌++◌, ap, sym, ◌∙◌, refl, inl, inr}
+use Rattle.std.proofs.Common.{◌≡◌, ℕ, true, false, eqb, Option, Some, None, List, [], ◌∷◌, ◌++◌, ap, sym, refl, inl, inr}
 use Rattle.std.proofs.lemmas.Bool.{cases_Bool, eqb-true}
 use Rattle.step_record.specs.Keys.{has_key, keys_without}
 use Rattle.queue_policies.specs.CountedKeys.{CountedKey, keys_of, with_count}

@@ -1,6 +1,6 @@
 -- Ghosts: what their keys are after a key was remembered, and after that was undone.
-use Rattle.std.proofs.Common.{◌≡◌, ℕ, ◌+◌, ◌<◌, ◌≤◌, true, false, nat_lt, Option, Some, None, List, [], ◌∷◌, ◌++◌, length, ap, sym, ◌∙◌, refl, inl, inr, arith, length-append}
-use Rattle.std.proofs.lemmas.Bool.{cases_Bool, lt-ltb, le-ltb, ltb-true}
+use Rattle.std.proofs.Common.{◌≡◌, ℕ, ◌<◌, ◌≤◌, true, false, nat_lt, Option, Some, None, List, [], ◌∷◌, ◌++◌, length, ap, ◌∙◌, refl, inl, inr, arith, length-append}
+use Rattle.std.proofs.lemmas.Bool.{cases_Bool, lt-ltb, le-ltb}
 use Rattle.queue_policies.specs.CountedKeys.{CountedKey, keys_of}
 use Rattle.queue_policies.specs.Queues.{oldest_of, without_oldest, without_newest}
 use Rattle.queue_policies.specs.Ghost.{ghost_with, forgotten_key, ghost_before}

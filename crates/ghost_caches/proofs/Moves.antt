@@ -1,18 +1,16 @@
 -- The moves of keys among the queues by number, as moves among the queues by name.
-use Rattle.std.proofs.Common.{◌≡◌, ℕ, zero, suc, ◌≤◌, ◌<◌, true, false, Option, Some, None, ◌++◌, ◌∷◌, List, [], length, ap, sym, ◌∙◌, refl, inl, inr, arith}
+use Rattle.std.proofs.Common.{◌≡◌, ℕ, zero, suc, true, false, Option, Some, None, ◌++◌, ◌∷◌, List, [], length, ap, sym, ◌∙◌, arith}
 use Rattle.std.proofs.Math.ListN.{get_or-eq_default}
 use Rattle.step_record.specs.Keys.{has_key}
-use Rattle.queue_policies.specs.CountedKeys.{CountedKey, keys_of, with_count}
-use Rattle.queue_policies.specs.Queues.{without_oldest, without_newest}
+use Rattle.queue_policies.specs.CountedKeys.{CountedKey, keys_of}
 use Rattle.counted_queues.specs.Queues.{queue_of, with_queue, counted_key, first_or, newest_or, holds, IsAbsent, IsStanding, IsCutAt, IsSound}
 use Rattle.counted_queues.specs.Queues.{queues_after_push, queues_after_return}
 use Rattle.counted_queues.proofs.Standing.{IsOldest, oldest-of-list, IsNewest, newest-of-list}
 use Rattle.ghost_caches.specs.declared.queue_name.QueueName.{QueueName}
 use Rattle.ghost_caches.specs.declared.queue_name.QueueName.TheVariants.{Entry, Main, EntryGhost, MainGhost}
 use Rattle.ghost_caches.specs.QueueLists.{list_of, keys_in, with_list, lists_after_push, lists_after_return, number_of, lists_of, IsNowhere}
-use Rattle.ghost_caches.specs.QueueLists.{entries_without, entry_behind, HasPlace}
 use Rattle.ghost_caches.proofs.Lists.{list-at, number-low, lists-with, fifth-stays, five-stay, lists-pushed, lists-returned, lists-waiting, waiting}
-use Rattle.ghost_caches.proofs.Cuts.{IsSplit, split, IsSplitBehind, split-behind}
+use Rattle.ghost_caches.proofs.Cuts.{IsSplit, split, IsSplitBehind}
 
 -- ---- a key that stands in a queue
 

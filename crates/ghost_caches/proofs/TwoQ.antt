@@ -2,36 +2,32 @@
 use Rattle.std.proofs.Common.{◌≡◌, ℕ, ◌+◌, ◌<◌, ◌≤◌, true, false, eqb, nat_lt, ◌||◌, Bool, Option, Some, None, Result, Ok, Err, IfOk, OnErr, List, [], ◌∷◌, ◌++◌, length, drop, ap, subst, sym, ◌∙◌, refl, inl, inr, arith, length-append}
 use Rattle.std.proofs.lemmas.Bool.{cases_Bool, lt-ltb, le-ltb}
 use Rattle.step_record.specs.Keys.{has_key, keys_without}
-use Rattle.step_record.specs.Stats.{one_if}
+use Rattle.step_record.specs.Stats.{is_eviction, one_if}
 use Rattle.step_record.specs.declared.outcome.Outcome.{Outcome}
 use Rattle.step_record.specs.declared.outcome.Outcome.TheVariants.{Hit}
-use Rattle.queue_policies.specs.Residents.{times}
 use Rattle.queue_policies.specs.CountedKeys.{CountedKey, keys_of}
 use Rattle.queue_policies.specs.Queues.{without_oldest}
-use Rattle.queue_policies.specs.Ghost.{older_from}
-use Rattle.queue_policies.specs.declared.ghost_place.GhostPlace.{GhostPlace}
 use Rattle.queue_policies.specs.declared.ghost_place.GhostPlace.TheVariants.{Unknown, Known}
 use Rattle.queue_policies.proofs.CountedKeys.{length-keys}
 use Rattle.queue_policies.proofs.Residents.{times-none, no-times}
 use Rattle.ghost_policies.specs.declared.two_q.TwoQLeaver.{TwoQLeaver}
 use Rattle.ghost_policies.specs.declared.two_q.TwoQLeaver.TheVariants.{NoLeaver, FromA1in, FromAm}
 use Rattle.ghost_policies.specs.declared.two_q.TwoQRecord.{TwoQRecord}
-use Rattle.ghost_policies.specs.declared.two_q.TwoQRecord.TheVariants.{Renewed, Unmoved, Missed}
+use Rattle.ghost_policies.specs.declared.two_q.TwoQRecord.TheVariants.{Unmoved}
 use Rattle.ghost_policies.specs.TwoQ.{TwoQState, kout, two_q_leaver, two_q_act, two_q_after_recall, two_q_after_eviction, two_q_after_join}
 use Rattle.ghost_policies.specs.TwoQ.{two_q_outcome, two_q_residents, two_q_after_miss, leaver_of_a1in, leaver_of_am, kin}
-use Rattle.ghost_policies.specs.TwoQ.{two_q_record_of, two_q_undone, IsTwoQ}
-use Rattle.ghost_policies.proofs.Weights.{weight, times-weight, has-append}
+use Rattle.ghost_policies.specs.TwoQ.{two_q_record_of, two_q_undone, two_q_forgotten, IsTwoQ}
+use Rattle.ghost_policies.proofs.Weights.{times-weight, has-append}
 use Rattle.ghost_policies.proofs.TwoQUndoing.{undoes, leaves}
 use Rattle.ghost_policies.proofs.TwoQKeeping.{keeps, Leaving, leaving}
-use Rattle.counted_queues.specs.Queues.{counted_key, first_or}
-use Rattle.ghost_caches.specs.declared.queue_name.QueueName.{QueueName}
+use Rattle.counted_queues.specs.Queues.{first_or}
 use Rattle.ghost_caches.specs.declared.queue_name.QueueName.TheVariants.{Entry, Main, EntryGhost, MainGhost}
 use Rattle.ghost_caches.specs.QueueLists.{QueueLists, keys_in, with_list, lists_after_push, lists_with_ghost_key, lists_without_oldest}
-use Rattle.ghost_caches.specs.QueueLists.{IsNowhere, entries_without}
-use Rattle.ghost_caches.specs.TwoQCache.{TwoQCacheState, two_q_of, IsTwoQCache, TwoQFits}
+use Rattle.ghost_caches.specs.QueueLists.{IsNowhere, IsSomeOf, entries_without}
+use Rattle.ghost_caches.specs.TwoQCache.{two_q_of, IsTwoQCache, TwoQFits, TwoQAsks, coming_back}
 use Rattle.ghost_caches.proofs.Cuts.{keys-without}
 use Rattle.ghost_caches.proofs.Behind.{taken-out}
-use Rattle.ghost_caches.proofs.Ghosts.{some-in, joined-keys, ghost-keys, keys-oldest}
+use Rattle.ghost_caches.proofs.Ghosts.{some-in, joined-keys, ghost-keys}
 
 -- ---- an access, once its outcome, state and record are the definition's
 
@@ -97,7 +93,6 @@ module _ (c k : ℕ) (s t : QueueLists) where
   entry-evicted e =
       rw e (ap (λ l. record { a1in = keys_of (without_oldest s.entry); a1out = l; am = keys_in Main s }) (ghost-keys (kout c) k s.entry_ghost)
       ∙ ap (λ l. record { a1in = l; a1out = (two_q_after_eviction c (FromA1in k) (two_q_of s)).a1out; am = keys_in Main s }) (oldest-dropped s.entry))
-
 
   pub joined-entry : t ≡ lists_after_push Entry k 0 s → two_q_of t ≡ two_q_after_join Unknown k (two_q_of s)
   joined-entry e = rw e (ap (λ l. record { a1in = l; a1out = keys_in EntryGhost s; am = keys_in Main s }) (joined-keys k 0 s.entry))
@@ -182,8 +177,16 @@ module _ (c k : ℕ) (s : TwoQState) (in_entry : has_key k s.a1in ≡ false) (in
   none-in-ghost =
       let m = moved in
       let gone = times-none k (keys_without k s.a1out) (taken-out k s.a1out) in
-      no-times k evicted.a1out (omega (arith, m.a1in, m.a1out, gone, times-none k s.a1in in_entry, times-weight k s.a1in,
-          times-weight k (keys_without k s.a1out), times-weight k evicted.a1out))
+      no-times k evicted.a1out (omega (
+        arith,
+        m.a1in,
+        m.a1out,
+        gone,
+        times-none k s.a1in in_entry,
+        times-weight k s.a1in,
+        times-weight k (keys_without k s.a1out),
+        times-weight k evicted.a1out,
+      ))
 
 pub nowhere : (c k : ℕ) (s t : QueueLists) → has_key k (keys_in Entry s) ≡ false → has_key k (keys_in Main s) ≡ false
     → two_q_of t ≡ two_q_after_eviction c (two_q_leaver c (two_q_of s)) (two_q_after_recall k (two_q_of s)) → t.main_ghost ≡ [] → IsNowhere k t
@@ -191,3 +194,27 @@ nowhere c k s t e m at unused Entry = ap (λ (x : TwoQState). has_key k x.a1in) 
 nowhere c k s t e m at unused Main = ap (λ (x : TwoQState). has_key k x.am) at ∙ none-in-main c k (two_q_of s) e m
 nowhere c k s t e m at unused EntryGhost = ap (λ (x : TwoQState). has_key k x.a1out) at ∙ none-in-ghost c k (two_q_of s) e m
 nowhere c k s t e m at unused MainGhost = ap (λ l. has_key k (keys_of l)) unused
+
+-- ---- what is asked
+
+evicting : (v : TwoQLeaver) (forgotten : Option ℕ) → IsSomeOf (coming_back v forgotten) → is_eviction (two_q_outcome v) ≡ true
+evicting NoLeaver forgotten a = absurd a
+evicting (FromA1in v) forgotten a = refl
+evicting (FromAm v) forgotten a = refl
+
+-- only an eviction asks for room where it is undone
+asks-of-eviction : (c k : ℕ) (s : TwoQState) → TwoQAsks (two_q_record_of c k s) → is_eviction (two_q_act c k s).0 ≡ true
+asks-of-eviction c k s =
+    elim (cases_Bool (has_key k s.am)) as (λ _. TwoQAsks (two_q_record_of c k s) → is_eviction (two_q_act c k s).0 ≡ true) [
+      | inl e ↦ rw e (λ a. absurd a)
+      | inr e ↦ rw e (elim (cases_Bool (has_key k s.a1in)) [
+        | inl g ↦ rw g (λ a. absurd a)
+        | inr g ↦ rw g (evicting (two_q_leaver c s) (two_q_forgotten c (two_q_leaver c s) (two_q_after_recall k s)))
+      ])
+    ]
+
+pub two-q-asks-of-eviction : (c k : ℕ) (s : TwoQState) → IsTwoQ c s → TwoQAsks (two_q_record_of c k s) → is_eviction (two_q_act c k s).0 ≡ true
+two-q-asks-of-eviction c k s i a = asks-of-eviction c k s a
+
+pub two-q-hit-asks-nothing : (c k : ℕ) (s : TwoQState) → (two_q_act c k s).0 ≡ Hit → TwoQAsks (two_q_record_of c k s) → ⊥
+two-q-hit-asks-nothing c k s h a = let no : false ≡ true = ap is_eviction (sym h) ∙ asks-of-eviction c k s a in cc (no)

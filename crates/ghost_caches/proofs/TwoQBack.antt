@@ -1,10 +1,9 @@
 -- A step back of a 2Q cache.
-use Rattle.std.proofs.Common.{◌≡◌, ℕ, ◌+◌, ◌≤◌, true, false, eqb, Option, Some, None, List, [], ◌∷◌, ◌++◌, length, ap, subst, sym, ◌∙◌, refl, inl, inr, arith}
+use Rattle.std.proofs.Common.{◌≡◌, ℕ, ◌+◌, true, false, eqb, Option, Some, None, [], ◌∷◌, ◌++◌, ap, subst, sym, ◌∙◌, refl, inl, inr, arith}
 use Rattle.std.proofs.lemmas.Bool.{cases_Bool, eq-eqb}
 use Rattle.step_record.specs.Keys.{has_key, keys_without}
 use Rattle.step_record.specs.Stats.{one_if}
-use Rattle.queue_policies.specs.Residents.{times}
-use Rattle.queue_policies.specs.CountedKeys.{CountedKey, keys_of}
+use Rattle.queue_policies.specs.CountedKeys.{keys_of}
 use Rattle.queue_policies.specs.Queues.{without_newest}
 use Rattle.queue_policies.specs.Ghost.{older_from, put_behind, ghost_before, ghost_place_of}
 use Rattle.queue_policies.specs.declared.ghost_place.GhostPlace.{GhostPlace}
@@ -16,18 +15,18 @@ use Rattle.ghost_policies.specs.declared.two_q.TwoQLeaver.TheVariants.{NoLeaver,
 use Rattle.ghost_policies.specs.declared.two_q.TwoQMiss.{TwoQMiss}
 use Rattle.ghost_policies.specs.declared.two_q.TwoQRecord.{TwoQRecord}
 use Rattle.ghost_policies.specs.declared.two_q.TwoQRecord.TheVariants.{Renewed, Unmoved, Missed}
-use Rattle.ghost_policies.specs.TwoQ.{TwoQState, kout, two_q_leaver, two_q_act, two_q_after_recall, two_q_after_eviction, two_q_after_join, two_q_forgotten}
+use Rattle.ghost_policies.specs.TwoQ.{TwoQState, kout, two_q_leaver, two_q_after_recall, two_q_after_eviction, two_q_after_join, two_q_forgotten}
 use Rattle.ghost_policies.specs.TwoQ.{two_q_record_of, two_q_undone, two_q_before_join, two_q_before_eviction, two_q_before_recall, IsTwoQ}
 use Rattle.ghost_policies.proofs.Weights.{weight, times-weight, option_keys, weight-remembered}
 use Rattle.ghost_policies.proofs.TwoQUndoing.{undoes, leaves, unevicted}
-use Rattle.ghost_policies.proofs.TwoQKeeping.{Leaving, leaving, Joining, joining, recalling, once, one-of, if_known, if_unknown, out_of_a1in, out_of_am}
+use Rattle.ghost_policies.proofs.TwoQKeeping.{leaving, Joining, joining, recalling, once, one-of, out_of_a1in, out_of_am}
 use Rattle.counted_queues.specs.Queues.{counted_key, newest_or}
 use Rattle.ghost_caches.specs.declared.queue_name.QueueName.TheVariants.{Entry, Main, EntryGhost, MainGhost}
 use Rattle.ghost_caches.specs.QueueLists.{QueueLists, keys_in, HasPlace, IsNowhere, lists_with_behind, lists_without_newest, lists_after_return}
-use Rattle.ghost_caches.specs.QueueLists.{lists_with_forgotten, entries_with_forgotten}
-use Rattle.ghost_caches.specs.TwoQCache.{TwoQCacheState, two_q_of, IsTwoQCache, TwoQFits, TwoQMissFits, LeftLast, coming_back}
+use Rattle.ghost_caches.specs.QueueLists.{lists_with_forgotten}
+use Rattle.ghost_caches.specs.TwoQCache.{two_q_of, IsTwoQCache, TwoQFits, TwoQMissFits, LeftLast, coming_back}
 use Rattle.ghost_caches.proofs.Cuts.{keys-behind}
-use Rattle.ghost_caches.proofs.Ghosts.{some-in, keys-newest, ghost-keys-before}
+use Rattle.ghost_caches.proofs.Ghosts.{keys-newest, ghost-keys-before}
 use Rattle.ghost_caches.proofs.Behind.{taken-out, newest_key, newest-keys, newest-joined, newest-behind, newest-stays, newest-remembered, has-place, lacks-newest, Found, known-of}
 
 -- ---- the state before
@@ -139,10 +138,10 @@ main-back (FromAm v) forgotten k x h = newest-behind v k x.am h
 -- the key goes back to its place last
 last-back : (v : TwoQLeaver) (forgotten older : Option ℕ) (j k : ℕ) (x : TwoQState) → newest_key None x.am ≡ Some k
     → ◌≡◌ {A = TwoQState} record {
-        a1in = (two_q_before_eviction v forgotten x).a1in;
-        a1out = put_behind older j (two_q_before_eviction v forgotten x).a1out;
-        am = without_newest (two_q_before_eviction v forgotten x).am;
-      } (two_q_before_recall (Known j older) (two_q_before_eviction v forgotten (two_q_before_join (Known j older) x)))
+      a1in = (two_q_before_eviction v forgotten x).a1in;
+      a1out = put_behind older j (two_q_before_eviction v forgotten x).a1out;
+      am = without_newest (two_q_before_eviction v forgotten x).am;
+    } (two_q_before_recall (Known j older) (two_q_before_eviction v forgotten (two_q_before_join (Known j older) x)))
 last-back NoLeaver forgotten older j k x h = refl
 last-back (FromA1in v) forgotten older j k x h = refl
 last-back (FromAm v) forgotten older j k x h =
@@ -150,10 +149,10 @@ last-back (FromAm v) forgotten older j k x h =
 
 pub known-back : (j : ℕ) (older : Option ℕ) (s t : QueueLists) → t ≡ lists_with_behind EntryGhost older j (lists_without_newest Main s)
     → ◌≡◌ {A = TwoQState} (two_q_of t) record {
-        a1in = (two_q_of s).a1in;
-        a1out = put_behind older j (two_q_of s).a1out;
-        am = without_newest (two_q_of s).am;
-      }
+      a1in = (two_q_of s).a1in;
+      a1out = put_behind older j (two_q_of s).a1out;
+      am = without_newest (two_q_of s).am;
+    }
 known-back j older s t e =
     rw e (ap (λ l. record { a1in = keys_in Entry s; a1out = l; am = keys_of (without_newest s.main) }) (keys-behind older (counted_key j 0) s.entry_ghost)
     ∙ ap (λ l. record { a1in = keys_in Entry s; a1out = put_behind older j (keys_in EntryGhost s); am = l }) (keys-newest s.main))
@@ -215,8 +214,25 @@ module _ (done : TwoQMiss) (t : TwoQState) (f : TwoQMissFits done t) where
         let a1in_is = ap (λ (y : TwoQState). weight weighs y.a1in) f.leads in
         let am_is = ap (λ (y : TwoQState). weight weighs y.am) f.leads in
         let a1out_is = ap (weight weighs) ghost-is in
-        omega (arith, comes, l.a1in, l.am, e, b, j.a1in, j.am, r, o, a1in_is, am_is, a1out_is, one-of place (weighs f.key),
-            times-weight x f.before.a1in, times-weight x f.before.a1out, times-weight x f.before.am)
+        omega (
+          arith,
+          comes,
+          l.a1in,
+          l.am,
+          e,
+          b,
+          j.a1in,
+          j.am,
+          r,
+          o,
+          a1in_is,
+          am_is,
+          a1out_is,
+          one-of place (weighs f.key),
+          times-weight x f.before.a1in,
+          times-weight x f.before.a1out,
+          times-weight x f.before.am,
+        )
 
     pub none : IsNone x t
     none =

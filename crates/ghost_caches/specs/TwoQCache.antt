@@ -1,6 +1,5 @@
 -- What contracts see of a 2Q cache.
-use Rattle.std.specs.Prelude.{◌≡◌, ℕ, ◌≤◌, false, Option, Some, None, List, []}
-use Rattle.step_record.specs.declared.outcome.Outcome.{Outcome}
+use Rattle.std.specs.Prelude.{◌≡◌, ℕ, ◌≤◌, false, Option, Some, None, []}
 use Rattle.step_record.specs.Keys.{has_key}
 use Rattle.counted_queues.specs.Queues.{first_or, newest_or}
 use Rattle.ghost_policies.specs.declared.two_q.TwoQLeaver.{TwoQLeaver}
@@ -9,7 +8,7 @@ use Rattle.ghost_policies.specs.declared.two_q.TwoQMiss.{TwoQMiss}
 use Rattle.ghost_policies.specs.declared.two_q.TwoQRecord.{TwoQRecord}
 use Rattle.ghost_policies.specs.declared.two_q.TwoQRecord.TheVariants.{Renewed, Unmoved, Missed}
 use Rattle.ghost_policies.specs.TwoQ.{TwoQState, two_q_act, two_q_record_of, two_q_after_miss, two_q_miss_of, IsTwoQ}
-use Rattle.ghost_caches.specs.declared.queue_name.QueueName.TheVariants.{Entry, Main, EntryGhost, MainGhost}
+use Rattle.ghost_caches.specs.declared.queue_name.QueueName.TheVariants.{Entry, Main, EntryGhost}
 use Rattle.ghost_caches.specs.QueueLists.{QueueLists, keys_in, IsSomeOf, entries_with_forgotten}
 
 -- the capacity, and the state of the definition

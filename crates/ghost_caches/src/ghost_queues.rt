@@ -212,7 +212,12 @@ impl GhostQueues {
     }
 
     /// A key that was missed is remembered no more. Returns where the ghost remembered it.
-    pub(crate) fn recall(&mut self, key: Key, ghost_queue: QueueName, remembered: bool) -> GhostPlace
+    pub(crate) fn recall(
+        &mut self,
+        key: Key,
+        ghost_queue: QueueName,
+        remembered: bool,
+    ) -> GhostPlace
         requires { has_key key (keys_in ghost_queue self.old.lists) ≡ remembered }
         ensures place { result ≡ ghost_place_of key (keys_in ghost_queue self.old.lists) }
         ensures lists { self.new.lists
@@ -229,7 +234,13 @@ impl GhostQueues {
 
     /// The oldest key of a queue leaves for a ghost of a given size, which forgets its oldest where it is over that size.
     /// Returns the key that was forgotten.
-    pub(crate) fn remember(&mut self, key: Key, from: QueueName, ghost_queue: QueueName, size: u32) -> Option<Key>
+    pub(crate) fn remember(
+        &mut self,
+        key: Key,
+        from: QueueName,
+        ghost_queue: QueueName,
+        size: u32,
+    ) -> Option<Key>
         requires { first_or None (list_of from self.old.lists) ≡ Some key }
         ensures forgotten { result ≡ forgotten_key size key (keys_in ghost_queue (lists_without_oldest from self.old.lists)) }
         ensures lists { self.new.lists ≡ lists_with_ghost_key ghost_queue size key (lists_without_oldest from self.old.lists) }
@@ -244,7 +255,14 @@ impl GhostQueues {
 
     /// Undoes that a key left a queue for a ghost: the key that was forgotten comes back, and the ghost's newest goes back
     /// to the old end of the queue, with the given count.
-    pub(crate) fn unremember(&mut self, key: Key, to: QueueName, ghost_queue: QueueName, count: u8, forgotten: Option<Key>)
+    pub(crate) fn unremember(
+        &mut self,
+        key: Key,
+        to: QueueName,
+        ghost_queue: QueueName,
+        count: u8,
+        forgotten: Option<Key>,
+    )
         requires room { IsSomeOf forgotten → 1 ≤ self.old.spare }
         requires nowhere { (x : ℕ) → forgotten ≡ Some x → IsNowhere x self.old.lists }
         requires newest { newest_or None (list_of ghost_queue (lists_with_forgotten ghost_queue forgotten self.old.lists)) ≡ Some key }

@@ -91,7 +91,11 @@ impl TwoQCache {
 }
 
 // An access to a key.
-fn step(queues: &mut GhostQueues, capacity: u32, key: Key) -> Result<(Outcome, TwoQRecord), AllocError>
+fn step(
+    queues: &mut GhostQueues,
+    capacity: u32,
+    key: Key,
+) -> Result<(Outcome, TwoQRecord), AllocError>
     requires { IsTwoQCache capacity queues.old.lists }
     ensures acts { IfOk result (λ r. (r.0, two_q_of queues.new.lists) ≡ two_q_act capacity key (two_q_of queues.old.lists)) }
     ensures record_is { IfOk result (λ r. r.1 ≡ two_q_record_of capacity key (two_q_of queues.old.lists)) }
@@ -112,7 +116,12 @@ fn step(queues: &mut GhostQueues, capacity: u32, key: Key) -> Result<(Outcome, T
 }
 
 // An access to a key that is not resident, which the ghost may remember. Room is made before anything moves.
-fn missed(queues: &mut GhostQueues, capacity: u32, key: Key, remembered: bool) -> Result<(Outcome, TwoQRecord), AllocError>
+fn missed(
+    queues: &mut GhostQueues,
+    capacity: u32,
+    key: Key,
+    remembered: bool,
+) -> Result<(Outcome, TwoQRecord), AllocError>
     requires state { IsTwoQCache capacity queues.old.lists }
     requires entry { has_key key (keys_in Entry queues.old.lists) ≡ false }
     requires main { has_key key (keys_in Main queues.old.lists) ≡ false }
@@ -205,7 +214,12 @@ fn evict(queues: &mut GhostQueues, capacity: u32, leaver: TwoQLeaver) -> Option<
     match leaver {
         TwoQLeaver::NoLeaver => None,
         TwoQLeaver::FromA1in(key) => {
-            queues.remember(key, QueueName::Entry, QueueName::EntryGhost, ghost_size(capacity))
+            queues.remember(
+                key,
+                QueueName::Entry,
+                QueueName::EntryGhost,
+                ghost_size(capacity),
+            )
         }
         TwoQLeaver::FromAm(_) => {
             let _ = queues.pop_oldest(QueueName::Main);

@@ -1,5 +1,5 @@
-use Rattle.std.proofs.Common.{◌≡◌, sym, ap, ◌∙◌}
-use Rattle.ghost_policies.specs.TwoQ.{kout, two_q_after_eviction}
+use Rattle.std.proofs.Common.{sym, ap, ◌∙◌}
+use Rattle.ghost_policies.specs.TwoQ.{two_q_after_eviction}
 use Rattle.ghost_caches.specs.declared.queue_name.QueueName.TheVariants.{Entry, EntryGhost}
 use Rattle.ghost_caches.specs.QueueLists.{lists_with_ghost_key, lists_without_oldest}
 use Rattle.ghost_caches.specs.TwoQCache.{two_q_of}

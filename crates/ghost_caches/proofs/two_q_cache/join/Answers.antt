@@ -1,4 +1,4 @@
-use Rattle.std.proofs.Common.{◌≡◌, sym, ap, ◌∙◌}
+use Rattle.std.proofs.Common.{sym, ap, ◌∙◌}
 use Rattle.ghost_policies.specs.TwoQ.{two_q_after_join}
 use Rattle.ghost_caches.specs.TwoQCache.{two_q_of}
 use Rattle.ghost_caches.proofs.TwoQ.{joined-entry, joined-main}

@@ -1,5 +1,5 @@
-use Rattle.std.proofs.Common.{◌≡◌, ap, ◌∙◌, nat_lt, eqb, ◌||◌}
-use Rattle.ghost_caches.proofs.TwoQ.{none-leaves, entry-leaves, entry-empty, main-leaves, main-empty}
+use Rattle.std.proofs.Common.{ap, ◌∙◌, nat_lt, eqb, ◌||◌}
+use Rattle.ghost_caches.proofs.TwoQ.{none-leaves, entry-leaves, main-leaves}
 use Rattle.ghost_caches.proofs.two_q_cache.leaver.Goals as goal
 
 pub returns-then-entry-main-clause-leaver : goal.returns-then-entry-main-clause-leaver

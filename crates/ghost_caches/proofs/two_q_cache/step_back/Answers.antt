@@ -1,4 +1,4 @@
-use Rattle.std.proofs.Common.{◌≡◌, sym, ap, subst, ◌∙◌}
+use Rattle.std.proofs.Common.{sym, ap, subst, ◌∙◌}
 use Rattle.ghost_policies.specs.TwoQ.{two_q_undone}
 use Rattle.ghost_caches.specs.TwoQCache.{two_q_of, TwoQFits}
 use Rattle.ghost_caches.proofs.TwoQBack.{renewed-newest, renewed-absent, renewed-place, renewed-back}

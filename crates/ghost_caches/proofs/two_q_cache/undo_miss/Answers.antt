@@ -1,4 +1,4 @@
-use Rattle.std.proofs.Common.{◌≡◌, refl, sym, ap, ◌∙◌}
+use Rattle.std.proofs.Common.{refl, sym, ap, ◌∙◌}
 use Rattle.ghost_policies.specs.TwoQ.{two_q_before_join, two_q_before_eviction, two_q_before_recall}
 use Rattle.ghost_caches.specs.QueueLists.{QueueLists, keys_in}
 use Rattle.ghost_caches.specs.declared.queue_name.QueueName.TheVariants.{EntryGhost}

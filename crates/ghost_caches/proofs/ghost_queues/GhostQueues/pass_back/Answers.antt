@@ -1,8 +1,8 @@
-use Rattle.std.proofs.Common.{◌≡◌, ◌++◌, ◌∷◌, [], true, false, None, Some, sym, ap, ◌∙◌, rules, append-nil}
-use Rattle.queue_policies.specs.Queues.{without_oldest, without_newest}
-use Rattle.counted_queues.specs.Queues.{queue_of, counted_key, IsStanding, IsCutAt, holds, newest_or, first_or}
+use Rattle.std.proofs.Common.{sym, ap, ◌∙◌, append-nil}
+use Rattle.queue_policies.specs.Queues.{without_newest}
+use Rattle.counted_queues.specs.Queues.{queue_of}
 use Rattle.counted_queues.proofs.Standing.{IsNewest}
-use Rattle.ghost_caches.specs.QueueLists.{ShownQueues, list_of, keys_in, with_list, lists_after_push, lists_after_return, lists_of, number_of, IsNowhere, entries_without, entry_behind, HasPlace}
+use Rattle.ghost_caches.specs.QueueLists.{ShownQueues, list_of, with_list, lists_after_return, lists_of, number_of}
 use Rattle.ghost_caches.proofs.Moves.{newest, newest-stands, returned, returned-fifth}
 use Rattle.ghost_caches.proofs.Lists.{list-at}
 use Rattle.ghost_caches.proofs.ghost_queues.GhostQueues.pass_back.Goals as goal

@@ -1,6 +1,5 @@
-use Rattle.std.proofs.Common.{◌≡◌, ◌++◌, ◌∷◌, [], true, false, None, Some, sym, ap, ◌∙◌, rules}
-use Rattle.counted_queues.specs.Queues.{queue_of, counted_key, IsStanding, IsCutAt, holds, newest_or, first_or}
-use Rattle.ghost_caches.specs.QueueLists.{ShownQueues, list_of, keys_in, with_list, lists_after_push, lists_after_return, lists_of, number_of, IsNowhere, entries_without, entry_behind, HasPlace}
+use Rattle.std.proofs.Common.{sym, ap, ◌∙◌}
+use Rattle.ghost_caches.specs.QueueLists.{ShownQueues, lists_after_return, lists_of}
 use Rattle.counted_queues.specs.Queues.{queues_after_return}
 use Rattle.ghost_caches.proofs.Lists.{lists-returned}
 use Rattle.ghost_caches.proofs.Moves.{absent}

@@ -1,4 +1,4 @@
-use Rattle.std.proofs.Common.{◌≡◌, ◌+◌, ◌++◌, ◌∷◌, ◌<◌, ◌≤◌, List, [], None, length, sym, ap, ◌∙◌, arith}
+use Rattle.std.proofs.Common.{◌≡◌, ◌++◌, ◌∷◌, List, [], None, length, ap, ◌∙◌, arith}
 use Rattle.queue_policies.specs.CountedKeys.{CountedKey}
 use Rattle.counted_queues.specs.Queues.{counted_key, first_or}
 use Rattle.ghost_caches.specs.QueueLists.{list_of, lists_without_oldest}

@@ -1,7 +1,7 @@
-use Rattle.std.proofs.Common.{◌≡◌, ◌++◌, ◌∷◌, [], true, false, None, Some, sym, ap, ◌∙◌, rules}
-use Rattle.counted_queues.specs.Queues.{queue_of, counted_key, IsStanding, IsCutAt, holds, newest_or, first_or}
-use Rattle.ghost_caches.specs.QueueLists.{ShownQueues, list_of, keys_in, with_list, lists_after_push, lists_after_return, lists_of, number_of, IsNowhere, entries_without, entry_behind, HasPlace}
-use Rattle.ghost_caches.proofs.Cuts.{IsSplit, IsSplitBehind, split-behind}
+use Rattle.std.proofs.Common.{◌++◌, None, sym, ap, ◌∙◌}
+use Rattle.counted_queues.specs.Queues.{queue_of}
+use Rattle.ghost_caches.specs.QueueLists.{ShownQueues, list_of, keys_in, with_list, lists_after_push, lists_of, number_of, entries_without}
+use Rattle.ghost_caches.proofs.Cuts.{IsSplit}
 use Rattle.ghost_caches.proofs.Lists.{list-at}
 use Rattle.queue_policies.specs.Ghost.{older_from}
 use Rattle.queue_policies.specs.CountedKeys.{keys_of}

@@ -1,5 +1,5 @@
-use Rattle.std.proofs.Common.{◌≡◌, IfOk, ap, ◌∙◌, subst}
-use Rattle.ghost_policies.specs.TwoQ.{TwoQState, two_q_undone}
+use Rattle.std.proofs.Common.{◌≡◌, IfOk, subst}
+use Rattle.ghost_policies.specs.TwoQ.{two_q_undone}
 use Rattle.ghost_caches.specs.TwoQCache.{TwoQCacheState, two_q_of}
 use Rattle.ghost_caches.proofs.TwoQ.{kept, undone-ok}
 use Rattle.ghost_caches.proofs.two_q_cache.TwoQCache.access.Goals as goal

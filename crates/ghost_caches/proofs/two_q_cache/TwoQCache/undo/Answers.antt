@@ -1,4 +1,4 @@
-use Rattle.std.proofs.Common.{◌≡◌, sym, subst}
+use Rattle.std.proofs.Common.{sym, subst}
 use Rattle.ghost_caches.specs.TwoQCache.{TwoQFits}
 use Rattle.ghost_caches.proofs.TwoQBack.{kept-back}
 use Rattle.ghost_caches.proofs.two_q_cache.TwoQCache.undo.Goals as goal
