@@ -2,33 +2,42 @@
 use Rattle.std.proofs.Common.{◌≡◌, ℕ, ◌≤◌, [], sym, subst, refl}
 use Rattle.queue_policies.specs.Residents.{IsAccess, AreResidents, KeepsResidents}
 use Rattle.queue_policies.specs.Theorems.{ClockKeeps}
+use Rattle.ghost_policies.specs.Theorems.{TwoQKeeps}
 use Rattle.queue_policies.specs.Clock.{clock_act, IsClock}
 use Rattle.queue_policies.specs.CountedKeys.{keys_of}
+use Rattle.ghost_policies.specs.TwoQ.{two_q_act, IsTwoQ, two_q_residents}
 use Rattle.queue_caches.proofs.Clock.{clock-hit-asks-nothing, clock-asks-of-eviction}
+use Rattle.ghost_caches.proofs.TwoQ.{two-q-hit-asks-nothing, two-q-asks-of-eviction}
 use Rattle.demand_cache.specs.declared.demand_queues.DemandPolicy.{DemandPolicy}
 use Rattle.demand_cache.specs.declared.demand_queues.DemandPolicy.TheVariants as policy
 use Rattle.demand_cache.specs.declared.demand_queues.DemandQueues.{DemandQueues}
-use Rattle.demand_cache.specs.declared.demand_queues.DemandQueues.TheVariants.{Clock}
+use Rattle.demand_cache.specs.declared.demand_queues.DemandQueues.TheVariants.{Clock, TwoQ}
 use Rattle.demand_cache.specs.DemandQueues.{empty_queues, queues_act, queues_residents, IsQueues}
 use Rattle.demand_cache.specs.Theorems.{DemandKeeps, HitsAskNothing, AsksWhereOneLeft}
 
 -- the theorems of the policies
 pub record AllKeep : Type 0 where
   pub clock : ClockKeeps
+  pub two_q : TwoQKeeps
 
 next-keeps : AllKeep → (c : ℕ) → 1 ≤ c → (k : ℕ) (s : DemandQueues) → IsQueues c s → IsQueues c (queues_act k s).1
 next-keeps all c h k (Clock d) s = (s.0, subst (λ x. IsClock c (clock_act x k d.queue).1) (sym s.0) ((all.clock c h).keeps k d.queue s.1))
+next-keeps all c h k (TwoQ d) s = (s.0, subst (λ x. IsTwoQ c (two_q_act x k d.state).1) (sym s.0) ((all.two_q c h).keeps k d.state s.1))
 
 next-accesses : AllKeep → (c : ℕ) → 1 ≤ c → (k : ℕ) (s : DemandQueues) → IsQueues c s
     → IsAccess c k (queues_residents s) (queues_act k s).0 (queues_residents (queues_act k s).1)
 next-accesses all c h k (Clock d) s =
     subst (λ x. IsAccess c k (keys_of d.queue) (clock_act x k d.queue).0 (keys_of (clock_act x k d.queue).1)) (sym s.0) ((all.clock c h).accesses k d.queue s.1)
+next-accesses all c h k (TwoQ d) s =
+    subst (λ x. IsAccess c k (two_q_residents d.state) (two_q_act x k d.state).0 (two_q_residents (two_q_act x k d.state).1)) (sym s.0) ((all.two_q c h).accesses k d.state s.1)
 
 now-holds : AllKeep → (c : ℕ) → 1 ≤ c → (s : DemandQueues) → IsQueues c s → AreResidents c (queues_residents s)
 now-holds all c h (Clock d) s = (all.clock c h).holds d.queue s.1
+now-holds all c h (TwoQ d) s = (all.two_q c h).holds d.state s.1
 
 starts-empty : AllKeep → (p : DemandPolicy) (c : ℕ) → 1 ≤ c → IsQueues c (empty_queues p c) × (queues_residents (empty_queues p c) ≡ [])
 starts-empty all policy.Clock c h = ((refl, (all.clock c h).starts.0), (all.clock c h).starts.1)
+starts-empty all policy.TwoQ c h = ((refl, (all.two_q c h).starts.0), (all.two_q c h).starts.1)
 
 pub demand-keeps : AllKeep → DemandKeeps
 demand-keeps all p c h = record {
@@ -42,6 +51,8 @@ demand-keeps all p c h = record {
 
 pub hits-ask-nothing : HitsAskNothing
 hits-ask-nothing k (Clock d) e a = clock-hit-asks-nothing d.capacity k d.queue e a
+hits-ask-nothing k (TwoQ d) e a = two-q-hit-asks-nothing d.capacity k d.state e a
 
 pub asks-where-one-left : AsksWhereOneLeft
 asks-where-one-left c k (Clock d) s a = clock-asks-of-eviction d.capacity k d.queue a
+asks-where-one-left c k (TwoQ d) s a = two-q-asks-of-eviction d.capacity k d.state (subst (λ x. IsTwoQ x d.state) (sym s.0) s.1) a

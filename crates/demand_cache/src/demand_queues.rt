@@ -5,6 +5,8 @@ ghost use Rattle.step_record.specs.Keys.{has_key};
 ghost use Rattle.demand_cache.specs.DemandQueues.{empty_queues, queues_act, queues_record_of, queues_undone, queues_asks};
 ghost use Rattle.demand_cache.specs.DemandQueues.{QueuesFits, queues_residents};
 
+use ghost_caches::TwoQCache;
+use ghost_policies::TwoQRecord;
 use queue_caches::ClockCache;
 use queue_policies::ClockRecord;
 use std::alloc::{AllocError, Global};
@@ -15,6 +17,8 @@ use step_record::{Key, Outcome};
 pub enum DemandPolicy {
     /// Second chance, as the clock of an operating system (Corbató 1969).
     Clock,
+    /// A queue of new keys before an Lru queue, with a ghost (VLDB 1994).
+    TwoQ,
 }
 
 /// The queues of a cache of one of these policies.
@@ -22,6 +26,8 @@ pub enum DemandPolicy {
 pub enum DemandQueues {
     /// Of `DemandPolicy::Clock`.
     Clock(ClockCache),
+    /// Of `DemandPolicy::TwoQ`.
+    TwoQ(TwoQCache),
 }
 
 /// What undoes an access to the queues: a record of fixed size, whatever the access moved.
@@ -29,6 +35,8 @@ pub enum DemandQueues {
 pub enum QueuesRecord {
     /// Of `DemandPolicy::Clock`.
     Clock(ClockRecord),
+    /// Of `DemandPolicy::TwoQ`.
+    TwoQ(TwoQRecord),
 }
 
 impl DemandQueues {
@@ -40,6 +48,7 @@ impl DemandQueues {
     {
         match policy {
             DemandPolicy::Clock => DemandQueues::Clock(ClockCache::new(alloc, capacity)),
+            DemandPolicy::TwoQ => DemandQueues::TwoQ(TwoQCache::new(alloc, capacity)),
         }
     }
 
@@ -59,6 +68,10 @@ impl DemandQueues {
                 let (outcome, done) = cache.access(key)?;
                 Ok((outcome, QueuesRecord::Clock(done)))
             }
+            DemandQueues::TwoQ(cache) => {
+                let (outcome, done) = cache.access(key)?;
+                Ok((outcome, QueuesRecord::TwoQ(done)))
+            }
         }
     }
 
@@ -75,6 +88,11 @@ impl DemandQueues {
         let undone = match self {
             DemandQueues::Clock(cache) => match done {
                 QueuesRecord::Clock(done) => cache.undo(done).is_ok(),
+                QueuesRecord::TwoQ(_) => unreachable!(),
+            },
+            DemandQueues::TwoQ(cache) => match done {
+                QueuesRecord::TwoQ(done) => cache.undo(done).is_ok(),
+                QueuesRecord::Clock(_) => unreachable!(),
             },
         };
         if undone { Ok(()) } else { Err(done) }
@@ -86,6 +104,7 @@ impl DemandQueues {
     {
         match self {
             DemandQueues::Clock(cache) => cache.residents(alloc),
+            DemandQueues::TwoQ(cache) => cache.residents(alloc),
         }
     }
 }

@@ -7,6 +7,7 @@ pub fn demand_keeps()
     ensures { DemandKeeps }
 {
     queue_policies::theorems::clock_keeps();
+    ghost_policies::theorems::two_q_keeps();
 }
 
 /// Undoing a hit takes no memory.
