@@ -1,5 +1,5 @@
 -- What the debugger sees of a policy over a trace once the first accesses are made: by the policy's definition.
-use Rattle.std.specs.Prelude.{◌≡◌, ℕ, zero, suc, ◌≤◌, if◌then◌else◌, Option, Some, None, List, ◌++◌, codes}
+use Rattle.std.specs.Prelude.{◌≡◌, ℕ, zero, suc, ◌≤◌, Option, Some, None, List, ◌++◌, codes}
 use Rattle.std.specs.Prelude.{length, map, slice_index_or, take, []}
 use Rattle.std.specs.Fmt.{decimal}
 use Rattle.std.specs.List.{flat_map}
@@ -16,7 +16,11 @@ use Rattle.clairvoyant.specs.Belady.{belady_residents}
 use Rattle.debug_commands.specs.Texts.{count_text}
 use Rattle.journal.specs.Session.{SessionState}
 use Rattle.policies.specs.declared.any_policy.AnyPolicy.{AnyPolicy}
-use Rattle.policies.specs.Design.{knows_trace}
+use Rattle.queue_policies.specs.Residents.{state_after_all}
+use Rattle.demand_cache.specs.DemandQueues.{empty_queues, queues_act, queues_residents}
+use Rattle.policies.specs.declared.design.Design.{Design}
+use Rattle.policies.specs.declared.design.Design.TheVariants.{KnowsTrace, Queues as OfQueues, Demand as OfDemand}
+use Rattle.policies.specs.Design.{design_of}
 use Rattle.policies.specs.AnyPolicy.{outcomes_on, HasAccessed}
 use Rattle.policies.specs.QueueCache.{frequency_after, residents_in, state_after}
 
@@ -32,10 +36,14 @@ abbrev pub stats_at : Job → List ℕ → ℕ → Stats
 stats_at j trace n = stats_of (take n (outcomes_on j trace))
 
 -- the keys that are cached after them
+abbrev pub residents_by : Design → Job → List ℕ → ℕ → List ℕ
+residents_by (OfQueues d) j trace n = residents_in (state_after j (take n trace)).queues
+residents_by KnowsTrace j trace n = belady_residents j.config.capacity trace n
+residents_by (OfDemand p) j trace n =
+    queues_residents (state_after_all queues_act (empty_queues p j.config.capacity) (take n trace))
+
 abbrev pub residents_at : Job → List ℕ → ℕ → List ℕ
-residents_at j trace n =
-    if knows_trace j.policy then belady_residents j.config.capacity trace n
-    else residents_in (state_after j (take n trace)).queues
+residents_at j trace n = residents_by (design_of j.policy) j trace n
 
 abbrev pub age_in : Option FrequencyData → ℕ
 age_in None = 0

@@ -6,7 +6,7 @@ use Rattle.step_record.specs.Pace.{Pace, pace_without_sketch}
 use Rattle.clairvoyant.specs.Clairvoyant.{ClairvoyantState, clairvoyant_act}
 use Rattle.clairvoyant.specs.OptimalRecord.{record_at, clairvoyant_undone, ClairvoyantFits}
 use Rattle.demand_cache.specs.DemandCache.{DemandState, DemandFits}
-use Rattle.demand_cache.specs.DemandCache.{demand_act, demand_record_of, demand_undone, demand_asks}
+use Rattle.demand_cache.specs.DemandCache.{demand_act, demand_record_of, demand_may_ask, demand_undone, demand_asks}
 use Rattle.policies.specs.declared.any_policy.AnyPolicy.{AnyPolicy}
 use Rattle.policies.specs.declared.any_policy.AnyPolicy.TheVariants.{Queues, Optimal, Demand}
 use Rattle.policies.specs.declared.any_policy.AnyRecord.{AnyRecord}
@@ -39,10 +39,10 @@ any_record_of k (Optimal d) = done.Optimal (record_at d.capacity d.trace d.stats
 any_record_of k (Demand d) = done.Demand (demand_record_of k d)
 
 -- an access may be out of memory: the optimal policy has all that it needs once it is open
-abbrev pub MayAllocate : AnyPolicy → Type 0
-MayAllocate (Queues d) = Unit {0}
-MayAllocate (Optimal d) = ⊥
-MayAllocate (Demand d) = Unit {0}
+abbrev pub MayAllocate : AnyPolicy → ℕ → Type 0
+MayAllocate (Queues d) k = Unit {0}
+MayAllocate (Optimal d) k = ⊥
+MayAllocate (Demand d) k = demand_may_ask d k
 
 -- a record of the other kind fits nowhere
 abbrev pub any_undone : AnyRecord → AnyPolicy → AnyPolicy

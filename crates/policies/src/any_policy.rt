@@ -114,7 +114,7 @@ impl AnyPolicy {
         ensures not_now { result ≡ Err StepFault.NotNow ↔ any_act self.old key ≡ None }
         ensures err { OnErr result (self.new ≡ self.old) }
         // The optimal policy is never out of memory.
-        ensures memory { result ≡ Err StepFault.OutOfMemory → MayAllocate self.old }
+        ensures memory { result ≡ Err StepFault.OutOfMemory → MayAllocate self.old key }
     {
         match self {
             AnyPolicy::Queues(cache) => cache.access::<C>(key),
@@ -181,7 +181,7 @@ impl Engine for AnyPolicy {
     ghost record_of = { any_record_of };
 
     // The optimal policy is never out of memory.
-    ghost may_ask = { λ d k. MayAllocate d };
+    ghost may_ask = { MayAllocate };
 
     ghost fits = { AnyFits };
 
