@@ -1,2 +1,4 @@
 pub mod Lists
 pub mod Clock
+pub mod Passes
+pub mod SieveQueues

@@ -1,2 +1,3 @@
 pub mod ClockCache
 pub mod ClockQueues
+pub mod SieveQueues

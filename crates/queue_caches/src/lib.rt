@@ -3,5 +3,6 @@
 #![tactic(auto)]
 
 mod clock_cache;
+mod sieve_queues;
 
 pub use clock_cache::ClockCache;
