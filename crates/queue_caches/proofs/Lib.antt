@@ -2,3 +2,4 @@ pub mod Lists
 pub mod Clock
 pub mod Passes
 pub mod SieveQueues
+pub mod Sieve

@@ -1,9 +1,9 @@
 -- The calls of a SIEVE cache on its queues.
-use Rattle.std.proofs.Common.{◌≡◌, ◌≢◌, ℕ, zero, suc, ◌+◌, ◌-◌, ◌<◌, ◌≤◌, true, false, Some, None, Result, Ok, Err, OnOk, List, [], ◌∷◌, ◌++◌, length, ap, subst, sym, ◌∙◌, refl, inl, inr, arith, append-nil, length-append}
+use Rattle.std.proofs.Common.{◌≡◌, ◌≢◌, ℕ, zero, suc, ◌+◌, ◌-◌, ◌≤◌, true, false, Some, None, Result, Ok, Err, OnOk, List, [], ◌∷◌, ◌++◌, length, ap, subst, sym, ◌∙◌, refl, inl, inr, arith, append-nil, length-append}
 use Rattle.std.proofs.lemmas.Bool.{cases_Bool, cases_eq}
 use Rattle.std.proofs.lemmas.List.{append_assoc}
 use Rattle.step_record.specs.Keys.{has_key}
-use Rattle.queue_policies.specs.CountedKeys.{CountedKey, counted_less, counted_more, keys_of, count_of, with_count, AreCounted}
+use Rattle.queue_policies.specs.CountedKeys.{CountedKey, keys_of, count_of, with_count, AreCounted}
 use Rattle.queue_policies.specs.Queues.{without_oldest}
 use Rattle.queue_policies.specs.Sieve.{SieveState, after_wrap, after_pass, sieve_with_count}
 use Rattle.queue_policies.specs.SieveRecord.{newest_ahead, before_pass}

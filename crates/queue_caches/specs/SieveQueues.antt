@@ -1,7 +1,8 @@
 -- A SIEVE cache in the queues: the first two have the keys that the hand has passed and those ahead of it, and the
 -- others are empty. Which of the two is which is a number, so the hand wraps with no key moved.
-use Rattle.std.specs.Prelude.{◌≡◌, ℕ, zero, suc, ◌≤◌, List, [], ◌∷◌}
+use Rattle.std.specs.Prelude.{◌≡◌, ℕ, zero, suc, ◌≤◌, Bool, Option, Some, None, List, [], ◌∷◌}
 use Rattle.queue_policies.specs.CountedKeys.{CountedKey}
+use Rattle.queue_policies.specs.Queues.{is_empty}
 use Rattle.queue_policies.specs.Sieve.{SieveState, after_wrap}
 use Rattle.counted_queues.specs.Queues.{queue_of}
 
@@ -30,6 +31,11 @@ pub record IsSieveQueues (a : ℕ) (s : List (List CountedKey)) : Type 0 where
 abbrev pub after_leaving : List CountedKey → List CountedKey → SieveState
 after_leaving passed [] = record { passed = passed; ahead = [] }
 after_leaving passed (e ∷ ahead) = after_wrap passed ahead
+
+-- that key, and whether the hand wraps
+abbrev pub key_at_hand : List CountedKey → Option (ℕ × Bool)
+key_at_hand [] = None
+key_at_hand (e ∷ ahead) = Some (e.key, is_empty ahead)
 
 -- where the hand has passed no key, it goes back behind the newest
 abbrev pub before_wrap : List CountedKey → List CountedKey → SieveState

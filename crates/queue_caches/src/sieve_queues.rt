@@ -2,12 +2,12 @@
 ghost use Rattle.std.specs.Prelude.{◌≡◌, ◌<◌, ◌≤◌, ◌==◌, ◌^◌, ◌++◌, true, false, length, [], Some, OnOk, IfSome, IfNone};
 ghost use Rattle.step_record.specs.Keys.{has_key};
 ghost use Rattle.queue_policies.specs.CountedKeys.{AreCounted, count_of, keys_of, oldest_count, total_count};
-ghost use Rattle.queue_policies.specs.Queues.{oldest_of, without_newest};
+ghost use Rattle.queue_policies.specs.Queues.{is_empty, without_newest};
 ghost use Rattle.queue_policies.specs.Sieve.{sieve_residents, empty_sieve, after_wrap, after_pass, pass_count, after_passes};
 ghost use Rattle.queue_policies.specs.Sieve.{sieve_with_key, sieve_with_count};
 ghost use Rattle.queue_policies.specs.SieveRecord.{newest_ahead, before_pass, before_passes, sieve_with_leaver};
 ghost use Rattle.counted_queues.specs.Queues.{oldest_entry};
-ghost use Rattle.queue_caches.specs.SieveQueues.{after_leaving, before_wrap};
+ghost use Rattle.queue_caches.specs.SieveQueues.{after_leaving, before_wrap, key_at_hand};
 
 use counted_queues::CountedQueues;
 use std::alloc::{AllocError, Global};
@@ -104,15 +104,15 @@ impl SieveQueues {
         let _ = self.queues.pop_recent(self.ahead);
     }
 
-    /// The key that the hand is at leaves.
-    pub(crate) fn pop_at_hand(&mut self) -> Option<Key>
-        ensures key { result ≡ oldest_of (keys_of self.old.state.ahead) }
+    /// The key that the hand is at leaves. Returns it, and whether the hand wrapped.
+    pub(crate) fn pop_at_hand(&mut self) -> Option<(Key, bool)>
+        ensures key { result ≡ key_at_hand self.old.state.ahead }
         ensures state { self.new.state ≡ after_leaving self.old.state.passed self.old.state.ahead }
         ensures spare { self.old.spare ≤ self.new.spare }
     {
         let (key, _) = self.queues.pop_oldest(self.ahead)?;
-        self.wrap();
-        Some(key)
+        let wraps = self.wrap();
+        Some((key, wraps))
     }
 
     /// A key that left comes back to the hand; the hand had wrapped when it left, or not.
@@ -169,17 +169,20 @@ impl SieveQueues {
         ensures spare { self.new.spare ≡ self.old.spare }
     {
         self.queues.send_recent(key, 1 - self.ahead, bit - 1);
-        self.wrap();
+        let _ = self.wrap();
     }
 
-    // Where no key is ahead of the hand, it goes to the oldest.
-    fn wrap(&mut self)
+    // Where no key is ahead of the hand, it goes to the oldest; whether it did.
+    fn wrap(&mut self) -> bool
+        ensures wraps { result ≡ is_empty self.old.state.ahead }
         ensures state { self.new.state ≡ after_wrap self.old.state.passed self.old.state.ahead }
         ensures spare { self.new.spare ≡ self.old.spare }
     {
-        if self.queues.len(self.ahead) == 0 {
+        let wraps = self.queues.len(self.ahead) == 0;
+        if wraps {
             self.swap();
         }
+        wraps
     }
 
     // The two queues change their roles.

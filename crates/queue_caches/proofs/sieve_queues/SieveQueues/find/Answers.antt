@@ -4,7 +4,6 @@ use Rattle.queue_policies.specs.CountedKeys.{keys_of, count_of}
 use Rattle.queue_policies.proofs.Sieve.{whole}
 use Rattle.counted_queues.specs.Queues.{IsAbsent, queue_of, holds}
 use Rattle.queue_caches.proofs.SieveQueues.{found, lacks-whole}
-use Rattle.queue_caches.specs.SieveQueues.{sieve_state}
 use Rattle.queue_caches.proofs.sieve_queues.SieveQueues.find.Goals as goal
 
 pub returns-in_err-bit-clause-absent : goal.returns-in_err-bit-clause-absent

@@ -1,5 +1,5 @@
-use Rattle.std.proofs.Common.{rules, ◌≡◌, ◌+◌, ◌-◌, ◌≤◌, Some, None, sym, ap, ◌∙◌, refl, arith}
-use Rattle.counted_queues.specs.Queues.{queue_of, newest_entry}
+use Rattle.std.proofs.Common.{◌≡◌, ◌+◌, ◌-◌, ◌≤◌, Some, None, sym, ap, ◌∙◌, refl, arith}
+use Rattle.counted_queues.specs.Queues.{newest_entry}
 use Rattle.queue_caches.specs.SieveQueues.{SieveQueuesState, sieve_state, before_wrap}
 use Rattle.queue_caches.proofs.SieveQueues.{returned, passed-is, shown-state, shown-queues, unwrapped-pass, none-passed, count-fits}
 use Rattle.queue_caches.proofs.sieve_queues.SieveQueues.undo_pass.Goals as goal
