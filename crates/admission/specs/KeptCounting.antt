@@ -1,9 +1,6 @@
 -- How the record of a recorded key is kept: what its packed form shows.
 use Rattle.std.specs.Prelude.{◌≡◌, ℕ, Option, Some, None}
-use Rattle.sketch.specs.declared.touch_record.TouchRecord.{TouchRecord}
-use Rattle.admission.specs.declared.freq_record.Mark.{Mark}
 use Rattle.admission.specs.declared.freq_record.Mark.TheVariants as mark
-use Rattle.admission.specs.declared.freq_record.Halving.{Halving}
 use Rattle.admission.specs.declared.freq_record.FreqRecord.{FreqRecord}
 use Rattle.admission.specs.declared.kept_counting.PackedCounting.{PackedCounting}
 use Rattle.admission.specs.declared.kept_counting.PackedCounting.TheVariants.{Nothing, Put, Touch}

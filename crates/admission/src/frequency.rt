@@ -1,6 +1,6 @@
 //! Approximate access frequencies.
 ghost use Rattle.std.specs.Prelude.{◌≡◌, ◌<◌, ◌≤◌, ◌+◌, ◌-◌, ◌^◌, ◌*◌, ◌++◌, ◌∷◌, List, [], ℕ, nat_lt, cond, Some};
-ghost use Rattle.std.specs.Prelude.{IfOk, OnOk, OnErr};
+ghost use Rattle.std.specs.Prelude.{IfOk, OnOk, OnErr, true};
 ghost use Rattle.step_record.specs.declared.limits.TheConstants.{MAX_CAPACITY};
 ghost use Rattle.admission.specs.Shape.{Shape, IsShape};
 ghost use Rattle.admission.specs.Frequency.{IsFrequencyOf, frequency_of, marked, faded, frequency_with, halves};
@@ -78,6 +78,7 @@ impl Frequency {
         ensures undone { IfOk result (λ r. frequency_before r self.new ≡ self.old) }
         ensures size { IfOk result (λ r. size_of r ≡ cond (halves self.old) (halving_words self.old) 0) }
         ensures err { OnErr result (self.new ≡ self.old) }
+        ensures memory { OnErr result (halves self.old ≡ true) }
 
         // Of the frequency of a list of keys it makes that of the list with the key at its end.
         ensures appends { (s : Shape) (keys : List ℕ) → IsShape s → self.old ≡ frequency_of s keys
@@ -151,6 +152,15 @@ impl Frequency {
         let known = self.door.has(key);
         let least = self.sketch.least(key);
         least + known as u8
+    }
+
+    /// Works out what the estimate of a key is read by, and keeps it until another key is prepared. Changes nothing that a
+    /// caller can see, and pays for a key that stays the victim of several admissions.
+    pub fn prepare(&mut self, key: Key)
+        ensures { self.new ≡ self.old }
+    {
+        self.door.prepare(key);
+        self.sketch.prepare(key);
     }
 
     /// Whether the candidate is estimated above the victim. A tie admits nobody.

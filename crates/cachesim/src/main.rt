@@ -1,9 +1,26 @@
 //! A simulator of cache policies over recorded block traces.
 //!
-//! The library `program` is the whole program, and its `command` carries the promise; `main` hands it the process.
+//! `command` is the whole program over readers and writers: it takes the words of a call, and carries the promise of
+//! what the program writes and with which status it ends. `main` hands it the words, the streams and the files of the
+//! process.
 #![tactic(auto)]
 
-use program::run_process;
+mod call;
+mod debug;
+mod drive;
+mod fault;
+mod fault_report;
+mod files;
+mod host;
+mod limits;
+mod perform;
+mod texts;
+
+pub use call::command;
+pub use fault::Fault;
+pub use fault_report::{DONE, FAULT, REFUSED};
+pub use files::{FileFault, FileInMemory, Files, MAX_FILE_BYTES};
+use host::run_process;
 use std::process::ExitCode;
 
 fn main(rt: HostRuntime) -> ExitCode {

@@ -129,11 +129,6 @@ module _ (t : List ℕ) (i : ℕ) (r : List ℕ) (le : i ≤ length t) (seen : (
   keyed : (q k : ℕ) → has_key k r ≡ true → rank t i k ≡ q → key_at t q ≡ k
   keyed q k there same = ap (key_at t) (sym same) ∙ (named t i k le (seen k there)).key
 
-  pub listed-start : (k : ℕ) → times k [] ≡ one_if (is_listed t i r 0 k)
-  listed-start k =
-      let none : nat_lt (rank t i k) 0 ≡ false = le-ltb (rank t i k) 0 (omega arith) in
-      elim (cases_Bool (has_key k r)) as (λ _. 0 ≡ one_if (has_key k r && nat_lt (rank t i k) 0)) [ inl e ↦ rw (e, none) refl | inr e ↦ rw e refl ]
-
   pub listed-all : (k : ℕ) → is_listed t i r (2 * length t) k ≡ has_key k r
   listed-all k =
       elim (cases_Bool (has_key k r)) [

@@ -10,13 +10,9 @@ use Rattle.clairvoyant.specs.Belady.{farthest, belady_residents_after, belady_an
 use Rattle.step_record.specs.Stats.{is_hit, is_miss, is_eviction, is_rejection, one_if, stats_with, stats_without, IsCounted, IsSmall, stats_of}
 use Rattle.clairvoyant.specs.Clairvoyant.{IsBeladyReached, clairvoyant_act, is_next, clairvoyant_after}
 use Rattle.clairvoyant.specs.Representation.{shown}
-use Rattle.step_record.proofs.Counting.{stats-snoc, stats-small}
+use Rattle.step_record.proofs.Counting.{stats-snoc}
 use Rattle.clairvoyant.proofs.Keys.{has-put, length-put, length-without, ascending-put}
 use Rattle.clairvoyant.proofs.Belady.{residents-ascending, farthest-among, soon}
-
-pub outcomes-length : (c : ℕ) (t : List ℕ) (i : ℕ) → length (belady_outcomes c t i) ≡ i
-outcomes-length c t zero = refl
-outcomes-length c t (suc i) = length-append (belady_outcomes c t i) (belady_outcome c t i ∷ []) ∙ (let n : length (belady_outcomes c t i) ≡ i = outcomes-length c t i in omega arith)
 
 -- the counts after one access more
 pub stats-next : (c : ℕ) (t : List ℕ) (s : Stats) → s ≡ stats_of (belady_outcomes c t s.accesses) → stats_with (belady_outcome c t s.accesses) s ≡ stats_of (belady_outcomes c t (s.accesses + 1))
@@ -30,12 +26,6 @@ reached-next c t s lt r = record {
   short = r.short;
   room = r.room;
 }
-
-pub reached-small : (c : ℕ) (t : List ℕ) (s : Stats) → IsBeladyReached (shown c t s) → IsSmall s
-reached-small c t s r =
-    let few : length (belady_outcomes c t s.accesses) ≤ MAX_STEPS = let a = r.within in let b = r.short in omega (arith, a, b, outcomes-length c t s.accesses) in
-    let e : s ≡ stats_of (belady_outcomes c t s.accesses) = ap (λ d. d.stats) r.gives in
-    let P : Stats → Type 0 = λ x. IsSmall x in subst P (sym e) (stats-small (belady_outcomes c t s.accesses) few)
 
 -- ---- residents are the misses minus the evictions
 
@@ -93,17 +83,6 @@ act-next c t s k o lt few e f =
 past : (a b d : Bool) → b ≡ false → (a && (b && d)) ≡ false
 past true b d e = rw e refl
 past false b d e = refl
-
-other : (a b d : Bool) → d ≡ false → (a && (b && d)) ≡ false
-other true true d e = e
-other true false d e = refl
-other false b d e = refl
-
-pub act-past : (c : ℕ) (t : List ℕ) (s : Stats) (k : ℕ) → length t ≤ s.accesses → clairvoyant_act (shown c t s) k ≡ None
-act-past c t s k le = rw (past (nat_lt s.accesses MAX_STEPS) (nat_lt s.accesses (length t)) (eqb k (get_or t s.accesses 0)) (le-ltb s.accesses (length t) le)) refl
-
-pub act-other : (c : ℕ) (t : List ℕ) (s : Stats) (k : ℕ) → (get_or t s.accesses 0 ≡ k → ⊥) → clairvoyant_act (shown c t s) k ≡ None
-act-other c t s k ne = rw (other (nat_lt s.accesses MAX_STEPS) (nat_lt s.accesses (length t)) (eqb k (get_or t s.accesses 0)) (ne_eqb k (get_or t s.accesses 0) (λ h. ne (sym h)))) refl
 
 uncount : (o : Outcome) (s : Stats) → stats_without o (stats_with o s) ≡ s
 uncount o s =

@@ -17,21 +17,6 @@ set-some : (ws : List ℕ) (q : ℕ) → eqb (bit_or (get_or ws (q / 64) 0) (1 *
 set-some ws q = ne_eqb (bit_or (get_or ws (q / 64) 0) (1 * 2 ^ (q % 64) % 2 ^ 64)) 0
     (λ h. let no : 1 ≡ 0 = sym (bit_at_set_same w64 (get_or ws (q / 64) 0) (q % 64) (omega arith)) ∙ ap (λ y. bit_at y (q % 64)) h ∙ bit_at-zero (q % 64) in omega arith)
 
--- the layer above, where one word was written
-pub above-put : (ws : List ℕ) (n : ℕ) (old new : ℕ → Bool) (j x : ℕ) → IsBitLayer ws n old → j < length ws → eqb x 0 ≡ false → ((w : ℕ) → new w ≡ cond (eqb w j) true (old w)) → (w : ℕ) → new w ≡ not (eqb (get_or (set ws j x) w 0) 0)
-above-put ws n old new j x up within some puts w =
-    elim (cases_eq w j) [
-      | inl e ↦
-          let same : eqb w j ≡ true = eq-eqb w j e in
-          let at : get_or (set ws j x) w 0 ≡ x = ap (λ m. get_or (set ws j x) m 0) e ∙ (rw get_or-set_same refl) in
-          puts w ∙ ap (λ z. cond z true (old w)) same ∙ sym (ap (λ y. not (eqb y 0)) at ∙ ap not some)
-      | inr g ↦
-          let ne : w ≢ j = g in
-          let apart : eqb w j ≡ false = ne_eqb w j g in
-          let other : get_or (set ws j x) w 0 ≡ get_or ws w 0 = rw get_or-set_other refl in
-          puts w ∙ ap (λ z. cond z true (old w)) apart ∙ up.some w ∙ sym (ap (λ y. not (eqb y 0)) other)
-    ]
-
 -- the same of a word that was read
 pub put-bit-of : (ws : List ℕ) (q y : ℕ) → q < 64 * length ws → y ≡ get_or ws (q / 64) 0 → (p : ℕ) → bit_of (set ws (q / 64) (bit_or y (1 * 2 ^ (q % 64) % 2 ^ 64))) p ≡ cond (eqb p q) true (bit_of ws p)
 put-bit-of ws q y within e p = ap (λ z. bit_of (set ws (q / 64) (bit_or z (1 * 2 ^ (q % 64) % 2 ^ 64))) p) e ∙ bit_put ws q within p ∙ ap (λ b. cond b true (bit_of ws p)) (eqb-sym q p)
@@ -74,29 +59,6 @@ module _ (ws : List ℕ) (w x tz : ℕ) (in_it : w < length ws) (read : x ≡ ge
         | inl e ↦ ap (λ n. eqb (bit_at (get_or ws n 0) (q % 64)) 1) e ∙ ap (λ y. eqb (bit_at y (q % 64)) 1) (sym read) ∙ ap (λ y. eqb y 1) (low (q % 64) (omega arith))
         | inr n ↦ ap (λ y. eqb (bit_at y (q % 64)) 1) (past (q / 64) (let ne : q / 64 ≢ w = n in omega arith)) ∙ ap (λ y. eqb y 1) (bit_at-zero (q % 64))
       ]
-
--- the layer above, where one word was written that is not 0, or is 0, or stays what the layer above has of it
-pub above-after : (ws : List ℕ) (n m : ℕ) (old new : ℕ → Bool) (j x : ℕ) → IsBitLayer ws n old → j < length ws → eqb x 0 ≡ false → m ≡ n → ((w : ℕ) → new w ≡ cond (eqb w j) true (old w)) → IsBitLayer (set ws j x) m new
-above-after ws n m old new j x up within some same puts = record {
-  long = let l : length (set ws j x) ≡ length ws = simp length-set refl in omega (arith, same, up.long);
-  some = above-put ws n old new j x up within some puts;
-}
-
-pub above-empty : (ws : List ℕ) (n m : ℕ) (old new : ℕ → Bool) (j x : ℕ) → IsBitLayer ws n old → j < length ws → x ≡ 0 → m ≡ n → ((w : ℕ) → new w ≡ cond (eqb w j) false (old w)) → IsBitLayer (set ws j x) m new
-above-empty ws n m old new j x up within none same takes = record {
-  long = let l : length (set ws j x) ≡ length ws = simp length-set refl in omega (arith, same, up.long);
-  some = λ w. elim (cases_eq w j) [
-    | inl e ↦
-        let here : eqb w j ≡ true = eq-eqb w j e in
-        let at : get_or (set ws j x) w 0 ≡ 0 = ap (λ m. get_or (set ws j x) m 0) e ∙ (rw get_or-set_same none) in
-        takes w ∙ ap (λ z. cond z false (old w)) here ∙ sym (ap (λ y. not (eqb y 0)) at)
-    | inr g ↦
-        let ne : w ≢ j = g in
-        let apart : eqb w j ≡ false = ne_eqb w j g in
-        let other : get_or (set ws j x) w 0 ≡ get_or ws w 0 = rw get_or-set_other refl in
-        takes w ∙ ap (λ z. cond z false (old w)) apart ∙ up.some w ∙ sym (ap (λ y. not (eqb y 0)) other)
-  ];
-}
 
 pub above-still : (ws : List ℕ) (n : ℕ) (held : ℕ → Bool) (j x : ℕ) → IsBitLayer ws n held → j < length ws → eqb x 0 ≡ eqb (get_or ws j 0) 0 → IsBitLayer (set ws j x) n held
 above-still ws n held j x up within same = record {

@@ -1,10 +1,10 @@
 //! The cache that knows the trace.
-ghost use Rattle.std.specs.Prelude.{◌≡◌, suc, ◌+◌, ◌-◌, ◌*◌, ◌≤◌, ◌<◌, ◌↔◌, length, slice_index, IfSome};
-ghost use Rattle.std.specs.Prelude.{IfOk, IfErr, OnOk, OnErr, Ok, Some, None};
+ghost use Rattle.std.specs.Prelude.{◌≡◌, suc, ◌-◌, ◌*◌, ◌≤◌, ◌<◌, length, slice_index, IfSome};
+ghost use Rattle.std.specs.Prelude.{IfOk, Ok, Some, None};
 ghost use Rattle.step_record.specs.declared.limits.TheConstants.{MAX_ACCESSES, MAX_CAPACITY};
 ghost use Rattle.clairvoyant.specs.Ranks.{rank, rank_by, key_at};
 ghost use Rattle.clairvoyant.specs.RankSet.{IsTied};
-ghost use Rattle.clairvoyant.specs.Belady.{belady_residents, belady_outcome};
+ghost use Rattle.clairvoyant.specs.Belady.{belady_residents};
 ghost use Rattle.clairvoyant.specs.OptimalRecord.{record_at};
 
 use crate::Ranks;
@@ -148,7 +148,7 @@ fn rank_by(len: usize, next: Option<u32>, last: usize) -> u32
 }
 
 impl Clairvoyant {
-    ghost use Rattle.clairvoyant.specs.Clairvoyant.{clairvoyant_at};
+    ghost use Rattle.clairvoyant.specs.Clairvoyant.{clairvoyant_at, IsBeladyReached};
 
     /// An empty cache at the start of a trace, for 1 to `MAX_CAPACITY` keys. The only error is that an allocation
     /// failed; a cache that is open asks for no more.
@@ -163,6 +163,13 @@ impl Clairvoyant {
             ranks,
             stats: Stats::NONE,
         })
+    }
+
+    /// Every cache stands where the first accesses of its trace lead to. This does nothing: its contract is the fact.
+    pub fn reached(&self)
+        ensures { IsBeladyReached self.now }
+    {
+        let _core = &self.core;
     }
 
     /// What was counted of the accesses that stand.
@@ -189,8 +196,8 @@ impl Clairvoyant {
 }
 
 impl Engine for Clairvoyant {
-    ghost use Rattle.clairvoyant.specs.Clairvoyant.{clairvoyant_at, clairvoyant_act};
-    ghost use Rattle.clairvoyant.specs.OptimalRecord.{clairvoyant_undone, ClairvoyantFits};
+    ghost use Rattle.clairvoyant.specs.Clairvoyant.{clairvoyant_act};
+    ghost use Rattle.clairvoyant.specs.OptimalRecord.{record_at, clairvoyant_undone, ClairvoyantFits};
     ghost use Rattle.clairvoyant.specs.StepCount.{act_counts, act_ends};
     ghost use Rattle.step_record.specs.Pace.{pace_without_sketch, still-paced};
 
@@ -205,6 +212,12 @@ impl Engine for Clairvoyant {
     ghost seen = { λ l. l };
 
     ghost act = { clairvoyant_act };
+
+    // The record is that of the access at this place of the trace.
+    ghost record_of = { λ k d. record_at d.capacity d.trace d.stats.accesses };
+
+    // No access takes memory.
+    ghost may_ask = { λ d k. ⊥ };
 
     ghost fits = { ClairvoyantFits };
 
@@ -221,23 +234,7 @@ impl Engine for Clairvoyant {
 
     // Part of its caller, so that one who reads no record does not look up the key that left: that would wait for memory.
     #[inline(always)]
-    fn apply(&mut self, step: &Key) -> Result<(Outcome, OptimalRecord), StepFault>
-        ensures accepted { IfOk result (λ r. clairvoyant_act self.old step.now ≡ Some (r.0, self.new)) }
-        ensures fits { IfOk result (λ r. ClairvoyantFits r.1 self.new) }
-        ensures undone { IfOk result (λ r. clairvoyant_undone r.1 self.new ≡ self.old) }
-        // The record is that of the access at this place of the trace, and holds no list.
-        ensures record_is { IfOk result (λ r. r.1
-            ≡ record_at self.old.capacity self.old.trace self.old.stats.accesses) }
-        ensures not_now { result ≡ Err StepFault.NotNow ↔ clairvoyant_act self.old step.now ≡ None }
-        ensures err { OnErr result (self.new ≡ self.old) }
-        // The outcome is the definition's at this place of the trace, and the cache goes on to the next.
-        ensures stands { IfOk result (λ r.
-            (self.old ≡ clairvoyant_at self.old.capacity self.old.trace self.old.stats.accesses)
-            × (r.0 ≡ belady_outcome self.old.capacity self.old.trace self.old.stats.accesses)
-            × (self.new ≡ clairvoyant_at self.old.capacity self.old.trace (suc self.old.stats.accesses))) }
-        // No access asks for memory.
-        ensures no_want { result ≡ Err StepFault.OutOfMemory → ⊥ }
-    {
+    fn apply(&mut self, step: &Key) -> Result<(Outcome, OptimalRecord), StepFault> {
         let place = self.stats.accesses as usize;
         if place >= self.core.uses.len() {
             return Err(StepFault::NotNow);
@@ -252,14 +249,7 @@ impl Engine for Clairvoyant {
         Ok((outcome, record))
     }
 
-    fn undo(&mut self, done: OptimalRecord) -> Result<(), OptimalRecord>
-        requires { ClairvoyantFits done self.old }
-        ensures ok { OnOk result (self.new ≡ clairvoyant_undone done self.old) }
-        ensures err { OnErr result (self.new ≡ self.old) }
-        ensures returned { IfErr result (λ r. r ≡ done) }
-        // Undoing is never refused.
-        ensures asks { OnErr result ⊥ }
-    {
+    fn undo(&mut self, done: OptimalRecord) -> Result<(), OptimalRecord> {
         let place = (self.stats.accesses - 1) as usize;
         self.core.unserve(&mut self.ranks, place, done);
         self.stats.uncount(done.outcome());

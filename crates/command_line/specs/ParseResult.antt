@@ -1,5 +1,5 @@
 -- What a parse of the words after the program's name gives.
-use Rattle.std.specs.Prelude.{◌≡◌, ⊤, List, [], Result, Err}
+use Rattle.std.specs.Prelude.{◌≡◌, ◌≢◌, ⊤, List, [], Result, Err}
 use Rattle.clap.specs.Words.{HasKind, Kinds, Text, fault_of, subcommand_of}
 use Rattle.command_line.specs.Choices.{AreLists}
 use Rattle.command_line.specs.Program.{program_app}
@@ -30,6 +30,6 @@ ParsedBy words parsed = AsksFor words parsed
 
 -- the matches ask for this, unless memory did not suffice to say so
 abbrev pub IsAskedFor : Result Arguments ParseFault → Result Arguments ParseFault → Type 0
-IsAskedFor asked (Err fault.OutOfMemory) = ⊤
+IsAskedFor asked (Err fault.OutOfMemory) = asked ≢ Err fault.Stripes
 IsAskedFor asked (Err (fault.Refused error)) = ⊥
 IsAskedFor asked parsed = parsed ≡ asked

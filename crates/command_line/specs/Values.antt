@@ -177,12 +177,12 @@ asked_of name rows = if bytes_eq name (codes "run") then run_in rows
 abbrev pub has_wrong_stripes : List Row → Bool
 has_wrong_stripes rows = option_map_or (λ n. is_none (stripes_from n)) (wide_number_in option.Stripes rows) false
 
--- the arguments, or why there are none
-abbrev pub complete : List Row → Option Arguments → Result Arguments ParseFault
-complete rows None = Err (if has_wrong_stripes rows then Stripes else Incomplete)
-complete rows (Some arguments) = Ok arguments
+-- the arguments, where all are there
+abbrev pub complete : Option Arguments → Result Arguments ParseFault
+complete None = Err Incomplete
+complete (Some arguments) = Ok arguments
 
 -- what is asked for by the subcommand that was called
 abbrev pub asked_in : Option (Text × List Row) → Result Arguments ParseFault
 asked_in None = Err Incomplete
-asked_in (Some (name, rows)) = complete rows (asked_of name rows)
+asked_in (Some (name, rows)) = if has_wrong_stripes rows then Err Stripes else complete (asked_of name rows)

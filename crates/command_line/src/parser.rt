@@ -44,10 +44,12 @@ fn arguments(alloc: Global, matches: &ArgMatches<'_>) -> Result<Arguments, Parse
         return Err(ParseFault::Incomplete);
     };
     let asked = Matches { matches: asked };
+    if has_wrong_stripes(&asked) {
+        return Err(ParseFault::Stripes);
+    }
     match arguments_of(alloc, name, &asked) {
         Ok(arguments) => Ok(arguments),
         Err(ValueFault::OutOfMemory) => Err(ParseFault::OutOfMemory),
-        Err(ValueFault::Incomplete) if has_wrong_stripes(&asked) => Err(ParseFault::Stripes),
         Err(ValueFault::Incomplete) => Err(ParseFault::Incomplete),
     }
 }

@@ -79,12 +79,3 @@ up-more n hit c u = record {
   second_only = omega (arith, u.second_only, few (not hit.0 && hit.1));
   neither = omega (arith, u.neither, few (not hit.0 && not hit.1));
 }
-
-pub up-to-more : (n m : ℕ) (c : Comparison) → n ≤ m → IsUpTo n c → IsUpTo m c
-up-to-more n m c le u = record {
-  accesses = omega (arith, le, u.accesses);
-  both = omega (arith, le, u.both);
-  first_only = omega (arith, le, u.first_only);
-  second_only = omega (arith, le, u.second_only);
-  neither = omega (arith, le, u.neither);
-}

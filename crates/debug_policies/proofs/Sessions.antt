@@ -1,5 +1,5 @@
 -- A session over a policy, whose applied steps are the first accesses of a trace.
-use Rattle.std.proofs.Common.{◌≡◌, ◌∙◌, ◌≤◌, ◌<◌, ◌+◌, ℕ, zero, suc, Some, List, [], ◌∷◌, ◌++◌, Result, Ok, Err, length, take, drop, get_or, refl, ap, sym, subst, inl, inr, arith, length-append, append-nil, append_assoc}
+use Rattle.std.proofs.Common.{◌≡◌, ◌∙◌, ◌≤◌, ◌<◌, ◌+◌, ℕ, zero, suc, Some, List, [], ◌∷◌, ◌++◌, Result, Ok, Err, length, take, drop, get_or, refl, ap, sym, subst, arith, length-append, append-nil, append_assoc}
 use Rattle.std.specs.Prelude.{slice_index, IfOk, OnErr}
 use Rattle.std.specs.declared.alloc.AllocError.{AllocError}
 use Rattle.std.proofs.lemmas.List.{take_more, length-take-le, take-append-le}
@@ -8,7 +8,6 @@ use Rattle.step_record.specs.declared.job.Job.{Job}
 use Rattle.step_record.specs.declared.outcome.Outcome.{Outcome}
 use Rattle.step_record.specs.declared.outcome.Outcome.TheVariants.{Kept}
 use Rattle.step_record.specs.History.{data_after, next_data, IsLegal}
-use Rattle.journal.specs.Faults.{IsOnTheWay}
 use Rattle.journal.specs.Session.{SessionState, IsMovedTo}
 use Rattle.policies.specs.declared.any_policy.AnyPolicy.{AnyPolicy}
 use Rattle.policies.specs.AnyPolicy.{outcomes_on, HasAccessed}
@@ -103,11 +102,6 @@ take_take zero m xs le = refl
 take_take (suc n) zero xs le = absurd (omega arith)
 take_take (suc n) (suc m) [] le = refl
 take_take (suc n) (suc m) (x ∷ xs) le = ap (λ t. x ∷ t) (take_take n m xs (omega arith))
-
--- a walk back that was cut short stands at no more steps than it began with
-pub undone_within : (at n m : ℕ) → n ≤ at → IsOnTheWay at n m → m ≤ at
-undone_within at n m le (inl back) = back.1
-undone_within at n m le (inr on) = omega (arith, le, on.0, on.1)
 
 pub moved : AnyStepLaw → (j : Job) (trace : List ℕ) (n : ℕ) (old new : State) → IsPolicyAt j trace old → IsMovedTo n old new → n ≤ length old.kept
     → IsLegal any_act new.opening new.kept → new.engine ≡ data_after any_act new.opening new.kept → IsPolicyAt j trace new

@@ -2,7 +2,7 @@
 -- (Defined by this project: the opening state is kept in no field; undo records lead back to it.)
 use Rattle.std.specs.Prelude.{◌≡◌, ℕ, ◌+◌, ◌*◌, ◌/◌, ◌≤◌, Option, List, ◌++◌, length, take, drop}
 use Rattle.step_record.specs.declared.entry.Entry.{Entry}
-use Rattle.step_record.specs.declared.limits.TheConstants.{MAX_STEPS}
+use Rattle.step_record.specs.declared.limits.TheConstants.{MAX_JOURNAL_LIMIT, MAX_STEPS}
 use Rattle.step_record.specs.History.{data_after, IsLegal}
 use Rattle.step_record.specs.Pace.{Pace}
 
@@ -39,6 +39,7 @@ pub record IsSoundSession {E D S R : Type 0} (act : D → S → Option (R × D))
   pub stands : seen s.engine ≡ data_after act s.opening s.kept
   pub redo : IsLegal act (seen s.engine) s.tail
   pub room : length s.kept + length s.tail ≤ s.limit
+  pub small : s.limit ≤ MAX_JOURNAL_LIMIT
   pub counted : count (seen s.engine) ≡ count s.opening + length s.kept
   pub countable : count s.opening + s.limit ≤ MAX_STEPS
   pub holds : HoldsFew (pace s.opening) (pace (seen s.engine)) (length s.kept) s.held

@@ -1,9 +1,10 @@
 //! A session's journal to a writer.
 ghost use Rattle.std.specs.Prelude.{◌≡◌, ◌≤◌, ◌+◌, Err, OnOk, OnErr, [], true, vec_len, vec_capacity};
-ghost use Rattle.std.specs.Io.KnownBytes.{append_known, Appends, Keeps};
+ghost use Rattle.std.specs.Io.KnownBytes.{Appends};
 ghost use Rattle.step_record.specs.Answers.{AnswersItsActs};
 ghost use Rattle.journal_text.specs.Journal.{begun, journal_of, AreLines};
 ghost use Rattle.journal_text.specs.TextBuffer.{AreFit, IsTextWritten};
+ghost use Rattle.streams.specs.Part.{AppendsPart};
 ghost use Rattle.streams.specs.Tally.{Exhausts, FailsWhere, Spends};
 ghost use Rattle.journal_text.specs.declared.line_text.TheConstants.{MAX_LINE};
 ghost use Rattle.journal_text.specs.declared.writer.TheConstants.{BUFFER};
@@ -21,7 +22,7 @@ const BUFFER: usize = 65_536;
 
 /// Writes the journal of the applied steps, in version 2, and flushes. The undone steps are not in
 /// it. The text goes through a buffer, whose memory is taken before the first write: `OutOfMemory`
-/// has written nothing, and after `Write` output may be partial.
+/// has written nothing, and after `Write` a beginning of the text was written, perhaps all.
 pub fn write_journal<E: Engine<Step = Step, Reply = Reply>, W: CountedWrite>(
     alloc: Global,
     session: &Session<E>,
@@ -33,6 +34,8 @@ pub fn write_journal<E: Engine<Step = Step, Reply = Reply>, W: CountedWrite>(
     ensures lines { OnOk result (AnswersItsActs E.act → AreLines Two session.now.kept) }
     // Out of memory, nothing was written.
     ensures out_of_memory { result ≡ Err WriteFault.OutOfMemory → W.contents writer.new ≡ W.contents writer.old }
+    ensures part { result ≡ Err WriteFault.Write
+        → AppendsPart (W.contents writer.old) (W.contents writer.new) (journal_of Two session.now.kept) }
     ensures flushed { OnOk result (W.is_flushed writer.new ≡ true) }
     // `Write` comes just where a write or the flush failed, or the millionth was interrupted.
     ensures tally { FailsWhere (result ≡ Err WriteFault.Write) (W.tally writer.old) (W.tally writer.new) }
@@ -57,6 +60,8 @@ fn write_entries<E: Engine<Step = Step, Reply = Reply>, W: CountedWrite>(
     requires empty { text.old.items ≡ [] }
     requires room { BUFFER ≤ vec_capacity text.old }
     ensures written { OnOk result (IsTextWritten (W.contents writer.old) (W.contents writer.new) text.new.items
+        (begun Two session.now.kept)) }
+    ensures part { OnErr result (AppendsPart (W.contents writer.old) (W.contents writer.new)
         (begun Two session.now.kept)) }
     ensures room { OnOk result (BUFFER ≤ vec_capacity text.new) }
     ensures fit { OnOk result (AreFit session.now.kept) }
@@ -83,8 +88,9 @@ fn make_room_for_line<W: CountedWrite>(
     requires { BUFFER ≤ vec_capacity text.old }
     ensures room { OnOk result (vec_len text.new + MAX_LINE ≤ vec_capacity text.new) }
     ensures capacity { OnOk result (BUFFER ≤ vec_capacity text.new) }
-    ensures written { OnOk result (Keeps (append_known (W.contents writer.old) text.old.items)
-        (append_known (W.contents writer.new) text.new.items)) }
+    ensures written { OnOk result (IsTextWritten (W.contents writer.old) (W.contents writer.new) text.new.items
+        text.old.items) }
+    ensures part { OnErr result (AppendsPart (W.contents writer.old) (W.contents writer.new) text.old.items) }
     ensures spent { OnOk result (Spends patience.old patience.new (W.tally writer.old) (W.tally writer.new)) }
     ensures exhausted { OnErr result (Exhausts patience.old (W.tally writer.old) (W.tally writer.new)) }
 {

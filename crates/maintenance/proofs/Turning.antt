@@ -1,11 +1,8 @@
 -- An act leaves the statistics and the count of steps to what comes round it.
-use Rattle.std.proofs.Common.{◌≡◌, ℕ, Some, refl}
+use Rattle.std.proofs.Common.{◌≡◌, ℕ, Some}
 use Rattle.step_record.specs.declared.step.Act.{Act}
 use Rattle.step_record.specs.declared.step.Reply.{Reply}
-use Rattle.shell_model.specs.declared.record.Change.{Change}
-use Rattle.shell_model.specs.declared.record.Change.TheVariants.{Nothing}
 use Rattle.shell_model.specs.Shell.{Shell, act_effect}
-use Rattle.shell_model.specs.Records.{before_change}
 use Rattle.shell_model.proofs.Making.{MakesTo, perform-makes}
 use Rattle.shell_model.proofs.Histories.{stats-step}
 use Rattle.shell_model.proofs.Bounding.{applied-step}
@@ -15,11 +12,3 @@ perform-stats w b x p e = let m : MakesTo w x b (Some p) = rw e at (perform-make
 
 pub perform-applied : (w : ℕ) (b : Act) (x : Shell) (p : Reply × Shell) → act_effect w b x ≡ Some p → p.1.applied ≡ x.applied
 perform-applied w b x p e = let m : MakesTo w x b (Some p) = rw e at (perform-makes w x b) in applied-step x w b p.0 p.1 m
-
-pub before_change-stats : (c : Change) (x : Shell) → (before_change c x).stats ≡ x.stats
-before_change-stats Nothing x = refl
-before_change-stats c x = refl
-
-pub before_change-applied : (c : Change) (x : Shell) → (before_change c x).applied ≡ x.applied
-before_change-applied Nothing x = refl
-before_change-applied c x = refl

@@ -1,12 +1,11 @@
 //! The shell as an engine.
-ghost use Rattle.std.specs.Prelude.{◌≡◌, ◌+◌, ◌<◌, ◌≤◌, ◌↔◌, Ok, Err, Some, None, IfOk, OnErr, length};
+ghost use Rattle.std.specs.Prelude.{◌≡◌, ◌<◌, ◌≤◌, Ok, Some, None, IfOk, length};
 ghost use Rattle.std.specs.Prelude.{option_map};
 ghost use Rattle.step_record.specs.declared.limits.TheConstants.{MAX_STRIPES};
 ghost use Rattle.step_record.specs.Config.{config_fault};
-ghost use Rattle.step_record.specs.Pace.{words_of_halvings};
 ghost use Rattle.segments.specs.Queues.{queue_of};
 ghost use Rattle.shell_buffers.specs.Buffers.{stripe_at};
-ghost use Rattle.shell_model.specs.Shell.{node_of, act as acted};
+ghost use Rattle.shell_model.specs.Shell.{node_of};
 ghost use Rattle.shell_model.specs.ReachableShell.{IsReachable};
 ghost use Rattle.maintenance.specs.EmptyShell.{IsOpened, holder_parts};
 
@@ -167,6 +166,7 @@ impl Shell {
 
 impl Engine for Shell {
     ghost use Rattle.shell_model.specs.Shell.{act};
+    ghost use Rattle.maintenance.specs.Performing.{MayAllocate};
     ghost use Rattle.shell_model.specs.Records.{undone_step, step_asks, record_size, shell_record_of};
     ghost use Rattle.shell_model.specs.ReachableShell.{ShellFits};
     ghost use Rattle.admission.specs.Frequency.{pace_of};
@@ -184,6 +184,10 @@ impl Engine for Shell {
 
     ghost act = { act };
 
+    ghost record_of = { shell_record_of };
+
+    ghost may_ask = { λ x s. MayAllocate s.act };
+
     ghost fits = { ShellFits };
 
     ghost undone = { undone_step };
@@ -196,17 +200,7 @@ impl Engine for Shell {
 
     ghost pace = { λ x. pace_of x.frequency };
 
-    fn apply(&mut self, step: &Step) -> Result<(Reply, ShellRecord), StepFault>
-        ensures accepted { IfOk result (λ r. acted self.old step.now ≡ Some (r.0, self.new)) }
-        ensures fits { IfOk result (λ r. ShellFits r.1 self.new) }
-        ensures undone { IfOk result (λ r. undone_step r.1 self.new ≡ self.old) }
-        ensures words { IfOk result (λ r. words_of_halvings (pace_of self.new.frequency)
-            ≡ words_of_halvings (pace_of (undone_step r.1 self.new).frequency) + record_size r.1) }
-        ensures not_now { result ≡ Err StepFault.NotNow ↔ acted self.old step.now ≡ None }
-        ensures err { OnErr result (self.new ≡ self.old) }
-        // The record is that of the step, from the shell before it, and nothing beside.
-        ensures record_is { IfOk result (λ r. r.1 ≡ shell_record_of step.now self.old) }
-    {
+    fn apply(&mut self, step: &Step) -> Result<(Reply, ShellRecord), StepFault> {
         self.core.apply(*step)
     }
 

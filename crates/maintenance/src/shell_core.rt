@@ -5,7 +5,7 @@ ghost use Rattle.shell_model.specs.Shell.{act_effect, act as acted};
 ghost use Rattle.shell_model.specs.Records.{change_of};
 ghost use Rattle.shell_model.specs.ShellStats.{AreAtMost, counted_of};
 ghost use Rattle.shell_model.specs.Consistency.{IsConsistent};
-ghost use Rattle.maintenance.specs.Performing.{IsPerformed};
+ghost use Rattle.maintenance.specs.Performing.{IsPerformed, MayAllocate};
 
 use crate::node_table::NodeTable;
 use admission::Frequency;
@@ -73,6 +73,7 @@ impl ShellCore {
         ensures counted { IfOk result (λ r. r.1.counted ≡ counted_of r.0) }
         ensures change { IfOk result (λ r. r.1.change ≡ change_of step.worker step.act self.old) }
         ensures not_now { result ≡ Err StepFault.NotNow ↔ acted self.old step ≡ None }
+        ensures memory { result ≡ Err StepFault.OutOfMemory → MayAllocate step.act }
         ensures err { OnErr result (self.new ≡ self.old) }
     {
         if self.applied >= MAX_STEPS {
@@ -98,6 +99,7 @@ impl ShellCore {
         ensures performed { IfOk result (λ o. IsPerformed worker act self.old o self.new) }
         // Memory is missing only for an act that may come now, and nothing has changed then.
         ensures err { OnErr result (IsSome (act_effect worker act self.old) × (self.new ≡ self.old)) }
+        ensures memory { OnErr result (MayAllocate act) }
     {
         match act {
             Act::Look { key } => Ok(Some((self.look(key), Change::Nothing))),

@@ -5,7 +5,7 @@ use Rattle.std.proofs.lemmas.Bool.{cases_Bool}
 use Rattle.step_record.specs.declared.job.Job.{Job}
 use Rattle.step_record.specs.declared.outcome.Outcome.{Outcome}
 use Rattle.step_record.specs.declared.outcome.Outcome.TheVariants.{Hit}
-use Rattle.step_record.specs.Stats.{stats_of}
+use Rattle.step_record.specs.Stats.{is_eviction, stats_of}
 use Rattle.clairvoyant.specs.Belady.{belady_outcomes, belady_outcome as outcome_at}
 use Rattle.clairvoyant.specs.Theorems.{ClairvoyantStepLaw, ClairvoyantAccepts}
 use Rattle.clairvoyant.specs.Clairvoyant.{ClairvoyantState, clairvoyant_at, clairvoyant_act}
@@ -16,8 +16,8 @@ use Rattle.policies.specs.Design.{knows_trace}
 use Rattle.policies.specs.AnyPolicy.{stats_on, IsBeladyAt}
 use Rattle.policies.specs.AnyStep.{as_queues, as_optimal}
 use Rattle.policies.specs.AnyCounts.{IsQueueStep, IsOptimalStep, queue_step, optimal_step}
-use Rattle.policies.specs.Theorems.{AnyStepLaw, AnyAccepts, AnyIsOne, AnyReports, AnyAnswers, AnyCoversTrace, AnyHitsKeepAll}
-use Rattle.policies.proofs.Leaving.{hits_keep_all}
+use Rattle.policies.specs.Theorems.{AnyStepLaw, AnyAccepts, AnyIsOne, AnyReports, AnyAnswers, AnyCoversTrace, AnyHitsKeepAll, AnyAsksWhereOneLeft}
+use Rattle.policies.proofs.Leaving.{hits_keep_all, asks-evicts, act-answers}
 use Rattle.policies.proofs.Counting.{after-counts}
 use Rattle.policies.proofs.Answered.{after-answers, after-length, at-answers, outcomes-length}
 use Rattle.policies.proofs.Reached.{act_stands, act_accepts, stands-accesses}
@@ -145,3 +145,9 @@ any_hits_keep_all (Queues d) k e h =
     let q : IsQueueStep (queue_act d k) Hit e = queue_step (queue_act d k) Hit e h in
     λ asks. asks (hits_keep_all d k q.next q.steps)
 any_hits_keep_all (Optimal d) k e h = λ asks. asks
+
+pub any_asks_where_one_left : AnyAsksWhereOneLeft
+any_asks_where_one_left j trace keys (Queues d) k o e s h asks =
+    let q : IsQueueStep (queue_act d k) o e = queue_step (queue_act d k) o e h in
+    ap is_eviction (sym (act-answers d k o q.next q.steps)) ∙ asks-evicts j keys d k s.1 asks
+any_asks_where_one_left j trace keys (Optimal d) k o e s h asks = absurd asks

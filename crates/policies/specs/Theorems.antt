@@ -1,15 +1,15 @@
 -- What the definitions of the policies promise to callers that see a cache by its steps alone.
-use Rattle.std.specs.Prelude.{◌≡◌, ℕ, ◌≤◌, Some, None, option_map, List, [], ◌∷◌, ◌++◌, length, slice_index_or}
+use Rattle.std.specs.Prelude.{◌≡◌, ℕ, ◌≤◌, true, Some, None, option_map, List, [], ◌∷◌, ◌++◌, length, slice_index_or}
 use Rattle.step_record.specs.declared.limits.TheConstants.{MAX_ACCESSES, MAX_STEPS}
 use Rattle.step_record.specs.declared.job.Job.{Job}
 use Rattle.step_record.specs.declared.job.Policy.TheVariants.{Lru}
 use Rattle.step_record.specs.declared.outcome.Outcome.{Outcome}
 use Rattle.step_record.specs.declared.outcome.Outcome.TheVariants.{Hit}
-use Rattle.step_record.specs.Stats.{stats_of}
+use Rattle.step_record.specs.Stats.{is_eviction}
 use Rattle.policies.specs.declared.any_policy.AnyPolicy.{AnyPolicy}
 use Rattle.policies.specs.Lru.{lru_residents, lru_outcome}
 use Rattle.policies.specs.SingleQueue.{single_queue}
-use Rattle.policies.specs.QueueCache.{QueueState, access_response, state_after, outcome_after, outcomes_after}
+use Rattle.policies.specs.QueueCache.{QueueState, access_response, state_after, outcome_after}
 use Rattle.policies.specs.QueueCache.{StandsFor}
 use Rattle.policies.specs.QueueStep.{recorded_in, queue_act, queue_record_of, IsReached}
 use Rattle.policies.specs.AnyPolicy.{HasAccessed, stats_in, stats_on, outcomes_on}
@@ -24,10 +24,6 @@ QueuesStepLaw = (j : Job) (keys : List ℕ) (d : QueueState) (k : ℕ) (o : Outc
 -- It refuses a key only after MAX_STEPS accesses.
 abbrev pub QueuesAccept : Type 0
 QueuesAccept = (d : QueueState) (k : ℕ) → queue_act d k ≡ None → d.stats.accesses ≡ MAX_STEPS
-
--- Its statistics are the counts of the outcomes.
-abbrev pub QueuesCount : Type 0
-QueuesCount = (j : Job) (keys : List ℕ) → (state_after j keys).stats ≡ stats_of (outcomes_after j keys)
 
 -- The record of a hit moves nothing out of the queues, so undoing a hit is never refused.
 abbrev pub HitsKeepAll : Type 0
@@ -82,3 +78,9 @@ AnyCoversTrace = (j : Job) (trace : List ℕ) → length (outcomes_on j trace) �
 abbrev pub AnyHitsKeepAll : Type 0
 AnyHitsKeepAll = (d : AnyPolicy) (k : ℕ) (e : AnyPolicy) → any_act d k ≡ Some (Hit, e)
     → any_asks (any_record_of k d) → ⊥
+
+-- Undoing an access of a cache of any policy, one that made some accesses before it, takes memory only where an item left
+-- in it.
+abbrev pub AnyAsksWhereOneLeft : Type 0
+AnyAsksWhereOneLeft = (j : Job) (trace keys : List ℕ) (d : AnyPolicy) (k : ℕ) (o : Outcome) (e : AnyPolicy)
+    → HasAccessed j trace keys d → any_act d k ≡ Some (o, e) → any_asks (any_record_of k d) → is_eviction o ≡ true

@@ -1,7 +1,6 @@
 //! All policies as one engine.
-ghost use Rattle.std.specs.Prelude.{◌≡◌, ◌+◌, ◌≤◌, ◌↔◌, IfOk, IfErr, IfSome, OnOk, OnErr};
+ghost use Rattle.std.specs.Prelude.{◌≡◌, ◌≤◌, ◌↔◌, IfOk, OnErr};
 ghost use Rattle.std.specs.Prelude.{Ok, Err, Some, None, [], option_map, length};
-ghost use Rattle.step_record.specs.declared.limits.TheConstants.{MAX_STEPS};
 
 use crate::design::{Design, design_of};
 use crate::queue_cache::{ByJob, QueueCache};
@@ -147,7 +146,6 @@ impl Engine for AnyPolicy {
     ghost use Rattle.policies.specs.AnyPolicy.{stats_in};
     ghost use Rattle.policies.specs.AnyStep.{any_act, any_record_of, MayAllocate, any_undone, any_asks, AnyFits};
     ghost use Rattle.policies.specs.AnyStep.{any_words, any_pace};
-    ghost use Rattle.step_record.specs.Pace.{words_of_halvings};
     ghost use Rattle.policies.specs.AnyCounts.{any_counts, any_ends, any_paced};
 
     type Step = Key;
@@ -162,6 +160,11 @@ impl Engine for AnyPolicy {
 
     ghost act = { any_act };
 
+    ghost record_of = { any_record_of };
+
+    // The optimal policy is never out of memory.
+    ghost may_ask = { λ d k. MayAllocate d };
+
     ghost fits = { AnyFits };
 
     ghost undone = { any_undone };
@@ -175,19 +178,7 @@ impl Engine for AnyPolicy {
     ghost pace = { any_pace };
 
     #[inline(always)]
-    fn apply(&mut self, step: &Key) -> Result<(Outcome, AnyRecord), StepFault>
-        ensures accepted { IfOk result (λ r. any_act self.old step.now ≡ Some (r.0, self.new)) }
-        ensures fits { IfOk result (λ r. AnyFits r.1 self.new) }
-        ensures undone { IfOk result (λ r. any_undone r.1 self.new ≡ self.old) }
-        ensures words { IfOk result (λ r. words_of_halvings (any_pace self.new)
-            ≡ words_of_halvings (any_pace (any_undone r.1 self.new)) + any_words r.1) }
-        ensures not_now { result ≡ Err StepFault.NotNow ↔ any_act self.old step.now ≡ None }
-        ensures err { OnErr result (self.new ≡ self.old) }
-        // The record is that of an access to this key, from the cache before it, and nothing beside.
-        ensures record_is { IfOk result (λ r. r.1 ≡ any_record_of step.now self.old) }
-        // The optimal policy is never out of memory.
-        ensures memory { result ≡ Err StepFault.OutOfMemory → MayAllocate self.old }
-    {
+    fn apply(&mut self, step: &Key) -> Result<(Outcome, AnyRecord), StepFault> {
         match self {
             AnyPolicy::Queues(cache) => match cache.apply(step) {
                 Ok((outcome, done)) => Ok((outcome, AnyRecord::Queues(done))),
@@ -200,14 +191,7 @@ impl Engine for AnyPolicy {
         }
     }
 
-    fn undo(&mut self, done: AnyRecord) -> Result<(), AnyRecord>
-        requires { AnyFits done self.old }
-        ensures ok { OnOk result (self.new ≡ any_undone done self.old) }
-        ensures err { OnErr result (self.new ≡ self.old) }
-        ensures returned { IfErr result (λ r. r ≡ done) }
-        // Only an item that left queues asks for room to come back.
-        ensures asks { OnErr result (any_asks done) }
-    {
+    fn undo(&mut self, done: AnyRecord) -> Result<(), AnyRecord> {
         match self {
             AnyPolicy::Queues(cache) => match done {
                 AnyRecord::Queues(done) => match cache.undo(done) {
@@ -233,10 +217,7 @@ impl Engine for AnyPolicy {
         }
     }
 
-    fn words(done: &AnyRecord) -> u64
-        ensures words { result ≡ any_words done.now }
-        ensures bounded { result ≤ MAX_STEPS }
-    {
+    fn words(done: &AnyRecord) -> u64 {
         match done {
             AnyRecord::Queues(done) => QueueCache::<ByJob>::words(done),
             AnyRecord::Optimal(_) => 0,

@@ -1,9 +1,8 @@
 //! The policies of queues, as one engine.
 ghost use Rattle.std.specs.Prelude.{◌≡◌, ◌≢◌, ◌+◌, ◌≤◌, ◌<◌, ◌↔◌, [], ◌++◌, option_map, map, length, false};
-ghost use Rattle.std.specs.Prelude.{IfOk, IfErr, OnOk, OnErr, Ok, Option, Some, None};
+ghost use Rattle.std.specs.Prelude.{IfOk, OnOk, OnErr, Ok, Option, Some, None};
 ghost use Rattle.step_record.specs.declared.limits.TheConstants.{MAX_STEPS};
 ghost use Rattle.step_record.specs.Config.{config_fault};
-ghost use Rattle.step_record.specs.Pace.{words_of_halvings};
 ghost use Rattle.replacement.specs.Shape.{shape_of};
 ghost use Rattle.policies.specs.declared.design.Design.TheVariants.{Queues};
 ghost use Rattle.policies.specs.Design.{design_of};
@@ -11,7 +10,7 @@ ghost use Rattle.policies.specs.QueueCache.{frequency_by};
 ghost use Rattle.policies.specs.QueueStep.{recorded_in, counting_record, unrecorded, FitsCounting};
 ghost use Rattle.policies.specs.QueueFields.{FewHalvings};
 
-use crate::design::{FixedDesign, QueueDesign};
+use crate::design::{FixedDesign, Layout, QueueDesign};
 use crate::record::AccessRecord;
 use admission::{FreqRecord, Frequency, KeptCounting};
 use replacement::{KeptMoves, Rules, access, open_frequency, undo};
@@ -154,6 +153,7 @@ impl<P: Drop> QueueCache<P> {
         let rules = design.fixed(&self.rules);
         let effect = access::<D>(&mut self.segments, frequency, &rules, item);
         self.stats.count(effect.outcome);
+        prepare_victim(design, &mut self.frequency, &self.segments, effect.outcome);
         Ok(effect.outcome)
     }
 
@@ -208,6 +208,11 @@ impl<P: Drop> Engine for QueueCache<P> {
 
     ghost act = { queue_act };
 
+    ghost record_of = { queue_record_of };
+
+    // Room for an item is made before it is known whether the access needs any.
+    ghost may_ask = { λ d k. Unit {0} };
+
     ghost fits = { QueueFits };
 
     ghost undone = { queue_undone };
@@ -221,17 +226,7 @@ impl<P: Drop> Engine for QueueCache<P> {
     ghost pace = { queue_pace };
 
     #[inline(always)]
-    fn apply(&mut self, step: &Key) -> Result<(Outcome, AccessRecord), StepFault>
-        ensures accepted { IfOk result (λ r. queue_act self.old step.now ≡ Some (r.0, self.new)) }
-        ensures fits { IfOk result (λ r. QueueFits r.1 self.new) }
-        ensures undone { IfOk result (λ r. queue_undone r.1 self.new ≡ self.old) }
-        ensures words { IfOk result (λ r. words_of_halvings (queue_pace self.new)
-            ≡ words_of_halvings (queue_pace (queue_undone r.1 self.new)) + queue_words r.1) }
-        ensures not_now { result ≡ Err StepFault.NotNow ↔ queue_act self.old step.now ≡ None }
-        ensures err { OnErr result (self.new ≡ self.old) }
-        // The record is that of an access to this key, from the cache before it, and nothing beside.
-        ensures record_is { IfOk result (λ r. r.1 ≡ queue_record_of step.now self.old) }
-    {
+    fn apply(&mut self, step: &Key) -> Result<(Outcome, AccessRecord), StepFault> {
         let key = *step;
         make_room(&self.stats, &mut self.segments)?;
         let Ok(counting) = record_in(&mut self.frequency, key) else {
@@ -249,14 +244,7 @@ impl<P: Drop> Engine for QueueCache<P> {
         Ok((effect.outcome, record))
     }
 
-    fn undo(&mut self, done: AccessRecord) -> Result<(), AccessRecord>
-        requires { QueueFits done self.old }
-        ensures ok { OnOk result (self.new ≡ queue_undone done self.old) }
-        ensures err { OnErr result (self.new ≡ self.old) }
-        ensures returned { IfErr result (λ r. r ≡ done) }
-        // Only an item that left asks for room to come back.
-        ensures asks { OnErr result (queue_asks done) }
-    {
+    fn undo(&mut self, done: AccessRecord) -> Result<(), AccessRecord> {
         let moves = done.moves.moves();
         if moves.out.is_some() && self.segments.reserve().is_err() {
             return Err(done);
@@ -276,10 +264,7 @@ impl<P: Drop> Engine for QueueCache<P> {
         self.stats.accesses
     }
 
-    fn words(done: &AccessRecord) -> u64
-        ensures words { result ≡ queue_words done.now }
-        ensures bounded { result ≤ MAX_STEPS }
-    {
+    fn words(done: &AccessRecord) -> u64 {
         done.counting.words()
     }
 
@@ -369,6 +354,40 @@ fn frequency_where(counts_keys: bool, frequency: &Option<Frequency>) -> Option<&
         frequency.as_ref()
     } else {
         None
+    }
+}
+
+// Prepares the frequency, where keys are counted, for the next victim of an admission, once a miss in a full cache has
+// decided on one. What it is asked of is then the same key for as long as it is not evicted.
+#[inline(always)]
+fn prepare_victim(
+    design: QueueDesign,
+    frequency: &mut Option<Frequency>,
+    segments: &Segments,
+    outcome: Outcome,
+)
+    ensures { frequency.new ≡ frequency.old }
+{
+    if !design.counts_keys || !is_of_full_cache(outcome) {
+        return;
+    }
+    let queue = match design.layout {
+        Layout::OneQueue => Queue::Window,
+        Layout::TwoQueues | Layout::ThreeQueues => Queue::Probation,
+    };
+    if let Some(frequency) = frequency {
+        if let Some(victim) = segments.oldest(queue) {
+            frequency.prepare(victim.key);
+        }
+    }
+}
+
+// Whether an access was a miss in a full cache.
+#[inline(always)]
+fn is_of_full_cache(outcome: Outcome) -> bool {
+    match outcome {
+        Outcome::Evicted(_) | Outcome::Rejected(_) => true,
+        Outcome::Hit | Outcome::Kept => false,
     }
 }
 

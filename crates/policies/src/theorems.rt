@@ -2,8 +2,8 @@
 //! nothing: its contract is the theorem.
 ghost use Rattle.policies.specs.Residents.{ResidentsFit, ResidentsDistinct, ResidentsCounted};
 ghost use Rattle.policies.specs.Residents.{HitsAreResidents, FetchesOnDemand, StatsAddUp, MissesFit};
-ghost use Rattle.policies.specs.Theorems.{QueuesStepLaw, QueuesAccept, QueuesCount, HitsKeepAll, RecordsShowLeaver};
-ghost use Rattle.policies.specs.Theorems.{LruStepLaw, AnyHitsKeepAll};
+ghost use Rattle.policies.specs.Theorems.{QueuesStepLaw, QueuesAccept, HitsKeepAll, RecordsShowLeaver};
+ghost use Rattle.policies.specs.Theorems.{LruStepLaw, AnyHitsKeepAll, AnyAsksWhereOneLeft};
 ghost use Rattle.policies.specs.Theorems.{AnyStepLaw, AnyAccepts, AnyIsOne, AnyReports, AnyAnswers, AnyCoversTrace};
 
 /// An accepted step of a cache of queues answers what the definition gives over the whole list of accesses, and leaves
@@ -15,11 +15,6 @@ pub fn queues_step_law()
 /// A cache of queues refuses a key only after 2^32 accesses.
 pub fn queues_accept()
     ensures { QueuesAccept }
-{}
-
-/// The statistics of a cache of queues are the counts of its outcomes.
-pub fn queues_count()
-    ensures { QueuesCount }
 {}
 
 /// The undo record of a hit moves nothing out of the queues, so undoing a hit is never refused.
@@ -114,4 +109,9 @@ pub fn stats_add_up()
 /// The misses of a job minus its evictions are at most its capacity.
 pub fn misses_fit()
     ensures { MissesFit }
+{}
+
+/// Undoing an access of a cache of any policy asks for room only where an item left in it, so no other is ever refused.
+pub fn any_asks_where_one_left()
+    ensures { AnyAsksWhereOneLeft }
 {}

@@ -1,7 +1,8 @@
 //! What feeds the actors of a run, and how far they are.
-ghost use Rattle.std.specs.Prelude.{◌≡◌, ◌+◌, ◌-◌, ◌*◌, ◌<◌, ◌≤◌, IfOk, IfSome, OnErr, OnOk, length, take, drop};
+ghost use Rattle.std.specs.Prelude.{◌≡◌, ◌+◌, ◌-◌, ◌*◌, ◌<◌, ◌≤◌, IfOk, IfSome, IsTrue, OnErr, OnOk, length, map, take, drop};
 ghost use Rattle.step_record.specs.declared.limits.TheConstants.{MAX_ACCESSES};
-ghost use Rattle.policy_actors.specs.Lumps.{AreAt};
+ghost use Rattle.policy_actors.specs.Lumps.{AreAt, batches_of};
+ghost use Rattle.policy_actors.specs.Rounds.{AreSentInTurn};
 
 use crate::lump::{BatchSize, FedTrace, Lump};
 use crate::mail::Outbox;
@@ -32,7 +33,7 @@ pub struct Feeder<'b, S: FedTrace, W: Wait> {
     pub alloc: Global,
     ends: Vec<Outbox<S>>,
     size: BatchSize<S>,
-    // How many batches all actors are through with, counted together. Nothing but the pace of feeding goes by it.
+    // Batches finished by all actors together. It only paces the feeding.
     finished: &'b AtomicU64,
     // How many accesses were taken.
     pub place: usize,
@@ -87,7 +88,9 @@ impl<'b, S: FedTrace, W: Wait> Feeder<'b, S, W> {
     pub fn give(&mut self, accesses: Trace, is_end: bool)
         requires few { self.old.place + length accesses ≤ MAX_ACCESSES }
         requires next { IfSome S.known (λ all. AreAt all self.old.place is_end accesses) }
-        ensures { self.new.place ≡ self.old.place + length accesses }
+        ensures place { self.new.place ≡ self.old.place + length accesses }
+        ensures turn { IsTrue self.new.is_open → AreSentInTurn (batches_of (length accesses) self.old.size.accesses)
+            (map (λ o. o.sent) self.old.ends.items) (map (λ o. o.sent) self.new.ends.items) }
     {
         let place = self.place;
         self.place += accesses.len();
@@ -101,11 +104,13 @@ impl<'b, S: FedTrace, W: Wait> Feeder<'b, S, W> {
         };
         let batches = rounds.saturating_mul(self.ends.len() as u64);
         self.sent = self.sent.saturating_add(batches);
-        let mut ends = LumpEnds {
+        let mut fed = LumpEnds {
             lump,
-            ends: &mut self.ends,
+            ends: mem::replace(&mut self.ends, Vec::new(self.alloc)),
         };
-        self.is_open = feed_in_rounds(self.rt, &mut ends, rounds);
+        self.is_open = feed_in_rounds(self.rt, &mut fed, rounds);
+        let LumpEnds { lump: _, ends } = fed;
+        self.ends = ends;
     }
 
     // How many batches to give now, of so many accesses that were read: whole ones, with an access behind them.
@@ -139,19 +144,18 @@ fn take_front(alloc: Global, keys: &mut Vec<Key>, len: usize) -> Result<Vec<Key>
 
 // The ends, with the lump from which they are given their next batches.
 #[derive(Drop)]
-struct LumpEnds<'e, S: FedTrace> {
+struct LumpEnds<S: FedTrace> {
     lump: Lump<S>,
-    ends: &'e mut Vec<Outbox<S>>,
+    ends: Vec<Outbox<S>>,
 }
 
-impl<'e, S: FedTrace> BatchEnds for LumpEnds<'e, S> {
-    ghost use Rattle.std.specs.Prelude.{◌≡◌, ◌+◌, length, map, slice_set, slice_index};
+impl<S: FedTrace> BatchEnds for LumpEnds<S> {
+    ghost use Rattle.std.specs.Prelude.{length, map};
+    ghost use Rattle.policy_actors.specs.Rounds.{IsSentOne};
 
-    ghost ends = { λ e. length e.ends.now.items };
+    ghost ends = { λ e. length e.ends.items };
 
-    // one more batch was sent to the end with this index, and as many as before to the others
-    ghost given = { λ e i f. map (λ o. o.sent) f.ends.now.items
-        ≡ slice_set (map (λ o. o.sent) e.ends.now.items) i (slice_index (map (λ o. o.sent) e.ends.now.items) i + 1) };
+    ghost given = { λ e i f. IsSentOne (map (λ o. o.sent) e.ends.items) i (map (λ o. o.sent) f.ends.items) };
 
     fn count(&self) -> usize {
         self.ends.len()

@@ -4,7 +4,7 @@ ghost use Rattle.std.specs.Arc.{arc_value};
 ghost use Rattle.std.proofs.Props.{props};
 ghost use Rattle.step_record.specs.declared.limits.TheConstants.{MAX_ACCESSES};
 ghost use Rattle.policy_actors.specs.ChannelProtocol.{IsBatch};
-ghost use Rattle.policy_actors.specs.Lumps.{AreAt};
+ghost use Rattle.policy_actors.specs.Lumps.{AreAt, batches_of};
 
 use crate::channel_protocol::Batch;
 use std::alloc::{AllocError, Global};
@@ -58,6 +58,7 @@ impl<S: FedTrace> BatchSize<S> {
 
     /// How many batches so many accesses make: the last one may be shorter, and no accesses are one empty batch.
     pub fn batches(&self, accesses: usize) -> usize
+        ensures exact { result ≡ batches_of accesses self.now.accesses }
         ensures all { accesses ≤ result * self.now.accesses }
         ensures some { 0 < result }
     {

@@ -13,7 +13,7 @@ use std::alloc::{AllocError, Global};
 use std::sync::Wait;
 
 // The most batches that wait in a channel. At the size that the program has by default these are four million accesses,
-// 32 MiB that all actors share: so far can one be behind before it holds up the feeder and the others. All places are
+// 32 MiB that all actors share: an actor can lag that far before the feeder waits for it. All places are
 // written when the channel is made, 0.07 ms for a thousand.
 const MAX_WAITING: usize = 4096;
 

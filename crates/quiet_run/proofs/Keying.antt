@@ -26,9 +26,6 @@ module _ (n : ℕ) where
 abbrev pub Lacks : ℕ → List ℕ → List ℕ → List Outcome → Entries → Type 0
 Lacks n all ks os es = (ps : List Outcome) (rest : Entries) → AreQuietWalks n ks ps rest → AreQuietWalks n all (os ++ ps) (es ++ rest)
 
-pub none_yet : (n : ℕ) (all : List ℕ) (os : List Outcome) → os ≡ [] → Lacks n all all os []
-none_yet n all os e ps rest h = subst (λ (x : List Outcome). AreQuietWalks n all (x ++ ps) rest) (sym e) h
-
 pub one_key : (n : ℕ) (all ks more : List ℕ) (k : ℕ) (os : List Outcome) (o : Outcome) → ks ≡ k ∷ more → (a b : Entries) → Lacks n all ks os a → IsQuietWalk n k b → o ≡ outcome_from outcome.Kept b
     → Lacks n all more (os ++ o ∷ []) (a ++ b)
 one_key n all ks more k os o e a b f h g ps rest m =

@@ -45,17 +45,6 @@ times-nodeless : (i : Item) (l : List Item) → IsAlike i l → occurrences (nod
 times-nodeless i [] a = refl
 times-nodeless i (x ∷ l) a = rw (a.0, times-nodeless i l a.1) refl
 
-alike-without : (i j : Item) (l : List Item) → IsAlike i l → IsAlike i (items_without j l)
-alike-without i j [] a = tt
-alike-without i j (x ∷ l) a =
-    elim (cases_Bool (is_same_item j x)) as (λ _. IsAlike i (cond (is_same_item j x) (items_without j l) (x ∷ items_without j l))) [
-      | inl e ↦ rw e (alike-without i j l a.1)
-      | inr e ↦ rw e (a.0, alike-without i j l a.1)
-    ]
-
-pub alike-taken : (i j : Item) (q : Queues) → AreAlike i q → AreAlike i (queues_without j q)
-alike-taken i j q a = record { window = alike-without i j q.window a.window; probation = alike-without i j q.probation a.probation; protected = alike-without i j q.protected a.protected }
-
 pub place-nodeless : (i : Item) (q : Queues) → AreAlike i q → queue_holding (nodeless i) (nodeless_queues q) ≡ queue_holding i q
 place-nodeless i q a = rw (times-nodeless i q.window a.window, times-nodeless i q.probation a.probation, times-nodeless i q.protected a.protected) refl
 

@@ -7,7 +7,7 @@ use Rattle.segments.specs.Items.{oldest_of}
 use Rattle.segments.specs.Queues.{Queues, queue_of, queue_holding, queues_after_push, queues_without, queues_after_move, queues_after_pop, IsDistinct}
 use Rattle.segments.specs.Moves.{move_record}
 use Rattle.segments.proofs.MoveLaws.{Leads, move_leads, out_leads}
-use Rattle.segments.proofs.QueueLists.{absent, is_absent, absent-taken, taken-absent, distinct-taken, distinct-put, put-last, taken-first}
+use Rattle.segments.proofs.QueueLists.{absent, absent-taken, taken-absent, distinct-taken, distinct-put, put-last, taken-first}
 use Rattle.replacement.specs.declared.record.Moves.{Moves}
 use Rattle.replacement.specs.Plan.{Transfer, Plan}
 use Rattle.replacement.specs.PlanMoves.{queues_after_transfer, removed, queues_after, transfer_record, removal_record, moves_of, undone_by, undone_moves, FitsBy, needed_by, FitsMoves}
@@ -24,9 +24,6 @@ pushed-moved i q s h = ap (queues_after_push q i) (sym (taken-absent i s (absent
 -- the oldest item leaves a queue
 pub popped-taken : (q : Queue) (i : Item) (s : Queues) → IsDistinct s → oldest_of (queue_of q s) ≡ Some i → queues_after_pop q s ≡ queues_without i s
 popped-taken q i s d h = sym (taken-first q i s d h)
-
-pub taken-place : (i : Item) (s : Queues) → queue_holding i (queues_without i s) ≡ None
-taken-place i s = is_absent i (queues_without i s) (absent-taken i s)
 
 -- a part of a plan
 record Part (r : Option MoveRecord) (s t : Queues) : Type 0 where

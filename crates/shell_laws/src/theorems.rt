@@ -1,6 +1,7 @@
 //! Laws of every list of steps. Each of these functions does nothing: its contract is the theorem.
 ghost use Rattle.shell_laws.specs.Capacity.{CapacityLaw};
 ghost use Rattle.shell_laws.specs.Evictions.{EvictionLaw};
+ghost use Rattle.shell_laws.specs.Holding.{HolderLaw};
 ghost use Rattle.shell_laws.specs.Maintenance.{MaintenanceLaw};
 ghost use Rattle.shell_laws.specs.Sharpness.{SharpnessLaw};
 
@@ -18,6 +19,11 @@ pub fn evictions_shorten()
 /// A maintenance takes no more items out of the window than it applied tasks.
 pub fn maintenance_is_bounded()
     ensures { MaintenanceLaw }
+{}
+
+/// In every reachable state a worker holds the maintenance exactly where the drain state is ToIdle or ToRequired.
+pub fn holders_drain()
+    ensures { HolderLaw }
 {}
 
 /// Every configuration reaches the bounds of the queues and of the table, after each number of tasks, so neither can be

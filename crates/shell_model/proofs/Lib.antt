@@ -8,7 +8,6 @@ pub mod Making
 pub mod Histories
 pub mod Holding
 pub mod Reached
-pub mod Seating
 pub mod Bounding
 pub mod Engines
 pub mod Striped

@@ -1,5 +1,5 @@
 -- What a step makes of the state, one case for each reply.
-use Rattle.std.proofs.Common.{◌≡◌, ℕ, ◌+◌, ◌-◌, ◌<◌, Bool, true, false, cond, ◌&&◌, eqb, nat_lt, Option, Some, None, List, [], ◌∷◌, ◌++◌, length, set, refl, arith, inl, inr}
+use Rattle.std.proofs.Common.{◌≡◌, ℕ, ◌+◌, ◌-◌, ◌<◌, Bool, true, false, ◌&&◌, eqb, nat_lt, Option, Some, None, List, [], ◌∷◌, ◌++◌, length, set, refl, arith, inl, inr}
 use Rattle.std.proofs.lemmas.Bool.{and_parts, cases_Bool}
 use Rattle.std.proofs.lemmas.Bool.Decides.{nat_tests}
 use Rattle.step_record.specs.declared.item.Item.{Item}
@@ -20,7 +20,7 @@ use Rattle.shell_buffers.specs.declared.task.Task.TheVariants.{Add, Update, Remo
 use Rattle.shell_model.specs.declared.holder.Holder.{Holder}
 use Rattle.shell_model.specs.Frequency.{frequency_recorded}
 use Rattle.shell_buffers.specs.Buffers.{stripe_at}
-use Rattle.shell_model.specs.Shell.{Shell, node_of, table_with, queues_cleared, look_reply, offer_effect, put_effect, put_at, removing, remove_at, after_read, after_write, begin_effect, is_over, held_by, in_phase, shell_after_touch, drain_read, drain_write, evict_effect, drain_at_end, end_effect, some_if, may_read, may_write, is_stripe, hold_read, hold_write, hold_evict, hold_end, act_effect}
+use Rattle.shell_model.specs.Shell.{Shell, node_of, table_with, queues_cleared, look_reply, offer_effect, put_effect, put_at, removing, remove_at, after_read, after_write, begin_effect, is_over, in_phase, shell_after_touch, drain_read, drain_write, evict_effect, drain_at_end, end_effect, some_if, may_read, may_write, is_stripe, hold_read, hold_write, hold_evict, hold_end, act_effect}
 use Rattle.shell_model.specs.ShellEviction.{shift_effect, leave, Evicts}
 use Rattle.shell_model.specs.ShellEviction as evicts
 use Rattle.shell_model.proofs.Evicting.{evictions-by-reply}

@@ -124,9 +124,6 @@ zeros (suc n) (suc i) = zeros n i
 pub nibble_zero : (n i : ℕ) → nibble (get_or {A = ℕ} (replicate n 0) (i / 16) 0) (i % 16) ≡ 0
 nibble_zero n i = rw (zeros n (i / 16)) (zero_nibble (i % 16))
 
-pub counter_at_lt : (ws : List ℕ) (i : ℕ) → nibble (get_or ws (i / 16) 0) (i % 16) < 16
-counter_at_lt ws i = nibble_lt (i % 16) (get_or ws (i / 16) 0)
-
 -- words of the same digits
 pub same_digits : (k x y : ℕ) → x < 2 ^ (4 * k) → y < 2 ^ (4 * k) → ((n : ℕ) → n < k → nibble x n ≡ nibble y n) → x ≡ y
 unfolding nibble

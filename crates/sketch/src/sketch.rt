@@ -1,8 +1,9 @@
 //! Four rows of counters up to 15.
-ghost use Rattle.std.specs.Prelude.{◌≡◌, ◌<◌, ◌≤◌, ◌*◌, min, slice_index, IfOk, OnOk, OnErr};
+ghost use Rattle.std.specs.Prelude.{◌≡◌, ◌<◌, ◌≤◌, ◌*◌, min, slice_index, ℕ, IfOk, OnOk, OnErr};
 ghost use Rattle.std.specs.Int.{IsPowerOfTwo};
 ghost use Rattle.step_record.specs.declared.limits.TheConstants.{MAX_CAPACITY};
 ghost use Rattle.step_record.specs.Places.{by_place};
+ghost use Rattle.sketch.specs.Columns.{column as column_of};
 ghost use Rattle.sketch.specs.Sketch.{counter as counter_of, touched_table, halved_table, least_counter as least_of};
 ghost use Rattle.sketch.specs.TouchRecord.{touch_record_of, table_before_touch, FitsTouch};
 ghost use Rattle.sketch.specs.HalveRecord.{halve_record_of, table_before_halving, FitsHalve};
@@ -29,6 +30,9 @@ pub struct Sketch {
     // touch came, or where anything was undone or halved since.
     last: Key,
     last_least: Option<u8>,
+    // The key that was prepared last, whose least is asked for again and again, and its columns.
+    prepared: Key,
+    prepared_columns: [u32; 4],
 }
 
 impl Model for Sketch {
@@ -36,6 +40,7 @@ impl Model for Sketch {
     ghost use Rattle.sketch.specs.Sketch.{Table, least_counter as least_of};
     ghost use Rattle.step_record.specs.Places.{by_place};
     ghost use Rattle.sketch.specs.Counters.{counter_at};
+    ghost use Rattle.sketch.specs.Columns.{column as column_of};
     ghost use Rattle.std.specs.Int.{IsPowerOfTwo};
     ghost use Rattle.step_record.specs.declared.limits.TheConstants.{MAX_CAPACITY};
 
@@ -55,7 +60,7 @@ impl Model for Sketch {
           spread = s.spread;
           counters = by_place (4 * s.width)
               (counter_at s.words.items);
-        }) };
+        }) × (s.prepared_columns ≡ by_place 4 (λ row. column_of s.spread s.prepared row s.width)) };
 }
 
 impl Sketch {
@@ -76,6 +81,8 @@ impl Sketch {
             alloc,
             last: 0,
             last_least: None,
+            prepared: 0,
+            prepared_columns: columns(spread, 0, width),
         })
     }
 
@@ -159,6 +166,17 @@ impl Sketch {
         unhalve_words(&mut self.words, done.lost.as_words());
     }
 
+    /// Works out what the least of the key's counters is read by, and keeps it until another key is prepared. Changes
+    /// nothing that a caller can see.
+    pub fn prepare(&mut self, key: Key)
+        ensures { self.new ≡ self.old }
+    {
+        if key != self.prepared {
+            self.prepared = key;
+            self.prepared_columns = columns(self.spread, key, self.width);
+        }
+    }
+
     /// The least of the key's four counters.
     pub fn least(&self, key: Key) -> u8
         ensures value { result ≡ least_of key self.now }
@@ -175,12 +193,25 @@ impl Sketch {
         ensures value { result ≡ least_of key self.now }
         ensures small { result ≤ 15 }
     {
-        let columns = columns(self.spread, key, self.width);
+        let columns = self.columns_of(key);
         let a = self.count(0, columns[0]);
         let b = self.count(1, columns[1]);
         let c = self.count(2, columns[2]);
         let d = self.count(3, columns[3]);
         least_of_four([a, b, c, d]) as u8
+    }
+
+    // The key's column in each row.
+    #[inline(always)]
+    fn columns_of(&self, key: Key) -> [u32; 4]
+        ensures value { result ≡ by_place 4 (λ row. column_of self.now.spread key row self.now.width) }
+        ensures below { (row : ℕ) → row < 4 → slice_index result row < self.now.width }
+    {
+        if key == self.prepared {
+            self.prepared_columns
+        } else {
+            columns(self.spread, key, self.width)
+        }
     }
 }
 

@@ -1,5 +1,6 @@
 //! What became of the calls of a reader or a writer.
-ghost use Rattle.std.specs.Prelude.{◌≡◌};
+ghost use Rattle.std.specs.Prelude.{◌≡◌, ◌≢◌, ◌<◌, ◌-◌, ◌^◌, ◌⊎◌};
+ghost use Rattle.std.specs.IoError.{error_kind};
 ghost use Rattle.streams.specs.Tally.{CountsError, no_calls};
 
 use std::io::{Error, ErrorKind};
@@ -27,7 +28,9 @@ impl Tally {
     // Counts the error of a call, and returns it. The interruption that can no longer be counted,
     // the 2^64th, is a failure of kind `Other`.
     pub(crate) fn count(&mut self, error: Error) -> Error
-        ensures { CountsError result self.old self.new }
+        ensures counts { CountsError result self.old self.new }
+        ensures given { (error_kind error ≢ ErrorKind.Interrupted) ⊎ (self.old.interruptions < 2 ^ 64 - 1)
+            → result ≡ error }
     {
         let is_interruption = error.kind() == ErrorKind::Interrupted;
         if is_interruption && self.interruptions < u64::MAX {

@@ -4,7 +4,7 @@ use Rattle.std.specs.Option.{option_or}
 use Rattle.std.specs.Prelude.{ℕ, ◌+◌, ◌*◌, Bool, true, false, if◌then◌else◌, cond, nat_le, Option, Some, None, List, [], ◌∷◌, ◌++◌, length, map}
 use Rattle.step_record.specs.declared.job.Job.{Job}
 use Rattle.step_record.specs.declared.job.Policy.{Policy}
-use Rattle.step_record.specs.declared.job.Policy.TheVariants.{Lru, SegmentedLru, TinyLfuLru, TinyLfuSegmented, WindowTinyLfu, Clairvoyant}
+use Rattle.step_record.specs.declared.job.Policy.TheVariants.{Lru}
 use Rattle.step_record.specs.declared.limits.TheConstants.{MAX_BATCH}
 use Rattle.policies.specs.declared.job_checks.TheConstants.{MAX_ACTORS}
 use Rattle.policies.specs.declared.actor_fault.ActorFault.{ActorFault}
@@ -28,14 +28,10 @@ sweep_fault jobs capacities = cond (nat_le (length jobs) MAX_ACTORS) (first_conf
 
 -- ---- the gate of a sweep
 
--- a report of Lru makes no access one by one
+-- a report of Lru makes no access one by one, and that of each other policy does
 abbrev pub is_gated_policy : Policy → Bool
 is_gated_policy Lru = false
-is_gated_policy SegmentedLru = true
-is_gated_policy TinyLfuLru = true
-is_gated_policy TinyLfuSegmented = true
-is_gated_policy WindowTinyLfu = true
-is_gated_policy Clairvoyant = true
+is_gated_policy _ = true
 
 abbrev pub gated_jobs : List Job → ℕ
 gated_jobs [] = 0

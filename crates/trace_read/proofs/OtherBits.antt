@@ -125,11 +125,6 @@ marks_past bytes from to others skipped marks =
 pub marks_behind : (bytes : List ℕ) (from to others : ℕ) → MarksOthers bytes from to others → MarksOthers bytes (from + 1) to (others / 2)
 marks_behind bytes from to others marks = marks_past bytes from to others 1 marks
 
--- bits that are left were there
-pub some_before : (others skipped : ℕ) → 0 < others / 2 ^ skipped → 0 < others
-some_before zero skipped some = absurd (omega (arith, some, none_after skipped))
-some_before (suc others) skipped some = omega arith
-
 -- where no bit is left, all bytes are digits
 pub none_left : (bytes : List ℕ) (start from to : ℕ) → from ≤ to → to ≤ length bytes → DigitsBetween bytes start from → MarksOthers bytes from to 0 → DigitsBetween bytes start to
 none_left bytes start from to inside within none marks k low high = elim (cases_lt k from) [

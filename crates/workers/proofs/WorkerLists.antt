@@ -46,11 +46,6 @@ counts_same [] (y ∷ ys) lo e same h = absurd (omega arith)
 counts_same (x ∷ xs) [] lo e same h = absurd (omega arith)
 counts_same (x ∷ xs) (y ∷ ys) lo e same h = (same 0 x (omega arith) ∙ h.0, counts_same xs ys (suc lo) (omega arith) (λ i d lt. same (suc i) d (omega arith)) h.1)
 
-pub counts_at : (xs : List WorkerState) (lo k : ℕ) (d : WorkerState) → AreNumbered lo xs → k < length xs → (get_or xs k d).worker ≡ lo + k
-counts_at [] lo k d h lt = absurd (omega arith)
-counts_at (x ∷ xs) lo zero d h lt = let e = h.0 in omega arith
-counts_at (x ∷ xs) lo (suc k) d h lt = let e = counts_at xs (suc lo) k d h.1 (omega arith) in omega arith
-
 -- each worker's number is below their count
 pub every_below : (xs : List WorkerState) (n : ℕ) → AreNumbered 0 xs → length xs ≡ n → Every (λ d. d.worker < n) xs
 every_below xs n c e = go xs 0 c (omega arith)

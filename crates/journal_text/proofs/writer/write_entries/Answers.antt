@@ -6,10 +6,16 @@ use Rattle.journal_text.specs.Journal.{begun, ended_line, entry_line, header}
 use Rattle.journal_text.specs.Table.{entry_words, FitWords}
 use Rattle.journal_text.specs.TextBuffer.{AreFit}
 use Rattle.journal_text.specs.declared.version.Version.TheVariants.{Two}
+use Rattle.std.specs.Prelude.{OnErr, Result, Ok, Err}
 use Rattle.streams.proofs.Tallies.{further, unspent}
-use Rattle.journal_text.proofs.Fronts.{begun_more, begun_none}
-use Rattle.journal_text.proofs.Written.{gathered, passed, started}
+use Rattle.streams.specs.Part.{AppendsPart}
+use Rattle.journal_text.proofs.Fronts.{begun_front, begun_more, begun_none}
+use Rattle.journal_text.proofs.Written.{broken, gathered, part_of_more, passed, started}
 use Rattle.journal_text.proofs.writer.write_entries.Goals as goal
+
+on_err : {X Y : Type 0} {P : Type 0} (r : Result X Y) → P → OnErr r P
+on_err (Ok x) p = tt
+on_err (Err e) p = p
 
 taken : {A : Type 0} (xs : List A) (n : ℕ) (x : A) → slice_get xs n ≡ Some x → take (suc n) xs ≡ take n xs ++ x ∷ []
 taken [] n x h = absurd (cc)
@@ -49,6 +55,16 @@ loop-n-preserved g c =
       spent = further _ _ _ _ _ _ c.loop-n.invariant.spent c.in_ok-make_room_for_line.ensures.spent;
       fit = subst AreFit (sym next) (All-push (λ e. FitWords (entry_words e)) front e c.loop-n.invariant.fit c.push_entry_line.ensures.fit);
     }
+
+pub returns-in_err-make_room_for_line-clause-part : goal.returns-in_err-make_room_for_line-clause-part
+returns-in_err-make_room_for_line-clause-part g c =
+    let kept = c.args.session.now.kept in
+    let n = c.loop-n.n in
+    let old = g.W.CountedWrite.contents c.args.writer.now in
+    let mid = g.W.CountedWrite.contents c.loop-n.writer in
+    let new = g.W.CountedWrite.contents c.make_room_for_line.new.writer in
+    let part = broken old mid new c.loop-n.text.items (begun Two (take n kept)) c.loop-n.invariant.written c.in_err-make_room_for_line.ensures.part in
+    on_err c.from_residual.result (subst (AppendsPart old new) (sym (begun_front Two n kept)) (part_of_more old new (begun Two (take n kept)) _ part))
 
 pub returns-clause-fit : goal.returns-clause-fit
 returns-clause-fit g c = grind (arith, common_steps)

@@ -4,7 +4,7 @@ use Rattle.clairvoyant.specs.Clairvoyant.{ClairvoyantState}
 use Rattle.clairvoyant.specs.OptimalRecord.{outcome_of, record_at}
 use Rattle.clairvoyant.proofs.Records.{outcome-is}
 use Rattle.clairvoyant.proofs.Reached.{reached-held}
-use Rattle.clairvoyant.proofs.Applying.{next-keeping, next-accepted, next-stands, next-undone, next-fits}
+use Rattle.clairvoyant.proofs.Applying.{next-keeping, next-accepted, next-undone, next-fits}
 use Rattle.clairvoyant.proofs.clairvoyant.ClairvoyantEngine.apply.Goals as goal
 
 pub overflow_sub-held : goal.overflow_sub-held
@@ -32,11 +32,6 @@ pub returns-clause-undone : goal.returns-clause-undone
 returns-clause-undone c =
     let s = c.self.inside in
     next-undone s.core.capacity s.core.uses s.stats c.count.new.self c.outcome-outcome.result (omega (arith, c.if-place-len.false, c.len.ensures.len)) c.self.invariant.reached (c.outcome-outcome.ensures ∙ ap outcome_of c.serve-record.ensures.record ∙ outcome-is s.core.capacity s.core.uses s.stats.accesses) c.count.ensures c.serve-record.result c.serve-record.ensures.record ∙ c.self.view_is
-
-pub returns-clause-stands : goal.returns-clause-stands
-returns-clause-stands c =
-    let s = c.self.inside in
-    next-stands s.core.capacity s.core.uses s.stats c.count.new.self c.outcome-outcome.result (omega (arith, c.if-place-len.false, c.len.ensures.len)) c.self.invariant.reached (c.outcome-outcome.ensures ∙ ap outcome_of c.serve-record.ensures.record ∙ outcome-is s.core.capacity s.core.uses s.stats.accesses) c.count.ensures c.args.self.now c.self.view_is
 
 pub returns-clause-record_is : goal.returns-clause-record_is
 returns-clause-record_is c =

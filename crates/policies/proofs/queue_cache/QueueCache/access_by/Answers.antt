@@ -1,8 +1,8 @@
-use Rattle.std.proofs.Common.{rules, ◌≡◌, false, None, ap, sym, ◌∙◌}
+use Rattle.std.proofs.Common.{rules, ◌≡◌, ap, sym, ◌∙◌}
 use Rattle.std.specs.Option.{option_map}
 use Rattle.policies.specs.declared.design.Design.TheVariants.{Queues}
 use Rattle.policies.specs.declared.design.QueueDesign.{QueueDesign}
-use Rattle.policies.specs.Design.{design_of, counts_in, is_counting}
+use Rattle.policies.specs.Design.{design_of, counts_in}
 use Rattle.policies.specs.QueueStep.{recorded_in}
 use Rattle.policies.proofs.Reached.{reached-halvings, reached-small, reached-uncounted, access-reached}
 use Rattle.policies.proofs.queue_cache.QueueCache.access_by.Goals as goal
@@ -27,12 +27,12 @@ count-requires g c = reached-small _ c.self.invariant.reached
 
 pub invariant_of-self-2 : goal.invariant_of-self-2
 invariant_of-self-2 g c =
-    let seen : option_map (λ f. f.now) c.frequency_where-frequency.result ≡ c.count_where.new.frequency = search rules in
+    let seen : option_map (λ f. f.now) c.frequency_where-frequency.result ≡ c.prepare_victim.new.frequency = search rules in
     let same : c.fixed-rules.result ≡ c.self.inside.rules = search rules in
     record {
       rules = c.self.invariant.rules;
       reached = access-reached c.self.inside.job c.self.inside.rules c.self.inside.segments.lists c.make_room.new.segments.lists c.access-effect.new.segments.lists
-          c.self.inside.frequency c.count_where.new.frequency c.self.inside.stats c.count.new.self c.args.key c.access-effect.result
-          c.self.invariant.rules c.self.invariant.reached c.in_ok-make_room.ensures.below c.make_room.ensures.lists c.in-Ok.ensures.after
+          c.self.inside.frequency c.prepare_victim.new.frequency c.self.inside.stats c.count.new.self c.args.key c.access-effect.result
+          c.self.invariant.rules c.self.invariant.reached c.in_ok-make_room.ensures.below c.make_room.ensures.lists (c.prepare_victim.ensures ∙ c.in-Ok.ensures.after)
           (rw (seen, same) at c.access-effect.ensures.outcome) (rw (seen, same) at c.access-effect.ensures.lists) c.count.ensures;
     }

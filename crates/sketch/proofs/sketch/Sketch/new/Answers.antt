@@ -11,7 +11,7 @@ invariant_of-result c =
     let p = c.requires.power in
     let m : c.args.width ≡ 16 * (c.args.width / 16) = rw p.1 (sixteenth p.0 (let low = rw p.1 at c.requires.low in low)) in
     let n : length c.in_ok-words.words.items ≡ c.args.width / 4 = omega (arith, c.in_ok-words.words.ok.0, c.in_ok-words.ensures.len) in
-    (c.requires.low, c.requires.high, omega (arith, n, m), m, p, tt)
+    (c.requires.low, c.requires.high, omega (arith, n, m), m, p, tt, c.columns.ensures.value)
 
 pub returns : goal.returns
 returns c =

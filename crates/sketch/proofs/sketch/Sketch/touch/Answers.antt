@@ -41,6 +41,7 @@ invariant_of-self c =
       c.self.invariant.4,
       kept_is c.self.inside.width c.self.inside.spread some c.args.key (counter_at c.self.inside.words.items) c.columns-columns.result c.columns-columns.ensures.value c.raise_rows-were.result were _ _ after
           (rw (← c.least_of_four.ensures) (ap (λ n. n + 1) c.min-least.ensures)),
+      c.self.invariant.6,
     )
 
 pub returns-clause-fits : goal.returns-clause-fits

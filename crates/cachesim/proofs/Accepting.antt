@@ -1,0 +1,76 @@
+-- Configurations that are accepted give no fault of jobs.
+use Rattle.std.proofs.Common.{◌≡◌, ◌≤◌, ◌+◌, refl, Bool, true, false, ℕ, List, [], ◌∷◌, length, map, subst, Option, None, Result, Ok, Err}
+use Rattle.std.specs.List.{AllPass}
+use Rattle.std.specs.Prelude.{IfErr, if◌then◌else◌}
+use Rattle.std.proofs.lemmas.List.Elements.{All-head, All-tail}
+use Rattle.std.proofs.lemmas.Bool.{le-leb}
+use Rattle.step_record.specs.Config.{config_fault, is_from_one}
+use Rattle.step_record.specs.declared.config.Config.{Config}
+use Rattle.step_record.specs.declared.job.Job.{Job}
+use Rattle.step_record.specs.declared.job.Policy.{Policy}
+use Rattle.step_record.specs.declared.config.ConfigFault.{ConfigFault}
+use Rattle.step_record.specs.declared.config.ConfigFault.TheVariants.{Capacity}
+use Rattle.step_record.specs.declared.limits.TheConstants.{MAX_BATCH, MAX_CAPACITY}
+use Rattle.policies.specs.FaultyJobs.{at_capacity, faulty_from, faulty_in, ReturnsFault}
+use Rattle.policies.specs.declared.actor_fault.ActorFault.{ActorFault}
+use Rattle.policies.specs.declared.actor_fault.ActorFault.TheVariants.{OutOfMemory}
+use Rattle.sweeps.specs.Sweep.{first_config_fault, sweep_fault}
+use Rattle.policy_actors.specs.Faults.{actor_fault}
+use Rattle.sweeps.specs.Intervals.{intervals_fault}
+use Rattle.policies.specs.declared.job_checks.TheConstants.{MAX_ACTORS}
+use Rattle.command_line.specs.Accepted.{IsAcceptedPart, IsAcceptedRun, IsAcceptedSweep}
+use Rattle.command_line.specs.declared.arguments.PartArguments.{PartArguments}
+use Rattle.command_line.specs.declared.arguments.RunArguments.{RunArguments}
+use Rattle.command_line.specs.declared.arguments.SweepArguments.{SweepArguments}
+use Rattle.cachesim.specs.TraceOutput.{jobs_by_policy}
+
+no_fault : (config : Config) (i : ℕ) (policies : List Policy) → config_fault config ≡ Ok tt → faulty_from i (jobs_by_policy config policies) ≡ None
+no_fault config i [] ok = refl
+no_fault config i (policy ∷ policies) ok = rw ok (no_fault config (i + 1) policies ok)
+
+in_batch : (batch : ℕ) → 1 ≤ batch → batch ≤ MAX_BATCH → is_from_one MAX_BATCH batch ≡ true
+in_batch batch some few = rw (le-leb 1 batch some, le-leb batch MAX_BATCH few) refl
+
+-- a configuration that is accepted is so at each capacity that is
+or_else : (b : Bool) (x : Result (Unit {0}) ConfigFault) (e : ConfigFault) → (if b then x else Err e) ≡ Ok tt → x ≡ Ok tt
+or_else true x e h = h
+or_else false x e h = absurd (cc h)
+
+at_other : (config : Config) (c : ℕ) → config_fault config ≡ Ok tt → is_from_one MAX_CAPACITY c ≡ true → config_fault (record config { capacity = c }) ≡ Ok tt
+at_other config c ok fits = rw fits (or_else (is_from_one MAX_CAPACITY config.capacity) _ Capacity ok)
+
+at_each : (job : Job) (i : ℕ) (cs : List ℕ) → config_fault job.config ≡ Ok tt → AllPass (is_from_one MAX_CAPACITY) cs → faulty_from i (map (at_capacity job) cs) ≡ None
+at_each job i [] ok all = refl
+at_each job i (c ∷ cs) ok all =
+    rw (at_other job.config c ok (All-head (λ n. is_from_one MAX_CAPACITY n ≡ true) c cs all)) (at_each job (i + 1) cs ok (All-tail (λ n. is_from_one MAX_CAPACITY n ≡ true) c cs all))
+
+no_config_fault : (config : Config) (policies : List Policy) (cs : List ℕ) → config_fault config ≡ Ok tt → AllPass (is_from_one MAX_CAPACITY) cs
+    → first_config_fault (jobs_by_policy config policies) cs ≡ None
+no_config_fault config [] cs ok all = refl
+no_config_fault config (policy ∷ policies) cs ok all =
+    rw (at_each (record { policy = policy; config = config }) 0 cs ok all) (no_config_fault config policies cs ok all)
+
+-- so the jobs of an accepted `sweep` have no fault, if they are not too many
+pub can_sweep : (sweep : SweepArguments) (jobs : List Job) (capacities : List ℕ) → IsAcceptedSweep sweep → jobs ≡ jobs_by_policy sweep.config sweep.policies
+    → capacities ≡ sweep.capacities → length jobs ≤ MAX_ACTORS → sweep_fault jobs capacities ≡ None
+can_sweep sweep jobs capacities accepted is same few =
+    rw (le-leb (length jobs) MAX_ACTORS few, is, same) (no_config_fault sweep.config sweep.policies sweep.capacities accepted.config accepted.capacities)
+
+-- so those of an accepted `intervals` have none
+pub can_count : (config : Config) (policies : List Policy) (jobs : List Job) → config_fault config ≡ Ok tt → jobs ≡ jobs_by_policy config policies
+    → length jobs ≤ MAX_ACTORS → intervals_fault jobs ≡ None
+can_count config policies jobs ok is few = rw (le-leb (length jobs) MAX_ACTORS few, is) (no_fault config 0 policies ok)
+
+-- and those of an accepted `run` can be run, if they are not too many
+pub can_run : (run : RunArguments) (jobs : List Job) → IsAcceptedRun run → jobs ≡ jobs_by_policy run.config run.policies → length jobs ≤ MAX_ACTORS
+    → actor_fault run.batch jobs ≡ None
+can_run run jobs accepted is few =
+    rw (in_batch run.batch accepted.some accepted.few) (can_count run.config run.policies jobs accepted.config is few)
+
+-- and the two of an accepted `part` have no fault
+pub pair_accepted : (part : PartArguments) → IsAcceptedPart part → faulty_in (part.first ∷ part.second ∷ []) ≡ None
+pair_accepted part accepted = rw (accepted.first, accepted.second) refl
+
+-- where no fault is due, the one that came is out of memory
+pub memory_alone : {A : Type 0} (due : Option ActorFault) (r : Result A ActorFault) → due ≡ None → ReturnsFault due r → IfErr r (λ f. f ≡ OutOfMemory)
+memory_alone due r none h = subst (λ (d : Option ActorFault). ReturnsFault d r) none h

@@ -1,0 +1,62 @@
+use Rattle.std.proofs.Common.{◌≡◌, ◌∙◌, ap, subst, ℕ, Bool, List, [], ◌++◌, Option, length, refl, true, false, Err}
+use Rattle.std.specs.Prelude.{IfSome}
+use Rattle.std.proofs.lemmas.List.{append-nil}
+use Rattle.std.proofs.lemmas.Option.{IfSome_then}
+use Rattle.step_record.specs.declared.config.Config.{Config}
+use Rattle.step_record.specs.declared.step.Reply.{Reply}
+use Rattle.step_record.specs.declared.step.Step.{Step}
+use Rattle.shell_model.specs.Shell.{Shell, act}
+use Rattle.journal.specs.Session.{SessionState}
+use Rattle.journal_text.specs.Journal.{IsJournalText}
+use Rattle.debug_commands.specs.Dialogue.{dialogue_of, WritesDialogue}
+use Rattle.debug_replay.specs.Replay.{replay_timeline}
+use Rattle.cachesim.specs.DebugOutput.{IsReplayed}
+use Rattle.cachesim.specs.DriveOutput.{IsEmptySession}
+use Rattle.cachesim.specs.FaultCauses.{IsFoundInFile, IsOfReplay}
+use Rattle.cachesim.proofs.Found.{answers_left, err_is, known_text, of_dialogue, of_text, past_limit}
+use Rattle.cachesim.proofs.debug.replay_in.Goals as goal
+
+-- what a session of an empty cache holds that read the journal and answered the commands
+replayed : (all : Bool) (config : Config) (journal : List ℕ) (input before after : Option (List ℕ)) (first now : SessionState Shell Shell Step Reply) (position : ℕ)
+    → IsEmptySession config first → IsJournalText act first.opening first.limit journal now.kept → now.opening ≡ first.opening → now.tail ≡ []
+    → IfSome input (λ commands. WritesDialogue (dialogue_of (replay_timeline now.opening (now.kept ++ now.tail)) (length now.kept) commands) all before after position)
+    → IsReplayed all config journal input before after
+replayed all config journal input before after first now position empty read same none h = record {
+  opening = first.opening;
+  opened = empty.opened;
+  steps = now.kept;
+  journal = subst (λ l. IsJournalText act first.opening l journal now.kept) empty.limit read;
+  answers = IfSome_then input h (λ commands writes. (
+    position,
+    subst (λ o. WritesDialogue (dialogue_of (replay_timeline o now.kept) (length now.kept) commands) all before after position) same
+        (subst (λ es. WritesDialogue (dialogue_of (replay_timeline now.opening es) (length now.kept) commands) all before after position) (ap (λ t. now.kept ++ t) none ∙ append-nil now.kept) writes),
+  ));
+}
+
+pub returns-clause-done : goal.returns-clause-done
+returns-clause-done g c =
+    let has = known_text (g.F.Files.known c.args.files.now) c.as_str.result.now c.args.arguments.now.journal c.in_ok-bytes.bytes.items c.as_slice.result.now
+    c.as_str.ensures c.in_ok-bytes.ensures.bytes c.as_slice.ensures.value in
+    of_text _ c.as_slice.result.now _ has (replayed true c.args.arguments.now.config c.as_slice.result.now (g.R.CountedRead.remaining c.args.input.now) _ _
+    c.args.session.now c.read_journal.new.session (length c.run_replay.new.session.kept) c.requires
+    c.in_ok-read_journal.ensures.ok c.read_journal.ensures.opening c.read_journal.ensures.tail c.in_ok-run_replay.ensures.done)
+
+pub returns-in_err-run_replay-clause-leaves : goal.returns-in_err-run_replay-clause-leaves
+returns-in_err-run_replay-clause-leaves g c =
+    let has = known_text (g.F.Files.known c.args.files.now) c.as_str.result.now c.args.arguments.now.journal c.in_ok-bytes.bytes.items c.as_slice.result.now
+    c.as_str.ensures c.in_ok-bytes.ensures.bytes c.as_slice.ensures.value in
+    err_is _ c.from_residual-in_err-run_replay.result _ c.from_residual-in_err-run_replay.ensures.1 (answers_left _ _ _
+    (λ same. of_text _ c.as_slice.result.now _ has (replayed false c.args.arguments.now.config c.as_slice.result.now (g.R.CountedRead.remaining c.args.input.now) _ _
+    c.args.session.now c.read_journal.new.session (length c.run_replay.new.session.kept) c.requires
+    c.in_ok-read_journal.ensures.ok c.read_journal.ensures.opening c.read_journal.ensures.tail (c.in_err-run_replay.ensures.large (ap Err same)))))
+
+pub returns-in_err-run_replay-clause-fault : goal.returns-in_err-run_replay-clause-fault
+returns-in_err-run_replay-clause-fault g c =
+    let commands = g.R.CountedRead.remaining c.args.input.now in
+    let file = g.F.Files.known c.args.files.now c.args.arguments.now.journal in
+    let has = known_text (g.F.Files.known c.args.files.now) c.as_str.result.now c.args.arguments.now.journal c.in_ok-bytes.bytes.items c.as_slice.result.now
+    c.as_str.ensures c.in_ok-bytes.ensures.bytes c.as_slice.ensures.value in
+    err_is _ c.from_residual-in_err-run_replay.result _ c.from_residual-in_err-run_replay.ensures.1
+    (of_dialogue (IsFoundInFile file (IsOfReplay c.args.arguments.now.config commands)) commands _
+    (λ h. of_text file c.as_slice.result.now _ has (c.args.session.now.opening, c.requires.opened, (refl, h))) (λ i same. c.in_err-run_replay.ensures.config i (ap Err same))
+    (λ same. IfSome_then commands (c.in_err-run_replay.ensures.large (ap Err same)) (λ bytes writes. past_limit _ _ bytes writes.fits)))

@@ -1,0 +1,29 @@
+use Rattle.std.proofs.Common.{◌≡◌, ◌∙◌, ap, arith, rules, length, List, None}
+use Rattle.std.proofs.lemmas.List.{length-map}
+use Rattle.std.proofs.lemmas.Option.{IfSome_then}
+use Rattle.step_record.specs.declared.job.Job.{Job}
+use Rattle.step_record.specs.declared.job.Policy.{Policy}
+use Rattle.trace_read.specs.TraceText.{keys_in}
+use Rattle.policy_actors.specs.Faults.{actor_fault}
+use Rattle.report.specs.Text.{reports_text}
+use Rattle.cachesim.specs.TraceOutput.{reports_on}
+use Rattle.cachesim.proofs.Accepting.{can_run}
+use Rattle.cachesim.proofs.texts.run.Goals as goal
+
+pub run_reading-reports-requires : goal.run_reading-reports-requires
+run_reading-reports-requires g c =
+    let jobs = c.as_slice.ensures.value ∙ c.in_ok-jobs.ensures in
+    let few = ap (λ (l : List Job). length l) jobs ∙ length-map c.args.arguments.now.policies _ in
+    let can : actor_fault c.args.arguments.now.batch c.as_slice.result.now ≡ None = can_run c.args.arguments.now c.as_slice.result.now c.requires jobs
+    (omega (arith, few, ap (λ (l : List Policy). length l) c.as_slice-policies.ensures)) in
+    search rules
+
+pub returns-clause-text : goal.returns-clause-text
+returns-clause-text g c =
+    let format = c.args.arguments.now.format in
+    let input = g.R.CountedRead.remaining c.args.input.now in
+    let jobs = c.as_slice.ensures.value ∙ c.in_ok-jobs.ensures in
+    let text = c.in_ok-reports_text.ensures ∙ ap reports_text c.as_slice-2.ensures.value in
+    let sound = IfSome_then input c.in_ok-reports.ensures.read.ok (λ bytes h. h.1) in
+    let made = IfSome_then input c.in_ok-reports.ensures.reports (λ bytes is. text ∙ ap reports_text (is ∙ ap (λ (js : List Job). reports_on js (keys_in format bytes)) jobs)) in
+    search (rules, sound, made)

@@ -1,0 +1,27 @@
+-- What a fault of a lower crate is to the program.
+use Rattle.streams.specs.declared.WriteFault.{WriteFault}
+use Rattle.streams.specs.declared.WriteFault.TheVariants as write
+use Rattle.journal_text.specs.declared.fault.JournalFault.{JournalFault}
+use Rattle.journal_text.specs.declared.fault.JournalFault.TheVariants as reading
+use Rattle.debug_commands.specs.declared.fault.DebugFault.{DebugFault}
+use Rattle.debug_commands.specs.declared.fault.DebugFault.TheVariants as debug
+use Rattle.cachesim.specs.declared.files.FileFault.{FileFault}
+use Rattle.cachesim.specs.declared.files.FileFault.TheVariants as file
+use Rattle.cachesim.specs.declared.fault.Fault.{Fault}
+use Rattle.cachesim.specs.declared.fault.Fault.TheVariants.{Debug, Journal, NoFile, OutOfMemory, Write}
+
+abbrev pub of_write : WriteFault → Fault
+of_write write.OutOfMemory = OutOfMemory
+of_write write.Write = Write
+
+abbrev pub of_file : FileFault → Fault
+of_file file.OutOfMemory = OutOfMemory
+of_file file.NoFile = NoFile
+
+abbrev pub of_reading : JournalFault → Fault
+of_reading reading.OutOfMemory = OutOfMemory
+of_reading other = Journal other
+
+abbrev pub of_debug : DebugFault → Fault
+of_debug debug.OutOfMemory = OutOfMemory
+of_debug other = Debug other

@@ -1,0 +1,59 @@
+-- What the program has done at its end, by status.
+use Rattle.std.specs.Prelude.{◌≡◌, ◌⊎◌, ℕ, true, List, Option, Ok, Err, codes}
+use Rattle.std.specs.Io.KnownBytes.{Appends}
+use Rattle.clap.specs.Words.{IsAmong, Kinds, Text}
+use Rattle.clap.specs.declared.error.ErrorKind.{ErrorKind}
+use Rattle.clap.specs.declared.error.ErrorKind.TheVariants.{DisplayHelp, DisplayVersion}
+use Rattle.command_line.specs.ParseResult.{AsksFor, IsRefused}
+use Rattle.command_line.specs.declared.arguments.Arguments.{Arguments}
+use Rattle.command_line.specs.declared.arguments.Arguments.TheVariants as asked
+use Rattle.command_line.specs.declared.fault.ParseFault.{ParseFault}
+use Rattle.command_line.specs.declared.fault.ParseFault.TheVariants as parse
+use Rattle.streams.specs.declared.tally.Tally.{Tally}
+use Rattle.cachesim.specs.FaultLine.{WritesLine}
+use Rattle.cachesim.specs.DebugOutput.{Debugging, KnownFiles, Replaying}
+use Rattle.cachesim.specs.DriveOutput.{IsDriven}
+use Rattle.cachesim.specs.TraceOutput.{IsTextOf}
+
+-- What these arguments ask for is done: `drive` has written the journal of its workers' walks in an empty cache; `debug`
+-- and `replay` have answered the commands of the input about the trace or the journal of the file; and each other has
+-- written the text that it asks for.
+abbrev pub IsDone : Arguments → KnownFiles → Option (List ℕ) → Option (List ℕ) → Option (List ℕ) → Type 0
+IsDone (asked.Drive drive) files input before after =
+    IsDriven drive.config drive.workers drive.format input before after
+IsDone (asked.Debug debug) files input before after = Debugging true debug.policies.format debug.policies.first
+    debug.policies.second (files debug.trace) input before after
+IsDone (asked.Replay replay) files input before after =
+    Replaying true replay.config (files replay.journal) input before after
+IsDone arguments files input before after =
+    (text : List ℕ) × IsTextOf arguments input text × Appends before after text
+
+-- the words ask for these arguments, and P holds of them
+abbrev pub AsksForSome : List Text → (Arguments → Type 0) → Type 0
+AsksForSome words P = (arguments : Arguments) × AsksFor words (Ok arguments) × P arguments
+
+abbrev pub is_help : ErrorKind → Type 0
+is_help kind = (kind ≡ DisplayHelp) ⊎ (kind ≡ DisplayVersion)
+
+-- one of the kinds of error is of help or the version, and one that is not
+abbrev pub AsksHelp : Kinds → Type 0
+AsksHelp kinds = (kind : ErrorKind) × is_help kind × IsAmong kind kinds
+
+abbrev pub RefusesWords : Kinds → Type 0
+RefusesWords kinds = (kind : ErrorKind) × (¬ is_help kind) × IsAmong kind kinds
+
+-- status 0: the words are taken, and what they ask for is done, or they ask for help
+abbrev pub DoneBy : List Text → KnownFiles → Option (List ℕ) → Option (List ℕ) → Option (List ℕ) → Type 0
+DoneBy words files input before after =
+    AsksForSome words (λ arguments. IsDone arguments files input before after) ⊎ IsRefused words AsksHelp
+
+-- the line of arguments that are incomplete
+abbrev pub usage_line : ParseFault → List ℕ
+usage_line parse.Stripes = codes "fault: Stripes\n"
+usage_line fault = codes "error: a policy or a number is missing\n"
+
+-- Status 2: the words are refused by clap, or taken and incomplete: they lack a number in its range or a known policy, or
+-- their number of read buffers is not a power of two from 1 to 64.
+abbrev pub RefusedBy : List Text → Tally → Tally → Option (List ℕ) → Option (List ℕ) → Type 0
+RefusedBy words old new silent line = IsRefused words RefusesWords
+    ⊎ ((fault : ParseFault) × AsksFor words (Err fault) × WritesLine old new silent line (usage_line fault))

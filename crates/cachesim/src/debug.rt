@@ -1,0 +1,99 @@
+//! The subcommands `debug` and `replay`: commands on the input, about what a file has.
+ghost use Rattle.std.specs.Prelude.{◌≡◌, true, IfErr, Ok, OnOk};
+ghost use Rattle.command_line.specs.Accepted.{IsAcceptedPart};
+ghost use Rattle.command_line.specs.declared.arguments.Arguments.TheVariants.{Debug, Replay};
+ghost use Rattle.step_record.specs.Config.{config_fault};
+ghost use Rattle.streams.specs.Tally.{FailsWhere};
+ghost use Rattle.cachesim.specs.CallFaults.{IsOfRead, IsOfWrite};
+ghost use Rattle.cachesim.specs.DriveOutput.{IsEmptySession};
+ghost use Rattle.cachesim.specs.FaultCauses.{IsDue, Leaves};
+ghost use Rattle.cachesim.specs.Outcome.{IsDone};
+
+use crate::drive::open;
+use crate::fault::Fault;
+use crate::files::Files;
+use command_line::{DebugArguments, ReplayArguments};
+use debug_policies::run_debug;
+use debug_replay::run_replay;
+use journal::Session;
+use journal_text::read_journal;
+use maintenance::Shell;
+use std::alloc::Global;
+use streams::{CountedRead, CountedWrite};
+use trace_read::read_trace;
+
+/// Reads the trace of the file, and answers the commands of the input about the two policies over
+/// it, each at once.
+pub fn debug<R: CountedRead, W: CountedWrite, F: Files>(
+    alloc: Global,
+    arguments: &DebugArguments,
+    input: &mut R,
+    out: &mut W,
+    files: &F,
+) -> Result<(), Fault>
+    requires { IsAcceptedPart arguments.now.policies }
+    ensures done { OnOk result (IsDone (Debug arguments.now) (F.known files.now) (R.remaining input.old)
+        (W.contents out.old) (W.contents out.new)) }
+    ensures leaves { IfErr result (λ fault. Leaves (Debug arguments.now) (F.known files.now) fault
+        (R.remaining input.old) (W.contents out.old) (W.contents out.new) (out.new ≡ out.old)) }
+    ensures fault { IfErr result (IsDue (Debug arguments.now) (F.known files.now) (R.remaining input.old)) }
+    ensures reads { FailsWhere (IsOfRead result) (R.tally input.old) (R.tally input.new) }
+    ensures writes { FailsWhere (IsOfWrite result) (W.tally out.old) (W.tally out.new) }
+    ensures flushed { OnOk result (W.is_flushed out.new ≡ true) }
+{
+    let bytes = files.bytes(alloc, arguments.trace.as_str())?;
+    let policies = &arguments.policies;
+    let trace = read_trace(alloc, &mut bytes.as_slice(), policies.format)?;
+    run_debug(alloc, &trace, &policies.first, &policies.second, input, out)?;
+    Ok(())
+}
+
+/// Reads the journal of the file into a session of an empty cache, and answers the commands of the
+/// input about it, each at once.
+pub fn replay<R: CountedRead, W: CountedWrite, F: Files>(
+    alloc: Global,
+    arguments: &ReplayArguments,
+    input: &mut R,
+    out: &mut W,
+    files: &F,
+) -> Result<(), Fault>
+    requires { config_fault arguments.now.config ≡ Ok tt }
+    ensures done { OnOk result (IsDone (Replay arguments.now) (F.known files.now) (R.remaining input.old)
+        (W.contents out.old) (W.contents out.new)) }
+    ensures leaves { IfErr result (λ fault. Leaves (Replay arguments.now) (F.known files.now) fault
+        (R.remaining input.old) (W.contents out.old) (W.contents out.new) (out.new ≡ out.old)) }
+    ensures fault { IfErr result (IsDue (Replay arguments.now) (F.known files.now) (R.remaining input.old)) }
+    ensures reads { FailsWhere (IsOfRead result) (R.tally input.old) (R.tally input.new) }
+    ensures writes { FailsWhere (IsOfWrite result) (W.tally out.old) (W.tally out.new) }
+    ensures flushed { OnOk result (W.is_flushed out.new ≡ true) }
+{
+    let mut session = open(alloc, &arguments.config)?;
+    let answered = replay_in(alloc, arguments, &mut session, input, out, files);
+    drop(session);
+    answered
+}
+
+// The same in a session of an empty cache.
+fn replay_in<R: CountedRead, W: CountedWrite, F: Files>(
+    alloc: Global,
+    arguments: &ReplayArguments,
+    session: &mut Session<Shell>,
+    input: &mut R,
+    out: &mut W,
+    files: &F,
+) -> Result<(), Fault>
+    requires { IsEmptySession arguments.now.config session.old }
+    ensures done { OnOk result (IsDone (Replay arguments.now) (F.known files.now) (R.remaining input.old)
+        (W.contents out.old) (W.contents out.new)) }
+    ensures leaves { IfErr result (λ fault. Leaves (Replay arguments.now) (F.known files.now) fault
+        (R.remaining input.old) (W.contents out.old) (W.contents out.new) (out.new ≡ out.old)) }
+    ensures fault { IfErr result (IsDue (Replay arguments.now) (F.known files.now) (R.remaining input.old)) }
+    ensures reads { FailsWhere (IsOfRead result) (R.tally input.old) (R.tally input.new) }
+    ensures writes { FailsWhere (IsOfWrite result) (W.tally out.old) (W.tally out.new) }
+    ensures flushed { OnOk result (W.is_flushed out.new ≡ true) }
+{
+    let bytes = files.bytes(alloc, arguments.journal.as_str())?;
+    read_journal(alloc, &mut bytes.as_slice(), session)?;
+    run_replay(alloc, session, input, out)?;
+    Ok(())
+}

@@ -1,0 +1,42 @@
+//! The limits that the documents name, and the statuses, by their values: where one is changed, its line here is no
+//! longer proved.
+ghost use Rattle.std.specs.Prelude.{◌≡◌};
+ghost use Rattle.cachesim.specs.declared.fault_report.TheConstants.{DONE, FAULT, REFUSED};
+
+use crate::files::MAX_FILE_BYTES;
+use debug_commands::{MAX_BREAKPOINTS, MAX_COMMAND_BYTES};
+use journal_text::MAX_JOURNAL_BYTES;
+use policies::MAX_ACTORS;
+use shell_buffers::{MAX_ITEMS, MAX_TASKS};
+use step_record::{
+    MAX_ACCESSES, MAX_BATCH, MAX_CAPACITY, MAX_JOURNAL_LIMIT, MAX_MAIN_PERCENT, MAX_STEPS,
+    MAX_STRIPES, MAX_TRACE_BYTES, MAX_WORKERS,
+};
+use streams::INTERRUPTIONS;
+use turn_book::MAX_TURNS;
+
+const _: () = prove!(
+    MAX_CAPACITY == 1_048_576
+        && MAX_MAIN_PERCENT == 99
+        && MAX_STRIPES == 64
+        && MAX_ITEMS == 16
+        && MAX_TASKS == 128
+        && MAX_TURNS == 4_294_967_296
+        && MAX_JOURNAL_LIMIT == 16_777_216
+        && MAX_STEPS == 4_294_967_296
+        && MAX_WORKERS == 64
+        && MAX_ACTORS == 64
+        && MAX_BATCH == 65_536
+        && MAX_ACCESSES == 16_777_216
+        && MAX_TRACE_BYTES == 1_073_741_824
+        && MAX_FILE_BYTES == 1_073_741_824
+        && MAX_JOURNAL_BYTES == 1_073_741_824
+        && MAX_COMMAND_BYTES == 1_048_576
+        && MAX_BREAKPOINTS == 64
+        && INTERRUPTIONS == 1_000_000
+);
+
+// The statuses.
+fn statuses()
+    ensures { (DONE ≡ 0) × (FAULT ≡ 1) × (REFUSED ≡ 2) }
+{}

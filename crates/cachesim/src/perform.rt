@@ -1,0 +1,85 @@
+//! What typed arguments ask for.
+ghost use Rattle.std.specs.Prelude.{◌≡◌, ◌≢◌, ◌⊎◌, IfErr, IsErrAnd, IsOkAnd, OnOk, true};
+ghost use Rattle.std.specs.Io.KnownBytes.{Appends};
+ghost use Rattle.command_line.specs.Accepted.{AreAccepted};
+ghost use Rattle.streams.specs.Tally.{FailsWhere};
+ghost use Rattle.streams.specs.declared.tally.Tally.{Tally};
+ghost use Rattle.cachesim.specs.CallFaults.{IsOfRead, IsOfWrite};
+ghost use Rattle.cachesim.specs.FaultCauses.{IsDue, Leaves};
+ghost use Rattle.cachesim.specs.Outcome.{IsDone};
+
+use crate::debug::{debug, replay};
+use crate::drive::drive;
+use crate::fault::Fault;
+use crate::files::Files;
+use crate::texts::{compare, intervals, part, run, sweep};
+use command_line::Arguments;
+use progress::Watch;
+use std::alloc::Global;
+use std::sync::Wait;
+use std::thread::Threads;
+use streams::{CountedRead, CountedWrite};
+use trace_read::read_trace;
+
+/// Does what the arguments ask for, over an input and an output. `debug` and `replay` read a file too; `run`, `sweep`,
+/// `part` and `drive` are watched.
+pub fn perform<T: Threads + Wait + Sync, R: CountedRead, W: CountedWrite, F: Files, P: Watch>(
+    rt: &T,
+    alloc: Global,
+    arguments: &Arguments,
+    input: &mut R,
+    out: &mut W,
+    files: &F,
+    watch: &P,
+) -> Result<(), Fault>
+    requires { AreAccepted arguments.now }
+    ensures done { OnOk result (IsDone arguments.now (F.known files.now) (R.remaining input.old) (W.contents out.old)
+        (W.contents out.new)) }
+    ensures leaves { IfErr result (λ fault. Leaves arguments.now (F.known files.now) fault (R.remaining input.old)
+        (W.contents out.old) (W.contents out.new) (out.new ≡ out.old)) }
+    ensures fault { IfErr result (IsDue arguments.now (F.known files.now) (R.remaining input.old)) }
+    ensures reads { FailsWhere (IsOfRead result) (R.tally input.old) (R.tally input.new) }
+    ensures writes { FailsWhere (IsOfWrite result) (W.tally out.old) (W.tally out.new) }
+    ensures flushed { OnOk result (W.is_flushed out.new ≡ true) }
+{
+    match arguments {
+        Arguments::Run(arguments) => write_text(run(rt, alloc, arguments, input, watch), out),
+        Arguments::Sweep(arguments) => {
+            let trace = read_trace(alloc, input, arguments.format)?;
+            write_text(sweep(rt, alloc, arguments, &trace, watch), out)
+        }
+        Arguments::Intervals(arguments) => {
+            let trace = read_trace(alloc, input, arguments.format)?;
+            write_text(intervals(rt, alloc, arguments, &trace), out)
+        }
+        Arguments::Part(arguments) => {
+            let trace = read_trace(alloc, input, arguments.format)?;
+            write_text(part(alloc, arguments, &trace, watch), out)
+        }
+        Arguments::Compare(arguments) => {
+            let trace = read_trace(alloc, input, arguments.format)?;
+            write_text(compare(alloc, arguments, &trace), out)
+        }
+        Arguments::Drive(arguments) => drive(rt, alloc, arguments, input, out, watch),
+        Arguments::Debug(arguments) => debug(alloc, arguments, input, out, files),
+        Arguments::Replay(arguments) => replay(alloc, arguments, input, out, files),
+    }
+}
+
+// Writes the text that was made, or hands on why none was.
+fn write_text<W: CountedWrite>(text: Result<Vec<u8>, Fault>, out: &mut W) -> Result<(), Fault>
+    requires { ¬ IsOfWrite text }
+    ensures text { OnOk result (IsOkAnd text (λ text. Appends (W.contents out.old) (W.contents out.new) text.items)) }
+    ensures kept { IfErr result (λ fault. fault ≢ Fault.Write → out.new ≡ out.old) }
+    ensures fault { IfErr result (λ fault. (fault ≡ Fault.Write) ⊎ IsErrAnd text (λ made. made ≡ fault)) }
+    ensures reads { (old : Tally) (new : Tally) → FailsWhere (IsOfRead text) old new
+        → FailsWhere (IsOfRead result) old new }
+    ensures writes { FailsWhere (IsOfWrite result) (W.tally out.old) (W.tally out.new) }
+    ensures flushed { OnOk result (W.is_flushed out.new ≡ true) }
+{
+    let text = text?;
+    match streams::write_all(out, text.as_slice()) {
+        Ok(()) => Ok(()),
+        Err(_) => Err(Fault::Write),
+    }
+}

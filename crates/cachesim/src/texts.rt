@@ -1,0 +1,155 @@
+//! The subcommands that make a text of a trace: `run`, `sweep`, `intervals`, `part` and `compare`.
+ghost use Rattle.std.specs.Prelude.{◌≡◌, ◌≤◌, ◌⊎◌, IfErr, IfOk, None, length};
+ghost use Rattle.command_line.specs.Accepted.{AreAcceptedIntervals, IsAcceptedPart, IsAcceptedRun, IsAcceptedSweep};
+ghost use Rattle.command_line.specs.declared.arguments.Arguments.TheVariants.{Compare, Intervals, Part, Run, Sweep};
+ghost use Rattle.policies.specs.declared.job_checks.TheConstants.{MAX_ACTORS};
+ghost use Rattle.streams.specs.Tally.{FailsWhere};
+ghost use Rattle.cachesim.specs.CallFaults.{IsOfRead, IsOfWrite};
+ghost use Rattle.cachesim.specs.FaultCauses.{IsDue, IsTooMany};
+ghost use Rattle.cachesim.specs.TraceOutput.{IsText, IsTextOf, jobs_by_policy};
+
+use crate::fault::{Fault, accepted};
+use command_line::{IntervalsArguments, PartArguments, PolicyList, RunArguments, SweepArguments};
+use debug_policies::{STRETCH, part_watched, push_comparison, push_part};
+use policies::MAX_ACTORS;
+use policy_actors::run_reading;
+use progress::Watch;
+use report::{intervals_text, reports_text};
+use std::alloc::{AllocError, Global};
+use std::sync::Wait;
+use std::thread::Threads;
+use step_record::{Config, Job, Trace};
+use streams::CountedRead;
+use sweeps::{sweep_batches, sweep_each};
+use trace_read::read_trace;
+
+/// The report of each policy that the arguments name, as text; each policy runs on a thread of its own while the trace
+/// is read. That they are too many is the fault of a trace without one.
+pub fn run<T: Threads + Wait + Sync, R: CountedRead, P: Watch>(
+    rt: &T,
+    alloc: Global,
+    arguments: &RunArguments,
+    input: &mut R,
+    watch: &P,
+) -> Result<Vec<u8>, Fault>
+    requires { IsAcceptedRun arguments.now }
+    ensures text { IfOk result (λ text. IsTextOf (Run arguments.now) (R.remaining input.old) text.items) }
+    ensures fault { IfErr result (IsDue (Run arguments.now) (λ path. None) (R.remaining input.old)) }
+    ensures reads { FailsWhere (IsOfRead result) (R.tally input.old) (R.tally input.new) }
+    ensures unwritten { ¬ IsOfWrite result }
+{
+    let policies = arguments.policies.as_slice();
+    if policies.len() > MAX_ACTORS {
+        read_trace(alloc, input, arguments.format)?;
+        return Err(Fault::Actors);
+    }
+    let jobs = jobs(alloc, arguments.config, &arguments.policies)?;
+    watch.begin("run", None);
+    let (format, batch) = (arguments.format, arguments.batch);
+    let reports = run_reading(rt, alloc, input, format, jobs.as_slice(), batch, watch);
+    watch.end();
+    Ok(reports_text(alloc, reports?.as_slice())?)
+}
+
+/// The reports of the policies that the arguments name at each of the capacities, as text: those of the first policy in
+/// the order of the capacities, then those of the second, and so on.
+pub fn sweep<T: Threads + Sync, P: Watch>(
+    rt: &T,
+    alloc: Global,
+    arguments: &SweepArguments,
+    trace: &Trace,
+    watch: &P,
+) -> Result<Vec<u8>, Fault>
+    requires { IsAcceptedSweep arguments.now }
+    ensures text { IfOk result (λ text. IsText (Sweep arguments.now) trace.now text.items) }
+    ensures fault { IfErr result (λ fault. (fault ≡ Fault.OutOfMemory) ⊎ IsTooMany arguments.now.policies fault) }
+{
+    let jobs = few_jobs(alloc, arguments.config, &arguments.policies)?;
+    let capacities = arguments.capacities.as_slice();
+    watch.begin(
+        "sweep",
+        Some(sweep_batches(trace, jobs.as_slice(), capacities)),
+    );
+    let reports = sweep_each(rt, alloc, trace, jobs.as_slice(), capacities, watch);
+    watch.end();
+    Ok(reports_text(alloc, accepted(reports)?.as_slice())?)
+}
+
+/// The rows of the policies that the arguments name, one for each interval, as text: all of the first policy, then
+/// those of the second, and so on.
+pub fn intervals<T: Threads + Sync>(
+    rt: &T,
+    alloc: Global,
+    arguments: &IntervalsArguments,
+    trace: &Trace,
+) -> Result<Vec<u8>, Fault>
+    requires { AreAcceptedIntervals arguments.now }
+    ensures text { IfOk result (λ text. IsText (Intervals arguments.now) trace.now text.items) }
+    ensures fault { IfErr result (λ fault. (fault ≡ Fault.OutOfMemory) ⊎ IsTooMany arguments.now.policies fault) }
+{
+    let jobs = few_jobs(alloc, arguments.config, &arguments.policies)?;
+    let every = arguments.every as usize;
+    let rows = sweeps::intervals(rt, alloc, trace, jobs.as_slice(), every);
+    Ok(intervals_text(alloc, accepted(rows)?.as_slice())?)
+}
+
+/// One line: the first access at which just one of the two policies hits, counted from 1, or `none`.
+#[tactic(auto, using(crate::proofs::Accepting::memory_alone, crate::proofs::Accepting::pair_accepted))]
+pub fn part<P: Watch>(
+    alloc: Global,
+    arguments: &PartArguments,
+    trace: &Trace,
+    watch: &P,
+) -> Result<Vec<u8>, Fault>
+    requires { IsAcceptedPart arguments.now }
+    ensures text { IfOk result (λ text. IsText (Part arguments.now) trace.now text.items) }
+    ensures fault { IfErr result (λ fault. fault ≡ Fault.OutOfMemory) }
+{
+    watch.begin("part", Some(trace.len().div_ceil(STRETCH) as u64));
+    let found = part_watched(alloc, trace, &arguments.first, &arguments.second, watch);
+    watch.end();
+    let mut line = Vec::new(alloc);
+    push_part(&mut line, accepted(found)?)?;
+    Ok(line)
+}
+
+/// A header and a row: at how many accesses both of the two policies hit, only one of them, and neither.
+#[tactic(auto, using(crate::proofs::Accepting::memory_alone, crate::proofs::Accepting::pair_accepted))]
+pub fn compare(alloc: Global, arguments: &PartArguments, trace: &Trace) -> Result<Vec<u8>, Fault>
+    requires { IsAcceptedPart arguments.now }
+    ensures text { IfOk result (λ text. IsText (Compare arguments.now) trace.now text.items) }
+    ensures fault { IfErr result (λ fault. fault ≡ Fault.OutOfMemory) }
+{
+    let (first, second) = (&arguments.first, &arguments.second);
+    let counts = accepted(debug_policies::compare(alloc, trace, first, second))?;
+    let mut text = Vec::new(alloc);
+    push_comparison(&mut text, first, second, &counts)?;
+    Ok(text)
+}
+
+// A job for each policy, in order, all on one configuration. The one error is out of memory.
+fn jobs(alloc: Global, config: Config, policies: &PolicyList) -> Result<Vec<Job>, AllocError>
+    ensures { IfOk result (λ jobs. jobs.items ≡ jobs_by_policy config policies.now) }
+{
+    policies
+        .as_slice()
+        .iter()
+        .map(|policy| Job {
+            policy: *policy,
+            config,
+        })
+        .collect(alloc)
+}
+
+// The same, where they are not too many.
+fn few_jobs(alloc: Global, config: Config, policies: &PolicyList) -> Result<Vec<Job>, Fault>
+    ensures jobs { IfOk result (λ jobs. jobs.items ≡ jobs_by_policy config policies.now) }
+    ensures few { IfOk result (λ jobs. length jobs.items ≤ MAX_ACTORS) }
+    ensures fault { IfErr result (λ fault. (fault ≡ Fault.OutOfMemory) ⊎ IsTooMany policies.now fault) }
+{
+    let jobs = jobs(alloc, config, policies)?;
+    if jobs.len() > MAX_ACTORS {
+        return Err(Fault::Actors);
+    }
+    Ok(jobs)
+}

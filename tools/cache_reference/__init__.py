@@ -1,0 +1,15 @@
+"""What cachesim is to answer, over plain lists: the trace formats, the policies, the concurrent cache, its journals, and the
+commands of the two debuggers. It is written from docs/GUIDE.md and the prose of the definitions, shares nothing with the
+program, and is slow: each state is kept, so that going back is looking one up.
+"""
+from .concurrent_cache import Shell
+from .debugger import debug
+from .faults import Fault
+from .journals import replay
+from .policies import POLICIES
+from .reports import compare, intervals, lru_curve, part, run
+from .traces import keys_of
+from .walks import Worker, check_walks, drive_alone, journal, walk
+
+__all__ = ["POLICIES", "Fault", "Shell", "Worker", "check_walks", "compare", "debug", "drive_alone", "intervals", "journal",
+           "keys_of", "lru_curve", "part", "replay", "run", "walk"]

@@ -1,0 +1,139 @@
+"""The debugger of two policies. A timeline has the text that `show` prints at each position, and what each step from one to
+the next did."""
+from .faults import Fault
+from .policies import opened
+from .reports import Counts
+from .traces import BLANKS, keys_of, number_of
+
+MAX_COMMANDS = 2**20
+MAX_BREAKPOINTS = 64
+
+
+class Events:
+    """What a step did, as breakpoints ask for it."""
+
+    def __init__(self, hits=(), left=(), is_halved=False, is_odd=False):
+        self.hits, self.left, self.is_halved, self.is_odd = hits, left, is_halved, is_odd
+
+    def holds(self, breakpoint):
+        name, *key = breakpoint
+        if name in ("hit", "evict"):
+            return key[0] in (self.hits if name == "hit" else self.left)
+        return self.is_halved if name == "halve" else self.is_odd
+
+
+class Side:
+    """One of the two policies of a debugger."""
+
+    def __init__(self, letter, policy, capacity, main, spread, keys):
+        self.letter, self.policy, self.counts = letter, policy, Counts()
+        self.cache = opened(policy, capacity, main, spread, keys)
+
+    def show(self):
+        hits, misses, evictions, rejections = self.counts.values()
+        counted = f"{self.policy} hits {hits} misses {misses} evictions {evictions} rejections {rejections}"
+        return f"{self.letter} {counted}\n{self.letter} holds{items(self.cache.residents())}\n"
+
+    def age(self):
+        return self.cache.frequency.age if self.cache.frequency else 0
+
+    def access(self, key):
+        age = self.age()
+        outcome, left = self.cache.access(key)
+        self.counts.add(outcome)
+        return outcome == "hit", left, self.age() < age
+
+
+def items(list_of_items):
+    return "".join(f" {it}" for it in list_of_items)
+
+
+class PolicyTimeline:
+    odd, whole, at = "part", "part", 0
+
+    def __init__(self, keys, first, second, capacity, main, spread):
+        a, b = Side("a", first, capacity, main, spread, keys), Side("b", second, capacity, main, spread, keys)
+        self.events, self.shows = [], [a.show() + b.show()]
+        for key in keys:
+            (a_hit, a_left, a_halved), (b_hit, b_left, b_halved) = a.access(key), b.access(key)
+            hits, left = [key] if a_hit or b_hit else [], [it for it in (a_left, b_left) if it is not None]
+            self.events.append(Events(hits, left, a_halved or b_halved, a_hit != b_hit))
+            self.shows.append(a.show() + b.show())
+
+    def whole_answer(self, _):
+        parts = [number for number, event in enumerate(self.events, 1) if event.is_odd]
+        return f"part {parts[0]}\n" if parts else "part none\n"
+
+
+class Dialogue:
+    """The answers to commands, the state being a position of a timeline and a list of breakpoints."""
+
+    def __init__(self, timeline):
+        self.timeline, self.at, self.breakpoints = timeline, timeline.at, []
+        self.end = len(timeline.events)
+
+    def answers(self, data):
+        printed, read = "", 0
+        for line in data.split(b"\n"):
+            read = min(read + len(line) + 1, len(data))
+            if read > MAX_COMMANDS:
+                raise Fault("TooLarge", printed)
+            words = [it for it in line.strip(BLANKS).split(b" ") if it]
+            if words == [b"quit"]:
+                break
+            if words:
+                printed += self.answer(words)
+        return printed
+
+    def answer(self, words):
+        name, numbers = words[0].decode(errors="replace"), list(map(number_of, words[1:]))
+        if name in ("step", "back", "goto") and len(words) == 2 and numbers[0] is not None:
+            return self.move(name, numbers[0])
+        if name == "break":
+            return self.set_breakpoint(words[1:])
+        alone = {"run": self.run, "clear": self.clear, "show": self.show, self.timeline.whole: self.whole}
+        return alone[name]() if len(words) == 1 and name in alone else "fault: Command\n"
+
+    def move(self, name, number):
+        to = {"step": self.at + number, "back": self.at - number, "goto": number}[name]
+        if not 0 <= to <= self.end:
+            return "fault: PastStart\n" if to < 0 else "fault: PastEnd\n"
+        self.at = to
+        return f"at {to}\n"
+
+    def set_breakpoint(self, words):
+        kinds = [it.decode(errors="replace") for it in words]
+        if len(kinds) == 2 and kinds[0] in ("hit", "evict") and number_of(words[1]) is not None:
+            breakpoint = kinds[0], number_of(words[1])
+        elif len(kinds) == 1 and kinds[0] in ("halve", self.timeline.odd):
+            breakpoint = (kinds[0],)
+        else:
+            return "fault: Command\n"
+        if len(self.breakpoints) == MAX_BREAKPOINTS:
+            return "fault: Breaks\n"
+        self.breakpoints.append(breakpoint)
+        return "ok\n"
+
+    def run(self):
+        if self.at == self.end:
+            return "fault: PastEnd\n"
+        while self.at < self.end:
+            self.at += 1
+            held = [it for it in self.breakpoints if self.timeline.events[self.at - 1].holds(it)]
+            if held:
+                return f"stop {held[0][0]}\nat {self.at}\n"
+        return f"end\nat {self.at}\n"
+
+    def clear(self):
+        self.breakpoints = []
+        return "ok\n"
+
+    def show(self):
+        return self.timeline.shows[self.at]
+
+    def whole(self):
+        return self.timeline.whole_answer(self.at)
+
+
+def debug(trace, commands, form, first, second, capacity, main, spread):
+    return Dialogue(PolicyTimeline(keys_of(form, trace), first, second, capacity, main, spread)).answers(commands)

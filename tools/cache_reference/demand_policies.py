@@ -1,0 +1,231 @@
+"""Six policies that take in each key that is missed, count no keys, and evict one key at each miss of a full cache. Queues
+are lists, oldest first. A ghost is a queue of keys that are not resident, remembered from when they left."""
+
+
+class Demand:
+    """What the six have in common. A policy says what a hit does, which key leaves, and where a new one goes."""
+
+    frequency = None
+
+    def __init__(self, capacity):
+        self.capacity = capacity
+
+    def access(self, key):
+        if key in self.residents():
+            self.hit(key)
+            return "hit", None
+        left = self.miss(key, len(self.residents()) == self.capacity)
+        return ("kept", None) if left is None else ("evicted", left)
+
+
+def join_ghost(ghost, key, size):
+    """A key joins a ghost, which forgets its oldest where it is over its size."""
+    ghost.append(key)
+    if len(ghost) > size:
+        ghost.pop(0)
+
+
+def leave_ghost(ghost, key):
+    """Whether a ghost held a key, which leaves it."""
+    was_there = key in ghost
+    if was_there:
+        ghost.remove(key)
+    return was_there
+
+
+class Fifo(Demand):
+    """The oldest leaves; a hit moves nothing."""
+
+    def __init__(self, capacity):
+        super().__init__(capacity)
+        self.queue = []
+
+    def hit(self, key):
+        pass
+
+    def miss(self, key, is_full):
+        left = self.queue.pop(0) if is_full else None
+        self.queue.append(key)
+        return left
+
+    def residents(self):
+        return list(self.queue)
+
+
+class Clock(Demand):
+    """Second chance: each key has a reference bit, which an access sets, the first one too. The oldest key with a set bit
+    goes to the recent end without it, in place of leaving."""
+
+    def __init__(self, capacity):
+        super().__init__(capacity)
+        self.queue, self.referenced = [], set()
+
+    def hit(self, key):
+        self.referenced.add(key)
+
+    def miss(self, key, is_full):
+        left = None
+        if is_full:
+            while self.queue[0] in self.referenced:
+                turned = self.queue.pop(0)
+                self.referenced.remove(turned)
+                self.queue.append(turned)
+            left = self.queue.pop(0)
+        self.queue.append(key)
+        self.referenced.add(key)
+        return left
+
+    def residents(self):
+        return list(self.queue)
+
+
+class Sieve(Demand):
+    """A queue with a hand, which stands before the oldest key of `ahead`. A visited key that the hand passes stays in its
+    place, no longer visited; the first other one leaves. Behind the newest key the hand begins again at the oldest."""
+
+    def __init__(self, capacity):
+        super().__init__(capacity)
+        self.passed, self.ahead, self.visited = [], [], set()
+
+    def hit(self, key):
+        self.visited.add(key)
+
+    def miss(self, key, is_full):
+        left = None
+        while is_full and left is None:
+            one = self.ahead.pop(0)
+            if one in self.visited:
+                self.visited.remove(one)
+                self.passed.append(one)
+            else:
+                left = one
+            if not self.ahead:
+                self.passed, self.ahead = [], self.passed
+        self.ahead.append(key)
+        return left
+
+    def residents(self):
+        return self.passed + self.ahead
+
+
+class S3Fifo(Demand):
+    """A small queue before a main one, with a ghost of what left the small one. A key that was hit twice in the small queue
+    goes on to the main one, in which each hit spares it one turn; a key that the ghost has goes there at once."""
+
+    def __init__(self, capacity):
+        super().__init__(capacity)
+        self.small_size = max(1, capacity // 10)
+        self.main_size = capacity - self.small_size
+        self.small, self.main, self.ghost, self.counts = [], [], [], {}
+
+    def hit(self, key):
+        self.counts[key] = min(3, self.counts[key] + 1)
+
+    def evict(self):
+        while True:
+            if len(self.main) > self.main_size or not self.small:
+                key = self.main.pop(0)
+                if self.counts[key] == 0:
+                    return key
+                self.counts[key] -= 1
+                self.main.append(key)
+            else:
+                key = self.small.pop(0)
+                if self.counts[key] < 2:
+                    join_ghost(self.ghost, key, self.main_size)
+                    return key
+                self.main.append(key)
+
+    def miss(self, key, is_full):
+        was_ghost = leave_ghost(self.ghost, key)
+        left = self.evict() if is_full else None
+        (self.main if was_ghost else self.small).append(key)
+        self.counts.pop(left, None)
+        self.counts[key] = 0
+        return left
+
+    def residents(self):
+        return self.small + self.main
+
+
+class TwoQ(Demand):
+    """A queue of new keys, in which a hit moves nothing, beside an Lru of keys that came back after they left it: a ghost
+    remembers them."""
+
+    def __init__(self, capacity):
+        super().__init__(capacity)
+        self.kin, self.kout = max(1, capacity // 4), max(1, capacity // 2)
+        self.a1in, self.am, self.a1out = [], [], []
+
+    def hit(self, key):
+        if key in self.am:
+            self.am.remove(key)
+            self.am.append(key)
+
+    def evict(self):
+        if len(self.a1in) > self.kin or not self.am:
+            left = self.a1in.pop(0)
+            join_ghost(self.a1out, left, self.kout)
+            return left
+        return self.am.pop(0)
+
+    def miss(self, key, is_full):
+        was_ghost = leave_ghost(self.a1out, key)
+        left = self.evict() if is_full else None
+        (self.am if was_ghost else self.a1in).append(key)
+        return left
+
+    def residents(self):
+        return self.a1in + self.am
+
+
+class Arc(Demand):
+    """Keys that came once lately and keys that came more often, `t1` and `t2`, each with a ghost, `b1` and `b2`. A key that a
+    ghost has moves the size `p` that `t1` is to have, in whole numbers."""
+
+    def __init__(self, capacity):
+        super().__init__(capacity)
+        self.t1, self.t2, self.b1, self.b2, self.p = [], [], [], [], 0
+
+    def hit(self, key):
+        (self.t1 if key in self.t1 else self.t2).remove(key)
+        self.t2.append(key)
+
+    def replace(self, key):
+        if self.t1 and (len(self.t1) > self.p or len(self.t1) == self.p and key in self.b2):
+            left = self.t1.pop(0)
+            self.b1.append(left)
+        else:
+            left = self.t2.pop(0)
+            self.b2.append(left)
+        return left
+
+    def from_ghost(self, key):
+        if key in self.b1:
+            self.p = min(self.capacity, self.p + max(1, len(self.b2) // len(self.b1)))
+        else:
+            self.p = max(0, self.p - max(1, len(self.b1) // len(self.b2)))
+        left = self.replace(key)
+        (self.b1 if key in self.b1 else self.b2).remove(key)
+        self.t2.append(key)
+        return left
+
+    def miss(self, key, _):
+        if key in self.b1 or key in self.b2:
+            return self.from_ghost(key)
+        left = None
+        if len(self.t1) + len(self.b1) == self.capacity:
+            if len(self.t1) == self.capacity:
+                left = self.t1.pop(0)
+            else:
+                self.b1.pop(0)
+                left = self.replace(key)
+        elif (known := len(self.t1) + len(self.t2) + len(self.b1) + len(self.b2)) >= self.capacity:
+            if known == 2 * self.capacity:
+                self.b2.pop(0)
+            left = self.replace(key)
+        self.t1.append(key)
+        return left
+
+    def residents(self):
+        return self.t1 + self.t2

@@ -1,0 +1,48 @@
+"""Traces: the accesses that a text stands for, or its first fault."""
+from .faults import Fault
+
+BLANKS = b" \t\r"
+ALL_BITS = 2**64 - 1
+MAX_ACCESSES = 2**24
+
+
+def number_of(field):
+    """The number that a field is, or None."""
+    if field and all(byte in b"0123456789" for byte in field) and int(field) <= ALL_BITS:
+        return int(field)
+    return None
+
+
+def lirs_keys(line, _):
+    if line in (b"", b"*"):
+        return []
+    if number_of(line) is None:
+        raise Fault("BadNumber")
+    return [number_of(line)]
+
+
+def arc_keys(line, room):
+    fields = [it for it in line.replace(b"\t", b" ").split(b" ") if it]
+    if not fields:
+        return []
+    if len(fields) == 1:
+        raise Fault("MissingField")
+    start, count = map(number_of, fields[:2])
+    if start is None or count is None:
+        raise Fault("BadNumber")
+    if start + count > 2**64:
+        raise Fault("Range")
+    if count > room:
+        raise Fault("TooLong")
+    return range(start, start + count)
+
+
+def keys_of(form, data):
+    """The accesses of a trace, or the fault of its first faulty line."""
+    keys, keys_of_line = [], {"lirs": lirs_keys, "arc": arc_keys}[form]
+    for number, line in enumerate(data.split(b"\n"), 1):
+        try:
+            keys += keys_of_line(line.strip(BLANKS), MAX_ACCESSES - len(keys))
+        except Fault as fault:
+            raise Fault(f"{fault.words} line {number}") from None
+    return keys

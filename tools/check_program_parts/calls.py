@@ -1,0 +1,134 @@
+"""Calls of a program, and what is expected of them."""
+import random
+import re
+import subprocess
+from collections import namedtuple
+from pathlib import Path
+
+TOOLS = Path(__file__).resolve().parent.parent
+TOP = TOOLS.parent
+RECORDED = TOP / "examples/sqlite.lirs"
+SECONDS = 60
+SECONDS_OF_A_LONG_CALL = 600
+HEADER = "policy,capacity,accesses,hits,misses,evictions,rejections,rate\n"
+# Two policies that part at the fifth of the accesses 1 1 2 3 1.
+PARTING = ("--capacity", 2, "--first", "lru", "--second", "slru")
+# The parts, and about how many seconds each takes: those that take long begin first.
+PARTS = {}
+
+Ended = namedtuple("Ended", "status out error")
+
+
+def part(seconds=1):
+    """Makes a function a part of the check, under its own name."""
+    def named(function):
+        PARTS[function.__name__] = seconds, function
+        return function
+    return named
+
+
+def lines(*rows):
+    return "".join(f"{row}\n" for row in rows)
+
+
+def octets(text):
+    return text if isinstance(text, bytes) else text.encode()
+
+
+class Check:
+    """A part of the check of one program, in a folder of its own, and what went wrong in it."""
+
+    def __init__(self, program, room, is_short):
+        self.program, self.room, self.is_short = program, Path(room), is_short
+        self.tried, self.faults = 0, []
+        self.policies = self.listed_policies()
+        self.trace = self.file("trace", lines(1, 1, 2, 3, 1))
+
+    def listed_policies(self):
+        found = re.search(rb"\[possible values: (lru, [^]]*)\]", self.call("run", "--help").out)
+        return found[1].decode().split(", ") if found else []
+
+    def size(self, whole, short):
+        """A size at which a user comes, or a small one where only the check itself is tried."""
+        return short if self.is_short else whole
+
+    def file(self, name, text):
+        path = self.room / name
+        path.write_bytes(octets(text))
+        return path
+
+    def fail(self, name, text):
+        self.faults.append(f"{name}: {text}")
+
+    def call(self, *words, typed="", stdin=None, stdout=subprocess.PIPE, stderr=subprocess.PIPE, seconds=SECONDS, under=()):
+        """A call of the program, whose words may stand behind those of another one."""
+        words = [it if isinstance(it, bytes) else str(it) for it in (*under, self.program, *words)]
+        how = {"input": octets(typed)} if stdin is None else {"stdin": stdin}
+        if isinstance(stdin, Path):
+            with open(stdin, "rb") as file:
+                return self.call(*words[len(under) + 1:], stdin=file, stdout=stdout, stderr=stderr, seconds=seconds, under=under)
+        try:
+            ended = subprocess.run(words, stdout=stdout, stderr=stderr, timeout=seconds, check=False, **how)
+        except subprocess.TimeoutExpired:
+            return Ended(f"none within {seconds} seconds", b"", b"")
+        return Ended(ended.returncode, ended.stdout or b"", ended.stderr or b"")
+
+    def compare(self, name, ended, right):
+        """Compares how a call ended with what is right."""
+        self.tried += 1
+        if ended != right:
+            self.fail(name, "".join(f"\nthe {what} is\n{shown(was)}\nwhere this is right:\n{shown(wanted)}"
+                                    for what, was, wanted in zip(Ended._fields, ended, right) if was != wanted))
+
+    def expect(self, name, *words, status=0, out="", error="", **how):
+        """One call, its status, and all of its output and of its standard error."""
+        self.compare(name, self.call(*words, **how), Ended(status, octets(out), octets(error)))
+
+    def expect_report(self, name, rows, *words, **how):
+        """The reports of a trace, as rows below the header."""
+        self.expect(name, *words, out=HEADER + rows, **how)
+
+    def expect_fault(self, name, line, *words, **how):
+        """A fault that is found before anything is written, and its line."""
+        self.expect(name, *words, status=1, error=f"{line}\n", **how)
+
+    def expect_file_fault(self, name, text, line, *words):
+        """A fault of the trace or of the journal in the file that the last word names."""
+        self.expect_fault(name, line, *words, self.file("file", text), typed="show\n")
+
+    def expect_usage_error(self, name, *words, error=None):
+        """A usage error: status 2, nothing on the output, and a text of its own on standard error, which is there to its
+        end; or this text, whole."""
+        ended = self.call(*words, stdin=self.trace)
+        if error is None and re.fullmatch(rb"error: .+\n\nFor more information, try '--help'\.\n", ended.error, re.DOTALL):
+            error = ended.error
+        self.compare(name, ended, Ended(2, b"", octets(error or "error: ..\n\nFor more information, try '--help'.\n")))
+
+    def expect_full(self, name, *words, **how):
+        """A call whose output takes nothing."""
+        with open("/dev/full", "wb") as full:
+            self.compare(name, self.call(*words, stdout=full, **how), Ended(1, b"", b"fault: Write\n"))
+
+    def answer(self, name, *words, seconds=SECONDS_OF_A_LONG_CALL, **how):
+        """The output of a call that ends well and reports nothing."""
+        ended = self.call(*words, seconds=seconds, **how)
+        self.compare(name, ended, Ended(0, ended.out, b""))
+        return ended.out
+
+    def expect_same(self, name, answer, right):
+        """An answer that was worked out otherwise."""
+        self.tried += 1
+        if octets(answer) != octets(right):
+            self.fail(name, f"this is the answer\n{shown(octets(answer))}\nwhere this is right:\n{shown(octets(right))}")
+
+
+def shown(value):
+    """The beginning of what a call printed, as text."""
+    text = value.decode(errors="replace") if isinstance(value, bytes) else str(value)
+    return text if len(text) < 3000 else f"{text[:1500]}\n.. {len(text)} characters ..\n{text[-1000:]}"
+
+
+def skewed_keys(count, keys, seed=0):
+    """Accesses of which small keys come more often: which one comes is as likely as one over its number."""
+    rng = random.Random(seed)
+    return [int((keys + 1) ** rng.random()) for _ in range(count)]

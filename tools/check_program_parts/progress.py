@@ -1,0 +1,136 @@
+"""The line of progress, on a terminal for standard error alone."""
+import os
+import pty
+import re
+import signal
+import subprocess
+import threading
+import time
+from concurrent.futures import ThreadPoolExecutor
+
+from .calls import SECONDS, Ended, octets, part
+from .workers import crowd
+
+# How long the trace rests in its middle: longer than the line waits, so that no machine is too fast for it.
+REST = 1.5
+# The call works for so long and then rests, longer than a line stands before it is drawn anew: so a line is drawn again and
+# again, however fast the machine is.
+WORKING, RESTING = 0.004, 0.25
+LINE = re.compile(rb"\r([a-z]+): (?:([0-9]{1,3}) % of accesses|([0-9]+) batches), ([0-9]+):([0-5][0-9])\x1b\[K")
+CLEARED = b"\r\x1b[K"
+
+
+class Shown:
+    """A call at a terminal of its own: how it ended, and what was drawn on the terminal, in pieces with the seconds after
+    which they came."""
+
+    def __init__(self, words, text):
+        terminal, error = pty.openpty()
+        self.terminal, self.pieces, self.start = terminal, [], time.monotonic()
+        self.process = subprocess.Popen(words, stdin=subprocess.PIPE, stdout=subprocess.PIPE, stderr=error)
+        os.close(error)
+        self.out, threads = b"", [threading.Thread(target=it) for it in (self.read_terminal, self.read_output)]
+        for it in threads:
+            it.start()
+        self.feed(text)
+        self.pace()
+        for it in threads:
+            it.join()
+        self.status = self.process.returncode
+        os.close(terminal)
+
+    def feed(self, text):
+        """The trace in two halves, with a rest between them."""
+        try:
+            self.process.stdin.write(text[: len(text) // 2])
+            self.process.stdin.flush()
+            time.sleep(REST)
+            self.process.stdin.write(text[len(text) // 2:])
+            self.process.stdin.close()
+        except BrokenPipeError:
+            pass  # so a run that ends at a fault leaves its trace
+
+    def drawn(self):
+        return b"".join(piece for _, piece in self.pieces)
+
+    def seconds_of_last_line(self):
+        return max((seconds for seconds, piece in self.pieces if LINE.search(piece)), default=0)
+
+    def pace(self):
+        """Has the process work and rest in turn, until the line is cleared."""
+        end = time.monotonic() + SECONDS
+        while self.process.poll() is None and not self.drawn().endswith(CLEARED):
+            time.sleep(WORKING)
+            if time.monotonic() > end:
+                self.process.kill()
+            self.process.send_signal(signal.SIGSTOP)
+            time.sleep(RESTING)
+            self.process.send_signal(signal.SIGCONT)
+        self.process.wait(SECONDS)
+
+    def read_terminal(self):
+        try:
+            while more := os.read(self.terminal, 4096):
+                self.pieces.append((time.monotonic() - self.start, more))
+        except OSError:
+            pass  # so a terminal ends whose other side is closed
+
+    def read_output(self):
+        self.out = self.process.stdout.read()
+
+
+def fault_of_lines(shown, fault, name, is_counted):
+    """What is wrong with what was drawn: lines of the subcommand, which is known to the end or not, cleared, and a fault."""
+    drawn, seconds = shown.drawn(), shown.seconds_of_last_line()
+    end = CLEARED + octets(fault).replace(b"\n", b"\r\n")
+    found = list(LINE.finditer(drawn))
+    if not found or b"".join(it[0] for it in found) + end != drawn:
+        return "these are not lines of progress that are cleared in the end"
+    if any(it[1] != name.encode() or (it[2] is None) == is_counted for it in found):
+        return "a line is of another subcommand, or counts otherwise"
+    numbers, times = [int(it[2] or it[3]) for it in found], [60 * int(it[4]) + int(it[5]) for it in found]
+    if numbers != sorted(numbers) or times != sorted(times):
+        return "the lines go back"
+    if is_counted and numbers[-1] > 100:
+        return "a line is over the end"
+    if not max(1, seconds - 2) <= times[-1] <= seconds:
+        return f"the last line shows another time than {seconds:.1f} seconds"
+    if is_counted and not fault and len(found) > 4:
+        # The work goes on evenly from line to line: what is shown last is near the end, and of few lines that it is there.
+        if numbers[-1] < 60 or numbers[0] > 50 or numbers.count(100) > len(numbers) // 3:
+            return "the percents do not go from the beginning to the end"
+    return None
+
+
+def expect_progress(check, trace, *words, is_counted=True, fault="", most_batches=None):
+    """The line is drawn and cleared, and the reports are those of a call whose standard error is a file, where nothing is
+    drawn. Where the call ends in a fault, that has the line to itself."""
+    name, text = f"the line of {' '.join(map(str, words))}"[:200], trace.read_bytes()
+    shown = Shown([check.program, *map(str, words)], text)
+    plain = check.call(*words, stdin=trace)
+    check.compare(name, Ended(shown.status, shown.out, plain.error), Ended(1 if fault else 0, plain.out, octets(fault)))
+    wrong = fault_of_lines(shown, fault, words[0], is_counted)
+    counts = [int(it[3]) for it in LINE.finditer(shown.drawn()) if it[3]]
+    if not wrong and most_batches and not most_batches // 4 <= counts[-1] <= most_batches:
+        wrong = f"the last line counts {counts[-1]} of {most_batches} batches"
+    if wrong:
+        check.fail(name, f"{wrong}; there came\n{shown.pieces}")
+
+
+@part(15)
+def progress(check):
+    """The line of each subcommand that has one. The calls rest for most of their time, so they are made side by side."""
+    longer = crowd(check, "longer", check.size(3, 60))
+    rows = longer.read_bytes().splitlines(keepends=True)
+    driven = check.file("driven", b"".join(rows[:50000]))
+    faulty = check.file("faulty", b"".join(rows) + b"x\n")
+    cache, two, alone = ("--capacity", 50), ("wtinylfu", "clairvoyant"), ("--capacity", 1000, "--workers", 1, "--limit")
+    calls = [
+        (longer, ["run", *cache, *two], {"is_counted": False, "most_batches": 2 * -(-len(rows) // 1024)}),
+        (longer, ["sweep", "--policy", two[0], "--policy", two[1], 50, 60], {}),
+        (longer, ["part", *cache, "--first", "wtinylfu", "--second", "wtinylfu"], {}),
+        (driven, ["drive", *alone, 2**24], {}),
+        (driven, ["drive", *alone, 1000], {"fault": "fault: JournalFull\n"}),
+        (faulty, ["run", *cache, "lru"], {"is_counted": False, "fault": f"fault: BadNumber line {len(rows) + 1}\n"})]
+    with ThreadPoolExecutor(len(calls)) as pool:
+        list(pool.map(lambda it: expect_progress(check, it[0], *it[1], **it[2]), calls))
