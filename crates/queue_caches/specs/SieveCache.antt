@@ -36,6 +36,7 @@ pub record IsSieveCache (capacity : ℕ) (s : SieveState) : Type 0 where
   pub state : IsSieve capacity s
 
 -- an access to k took the state from old to new, with this outcome and this record
-pub record IsSieveAccess (capacity k : ℕ) (old : SieveState) (done : Outcome × SieveRecord) (new : SieveState) : Type 0 where
+pub record IsSieveAccess (capacity k : ℕ) (old : SieveState) (done : Outcome × SieveRecord) (new : SieveState)
+    : Type 0 where
   pub acts : (done.0, new) ≡ sieve_act capacity k old
   pub is : done.1 ≡ sieve_record_of capacity k old

@@ -46,8 +46,8 @@ impl SieveCache {
         }
     }
 
-    /// An access to a key, with the record that undoes it. The one error is that an allocation failed; the cache is then
-    /// as before.
+    /// An access to a key, with the record that undoes it. The one error is that an allocation failed; the cache is
+    /// then as before.
     pub fn access(&mut self, key: Key) -> Result<(Outcome, SieveRecord), AllocError>
         ensures acts { IfOk result (λ r. (r.0, self.new.state) ≡ sieve_act self.old.capacity key self.old.state) }
         ensures record_is { IfOk result (λ r. r.1 ≡ sieve_record_of self.old.capacity key self.old.state) }

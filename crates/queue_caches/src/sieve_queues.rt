@@ -1,9 +1,11 @@
 //! The queues of a cache by SIEVE, and the steps of its hand.
-ghost use Rattle.std.specs.Prelude.{◌≡◌, ◌<◌, ◌≤◌, ◌==◌, ◌^◌, ◌++◌, true, false, length, [], Some, OnOk, IfSome, IfNone};
+ghost use Rattle.std.specs.Prelude.{◌≡◌, ◌<◌, ◌≤◌, ◌==◌, ◌^◌, ◌++◌, true, false, length, [], Some, OnOk, IfSome};
+ghost use Rattle.std.specs.Prelude.{IfNone};
 ghost use Rattle.step_record.specs.Keys.{has_key};
 ghost use Rattle.queue_policies.specs.CountedKeys.{AreCounted, count_of, keys_of, oldest_count, total_count};
 ghost use Rattle.queue_policies.specs.Queues.{is_empty, without_newest};
-ghost use Rattle.queue_policies.specs.Sieve.{sieve_residents, empty_sieve, after_wrap, after_pass, pass_count, after_passes};
+ghost use Rattle.queue_policies.specs.Sieve.{sieve_residents, empty_sieve, after_wrap, after_pass, pass_count};
+ghost use Rattle.queue_policies.specs.Sieve.{after_passes};
 ghost use Rattle.queue_policies.specs.Sieve.{sieve_with_key, sieve_with_count};
 ghost use Rattle.queue_policies.specs.SieveRecord.{newest_ahead, before_pass, before_passes, sieve_with_leaver};
 ghost use Rattle.counted_queues.specs.Queues.{oldest_entry};
