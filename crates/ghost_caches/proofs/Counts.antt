@@ -1,12 +1,12 @@
 -- A key given another count, wherever it stands.
-use Rattle.std.proofs.Common.{◌≡◌, ℕ, ◌<◌, ◌≤◌, true, false, eqb, List, [], ◌∷◌, ◌++◌, ap, sym, ◌∙◌, refl, inl, inr, arith}
+use Rattle.std.proofs.Common.{◌≡◌, ℕ, true, false, eqb, List, [], ◌∷◌, ◌++◌, ap, sym, ◌∙◌, refl, inl, inr, arith}
 use Rattle.std.proofs.lemmas.Bool.{cases_Bool}
 use Rattle.step_record.specs.Keys.{has_key}
 use Rattle.queue_policies.specs.CountedKeys.{CountedKey, keys_of, with_count}
-use Rattle.counted_queues.specs.Queues.{queue_of, with_queue, counted_key, holds, IsAbsent, IsStanding, IsSound}
+use Rattle.counted_queues.specs.Queues.{queue_of, with_queue, counted_key, IsAbsent, IsStanding, IsSound}
 use Rattle.ghost_caches.specs.declared.queue_name.QueueName.{QueueName}
 use Rattle.ghost_caches.specs.declared.queue_name.QueueName.TheVariants.{Entry, Main, EntryGhost, MainGhost}
-use Rattle.ghost_caches.specs.QueueLists.{QueueLists, list_of, keys_in, with_list, lists_with_count, number_of, lists_of, IsNowhere}
+use Rattle.ghost_caches.specs.QueueLists.{list_of, keys_in, with_list, lists_with_count, number_of, lists_of, IsNowhere}
 use Rattle.ghost_caches.proofs.Lists.{list-at}
 use Rattle.ghost_caches.proofs.Cuts.{IsSplit}
 use Rattle.ghost_caches.proofs.Moves.{there, stands, changed, changed-fifth, absent}

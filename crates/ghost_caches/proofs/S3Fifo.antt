@@ -1,13 +1,13 @@
 -- An S3-FIFO cache: its code is its definition.
-use Rattle.std.proofs.Common.{◌≡◌, ℕ, zero, suc, if◌then◌else◌, ◌+◌, ◌-◌, ◌*◌, ◌<◌, ◌≤◌, true, false, eqb, nat_lt, ◌||◌, Bool, Option, Some, None, Result, Ok, Err, IfOk, OnErr, List, [], ◌∷◌, ◌++◌, length, take, drop, ap, subst, sym, ◌∙◌, refl, inl, inr, arith, length-append, append-nil}
-use Rattle.std.proofs.lemmas.Bool.{cases_Bool, eq-eqb, ne_eqb, lt-ltb, le-ltb, ltb-true, ltb-false}
+use Rattle.std.proofs.Common.{◌≡◌, ℕ, zero, suc, if◌then◌else◌, ◌+◌, ◌-◌, ◌*◌, ◌<◌, ◌≤◌, true, false, eqb, nat_lt, ◌||◌, Bool, Option, Some, None, Result, Ok, Err, IfOk, OnErr, List, [], ◌∷◌, ◌++◌, length, take, drop, ap, subst, sym, ◌∙◌, refl, inl, inr, arith, length-append}
+use Rattle.std.proofs.lemmas.Bool.{cases_Bool, eq-eqb, ne_eqb, lt-ltb, le-ltb}
 use Rattle.std.proofs.lemmas.List.{take-append-drop}
-use Rattle.step_record.specs.Keys.{has_key, keys_without}
+use Rattle.step_record.specs.Keys.{has_key}
 use Rattle.step_record.specs.Stats.{is_eviction, one_if}
 use Rattle.step_record.specs.declared.outcome.Outcome.{Outcome}
 use Rattle.step_record.specs.declared.outcome.Outcome.TheVariants as outcome
 use Rattle.queue_policies.specs.declared.ghost_place.GhostPlace.{GhostPlace}
-use Rattle.queue_policies.specs.declared.ghost_place.GhostPlace.TheVariants.{Unknown, Known}
+use Rattle.queue_policies.specs.declared.ghost_place.GhostPlace.TheVariants.{Unknown}
 use Rattle.queue_policies.specs.declared.s3_fifo_record.S3FifoLeaver.{S3FifoLeaver}
 use Rattle.queue_policies.specs.declared.s3_fifo_record.S3FifoLeaver.TheVariants.{NoOne, OfSmall, OfMain}
 use Rattle.queue_policies.specs.declared.s3_fifo_record.S3FifoRecord.{S3FifoRecord}
@@ -30,7 +30,7 @@ use Rattle.counted_queues.proofs.Once.{has-append}
 use Rattle.ghost_caches.specs.declared.queue_name.QueueName.TheVariants.{Entry, Main, EntryGhost, MainGhost}
 use Rattle.ghost_caches.specs.QueueLists.{QueueLists, keys_in, with_list, lists_after_push, lists_with_ghost_key, lists_without_oldest, lists_with_count}
 use Rattle.ghost_caches.specs.QueueLists.{IsNowhere, IsSomeOf, entries_without}
-use Rattle.ghost_caches.specs.S3FifoCache.{S3FifoCacheState, s3_fifo_of, IsS3FifoCache, s3_fifo_outcome, all_promoted, IsPromoted, S3FifoFits, S3FifoAsks, s3_fifo_coming_back}
+use Rattle.ghost_caches.specs.S3FifoCache.{s3_fifo_of, IsS3FifoCache, s3_fifo_outcome, all_promoted, IsPromoted, S3FifoAsks, s3_fifo_coming_back}
 use Rattle.ghost_caches.proofs.Cuts.{keys-without}
 use Rattle.ghost_caches.proofs.Behind.{taken-out}
 use Rattle.ghost_caches.proofs.Ghosts.{some-in, ghost-keys}

@@ -1,16 +1,15 @@
 -- A step back of an S3-FIFO cache.
-use Rattle.std.proofs.Common.{◌≡◌, ℕ, zero, suc, ◌+◌, ◌-◌, ◌<◌, ◌≤◌, true, false, eqb, nat_lt, Option, Some, None, Result, Ok, Err, List, [], ◌∷◌, ◌++◌, length, take, drop, ap, subst, sym, ◌∙◌, refl, inl, inr, arith, length-append, append-nil, append_assoc}
-use Rattle.std.proofs.lemmas.Bool.{cases_Bool, eqb-true, eq-eqb}
+use Rattle.std.proofs.Common.{◌≡◌, ℕ, zero, suc, ◌+◌, ◌-◌, ◌≤◌, false, eqb, nat_lt, Option, Some, None, List, [], ◌∷◌, ◌++◌, length, take, drop, ap, subst, sym, ◌∙◌, refl, inl, inr, arith, append_assoc}
+use Rattle.std.proofs.lemmas.Bool.{cases_Bool, eq-eqb}
 use Rattle.std.proofs.lemmas.List.{take-append-drop, length-take-le}
 use Rattle.step_record.specs.Keys.{has_key, keys_without}
-use Rattle.step_record.specs.Stats.{one_if, is_eviction}
+use Rattle.step_record.specs.Stats.{one_if}
 use Rattle.step_record.specs.declared.outcome.Outcome.{Outcome}
-use Rattle.step_record.specs.declared.outcome.Outcome.TheVariants as outcome
 use Rattle.queue_policies.specs.Residents.{times, keys_evicted}
 use Rattle.queue_policies.specs.CountedKeys.{CountedKey, keys_of, AreCounted}
-use Rattle.queue_policies.specs.Queues.{without_newest, without_oldest}
-use Rattle.queue_policies.specs.Turns.{turn_count, after_turns, before_turns}
-use Rattle.queue_policies.specs.Ghost.{older_from, put_behind, ghost_before, ghost_with, forgotten_key, ghost_place_of}
+use Rattle.queue_policies.specs.Queues.{without_newest}
+use Rattle.queue_policies.specs.Turns.{turn_count, after_turns}
+use Rattle.queue_policies.specs.Ghost.{older_from, ghost_with, forgotten_key, ghost_place_of}
 use Rattle.queue_policies.specs.declared.ghost_place.GhostPlace.{GhostPlace}
 use Rattle.queue_policies.specs.declared.ghost_place.GhostPlace.TheVariants.{Unknown, Known}
 use Rattle.queue_policies.specs.declared.s3_fifo_record.S3FifoLeaver.{S3FifoLeaver}
@@ -18,22 +17,21 @@ use Rattle.queue_policies.specs.declared.s3_fifo_record.S3FifoLeaver.TheVariants
 use Rattle.queue_policies.specs.declared.s3_fifo_record.S3FifoRecord.{S3FifoRecord}
 use Rattle.queue_policies.specs.declared.s3_fifo_record.S3FifoRecord.TheVariants.{Hit, Miss}
 use Rattle.queue_policies.specs.S3Fifo.{main_eviction, small_eviction}
-use Rattle.queue_policies.specs.S3Fifo.{S3FifoState, s3_fifo_residents, s3_fifo_main_size, main_gives, s3_fifo_act, without_ghost_key, s3_fifo_with_key, IsS3Fifo}
-use Rattle.queue_policies.specs.S3FifoPlan.{promotion_count, after_promotions, planned_eviction, planned_room}
+use Rattle.queue_policies.specs.S3Fifo.{S3FifoState, s3_fifo_residents, s3_fifo_main_size, main_gives, without_ghost_key, s3_fifo_with_key, IsS3Fifo}
+use Rattle.queue_policies.specs.S3FifoPlan.{promotion_count, planned_eviction, planned_room}
 use Rattle.queue_policies.specs.S3FifoRecord.{leaver_of_main, leaver_of_small, leaver_of, miss_record_of, s3_fifo_record_of, s3_fifo_undone}
 use Rattle.queue_policies.specs.S3FifoRecord.{before_join, before_leaving, before_promotions, with_ghost_at}
 use Rattle.queue_policies.proofs.CountedKeys.{keys-append, keys-times, joined-times, counted-first, counted-second}
-use Rattle.queue_policies.proofs.Queues.{without-newest}
 use Rattle.queue_policies.proofs.S3FifoPlan.{room-planned}
 use Rattle.queue_policies.proofs.S3FifoUndoing.{undoes, join-back, evict-back, none-promoted, promotions-back, promotions-few}
 use Rattle.queue_policies.proofs.S3Fifo.{BothCounted, promoted-counted, plan-made, once, join-ghost}
 use Rattle.queue_policies.proofs.Residents.{no-times, brought-few}
-use Rattle.ghost_policies.proofs.Weights.{weight, times-weight, option_keys, weight-remembered}
+use Rattle.ghost_policies.proofs.Weights.{times-weight, option_keys, weight-remembered}
 use Rattle.counted_queues.specs.Queues.{counted_key, newest_or, newest_entry}
 use Rattle.ghost_caches.specs.declared.queue_name.QueueName.TheVariants.{Entry, Main, EntryGhost, MainGhost}
 use Rattle.ghost_caches.specs.QueueLists.{QueueLists, keys_in, HasPlace, IsNowhere, lists_with_behind, lists_without_newest, lists_after_return}
-use Rattle.ghost_caches.specs.QueueLists.{lists_with_forgotten, entries_with_forgotten}
-use Rattle.ghost_caches.specs.S3FifoCache.{S3FifoCacheState, s3_fifo_of, IsS3FifoCache, all_promoted, S3FifoFits, S3FifoMissFits}
+use Rattle.ghost_caches.specs.QueueLists.{lists_with_forgotten}
+use Rattle.ghost_caches.specs.S3FifoCache.{s3_fifo_of, IsS3FifoCache, all_promoted, S3FifoFits, S3FifoMissFits}
 use Rattle.ghost_caches.specs.S3FifoCache.{JoinedLast, waiting_with, waiting_without, SmallLeftLast, AreTurnsCounted, WaitsForPlace, s3_fifo_coming_back}
 use Rattle.ghost_caches.proofs.Cuts.{keys-behind}
 use Rattle.ghost_caches.proofs.Ghosts.{keys-newest, ghost-keys-before}

@@ -1,5 +1,4 @@
-use Rattle.std.proofs.Common.{◌≡◌, false, Some, ap, ◌∙◌, sym}
-use Rattle.counted_queues.specs.Queues.{oldest_entry}
+use Rattle.std.proofs.Common.{◌≡◌, false, ap, ◌∙◌, sym}
 use Rattle.queue_policies.specs.S3Fifo.{main_gives}
 use Rattle.ghost_caches.specs.declared.queue_name.QueueName.TheVariants.{Entry, EntryGhost}
 use Rattle.ghost_caches.specs.QueueLists.{lists_with_ghost_key, lists_without_oldest}

@@ -1,4 +1,4 @@
-use Rattle.std.proofs.Common.{◌≡◌, ◌∙◌, ap, sym}
+use Rattle.std.proofs.Common.{◌∙◌, ap, sym}
 use Rattle.step_record.specs.declared.outcome.Outcome.{Outcome}
 use Rattle.queue_policies.specs.S3Fifo.{S3FifoState}
 use Rattle.queue_policies.specs.S3FifoPlan.{planned_eviction}

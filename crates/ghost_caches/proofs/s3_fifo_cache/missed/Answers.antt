@@ -1,4 +1,4 @@
-use Rattle.std.proofs.Common.{◌≡◌, ◌∙◌, ◌+◌, ◌++◌, ◌≤◌, length, ap, sym, arith, length-append}
+use Rattle.std.proofs.Common.{◌≡◌, ◌∙◌, ◌++◌, length, ap, arith, length-append}
 use Rattle.queue_policies.specs.Ghost.{ghost_place_of}
 use Rattle.queue_policies.specs.declared.s3_fifo_record.S3FifoRecord.TheVariants.{Miss}
 use Rattle.queue_policies.specs.S3Fifo.{without_ghost_key, s3_fifo_with_key}

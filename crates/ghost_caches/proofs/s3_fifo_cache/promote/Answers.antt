@@ -1,5 +1,4 @@
-use Rattle.std.proofs.Common.{◌≡◌, ◌∙◌, ◌+◌, ◌≤◌, length, ap, sym, arith}
-use Rattle.ghost_caches.specs.QueueLists.{QueueLists}
+use Rattle.std.proofs.Common.{◌∙◌, ap, sym, arith}
 use Rattle.ghost_caches.specs.S3FifoCache.{s3_fifo_of, IsPromoted}
 use Rattle.ghost_caches.proofs.S3Fifo.{one-more, none-promoted}
 use Rattle.ghost_caches.proofs.s3_fifo_cache.promote.Goals as goal

@@ -1,4 +1,4 @@
-use Rattle.std.proofs.Common.{ℕ, ◌≤◌, length}
+use Rattle.std.proofs.Common.{◌≤◌, length}
 use Rattle.ghost_caches.proofs.S3Fifo.{IsPromoting}
 use Rattle.ghost_caches.proofs.s3_fifo_cache.promote.Given as goal
 

@@ -1,4 +1,4 @@
-use Rattle.std.proofs.Common.{◌≡◌, ◌≤◌, Some, ap, ◌∙◌, sym, arith}
+use Rattle.std.proofs.Common.{◌∙◌, sym, arith}
 use Rattle.ghost_caches.proofs.S3Fifo.{promoted}
 use Rattle.ghost_caches.proofs.s3_fifo_cache.promote_one.Goals as goal
 

@@ -1,4 +1,4 @@
-use Rattle.std.proofs.Common.{◌≡◌, ◌∙◌, ap, sym, subst}
+use Rattle.std.proofs.Common.{◌∙◌, ap, sym, subst}
 use Rattle.queue_policies.specs.S3FifoRecord.{s3_fifo_undone}
 use Rattle.ghost_caches.specs.QueueLists.{QueueLists}
 use Rattle.ghost_caches.specs.S3FifoCache.{s3_fifo_of, S3FifoFits, S3FifoMissFits}

@@ -1,4 +1,4 @@
-use Rattle.std.proofs.Common.{◌≡◌, ◌∙◌, ap, refl}
+use Rattle.std.proofs.Common.{◌∙◌, ap, refl}
 use Rattle.queue_policies.specs.S3FifoRecord.{before_leaving, before_promotions, with_ghost_at}
 use Rattle.ghost_caches.specs.S3FifoCache.{s3_fifo_of, waiting_with, waiting_without}
 use Rattle.ghost_caches.proofs.S3FifoBack.{unjoined, leaving-back, joined, nowhere, last, turns, waits, waited}

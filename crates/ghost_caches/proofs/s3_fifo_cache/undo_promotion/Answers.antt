@@ -1,4 +1,4 @@
-use Rattle.std.proofs.Common.{◌≡◌, ◌∙◌, Some, None, sym}
+use Rattle.std.proofs.Common.{◌∙◌, sym}
 use Rattle.ghost_caches.proofs.S3FifoBack.{newest-first, promotion-back, no-promotion-back}
 use Rattle.ghost_caches.proofs.s3_fifo_cache.undo_promotion.Goals as goal
 

@@ -1,4 +1,4 @@
-use Rattle.std.proofs.Common.{◌≡◌, ◌∙◌, ap, refl}
+use Rattle.std.proofs.Common.{◌∙◌, ap, refl}
 use Rattle.queue_policies.specs.S3FifoRecord.{before_promotions}
 use Rattle.ghost_caches.specs.S3FifoCache.{s3_fifo_of}
 use Rattle.ghost_caches.proofs.S3FifoBack.{promotions-next, no-promotions}

@@ -1,4 +1,4 @@
-use Rattle.std.proofs.Common.{◌≡◌, ◌∙◌, ap, sym}
+use Rattle.std.proofs.Common.{◌∙◌, ap, sym}
 use Rattle.queue_policies.specs.S3FifoRecord.{with_ghost_at}
 use Rattle.ghost_caches.specs.S3FifoCache.{s3_fifo_of}
 use Rattle.ghost_caches.proofs.S3FifoBack.{recalled-back}

@@ -1,4 +1,4 @@
-use Rattle.std.proofs.Common.{◌≡◌, ap, ◌∙◌}
+use Rattle.std.proofs.Common.{ap, ◌∙◌}
 use Rattle.ghost_caches.specs.QueueLists.{ShownQueues, lists_with_count}
 use Rattle.ghost_caches.proofs.Counts.{counted-lists, counted-fifth}
 use Rattle.ghost_caches.proofs.ghost_queues.GhostQueues.set_count.Goals as goal

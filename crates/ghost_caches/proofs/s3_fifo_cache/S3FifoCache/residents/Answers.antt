@@ -1,7 +1,6 @@
-use Rattle.std.proofs.Common.{◌≡◌, ◌++◌, Result, Ok, Err, IfOk, subst, sym, ◌∙◌}
+use Rattle.std.proofs.Common.{◌≡◌, IfOk, subst}
 use Rattle.queue_policies.specs.S3Fifo.{s3_fifo_residents}
-use Rattle.queue_policies.proofs.CountedKeys.{keys-append}
-use Rattle.ghost_caches.specs.S3FifoCache.{S3FifoCacheState, s3_fifo_of}
+use Rattle.ghost_caches.specs.S3FifoCache.{S3FifoCacheState}
 use Rattle.ghost_caches.proofs.S3Fifo.{listed}
 use Rattle.ghost_caches.proofs.s3_fifo_cache.S3FifoCache.residents.Goals as goal
 

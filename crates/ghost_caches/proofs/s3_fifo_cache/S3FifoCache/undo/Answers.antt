@@ -1,4 +1,4 @@
-use Rattle.std.proofs.Common.{◌≡◌, sym, subst}
+use Rattle.std.proofs.Common.{sym, subst}
 use Rattle.ghost_caches.specs.S3FifoCache.{S3FifoFits}
 use Rattle.ghost_caches.proofs.S3FifoBack.{kept-back}
 use Rattle.ghost_caches.proofs.s3_fifo_cache.S3FifoCache.undo.Goals as goal
