@@ -127,7 +127,8 @@ class Trace:
     @staticmethod
     def without(row, begun):
         """A row without those accesses that another row of the same cache has of the beginning."""
-        return row._replace(accesses=row.accesses - begun.accesses, hits=row.hits - begun.hits, misses=row.misses - begun.misses)
+        return row._replace(accesses=row.accesses - begun.accesses, hits=row.hits - begun.hits,
+                            misses=row.misses - begun.misses)
 
     def estimated(self, row):
         if not self.whole:
