@@ -5,3 +5,6 @@ pub mod Ghosts
 pub mod Behind
 pub mod TwoQ
 pub mod TwoQBack
+pub mod Counts
+pub mod S3Fifo
+pub mod S3FifoBack

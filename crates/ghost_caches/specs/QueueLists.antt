@@ -1,7 +1,7 @@
 -- The queues of a cache that remembers keys which left, by name, oldest first.
 use Rattle.std.specs.Prelude.{◌≡◌, ℕ, Bool, true, false, eqb, nat_lt, length, if◌then◌else◌, Option, Some, None, List, [], ◌∷◌, ◌++◌}
 use Rattle.step_record.specs.Keys.{has_key}
-use Rattle.queue_policies.specs.CountedKeys.{CountedKey, keys_of}
+use Rattle.queue_policies.specs.CountedKeys.{CountedKey, keys_of, with_count}
 use Rattle.queue_policies.specs.Queues.{without_oldest, without_newest}
 use Rattle.counted_queues.specs.Queues.{queue_of, counted_key}
 use Rattle.ghost_caches.specs.declared.queue_name.QueueName.{QueueName}
@@ -74,6 +74,15 @@ HasPlace (Some a) l = has_key a (keys_of l) ≡ true
 -- k right behind the older one
 abbrev pub lists_with_behind : QueueName → Option ℕ → ℕ → QueueLists → QueueLists
 lists_with_behind q older k s = with_list q (entry_behind older (counted_key k 0) (list_of q s)) s
+
+-- k with another count, wherever it stands
+abbrev pub lists_with_count : ℕ → ℕ → QueueLists → QueueLists
+lists_with_count k n s = record {
+  entry = with_count k n s.entry;
+  main = with_count k n s.main;
+  entry_ghost = with_count k n s.entry_ghost;
+  main_ghost = with_count k n s.main_ghost;
+}
 
 -- ---- a ghost
 

@@ -1,14 +1,15 @@
 //! The queues of a cache that remembers keys which left, and the moves of keys among them.
-ghost use Rattle.std.specs.Prelude.{◌≡◌, ◌+◌, ◌≤◌, ◌++◌, ℕ, length, true, false, Ok, Some, None, OnOk, OnErr, IfOk, IfSome};
+ghost use Rattle.std.specs.Prelude.{◌≡◌, ◌+◌, ◌<◌, ◌≤◌, ◌^◌, ◌++◌, ℕ, length, true, false, Ok, Some, None, OnOk, OnErr, IfOk, IfSome};
 ghost use Rattle.step_record.specs.Keys.{has_key};
-ghost use Rattle.queue_policies.specs.CountedKeys.{count_of, keys_of, with_count};
+ghost use Rattle.queue_policies.specs.CountedKeys.{count_of, keys_of, AreCounted, total_count};
+ghost use Rattle.queue_policies.specs.Turns.{turn_count, after_turns, before_turns};
 ghost use Rattle.queue_policies.specs.Queues.{without_oldest, without_newest};
 ghost use Rattle.queue_policies.specs.Ghost.{older_from, forgotten_key, ghost_place_of};
-ghost use Rattle.counted_queues.specs.Queues.{first_or, newest_or, counted_key};
+ghost use Rattle.counted_queues.specs.Queues.{first_or, newest_or, oldest_entry, newest_entry, counted_key};
 ghost use Rattle.ghost_caches.specs.declared.queue_name.QueueName.TheVariants.{Entry, Main};
 ghost use Rattle.ghost_caches.specs.QueueLists.{empty_lists, list_of, keys_in, with_list, lists_after_push, lists_after_return};
 ghost use Rattle.ghost_caches.specs.QueueLists.{IsNowhere, entries_without, HasPlace, is_found_in, IsSomeOf, lists_without_oldest};
-ghost use Rattle.ghost_caches.specs.QueueLists.{lists_without_newest, lists_with_behind, lists_with_ghost_key, lists_with_forgotten};
+ghost use Rattle.ghost_caches.specs.QueueLists.{lists_without_newest, lists_with_behind, lists_with_count, lists_with_ghost_key, lists_with_forgotten};
 
 use crate::queue_name::QueueName;
 use counted_queues::{CountedQueues, Place};
@@ -275,13 +276,48 @@ impl GhostQueues {
         self.pass_back(key, ghost_queue, to, count);
     }
 
-    /// Gives a key of a queue another count, where it stands.
-    pub(crate) fn set_count(&mut self, key: Key, queue: QueueName, count: u8)
-        requires { has_key key (keys_in queue self.old.lists) ≡ true }
-        ensures { self.new.lists ≡ with_list queue (with_count key count (list_of queue self.old.lists)) self.old.lists }
+    /// Gives a key another count, wherever it stands.
+    pub(crate) fn set_count(&mut self, key: Key, count: u8)
+        ensures { self.new.lists ≡ lists_with_count key count self.old.lists }
     {
         self.queues.sound();
         self.queues.set_count(key, count);
+    }
+
+    /// The oldest key of the queue, with its count.
+    pub(crate) fn oldest_entry(&self, queue: QueueName) -> Option<(Key, u8)>
+        ensures { result ≡ oldest_entry (list_of queue self.now.lists) }
+    {
+        self.queues.oldest_entry(queue.number())
+    }
+
+    /// The newest key of the queue, with its count.
+    pub(crate) fn newest_entry(&self, queue: QueueName) -> Option<(Key, u8)>
+        ensures { result ≡ newest_entry (list_of queue self.now.lists) }
+    {
+        self.queues.newest_entry(queue.number())
+    }
+
+    /// While the oldest key of the queue has a count, it goes to the recent end with its count less 1. Returns how many did.
+    pub(crate) fn make_turns(&mut self, queue: QueueName) -> u32
+        requires { total_count (list_of queue self.old.lists) < 2 ^ 32 }
+        ensures turns { result ≡ turn_count (list_of queue self.old.lists) }
+        ensures lists { self.new.lists ≡ with_list queue
+            (after_turns (turn_count (list_of queue self.old.lists)) (list_of queue self.old.lists)) self.old.lists }
+        ensures spare { self.old.spare ≤ self.new.spare }
+    {
+        self.queues.sound();
+        self.queues.make_turns(queue.number())
+    }
+
+    /// Undoes so many turns of the queue.
+    pub(crate) fn undo_turns(&mut self, queue: QueueName, turns: u32)
+        requires { AreCounted 255 (before_turns turns (list_of queue self.old.lists)) }
+        ensures lists { self.new.lists ≡ with_list queue (before_turns turns (list_of queue self.old.lists)) self.old.lists }
+        ensures spare { self.old.spare ≤ self.new.spare }
+    {
+        self.queues.sound();
+        self.queues.undo_turns(queue.number(), turns);
     }
 
     /// The resident keys: those of the entry queue and then those of the main queue, each oldest first.

@@ -4,6 +4,8 @@
 
 mod ghost_queues;
 mod queue_name;
+mod s3_fifo_cache;
 mod two_q_cache;
 
+pub use s3_fifo_cache::S3FifoCache;
 pub use two_q_cache::TwoQCache;
