@@ -5,10 +5,10 @@ ghost use Rattle.step_record.specs.Keys.{has_key};
 ghost use Rattle.demand_cache.specs.DemandQueues.{empty_queues, queues_act, queues_record_of, queues_undone, queues_asks};
 ghost use Rattle.demand_cache.specs.DemandQueues.{QueuesFits, queues_residents};
 
-use ghost_caches::TwoQCache;
+use ghost_caches::{S3FifoCache, TwoQCache};
 use ghost_policies::TwoQRecord;
-use queue_caches::ClockCache;
-use queue_policies::ClockRecord;
+use queue_caches::{ClockCache, SieveCache};
+use queue_policies::{ClockRecord, S3FifoRecord, SieveRecord};
 use std::alloc::{AllocError, Global};
 use step_record::{Key, Outcome};
 
@@ -17,6 +17,10 @@ use step_record::{Key, Outcome};
 pub enum DemandPolicy {
     /// Second chance, as the clock of an operating system (Corbató 1969).
     Clock,
+    /// A hand that passes over keys which were hit (NSDI 2024).
+    Sieve,
+    /// A small queue before a main one, with a ghost (SOSP 2023).
+    S3Fifo,
     /// A queue of new keys before an Lru queue, with a ghost (VLDB 1994).
     TwoQ,
 }
@@ -26,6 +30,10 @@ pub enum DemandPolicy {
 pub enum DemandQueues {
     /// Of `DemandPolicy::Clock`.
     Clock(ClockCache),
+    /// Of `DemandPolicy::Sieve`.
+    Sieve(SieveCache),
+    /// Of `DemandPolicy::S3Fifo`.
+    S3Fifo(S3FifoCache),
     /// Of `DemandPolicy::TwoQ`.
     TwoQ(TwoQCache),
 }
@@ -35,6 +43,10 @@ pub enum DemandQueues {
 pub enum QueuesRecord {
     /// Of `DemandPolicy::Clock`.
     Clock(ClockRecord),
+    /// Of `DemandPolicy::Sieve`.
+    Sieve(SieveRecord),
+    /// Of `DemandPolicy::S3Fifo`.
+    S3Fifo(S3FifoRecord),
     /// Of `DemandPolicy::TwoQ`.
     TwoQ(TwoQRecord),
 }
@@ -48,6 +60,8 @@ impl DemandQueues {
     {
         match policy {
             DemandPolicy::Clock => DemandQueues::Clock(ClockCache::new(alloc, capacity)),
+            DemandPolicy::Sieve => DemandQueues::Sieve(SieveCache::new(alloc, capacity)),
+            DemandPolicy::S3Fifo => DemandQueues::S3Fifo(S3FifoCache::new(alloc, capacity)),
             DemandPolicy::TwoQ => DemandQueues::TwoQ(TwoQCache::new(alloc, capacity)),
         }
     }
@@ -67,6 +81,14 @@ impl DemandQueues {
             DemandQueues::Clock(cache) => {
                 let (outcome, done) = cache.access(key)?;
                 Ok((outcome, QueuesRecord::Clock(done)))
+            }
+            DemandQueues::Sieve(cache) => {
+                let (outcome, done) = cache.access(key)?;
+                Ok((outcome, QueuesRecord::Sieve(done)))
+            }
+            DemandQueues::S3Fifo(cache) => {
+                let (outcome, done) = cache.access(key)?;
+                Ok((outcome, QueuesRecord::S3Fifo(done)))
             }
             DemandQueues::TwoQ(cache) => {
                 let (outcome, done) = cache.access(key)?;
@@ -88,11 +110,19 @@ impl DemandQueues {
         let undone = match self {
             DemandQueues::Clock(cache) => match done {
                 QueuesRecord::Clock(done) => cache.undo(done).is_ok(),
-                QueuesRecord::TwoQ(_) => unreachable!(),
+                QueuesRecord::Sieve(_) | QueuesRecord::S3Fifo(_) | QueuesRecord::TwoQ(_) => unreachable!(),
+            },
+            DemandQueues::Sieve(cache) => match done {
+                QueuesRecord::Sieve(done) => cache.undo(done).is_ok(),
+                QueuesRecord::Clock(_) | QueuesRecord::S3Fifo(_) | QueuesRecord::TwoQ(_) => unreachable!(),
+            },
+            DemandQueues::S3Fifo(cache) => match done {
+                QueuesRecord::S3Fifo(done) => cache.undo(done).is_ok(),
+                QueuesRecord::Clock(_) | QueuesRecord::Sieve(_) | QueuesRecord::TwoQ(_) => unreachable!(),
             },
             DemandQueues::TwoQ(cache) => match done {
                 QueuesRecord::TwoQ(done) => cache.undo(done).is_ok(),
-                QueuesRecord::Clock(_) => unreachable!(),
+                QueuesRecord::Clock(_) | QueuesRecord::Sieve(_) | QueuesRecord::S3Fifo(_) => unreachable!(),
             },
         };
         if undone { Ok(()) } else { Err(done) }
@@ -104,6 +134,8 @@ impl DemandQueues {
     {
         match self {
             DemandQueues::Clock(cache) => cache.residents(alloc),
+            DemandQueues::Sieve(cache) => cache.residents(alloc),
+            DemandQueues::S3Fifo(cache) => cache.residents(alloc),
             DemandQueues::TwoQ(cache) => cache.residents(alloc),
         }
     }

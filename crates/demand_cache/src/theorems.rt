@@ -7,6 +7,8 @@ pub fn demand_keeps()
     ensures { DemandKeeps }
 {
     queue_policies::theorems::clock_keeps();
+    queue_policies::theorems::sieve_keeps();
+    queue_policies::theorems::s3_fifo_keeps();
     ghost_policies::theorems::two_q_keeps();
 }
 

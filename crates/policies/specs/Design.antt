@@ -32,8 +32,8 @@ design_of WindowTinyLfu = Queues window_tiny_lfu
 design_of Clairvoyant = KnowsTrace
 design_of Fifo = Queues fifo
 design_of Clock = Demand demand.Clock
-design_of Sieve = Queues fifo
-design_of S3Fifo = Queues fifo
+design_of Sieve = Demand demand.Sieve
+design_of S3Fifo = Demand demand.S3Fifo
 design_of TwoQ = Demand demand.TwoQ
 design_of Arc = Queues fifo
 

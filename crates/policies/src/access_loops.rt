@@ -33,9 +33,11 @@ pub(crate) fn access_queues(cache: &mut QueueCache, keys: &[Key]) -> Result<(), 
         Policy::TinyLfuLru => access_each::<TinyLfuLruDesign>(cache, keys),
         Policy::TinyLfuSegmented => access_each::<TinyLfuSegmentedDesign>(cache, keys),
         Policy::WindowTinyLfu => access_each::<WindowTinyLfuDesign>(cache, keys),
-        Policy::Fifo | Policy::Sieve | Policy::S3Fifo | Policy::Arc => access_each::<FifoDesign>(cache, keys),
+        Policy::Fifo | Policy::Arc => access_each::<FifoDesign>(cache, keys),
         Policy::Clairvoyant
         | Policy::Clock
+        | Policy::Sieve
+        | Policy::S3Fifo
         | Policy::TwoQ => unreachable!(),
     }
 }

@@ -54,8 +54,8 @@ pub fn design_of(policy: Policy) -> Design
         Policy::Clairvoyant => Design::KnowsTrace,
         Policy::Fifo => Design::Queues(FIFO),
         Policy::Clock => Design::Demand(DemandPolicy::Clock),
-        Policy::Sieve => Design::Queues(FIFO),
-        Policy::S3Fifo => Design::Queues(FIFO),
+        Policy::Sieve => Design::Demand(DemandPolicy::Sieve),
+        Policy::S3Fifo => Design::Demand(DemandPolicy::S3Fifo),
         Policy::TwoQ => Design::Demand(DemandPolicy::TwoQ),
         Policy::Arc => Design::Queues(FIFO),
     }
