@@ -11,3 +11,10 @@ pub enum Task {
     /// The item was removed from the table.
     Remove(Item),
 }
+
+/// The blank of a buffer's empty places.
+impl Default for Task {
+    fn default() -> Task {
+        Task::Add(Item::default())
+    }
+}

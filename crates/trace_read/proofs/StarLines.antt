@@ -1,6 +1,6 @@
 -- Lines of a lone `*`.
 use Rattle.std.proofs.Common.{refl, inr, inl, ◌*◌, suc, zero, ◌≡◌, ◌∙◌, ◌<◌, ◌≤◌, ◌+◌, ◌-◌, ℕ, List, [], ◌∷◌, length, take, drop, get_or, ap, sym, arith, subst, length-drop, length-take-le, get_or-drop}
-use Rattle.std.proofs.lemmas.Bool.{cases_lt, true≢false}
+use Rattle.std.proofs.lemmas.Bool.{cases_lt}
 use Rattle.std.proofs.lemmas.List.{get_or-take}
 use Rattle.std.specs.Int.Digits.{AllBelowBase}
 use Rattle.std.specs.Simd.Lanes.{number_l}
@@ -8,7 +8,6 @@ use Rattle.trace_read.proofs.DigitLines.{star_keys}
 use Rattle.trace_read.proofs.Eights.{fits-drop, fits-take}
 use Rattle.trace_read.proofs.LineFeeds.{no_feed_on}
 use Rattle.trace_read.proofs.Taken.{line_taken, nothing_read, taken_then}
-use Rattle.trace_read.specs.DigitRuns.{is_other, DigitsBetween}
 use Rattle.trace_read.specs.Lines.{is_feed, AreStarLines}
 use Rattle.streams.specs.Feeds.{HasNoFeed}
 use Rattle.trace_read.specs.TraceText.{IsRead}
@@ -60,15 +59,6 @@ stars_taken first now bytes start place (suc n) taken lirs stars =
     let line : now.line + n + 1 ≡ now.line + suc n = omega arith in
     subst (λ m. IsTakenUpTo first bytes start m (record { alloc = now.alloc; format = now.format; keys = now.keys; given = now.given; line = now.line + suc n; cut = now.cut })) end
     (subst (λ l. IsTakenUpTo first bytes start (place + 2 * n + 2) (record { alloc = now.alloc; format = now.format; keys = now.keys; given = now.given; line = l; cut = now.cut })) line all)
-
--- such lines begin with no digit
-pub none_before_star : (bytes : List ℕ) (start end count : ℕ) → start ≤ end → 0 < count → AreStarLines bytes start count → DigitsBetween bytes start end → end ≡ start
-none_before_star bytes start end count order some stars digits = elim (cases_lt start end) [
-  | inl less ↦
-      let here : get_or bytes start 0 ≡ 42 = ap (λ k. get_or bytes k 0) {x = start} (omega arith) ∙ stars.star 0 some in
-      absurd (true≢false (sym (ap is_other here) ∙ digits start (omega arith) less))
-  | inr none ↦ omega arith
-]
 
 -- and some more
 pub more_stars : (bytes : List ℕ) (start count more : ℕ) → AreStarLines bytes start count → AreStarLines bytes (start + 2 * count) more → AreStarLines bytes start (count + more)

@@ -97,26 +97,6 @@ impl<'a> DigitRuns<'a> {
         Some(run)
     }
 
-    /// The runs behind the next one, where that is empty and the byte behind it was looked at with those before it.
-    #[inline(always)]
-    pub fn past_empty(self) -> Option<DigitRuns<'a>>
-        requires { IsDigitRuns self }
-        ensures runs { IfSome result IsDigitRuns }
-        ensures bytes { IfSome result (λ r. r.bytes.now ≡ self.entry.bytes.now) }
-        ensures start { IfSome result (λ r. r.start ≡ self.entry.start + 1) }
-    {
-        if self.from != self.start || self.others % 2 == 0 {
-            return None;
-        }
-        let place = self.start + 1;
-        Some(DigitRuns {
-            start: place,
-            from: place,
-            others: self.others >> 1,
-            ..self
-        })
-    }
-
     /// The end of the line that this run, the one before these, is in; `None` where it is in the last few bytes.
     #[inline(always)]
     pub fn line_end(self, run: DigitRun) -> Option<LineEnd<'a>>

@@ -15,7 +15,7 @@ use super::digits::{long_number, short_number};
 use super::follower::Follower;
 use super::format::Format;
 use super::lirs::add_lirs;
-use super::star_lines::{is_star_line, star_lines};
+use super::star_lines::star_lines;
 use super::{Trace, TraceFault};
 use std::alloc::{AllocError, Global};
 use std::mem;
@@ -180,8 +180,8 @@ impl Scan {
         Ok(runs.start)
     }
 
-    // Takes the lines that are a number of at most sixteen digits or a lone `*`, from the next run of digits on, and
-    // returns the run that the first other line begins with. There is room for their accesses.
+    // Takes the lines that are a number of at most sixteen digits, from the next run of digits on, and returns the run
+    // that the first other line begins with. There is room for their accesses.
     #[inline(never)]
     fn take_numbers(&mut self, runs: &mut DigitRuns<'_>) -> Option<DigitRun>
         requires runs { IsDigitRuns runs.old }
@@ -195,13 +195,6 @@ impl Scan {
         let first = keys.len();
         'lines: while let Some(run) = ahead.next() {
             let Some(key) = usual_key(bytes, run) else {
-                if is_star_line(bytes, run.start)
-                    && let Some(behind) = ahead.past_empty()
-                {
-                    self.line += 1;
-                    ahead = behind;
-                    continue 'lines;
-                }
                 self.line += (keys.len() - first) as u64;
                 self.keys = keys;
                 *runs = ahead;

@@ -30,14 +30,3 @@ fn are_four_star_lines(bytes: &[u8], start: usize) -> bool
 {
     first_word(&bytes[start..]) == FOUR_STAR_LINES
 }
-
-/// Whether a line of a lone `*` begins at this place, and not eight of them, which are counted faster by themselves.
-#[inline(always)]
-pub fn is_star_line(bytes: &[u8], start: usize) -> bool
-    requires { start + 15 ≤ length bytes.now }
-    ensures { IsTrue result → AreStarLines bytes.now start 1 }
-{
-    bytes[start] == b'*'
-        && bytes[start + 1] == b'\n'
-        && !(bytes[start + 14] == b'*' && bytes[start + 6] == b'*' && bytes[start + 2] == b'*')
-}

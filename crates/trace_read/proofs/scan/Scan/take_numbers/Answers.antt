@@ -1,7 +1,6 @@
-use Rattle.std.proofs.Common.{◌≡◌, ◌∙◌, ◌<◌, ◌≤◌, ◌+◌, ◌-◌, ◌*◌, ap, arith, length, refl, subst, sym}
+use Rattle.std.proofs.Common.{◌≡◌, ◌∙◌, ◌<◌, ◌≤◌, ◌+◌, ◌-◌, ap, arith, length, refl, subst, sym}
 use Rattle.step_record.specs.declared.limits.TheConstants.{MAX_ACCESSES}
 use Rattle.trace_read.proofs.LineFeeds.{digits_no_feed}
-use Rattle.trace_read.proofs.StarLines.{none_before_star, stars_taken}
 use Rattle.trace_read.proofs.Taken.{key_read, line_taken, taken_then}
 use Rattle.trace_read.specs.DigitRuns.{DigitsBetween}
 use Rattle.trace_read.specs.ScanState.{IsTakenUpTo}
@@ -44,32 +43,4 @@ lines-preserved c =
         omega (arith, e.start.0, e.start.1, e.within, size, key.some, i.room.1, c.push_reserved.ensures.len, c.push_reserved.ensures.capacity),
       );
       before = omega (arith, c.push_reserved.ensures.len, i.before);
-    }
-
-pub lines-preserved-in_default-usual_key : goal.lines-preserved-in_default-usual_key
-lines-preserved-in_default-usual_key c =
-    let i = c.lines.invariant in
-    let e = c.in-Some.ensures in
-    let start = c.args.runs.now.start in
-    let run = c.in-Some.run' in
-    let first = c.args.self.now in
-    let scan = c.lines.self in
-    let bytes = c.args.runs.now.bytes.now in
-    let keys = c.lines.keys in
-    let more = keys.len - c.len-first.result in
-    let past = c.in-Some-past_empty.ensures in
-    let star = c.if-is_star_line.ensures refl in
-    let now : Scan = record { alloc = scan.alloc; format = scan.format; keys = keys; given = scan.given; line = scan.line + more; cut = scan.cut } in
-    let here = subst (λ n. IsTakenUpTo first bytes start n now) (sym e.start.0) i.taken in
-    let empty = none_before_star bytes run.start run.end 1 e.within.0 (omega arith) star (subst (λ b. DigitsBetween b run.start run.end) i.same e.digits) in
-    let taken = stars_taken first now bytes start run.start 1 here (i.taken.format ∙ c.requires.lines.format) star in
-    let line : scan.line + more + 1 ≡ scan.line + 1 + more = omega arith in
-    let end : run.start + 2 * 1 ≡ c.in-Some-past_empty.behind.start = omega (arith, past.start, e.start, empty) in
-    record {
-      taken = subst (λ n. IsTakenUpTo first bytes start n (record { alloc = scan.alloc; format = scan.format; keys = keys; given = scan.given; line = scan.line + 1 + more; cut = scan.cut })) end
-          (subst (λ l. IsTakenUpTo first bytes start (run.start + 2 * 1) (record { alloc = scan.alloc; format = scan.format; keys = keys; given = scan.given; line = l; cut = scan.cut })) line taken);
-      runs = past.runs;
-      same = past.bytes ∙ e.bytes ∙ i.same;
-      room = (omega (arith, end, e.start.0, i.room.0), omega (arith, end, e.start.0, i.room.1));
-      before = i.before;
     }

@@ -1,0 +1,119 @@
+"""Reports as curves, for tools/plot: rows of `cachesim sweep`, `cachesim intervals` and `cachesim compare --every`, and what is
+refused of them."""
+import sys
+from collections import namedtuple
+
+from policies import OPTIMAL
+
+SWEEP = "policy,capacity,accesses,hits,misses,evictions,rejections,rate"
+INTERVALS = "policy,capacity,first,last,hits,misses,evictions,rejections,rate"
+COMPARISONS = "first,second,capacity,from,to,both,first_only,second_only,neither"
+HEADERS = (SWEEP, INTERVALS, COMPARISONS)
+
+# A report of a file: the line that it is in, the place of the horizontal axis where it begins and that where it ends,
+# and its counts.
+Row = namedtuple("Row", "line policy capacity begin end accesses hits")
+# The points of a curve are a beginning, an end and a height. Its variant is the file, and of intervals the capacity.
+Curve = namedtuple("Curve", "name policy variant points")
+
+
+def refuse(text):
+    sys.exit(f"tools/plot: {text}")
+
+
+def comparisons_of(where, number, line):
+    """The two rows of a line of a comparison: the hits that each policy has alone."""
+    try:
+        first, second, *texts = line.split(",")
+        capacity, begin, end, both, first_only, second_only, neither = map(int, texts)
+    except ValueError:
+        refuse(f"{where}line {number} is no row of a comparison by interval: {line}")
+    accesses = both + first_only + second_only + neither
+    if not accesses or accesses != end - begin + 1:
+        refuse(f"{where}line {number} has counts that are not its accesses: {line}")
+    return [Row(number, policy, capacity, begin - 1, end, accesses, hits)
+            for policy, hits in ((first, first_only), (second, second_only))]
+
+
+def row_of(where, number, line, is_intervals):
+    try:
+        policy, *texts, _ = line.split(",")
+        capacity, *numbers = map(int, texts)
+        first, last, hits, misses, _, _ = numbers if is_intervals else (capacity, capacity, *numbers[1:])
+    except ValueError:
+        refuse(f"{where}line {number} is no row of a report: {line}")
+    accesses = hits + misses
+    if not is_intervals and accesses != numbers[0] or is_intervals and accesses != last - first + 1:
+        refuse(f"{where}line {number} has hits and misses that are not its accesses: {line}")
+    if accesses == 0:
+        refuse(f"{where}line {number} has no hit ratio, since it has no accesses: {line}")
+    return Row(number, policy, capacity, first - 1 if is_intervals else first, last, accesses, hits)
+
+
+def rows_of(text, where):
+    """The rows of one file, and its header."""
+    header, *_ = text.splitlines() or [""]
+    if header not in HEADERS:
+        refuse(f"{where}line 1 is not the header of a sweep: {SWEEP}")
+    lines = [(number, line) for number, line in enumerate(text.splitlines(), 1) if line != header]
+    if header == COMPARISONS:
+        rows = [row for number, line in lines for row in comparisons_of(where, number, line)]
+    else:
+        rows = [row_of(where, number, line, header == INTERVALS) for number, line in lines]
+    if not rows:
+        refuse(f"{where}there are no reports in it")
+    for row in rows:
+        if header == SWEEP and row.accesses != rows[0].accesses:
+            refuse(f"{where}line {row.line} is of a trace of {row.accesses} accesses and line {rows[0].line} of one of "
+                   f"{rows[0].accesses}: give each trace a file of its own")
+    refuse_hidden(rows, where, header != SWEEP)
+    return rows, header
+
+
+def refuse_hidden(rows, where, is_intervals):
+    """Refuses two rows of one policy and capacity at the same place."""
+    ordered = sorted(rows, key=lambda row: (row.policy, row.capacity, row.begin, row.line))
+    for row, other in zip(ordered, ordered[1:]):
+        is_hidden = other.begin < row.end if is_intervals else True
+        if (row.policy, row.capacity) == (other.policy, other.capacity) and is_hidden:
+            upper, lower = sorted((row.line, other.line))
+            refuse(f"{where}line {lower} is of {row.policy} at {row.capacity} entries, as line {upper} is, and one "
+                   "would hide the other: give each call a file of its own")
+
+
+def estimated(row, inverse, accesses):
+    """What a row of a sweep of a sample, of one block in so many, says of the whole trace: as many times its misses at as
+    many times its capacity, and hits otherwise."""
+    misses = min(accesses, (row.accesses - row.hits) * inverse)
+    capacity = row.capacity * inverse
+    return row._replace(capacity=capacity, begin=capacity, end=capacity, accesses=accesses, hits=accesses - misses)
+
+
+def curves_of(rows, where, is_intervals, suffix, is_below):
+    """A curve for each policy, for intervals also for each capacity.
+
+    Points below Belady's policy are, of intervals, those of all accesses up to the end of each: in an interval of its own
+    Belady's policy is no upper bound.
+    """
+    best = {(row.begin, row.end, row.capacity): row for row in rows if row.policy == OPTIMAL}
+    capacities, curves, sums = {row.capacity for row in rows}, {}, {}
+    for row in sorted(rows, key=lambda row: row.begin):
+        height = 100 * row.hits / row.accesses
+        if is_below:
+            optimal = best.get((row.begin, row.end, row.capacity))
+            if optimal is None:
+                refuse(f"{where}line {row.line} has no row of {OPTIMAL} beside it: run that policy too")
+            seen, lost = sums.get((row.policy, row.capacity), (0, 0)) if is_intervals else (0, 0)
+            if is_intervals and seen != row.begin:
+                refuse(f"{where}line {row.line} is of accesses from {row.begin + 1} on, and those from {seen + 1} on are missing")
+            seen, lost = seen + row.accesses, lost + optimal.hits - row.hits
+            sums[row.policy, row.capacity] = seen, lost
+            height = 100 * lost / seen
+        is_several = is_intervals and len(capacities) > 1
+        name = row.policy + (f" {row.capacity}" if is_several else "") + suffix
+        variant = (suffix, row.capacity if is_several else None)
+        curves.setdefault((row.policy, name, variant), []).append((row.begin, row.end, height))
+    order = list(dict.fromkeys(row.policy for row in rows))
+    return [Curve(name, policy, variant, points) for (policy, name, variant), points
+            in sorted(curves.items(), key=lambda it: order.index(it[0][0]))
+            if not (is_below and policy == OPTIMAL)]

@@ -1,0 +1,196 @@
+"""What tools/survey measures of a trace: its footprint, every policy at several capacities, the windows of wtinylfu, the
+jumps of lru, the capacities that reach a hit ratio, and both sides of powers of two.
+"""
+import math
+import sys
+from collections import namedtuple
+from decimal import Decimal
+
+from policies import OPTIMAL, POLICIES, WINDOWED
+from reports import MAX_CAPACITY, rate
+from traces import blocks_of, times_of_blocks
+
+PERCENTS = ["1", "2", "5", "10", "20", "50"]
+# The windows of wtinylfu that are tried, in percent of the capacity.
+WINDOWS = [1, 10, 20, 50, 80]
+# The curve of lru is read at neighbouring capacities that differ by one in so many, or by one entry.
+FINENESS = 50
+# How many capacities are tried at once between two capacities of lru.
+LRU_TRIES = 64
+# How many capacities in equal ratios a picture has, from 1 percent of the footprint on.
+DRAWN = 25
+
+# `windows` has a row for each window and capacity. `reaches` has the row that reaches a ratio and one that does not.
+Survey = namedtuple("Survey", "trace accesses footprint once highest policies rows windows jumps reaches powers")
+Reach = namedtuple("Reach", "policy ratio row below is_possible")
+
+
+def survey_of(trace, policies, args):
+    """Everything that is printed of one trace."""
+    largest = trace.reports(["lru"], [MAX_CAPACITY], None, trace.file.begun())
+    report, tables = largest["lru", MAX_CAPACITY], args.table
+    counts = times_of_blocks(trace.lines(), trace.options.format) if "traces" in tables or report.evictions else {}
+    # Without an eviction the misses are the distinct blocks.
+    footprint = len(counts) if report.evictions else report.misses
+    if counts and (report.accesses, footprint) != (counts.total(), len(counts)):
+        sys.exit(f"tools/survey: {trace.name} has other accesses than the program says")
+    if report.accesses <= trace.after:
+        return Survey(trace, 0, footprint, 0, "0.00", policies, {}, {}, [], [], [])
+    highest = highest_of(trace, largest, footprint)
+    once, top = sum(1 for times in counts.values() if times == 1), min(footprint, MAX_CAPACITY)
+    capacities = capacities_of(trace, footprint, args) if {*tables} & {"policies", "misses", "windows", "powers"} else []
+    rows = trace.sweep(policies, capacities) if capacities else {}
+    windows = windows_of(trace, rows, capacities) if WINDOWED in policies and not args.main else {}
+    jumps = jumps_of(trace, top, args.jump) if "jumps" in tables else []
+    reaches = reaches_of(trace, rows, policies, args.reach, top, highest) if "reach" in tables else []
+    powers = powers_of(trace, rows, policies) if "powers" in tables else []
+    return Survey(trace, highest.accesses, footprint, once, rate(highest.hits, highest.accesses), policies, rows, windows,
+                  jumps, reaches, powers)
+
+
+def highest_of(trace, largest, footprint):
+    """The row of a cache that holds the whole footprint."""
+    row = trace.converted(largest)["lru", MAX_CAPACITY]
+    if not row.evictions:
+        return row
+    known = len(set(blocks_of(trace.warm_up_lines(), trace.options.format))) if trace.after else 0
+    misses = min(row.accesses, (footprint - known) * trace.inverse)
+    return row._replace(hits=row.accesses - misses, misses=misses)
+
+
+def capacities_of(trace, footprint, args):
+    """The capacities that are given, or those parts of the footprint, of which none is over the largest capacity."""
+    if args.capacity:
+        return sorted({max(1, round(it / trace.inverse)) for it in args.capacity})
+    found = {max(1, int(footprint * percent / 100)) for percent in args.percent or map(Decimal, PERCENTS)}
+    for capacity in sorted(found):
+        if capacity > MAX_CAPACITY:
+            print(f"tools/survey: {trace.name}: {trace.shown(capacity)} entries are left out: the largest cache has "
+                  f"{trace.shown(MAX_CAPACITY)}", file=sys.stderr)
+    return sorted(it for it in found if it <= MAX_CAPACITY)
+
+
+def windows_of(trace, rows, capacities):
+    """The rows of wtinylfu at each window and capacity. The smallest window is the program's own."""
+    found = {(WINDOWS[0], it): rows[WINDOWED, it] for it in capacities}
+    for window in WINDOWS[1:]:
+        swept = trace.sweep([WINDOWED], capacities, 100 - window) if capacities else {}
+        found.update({(window, capacity): row for (_, capacity), row in swept.items()})
+    return found
+
+
+def best_of(survey, capacity):
+    """The policies that are as good as the best one at a capacity, Belady's left out, from the best on, and the rows of
+    these. Of wtinylfu it is the best window."""
+    rows = [(name, survey.rows[name, capacity]) for name in survey.policies if name != OPTIMAL]
+    if survey.windows:
+        window = max(WINDOWS, key=lambda it: survey.windows[it, capacity].hits)
+        rows = [(f"{name} {window}", survey.windows[window, capacity]) if name == WINDOWED else (name, row)
+                for name, row in rows]
+    return nearly_best(survey.trace, rows)
+
+
+def nearly_best(trace, rows):
+    """Those of named rows that are within half a point of the one with the most hits, or of a sample within two points."""
+    rows, part = sorted(rows, key=lambda it: -it[1].hits), 50 if trace.whole else 200
+    return [(name, row) for name, row in rows if (rows[0][1].hits - row.hits) * part <= row.accesses]
+
+
+def between(low, high, count):
+    """So many capacities above one capacity and below another, evenly apart, or all of them."""
+    return sorted({low + (high - low) * at // (count + 1) for at in range(1, count + 1)} - {low, high})
+
+
+def is_steep(low, high):
+    """Whether the hit ratio of lru rises by a point or more for each percent that the cache grows."""
+    return (high.hits - low.hits) * low.capacity >= (high.capacity - low.capacity) * high.accesses
+
+
+def steep_parts(rows):
+    """The longest parts of a curve whose neighbours are all steep, as pairs of their first and last row."""
+    parts = []
+    for low, high in zip(rows, rows[1:]):
+        if is_steep(low, high):
+            if parts and parts[-1][1] == low:
+                parts[-1] = parts[-1][0], high
+            else:
+                parts.append((low, high))
+    return parts
+
+
+def jumps_of(trace, top, points):
+    """Where the hit ratio of lru jumps: the curve at capacities near to each other, then each jump closer by."""
+    capacities = [1]
+    while capacities[-1] < top:
+        capacities.append(min(top, capacities[-1] + max(1, capacities[-1] // FINENESS)))
+    curve = [row for _, row in sorted(trace.sweep(["lru"], capacities).items())]
+    found = [(first, last) for first, last in steep_parts(curve)
+             if (last.hits - first.hits) * 100 >= points * first.accesses]
+    inside = [capacity for first, last in found for capacity in between(first.capacity, last.capacity, LRU_TRIES)]
+    close = trace.sweep(["lru"], inside) if inside else {}
+    jumps = []
+    for first, last in found:
+        rows = [row for (_, capacity), row in sorted(close.items()) if first.capacity < capacity < last.capacity]
+        parts = steep_parts([first, *rows, last])
+        jumps.append((parts[0][0], parts[-1][1]))
+    return jumps
+
+
+def reaches_of(trace, rows, policies, ratios, top, highest):
+    """For each ratio and policy the smallest capacity found that reaches the ratio, to one percent of it."""
+    tops, found = trace.sweep(policies, [top]), {}
+    for policy in policies:
+        known = {capacity: row for (name, capacity), row in rows.items() if name == policy and capacity < top}
+        known[top] = tops[policy, top]
+        while tries := sorted({it for ratio in ratios for it in tries_between(*bounds_of(known, ratio), ratio)}):
+            known.update((capacity, row) for (_, capacity), row in trace.sweep([policy], tries).items())
+        found.update({(ratio, policy): bounds_of(known, ratio) for ratio in ratios})
+    return [Reach(policy, ratio, reached, below, has_ratio(highest, ratio)) for ratio in ratios for policy in policies
+            for below, reached in [found[ratio, policy]]]
+
+
+def has_ratio(row, ratio):
+    return row.hits * 100 >= ratio * row.accesses
+
+
+def bounds_of(known, ratio):
+    """The row of the smallest known capacity that reaches a ratio, if one does, and before it that of the next smaller
+    capacity, or of the largest one."""
+    reached = min((it for it, row in known.items() if has_ratio(row, ratio)), default=None)
+    below = max((it for it in known if reached is None or it < reached), default=None)
+    return known.get(below), known.get(reached)
+
+
+def tries_between(below, reached, ratio):
+    """The capacities to try next between one that does not reach a ratio and one that does: none where they differ by
+    one percent or by one entry."""
+    if not reached:
+        return []
+    low, high = below.capacity if below else 0, reached.capacity
+    if high - low <= max(1, high // 100):
+        return []
+    if reached.policy == "lru":
+        return between(low, high, LRU_TRIES)
+    # In the middle, and to both sides of where a straight line between the two over the logarithm of the capacity is.
+    lost, hits = max(low, 1), below.hits if below else 0
+    part = (float(ratio) * reached.accesses / 100 - hits) / max(1, reached.hits - hits)
+    guess = lost * (high / lost) ** part
+    tries = {math.isqrt(lost * high), int(guess * 0.996), math.ceil(guess * 1.004)}
+    return sorted(it for it in tries if low < it < high) or [(low + high) // 2]
+
+
+def powers_of(trace, rows, policies):
+    """The rows on both sides of each power of two that a capacity is near to, of the policies with a sketch."""
+    filtered = [it for it in policies if it in POLICIES and POLICIES[it].is_filtered]
+    capacities = sorted({capacity for _, capacity in rows})
+    powers = [1 << bits for bits in range(1, 20) if any(abs(it - (1 << bits)) * 20 <= it for it in capacities)]
+    found = trace.sweep(filtered, [it + more for it in powers for more in (0, 1)]) if powers and filtered else {}
+    return [(found[policy, power], found[policy, power + 1]) for power in powers for policy in filtered if found]
+
+
+def drawn_of(survey):
+    """The rows of a picture: every policy at capacities in equal ratios, from 1 percent of the footprint to all of it."""
+    top = min(survey.footprint, MAX_CAPACITY)
+    low = max(1, survey.footprint // 100)
+    capacities = sorted({round(low * (top / low) ** (at / (DRAWN - 1))) for at in range(DRAWN)})
+    return survey.trace.sweep(survey.policies, capacities).values()

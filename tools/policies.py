@@ -1,0 +1,34 @@
+"""The policies as the scripts of tools/ know them: one list, in the order in which they are shown.
+
+A script uses those of them that the program takes (`reports.Program.policies`), so that a new word is added here alone.
+"""
+from collections import namedtuple
+
+# How a policy is drawn, whether a sketch filters what it admits, and whether it is shown where no policy is named. Each
+# has a colour, a marker and a dash of gnuplot's that no other one has. The first colours are those that people with any
+# kind of colour blindness tell apart (Okabe and Ito).
+Policy = namedtuple("Policy", "colour marker dash is_filtered is_default")
+
+OPTIMAL = "clairvoyant"
+WINDOWED = "wtinylfu"
+POLICIES = {
+    "fifo": Policy("#7f7f7f", 1, "(3,6)", False, False),
+    "clock": Policy("#56b4e9", 3, "(10,6)", False, False),
+    "lru": Policy("#0072b2", 4, "1", False, True),
+    "slru": Policy("#e69f00", 6, "(14,4)", False, True),
+    "2q": Policy("#8c510a", 7, "(8,3,2,3)", False, False),
+    "arc": Policy("#a50f15", 9, "(18,3,6,3)", False, True),
+    "sieve": Policy("#6a3d9a", 5, "(2,2,6,2)", False, True),
+    "s3-fifo": Policy("#b8a600", 14, "(6,2,2,2,2,2)", False, True),
+    "tinylfu-lru": Policy("#009e73", 8, "(6,3)", True, False),
+    "tinylfu-slru": Policy("#cc79a7", 10, "(14,4,3,4)", True, True),
+    WINDOWED: Policy("#d55e00", 12, "(3,3)", True, True),
+    OPTIMAL: Policy("#000000", 2, "(22,5)", False, True),
+}
+
+
+def defaults(taken):
+    """The policies that are shown where none is named: at most eight of those that the program takes."""
+    shown = [name for name, policy in POLICIES.items() if name in taken and policy.is_default]
+    # A program that takes few policies shows them all.
+    return shown if len(taken) > 8 else [name for name in POLICIES if name in taken]

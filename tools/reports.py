@@ -1,0 +1,137 @@
+"""The program's reports for the scripts of tools/: how it is found and called, and what a report of a sample, or one
+without the warm-up, comes to.
+"""
+import csv
+import os
+import re
+import subprocess
+import sys
+import tempfile
+from collections import namedtuple
+from pathlib import Path
+
+from traces import TraceFile, beginning_of
+
+MAX_CAPACITY = 1 << 20
+SWEEP = "policy,capacity,accesses,hits,misses,evictions,rejections,rate".split(",")
+
+Row = namedtuple("Row", "policy capacity accesses hits misses evictions")
+# The options of a call: the format of the trace, --main of wtinylfu, --spread.
+Options = namedtuple("Options", "format main spread")
+
+
+def rate(hits, accesses):
+    """A hit ratio in percent, with two decimals and rounded down, as the program prints it."""
+    hundredths = 10000 * hits // accesses if accesses else 0
+    return f"{hundredths // 100}.{hundredths % 100:02}"
+
+
+class Program:
+    """The program, and what its calls print."""
+
+    def __init__(self, path, tool):
+        self.path, self.tool = path, tool
+
+    @staticmethod
+    def beside(script):
+        """`cachesim` beside the folder of a script, or where tools/install puts it, also where the folder or the script is a
+        link; else that on the path."""
+        tops = [it.parent.parent for it in (Path(script).absolute(), Path(script).resolve())]
+        files = [*(top / "cachesim" for top in tops), tops[1].parent / "bin/cachesim"]
+        return next((str(it) for it in files if it.is_file()), "cachesim")
+
+    def output(self, words, **how):
+        try:
+            return subprocess.run([self.path, *map(str, words)], stdout=subprocess.PIPE, check=False, **how)
+        except OSError as fault:
+            sys.exit(f"{self.tool}: {self.path} cannot be called: {fault.strerror}")
+
+    def policies(self):
+        """The words of the policies that the program takes, in its order."""
+        text = self.output(["sweep", "--help"], stdin=subprocess.DEVNULL).stdout.decode(errors="replace")
+        words = re.search(r"--policy <POLICY>[^\[]*\[possible values: ([^]]*)\]", text)
+        if not words:
+            sys.exit(f"{self.tool}: {self.path} does not say which policies it takes")
+        return re.split(r",\s*", words.group(1))
+
+    def rows(self, words, trace, name):
+        """The rows of a sweep of a trace, with their rate left out."""
+        ended = self.output(words, stdin=trace)
+        if ended.returncode:
+            sys.exit(f"{self.tool}: the program refused {name}")
+        found, *rows = csv.reader(ended.stdout.decode().splitlines())
+        if found != SWEEP:
+            self.refuse_reports(name)
+        return [(policy, *map(int, numbers)) for policy, *numbers, _ in rows]
+
+    def refuse_reports(self, name):
+        sys.exit(f"{self.tool}: the program printed other reports of {name} than were asked for")
+
+
+class Trace:
+    """A trace, how the program is to read it, and what its reports stand for.
+
+    Of a sample of one block in `inverse`, taken of a trace of `whole` accesses, a row estimates that trace: a sample
+    has the misses of one block in so many, so the trace has as many times its misses, and its other accesses are hits (the
+    correction of SHARDS-adj, Waldspurger et al. 2015). A row's capacity stays that of the sample: `shown` is the trace's.
+    With `after` a row leaves out the first accesses.
+    """
+
+    def __init__(self, program, name, options, inverse=1, whole=None, after=0):
+        self.program, self.name, self.options = program, name, options
+        self.inverse, self.whole, self.after = inverse, whole, after
+        self.file, self.warm_up = TraceFile(name), None
+        if after:
+            self.warm_up = tempfile.TemporaryFile()
+            self.warm_up.writelines(beginning_of(self.lines(), options.format, after))
+            self.warm_up.flush()
+
+    def lines(self):
+        return self.file.lines()
+
+    def warm_up_lines(self):
+        os.lseek(self.warm_up.fileno(), 0, os.SEEK_SET)
+        return os.fdopen(os.dup(self.warm_up.fileno()), "rb")
+
+    def shown(self, count):
+        """A capacity, or another number of blocks, as it is of the trace that was sampled."""
+        return count * self.inverse
+
+    def sweep(self, policies, capacities, main=None):
+        """A row of each policy at each capacity, keyed by both."""
+        return self.converted(self.reports(policies, capacities, main, self.file.begun()), main)
+
+    def converted(self, rows, main=None):
+        """What the program's reports stand for."""
+        if self.warm_up:
+            # What a policy hits in the warm-up does not depend on what follows. Belady's policy knows that, but it has the
+            # most hits of all up to every place, so these too are those of the warm-up alone.
+            policies, capacities = ([*dict.fromkeys(it)] for it in zip(*rows))
+            os.lseek(self.warm_up.fileno(), 0, os.SEEK_SET)
+            begun = self.reports(policies, capacities, main, self.warm_up.fileno())
+            rows = {at: self.without(row, begun[at]) for at, row in rows.items()}
+        return {at: self.estimated(row) for at, row in rows.items()}
+
+    def reports(self, policies, capacities, main, trace):
+        """The program's reports of each policy at each capacity."""
+        if not policies:
+            return {}
+        options = self.options
+        words = ["sweep", "--format", options.format, "--spread", options.spread, "--main", main or options.main]
+        words += [*(word for policy in policies for word in ("--policy", policy)), *capacities]
+        rows = self.program.rows(words, trace, self.name)
+        if [row[:2] for row in rows] != [(policy, capacity) for policy in policies for capacity in capacities]:
+            self.program.refuse_reports(self.name)
+        return {row[:2]: Row(*row[:6]) for row in rows}
+
+    @staticmethod
+    def without(row, begun):
+        """A row without those accesses that another row of the same cache has of the beginning."""
+        return row._replace(accesses=row.accesses - begun.accesses, hits=row.hits - begun.hits,
+                            misses=row.misses - begun.misses)
+
+    def estimated(self, row):
+        if not self.whole:
+            return row
+        misses = min(self.whole, row.misses * self.inverse)
+        return row._replace(accesses=self.whole, hits=self.whole - misses, misses=misses)

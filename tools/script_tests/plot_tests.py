@@ -1,0 +1,212 @@
+"""Tests of tools/plot, over rows whose pictures are known."""
+import re
+import shutil
+import subprocess
+import sys
+from xml.etree import ElementTree
+
+from script_tests.frame import POLICIES, Mistake, expect, expect_full_disk, expect_parts, file_of, run
+
+TWELVE = [*POLICIES, "fifo", "clock", "sieve", "s3-fifo", "2q", "arc"]
+SWEEP = "policy,capacity,accesses,hits,misses,evictions,rejections,rate\n"
+COMPARISONS = "first,second,capacity,from,to,both,first_only,second_only,neither\n"
+INTERVALS = "policy,capacity,first,last,hits,misses,evictions,rejections,rate\n"
+
+
+def sweep_rows(policy, *places, accesses=100):
+    """A row for each capacity and its hits."""
+    return "".join(f"{policy},{capacity},{accesses},{hits},{accesses - hits},0,0,{100 * hits // accesses}.00\n"
+                   for capacity, hits in places)
+
+
+def interval_rows(policy, length, *hits, capacity=9):
+    """A row for each interval of this length, and its hits."""
+    return "".join(f"{policy},{capacity},{at * length + 1},{(at + 1) * length},{it},{length - it},0,0,{100 * it // length}.00\n"
+                   for at, it in enumerate(hits))
+
+
+def curves_in(commands):
+    """The data of each curve in what gnuplot is given, and the rest of it."""
+    curves, rest, lines = [], [], iter(commands.splitlines())
+    for line in lines:
+        if line.endswith("<< END"):
+            curves.append([tuple(map(float, it.split())) for it in iter(lambda: next(lines), "END")])
+        else:
+            rest.append(line)
+    return curves, "\n".join(rest)
+
+
+def drawn(plot, *words):
+    return curves_in(run(plot, "--commands", *words)[0])
+
+
+def check_curves(plot, folder, _):
+    """Two curves, in any order of their rows, and what stands around them."""
+    path = file_of(folder, "two.csv", SWEEP + sweep_rows("lru", (40, 501), (10, 204), (20, 307), accesses=1000) +
+                   sweep_rows("clairvoyant", (10, 450), (20, 500), (40, 600), accesses=1000))
+    curves, rest = drawn(plot, "--trace", "a_'\"\\", "--options=--main 80", path)
+    expect("the curves", curves, [[(10, 20.4), (20, 30.7), (40, 50.1)], [(10, 45), (20, 50), (40, 60)]])
+    expect_parts("around them", rest, "set key outside", "set logscale x", "'10' 10", "'40' 40", "'20' 20", "'60' 60", "yrange [20:60]",
+                 "\\na_'\\\"\\\\, 1000 accesses, --main 80\"", 'title "lru"', 'title "clairvoyant"', "terminal svg",
+                 "capacity (entries, logarithmic)")
+    curves, rest = drawn(plot, "--below-optimal", "--y", "0:50", "--title", "A title of its own", path)
+    expect("points below Belady's", curves, [[(10, 24.6), (20, 19.3), (40, 9.9)]])
+    expect_parts("what was given", rest, "set yrange [0.0:50.0]", 'set title "A title of its own\\n')
+    many = file_of(folder, "many.csv", SWEEP + sweep_rows("lru", *((100 + it, it) for it in range(80))))
+    curves, rest = drawn(plot, many)
+    expect("a dense sweep", curves, [[(100 + it, it) for it in range(80)]])
+    expect("its steps", ("with steps" in rest, "unset logscale" in rest, "logarithmic" in rest), (True, True, False))
+    expect_full_disk(plot, "--commands", path)
+
+
+def check_marks(plot, folder, _):
+    """On a logarithmic axis each power of ten has a mark."""
+    for first, last in ((1000, 362038), (1000, 750378), (5, 1280), (1, 1000000)):
+        places = sorted({round(first * (last / first) ** (at / 16)) for at in range(17)})
+        rest = drawn(plot, file_of(folder, "log.csv", SWEEP + sweep_rows("lru", *((it, 5) for it in places))))[1]
+        powers = [10 ** it for it in range(7) if first <= 10 ** it <= last]
+        expect_parts(f"marks from {first} to {last}", rest, *(f"'{it}' {it}" for it in [first, *powers]))
+
+
+def check_styles(plot, folder, _):
+    """Each policy has a colour, a marker and a dash that no other one has, and its colour in every picture."""
+    rows = file_of(folder, "all.csv", SWEEP + "".join(sweep_rows(it, (5, 1), (6, 2)) for it in TWELVE))
+    legend = [line.split() for line in drawn(plot, rows)[1].splitlines() if "linespoints" in line]
+    for word in ("rgb", "dashtype", "pointtype"):
+        expect(f"how many have a {word} of their own", len({line[line.index(word) + 1] for line in legend}), len(TWELVE))
+    colours = {line[-1].rstrip(","): line[line.index("rgb") + 1] for line in map(lambda it: [w.strip('",\\') for w in it], legend)
+               for line in [[w for w in line if w]]}
+    one = file_of(folder, "one.csv", SWEEP + sweep_rows("slru", (5, 1), (6, 2)))
+    expect_parts("the colour of slru alone", drawn(plot, one)[1], colours["slru"])
+    two = file_of(folder, "two.csv", INTERVALS + interval_rows("lru", 10, 5, 6) + interval_rows("slru", 10, 5, 6) +
+                  interval_rows("lru", 10, 5, 6, capacity=20) + interval_rows("slru", 10, 5, 6, capacity=20))
+    legend = re.findall(r"rgb '(#......)' .* dashtype (\S+) .* title \"(\w+) (\d+)\"", drawn(plot, two)[1])
+    expect("the first capacities", [(it[0], it[2]) for it in legend if it[3] == "9"],
+           [(colours["lru"].strip("'"), "lru"), (colours["slru"].strip("'"), "slru")])
+    expect("curves of their own", len({it[:2] for it in legend}), 4)
+    expect_parts("an unknown policy", run(plot, "--commands", status=1, typed=SWEEP + sweep_rows("mine", (5, 1)))[1], "mine")
+
+
+def check_refusals(plot, folder, _):
+    """What is not drawn, and the line that is named."""
+    for name, text, words, parts in (
+            ("hidden", SWEEP + sweep_rows("lru", (10, 20), (20, 30)) + SWEEP + sweep_rows("lru", (20, 31)), [],
+             ["line 5 is of lru at 20 entries, as line 3 is"]),
+            ("traces", SWEEP + sweep_rows("lru", (10, 20)) + sweep_rows("lru", (20, 30), accesses=200), [],
+             ["line 3 is of a trace of 200 accesses", "line 2 of one of 100"]),
+            ("empty", SWEEP + "lru,10,0,0,0,0,0,0.00\n", [], ["line 2 has no hit ratio"]),
+            ("cut", SWEEP + "lru,10,100,20\n", [], ["line 2 is no row"]),
+            ("false", SWEEP + "lru,10,100,20,81,0,0,20.00\n", [], ["line 2 has hits and misses that are not"]),
+            ("header", "1,2\n", [], ["line 1 is not the header"]), ("none", SWEEP, [], ["no reports"]),
+            ("lonely", SWEEP + sweep_rows("lru", (10, 20)), ["--below-optimal"], ["line 2 has no row of clairvoyant"]),
+            ("over", INTERVALS + "lru,9,1,10,5,5,0,0,50.00\nlru,9,10,12,1,2,0,0,33.33\n", [],
+             ["line 3 is of lru at 9"]),
+            ("a gap", INTERVALS + "lru,9,11,20,5,5,0,0,50.00\nclairvoyant,9,11,20,5,5,0,0,50.00\n", ["--below-optimal"],
+             ["line 2 is of accesses from 11 on, and those from 1 on are missing"]),
+            ("a sample", INTERVALS + interval_rows("lru", 10, 5), ["--sampled", "1/8", "--accesses", "9"], ["intervals of a sample"])):
+        path = file_of(folder, f"{name}.csv", text)
+        expect_parts(name, run(plot, "--commands", *words, path, status=1)[1], *parts)
+    mains = [file_of(folder, f"main{it}.csv", SWEEP + sweep_rows("wtinylfu", (10, it), (20, 99))) for it in (80, 90)]
+    curves, rest = drawn(plot, *mains)
+    expect("two files", curves, [[(10, 80), (20, 99)], [(10, 90), (20, 99)]])
+    expect_parts("their names", rest, *(f"wtinylfu ({path.with_suffix('')})" for path in mains))
+    run(plot, "--commands", mains[0], mains[0], status=1)
+
+
+def check_intervals(plot, folder, _):
+    """Intervals are drawn from their first access to their last one, the last and shorter one too."""
+    rows = file_of(folder, "it.csv", INTERVALS + "lru,9,1,10,5,5,0,0,50.00\nlru,9,11,20,2,8,0,0,20.00\n"
+                   "lru,9,21,24,3,1,0,0,75.00\n")
+    curves, rest = drawn(plot, rows)
+    expect("the intervals", curves, [[(0, 50), (10, 50), (10, 20), (20, 20), (20, 75), (24, 75)]])
+    expect_parts("around them", rest, "set xrange [0:24]", "'24' 24", "24 accesses, capacity 9, intervals of 10\"")
+    expect("without the warm-up", drawn(plot, "--after", "10", rows)[0], [[(10, 20), (20, 20), (20, 75), (24, 75)]])
+    run(plot, "--commands", "--after", "24", rows, status=1)
+    many = INTERVALS + interval_rows("lru", 10, *(it % 7 for it in range(300))) + interval_rows("slru", 10, *[5] * 300)
+    expect_parts("a carpet", run(plot, "--commands", typed=many)[1], "600 intervals", "--every 15 or more")
+    expect("no carpet", run(plot, "--commands", typed=INTERVALS + interval_rows("lru", 10, *[5] * 300))[1], "")
+
+
+def check_comparisons(plot, folder, _):
+    """A comparison by interval: the part of the accesses that each policy alone hits."""
+    rows = file_of(folder, "compare.csv", COMPARISONS + "lru,wtinylfu,9,1,10,2,3,1,4\nlru,wtinylfu,9,11,14,1,0,2,1\n")
+    curves, rest = drawn(plot, rows)
+    expect("the curves", curves, [[(0, 30), (10, 30), (10, 0), (14, 0)], [(0, 10), (10, 10), (10, 50), (14, 50)]])
+    expect_parts("around them", rest, "alone over accesses", "it alone hits (%)", "14 accesses, capacity 9, intervals of 10",
+                 'title "lru"', 'title "wtinylfu"')
+    for line in ("lru,wtinylfu,9,1,10,2,3,1,5", "lru,wtinylfu,9,1,10,2,3,1", "lru,wtinylfu,9,1,0,0,0,0,0"):
+        expect_parts(line, run(plot, "--commands", status=1, typed=COMPARISONS + line + "\n")[1], "line 2 ")
+    run(plot, "--commands", "--below-optimal", rows, status=1)
+
+
+def check_below_optimal_intervals(plot, folder, _):
+    """Points below Belady's policy are those of all accesses up to the end of an interval."""
+    rows = file_of(folder, "it.csv", INTERVALS + interval_rows("lru", 10, 5, 9, 0) + interval_rows("clairvoyant", 10, 9, 8, 3))
+    curves, rest = drawn(plot, "--below-optimal", rows)
+    # 4 of 10, 3 of 20, 6 of 30.
+    expect("the sums", curves, [[(10, 40), (20, 15), (30, 20)]])
+    expect_parts("the title", rest, "in all accesses up to there")
+
+
+def check_sampled(plot, folder, _):
+    """A sweep of one block in 8: eight times the misses at eight times the capacity."""
+    rows = file_of(folder, "sample.csv", SWEEP + sweep_rows("lru", (10, 20), (20, 90), (40, 100)))
+    curves, rest = drawn(plot, "--sampled", "1/8", "--accesses", "800", rows)
+    expect("the whole trace", curves, [[(80, 20), (160, 90), (320, 100)]])
+    expect_parts("its title", rest, "800 accesses, estimated by one block in 8")
+    expect("corrected", drawn(plot, "--sampled", "1/8", "--accesses", "1000", rows)[0], [[(80, 36), (160, 92), (320, 100)]])
+    expect("never below 0", drawn(plot, "--sampled", "1/8", "--accesses", "400", rows)[0], [[(80, 0), (160, 80), (320, 100)]])
+    run(plot, "--commands", "--sampled", "1/3", "--accesses", "9", rows, status=2)
+    run(plot, "--commands", "--sampled", "1/2", rows, status=2)
+
+
+def check_pictures(plot, folder, _):
+    """What gnuplot draws, where it is there: an SVG with every name and the data in it, and a PNG."""
+    if not shutil.which("gnuplot"):
+        print("no picture is drawn, since gnuplot is not on this machine", file=sys.stderr)
+        return
+    path = file_of(folder, "all.csv", SWEEP + "".join(sweep_rows(it, (5, 1), (6, 2)) for it in POLICIES))
+    picture = ElementTree.fromstring(run(plot, path)[0])
+    texts = "".join(picture.itertext())
+    expect_parts("the SVG", texts, *POLICIES, "capacity (entries)", "hit ratio (%)")
+    data = next(it.text for it in picture.iter() if it.tag.endswith("metadata"))
+    expect("the data in it", data.lstrip("\n"), run(plot, "--commands", path)[0])
+    for words in ([], ["--png"]):
+        expect_full_disk(plot, *words, path)
+    picture = subprocess.run([sys.executable, plot, "--png", path], capture_output=True, check=True).stdout
+    expect("a PNG", picture[:8], b"\x89PNG\r\n\x1a\n")
+
+
+TESTS = [check_curves, check_marks, check_styles, check_refusals, check_intervals, check_comparisons,
+         check_below_optimal_intervals, check_sampled,
+         check_pictures]
+
+MISTAKES = {
+    "a row that hides another": Mistake(check_refusals, "curves.py", "other.begin < row.end if is_intervals else True", "False"),
+    "a row dropped": Mistake(check_curves, "curves.py", "for row in sorted(rows, key=lambda row: row.begin):", "for row in rows[1:]:"),
+    "two traces joined": Mistake(check_refusals, "curves.py", "row.accesses != rows[0].accesses", "row.accesses < 0"),
+    "the legend on the curves": Mistake(check_curves, "plot", "set key outside", "set key inside"),
+    "the last interval left out": Mistake(check_intervals, "plot", "in curve.points for place in (begin, end)]\n    return", "in curve.points[:-1] for place in (begin, end)]\n    return"),
+    "a policy in the dash of another": Mistake(check_styles, "policies.py", '8, "(6,3)"', '8, "1"'),
+    "a policy in the colour of another": Mistake(check_styles, "policies.py", '"#a50f15"', '"#000000"'),
+    "colours by the place of a curve": Mistake(check_styles, "plot", "shade_of(POLICIES[curve.policy].colour, part)",
+                                               "shade_of(list(POLICIES.values())[marker].colour, part)"),
+    "an axis without its last mark": Mistake(check_curves, "plot", "return sorted(marks)", "return sorted(marks)[:-1]"),
+    "an axis without powers of ten": Mistake(check_marks, "plot", "for it in (1, 2, 5)]\n", "for it in (2, 5, 1)]\n"),
+    "a policy beside Belady's at another capacity": Mistake(check_curves, "curves.py", "best.get((row.begin,", "best.get((rows[0].begin,"),
+    "heights of whole points": Mistake(check_curves, "plot", "{height:.6f}", "{round(height)}"),
+    "every second place of a long curve": Mistake(check_curves, "plot", "for _, end, height in curve.points]",
+                                                  "for _, end, height in curve.points[::2 if len(curve.points) > 60 else 1]]"),
+    "--title ignored": Mistake(check_curves, "plot", "(args.title or what)", "what"),
+    "points below the optimum of the first interval": Mistake(
+        check_below_optimal_intervals, "curves.py", "best.get((row.begin, row.end, row.capacity))",
+        "best.get((0, rows[0].end, row.capacity))"),
+    "points below the optimum of one interval": Mistake(check_below_optimal_intervals, "curves.py", "lost + optimal.hits", "optimal.hits"),
+    "the hits of both": Mistake(check_comparisons, "curves.py", "(second, second_only)", "(second, both + second_only)"),
+    "a picture without its capacity": Mistake(check_intervals, "plot", 'yield f"capacity {', 'f"capacity {'),
+    "a carpet in silence": Mistake(check_intervals, "plot", "if places > MAX_INTERVALS:", "if False:"),
+    "a sample's capacity": Mistake(check_sampled, "curves.py", "row.capacity * inverse", "row.capacity"),
+    "a sample below 0": Mistake(check_sampled, "curves.py", "min(accesses, (row", "max(0, (row"),
+    "half a picture on a full disk": Mistake(check_curves, "traces.py", "    except OSError as fault:\n        sys.exit(f\"{tool}",
+                                             "    except OSError as fault:\n        print(f\"{tool}"),
+}

@@ -1,0 +1,129 @@
+"""Trace files for the scripts of tools/: from a path, a pipe or `-`, packed by gzip or zstd or not, in the formats lirs
+and arc.
+"""
+import contextlib
+import gzip
+import os
+import shutil
+import stat
+import subprocess
+import sys
+import tempfile
+import zlib
+from collections import Counter
+
+FORMATS = ["lirs", "arc"]
+GZIP, ZSTD = b"\x1f\x8b", b"\x28\xb5\x2f\xfd"
+COPIED = 1 << 20
+
+
+class Unreadable(Exception):
+    """Why a trace cannot be read."""
+
+
+class TraceFile:
+    """The text of a trace, which can be read again and again: the file itself, or an unpacked copy where it is packed or
+    comes by a pipe."""
+
+    def __init__(self, name):
+        try:
+            source = os.fdopen(os.dup(0), "rb") if name == "-" else open(name, "rb")
+            first = source.peek(len(ZSTD))[:len(ZSTD)]
+            is_file = stat.S_ISREG(os.fstat(source.fileno()).st_mode)
+            self.file = source if is_file and not first.startswith((GZIP, ZSTD)) else copy_of(source, first)
+        except (OSError, EOFError, zlib.error) as fault:
+            raise Unreadable(f"{name}: {getattr(fault, 'strerror', None) or fault}") from None
+
+    def begun(self):
+        """The number of the open file, set to its beginning."""
+        os.lseek(self.file.fileno(), 0, os.SEEK_SET)
+        return self.file.fileno()
+
+    def lines(self):
+        return os.fdopen(os.dup(self.begun()), "rb")
+
+
+def copy_of(source, first):
+    """A copy of what a source has, unpacked."""
+    copy = tempfile.TemporaryFile()
+    if first.startswith(ZSTD):
+        unpack_zstd(source, copy)
+    else:
+        shutil.copyfileobj(gzip.open(source) if first.startswith(GZIP) else source, copy, COPIED)
+    copy.flush()
+    return copy
+
+
+def unpack_zstd(source, copy):
+    if not shutil.which("zstd"):
+        raise OSError("it is packed by zstd, which is not on this machine (Debian: apt-get install zstd)")
+    with subprocess.Popen(["zstd", "-dcq"], stdin=subprocess.PIPE, stdout=copy) as unpacking:
+        with contextlib.suppress(BrokenPipeError):
+            shutil.copyfileobj(source, unpacking.stdin, COPIED)
+            unpacking.stdin.close()
+    if unpacking.returncode:
+        raise OSError("zstd cannot unpack it")
+
+
+def ranges_of(lines, form):
+    """The first block and the count of each line with accesses; ValueError names the first line that is none."""
+    for number, line in enumerate(lines, 1):
+        fields = line.split()
+        if not fields or form == "lirs" and fields == [b"*"]:
+            continue
+        try:
+            if form == "lirs":
+                (block,), count = map(int, fields), 1
+            else:
+                block, count = int(fields[0]), int(fields[1])
+        except (ValueError, IndexError):
+            text = line.decode(errors="replace").rstrip()
+            raise ValueError(f"line {number} is no line of the format {form}: {text}") from None
+        if count:
+            yield block, count
+
+
+def blocks_of(lines, form):
+    """The accesses of a trace."""
+    if form == "lirs":
+        return (block for block, _ in ranges_of(lines, form))
+    return (block for first, count in ranges_of(lines, form) for block in range(first, first + count))
+
+
+def times_of_blocks(lines, form):
+    """How often each block is accessed in a trace that the program has read without a fault."""
+    if form == "lirs":
+        return Counter(int(line) for line in lines if line.strip() not in (b"", b"*"))
+    return Counter(blocks_of(lines, form))
+
+
+def beginning_of(lines, form, accesses):
+    """The text of the first accesses of a trace, line by line."""
+    for first, count in ranges_of(lines, form):
+        taken = min(count, accesses)
+        yield b"%d\n" % first if form == "lirs" else b"%d %d\n" % (first, taken)
+        accesses -= taken
+        if not accesses:
+            return
+
+
+def inverse_of_rate(text):
+    """The N of a rate 1/N of a sample, where N is a power of two: such a rate alone leaves a capacity and its part of it in
+    the same place between two powers of two."""
+    upper, _, lower = text.partition("/")
+    number = int(lower) if upper == "1" and lower.isascii() and lower.isdigit() else 0
+    if number < 2 or number & number - 1 or number > 1 << 20:
+        raise ValueError(f"{text} is no rate 1/2, 1/4, 1/8 and so on")
+    return number
+
+
+def write(output, tool):
+    """Writes all of a script's output, a text or bytes, or ends the script with what hinders it."""
+    try:
+        with os.fdopen(1, "wb", closefd=False) as out:
+            out.write(output.encode() if isinstance(output, str) else output)
+    except BrokenPipeError:
+        # As a program that does not look: whoever read it wants no more.
+        os._exit(141)
+    except OSError as fault:
+        sys.exit(f"{tool}: the output cannot be written: {fault.strerror}")
