@@ -115,8 +115,8 @@ impl<P: Drop> QueueCache<P> {
     /// Errors: `NotNow` exactly where `MAX_STEPS` accesses are applied, and `OutOfMemory`; each leaves the cache as it
     /// was.
     ///
-    /// `C` is a type of the caller's choice, of which nothing is asked: each has code of its own, so that code which is
-    /// called at one place is part of the loop there.
+    /// `C` only selects an instance: calls with different `C` are compiled apart, so that one which is called at one
+    /// place is part of the loop there.
     #[inline(always)]
     pub fn access<C>(&mut self, key: Key) -> Result<Outcome, StepFault>
         ensures accepted { IfOk result (λ o. queue_act self.old key ≡ Some (o, self.new)) }
