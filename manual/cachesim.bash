@@ -29,12 +29,13 @@ _cachesim_words() {
     part:--second) echo 'lru slru tinylfu-lru tinylfu-slru wtinylfu clairvoyant' ;;
     part:*) echo '--capacity --main --spread --format --first --second -h --help' ;;
     compare:--capacity) echo '' ;;
+    compare:--every) echo '' ;;
     compare:--main) echo '' ;;
     compare:--spread) echo 'mixed plain' ;;
     compare:--format) echo 'lirs arc' ;;
     compare:--first) echo 'lru slru tinylfu-lru tinylfu-slru wtinylfu clairvoyant' ;;
     compare:--second) echo 'lru slru tinylfu-lru tinylfu-slru wtinylfu clairvoyant' ;;
-    compare:*) echo '--capacity --main --spread --format --first --second -h --help' ;;
+    compare:*) echo '--capacity --every --main --spread --format --first --second -h --help' ;;
     drive:--capacity) echo '' ;;
     drive:--main) echo '' ;;
     drive:--spread) echo 'mixed plain' ;;

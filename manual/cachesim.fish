@@ -45,6 +45,7 @@ complete -c cachesim -n '__cachesim_is part' -l first -x -a 'lru slru tinylfu-lr
 complete -c cachesim -n '__cachesim_is part' -l second -x -a 'lru slru tinylfu-lru tinylfu-slru wtinylfu clairvoyant' -d 'The other policy'
 complete -c cachesim -n '__cachesim_is part' -s h -l help -d 'Print help (see a summary with '\''-h'\'')'
 complete -c cachesim -n '__cachesim_is compare' -l capacity -x -d 'How many entries the cache holds, from 1 to 1048576'
+complete -c cachesim -n '__cachesim_is compare' -l every -x -d 'A row for each interval of M accesses, from 1 to 16777216; the last one may have fewer'
 complete -c cachesim -n '__cachesim_is compare' -l main -x -d 'How much of the capacity of wtinylfu is the main part, in percent, from 0 to 99; the rest is the window'
 complete -c cachesim -n '__cachesim_is compare' -l spread -x -a 'mixed plain' -d 'How keys are spread over the columns of a sketch: mixed by a mixing function, plain by remainders'
 complete -c cachesim -n '__cachesim_is compare' -l format -x -a 'lirs arc' -d 'The format of the trace: lirs has a block number a line, arc a first block and how many blocks'

@@ -124,8 +124,7 @@ def jumps_of(trace, top, points):
     while capacities[-1] < top:
         capacities.append(min(top, capacities[-1] + max(1, capacities[-1] // FINENESS)))
     curve = [row for _, row in sorted(trace.sweep(["lru"], capacities).items())]
-    found = [(first, last) for first, last in steep_parts(curve)
-             if (last.hits - first.hits) * 100 >= points * first.accesses]
+    found = [part for part in steep_parts(curve) if rises_by(points, *part)]
     inside = [capacity for first, last in found for capacity in between(first.capacity, last.capacity, LRU_TRIES)]
     close = trace.sweep(["lru"], inside) if inside else {}
     jumps = []
@@ -133,7 +132,11 @@ def jumps_of(trace, top, points):
         rows = [row for (_, capacity), row in sorted(close.items()) if first.capacity < capacity < last.capacity]
         parts = steep_parts([first, *rows, last])
         jumps.append((parts[0][0], parts[-1][1]))
-    return jumps
+    return [jump for jump in jumps if rises_by(points, *jump)]
+
+
+def rises_by(points, low, high):
+    return (high.hits - low.hits) * 100 >= points * low.accesses
 
 
 def reaches_of(trace, rows, policies, ratios, top, highest):

@@ -71,13 +71,13 @@ def files(check):
 
     journal, replay = check.file("journal", CUT), ("replay", *SINGLE, "--journal")
     largest, large = sparse_file(check, "largest", MOST_BYTES), sparse_file(check, "large", MOST_BYTES + 1)
+    if not check.is_short:
+        no_debug("a file at the limit", largest, "fault: BadNumber line 1")
+        no_debug("a file over the limit", large, "fault: NoFile")
     no_debug("no file", check.room / "none", "fault: NoFile")
     no_debug("a folder for a trace", check.room, "fault: NoFile")
     check.expect_fault("a folder for a journal", "fault: NoFile", *replay, check.room)
     debug("an empty file for a trace", "/dev/null", "part\nrun\n", "part none\nfault: PastEnd\n")
-    if not check.is_short:
-        no_debug("a file at the limit", largest, "fault: BadNumber line 1")
-    no_debug("a file over the limit", large, "fault: NoFile")
     no_debug("a file in too little memory", largest, "fault: OutOfMemory",
              under=("bash", "-c", 'ulimit -v 400000; exec "$@"', "bash"))
     debug("a trace in a file", check.trace, "break part\nrun\n", "ok\nstop part\nat 5\n")

@@ -13,8 +13,8 @@ from .workers import crowd
 
 # How long the trace rests in its middle: longer than the line waits, so that no machine is too fast for it.
 REST = 1.5
-# The call works for so long and then rests, longer than a line stands before it is drawn anew: so a line is drawn again and
-# again, however fast the machine is.
+# The call works for so long, each time longer by as much, and then rests, longer than a line stands before it is drawn anew:
+# so a line is drawn again and again, however fast the machine is.
 WORKING, RESTING = 0.004, 0.25
 LINE = re.compile(rb"\r([a-z]+): (?:([0-9]{1,3}) % of accesses|([0-9]+) batches), ([0-9]+):([0-5][0-9])\x1b\[K")
 CLEARED = b"\r\x1b[K"
@@ -58,9 +58,10 @@ class Shown:
 
     def pace(self):
         """Has the process work and rest in turn, until the line is cleared."""
-        end = time.monotonic() + SECONDS
+        end, working = time.monotonic() + SECONDS, 0
         while self.process.poll() is None and not self.drawn().endswith(CLEARED):
-            time.sleep(WORKING)
+            working += WORKING
+            time.sleep(working)
             if time.monotonic() > end:
                 self.process.kill()
             self.process.send_signal(signal.SIGSTOP)
@@ -96,8 +97,8 @@ def fault_of_lines(shown, fault, name, is_counted):
     if not max(1, seconds - 2) <= times[-1] <= seconds:
         return f"the last line shows another time than {seconds:.1f} seconds"
     if is_counted and not fault and len(found) > 4:
-        # The work goes on evenly from line to line: what is shown last is near the end, and of few lines that it is there.
-        if numbers[-1] < 60 or numbers[0] > 50 or numbers.count(100) > len(numbers) // 3:
+        # What is drawn last is near the end, and no line but that one says that it is there.
+        if numbers[-1] < 60 or numbers[0] > 50 or numbers.count(100) > 1:
             return "the percents do not go from the beginning to the end"
     return None
 

@@ -165,7 +165,7 @@ def sweeps(check):
     belady = "clairvoyant,3,5,2,3,0,0,40.00\nclairvoyant,1,5,1,4,3,2,20.00\nclairvoyant,3,5,2,3,0,0,40.00\n"
     check.expect_report("a sweep of several policies", lru + belady + lru, "sweep", "--policy", "lru", "--policy",
                         "clairvoyant", "--policy", "lru", 3, 1, 3, typed=lines(1, 2, 3, 1, 2))
-    for count in range(1, 65):
+    for count in range(1, 65, check.size(1, 9)):
         check.expect_report(f"a run of {count} policies", "lru,3,1,0,1,0,0,0.00\n" * count, "run", "--capacity", 3,
                             *["lru"] * count, typed="1\n")
         check.expect_report(f"a sweep of {count} policies", "slru,3,1,0,1,0,0,0.00\nslru,2,1,0,1,0,0,0.00\n" * count, "sweep",

@@ -95,6 +95,7 @@ def large_file(check):
 def lengths(check):
     """Each policy over more than 2^22 accesses, four of each key: each subcommand counts the same."""
     count, keys, capacity = check.size((4200000, 1000003, 100000), (42000, 10007, 1000))
+    patient = {"seconds": SECONDS_OF_A_LONG_CALL}
     trace = check.file("long", lines(*(at * 7919 % keys for at in range(count))))
     found = check.answer("a long run", "run", "--capacity", capacity, *check.policies, stdin=trace).decode()
     rows = {line.split(",")[0]: line for line in found.splitlines()[1:]}
@@ -102,7 +103,7 @@ def lengths(check):
     check.expect_same("a long run of Lru", rows["lru"], f"lru,{capacity},{count},0,{count},{count - capacity},0,0.00")
     two = rows["wtinylfu"], rows["clairvoyant"]
     check.expect_report("a long sweep", lines(*two), "sweep", "--policy", "wtinylfu", "--policy", "clairvoyant", capacity,
-                        stdin=trace, seconds=SECONDS_OF_A_LONG_CALL)
+                        stdin=trace, **patient)
     curve = check.answer("a long curve", "sweep", "--policy", "lru", *range(capacity - 15, capacity + 1), stdin=trace).decode()
     check.expect_same("a long run and a long curve", curve.splitlines()[-1], rows["lru"])
     pieces = check.answer("long intervals", "intervals", "--capacity", capacity, "--every", 700001, "lru", "wtinylfu", stdin=trace)
@@ -115,14 +116,14 @@ def lengths(check):
                           ",".join(rows[policy].split(",")[3:7]))
     pair = "--capacity", capacity, "--first", "lru", "--second", "clairvoyant"
     hits = int(rows["clairvoyant"].split(",")[3])
-    check.expect("a long comparison", "compare", *pair, stdin=trace,
+    check.expect("a long comparison", "compare", *pair, stdin=trace, **patient,
                  out=f"first,second,capacity,accesses,both,first_only,second_only,neither\n"
                      f"lru,clairvoyant,{capacity},{count},0,0,{hits},{count - hits}\n")
     # Each key comes for the second time behind all others, and Belady's policy has some of them then.
     parted = check.answer("a long part", "part", *pair, stdin=trace).decode()
     check.expect_same("a long part", str(parted.startswith("part ") and keys < int(parted[5:]) < 2 * keys), "True")
     check.expect("a long part of one policy", "part", "--capacity", capacity, "--first", "slru", "--second", "slru", stdin=trace,
-                 out="part none\n")
+                 **patient, out="part none\n")
 
 
 @part(40)

@@ -255,7 +255,7 @@ MISTAKES = {
     "the ratio of a large trace": Mistake(check_large, "measures.py", "row.accesses, (footprint - known) * trace.inverse",
                                           "row.accesses, row.misses"),
     "capacities left out in silence": Mistake(check_large, "measures.py", "if capacity > MAX_CAPACITY:", "if False:"),
-    "--jump ignored": Mistake(check_reach, "measures.py", ">= points * first.accesses", ">= 2 * first.accesses"),
+    "--jump ignored": Mistake(check_reach, "measures.py", ">= points * low.accesses", ">= 2 * low.accesses"),
     "the ratio before a jump after it": Mistake(check_jumps_and_powers, "survey", "shown_rate(low), shown_rate(high),",
                                                 "shown_rate(low), shown_rate(low if low.capacity > 9999 else high),"),
     "the next smaller capacity at 2 or 3 entries": Mistake(check_reach, "survey", "shown_rate(below) if below else",

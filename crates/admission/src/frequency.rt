@@ -6,14 +6,15 @@ ghost use Rattle.admission.specs.Shape.{Shape, IsShape};
 ghost use Rattle.admission.specs.Frequency.{IsFrequencyOf, frequency_of, marked, faded, frequency_with, halves};
 ghost use Rattle.admission.specs.Frequency.{halving_words};
 ghost use Rattle.admission.specs.Frequency.{estimate as estimate_of};
-ghost use Rattle.admission.specs.FreqRecord.{frequency_record, mark_of, lost_of, frequency_before, FitsRecord};
-ghost use Rattle.admission.specs.FreqRecord.{unmarked, FitsMark};
+ghost use Rattle.admission.specs.FreqRecord.{frequency_record, record_of, mark_of, lost_of};
+ghost use Rattle.admission.specs.FreqRecord.{frequency_before, FitsRecord, unmarked, FitsMark, unaged, FitsAging};
 ghost use Rattle.admission.specs.FreqRecord.{unfaded, FitsFade, size_of};
 
+use crate::door_record::DoorRecord;
 use crate::doorkeeper::Doorkeeper;
 use crate::freq_record::{FreqRecord, Halving, Mark};
 use crate::shape::{size_for, width_for};
-use sketch::Sketch;
+use sketch::{Sketch, TouchRecord};
 use std::alloc::{AllocError, Global};
 use std::marker::Model;
 use step_record::{Key, Spread};
@@ -87,13 +88,11 @@ impl Frequency {
         // Inlined, so that what a caller does not read of the record is not written; the halving is apart, as it is
         // rare.
         let mark = self.mark(key);
-        let halving = if self.age + 1 == 10 * self.capacity {
-            Some(self.end_sample(mark)?)
-        } else {
-            self.age += 1;
-            None
-        };
-        Ok(FreqRecord { mark, halving })
+        if self.age + 1 == 10 * self.capacity {
+            return self.end_sample(mark);
+        }
+        self.age += 1;
+        Ok(mark.record())
     }
 
     /// Records a key as `record` does, and makes no undo record. The one error is out of memory for a halving; nothing is
@@ -132,17 +131,23 @@ impl Frequency {
         requires { FitsRecord done self.old }
         ensures { self.new ≡ frequency_before done self.old }
     {
-        let FreqRecord { mark, halving } = done;
-        match halving {
-            None => {
+        match done {
+            FreqRecord::Nothing => {}
+            FreqRecord::Put { set, key } => {
                 self.age -= 1;
-                self.unmark(mark);
+                self.door.unput(DoorRecord { key, set });
             }
-            Some(lost) => {
-                self.unfade(lost);
-                self.halvings -= 1;
-                self.age = 10 * self.capacity - 1;
-                self.unmark(mark);
+            FreqRecord::Touch { rose, key } => {
+                self.age -= 1;
+                self.sketch.untouch(TouchRecord { key, rose });
+            }
+            FreqRecord::HalvedPut { set, key, lost } => {
+                self.unend_sample(lost);
+                self.door.unput(DoorRecord { key, set });
+            }
+            FreqRecord::HalvedTouch { rose, key, lost } => {
+                self.unend_sample(lost);
+                self.sketch.untouch(TouchRecord { key, rose });
             }
         }
     }
@@ -224,23 +229,22 @@ impl Frequency {
     // is taken back if that is out of memory.
     #[cold]
     #[inline(never)]
-    fn end_sample(&mut self, mark: Mark) -> Result<Halving, AllocError>
+    fn end_sample(&mut self, mark: Mark) -> Result<FreqRecord, AllocError>
         requires full { self.old.age + 1 ≡ 10 * self.old.capacity }
         requires few { self.old.halvings < 2 ^ 64 - 1 }
         requires mark { FitsMark mark self.old }
         ensures after { OnOk result (self.new ≡ record (faded self.old)
             { age = 5 * self.old.capacity; halvings = self.old.halvings + 1 }) }
-        ensures record_is { IfOk result (λ lost. lost ≡ lost_of self.old) }
-        ensures fits { IfOk result (λ lost. FitsRecord record { mark = mark; halving = Some lost } self.new) }
-        ensures undone { IfOk result (λ lost. frequency_before record { mark = mark; halving = Some lost } self.new
-            ≡ unmarked mark self.old) }
+        ensures record_is { IfOk result (λ r. r ≡ record_of mark (Some (lost_of self.old))) }
+        ensures fits { IfOk result (λ r. FitsRecord r self.new) }
+        ensures undone { IfOk result (λ r. frequency_before r self.new ≡ unmarked mark self.old) }
         ensures err { OnErr result (self.new ≡ unmarked mark self.old) }
     {
         match self.fade() {
             Ok(lost) => {
                 self.age = 5 * self.capacity;
                 self.halvings += 1;
-                Ok(lost)
+                Ok(mark.halved(lost))
             }
             Err(AllocError) => {
                 self.unmark(mark);
@@ -257,6 +261,16 @@ impl Frequency {
             Mark::Put(done) => self.door.unput(done),
             Mark::Touch(done) => self.sketch.untouch(done),
         }
+    }
+
+    // Undoes a halving, and the count of the key that brought it.
+    fn unend_sample(&mut self, lost: Halving)
+        requires { FitsAging lost self.old }
+        ensures { self.new ≡ record (unaged lost self.old) { age = 10 * self.old.capacity - 1 } }
+    {
+        self.unfade(lost);
+        self.halvings -= 1;
+        self.age = 10 * self.capacity - 1;
     }
 
     // Halves the counters and empties the doorkeeper, or neither.

@@ -80,7 +80,7 @@ IsFound (asked.Sweep sweep) files input fault = IfSome input (IsFoundIn sweep.fo
 IsFound (asked.Intervals intervals) files input fault =
     IfSome input (IsFoundIn intervals.format (IsTooMany intervals.policies) fault)
 IsFound (asked.Part part) files input fault = IfSome input (IsFoundIn part.format (λ f. ⊥) fault)
-IsFound (asked.Compare compare) files input fault = IfSome input (IsFoundIn compare.format (λ f. ⊥) fault)
+IsFound (asked.Compare compare) files input fault = IfSome input (IsFoundIn compare.policies.format (λ f. ⊥) fault)
 IsFound (asked.Drive drive) files input fault = IfSome input (IsFoundIn drive.format (λ f. f ≡ JournalFull) fault)
 IsFound (asked.Debug debug) files input fault = IsFoundInFile (files debug.trace)
     (IsFoundIn debug.policies.format (IsOfCommands input)) fault

@@ -1,10 +1,11 @@
 -- What the subcommands write that read a trace and write a text: `run` and `sweep`, `intervals`, `part` and `compare`.
-use Rattle.std.specs.Prelude.{◌≡◌, ℕ, List, Option, None, IfSome, flat_map, map}
+use Rattle.std.specs.Prelude.{◌≡◌, ℕ, List, Option, None, Some, IfSome, flat_map, map}
 use Rattle.step_record.specs.declared.config.Config.{Config}
 use Rattle.step_record.specs.declared.job.Job.{Job}
 use Rattle.step_record.specs.declared.job.Policy.{Policy}
 use Rattle.command_line.specs.declared.arguments.Arguments.{Arguments}
 use Rattle.command_line.specs.declared.arguments.Arguments.TheVariants as asked
+use Rattle.command_line.specs.declared.arguments.PartArguments.{PartArguments}
 use Rattle.sweeps.specs.Sweep.{jobs_over}
 use Rattle.trace_read.specs.TraceText.{fault_in, keys_in}
 use Rattle.trace_read.specs.declared.format.Format.{Format}
@@ -15,6 +16,7 @@ use Rattle.sweeps.specs.Intervals.{intervals_on}
 use Rattle.policies.specs.declared.report.Interval.{Interval}
 use Rattle.report.specs.IntervalText.{intervals_text}
 use Rattle.report.specs.Text.{reports_text}
+use Rattle.debug_policies.specs.ComparedIntervals.{compared_intervals_on, compared_intervals_text}
 use Rattle.debug_policies.specs.Comparison.{compared_on, comparison_text}
 use Rattle.debug_policies.specs.Part.{part_line, IsPart}
 
@@ -30,13 +32,19 @@ reports_on jobs keys = map (λ job. report_on job keys) jobs
 abbrev pub rows_on : ℕ → List Job → List ℕ → List Interval
 rows_on every jobs keys = flat_map (λ job. intervals_on job every keys) jobs
 
+-- the header and the row of what is counted of both policies, or the rows of the intervals of this length
+abbrev pub compared_text : PartArguments → Option ℕ → List ℕ → List ℕ
+compared_text pair None keys = comparison_text pair.first pair.second (compared_on pair.first pair.second keys)
+compared_text pair (Some every) keys =
+    compared_intervals_text pair.first pair.second (compared_intervals_on every pair.first pair.second keys)
+
 -- the bytes read have no fault, and P holds of the accesses in them
 abbrev pub IfFaultless : Format → Option (List ℕ) → (List ℕ → Type 0) → Type 0
 IfFaultless format input P = IfSome input (λ bytes. (fault_in format bytes ≡ None) × P (keys_in format bytes))
 
 -- The text that these arguments ask for, over the accesses: of `run` and `sweep` the report of each policy, at each
 -- capacity; of `intervals` the rows of each policy; of `part` the line of the access at which the two policies part; of
--- `compare` the header and the row of what is counted of both.
+-- `compare` the header and the row of what is counted of both, or a row for each interval.
 abbrev pub IsText : Arguments → List ℕ → List ℕ → Type 0
 IsText (asked.Run run) keys text = text ≡ reports_text (reports_on (jobs_by_policy run.config run.policies) keys)
 IsText (asked.Sweep sweep) keys text =
@@ -45,8 +53,7 @@ IsText (asked.Intervals intervals) keys text =
     text ≡ intervals_text (rows_on intervals.every (jobs_by_policy intervals.config intervals.policies) keys)
 IsText (asked.Part part) keys text = (found : Option ℕ)
     × IsPart (outcomes_on part.first keys) (outcomes_on part.second keys) found × (text ≡ part_line found)
-IsText (asked.Compare pair) keys text =
-    text ≡ comparison_text pair.first pair.second (compared_on pair.first pair.second keys)
+IsText (asked.Compare compare) keys text = text ≡ compared_text compare.policies compare.every keys
 IsText arguments keys text = ⊥
 
 -- so it is of the bytes of a trace, which have no fault
@@ -57,6 +64,6 @@ IsTextOf (asked.Sweep sweep) input text =
 IsTextOf (asked.Intervals intervals) input text =
     IfFaultless intervals.format input (λ keys. IsText (asked.Intervals intervals) keys text)
 IsTextOf (asked.Part part) input text = IfFaultless part.format input (λ keys. IsText (asked.Part part) keys text)
-IsTextOf (asked.Compare pair) input text =
-    IfFaultless pair.format input (λ keys. IsText (asked.Compare pair) keys text)
+IsTextOf (asked.Compare compare) input text =
+    IfFaultless compare.policies.format input (λ keys. IsText (asked.Compare compare) keys text)
 IsTextOf arguments input text = ⊥

@@ -57,7 +57,7 @@ pub fn perform<T: Threads + Wait + Sync, R: CountedRead, W: CountedWrite, F: Fil
             write_text(part(alloc, arguments, &trace, watch), out)
         }
         Arguments::Compare(arguments) => {
-            let trace = read_trace(alloc, input, arguments.format)?;
+            let trace = read_trace(alloc, input, arguments.policies.format)?;
             write_text(compare(alloc, arguments, &trace), out)
         }
         Arguments::Drive(arguments) => drive(rt, alloc, arguments, input, out, watch),

@@ -1,16 +1,19 @@
 //! The subcommands that make a text of a trace: `run`, `sweep`, `intervals`, `part` and `compare`.
-ghost use Rattle.std.specs.Prelude.{◌≡◌, ◌≤◌, ◌⊎◌, IfErr, IfOk, None, length};
-ghost use Rattle.command_line.specs.Accepted.{AreAcceptedIntervals, IsAcceptedPart, IsAcceptedRun, IsAcceptedSweep};
+ghost use Rattle.std.specs.Prelude.{◌≡◌, ◌≤◌, ◌⊎◌, IfErr, IfOk, None, Some, length};
+ghost use Rattle.command_line.specs.Accepted.{AreAcceptedIntervals, IsAcceptedComparison, IsAcceptedPart};
+ghost use Rattle.command_line.specs.Accepted.{IsAcceptedRun, IsAcceptedSweep};
 ghost use Rattle.command_line.specs.declared.arguments.Arguments.TheVariants.{Compare, Intervals, Part, Run, Sweep};
 ghost use Rattle.policies.specs.declared.job_checks.TheConstants.{MAX_ACTORS};
 ghost use Rattle.streams.specs.Tally.{FailsWhere};
 ghost use Rattle.cachesim.specs.CallFaults.{IsOfRead, IsOfWrite};
 ghost use Rattle.cachesim.specs.FaultCauses.{IsDue, IsTooMany};
-ghost use Rattle.cachesim.specs.TraceOutput.{IsText, IsTextOf, jobs_by_policy};
+ghost use Rattle.cachesim.specs.TraceOutput.{IsText, IsTextOf, compared_text, jobs_by_policy};
 
 use crate::fault::{Fault, accepted};
-use command_line::{IntervalsArguments, PartArguments, PolicyList, RunArguments, SweepArguments};
-use debug_policies::{STRETCH, part_watched, push_comparison, push_part};
+use command_line::{
+    CompareArguments, IntervalsArguments, PartArguments, PolicyList, RunArguments, SweepArguments,
+};
+use debug_policies::{STRETCH, part_watched, push_compared_intervals, push_comparison, push_part};
 use policies::MAX_ACTORS;
 use policy_actors::run_reading;
 use progress::Watch;
@@ -113,17 +116,51 @@ pub fn part<P: Watch>(
     Ok(line)
 }
 
-/// A header and a row: at how many accesses both of the two policies hit, only one of them, and neither.
-#[tactic(auto, using(crate::proofs::Accepting::memory_alone, crate::proofs::Accepting::pair_accepted))]
-pub fn compare(alloc: Global, arguments: &PartArguments, trace: &Trace) -> Result<Vec<u8>, Fault>
-    requires { IsAcceptedPart arguments.now }
+/// A header and a row: at how many accesses both of the two policies hit, only one of them, and neither; or such a row for
+/// each interval, where the arguments say how long one is.
+pub fn compare(alloc: Global, arguments: &CompareArguments, trace: &Trace) -> Result<Vec<u8>, Fault>
+    requires { IsAcceptedComparison arguments.now }
     ensures text { IfOk result (λ text. IsText (Compare arguments.now) trace.now text.items) }
     ensures fault { IfErr result (λ fault. fault ≡ Fault.OutOfMemory) }
 {
-    let (first, second) = (&arguments.first, &arguments.second);
+    match arguments.every {
+        Some(every) => compare_intervals(alloc, &arguments.policies, every, trace),
+        None => compare_whole(alloc, &arguments.policies, trace),
+    }
+}
+
+// The header and one row.
+#[tactic(auto, using(crate::proofs::Accepting::memory_alone, crate::proofs::Accepting::pair_accepted))]
+fn compare_whole(alloc: Global, pair: &PartArguments, trace: &Trace) -> Result<Vec<u8>, Fault>
+    requires { IsAcceptedPart pair.now }
+    ensures text { IfOk result (λ text. text.items ≡ compared_text pair.now None trace.now) }
+    ensures fault { IfErr result (λ fault. fault ≡ Fault.OutOfMemory) }
+{
+    let (first, second) = (&pair.first, &pair.second);
     let counts = accepted(debug_policies::compare(alloc, trace, first, second))?;
     let mut text = Vec::new(alloc);
     push_comparison(&mut text, first, second, &counts)?;
+    Ok(text)
+}
+
+// The header and a row for each interval of so many accesses.
+#[tactic(auto, using(crate::proofs::Accepting::memory_alone, crate::proofs::Accepting::pair_accepted))]
+fn compare_intervals(
+    alloc: Global,
+    pair: &PartArguments,
+    every: u32,
+    trace: &Trace,
+) -> Result<Vec<u8>, Fault>
+    requires accepted { IsAcceptedPart pair.now }
+    requires some { 1 ≤ every }
+    ensures text { IfOk result (λ text. text.items ≡ compared_text pair.now (Some every) trace.now) }
+    ensures fault { IfErr result (λ fault. fault ≡ Fault.OutOfMemory) }
+{
+    let (first, second, every) = (&pair.first, &pair.second, every as usize);
+    let rows = debug_policies::compare_intervals(alloc, trace, first, second, every);
+    let rows = accepted(rows)?;
+    let mut text = Vec::new(alloc);
+    push_compared_intervals(&mut text, first, second, rows.as_slice())?;
     Ok(text)
 }
 

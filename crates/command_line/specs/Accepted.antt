@@ -1,5 +1,5 @@
 -- The ranges of what a parse gives.
-use Rattle.std.specs.Prelude.{◌≡◌, ◌≤◌, Ok}
+use Rattle.std.specs.Prelude.{◌≡◌, ◌≤◌, IfSome, Ok}
 use Rattle.std.specs.List.{AllPass}
 use Rattle.step_record.specs.Config.{config_fault, is_from_one}
 use Rattle.step_record.specs.declared.config.Config.{Config}
@@ -8,6 +8,7 @@ use Rattle.step_record.specs.declared.worker.TheConstants.{MAX_WORKERS}
 use Rattle.command_line.specs.declared.arguments.Arguments.{Arguments}
 use Rattle.command_line.specs.declared.arguments.Arguments.TheVariants.{Compare, Debug, Drive, Intervals, Part}
 use Rattle.command_line.specs.declared.arguments.Arguments.TheVariants.{Replay, Run, Sweep}
+use Rattle.command_line.specs.declared.arguments.CompareArguments.{CompareArguments}
 use Rattle.command_line.specs.declared.arguments.DriveArguments.{DriveArguments}
 use Rattle.command_line.specs.declared.arguments.IntervalsArguments.{IntervalsArguments}
 use Rattle.command_line.specs.declared.arguments.PartArguments.{PartArguments}
@@ -36,6 +37,11 @@ pub record IsAcceptedPart (part : PartArguments) : Type 0 where
   pub first : config_fault part.first.config ≡ Ok tt
   pub second : config_fault part.second.config ≡ Ok tt
 
+-- an interval has at least one access, where the accesses are cut into such
+pub record IsAcceptedComparison (compare : CompareArguments) : Type 0 where
+  pub policies : IsAcceptedPart compare.policies
+  pub every : IfSome compare.every (λ every. (1 ≤ every) × (every ≤ MAX_ACCESSES))
+
 pub record IsAcceptedDrive (drive : DriveArguments) : Type 0 where
   pub config : config_fault drive.config ≡ Ok tt
   pub some : 1 ≤ drive.workers
@@ -47,7 +53,7 @@ AreAccepted (Run run) = IsAcceptedRun run
 AreAccepted (Sweep sweep) = IsAcceptedSweep sweep
 AreAccepted (Intervals intervals) = AreAcceptedIntervals intervals
 AreAccepted (Part part) = IsAcceptedPart part
-AreAccepted (Compare compare) = IsAcceptedPart compare
+AreAccepted (Compare compare) = IsAcceptedComparison compare
 AreAccepted (Drive drive) = IsAcceptedDrive drive
 AreAccepted (Debug debug) = IsAcceptedPart debug.policies
 AreAccepted (Replay replay) = config_fault replay.config ≡ Ok tt

@@ -5,17 +5,18 @@ use Rattle.step_record.specs.declared.limits.TheConstants.{MAX_ACCESSES, MAX_BAT
 use Rattle.step_record.specs.declared.limits.TheConstants.{MAX_MAIN_PERCENT}
 use Rattle.step_record.specs.declared.worker.TheConstants.{MAX_WORKERS}
 use Rattle.command_line.specs.declared.options.OptionName.{OptionName}
-use Rattle.command_line.specs.declared.options.OptionName.TheVariants.{Batch, Capacities, Capacity, Every, First}
+use Rattle.command_line.specs.declared.options.OptionName.TheVariants.{Batch, Capacities, Capacity, ComparedEvery, Every, First}
 use Rattle.command_line.specs.declared.options.OptionName.TheVariants.{Format, Journal, Limit, Main, Policies, Second}
 use Rattle.command_line.specs.declared.options.OptionName.TheVariants.{Spread, Stripes, SweptPolicies, Trace, Workers}
 use Rattle.command_line.specs.declared.options.OptionRow.{OptionRow}
 use Rattle.command_line.specs.declared.options.Place.{Place}
-use Rattle.command_line.specs.declared.options.Place.TheVariants.{Named, NamedOften, Positional}
+use Rattle.command_line.specs.declared.options.Place.TheVariants.{Named, NamedOften, Optional, Positional}
 use Rattle.command_line.specs.declared.options.Subcommand.{Subcommand}
 use Rattle.command_line.specs.declared.options.ValueKind.{ValueKind}
 use Rattle.command_line.specs.declared.options.ValueKind.TheVariants as kind
 
--- an option: its name, what its values are, how they are given, and its default; with no default it is required
+-- An option: its name, what its values are, how they are given, and its default. With no default it is required, unless it
+-- may be given once or not at all.
 pub record OptionDefinition : Type 0 where
   pub id : Text
   pub value : ValueKind
@@ -38,6 +39,7 @@ row_of Spread = row (codes "spread") kind.Spread Named (Some (codes "mixed"))
 row_of Format = row (codes "format") kind.Format Named (Some (codes "lirs"))
 row_of Batch = row (codes "batch") (kind.Number 1 MAX_BATCH) Named (Some (codes "1024"))
 row_of Every = row (codes "every") (kind.Number 1 MAX_ACCESSES) Named None
+row_of ComparedEvery = row (codes "every") (kind.Number 1 MAX_ACCESSES) Optional None
 row_of Policies = row (codes "policy") kind.Policy Positional None
 row_of SweptPolicies = row (codes "policy") kind.Policy NamedOften None
 row_of First = row (codes "first") kind.Policy Named None
@@ -64,7 +66,7 @@ subcommands = named (codes "run") (Capacity ∷ Main ∷ Spread ∷ Format ∷ B
     ∷ named (codes "sweep") (Main ∷ Spread ∷ Format ∷ SweptPolicies ∷ Capacities ∷ [])
     ∷ named (codes "intervals") (Capacity ∷ Every ∷ Main ∷ Spread ∷ Format ∷ Policies ∷ [])
     ∷ named (codes "part") (Capacity ∷ Main ∷ Spread ∷ Format ∷ First ∷ Second ∷ [])
-    ∷ named (codes "compare") (Capacity ∷ Main ∷ Spread ∷ Format ∷ First ∷ Second ∷ [])
+    ∷ named (codes "compare") (Capacity ∷ ComparedEvery ∷ Main ∷ Spread ∷ Format ∷ First ∷ Second ∷ [])
     ∷ named (codes "drive") (Capacity ∷ Main ∷ Spread ∷ Format ∷ Workers ∷ Stripes ∷ Limit ∷ [])
     ∷ named (codes "debug") (Capacity ∷ Main ∷ Spread ∷ Format ∷ First ∷ Second ∷ Trace ∷ [])
     ∷ named (codes "replay") (Capacity ∷ Main ∷ Spread ∷ Journal ∷ Stripes ∷ Limit ∷ [])

@@ -1,5 +1,5 @@
 -- The program's commands, as clap reads them, made of the rows of options and subcommands.
-use Rattle.std.specs.Prelude.{◌≡◌, pos, true, false, [], ◌∷◌, Option, Some, None, codes}
+use Rattle.std.specs.Prelude.{◌≡◌, pos, Bool, true, false, [], ◌∷◌, Option, Some, None, codes}
 use Rattle.std.specs.List.{fold}
 use Rattle.clap.specs.Lexer.{usize_max}
 use Rattle.clap.specs.Words.{App, Rule, Text, app_of, new_app, new_rule, with_rule, with_subcommand}
@@ -12,7 +12,7 @@ use Rattle.command_line.specs.Options.{OptionDefinition, SubcommandDefinition, r
 use Rattle.command_line.specs.declared.choices.WordLists.{WordLists}
 use Rattle.command_line.specs.declared.options.OptionName.{OptionName}
 use Rattle.command_line.specs.declared.options.Place.{Place}
-use Rattle.command_line.specs.declared.options.Place.TheVariants.{Named, NamedOften, Positional}
+use Rattle.command_line.specs.declared.options.Place.TheVariants.{Named, NamedOften, Optional, Positional}
 use Rattle.command_line.specs.declared.options.ValueKind.{ValueKind}
 use Rattle.command_line.specs.declared.options.ValueKind.TheVariants.{AnyNumber, File, Format, Number, Policy, Spread}
 
@@ -28,20 +28,25 @@ parser_of lists File = parser.String
 -- how values are given to the option of this name
 abbrev pub with_place : Place → Text → Rule → Rule
 with_place Named id rule = record rule { long = Some id }
+with_place Optional id rule = record rule { long = Some id }
 with_place NamedOften id rule = record rule { long = Some id; action = Some Append }
 with_place Positional id rule = record rule {
   range = Some (record { start_inclusive = 1; end_inclusive = usize_max });
   action = Some Append;
 }
 
--- an option with no default is required
-abbrev pub with_default : Option Text → Rule → Rule
-with_default None rule = record rule { required = true }
-with_default (Some word) rule = record rule { defaults = word ∷ [] }
+abbrev pub is_required : Place → Bool
+is_required Optional = false
+is_required _ = true
+
+-- an option with no default is required, unless its place says otherwise
+abbrev pub with_default : Place → Option Text → Rule → Rule
+with_default place None rule = record rule { required = is_required place }
+with_default place (Some word) rule = record rule { defaults = word ∷ [] }
 
 -- the option as clap reads it
 abbrev pub rule_of_row : WordLists → OptionDefinition → Rule
-rule_of_row lists row = with_default row.default (record (with_place row.place row.id (new_rule row.id)) {
+rule_of_row lists row = with_default row.place row.default (record (with_place row.place row.id (new_rule row.id)) {
   parser = Some (parser_of lists row.value);
   value_names = 1;
 })

@@ -144,6 +144,11 @@ part_in rows = option_and_then (λ config. option_and_then (λ first. option_map
   format = format_in rows;
 }) (policy_in option.Second rows)) (policy_in option.First rows)) (config_in rows)
 
+-- how long an interval is, where it is given
+unfoldable pub compare_in : List Row → Option Arguments
+compare_in rows = option_map (λ policies.
+    asked.Compare (record { policies = policies; every = number_in option.ComparedEvery rows })) (part_in rows)
+
 unfoldable pub drive_in : List Row → Option Arguments
 drive_in rows = option_and_then (λ config. option_map (λ workers.
     asked.Drive (record { config = config; workers = workers; format = format_in rows }))
@@ -167,7 +172,7 @@ asked_of name rows = if bytes_eq name (codes "run") then run_in rows
     else (if bytes_eq name (codes "sweep") then sweep_in rows
     else (if bytes_eq name (codes "intervals") then intervals_in rows
     else (if bytes_eq name (codes "part") then option_map asked.Part (part_in rows)
-    else (if bytes_eq name (codes "compare") then option_map asked.Compare (part_in rows)
+    else (if bytes_eq name (codes "compare") then compare_in rows
     else (if bytes_eq name (codes "drive") then drive_in rows
     else (if bytes_eq name (codes "debug") then debug_in rows
     else (if bytes_eq name (codes "replay") then replay_in rows

@@ -1,7 +1,7 @@
 //! What a call asks for, as typed values, and how they are made of the matches of a subcommand.
 ghost use Rattle.std.specs.Prelude.{◌≡◌};
 ghost use Rattle.command_line.specs.Accepted.{AreAccepted, IsAcceptedPart, IsConfig};
-ghost use Rattle.command_line.specs.Values.{Answers, concurrent_in, config_at, config_in, debug_in, drive_in};
+ghost use Rattle.command_line.specs.Values.{Answers, compare_in, concurrent_in, config_at, config_in, debug_in, drive_in};
 ghost use Rattle.command_line.specs.Values.{intervals_in, part_in, replay_in, run_in, sweep_in};
 
 use crate::fault::{ValueFault, ValueResult};
@@ -24,7 +24,7 @@ pub enum Arguments {
     /// `part`
     Part(PartArguments),
     /// `compare`
-    Compare(PartArguments),
+    Compare(CompareArguments),
     /// `drive`
     Drive(DriveArguments),
     /// `debug`
@@ -72,7 +72,7 @@ pub struct IntervalsArguments {
     pub format: Format,
 }
 
-/// The arguments of `part` and of `compare`.
+/// The arguments of `part`, and of each call about two policies.
 #[derive(Clone, Copy)]
 pub struct PartArguments {
     /// The one policy, with the configuration of both.
@@ -81,6 +81,15 @@ pub struct PartArguments {
     pub second: Job,
     /// The format of the trace.
     pub format: Format,
+}
+
+/// The arguments of `compare`.
+#[derive(Clone, Copy)]
+pub struct CompareArguments {
+    /// The two policies, and the format of the trace.
+    pub policies: PartArguments,
+    /// How many accesses an interval has: 1 to `MAX_ACCESSES`. `None` for one row of the whole trace.
+    pub every: Option<u32>,
 }
 
 /// The arguments of `drive`.
@@ -160,7 +169,7 @@ pub(crate) fn intervals(alloc: Global, asked: &Matches<'_, '_>) -> ValueResult<A
     }))
 }
 
-/// What `part` and `compare` are asked for by their matches.
+/// What `part` is asked for by its matches.
 #[tactic(auto, unfolding(crate::specs::Values::part_in))]
 pub(crate) fn part(asked: &Matches<'_, '_>) -> ValueResult<PartArguments>
     ensures { Answers (part_in asked.now) IsAcceptedPart result }
@@ -179,6 +188,16 @@ pub(crate) fn part(asked: &Matches<'_, '_>) -> ValueResult<PartArguments>
         },
         format: asked.format(),
     })
+}
+
+/// What `compare` is asked for by its matches.
+#[tactic(auto, unfolding(crate::specs::Values::compare_in))]
+pub(crate) fn compare(asked: &Matches<'_, '_>) -> ValueResult<Arguments>
+    ensures { Answers (compare_in asked.now) AreAccepted result }
+{
+    let policies = part(asked)?;
+    let every = asked.optional_number(OptionName::ComparedEvery);
+    Ok(Arguments::Compare(CompareArguments { policies, every }))
 }
 
 /// What `drive` is asked for by its matches.

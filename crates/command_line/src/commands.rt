@@ -3,7 +3,7 @@ ghost use Rattle.std.specs.Prelude.{◌≡◌, false, IfOk, map};
 ghost use Rattle.clap.specs.Words.{app_of, new_app, new_rule, rule_of};
 ghost use Rattle.command_line.specs.Options.{defined, defined_subcommand, subcommands};
 ghost use Rattle.command_line.specs.Program.{IsCommandOf, app_of_subcommand, empty_app, parser_of, program_app};
-ghost use Rattle.command_line.specs.Program.{rule_of_row, with_place};
+ghost use Rattle.command_line.specs.Program.{is_required, rule_of_row, with_place};
 
 use crate::choices::WordLists;
 use crate::options::{OptionRow, Place, SUBCOMMANDS, Subcommand, ValueKind};
@@ -80,7 +80,7 @@ fn arg<'a>(alloc: Global, row: &OptionRow, lists: &WordLists<'a>) -> Arg<'a>
         .help(row.help);
     match row.default {
         Some(word) => arg.default_value(word),
-        None => arg.required(true),
+        None => arg.required(is_required(row.place)),
     }
 }
 
@@ -91,10 +91,17 @@ fn placed<'a>(alloc: Global, row: &OptionRow) -> Arg<'a>
 {
     let arg = Arg::new(alloc, row.id);
     match row.place {
-        Place::Named => arg.long(row.id),
+        Place::Named | Place::Optional => arg.long(row.id),
         Place::NamedOften => arg.long(row.id).action(ArgAction::Append),
         Place::Positional => arg.num_args(1..).action(ArgAction::Append),
     }
+}
+
+// Whether an option with no default has to be given.
+fn is_required(place: Place) -> bool
+    ensures { result ≡ is_required place }
+{
+    !matches!(place, Place::Optional)
 }
 
 // What `clap` takes as a value.

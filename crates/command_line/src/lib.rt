@@ -18,8 +18,8 @@ mod parser;
 mod values;
 
 pub use arguments::{
-    Arguments, DebugArguments, DriveArguments, IntervalsArguments, PartArguments, ReplayArguments,
-    RunArguments, SweepArguments,
+    Arguments, CompareArguments, DebugArguments, DriveArguments, IntervalsArguments, PartArguments,
+    ReplayArguments, RunArguments, SweepArguments,
 };
 pub use fault::ParseFault;
 pub use lists::{CapacityList, FilePath, NamedList, PolicyList};

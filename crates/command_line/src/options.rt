@@ -4,8 +4,8 @@ ghost use Rattle.std.specs.Prelude.{◌≡◌};
 ghost use Rattle.command_line.specs.Options.{defined, row_of};
 
 use OptionName::{
-    Batch, Capacities, Capacity, Every, First, Format, Journal, Limit, Main, Policies, Second,
-    Spread, Stripes, SweptPolicies, Trace, Workers,
+    Batch, Capacities, Capacity, ComparedEvery, Every, First, Format, Journal, Limit, Main,
+    Policies, Second, Spread, Stripes, SweptPolicies, Trace, Workers,
 };
 use step_record::{
     MAX_ACCESSES, MAX_BATCH, MAX_CAPACITY, MAX_JOURNAL_LIMIT, MAX_MAIN_PERCENT, MAX_WORKERS,
@@ -36,7 +36,7 @@ pub struct OptionRow {
     pub help: &'static str,
     pub value: ValueKind,
     pub place: Place,
-    /// Its value where none is given; an option with no default is required.
+    /// Its value where none is given; an option with no default is required, unless its place says otherwise.
     pub default: Option<&'static str>,
 }
 
@@ -50,6 +50,7 @@ pub enum OptionName {
     Format,
     Batch,
     Every,
+    ComparedEvery,
     Policies,
     SweptPolicies,
     First,
@@ -92,6 +93,8 @@ pub enum ValueKind {
 pub enum Place {
     /// Behind its name, once.
     Named,
+    /// Behind its name, once or not at all.
+    Optional,
     /// Behind its name, once for each value.
     NamedOften,
     /// With no name, one or more.
@@ -138,9 +141,10 @@ from 1, at which just one of them hits, or `part none`. The trace comes by a red
         name: "compare",
         about: "Prints at how many accesses of the trace on standard input both of two policies hit, one alone, or neither",
         whole: "Prints at how many accesses of the trace on standard input both of two policies hit, only the first, only
-the second, and neither. The trace comes by a redirection (< FILE) or a pipe.",
+the second, and neither; with --every M at how many of each M accesses, a row for each. The trace comes by a
+redirection (< FILE) or a pipe.",
         example: "Example: cachesim compare --capacity 100 --first lru --second slru < trace.lirs",
-        options: &[Capacity, Main, Spread, Format, First, Second],
+        options: &[Capacity, ComparedEvery, Main, Spread, Format, First, Second],
     },
     Subcommand {
         name: "drive",
@@ -171,7 +175,7 @@ Give --capacity, --stripes, --main, --spread and --limit as they were given to `
 ];
 
 // The options, in the order of their names.
-static OPTIONS: [OptionRow; 16] = [
+static OPTIONS: [OptionRow; 17] = [
     OptionRow {
         id: "capacity",
         value_name: "N",
@@ -226,6 +230,14 @@ static OPTIONS: [OptionRow; 16] = [
         help: "How many accesses an interval has, from 1 to 16777216; the last one may have fewer",
         value: ValueKind::Number(1, MAX_ACCESSES as u32),
         place: Place::Named,
+        default: None,
+    },
+    OptionRow {
+        id: "every",
+        value_name: "M",
+        help: "A row for each interval of M accesses, from 1 to 16777216; the last one may have fewer",
+        value: ValueKind::Number(1, MAX_ACCESSES as u32),
+        place: Place::Optional,
         default: None,
     },
     OptionRow {

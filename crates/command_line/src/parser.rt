@@ -5,7 +5,7 @@ ghost use Rattle.command_line.specs.Accepted.{AreAccepted};
 ghost use Rattle.command_line.specs.ParseResult.{IsAskedFor, ParsedBy};
 ghost use Rattle.command_line.specs.Values.{Answers, asked_in, asked_of, has_wrong_stripes};
 
-use crate::arguments::{Arguments, debug, drive, intervals, part, replay, run, sweep};
+use crate::arguments::{Arguments, compare, debug, drive, intervals, part, replay, run, sweep};
 use crate::choices::{WordLists, format_words, policy_words, spread_words};
 use crate::commands::program;
 use crate::fault::{ParseFault, ValueFault, ValueResult};
@@ -63,7 +63,7 @@ fn arguments_of(alloc: Global, name: &str, asked: &Matches<'_, '_>) -> ValueResu
         "sweep" => sweep(alloc, asked),
         "intervals" => intervals(alloc, asked),
         "part" => part(asked).map(Arguments::Part),
-        "compare" => part(asked).map(Arguments::Compare),
+        "compare" => compare(asked),
         "drive" => drive(asked),
         "debug" => debug(alloc, asked),
         "replay" => replay(alloc, asked),

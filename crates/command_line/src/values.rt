@@ -41,9 +41,16 @@ impl<'m, 'a> Matches<'m, 'a> {
     pub(crate) fn number(&self, option: OptionName) -> ValueResult<u32>
         ensures { Answers (number_in option self.now) (IsIn (row_of option).value) result }
     {
+        self.optional_number(option).ok_or(ValueFault::Incomplete)
+    }
+
+    /// The same, where one is given that is in the option's range.
+    pub(crate) fn optional_number(&self, option: OptionName) -> Option<u32>
+        ensures value { result ≡ number_in option self.now }
+        ensures range { IfSome result (IsIn (row_of option).value) }
+    {
         self.wide_number(option)
             .and_then(|number| in_range(option.row().value, number))
-            .ok_or(ValueFault::Incomplete)
     }
 
     /// The number of 64 bits that is given to an option.

@@ -151,7 +151,7 @@ pub undone-counted : (m q i n : ℕ) (old now : List (List CountedKey)) → leng
 undone-counted m q i n old now five low h less g =
     rw (h, replaced-queue q (before_turns i (queue_of q old)) old five low) (counted-before m n (suc i) (queue_of q old) (omega (arith, less)) g)
 
--- after so many turns of queue q the queues are now: the turns that are left make those of the whole
+-- this number of turns of queue q took the queues from old to now: with those that are left they are all
 pub record IsTurning (q turns : ℕ) (old now : List (List CountedKey)) : Type 0 where
   pub five : length now ≡ 5
   pub queues : now ≡ with_queue q (queue_of q now) old

@@ -47,8 +47,8 @@ impl CountedQueues {
         true
     }
 
-    /// Undoes so many turns of the queue: the newest key goes to the old end with its count 1 more, again and again.
-    /// It needs no room.
+    /// Undoes this number of turns of the queue: the newest key goes to the old end with its count 1 more, again and
+    /// again. It needs no room.
     pub fn undo_turns(&mut self, queue: u8, turns: u32)
         requires queue { queue < 5 }
         requires counts { AreCounted 255 (before_turns turns (queue_of queue self.old.queues)) }

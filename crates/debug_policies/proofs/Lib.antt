@@ -4,3 +4,4 @@ pub mod Shown
 pub mod Texts
 pub mod Facts
 pub mod Compared
+pub mod CutHits

@@ -3,3 +3,4 @@ pub mod OnePolicy
 pub mod TwoPolicies
 pub mod ConfigFault
 pub mod Comparison
+pub mod ComparedIntervals

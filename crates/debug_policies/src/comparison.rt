@@ -1,10 +1,10 @@
 //! How often two policies hit at the same accesses of a trace.
-ghost use Rattle.std.specs.Prelude.{◌≡◌, ◌≤◌, ◌-◌, ◌++◌, List, [], ◌∷◌, length, IfOk, OnOk, Ok};
+ghost use Rattle.std.specs.Prelude.{◌≡◌, ◌≤◌, ◌-◌, ◌++◌, List, [], ◌∷◌, length, take, IfOk, OnOk, Ok};
 ghost use Rattle.step_record.specs.Config.{config_fault};
 ghost use Rattle.step_record.specs.declared.job.Job.{Job};
 ghost use Rattle.step_record.specs.declared.outcome.Outcome.{Outcome};
 ghost use Rattle.step_record.specs.declared.limits.TheConstants.{MAX_ACCESSES};
-ghost use Rattle.policies.specs.AnyPolicy.{HasAccessed};
+ghost use Rattle.policies.specs.AnyPolicy.{HasAccessed, outcomes_on};
 ghost use Rattle.policies.specs.FaultyJobs.{faulty_in, ReturnsFault};
 ghost use Rattle.debug_policies.specs.Comparison.{compared_on, compared_up_to, comparison_text, counts_with};
 ghost use Rattle.debug_policies.specs.Comparison.{IsUpTo, no_counts};
@@ -27,8 +27,8 @@ pub struct Comparison {
 }
 
 impl Comparison {
-    // Before any access.
-    fn none() -> Comparison
+    /// Before any access.
+    pub(crate) fn none() -> Comparison
         ensures { result ≡ no_counts }
     {
         Comparison {
@@ -119,14 +119,14 @@ fn open_and_count(
     ensures { IfOk result (λ counts. counts ≡ compared_on first.now second.now trace.now) }
 {
     let (mut one, mut other) = open_both(alloc, trace, first, second)?;
-    let counts = count_in_both(trace, &mut one, &mut other);
+    let counts = count_all(trace, &mut one, &mut other);
     drop(one);
     drop(other);
     counts
 }
 
 // Makes the accesses of the trace in both caches, and counts at which of them they hit.
-fn count_in_both(
+fn count_all(
     trace: &Trace,
     one: &mut AnyPolicy,
     other: &mut AnyPolicy,
@@ -137,18 +137,47 @@ fn count_in_both(
         → IfOk result (λ counts. counts ≡ compared_on j k trace.now) }
 {
     let mut counts = Comparison::none();
+    let len = trace.keys().len();
+    count_in_both(trace, one, other, 0, len, &mut counts)?;
+    Ok(counts)
+}
+
+/// Makes the accesses from one place of the trace up to another in both caches, and counts at which of them they hit. The
+/// one error is out of memory.
+pub(crate) fn count_in_both(
+    trace: &Trace,
+    one: &mut AnyPolicy,
+    other: &mut AnyPolicy,
+    start: usize,
+    end: usize,
+    counts: &mut Comparison,
+) -> Result<(), AllocError>
+    requires order { start ≤ end }
+    requires within { (end ≤ length trace.now) × (end ≤ MAX_ACCESSES) }
+    requires one { IsPrepared trace.now start one.old }
+    requires other { IsPrepared trace.now start other.old }
+    requires few { IsUpTo start counts.old }
+    ensures one { (j : Job) → HasAccessed j trace.now (take start trace.now) one.old
+        → OnOk result (HasAccessed j trace.now (take end trace.now) one.new) }
+    ensures other { (k : Job) → HasAccessed k trace.now (take start trace.now) other.old
+        → OnOk result (HasAccessed k trace.now (take end trace.now) other.new) }
+    ensures counts { (j k : Job) → HasAccessed j trace.now (take start trace.now) one.old
+        → HasAccessed k trace.now (take start trace.now) other.old
+        → counts.old ≡ compared_up_to start (outcomes_on j trace.now) (outcomes_on k trace.now)
+        → OnOk result (counts.new ≡ compared_up_to end (outcomes_on j trace.now) (outcomes_on k trace.now)) }
+    ensures few { OnOk result (IsUpTo end counts.new) }
+{
     let mut noted = [false; STRETCH];
     let mut others = [false; STRETCH];
-    let len = trace.keys().len();
-    let mut start = 0;
-    'stretches: while start < len {
-        let end = len.min(start + STRETCH);
-        note_hits::<First>(one, trace, start, end, &mut noted)?;
-        note_hits::<Second>(other, trace, start, end, &mut others)?;
-        count_hits(&noted, &others, start, end, &mut counts);
-        start = end;
+    let mut place = start;
+    'stretches: while place < end {
+        let stop = place + STRETCH.min(end - place);
+        note_hits::<First>(one, trace, place, stop, &mut noted)?;
+        note_hits::<Second>(other, trace, place, stop, &mut others)?;
+        count_hits(&noted, &others, place, stop, counts);
+        place = stop;
     }
-    Ok(counts)
+    Ok(())
 }
 
 // Counts the accesses from one place up to another by what both caches noted of them.

@@ -15,8 +15,7 @@ use policies::{ActorFault, AnyPolicy, check_jobs, theorems};
 use std::alloc::{AllocError, Global};
 use step_record::{Gate, Job, Key, OpenGate, Outcome, StepFault, Trace};
 
-/// So many accesses are made in one cache before the other makes them: each has a loop of its own, of which the code of
-/// an access is part.
+/// Each cache makes so many accesses before the other makes them, so that each loop has the code of an access inlined.
 pub const STRETCH: usize = 1024;
 
 /// The first access of the trace, counted from 1, at which the policy of one job hits and that of the other does not;
@@ -142,11 +141,12 @@ fn walk_both<G: Gate>(
         gate.before(0, number);
         note_hits::<First>(one, trace, start, end, &mut noted)?;
         note_hits::<Second>(other, trace, start, end, &mut others)?;
-        match compare_hits(&noted, &others, start, end) {
+        let parting = compare_hits(&noted, &others, start, end);
+        gate.after(0, number);
+        match parting {
             Some(place) => return Ok(Some(place as u64 + 1)),
             None => start = end,
         }
-        gate.after(0, number);
     }
     Ok(None)
 }

@@ -1,8 +1,7 @@
 //! Runs of a worker on a thread: one that is undone, and one that is read back. A miss with its round is nine steps.
-ghost use Rattle.std.specs.Prelude.{◌≡◌, ◌≤◌, Ok};
+ghost use Rattle.std.specs.Prelude.{◌≡◌, Ok};
 ghost use Rattle.maintenance.specs.EmptyShell.{IsOpened};
 ghost use Rattle.step_record.specs.Config.{config_fault};
-ghost use Rattle.step_record.specs.declared.limits.TheConstants.{MAX_JOURNAL_LIMIT};
 
 use super::assertions::assert_equal;
 use super::jobs::SMALL;
@@ -78,7 +77,6 @@ fn assert_read_back(
 ) -> Result<(), Fail>
     requires checked { config_fault config.now ≡ Ok tt }
     requires opened { IsOpened config.now session.now.opening }
-    requires limit { session.now.limit ≤ MAX_JOURNAL_LIMIT }
 {
     let copy = copy_of(alloc, config, session)?;
     assert_equal(rt, copy.len(), 9);

@@ -1,5 +1,6 @@
 -- The queues of a cache that remembers keys which left, by name, oldest first.
-use Rattle.std.specs.Prelude.{◌≡◌, ℕ, Bool, true, false, eqb, nat_lt, length, if◌then◌else◌, Option, Some, None, List, [], ◌∷◌, ◌++◌}
+use Rattle.std.specs.Prelude.{◌≡◌, ℕ, Bool, true, false, eqb, nat_lt, length, if◌then◌else◌, Option, Some, None, List}
+use Rattle.std.specs.Prelude.{[], ◌∷◌, ◌++◌}
 use Rattle.step_record.specs.Keys.{has_key}
 use Rattle.queue_policies.specs.CountedKeys.{CountedKey, keys_of, with_count}
 use Rattle.queue_policies.specs.Queues.{without_oldest, without_newest}
@@ -59,6 +60,9 @@ IsNowhere k s = (q : QueueName) → has_key k (keys_in q s) ≡ false
 abbrev pub entries_without : ℕ → List CountedKey → List CountedKey
 entries_without k [] = []
 entries_without k (e ∷ l) = if eqb k e.key then entries_without k l else e ∷ entries_without k l
+
+abbrev pub lists_without_key : QueueName → ℕ → QueueLists → QueueLists
+lists_without_key q k s = with_list q (entries_without k (list_of q s)) s
 
 -- the entry right behind the key of an older one, in front of all where there is none
 abbrev pub entry_behind : Option ℕ → CountedKey → List CountedKey → List CountedKey

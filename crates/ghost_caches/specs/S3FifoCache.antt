@@ -15,7 +15,8 @@ use Rattle.queue_policies.specs.declared.s3_fifo_record.S3FifoLeaver.{S3FifoLeav
 use Rattle.queue_policies.specs.declared.s3_fifo_record.S3FifoLeaver.TheVariants.{NoOne, OfSmall, OfMain}
 use Rattle.queue_policies.specs.declared.s3_fifo_record.S3FifoRecord.{S3FifoRecord}
 use Rattle.queue_policies.specs.declared.s3_fifo_record.S3FifoRecord.TheVariants.{Hit, Miss}
-use Rattle.queue_policies.specs.S3Fifo.{S3FifoState, s3_fifo_residents, s3_fifo_act, without_ghost_key, s3_fifo_with_key, IsS3Fifo}
+use Rattle.queue_policies.specs.S3Fifo.{S3FifoState, s3_fifo_residents, s3_fifo_act, without_ghost_key}
+use Rattle.queue_policies.specs.S3Fifo.{s3_fifo_with_key, IsS3Fifo}
 use Rattle.queue_policies.specs.S3FifoPlan.{promotion_count, after_promotions, planned_room}
 use Rattle.queue_policies.specs.S3FifoRecord.{miss_record_of, s3_fifo_record_of}
 use Rattle.ghost_caches.specs.declared.queue_name.QueueName.TheVariants.{EntryGhost}
@@ -81,8 +82,10 @@ pub record S3FifoMissFits (place : GhostPlace) (promoted : ℕ) (leaver : S3Fifo
   pub some : 1 ≤ capacity
   pub is_state : IsS3Fifo capacity before
   pub absent : has_key key (s3_fifo_residents before) ≡ false
-  pub leads : s3_fifo_with_key (ghost_place_of key before.ghost) key (planned_room capacity (without_ghost_key key before)).1 ≡ t
-  pub is : miss_record_of capacity (ghost_place_of key before.ghost) (without_ghost_key key before) ≡ Miss place promoted leaver
+  pub leads : s3_fifo_with_key (ghost_place_of key before.ghost) key
+      (planned_room capacity (without_ghost_key key before)).1 ≡ t
+  pub is : miss_record_of capacity (ghost_place_of key before.ghost) (without_ghost_key key before)
+      ≡ Miss place promoted leaver
 
 -- a key that was remembered joined main, and waits where main's leavers would be while a miss is undone
 abbrev pub JoinedLast : GhostPlace → QueueLists → Type 0

@@ -1,15 +1,18 @@
 //! The queues of a cache that remembers keys which left, and the moves of keys among them.
-ghost use Rattle.std.specs.Prelude.{◌≡◌, ◌+◌, ◌<◌, ◌≤◌, ◌^◌, ◌++◌, ℕ, length, true, false, Ok, Some, None, OnOk, OnErr, IfOk, IfSome};
+ghost use Rattle.std.specs.Prelude.{◌≡◌, ◌+◌, ◌<◌, ◌≤◌, ◌^◌, ◌++◌, ℕ, length, true, false, Ok, Some, None, OnOk, OnErr};
+ghost use Rattle.std.specs.Prelude.{IfOk, IfSome};
 ghost use Rattle.step_record.specs.Keys.{has_key};
 ghost use Rattle.queue_policies.specs.CountedKeys.{count_of, keys_of, AreCounted, total_count};
 ghost use Rattle.queue_policies.specs.Turns.{turn_count, after_turns, before_turns};
-ghost use Rattle.queue_policies.specs.Queues.{without_oldest, without_newest};
 ghost use Rattle.queue_policies.specs.Ghost.{older_from, forgotten_key, ghost_place_of};
 ghost use Rattle.counted_queues.specs.Queues.{first_or, newest_or, oldest_entry, newest_entry, counted_key};
 ghost use Rattle.ghost_caches.specs.declared.queue_name.QueueName.TheVariants.{Entry, Main};
-ghost use Rattle.ghost_caches.specs.QueueLists.{empty_lists, list_of, keys_in, with_list, lists_after_push, lists_after_return};
-ghost use Rattle.ghost_caches.specs.QueueLists.{IsNowhere, entries_without, HasPlace, is_found_in, IsSomeOf, lists_without_oldest};
-ghost use Rattle.ghost_caches.specs.QueueLists.{lists_without_newest, lists_with_behind, lists_with_count, lists_with_ghost_key, lists_with_forgotten};
+ghost use Rattle.ghost_caches.specs.QueueLists.{empty_lists, list_of, keys_in, with_list, lists_after_push};
+ghost use Rattle.ghost_caches.specs.QueueLists.{lists_after_return};
+ghost use Rattle.ghost_caches.specs.QueueLists.{IsNowhere, lists_without_key, HasPlace, is_found_in, IsSomeOf};
+ghost use Rattle.ghost_caches.specs.QueueLists.{lists_without_oldest};
+ghost use Rattle.ghost_caches.specs.QueueLists.{lists_without_newest, lists_with_behind, lists_with_count};
+ghost use Rattle.ghost_caches.specs.QueueLists.{lists_with_ghost_key, lists_with_forgotten};
 
 use crate::queue_name::QueueName;
 use counted_queues::{CountedQueues, Place};
@@ -129,7 +132,7 @@ impl GhostQueues {
     /// The oldest key of a queue is taken out, where there is one.
     pub(crate) fn pop_oldest(&mut self, queue: QueueName) -> Option<Key>
         ensures key { result ≡ first_or None (list_of queue self.old.lists) }
-        ensures lists { self.new.lists ≡ with_list queue (without_oldest (list_of queue self.old.lists)) self.old.lists }
+        ensures lists { self.new.lists ≡ lists_without_oldest queue self.old.lists }
         ensures spare { self.old.spare ≤ self.new.spare }
     {
         self.queues.sound();
@@ -139,7 +142,7 @@ impl GhostQueues {
 
     /// The newest key of a queue is taken out, where there is one.
     pub(crate) fn pop_newest(&mut self, queue: QueueName)
-        ensures lists { self.new.lists ≡ with_list queue (without_newest (list_of queue self.old.lists)) self.old.lists }
+        ensures lists { self.new.lists ≡ lists_without_newest queue self.old.lists }
         ensures spare { self.old.spare ≤ self.new.spare }
     {
         self.queues.sound();
@@ -150,7 +153,7 @@ impl GhostQueues {
     pub(crate) fn take_out(&mut self, key: Key, queue: QueueName) -> Option<Key>
         requires { has_key key (keys_in queue self.old.lists) ≡ true }
         ensures older { result ≡ older_from None key (keys_in queue self.old.lists) }
-        ensures lists { self.new.lists ≡ with_list queue (entries_without key (list_of queue self.old.lists)) self.old.lists }
+        ensures lists { self.new.lists ≡ lists_without_key queue key self.old.lists }
         ensures spare { self.old.spare ≤ self.new.spare }
     {
         self.queues.sound();
@@ -162,8 +165,7 @@ impl GhostQueues {
     pub(crate) fn renew(&mut self, key: Key, from: QueueName, to: QueueName) -> Option<Key>
         requires { has_key key (keys_in from self.old.lists) ≡ true }
         ensures older { result ≡ older_from None key (keys_in from self.old.lists) }
-        ensures lists { self.new.lists
-            ≡ lists_after_push to key 0 (with_list from (entries_without key (list_of from self.old.lists)) self.old.lists) }
+        ensures lists { self.new.lists ≡ lists_after_push to key 0 (lists_without_key from key self.old.lists) }
     {
         self.queues.sound();
         let older = self.queues.older(key);
@@ -174,8 +176,7 @@ impl GhostQueues {
     /// The oldest key of a queue goes to the recent end of a queue, with the given count.
     pub(crate) fn pass_on(&mut self, key: Key, from: QueueName, to: QueueName, count: u8)
         requires { first_or None (list_of from self.old.lists) ≡ Some key }
-        ensures lists { self.new.lists
-            ≡ lists_after_push to key count (with_list from (without_oldest (list_of from self.old.lists)) self.old.lists) }
+        ensures lists { self.new.lists ≡ lists_after_push to key count (lists_without_oldest from self.old.lists) }
         ensures spare { self.old.spare ≤ self.new.spare }
     {
         self.queues.sound();
@@ -185,22 +186,20 @@ impl GhostQueues {
     /// The newest key of a queue goes back to the old end of a queue, with the given count.
     pub(crate) fn pass_back(&mut self, key: Key, from: QueueName, to: QueueName, count: u8)
         requires { newest_or None (list_of from self.old.lists) ≡ Some key }
-        ensures lists { self.new.lists
-            ≡ lists_after_return to key count (with_list from (without_newest (list_of from self.old.lists)) self.old.lists) }
+        ensures lists { self.new.lists ≡ lists_after_return to key count (lists_without_newest from self.old.lists) }
         ensures spare { self.old.spare ≤ self.new.spare }
     {
         self.queues.sound();
         self.queues.send_oldest(key, to.number(), count);
     }
 
-    /// The newest key of a queue goes to its old place in a queue, right behind its older neighbour there, or in front of
-    /// all where it has none.
+    /// The newest key of a queue goes to its old place in a queue, right behind its older neighbour there, or in front
+    /// of all where it has none.
     pub(crate) fn put_back(&mut self, key: Key, from: QueueName, to: QueueName, older: Option<Key>)
         requires newest { newest_or None (list_of from self.old.lists) ≡ Some key }
         requires absent { has_key key (keys_in to (lists_without_newest from self.old.lists)) ≡ false }
         requires place { HasPlace older (list_of to (lists_without_newest from self.old.lists)) }
-        ensures { self.new.lists
-            ≡ lists_with_behind to older key (lists_without_newest from self.old.lists) }
+        ensures { self.new.lists ≡ lists_with_behind to older key (lists_without_newest from self.old.lists) }
     {
         self.queues.sound();
         // It waits in a queue of its own, since its place may be in the queue that it leaves.
@@ -221,8 +220,7 @@ impl GhostQueues {
     ) -> GhostPlace
         requires { has_key key (keys_in ghost_queue self.old.lists) ≡ remembered }
         ensures place { result ≡ ghost_place_of key (keys_in ghost_queue self.old.lists) }
-        ensures lists { self.new.lists
-            ≡ with_list ghost_queue (entries_without key (list_of ghost_queue self.old.lists)) self.old.lists }
+        ensures lists { self.new.lists ≡ lists_without_key ghost_queue key self.old.lists }
         ensures spare { self.old.spare ≤ self.new.spare }
     {
         if remembered {
@@ -233,8 +231,8 @@ impl GhostQueues {
         }
     }
 
-    /// The oldest key of a queue leaves for a ghost of a given size, which forgets its oldest where it is over that size.
-    /// Returns the key that was forgotten.
+    /// The oldest key of a queue leaves for a ghost of a given size, which forgets its oldest where it is over that
+    /// size. Returns the key that was forgotten.
     pub(crate) fn remember(
         &mut self,
         key: Key,
@@ -243,8 +241,10 @@ impl GhostQueues {
         size: u32,
     ) -> Option<Key>
         requires { first_or None (list_of from self.old.lists) ≡ Some key }
-        ensures forgotten { result ≡ forgotten_key size key (keys_in ghost_queue (lists_without_oldest from self.old.lists)) }
-        ensures lists { self.new.lists ≡ lists_with_ghost_key ghost_queue size key (lists_without_oldest from self.old.lists) }
+        ensures forgotten { result
+            ≡ forgotten_key size key (keys_in ghost_queue (lists_without_oldest from self.old.lists)) }
+        ensures lists { self.new.lists
+            ≡ lists_with_ghost_key ghost_queue size key (lists_without_oldest from self.old.lists) }
         ensures spare { self.old.spare ≤ self.new.spare }
     {
         self.pass_on(key, from, ghost_queue, 0);
@@ -254,8 +254,8 @@ impl GhostQueues {
         self.pop_oldest(ghost_queue)
     }
 
-    /// Undoes that a key left a queue for a ghost: the key that was forgotten comes back, and the ghost's newest goes back
-    /// to the old end of the queue, with the given count.
+    /// Undoes that a key left a queue for a ghost: the key that was forgotten comes back, and the ghost's newest goes
+    /// back to the old end of the queue, with the given count.
     pub(crate) fn unremember(
         &mut self,
         key: Key,
@@ -266,7 +266,8 @@ impl GhostQueues {
     )
         requires room { IsSomeOf forgotten → 1 ≤ self.old.spare }
         requires nowhere { (x : ℕ) → forgotten ≡ Some x → IsNowhere x self.old.lists }
-        requires newest { newest_or None (list_of ghost_queue (lists_with_forgotten ghost_queue forgotten self.old.lists)) ≡ Some key }
+        requires newest { newest_or None (list_of ghost_queue (lists_with_forgotten ghost_queue forgotten self.old.lists))
+            ≡ Some key }
         ensures { self.new.lists ≡ lists_after_return to key count
             (lists_without_newest ghost_queue (lists_with_forgotten ghost_queue forgotten self.old.lists)) }
     {
@@ -298,7 +299,8 @@ impl GhostQueues {
         self.queues.newest_entry(queue.number())
     }
 
-    /// While the oldest key of the queue has a count, it goes to the recent end with its count less 1. Returns how many did.
+    /// While the oldest key of the queue has a count, it goes to the recent end with its count less 1. Returns how many
+    /// did.
     pub(crate) fn make_turns(&mut self, queue: QueueName) -> u32
         requires { total_count (list_of queue self.old.lists) < 2 ^ 32 }
         ensures turns { result ≡ turn_count (list_of queue self.old.lists) }
@@ -313,7 +315,8 @@ impl GhostQueues {
     /// Undoes so many turns of the queue.
     pub(crate) fn undo_turns(&mut self, queue: QueueName, turns: u32)
         requires { AreCounted 255 (before_turns turns (list_of queue self.old.lists)) }
-        ensures lists { self.new.lists ≡ with_list queue (before_turns turns (list_of queue self.old.lists)) self.old.lists }
+        ensures lists { self.new.lists
+            ≡ with_list queue (before_turns turns (list_of queue self.old.lists)) self.old.lists }
         ensures spare { self.old.spare ≤ self.new.spare }
     {
         self.queues.sound();

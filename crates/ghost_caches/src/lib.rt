@@ -1,5 +1,5 @@
-//! Caches by the policies that remember keys which left: S3-FIFO, 2Q and ARC. Each does exactly what its policy's definition
-//! says, and an access is undone from its record alone.
+//! Caches by the policies that remember keys which left: S3-FIFO, 2Q and ARC. Each does exactly what its policy's
+//! definition says, and an access is undone from its record alone.
 #![tactic(auto)]
 
 mod ghost_queues;

@@ -1,18 +1,22 @@
 //! A cache by the S3-FIFO policy.
-ghost use Rattle.std.specs.Prelude.{◌≡◌, ℕ, [], ◌+◌, ◌++◌, ◌<◌, ◌≤◌, ◌^◌, length, nat_lt, ◌||◌, ◌==◌, true, false, Ok, Some, None, OnOk, OnErr, IfOk, IfErr};
+ghost use Rattle.std.specs.Prelude.{◌≡◌, ℕ, [], ◌+◌, ◌++◌, ◌<◌, ◌≤◌, ◌^◌, length, nat_lt, ◌||◌, ◌==◌, true, false, Ok};
+ghost use Rattle.std.specs.Prelude.{Some, None, OnOk, OnErr, IfOk, IfErr};
 ghost use Rattle.step_record.specs.Keys.{has_key};
 ghost use Rattle.step_record.specs.declared.limits.TheConstants.{MAX_CAPACITY};
 ghost use Rattle.queue_policies.specs.declared.ghost_place.GhostPlace.{GhostPlace};
 ghost use Rattle.queue_policies.specs.declared.s3_fifo_record.S3FifoRecord.TheVariants.{Miss};
 ghost use Rattle.queue_policies.specs.CountedKeys.{AreCounted, total_count};
-ghost use Rattle.queue_policies.specs.S3Fifo.{empty_s3_fifo, s3_fifo_residents, s3_fifo_small_size, s3_fifo_main_size, hit_count, s3_fifo_act, s3_fifo_with_key};
+ghost use Rattle.queue_policies.specs.S3Fifo.{empty_s3_fifo, s3_fifo_residents, s3_fifo_small_size, s3_fifo_main_size};
+ghost use Rattle.queue_policies.specs.S3Fifo.{hit_count, s3_fifo_act, s3_fifo_with_key};
 ghost use Rattle.queue_policies.specs.S3FifoPlan.{promotion_count, planned_room, planned_eviction};
 ghost use Rattle.queue_policies.specs.S3FifoRecord.{leaver_of, miss_record_of, s3_fifo_record_of, s3_fifo_undone};
 ghost use Rattle.queue_policies.specs.S3FifoRecord.{before_join, before_leaving, before_promotions, with_ghost_at};
 ghost use Rattle.ghost_caches.specs.declared.queue_name.QueueName.TheVariants.{Entry, Main, EntryGhost};
 ghost use Rattle.ghost_caches.specs.QueueLists.{keys_in, IsNowhere, IsSomeOf};
-ghost use Rattle.ghost_caches.specs.S3FifoCache.{s3_fifo_of, IsS3FifoCache, s3_fifo_outcome, all_promoted, IsPromoted, S3FifoFits, S3FifoAsks};
-ghost use Rattle.ghost_caches.specs.S3FifoCache.{s3_fifo_coming_back, S3FifoMissFits, JoinedLast, waiting_with, waiting_without};
+ghost use Rattle.ghost_caches.specs.S3FifoCache.{s3_fifo_of, IsS3FifoCache, s3_fifo_outcome, all_promoted, IsPromoted};
+ghost use Rattle.ghost_caches.specs.S3FifoCache.{S3FifoFits, S3FifoAsks};
+ghost use Rattle.ghost_caches.specs.S3FifoCache.{s3_fifo_coming_back, S3FifoMissFits, JoinedLast, waiting_with};
+ghost use Rattle.ghost_caches.specs.S3FifoCache.{waiting_without};
 ghost use Rattle.ghost_caches.specs.S3FifoCache.{SmallLeftLast, AreTurnsCounted, WaitsForPlace};
 
 use crate::ghost_queues::GhostQueues;
@@ -22,9 +26,9 @@ use std::alloc::{AllocError, Global};
 use std::marker::Model;
 use step_record::{Key, Outcome};
 
-/// A cache by the S3-FIFO policy. A new key joins the small queue, the entry queue here, or the main queue where the ghost
-/// remembers it. Hits are counted up to 3. A key of the small queue that was hit twice is promoted to the main queue; one
-/// that was not leaves for the ghost.
+/// A cache by the S3-FIFO policy. A new key joins the small queue, the entry queue here, or the main queue where the
+/// ghost remembers it. Hits are counted up to 3. A key of the small queue that was hit twice is promoted to the main
+/// queue; one that was not leaves for the ghost.
 #[derive(Drop)]
 pub struct S3FifoCache {
     capacity: u32,
@@ -55,8 +59,8 @@ impl S3FifoCache {
         }
     }
 
-    /// An access to a key, with the record that undoes it. The one error is that an allocation failed; the cache is then
-    /// as before.
+    /// An access to a key, with the record that undoes it. The one error is that an allocation failed; the cache is
+    /// then as before.
     pub fn access(&mut self, key: Key) -> Result<(Outcome, S3FifoRecord), AllocError>
         ensures acts { IfOk result (λ r. (r.0, self.new.state) ≡ s3_fifo_act self.old.capacity key self.old.state) }
         ensures record_is { IfOk result (λ r. r.1 ≡ s3_fifo_record_of self.old.capacity key self.old.state) }
@@ -87,8 +91,8 @@ impl S3FifoCache {
         Ok(())
     }
 
-    /// The resident keys: those of the small queue and then those of the main queue, each oldest first. The one error is
-    /// that an allocation failed.
+    /// The resident keys: those of the small queue and then those of the main queue, each oldest first. The one error
+    /// is that an allocation failed.
     pub fn residents(&self, alloc: Global) -> Result<Vec<Key>, AllocError>
         ensures { IfOk result (λ keys. keys.items ≡ s3_fifo_residents self.now.state) }
     {
@@ -103,7 +107,8 @@ fn step(
     key: Key,
 ) -> Result<(Outcome, S3FifoRecord), AllocError>
     requires { IsS3FifoCache capacity queues.old.lists }
-    ensures acts { IfOk result (λ r. (r.0, s3_fifo_of queues.new.lists) ≡ s3_fifo_act capacity key (s3_fifo_of queues.old.lists)) }
+    ensures acts { IfOk result (λ r.
+        (r.0, s3_fifo_of queues.new.lists) ≡ s3_fifo_act capacity key (s3_fifo_of queues.old.lists)) }
     ensures record_is { IfOk result (λ r. r.1 ≡ s3_fifo_record_of capacity key (s3_fifo_of queues.old.lists)) }
     ensures unused { queues.new.lists.main_ghost ≡ [] }
     ensures memory { OnErr result (has_key key (s3_fifo_residents (s3_fifo_of queues.old.lists)) ≡ false) }
@@ -142,7 +147,8 @@ fn missed(
     requires entry { has_key key (keys_in Entry queues.old.lists) ≡ false }
     requires main { has_key key (keys_in Main queues.old.lists) ≡ false }
     requires remembered { has_key key (keys_in EntryGhost queues.old.lists) ≡ remembered }
-    ensures acts { IfOk result (λ r. (r.0, s3_fifo_of queues.new.lists) ≡ s3_fifo_act capacity key (s3_fifo_of queues.old.lists)) }
+    ensures acts { IfOk result (λ r.
+        (r.0, s3_fifo_of queues.new.lists) ≡ s3_fifo_act capacity key (s3_fifo_of queues.old.lists)) }
     ensures record_is { IfOk result (λ r. r.1 ≡ s3_fifo_record_of capacity key (s3_fifo_of queues.old.lists)) }
     ensures unused { queues.new.lists.main_ghost ≡ [] }
     ensures memory { has_key key (s3_fifo_residents (s3_fifo_of queues.old.lists)) ≡ false }
@@ -325,7 +331,8 @@ fn undo_miss(queues: &mut GhostQueues, place: GhostPlace, promoted: u32, leaver:
     requires room { IsSomeOf (s3_fifo_coming_back leaver) → 1 ≤ queues.old.spare }
     requires fits { S3FifoMissFits place promoted leaver (s3_fifo_of queues.old.lists) }
     requires unused { queues.old.lists.main_ghost ≡ [] }
-    ensures state { s3_fifo_of queues.new.lists ≡ s3_fifo_undone (Miss place promoted leaver) (s3_fifo_of queues.old.lists) }
+    ensures state { s3_fifo_of queues.new.lists
+        ≡ s3_fifo_undone (Miss place promoted leaver) (s3_fifo_of queues.old.lists) }
     ensures unused { queues.new.lists.main_ghost ≡ [] }
 {
     undo_join(queues, place);

@@ -1,14 +1,18 @@
 //! A cache by the 2Q policy.
-ghost use Rattle.std.specs.Prelude.{◌≡◌, ℕ, [], ◌+◌, ◌++◌, ◌≤◌, length, nat_lt, ◌||◌, ◌==◌, true, false, Ok, Some, None, OnOk, OnErr, IfOk, IfErr};
+ghost use Rattle.std.specs.Prelude.{◌≡◌, ℕ, [], ◌+◌, ◌++◌, ◌≤◌, length, nat_lt, ◌||◌, ◌==◌, true, false, Ok, Some};
+ghost use Rattle.std.specs.Prelude.{None, OnOk, OnErr, IfOk, IfErr};
 ghost use Rattle.step_record.specs.Keys.{has_key};
 ghost use Rattle.queue_policies.specs.Ghost.{ghost_place_of};
-ghost use Rattle.ghost_policies.specs.TwoQ.{empty_two_q, two_q_residents, kin, kout, two_q_leaver, two_q_after_recall, two_q_after_eviction};
-ghost use Rattle.ghost_policies.specs.TwoQ.{two_q_after_join, two_q_act, two_q_forgotten, two_q_record_of, two_q_undone};
+ghost use Rattle.ghost_policies.specs.TwoQ.{empty_two_q, two_q_residents, kin, kout, two_q_leaver, two_q_after_recall};
+ghost use Rattle.ghost_policies.specs.TwoQ.{two_q_after_eviction};
+ghost use Rattle.ghost_policies.specs.TwoQ.{two_q_after_join, two_q_act, two_q_forgotten, two_q_record_of};
+ghost use Rattle.ghost_policies.specs.TwoQ.{two_q_undone};
 ghost use Rattle.ghost_policies.specs.TwoQ.{two_q_after_miss, two_q_miss_of, two_q_outcome, two_q_before_eviction};
 ghost use Rattle.ghost_policies.specs.declared.two_q.TwoQRecord.TheVariants.{Missed};
 ghost use Rattle.ghost_caches.specs.declared.queue_name.QueueName.TheVariants.{Entry, Main, EntryGhost};
 ghost use Rattle.ghost_caches.specs.QueueLists.{keys_in, IsNowhere, IsSomeOf};
-ghost use Rattle.ghost_caches.specs.TwoQCache.{two_q_of, IsTwoQCache, LeavesFirst, TwoQFits, TwoQAsks, TwoQMissFits, LeftLast, coming_back};
+ghost use Rattle.ghost_caches.specs.TwoQCache.{two_q_of, IsTwoQCache, LeavesFirst, TwoQFits, TwoQAsks, TwoQMissFits};
+ghost use Rattle.ghost_caches.specs.TwoQCache.{LeftLast, coming_back};
 
 use crate::ghost_queues::GhostQueues;
 use crate::queue_name::QueueName;
@@ -18,8 +22,8 @@ use std::alloc::{AllocError, Global};
 use std::marker::Model;
 use step_record::{Key, Outcome};
 
-/// A cache by the 2Q policy. A new key joins `a1in`, the entry queue; one that comes again after it left is in `am`, the
-/// main queue; `a1out`, the entry queue's ghost, remembers it in between.
+/// A cache by the 2Q policy. A new key joins `a1in`, the entry queue; one that comes again after it left is in `am`,
+/// the main queue; `a1out`, the entry queue's ghost, remembers it in between.
 #[derive(Drop)]
 pub struct TwoQCache {
     capacity: u32,
@@ -49,8 +53,8 @@ impl TwoQCache {
         }
     }
 
-    /// An access to a key, with the record that undoes it. The one error is that an allocation failed; the cache is then
-    /// as before.
+    /// An access to a key, with the record that undoes it. The one error is that an allocation failed; the cache is
+    /// then as before.
     pub fn access(&mut self, key: Key) -> Result<(Outcome, TwoQRecord), AllocError>
         ensures acts { IfOk result (λ r. (r.0, self.new.state) ≡ two_q_act self.old.capacity key self.old.state) }
         ensures record_is { IfOk result (λ r. r.1 ≡ two_q_record_of self.old.capacity key self.old.state) }
@@ -81,8 +85,8 @@ impl TwoQCache {
         Ok(())
     }
 
-    /// The resident keys: those of `a1in` and then those of `am`, each oldest first. The one error is that an allocation
-    /// failed.
+    /// The resident keys: those of `a1in` and then those of `am`, each oldest first. The one error is that an
+    /// allocation failed.
     pub fn residents(&self, alloc: Global) -> Result<Vec<Key>, AllocError>
         ensures { IfOk result (λ keys. keys.items ≡ two_q_residents self.now.state) }
     {
@@ -97,7 +101,8 @@ fn step(
     key: Key,
 ) -> Result<(Outcome, TwoQRecord), AllocError>
     requires { IsTwoQCache capacity queues.old.lists }
-    ensures acts { IfOk result (λ r. (r.0, two_q_of queues.new.lists) ≡ two_q_act capacity key (two_q_of queues.old.lists)) }
+    ensures acts { IfOk result (λ r.
+        (r.0, two_q_of queues.new.lists) ≡ two_q_act capacity key (two_q_of queues.old.lists)) }
     ensures record_is { IfOk result (λ r. r.1 ≡ two_q_record_of capacity key (two_q_of queues.old.lists)) }
     ensures unused { queues.new.lists.main_ghost ≡ queues.old.lists.main_ghost }
     ensures memory { OnErr result (has_key key (two_q_residents (two_q_of queues.old.lists)) ≡ false) }
@@ -126,7 +131,8 @@ fn missed(
     requires entry { has_key key (keys_in Entry queues.old.lists) ≡ false }
     requires main { has_key key (keys_in Main queues.old.lists) ≡ false }
     requires remembered { has_key key (keys_in EntryGhost queues.old.lists) ≡ remembered }
-    ensures acts { IfOk result (λ r. (r.0, two_q_of queues.new.lists) ≡ two_q_act capacity key (two_q_of queues.old.lists)) }
+    ensures acts { IfOk result (λ r.
+        (r.0, two_q_of queues.new.lists) ≡ two_q_act capacity key (two_q_of queues.old.lists)) }
     ensures record_is { IfOk result (λ r. r.1 ≡ two_q_record_of capacity key (two_q_of queues.old.lists)) }
     ensures unused { queues.new.lists.main_ghost ≡ queues.old.lists.main_ghost }
     ensures memory { has_key key (two_q_residents (two_q_of queues.old.lists)) ≡ false }

@@ -1,16 +1,13 @@
 -- The bytes of a journal, line by line.
-use Rattle.std.proofs.Common.{◌≡◌, ◌≢◌, ◌∙◌, ◌<◌, ◌+◌, ◌==◌, inl, inr, ℕ, Bool, true, false, List, [], ◌∷◌, ◌++◌, length, ap, sym, refl, subst, arith, Option, Result, Ok, Err, append_assoc, take, drop}
+use Rattle.std.proofs.Common.{◌≡◌, ◌≢◌, ◌∙◌, ◌==◌, ℕ, Bool, false, List, [], ◌∷◌, ◌++◌, ap, sym, refl, subst, append_assoc, take, drop}
 use Rattle.std.specs.List.{flat_map}
 use Rattle.std.proofs.lemmas.Grind.{flat_map-append}
 use Rattle.std.proofs.lemmas.List.Elements.{All-from_recursion, All-push}
 use Rattle.std.proofs.lemmas.List.{append-nil, flat_map_more, take-append-drop}
-use Rattle.std.specs.Prelude.{IfErr, IsErrAnd, OnOk}
-use Rattle.journal_text.specs.Faults.{IsFault, IsUnread, IsWrong, TakesLine}
-use Rattle.journal_text.specs.Journal.{begun, ended_line, entry_line, header, journal_of, AreLines, IsTextOf}
-use Rattle.journal_text.specs.Table.{text_of, IsLine}
-use Rattle.journal_text.specs.declared.fault.JournalFault.{JournalFault}
-use Rattle.journal_text.specs.declared.fault.JournalFault.TheVariants as fault
-use Rattle.journal_text.specs.declared.line.JournalLine.TheVariants.{Made, Steps}
+use Rattle.journal_text.specs.Faults.{TakesLine}
+use Rattle.journal_text.specs.Journal.{begun, ended_line, entry_line, header, AreLines}
+use Rattle.journal_text.specs.Table.{IsLine}
+use Rattle.journal_text.specs.declared.line.JournalLine.TheVariants.{Made}
 use Rattle.journal_text.specs.declared.version.Version.{Version}
 use Rattle.journal_text.specs.declared.version.Version.TheVariants.{One, Two}
 use Rattle.step_record.specs.declared.entry.Entry.{Entry}

@@ -1,8 +1,7 @@
 //! The concurrent cache on threads: driven by workers, settled, written as text and read back.
-ghost use Rattle.std.specs.Prelude.{◌≡◌, ◌≤◌, Ok, None, IfOk};
+ghost use Rattle.std.specs.Prelude.{◌≡◌, Ok, None, IfOk};
 ghost use Rattle.step_record.specs.Config.{config_fault};
 ghost use Rattle.step_record.specs.History.{IsLegal};
-ghost use Rattle.step_record.specs.declared.limits.TheConstants.{MAX_JOURNAL_LIMIT};
 ghost use Rattle.shell_model.specs.Shell.{act};
 ghost use Rattle.maintenance.specs.EmptyShell.{IsOpened};
 ghost use Rattle.library_examples.specs.ConcurrentRun.{IsNew};
@@ -41,7 +40,6 @@ pub fn run_settled<R: Threads + Wait + Sync>(
     ensures opening { IfOk result (λ session. IsOpened config.now session.opening) }
     ensures legal { IfOk result (λ session. IsLegal act session.opening session.kept) }
     ensures free { IfOk result (λ session. session.engine.holder ≡ None) }
-    ensures limit { IfOk result (λ session. session.limit ≤ MAX_JOURNAL_LIMIT) }
 {
     let Ok(session) = new_session(alloc, config) else {
         return Err(RunFault::OutOfMemory);
@@ -66,7 +64,6 @@ pub fn copy_of(
 ) -> Result<Session<Shell>, JournalFault>
     requires checked { config_fault config.now ≡ Ok tt }
     requires opened { IsOpened config.now session.now.opening }
-    requires limit { session.now.limit ≤ MAX_JOURNAL_LIMIT }
     ensures opening { IfOk result (λ copy. copy.opening ≡ session.now.opening) }
     ensures kept { IfOk result (λ copy. copy.kept ≡ session.now.kept) }
     ensures engine { IfOk result (λ copy. copy.engine ≡ session.now.engine) }

@@ -25,7 +25,7 @@ ghost use Rattle.maintenance.specs.EvictionPlan.{planned, item_out};
 ghost use Rattle.maintenance.specs.Performing.{IsPerformed};
 
 use crate::shell_core::ShellCore;
-use admission::{FreqRecord, Frequency, KeptRecord};
+use admission::{FreqRecord, Frequency};
 use replacement::{Effect, KeptMoves, Moves, Rules};
 use segments::{MoveRecord, Queue, Segments};
 use shell_buffers::Task;
@@ -180,7 +180,7 @@ impl ShellCore {
             None => Moves::NONE,
         };
         Ok(UseRecord {
-            frequency: KeptRecord::of(frequency),
+            frequency,
             moves: KeptMoves::of(moves),
         })
     }
@@ -201,7 +201,7 @@ impl ShellCore {
             ..Moves::NONE
         };
         Ok(UseRecord {
-            frequency: KeptRecord::of(frequency),
+            frequency,
             moves: KeptMoves::of(moves),
         })
     }

@@ -17,8 +17,7 @@ use std::alloc::AllocError;
 use std::marker::Model;
 use step_record::{Act, Config, Drain, MAX_STEPS, Reply, Step, StepFault, Worker};
 
-/// The state of a shell. What is assumed of it here is only what keeps its numbers in range; the shell around it keeps
-/// that it is reachable.
+/// The state of a shell. Its invariant only bounds its numbers; the shell around it keeps that it is reachable.
 #[derive(Drop)]
 pub(crate) struct ShellCore {
     pub(crate) config: Config,

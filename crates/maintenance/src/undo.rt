@@ -97,7 +97,7 @@ impl ShellCore {
     {
         let UseRecord { frequency, moves } = used;
         replacement::undo(&mut self.queues, moves.moves());
-        unrecord_key(&mut self.frequency, frequency.into_record());
+        unrecord_key(&mut self.frequency, frequency);
     }
 
     // The phase as before.

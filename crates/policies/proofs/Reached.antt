@@ -27,7 +27,7 @@ use Rattle.replacement.proofs.Shape.{shape-is}
 use Rattle.policies.specs.Design.{is_counting, rules_of}
 use Rattle.policies.specs.QueueCache.{QueueState, nodeless_item, access_response, queue_state_after, frequency_by, frequency_after, state_from, empty_queue_state, state_after, outcome_after, StandsFor}
 use Rattle.policies.specs.QueueStep.{IsReached, recorded_in, queue_act, FitsCounting, unrecorded, pace_by}
-use Rattle.admission.specs.KeptCounting.{counting_words}
+use Rattle.admission.specs.FreqRecord.{size_of}
 use Rattle.policies.specs.QueueFields.{FewHalvings}
 use Rattle.clairvoyant.proofs.Listing.{one-few}
 
@@ -182,10 +182,9 @@ access-reached j r q p t f g s z k w er reached below ep eg ho hl ez =
     subst IsReached (sym all) (reached-step d k reached below)
 
 -- the words of a record of the frequency
-pub counting-weighs : (c : Option FreqRecord) (g : Option FrequencyData) → FitsCounting c g → words_of_halvings (pace_by g) ≡ words_of_halvings (pace_by (unrecorded c g)) + counting_words c
-counting-weighs None g h = rw add-zero refl
-counting-weighs (Some r) None h = absurd h
-counting-weighs (Some r) (Some f) h = weight_falls f r h
+pub counting-weighs : (r : FreqRecord) (g : Option FrequencyData) → FitsCounting r g → words_of_halvings (pace_by g) ≡ words_of_halvings (pace_by (unrecorded r g)) + size_of r
+counting-weighs r None h = rw (h, add-zero) refl
+counting-weighs r (Some f) h = weight_falls f r h
 
 answer_in : Option (Outcome × QueueState) → Outcome
 answer_in None = Hit

@@ -18,10 +18,10 @@ use Rattle.policies.specs.Design.{rules_of}
 use Rattle.policies.specs.QueueCache.{nodeless_item}
 use Rattle.policies.specs.QueueStep.{recorded_in, counting_record, queue_record_of}
 
-abbrev pub record_with : Option FreqRecord → Moves → Outcome → AccessRecord
+abbrev pub record_with : FreqRecord → Moves → Outcome → AccessRecord
 record_with c m o = record { counting = c; moves = m; outcome = o }
 
-pub access-recorded : (j : Job) (r : Rules) (q p : Queues) (f g : Option FrequencyData) (s : Stats) (k : ℕ) (c : Option FreqRecord) (w : Effect)
+pub access-recorded : (j : Job) (r : Rules) (q p : Queues) (f g : Option FrequencyData) (s : Stats) (k : ℕ) (c : FreqRecord) (w : Effect)
     → r ≡ rules_of j → p ≡ q → g ≡ recorded_in k f → c ≡ counting_record k f
     → w.outcome ≡ (access r (admits_in g) (nodeless_item k) p).outcome
     → w.moves ≡ moves_of (plan r (admits_in g) (nodeless_item k) p) p
@@ -34,6 +34,6 @@ access-recorded j r q p f g s k c w er ep eg ec ho hm =
     let m : moves_of (plan r (admits_in g) (nodeless_item k) p) p ≡ moves_of (plan (rules_of j) (admits_in h) (nodeless_item k) q) q =
     ap (λ (x : Queues). moves_of (plan r (admits_in g) (nodeless_item k) x) x) ep
     ∙ (ap (λ (x : Option FrequencyData). moves_of (plan r (admits_in x) (nodeless_item k) q) q) eg ∙ ap (λ (x : Rules). moves_of (plan x (admits_in h) (nodeless_item k) q) q) er) in
-    ap (λ (x : Option FreqRecord). record_with x w.moves w.outcome) ec
+    ap (λ (x : FreqRecord). record_with x w.moves w.outcome) ec
     ∙ (ap (λ (x : Moves). record_with (counting_record k f) x w.outcome) (hm ∙ m)
     ∙ ap (λ (x : Outcome). record_with (counting_record k f) (moves_of (plan (rules_of j) (admits_in h) (nodeless_item k) q) q) x) (ho ∙ ap (λ (x : Response). x.outcome) o))

@@ -1,13 +1,14 @@
 -- How one access changes what a cache of queues shows, its undo record, and how the record undoes it.
-use Rattle.std.specs.Prelude.{◌≢◌, ℕ, ◌≤◌, ◌==◌, if◌then◌else◌, Option, Some, None, List, length}
+use Rattle.std.specs.Prelude.{◌≡◌, ◌≢◌, ℕ, ◌≤◌, ◌==◌, if◌then◌else◌, Option, Some, None, List, length}
 use Rattle.step_record.specs.declared.limits.TheConstants.{MAX_STEPS}
 use Rattle.step_record.specs.declared.outcome.Outcome.{Outcome}
 use Rattle.step_record.specs.Stats.{stats_without, IsCounted}
 use Rattle.step_record.specs.Pace.{Pace, pace_without_sketch}
 use Rattle.admission.specs.declared.freq_record.FreqRecord.{FreqRecord}
 use Rattle.admission.specs.Frequency.{FrequencyData, frequency_with, pace_of as frequency_pace}
+use Rattle.admission.specs.declared.freq_record.FreqRecord.TheVariants.{Nothing}
 use Rattle.admission.specs.FreqRecord.{frequency_record as freq_record_of, frequency_before as freq_undone, FitsRecord}
-use Rattle.admission.specs.KeptCounting.{counting_words}
+use Rattle.admission.specs.FreqRecord.{size_of}
 use Rattle.replacement.specs.declared.record.Moves.{Moves}
 use Rattle.replacement.specs.Admission.{admits_in}
 use Rattle.replacement.specs.Plan.{plan}
@@ -36,9 +37,9 @@ queue_act d k =
 -- ---- its record
 
 -- that of the recording of the key, where keys are counted
-abbrev pub counting_record : ℕ → Option FrequencyData → Option FreqRecord
-counting_record k None = None
-counting_record k (Some f) = Some (freq_record_of k f)
+abbrev pub counting_record : ℕ → Option FrequencyData → FreqRecord
+counting_record k None = Nothing
+counting_record k (Some f) = freq_record_of k f
 
 -- what the access moves, planned from the queues before it
 abbrev pub access_moves : Option FrequencyData → ℕ → QueueState → Moves
@@ -55,15 +56,13 @@ queue_record_of k d = record {
 
 -- ---- undoing it
 
-abbrev pub unrecorded : Option FreqRecord → Option FrequencyData → Option FrequencyData
-unrecorded None f = f
-unrecorded (Some r) None = None
-unrecorded (Some r) (Some f) = Some (freq_undone r f)
+abbrev pub unrecorded : FreqRecord → Option FrequencyData → Option FrequencyData
+unrecorded r None = None
+unrecorded r (Some f) = Some (freq_undone r f)
 
-abbrev pub FitsCounting : Option FreqRecord → Option FrequencyData → Type 0
-FitsCounting None f = Unit {0}
-FitsCounting (Some r) None = ⊥
-FitsCounting (Some r) (Some f) = FitsRecord r f
+abbrev pub FitsCounting : FreqRecord → Option FrequencyData → Type 0
+FitsCounting r None = r ≡ Nothing
+FitsCounting r (Some f) = FitsRecord r f
 
 -- the count is undone first, then the moves, and the recording of the key last
 abbrev pub queue_undone : AccessRecord → QueueState → QueueState
@@ -94,7 +93,7 @@ queue_asks r = r.moves.out ≢ None
 -- ---- its words, and how the frequency ages
 
 abbrev pub queue_words : AccessRecord → ℕ
-queue_words r = counting_words r.counting
+queue_words r = size_of r.counting
 
 abbrev pub pace_by : Option FrequencyData → Pace
 pace_by None = pace_without_sketch

@@ -106,8 +106,8 @@ impl AnyPolicy {
     /// Errors: `NotNow` exactly where `apply` gives it, and `OutOfMemory`, which the optimal policy never gives; each
     /// leaves the cache as it was.
     ///
-    /// `C` is a type of the caller's choice, of which nothing is asked: each has code of its own, so that code which is
-    /// called at one place is part of the loop there.
+    /// `C` only selects an instance: calls with different `C` are compiled apart, so that one which is called at one
+    /// place is part of the loop there.
     #[inline(always)]
     pub fn access<C>(&mut self, key: Key) -> Result<Outcome, StepFault>
         ensures accepted { IfOk result (λ o. any_act self.old key ≡ Some (o, self.new)) }

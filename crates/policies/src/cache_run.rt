@@ -113,5 +113,5 @@ fn access_whole(cache: &mut AnyPolicy, uses: &NextUse) -> Result<(), AllocError>
     Ok(())
 }
 
-// The caller whose accesses are only counted, as in `access_all`, with code of its own.
+// Selects the instance of an access that `access_whole` has in its loop.
 struct CountedLate;

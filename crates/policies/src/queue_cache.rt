@@ -12,7 +12,7 @@ ghost use Rattle.policies.specs.QueueFields.{FewHalvings};
 
 use crate::design::{FixedDesign, Layout, QueueDesign};
 use crate::record::AccessRecord;
-use admission::{FreqRecord, Frequency, KeptCounting};
+use admission::{FreqRecord, Frequency};
 use replacement::{KeptMoves, Rules, access, open_frequency, undo};
 use segments::{Queue, Segments};
 use std::alloc::{AllocError, Global};
@@ -115,8 +115,8 @@ impl<P: Drop> QueueCache<P> {
     /// Errors: `NotNow` exactly where `MAX_STEPS` accesses are applied, and `OutOfMemory`; each leaves the cache as it
     /// was.
     ///
-    /// `C` is a type of the caller's choice, of which nothing is asked: each has code of its own, so that code which is
-    /// called at one place is part of the loop there.
+    /// `C` only selects an instance: calls with different `C` are compiled apart, so that one which is called at one
+    /// place is part of the loop there.
     #[inline(always)]
     pub fn access<C>(&mut self, key: Key) -> Result<Outcome, StepFault>
         ensures accepted { IfOk result (λ o. queue_act self.old key ≡ Some (o, self.new)) }
@@ -237,7 +237,7 @@ impl<P: Drop> Engine for QueueCache<P> {
         let effect = access::<Recorder>(&mut self.segments, frequency, &self.rules, item);
         self.stats.count(effect.outcome);
         let record = AccessRecord {
-            counting: KeptCounting::of(counting),
+            counting,
             moves: KeptMoves::of(effect.moves),
             outcome: effect.outcome,
         };
@@ -256,7 +256,7 @@ impl<P: Drop> Engine for QueueCache<P> {
         } = done;
         self.stats.uncount(outcome);
         undo(&mut self.segments, moves);
-        unrecord_in(&mut self.frequency, counting.into_record());
+        unrecord_in(&mut self.frequency, counting);
         Ok(())
     }
 
@@ -393,7 +393,7 @@ fn is_of_full_cache(outcome: Outcome) -> bool {
 
 // Records a key where keys are counted.
 #[inline(always)]
-fn record_in(frequency: &mut Option<Frequency>, key: Key) -> Result<Option<FreqRecord>, AllocError>
+fn record_in(frequency: &mut Option<Frequency>, key: Key) -> Result<FreqRecord, AllocError>
     requires { FewHalvings frequency.old }
     ensures after { OnOk result (frequency.new ≡ recorded_in key frequency.old) }
     ensures record { IfOk result (λ r. r ≡ counting_record key frequency.old) }
@@ -402,8 +402,8 @@ fn record_in(frequency: &mut Option<Frequency>, key: Key) -> Result<Option<FreqR
     ensures err { OnErr result (frequency.new ≡ frequency.old) }
 {
     match frequency {
-        Some(frequency) => Ok(Some(frequency.record(key)?)),
-        None => Ok(None),
+        Some(frequency) => frequency.record(key),
+        None => Ok(FreqRecord::Nothing),
     }
 }
 
@@ -418,13 +418,11 @@ fn add_keys(keys: &mut Vec<Key>, items: &[Item]) -> Result<(), AllocError>
 }
 
 // Undoes the recording of a key, if there was one.
-fn unrecord_in(frequency: &mut Option<Frequency>, done: Option<FreqRecord>)
+fn unrecord_in(frequency: &mut Option<Frequency>, done: FreqRecord)
     requires { FitsCounting done frequency.old }
     ensures { frequency.new ≡ unrecorded done frequency.old }
 {
-    if let Some(done) = done {
-        if let Some(frequency) = frequency {
-            frequency.unrecord(done);
-        }
+    if let Some(frequency) = frequency {
+        frequency.unrecord(done);
     }
 }

@@ -1,5 +1,5 @@
 //! The undo record of an access.
-use admission::KeptCounting;
+use admission::FreqRecord;
 use replacement::KeptMoves;
 use step_record::Outcome;
 
@@ -7,7 +7,7 @@ use step_record::Outcome;
 /// was moved, and the outcome that was counted. It holds lists only where the recording brought a halving.
 #[derive(Drop)]
 pub struct AccessRecord {
-    pub(crate) counting: KeptCounting,
+    pub(crate) counting: FreqRecord,
     pub(crate) moves: KeptMoves,
     pub(crate) outcome: Outcome,
 }

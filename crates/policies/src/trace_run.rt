@@ -117,5 +117,5 @@ fn cut(rest: &[Key], size: usize) -> (&[Key], &[Key])
     }
 }
 
-// The caller whose accesses are only counted: it has code of its own for them, which is part of its loop.
+// Selects the instance of an access that `access_all` has in its loop.
 struct Counted;

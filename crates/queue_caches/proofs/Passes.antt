@@ -36,7 +36,7 @@ no-pass-within : (n : ℕ) (s : SieveState) → oldest_count s.ahead ≡ 0 → p
 no-pass-within zero s h = refl
 no-pass-within (suc n) s h = rw (eq-eqb (oldest_count s.ahead) 0 h) refl
 
--- after so many passes the state is now: the passes that are left make those of the whole
+-- this number of passes took the state from old to now: with those that are left they are all
 pub record IsPassing (passes : ℕ) (old now : SieveState) : Type 0 where
   pub count : pass_count old ≡ passes + pass_count now
   pub after : after_passes (pass_count old) old ≡ after_passes (pass_count now) now

@@ -195,7 +195,7 @@ impl SieveQueues {
         self.ahead = 1 - self.ahead;
     }
 
-    /// Undoes so many passes of the hand.
+    /// Undoes this number of passes of the hand.
     pub(crate) fn undo_passes(&mut self, passes: u32)
         requires { AreCounted 255
             ((before_passes passes self.old.state).passed ++ (before_passes passes self.old.state).ahead) }

@@ -8,6 +8,6 @@ pub enum ClockRecord {
     Hit(Key, u8),
     /// A miss, and none was evicted.
     Kept,
-    /// A miss that evicted this key, after so many keys had gone to the recent end with their bits cleared.
+    /// A miss that evicted this key: how many keys had gone to the recent end before, with their bits cleared.
     Evicted(Key, u32),
 }

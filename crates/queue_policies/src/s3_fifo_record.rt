@@ -9,7 +9,7 @@ pub enum S3FifoLeaver {
     NoOne,
     /// From the small queue: the key, its count, and the key that the ghost forgot for it.
     OfSmall(Key, u8, Option<Key>),
-    /// From the main queue: the key, after so many keys of it had gone to its recent end with their counts less 1.
+    /// From the main queue: the key, and how many keys had gone to its recent end before, with their counts less 1.
     OfMain(Key, u32),
 }
 

@@ -8,7 +8,6 @@ pub enum SieveRecord {
     Hit(Key, u8),
     /// A miss, and none was evicted.
     Kept,
-    /// A miss that evicted this key, after the hand had passed so many keys; and whether the hand wrapped when the key
-    /// left.
+    /// A miss that evicted this key: how many keys the hand had passed before, and whether it wrapped as the key left.
     Evicted(Key, u32, bool),
 }

@@ -19,8 +19,8 @@ use step_record::{Item, Outcome};
 /// Accesses an item: a hit where it stands in a queue, else a miss, by the rules. Where keys are counted, `frequency`
 /// is the one that already has the item's key. It requires room for one item.
 ///
-/// `C` is a type of the caller's choice, of which nothing is asked: each has code of its own, so that where callers
-/// that keep the undo record choose one type and those that drop it another, the latter's code writes no record.
+/// `C` only selects an instance: calls with different `C` are compiled apart, so an instance whose undo record is unused
+/// makes none.
 #[inline(always)]
 pub fn access<C>(
     segments: &mut Segments,

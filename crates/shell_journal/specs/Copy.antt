@@ -1,17 +1,14 @@
 -- Which journal can be copied.
 use Rattle.std.specs.Prelude.{◌≡◌, ◌≤◌, [], length}
 use Rattle.step_record.specs.declared.config.Config.{Config}
-use Rattle.step_record.specs.declared.limits.TheConstants.{MAX_JOURNAL_LIMIT}
 use Rattle.step_record.specs.declared.step.Reply.{Reply}
 use Rattle.step_record.specs.declared.step.Step.{Step}
 use Rattle.journal.specs.Session.{SessionState}
 use Rattle.shell_model.specs.Shell.{Shell}
 use Rattle.maintenance.specs.EmptyShell.{IsOpened}
 
--- The session is no longer than any session; the other was opened alike, has no entry yet, and has room for those of
--- the first.
+-- The copy was opened alike, has no entry yet, and has room for those of the session.
 pub record CanHold (session copy : SessionState Shell Shell Step Reply) : Type 0 where
-  pub few : length session.kept ≤ MAX_JOURNAL_LIMIT
   pub alike : copy.opening ≡ session.opening
   pub kept : copy.kept ≡ []
   pub tail : copy.tail ≡ []

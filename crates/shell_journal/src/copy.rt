@@ -10,10 +10,7 @@ use std::alloc::Global;
 use streams::CountedWriter;
 
 /// Writes the applied steps of a session as text, and reads the text into a new session, which was opened alike and
-/// has room for them. Nothing is asked of the text: it is never too long.
-///
-/// It requires that the session has at most as many steps as `Session::open` allows. The one fault is that an allocation
-/// failed.
+/// has room for them. Nothing is asked of the text: it is never too long. The one fault is that an allocation failed.
 pub fn copy_journal(
     alloc: Global,
     session: &Session<Shell>,

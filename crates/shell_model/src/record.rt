@@ -1,7 +1,7 @@
 //! The undo record of a step.
 use crate::holder::Holder;
 use crate::stats::Counted;
-use admission::KeptRecord;
+use admission::FreqRecord;
 use replacement::KeptMoves;
 use segments::MoveRecord;
 use step_record::{Drain, Item, Phase, Worker};
@@ -10,7 +10,7 @@ use step_record::{Drain, Item, Phase, Worker};
 /// protected.
 #[derive(Drop)]
 pub struct UseRecord {
-    pub frequency: KeptRecord,
+    pub frequency: FreqRecord,
     pub moves: KeptMoves,
 }
 

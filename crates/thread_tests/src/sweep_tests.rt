@@ -125,12 +125,16 @@ fn sweeps_of_several_policies(rt: HostRuntime) -> Result<(), Fail> {
 // makes no access one by one.
 #[test]
 fn a_sweep_shows_its_batches(rt: HostRuntime) -> Result<(), Fail> {
-    let trace = Trace::new(vec![in rt.alloc(); 1; 131_073]?);
-    let jobs = [job(Policy::Lru, 7), job(Policy::SegmentedLru, 7)];
-    let gate = AllAlike::new(rt.alloc(), 3)?;
-    assert_equal(&rt, sweep_batches(&trace, &jobs, &[2; 16]), 48);
-    let swept = sweep_each(&rt, rt.alloc(), &trace, &jobs, &[2; 16], &gate);
+    let trace = Trace::new(vec![in rt.alloc(); 1; 196_609]?);
+    let jobs = [
+        job(Policy::Lru, 7),
+        job(Policy::SegmentedLru, 7),
+        job(Policy::Clairvoyant, 7),
+    ];
+    let gate = AllAlike::new(rt.alloc(), 4)?;
+    assert_equal(&rt, sweep_batches(&trace, &jobs, &[2; 5]), 40);
+    let swept = sweep_each(&rt, rt.alloc(), &trace, &jobs, &[2; 5], &gate);
     drop(swept.map_err(failed)?);
-    assert!(rt; gate.is_over(16));
+    assert!(rt; gate.is_over(10));
     Ok(())
 }

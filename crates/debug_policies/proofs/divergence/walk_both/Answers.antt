@@ -14,7 +14,7 @@ pub overflow_add-result : goal.overflow_add-result
 overflow_add-result g c =
     let trace = c.args.trace.now in
     let k = c.requires.other.job in
-    let found = c.compare_hits.ensures.part (outcomes_on k trace) (c.in_ok-note_hits-2.ensures.noted k (c.stretches.invariant.1 k c.requires.other.stands)) in
+    let found = c.compare_hits-parting.ensures.part (outcomes_on k trace) (c.in_ok-note_hits-2.ensures.noted k (c.stretches.invariant.1 k c.requires.other.stands)) in
     let part = subst (λ r. IfSome r (IsFirstOther c.note_hits.new.noted (outcomes_on k trace) c.stretches.start c.min-end.result)) c.in-Some.is found in
     let below = part.below in
     let least = c.min-end.ensures in
@@ -27,7 +27,7 @@ returns-in-Some g c = λ j k s t.
     let noted = c.note_hits.new.noted in
     let start = c.stretches.start in
     let end = c.min-end.result in
-    let part = subst (λ r. IfSome r (IsFirstOther noted outcomes start end)) c.in-Some.is (c.compare_hits.ensures.part outcomes (c.in_ok-note_hits-2.ensures.noted k (c.stretches.invariant.1 k t))) in
+    let part = subst (λ r. IfSome r (IsFirstOther noted outcomes start end)) c.in-Some.is (c.compare_hits-parting.ensures.part outcomes (c.in_ok-note_hits-2.ensures.noted k (c.stretches.invariant.1 k t))) in
     parts-first noted (outcomes_on j trace) outcomes start end c.in-Some.place (c.stretches.invariant.2 j k s t)
     (c.in_ok-note_hits.ensures.noted j (c.stretches.invariant.0 j s)) part
 
@@ -43,7 +43,7 @@ stretches-preserved g c =
       (λ k t. c.in_ok-note_hits-2.ensures.stands k (c.stretches.invariant.1 k t)),
       (λ j k s t.
           let agree = subst (λ r. IfNone r (IsNoted noted (outcomes_on k trace) start end)) c.in-None.is
-          (c.compare_hits.ensures.agree (outcomes_on k trace) (c.in_ok-note_hits-2.ensures.noted k (c.stretches.invariant.1 k t))) in
+          (c.compare_hits-parting.ensures.agree (outcomes_on k trace) (c.in_ok-note_hits-2.ensures.noted k (c.stretches.invariant.1 k t))) in
           agree-more noted (outcomes_on j trace) (outcomes_on k trace) start end (c.stretches.invariant.2 j k s t) (c.in_ok-note_hits.ensures.noted j (c.stretches.invariant.0 j s)) agree),
       omega (arith, long, least),
       c.note_hits.ensures.room ∙ c.stretches.invariant.4,

@@ -12,10 +12,9 @@ pub copy_journal-requires : goal.copy_journal-requires
 copy_journal-requires c =
     let new = c.in-Ok.ensures in
     let room = c.sound.ensures.room in
-    let limit = c.requires.limit in
+    let limit = c.sound.ensures.small in
     let wide = new.limit in
     record {
-      few = omega (arith, room, limit);
       alike = c.opened_alike.ensures c.args.config.now c.args.session.now.opening c.in-Ok.copy.opening c.requires.opened new.opening;
       kept = new.kept;
       tail = new.tail;

@@ -1,6 +1,7 @@
-use Rattle.std.proofs.Common.{rules, ◌≡◌, ◌∙◌, ◌++◌, [], List, ℕ, ap, sym, subst, false}
+use Rattle.std.proofs.Common.{rules, arith, ◌≡◌, ◌≤◌, ◌∙◌, ◌++◌, [], List, ℕ, length, ap, sym, subst, false}
 use Rattle.std.specs.Prelude.{is_err}
 use Rattle.step_record.specs.Answers.{AnswersItsActs}
+use Rattle.step_record.specs.declared.limits.TheConstants.{MAX_JOURNAL_LIMIT}
 use Rattle.step_record.specs.History.{data_after}
 use Rattle.shell_model.specs.Shell.{Shell, act}
 use Rattle.shell_model.specs.ReachableShell.{IsReachable}
@@ -22,9 +23,10 @@ returns-clause-taken c =
     let text : c.as_slice-reader.result.now ≡ journal_of Two s.kept =
     held ∙ wrote ∙ ap (λ (t : List ℕ). t ++ journal_of Two s.kept) empty in
     let legal = c.sound.ensures.legal in
+    let few : length s.kept ≤ MAX_JOURNAL_LIMIT = (let room = c.sound.ensures.room in let small = c.sound.ensures.small in omega (arith, room, small)) in
     let stands = c.engine.ensures in
     let reachable : IsReachable s.opening =
     subst IsReachable (stands.engine ∙ stands.sound.stands ∙ ap (data_after act c.args.copy.now.opening) c.requires.kept ∙ c.requires.alike) c.reachable.ensures in
     c.read_journal.ensures.accepts s.kept
     (subst (λ (x : Shell). IsJournalText act x c.args.copy.now.limit c.as_slice-reader.result.now s.kept) (sym c.requires.alike)
-    (journal_taken s.opening c.args.copy.now.limit c.as_slice-reader.result.now s.kept c.text_size.ensures reachable legal lines c.requires.few c.requires.room text))
+    (journal_taken s.opening c.args.copy.now.limit c.as_slice-reader.result.now s.kept c.text_size.ensures reachable legal lines few c.requires.room text))

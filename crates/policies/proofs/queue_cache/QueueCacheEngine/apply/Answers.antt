@@ -23,13 +23,12 @@ invariant_of-self-2 g c =
     }
 
 pub returns-clause-words : goal.returns-clause-words
-returns-clause-words g c = rw c.of.ensures (counting-weighs c.in-Ok.counting c.record_in.new.frequency c.in-Ok.ensures.fits)
+returns-clause-words g c = counting-weighs c.in-Ok.counting c.record_in.new.frequency c.in-Ok.ensures.fits
 
 pub returns-clause-record_is : goal.returns-clause-record_is
 returns-clause-record_is g c =
     let seen : option_map (λ f. f.now) c.as_ref-frequency.result ≡ c.record_in.new.frequency = search rules in
-    ap (λ m. record_with c.of.result m c.access-effect.result.outcome) c.of-2.ensures
-    ∙ ap (λ k. record_with k c.access-effect.result.moves c.access-effect.result.outcome) c.of.ensures
+    ap (λ m. record_with c.in-Ok.counting m c.access-effect.result.outcome) c.of.ensures
     ∙ access-recorded c.self.inside.job c.self.inside.rules c.self.inside.segments.lists c.make_room.new.segments.lists
     c.self.inside.frequency c.record_in.new.frequency c.self.inside.stats c.args.step.now c.in-Ok.counting c.access-effect.result
     c.self.invariant.rules c.make_room.ensures.lists c.in-Ok.ensures.after c.in-Ok.ensures.record

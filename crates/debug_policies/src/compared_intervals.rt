@@ -1,0 +1,163 @@
+//! How often two policies hit at the same accesses of each interval of a trace.
+ghost use Rattle.std.specs.Prelude.{◌≡◌, ◌≤◌, ◌++◌, [], ◌∷◌, IfOk, OnOk, Ok};
+ghost use Rattle.std.specs.List.{flat_map};
+ghost use Rattle.step_record.specs.Config.{config_fault};
+ghost use Rattle.step_record.specs.declared.job.Job.{Job};
+ghost use Rattle.policies.specs.AnyPolicy.{HasAccessed};
+ghost use Rattle.policies.specs.FaultyJobs.{faulty_in, ReturnsFault};
+ghost use Rattle.debug_policies.specs.ComparedIntervals.{between, compared_intervals_on, compared_intervals_text};
+ghost use Rattle.debug_policies.specs.ComparedIntervals.{compared_row, IsLater};
+ghost use Rattle.debug_policies.specs.Part.{IsPrepared};
+
+use crate::comparison::{Comparison, count_in_both};
+use crate::divergence::open_both;
+use debug_commands::{push_counts_line, push_pieces};
+use policies::{ActorFault, AnyPolicy, check_jobs};
+use std::alloc::{AllocError, Global};
+use step_record::{Job, Trace};
+
+/// Accesses `from` to `to` of a trace, counted from 1, and at how many of them both of two policies hit, only the first,
+/// only the second, and neither.
+#[derive(Clone, Copy)]
+pub struct ComparedInterval {
+    pub from: u64,
+    pub to: u64,
+    pub counts: Comparison,
+}
+
+/// What is counted of the policies of both jobs over the trace, cut into intervals of `every` accesses, of which the last
+/// may be shorter: a row for each, in order. [`compared_intervals_add_up`](crate::theorems::compared_intervals_add_up)
+/// says that the rows sum up to what `compare` returns.
+///
+/// Errors: those of `compare`.
+pub fn compare_intervals(
+    alloc: Global,
+    trace: &Trace,
+    first: &Job,
+    second: &Job,
+    every: usize,
+) -> Result<Vec<ComparedInterval>, ActorFault>
+    requires { 1 ≤ every }
+    ensures rows { IfOk result (λ rows. rows.items ≡ compared_intervals_on every first.now second.now trace.now) }
+    ensures fault { ReturnsFault (faulty_in (first.now ∷ second.now ∷ [])) result }
+{
+    check_jobs(&[*first, *second])?;
+    let rows = open_and_cut(alloc, trace, first, second, every)?;
+    Ok(rows)
+}
+
+/// Adds the header and a row for each interval of two jobs, whose capacity is that of the first. The one error is that an
+/// allocation failed.
+pub fn push_compared_intervals(
+    text: &mut Vec<u8>,
+    first: &Job,
+    second: &Job,
+    rows: &[ComparedInterval],
+) -> Result<(), AllocError>
+    ensures { OnOk result (text.new.items
+        ≡ text.old.items ++ compared_intervals_text first.now second.now rows.now) }
+{
+    text.extend_from_slice(b"first,second,capacity,from,to,both,first_only,second_only,neither\n")?;
+    for row in rows {
+        push_row(text, first, second, row)?;
+    }
+    Ok(())
+}
+
+// Adds a row. The one error is that an allocation failed.
+fn push_row(
+    text: &mut Vec<u8>,
+    first: &Job,
+    second: &Job,
+    row: &ComparedInterval,
+) -> Result<(), AllocError>
+    ensures { OnOk result (text.new.items ≡ text.old.items ++ compared_row first.now second.now row.now) }
+{
+    push_pieces(
+        text,
+        &[
+            first.policy.word().as_bytes(),
+            b",",
+            second.policy.word().as_bytes(),
+        ],
+    )?;
+    push_counts_line(
+        text,
+        &[
+            (b",", u64::from(first.config.capacity)),
+            (b",", row.from),
+            (b",", row.to),
+            (b",", row.counts.both),
+            (b",", row.counts.first_only),
+            (b",", row.counts.second_only),
+            (b",", row.counts.neither),
+        ],
+    )
+}
+
+// Opens the caches of both jobs, and makes the rows.
+fn open_and_cut(
+    alloc: Global,
+    trace: &Trace,
+    first: &Job,
+    second: &Job,
+    every: usize,
+) -> Result<Vec<ComparedInterval>, AllocError>
+    requires some { 1 ≤ every }
+    requires first { config_fault first.now.config ≡ Ok tt }
+    requires second { config_fault second.now.config ≡ Ok tt }
+    ensures { IfOk result (λ rows. rows.items ≡ compared_intervals_on every first.now second.now trace.now) }
+{
+    let (mut one, mut other) = open_both(alloc, trace, first, second)?;
+    let rows = cut(alloc, trace, every, &mut one, &mut other);
+    drop(one);
+    drop(other);
+    rows
+}
+
+// Makes the accesses of the trace in both caches, an interval at a time; its row is the difference of the counts before
+// and after.
+fn cut(
+    alloc: Global,
+    trace: &Trace,
+    every: usize,
+    one: &mut AnyPolicy,
+    other: &mut AnyPolicy,
+) -> Result<Vec<ComparedInterval>, AllocError>
+    requires some { 1 ≤ every }
+    requires one { IsPrepared trace.now 0 one.old }
+    requires other { IsPrepared trace.now 0 other.old }
+    ensures { (j k : Job) → HasAccessed j trace.now [] one.old → HasAccessed k trace.now [] other.old
+        → IfOk result (λ rows. rows.items ≡ compared_intervals_on every j k trace.now) }
+{
+    let len = trace.keys().len();
+    let mut rows = Vec::new(alloc);
+    let mut counts = Comparison::none();
+    let mut start = 0;
+    for _number in 0..len.div_ceil(every) {
+        let end = start + every.min(len - start);
+        let before = counts;
+        count_in_both(trace, one, other, start, end, &mut counts)?;
+        rows.push(between(&before, &counts))?;
+        start = end;
+    }
+    Ok(rows)
+}
+
+// What was counted between two counts of all accesses.
+fn between(before: &Comparison, after: &Comparison) -> ComparedInterval
+    requires { IsLater before.now after.now }
+    ensures { result ≡ between before.now after.now }
+{
+    ComparedInterval {
+        from: before.accesses + 1,
+        to: after.accesses,
+        counts: Comparison {
+            accesses: after.accesses - before.accesses,
+            both: after.both - before.both,
+            first_only: after.first_only - before.first_only,
+            second_only: after.second_only - before.second_only,
+            neither: after.neither - before.neither,
+        },
+    }
+}

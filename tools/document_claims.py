@@ -1,0 +1,108 @@
+"""What documents claim of the sources: each name that they give stands where they say.
+
+Each function returns what is wrong, as texts. PROOFS has tables of claims: a function with its file, a definition of the
+same crate or of another one that is named, and a mutation. PROOFS, MUTATIONS and PROVING name nothing that is not there,
+and each crate of crates.txt has one row of ARCHITECTURE, but for the crates of tests, which it names together.
+"""
+import re
+from pathlib import Path
+
+TOP = Path(__file__).resolve().parent.parent
+CLAIMS = "| Claim | Function | Definition | Mutation |"
+CODE = re.compile(r"`([^`]+)`")
+FILE = re.compile(r"`(\w+)/(src/[\w/]*(?:\.rt)?)`")
+FENCED = re.compile(r"^```.*?^```$", re.M | re.S)
+# Documents of which each name in the sources is looked up.
+NAMING = ("docs/PROOFS.md", "docs/MUTATIONS.md", "docs/PROVING.md")
+
+
+def cells_of(line):
+    return [it.strip() for it in re.split(r"(?<!\\)\|", line)[1:-1]]
+
+
+class Sources:
+    """The texts of the crates, by kind, and every word that stands in them."""
+
+    def __init__(self, top):
+        self.top, self.crates = top, sorted(it.name for it in (top / "crates").iterdir() if it.is_dir())
+        self.src = {crate: {str(it.relative_to(top / "crates" / crate)): it.read_text()
+                            for it in (top / "crates" / crate).glob("src/**/*.rt")} for crate in self.crates}
+        self.specs = {crate: {it.stem: it.read_text() for it in (top / "crates" / crate).glob("specs/**/*.antt")}
+                      for crate in self.crates}
+        self.mutations = {it.stem for it in top.glob("crates/*/must-fail/*.edit")}
+        more = [it.read_text(errors="replace") for pattern in ("crates/*/proofs/**/*.antt", "tools/*", "tools/*/*.py")
+                for it in top.glob(pattern) if it.is_file() and it.name != "check_tools"]
+        texts = [text for kind in (self.src, self.specs) for files in kind.values() for text in files.values()]
+        self.words = set(re.findall(r"\w+", "\n".join(texts + more))) | self.mutations | {*self.crates}
+        self.words |= set(re.findall(r"\w+", " ".join(str(it.relative_to(top)) for it in top.glob("crates/*/*/**/*"))))
+
+    def has_function(self, name, crate, file):
+        """Whether a function or a type stands in a file, or in a folder of files; in any where none is named."""
+        found = re.compile(rf"\b(fn|struct|trait|enum|type) {re.escape(name)}\b")
+        return any(found.search(text) for it, files in self.src.items() for at, text in files.items()
+                   if crate in (None, it) and (file is None or at == file or file.endswith("/") and at.startswith(file)))
+
+    def has_definition(self, name, crate):
+        """Whether a crate has a module of this name in specs/, or a definition in one."""
+        files = self.specs.get(crate, {})
+        found = re.compile(rf"(^|\s){re.escape(name)}\s*[:(]|(record|data|abbrev|class) (pub )?{re.escape(name)}\b", re.M)
+        return name in files or any(map(found.search, files.values()))
+
+
+def wrong_claims(top, sources):
+    """What is wrong in the tables of claims."""
+    text, last, is_table, count = (top / "docs/PROOFS.md").read_text(), (None, None), False, 0
+    for line in text.splitlines():
+        is_table = line.startswith("|") and (is_table or line == CLAIMS)
+        if not is_table or line == CLAIMS or line.startswith("|---"):
+            continue
+        cells, count = cells_of(line), count + 1
+        if len(cells) != 4:
+            yield f"a row has {len(cells)} cells: {line[:60]}"
+            continue
+        for part in cells[1].split(";"):
+            last = (FILE.findall(part) or [last if "the same" in part else (None, None)])[0]
+            names = [it.split("::")[-1] for it in CODE.findall(FILE.sub("", part))]
+            yield from (f"no {it} in {last[0] or 'any crate'}/{last[1] or 'src'}" for it in names if not sources.has_function(it, *last))
+        for part in cells[2].split(";"):
+            named = re.search(r"of `(\w+)`", part)
+            own = FILE.findall(cells[1]) or [last]
+            homes = [named[1]] if named else [crate for crate, _ in own] if own[0][0] else sources.crates
+            names = [it for it in CODE.findall(part) if not named or it != named[1]]
+            yield from (f"no definition {it} in {', '.join(homes[:3])}" for it in names
+                        if not any(sources.has_definition(it, crate) for crate in homes))
+        yield from (f"no mutation {it}" for it in CODE.findall(cells[3]) if it not in sources.mutations)
+    if not count:
+        yield "there is no table of claims"
+
+
+def wrong_names(top, sources, document):
+    """What a document names that is nowhere: a path, or a word."""
+    for code in CODE.findall(FENCED.sub("", (top / document).read_text())):
+        if re.fullmatch(r"[\w.-]+(/[\w.-]*)+", code):
+            places = (top / code, top / "crates" / code, top / "docs" / code)
+            is_there = any(it.exists() for it in places) or any(top.glob(f"crates/*/{code}"))
+            if not is_there and not re.search(r"\b(NAME|CRATE|PLAIN_NAME|out)\b", code):
+                yield f"there is no file {code}"
+        elif re.fullmatch(r"[A-Za-z_]\w*(::\w+)*", code):
+            yield from (f"there is no {code}" for it in code.split("::") if it not in sources.words)
+
+
+def wrong_crates(top):
+    """Crates without their row of ARCHITECTURE, and rows without a crate."""
+    text = (top / "docs/ARCHITECTURE.md").read_text()
+    crates = [line.split(":")[0].split()[0] for line in (top / "crates.txt").read_text().splitlines() if re.match(r"\w", line)]
+    rows = re.findall(r"^\| `(\w+)` \|", text, re.M)
+    for crate in crates:
+        if rows.count(crate) != 1 and not (crate.endswith("_tests") and f"`{crate}`" in text):
+            yield f"{crate} has {rows.count(crate)} rows"
+    yield from (f"there is no crate {row}" for row in rows if row not in crates and not row[0].isupper() and "_" in row)
+
+
+def wrong(top=TOP):
+    """All that is wrong, each with its document."""
+    sources = Sources(top)
+    found = {"docs/PROOFS.md": list(wrong_claims(top, sources)), "docs/ARCHITECTURE.md": list(wrong_crates(top))}
+    for document in NAMING:
+        found[document] = [*found.get(document, []), *wrong_names(top, sources, document)]
+    return [f"{document}: {it}" for document, texts in found.items() for it in dict.fromkeys(texts)]
