@@ -110,19 +110,23 @@ impl DemandQueues {
         let undone = match self {
             DemandQueues::Clock(cache) => match done {
                 QueuesRecord::Clock(done) => cache.undo(done).is_ok(),
-                QueuesRecord::Sieve(_) | QueuesRecord::S3Fifo(_) | QueuesRecord::TwoQ(_) => unreachable!(),
+                QueuesRecord::Sieve(_) | QueuesRecord::S3Fifo(_) | QueuesRecord::TwoQ(_) =>
+                    unreachable!(),
             },
             DemandQueues::Sieve(cache) => match done {
                 QueuesRecord::Sieve(done) => cache.undo(done).is_ok(),
-                QueuesRecord::Clock(_) | QueuesRecord::S3Fifo(_) | QueuesRecord::TwoQ(_) => unreachable!(),
+                QueuesRecord::Clock(_) | QueuesRecord::S3Fifo(_) | QueuesRecord::TwoQ(_) =>
+                    unreachable!(),
             },
             DemandQueues::S3Fifo(cache) => match done {
                 QueuesRecord::S3Fifo(done) => cache.undo(done).is_ok(),
-                QueuesRecord::Clock(_) | QueuesRecord::Sieve(_) | QueuesRecord::TwoQ(_) => unreachable!(),
+                QueuesRecord::Clock(_) | QueuesRecord::Sieve(_) | QueuesRecord::TwoQ(_) =>
+                    unreachable!(),
             },
             DemandQueues::TwoQ(cache) => match done {
                 QueuesRecord::TwoQ(done) => cache.undo(done).is_ok(),
-                QueuesRecord::Clock(_) | QueuesRecord::Sieve(_) | QueuesRecord::S3Fifo(_) => unreachable!(),
+                QueuesRecord::Clock(_) | QueuesRecord::Sieve(_) | QueuesRecord::S3Fifo(_) =>
+                    unreachable!(),
             },
         };
         if undone { Ok(()) } else { Err(done) }

@@ -107,7 +107,6 @@ any_accepts law j trace keys rest k (Optimal d) t few s h =
     ap (λ x. get_or x d.stats.accesses 0) (p.trace_is ∙ t) ∙ (ap (λ x. get_or (keys ++ k ∷ rest) x 0) place ∙ at-length keys rest k) in
     let none : clairvoyant_act d k ≡ None = no-optimal (clairvoyant_act d k) h in
     law d (omega (arith, l, long, place)) (omega (arith, long, few)) (subst (λ x. clairvoyant_act d x ≡ None) (sym key) none)
-
 any_accepts law j trace keys rest k (Demand d) t few s h =
     let n : d.stats.accesses ≡ length keys = demand-accesses j keys d s in
     let e : d.stats.accesses ≡ 4294967296 = demand-refused d k (no-demand (demand_act d k) h) in

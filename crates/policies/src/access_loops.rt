@@ -33,12 +33,9 @@ pub(crate) fn access_queues(cache: &mut QueueCache, keys: &[Key]) -> Result<(), 
         Policy::TinyLfuLru => access_each::<TinyLfuLruDesign>(cache, keys),
         Policy::TinyLfuSegmented => access_each::<TinyLfuSegmentedDesign>(cache, keys),
         Policy::WindowTinyLfu => access_each::<WindowTinyLfuDesign>(cache, keys),
-        Policy::Fifo | Policy::Arc => access_each::<FifoDesign>(cache, keys),
-        Policy::Clairvoyant
-        | Policy::Clock
-        | Policy::Sieve
-        | Policy::S3Fifo
-        | Policy::TwoQ => unreachable!(),
+        Policy::Fifo => access_each::<FifoDesign>(cache, keys),
+        Policy::Clairvoyant | Policy::Clock | Policy::Sieve | Policy::S3Fifo | Policy::TwoQ =>
+            unreachable!(),
     }
 }
 

@@ -1,5 +1,6 @@
-//! The cache policies, each an engine whose steps are accesses: Lru, SegmentedLru, both TinyLfu, WindowTinyLfu, and
-//! Belady's optimal policy beside them in `AnyPolicy`. What each of them is stands in one table, `design_of`.
+//! The cache policies, each an engine whose steps are accesses: those of queues, as Lru and WindowTinyLfu, those that
+//! keep each missed key (of the crate `demand_cache`), and Belady's optimal policy, all of them in `AnyPolicy`. What each
+//! of them is stands in one table, `design_of`.
 //!
 //! Each policy promises that for every list of accesses that it made, an access answers the outcome that the policy's
 //! definition gives after the whole list, and leaves the cache with that access at the list's end; and that each access
