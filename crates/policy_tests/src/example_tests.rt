@@ -2,8 +2,8 @@
 use super::assertions::assert_equal;
 use Outcome::{Evicted, Hit, Kept, Rejected};
 use Policy::{
-    Clairvoyant, Lru as LeastRecent, SegmentedLru as Segmented, TinyLfuLru, TinyLfuSegmented,
-    WindowTinyLfu as Windowed,
+    Clairvoyant, Clock, Fifo, Lru as LeastRecent, S3Fifo, SegmentedLru as Segmented, Sieve,
+    TinyLfuLru, TinyLfuSegmented, TwoQ, WindowTinyLfu as Windowed,
 };
 use policies::AnyPolicy;
 use std::alloc::Global;
@@ -192,6 +192,104 @@ const OPTIMAL: [Example; 2] = [
         residents: &[3, 4],
     },
 ];
+
+// The policies that keep each missed key: by their definitions, step by step.
+const DEMAND: [Example; 6] = [
+    Example {
+        policy: Fifo,
+        capacity: 3,
+        accesses: &[
+            (1, Kept),
+            (2, Kept),
+            (3, Kept),
+            (1, Hit),
+            (4, Evicted(1)),
+            (2, Hit),
+        ],
+        counted: [6, 2, 4, 1, 0],
+        residents: &[2, 3, 4],
+    },
+    Example {
+        policy: Clock,
+        capacity: 3,
+        accesses: &[
+            (1, Kept),
+            (2, Kept),
+            (3, Kept),
+            (1, Hit),
+            (4, Evicted(1)),
+            (2, Hit),
+        ],
+        counted: [6, 2, 4, 1, 0],
+        residents: &[2, 3, 4],
+    },
+    Example {
+        policy: Clock,
+        capacity: 3,
+        accesses: &[
+            (1, Kept),
+            (2, Kept),
+            (1, Hit),
+            (3, Kept),
+            (4, Evicted(1)),
+            (2, Hit),
+            (1, Evicted(3)),
+        ],
+        counted: [7, 2, 5, 2, 0],
+        residents: &[4, 2, 1],
+    },
+    Example {
+        policy: Sieve,
+        capacity: 3,
+        accesses: &[
+            (1, Kept),
+            (2, Kept),
+            (3, Kept),
+            (1, Hit),
+            (4, Evicted(2)),
+            (2, Evicted(3)),
+        ],
+        counted: [6, 1, 5, 2, 0],
+        residents: &[1, 4, 2],
+    },
+    Example {
+        policy: S3Fifo,
+        capacity: 3,
+        accesses: &[
+            (1, Kept),
+            (2, Kept),
+            (3, Kept),
+            (1, Hit),
+            (4, Evicted(1)),
+            (2, Hit),
+            (1, Evicted(2)),
+        ],
+        counted: [7, 2, 5, 2, 0],
+        residents: &[3, 4, 1],
+    },
+    Example {
+        policy: TwoQ,
+        capacity: 3,
+        accesses: &[
+            (1, Kept),
+            (2, Kept),
+            (3, Kept),
+            (1, Hit),
+            (4, Evicted(1)),
+            (2, Hit),
+            (1, Evicted(2)),
+        ],
+        counted: [7, 2, 5, 2, 0],
+        residents: &[3, 4, 1],
+    },
+];
+
+#[test]
+fn each_policy_that_keeps_missed_keys_answers_by_its_definition(
+    rt: HostRuntime,
+) -> Result<(), Fail> {
+    assert_all(&rt, rt.alloc(), &DEMAND)
+}
 
 #[test]
 fn each_policy_answers_by_the_table_of_moves(rt: HostRuntime) -> Result<(), Fail> {
