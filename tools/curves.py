@@ -1,4 +1,5 @@
-"""Reports as curves, for tools/plot: rows of `cachesim sweep` and `cachesim intervals`, and what is refused of them."""
+"""Reports as curves, for tools/plot: rows of `cachesim sweep`, `cachesim intervals` and `cachesim compare --every`, and what is
+refused of them."""
 import sys
 from collections import namedtuple
 
@@ -6,6 +7,8 @@ from policies import OPTIMAL
 
 SWEEP = "policy,capacity,accesses,hits,misses,evictions,rejections,rate"
 INTERVALS = "policy,capacity,first,last,hits,misses,evictions,rejections,rate"
+COMPARISONS = "first,second,capacity,from,to,both,first_only,second_only,neither"
+HEADERS = (SWEEP, INTERVALS, COMPARISONS)
 
 # A report of a file: the line that it is in, the place of the horizontal axis where it begins and that where it ends,
 # and its counts.
@@ -16,6 +19,20 @@ Curve = namedtuple("Curve", "name policy variant points")
 
 def refuse(text):
     sys.exit(f"tools/plot: {text}")
+
+
+def comparisons_of(where, number, line):
+    """The two rows of a line of a comparison: the hits that each policy has alone."""
+    try:
+        first, second, *texts = line.split(",")
+        capacity, begin, end, both, first_only, second_only, neither = map(int, texts)
+    except ValueError:
+        refuse(f"{where}line {number} is no row of a comparison by interval: {line}")
+    accesses = both + first_only + second_only + neither
+    if not accesses or accesses != end - begin + 1:
+        refuse(f"{where}line {number} has counts that are not its accesses: {line}")
+    return [Row(number, policy, capacity, begin - 1, end, accesses, hits)
+            for policy, hits in ((first, first_only), (second, second_only))]
 
 
 def row_of(where, number, line, is_intervals):
@@ -34,20 +51,23 @@ def row_of(where, number, line, is_intervals):
 
 
 def rows_of(text, where):
-    """The rows of one file, and whether they are of intervals."""
+    """The rows of one file, and its header."""
     header, *_ = text.splitlines() or [""]
-    if header not in (SWEEP, INTERVALS):
+    if header not in HEADERS:
         refuse(f"{where}line 1 is not the header of a sweep: {SWEEP}")
     lines = [(number, line) for number, line in enumerate(text.splitlines(), 1) if line != header]
-    rows = [row_of(where, number, line, header == INTERVALS) for number, line in lines]
+    if header == COMPARISONS:
+        rows = [row for number, line in lines for row in comparisons_of(where, number, line)]
+    else:
+        rows = [row_of(where, number, line, header == INTERVALS) for number, line in lines]
     if not rows:
         refuse(f"{where}there are no reports in it")
     for row in rows:
         if header == SWEEP and row.accesses != rows[0].accesses:
             refuse(f"{where}line {row.line} is of a trace of {row.accesses} accesses and line {rows[0].line} of one of "
                    f"{rows[0].accesses}: give each trace a file of its own")
-    refuse_hidden(rows, where, header == INTERVALS)
-    return rows, header == INTERVALS
+    refuse_hidden(rows, where, header != SWEEP)
+    return rows, header
 
 
 def refuse_hidden(rows, where, is_intervals):

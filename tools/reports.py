@@ -97,10 +97,6 @@ class Trace:
         """A capacity, or another number of blocks, as it is of the trace that was sampled."""
         return count * self.inverse
 
-    def words(self, command, main=None):
-        options = self.options
-        return [command, "--format", options.format, "--spread", options.spread, "--main", main or options.main]
-
     def sweep(self, policies, capacities, main=None):
         """A row of each policy at each capacity, keyed by both."""
         return self.converted(self.reports(policies, capacities, main, self.file.begun()), main)
@@ -120,7 +116,9 @@ class Trace:
         """The program's reports of each policy at each capacity."""
         if not policies:
             return {}
-        words = [*self.words("sweep", main), *(word for policy in policies for word in ("--policy", policy)), *capacities]
+        options = self.options
+        words = ["sweep", "--format", options.format, "--spread", options.spread, "--main", main or options.main]
+        words += [*(word for policy in policies for word in ("--policy", policy)), *capacities]
         rows = self.program.rows(words, trace, self.name)
         if [row[:2] for row in rows] != [(policy, capacity) for policy in policies for capacity in capacities]:
             self.program.refuse_reports(self.name)
@@ -129,7 +127,8 @@ class Trace:
     @staticmethod
     def without(row, begun):
         """A row without those accesses that another row of the same cache has of the beginning."""
-        return row._replace(accesses=row.accesses - begun.accesses, hits=row.hits - begun.hits, misses=row.misses - begun.misses)
+        return row._replace(accesses=row.accesses - begun.accesses, hits=row.hits - begun.hits,
+                            misses=row.misses - begun.misses)
 
     def estimated(self, row):
         if not self.whole:

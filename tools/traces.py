@@ -77,7 +77,8 @@ def ranges_of(lines, form):
             else:
                 block, count = int(fields[0]), int(fields[1])
         except (ValueError, IndexError):
-            raise ValueError(f"line {number} is no line of the format {form}: {line.decode(errors='replace').rstrip()}") from None
+            text = line.decode(errors="replace").rstrip()
+            raise ValueError(f"line {number} is no line of the format {form}: {text}") from None
         if count:
             yield block, count
 

@@ -5,10 +5,11 @@ import subprocess
 import sys
 from xml.etree import ElementTree
 
-from script_tests.frame import POLICIES, Mistake, Wrong, expect, expect_full_disk, expect_parts, file_of, run
+from script_tests.frame import POLICIES, Mistake, expect, expect_full_disk, expect_parts, file_of, run
 
 TWELVE = [*POLICIES, "fifo", "clock", "sieve", "s3-fifo", "2q", "arc"]
 SWEEP = "policy,capacity,accesses,hits,misses,evictions,rejections,rate\n"
+COMPARISONS = "first,second,capacity,from,to,both,first_only,second_only,neither\n"
 INTERVALS = "policy,capacity,first,last,hits,misses,evictions,rejections,rate\n"
 
 
@@ -126,6 +127,18 @@ def check_intervals(plot, folder, _):
     expect("no carpet", run(plot, "--commands", typed=INTERVALS + interval_rows("lru", 10, *[5] * 300))[1], "")
 
 
+def check_comparisons(plot, folder, _):
+    """A comparison by interval: the part of the accesses that each policy alone hits."""
+    rows = file_of(folder, "compare.csv", COMPARISONS + "lru,wtinylfu,9,1,10,2,3,1,4\nlru,wtinylfu,9,11,14,1,0,2,1\n")
+    curves, rest = drawn(plot, rows)
+    expect("the curves", curves, [[(0, 30), (10, 30), (10, 0), (14, 0)], [(0, 10), (10, 10), (10, 50), (14, 50)]])
+    expect_parts("around them", rest, "alone over accesses", "it alone hits (%)", "14 accesses, capacity 9, intervals of 10",
+                 'title "lru"', 'title "wtinylfu"')
+    for line in ("lru,wtinylfu,9,1,10,2,3,1,5", "lru,wtinylfu,9,1,10,2,3,1", "lru,wtinylfu,9,1,0,0,0,0,0"):
+        expect_parts(line, run(plot, "--commands", status=1, typed=COMPARISONS + line + "\n")[1], "line 2 ")
+    run(plot, "--commands", "--below-optimal", rows, status=1)
+
+
 def check_below_optimal_intervals(plot, folder, _):
     """Points below Belady's policy are those of all accesses up to the end of an interval."""
     rows = file_of(folder, "it.csv", INTERVALS + interval_rows("lru", 10, 5, 9, 0) + interval_rows("clairvoyant", 10, 9, 8, 3))
@@ -164,7 +177,8 @@ def check_pictures(plot, folder, _):
     expect("a PNG", picture[:8], b"\x89PNG\r\n\x1a\n")
 
 
-TESTS = [check_curves, check_marks, check_styles, check_refusals, check_intervals, check_below_optimal_intervals, check_sampled,
+TESTS = [check_curves, check_marks, check_styles, check_refusals, check_intervals, check_comparisons,
+         check_below_optimal_intervals, check_sampled,
          check_pictures]
 
 MISTAKES = {
@@ -188,6 +202,7 @@ MISTAKES = {
         check_below_optimal_intervals, "curves.py", "best.get((row.begin, row.end, row.capacity))",
         "best.get((0, rows[0].end, row.capacity))"),
     "points below the optimum of one interval": Mistake(check_below_optimal_intervals, "curves.py", "lost + optimal.hits", "optimal.hits"),
+    "the hits of both": Mistake(check_comparisons, "curves.py", "(second, second_only)", "(second, both + second_only)"),
     "a picture without its capacity": Mistake(check_intervals, "plot", 'yield f"capacity {', 'f"capacity {'),
     "a carpet in silence": Mistake(check_intervals, "plot", "if places > MAX_INTERVALS:", "if False:"),
     "a sample's capacity": Mistake(check_sampled, "curves.py", "row.capacity * inverse", "row.capacity"),

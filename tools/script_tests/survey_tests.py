@@ -1,10 +1,9 @@
 """Tests of tools/survey, over a program whose reports are known, and beside calls of the program itself."""
 import gzip
-import os
 import shutil
 import subprocess
 
-from script_tests.frame import (POLICIES, Mistake, Wrong, expect, expect_full_disk, expect_parts, fake, file_of, rows_of,
+from script_tests.frame import (POLICIES, Mistake, expect, expect_full_disk, expect_parts, fake, file_of, rows_of,
                                 run)
 
 TWELVE = ["lru", "slru", "tinylfu-lru", "tinylfu-slru", "wtinylfu", "clairvoyant", "fifo", "clock", "sieve", "s3-fifo", "2q",
@@ -225,6 +224,7 @@ def check_drawn(survey, folder, program):
     run(survey, trace, "--program", program, "--plot", png, "--table", "traces")
     expect("a PNG", png.read_bytes()[:4], b"\x89PNG")
     run(survey, trace, "--program", program, "--plot", "/dev/full", "--table", "traces", status=1)
+    expect_parts("nothing to draw", run(survey, "-", "--program", program, "--plot", png, status=1)[1], "no accesses to draw")
 
 
 TESTS = [check_best, check_nearly_best, check_windows, check_columns, check_reach, check_percent_of_reach, check_large, check_jumps_and_powers,

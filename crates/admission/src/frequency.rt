@@ -102,6 +102,7 @@ impl Frequency {
     pub fn count(&mut self, key: Key) -> Result<(), AllocError>
         requires { self.old.halvings < 2 ^ 64 - 1 }
         ensures after { OnOk result (self.new ≡ frequency_with key self.old) }
+        ensures memory { OnErr result (halves self.old ≡ true) }
         ensures err { OnErr result (self.new ≡ self.old) }
     {
         // Only where the key fills the sample is its mark kept, until it is sure that there is memory for the halving.
@@ -119,6 +120,7 @@ impl Frequency {
     fn count_last(&mut self, key: Key) -> Result<(), AllocError>
         requires { self.old.halvings < 2 ^ 64 - 1 }
         ensures after { OnOk result (self.new ≡ frequency_with key self.old) }
+        ensures memory { OnErr result (halves self.old ≡ true) }
         ensures err { OnErr result (self.new ≡ self.old) }
     {
         let _ = self.record(key)?;

@@ -1,20 +1,26 @@
-//! The queues.
-ghost use Rattle.std.specs.Prelude.{◌≡◌, ◌+◌, ◌<◌, ◌≤◌, ◌++◌, ◌∷◌, ◌^◌, length, ℕ, Ok, Some, None, OnOk, IfOk, IfSome, IfNone, IsTrue, false};
+//! Five queues by number, with a count beside each key.
+ghost use Rattle.std.specs.Prelude.{◌≡◌, ◌+◌, ◌<◌, ◌≤◌, ◌++◌, ◌∷◌, ◌^◌, length, ℕ, Ok, Some, None, OnOk, IfOk};
+ghost use Rattle.std.specs.Prelude.{IfSome, IfNone, IsTrue, false};
 ghost use Rattle.queue_policies.specs.CountedKeys.{count_of, keys_of};
-ghost use Rattle.counted_queues.specs.Queues.{empty_queues, queue_of, with_queue, holds, counted_key, queues_after_push, queues_after_return};
-ghost use Rattle.counted_queues.specs.Queues.{first_or, newest_or, IsAbsent, IsPlace, IsStanding, IsCutAt, IsSound, oldest_entry, newest_entry};
+ghost use Rattle.counted_queues.specs.Queues.{empty_queues, queue_of, with_queue, holds, counted_key};
+ghost use Rattle.counted_queues.specs.Queues.{queues_after_push, queues_after_return};
+ghost use Rattle.counted_queues.specs.Queues.{first_or, newest_or, IsAbsent, IsPlace, IsStanding, IsCutAt, IsSound};
+ghost use Rattle.counted_queues.specs.Queues.{oldest_entry, newest_entry};
 ghost use Rattle.queue_policies.specs.Queues.{without_oldest, without_newest};
 
 use crate::nodes::{Ends, Node, Nodes, close_gap, open_gap, put, replace, set_count, take};
 use std::alloc::{AllocError, Global};
 use std::collections::HashMap;
 use std::marker::Model;
+use step_record::Key;
 
-/// A place in a queue, by the key that stood behind it on the older side.
+/// A place in a queue.
 #[derive(Clone, Copy)]
 pub struct Place {
+    /// The queue's number.
     pub queue: u8,
-    pub older: Option<u64>,
+    /// The next older key; `None` where the place is the old end of the queue.
+    pub older: Option<Key>,
 }
 
 /// Five queues by number of distinct keys, oldest first, with a count beside each key.
@@ -52,7 +58,7 @@ impl CountedQueues {
         }
     }
 
-    /// Of every `CountedQueues`: no key stands twice. This does nothing: its contract is the fact.
+    /// No key stands twice, in any `CountedQueues`. This does nothing: its contract is the fact.
     pub fn sound(&self)
         ensures { IsSound self.now.queues }
     {
@@ -79,7 +85,7 @@ impl CountedQueues {
     }
 
     /// The queue in which the key stands, and its count.
-    pub fn find(&self, key: u64) -> Option<(u8, u8)>
+    pub fn find(&self, key: Key) -> Option<(u8, u8)>
         ensures low { IfSome result (λ r. r.0 < 5) }
         ensures there { IfSome result (λ r. IsTrue (holds key r.0 self.now.queues)) }
         ensures count { IfSome result (λ r. r.1 ≡ count_of key (queue_of r.0 self.now.queues)) }
@@ -92,7 +98,7 @@ impl CountedQueues {
     }
 
     /// The oldest key of the queue.
-    pub fn oldest(&self, queue: u8) -> Option<u64>
+    pub fn oldest(&self, queue: u8) -> Option<Key>
         requires { queue < 5 }
         ensures { result ≡ first_or None (queue_of queue self.now.queues) }
     {
@@ -100,7 +106,7 @@ impl CountedQueues {
     }
 
     /// The newest key of the queue.
-    pub fn newest(&self, queue: u8) -> Option<u64>
+    pub fn newest(&self, queue: u8) -> Option<Key>
         requires { queue < 5 }
         ensures { result ≡ newest_or None (queue_of queue self.now.queues) }
     {
@@ -108,7 +114,7 @@ impl CountedQueues {
     }
 
     /// The oldest key of the queue, with its count.
-    pub fn oldest_entry(&self, queue: u8) -> Option<(u64, u8)>
+    pub fn oldest_entry(&self, queue: u8) -> Option<(Key, u8)>
         requires { queue < 5 }
         ensures { result ≡ oldest_entry (queue_of queue self.now.queues) }
     {
@@ -118,7 +124,7 @@ impl CountedQueues {
     }
 
     /// The newest key of the queue, with its count.
-    pub fn newest_entry(&self, queue: u8) -> Option<(u64, u8)>
+    pub fn newest_entry(&self, queue: u8) -> Option<(Key, u8)>
         requires { queue < 5 }
         ensures { result ≡ newest_entry (queue_of queue self.now.queues) }
     {
@@ -128,7 +134,7 @@ impl CountedQueues {
     }
 
     // Puts a key that stands in no queue between two neighbours.
-    fn link(&mut self, queue: u8, key: u64, count: u8, older: Option<u64>, newer: Option<u64>)
+    fn link(&mut self, queue: u8, key: Key, count: u8, older: Option<Key>, newer: Option<Key>)
         requires queue { queue < 5 }
         requires room { 1 ≤ self.old.spare }
         requires absent { IsAbsent key self.old.queues }
@@ -149,8 +155,9 @@ impl CountedQueues {
         put(&mut self.nodes, key, node);
     }
 
-    /// Takes the key out, and says where it stood, and its count. `None`, and nothing moved, where it stands in no queue.
-    pub fn remove(&mut self, key: u64) -> Option<(Place, u8)>
+    /// Takes the key out. Returns where it stood, and its count; `None`, and nothing moved, where it stands in no
+    /// queue.
+    pub fn remove(&mut self, key: Key) -> Option<(Place, u8)>
         ensures standing { (n q : ℕ) (p : IsStanding key n q self.old.queues)
             → result ≡ Some (record { queue = q; older = newest_or None p.before }, n) }
         ensures queues { (n q : ℕ) (p : IsStanding key n q self.old.queues)
@@ -170,7 +177,7 @@ impl CountedQueues {
     }
 
     /// Puts a key that stands in no queue at the recent end of one. It requires room, and takes room for one.
-    pub fn push_recent(&mut self, queue: u8, key: u64, count: u8)
+    pub fn push_recent(&mut self, queue: u8, key: Key, count: u8)
         requires queue { queue < 5 }
         requires room { 1 ≤ self.old.spare }
         requires absent { IsAbsent key self.old.queues }
@@ -182,10 +189,11 @@ impl CountedQueues {
     }
 
     /// Takes the oldest key of the queue out, with its count. `None` where the queue is empty.
-    pub fn pop_oldest(&mut self, queue: u8) -> Option<(u64, u8)>
+    pub fn pop_oldest(&mut self, queue: u8) -> Option<(Key, u8)>
         requires { queue < 5 }
         ensures entry { result ≡ oldest_entry (queue_of queue self.old.queues) }
-        ensures queues { self.new.queues ≡ with_queue queue (without_oldest (queue_of queue self.old.queues)) self.old.queues }
+        ensures queues { self.new.queues
+            ≡ with_queue queue (without_oldest (queue_of queue self.old.queues)) self.old.queues }
         ensures spare { self.old.spare ≤ self.new.spare }
     {
         let Some(key) = self.oldest(queue) else {
@@ -198,10 +206,11 @@ impl CountedQueues {
     }
 
     /// Takes the newest key of the queue out, with its count. `None` where the queue is empty.
-    pub fn pop_recent(&mut self, queue: u8) -> Option<(u64, u8)>
+    pub fn pop_recent(&mut self, queue: u8) -> Option<(Key, u8)>
         requires { queue < 5 }
         ensures entry { result ≡ newest_entry (queue_of queue self.old.queues) }
-        ensures queues { self.new.queues ≡ with_queue queue (without_newest (queue_of queue self.old.queues)) self.old.queues }
+        ensures queues { self.new.queues
+            ≡ with_queue queue (without_newest (queue_of queue self.old.queues)) self.old.queues }
         ensures spare { self.old.spare ≤ self.new.spare }
     {
         let Some(key) = self.newest(queue) else {
@@ -214,7 +223,7 @@ impl CountedQueues {
     }
 
     /// Puts a key that stands in no queue at the old end of one. It requires room, and takes room for one.
-    pub fn push_oldest(&mut self, queue: u8, key: u64, count: u8)
+    pub fn push_oldest(&mut self, queue: u8, key: Key, count: u8)
         requires queue { queue < 5 }
         requires room { 1 ≤ self.old.spare }
         requires absent { IsAbsent key self.old.queues }
@@ -227,10 +236,11 @@ impl CountedQueues {
 
     /// Moves a key from where it stands to the recent end of a queue, its own or another one, and gives it another
     /// count. It needs no room. Nothing happens where the key stands in no queue.
-    pub fn send_recent(&mut self, key: u64, queue: u8, count: u8)
+    pub fn send_recent(&mut self, key: Key, queue: u8, count: u8)
         requires { queue < 5 }
         ensures queues { (n q : ℕ) (p : IsStanding key n q self.old.queues)
-            → self.new.queues ≡ queues_after_push queue key count (with_queue q (p.before ++ p.behind) self.old.queues) }
+            → self.new.queues
+            ≡ queues_after_push queue key count (with_queue q (p.before ++ p.behind) self.old.queues) }
         ensures absent { IsAbsent key self.old.queues → self.new.queues ≡ self.old.queues }
         ensures spare { self.new.spare ≡ self.old.spare }
     {
@@ -253,10 +263,11 @@ impl CountedQueues {
 
     /// Moves a key from where it stands to the old end of a queue, its own or another one, and gives it another count.
     /// It needs no room. Nothing happens where the key stands in no queue.
-    pub fn send_oldest(&mut self, key: u64, queue: u8, count: u8)
+    pub fn send_oldest(&mut self, key: Key, queue: u8, count: u8)
         requires { queue < 5 }
         ensures queues { (n q : ℕ) (p : IsStanding key n q self.old.queues)
-            → self.new.queues ≡ queues_after_return queue key count (with_queue q (p.before ++ p.behind) self.old.queues) }
+            → self.new.queues
+            ≡ queues_after_return queue key count (with_queue q (p.before ++ p.behind) self.old.queues) }
         ensures absent { IsAbsent key self.old.queues → self.new.queues ≡ self.old.queues }
         ensures spare { self.new.spare ≡ self.old.spare }
     {
@@ -277,9 +288,9 @@ impl CountedQueues {
         replace(&mut self.nodes, key, moved);
     }
 
-    /// Moves a key from where it stands to a place of another queue, as `remove` named it, and gives it another count. It
-    /// needs no room. Nothing happens where the key stands in no queue.
-    pub fn send_back(&mut self, key: u64, place: Place, count: u8)
+    /// Moves a key from where it stands to a place of another queue, as `remove` names one, and gives it another count.
+    /// It needs no room. Nothing happens where the key stands in no queue.
+    pub fn send_back(&mut self, key: Key, place: Place, count: u8)
         requires queue { place.queue < 5 }
         requires other { holds key place.queue self.old.queues ≡ false }
         requires place { IsCutAt place.older (queue_of place.queue self.old.queues) }
@@ -308,7 +319,7 @@ impl CountedQueues {
     }
 
     /// The older neighbour of a key that stands in a queue.
-    pub fn older(&self, key: u64) -> Option<u64>
+    pub fn older(&self, key: Key) -> Option<Key>
         ensures { (n q : ℕ) (p : IsStanding key n q self.now.queues) → result ≡ newest_or None p.before }
     {
         let node = self.nodes.get(&key)?;
@@ -316,7 +327,7 @@ impl CountedQueues {
     }
 
     // The newer neighbour of a key.
-    fn newer_of(&self, key: u64) -> Option<u64>
+    fn newer_of(&self, key: Key) -> Option<Key>
         ensures { (n q : ℕ) (p : IsStanding key n q self.now.queues) → result ≡ first_or None p.behind }
     {
         let node = self.nodes.get(&key)?;
@@ -324,7 +335,7 @@ impl CountedQueues {
     }
 
     // The newer neighbour of a place.
-    fn newer_in(&self, place: Place) -> Option<u64>
+    fn newer_in(&self, place: Place) -> Option<Key>
         requires { place.queue < 5 }
         ensures { (p : IsCutAt place.older (queue_of place.queue self.now.queues)) → result ≡ first_or None p.behind }
     {
@@ -335,7 +346,7 @@ impl CountedQueues {
     }
 
     /// Puts a key that stands in no queue into a place, as `remove` named it. It requires room, and takes room for one.
-    pub fn put_back(&mut self, place: Place, key: u64, count: u8)
+    pub fn put_back(&mut self, place: Place, key: Key, count: u8)
         requires queue { place.queue < 5 }
         requires room { 1 ≤ self.old.spare }
         requires absent { IsAbsent key self.old.queues }
@@ -349,7 +360,7 @@ impl CountedQueues {
     }
 
     /// Gives a key another count, where it stands. Nothing happens where it stands in no queue.
-    pub fn set_count(&mut self, key: u64, count: u8)
+    pub fn set_count(&mut self, key: Key, count: u8)
         ensures queues { (n q : ℕ) (p : IsStanding key n q self.old.queues)
             → self.new.queues ≡ with_queue q (p.before ++ counted_key key count ∷ p.behind) self.old.queues }
         ensures absent { IsAbsent key self.old.queues → self.new.queues ≡ self.old.queues }
@@ -359,7 +370,7 @@ impl CountedQueues {
     }
 
     /// Appends the queue's keys, oldest first. The one error is that an allocation failed.
-    pub fn push_keys(&self, queue: u8, keys: &mut Vec<u64>) -> Result<(), AllocError>
+    pub fn push_keys(&self, queue: u8, keys: &mut Vec<Key>) -> Result<(), AllocError>
         requires { queue < 5 }
         ensures { OnOk result (keys.new.items ≡ keys.old.items ++ keys_of (queue_of queue self.now.queues)) }
     {

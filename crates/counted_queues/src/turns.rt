@@ -7,14 +7,15 @@ ghost use Rattle.counted_queues.specs.Queues.{queue_of, with_queue};
 use crate::CountedQueues;
 
 impl CountedQueues {
-    /// While the oldest key of the queue has a count, it goes to the recent end with its count less 1. Returns how many
-    /// did. It needs no room.
+    /// While the oldest key of the queue has a count, it goes to the recent end with its count less 1. Returns how
+    /// many did. It needs no room.
     pub fn make_turns(&mut self, queue: u8) -> u32
         requires queue { queue < 5 }
         requires few { total_count (queue_of queue self.old.queues) < 2 ^ 32 }
         ensures turns { result ≡ turn_count (queue_of queue self.old.queues) }
         ensures queues { self.new.queues ≡ with_queue queue
-            (after_turns (turn_count (queue_of queue self.old.queues)) (queue_of queue self.old.queues)) self.old.queues }
+            (after_turns (turn_count (queue_of queue self.old.queues)) (queue_of queue self.old.queues))
+            self.old.queues }
         ensures spare { self.new.spare ≡ self.old.spare }
     {
         self.sound();
@@ -46,8 +47,8 @@ impl CountedQueues {
         true
     }
 
-    /// Undoes so many turns of the queue: the newest key goes to the old end with its count 1 more, again and again. It
-    /// needs no room.
+    /// Undoes so many turns of the queue: the newest key goes to the old end with its count 1 more, again and again.
+    /// It needs no room.
     pub fn undo_turns(&mut self, queue: u8, turns: u32)
         requires queue { queue < 5 }
         requires counts { AreCounted 255 (before_turns turns (queue_of queue self.old.queues)) }

@@ -17,52 +17,52 @@ use Rattle.ghost_policies.proofs.Weights.{weight, times-weight, weight-append, w
 use Rattle.ghost_policies.proofs.TwoQUndoing.{Leaves, leaves}
 
 -- what left a1in, and what left am
-abbrev out_of_a1in : TwoQLeaver → List ℕ
+abbrev pub out_of_a1in : TwoQLeaver → List ℕ
 out_of_a1in NoLeaver = []
 out_of_a1in (FromA1in v) = v ∷ []
 out_of_a1in (FromAm v) = []
 
-abbrev out_of_am : TwoQLeaver → List ℕ
+abbrev pub out_of_am : TwoQLeaver → List ℕ
 out_of_am NoLeaver = []
 out_of_am (FromA1in v) = []
 out_of_am (FromAm v) = v ∷ []
 
 -- ---- what each step of a miss moves, by weight
 
-record Leaving (f : ℕ → ℕ) (v : TwoQLeaver) (old new : TwoQState) : Type 0 where
-  a1in : weight f new.a1in + weight f (out_of_a1in v) ≡ weight f old.a1in
-  am : weight f new.am + weight f (out_of_am v) ≡ weight f old.am
-  a1out : weight f new.a1out ≤ weight f old.a1out + weight f (out_of_a1in v)
+pub record Leaving (f : ℕ → ℕ) (v : TwoQLeaver) (old new : TwoQState) : Type 0 where
+  pub a1in : weight f new.a1in + weight f (out_of_a1in v) ≡ weight f old.a1in
+  pub am : weight f new.am + weight f (out_of_am v) ≡ weight f old.am
+  pub a1out : weight f new.a1out ≤ weight f old.a1out + weight f (out_of_a1in v)
 
-leaving : (f : ℕ → ℕ) (c : ℕ) (v : TwoQLeaver) (s : TwoQState) → Leaves v s.a1in s.am → Leaving f v s (two_q_after_eviction c v s)
+pub leaving : (f : ℕ → ℕ) (c : ℕ) (v : TwoQLeaver) (s : TwoQState) → Leaves v s.a1in s.am → Leaving f v s (two_q_after_eviction c v s)
 leaving f c NoLeaver s o = record { a1in = omega arith; am = omega arith; a1out = omega arith }
 leaving f c (FromA1in v) s o =
     let all = ap (weight f) o in
     record { a1in = omega (arith, all); am = omega arith; a1out = omega (arith, weight-ghost f (kout c) v s.a1out) }
 leaving f c (FromAm v) s o = let all = ap (weight f) o in record { a1in = omega arith; am = omega (arith, all); a1out = omega arith }
 
-abbrev if_known : GhostPlace → ℕ → ℕ
+abbrev pub if_known : GhostPlace → ℕ → ℕ
 if_known Unknown n = 0
 if_known (Known j older) n = n
 
-abbrev if_unknown : GhostPlace → ℕ → ℕ
+abbrev pub if_unknown : GhostPlace → ℕ → ℕ
 if_unknown Unknown n = n
 if_unknown (Known j older) n = 0
 
-one-of : (place : GhostPlace) (n : ℕ) → if_known place n + if_unknown place n ≡ n
+pub one-of : (place : GhostPlace) (n : ℕ) → if_known place n + if_unknown place n ≡ n
 one-of Unknown n = omega arith
 one-of (Known j older) n = omega arith
 
-record Joining (f : ℕ → ℕ) (k : ℕ) (place : GhostPlace) (old new : TwoQState) : Type 0 where
-  a1in : weight f new.a1in ≡ weight f old.a1in + if_unknown place (f k)
-  am : weight f new.am ≡ weight f old.am + if_known place (f k)
-  a1out : new.a1out ≡ old.a1out
+pub record Joining (f : ℕ → ℕ) (k : ℕ) (place : GhostPlace) (old new : TwoQState) : Type 0 where
+  pub a1in : weight f new.a1in ≡ weight f old.a1in + if_unknown place (f k)
+  pub am : weight f new.am ≡ weight f old.am + if_known place (f k)
+  pub a1out : new.a1out ≡ old.a1out
 
-joining : (f : ℕ → ℕ) (k : ℕ) (place : GhostPlace) (s : TwoQState) → Joining f k place s (two_q_after_join place k s)
+pub joining : (f : ℕ → ℕ) (k : ℕ) (place : GhostPlace) (s : TwoQState) → Joining f k place s (two_q_after_join place k s)
 joining f k Unknown s = record { a1in = weight-push f s.a1in k; am = omega arith; a1out = refl }
 joining f k (Known j older) s = record { a1in = omega arith; am = weight-push f s.am k; a1out = refl }
 
-recalling : (f : ℕ → ℕ) (k : ℕ) (ghost : List ℕ) → times k ghost ≤ 1 → weight f (keys_without k ghost) + if_known (ghost_place_of k ghost) (f k) ≡ weight f ghost
+pub recalling : (f : ℕ → ℕ) (k : ℕ) (ghost : List ℕ) → times k ghost ≤ 1 → weight f (keys_without k ghost) + if_known (ghost_place_of k ghost) (f k) ≡ weight f ghost
 recalling f k ghost d =
     elim (cases_Bool (has_key k ghost)) as (λ _. weight f (keys_without k ghost) + if_known (ghost_place_of k ghost) (f k) ≡ weight f ghost) [
       | inl e ↦ rw e (weight-out f k ghost d e)
@@ -164,7 +164,7 @@ missed-few c k s i =
     omega (arith, same, few c k v s i.few)
 
 -- a key that is nowhere comes once, and one that is remembered comes for itself
-once : (x k : ℕ) (s : TwoQState) → has_key k s.am ≡ false → has_key k s.a1in ≡ false → times x s.a1in + times x s.a1out + times x s.am ≤ 1 → times x s.a1in + times x s.a1out + times x s.am + if_unknown (ghost_place_of k s.a1out) (one_if (eqb x k)) ≤ 1
+pub once : (x k : ℕ) (s : TwoQState) → has_key k s.am ≡ false → has_key k s.a1in ≡ false → times x s.a1in + times x s.a1out + times x s.am ≤ 1 → times x s.a1in + times x s.a1out + times x s.am + if_unknown (ghost_place_of k s.a1out) (one_if (eqb x k)) ≤ 1
 once x k s m i d =
     elim (cases_Bool (has_key k s.a1out)) as (λ _. times x s.a1in + times x s.a1out + times x s.am + if_unknown (ghost_place_of k s.a1out) (one_if (eqb x k)) ≤ 1) [
       | inl e ↦ rw e (omega (arith, d))

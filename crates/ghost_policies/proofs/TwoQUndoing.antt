@@ -38,11 +38,11 @@ leaves c s =
       ])
     ]
 
-unjoined : (place : GhostPlace) (k : ℕ) (s : TwoQState) → two_q_before_join place (two_q_after_join place k s) ≡ s
+pub unjoined : (place : GhostPlace) (k : ℕ) (s : TwoQState) → two_q_before_join place (two_q_after_join place k s) ≡ s
 unjoined Unknown k s = rw (without-newest s.a1in k) refl
 unjoined (Known j older) k s = rw (without-newest s.am k) refl
 
-unevicted : (c : ℕ) (v : TwoQLeaver) (s : TwoQState) → Leaves v s.a1in s.am → two_q_before_eviction v (two_q_forgotten c v s) (two_q_after_eviction c v s) ≡ s
+pub unevicted : (c : ℕ) (v : TwoQLeaver) (s : TwoQState) → Leaves v s.a1in s.am → two_q_before_eviction v (two_q_forgotten c v s) (two_q_after_eviction c v s) ≡ s
 unevicted c NoLeaver s h = refl
 unevicted c (FromA1in v) s h = rw (ghost-back (kout c) v s.a1out, h) refl
 unevicted c (FromAm v) s h = rw h refl

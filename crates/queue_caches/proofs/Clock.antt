@@ -114,7 +114,7 @@ returned-absent v n c s t alone h e =
     let left : t ≡ first_alone (without_newest (queue_of 0 s)) = e ∙ alone-with _ s alone in
     rw left (alone-absent v _ (returned-lacks v n (uncounted_key v) (without_newest (queue_of 0 s)) refl h.residents.distinct))
 
-counted-up : (l : List CountedKey) → AreCounted 1 l → AreCounted 255 l
+pub counted-up : (l : List CountedKey) → AreCounted 1 l → AreCounted 255 l
 counted-up [] h = tt
 counted-up (e ∷ l) h = (let one : e.count ≤ 1 = h.0 in omega (arith, one), counted-up l h.1)
 

@@ -1,2 +1,5 @@
 pub mod Lists
 pub mod Clock
+pub mod Passes
+pub mod SieveQueues
+pub mod Sieve

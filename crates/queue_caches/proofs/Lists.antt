@@ -55,7 +55,7 @@ lacks-oldest k (e ∷ l) h =
 
 -- ---- turns undone keep the keys
 
-newest-split : (e : CountedKey) (l : List CountedKey) → e ∷ l ≡ without_newest (e ∷ l) ++ newest_from e l ∷ []
+pub newest-split : (e : CountedKey) (l : List CountedKey) → e ∷ l ≡ without_newest (e ∷ l) ++ newest_from e l ∷ []
 newest-split e [] = refl
 newest-split e (d ∷ l) = ap (λ t. e ∷ t) (newest-split d l)
 

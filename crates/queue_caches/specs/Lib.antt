@@ -1,2 +1,4 @@
 pub mod ClockCache
 pub mod ClockQueues
+pub mod SieveQueues
+pub mod SieveCache

@@ -4,7 +4,8 @@ ghost use Rattle.step_record.specs.Keys.{has_key};
 ghost use Rattle.step_record.specs.declared.limits.TheConstants.{MAX_CAPACITY};
 ghost use Rattle.queue_policies.specs.CountedKeys.{keys_of, total_count};
 ghost use Rattle.queue_policies.specs.Turns.{turn_count, after_turns};
-ghost use Rattle.queue_policies.specs.Clock.{clock_act, clock_eviction, clock_eviction_record, clock_record_of, clock_undone, IsClock};
+ghost use Rattle.queue_policies.specs.Clock.{clock_act, clock_eviction, clock_eviction_record, clock_record_of};
+ghost use Rattle.queue_policies.specs.Clock.{clock_undone, IsClock};
 ghost use Rattle.counted_queues.specs.Queues.{queue_of, IsAbsent};
 ghost use Rattle.queue_caches.specs.ClockCache.{ClockFits, ClockAsks};
 ghost use Rattle.queue_caches.specs.ClockQueues.{IsFirstAlone, IsClockCache, IsClockAccess};
@@ -49,8 +50,8 @@ impl ClockCache {
         }
     }
 
-    /// An access to a key, with the record that undoes it. The one error is that an allocation failed; the cache is then
-    /// as before.
+    /// An access to a key, with the record that undoes it. The one error is that an allocation failed; the cache is
+    /// then as before.
     pub fn access(&mut self, key: Key) -> Result<(Outcome, ClockRecord), AllocError>
         ensures acts { IfOk result (λ r. (r.0, self.new.queue) ≡ clock_act self.old.capacity key self.old.queue) }
         ensures record_is { IfOk result (λ r. r.1 ≡ clock_record_of self.old.capacity key self.old.queue) }

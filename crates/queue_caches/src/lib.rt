@@ -3,5 +3,8 @@
 #![tactic(auto)]
 
 mod clock_cache;
+mod sieve_cache;
+mod sieve_queues;
 
 pub use clock_cache::ClockCache;
+pub use sieve_cache::SieveCache;

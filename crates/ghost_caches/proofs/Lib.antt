@@ -1,0 +1,10 @@
+pub mod Lists
+pub mod Cuts
+pub mod Moves
+pub mod Ghosts
+pub mod Behind
+pub mod TwoQ
+pub mod TwoQBack
+pub mod Counts
+pub mod S3Fifo
+pub mod S3FifoBack

@@ -1,0 +1,3 @@
+pub mod QueueLists
+pub mod TwoQCache
+pub mod S3FifoCache
