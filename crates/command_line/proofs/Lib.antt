@@ -2,3 +2,4 @@ pub mod Examples
 pub mod Numbers
 pub mod Naming
 pub mod Folds
+pub mod Words
