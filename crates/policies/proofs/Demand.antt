@@ -1,5 +1,5 @@
 -- What a cache of a policy that keeps each missed key stands for.
-use Rattle.std.proofs.Common.{◌≡◌, ◌⊎◌, ℕ, suc, ◌+◌, ◌<◌, ◌≤◌, ◌==◌, true, false, cond, eqb, Option, Some, None, List, [], ◌∷◌, ◌++◌, length, take, zero, get_or, ap, ◌∙◌, sym, refl, subst, arith, inl, inr}
+use Rattle.std.proofs.Common.{◌≡◌, ◌⊎◌, ℕ, suc, ◌+◌, ◌≤◌, ◌==◌, true, cond, eqb, Option, Some, None, List, [], ◌∷◌, ◌++◌, length, take, zero, get_or, ap, ◌∙◌, sym, refl, subst, arith, inl, inr}
 use Rattle.std.specs.List.{count_by}
 use Rattle.std.proofs.lemmas.Bool.{cases_Bool, eqb-true}
 use Rattle.std.proofs.lemmas.List.{length-map}
@@ -10,9 +10,9 @@ use Rattle.step_record.specs.declared.outcome.Outcome.{Outcome}
 use Rattle.step_record.specs.declared.outcome.Outcome.TheVariants.{Hit, Kept, Evicted, Rejected}
 use Rattle.step_record.specs.declared.stats.Stats.{Stats}
 use Rattle.step_record.specs.Keys.{has_key}
-use Rattle.step_record.specs.Stats.{stats_of, stats_with, one_if, is_hit}
+use Rattle.step_record.specs.Stats.{stats_of, stats_with, one_if}
 use Rattle.step_record.proofs.Counting.{stats-snoc}
-use Rattle.queue_policies.specs.Residents.{times, keys_brought, IsAccess, AreResidents, KeepsResidents, CountsResidents, state_after_all, outcomes_of_all}
+use Rattle.queue_policies.specs.Residents.{times, keys_brought, IsAccess, AreResidents, KeepsResidents, state_after_all, outcomes_of_all}
 use Rattle.queue_policies.proofs.Residents.{times-none, times-some, counts-residents}
 use Rattle.demand_cache.specs.declared.demand_queues.DemandPolicy.{DemandPolicy}
 use Rattle.demand_cache.specs.declared.demand_queues.DemandQueues.{DemandQueues}

@@ -27,7 +27,7 @@ use Rattle.policies.proofs.Recency.{IsDistinct, moved, answer, two, without-none
 pos : (n : ℕ) → nat_lt 0 (1 + n) ≡ true
 pos n = grind (arith, nat_tests)
 
-has-map : (k : ℕ) (l : List ℕ) → has_item (nodeless_item k) (map nodeless_item l) ≡ has_key k l
+pub has-map : (k : ℕ) (l : List ℕ) → has_item (nodeless_item k) (map nodeless_item l) ≡ has_key k l
 has-map k [] = refl
 has-map k (a ∷ l) =
     elim (two (eqb k a)) as (λ _. has_item (nodeless_item k) (nodeless_item a ∷ map nodeless_item l) ≡ cond (eqb k a) true (has_key k l)) [
@@ -35,7 +35,7 @@ has-map k (a ∷ l) =
       | inr e ↦ let z : 0 + occurrences (nodeless_item k) (map nodeless_item l) ≡ occurrences (nodeless_item k) (map nodeless_item l) = omega arith in rw (e, z) (has-map k l)
     ]
 
-without-map : (k : ℕ) (l : List ℕ) → items_without (nodeless_item k) (map nodeless_item l) ≡ map nodeless_item (without_key k l)
+pub without-map : (k : ℕ) (l : List ℕ) → items_without (nodeless_item k) (map nodeless_item l) ≡ map nodeless_item (without_key k l)
 without-map k [] = refl
 without-map k (a ∷ l) =
     elim (two (eqb k a)) as (λ _. items_without (nodeless_item k) (nodeless_item a ∷ map nodeless_item l) ≡ map nodeless_item (cond (eqb k a) (without_key k l) (a ∷ without_key k l))) [
@@ -43,7 +43,7 @@ without-map k (a ∷ l) =
       | inr e ↦ rw e (ap (λ t. nodeless_item a ∷ t) (without-map k l))
     ]
 
-map-snoc : (l : List ℕ) (k : ℕ) → map nodeless_item (l ++ k ∷ []) ≡ map nodeless_item l ++ nodeless_item k ∷ []
+pub map-snoc : (l : List ℕ) (k : ℕ) → map nodeless_item (l ++ k ∷ []) ≡ map nodeless_item l ++ nodeless_item k ∷ []
 map-snoc [] k = refl
 map-snoc (a ∷ l) k = ap (λ t. nodeless_item a ∷ t) (map-snoc l k)
 
@@ -51,7 +51,7 @@ length-keys : (l : List ℕ) → length (map nodeless_item l) ≡ length l
 length-keys [] = refl
 length-keys (a ∷ l) = ap suc (length-keys l)
 
-total-in : (l : List ℕ) → total_items (single_queue l) ≡ length l
+pub total-in : (l : List ℕ) → total_items (single_queue l) ≡ length l
 total-in l = omega (arith, length-keys l)
 
 abbrev one : ℕ → Rules

@@ -1,5 +1,5 @@
 -- How many keys are resident in a cache of any policy.
-use Rattle.std.proofs.Common.{◌≡◌, ℕ, zero, suc, ◌+◌, ◌≤◌, eqb, true, nat_lt, ◌==◌, cond, map, Option, Some, None, List, [], ◌∷◌, length, get_or, ap, ◌∙◌, sym, refl, subst, arith, inl, inr}
+use Rattle.std.proofs.Common.{◌≡◌, ℕ, zero, suc, ◌+◌, ◌≤◌, eqb, nat_lt, ◌==◌, cond, map, Option, Some, None, List, [], ◌∷◌, length, get_or, ap, ◌∙◌, sym, refl, subst, arith, inl, inr}
 use Rattle.std.specs.List.{count_by}
 use Rattle.std.proofs.lemmas.Bool.{cases_Bool}
 use Rattle.step_record.specs.declared.limits.TheConstants.{MAX_STEPS}
@@ -19,7 +19,7 @@ use Rattle.demand_cache.specs.DemandQueues.{queues_act, queues_residents, empty_
 use Rattle.demand_cache.specs.Theorems.{DemandKeeps}
 use Rattle.queue_policies.specs.Residents.{KeepsResidents, state_after_all}
 use Rattle.queue_policies.proofs.Residents.{counts-residents}
-use Rattle.policies.proofs.Demand.{IsDemandAccess, demand-access, demand-holds, demand-is-access, demand-counted, demand-came-from, times-by, kept-after}
+use Rattle.policies.proofs.Demand.{demand-access, demand-holds, demand-is-access, demand-counted, demand-came-from, times-by, kept-after}
 use Rattle.policies.specs.Theorems.{AnyCoversTrace}
 use Rattle.policies.proofs.Counting.{after-counts, hits-misses}
 use Rattle.step_record.specs.declared.job.Job.{Job}

@@ -1,5 +1,5 @@
 -- What a cache of any policy stands for.
-use Rattle.std.proofs.Common.{◌≡◌, inl, inr, ℕ, true, false, suc, ◌+◌, ◌<◌, Option, Some, None, List, [], ◌∷◌, ◌++◌, length, take, get_or, ap, ◌∙◌, sym, refl, arith, subst, length-append}
+use Rattle.std.proofs.Common.{◌≡◌, ℕ, true, false, suc, ◌+◌, ◌<◌, Option, Some, None, List, [], ◌∷◌, ◌++◌, length, take, get_or, ap, ◌∙◌, sym, refl, arith, subst, length-append}
 use Rattle.std.proofs.lemmas.List.{take_more}
 use Rattle.step_record.specs.declared.job.Job.{Job}
 use Rattle.step_record.specs.declared.outcome.Outcome.{Outcome}
@@ -24,7 +24,7 @@ use Rattle.policies.specs.Theorems.{AnyStepLaw, AnyAccepts, AnyIsOne, AnyReports
 use Rattle.policies.proofs.Leaving.{hits_keep_all, asks-evicts, act-answers}
 use Rattle.policies.proofs.Counting.{after-counts}
 use Rattle.policies.proofs.Answered.{after-answers, after-length, at-answers, outcomes-length}
-use Rattle.policies.proofs.Demand.{IsDemandAccess, demand-access, demand_stands, demand-refused, demand-accesses, demand-one, outcomes-at, with-room, demand-room, demand-long, demand-sound}
+use Rattle.policies.proofs.Demand.{demand-access, demand_stands, demand-refused, demand-accesses, demand-one, outcomes-at, with-room, demand-room, demand-long, demand-sound}
 use Rattle.policies.proofs.Reached.{act_stands, act_accepts, stands-accesses}
 
 -- a cache that knows the trace, at its place

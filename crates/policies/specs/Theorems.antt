@@ -2,11 +2,13 @@
 use Rattle.std.specs.Prelude.{◌≡◌, ℕ, ◌≤◌, true, Some, None, option_map, List, [], ◌∷◌, ◌++◌, length, slice_index_or}
 use Rattle.step_record.specs.declared.limits.TheConstants.{MAX_ACCESSES, MAX_STEPS}
 use Rattle.step_record.specs.declared.job.Job.{Job}
-use Rattle.step_record.specs.declared.job.Policy.TheVariants.{Lru}
+use Rattle.step_record.specs.declared.job.Policy.TheVariants.{Fifo, Lru}
 use Rattle.step_record.specs.declared.outcome.Outcome.{Outcome}
 use Rattle.step_record.specs.declared.outcome.Outcome.TheVariants.{Hit}
 use Rattle.step_record.specs.Stats.{is_eviction}
 use Rattle.policies.specs.declared.any_policy.AnyPolicy.{AnyPolicy}
+use Rattle.queue_policies.specs.Fifo.{fifo_act}
+use Rattle.queue_policies.specs.Residents.{state_after_all, outcomes_of_all}
 use Rattle.policies.specs.Lru.{lru_residents, lru_outcome}
 use Rattle.policies.specs.SingleQueue.{single_queue}
 use Rattle.policies.specs.QueueCache.{QueueState, access_response, state_after, outcome_after}
@@ -43,6 +45,13 @@ abbrev pub LruStepLaw : Type 0
 LruStepLaw = (j : Job) (keys : List ℕ) (k : ℕ) → j.policy ≡ Lru → 1 ≤ j.config.capacity
     → ((state_after j keys).queues ≡ single_queue (lru_residents j.config.capacity keys))
     × (outcome_after j keys k ≡ lru_outcome j.config.capacity keys k)
+
+-- For every list of accesses, a cache of FIFO holds the keys in the order in which they came in, and its outcomes are
+-- those of the definition over plain keys.
+abbrev pub FifoStepLaw : Type 0
+FifoStepLaw = (j : Job) (keys : List ℕ) → j.policy ≡ Fifo → 1 ≤ j.config.capacity
+    → ((state_after j keys).queues ≡ single_queue (state_after_all (fifo_act j.config.capacity) [] keys))
+    × (outcomes_on j keys ≡ outcomes_of_all (fifo_act j.config.capacity) [] keys)
 
 -- A cache of any policy that made some accesses made one more after an accepted step.
 abbrev pub AnyStepLaw : Type 0

@@ -3,7 +3,7 @@
 ghost use Rattle.policies.specs.Residents.{ResidentsFit, ResidentsDistinct, ResidentsCounted};
 ghost use Rattle.policies.specs.Residents.{HitsAreResidents, FetchesOnDemand, StatsAddUp, MissesFit};
 ghost use Rattle.policies.specs.Theorems.{QueuesStepLaw, QueuesAccept, HitsKeepAll, RecordsShowLeaver};
-ghost use Rattle.policies.specs.Theorems.{LruStepLaw, AnyHitsKeepAll, AnyAsksWhereOneLeft};
+ghost use Rattle.policies.specs.Theorems.{LruStepLaw, FifoStepLaw, AnyHitsKeepAll, AnyAsksWhereOneLeft};
 ghost use Rattle.policies.specs.Theorems.{AnyStepLaw, AnyAccepts, AnyIsOne, AnyReports, AnyAnswers, AnyCoversTrace};
 
 /// An accepted step of a cache of queues answers what the definition gives over the whole list of accesses, and leaves
@@ -32,6 +32,13 @@ pub fn records_show_leaver()
 pub fn lru_step_law()
     ensures { LruStepLaw }
 {}
+
+/// What the table of moves gives for FIFO is what its definition over plain keys gives, for every list of accesses.
+pub fn fifo_step_law()
+    ensures { FifoStepLaw }
+{
+    queue_policies::theorems::fifo_keeps();
+}
 
 /// A cache of any policy that made some accesses made one more after an accepted step.
 pub fn any_step_law()
