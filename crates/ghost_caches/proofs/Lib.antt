@@ -8,3 +8,5 @@ pub mod TwoQBack
 pub mod Counts
 pub mod S3Fifo
 pub mod S3FifoBack
+pub mod Arc
+pub mod ArcBack

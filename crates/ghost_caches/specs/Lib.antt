@@ -1,3 +1,4 @@
 pub mod QueueLists
 pub mod TwoQCache
 pub mod S3FifoCache
+pub mod ArcCache
