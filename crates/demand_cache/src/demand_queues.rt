@@ -5,8 +5,8 @@ ghost use Rattle.step_record.specs.Keys.{has_key};
 ghost use Rattle.demand_cache.specs.DemandQueues.{empty_queues, queues_act, queues_record_of, queues_undone, queues_asks};
 ghost use Rattle.demand_cache.specs.DemandQueues.{QueuesFits, queues_residents};
 
-use ghost_caches::{S3FifoCache, TwoQCache};
-use ghost_policies::TwoQRecord;
+use ghost_caches::{ArcCache, S3FifoCache, TwoQCache};
+use ghost_policies::{ArcRecord, TwoQRecord};
 use queue_caches::{ClockCache, SieveCache};
 use queue_policies::{ClockRecord, S3FifoRecord, SieveRecord};
 use std::alloc::{AllocError, Global};
@@ -23,6 +23,8 @@ pub enum DemandPolicy {
     S3Fifo,
     /// A queue of new keys before an Lru queue, with a ghost (VLDB 1994).
     TwoQ,
+    /// Recency beside frequency, each with a ghost, and a target that adapts (FAST 2003).
+    Arc,
 }
 
 /// The queues of a cache of one of these policies.
@@ -36,6 +38,8 @@ pub enum DemandQueues {
     S3Fifo(S3FifoCache),
     /// Of `DemandPolicy::TwoQ`.
     TwoQ(TwoQCache),
+    /// Of `DemandPolicy::Arc`.
+    Arc(ArcCache),
 }
 
 /// What undoes an access to the queues: a record of fixed size, whatever the access moved.
@@ -49,6 +53,8 @@ pub enum QueuesRecord {
     S3Fifo(S3FifoRecord),
     /// Of `DemandPolicy::TwoQ`.
     TwoQ(TwoQRecord),
+    /// Of `DemandPolicy::Arc`.
+    Arc(ArcRecord),
 }
 
 impl DemandQueues {
@@ -63,6 +69,7 @@ impl DemandQueues {
             DemandPolicy::Sieve => DemandQueues::Sieve(SieveCache::new(alloc, capacity)),
             DemandPolicy::S3Fifo => DemandQueues::S3Fifo(S3FifoCache::new(alloc, capacity)),
             DemandPolicy::TwoQ => DemandQueues::TwoQ(TwoQCache::new(alloc, capacity)),
+            DemandPolicy::Arc => DemandQueues::Arc(ArcCache::new(alloc, capacity)),
         }
     }
 
@@ -94,6 +101,10 @@ impl DemandQueues {
                 let (outcome, done) = cache.access(key)?;
                 Ok((outcome, QueuesRecord::TwoQ(done)))
             }
+            DemandQueues::Arc(cache) => {
+                let (outcome, done) = cache.access(key)?;
+                Ok((outcome, QueuesRecord::Arc(done)))
+            }
         }
     }
 
@@ -110,23 +121,38 @@ impl DemandQueues {
         let undone = match self {
             DemandQueues::Clock(cache) => match done {
                 QueuesRecord::Clock(done) => cache.undo(done).is_ok(),
-                QueuesRecord::Sieve(_) | QueuesRecord::S3Fifo(_) | QueuesRecord::TwoQ(_) =>
-                    unreachable!(),
+                QueuesRecord::Sieve(_)
+                | QueuesRecord::S3Fifo(_)
+                | QueuesRecord::TwoQ(_)
+                | QueuesRecord::Arc(_) => unreachable!(),
             },
             DemandQueues::Sieve(cache) => match done {
                 QueuesRecord::Sieve(done) => cache.undo(done).is_ok(),
-                QueuesRecord::Clock(_) | QueuesRecord::S3Fifo(_) | QueuesRecord::TwoQ(_) =>
-                    unreachable!(),
+                QueuesRecord::Clock(_)
+                | QueuesRecord::S3Fifo(_)
+                | QueuesRecord::TwoQ(_)
+                | QueuesRecord::Arc(_) => unreachable!(),
             },
             DemandQueues::S3Fifo(cache) => match done {
                 QueuesRecord::S3Fifo(done) => cache.undo(done).is_ok(),
-                QueuesRecord::Clock(_) | QueuesRecord::Sieve(_) | QueuesRecord::TwoQ(_) =>
-                    unreachable!(),
+                QueuesRecord::Clock(_)
+                | QueuesRecord::Sieve(_)
+                | QueuesRecord::TwoQ(_)
+                | QueuesRecord::Arc(_) => unreachable!(),
             },
             DemandQueues::TwoQ(cache) => match done {
                 QueuesRecord::TwoQ(done) => cache.undo(done).is_ok(),
-                QueuesRecord::Clock(_) | QueuesRecord::Sieve(_) | QueuesRecord::S3Fifo(_) =>
-                    unreachable!(),
+                QueuesRecord::Clock(_)
+                | QueuesRecord::Sieve(_)
+                | QueuesRecord::S3Fifo(_)
+                | QueuesRecord::Arc(_) => unreachable!(),
+            },
+            DemandQueues::Arc(cache) => match done {
+                QueuesRecord::Arc(done) => cache.undo(done).is_ok(),
+                QueuesRecord::Clock(_)
+                | QueuesRecord::Sieve(_)
+                | QueuesRecord::S3Fifo(_)
+                | QueuesRecord::TwoQ(_) => unreachable!(),
             },
         };
         if undone { Ok(()) } else { Err(done) }
@@ -141,6 +167,7 @@ impl DemandQueues {
             DemandQueues::Sieve(cache) => cache.residents(alloc),
             DemandQueues::S3Fifo(cache) => cache.residents(alloc),
             DemandQueues::TwoQ(cache) => cache.residents(alloc),
+            DemandQueues::Arc(cache) => cache.residents(alloc),
         }
     }
 }

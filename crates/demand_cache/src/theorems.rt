@@ -10,6 +10,7 @@ pub fn demand_keeps()
     queue_policies::theorems::sieve_keeps();
     queue_policies::theorems::s3_fifo_keeps();
     ghost_policies::theorems::two_q_keeps();
+    ghost_policies::theorems::arc_keeps();
 }
 
 /// Undoing a hit takes no memory.

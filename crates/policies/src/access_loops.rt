@@ -34,8 +34,12 @@ pub(crate) fn access_queues(cache: &mut QueueCache, keys: &[Key]) -> Result<(), 
         Policy::TinyLfuSegmented => access_each::<TinyLfuSegmentedDesign>(cache, keys),
         Policy::WindowTinyLfu => access_each::<WindowTinyLfuDesign>(cache, keys),
         Policy::Fifo => access_each::<FifoDesign>(cache, keys),
-        Policy::Clairvoyant | Policy::Clock | Policy::Sieve | Policy::S3Fifo | Policy::TwoQ =>
-            unreachable!(),
+        Policy::Clairvoyant
+        | Policy::Clock
+        | Policy::Sieve
+        | Policy::S3Fifo
+        | Policy::TwoQ
+        | Policy::Arc => unreachable!(),
     }
 }
 

@@ -57,6 +57,7 @@ pub fn design_of(policy: Policy) -> Design
         Policy::Sieve => Design::Demand(DemandPolicy::Sieve),
         Policy::S3Fifo => Design::Demand(DemandPolicy::S3Fifo),
         Policy::TwoQ => Design::Demand(DemandPolicy::TwoQ),
+        Policy::Arc => Design::Demand(DemandPolicy::Arc),
     }
 }
 

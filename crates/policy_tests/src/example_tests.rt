@@ -2,7 +2,7 @@
 use super::assertions::assert_equal;
 use Outcome::{Evicted, Hit, Kept, Rejected};
 use Policy::{
-    Clairvoyant, Clock, Fifo, Lru as LeastRecent, S3Fifo, SegmentedLru as Segmented, Sieve,
+    Arc, Clairvoyant, Clock, Fifo, Lru as LeastRecent, S3Fifo, SegmentedLru as Segmented, Sieve,
     TinyLfuLru, TinyLfuSegmented, TwoQ, WindowTinyLfu as Windowed,
 };
 use policies::AnyPolicy;
@@ -194,7 +194,7 @@ const OPTIMAL: [Example; 2] = [
 ];
 
 // The policies that keep each missed key: by their definitions, step by step.
-const DEMAND: [Example; 6] = [
+const DEMAND: [Example; 7] = [
     Example {
         policy: Fifo,
         capacity: 3,
@@ -281,6 +281,20 @@ const DEMAND: [Example; 6] = [
         ],
         counted: [7, 2, 5, 2, 0],
         residents: &[3, 4, 1],
+    },
+    Example {
+        policy: Arc,
+        capacity: 3,
+        accesses: &[
+            (1, Kept),
+            (2, Kept),
+            (3, Kept),
+            (1, Hit),
+            (4, Evicted(2)),
+            (2, Evicted(3)),
+        ],
+        counted: [6, 1, 5, 2, 0],
+        residents: &[4, 1, 2],
     },
 ];
 
