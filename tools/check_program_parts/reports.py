@@ -74,8 +74,8 @@ error: invalid value 'csv' for '--format <FORMAT>'
 
 For more information, try '--help'.
 """)
-    check.expect_usage_error("the text of a long usage error", "run", "--capacity", 3, "least-recently-used", error=f"""\
-error: invalid value 'least-recently-used' for '<POLICY>...'
+    check.expect_usage_error("the text of a long usage error", "run", "--capacity", 3, "zzzz-zzzz-zzzz-zzzz", error=f"""\
+error: invalid value 'zzzz-zzzz-zzzz-zzzz' for '<POLICY>...'
   [possible values: {', '.join(check.policies)}]
 
 For more information, try '--help'.
