@@ -169,7 +169,8 @@ def check_beside_run(survey, folder, program):
 def check_after(survey, folder, program):
     """Without a warm-up each row is the sum of the intervals after it."""
     trace = file_of(folder, "trace", "".join(f"{it * it % 391}\n" for it in range(3000)))
-    words = survey, trace, "--program", program, "--csv", "--capacity", "40", "--after", "1000"
+    named = [word for it in POLICIES for word in ("--policy", it)]
+    words = survey, trace, "--program", program, "--csv", "--capacity", "40", "--after", "1000", *named
     row = rows_of(run(*words, "--table", "policies")[0])[0]
     for policy in POLICIES:
         rows = rows_of(run(program, "intervals", "--capacity", 40, "--every", 1000, policy, typed=trace.read_text())[0])[1:]
@@ -212,7 +213,8 @@ def check_drawn(survey, folder, program):
     if not shutil.which("gnuplot"):
         return
     picture = folder / "picture.svg"
-    run(survey, trace, "--program", program, "--plot", picture, "--table", "traces")
+    named = [word for it in POLICIES for word in ("--policy", it)]
+    run(survey, trace, "--program", program, "--plot", picture, "--table", "traces", *named)
     text = picture.read_text()
     expect_parts("the picture", text, "3000 accesses", "set xrange [1:108]", str(trace), *POLICIES)
     lru = text.partition("$curve0 &lt;&lt; END\n")[2].partition("END")[0].splitlines()
