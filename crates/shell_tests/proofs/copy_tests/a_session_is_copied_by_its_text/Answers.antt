@@ -9,7 +9,6 @@ assert_copied-requires g c =
     let three = c.in_ok-session.ensures.limit in
     let room = c.in_ok-copy.ensures.limit in
     record {
-      few = omega (arith, few, limit, three);
       alike = c.opened_alike.ensures _ c.in_ok-session.session.opening c.in_ok-copy.copy.opening c.in_ok-session.ensures.opened c.in_ok-copy.ensures.opened ∙ sym made.opening;
       kept = c.in_ok-copy.ensures.kept;
       tail = c.in_ok-copy.ensures.tail;
