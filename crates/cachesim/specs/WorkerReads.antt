@@ -32,7 +32,7 @@ AreWalksOfReads stripes workers keys steps = AreOfReads (λ w. AreWalks w stripe
 
 -- The same of workers who were refused steps, of whom the one with the lowest number was refused for this cause: each that
 -- was refused has made the first steps of its walks and not all, and each other all of them. The steps show each refusal
--- in a journal of this limit: it is full, or it was not full at a place behind which the worker made none.
+-- in a journal of this limit: it is full, or it was not full at a place after which the worker made none.
 pub record AreOfReadsUpTo (cause : Cause) (limit stripes workers : ℕ) (keys : List ℕ) (steps : Entries) : Type 0 where
   pub refusals : List (Option Cause)
   pub of_each : length refusals ≡ workers

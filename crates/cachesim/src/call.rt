@@ -52,7 +52,7 @@ pub fn command<
     // With status 0 the words are taken as `run`, `sweep`, `intervals`, `part`, `compare` or `drive`, the bytes
     // read have no fault, and those written are the text of the report of each policy, or of the policy at each
     // capacity, that the words name, or of the rows of each policy, or the line of the access at which two
-    // policies part, or the row of what is counted of both, or the journal of the walks by which so many workers read
+    // policies part, or the row of what is counted of both, or the journal of the walks by which the workers read
     // the accesses in turn, in an empty cache; or the words are taken as `debug` or `replay`, the file that they name
     // is a trace or a journal without a fault, and the bytes written are the answers to the commands read; or the words
     // ask for help.

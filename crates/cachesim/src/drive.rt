@@ -70,7 +70,7 @@ pub fn drive<T: Threads + Wait + Sync, R: CountedRead, W: CountedWrite, P: Watch
     written
 }
 
-// A list of no call for each worker.
+// An empty list of calls for each worker.
 fn empty_pieces(alloc: Global, workers: u8) -> Result<Vec<Vec<Call>>, AllocError>
     ensures many { IfOk result (λ pieces. length pieces.items ≡ workers) }
     ensures empty { IfOk result (λ pieces. (w : ℕ) → get_or (map (λ p. p.items) pieces.items) w [] ≡ []) }

@@ -33,7 +33,7 @@ pub enum Fault {
     Write,
 }
 
-/// What came of jobs in which no check finds a fault: out of memory is the only one.
+/// The result of jobs that were checked: the only fault is out of memory.
 pub fn accepted<A>(made: Result<A, ActorFault>) -> Result<A, Fault>
     requires { IfErr made (λ fault. fault ≡ ActorFault.OutOfMemory) }
     ensures { MatchResult result (λ value. made ≡ Ok value) (λ fault. fault ≡ Fault.OutOfMemory) }

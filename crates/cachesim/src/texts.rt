@@ -27,7 +27,7 @@ use sweeps::{sweep_batches, sweep_each};
 use trace_read::read_trace;
 
 /// The report of each policy that the arguments name, as text; each policy runs on a thread of its own while the trace
-/// is read. That they are too many is the fault of a trace without one.
+/// is read. Too many policies are reported only if the trace has no fault.
 pub fn run<T: Threads + Wait + Sync, R: CountedRead, P: Watch>(
     rt: &T,
     alloc: Global,

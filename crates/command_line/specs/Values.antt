@@ -94,7 +94,7 @@ stripes_from n = if is_power_of_two n && nat_le n MAX_STRIPES then Some n else N
 abbrev pub checked : Config → Option Config
 checked config = option_map (λ u. config) (result_ok (config_fault config))
 
--- the configuration of a cache of this capacity, with so many read buffers and steps of a journal
+-- the configuration of a cache of this capacity, with these numbers of read buffers and of steps of a journal
 unfoldable pub config_at : ℕ → ℕ → ℕ → List Row → Option Config
 config_at capacity stripes limit rows = option_and_then (λ main. checked (record {
   capacity = capacity;

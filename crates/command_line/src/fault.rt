@@ -16,7 +16,7 @@ pub enum ParseFault {
     Refused(Error),
     /// The words lack a number in its range or a known policy, and `clap` let them pass.
     Incomplete,
-    /// The number of read buffers is none that a cache has: a power of two up to `MAX_STRIPES`.
+    /// The number of read buffers is not a power of two up to `MAX_STRIPES`.
     Stripes,
 }
 

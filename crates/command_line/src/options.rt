@@ -28,7 +28,7 @@ pub struct Subcommand {
 /// An option.
 #[derive(Clone, Copy)]
 pub struct OptionRow {
-    /// Its name, behind `--` where it has a name.
+    /// Its name, after `--` where it has a name.
     pub id: &'static str,
     /// What help calls a value.
     pub value_name: &'static str,

@@ -45,12 +45,12 @@ goes p n = record { text = position_line n; place = record { at = n; breaks = p.
 abbrev pub sets : TimelinePlace → List Breakpoint → CommandResponse
 sets p breaks = record { text = codes "ok\n"; place = record { at = p.at; breaks = breaks } }
 
--- the stop behind step n, or the later one
+-- the stop after step n, or the later one
 abbrev pub stop_here : Option Breakpoint → ℕ → ℕ × Option Breakpoint → ℕ × Option Breakpoint
 stop_here None n later = later
 stop_here (Some b) n later = (n, Some b)
 
--- onward step by step, of which so many are left, until a breakpoint holds: the position then, and the breakpoint
+-- onward step by step, `left` at most, until a breakpoint holds: the position then, and the breakpoint
 unfoldable pub stop_after : (ℕ → StepFacts) → List Breakpoint → ℕ → ℕ → ℕ × Option Breakpoint
 stop_after facts breaks at zero = (at, None)
 stop_after facts breaks at (suc left) =

@@ -1,4 +1,4 @@
--- What a line of commands says. (Grammar of this project: the words of a command, and nothing behind them.)
+-- What a line of commands says. (Grammar of this project: the words of a command, and nothing after them.)
 use Rattle.std.specs.Prelude.{ℕ, Option, Some, None, List, [], ◌∷◌}
 use Rattle.streams.specs.Blanks.{trimmed_text}
 use Rattle.streams.specs.Numbers.{number_of}

@@ -15,7 +15,7 @@ abbrev pub is_quit : InputLine → Bool
 is_quit (Known Quit) = true
 is_quit _ = false
 
--- nothing is read behind a line without a line feed, or `quit`
+-- nothing is read after a line without a line feed, or `quit`
 abbrev pub is_last : Bool → InputLine → Bool
 is_last fed line = not fed || is_quit line
 
@@ -33,7 +33,7 @@ ends p fits = record { text = []; at = p.at; fits = fits }
 abbrev pub answers : CommandResponse → (TimelinePlace → Dialogue) → Dialogue
 answers r later = record { text = r.text ++ (later r.place).text; at = (later r.place).at; fits = (later r.place).fits }
 
--- the lines in order, where there is room for so many bytes more; a line feed stands behind each line but the last
+-- the lines in order, where `room` bytes more may be read; a line feed ends each line but the last
 unfoldable pub dialogue_from : TimelineData → ℕ → List (List ℕ) → TimelinePlace → Dialogue
 dialogue_from t room [] p = ends p true
 dialogue_from t room (l ∷ []) p =

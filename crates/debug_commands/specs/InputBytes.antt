@@ -8,7 +8,7 @@ abbrev pub feed : Bool → List ℕ
 feed true = 10 ∷ []
 feed false = []
 
--- the bytes that are left begin with more than so many bytes of one line
+-- the bytes that are left begin with a line of more than this number of bytes
 pub record IsTooLarge (room : ℕ) (old new : Option (List ℕ)) : Type 0 where
   pub front : List ℕ
   pub byte : ℕ

@@ -2,6 +2,6 @@
 use Rattle.std.specs.Prelude.{ℕ, List, ◌++◌}
 use Rattle.std.specs.Fmt.{decimal}
 
--- a name, and behind it a number
+-- a name, then a number
 abbrev pub count_text : List ℕ → ℕ → List ℕ
 count_text name n = name ++ decimal n

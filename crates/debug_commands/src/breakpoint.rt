@@ -5,7 +5,7 @@ ghost use Rattle.debug_commands.specs.Breakpoints.{first_holding, holds_after, b
 use crate::grammar::Name;
 use step_record::Key;
 
-/// Where `run` stops: behind a step at which the breakpoint holds.
+/// Where `run` stops: after a step at which the breakpoint holds.
 #[derive(Clone, Copy)]
 pub enum Breakpoint {
     /// A cache hit this key.
@@ -14,7 +14,7 @@ pub enum Breakpoint {
     Evict(Key),
     /// A sketch was halved.
     Halve,
-    /// Just one of two policies hit.
+    /// Exactly one of two policies hit.
     Part,
     /// An offer to a read buffer was dropped.
     Drop,
@@ -25,13 +25,13 @@ pub enum Breakpoint {
 pub struct StepFacts {
     /// The key that a cache hit.
     pub hit: Option<Key>,
-    /// The key that left the cache, of two that of the first.
+    /// The key that left the cache; of two caches, the first.
     pub left: Option<Key>,
     /// The key that left the second cache.
     pub also_left: Option<Key>,
     /// The age of a sketch fell.
     pub halved: bool,
-    /// Just one of two policies hit.
+    /// Exactly one of two policies hit.
     pub parted: bool,
     /// An offer to a read buffer was dropped.
     pub dropped: bool,

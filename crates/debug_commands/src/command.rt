@@ -16,11 +16,11 @@ pub enum InputLine {
 /// A command of the debugger.
 #[derive(Clone, Copy)]
 pub enum Command {
-    /// So many steps onward.
+    /// This number of steps onward.
     Step(u64),
-    /// So many steps back.
+    /// This number of steps back.
     Back(u64),
-    /// To where so many steps are made.
+    /// To a position: the number of steps that are made there.
     Goto(u64),
     /// Onward, at least one step, to the next breakpoint that holds.
     Run,

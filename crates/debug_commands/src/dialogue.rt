@@ -21,10 +21,10 @@ use crate::timeline::Timeline;
 use std::alloc::{AllocError, Global};
 use streams::{CountedRead, CountedWrite, Patience, WriteAllFault, flush, read_some, write_some};
 
-/// As many bytes of commands as are read at most, line feeds included: 2^20.
+/// The most bytes of commands that are read, line feeds included: 2^20.
 pub const MAX_COMMAND_BYTES: usize = 1 << 20;
 
-/// As many breakpoints as can be set at one time.
+/// The most breakpoints that can be set at one time.
 pub const MAX_BREAKPOINTS: usize = 64;
 
 /// Reads commands line by line and writes the answer to each before the next one is read, up to `quit` or the end of
@@ -47,7 +47,7 @@ pub fn answer_commands<T: Timeline, R: CountedRead, W: CountedWrite>(
     ensures large { result ≡ Err DebugFault.TooLarge → IfSome (R.remaining input.old) (λ bytes.
         WritesDialogue (dialogue_of (T.timeline timeline.old) (T.position timeline.old) bytes) false
         (W.contents out.old) (W.contents out.new) (T.position timeline.new)) }
-    // What is walked stays, whatever comes.
+    // The timeline's source never changes, also on errors.
     ensures source { T.source timeline.new ≡ T.source timeline.old }
     ensures whole { OnOk result (T.IsWhole timeline.new) }
     ensures same { OnOk result (T.timeline timeline.new ≡ T.timeline timeline.old) }
@@ -189,7 +189,7 @@ fn answer<T: Timeline>(
     }
 }
 
-// Goes to where so many steps are made.
+// Goes to a position: the number of steps that are made there.
 fn go<T: Timeline>(
     alloc: Global,
     timeline: &mut T,

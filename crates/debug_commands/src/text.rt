@@ -1,4 +1,4 @@
-//! Text behind what a buffer holds already.
+//! Text appended to a buffer.
 ghost use Rattle.std.specs.Prelude.{◌≡◌, ◌++◌, OnOk, codes};
 ghost use Rattle.std.specs.List.{flat_map};
 ghost use Rattle.debug_commands.specs.Texts.{count_text};
@@ -15,7 +15,7 @@ pub fn push_count(text: &mut Vec<u8>, name: &[u8], count: u64) -> Result<(), All
     text.extend_from_slice(digits.format(count).as_bytes())
 }
 
-/// Adds pieces, one behind another. The one error is that the allocation failed.
+/// Adds pieces, one after another. The one error is that the allocation failed.
 pub fn push_pieces(text: &mut Vec<u8>, pieces: &[&[u8]]) -> Result<(), AllocError>
     ensures { OnOk result (text.new.items ≡ text.old.items ++ flat_map (λ piece. piece.now) pieces.now) }
 {
@@ -25,7 +25,7 @@ pub fn push_pieces(text: &mut Vec<u8>, pieces: &[&[u8]]) -> Result<(), AllocErro
     Ok(())
 }
 
-/// Adds counts, each behind its name, and a line feed. The one error is that the allocation failed.
+/// Adds counts, each after its name, and a line feed. The one error is that the allocation failed.
 pub fn push_counts_line(text: &mut Vec<u8>, counts: &[(&[u8], u64)]) -> Result<(), AllocError>
     ensures { OnOk result (text.new.items
         ≡ text.old.items ++ (flat_map (λ c. count_text c.0.now c.1) counts.now ++ codes "\n")) }

@@ -95,7 +95,7 @@ fault: Command
     Ok(())
 }
 
-// Two commands, of which the second ends the run, and what lies behind it.
+// Two commands, of which the second ends the run, and one after it.
 const COMMANDS: &[u8] = b"goto 5\nquit\nshow\n";
 
 // As many reads as there are bytes up to the line feed of `quit`.

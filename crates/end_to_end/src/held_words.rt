@@ -6,7 +6,7 @@ use journal::Session;
 use policies::WindowTinyLfu;
 
 /// How many words the undo records of a session over WindowTinyLfu hold: those of one halving for each halving since
-/// the session was opened, and these are at most one, and one more in each five times the capacity of steps.
+/// the session was opened, at most 1 + steps / (5 * capacity).
 pub fn words_held(session: &Session<WindowTinyLfu>) -> u64
     ensures { (f g : FrequencyData) → session.now.opening.frequency ≡ Some f → session.now.engine.frequency ≡ Some g →
         (result ≡ (g.halvings - f.halvings) * halving_words f)

@@ -16,7 +16,7 @@ pub enum AppendFault {
     Spent(Pass<Log>),
 }
 
-/// Takes a turn of the pass, and writes the line behind the others.
+/// Takes a turn of the pass, and writes the line after the others.
 pub fn append<R: Wait>(
     rt: &R,
     book: &TurnBook<Log>,

@@ -14,7 +14,7 @@ pub struct Batch {
     pub keys: SharedKeys,
 }
 
-// What a pass may do, and how many batches it has given and taken. No value of it is made.
+// Ghost state of a channel end: whether it sends, whether it receives, and how many batches it has sent and received.
 pub struct ChannelLog {
     pub gives: bool,
     pub takes: bool,

@@ -84,7 +84,7 @@ impl<'b, S: FedTrace, W: Wait> Feeder<'b, S, W> {
     }
 
     /// Gives each end these accesses, which come next: each batch to all of them before the next. At the end they are all
-    /// that is left of the trace; before that they are whole batches, with an access behind them.
+    /// that is left of the trace; before that they are whole batches, with an access after them.
     pub fn give(&mut self, accesses: Trace, is_end: bool)
         requires few { self.old.place + length accesses ≤ MAX_ACCESSES }
         requires next { IfSome S.known (λ all. AreAt all self.old.place is_end accesses) }
@@ -113,7 +113,7 @@ impl<'b, S: FedTrace, W: Wait> Feeder<'b, S, W> {
         self.ends = ends;
     }
 
-    // How many batches to give now, of so many accesses that were read: whole ones, with an access behind them.
+    // How many batches to give now of the accesses that were read: whole ones, with an access after them.
     fn rounds(&self, read: usize) -> usize
         ensures { 0 < result → result * self.now.size.accesses < read }
     {
@@ -128,7 +128,7 @@ impl<'b, S: FedTrace, W: Wait> Feeder<'b, S, W> {
     }
 }
 
-// Takes so many accesses off the front. Those behind them are copied to a new vector, with room for a lump.
+// Takes accesses off the front. Those after them are copied to a new vector, with room for a lump.
 fn take_front(alloc: Global, keys: &mut Vec<Key>, len: usize) -> Result<Vec<Key>, AllocError>
     requires { len ≤ length keys.old.items }
     ensures front { IfOk result (λ front. front.items ≡ take len keys.old.items) }

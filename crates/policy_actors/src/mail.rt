@@ -73,7 +73,7 @@ impl<S: FedTrace> Inbox<S> {
     }
 }
 
-/// A channel with room for so many batches, up to `MAX_WAITING`.
+/// A channel with room for this number of batches, up to `MAX_WAITING`.
 pub fn channel<S: FedTrace>(
     alloc: Global,
     batches: usize,

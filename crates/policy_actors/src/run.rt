@@ -191,7 +191,7 @@ fn run_actors_from<
     )
 }
 
-// Makes a channel with room for so many batches, and puts its sending end behind the others.
+// Makes a channel with room for this number of batches, and appends its sending end to the others.
 fn add_channel<S: FedTrace>(
     alloc: Global,
     ends: &mut Vec<Outbox<S>>,
@@ -205,7 +205,7 @@ fn add_channel<S: FedTrace>(
     Ok(inbox)
 }
 
-// The handle of an actor behind those before, where its thread was started.
+// Appends the handle of an actor, if its thread was started.
 fn push_handle<S: FedTrace, E: Drop>(
     handles: &mut Vec<Handle<S>>,
     started: Result<Handle<S>, E>,
@@ -236,7 +236,7 @@ fn join_all<S: FedTrace, R: Threads>(
     Ok(reports)
 }
 
-// The report of an actor behind those before, where it has one.
+// Appends the report of an actor, if it has one.
 fn push_report(reports: &mut Vec<Report>, one: Option<Report>) -> Result<(), AllocError>
     ensures none { OnOk result (IsSome one) }
     ensures pushed { OnOk result (IfSome one (λ r. reports.new.items ≡ reports.old.items ++ r ∷ [])) }

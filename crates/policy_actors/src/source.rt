@@ -16,7 +16,7 @@ const PIECE: usize = 65_536;
 
 /// A trace that is there, or that is read meanwhile.
 pub trait AccessSource: Drop {
-    /// What there is to say of it once the actors are fed.
+    /// The result of feeding the actors.
     type Outcome;
 
     // these are its accesses, as far as they are known

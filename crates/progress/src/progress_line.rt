@@ -9,8 +9,8 @@ use step_record::Gate;
 
 /// What watches a subcommand at work: the gate is called around each batch.
 pub trait Watch: Gate {
-    /// The batches of the subcommand of this name begin; `None` where it is not known before they are over how many
-    /// these are. It is called once at most.
+    /// Begins a subcommand with this number of batches; `None` if the number is not known yet. It is called once at
+    /// most.
     fn begin(&self, name: &'static str, batches: Option<u64>);
 
     /// They are over, or were given up. Nothing of what was shown is left.

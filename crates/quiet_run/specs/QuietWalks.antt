@@ -16,7 +16,7 @@ use Rattle.quiet_run.specs.Outcomes.{outcome_from}
 use Rattle.walks.specs.WorkerEntries.{IsUnfinished}
 use Rattle.quiet_run.specs.Settle.{ShellSession, AddsSteps}
 
--- A round comes behind a report whatever that is answered: its Go is taken for a Drain.
+-- A round follows every report, whatever its reply: its Go is taken for a Drain.
 abbrev pub reply_with_round : Reply → Reply
 reply_with_round reply.Go = reply.Drain
 reply_with_round r = r
@@ -29,7 +29,7 @@ with_rounds es = map entry_with_round es
 
 -- n is the number of stripes
 module _ (n : ℕ) where
-  -- the walk of one key: that of a read, with a round behind its report
+  -- the walk of one key: that of a read, with a round after its report
   abbrev pub IsQuietWalk : ℕ → Entries → Type 0
   IsQuietWalk key es = IsWalk 0 n (call.Read key) (with_rounds es)
 

@@ -71,8 +71,8 @@ pub(crate) enum Refusal {
     JournalFull,
 }
 
-// Makes a walk from where its worker stands to its end, with a round behind a report whatever that is answered, and
-// returns the outcome with what was hit or evicted.
+// Makes a walk from where its worker stands to its end, with a round after every report, whatever its reply, and
+// returns the outcome with the key that was hit or evicted.
 pub(crate) fn finish_walk(
     session: &mut Session<Shell>,
     local: Local,
@@ -105,7 +105,7 @@ pub(crate) fn finish_walk(
     Ok(outcome)
 }
 
-// A reply, where a round comes behind a report in every case.
+// A reply, where a round follows every report.
 fn with_round(reply: Reply) -> Reply
     ensures { result ≡ reply_with_round reply }
 {

@@ -7,7 +7,7 @@ abbrev pub ◌>>=◌ : {A B : Type 0} → Option A → (A → Option B) → Opti
 None >>= f = None
 (Some x) >>= f = f x
 
--- what is read of some words, and the words behind it
+-- what is read of some words, and the words after it
 abbrev pub Reads : Type 0 → Type 0
 Reads A = List (List ℕ) → Option (A × List (List ℕ))
 

@@ -19,12 +19,12 @@ pub fn place_of(text: &[u8], byte: u8) -> usize
     place
 }
 
-/// What stands before the first such byte, and what stands behind it; all of the text, and nothing,
-/// where the byte is not in it.
+/// The text before the first such byte, and the text after it; all of the text, and `None`, where the byte is
+/// not in it.
 pub fn cut(text: &[u8], byte: u8) -> (&[u8], Option<&[u8]>)
     ensures front { Lacks byte result.0.now }
     ensures whole { text.now ≡ result.0.now ++ option_map_or (λ r. byte ∷ r.now) result.1 [] }
-    // So it is the first of the parts that the byte separates, and behind it stand the others.
+    // So it is the first of the parts that the byte separates, and the others follow.
     ensures parts { slice_split (is_byte byte) text.now
         ≡ result.0.now ∷ option_map_or (λ r. slice_split (is_byte byte) r.now) result.1 [] }
 {

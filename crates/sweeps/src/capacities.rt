@@ -14,7 +14,7 @@ use std::alloc::{AllocError, Global};
 use std::thread::Threads;
 use step_record::{Gate, Job, MAX_BATCH, OpenGate, Policy, Trace};
 
-// From so many capacities on, the reports of Lru are read off the curve of the trace. Finding the curve takes the
+// From this number of capacities on, the reports of Lru are read off the curve of the trace. Finding the curve takes the
 // processor as long as finding the reuses and passing over them at some seven capacities; but passes go side by side, so
 // on four threads they are done first up to some 26.
 const READ_FROM: usize = 16;
@@ -39,7 +39,7 @@ pub fn sweep<R: Threads + Sync>(
 }
 
 /// The reports of each job at each capacity: those of the first job in the order of the capacities, then those of the
-/// second, and so on. `rayon` runs them side by side where there are threads. What several of them go by is found once:
+/// second, and so on. `rayon` runs them side by side where there are threads. What several reports need is computed once:
 /// the next uses for Belady's policy, and for Lru the reuses of the trace, or for many capacities its curve.
 ///
 /// The gate is called before and after each batch of `MAX_BATCH` accesses of a report of another policy than Lru, on

@@ -76,7 +76,7 @@ fn rows_of_each<R: Threads + Sync>(
         .collect::<Result<Vec<_>, _>>(rt, alloc)?
 }
 
-// All rows of the lists, one list behind the other.
+// All rows of the lists, one list after the other.
 fn joined(alloc: Global, lists: &[Vec<Interval>]) -> Result<Vec<Interval>, AllocError>
     ensures { IfOk result (λ all. all.items ≡ flat_map (λ rows. rows.items) lists.now) }
 {

@@ -9,7 +9,7 @@ use policies::{ActorFault, AnyPolicy, Interval, Report, access_all};
 use std::alloc::{AllocError, Global};
 use step_record::{Job, Stats, Trace};
 
-// A trace, cut into intervals of so many accesses.
+// A trace, cut into intervals of `every` accesses.
 #[derive(Drop)]
 pub(crate) struct CutTrace<'a> {
     pub(crate) trace: &'a Trace,
@@ -55,8 +55,7 @@ fn open_and_walk(alloc: Global, cut: &CutTrace<'_>, job: &Job) -> Result<Vec<Int
     walk(alloc, cut, job, &mut cache)
 }
 
-// The same by an empty cache of the job. It makes the accesses of an interval at a time, and what it has counted of all
-// of them before and after says what there is to count of these.
+// The same by an empty cache of the job, one interval at a time: a row is the difference of the counts before and after.
 fn walk(
     alloc: Global,
     cut: &CutTrace<'_>,

@@ -5,7 +5,7 @@ use std::sync::atomic::Ordering::SeqCst;
 use std::thread;
 use step_record::Gate;
 
-// Waits until so many are counted. False where they are not for long.
+// Waits until this number is counted. False if that takes too long.
 fn comes_to(count: &AtomicU64, wanted: u64) -> bool {
     for _ in 0..1_000_000 {
         if count.load(SeqCst) >= wanted {
@@ -37,7 +37,7 @@ impl Hold {
         }
     }
 
-    // Waits until so many calls have begun.
+    // Waits until this number of calls have begun.
     pub(crate) fn wait_for(&self, begun: u64) {
         if !comes_to(&self.begun, begun) {
             self.late.fetch_add(1, SeqCst);
@@ -102,7 +102,7 @@ impl Turns {
         self.wrong.fetch_add(1, SeqCst);
     }
 
-    // Whether each thread was seen to begin and to end so many calls in turn, and no more.
+    // Whether each thread was seen to begin and to end `calls` calls in turn, and no more.
     pub(crate) fn is_over(&self, calls: u64) -> bool {
         let wanted = calls.wrapping_mul(2);
         self.is_in_turn() && self.calls.iter().all(|calls| calls.load(SeqCst) == wanted)
@@ -131,8 +131,8 @@ impl Gate for Turns {
     }
 }
 
-// Lets two workers make so many calls each, the first all of its own and then the second: the second waits before its
-// first call, the first until the second is there, and behind its last call until the second is through.
+// Lets two workers make `calls` calls each, the first all of its own and then the second: the second waits before its
+// first call, the first until the second is there, and after its last call until the second is through.
 #[derive(Drop)]
 pub(crate) struct OneFirst {
     calls: u64,
@@ -220,7 +220,7 @@ impl AllAlike {
         }
     }
 
-    // Whether each call was seen to begin and to end so many times in turn, and no more.
+    // Whether each call was seen to begin and to end this number of times in turn, and no more.
     pub(crate) fn is_over(&self, times: u64) -> bool {
         let begun = self.begun.iter().all(|count| count.load(SeqCst) == times);
         let over = self.over.iter().all(|count| count.load(SeqCst) == times);

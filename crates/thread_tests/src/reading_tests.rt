@@ -83,7 +83,7 @@ fn assert_reading<G: Gate, R: Threads + Wait + Sync + Abort>(
     Ok(())
 }
 
-// Whatever the pieces and the batches; and no report where a read fails behind whole lines.
+// Whatever the pieces and the batches; and no report where a read fails after whole lines.
 #[test]
 fn reports_are_made_while_a_text_is_read(rt: HostRuntime) -> Result<(), Fail> {
     let jobs = four_jobs();

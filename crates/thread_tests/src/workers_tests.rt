@@ -23,7 +23,7 @@ fn call_of(worker: u8, n: u64) -> Call {
     }
 }
 
-// So many calls of each of so many workers.
+// A list of calls for each worker.
 fn calls_of_each(alloc: Global, workers: u8, calls: u64) -> Result<Vec<Vec<Call>>, AllocError> {
     let mut pieces = Vec::new(alloc);
     for worker in 0..workers {
@@ -113,7 +113,7 @@ fn each_worker_passes_the_gate_as_often_as_it_has_calls(rt: HostRuntime) -> Resu
     Ok(())
 }
 
-// How many of the run's entries are the first worker's before any of the second's, and how many are the second's behind
+// How many of the run's entries are the first worker's before any of the second's, and how many are the second's after
 // them.
 fn lengths(driven: &Driven) -> (usize, usize) {
     let (mut first, mut second) = (0usize, 0usize);
@@ -131,7 +131,7 @@ fn lengths(driven: &Driven) -> (usize, usize) {
     (first, second)
 }
 
-// A held worker has made no step yet of the call before which it is held, and each step of the one behind which it is.
+// A held worker has made no step of the call before which it is held, and each step of the one after which it is.
 #[test]
 fn a_held_worker_makes_no_step(rt: HostRuntime) -> Result<(), Fail> {
     let gate = OneFirst::new(CALLS.len() as u64);

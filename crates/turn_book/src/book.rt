@@ -58,7 +58,7 @@ impl<T: Kept> Model for TurnBook<T> {
 
 impl<T: Kept> TurnBook<T> {
     /// A book over the value, with a pass for each worker, the pass at place `w` for worker `w`. Each pass may draw
-    /// so many turns.
+    /// `turns` turns.
     ///
     /// Each fault gives the value back: first `Workers` where there are none or more than [`MAX_WORKERS`], then
     /// `Turns` where there are none or more than [`MAX_TURNS`], and `OutOfMemory` where an allocation failed.

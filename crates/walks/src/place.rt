@@ -38,7 +38,7 @@ impl Local {
     ghost use Rattle.walks.specs.Walks.{IsWalk};
     ghost use Rattle.walks.specs.WalkPlaces.{IsAheadOf, call_place, phase_place};
 
-    /// At the beginning of the walk of a call, of a cache with so many read buffers: 1 to [`MAX_STRIPES`].
+    /// At the beginning of the walk of a call, of a cache with this number of read buffers: 1 to [`MAX_STRIPES`].
     ///
     /// [`MAX_STRIPES`]: step_record::MAX_STRIPES
     pub fn start(worker: Worker, stripes: u8, call: Call) -> Local
@@ -60,7 +60,7 @@ impl Local {
     }
 
     /// At the first act of a worker that holds the maintenance and is at this phase of it, in a
-    /// cache with so many read buffers: 1 to [`MAX_STRIPES`].
+    /// cache with this number of read buffers: 1 to [`MAX_STRIPES`].
     ///
     /// [`MAX_STRIPES`]: step_record::MAX_STRIPES
     pub fn resume(worker: Worker, stripes: u8, phase: Phase) -> Local

@@ -33,8 +33,8 @@ abbrev pub AreWalksUpTo : Option Cause → ℕ → ℕ → List Call → Entries
 AreWalksUpTo None n w calls es = AreWalks w n calls es
 AreWalksUpTo (Some cause) n w calls es = IsUnfinished (AreWalks w n calls) es
 
--- What the entries show of a worker's refusal, in a run that made `news` behind the old ones. With a full journal as its
--- cause they are as many as the limit. With memory as its cause there is a place where they were fewer and behind which
+-- What the entries show of a worker's refusal, in a run that made `news` after the old ones. With a full journal as its
+-- cause they are as many as the limit. With memory as its cause there is a place where they were fewer and after which
 -- the worker made none: it may have been refused there, and a refused step leaves no other trace.
 abbrev pub IsCauseIn : ℕ → Entries → Entries → ℕ → Cause → Type 0
 IsCauseIn w old news limit JournalFull = length (old ++ news) ≡ limit
@@ -43,7 +43,7 @@ IsCauseIn w old news limit Memory =
 
 -- A run in which each worker went on up to its first refused step, or made whole walks where there is none. Its cause
 -- is that of the refused worker with the lowest number. A full journal is a cause only where the session is full, and
--- memory only where it was not full behind the last entry of the refused worker.
+-- memory only where it was not full after the last entry of the refused worker.
 pub record IsRunUpTo {E D : Type 0} (cause : Option Cause) (stripes : ℕ) (pieces : List (List Call))
     (old new : SessionState E D Step Reply) : Type 0 where
   pub refusals : List (Option Cause)

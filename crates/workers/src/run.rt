@@ -54,7 +54,7 @@ pub enum DriveFault {
     OutOfMemory {
         session: Session<Shell>,
     },
-    /// A worker was refused a step, and ended there, while the others went on: whoever was refused none made all of its
+    /// A worker was refused a step, and ended there, while the others went on: those that were not refused made all their
     /// walks. The entries are those of a run, those of refused workers without their ends; the cause is that of the
     /// refused worker with the lowest number.
     Stopped {
@@ -142,7 +142,7 @@ fn run_workers<G: Gate, R: Threads + Wait + Sync>(
     }
 }
 
-// Room for the states of so many workers, and for their passes.
+// Room for the states of the workers, and for their passes.
 fn rooms(
     alloc: Global,
     workers: usize,
@@ -155,7 +155,7 @@ fn rooms(
     Ok((states, passes))
 }
 
-// What one worker has: its pass, which is with it but while it works, and why it was refused a step, where it was.
+// A worker's pass (taken out while it works), and why it stopped early, if it did.
 #[derive(Drop)]
 struct WorkerState {
     pass: Option<Pass<Session<Shell>>>,
@@ -163,7 +163,7 @@ struct WorkerState {
     refusal: Option<Cause>,
 }
 
-// The state of each worker, with its pass, in memory that is there.
+// The state of each worker, with its pass, without allocating.
 fn assign_passes(
     book: &TurnBook<Session<Shell>>,
     passes: Vec<Pass<Session<Shell>>>,
@@ -295,7 +295,7 @@ fn walk_in_turns<E: Engine<Step = Step, Reply = Reply> + Drop, R: Wait>(
 }
 
 // Makes one step in a turn. It is refused where the session refuses it, for memory only where the journal is not full. A
-// pass that has drawn all of its turns made an entry in each of them, and so many fill the journal.
+// pass that has drawn all of its turns made an entry in each of them, and these fill the journal.
 fn turn<E: Engine<Step = Step, Reply = Reply> + Drop, R: Wait>(
     rt: &R,
     book: &TurnBook<Session<E>>,
@@ -326,8 +326,8 @@ fn turn<E: Engine<Step = Step, Reply = Reply> + Drop, R: Wait>(
     }
 }
 
-// The passes of all workers, in memory that is there, and why the first worker that was refused a step, in the order of
-// their numbers, was refused it.
+// The passes of all workers, without allocating, and why the refused worker with the lowest number was refused a
+// step.
 fn collect_passes(
     states: Vec<WorkerState>,
     mut passes: Vec<Pass<Session<Shell>>>,
