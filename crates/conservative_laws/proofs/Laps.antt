@@ -1,23 +1,21 @@
--- Lru on a trace of laps, of one key more than it holds.
-use Rattle.std.proofs.Common.{◌≡◌, ℕ, zero, suc, ◌+◌, ◌-◌, ◌*◌, ◌<◌, ◌≤◌, Bool, true, false, cond, eqb, nat_lt, List, [], ◌∷◌, ◌++◌, length, take, drop, get_or, ap, ◌∙◌, sym, refl, subst, arith, inl, inr, append-nil, append_assoc, length-append}
+-- A trace of laps over one key more than fit, and a strategy that has few misses there.
+use Rattle.std.proofs.Common.{◌≡◌, ℕ, zero, suc, ◌+◌, ◌-◌, ◌*◌, ◌<◌, ◌≤◌, Bool, true, false, cond, eqb, nat_lt, List, [], ◌∷◌, ◌++◌, length, take, get_or, ap, ◌∙◌, sym, refl, subst, arith, inl, inr, append-nil, append_assoc, length-append}
 use Rattle.std.proofs.Math.ListN.{get_or-append}
 use Rattle.std.proofs.Math.Nat.{add-mul, mul-add, mul_comm, mul_left_comm, mul-le-mul_left}
 use Rattle.std.proofs.Math.Seq.{get_or-append_seam, take-append_seam}
 use Rattle.std.proofs.lemmas.Bool.{cases_Bool, eqb-true, ltb-true, lt-ltb, le-ltb}
 use Rattle.std.proofs.lemmas.Bool.Decides.{nat_tests}
-use Rattle.std.proofs.lemmas.List.{take_more, take_all, take-append-le}
+use Rattle.std.proofs.lemmas.List.{take_more, take-append-le}
 use Rattle.step_record.specs.Keys.{has_key}
 use Rattle.step_record.specs.Stats.{one_if}
+use Rattle.step_record.specs.declared.job.Job.{Job}
 use Rattle.policies.specs.AnyPolicy.{stats_on}
-use Rattle.policies.specs.Lru.{distinct_keys, lru_residents}
-use Rattle.policies.specs.Theorems.{LruStepLaw, AnyCoversTrace}
-use Rattle.policies.proofs.Recency.{IsDistinct, moved, residents-snoc}
+use Rattle.policies.proofs.Recency.{IsDistinct}
 use Rattle.optimality.specs.Strategy.{IsStrategy, strategy_hits, strategy_misses}
 use Rattle.clairvoyant.proofs.Belady.{later}
 use Rattle.optimality.proofs.Counting.{count_keys, no, head-has, count-passing}
-use Rattle.policy_laws.specs.Theorems.{LruBoundIsTight}
-use Rattle.policy_laws.proofs.Ages.{recent, has-more, full-moves}
-use Rattle.policy_laws.proofs.Competition.{lru-recent, lru-misses, hits-few}
+use Rattle.conservative_laws.specs.Theorems.{IsWorstFor}
+use Rattle.conservative_laws.proofs.Misses.{hits-few}
 use Rattle.policies.proofs.Balance.{has-append}
 
 -- ---- hits of a cache that is a function of the accesses before
@@ -81,6 +79,14 @@ has-hold x (a ∷ ks) xs =
       ])
     ]
 
+has-more : (x k : ℕ) (xs : List ℕ) → has_key x (xs ++ k ∷ []) ≡ cond (eqb x k) true (has_key x xs)
+has-more x k [] = refl
+has-more x k (a ∷ xs) =
+    rw (has-more x k xs) (elim (cases_Bool (eqb x a)) as (λ _. cond (eqb x a) true (cond (eqb x k) true (has_key x xs)) ≡ cond (eqb x k) true (cond (eqb x a) true (has_key x xs))) [
+      | inl e ↦ rw e (elim (cases_Bool (eqb x k)) as (λ _. true ≡ cond (eqb x k) true true) [ inl f ↦ rw f refl | inr f ↦ rw f refl ])
+      | inr e ↦ rw e refl
+    ])
+
 hold-strategy : (ks t : List ℕ) → IsStrategy (length ks) t (λ i. hold ks (take i t))
 hold-strategy ks t = record {
   empty = hold-none ks;
@@ -105,9 +111,7 @@ hold-hits ks (k ∷ s) xs d h =
     let more = hits-more (hold ks) xs k in
     rw d.0 (omega (arith, rest, same, one, more))
 
--- ---- Lru over one lap
-
-distinct-more : (k : ℕ) (l : List ℕ) → IsDistinct l → has_key k l ≡ false → IsDistinct (l ++ k ∷ [])
+pub distinct-more : (k : ℕ) (l : List ℕ) → IsDistinct l → has_key k l ≡ false → IsDistinct (l ++ k ∷ [])
 distinct-more k [] d h = (refl, tt)
 distinct-more k (a ∷ l) d h =
     elim (cases_Bool (eqb k a)) [
@@ -117,69 +121,11 @@ distinct-more k (a ∷ l) d h =
           (has-more a k l ∙ (ap (λ b. cond b true (has_key a l)) apart ∙ d.0), distinct-more k l d.1 (rw e at h))
     ]
 
--- after the accesses xs, where s are still to be accessed in this lap and p have been
-record IsInLap (c : ℕ) (p s xs : List ℕ) : Type 0 where
-  distinct : IsDistinct (s ++ p)
-  long : length (s ++ p) ≡ suc c
-  last : lru_residents (suc c) xs ≡ s ++ p
-
-lap-next : (c k : ℕ) (p s xs : List ℕ) → IsInLap c p (k ∷ s) xs → IsInLap c (p ++ k ∷ []) s (xs ++ k ∷ [])
-lap-next c k p s xs l =
-    let d : IsDistinct (k ∷ s ++ p) = l.distinct in
-    let long = l.long in
-    let full : nat_lt (suc (length (s ++ p))) (suc c) ≡ false = le-ltb (suc (length (s ++ p))) (suc c) (omega (arith, long)) in
-    let more : length ((s ++ p) ++ k ∷ []) ≡ suc (length (s ++ p)) = omega (arith, length-append (s ++ p) (k ∷ [])) in
-    let same : (s ++ p) ++ k ∷ [] ≡ s ++ (p ++ k ∷ []) = append_assoc s p (k ∷ []) in
-    record {
-      distinct = subst IsDistinct same (distinct-more k (s ++ p) d.1 d.0);
-      long = ap length (sym same) ∙ (more ∙ long);
-      last = residents-snoc c k xs ∙ (ap (λ r. moved (suc c) r k) l.last ∙ (full-moves (suc c) k k (s ++ p) d d.0 full ∙ same));
-    }
-
-lap-misses : (c k : ℕ) (p s xs : List ℕ) → IsInLap c p (k ∷ s) xs → has_key k (lru_residents c xs) ≡ false
-lap-misses c k p s xs l =
-    let d : IsDistinct (k ∷ s ++ p) = l.distinct in
-    let long = l.long in
-    let full : nat_lt (suc (length (s ++ p))) (suc c) ≡ false = le-ltb (suc (length (s ++ p))) (suc c) (omega (arith, long)) in
-    ap (has_key k) (lru-recent c (suc c) xs (omega arith) ∙ ap (recent (suc c)) l.last)
-    ∙ (ap (λ b. has_key k (cond b (k ∷ s ++ p) (s ++ p))) full ∙ d.0)
-
-lap-ends : (c : ℕ) (p s xs : List ℕ) → IsInLap c p s xs → (hits_of (lru_residents c) (xs ++ s) ≡ hits_of (lru_residents c) xs) × IsInLap c (p ++ s) [] (xs ++ s)
-lap-ends c p [] xs l = (ap (hits_of (lru_residents c)) (append-nil xs), subst (λ q. IsInLap c q [] (xs ++ [])) (sym (append-nil p)) (subst (λ y. IsInLap c p [] y) (sym (append-nil xs)) l))
-lap-ends c p (k ∷ s) xs l =
-    let rest = lap-ends c (p ++ k ∷ []) s (xs ++ k ∷ []) (lap-next c k p s xs l) in
-    let same : (xs ++ k ∷ []) ++ s ≡ xs ++ k ∷ s = append_assoc xs (k ∷ []) s in
-    let hits = rest.0 in
-    let missed : one_if (has_key k (lru_residents c xs)) ≡ 0 = ap one_if (lap-misses c k p s xs l) in
-    let more = hits-more (lru_residents c) xs k in
-    let all : hits_of (lru_residents c) ((xs ++ k ∷ []) ++ s) ≡ hits_of (lru_residents c) xs = omega (arith, hits, missed, more) in (
-      ap (hits_of (lru_residents c)) (sym same) ∙ all,
-      subst (λ q. IsInLap c q [] (xs ++ k ∷ s)) (append_assoc p (k ∷ []) s) (subst (λ y. IsInLap c ((p ++ k ∷ []) ++ s) [] y) same rest.1),
-    )
-
 -- ---- laps over the keys m
 
-abbrev laps : List ℕ → ℕ → List ℕ
+abbrev pub laps : List ℕ → ℕ → List ℕ
 laps m zero = m
 laps m (suc r) = laps m r ++ m
-
-distinct-same : (l : List ℕ) → IsDistinct l → distinct_keys l ≡ l
-distinct-same [] d = refl
-distinct-same (a ∷ l) d = rw d.0 (ap (λ t. a ∷ t) (distinct-same l d.1))
-
-lru-laps : (c : ℕ) (m : List ℕ) (r : ℕ) → IsDistinct m → length m ≡ suc c → (hits_of (lru_residents c) (laps m r) ≤ length m) × IsInLap c m [] (laps m r)
-lru-laps c m zero d n =
-    let none : length m - suc c ≡ 0 = omega (arith, n) in (
-      hits-few m (λ i. lru_residents c (take i m)) (length m),
-      record { distinct = d; long = n; last = ap (λ l. drop (length l - suc c) l) (distinct-same m d) ∙ ap (λ i. drop i m) none },
-    )
-lru-laps c m (suc r) d n =
-    let before = lru-laps c m r d n in
-    let begins : IsInLap c [] m (laps m r) = record { distinct = rw (append-nil m) d; long = rw (append-nil m) n; last = before.1.last ∙ sym (append-nil m) } in
-    let ends = lap-ends c [] m (laps m r) begins in
-    let few = before.0 in
-    let same = ends.0 in
-    (omega (arith, few, same), ends.1)
 
 laps-has : (m : List ℕ) (r x : ℕ) → has_key x m ≡ true → has_key x (laps m r) ≡ true
 laps-has m zero x h = h
@@ -188,7 +134,7 @@ laps-has m (suc r) x h = has-append x (laps m r) m ∙ (ap (λ b. cond b true (h
 times-next : (r n : ℕ) → suc r * n ≡ r * n + n
 times-next r n = let e : suc r ≡ r + 1 = omega arith in ap (λ x. x * n) e ∙ (add-mul r 1 n ∙ omega arith)
 
-laps-length : (m : List ℕ) (r : ℕ) → length (laps m r) ≡ r * length m + length m
+pub laps-length : (m : List ℕ) (r : ℕ) → length (laps m r) ≡ r * length m + length m
 laps-length m zero = omega arith
 laps-length m (suc r) =
     let rest : length (laps m r) ≡ r * length m + length m = laps-length m r in
@@ -203,7 +149,7 @@ hold-laps ks m (suc r) d =
 
 -- ---- the keys below a number
 
-abbrev down : ℕ → List ℕ
+abbrev pub down : ℕ → List ℕ
 down zero = []
 down (suc n) = n ∷ down n
 
@@ -214,11 +160,11 @@ has-down x (suc n) = rw (has-down x n) (elim (cases_Bool (eqb x n)) as (λ _. co
   | inr e ↦ rw e (grind (arith, nat_tests))
 ])
 
-down-distinct : (n : ℕ) → IsDistinct (down n)
+pub down-distinct : (n : ℕ) → IsDistinct (down n)
 down-distinct zero = tt
 down-distinct (suc n) = (has-down n n ∙ le-ltb n n (omega arith), down-distinct n)
 
-down-length : (n : ℕ) → length (down n) ≡ n
+pub down-length : (n : ℕ) → length (down n) ≡ n
 down-length zero = refl
 down-length (suc n) = ap suc (down-length n)
 
@@ -246,8 +192,11 @@ worst-few c h r m k le less more =
     let all : d * (r * w) ≤ d * m = mul-le-mul_left d more in
     omega (arith, scaled, out, same, all)
 
-pub lru_bound_is_tight : LruStepLaw → AnyCoversTrace → LruBoundIsTight
-lru_bound_is_tight stands covers j h n is le =
+-- n laps over one key more than fit, of which a job misses all but one lap: a strategy that keeps the keys below h
+pub laps-worst : (j : Job) (h n : ℕ) → h ≤ j.config.capacity + 1
+    → n * (j.config.capacity + 1) ≤ (stats_on j (laps (down (suc j.config.capacity)) n)).misses
+    → (trace : List ℕ) × (residents : ℕ → List ℕ) × IsWorstFor j h n trace residents
+laps-worst j h n le missed =
     let c : ℕ = j.config.capacity in
     let m : List ℕ = down (suc c) in
     let t : List ℕ = laps m n in
@@ -255,18 +204,15 @@ lru_bound_is_tight stands covers j h n is le =
     let size : length m ≡ suc c = down-length (suc c) in
     let long : length t ≡ n * length m + length m = laps-length m n in
     let wide : n * length m ≡ n * (c + 1) = (let e : length m ≡ c + 1 = omega (arith, size) in ap (λ x. n * x) e) in
-    let hits : hits_of (lru_residents c) t ≤ length m = (lru-laps c m n (down-distinct (suc c)) size).0 in
-    let misses : (stats_on j t).misses ≡ length t - hits_of (lru_residents c) t = ap (λ l. (stats_on j l).misses) (sym (take_all (length t) t (omega arith))) ∙ lru-misses stands covers j t (length t) is (omega arith) in
     let kept : n * count_keys (λ x. has_key x (down h)) m ≤ hits_of (hold (down h)) t = hold-laps (down h) m n (down-distinct (suc c)) in
     let each : n * h ≤ n * count_keys (λ x. has_key x (down h)) m = mul-le-mul_left n (down-counted h (suc c) (omega (arith, le))) in
     let within : hits_of (hold (down h)) t ≤ length t = hits-few t residents (length t) in
-    let laps_missed : n * (c + 1) ≤ (stats_on j t).misses = omega (arith, misses, long, wide, hits) in
     let once : n * (c + 1) ≡ n * c + n = mul-add n c 1 ∙ omega arith in (
       t,
       residents,
       record {
         strategy = subst (λ x. IsStrategy x t residents) (down-length h) (hold-strategy (down h) t);
-        many = omega (arith, laps_missed, once);
-        few = worst-few c h n (stats_on j t).misses (strategy_misses t residents (length t)) le (omega (arith, kept, each, within, long, wide, size)) laps_missed;
+        many = omega (arith, missed, once);
+        few = worst-few c h n (stats_on j t).misses (strategy_misses t residents (length t)) le (omega (arith, kept, each, within, long, wide, size)) missed;
       },
     )

@@ -1,0 +1,14 @@
+pub mod Misses
+pub mod Stretches
+pub mod Competition
+pub mod Filling
+pub mod Lru
+pub mod Fifo
+pub mod Evictions
+pub mod Clock
+pub mod Laps
+pub mod FifoLaps
+pub mod LruLaps
+pub mod ClockLaps
+pub mod Jobs
+pub mod Examples
