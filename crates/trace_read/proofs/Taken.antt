@@ -1,7 +1,6 @@
 -- What a scan that took the lines before a place of some bytes comes to.
-use Rattle.std.proofs.Common.{◌≡◌, ◌∙◌, ◌<◌, ◌≤◌, ◌+◌, ◌-◌, ℕ, List, [], ◌∷◌, ◌++◌, length, drop, take, get_or, refl, sym, ap, subst, arith, inl, inr, Ok, Some, None, length-drop, drop-drop}
+use Rattle.std.proofs.Common.{◌≡◌, ◌∙◌, ◌<◌, ◌≤◌, ◌+◌, ◌-◌, ℕ, List, [], ◌∷◌, ◌++◌, length, drop, take, get_or, sym, ap, subst, arith, inl, inr, Ok, Some, None, length-drop, drop-drop}
 use Rattle.std.proofs.lemmas.Bool.{cond-false, le-ltb}
-use Rattle.std.proofs.lemmas.List.{append-nil}
 use Rattle.step_record.specs.declared.limits.TheConstants.{MAX_ACCESSES}
 use Rattle.streams.proofs.Feeds.{cut_line}
 use Rattle.trace_read.proofs.LineFeeds.{feed_at}
@@ -23,18 +22,6 @@ pub record Taking (A B C D E : Type 0) : Type 0 where
   pub same : C
   pub room : D
   pub before : E
-
-pub nothing_taken : (s : Scan) (bytes : List ℕ) (start : ℕ) → IsScan s → s.cut.items ≡ [] → start ≤ length bytes → IsTakenUpTo s bytes start start s
-nothing_taken s bytes start scan none within = record {
-  scan = scan;
-  cut = none;
-  format = refl;
-  given = refl;
-  order = (omega arith, within);
-  lines = omega arith;
-  fault = λ more. refl;
-  keys = λ more. refl;
-}
 
 pub taken_then : (first mid last : Scan) (bytes : List ℕ) (start middle end : ℕ) → IsTakenUpTo first bytes start middle mid → IsTakenUpTo mid bytes middle end last → IsTakenUpTo first bytes start end last
 taken_then first mid last bytes start middle end one two = record {
@@ -111,11 +98,6 @@ keys_read kind format n given keys old cut text new same none few is added = who
   sound = ap (fault_after n (given + length old)) is ∙ cond-false _ _ _ (le-ltb MAX_ACCESSES (given + length old + length keys) few);
   added = added ∙ ap (λ r. old ++ keys_or_none r) (sym is);
 })
-
--- a line that gives nothing
-pub nothing_read : (format : Format) (n given : ℕ) (old cut text : List ℕ) → format ≡ Lirs → cut ≡ [] → given + length old ≤ MAX_ACCESSES → line_of Lirs text ≡ Ok []
-    → IsRead format n given old (cut ++ text) old
-nothing_read format n given old cut text lirs none few is = keys_read Lirs format n given [] old cut text old lirs none (omega arith) is (sym (append-nil old))
 
 -- a line that names one key
 pub key_read : (format : Format) (n given key : ℕ) (old cut text new : List ℕ) → format ≡ Lirs → cut ≡ [] → given + length old < MAX_ACCESSES → line_of Lirs text ≡ Ok (key ∷ [])

@@ -2,7 +2,7 @@
 ghost use Rattle.std.specs.Prelude.{◌≡◌, ◌≤◌, ◌<◌, ◌+◌, ◌-◌, ◌^◌, ◌∷◌, ◌++◌, ◌⊎◌, ℕ, List, [], Some, None, Ok, OnOk};
 ghost use Rattle.std.specs.Prelude.{IfOk, IfErr, IfSome, IsTrue, MatchOption, OnSome, get_or, length, take, drop, vec_len, vec_capacity};
 ghost use Rattle.trace_read.specs.DigitRuns.{DigitsBetween, IsDigitRuns, IsNextRun};
-ghost use Rattle.trace_read.specs.Lines.{line_of, AreStarLines};
+ghost use Rattle.trace_read.specs.Lines.{line_of};
 ghost use Rattle.trace_read.specs.declared.digit_runs.TheConstants.{BEHIND};
 ghost use Rattle.step_record.specs.declared.limits.TheConstants.{MAX_ACCESSES};
 ghost use Rattle.trace_read.specs.TraceText.{fault_in, keys_in, IsOfLine, IsRead, IsTraceRefused, IsStopped};
@@ -15,7 +15,6 @@ use super::digits::{long_number, short_number};
 use super::follower::Follower;
 use super::format::Format;
 use super::lirs::add_lirs;
-use super::star_lines::star_lines;
 use super::{Trace, TraceFault};
 use std::alloc::{AllocError, Global};
 use std::mem;
@@ -208,8 +207,8 @@ impl Scan {
         None
     }
 
-    // Takes the line that begins with this run of digits, the one before `runs`, whatever its shape, or lines of a lone
-    // `*`, four at a time. False where the line ends in the last few bytes, or there might be no room for the accesses behind it.
+    // Takes the line that begins with this run of digits, the one before `runs`, whatever its shape. False where the line
+    // ends in the last few bytes, or there might be no room for the accesses after it.
     fn take_other<'a>(
         &mut self,
         bytes: &'a [u8],
@@ -225,12 +224,6 @@ impl Scan {
             self.new.given (vec_len self.new.keys) (vec_capacity self.new.keys)) }
         ensures err { IfErr result (IsRefusedFrom self.old bytes.now run.start) }
     {
-        let stars = star_lines(bytes, run.start);
-        if stars > 0 {
-            self.line += stars as u64;
-            *runs = DigitRuns::at(bytes, run.start + 2 * stars);
-            return Ok(true);
-        }
         let Some(line) = runs.line_end(run) else {
             *runs = DigitRuns::at(bytes, run.start);
             return Ok(false);

@@ -1,7 +1,6 @@
-use Rattle.std.proofs.Common.{◌≤◌, ◌+◌, ap, arith, length, refl, subst, sym}
+use Rattle.std.proofs.Common.{◌+◌, ap, arith, length, refl, subst, sym}
 use Rattle.trace_read.proofs.Steps.{errs}
-use Rattle.trace_read.proofs.StarLines.{stars_taken}
-use Rattle.trace_read.proofs.Taken.{line_refused, line_taken, nothing_taken, whole_read, whole_stopped}
+use Rattle.trace_read.proofs.Taken.{line_refused, line_taken, whole_read, whole_stopped}
 use Rattle.trace_read.specs.DigitRuns.{IsLineEnd}
 use Rattle.trace_read.specs.TraceText.{IsRead}
 use Rattle.trace_read.specs.declared.format.Format.TheVariants.{Lirs}
@@ -39,14 +38,3 @@ returns-clause-taken c =
       given = refl;
     }) in
     subst (λ n. IsTakenUpTo scan bytes start n last) (sym l.behind) next
-
-pub returns-then-stars-gt0-clause-taken : goal.returns-then-stars-gt0-clause-taken
-returns-then-stars-gt0-clause-taken c =
-    let scan = c.args.self.now in
-    let bytes = c.args.bytes.now in
-    let start = c.args.run.start in
-    let count = c.star_lines-stars.result in
-    let within : start ≤ length bytes = omega (arith, c.requires.found.order, c.requires.found.within) in
-    let here = nothing_taken scan bytes start c.requires.lines.scan c.requires.lines.cut within in
-    let next : Scan = record { alloc = scan.alloc; format = scan.format; keys = scan.keys; given = scan.given; line = scan.line + count; cut = scan.cut } in
-    subst (λ n. IsTakenUpTo scan bytes start n next) (sym c.at.ensures.start) (stars_taken scan scan bytes start start count here c.requires.lines.format c.star_lines-stars.ensures)
