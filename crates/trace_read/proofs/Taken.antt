@@ -1,7 +1,5 @@
 -- What a scan that took the lines before a place of some bytes comes to.
-use Rattle.std.proofs.Common.{◌≡◌, ◌∙◌, ◌<◌, ◌≤◌, ◌+◌, ◌-◌, ℕ, List, [], ◌∷◌, ◌++◌, length, drop, take, get_or, sym, ap, subst, arith, inl, inr, Ok, Some, None, length-drop, drop-drop}
-use Rattle.std.proofs.lemmas.Bool.{cond-false, le-ltb}
-use Rattle.step_record.specs.declared.limits.TheConstants.{MAX_ACCESSES}
+use Rattle.std.proofs.Common.{◌≡◌, ◌∙◌, ◌<◌, ◌≤◌, ◌+◌, ◌-◌, ℕ, List, [], ◌++◌, length, drop, take, get_or, sym, ap, subst, arith, inl, inr, Some, None, length-drop, drop-drop}
 use Rattle.streams.proofs.Feeds.{cut_line}
 use Rattle.trace_read.proofs.LineFeeds.{feed_at}
 use Rattle.trace_read.specs.DigitRuns.{NoFeedBetween}
@@ -10,7 +8,6 @@ use Rattle.trace_read.proofs.Steps.{ended_ahead, of_line, refused_here}
 use Rattle.trace_read.specs.Lines.{line_of, run_of}
 use Rattle.trace_read.specs.TraceText.{fault_after, keys_or_none, IsRead, IsStopped, IsTraceRefused}
 use Rattle.trace_read.specs.declared.format.Format.{Format}
-use Rattle.trace_read.specs.declared.format.Format.TheVariants.{Arc, Lirs}
 use Rattle.trace_read.specs.ScanState.{fault_ahead, keys_ahead, IsEnded, IsRefusedFrom, IsScan, IsTakenUpTo}
 use Rattle.trace_read.specs.declared.fault.TraceFault.{TraceFault}
 use Rattle.trace_read.specs.declared.scan.Scan.{Scan}

@@ -8,7 +8,7 @@ ghost use Rattle.trace_read.specs.TraceText.{fault_in, keys_in, IsOfLine, IsRead
 ghost use Rattle.trace_read.specs.ScanState.{fault_ahead, keys_ahead, AreLinesTaken, CanTakeFrom, IsEnded, IsGiven, IsScan, IsPieceTaken, IsRefusedFrom, IsTakenUpTo};
 ghost use Rattle.streams.specs.Feeds.{feed_in};
 
-use super::arc::{UsualLine, add_arc, begins_two_numbers, push_reserved_run, usual_run};
+use super::arc::{UsualLine, add_arc, push_reserved_run, usual_run};
 use super::digit_runs::{DigitRun, DigitRuns};
 use super::follower::Follower;
 use super::format::Format;
@@ -175,24 +175,48 @@ impl Scan {
             return None;
         };
         if begins_usual_line(self.format, bytes, first) {
-            return self.take_usual_lines(bytes, runs);
+            return match self.format {
+                Format::Lirs => self.take_numbers(bytes, runs),
+                Format::Arc => self.take_runs(bytes, runs),
+            };
         }
         *runs = ahead;
         Some(first)
     }
 
+    // `take_usual_lines`, compiled for LIRS.
+    #[inline(never)]
+    fn take_numbers<'a>(&mut self, bytes: &'a [u8], runs: &mut DigitRuns<'a>) -> Option<DigitRun>
+        requires lines { CanTakeFrom self.old bytes.now runs.old }
+        requires format { self.old.format ≡ Format.Lirs }
+        ensures { AreLinesTaken self.old self.new bytes.now runs.old runs.new result }
+    {
+        self.take_usual_lines(Format::Lirs, bytes, runs)
+    }
+
+    // The same for ARC.
+    #[inline(never)]
+    fn take_runs<'a>(&mut self, bytes: &'a [u8], runs: &mut DigitRuns<'a>) -> Option<DigitRun>
+        requires lines { CanTakeFrom self.old bytes.now runs.old }
+        requires format { self.old.format ≡ Format.Arc }
+        ensures { AreLinesTaken self.old self.new bytes.now runs.old runs.new result }
+    {
+        self.take_usual_lines(Format::Arc, bytes, runs)
+    }
+
     // Takes the lines of the usual form from the next run of digits on, where there is room for their accesses, and
     // returns the run that the first other line begins with.
-    #[inline(never)]
+    #[inline(always)]
     fn take_usual_lines<'a>(
         &mut self,
+        format: Format,
         bytes: &'a [u8],
         runs: &mut DigitRuns<'a>,
     ) -> Option<DigitRun>
-        requires { CanTakeFrom self.old bytes.now runs.old }
+        requires lines { CanTakeFrom self.old bytes.now runs.old }
+        requires format { self.old.format ≡ format }
         ensures { AreLinesTaken self.old self.new bytes.now runs.old runs.new result }
     {
-        let format = self.format;
         let limit = MAX_ACCESSES - self.given;
         // The loop changes locals alone, so that they are in registers.
         let mut keys = mem::replace(&mut self.keys, Vec::new(self.alloc));
@@ -265,15 +289,17 @@ fn add_line(
     }
 }
 
-// Whether a line that begins with this run of digits begins as one of the format's usual form.
+// Whether a line that begins with this run of digits begins as one of the format's usual form: with a number of at most
+// sixteen digits, which a line feed ends, or one byte stands between it and the next.
 #[inline(always)]
 fn begins_usual_line(format: Format, bytes: &[u8], first: DigitRun) -> bool
     requires { (first.start ≤ first.end) × (first.end + 1 < length bytes.now) }
 {
-    match format {
+    let is_followed = match format {
         Format::Lirs => bytes[first.end] == b'\n',
-        Format::Arc => begins_two_numbers(bytes, first),
-    }
+        Format::Arc => bytes[first.end + 1].is_ascii_digit(),
+    };
+    first.is_short() && is_followed
 }
 
 // The line that begins with this run of digits, the one before `runs`, where it has the format's usual form and at most

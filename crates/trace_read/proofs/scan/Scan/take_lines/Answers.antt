@@ -1,4 +1,4 @@
-use Rattle.std.proofs.Common.{◌≤◌, ◌+◌, ◌∙◌, arith, length, refl, subst, sym}
+use Rattle.std.proofs.Common.{◌≤◌, ◌+◌, arith, length, refl, subst, sym}
 use Rattle.step_record.specs.declared.limits.TheConstants.{MAX_ACCESSES}
 use Rattle.trace_read.proofs.Steps.{errs}
 use Rattle.trace_read.proofs.Taken.{line_refused, line_taken, refused_then, taken_then, whole_read, whole_stopped}
