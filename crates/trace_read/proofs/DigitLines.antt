@@ -1,5 +1,5 @@
 -- A line that is digits alone.
-use Rattle.std.proofs.Common.{◌≡◌, ◌∙◌, ◌<◌, ◌^◌, ◌==◌, ℕ, true, false, List, [], ◌∷◌, length, refl, ap, sym, arith, Ok, subst, zero, suc, take, drop, get_or, ◌++◌, ◌*◌, ◌+◌, ◌-◌, ◌≤◌, pow-suc, take-take, take-add, length-take-le, length-drop}
+use Rattle.std.proofs.Common.{◌≡◌, ◌∙◌, ◌<◌, ◌^◌, ◌==◌, ℕ, true, false, List, [], ◌∷◌, length, refl, ap, sym, arith, Ok, subst, take, drop, ◌++◌, ◌*◌, ◌+◌, ◌-◌, ◌≤◌, pow-suc, take-take, take-add, length-take-le, length-drop}
 use Rattle.std.proofs.lemmas.Bool.{cond-false, and_parts, and_from, and_left, or_from, ne_eqb}
 use Rattle.std.proofs.lemmas.Bool.Decides.{nat_tests}
 use Rattle.std.specs.Char.{digit_value, is_ascii_digit}
@@ -43,18 +43,6 @@ plain_keys ds some digits few =
 pub plain_read : (ds : List ℕ) (v : ℕ) → 0 < length ds → all_ascii_digits ds ≡ true → v ≡ digits_value 10 ds → v < 2 ^ 64
     → lirs_keys (trimmed_text ds) ≡ Ok (v ∷ [])
 plain_read ds v some digits value few = plain_keys ds some digits (subst (λ k. k < 2 ^ 64) value few) ∙ ap (λ k. Ok (k ∷ [])) (sym value)
-
--- a lone `*` gives nothing
-pub star_keys : (bytes : List ℕ) (start count : ℕ) → start < length bytes → count ≡ 1 → get_or bytes start 0 ≡ 42
-    → lirs_keys (trimmed_text (take count (drop start bytes))) ≡ Ok []
-unfolding trimmed_text
-star_keys bytes start count inside one star =
-    ap (λ l. lirs_keys (trimmed_text l)) (ap (λ k. take k (drop start bytes)) one ∙ first_of bytes start inside ∙ ap (λ b. b ∷ []) star)
-  where
-    first_of : (xs : List ℕ) (i : ℕ) → i < length xs → take 1 (drop i xs) ≡ get_or xs i 0 ∷ []
-    first_of [] i l = absurd (omega arith)
-    first_of (x ∷ xs) zero l = refl
-    first_of (x ∷ xs) (suc i) l = first_of xs i (omega arith)
 
 -- ---- digits, and more of them
 

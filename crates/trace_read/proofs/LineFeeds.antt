@@ -1,9 +1,9 @@
 -- Digits and line feeds by their places.
-use Rattle.std.proofs.Common.{subst, map, ◌≡◌, ◌∙◌, ◌<◌, ◌≤◌, ◌+◌, ◌-◌, ◌^◌, ℕ, zero, suc, Bool, true, false, not, List, [], ◌∷◌, length, take, drop, get_or, refl, sym, ap, arith, length-drop, get_or-drop, length-take, take-take, Ok, inl, inr}
+use Rattle.std.proofs.Common.{subst, map, ◌≡◌, ◌∙◌, ◌<◌, ◌≤◌, ◌+◌, ◌-◌, ◌^◌, ℕ, zero, suc, Bool, true, false, not, List, [], ◌∷◌, length, take, drop, get_or, refl, sym, ap, arith, length-drop, get_or-drop, length-take, take-take, Ok}
 use Rattle.std.proofs.lemmas.Int.Digits.{digits_value_is, number_lt}
 use Rattle.std.proofs.lemmas.List.{length-map}
 use Rattle.std.specs.Int.Digits.{AllBelowBase}
-use Rattle.std.proofs.lemmas.Bool.{and_parts, and_from, cases_lt}
+use Rattle.std.proofs.lemmas.Bool.{and_parts, and_from}
 use Rattle.std.proofs.lemmas.Bool.Decides.{nat_tests}
 use Rattle.std.proofs.lemmas.List.{get_or-take}
 use Rattle.std.proofs.lemmas.List.Sums.{position_or_len_is}
@@ -38,13 +38,6 @@ digit_no_feed b h = grind (arith, nat_tests)
 
 pub digits_no_feed : (bytes : List ℕ) (start end : ℕ) → DigitsBetween bytes start end → NoFeedBetween bytes start end
 digits_no_feed bytes start end digits k low high = digit_no_feed (get_or bytes k 0) (was_digit (get_or bytes k 0) (digits k low high))
-
--- one byte more
-pub no_feed_on : (bytes : List ℕ) (start at : ℕ) → NoFeedBetween bytes start at → is_feed (get_or bytes at 0) ≡ false → NoFeedBetween bytes start (at + 1)
-no_feed_on bytes start at none here k low high = elim (cases_lt k at) [
-  | inl less ↦ none k low less
-  | inr same ↦ ap (λ j. is_feed (get_or bytes j 0)) {y = at} (omega arith) ∙ here
-]
 
 pub digits_here : (bytes : List ℕ) (start end : ℕ) → end ≤ length bytes → DigitsBetween bytes start end → AreDigits (take (length bytes - start) (drop start bytes)) (end - start)
 digits_here bytes start end within digits k less =

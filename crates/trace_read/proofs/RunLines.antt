@@ -12,7 +12,7 @@ use Rattle.streams.proofs.Numbers.{a_number}
 use Rattle.streams.specs.Blanks.{is_blank, is_empty, trimmed_text, without_back, without_front}
 use Rattle.streams.specs.Numbers.{number_of}
 use Rattle.trace_read.proofs.DigitLines.{no_blank}
-use Rattle.trace_read.specs.Lines.{arc_keys, first_field, is_gap, later_fields, run_of, without_gap}
+use Rattle.trace_read.specs.Lines.{arc_keys, first_field, is_feed, is_gap, later_fields, run_of, without_gap}
 
 -- nothing, or what begins with a gap
 abbrev pub EndsField : List ℕ → Type 0
@@ -21,6 +21,9 @@ EndsField (g ∷ rest) = is_gap g ≡ true
 
 no_gap : (d : ℕ) → is_ascii_digit d ≡ true → is_gap d ≡ false
 no_gap d h = grind (arith, nat_tests)
+
+pub gap_no_feed : (g : ℕ) → is_gap g ≡ true → is_feed g ≡ false
+gap_no_feed g h = grind (arith, nat_tests)
 
 -- ---- blanks
 

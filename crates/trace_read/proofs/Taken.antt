@@ -1,8 +1,5 @@
 -- What a scan that took the lines before a place of some bytes comes to.
-use Rattle.std.proofs.Common.{◌≡◌, ◌∙◌, ◌<◌, ◌≤◌, ◌+◌, ◌-◌, ℕ, List, [], ◌∷◌, ◌++◌, length, drop, take, get_or, refl, sym, ap, subst, arith, inl, inr, Ok, Some, None, length-drop, drop-drop}
-use Rattle.std.proofs.lemmas.Bool.{cond-false, le-ltb}
-use Rattle.std.proofs.lemmas.List.{append-nil}
-use Rattle.step_record.specs.declared.limits.TheConstants.{MAX_ACCESSES}
+use Rattle.std.proofs.Common.{◌≡◌, ◌∙◌, ◌<◌, ◌≤◌, ◌+◌, ◌-◌, ℕ, List, [], ◌++◌, length, drop, take, get_or, sym, ap, subst, arith, inl, inr, Some, None, length-drop, drop-drop}
 use Rattle.streams.proofs.Feeds.{cut_line}
 use Rattle.trace_read.proofs.LineFeeds.{feed_at}
 use Rattle.trace_read.specs.DigitRuns.{NoFeedBetween}
@@ -11,30 +8,9 @@ use Rattle.trace_read.proofs.Steps.{ended_ahead, of_line, refused_here}
 use Rattle.trace_read.specs.Lines.{line_of, run_of}
 use Rattle.trace_read.specs.TraceText.{fault_after, keys_or_none, IsRead, IsStopped, IsTraceRefused}
 use Rattle.trace_read.specs.declared.format.Format.{Format}
-use Rattle.trace_read.specs.declared.format.Format.TheVariants.{Arc, Lirs}
 use Rattle.trace_read.specs.ScanState.{fault_ahead, keys_ahead, IsEnded, IsRefusedFrom, IsScan, IsTakenUpTo}
 use Rattle.trace_read.specs.declared.fault.TraceFault.{TraceFault}
 use Rattle.trace_read.specs.declared.scan.Scan.{Scan}
-
--- what a loop over lines of numbers keeps: what is taken, the runs ahead and their bytes, room, and the count before
-pub record Taking (A B C D E : Type 0) : Type 0 where
-  pub taken : A
-  pub runs : B
-  pub same : C
-  pub room : D
-  pub before : E
-
-pub nothing_taken : (s : Scan) (bytes : List ℕ) (start : ℕ) → IsScan s → s.cut.items ≡ [] → start ≤ length bytes → IsTakenUpTo s bytes start start s
-nothing_taken s bytes start scan none within = record {
-  scan = scan;
-  cut = none;
-  format = refl;
-  given = refl;
-  order = (omega arith, within);
-  lines = omega arith;
-  fault = λ more. refl;
-  keys = λ more. refl;
-}
 
 pub taken_then : (first mid last : Scan) (bytes : List ℕ) (start middle end : ℕ) → IsTakenUpTo first bytes start middle mid → IsTakenUpTo mid bytes middle end last → IsTakenUpTo first bytes start end last
 taken_then first mid last bytes start middle end one two = record {
@@ -95,39 +71,20 @@ module _ (now : Scan) (bytes : List ℕ) (start end : ℕ) (scan : IsScan now) (
   ]
 
 -- what a line without a cut part comes to
-pub whole_read : (kind format : Format) (n given : ℕ) (old cut text new : List ℕ) → format ≡ kind → cut ≡ [] → IsRead kind n given old text new → IsRead format n given old (cut ++ text) new
-whole_read kind format n given old cut text new same none read = subst (λ f. IsRead f n given old (cut ++ text) new) (sym same) (subst (λ c. IsRead kind n given old (c ++ text) new) (sym none) read)
+pub whole_read : (format : Format) (n given : ℕ) (old cut text new : List ℕ) → cut ≡ [] → IsRead format n given old text new → IsRead format n given old (cut ++ text) new
+whole_read format n given old cut text new none read = subst (λ c. IsRead format n given old (c ++ text) new) (sym none) read
 
-pub whole_stopped : (kind format : Format) (n given : ℕ) (old cut text : List ℕ) (e : TraceFault) → format ≡ kind → cut ≡ [] → IsTraceRefused kind n given old text e → IsStopped format n given old (cut ++ text) e
-whole_stopped kind format n given old cut text e same none refused = subst (λ f. IsStopped f n given old (cut ++ text) e) (sym same) (subst (λ c. IsStopped kind n given old (c ++ text) e) (sym none) (elim refused [
+pub whole_stopped : (format : Format) (n given : ℕ) (old cut text : List ℕ) (e : TraceFault) → cut ≡ [] → IsTraceRefused format n given old text e → IsStopped format n given old (cut ++ text) e
+whole_stopped format n given old cut text e none refused = subst (λ c. IsStopped format n given old (c ++ text) e) (sym none) (elim refused [
   | inl memory ↦ inl memory.0
   | inr fault ↦ inr fault
-]))
-
--- a line that names some keys
-pub keys_read : (kind format : Format) (n given : ℕ) (keys old cut text new : List ℕ) → format ≡ kind → cut ≡ [] → given + length old + length keys ≤ MAX_ACCESSES → line_of kind text ≡ Ok keys
-    → new ≡ old ++ keys → IsRead format n given old (cut ++ text) new
-keys_read kind format n given keys old cut text new same none few is added = whole_read kind format n given old cut text new same none (record {
-  sound = ap (fault_after n (given + length old)) is ∙ cond-false _ _ _ (le-ltb MAX_ACCESSES (given + length old + length keys) few);
-  added = added ∙ ap (λ r. old ++ keys_or_none r) (sym is);
-})
-
--- a line that gives nothing
-pub nothing_read : (format : Format) (n given : ℕ) (old cut text : List ℕ) → format ≡ Lirs → cut ≡ [] → given + length old ≤ MAX_ACCESSES → line_of Lirs text ≡ Ok []
-    → IsRead format n given old (cut ++ text) old
-nothing_read format n given old cut text lirs none few is = keys_read Lirs format n given [] old cut text old lirs none (omega arith) is (sym (append-nil old))
-
--- a line that names one key
-pub key_read : (format : Format) (n given key : ℕ) (old cut text new : List ℕ) → format ≡ Lirs → cut ≡ [] → given + length old < MAX_ACCESSES → line_of Lirs text ≡ Ok (key ∷ [])
-    → new ≡ old ++ key ∷ [] → IsRead format n given old (cut ++ text) new
-key_read format n given key old cut text new lirs none few is added = keys_read Lirs format n given (key ∷ []) old cut text new lirs none (omega arith) is added
+])
 
 -- a line that stands for a run
-pub run_read : (format : Format) (n given start count : ℕ) (old cut text new : List ℕ) → format ≡ Arc → cut ≡ [] → line_of Arc text ≡ run_of (Some start) (Some count)
+pub run_read : (format : Format) (n given start count : ℕ) (old cut text new : List ℕ) → cut ≡ [] → line_of format text ≡ run_of (Some start) (Some count)
     → fault_after n (given + length old) (run_of (Some start) (Some count)) ≡ None → new ≡ old ++ keys_or_none (run_of (Some start) (Some count))
     → IsRead format n given old (cut ++ text) new
-run_read format n given start count old cut text new arc none is sound added =
-    subst (λ f. IsRead f n given old (cut ++ text) new) (sym arc) (subst (λ c. IsRead Arc n given old (c ++ text) new) (sym none) (record {
-      sound = ap (fault_after n (given + length old)) is ∙ sound;
-      added = added ∙ ap (λ r. old ++ keys_or_none r) (sym is);
-    }))
+run_read format n given start count old cut text new none is sound added = whole_read format n given old cut text new none (record {
+  sound = ap (fault_after n (given + length old)) is ∙ sound;
+  added = added ∙ ap (λ r. old ++ keys_or_none r) (sym is);
+})

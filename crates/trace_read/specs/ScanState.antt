@@ -1,5 +1,5 @@
 -- What a scan of the lines comes to, whatever bytes still follow.
-use Rattle.std.specs.Prelude.{◌≡◌, ℕ, ◌+◌, ◌-◌, ◌*◌, ◌^◌, ◌≤◌, ◌<◌, ◌⊎◌, vec_capacity, vec_len, List, [], ◌++◌, Option, Some, None, IfSome, length, drop}
+use Rattle.std.specs.Prelude.{◌≡◌, ℕ, ◌+◌, ◌-◌, ◌^◌, ◌≤◌, ◌<◌, ◌⊎◌, List, [], ◌++◌, Option, Some, None, IfSome, length, drop}
 use Rattle.step_record.specs.declared.limits.TheConstants.{MAX_ACCESSES}
 use Rattle.streams.specs.Feeds.{lines_of, HasNoFeed}
 use Rattle.trace_read.specs.DigitRuns.{IsDigitRuns, IsNextRun}
@@ -8,7 +8,6 @@ use Rattle.trace_read.specs.declared.digit_runs.DigitRun.{DigitRun}
 use Rattle.trace_read.specs.declared.digit_runs.DigitRuns.{DigitRuns}
 use Rattle.trace_read.specs.declared.fault.TraceFault.{TraceFault}
 use Rattle.trace_read.specs.declared.fault.TraceFault.TheVariants.{OutOfMemory}
-use Rattle.trace_read.specs.declared.format.Format.TheVariants.{Arc, Lirs}
 use Rattle.trace_read.specs.declared.scan.Scan.{Scan}
 
 -- the fault of the whole file, and its accesses but for those that were given away, where these bytes still follow
@@ -62,22 +61,9 @@ abbrev pub IsRefusedFrom : Scan → List ℕ → ℕ → TraceFault → Type 0
 IsRefusedFrom old bytes start e = (e ≡ OutOfMemory)
     ⊎ (IsOfLine e × ((more : List ℕ) → fault_ahead old (drop start bytes ++ more) ≡ Some e))
 
--- there is room for the accesses of lines of so many bytes, by the limit and in memory: each has two bytes of its own
-abbrev pub HasRoom : ℕ → ℕ → ℕ → ℕ → Type 0
-HasRoom bytes given len capacity = ((given + len) * 2 + bytes ≤ 2 * MAX_ACCESSES) × (len * 2 + bytes ≤ 2 * capacity)
-
--- LIRS lines may be taken from this place of the bytes on, with room for the accesses of all of them
-pub record CanTakeLines (s : Scan) (bytes : List ℕ) (start : ℕ) : Type 0 where
-  pub scan : IsScan s
-  pub format : s.format ≡ Lirs
-  pub cut : s.cut.items ≡ []
-  pub lines : s.line + length bytes < 2 ^ 64 + start
-  pub room : HasRoom (length bytes - start) s.given (vec_len s.keys) (vec_capacity s.keys)
-
--- ARC lines may be taken from these runs of digits on
+-- lines may be taken from these runs of digits on
 pub record CanTakeFrom (s : Scan) (bytes : List ℕ) (ahead : DigitRuns) : Type 0 where
   pub scan : IsScan s
-  pub format : s.format ≡ Arc
   pub cut : s.cut.items ≡ []
   pub runs : IsDigitRuns ahead × (ahead.bytes.now ≡ bytes)
   pub lines : s.line + length bytes < 2 ^ 64 + ahead.start
@@ -87,9 +73,3 @@ pub record AreLinesTaken (old new : Scan) (bytes : List ℕ) (ahead left : Digit
   pub all : found ≡ None → IsTakenUpTo old bytes ahead.start left.start new
   pub some : IfSome found (λ run. IsTakenUpTo old bytes ahead.start run.start new)
   pub next : IfSome found (λ run. IsNextRun bytes run left)
-
--- LIRS lines were, and there is room for the accesses of those that are left
-pub record IsStretchTaken (old new : Scan) (ahead left : DigitRuns) (found : Option DigitRun) : Type 0 where
-  pub lines : AreLinesTaken old new ahead.bytes.now ahead left found
-  pub room : IfSome found (λ run.
-      HasRoom (length ahead.bytes.now - run.start) new.given (vec_len new.keys) (vec_capacity new.keys))

@@ -22,7 +22,6 @@ mod lirs;
 mod pieces;
 mod reader;
 mod scan;
-mod star_lines;
 
 pub use fault::TraceFault;
 pub use follower::Follower;

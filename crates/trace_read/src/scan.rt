@@ -1,23 +1,20 @@
 //! The lines of a trace file, one after another, as its bytes come in.
-ghost use Rattle.std.specs.Prelude.{◌≡◌, ◌≤◌, ◌<◌, ◌+◌, ◌-◌, ◌^◌, ◌∷◌, ◌++◌, ◌⊎◌, ℕ, List, [], Some, None, Ok, OnOk};
-ghost use Rattle.std.specs.Prelude.{IfOk, IfErr, IfSome, IsTrue, MatchOption, OnSome, get_or, length, take, drop, vec_len, vec_capacity};
-ghost use Rattle.trace_read.specs.DigitRuns.{DigitsBetween, IsDigitRuns, IsNextRun};
-ghost use Rattle.trace_read.specs.Lines.{line_of, AreStarLines};
-ghost use Rattle.trace_read.specs.declared.digit_runs.TheConstants.{BEHIND};
+ghost use Rattle.std.specs.Prelude.{◌≡◌, ◌≤◌, ◌<◌, ◌+◌, ◌-◌, ◌^◌, ◌++◌, ◌⊎◌, ℕ, List, [], Some, None, OnOk};
+ghost use Rattle.std.specs.Prelude.{IfOk, IfErr, IfSome, MatchOption, length, take, drop, vec_len};
+ghost use Rattle.trace_read.specs.DigitRuns.{IsNextRun};
+ghost use Rattle.trace_read.specs.UsualLine.{IsUsualLine};
 ghost use Rattle.step_record.specs.declared.limits.TheConstants.{MAX_ACCESSES};
 ghost use Rattle.trace_read.specs.TraceText.{fault_in, keys_in, IsOfLine, IsRead, IsTraceRefused, IsStopped};
-ghost use Rattle.trace_read.specs.ScanState.{fault_ahead, keys_ahead, AreLinesTaken, CanTakeFrom, CanTakeLines, IsEnded, IsGiven, IsScan, IsStretchTaken, HasRoom, IsPieceTaken, IsRefusedFrom, IsTakenUpTo};
+ghost use Rattle.trace_read.specs.ScanState.{fault_ahead, keys_ahead, AreLinesTaken, CanTakeFrom, IsEnded, IsGiven, IsScan, IsPieceTaken, IsRefusedFrom, IsTakenUpTo};
 ghost use Rattle.streams.specs.Feeds.{feed_in};
 
-use super::arc::{add_arc, begins_usual_line, push_reserved_run, usual_line};
+use super::arc::{UsualLine, add_arc, push_reserved_run, usual_run};
 use super::digit_runs::{DigitRun, DigitRuns};
-use super::digits::{long_number, short_number};
 use super::follower::Follower;
 use super::format::Format;
-use super::lirs::add_lirs;
-use super::star_lines::star_lines;
+use super::lirs::{add_lirs, usual_number};
 use super::{Trace, TraceFault};
-use std::alloc::{AllocError, Global};
+use std::alloc::Global;
 use std::mem;
 use step_record::{Key, MAX_ACCESSES};
 use streams::place_of;
@@ -145,113 +142,9 @@ impl Scan {
 
     // Takes lines from the front of these bytes, 64 bytes at a time, and returns where the next line begins. The last
     // few bytes are left.
+    #[inline(never)]
     fn take_lines(&mut self, bytes: &[u8]) -> Result<usize, TraceFault>
         requires scan { IsScan self.old }
-        requires cut { self.old.cut.items ≡ [] }
-        requires lines { self.old.line + length bytes.now < 2 ^ 64 }
-        ensures taken { IfOk result (λ n. IsTakenUpTo self.old bytes.now 0 n self.new) }
-        ensures err { IfErr result (IsRefusedFrom self.old bytes.now 0) }
-    {
-        match self.format {
-            Format::Lirs => self.take_lirs(bytes),
-            Format::Arc => self.take_arc(bytes),
-        }
-    }
-
-    // `take_lines` of the LIRS format. It stops where the accesses might pass `MAX_ACCESSES` in these bytes.
-    #[inline(never)]
-    fn take_lirs(&mut self, bytes: &[u8]) -> Result<usize, TraceFault>
-        requires scan { IsScan self.old }
-        requires format { self.old.format ≡ Format.Lirs }
-        requires cut { self.old.cut.items ≡ [] }
-        requires lines { self.old.line + length bytes.now < 2 ^ 64 }
-        ensures taken { IfOk result (λ n. IsTakenUpTo self.old bytes.now 0 n self.new) }
-        ensures err { IfErr result (IsRefusedFrom self.old bytes.now 0) }
-    {
-        if !reserve_for(self.given, &mut self.keys, bytes.len())? {
-            return Ok(0);
-        }
-        let mut runs = DigitRuns::at(bytes, 0);
-        'lines: while let Some(run) = self.take_numbers(&mut runs) {
-            if !self.take_other(bytes, run, &mut runs)? {
-                return Ok(runs.start);
-            }
-        }
-        Ok(runs.start)
-    }
-
-    // Takes the lines that are a number of at most sixteen digits, from the next run of digits on, and returns the run
-    // that the first other line begins with. There is room for their accesses.
-    #[inline(never)]
-    fn take_numbers(&mut self, runs: &mut DigitRuns<'_>) -> Option<DigitRun>
-        requires runs { IsDigitRuns runs.old }
-        requires lines { CanTakeLines self.old runs.old.bytes.now runs.old.start }
-        ensures { IsStretchTaken self.old self.new runs.old runs.new result }
-    {
-        // The loop changes locals alone and calls nothing, so that they are in registers.
-        let mut ahead = *runs;
-        let bytes = ahead.bytes;
-        let mut keys = mem::replace(&mut self.keys, Vec::new(self.alloc));
-        let first = keys.len();
-        'lines: while let Some(run) = ahead.next() {
-            let Some(key) = usual_key(bytes, run) else {
-                self.line += (keys.len() - first) as u64;
-                self.keys = keys;
-                *runs = ahead;
-                return Some(run);
-            };
-            keys.push_reserved(key);
-        }
-        self.line += (keys.len() - first) as u64;
-        self.keys = keys;
-        *runs = ahead;
-        None
-    }
-
-    // Takes the line that begins with this run of digits, the one before `runs`, whatever its shape, or lines of a lone
-    // `*`, four at a time. False where the line ends in the last few bytes, or there might be no room for the accesses behind it.
-    fn take_other<'a>(
-        &mut self,
-        bytes: &'a [u8],
-        run: DigitRun,
-        runs: &mut DigitRuns<'a>,
-    ) -> Result<bool, TraceFault>
-        requires found { IsNextRun bytes.now run runs.old }
-        requires lines { CanTakeLines self.old bytes.now run.start }
-        ensures taken { OnOk result (IsTakenUpTo self.old bytes.now run.start runs.new.start self.new) }
-        ensures runs { OnOk result (IsDigitRuns runs.new × (runs.new.bytes.now ≡ bytes.now)) }
-        ensures more { IfOk result (λ more. IsTrue more → (run.start < runs.new.start)
-            × HasRoom (length bytes.now - runs.new.start)
-            self.new.given (vec_len self.new.keys) (vec_capacity self.new.keys)) }
-        ensures err { IfErr result (IsRefusedFrom self.old bytes.now run.start) }
-    {
-        let stars = star_lines(bytes, run.start);
-        if stars > 0 {
-            self.line += stars as u64;
-            *runs = DigitRuns::at(bytes, run.start + 2 * stars);
-            return Ok(true);
-        }
-        let Some(line) = runs.line_end(run) else {
-            *runs = DigitRuns::at(bytes, run.start);
-            return Ok(false);
-        };
-        *runs = line.runs;
-        add_lirs(
-            &bytes[run.start..line.end],
-            self.line,
-            self.given,
-            &mut self.keys,
-        )?;
-        self.line += 1;
-        let more = reserve_for(self.given, &mut self.keys, bytes.len() - (line.end + 1))?;
-        Ok(more)
-    }
-
-    // `take_lines` of the ARC format.
-    #[inline(never)]
-    fn take_arc(&mut self, bytes: &[u8]) -> Result<usize, TraceFault>
-        requires scan { IsScan self.old }
-        requires format { self.old.format ≡ Format.Arc }
         requires cut { self.old.cut.items ≡ [] }
         requires lines { self.old.line + length bytes.now < 2 ^ 64 }
         ensures taken { IfOk result (λ n. IsTakenUpTo self.old bytes.now 0 n self.new) }
@@ -263,7 +156,7 @@ impl Scan {
                 return Ok(first.start);
             };
             let text = &bytes[first.start..line.end];
-            add_arc(text, self.line, self.given, &mut self.keys)?;
+            add_line(self.format, text, self.line, self.given, &mut self.keys)?;
             self.line += 1;
             runs = line.runs;
         }
@@ -281,30 +174,57 @@ impl Scan {
         let Some(first) = ahead.next() else {
             return None;
         };
-        if begins_usual_line(bytes, first) {
-            return self.take_usual_lines(bytes, runs);
+        if begins_usual_line(self.format, bytes, first) {
+            return match self.format {
+                Format::Lirs => self.take_numbers(bytes, runs),
+                Format::Arc => self.take_runs(bytes, runs),
+            };
         }
         *runs = ahead;
         Some(first)
     }
 
+    // `take_usual_lines`, compiled for LIRS.
+    #[inline(never)]
+    fn take_numbers<'a>(&mut self, bytes: &'a [u8], runs: &mut DigitRuns<'a>) -> Option<DigitRun>
+        requires lines { CanTakeFrom self.old bytes.now runs.old }
+        requires format { self.old.format ≡ Format.Lirs }
+        ensures { AreLinesTaken self.old self.new bytes.now runs.old runs.new result }
+    {
+        self.take_usual_lines(Format::Lirs, bytes, runs)
+    }
+
+    // The same for ARC.
+    #[inline(never)]
+    fn take_runs<'a>(&mut self, bytes: &'a [u8], runs: &mut DigitRuns<'a>) -> Option<DigitRun>
+        requires lines { CanTakeFrom self.old bytes.now runs.old }
+        requires format { self.old.format ≡ Format.Arc }
+        ensures { AreLinesTaken self.old self.new bytes.now runs.old runs.new result }
+    {
+        self.take_usual_lines(Format::Arc, bytes, runs)
+    }
+
     // Takes the lines of the usual form from the next run of digits on, where there is room for their accesses, and
     // returns the run that the first other line begins with.
-    #[inline(never)]
+    #[inline(always)]
     fn take_usual_lines<'a>(
         &mut self,
+        format: Format,
         bytes: &'a [u8],
         runs: &mut DigitRuns<'a>,
     ) -> Option<DigitRun>
-        requires { CanTakeFrom self.old bytes.now runs.old }
+        requires lines { CanTakeFrom self.old bytes.now runs.old }
+        requires format { self.old.format ≡ format }
         ensures { AreLinesTaken self.old self.new bytes.now runs.old runs.new result }
     {
         let limit = MAX_ACCESSES - self.given;
+        // The loop changes locals alone, so that they are in registers.
         let mut keys = mem::replace(&mut self.keys, Vec::new(self.alloc));
         let mut line = self.line;
         let mut ahead = *runs;
         'lines: while let Some(first) = ahead.next() {
-            let Some(next) = usual_line(bytes, first, ahead, limit, &keys) else {
+            let room = keys.capacity().min(limit) - keys.len();
+            let Some(next) = usual_line(format, bytes, first, ahead, room) else {
                 self.keys = keys;
                 self.line = line;
                 *runs = ahead;
@@ -369,42 +289,34 @@ fn add_line(
     }
 }
 
-// The access of the line that this run of digits is, where a line feed ends it and it is of at most sixteen.
+// Whether a line that begins with this run of digits begins as one of the format's usual form: with a number of at most
+// sixteen digits, which a line feed ends, or one byte stands between it and the next.
 #[inline(always)]
-fn usual_key(bytes: &[u8], run: DigitRun) -> Option<Key>
-    requires places { (run.start ≤ run.end) × (run.end + BEHIND ≤ length bytes.now) }
-    requires digits { DigitsBetween bytes.now run.start run.end }
-    ensures some { OnSome result (run.start < run.end) }
-    ensures feed { OnSome result (get_or bytes.now run.end 0 ≡ 10) }
-    ensures line { IfSome result (λ key.
-        line_of Format.Lirs (take (run.end - run.start) (drop run.start bytes.now)) ≡ Ok (key ∷ [])) }
+fn begins_usual_line(format: Format, bytes: &[u8], first: DigitRun) -> bool
+    requires { (first.start ≤ first.end) × (first.end + 1 < length bytes.now) }
 {
-    let count = run.end - run.start;
-    if bytes[run.end] != b'\n' {
-        return None;
-    }
-    if count.wrapping_sub(1) < 8 {
-        return Some(short_number(&bytes[run.start..], count));
-    }
-    if count.wrapping_sub(9) < 8 {
-        return Some(long_number(&bytes[run.start..], count));
-    }
-    None
+    let is_followed = match format {
+        Format::Lirs => bytes[first.end] == b'\n',
+        Format::Arc => bytes[first.end + 1].is_ascii_digit(),
+    };
+    first.is_short() && is_followed
 }
 
-// Reserves room for the accesses of LIRS lines of so many bytes in all. False, and no room, where they might pass
-// `MAX_ACCESSES` with those before them, of which so many were given away.
-fn reserve_for(given: usize, keys: &mut Vec<Key>, bytes: usize) -> Result<bool, AllocError>
-    requires { given + vec_len keys.old ≤ MAX_ACCESSES }
-    ensures items { keys.new.items ≡ keys.old.items }
-    ensures len { vec_len keys.new ≡ vec_len keys.old }
-    ensures room { IfOk result (λ more. IsTrue more → HasRoom bytes given (vec_len keys.new) (vec_capacity keys.new)) }
+// The line that begins with this run of digits, the one before `runs`, where it has the format's usual form and at most
+// `room` accesses. `None` says nothing of the line.
+#[inline(always)]
+fn usual_line<'a>(
+    format: Format,
+    bytes: &'a [u8],
+    first: DigitRun,
+    runs: DigitRuns<'a>,
+    room: usize,
+) -> Option<UsualLine<'a>>
+    requires { IsNextRun bytes.now first runs }
+    ensures { IfSome result (IsUsualLine format bytes.now first room) }
 {
-    // Each access has a digit of its own and a line feed.
-    let most = bytes / 2 + 1;
-    if most > MAX_ACCESSES - given - keys.len() {
-        return Ok(false);
+    match format {
+        Format::Lirs => usual_number(bytes, first, runs, room),
+        Format::Arc => usual_run(bytes, first, runs, room),
     }
-    keys.reserve(most)?;
-    Ok(true)
 }

@@ -5,30 +5,18 @@ use Rattle.atomic_table.specs.Seated.{TableId}
 use mathlib.Core.Option as maybe
 use Rattle.turn_book.specs.declared.view.Part.{Part}
 use Rattle.turn_book.specs.declared.view.View.{View}
-use Rattle.turn_book.specs.Turns.{resting, one_more, with_new, IsPass, IsTurn, Draws, Comes, Passed, Rests}
-use Rattle.turn_book.specs.Passes.{BookId, BookState, PassState, TurnState, book_id, id_of, drawn_once, Shows, Takes, Gives}
+use Rattle.turn_book.specs.Turns.{resting, holding, one_more, with_new, Shows, Draws, Comes, Passed, Rests}
+use Rattle.turn_book.specs.Passes.{BookId, BookState, PassState, TurnState, book_id, id_of, drawn_once, Takes, Gives}
 use Rattle.turn_book.specs.Seats.{part_of, pass_view, turn_view, pass_in, turn_in, IsPassAt, IsTurnAt}
 use Rattle.turn_book.proofs.Moves.{took_at, passed_as}
 
 module _ {T E : Type 0} where
   -- the seat of a pass of the book that was opened with o
-  abbrev pub is_pass : (id : TableId) (me : Me (Option T) (View T E)) (drawn : ℕ) (o : T) → IsPassAt id me drawn → me.0.opening ≡ Some o → IsPass me drawn
-  is_pass id me drawn o is at = record {
-    opening = o;
-    part = part_of (pass_in id me.0 drawn);
-    is = is ∙ (λ i. (record { opening = at i; parts = part_of (pass_in id me.0 drawn) ∷ []; last = me.0.last; ticket = None; held = None }, []));
-    drawn_is = refl;
-  }
+  pub is_pass : (id : TableId) (me : Me (Option T) (View T E)) (drawn : ℕ) (o : T) → IsPassAt id me drawn → me.0.opening ≡ Some o → me ≡ (resting o (part_of (pass_in id me.0 drawn) ∷ []) me.0.last, [])
+  is_pass id me drawn o is at = is ∙ (λ i. (record { opening = at i; parts = part_of (pass_in id me.0 drawn) ∷ []; last = me.0.last; ticket = None; held = None }, []))
 
-  abbrev pub is_turn : (id : TableId) (me : Me (Option T) (View T E)) (drawn : ℕ) (taken o : T) → IsTurnAt id me drawn taken → me.0.opening ≡ Some o → IsTurn me drawn
-  is_turn id me drawn taken o x at = record {
-    opening = o;
-    part = part_of (pass_in id me.0 drawn);
-    ticket = x.ticket;
-    value = taken;
-    is = x.is ∙ (λ i. (record { opening = at i; parts = part_of (pass_in id me.0 drawn) ∷ []; last = me.0.last; ticket = Some x.ticket; held = Some taken }, (0, None) ∷ []));
-    drawn_is = refl;
-  }
+  pub is_turn : (id : TableId) (me : Me (Option T) (View T E)) (drawn : ℕ) (taken o : T) → (x : IsTurnAt id me drawn taken) → me.0.opening ≡ Some o → me ≡ (holding o (part_of (pass_in id me.0 drawn) ∷ []) me.0.last x.ticket taken, (0, None) ∷ [])
+  is_turn id me drawn taken o x at = x.is ∙ (λ i. (record { opening = at i; parts = part_of (pass_in id me.0 drawn) ∷ []; last = me.0.last; ticket = Some x.ticket; held = Some taken }, (0, None) ∷ []))
 
   -- the seat of a pass, by the pass that it stands for
   pub seat_is : (id : TableId) (me : Me (Option T) (View T E)) (drawn : ℕ) (p : PassState T E) → IsPassAt id me drawn → pass_in id me.0 drawn ≡ p → me ≡ (pass_view p, [])
@@ -44,15 +32,12 @@ module _ {T E : Type 0} where
   pass_at id me drawn o p l d s is = subst (λ (m : Me (Option T) (View T E)). m ≡ (pass_view (pass_in id m.0 drawn), [])) (sym is)
       (λ i. (record { opening = Some o; parts = record { number = p.number; own = p.own; draws = d i; shown = s i } ∷ []; last = l; ticket = None; held = None }, []))
 
-  book_at : (me : Me (Option T) (View T E)) (p : PassState T E) (table : TableId) (o : T) → me ≡ (pass_view p, []) → p.book ≡ book_id table o → me ≡ (resting o (part_of p ∷ []) me.0.last, [])
+  pub book_at : (me : Me (Option T) (View T E)) (p : PassState T E) (table : TableId) (o : T) → me ≡ (pass_view p, []) → p.book ≡ book_id table o → me ≡ (resting o (part_of p ∷ []) me.0.last, [])
   book_at me p table o is own = is ∙ (λ i. (record { opening = (own i).opening; parts = part_of p ∷ []; last = (sym is i).0.last; ticket = None; held = None }, []))
 
   -- a seat that rests with the part of one pass
   pub rests_pass : (me : Me (Option T) (View T E)) (p : PassState T E) (table : TableId) (o : T) → me ≡ (pass_view p, []) → p.book ≡ book_id table o → Rests me (part_of p ∷ []) me.0.last
   rests_pass me p table o is own = record { opening = o; is = book_at me p table o is own }
-
-  pub pass_seat : (me : Me (Option T) (View T E)) (p : PassState T E) (table : TableId) (o : T) → me ≡ (pass_view p, []) → p.book ≡ book_id table o → IsPass me p.draws
-  pass_seat me p table o is own = record { opening = o; part = part_of p; is = book_at me p table o is own; drawn_is = refl }
 
 module _ {T E O : Type 0} (origin : T → O) (entries : T → List E) (by : E → ℕ) (undone : T → List E) where
   -- the pass in the seat me has taken a turn
@@ -61,9 +46,7 @@ module _ {T E O : Type 0} (origin : T → O) (entries : T → List E) (by : E �
       → IsTurnAt id' me3 (drawn + 1) taken × Takes origin entries by undone o p (turn_in id' me3.0 (drawn + 1) taken t)
   takes_of id id' me me1 me2 me3 n drawn o t taken p at same begun ids x y found left kept =
       let q : PassState T E = pass_in id me.0 drawn in
-      let z = took_at origin entries by undone o 0 me me1 me2 me3 n o (part_of q) me.0.last t (is_pass id me drawn o at begun).is x y found left in
-      let s = z.1 in
-      let shows : Shows origin entries by undone o q t = record { same_origin = s.same_origin; last_first = s.last_first; news = s.news; list_is = s.list_is; undone_is = s.undone_is; own_is = s.own_is.0 } in (
+      let z = took_at origin entries by undone o 0 me me1 me2 me3 n o (part_of q) me.0.last t (is_pass id me drawn o at begun) x y found left in (
         record {
           ticket = n;
           is = subst (λ (m : Me (Option T) (View T E)). m ≡ (turn_view (pass_in id' m.0 (drawn + 1)) n taken, (0, None) ∷ [])) (sym z.0)
@@ -74,7 +57,7 @@ module _ {T E O : Type 0} (origin : T → O) (entries : T → List E) (by : E �
               ∙ (λ i. record { book = record { table = ids i; opening = sym begun i }; worker = q.worker; own = q.own; last = q.last; draws = q.draws + 1 })
               ∙ ap (drawn_once {T = T} {E = E}) same;
           taken = kept;
-          shows = subst (λ (r : PassState T E). Shows origin entries by undone o r t) same shows;
+          shows = subst (λ (r : PassState T E). Shows origin entries by undone o r.worker r.own r.last t) same z.1;
         },
       )
 
@@ -84,7 +67,7 @@ module _ {T E O : Type 0} (origin : T → O) (entries : T → List E) (by : E �
       → IsPassAt id' after drawn × Gives origin entries by undone t (pass_in id' after.0 drawn)
   gives_of id id' me put after drawn n o taken u t x same begun ids left is_shown =
       let q : PassState T E = pass_in id me.0 drawn in
-      let y = passed_as origin entries by undone o 0 me put after drawn n u (is_turn id me drawn taken o x begun) left is_shown in
+      let y = passed_as origin entries by undone o 0 me put after n o (part_of q) me.0.last x.ticket taken u (is_turn id me drawn taken o x begun) left is_shown in
       let gives : Gives origin entries by undone (turn_in id me.0 drawn taken u) (pass_in id' after.0 drawn) = record {
         made = y.0;
         adds = y.1;

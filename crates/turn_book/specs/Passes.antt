@@ -2,7 +2,7 @@
 use Rattle.std.specs.Prelude.{◌≡◌, ℕ, suc, ◌+◌, ◌≤◌, List, [], ◌∷◌, ◌++◌, length, Option, Some}
 use Rattle.step_record.specs.History.{tail_after}
 use Rattle.atomic_table.specs.Seated.{TableId}
-use Rattle.turn_book.specs.Turns.{Begins, Every, AddsInTurn, entries_by}
+use Rattle.turn_book.specs.Turns.{Begins, Every, AddsInTurn, Shows, entries_by}
 
 -- Which book it is: no two have one table, and it was opened with one value.
 pub record BookId (T : Type 0) : Type 0 where
@@ -58,22 +58,11 @@ module _ {T E : Type 0} where
   InOrder lo (p ∷ ps) = (p.worker ≡ lo) × InOrder (suc lo) ps
 
 module _ {T E O : Type 0} (origin : T → O) (entries : T → List E) (by : E → ℕ) (undone : T → List E) where
-  -- What the turn of a pass shows: the value t has the origin of the opening value o. Its list begins with the one
-  -- that the pass gave last, and past the opening entries those of this worker are the pass's own. Its undone
-  -- entries are the opening's, or none once there is an entry past the opening ones.
-  pub record Shows (o : T) (p : PassState T E) (t : T) : Type 0 where
-    pub same_origin : origin t ≡ origin o
-    pub last_first : Begins p.last (entries t)
-    pub news : List E
-    pub list_is : entries t ≡ entries o ++ news
-    pub undone_is : undone t ≡ tail_after news (undone o)
-    pub own_is : entries_by by p.worker news ≡ p.own
-
   -- the pass p has taken the turn t of a book that was opened with o
   pub record Takes (o : T) (p : PassState T E) (t : TurnState T E) : Type 0 where
     pub pass : t.pass ≡ drawn_once p
     pub taken : t.taken ≡ t.value
-    pub shows : Shows o p t.value
+    pub shows : Shows origin entries by undone o p.worker p.own p.last t.value
 
   -- the turn t was given back, with at most one entry more than it was taken with, and the pass p has it in its own
   -- list

@@ -1,7 +1,7 @@
 use Rattle.std.proofs.Common.{◌++◌, arith, ap, ◌∙◌}
 use Rattle.std.specs.Option.{option_to_list}
 use Rattle.turn_book.proofs.Moves.{joins_as}
-use Rattle.turn_book.proofs.Seating.{rests_pass, pass_seat, seat_is}
+use Rattle.turn_book.proofs.Seating.{rests_pass, book_at, seat_is}
 use Rattle.turn_book.proofs.Dealing.{rests_both, rests_own, gathered_first, gathered_more, every_less}
 use Rattle.turn_book.proofs.book.gather.Goals as goal
 
@@ -27,7 +27,7 @@ join_seat-requires g c =
     let k = c.args.board.now.shared.key in
     let own = every_less _ _ _ _ c.in-Some.ensures.items i.own in
     let seat = seat_is c.pass.inside.seat.table_id _ c.pass.inside.drawn p c.pass.invariant c.pass.view_is in
-    (i.same, ap (λ q. q.book.table) c.pass.view_is ∙ ap (λ b. b.table) own.1, ap (λ m. m.1) seat, omega arith, joins_as g.T.Kept.origin g.T.Kept.entries g.T.Kept.worker_of g.T.Kept.undone k.opening.value k.workers _ _ _ _ _ _ _ p.draws i.rests.is (pass_seat _ p _ _ seat own.1))
+    (i.same, ap (λ q. q.book.table) c.pass.view_is ∙ ap (λ b. b.table) own.1, ap (λ m. m.1) seat, omega arith, joins_as g.T.Kept.origin g.T.Kept.entries g.T.Kept.worker_of g.T.Kept.undone k.opening.value k.workers _ _ _ _ _ _ _ _ _ _ i.rests.is (book_at _ p _ _ seat own.1))
 
 pub loop-pass-preserved : goal.loop-pass-preserved
 loop-pass-preserved g c =

@@ -1,7 +1,8 @@
-use Rattle.std.proofs.Common.{◌∙◌, ◌≤◌, ◌+◌, ◌++◌, ap, arith, length, refl, subst, sym}
+use Rattle.std.proofs.Common.{◌∙◌, ◌≤◌, ◌+◌, ◌-◌, ◌++◌, ap, arith, drop, length, refl, subst, sym, take}
 use Rattle.step_record.specs.declared.limits.TheConstants.{MAX_ACCESSES}
 use Rattle.trace_read.proofs.Runs.{run_fits}
 use Rattle.trace_read.proofs.Taken.{line_taken, run_read, taken_then}
+use Rattle.trace_read.specs.Lines.{line_of}
 use Rattle.trace_read.specs.ScanState.{IsTakenUpTo}
 use Rattle.trace_read.specs.declared.scan.Scan.{Scan}
 use Rattle.trace_read.proofs.scan.Scan.take_usual_lines.Goals as goal
@@ -21,10 +22,10 @@ lines-preserved c =
     let now : Scan = record { alloc = scan.alloc; format = scan.format; keys = c.lines.keys; given = scan.given; line = c.lines.line; cut = scan.cut } in
     let next : Scan = record { alloc = scan.alloc; format = scan.format; keys = c.push_reserved_run.new.keys; given = scan.given; line = c.lines.line + 1; cut = scan.cut } in
     let here = subst (λ n. IsTakenUpTo first bytes c.args.runs.now.start n now) (sym e.start.0) i.taken in
-    let few : scan.given + length c.lines.keys.items + run.count ≤ MAX_ACCESSES = omega (arith, usual.few, c.lines.keys.ok.0, i.taken.given, c.requires.scan.few) in
-    let more : scan.given + length c.push_reserved_run.new.keys.items ≤ MAX_ACCESSES = omega (arith, usual.few, i.taken.given, c.requires.scan.few, c.push_reserved_run.ensures.len, c.push_reserved_run.new.keys.ok.0) in
+    let few : scan.given + length c.lines.keys.items + run.count ≤ MAX_ACCESSES = omega (arith, usual.few, c.lines.keys.ok.0, i.taken.given, c.requires.lines.scan.few) in
+    let more : scan.given + length c.push_reserved_run.new.keys.items ≤ MAX_ACCESSES = omega (arith, usual.few, i.taken.given, c.requires.lines.scan.few, c.push_reserved_run.ensures.len, c.push_reserved_run.new.keys.ok.0) in
     let f = run_fits c.lines.line (scan.given + length c.lines.keys.items) run.start run.count usual.fits few in
-    let read = run_read scan.format c.lines.line scan.given run.start run.count c.lines.keys.items scan.cut.items _ c.push_reserved_run.new.keys.items (i.taken.format ∙ c.requires.format) i.taken.cut usual.line
+    let read = run_read scan.format c.lines.line scan.given run.start run.count c.lines.keys.items scan.cut.items (take (end - begin.start) (drop begin.start bytes)) c.push_reserved_run.new.keys.items i.taken.cut (ap (λ f. line_of f (take (end - begin.start) (drop begin.start bytes))) (i.taken.format ∙ c.requires.format) ∙ usual.is)
     f.0 (c.push_reserved_run.ensures.items ∙ ap (λ ks. c.lines.keys.items ++ ks) (sym f.1)) in
     let taken = line_taken now bytes begin.start end i.taken.scan i.taken.cut l.order (omega (arith, l.within)) l.none l.feed next
     (record { few = more; cut = i.taken.scan.cut })

@@ -1,6 +1,6 @@
 use Rattle.std.proofs.Common.{arith}
 use Rattle.trace_read.proofs.LineFeeds.{read_here}
-use Rattle.trace_read.proofs.scan.usual_key.Goals as goal
+use Rattle.trace_read.proofs.lirs.usual_key.Goals as goal
 
 pub returns-then-count-lt8-clause-line : goal.returns-then-count-lt8-clause-line
 returns-then-count-lt8-clause-line c =

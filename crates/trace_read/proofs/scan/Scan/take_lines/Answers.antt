@@ -1,12 +1,11 @@
-use Rattle.std.proofs.Common.{◌≤◌, ◌+◌, ◌∙◌, arith, length, refl, subst, sym}
+use Rattle.std.proofs.Common.{◌≤◌, ◌+◌, arith, length, refl, subst, sym}
 use Rattle.step_record.specs.declared.limits.TheConstants.{MAX_ACCESSES}
 use Rattle.trace_read.proofs.Steps.{errs}
 use Rattle.trace_read.proofs.Taken.{line_refused, line_taken, refused_then, taken_then, whole_read, whole_stopped}
 use Rattle.trace_read.specs.DigitRuns.{IsLineEnd}
 use Rattle.trace_read.specs.ScanState.{IsTakenUpTo}
-use Rattle.trace_read.specs.declared.format.Format.TheVariants.{Arc}
 use Rattle.trace_read.specs.declared.scan.Scan.{Scan}
-use Rattle.trace_read.proofs.scan.Scan.take_arc.Goals as goal
+use Rattle.trace_read.proofs.scan.Scan.take_lines.Goals as goal
 
 pub lines-preserved : goal.lines-preserved
 lines-preserved c =
@@ -15,12 +14,12 @@ lines-preserved c =
     let bytes = c.args.bytes.now in
     let line = c.in-Some-line_end.line in
     let scan = c.next_other.new.self in
-    let read = c.in_ok-add_arc.ensures in
+    let read = c.in_ok-add_line.ensures in
     let l = subst (λ b. IsLineEnd b start line) c.in-Some.ensures.next.same c.in-Some-line_end.ensures.line in
     let before = taken_then c.args.self.now c.lines.self scan bytes 0 c.lines.runs.start start i.taken c.in-Some.ensures.some in
-    let whole = whole_read Arc scan.format scan.line scan.given scan.keys.items scan.cut.items _ _ (before.format ∙ c.requires.format) before.cut read.ok in
-    let few : scan.given + length c.add_arc.new.keys.items ≤ MAX_ACCESSES = omega (arith, read.within, c.add_arc.new.keys.ok.0) in
-    let last : Scan = record { alloc = scan.alloc; format = scan.format; keys = c.add_arc.new.keys; given = scan.given; line = scan.line + 1; cut = scan.cut } in
+    let whole = whole_read scan.format scan.line scan.given scan.keys.items scan.cut.items _ _ before.cut read.ok in
+    let few : scan.given + length c.add_line.new.keys.items ≤ MAX_ACCESSES = omega (arith, read.within, c.add_line.new.keys.ok.0) in
+    let last : Scan = record { alloc = scan.alloc; format = scan.format; keys = c.add_line.new.keys; given = scan.given; line = scan.line + 1; cut = scan.cut } in
     let next = line_taken scan bytes start line.end before.scan before.cut l.order (omega (arith, l.within)) l.none l.feed last
     (record { few = few; cut = before.scan.cut })
     (record {
@@ -36,8 +35,8 @@ lines-preserved c =
       same = l.same;
     }
 
-pub returns-in_err-add_arc-clause-err : goal.returns-in_err-add_arc-clause-err
-returns-in_err-add_arc-clause-err c =
+pub returns-in_err-add_line-clause-err : goal.returns-in_err-add_line-clause-err
+returns-in_err-add_line-clause-err c =
     let i = c.lines.invariant in
     let start = c.in-Some.first.start in
     let bytes = c.args.bytes.now in
@@ -47,4 +46,4 @@ returns-in_err-add_arc-clause-err c =
     let before = taken_then c.args.self.now c.lines.self scan bytes 0 c.lines.runs.start start i.taken c.in-Some.ensures.some in
     errs c.from_residual.result _ _ c.from_residual.ensures.1 (refused_then c.args.self.now scan bytes 0 start _ before
     (line_refused scan bytes start line.end before.scan before.cut l.order (omega (arith, l.within)) l.none l.feed _
-    (whole_stopped Arc scan.format scan.line scan.given scan.keys.items scan.cut.items _ _ (before.format ∙ c.requires.format) before.cut c.in_err-add_arc.ensures.err)))
+    (whole_stopped scan.format scan.line scan.given scan.keys.items scan.cut.items _ _ before.cut c.in_err-add_line.ensures.err)))
