@@ -2,12 +2,24 @@
 use super::assertions::assert_equal;
 use super::jobs::TWO_JOBS;
 use journal::Session;
-use library_examples::{hits_by_interval, open_session, residents_at};
+use library_examples::{hits_after, hits_by_interval, open_session, residents_at};
 use policies::AnyPolicy;
 use std::alloc::Global;
 use std::process::Abort;
 use std::test::Fail;
 use step_record::Trace;
+
+#[test]
+fn hits_after_a_warm_up(rt: HostRuntime) -> Result<(), Fail> {
+    let lru = &TWO_JOBS[0];
+    assert!(rt; lru.config.check().is_ok());
+    let trace = Trace::new(vec![in rt.alloc(); 1, 1, 1, 2, 3, 1, 1]?);
+    for (warm, wanted) in [(0, 3), (2, 2), (6, 1), (7, 0), (8, 0)] {
+        let hits = hits_after(rt.alloc(), lru, &trace, warm)?;
+        assert_equal(&rt, hits, wanted);
+    }
+    Ok(())
+}
 
 #[test]
 fn the_hits_of_each_interval(rt: HostRuntime) -> Result<(), Fail> {

@@ -8,6 +8,7 @@ mod interval_hits;
 mod log;
 mod log_turn;
 mod residents;
+mod warm_hits;
 mod writers;
 
 pub use concurrent_run::{RunFault, copy_of, run_settled};
@@ -15,4 +16,5 @@ pub use interval_hits::{hits_by_interval, outcomes};
 pub use log::{Log, LogLine};
 pub use log_turn::{AppendFault, append};
 pub use residents::{open_session, residents_at};
+pub use warm_hits::hits_after;
 pub use writers::{Written, last_pass, write_log};
