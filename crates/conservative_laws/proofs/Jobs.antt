@@ -1,5 +1,5 @@
 -- The jobs of Lru, FIFO and CLOCK: their misses are those of the definitions over plain keys.
-use Rattle.std.proofs.Common.{◌≡◌, ℕ, suc, ◌+◌, ◌-◌, ◌*◌, ◌≤◌, map, List, [], ◌∷◌, length, take, count_by, ap, ◌∙◌, sym, refl, subst, arith, inl, inr}
+use Rattle.std.proofs.Common.{◌≡◌, ℕ, ◌+◌, ◌-◌, ◌*◌, ◌≤◌, map, List, [], ◌∷◌, length, take, count_by, ap, ◌∙◌, sym, refl, subst, arith, inl, inr}
 use Rattle.std.proofs.lemmas.Bool.{cases_lt}
 use Rattle.std.proofs.lemmas.List.{take_all, length-take-le}
 use Rattle.step_record.specs.declared.job.Job.{Job}
@@ -27,18 +27,14 @@ use Rattle.optimality.specs.Strategy.{strategy_misses}
 use Rattle.optimality.specs.Theorems.{BeladyIsStrategy}
 use Rattle.policy_laws.proofs.Beaten.{ActsAsStrategy, acts-as-strategy}
 use Rattle.policy_laws.proofs.Lru.{lru_at}
-use Rattle.conservative_laws.proofs.Laps.{laps, laps-length, laps-worst, down, down-length}
 use Rattle.conservative_laws.specs.Conservative.{misses_on, IsConservative, FillsFirst}
-use Rattle.conservative_laws.specs.Theorems.{FillingCompetes, FillingCompetesWithoutBypass, LruFifoClockAreConservative, LruFifoClockCompete, LruFifoClockCompeteWithoutBypass, LruFifoClockTwiceAsLarge, LruFifoClockCompeteWithAny, LruFifoClockBoundIsTight, IsLruFifoOrClock}
+use Rattle.conservative_laws.specs.Theorems.{FillingCompetes, FillingCompetesWithoutBypass, LruFifoClockAreConservative, LruFifoClockCompete, LruFifoClockCompeteWithoutBypass, LruFifoClockTwiceAsLarge, LruFifoClockCompeteWithAny, IsLruFifoOrClock}
 use Rattle.conservative_laws.proofs.Misses.{none-hit, at-most-twice, stats-misses, misses-by, lru-misses, queue-misses-all}
 use Rattle.conservative_laws.proofs.Stretches.{empty-conservative}
 use Rattle.conservative_laws.proofs.Filling.{misses-are, fills-first}
 use Rattle.conservative_laws.proofs.Lru.{lru-conservative, lru-fills}
 use Rattle.conservative_laws.proofs.Fifo.{fifo_queue, fifo-conservative}
 use Rattle.conservative_laws.proofs.Clock.{clock_keys, clock-conservative}
-use Rattle.conservative_laws.proofs.FifoLaps.{laps-missed}
-use Rattle.conservative_laws.proofs.LruLaps.{lru-laps-missed}
-use Rattle.conservative_laws.proofs.ClockLaps.{clock-laps-missed}
 
 -- ---- the misses of a job
 
@@ -65,11 +61,11 @@ all-rejected : (keys : List ℕ) → count_by is_miss (map (λ k. Rejected k) ke
 all-rejected [] = refl
 all-rejected (k ∷ keys) = let rest = all-rejected keys in omega (arith, rest, count-cons is_miss (Rejected k) (map (λ k. Rejected k) keys))
 
-clock-misses-all : (j : Job) (keys : List ℕ) → j.policy ≡ Clock → j.config.capacity ≡ 0 → (stats_on j keys).misses ≡ length keys
-clock-misses-all j keys is none =
+pub demand-misses-all : (p : DemandPolicy) (j : Job) (keys : List ℕ) → design_of j.policy ≡ design.Demand p → j.config.capacity ≡ 0 → (stats_on j keys).misses ≡ length keys
+demand-misses-all p j keys is none =
     misses-counted j keys
-    ∙ (ap (λ d. count_by is_miss (outcomes_by d j keys)) (ap design_of is)
-    ∙ (ap (λ c. count_by is_miss (demand_outcomes demand.Clock c keys)) none ∙ all-rejected keys))
+    ∙ (ap (λ d. count_by is_miss (outcomes_by d j keys)) is
+    ∙ (ap (λ c. count_by is_miss (demand_outcomes p c keys)) none ∙ all-rejected keys))
 
 -- ---- as a conservative cache
 
@@ -119,7 +115,7 @@ acts-clock j t is =
         conservative = clock-conservative c t room;
         fills = fills-first c [] (clock_act c) keys_of (IsClock c) (clock-keeps c room) t;
       }
-      | inr less ↦ let none : c ≡ 0 = omega (arith, less) in acts-empty j t none (λ keys. clock-misses-all j keys is none)
+      | inr less ↦ let none : c ≡ 0 = omega (arith, less) in acts-empty j t none (λ keys. demand-misses-all demand.Clock j keys (ap design_of is) none)
     ]
 
 acts-conservatively : LruStepLaw → FifoStepLaw → AnyCoversTrace → (j : Job) (t : List ℕ) → IsLruFifoOrClock j.policy → ActsConservatively j t
@@ -157,37 +153,3 @@ compete_with_any law covers best keeps j other t is =
     let own : ActsAsStrategy h t (stats_on other t).hits = acts-as-strategy best keeps other t in
     let same = misses-by t own.residents n _ _ (stats-misses covers other t) own.same in
     rw same (subst (λ l. (j.config.capacity + 1 - h) * (stats_on j l).misses ≤ (j.config.capacity + 1) * strategy_misses t own.residents n) all (law j t h own.residents n is own.strategy (omega arith)))
-
--- ---- laps over one key more than fit
-
-lru-laps : LruStepLaw → AnyCoversTrace → (j : Job) (n : ℕ) → j.policy ≡ Lru → 1 ≤ j.config.capacity
-    → (stats_on j (laps (down (suc j.config.capacity)) n)).misses ≡ length (laps (down (suc j.config.capacity)) n)
-lru-laps law covers j n is room =
-    let t : List ℕ = laps (down (suc j.config.capacity)) n in
-    ap (λ l. (stats_on j l).misses) (sym (take_all (length t) t (omega arith)))
-    ∙ (lru-misses law covers j t (length t) is (omega arith) ∙ lru-laps-missed j.config.capacity n room)
-
-laps-all : LruStepLaw → FifoStepLaw → AnyCoversTrace → (j : Job) (n : ℕ) → IsLruFifoOrClock j.policy
-    → (stats_on j (laps (down (suc j.config.capacity)) n)).misses ≡ length (laps (down (suc j.config.capacity)) n)
-laps-all lru fifo covers j n is =
-    let c : ℕ = j.config.capacity in
-    let t : List ℕ = laps (down (suc c)) n in
-    elim (cases_lt 0 c) [
-      | inl room ↦ elim is [
-        | inl e ↦ lru-laps lru covers j n e room
-        | inr r ↦ elim r [ inl e ↦ fifo-misses fifo j t e room ∙ (laps-missed c n room).misses | inr e ↦ clock-misses j t e room ∙ clock-laps-missed c n room ]
-      ]
-      | inr less ↦
-          let none : c ≡ 0 = omega (arith, less) in
-          elim is [
-            | inl e ↦ queue-misses-all covers j t (ap has_queues e) none
-            | inr r ↦ elim r [ inl e ↦ queue-misses-all covers j t (ap has_queues e) none | inr e ↦ clock-misses-all j t e none ]
-          ]
-    ]
-
-pub bound_is_tight : LruStepLaw → FifoStepLaw → AnyCoversTrace → LruFifoClockBoundIsTight
-bound_is_tight lru fifo covers j h n is le =
-    let m : List ℕ = down (suc j.config.capacity) in
-    let size : length m ≡ j.config.capacity + 1 = down-length (suc j.config.capacity) ∙ omega arith in
-    let wide : n * length m ≡ n * (j.config.capacity + 1) = ap (λ x. n * x) size in
-    laps-worst j h n le (omega (arith, laps-all lru fifo covers j n is, laps-length m n, wide))

@@ -6,9 +6,9 @@ pub mod Lru
 pub mod Fifo
 pub mod Evictions
 pub mod Clock
-pub mod Laps
-pub mod FifoLaps
-pub mod LruLaps
-pub mod ClockLaps
 pub mod Jobs
+pub mod Holding
+pub mod Loads
+pub mod Adversary
+pub mod Online
 pub mod Examples

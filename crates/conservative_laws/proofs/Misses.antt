@@ -1,7 +1,7 @@
 -- The misses of a strategy and of a job.
-use Rattle.std.proofs.Common.{◌≡◌, ℕ, zero, suc, ◌+◌, ◌-◌, ◌*◌, ◌≤◌, ◌<◌, true, false, not, List, [], length, take, get_or, ap, ◌∙◌, sym, arith, inl, inr}
+use Rattle.std.proofs.Common.{◌≡◌, ℕ, zero, suc, ◌+◌, ◌-◌, ◌*◌, ◌≤◌, true, not, List, [], length, take, get_or, ap, ◌∙◌, sym, arith, inl, inr}
 use Rattle.std.proofs.Math.Nat.{add-mul, mul-add, mul-le-mul_right, le_of_mul-le-mul_left}
-use Rattle.std.proofs.lemmas.Bool.{cases_Bool, cases_lt}
+use Rattle.std.proofs.lemmas.Bool.{cases_Bool}
 use Rattle.std.proofs.lemmas.List.{take_all, length-take-le}
 use Rattle.step_record.specs.Keys.{has_key}
 use Rattle.step_record.specs.Stats.{one_if}
@@ -39,20 +39,6 @@ misses-next t residents i =
 pub none-hit : (t : List ℕ) (n : ℕ) → strategy_misses t (λ i. []) n ≡ n
 none-hit t n = ap (λ m. n - m) (no-hits t n) ∙ omega arith
 
--- where none was a hit, each was a miss
-pub missed-at : (t : List ℕ) (residents : ℕ → List ℕ) (n i : ℕ) → strategy_hits t residents n ≤ 0 → i < n → has_key (get_or t i 0) (residents i) ≡ false
-missed-at t residents zero i h l = absurd (omega (arith, l))
-missed-at t residents (suc n) i h l =
-    elim (cases_lt i n) [
-      | inl f ↦ missed-at t residents n i (omega (arith, h)) f
-      | inr f ↦
-          let same : i ≡ n = omega (arith, f, l) in
-          rw same (elim (cases_Bool (has_key (get_or t n 0) (residents n))) [
-            | inl e ↦ absurd (let one : one_if (has_key (get_or t n 0) (residents n)) ≡ 1 = ap one_if e in omega (arith, one, h))
-            | inr e ↦ e
-          ])
-    ]
-
 -- with twice the capacity the factor is at most two
 pub at-most-twice : (c h m k : ℕ) → 2 * h ≤ c + 1 → (c + 1 - h) * m ≤ (c + 1) * k → m ≤ 2 * k
 at-most-twice c h m k wide most =
@@ -75,7 +61,7 @@ stats-misses covers j keys =
 pub misses-by : (t : List ℕ) (r : ℕ → List ℕ) (n m k : ℕ) → k ≡ n - m → strategy_hits t r n ≡ m → k ≡ strategy_misses t r n
 misses-by t r n m k e h = e ∙ ap (λ x. n - x) (sym h)
 
-queue-misses : AnyCoversTrace → (j : Job) (trace : List ℕ) (n : ℕ) → has_queues j.policy ≡ true → n ≤ length trace
+pub queue-misses : AnyCoversTrace → (j : Job) (trace : List ℕ) (n : ℕ) → has_queues j.policy ≡ true → n ≤ length trace
     → (stats_on j (take n trace)).misses ≡ strategy_misses trace (kept j trace) n
 queue-misses covers j trace n e l =
     let all = stats-misses covers j (take n trace) in

@@ -1,10 +1,12 @@
--- Conservative caches compete with every strategy. Lru, FIFO and CLOCK are conservative.
-use Rattle.std.specs.Prelude.{◌≡◌, ◌⊎◌, ℕ, suc, ◌+◌, ◌-◌, ◌*◌, ◌<◌, ◌≤◌, true, List, length, slice_index}
+-- Conservative caches compete with every strategy. Lru, FIFO and CLOCK are conservative, and no policy that does not
+-- know the trace competes better.
+use Rattle.std.specs.Prelude.{◌≡◌, ◌⊎◌, ℕ, suc, ◌+◌, ◌-◌, ◌*◌, ◌<◌, ◌≤◌, true, false, List, length, slice_index}
 use Rattle.step_record.specs.Keys.{has_key}
 use Rattle.step_record.specs.declared.job.Job.{Job}
 use Rattle.step_record.specs.declared.job.Policy.{Policy}
 use Rattle.step_record.specs.declared.job.Policy.TheVariants.{Lru, Fifo, Clock}
 use Rattle.policies.specs.AnyPolicy.{stats_on}
+use Rattle.policies.specs.Design.{knows_trace}
 use Rattle.optimality.specs.Strategy.{IsStrategy, strategy_misses}
 use Rattle.conservative_laws.specs.Conservative.{misses_on, IsConservative, FillsFirst}
 
@@ -80,7 +82,8 @@ pub record IsWorstFor (j : Job) (h n : ℕ) (trace : List ℕ) (residents : ℕ 
   pub few : (j.config.capacity + 1) * strategy_misses trace residents (length trace)
       ≤ (j.config.capacity + 1 - h) * (stats_on j trace).misses + (j.config.capacity + 1) * (j.config.capacity + 1)
 
--- The factor is exact: there are such traces for every n, so no smaller one is a bound.
-abbrev pub LruFifoClockBoundIsTight : Type 0
-LruFifoClockBoundIsTight = (j : Job) (h n : ℕ) → IsLruFifoOrClock j.policy → h ≤ j.config.capacity + 1
+-- The factor is exact, and no policy has a smaller one but that which knows the trace: there are such traces for every
+-- n. (After Sleator and Tarjan 1985.)
+abbrev pub NoFactorIsSmaller : Type 0
+NoFactorIsSmaller = (j : Job) (h n : ℕ) → knows_trace j.policy ≡ false → h ≤ j.config.capacity + 1
     → (trace : List ℕ) × (residents : ℕ → List ℕ) × IsWorstFor j h n trace residents

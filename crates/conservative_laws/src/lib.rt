@@ -1,5 +1,5 @@
 //! Lru, FIFO and CLOCK are conservative, so they compete with every strategy: their misses are within a factor of those
-//! of any strategy, which may know the whole trace. The factor is exact for all three.
+//! of any strategy, which may know the whole trace. No policy that does not know the trace has a smaller factor.
 #![tactic(auto)]
 
 pub mod theorems;

@@ -6,7 +6,7 @@ ghost use Rattle.conservative_laws.specs.Theorems.{ConservativeCompetes, Conserv
 ghost use Rattle.conservative_laws.specs.Theorems.{FillingCompetes, FillingCompetesWithoutBypass};
 ghost use Rattle.conservative_laws.specs.Theorems.{LruFifoClockAreConservative, LruFifoClockCompete};
 ghost use Rattle.conservative_laws.specs.Theorems.{LruFifoClockCompeteWithoutBypass, LruFifoClockCompeteWithAny};
-ghost use Rattle.conservative_laws.specs.Theorems.{LruFifoClockTwiceAsLarge, LruFifoClockBoundIsTight};
+ghost use Rattle.conservative_laws.specs.Theorems.{LruFifoClockTwiceAsLarge, NoFactorIsSmaller};
 
 /// A conservative cache of capacity c has at most (c + 1) / (c + 1 - h) times the misses of any strategy of capacity h,
 /// which may bypass the cache, and c more. (After Sleator and Tarjan 1985; Young 1994 for conservative.)
@@ -76,13 +76,13 @@ pub fn lru_fifo_clock_compete_with_any()
     demand_cache::theorems::demand_keeps();
 }
 
-/// The factor of that bound is exact: on some traces, however long, a strategy does as well as it allows.
-pub fn lru_fifo_clock_bound_is_tight()
-    ensures { LruFifoClockBoundIsTight }
+/// The factor of that bound is exact, and no policy has a smaller one but that which knows the trace: on some traces,
+/// however long, a strategy does as well as it allows. (After Sleator and Tarjan 1985.)
+pub fn no_factor_is_smaller()
+    ensures { NoFactorIsSmaller }
 {
-    policies::theorems::lru_step_law();
-    policies::theorems::fifo_step_law();
     policies::theorems::any_covers_trace();
+    demand_cache::theorems::demand_keeps();
 }
 
 /// FIFO and CLOCK can miss more often in a larger cache. (Belady's anomaly: Belady, Nelson and Shedler 1969.)
