@@ -129,6 +129,7 @@ def progress(check):
     calls = [
         (longer, ["run", *cache, *two], {"is_counted": False, "most_batches": 2 * -(-len(rows) // 1024)}),
         (longer, ["sweep", "--policy", two[0], "--policy", two[1], 50, 60], {}),
+        (longer, ["intervals", *cache, "--every", 100000, *two], {}),
         (longer, ["part", *cache, "--first", "wtinylfu", "--second", "wtinylfu"], {}),
         (driven, ["drive", *alone, 2**24], {}),
         (driven, ["drive", *alone, 1000], {"fault": "fault: JournalFull\n"}),

@@ -22,7 +22,7 @@ use streams::{CountedRead, CountedWrite};
 use trace_read::read_trace;
 
 /// Does what the arguments ask for, over an input and an output. `debug` and `replay` read a file too; `run`, `sweep`,
-/// `part` and `drive` are watched.
+/// `intervals`, `part` and `drive` are watched.
 pub fn perform<T: Threads + Wait + Sync, R: CountedRead, W: CountedWrite, F: Files, P: Watch>(
     rt: &T,
     alloc: Global,
@@ -50,7 +50,7 @@ pub fn perform<T: Threads + Wait + Sync, R: CountedRead, W: CountedWrite, F: Fil
         }
         Arguments::Intervals(arguments) => {
             let trace = read_trace(alloc, input, arguments.format)?;
-            write_text(intervals(rt, alloc, arguments, &trace), out)
+            write_text(intervals(rt, alloc, arguments, &trace, watch), out)
         }
         Arguments::Part(arguments) => {
             let trace = read_trace(alloc, input, arguments.format)?;

@@ -21,7 +21,7 @@ use report::{intervals_text, reports_text};
 use std::alloc::{AllocError, Global};
 use std::sync::Wait;
 use std::thread::Threads;
-use step_record::{Config, Job, Trace};
+use step_record::{Config, Job, MAX_BATCH, Trace};
 use streams::CountedRead;
 use sweeps::{sweep_batches, sweep_each};
 use trace_read::read_trace;
@@ -80,11 +80,12 @@ pub fn sweep<T: Threads + Sync, P: Watch>(
 
 /// The rows of the policies that the arguments name, one for each interval, as text: all of the first policy, then
 /// those of the second, and so on.
-pub fn intervals<T: Threads + Sync>(
+pub fn intervals<T: Threads + Sync, P: Watch>(
     rt: &T,
     alloc: Global,
     arguments: &IntervalsArguments,
     trace: &Trace,
+    watch: &P,
 ) -> Result<Vec<u8>, Fault>
     requires { AreAcceptedIntervals arguments.now }
     ensures text { IfOk result (λ text. IsText (Intervals arguments.now) trace.now text.items) }
@@ -92,7 +93,10 @@ pub fn intervals<T: Threads + Sync>(
 {
     let jobs = few_jobs(alloc, arguments.config, &arguments.policies)?;
     let every = arguments.every as usize;
-    let rows = sweeps::intervals(rt, alloc, trace, jobs.as_slice(), every);
+    let batches = interval_batches(trace.len(), every).saturating_mul(jobs.len());
+    watch.begin("intervals", Some(batches as u64));
+    let rows = sweeps::intervals(rt, alloc, trace, jobs.as_slice(), every, watch);
+    watch.end();
     Ok(intervals_text(alloc, accepted(rows)?.as_slice())?)
 }
 
@@ -162,6 +166,15 @@ fn compare_intervals(
     let mut text = Vec::new(alloc);
     push_compared_intervals(&mut text, first, second, rows.as_slice())?;
     Ok(text)
+}
+
+// How many batches of `MAX_BATCH` accesses there are, where each interval of a trace begins with a new one.
+fn interval_batches(accesses: usize, every: usize) -> usize
+    requires { 1 ≤ every }
+{
+    let size = MAX_BATCH as usize;
+    let whole = (accesses / every).saturating_mul(every.div_ceil(size));
+    whole.saturating_add((accesses % every).div_ceil(size))
 }
 
 // A job for each policy, in order, all on one configuration. The one error is out of memory.

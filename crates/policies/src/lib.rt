@@ -42,5 +42,5 @@ pub use report::{Interval, Report};
 pub use same::{clone_of_report, clone_of_stats, is_same_report, is_same_stats};
 pub use segmented_lru::{SegmentedLru, SegmentedLruMark};
 pub use tiny_lfu::{TinyLfu, TinyLfuMark};
-pub use trace_run::{access_all, report_over};
+pub use trace_run::{access_all, access_in_batches, report_over};
 pub use window_tiny_lfu::{WindowTinyLfu, WindowTinyLfuMark};

@@ -57,17 +57,8 @@ pub fn access_all(cache: &mut AnyPolicy, keys: &[Key]) -> Result<(), AllocError>
     Ok(())
 }
 
-/// The report of a cache that ran its job over the whole trace, and is of no more use.
-pub(crate) fn report_by(cache: AnyPolicy, job: &Job) -> Report
-    ensures { (trace : List ℕ) → HasAccessed job.now trace trace cache → result ≡ report_on job.now trace }
-{
-    theorems::any_reports();
-    Report::of(job, cache.stats())
-}
-
-// The accesses in turn, in batches of `MAX_BATCH`, with the gate called before and after each, as worker 0, with the
-// batch's number.
-fn access_in_batches<G: Gate>(
+/// The same, in batches of `MAX_BATCH`. The gate is called before and after each, as worker 0, with the batch's number.
+pub fn access_in_batches<G: Gate>(
     cache: &mut AnyPolicy,
     keys: &[Key],
     gate: &G,
@@ -86,6 +77,14 @@ fn access_in_batches<G: Gate>(
         rest = later;
     }
     Ok(())
+}
+
+/// The report of a cache that ran its job over the whole trace, and is of no more use.
+pub(crate) fn report_by(cache: AnyPolicy, job: &Job) -> Report
+    ensures { (trace : List ℕ) → HasAccessed job.now trace trace cache → result ≡ report_on job.now trace }
+{
+    theorems::any_reports();
+    Report::of(job, cache.stats())
 }
 
 // An empty cache for the job over the trace.

@@ -8,20 +8,22 @@ use policies::{ActorFault, Interval, MAX_ACTORS, check_jobs};
 use rayon::prelude::*;
 use std::alloc::{AllocError, Global};
 use std::thread::Threads;
-use step_record::{Job, Trace};
+use step_record::{Gate, Job, Trace};
 
 /// The rows of each job over the trace, cut into intervals of `every` accesses, of which the last may be shorter: all
 /// rows of the first job, in order, then those of the second, and so on. `rayon` runs the jobs side by side where there
-/// are threads.
+/// are threads. The gate is called before and after each batch of an interval, of `MAX_BATCH` accesses where there are so
+/// many, on the thread that makes them, as worker 0, with the batch's number in the interval.
 ///
 /// Errors: `Actors` for more than `MAX_ACTORS` jobs, `Config` with the index of the first job whose configuration
 /// `Config::check` refuses, and `OutOfMemory`.
-pub fn intervals<R: Threads + Sync>(
+pub fn intervals<R: Threads + Sync, G: Gate>(
     rt: &R,
     alloc: Global,
     trace: &Trace,
     jobs: &[Job],
     every: usize,
+    gate: &G,
 ) -> Result<Vec<Interval>, ActorFault>
     requires { 1 ≤ every }
     ensures rows { IfOk result (λ rows. rows.items ≡ flat_map (λ j. intervals_on j every trace.now) jobs.now) }
@@ -32,30 +34,32 @@ pub fn intervals<R: Threads + Sync>(
     }
     check_jobs(jobs)?;
     let cut = CutTrace::new(trace, every);
-    let rows = rows(rt, alloc, &cut, jobs)?;
+    let rows = rows(rt, alloc, &cut, jobs, gate)?;
     Ok(rows)
 }
 
 // The rows of jobs that were checked before, so that out of memory is the one error.
-fn rows<R: Threads + Sync>(
+fn rows<R: Threads + Sync, G: Gate>(
     rt: &R,
     alloc: Global,
     cut: &CutTrace<'_>,
     jobs: &[Job],
+    gate: &G,
 ) -> Result<Vec<Interval>, AllocError>
     ensures { IfOk result (λ rows.
         rows.items ≡ flat_map (λ j. intervals_on j cut.now.every cut.now.trace.now) jobs.now) }
 {
-    let lists = rows_of_each(rt, alloc, cut, jobs)?;
+    let lists = rows_of_each(rt, alloc, cut, jobs, gate)?;
     joined(alloc, lists.as_slice())
 }
 
 // The rows of each of the jobs, side by side.
-fn rows_of_each<R: Threads + Sync>(
+fn rows_of_each<R: Threads + Sync, G: Gate>(
     rt: &R,
     alloc: Global,
     cut: &CutTrace<'_>,
     jobs: &[Job],
+    gate: &G,
 ) -> Result<Vec<Vec<Interval>>, AllocError>
     ensures { IfOk result (λ lists. map (λ rows. rows.items) lists.items
         ≡ map (λ j. intervals_on j cut.now.every cut.now.trace.now) jobs.now) }
@@ -67,7 +71,7 @@ fn rows_of_each<R: Threads + Sync>(
                 ensures { IfOk result (λ rows. rows.items
                     ≡ intervals_on job.now cut.entry.now.every cut.entry.now.trace.now) }
             {
-                match intervals_of(alloc, cut, job) {
+                match intervals_of(alloc, cut, job, gate) {
                     Ok(rows) => Ok(rows),
                     Err(_) => Err(AllocError),
                 }

@@ -5,9 +5,9 @@ ghost use Rattle.policies.specs.AnyPolicy.{HasAccessed};
 ghost use Rattle.policies.specs.FaultyJobs.{faulty_in, ReturnsFault};
 ghost use Rattle.sweeps.specs.Intervals.{between, intervals_on, IsLater};
 
-use policies::{ActorFault, AnyPolicy, Interval, Report, access_all};
+use policies::{ActorFault, AnyPolicy, Interval, Report, access_in_batches};
 use std::alloc::{AllocError, Global};
-use step_record::{Job, Stats, Trace};
+use step_record::{Gate, Job, Stats, Trace};
 
 // A trace, cut into intervals of `every` accesses.
 #[derive(Drop)]
@@ -28,13 +28,14 @@ impl<'a> CutTrace<'a> {
     }
 }
 
-// A row for each interval, in order, of the job over the whole trace.
+// A row for each interval, in order, of the job over the whole trace. The gate is called around each batch.
 //
 // Errors: `Config` with index 0 exactly where `Config::check` refuses the job's configuration, and `OutOfMemory`.
-pub(crate) fn intervals_of(
+pub(crate) fn intervals_of<G: Gate>(
     alloc: Global,
     cut: &CutTrace<'_>,
     job: &Job,
+    gate: &G,
 ) -> Result<Vec<Interval>, ActorFault>
     ensures rows { IfOk result (λ rows. rows.items ≡ intervals_on job.now cut.now.every cut.now.trace.now) }
     ensures fault { ReturnsFault (faulty_in (job.now ∷ [])) result }
@@ -42,25 +43,31 @@ pub(crate) fn intervals_of(
     if job.config.check().is_err() {
         return Err(ActorFault::Config { index: 0 });
     }
-    let rows = open_and_walk(alloc, cut, job)?;
+    let rows = open_and_walk(alloc, cut, job, gate)?;
     Ok(rows)
 }
 
 // The same of a job whose configuration `Config::check` accepts. The one error is out of memory.
-fn open_and_walk(alloc: Global, cut: &CutTrace<'_>, job: &Job) -> Result<Vec<Interval>, AllocError>
+fn open_and_walk<G: Gate>(
+    alloc: Global,
+    cut: &CutTrace<'_>,
+    job: &Job,
+    gate: &G,
+) -> Result<Vec<Interval>, AllocError>
     requires { config_fault job.now.config ≡ Ok tt }
     ensures { IfOk result (λ rows. rows.items ≡ intervals_on job.now cut.now.every cut.now.trace.now) }
 {
     let mut cache = AnyPolicy::open(alloc, job, cut.trace)?;
-    walk(alloc, cut, job, &mut cache)
+    walk(alloc, cut, job, &mut cache, gate)
 }
 
 // The same by an empty cache of the job, one interval at a time: a row is the difference of the counts before and after.
-fn walk(
+fn walk<G: Gate>(
     alloc: Global,
     cut: &CutTrace<'_>,
     job: &Job,
     cache: &mut AnyPolicy,
+    gate: &G,
 ) -> Result<Vec<Interval>, AllocError>
     requires { HasAccessed job.now cut.now.trace.now [] cache.old }
     ensures { IfOk result (λ rows. rows.items ≡ intervals_on job.now cut.now.every cut.now.trace.now) }
@@ -71,7 +78,7 @@ fn walk(
     for _number in 0..cut.trace.len().div_ceil(every) {
         let (piece, later) = rest.split_at(every.min(rest.len()));
         let before = cache.stats();
-        access_all(cache, piece)?;
+        access_in_batches(cache, piece, gate)?;
         let after = cache.stats();
         rows.push(between(job, &before, &after))?;
         rest = later;
