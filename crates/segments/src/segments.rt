@@ -1,14 +1,15 @@
-//! The queues, in linked slots.
+//! The queues, over a table of queues by number.
 ghost use Rattle.std.specs.Prelude.{◌≡◌, ◌↔◌, ◌+◌, ◌≤◌, Ok, [], length, Option, Some, None, MatchOption};
 ghost use Rattle.std.specs.Prelude.{IfOk, OnOk, IfSome, IfNone};
+ghost use Rattle.queue_table.specs.Entries.{entry};
 ghost use Rattle.segments.specs.Items.{oldest_of};
 ghost use Rattle.segments.specs.Queues.{empty_queues, queue_of, queue_holding, IsDistinct, queues_after_push, queues_without, queues_after_move, queues_after_pop};
 ghost use Rattle.segments.specs.Queues.{queue_after_access, total_items};
 ghost use Rattle.segments.specs.Moves.{move_record, queues_before_move, FitsMove, room_needed};
 
-use crate::links::slot_behind;
+use crate::names::{name, number, queue_place, table_place};
 use crate::records::{MoveRecord, Queue};
-use crate::slot_table::SlotTable;
+use queue_table::{Entry, QueueTable};
 use std::alloc::{AllocError, Global};
 use std::marker::Model;
 use step_record::{Item, Key, Node};
@@ -17,29 +18,40 @@ use step_record::{Item, Key, Node};
 #[derive(Drop)]
 pub struct Segments {
     alloc: Global,
-    table: SlotTable,
+    table: QueueTable,
     /// A sum over what `prefetch` read, kept so that the compiler cannot drop the reads.
     prefetched: u64,
 }
 
 impl Model for Segments {
+    ghost use Rattle.queue_table.specs.QueueTable.{queues, spare};
     ghost use Rattle.segments.specs.Queues.{Shown};
-    ghost use Rattle.segments.specs.SlotTable.{shown_of};
+    ghost use Rattle.segments.specs.Names.{shown_of, IsNamed};
 
     ghost Value = { Shown };
 
-    ghost view = { λ s. shown_of s.table };
+    ghost view = { λ s. shown_of (queues s.table) (spare s.table) };
+
+    ghost invariant = { λ s. IsNamed (queues s.table) };
 }
 
 // The queue to which an item goes on a hit where it stands.
 #[inline(always)]
-fn refreshed(queue: Queue) -> Queue
+fn queue_after_hit(queue: Queue) -> Queue
     ensures { result ≡ queue_after_access queue }
 {
     match queue {
         Queue::Window => Queue::Window,
         Queue::Probation | Queue::Protected => Queue::Protected,
     }
+}
+
+// The entry for an item. The count beside it is not used.
+#[inline(always)]
+fn entry_for(item: Item) -> Entry
+    ensures { result ≡ entry item 0 }
+{
+    Entry { item, count: 0 }
 }
 
 impl Segments {
@@ -59,7 +71,7 @@ impl Segments {
     {
         Segments {
             alloc,
-            table: SlotTable::for_items(alloc, items),
+            table: QueueTable::for_items(alloc, items),
             prefetched: 0,
         }
     }
@@ -103,7 +115,7 @@ impl Segments {
         ensures undone { queues_before_move result self.new.lists ≡ self.old.lists }
         ensures spare { self.old.spare ≤ self.new.spare + 1 }
     {
-        self.table.insert(item, queue, slot_behind(queue));
+        self.table.push(number(queue), entry_for(item));
         MoveRecord {
             item,
             from: None,
@@ -122,13 +134,13 @@ impl Segments {
         ensures undone { IfSome result (λ r. queues_before_move r self.new.lists ≡ self.old.lists) }
         ensures spare { self.old.spare ≤ self.new.spare }
     {
-        let Some(at) = self.table.find_slot(item) else {
+        let Some(found) = self.table.find(item) else {
             return None;
         };
-        let place = self.table.shift(at, queue, slot_behind(queue));
+        let place = self.table.send(found.at, number(queue), 0);
         Some(MoveRecord {
             item,
-            from: Some(place),
+            from: Some(queue_place(place)),
             to: Some(queue),
         })
     }
@@ -149,14 +161,15 @@ impl Segments {
         // Of every `Segments`: no item stands twice.
         ensures distinct { IsDistinct self.old.lists }
     {
-        let Some((at, from)) = self.table.find(item) else {
+        let Some(found) = self.table.find(item) else {
             return None;
         };
-        let to = refreshed(from);
-        let place = self.table.shift(at, to, slot_behind(to));
+        let from = name(found.queue);
+        let to = queue_after_hit(from);
+        let place = self.table.send(found.at, number(to), 0);
         let record = MoveRecord {
             item,
-            from: Some(place),
+            from: Some(queue_place(place)),
             to: Some(to),
         };
         Some((from, record))
@@ -175,16 +188,17 @@ impl Segments {
         ensures spare { self.old.spare ≤ self.new.spare }
         ensures gained { IfSome result (λ _. self.old.spare + 1 ≤ self.new.spare) }
     {
-        let Some((at, item)) = self.table.oldest(queue) else {
+        self.table.distinct();
+        let Some((at, oldest)) = self.table.oldest(number(queue)) else {
             return None;
         };
         let place = self.table.remove(at);
         let record = MoveRecord {
-            item,
-            from: Some(place),
+            item: oldest.item,
+            from: Some(queue_place(place)),
             to: None,
         };
-        Some((item, record))
+        Some((oldest.item, record))
     }
 
     /// Takes the oldest item of the queue out, and puts one that stands in no queue at its recent end. Returns the
@@ -205,13 +219,14 @@ impl Segments {
             ≡ self.old.lists) }
         ensures spare { self.old.spare ≤ self.new.spare }
     {
-        let Some((at, oldest)) = self.table.oldest(queue) else {
+        self.table.distinct();
+        let Some((at, oldest)) = self.table.oldest(number(queue)) else {
             return None;
         };
-        let place = self.table.renew(at, queue, item);
+        let place = self.table.renew(at, number(queue), entry_for(item));
         let out = MoveRecord {
-            item: oldest,
-            from: Some(place),
+            item: oldest.item,
+            from: Some(queue_place(place)),
             to: None,
         };
         let put = MoveRecord {
@@ -227,8 +242,8 @@ impl Segments {
     pub fn oldest(&self, queue: Queue) -> Option<Item>
         ensures { result ≡ oldest_of (queue_of queue self.now.lists) }
     {
-        let (_, item) = self.table.oldest(queue)?;
-        Some(item)
+        let (_, oldest) = self.table.oldest(number(queue))?;
+        Some(oldest.item)
     }
 
     /// Moves the oldest item of a queue to the recent end of a queue. `None`, and nothing moved, if the first queue is
@@ -244,13 +259,14 @@ impl Segments {
         ensures undone { IfSome result (λ r. queues_before_move r self.new.lists ≡ self.old.lists) }
         ensures spare { self.old.spare ≤ self.new.spare }
     {
-        let Some((at, item)) = self.table.oldest(from) else {
+        self.table.distinct();
+        let Some((at, oldest)) = self.table.oldest(number(from)) else {
             return None;
         };
-        let place = self.table.shift(at, to, slot_behind(to));
+        let place = self.table.send(at, number(to), 0);
         Some(MoveRecord {
-            item,
-            from: Some(place),
+            item: oldest.item,
+            from: Some(queue_place(place)),
             to: Some(to),
         })
     }
@@ -266,11 +282,11 @@ impl Segments {
         ensures spare { self.old.spare ≤ self.new.spare }
         ensures gained { IfSome result (λ _. self.old.spare + 1 ≤ self.new.spare) }
     {
-        let at = self.table.find_slot(item)?;
-        let from = self.table.remove(at);
+        let found = self.table.find(item)?;
+        let place = self.table.remove(found.at);
         Some(MoveRecord {
             item,
-            from: Some(from),
+            from: Some(queue_place(place)),
             to: None,
         })
     }
@@ -287,9 +303,10 @@ impl Segments {
             let _ = self.take_out(done.item);
             return;
         };
-        match self.table.find_slot(done.item) {
-            Some(at) => self.table.shift_to(at, place),
-            None => self.table.insert_at(done.item, place),
+        let place = table_place(place);
+        match self.table.find(done.item) {
+            Some(found) => self.table.send_to(found.at, place, 0),
+            None => self.table.insert(place, entry_for(done.item)),
         }
     }
 
@@ -297,7 +314,7 @@ impl Segments {
     pub fn list(&self, alloc: Global, queue: Queue) -> Result<Vec<Item>, AllocError>
         ensures { IfOk result (λ items. items.items ≡ queue_of queue self.now.lists) }
     {
-        self.table.list(alloc, queue)
+        self.table.list(alloc, number(queue))
     }
 
     /// How many items stand in the queue.
@@ -305,7 +322,7 @@ impl Segments {
     pub fn len(&self, queue: Queue) -> usize
         ensures { result ≡ length (queue_of queue self.now.lists) }
     {
-        self.table.len(queue)
+        self.table.len(number(queue))
     }
 
     /// How many items stand in the queues.
@@ -322,7 +339,7 @@ impl Segments {
         // Of every `Segments`: no item stands twice.
         ensures distinct { IsDistinct self.now.lists }
     {
-        let (_, queue) = self.table.find(item)?;
-        Some(queue)
+        let found = self.table.find(item)?;
+        Some(name(found.queue))
     }
 }

@@ -1,34 +1,26 @@
-use Rattle.std.proofs.Common.{◌≡◌, ◌∙◌, ap}
-use Rattle.step_record.specs.declared.item.Item.{Item}
-use Rattle.segments.specs.Queues.{Shown, queues_after_pop, queues_without}
-use Rattle.segments.specs.Ring.{lists}
-use Rattle.segments.specs.SlotTable.{place_at}
-use Rattle.segments.proofs.CallLaws.{out_led}
-use Rattle.segments.proofs.QueueLists.{taken-first}
+use Rattle.std.proofs.Common.{None, Some}
+use Rattle.queue_table.specs.QueueTable.{queues}
+use Rattle.segments.specs.Queues.{queues_after_pop}
+use Rattle.segments.proofs.Calls.{IsMade, popped}
 use Rattle.segments.proofs.segments.Segments.pop_oldest.Goals as goal
+use Rattle.segments.proofs.segments.Segments.pop_oldest.Goals.{After-queue_place}
+
+made : (c : goal.After-queue_place) → IsMade record { item = c.in-Some.oldest.item; from = Some c.queue_place.result; to = None } (queues_after_pop c.args.queue c.args.self.now.lists) c.args.self.now.lists (queues c.remove-place.new.self)
+made c =
+    popped _ _ _ c.self.view_is c.self.invariant c.distinct.ensures _ _ _ _ c.in-Some.ensures.entry c.remove-place.ensures.place c.queue_place.ensures _
+    c.args.queue _ c.number.ensures.number c.in-Some.ensures.first c.remove-place.ensures.queues
+
+pub invariant_of-self : goal.invariant_of-self
+invariant_of-self c = (made (goal.at.invariant_of-self c).After-queue_place).kept
 
 pub returns-clause-lists : goal.returns-clause-lists
-returns-clause-lists c =
-    let t = c.in-Some.ensures.there in
-    let from = c.remove-place.ensures.place ∙ ap (λ (i : Item). place_at i (lists c.self.inside.table)) t.item in
-    let to = c.remove-place.ensures.lists ∙ ap (λ (i : Item). queues_without i (lists c.self.inside.table)) t.item in
-    let m = out_led c.in-Some.item (lists c.self.inside.table) (lists c.remove-place.new.self) t.queued.distinct c.remove-place.result from to in
-    let v : lists c.self.inside.table ≡ c.args.self.now.lists = ap (λ (s : Shown). s.lists) c.self.view_is in
-    to ∙ (taken-first c.args.queue c.in-Some.item (lists c.self.inside.table) t.queued.distinct c.in-Some.ensures.first ∙ ap (queues_after_pop c.args.queue) v)
+returns-clause-lists c = (made (goal.at.returns-clause-lists c).After-queue_place).lists
+
+pub returns-clause-record : goal.returns-clause-record
+returns-clause-record c = (made (goal.at.returns-clause-record c).After-queue_place).record_is
 
 pub returns-clause-fits : goal.returns-clause-fits
-returns-clause-fits c =
-    let t = c.in-Some.ensures.there in
-    let from = c.remove-place.ensures.place ∙ ap (λ (i : Item). place_at i (lists c.self.inside.table)) t.item in
-    let to = c.remove-place.ensures.lists ∙ ap (λ (i : Item). queues_without i (lists c.self.inside.table)) t.item in
-    let m = out_led c.in-Some.item (lists c.self.inside.table) (lists c.remove-place.new.self) t.queued.distinct c.remove-place.result from to in
-    m.fits
+returns-clause-fits c = (made (goal.at.returns-clause-fits c).After-queue_place).fits
 
 pub returns-clause-undone : goal.returns-clause-undone
-returns-clause-undone c =
-    let t = c.in-Some.ensures.there in
-    let from = c.remove-place.ensures.place ∙ ap (λ (i : Item). place_at i (lists c.self.inside.table)) t.item in
-    let to = c.remove-place.ensures.lists ∙ ap (λ (i : Item). queues_without i (lists c.self.inside.table)) t.item in
-    let m = out_led c.in-Some.item (lists c.self.inside.table) (lists c.remove-place.new.self) t.queued.distinct c.remove-place.result from to in
-    let v : lists c.self.inside.table ≡ c.args.self.now.lists = ap (λ (s : Shown). s.lists) c.self.view_is in
-    m.back ∙ v
+returns-clause-undone c = (made (goal.at.returns-clause-undone c).After-queue_place).back

@@ -1,18 +1,24 @@
-use Rattle.std.proofs.Common.{◌≡◌, ◌∙◌, None, ap}
-use Rattle.segments.specs.Queues.{Shown, queue_holding}
-use Rattle.segments.specs.Ring.{lists}
-use Rattle.segments.proofs.CallLaws.{push_led}
+use Rattle.std.proofs.Common.{None, Some}
+use Rattle.queue_table.specs.QueueTable.{queues}
+use Rattle.segments.specs.Queues.{queues_after_push}
+use Rattle.segments.proofs.Calls.{IsMade, absent-below, pushed}
 use Rattle.segments.proofs.segments.Segments.push_recent.Goals as goal
+use Rattle.segments.proofs.segments.Segments.push_recent.Goals.{After-push}
+
+made : (c : goal.After-push) → IsMade record { item = c.args.item; from = None; to = Some c.args.queue } (queues_after_push c.args.queue c.args.item c.args.self.now.lists) c.args.self.now.lists (queues c.push.new.self)
+made c = pushed _ _ _ c.self.view_is c.self.invariant c.push.ensures.distinct c.args.queue c.args.item _ _ _ c.entry_for.ensures c.number.ensures.number c.requires.absent c.push.ensures.queues
+
+pub push-requires-clause-absent : goal.push-requires-clause-absent
+push-requires-clause-absent c = absent-below _ _ _ c.self.view_is c.self.invariant c.args.item _ c.entry_for.ensures c.requires.absent
+
+pub invariant_of-self : goal.invariant_of-self
+invariant_of-self c = (made (goal.at.invariant_of-self c).After-push).kept
+
+pub returns-clause-lists : goal.returns-clause-lists
+returns-clause-lists c = (made (goal.at.returns-clause-lists c).After-push).lists
 
 pub returns-clause-fits : goal.returns-clause-fits
-returns-clause-fits c =
-    let absent : queue_holding c.args.item (lists c.self.inside.table) ≡ None = rw (← c.self.view_is) at c.requires.absent in
-    let p = push_led c.args.item (lists c.self.inside.table) (lists c.insert.new.self) c.insert.ensures.distinct c.args.queue absent (c.insert.ensures.recent c.slot_behind.ensures) in
-    p.fits
+returns-clause-fits c = (made (goal.at.returns-clause-fits c).After-push).fits
 
 pub returns-clause-undone : goal.returns-clause-undone
-returns-clause-undone c =
-    let absent : queue_holding c.args.item (lists c.self.inside.table) ≡ None = rw (← c.self.view_is) at c.requires.absent in
-    let p = push_led c.args.item (lists c.self.inside.table) (lists c.insert.new.self) c.insert.ensures.distinct c.args.queue absent (c.insert.ensures.recent c.slot_behind.ensures) in
-    let v : lists c.self.inside.table ≡ c.args.self.now.lists = ap (λ (s : Shown). s.lists) c.self.view_is in
-    p.back ∙ v
+returns-clause-undone c = (made (goal.at.returns-clause-undone c).After-push).back

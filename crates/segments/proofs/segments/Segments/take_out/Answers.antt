@@ -1,30 +1,41 @@
-use Rattle.std.proofs.Common.{◌≡◌, ◌∙◌, ap, sym, subst, None}
-use Rattle.step_record.specs.declared.item.Item.{Item}
-use Rattle.segments.specs.Queues.{Queues, Shown, queues_without, queue_holding}
-use Rattle.segments.specs.Ring.{lists}
-use Rattle.segments.specs.SlotTable.{place_at}
-use Rattle.segments.proofs.CallLaws.{out_led, taken-unplaced}
+use Rattle.std.proofs.Common.{rules, None, Some, sym}
+use Rattle.queue_table.specs.QueueTable.{queues}
+use Rattle.segments.specs.Queues.{queues_without}
+use Rattle.segments.proofs.CallLaws.{taken-unplaced}
+use Rattle.segments.proofs.Calls.{IsMade, holding-is, missing-is, taken}
 use Rattle.segments.proofs.segments.Segments.take_out.Goals as goal
+use Rattle.segments.proofs.segments.Segments.take_out.Goals.{After-queue_place}
 
-pub returns-in_err-at-clause-lists : goal.returns-in_err-at-clause-lists
-returns-in_err-at-clause-lists c =
-    let v : lists c.self.inside.table ≡ c.args.self.now.lists = ap (λ (s : Shown). s.lists) c.self.view_is in
-    let n : queue_holding c.args.item c.args.self.now.lists ≡ None = subst (λ (s : Queues). queue_holding c.args.item s ≡ None) v c.in_err-at.ensures.missing in
-    sym (taken-unplaced c.args.item c.args.self.now.lists n)
+made : (c : goal.After-queue_place) → IsMade record { item = c.args.item; from = Some c.queue_place.result; to = None } (queues_without c.args.item c.args.self.now.lists) c.args.self.now.lists (queues c.remove-place.new.self)
+made c =
+    taken _ _ _ c.self.view_is c.self.invariant c.find.ensures.distinct _ _ _ _ c.in_ok-found.ensures.entry c.remove-place.ensures.place c.queue_place.ensures _
+    c.remove-place.ensures.queues
+
+pub invariant_of-self : goal.invariant_of-self
+invariant_of-self c = (made (goal.at.invariant_of-self c).After-queue_place).kept
+
+pub returns-in_err-found-clause-absent : goal.returns-in_err-found-clause-absent
+returns-in_err-found-clause-absent c =
+    let none = missing-is _ _ _ c.self.view_is c.self.invariant c.find.ensures.distinct c.args.item c.in_err-found.ensures.missing in
+    search rules
+
+pub returns-in_err-found-clause-lists : goal.returns-in_err-found-clause-lists
+returns-in_err-found-clause-lists c =
+    sym (taken-unplaced c.args.item c.args.self.now.lists (missing-is _ _ _ c.self.view_is c.self.invariant c.find.ensures.distinct c.args.item c.in_err-found.ensures.missing))
+
+pub returns-clause-absent : goal.returns-clause-absent
+returns-clause-absent c =
+    let some = holding-is _ _ _ c.self.view_is c.self.invariant c.find.ensures.distinct c.args.item _ c.in_ok-found.ensures.queue in
+    search rules
+
+pub returns-clause-lists : goal.returns-clause-lists
+returns-clause-lists c = (made (goal.at.returns-clause-lists c).After-queue_place).lists
+
+pub returns-clause-record : goal.returns-clause-record
+returns-clause-record c = (made (goal.at.returns-clause-record c).After-queue_place).record_is
 
 pub returns-clause-fits : goal.returns-clause-fits
-returns-clause-fits c =
-    let t = c.in_ok-at.ensures.there in
-    let from = c.remove-from.ensures.place ∙ ap (λ (i : Item). place_at i (lists c.self.inside.table)) t.item in
-    let to = c.remove-from.ensures.lists ∙ ap (λ (i : Item). queues_without i (lists c.self.inside.table)) t.item in
-    let m = out_led c.args.item (lists c.self.inside.table) (lists c.remove-from.new.self) t.queued.distinct c.remove-from.result from to in
-    m.fits
+returns-clause-fits c = (made (goal.at.returns-clause-fits c).After-queue_place).fits
 
 pub returns-clause-undone : goal.returns-clause-undone
-returns-clause-undone c =
-    let t = c.in_ok-at.ensures.there in
-    let from = c.remove-from.ensures.place ∙ ap (λ (i : Item). place_at i (lists c.self.inside.table)) t.item in
-    let to = c.remove-from.ensures.lists ∙ ap (λ (i : Item). queues_without i (lists c.self.inside.table)) t.item in
-    let m = out_led c.args.item (lists c.self.inside.table) (lists c.remove-from.new.self) t.queued.distinct c.remove-from.result from to in
-    let v : lists c.self.inside.table ≡ c.args.self.now.lists = ap (λ (s : Shown). s.lists) c.self.view_is in
-    m.back ∙ v
+returns-clause-undone c = (made (goal.at.returns-clause-undone c).After-queue_place).back

@@ -1,0 +1,288 @@
+-- The entries of slots.
+use Rattle.std.proofs.Common.{◌≡◌, ℕ, suc, zero, ◌+◌, ◌<◌, ◌≤◌, true, false, cond, eqb, nat_lt, Option, Some, None, List, [], ◌∷◌, ◌++◌, set, map, ap, ◌∙◌, sym, refl, subst, arith, inl, inr, get_or-set_other}
+use Rattle.std.proofs.Common.{append-nil, append_assoc}
+use Rattle.std.specs.List.{Contains}
+use Rattle.std.proofs.Math.Path.{fun_ext}
+use Rattle.std.proofs.lemmas.Bool.{cases_Bool, cases_eq, cases_lt, lt-ltb, le-ltb, ne_eqb, eq-eqb, eqb-true}
+use Rattle.step_record.specs.declared.item.Item.{Item}
+use Rattle.queue_table.specs.declared.records.Entry.{Entry}
+use Rattle.queue_table.specs.Entries.{is_same_item, occurrences, first_item, last_from, last_item, before, behind, IsGap, put_behind, entries_without}
+use Rattle.queue_table.specs.Queues.{QUEUES, Queues, with_queue, queue_holding, times_below, after_push, after_removal, after_return, IsDistinct}
+use Rattle.queue_table.proofs.EntryLists.{same-true, same-refl, times-append, put_behind-at}
+use Rattle.queue_table.proofs.QueueLists.{IsAbsent, is_absent, placed, queue-few, times-with}
+use Rattle.queue_table.specs.Ring.{slot_entry, slot_item, count, put_before, FIRST, Order, used, used_below, with_section, order_without, sent, lists_of, item_or, IsShort, IsNewer}
+use Rattle.step_record.specs.Keys.{keys_without}
+use Rattle.queue_table.proofs.Splices.{count-append, count-here, end_of, start_of}
+use Rattle.queue_table.proofs.Sections.{map-without, put-sentinel, without-none}
+use Rattle.queue_table.proofs.Orders.{put-end, section-in, section-used, short-without, with-other}
+
+pub map-append : (f : ℕ → Entry) (xs ys : List ℕ) → map f (xs ++ ys) ≡ map f xs ++ map f ys
+map-append f [] ys = refl
+map-append f (x ∷ xs) ys = ap (λ t. f x ∷ t) (map-append f xs ys)
+
+-- how often an item stands among the entries of slots
+
+pub times-map : (f : ℕ → Entry) (i : Item) (k : ℕ) (l : List ℕ) → is_same_item i (f k).item ≡ true → count k l ≤ occurrences i (map f l)
+times-map f i k [] h = omega arith
+times-map f i k (x ∷ l) h =
+    let r = times-map f i k l h in
+    elim (cases_Bool (eqb k x)) as (λ _. cond (eqb k x) 1 0 + count k l ≤ cond (is_same_item i (f x).item) 1 0 + occurrences i (map f l)) [
+      | inl e ↦ let s : is_same_item i (f x).item ≡ true = rw (← eqb-true k x e) h in rw (e, s) (omega (arith, r))
+      | inr e ↦ rw e (omega (arith, r))
+    ]
+
+pub times-two : (f : ℕ → Entry) (i : Item) (j k : ℕ) (l : List ℕ) → (j ≡ k → ⊥) → is_same_item i (f j).item ≡ true → is_same_item i (f k).item ≡ true → count j l + count k l ≤ occurrences i (map f l)
+times-two f i j k [] d g h = omega arith
+times-two f i j k (x ∷ l) d g h =
+    let r = times-two f i j k l d g h in
+    elim (cases_Bool (eqb j x)) as (λ _. cond (eqb j x) 1 0 + count j l + (cond (eqb k x) 1 0 + count k l) ≤ cond (is_same_item i (f x).item) 1 0 + occurrences i (map f l)) [
+      | inl e ↦
+          let s : is_same_item i (f x).item ≡ true = rw (← eqb-true j x e) g in
+          let n : eqb k x ≡ false = ne_eqb k x (λ z. d (eqb-true j x e ∙ sym z)) in
+          rw (e, s, n) (omega (arith, r))
+      | inr e ↦ elim (cases_Bool (eqb k x)) as (λ _. cond (eqb j x) 1 0 + count j l + (cond (eqb k x) 1 0 + count k l) ≤ cond (is_same_item i (f x).item) 1 0 + occurrences i (map f l)) [
+        | inl e2 ↦ let s : is_same_item i (f x).item ≡ true = rw (← eqb-true k x e2) h in rw (e, e2, s) (omega (arith, r))
+        | inr e2 ↦ rw (e, e2) (omega (arith, r))
+      ]
+    ]
+
+pub times-map-none : (f : ℕ → Entry) (i : Item) (l : List ℕ) → ((k : ℕ) → 1 ≤ count k l → is_same_item i (f k).item ≡ false) → occurrences i (map f l) ≡ 0
+times-map-none f i [] h = refl
+times-map-none f i (x ∷ l) h =
+    let e : is_same_item i (f x).item ≡ false = h x (let n = count-here x l in omega (arith, n)) in
+    let r = times-map-none f i l (λ k n. h k (omega arith)) in
+    rw e (omega (arith, r))
+
+pub map-same : (f g : ℕ → Entry) (l : List ℕ) → ((k : ℕ) → 1 ≤ count k l → f k ≡ g k) → map f l ≡ map g l
+map-same f g [] h = refl
+map-same f g (x ∷ l) h =
+    let e : f x ≡ g x = h x (let n = count-here x l in omega (arith, n)) in
+    rw e (ap (λ t. g x ∷ t) (map-same f g l (λ k n. h k (omega arith))))
+
+pub times-used : (i : Item) (o : Order) (es : List Entry) → occurrences i (map (λ k. slot_entry es k) (used o)) ≡ times_below QUEUES i (lists_of o es)
+times-used i o es = below QUEUES
+  where
+    below : (n : ℕ) → occurrences i (map (λ k. slot_entry es k) (used_below n o)) ≡ times_below n i (lists_of o es)
+    below zero = refl
+    below (suc n) =
+        let f : ℕ → Entry = λ k. slot_entry es k in
+        let a = ap (occurrences i) (map-append f (o (suc n)) (used_below n o)) in
+        let b = times-append i (map f (o (suc n))) (map f (used_below n o)) in
+        let r = below n in
+        omega (arith, a, b, r)
+
+-- two slots in use hold different items
+pub alone : (o : Order) (es : List Entry) (k j : ℕ) → IsDistinct (lists_of o es) → 1 ≤ count k (used o) → 1 ≤ count j (used o) → is_same_item (slot_item es k) (slot_item es j) ≡ eqb k j
+alone o es k j d a b =
+    elim (cases_eq k j) [
+      | inl e ↦ subst (λ x. is_same_item (slot_item es k) (slot_item es x) ≡ eqb k x) e (same-refl (slot_item es k) ∙ sym (eq-eqb k k refl))
+      | inr e ↦
+          let n : eqb k j ≡ false = ne_eqb k j e in
+          elim (cases_Bool (is_same_item (slot_item es k) (slot_item es j))) [
+            | inl s ↦ absurd (let t = times-two (λ x. slot_entry es x) (slot_item es k) k j (used o) e (same-refl (slot_item es k)) s in let u = times-used (slot_item es k) o es in let w = d (slot_item es k) in omega (arith, t, u, w, a, b))
+            | inr s ↦ s ∙ sym n
+          ]
+    ]
+
+-- two orders with the same entries in each queue
+pub by-queue : (o p : Order) (es fs : List Entry) → IsShort o → IsShort p → ((q : ℕ) → q < QUEUES → lists_of o es q ≡ lists_of p fs q) → lists_of o es ≡ lists_of p fs
+by-queue o p es fs a b h = fun_ext (λ q. elim (cases_lt q QUEUES) [
+  | inl w ↦ h q w
+  | inr w ↦ ap (map (λ k. slot_entry es k)) (a (suc q) (omega (arith, w))) ∙ sym (ap (map (λ k. slot_entry fs k)) (b (suc q) (omega (arith, w))))
+])
+
+-- the item of a slot taken out
+
+pub taken-order : (o : Order) (es : List Entry) (k : ℕ) → IsShort o → IsDistinct (lists_of o es) → 1 ≤ count k (used o) → after_removal (slot_item es k) (lists_of o es) ≡ lists_of (order_without k o) es
+taken-order o es k sh d h = fun_ext (λ q. elim (cases_lt q QUEUES) [
+  | inl w ↦ map-without (λ j. slot_entry es j) (λ (e : Entry). is_same_item (slot_item es k) e.item) k (o (suc q)) (entries_without (slot_item es k)) refl (λ x xs. refl) (λ j n. alone o es k j d h (section-used q j o w n))
+  | inr w ↦ ap (λ l. entries_without (slot_item es k) (map (λ j. slot_entry es j) l)) (sh (suc q) (omega (arith, w))) ∙ sym (ap (λ l. map (λ j. slot_entry es j) (keys_without k l)) (sh (suc q) (omega (arith, w))))
+])
+
+unused-in : (k q : ℕ) (o : Order) → q < QUEUES → count k (used o) ≡ 0 → count k (o (suc q)) ≡ 0
+unused-in k q o w h = let a = section-in q k o w in omega (arith, a, h)
+
+pub lists-unused : (o : Order) (es : List Entry) (k : ℕ) → IsShort o → count k (used o) ≡ 0 → lists_of (order_without k o) es ≡ lists_of o es
+lists-unused o es k sh h = by-queue (order_without k o) o es es (short-without k o sh) sh (λ q w. ap (map (λ j. slot_entry es j)) (without-none k (o (suc q)) (unused-in k q o w h)))
+
+-- the entry of a slot that is not in use written
+
+not-there : (j k : ℕ) (l : List ℕ) → count k l ≡ 0 → 1 ≤ count j l → j ≡ k → ⊥
+not-there j k l a b e = let c = ap (λ x. count x l) e in omega (arith, a, b, c)
+
+pub lists-kept : (o : Order) (es : List Entry) (k : ℕ) (e : Entry) → IsShort o → count k (used o) ≡ 0 → lists_of o (set es k e) ≡ lists_of o es
+lists-kept o es k e sh h = by-queue o o (set es k e) es sh sh (λ q w. map-same (λ j. slot_entry (set es k e) j) (λ j. slot_entry es j) (o (suc q)) (λ j n. get_or-set_other es k j e _ (not-there j k (o (suc q)) (unused-in k q o w h) n)))
+
+-- the lists say nothing of the free slots
+pub lists-freed : (k b : ℕ) (o : Order) (es : List Entry) → lists_of (sent k 0 b o) es ≡ lists_of (order_without k o) es
+lists-freed k b o es = fun_ext (λ q. ap (map (λ j. slot_entry es j)) (with-other 0 (suc q) (put_before k b (keys_without k (o 0))) (order_without k o) (λ e. omega (arith, e))))
+
+-- put in place
+
+pub lists-with : (q : ℕ) (l : List ℕ) (o : Order) (es : List Entry) → lists_of (with_section (suc q) l o) es ≡ with_queue q (map (λ k. slot_entry es k) l) (lists_of o es)
+lists-with q l o es = fun_ext (λ j. elim (cases_eq j q) as (λ _. map (λ k. slot_entry es k) (cond (eqb (suc j) (suc q)) l (o (suc j))) ≡ cond (eqb j q) (map (λ k. slot_entry es k) l) (map (λ k. slot_entry es k) (o (suc j)))) [
+  | inl e ↦ let a : eqb (suc j) (suc q) ≡ true = eq-eqb _ _ (ap suc e) in let b : eqb j q ≡ true = eq-eqb j q e in rw (a, b) refl
+  | inr d ↦ let a : eqb (suc j) (suc q) ≡ false = ne_eqb _ _ (λ e. omega (arith, e, d)) in let b : eqb j q ≡ false = ne_eqb j q d in rw (a, b) refl
+])
+
+pub lists-recent : (q k b : ℕ) (o : Order) (es : List Entry) → count b (order_without k o (suc q)) ≡ 0 → lists_of (sent k (suc q) b o) es ≡ after_push q (slot_entry es k) (lists_of (order_without k o) es)
+lists-recent q k b o es h =
+    let f : ℕ → Entry = λ j. slot_entry es j in
+    let l : List ℕ = keys_without k (o (suc q)) in
+    lists-with q (put_before k b l) (order_without k o) es
+    ∙ ap (λ (m : List Entry). with_queue q m (lists_of (order_without k o) es)) (ap (map f) (put-end k b l h) ∙ map-append f l (k ∷ []))
+
+-- a cut of the entries is a cut of the slots
+pub record IsCutAt (f : ℕ → Entry) (l : List ℕ) (xs ys : List Entry) : Type 0 where
+  pub front : List ℕ
+  pub back : List ℕ
+  pub whole : l ≡ front ++ back
+  pub fronts : map f front ≡ xs
+  pub backs : map f back ≡ ys
+
+pub cut_at : (f : ℕ → Entry) (l : List ℕ) (xs ys : List Entry) → map f l ≡ xs ++ ys → IsCutAt f l xs ys
+cut_at f l [] ys h = record { front = []; back = l; whole = refl; fronts = refl; backs = h }
+cut_at f [] (x ∷ xs) ys h = absurd (cc (h))
+cut_at f (k ∷ l) (x ∷ xs) ys h =
+    let here : f k ≡ x = cc in
+    let r = cut_at f l xs ys (cc) in
+    record { front = k ∷ r.front; back = r.back; whole = ap (λ t. k ∷ t) r.whole; fronts = rw (here, r.fronts) refl; backs = r.backs }
+
+front-few : (f : ℕ → Entry) (l : List ℕ) (xs ys : List Entry) → map f l ≡ xs ++ ys → ((j : Item) → occurrences j (map f l) ≤ 1) → (j : Item) → occurrences j xs ≤ 1
+front-few f l xs ys e u j = let a = ap (occurrences j) e in let b = times-append j xs ys in let c = u j in omega (arith, a, b, c)
+
+put_newer : (f : ℕ → Entry) (newer : Option Item) (k b : ℕ) (us vs : List ℕ) → ((j : Item) → occurrences j (map f (us ++ vs)) ≤ 1) → first_item (map f vs) ≡ newer → IsNewer (λ j. (f j).item) newer b (us ++ vs) → put_before k b (us ++ vs) ≡ us ++ k ∷ vs
+put_newer f None k b us [] u h n = put-end k b (us ++ []) n ∙ rw (append-nil us) refl
+put_newer f None k b us (v ∷ vs) u h n = absurd (cc (h))
+put_newer f (Some m) k b us [] u h n = absurd (cc (h))
+put_newer f (Some m) k b us (v ∷ vs) u h n =
+    let fv : (f v).item ≡ m = cc in
+    let same_slot : b ≡ v =
+    elim (cases_eq b v) [
+      | inl e ↦ e
+      | inr d ↦ absurd (
+          let t = times-two f m b v (us ++ v ∷ vs) d (rw n.1 (same-refl m)) (rw fv (same-refl m)) in
+          let a = count-append v us (v ∷ vs) in
+          let c = count-here v vs in
+          let w = u m in
+          let p = n.0 in
+          omega (arith, t, a, c, w, p))
+    ] in
+    let none : count v us ≡ 0 = (
+    let t = times-map f m v (us ++ v ∷ vs) (rw fv (same-refl m)) in
+    let a = count-append v us (v ∷ vs) in
+    let c = count-here v vs in
+    let w = u m in
+    omega (arith, t, a, c, w)) in
+    ap (λ x. put_before k x (us ++ v ∷ vs)) same_slot ∙ (put-sentinel k v us vs none ∙ append_assoc us (k ∷ []) (v ∷ vs))
+
+pub map-put : (f : ℕ → Entry) (older newer : Option Item) (k b : ℕ) (l : List ℕ) → ((j : Item) → occurrences j (map f l) ≤ 1) → IsGap older newer (map f l) → IsNewer (λ j. (f j).item) newer b l →
+    map f (put_before k b l) ≡ put_behind older (f k) (map f l)
+map-put f older newer k b l u g n =
+    let c = cut_at f l g.before g.behind g.whole in
+    let few : (j : Item) → occurrences j (map f (c.front ++ c.back)) ≤ 1 = subst (λ (m : List ℕ). (j : Item) → occurrences j (map f m) ≤ 1) c.whole u in
+    let fb : first_item (map f c.back) ≡ newer = ap first_item c.backs ∙ g.newer_first in
+    let p : put_before k b (c.front ++ c.back) ≡ c.front ++ k ∷ c.back = put_newer f newer k b c.front c.back few fb (subst (IsNewer (λ j. (f j).item) newer b) c.whole n) in
+    let a : map f (put_before k b l) ≡ g.before ++ f k ∷ g.behind =
+    ap (λ (m : List ℕ). map f (put_before k b m)) c.whole ∙ (ap (map f) p ∙ (map-append f c.front (k ∷ c.back) ∙ rw (c.fronts, c.backs) refl)) in
+    let e : put_behind older (f k) (g.before ++ g.behind) ≡ g.before ++ f k ∷ g.behind =
+    put_behind-at older (f k) g.before g.behind (front-few f l g.before g.behind g.whole u) g.older_last in
+    a ∙ (sym e ∙ ap (put_behind older (f k)) (sym g.whole))
+
+pub lists-back : (q k b : ℕ) (o : Order) (es : List Entry) (older newer : Option Item) → q < QUEUES → IsDistinct (lists_of (order_without k o) es) →
+    IsGap older newer (lists_of (order_without k o) es q) → IsNewer (λ j. slot_item es j) newer b (order_without k o (suc q)) →
+    lists_of (sent k (suc q) b o) es ≡ after_return q older (slot_entry es k) (lists_of (order_without k o) es)
+lists-back q k b o es older newer w d g n =
+    let f : ℕ → Entry = λ j. slot_entry es j in
+    let l : List ℕ = keys_without k (o (suc q)) in
+    lists-with q (put_before k b l) (order_without k o) es
+    ∙ ap (λ (m : List Entry). with_queue q m (lists_of (order_without k o) es)) (map-put f older newer k b l (queue-few q (lists_of (order_without k o) es) w d) g n)
+
+-- distinct items
+
+times-put : (f : ℕ → Entry) (i : Item) (k b : ℕ) (l : List ℕ) → occurrences i (map f (put_before k b l)) ≡ cond (is_same_item i (f k).item) 1 0 + occurrences i (map f l)
+times-put f i k b [] = refl
+times-put f i k b (x ∷ l) =
+    let r = times-put f i k b l in
+    elim (cases_Bool (eqb b x)) as (λ _. occurrences i (map f (cond (eqb b x) (k ∷ x ∷ l) (x ∷ put_before k b l))) ≡ cond (is_same_item i (f k).item) 1 0 + (cond (is_same_item i (f x).item) 1 0 + occurrences i (map f l))) [
+      | inl e ↦ rw e refl
+      | inr e ↦ rw e (omega (arith, r))
+    ]
+
+times-none : (n : ℕ) (i : Item) (s : Queues) → ((q : ℕ) → q < n → occurrences i (s q) ≡ 0) → times_below n i s ≡ 0
+times-none zero i s h = refl
+times-none (suc n) i s h = let a = h n (omega arith) in let r = times-none n i s (λ q w. h q (omega (arith, w))) in omega (arith, a, r)
+
+pub distinct-sent : (q k b : ℕ) (o : Order) (es : List Entry) → q < QUEUES → IsDistinct (lists_of (order_without k o) es) → IsAbsent (slot_item es k) (lists_of (order_without k o) es) → IsDistinct (lists_of (sent k (suc q) b o) es)
+distinct-sent q k b o es w d a i =
+    let f : ℕ → Entry = λ j. slot_entry es j in
+    let s : Queues = lists_of (order_without k o) es in
+    let l : List ℕ = keys_without k (o (suc q)) in
+    let e = ap (λ (t : Queues). times_below QUEUES i t) (lists-with q (put_before k b l) (order_without k o) es) in
+    let m = times-with QUEUES q i (map f (put_before k b l)) s w in
+    let p = times-put f i k b l in
+    let n = d i in
+    elim (cases_Bool (is_same_item i (f k).item)) [
+      | inl h ↦
+          let z : i ≡ (f k).item = same-true i (f k).item h in
+          let p2 = rw h at p in
+          let none : times_below QUEUES i s ≡ 0 = rw z (times-none QUEUES (f k).item s a) in
+          omega (arith, e, m, p2, none)
+      | inr h ↦ let p2 = rw h at p in omega (arith, e, m, p2, n)
+    ]
+
+-- neighbours
+
+pub before-map : (f : ℕ → Entry) (k : ℕ) (us vs : List ℕ) → ((j : ℕ) → 1 ≤ count j us → is_same_item (f k).item (f j).item ≡ false) → before (f k).item (map f (us ++ k ∷ vs)) ≡ map f us
+before-map f k [] vs h = let e = same-refl (f k).item in rw e refl
+before-map f k (x ∷ us) vs h =
+    let e : is_same_item (f k).item (f x).item ≡ false = h x (let n = count-here x us in omega (arith, n)) in
+    rw e (ap (λ t. f x ∷ t) (before-map f k us vs (λ j n. h j (omega arith))))
+
+pub behind-map : (f : ℕ → Entry) (k : ℕ) (us vs : List ℕ) → ((j : ℕ) → 1 ≤ count j us → is_same_item (f k).item (f j).item ≡ false) → behind (f k).item (map f (us ++ k ∷ vs)) ≡ map f vs
+behind-map f k [] vs h = let e = same-refl (f k).item in rw e refl
+behind-map f k (x ∷ us) vs h =
+    let e : is_same_item (f k).item (f x).item ≡ false = h x (let n = count-here x us in omega (arith, n)) in
+    rw e (behind-map f k us vs (λ j n. h j (omega arith)))
+
+item-real : (es : List Entry) (k : ℕ) → FIRST ≤ k → item_or es k ≡ Some (slot_item es k)
+item-real es k h = let e : nat_lt k FIRST ≡ false = le-ltb k FIRST h in rw e refl
+
+item-first : (es : List Entry) (k : ℕ) → k < FIRST → item_or es k ≡ None
+item-first es k h = let e : nat_lt k FIRST ≡ true = lt-ltb k FIRST h in rw e refl
+
+item-last : (es : List Entry) (x : ℕ) (us : List ℕ) → FIRST ≤ x → ((j : ℕ) → 1 ≤ count j us → FIRST ≤ j) → item_or es (end_of x us) ≡ last_from (Some (slot_item es x)) (map (λ k. slot_entry es k) us)
+item-last es x [] r h = item-real es x r
+item-last es x (y ∷ us) r h = item-last es y us (h y (let n = count-here y us in omega (arith, n))) (λ j n. h j (omega arith))
+
+pub item-end : (es : List Entry) (a : ℕ) (us : List ℕ) → a < FIRST → ((j : ℕ) → 1 ≤ count j us → FIRST ≤ j) → item_or es (end_of a us) ≡ last_item (map (λ k. slot_entry es k) us)
+item-end es a [] s h = item-first es a s
+item-end es a (x ∷ us) s h = item-last es x us (h x (let n = count-here x us in omega (arith, n))) (λ j n. h j (omega arith))
+
+pub item-start : (es : List Entry) (b : ℕ) (vs : List ℕ) → b < FIRST → ((j : ℕ) → 1 ≤ count j vs → FIRST ≤ j) → item_or es (start_of vs b) ≡ first_item (map (λ k. slot_entry es k) vs)
+item-start es b [] s h = item-first es b s
+item-start es b (x ∷ vs) s h = item-real es x (h x (let n = count-here x vs in omega (arith, n)))
+
+-- where a slot's item stands
+pub placed-at : (q k : ℕ) (o : Order) (es : List Entry) → q < QUEUES → IsDistinct (lists_of o es) → 1 ≤ count k (o (suc q)) → queue_holding (slot_item es k) (lists_of o es) ≡ Some q
+placed-at q k o es w d h =
+    placed q (slot_item es k) (lists_of o es) w d (
+    let t = times-map (λ j. slot_entry es j) (slot_item es k) k (o (suc q)) (same-refl (slot_item es k)) in
+    omega (arith, t, h))
+
+pub unplaced-at : (i : Item) (o : Order) (es : List Entry) → ((k : ℕ) → 1 ≤ count k (used o) → is_same_item i (slot_item es k) ≡ false) → queue_holding i (lists_of o es) ≡ None
+unplaced-at i o es h =
+    is_absent i (lists_of o es) (λ q w. times-map-none (λ j. slot_entry es j) i (o (suc q)) (λ k n. h k (section-used q k o w n)))
+
+-- the entry of a slot that stands in the list
+pub has-entry : (f : ℕ → Entry) (k : ℕ) (l : List ℕ) → 1 ≤ count k l → Contains (map f l) (f k)
+has-entry f k [] n = absurd (omega (arith, n))
+has-entry f k (x ∷ l) n =
+    elim (cases_Bool (eqb k x)) as (λ _. Contains (f x ∷ map f l) (f k)) [
+      | inl e ↦ (0, omega arith, ap f (sym (eqb-true k x e)))
+      | inr e ↦
+          let n2 : 1 ≤ 0 + count k l = rw e at n in
+          let r = has-entry f k l (omega (arith, n2)) in
+          let w = r.1 in
+          (suc r.0, omega (arith, w), r.2)
+    ]

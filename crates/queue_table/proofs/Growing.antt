@@ -1,0 +1,121 @@
+-- What growth leaves.
+use Rattle.std.proofs.Common.{◌≡◌, ℕ, ◌+◌, ◌-◌, ◌*◌, ◌^◌, ◌<◌, ◌≤◌, suc, true, false, cond, eqb, nat_lt, Result, Ok, Err, List, [], ◌∷◌, ◌++◌, length, ap, ◌∙◌, sym, refl, subst, arith, length-append, inl, inr}
+use Rattle.std.specs.Result.{OnOk, OnErr}
+use Rattle.std.specs.declared.alloc.AllocError.{AllocError}
+use Rattle.std.proofs.Math.Path.{fun_ext}
+use Rattle.std.proofs.lemmas.Bool.{cases_Bool, cases_eq, cases_lt, eq-eqb, ne_eqb, lt-ltb, le-ltb}
+use Rattle.queue_table.specs.declared.slot_index.SlotIndex.{SlotIndex}
+use Rattle.queue_table.specs.declared.slot.Slot.{Slot}
+use Rattle.queue_table.specs.Entries.{entry}
+use Rattle.queue_table.specs.Ring.{entries, olders, newers, tags, SECTIONS, FIRST, until, past, IsRing, Order, ring, order_of, more_free, no_slots, lists_of, lists, IsQueued}
+use Rattle.queue_table.specs.Index.{capacity}
+use Rattle.queue_table.specs.QueueTable.{IsIndexOf, IsLoaded, IsInSlots, IsSound, IsSame}
+use Rattle.std.proofs.lemmas.Nat.{pow-add, pow_pos}
+use Rattle.queue_table.proofs.Orders.{with-same, with-other}
+use Rattle.queue_table.proofs.Holding.{queued-order}
+use Rattle.queue_table.proofs.Tables.{held-grown, lists-grown}
+
+pub record IsSettled (before slots : List Slot) (index : SlotIndex) : Type 0 where
+  pub held : IsInSlots slots index (order_of slots)
+  pub same : IsSame before slots
+
+pub record IsGrown (r : Result (Unit {0}) AllocError) (before slots : List Slot) (index : SlotIndex) : Type 0 where
+  pub sound : IsSound slots index
+  pub lists : lists slots ≡ lists before
+  pub ok : OnOk r ((s : ℕ) → length (order_of slots s) ≡ length (order_of before s) + cond (eqb s 0) 1 0)
+  pub err : OnErr r ((s : ℕ) → length (order_of slots s) ≡ length (order_of before s))
+
+more : (n s : ℕ) (p : Order) → length (more_free n p s) ≡ length (p s) + cond (eqb s 0) 1 0
+more n s p =
+    elim (cases_eq s 0) as (λ _. length (more_free n p s) ≡ length (p s) + cond (eqb s 0) 1 0) [
+      | inl e ↦
+          let f : eqb s 0 ≡ true = eq-eqb s 0 e in
+          let a = ap (λ x. length (more_free n p x)) e ∙ ap length (with-same 0 (p 0 ++ n ∷ []) p) in
+          let l = length-append (p 0) (n ∷ []) in
+          let b = ap (λ x. length (p x)) e in
+          rw f (omega (arith, a, l, b))
+      | inr d ↦
+          let f : eqb s 0 ≡ false = ne_eqb s 0 d in
+          let a = ap length (with-other 0 s (p 0 ++ n ∷ []) p d) in
+          rw f (omega (arith, a))
+    ]
+
+pub grown : (r : Result (Unit {0}) AllocError) (s0 s3 s4 : List Slot) (index : SlotIndex) → IsSettled s0 s3 index → length s3 + 1 ≤ capacity index.bits →
+    OnOk r (IsRing (newers s4) (olders s4) (ring (more_free (length s3) (order_of s3)))) → OnOk r (entries s4 ≡ entries s3 ++ entry record { key = 0; node = 0 } 0 ∷ []) → OnOk r (tags s4 ≡ tags s3 ++ 0 ∷ []) →
+    OnErr r (s4 ≡ s3) → IsGrown r s0 s4 index
+grown (Ok u) s0 s3 s4 index s room x it tg e =
+    let h : IsInSlots s4 index (more_free (length s3) (order_of s3)) = held-grown s3 s4 index (length s3) (order_of s3) s.held x it tg room in
+    let o : order_of s4 ≡ more_free (length s3) (order_of s3) = queued-order s4 (more_free (length s3) (order_of s3)) h.queued in
+    record {
+      sound = λ _. subst (IsInSlots s4 index) (sym o) h;
+      lists = lists-grown s3 s4 (length s3) o it ∙ s.same.lists;
+      ok = λ t. (let a = ap (λ (p : Order). length (p t)) o in let b = more (length s3) t (order_of s3) in let c = s.same.lengths t in omega (arith, a, b, c));
+      err = tt;
+    }
+grown (Err f) s0 s3 s4 index s room x it tg e = record {
+  sound = λ _. subst (λ (t : List Slot). IsInSlots t index (order_of t)) (sym e) s.held;
+  lists = ap lists e ∙ s.same.lists;
+  ok = tt;
+  err = λ t. ap (λ (z : List Slot). length (order_of z t)) e ∙ s.same.lengths t;
+}
+
+pub held-first : (slots : List Slot) (index : SlotIndex) → IsQueued slots no_slots → IsIndexOf index (entries slots) [] → length slots ≤ capacity index.bits → IsInSlots slots index (order_of slots)
+held-first slots index q x room =
+    let o : order_of slots ≡ no_slots = queued-order slots no_slots q in
+    subst (IsInSlots slots index) (sym o) record { queued = q; indexed = x; room = room }
+
+-- no slots have no sections
+
+empty : (s : ℕ) → until (suc s) (past s (0 ∷ [])) ≡ []
+empty s = elim (cases_Bool (eqb s 0)) as (λ _. until (suc s) (cond (eqb s 0) [] []) ≡ []) [
+  | inl e ↦ rw e refl
+  | inr e ↦ rw e refl
+]
+
+none : (s : ℕ) → order_of [] s ≡ []
+none s = elim (cases_lt s SECTIONS) as (λ _. cond (nat_lt s SECTIONS) (until (suc s) (past s (0 ∷ []))) [] ≡ []) [
+  | inl w ↦ rw (lt-ltb s SECTIONS w) (empty s)
+  | inr w ↦ let f : nat_lt s SECTIONS ≡ false = le-ltb s SECTIONS (omega (arith, w)) in rw f refl
+]
+
+pub no-order : order_of [] ≡ no_slots
+no-order = fun_ext none
+
+-- the first slots hold nothing, as no slots do
+pub same-first : (slots : List Slot) → IsQueued slots no_slots → IsSame [] slots
+same-first slots q =
+    let o : order_of slots ≡ no_slots = queued-order slots no_slots q in
+    let n = no-order in
+    record {
+      lists = ap (λ (p : Order). lists_of p (entries slots)) o ∙ sym (ap (λ (p : Order). lists_of p (entries [])) n);
+      lengths = λ s. ap (λ (p : Order). length (p s)) (o ∙ sym n);
+    }
+
+pub no-list : {X : Type 0} (l : List X) → length l ≡ 0 → l ≡ []
+no-list [] e = refl
+no-list (x ∷ l) e = absurd (omega (arith, e))
+
+-- the load of an index, of as many slots as before
+pub still_loaded : (n m bits : ℕ) → m ≡ n → IsLoaded n bits → IsLoaded m bits
+still_loaded n m bits e l = subst (λ k. IsLoaded k bits) (sym e) l
+
+pub sixteen : (bits : ℕ) → 4 ≤ bits → 16 ≤ 2 ^ bits
+sixteen bits h =
+    let e : bits ≡ 4 + (bits - 4) = omega arith in
+    let p : 2 ^ bits ≡ 16 * 2 ^ (bits - 4) = ap (λ k. 2 ^ k) e ∙ pow-add 2 4 (bits - 4) in
+    let q : 0 < 2 ^ (bits - 4) = pow_pos (bits - 4) in
+    omega (arith, p, q)
+
+-- the first index
+pub first_loaded : (n bits : ℕ) → n ≡ FIRST → 4 ≤ bits → IsLoaded n bits
+first_loaded n bits e h some few = let p = sixteen bits h in omega (arith, e, p)
+
+-- and where it has room for one slot more
+pub room_for : (n bits : ℕ) → 2 * n ≤ 2 ^ bits → n + 1 ≤ capacity bits
+room_for n bits r = omega (arith, r)
+
+-- an index of twice as many buckets has room for as many
+pub wider_room : (n bits more : ℕ) → more ≡ bits + 1 → n ≤ capacity bits → n ≤ capacity more
+wider_room n bits more e h =
+    let p : 2 ^ more ≡ 2 * 2 ^ bits = ap (λ k. 2 ^ k) (e ∙ (let c : bits + 1 ≡ 1 + bits = omega arith in c)) ∙ pow-add 2 1 bits in
+    omega (arith, p, h)

@@ -1,0 +1,153 @@
+-- Slots and index hold together, whatever moves.
+use Rattle.std.proofs.Common.{◌≡◌, ℕ, suc, zero, ◌+◌, ◌<◌, ◌≤◌, false, cond, eqb, Some, List, ◌∷◌, ◌++◌, length, get_or, set, map, ap, ◌∙◌, sym, refl, subst, arith, ◌⊎◌, inl, inr, get_or-set_same, get_or-set_other}
+use Rattle.std.proofs.lemmas.Bool.{cases_eq, ne_eqb, eq-eqb}
+use Rattle.step_record.specs.declared.item.Item.{Item}
+use Rattle.queue_table.specs.declared.records.Entry.{Entry}
+use Rattle.queue_table.specs.Entries.{is_same_item, first_item, last_item, before, behind}
+use Rattle.queue_table.specs.Queues.{QUEUES, queue_holding, place_in, IsDistinct}
+use Rattle.queue_table.specs.declared.slot.Slot.{Slot}
+use Rattle.queue_table.specs.Ring.{entries, olders, newers, tags, slot_entry, slot_item, count, IsLinked, IsRing, put_before, SECTIONS, FIRST, Order, ring, ring_from, used, used_below, order_of, order_without, sent, lists_of, tag_at, item_or, IsQueued}
+use Rattle.step_record.specs.Keys.{keys_without}
+use Rattle.queue_table.proofs.Splices.{count-append, linked-split, older-end, newer-start, end_of, start_of}
+use Rattle.queue_table.proofs.Turning.{IsSplit, split_at, turned}
+use Rattle.queue_table.proofs.Sections.{gone, count-without}
+use Rattle.queue_table.proofs.Orders.{IsOnce, section-few, used-real, count-parts-ring, section-used, order-is, count-put, with-same, with-other, short-sent}
+use Rattle.queue_table.proofs.Contents.{alone, before-map, behind-map, item-end, item-start, placed-at}
+
+linked-from : (n k s : ℕ) (ns os : List ℕ) (o : Order) (b : ℕ) → IsLinked ns os k (ring_from n k o) b → k ≤ s → s < k + n → IsLinked ns os s (o s) (suc s)
+linked-from zero k s ns os o b h u w = absurd (omega (arith, u, w))
+linked-from (suc n) k s ns os o b h u w =
+    let a = linked-split ns os k (o k) (suc k) (ring_from n (suc k) o) b h in
+    elim (cases_eq k s) [
+      | inl e ↦ subst (λ x. IsLinked ns os x (o x) (suc x)) e a.0
+      | inr d ↦ linked-from n (suc k) s ns os o b a.1 (omega (arith, u, d)) (omega (arith, w))
+    ]
+
+pub linked-section : (s : ℕ) (ns os : List ℕ) (o : Order) → s < SECTIONS → IsLinked ns os 0 (ring o) 0 → IsLinked ns os s (o s) (suc s)
+linked-section s ns os o w h = linked-from SECTIONS 0 s ns os o 0 h (omega arith) (omega (arith, w))
+
+module _ (slots : List Slot) (o : Order) (h : IsQueued slots o) where
+  pub queued-order : order_of slots ≡ o
+  queued-order = order-is (newers slots) (olders slots) o h.short h.linked
+
+  pub used-within : (k : ℕ) → 1 ≤ count k (used o) → k < length (newers slots)
+  used-within k n = h.linked.within k (let a = count-parts-ring k o in omega (arith, a, n))
+
+  -- the place of a slot in use, from its links
+  place-links : (q k : ℕ) → q < QUEUES → 1 ≤ count k (o (suc q)) →
+      Some record { queue = q; older = item_or (entries slots) (get_or (olders slots) k 0); newer = item_or (entries slots) (get_or (newers slots) k 0) } ≡ place_in (slot_item (entries slots) k) (lists_of o (entries slots))
+  place-links q k w n =
+      let once : IsOnce o = h.linked.once in
+      let its : List Entry = entries slots in
+      let f : ℕ → Entry = λ j. slot_entry its j in
+      let i : Item = slot_item its k in
+      let p : queue_holding i (lists_of o its) ≡ Some q = placed-at q k o its w h.distinct n in
+      let s : IsSplit k (o (suc q)) = split_at k (o (suc q)) (section-few (suc q) o k (omega (arith, w)) once) n in
+      let links : IsLinked (newers slots) (olders slots) (suc q) (s.front ++ k ∷ s.back) (suc (suc q)) = subst (λ (l : List ℕ). IsLinked (newers slots) (olders slots) (suc q) l (suc (suc q))) s.whole (linked-section (suc q) (newers slots) (olders slots) o (omega (arith, w)) h.linked.linked) in
+      let parts = linked-split (newers slots) (olders slots) (suc q) s.front k s.back (suc (suc q)) links in
+      let oe : get_or (olders slots) k 0 ≡ end_of (suc q) s.front = older-end (newers slots) (olders slots) (suc q) s.front k parts.0 in
+      let ns : get_or (newers slots) k 0 ≡ start_of s.back (suc (suc q)) = newer-start (newers slots) (olders slots) k s.back (suc (suc q)) parts.1 in
+      let split_count : (j : ℕ) → count j (o (suc q)) ≡ count j s.front + (cond (eqb j k) 1 0 + count j s.back) = λ j. ap (count j) s.whole ∙ count-append j s.front (k ∷ s.back) in
+      let in_front : (j : ℕ) → 1 ≤ count j s.front → 1 ≤ count j (used o) = λ j m. section-used q j o w (let c = split_count j in omega (arith, c, m)) in
+      let in_back : (j : ℕ) → 1 ≤ count j s.back → 1 ≤ count j (used o) = λ j m. section-used q j o w (let c = split_count j in omega (arith, c, m)) in
+      let other : (j : ℕ) → 1 ≤ count j s.front → is_same_item i (f j).item ≡ false = λ j m. (
+      let a = alone o its k j h.distinct (section-used q k o w n) (in_front j m) in
+      let d : k ≡ j → ⊥ = λ e. (let c = split_count k in let c2 = rw (eq-eqb k k refl) at c in let x = section-few (suc q) o k (omega (arith, w)) once in let y = ap (λ z. count z s.front) e in omega (arith, c2, x, y, m)) in
+      a ∙ ne_eqb k j d) in
+      let qe : lists_of o its q ≡ map f (s.front ++ k ∷ s.back) = ap (map f) s.whole in
+      let older : item_or its (get_or (olders slots) k 0) ≡ last_item (before i (lists_of o its q)) =
+      ap (item_or its) oe ∙ (item-end its (suc q) s.front (omega (arith, w)) (λ j m. used-real o j once (in_front j m)) ∙ sym (ap (λ (l : List Entry). last_item (before i l)) qe ∙ ap last_item (before-map f k s.front s.back other))) in
+      let newer : item_or its (get_or (newers slots) k 0) ≡ first_item (behind i (lists_of o its q)) =
+      ap (item_or its) ns ∙ (item-start its (suc (suc q)) s.back (omega (arith, w)) (λ j m. used-real o j once (in_back j m)) ∙ sym (ap (λ (l : List Entry). first_item (behind i l)) qe ∙ ap first_item (behind-map f k s.front s.back other))) in
+      rw (p, older, newer) refl
+
+-- where a slot is in use
+pub data StandsIn (k n : ℕ) (o : Order) : Type 0 where
+  stands : (q : ℕ) → q < n → 1 ≤ count k (o (suc q)) → StandsIn k n o
+
+stands-below : (n k : ℕ) (o : Order) → 1 ≤ count k (used_below n o) → StandsIn k n o
+stands-below zero k o h = absurd (omega (arith, h))
+stands-below (suc n) k o h =
+    let c = count-append k (o (suc n)) (used_below n o) in
+    elim (cases_some (count k (o (suc n)))) [
+      | inl a ↦ stands n (omega arith) a
+      | inr a ↦ more (stands-below n k o (omega (arith, c, a, h)))
+    ]
+  where
+    cases_some : (n : ℕ) → (1 ≤ n) ⊎ (n ≡ 0)
+    cases_some zero = inr refl
+    cases_some (suc n) = inl (omega arith)
+
+    more : StandsIn k n o → StandsIn k (suc n) o
+    more (stands q w m) = stands q (omega (arith, w)) m
+
+pub stands_in : (k : ℕ) (o : Order) → 1 ≤ count k (used o) → StandsIn k QUEUES o
+stands_in k o h = stands-below QUEUES k o h
+
+-- what the fields of a slot in use say of its place
+module _ (slots : List Slot) (o : Order) (h : IsQueued slots o) (k : ℕ) (n : 1 ≤ count k (used o)) where
+  pub tag-low : tag_at (tags slots) k < QUEUES
+  tag-low = at_queue (stands_in k o n)
+    where
+      at_queue : StandsIn k QUEUES o → tag_at (tags slots) k < QUEUES
+      at_queue (stands q w m) = let t = h.tagged q k m in omega (arith, t, w)
+
+  pub tag-stands : 1 ≤ count k (o (suc (tag_at (tags slots) k)))
+  tag-stands = at_queue (stands_in k o n)
+    where
+      at_queue : StandsIn k QUEUES o → 1 ≤ count k (o (suc (tag_at (tags slots) k)))
+      at_queue (stands q w m) = subst (λ r. 1 ≤ count k (o (suc r))) (sym (h.tagged q k m)) m
+
+  pub links-within : (get_or (olders slots) k 0 < length (newers slots)) × (get_or (newers slots) k 0 < length (newers slots))
+  links-within =
+      let r : FIRST ≤ k = used-real o k h.linked.once n in
+      let w = used-within slots o h k n in
+      let t = turned (newers slots) (olders slots) (ring o) k 0 h.linked (omega (arith, r)) w (omega (arith, w)) (λ e. omega (arith, r, e)) in
+      (t.older_in, t.newer_in)
+
+  pub place-read : Some record { queue = tag_at (tags slots) k; older = item_or (entries slots) (get_or (olders slots) k 0); newer = item_or (entries slots) (get_or (newers slots) k 0) } ≡ place_in (slot_item (entries slots) k) (lists_of o (entries slots))
+  place-read = place-links slots o h (tag_at (tags slots) k) k tag-low tag-stands
+
+-- which slots stand in a section once one was sent
+
+left-in : (k j : ℕ) (l : List ℕ) → 1 ≤ count j (keys_without k l) → (j ≡ k → ⊥) × (1 ≤ count j l)
+left-in k j l n = ((λ e. (let g = gone k l in let c = ap (λ x. count x (keys_without k l)) e in omega (arith, g, c, n))), (let c = count-without k j l in omega (arith, c, n)))
+
+put-in : (k b j s : ℕ) (l : List ℕ) → 1 ≤ count j (put_before k b (keys_without k l)) → ((j ≡ k) × (s ≡ s)) ⊎ ((j ≡ k → ⊥) × (1 ≤ count j l))
+put-in k b j s l n =
+    elim (cases_eq j k) [
+      | inl e ↦ inl (e, refl)
+      | inr d ↦ inr (d, (let c = count-put j k b (keys_without k l) in let f : eqb j k ≡ false = ne_eqb j k d in let c2 = rw f at c in let w = count-without k j l in omega (arith, c2, w, n)))
+    ]
+
+pub sent-in : (k b s r j : ℕ) (o : Order) → 1 ≤ count j (sent k s b o r) → ((j ≡ k) × (r ≡ s)) ⊎ ((j ≡ k → ⊥) × (1 ≤ count j (o r)))
+sent-in k b s r j o n =
+    elim (cases_eq r s) [
+      | inl e ↦ subst (λ x. ((j ≡ k) × (x ≡ s)) ⊎ ((j ≡ k → ⊥) × (1 ≤ count j (o x)))) (sym e) (put-in k b j s (o s) (let m = ap (count j) (with-same s (put_before k b (keys_without k (o s))) (order_without k o)) in let m2 = ap (λ x. count j (sent k s b o x)) e in omega (arith, m, m2, n)))
+      | inr d ↦ inr (left-in k j (o r) (let m = ap (count j) (with-other s r (put_before k b (keys_without k (o s))) (order_without k o) d) in omega (arith, m, n)))
+    ]
+
+module _ (slots slots2 : List Slot) (o : Order) (h : IsQueued slots o) (k : ℕ) where
+  pub queued-sent : (q b : ℕ) → q < QUEUES → IsRing (newers slots2) (olders slots2) (ring (sent k (suc q) b o)) →
+      tags slots2 ≡ set (tags slots) k q → k < length (tags slots) → IsDistinct (lists_of (sent k (suc q) b o) (entries slots2)) → IsQueued slots2 (sent k (suc q) b o)
+  queued-sent q b low r t w d = record {
+    linked = r;
+    short = short-sent k (suc q) b o (omega (arith, low)) h.short;
+    tagged = λ p j n. elim (sent-in k b (suc q) (suc p) j o n) [
+      | inl e ↦ rw t (ap (λ y. tag_at (set (tags slots) k q) y) e.0 ∙ (get_or-set_same (tags slots) k q 0 w ∙ (let z = e.1 in omega (arith, z))))
+      | inr e ↦ rw t (get_or-set_other (tags slots) k j q 0 e.0 ∙ h.tagged p j e.1)
+    ];
+    distinct = d;
+  }
+
+  pub queued-freed : (b : ℕ) → IsRing (newers slots2) (olders slots2) (ring (sent k 0 b o)) →
+      tags slots2 ≡ tags slots → entries slots2 ≡ entries slots → IsDistinct (lists_of (sent k 0 b o) (entries slots)) → IsQueued slots2 (sent k 0 b o)
+  queued-freed b r t i d = record {
+    linked = r;
+    short = short-sent k 0 b o (omega arith) h.short;
+    tagged = λ p j n. elim (sent-in k b 0 (suc p) j o n) [
+      | inl e ↦ absurd (let z = e.1 in omega (arith, z))
+      | inr e ↦ rw t (h.tagged p j e.1)
+    ];
+    distinct = rw i d;
+  }

@@ -1,0 +1,235 @@
+-- The index after a slot came or went.
+use Rattle.std.proofs.Common.{◌≡◌, ℕ, suc, zero, ◌+◌, ◌*◌, ◌^◌, ◌<◌, ◌≤◌, true, false, cond, eqb, List, replicate, get_or, ap, ◌∙◌, sym, refl, arith, inl, inr}
+use Rattle.std.proofs.Math.ListN.{length-replicate}
+use Rattle.std.proofs.lemmas.Bool.{eq-eqb, ne_eqb, cases_Bool, cases_eq}
+use Rattle.step_record.specs.declared.item.Item.{Item}
+use Rattle.queue_table.specs.declared.slot_index.SlotIndex.{SlotIndex}
+use Rattle.queue_table.specs.Trees.{Tree, leaf, tally, branch, IsTree, IsSorted, grafted, detached}
+use Rattle.queue_table.specs.Places.{IsWhole, IsBare, IsFree, IsThere, Replaces}
+use Rattle.queue_table.specs.Index.{IsMapped, IsIndexed, IsAdded, IsRemoved, IsFound, IsInBucket, CanFind, bucket, capacity}
+use Rattle.queue_table.specs.Walks.{HasTree, HasTreeWithin}
+use Rattle.queue_table.proofs.Trees.{same-slot, same-tree, size-few, no-slots}
+use Rattle.queue_table.proofs.Walking.{step}
+use Rattle.queue_table.proofs.Sorting.{sorted-same, grafted-tally, grafted-sorted, detached-tally, detached-sorted}
+
+module _ (links : List ℕ) (bits : ℕ) (item_of : ℕ → Item) (used : ℕ → ℕ) (x : IsMapped links bits item_of used) where
+  -- a tree has slots in use alone
+  pub placed-used : (b k : ℕ) → b < 2 ^ bits → tally k (x.trees b) ≤ used k
+  placed-used b k w =
+      let p = x.placed b k w in
+      elim (cases_Bool (eqb (bucket bits (item_of k)) b)) [
+        | inl e ↦ let p2 = rw e at p in omega (arith, p2)
+        | inr e ↦ let p2 = rw e at p in omega (arith, p2)
+      ]
+
+  placed-once : (b k : ℕ) → b < 2 ^ bits → tally k (x.trees b) ≤ 1
+  placed-once b k w = let p = placed-used b k w in let o = x.once k in omega (arith, p, o)
+
+  -- a slot stands in the tree of its bucket
+  pub placed-here : (b k : ℕ) → b < 2 ^ bits → bucket bits (item_of k) ≡ b → tally k (x.trees b) ≡ used k
+  placed-here b k w e = let f : eqb (bucket bits (item_of k)) b ≡ true = eq-eqb _ b e in let p = x.placed b k w in rw f at p
+
+  -- and in no other
+  placed-past : (b k : ℕ) → b < 2 ^ bits → (bucket bits (item_of k) ≡ b → ⊥) → tally k (x.trees b) ≡ 0
+  placed-past b k w e = let f : eqb (bucket bits (item_of k)) b ≡ false = ne_eqb _ b e in let p = x.placed b k w in rw f at p
+
+  -- a slot stands in one tree at most
+  placed-apart : (b c k : ℕ) → b < 2 ^ bits → c < 2 ^ bits → (c ≡ b → ⊥) → 1 ≤ tally k (x.trees c) → tally k (x.trees b) ≡ 0
+  placed-apart b c k v u d m =
+      placed-past b k v (λ e. let z = placed-past c k u (λ f. d (sym f ∙ e)) in omega (arith, m, z))
+
+  pub root-whole : (b : ℕ) → b < 2 ^ bits → IsWhole links (2 ^ bits) b (x.trees b)
+  root-whole b w = record {
+    tree = x.rooted b w;
+    once = λ k. placed-once b k w;
+    outside = λ k side m e. omega (arith, w, e);
+    within = (let s = x.size in omega (arith, s, w));
+  }
+
+  -- a slot that is not in use can be put into the tree of a bucket
+  pub free : (at b : ℕ) → used at ≡ 0 → b < 2 ^ bits → IsFree links (2 ^ bits) b at (x.trees b)
+  free at b z v = record {
+    fresh = (let p = placed-used b at v in omega (arith, p, z));
+    bare = x.bare at z;
+    apart = λ side q. omega (arith, v, q);
+  }
+
+  -- another tree in one bucket
+  module _ (links2 : List ℕ) (b : ℕ) (t2 : Tree) (v : b < 2 ^ bits) (p : Replaces (2 ^ bits) links links2 b (x.trees b) t2) where
+    rooted2 : (c : ℕ) → c < 2 ^ bits → IsTree links2 (2 ^ bits) c (cond (eqb c b) t2 (x.trees c))
+    rooted2 c u = elim (cases_eq c b) as (λ _. IsTree links2 (2 ^ bits) c (cond (eqb c b) t2 (x.trees c))) [
+      | inl s ↦ let e : eqb c b ≡ true = eq-eqb c b s in rw (e, s) p.tree
+      | inr d ↦ let e : eqb c b ≡ false = ne_eqb c b d in rw e (same-tree links links2 (2 ^ bits) c c (x.trees c) p.size (p.others c d (λ k side m q. omega (arith, u, q)))
+          (λ k side m. p.others (branch (2 ^ bits) k side) (λ q. omega (arith, v, q))
+          (λ j other n q. let s = same-slot (2 ^ bits) k j side other q in let a = ap (λ i. tally i (x.trees b)) s in let z = placed-apart b c k v u d m in omega (arith, a, z, n)))
+          (x.rooted c u))
+    ]
+
+    -- a slot that is not in use has no branches still
+    bared : (k : ℕ) → used k ≡ 0 → IsBare links2 (2 ^ bits) k
+    bared k z side =
+        p.others (branch (2 ^ bits) k side) (λ q. omega (arith, v, q))
+        (λ j other n q. let s = same-slot (2 ^ bits) k j side other q in let a = ap used s in let m = placed-used b j v in omega (arith, a, z, n, m))
+        ∙ x.bare k z side
+
+    -- the slot k is in this tree as often as it is in use, and in no other, and nothing else has changed
+    changed : (item_of2 : ℕ → Item) (used2 : ℕ → ℕ) (k : ℕ) → bucket bits (item_of2 k) ≡ b →
+        ((j : ℕ) → (j ≡ k → ⊥) → item_of2 j ≡ item_of j) → ((j : ℕ) → (j ≡ k → ⊥) → used2 j ≡ used j) →
+        ((j : ℕ) → (j ≡ k → ⊥) → tally j t2 ≡ tally j (x.trees b)) → tally k t2 ≡ used2 k → used2 k ≤ 1 →
+        ((c : ℕ) → c < 2 ^ bits → (c ≡ b → ⊥) → tally k (x.trees c) ≡ 0) → IsSorted item_of2 0 t2 →
+        (used2 k ≡ 0 → IsBare links2 (2 ^ bits) k) → IsMapped links2 bits item_of2 used2
+    changed item_of2 used2 k bk others uses tallies here few past st own = record {
+      size = p.size ∙ x.size;
+      some = x.some;
+      trees = λ c. cond (eqb c b) t2 (x.trees c);
+      rooted = rooted2;
+      placed = λ c j u. elim (cases_eq j k) [
+        | inl s ↦ rw s (elim (cases_eq c b) as (λ _. tally k (cond (eqb c b) t2 (x.trees c)) ≡ cond (eqb (bucket bits (item_of2 k)) c) (used2 k) 0) [
+          | inl q ↦
+              let e : eqb c b ≡ true = eq-eqb c b q in
+              let f : eqb (bucket bits (item_of2 k)) c ≡ true = eq-eqb (bucket bits (item_of2 k)) c (bk ∙ sym q) in
+              rw (e, f) here
+          | inr d ↦
+              let e : eqb c b ≡ false = ne_eqb c b d in
+              let f : eqb (bucket bits (item_of2 k)) c ≡ false = ne_eqb (bucket bits (item_of2 k)) c (λ z. d (sym z ∙ bk)) in
+              rw (e, f) (past c u d)
+        ])
+        | inr d ↦ (
+            let it : bucket bits (item_of2 j) ≡ bucket bits (item_of j) = ap (bucket bits) (others j d) in
+            let side : tally j (cond (eqb c b) t2 (x.trees c)) ≡ tally j (x.trees c) = elim (cases_eq c b) as (λ _. tally j (cond (eqb c b) t2 (x.trees c)) ≡ tally j (x.trees c)) [
+              | inl q ↦ let e : eqb c b ≡ true = eq-eqb c b q in rw e (tallies j d ∙ ap (λ (i : ℕ). tally j (x.trees i)) (sym q))
+              | inr q ↦ let e : eqb c b ≡ false = ne_eqb c b q in rw e refl
+            ] in
+            side ∙ (x.placed c j u ∙ (ap (λ q. cond (eqb q c) (used j) 0) (sym it) ∙ ap (λ q. cond (eqb (bucket bits (item_of2 j)) c) q 0) (sym (uses j d)))))
+      ];
+      sorted = λ c u. elim (cases_eq c b) as (λ _. IsSorted item_of2 0 (cond (eqb c b) t2 (x.trees c))) [
+        | inl q ↦ let e : eqb c b ≡ true = eq-eqb c b q in rw e st
+        | inr q ↦
+            let e : eqb c b ≡ false = ne_eqb c b q in
+            let none = past c u q in
+            rw e (sorted-same item_of item_of2 0 (x.trees c) (λ j m. others j (λ s. let a = ap (λ i. tally i (x.trees c)) s in omega (arith, a, m, none))) (x.sorted c u))
+      ];
+      once = λ j. elim (cases_eq j k) [
+        | inl s ↦ rw s few
+        | inr d ↦ let m = uses j d in let o = x.once j in omega (arith, m, o)
+      ];
+      bare = λ j z. elim (cases_eq j k) [
+        | inl s ↦ rw s (own (ap used2 (sym s) ∙ z))
+        | inr d ↦ bared j (sym (uses j d) ∙ z)
+      ];
+    }
+
+  -- a slot comes
+  module _ (at : ℕ) (item : Item) (item_of2 : ℕ → Item) (used2 : ℕ → ℕ) (j : IsAdded at item item_of item_of2 used used2) (b : ℕ) (bk : b ≡ bucket bits item) (v : b < 2 ^ bits) where
+    pub added : (links2 : List ℕ) → Replaces (2 ^ bits) links links2 b (x.trees b) (grafted 0 item at (x.trees b)) → IsMapped links2 bits item_of2 used2
+    added links2 p =
+        let aa : eqb at at ≡ true = eq-eqb at at refl in
+        let more : used2 at ≡ 1 + used at = j.counted at ∙ (rw aa refl) in
+        let gt = grafted-tally 0 item at at (x.trees b) in
+        let one : tally at (grafted 0 item at (x.trees b)) ≡ 1 + tally at (x.trees b) = rw aa at gt in
+        let absent = j.absent in
+        let pb = placed-used b at v in
+        let none : tally at (x.trees b) ≡ 0 = omega (arith, pb, absent) in
+        let st : IsSorted item_of2 0 (x.trees b) = sorted-same item_of item_of2 0 (x.trees b) (λ k m. j.others k (λ e. let q = ap (λ i. tally i (x.trees b)) e in omega (arith, q, m, none))) (x.sorted b v) in
+        changed links2 b (grafted 0 item at (x.trees b)) v p item_of2 used2 at (ap (bucket bits) j.its ∙ sym bk) j.others
+        (λ k d. let e : eqb k at ≡ false = ne_eqb k at d in let n : used2 k ≡ 0 + used k = j.counted k ∙ (rw e refl) in omega (arith, n))
+        (λ k d. let e : eqb k at ≡ false = ne_eqb k at d in let g = grafted-tally 0 item at k (x.trees b) in let n = rw e at g in omega (arith, n))
+        (omega (arith, one, more, none, absent))
+        (omega (arith, more, absent))
+        (λ c u d. let pc = placed-used c at u in omega (arith, pc, absent))
+        (grafted-sorted item_of2 0 item at (x.trees b) j.its st)
+        (λ z. absurd (omega (arith, z, more)))
+
+  -- a slot goes
+  module _ (at : ℕ) (item : Item) (used2 : ℕ → ℕ) (j : IsRemoved at item item_of used used2) (b : ℕ) (bk : b ≡ bucket bits item) (v : b < 2 ^ bits) where
+    here : bucket bits (item_of at) ≡ b
+    here = ap (bucket bits) j.its ∙ sym bk
+
+    pub stands : IsThere item_of at item 0 (x.trees b)
+    stands = record {
+      stands = (let h = placed-here b at v here in let m = j.there in omega (arith, h, m));
+      its = j.its;
+      sorted = x.sorted b v;
+    }
+
+    pub removed : (links2 : List ℕ) → Replaces (2 ^ bits) links links2 b (x.trees b) (detached 0 item at (x.trees b)) → IsBare links2 (2 ^ bits) at → IsMapped links2 bits item_of used2
+    removed links2 p bare =
+        let aa : eqb at at ≡ true = eq-eqb at at refl in
+        let m : used2 at ≡ 0 = j.counted at ∙ (rw aa refl) in
+        let dt = detached-tally item_of 0 item at at (x.trees b) (x.sorted b v) j.its stands.stands in
+        let one : tally at (x.trees b) ≡ 1 + tally at (detached 0 item at (x.trees b)) = rw aa at dt in
+        let pb = placed-once b at v in
+        changed links2 b (detached 0 item at (x.trees b)) v p item_of used2 at here (λ k d. refl)
+        (λ k d. let e : eqb k at ≡ false = ne_eqb k at d in j.counted k ∙ (rw e refl))
+        (λ k d. let e : eqb k at ≡ false = ne_eqb k at d in let q = detached-tally item_of 0 item at k (x.trees b) (x.sorted b v) j.its stands.stands in let n = rw e at q in omega (arith, n))
+        (omega (arith, one, m, pb))
+        (omega (arith, m))
+        (λ c u d. placed-past c at u (λ z. d (sym z ∙ here)))
+        (detached-sorted item_of 0 item at (x.trees b) (x.sorted b v) j.its stands.stands)
+        (λ z. bare)
+
+  -- what is found in the tree of the item's bucket
+  pub found-root : (b : ℕ) (item : Item) (r : ℕ) → b ≡ bucket bits item → (v : b < 2 ^ bits) → IsFound item item_of (λ k. tally k (x.trees b)) r → IsFound item item_of used r
+  found-root b item r bk v f = record {
+    there = λ n. (let t = f.there n in ((let m = t.0 in let p = placed-used b r v in omega (arith, m, p)), t.1));
+    missing = λ z k m e. f.missing z k (let h = placed-here b k v (ap (bucket bits) e ∙ sym bk) in omega (arith, h, m)) e;
+  }
+
+  -- the first slot of the item's bucket
+  pub first-in-bucket : (b : ℕ) (item : Item) (r : ℕ) → b ≡ bucket bits item → b < 2 ^ bits → r ≡ get_or links b 0 → IsInBucket item bits item_of used r
+  first-in-bucket b item r bk v n = record {
+    there = λ m.
+        let h = (step links (2 ^ bits) b r (branch (2 ^ bits) r true) true (x.trees b) (root-whole b v) n (λ z. omega (arith, m, z)) refl).here in
+        elim (cases_eq (bucket bits (item_of r)) b) [
+          | inl e ↦ ((let p = placed-used b r v in omega (arith, p, h)), e ∙ bk)
+          | inr d ↦ absurd (let z = placed-past b r v d in omega (arith, z, h))
+        ];
+    missing = λ z k m e.
+        let p = placed-here b k v (e ∙ sym bk) in
+        no-slots links (2 ^ bits) b (x.trees b) k (sym n ∙ z) (x.rooted b v) (omega (arith, p, m));
+  }
+
+-- the same map in other words
+pub same-map : (links : List ℕ) (bits : ℕ) (item_of item_of2 : ℕ → Item) (used used2 : ℕ → ℕ) → ((k : ℕ) → item_of2 k ≡ item_of k) → ((k : ℕ) → used2 k ≡ used k) → IsMapped links bits item_of used → IsMapped links bits item_of2 used2
+same-map links bits item_of item_of2 used used2 f g x = record {
+  size = x.size;
+  some = x.some;
+  trees = x.trees;
+  rooted = x.rooted;
+  placed = λ b k w. x.placed b k w ∙ (ap (λ i. cond (eqb (bucket bits i) b) (used k) 0) (sym (f k)) ∙ ap (λ n. cond (eqb (bucket bits (item_of2 k)) b) n 0) (sym (g k)));
+  sorted = λ b w. sorted-same item_of item_of2 0 (x.trees b) (λ k m. f k) (x.sorted b w);
+  once = λ k. (let o = x.once k in let e = g k in omega (arith, o, e));
+  bare = λ k z. x.bare k (sym (g k) ∙ z);
+}
+
+-- what the walks begin with
+abbrev pub root-has : (index : SlotIndex) (item_of : ℕ → Item) (used : ℕ → ℕ) (x : IsIndexed index item_of used) (b : ℕ) → b < 2 ^ index.bits → HasTree index b 0
+root-has index item_of used x b w =
+    let h = root-whole index.links.items index.bits item_of used x b w in
+    let f = size-few index.links.items (2 ^ index.bits) b (x.trees b) h.tree h.once in
+    record { shown = x.trees b; whole = h; few = omega (arith, f); bits = x.some.1 }
+
+-- and a search
+pub root-within : (index : SlotIndex) (slots : ℕ) → CanFind index slots → (b : ℕ) → b < 2 ^ index.bits → HasTreeWithin index b 0 slots
+root-within index slots q b w = record {
+  has = root-has index q.item_of q.used q.indexed b w;
+  within = λ k m. q.within k (let p = placed-used _ _ q.item_of q.used q.indexed b k w in omega (arith, p, m));
+}
+
+-- empty trees
+pub empty-mapped : (links : List ℕ) (bits : ℕ) (item_of : ℕ → Item) → links ≡ replicate (2 ^ bits + 2 * capacity bits) 0 → (1 ≤ bits) × (bits < 32) → IsMapped links bits item_of (λ k. 0)
+empty-mapped links bits item_of e s = rw e record {
+  size = length-replicate {A = ℕ} (2 ^ bits + 2 * capacity bits) 0;
+  some = s;
+  trees = λ b. leaf;
+  rooted = λ b w. none (2 ^ bits + 2 * capacity bits) b;
+  placed = λ b k w. elim (cases_Bool (eqb (bucket bits (item_of k)) b)) as (λ _. ◌≡◌ {A = ℕ} 0 (cond (eqb (bucket bits (item_of k)) b) 0 0)) [ inl y ↦ rw y refl | inr y ↦ rw y refl ];
+  sorted = λ b w. tt;
+  once = λ k. omega arith;
+  bare = λ k z side. none (2 ^ bits + 2 * capacity bits) (branch (2 ^ bits) k side);
+}
+  where
+    none : (n b : ℕ) → ◌≡◌ {A = ℕ} (get_or (replicate n 0) b 0) 0
+    none zero b = refl
+    none (suc n) zero = refl
+    none (suc n) (suc b) = none n b

@@ -1,0 +1,168 @@
+-- What holds of a table while one of its calls works on the slots.
+use Rattle.std.proofs.Common.{◌≡◌, ℕ, suc, zero, ◌<◌, ◌≤◌, ◌+◌, ◌^◌, List, [], ◌∷◌, get_or, length, length-append, map, ap, ◌∙◌, sym, subst, arith, refl}
+use Rattle.std.proofs.lemmas.List.{length-map}
+use Rattle.step_record.specs.declared.item.Item.{Item}
+use Rattle.queue_table.specs.declared.records.Entry.{Entry}
+use Rattle.queue_table.specs.declared.slot_index.SlotIndex.{SlotIndex}
+use Rattle.queue_table.specs.declared.lengths.Lengths.{Lengths}
+use Rattle.queue_table.specs.declared.slot.Slot.{Slot}
+use Rattle.queue_table.specs.Entries.{entry, items_of}
+use Rattle.queue_table.specs.Queues.{QUEUES, items_below, IsDistinct}
+use Rattle.queue_table.specs.Ring.{entries, newers, olders, slot_entry, slot_item, count, walk, used, SECTIONS, FIRST, Order, ring, ring_from, ring_of, order_in, IsRing, order_of, lists_of, lists, IsQueued}
+use Rattle.queue_table.specs.Index.{capacity, HasSlot}
+use Rattle.queue_table.specs.QueueTable.{IsLoaded, IsCounted, IsInSlots, IsKept}
+use Rattle.queue_table.proofs.Splices.{walked}
+use Rattle.queue_table.proofs.Orders.{used-real}
+use Rattle.queue_table.proofs.Growing.{still_loaded, no-order}
+use Rattle.queue_table.proofs.Finding.{slots-length}
+use Rattle.queue_table.proofs.Holding.{used-within, linked-section}
+use Rattle.queue_table.proofs.SlotWrites.{no_slot, field_at}
+
+pub some-slots : (slots : List Slot) (s : ℕ) → 1 ≤ length (order_of slots s) → 0 < length slots
+some-slots [] s n = absurd (let e = ap (λ (o : Order). length (o s)) no-order in omega (arith, n, e))
+some-slots (x ∷ slots) s n = omega arith
+
+pub some-used : (slots : List Slot) (k : ℕ) → 1 ≤ count k (used (order_of slots)) → 0 < length slots
+some-used [] k n = absurd (let e = ap (λ (o : Order). count k (used o)) no-order in omega (arith, n, e))
+some-used (x ∷ slots) k n = omega arith
+
+pub held-room : (mid slots : List Slot) (index : SlotIndex) (n : Lengths) → IsKept slots index n → mid ≡ slots → 1 ≤ length (order_of mid 0) → IsInSlots mid index (order_of mid)
+held-room mid slots index n k e r =
+    subst (λ (s : List Slot). IsInSlots s index (order_of s)) (sym e) (k.held (some-slots slots 0 (subst (λ (s : List Slot). 1 ≤ length (order_of s 0)) e r)))
+
+pub held-used : (mid slots : List Slot) (index : SlotIndex) (n : Lengths) → IsKept slots index n → mid ≡ slots → (k : ℕ) → 1 ≤ count k (used (order_of mid)) → IsInSlots mid index (order_of mid)
+held-used mid slots index n k e at u =
+    subst (λ (s : List Slot). IsInSlots s index (order_of s)) (sym e) (k.held (some-used slots at (subst (λ (s : List Slot). 1 ≤ count at (used (order_of s))) e u)))
+
+pub room-kept : (slots slots2 : List Slot) (index index2 : SlotIndex) (o : Order) → IsInSlots slots index o → length slots2 ≡ length slots → index2.bits ≡ index.bits → length slots2 ≤ capacity index2.bits
+room-kept slots slots2 index index2 o h l b = let r = h.room in rw b (omega (arith, r, l))
+
+pub kept-on : (slots slots2 : List Slot) (index index2 : SlotIndex) (n n2 : Lengths) → IsKept slots index n → IsInSlots slots2 index2 (order_of slots2) → IsCounted n2 (order_of slots2) → length slots2 ≡ length slots → index2.bits ≡ index.bits → IsKept slots2 index2 n2
+kept-on slots slots2 index index2 n n2 k h c l b = record {
+  held = λ _. h;
+  counted = c;
+  few = (let f = k.few in omega (arith, f, l));
+  load = subst (IsLoaded (length slots2)) (sym b) (still_loaded (length slots) (length slots2) index.bits l k.load);
+}
+
+pub none-distinct : IsDistinct (lists [])
+none-distinct = subst (λ (o : Order). IsDistinct (lists_of o [])) (sym no-order) (λ (i : Item). omega arith)
+
+pub distinct-in : (slots : List Slot) (index : SlotIndex) (n : Lengths) → IsKept slots index n → IsDistinct (lists slots)
+distinct-in [] index n k = none-distinct
+distinct-in (x ∷ slots) index n k = (k.held (omega arith)).queued.distinct
+
+ring-length : (o : Order) → length (ring o) ≡ length (o 0) + (length (o 1) + (length (o 2) + (length (o 3) + (length (o 4) + (length (o 5) + 6)))))
+ring-length o =
+    let a = length-append (o 0) (1 ∷ ring_from 5 1 o) in
+    let b = length-append (o 1) (2 ∷ ring_from 4 2 o) in
+    let c = length-append (o 2) (3 ∷ ring_from 3 3 o) in
+    let d = length-append (o 3) (4 ∷ ring_from 2 4 o) in
+    let e = length-append (o 4) (5 ∷ ring_from 1 5 o) in
+    let f = length-append (o 5) (6 ∷ ring_from 0 6 o) in
+    omega (arith, a, b, c, d, e, f)
+
+-- all slots in sections are fewer than the slots
+sections-few : (slots : List Slot) (index : SlotIndex) (n : Lengths) → IsKept slots index n → (let o = order_of slots in length (o 0) + (length (o 1) + (length (o 2) + (length (o 3) + (length (o 4) + length (o 5))))) < 2 ^ 32)
+sections-few [] index n k =
+    let z : (s : ℕ) → length (order_of [] s) ≡ 0 = λ s. ap (λ (o : Order). length (o s)) no-order in
+    let a = z 0 in
+    let b = z 1 in
+    let c = z 2 in
+    let d = z 3 in
+    let e = z 4 in
+    let f = z 5 in
+    omega (arith, a, b, c, d, e, f)
+sections-few (x ∷ slots) index n k =
+    let all : List Slot = x ∷ slots in
+    let long = (k.held (omega arith)).queued.linked.long in
+    let size = slots-length all in
+    let ring = ring-length (order_of all) in
+    let few = k.few in
+    omega (arith, long, size, ring, few)
+
+pub items-few : (slots : List Slot) (index : SlotIndex) (n : Lengths) → IsKept slots index n → get_or n.at 1 0 + get_or n.at 2 0 + get_or n.at 3 0 + get_or n.at 4 0 + get_or n.at 5 0 < 2 ^ 64
+items-few slots index n k =
+    let f = sections-few slots index n k in
+    let a = k.counted 1 (omega arith) in
+    let b = k.counted 2 (omega arith) in
+    let c = k.counted 3 (omega arith) in
+    let d = k.counted 4 (omega arith) in
+    let e = k.counted 5 (omega arith) in
+    omega (arith, f, a, b, c, d, e)
+
+pub section-few : (slots : List Slot) (index : SlotIndex) (n : Lengths) → IsKept slots index n → (s : ℕ) → s < SECTIONS → get_or n.at s 0 + 1 < 2 ^ 64
+section-few slots index n k s w =
+    let c = k.counted s w in
+    let b = one s w in
+    omega (arith, c, b)
+  where
+    one : (s : ℕ) → s < SECTIONS → length (order_of slots s) < 2 ^ 32
+    one zero w = let f = sections-few slots index n k in omega (arith, f)
+    one (suc zero) w = let f = sections-few slots index n k in omega (arith, f)
+    one (suc (suc zero)) w = let f = sections-few slots index n k in omega (arith, f)
+    one (suc (suc (suc zero))) w = let f = sections-few slots index n k in omega (arith, f)
+    one (suc (suc (suc (suc zero)))) w = let f = sections-few slots index n k in omega (arith, f)
+    one (suc (suc (suc (suc (suc zero))))) w = let f = sections-few slots index n k in omega (arith, f)
+    one (suc (suc (suc (suc (suc (suc s)))))) w = absurd (omega (arith, w))
+
+length-lists : (o : Order) (es : List Entry) (q : ℕ) → length (lists_of o es q) ≡ length (o (suc q))
+length-lists o es q = length-map (o (suc q)) (λ j. slot_entry es j)
+
+pub length-queue : (slots : List Slot) (index : SlotIndex) (n : Lengths) (q : ℕ) → IsKept slots index n → q < QUEUES → get_or n.at (suc q) 0 ≡ length (lists slots q)
+length-queue slots index n q k w = k.counted (suc q) (omega (arith, w)) ∙ sym (length-lists (order_of slots) (entries slots) q)
+
+pub all-items : (slots : List Slot) (index : SlotIndex) (n : Lengths) → IsKept slots index n → get_or n.at 1 0 + get_or n.at 2 0 + get_or n.at 3 0 + get_or n.at 4 0 + get_or n.at 5 0 ≡ items_below QUEUES (lists slots)
+all-items slots index n k =
+    let a = length-queue slots index n 0 k (omega arith) in
+    let b = length-queue slots index n 1 k (omega arith) in
+    let c = length-queue slots index n 2 k (omega arith) in
+    let d = length-queue slots index n 3 k (omega arith) in
+    let e = length-queue slots index n 4 k (omega arith) in
+    omega (arith, a, b, c, d, e)
+
+-- a slot in use is behind those between the sections, and within the slots
+pub used-slot : (slots : List Slot) (k : ℕ) → IsQueued slots (order_of slots) → 1 ≤ count k (used (order_of slots)) → (FIRST ≤ k) × (k < length slots)
+used-slot slots k h u =
+    let r = used-real (order_of slots) k h.linked.once u in
+    let w = used-within slots (order_of slots) h k u in
+    let l = slots-length slots in
+    (r, omega (arith, w, l))
+
+pub item_at : (slots : List Slot) (k : ℕ) → slot_item (entries slots) k ≡ (get_or slots k no_slot).item
+item_at slots k = ap (λ (e : Entry). e.item) (field_at (λ (s : Slot). entry s.item s.count) slots k no_slot)
+
+-- and the index knows it, with its item
+pub known : (slots : List Slot) (index : SlotIndex) (k : ℕ) → IsInSlots slots index (order_of slots) → 1 ≤ count k (used (order_of slots)) → HasSlot k (get_or slots k no_slot).item index
+known slots index k h u = record {
+  item_of = slot_item (entries slots);
+  used = λ j. count j (used (order_of slots));
+  indexed = h.indexed;
+  there = u;
+  its = item_at slots k;
+}
+
+-- the items of a queue, slot by slot
+
+items-map : (es : List Entry) (l : List ℕ) → items_of (map (λ k. slot_entry es k) l) ≡ map (λ k. slot_item es k) l
+items-map es [] = refl
+items-map es (x ∷ l) = ap (λ t. slot_item es x ∷ t) (items-map es l)
+
+pub listed : (slots : List Slot) (index : SlotIndex) (lengths : Lengths) (q : ℕ) → q < QUEUES → IsKept slots index lengths → map (λ k. slot_item (entries slots) k) (walk (newers slots) (suc q) (get_or lengths.at (suc q) 0)) ≡ items_of (lists slots q)
+listed slots index lengths q w k =
+    let n : get_or lengths.at (suc q) 0 ≡ length (order_of slots (suc q)) = k.counted (suc q) (omega (arith, w)) in
+    ap (λ m. map (λ j. slot_item (entries slots) j) (walk (newers slots) (suc q) m)) n ∙ (ap (map (λ j. slot_item (entries slots) j)) (there slots k.held) ∙ sym (items-map (entries slots) (order_of slots (suc q))))
+  where
+    there : (s : List Slot) → (0 < length s → IsInSlots s index (order_of s)) → walk (newers s) (suc q) (length (order_of s (suc q))) ≡ order_of s (suc q)
+    there [] h = let e = ap (λ (o : Order). o (suc q)) no-order in rw e refl
+    there (x ∷ s) h =
+        let i = h (omega arith) in
+        walked (newers (x ∷ s)) (olders (x ∷ s)) (suc q) (order_of (x ∷ s) (suc q)) (suc (suc q)) (linked-section (suc q) (newers (x ∷ s)) (olders (x ∷ s)) (order_of (x ∷ s)) (omega (arith, w)) i.queued.linked.linked)
+
+-- a fact of the slots as a call borrows and leaves them is one of the table before and after
+pub on_view : (F : List Slot → List Slot → Type 0) (new left old lent : List Slot) → new ≡ left → lent ≡ old → F left lent → F new old
+on_view F new left old lent a b x = subst (λ (s : List Slot). F s old) (sym a) (subst (λ (s : List Slot). F left s) b x)
+
+-- the ring is read from the links alone
+pub ring-read : (ns os ns2 os2 : List ℕ) → ns2 ≡ ns → os2 ≡ os → IsRing ns os (ring (order_in (ring_of ns))) → IsRing ns2 os2 (ring (order_in (ring_of ns2)))
+ring-read ns os ns2 os2 a b x = subst (λ z. IsRing z os2 (ring (order_in (ring_of z)))) (sym a) (subst (λ z. IsRing ns z (ring (order_in (ring_of ns)))) (sym b) x)

@@ -1,0 +1,447 @@
+-- The ring and the order of the sections in it.
+use Rattle.std.proofs.Common.{◌≡◌, ℕ, suc, zero, ◌+◌, ◌<◌, ◌≤◌, true, false, cond, eqb, nat_lt, List, [], ◌∷◌, ◌++◌, ap, ◌∙◌, sym, refl, subst, arith, append_assoc, ◌⊎◌, inl, inr}
+use Rattle.std.proofs.Math.Path.{fun_ext}
+use Rattle.std.proofs.lemmas.Bool.{cases_Bool, cases_eq, cases_lt, ne_eqb, eq-eqb, lt-ltb, le-ltb}
+use Rattle.queue_table.specs.Queues.{QUEUES}
+use Rattle.queue_table.specs.Ring.{count, IsRing, ring_of, put_before, moved_before, SECTIONS, FIRST, Order, ring, ring_from, used, used_below, with_section, until, past, order_in, order_without, sent, IsShort, IsPlace}
+use Rattle.step_record.specs.Keys.{keys_without}
+use Rattle.queue_table.proofs.Splices.{count-append, count-here, apart}
+use Rattle.queue_table.proofs.Turning.{ring-is}
+use Rattle.queue_table.proofs.Sections.{without-append, put-sentinel, put-past, put-there, gone, count-left, count-without}
+
+until-at : (b : ℕ) (xs ys : List ℕ) → count b xs ≡ 0 → until b (xs ++ b ∷ ys) ≡ xs
+until-at b [] ys h = let e : eqb b b ≡ true = eq-eqb b b refl in rw e refl
+until-at b (x ∷ xs) ys h =
+    let e : eqb b x ≡ false = ne_eqb b x (apart b x xs h) in
+    let r : count b xs ≡ 0 = omega arith in
+    rw e (ap (λ t. x ∷ t) (until-at b xs ys r))
+
+past-none : (b : ℕ) (xs ys : List ℕ) → count b xs ≡ 0 → past b (xs ++ ys) ≡ past b ys
+past-none b [] ys h = refl
+past-none b (x ∷ xs) ys h =
+    let e : eqb b x ≡ false = ne_eqb b x (apart b x xs h) in
+    let r : count b xs ≡ 0 = omega arith in
+    rw e (past-none b xs ys r)
+
+-- sections by number
+
+ring-same : (n k : ℕ) (o p : Order) → ((j : ℕ) → k ≤ j → o j ≡ p j) → ring_from n k o ≡ ring_from n k p
+ring-same zero k o p h = refl
+ring-same (suc n) k o p h =
+    let a : o k ≡ p k = h k (omega arith) in
+    let r = ring-same n (suc k) o p (λ j m. h j (omega (arith, m))) in
+    rw (a, r) refl
+
+-- the ring around one section
+pub record IsCut (n k s : ℕ) (o : Order) : Type 0 where
+  pub pre : List ℕ
+  pub post : List ℕ
+  pub whole : (l : List ℕ) → ring_from n k (with_section s l o) ≡ pre ++ (l ++ suc s ∷ post)
+
+pub cut : (n k s : ℕ) (o : Order) → k ≤ s → s < k + n → IsCut n k s o
+cut zero k s o a b = absurd (omega (arith, a, b))
+cut (suc n) k s o a b =
+    elim (cases_eq k s) [
+      | inl e ↦ record {
+        pre = [];
+        post = ring_from n (suc k) o;
+        whole = λ l. (
+            let f : eqb k s ≡ true = eq-eqb k s e in
+            let r = ring-same n (suc k) (with_section s l o) o (λ j m. let g : eqb j s ≡ false = ne_eqb j s (λ z. omega (arith, z, e, m)) in rw g refl) in
+            rw (f, r, e) refl);
+      }
+      | inr d ↦
+          let c = cut n (suc k) s o (omega (arith, a, d)) (omega (arith, b)) in
+          record {
+            pre = o k ++ suc k ∷ c.pre;
+            post = c.post;
+            whole = λ l. (
+                let f : eqb k s ≡ false = ne_eqb k s d in
+                let w = c.whole l in
+                rw (f, w) (sym (append_assoc (o k) (suc k ∷ c.pre) (l ++ suc s ∷ c.post))));
+          }
+    ]
+
+pub with-same : (s : ℕ) (l : List ℕ) (o : Order) → with_section s l o s ≡ l
+with-same s l o = let f : eqb s s ≡ true = eq-eqb s s refl in rw f refl
+
+pub with-other : (s j : ℕ) (l : List ℕ) (o : Order) → (j ≡ s → ⊥) → with_section s l o j ≡ o j
+with-other s j l o d = let f : eqb j s ≡ false = ne_eqb j s d in rw f refl
+
+with-itself : (s : ℕ) (o : Order) (j : ℕ) → with_section s (o s) o j ≡ o j
+with-itself s o j =
+    elim (cases_eq j s) as (λ _. cond (eqb j s) (o s) (o j) ≡ o j) [
+      | inl e ↦ let f : eqb j s ≡ true = eq-eqb j s e in rw f (ap o (sym e))
+      | inr d ↦ let f : eqb j s ≡ false = ne_eqb j s d in rw f refl
+    ]
+
+ring-cut : (n k s : ℕ) (o : Order) (c : IsCut n k s o) → ring_from n k o ≡ c.pre ++ (o s ++ suc s ∷ c.post)
+ring-cut n k s o c = sym (ring-same n k (with_section s (o s) o) o (λ j m. with-itself s o j)) ∙ c.whole (o s)
+
+count-parts : (j s : ℕ) (xs l ys : List ℕ) → count j (xs ++ (l ++ suc s ∷ ys)) ≡ count j xs + (count j l + (cond (eqb j (suc s)) 1 0 + count j ys))
+count-parts j s xs l ys =
+    let b = count-append j xs (l ++ suc s ∷ ys) in
+    let d = count-append j l (suc s ∷ ys) in
+    omega (arith, b, d)
+
+-- around a section of the whole ring
+pub cut_at_section : (s : ℕ) (o : Order) → s < SECTIONS → IsCut SECTIONS 0 s o
+cut_at_section s o h = cut SECTIONS 0 s o (omega arith) (omega (arith, h))
+
+pub ring-at : (s : ℕ) (o : Order) (c : IsCut SECTIONS 0 s o) → ring o ≡ c.pre ++ (o s ++ suc s ∷ c.post)
+ring-at s o c = ring-cut SECTIONS 0 s o c
+
+pub count-cut : (j s : ℕ) (o : Order) (c : IsCut SECTIONS 0 s o) → count j (ring o) ≡ count j c.pre + (count j (o s) + (cond (eqb j (suc s)) 1 0 + count j c.post))
+count-cut j s o c = ap (count j) (ring-at s o c) ∙ count-parts j s c.pre (o s) c.post
+
+pub section-ring : (j s : ℕ) (o : Order) → s < SECTIONS → count j (o s) ≤ count j (ring o)
+section-ring j s o h = let c = count-cut j s o (cut_at_section s o h) in omega (arith, c)
+
+-- each slot stands once
+abbrev pub IsOnce : Order → Type 0
+IsOnce o = (k : ℕ) → count k (0 ∷ ring o) ≤ 1
+
+pub section-few : (s : ℕ) (o : Order) (k : ℕ) → s < SECTIONS → IsOnce o → count k (o s) ≤ 1
+section-few s o k h u = let c = section-ring k s o h in let n = u k in omega (arith, c, n)
+
+-- a slot stands in one section alone
+pub section-alone : (s t k : ℕ) (o : Order) → s < SECTIONS → t < SECTIONS → (t ≡ s → ⊥) → IsOnce o → 1 ≤ count k (o s) → count k (o t) ≡ 0
+section-alone s t k o h g d u n =
+    let c = cut_at_section s o h in
+    let p : Order = with_section s [] o in
+    let a = count-cut k s o c in
+    let b = ap (count k) (c.whole []) ∙ count-parts k s c.pre [] c.post in
+    let e = section-ring k t p g in
+    let f = ap (count k) (with-other s t [] o d) in
+    let w = u k in
+    omega (arith, a, b, e, f, w, n)
+
+-- the sections that the ring shows
+
+section-at : (n k s : ℕ) (o : Order) → k ≤ s → s < k + n → ((j : ℕ) → count j (k ∷ ring_from n k o) ≤ 1) → until (suc s) (past s (k ∷ ring_from n k o)) ≡ o s
+section-at zero k s o a b u = absurd (omega (arith, a, b))
+section-at (suc n) k s o a b u =
+    elim (cases_eq s k) as (λ _. until (suc s) (cond (eqb s k) (o k ++ suc k ∷ ring_from n (suc k) o) (past s (o k ++ suc k ∷ ring_from n (suc k) o))) ≡ o s) [
+      | inl e ↦
+          let f : eqb s k ≡ true = eq-eqb s k e in
+          let w = u (suc k) in
+          let c = count-append (suc k) (o k) (suc k ∷ ring_from n (suc k) o) in
+          let h = count-here (suc k) (ring_from n (suc k) o) in
+          rw (f, e) (until-at (suc k) (o k) (ring_from n (suc k) o) (omega (arith, w, c, h)))
+      | inr d ↦
+          let f : eqb s k ≡ false = ne_eqb s k d in
+          let none : count s (o k) ≡ 0 = sentinel-free s n k o a b d u in
+          let less : (j : ℕ) → count j (suc k ∷ ring_from n (suc k) o) ≤ 1 = λ j. (let w = u j in let c = count-append j (o k) (suc k ∷ ring_from n (suc k) o) in omega (arith, w, c)) in
+          rw f (ap (until (suc s)) (past-none s (o k) (suc k ∷ ring_from n (suc k) o) none) ∙ section-at n (suc k) s o (omega (arith, a, d)) (omega (arith, b)) less)
+    ]
+  where
+    between : (s n k : ℕ) (o : Order) → k ≤ s → s < k + n → (s ≡ k → ⊥) → 1 ≤ count s (ring_from n k o)
+    between s zero k o a b d = absurd (omega (arith, a, b))
+    between s (suc n) k o a b d =
+        let c = count-append s (o k) (suc k ∷ ring_from n (suc k) o) in
+        elim (cases_eq s (suc k)) [
+          | inl e ↦ let f : eqb s (suc k) ≡ true = eq-eqb s (suc k) e in let c2 = rw f at c in omega (arith, c2)
+          | inr g ↦ let r = between s n (suc k) o (omega (arith, a, d)) (omega (arith, b)) g in omega (arith, c, r)
+        ]
+
+    sentinel-free : (s n k : ℕ) (o : Order) → k ≤ s → s < k + suc n → (s ≡ k → ⊥) → ((j : ℕ) → count j (k ∷ ring_from (suc n) k o) ≤ 1) → count s (o k) ≡ 0
+    sentinel-free s n k o a b d u =
+        let w = u s in
+        let c = count-append s (o k) (suc k ∷ ring_from n (suc k) o) in
+        elim (cases_eq s (suc k)) [
+          | inl e ↦ let f : eqb s (suc k) ≡ true = eq-eqb s (suc k) e in let c2 = rw f at c in omega (arith, c2, w)
+          | inr g ↦ let r = between s n (suc k) o (omega (arith, a, d)) (omega (arith, b)) g in omega (arith, c, w, r)
+        ]
+
+pub order-ring : (o : Order) → IsShort o → IsOnce o → order_in (ring o) ≡ o
+order-ring o h u = fun_ext (λ s. elim (cases_lt s SECTIONS) as (λ _. cond (nat_lt s SECTIONS) (until (suc s) (past s (0 ∷ ring o))) [] ≡ o s) [
+  | inl w ↦ let f : nat_lt s SECTIONS ≡ true = lt-ltb s SECTIONS w in rw f (section-at SECTIONS 0 s o (omega arith) (omega (arith, w)) u)
+  | inr w ↦ let f : nat_lt s SECTIONS ≡ false = le-ltb s SECTIONS (omega (arith, w)) in rw f (sym (h s (omega (arith, w))))
+])
+
+pub ring_of-is : (ns os : List ℕ) (o : Order) → IsRing ns os (ring o) → ring_of ns ≡ ring o
+ring_of-is ns os o r = ring-is ns os (ring o) r (let l = r.long in omega (arith, l))
+
+pub order-is : (ns os : List ℕ) (o : Order) → IsShort o → IsRing ns os (ring o) → order_in (ring_of ns) ≡ o
+order-is ns os o h r = ap order_in (ring_of-is ns os o r) ∙ order-ring o h r.once
+
+-- no more sections
+
+pub order-short : (l : List ℕ) → IsShort (order_in l)
+order-short l s h = let f : nat_lt s SECTIONS ≡ false = le-ltb s SECTIONS (omega (arith, h)) in rw f refl
+
+pub short-without : (k : ℕ) (o : Order) → IsShort o → IsShort (order_without k o)
+short-without k o h s w = ap (keys_without k) (h s w)
+
+pub short-with : (s : ℕ) (l : List ℕ) (o : Order) → s < SECTIONS → IsShort o → IsShort (with_section s l o)
+short-with s l o a h t w = with-other s t l o (λ e. omega (arith, e, a, w)) ∙ h t w
+
+pub short-sent : (k s b : ℕ) (o : Order) → s < SECTIONS → IsShort o → IsShort (sent k s b o)
+short-sent k s b o a h = short-with s (put_before k b (keys_without k (o s))) (order_without k o) a (short-without k o h)
+
+-- the slots between the sections
+
+abbrev marks : ℕ → ℕ → ℕ → ℕ
+marks zero k j = 0
+marks (suc n) k j = cond (eqb j (suc k)) 1 0 + marks n (suc k) j
+
+-- how often a slot stands in sections
+abbrev in_sections : ℕ → ℕ → ℕ → Order → ℕ
+in_sections j zero k o = 0
+in_sections j (suc n) k o = count j (o k) + in_sections j n (suc k) o
+
+count-from : (j n k : ℕ) (o : Order) → count j (ring_from n k o) ≡ in_sections j n k o + marks n k j
+count-from j zero k o = refl
+count-from j (suc n) k o =
+    let a = count-append j (o k) (suc k ∷ ring_from n (suc k) o) in
+    let b = count-from j n (suc k) o in
+    omega (arith, a, b)
+
+marks-some : (n k j : ℕ) → k < j → j ≤ k + n → 1 ≤ marks n k j
+marks-some zero k j a b = absurd (omega (arith, a, b))
+marks-some (suc n) k j a b =
+    elim (cases_eq j (suc k)) [
+      | inl e ↦ let f : eqb j (suc k) ≡ true = eq-eqb j (suc k) e in rw f (omega arith)
+      | inr d ↦ let r = marks-some n (suc k) j (omega (arith, a, d)) (omega (arith, b)) in omega (arith, r)
+    ]
+
+marks-none : (n k j : ℕ) → k + n < j → marks n k j ≡ 0
+marks-none zero k j a = refl
+marks-none (suc n) k j a =
+    let f : eqb j (suc k) ≡ false = ne_eqb j (suc k) (λ e. omega (arith, a, e)) in
+    let r = marks-none n (suc k) j (omega (arith, a)) in
+    rw f (omega (arith, r))
+
+in-used : (j : ℕ) (o : Order) → in_sections j SECTIONS 0 o ≡ count j (o 0) + count j (used o)
+in-used j o =
+    let a = count-append j (o 5) (used_below 4 o) in
+    let b = count-append j (o 4) (used_below 3 o) in
+    let c = count-append j (o 3) (used_below 2 o) in
+    let d = count-append j (o 2) (used_below 1 o) in
+    let e = count-append j (o 1) (used_below 0 o) in
+    omega (arith, a, b, c, d, e)
+
+pub count-ring : (j : ℕ) (o : Order) → FIRST ≤ j → count j (ring o) ≡ count j (o 0) + count j (used o)
+count-ring j o h =
+    let a = count-from j SECTIONS 0 o in
+    let b = in-used j o in
+    let c = marks-none SECTIONS 0 j (omega (arith, h)) in
+    omega (arith, a, b, c)
+
+pub count-parts-ring : (j : ℕ) (o : Order) → count j (o 0) + count j (used o) ≤ count j (ring o)
+count-parts-ring j o =
+    let a = count-from j SECTIONS 0 o in
+    let b = in-used j o in
+    omega (arith, a, b)
+
+-- the slots in use and the free ones are none of those between the sections
+pub real : (k : ℕ) (o : Order) → IsOnce o → 1 ≤ count k (used o) + count k (o 0) → FIRST ≤ k
+real k o u h =
+    let a = count-from k SECTIONS 0 o in
+    let b = in-used k o in
+    let n = u k in
+    elim (cases_lt k FIRST) [
+      | inl w ↦ elim (cases_eq k 0) [
+        | inl e ↦ absurd (let f : eqb k 0 ≡ true = eq-eqb k 0 e in let n2 : 1 + count k (ring o) ≤ 1 = rw f at n in omega (arith, n2, a, b, h))
+        | inr d ↦ absurd (let m = marks-some SECTIONS 0 k (omega (arith, d)) (omega (arith, w)) in omega (arith, n, a, b, m, h))
+      ]
+      | inr w ↦ omega (arith, w)
+    ]
+
+pub used-few : (o : Order) (k : ℕ) → IsOnce o → count k (used o) ≤ 1
+used-few o k u = let c = count-parts-ring k o in let n = u k in omega (arith, c, n)
+
+pub used-real : (o : Order) (k : ℕ) → IsOnce o → 1 ≤ count k (used o) → FIRST ≤ k
+used-real o k u h = real k o u (omega (arith, h))
+
+section-below : (n q k : ℕ) (o : Order) → q < n → count k (o (suc q)) ≤ count k (used_below n o)
+section-below zero q k o h = absurd (omega (arith, h))
+section-below (suc n) q k o h =
+    let a = count-append k (o (suc n)) (used_below n o) in
+    elim (cases_eq q n) [
+      | inl e ↦ let b = ap (λ x. count k (o (suc x))) e in omega (arith, a, b)
+      | inr d ↦ let r = section-below n q k o (omega (arith, h, d)) in omega (arith, a, r)
+    ]
+
+pub section-in : (q k : ℕ) (o : Order) → q < QUEUES → count k (o (suc q)) ≤ count k (used o)
+section-in q k o h = section-below QUEUES q k o h
+
+pub section-used : (q k : ℕ) (o : Order) → q < QUEUES → 1 ≤ count k (o (suc q)) → 1 ≤ count k (used o)
+section-used q k o h n = let a = section-in q k o h in omega (arith, a, n)
+
+-- no slot that closes a section stands in one
+pub closing-none : (s t : ℕ) (o : Order) → s < SECTIONS → t < SECTIONS → IsOnce o → count (suc s) (o t) ≡ 0
+closing-none s t o h g u =
+    let c = count-cut (suc s) t o (cut_at_section t o g) in
+    let n = u (suc s) in
+    let a = count-from (suc s) SECTIONS 0 o in
+    let b = in-used (suc s) o in
+    let m = marks-some SECTIONS 0 (suc s) (omega arith) (omega (arith, h)) in
+    let i = section-in-all t (suc s) o g in
+    omega (arith, n, a, b, m, i)
+  where
+    section-in-all : (t k : ℕ) (o : Order) → t < SECTIONS → count k (o t) ≤ count k (o 0) + count k (used o)
+    section-in-all zero k o g = omega arith
+    section-in-all (suc q) k o g = let r = section-in q k o (omega (arith, g)) in omega (arith, r)
+
+-- without a slot
+
+pub ring-without : (x n k : ℕ) (o : Order) → k + n < x → keys_without x (ring_from n k o) ≡ ring_from n k (order_without x o)
+ring-without x zero k o h = refl
+ring-without x (suc n) k o h =
+    let f : eqb x (suc k) ≡ false = ne_eqb x (suc k) (λ z. omega (arith, z, h)) in
+    let a = without-append x (o k) (suc k ∷ ring_from n (suc k) o) in
+    let r = ring-without x n (suc k) o (omega (arith, h)) in
+    a ∙ rw (f, r) refl
+
+pub once-without : (k : ℕ) (o : Order) → IsOnce o → IsOnce (order_without k o)
+once-without k o u j = let a = less SECTIONS 0 in let n = u j in omega (arith, a, n)
+  where
+    less : (n m : ℕ) → count j (ring_from n m (order_without k o)) ≤ count j (ring_from n m o)
+    less zero m = omega arith
+    less (suc n) m =
+        let a = count-append j (o m) (suc m ∷ ring_from n (suc m) o) in
+        let b = count-append j (keys_without k (o m)) (suc m ∷ ring_from n (suc m) (order_without k o)) in
+        let c = count-without k j (o m) in
+        let r = less n (suc m) in
+        omega (arith, a, b, c, r)
+
+-- put in place
+
+pub put-end : (k b : ℕ) (l : List ℕ) → count b l ≡ 0 → put_before k b l ≡ l ++ k ∷ []
+put-end k b [] h = refl
+put-end k b (x ∷ l) h =
+    let e : eqb b x ≡ false = ne_eqb b x (apart b x l h) in
+    let r : count b l ≡ 0 = omega arith in
+    rw e (ap (λ t. x ∷ t) (put-end k b l r))
+
+put-in : (k b e : ℕ) (l m : List ℕ) → (1 ≤ count b l) ⊎ ((b ≡ e) × (count b l ≡ 0)) → put_before k b (l ++ e ∷ m) ≡ put_before k b l ++ e ∷ m
+put-in k b e l m (inl h) = put-there k b l (e ∷ m) h
+put-in k b e l m (inr h) =
+    let s : put_before k b (l ++ b ∷ m) ≡ (l ++ k ∷ []) ++ b ∷ m = put-sentinel k b l m h.1 in
+    let t : put_before k b l ≡ l ++ k ∷ [] = put-end k b l h.1 in
+    rw (t, ← h.0) s
+
+place-parts : (b s : ℕ) (o : Order) (c : IsCut SECTIONS 0 s o) → IsOnce o → IsPlace b s o → (count b c.pre ≡ 0) × ((1 ≤ count b (o s)) ⊎ ((b ≡ suc s) × (count b (o s) ≡ 0)))
+place-parts b s o c u (inl h) =
+    let a = count-cut b s o c in
+    let n = u b in
+    (omega (arith, a, n, h), inl h)
+place-parts b s o c u (inr h) =
+    let a = count-cut b s o c in
+    let n = u b in
+    let f : eqb b (suc s) ≡ true = eq-eqb b (suc s) h in
+    let a2 = rw f at a in
+    (omega (arith, a2, n), inr (h, omega (arith, a2, n)))
+
+put-ring : (k b s : ℕ) (o : Order) → s < SECTIONS → IsOnce o → IsPlace b s o → put_before k b (ring o) ≡ ring (with_section s (put_before k b (o s)) o)
+put-ring k b s o w u h =
+    let c = cut_at_section s o w in
+    let p = place-parts b s o c u h in
+    ap (put_before k b) (ring-at s o c)
+    ∙ (put-past k b c.pre (o s ++ suc s ∷ c.post) p.0
+    ∙ (ap (λ t. c.pre ++ t) (put-in k b (suc s) (o s) c.post p.1)
+    ∙ sym (c.whole (put_before k b (o s)))))
+
+pub ring-sent : (k b s : ℕ) (o : Order) → s < SECTIONS → IsOnce o → FIRST ≤ k → IsPlace b s (order_without k o) → moved_before k b (ring o) ≡ ring (sent k s b o)
+ring-sent k b s o w u r h = ap (put_before k b) (ring-without k SECTIONS 0 o (omega (arith, r))) ∙ put-ring k b s (order_without k o) w (once-without k o u) h
+
+-- how often a slot stands in use afterwards
+
+pub count-put : (j k b : ℕ) (l : List ℕ) → count j (put_before k b l) ≡ cond (eqb j k) 1 0 + count j l
+count-put j k b [] = refl
+count-put j k b (x ∷ l) =
+    let r = count-put j k b l in
+    elim (cases_Bool (eqb b x)) as (λ _. count j (cond (eqb b x) (k ∷ x ∷ l) (x ∷ put_before k b l)) ≡ cond (eqb j k) 1 0 + (cond (eqb j x) 1 0 + count j l)) [
+      | inl e ↦ rw e refl
+      | inr e ↦ rw e (omega (arith, r))
+    ]
+
+used-same : (n : ℕ) (o p : Order) → ((q : ℕ) → q < n → o (suc q) ≡ p (suc q)) → used_below n o ≡ used_below n p
+used-same zero o p h = refl
+used-same (suc n) o p h =
+    let a = h n (omega arith) in
+    let r = used-same n o p (λ q w. h q (omega (arith, w))) in
+    rw (a, r) refl
+
+count-with : (n j q : ℕ) (l : List ℕ) (o : Order) → q < n → count j (used_below n (with_section (suc q) l o)) + count j (o (suc q)) ≡ count j (used_below n o) + count j l
+count-with zero j q l o h = absurd (omega (arith, h))
+count-with (suc n) j q l o h =
+    let p : Order = with_section (suc q) l o in
+    let a = count-append j (o (suc n)) (used_below n o) in
+    let b = count-append j (p (suc n)) (used_below n p) in
+    elim (cases_eq q n) [
+      | inl e ↦
+          let c = ap (count j) (used-same n p o (λ r w. with-other (suc q) (suc r) l o (λ z. omega (arith, z, w, e)))) in
+          let d = ap (λ x. count j (with_section (suc q) l o (suc x))) (sym e) ∙ ap (count j) (with-same (suc q) l o) in
+          let f = ap (λ x. count j (o (suc x))) e in
+          omega (arith, a, b, c, d, f)
+      | inr d ↦
+          let r = count-with n j q l o (omega (arith, h, d)) in
+          let c = ap (count j) (with-other (suc q) (suc n) l o (λ z. omega (arith, z, d))) in
+          omega (arith, a, b, r, c)
+    ]
+
+used-other : (j k : ℕ) (o : Order) → (j ≡ k → ⊥) → count j (used (order_without k o)) ≡ count j (used o)
+used-other j k o d = below QUEUES
+  where
+    below : (n : ℕ) → count j (used_below n (order_without k o)) ≡ count j (used_below n o)
+    below zero = refl
+    below (suc n) =
+        let a = count-append j (o (suc n)) (used_below n o) in
+        let b = count-append j (keys_without k (o (suc n))) (used_below n (order_without k o)) in
+        let c = count-left k j (o (suc n)) d in
+        let r = below n in
+        omega (arith, a, b, c, r)
+
+pub used-gone : (k : ℕ) (o : Order) → count k (used (order_without k o)) ≡ 0
+used-gone k o = below QUEUES
+  where
+    below : (n : ℕ) → count k (used_below n (order_without k o)) ≡ 0
+    below zero = refl
+    below (suc n) =
+        let b = count-append k (keys_without k (o (suc n))) (used_below n (order_without k o)) in
+        let c = gone k (o (suc n)) in
+        let r = below n in
+        omega (arith, b, c, r)
+
+used-sent : (j k b q : ℕ) (o : Order) → q < QUEUES → count j (used (sent k (suc q) b o)) ≡ cond (eqb j k) 1 0 + count j (used (order_without k o))
+used-sent j k b q o w =
+    let a = count-with QUEUES j q (put_before k b (keys_without k (o (suc q)))) (order_without k o) w in
+    let c = count-put j k b (keys_without k (o (suc q))) in
+    omega (arith, a, c)
+
+-- a slot in use that is sent elsewhere stays in use, alone of them moved
+pub used-kept : (j k b q : ℕ) (o : Order) → q < QUEUES → count k (used o) ≡ 1 → count j (used (sent k (suc q) b o)) ≡ count j (used o)
+used-kept j k b q o w h =
+    let s = used-sent j k b q o w in
+    elim (cases_eq j k) [
+      | inl e ↦ subst (λ i. count i (used (sent k (suc q) b o)) ≡ count i (used o)) (sym e) (let s2 = used-sent k k b q o w in let f : eqb k k ≡ true = eq-eqb k k refl in let s3 = rw f at s2 in let g = used-gone k o in omega (arith, s3, g, h))
+      | inr d ↦ let f : eqb j k ≡ false = ne_eqb j k d in let s3 = rw f at s in let g = used-other j k o d in omega (arith, s3, g)
+    ]
+
+-- a free slot that is sent to a queue comes into use
+pub used-more : (j k b q : ℕ) (o : Order) → q < QUEUES → count k (used o) ≡ 0 → count j (used (sent k (suc q) b o)) ≡ cond (eqb j k) 1 0 + count j (used o)
+used-more j k b q o w h =
+    let s = used-sent j k b q o w in
+    elim (cases_eq j k) [
+      | inl e ↦ subst (λ i. count i (used (sent k (suc q) b o)) ≡ cond (eqb i k) 1 0 + count i (used o)) (sym e) (let s2 = used-sent k k b q o w in let g = used-gone k o in omega (arith, s2, g, h))
+      | inr d ↦ let g = used-other j k o d in omega (arith, s, g)
+    ]
+
+-- a slot made free
+pub used-freed : (j k b : ℕ) (o : Order) → count j (used (sent k 0 b o)) ≡ cond (eqb j k) 0 (count j (used o))
+used-freed j k b o =
+    let a = ap (count j) (used-same QUEUES (sent k 0 b o) (order_without k o) (λ q w. with-other 0 (suc q) (put_before k b (keys_without k (o 0))) (order_without k o) (λ z. omega (arith, z)))) in
+    elim (cases_eq j k) as (λ _. count j (used (sent k 0 b o)) ≡ cond (eqb j k) 0 (count j (used o))) [
+      | inl e ↦
+          let f : eqb j k ≡ true = eq-eqb j k e in
+          let g = used-gone k o in
+          let z : count j (used (order_without k o)) ≡ count k (used (order_without k o)) = ap (λ i. count i (used (order_without k o))) e in
+          rw f (omega (arith, a, z, g))
+      | inr d ↦ let f : eqb j k ≡ false = ne_eqb j k d in let g = used-other j k o d in rw f (omega (arith, a, g))
+    ]
+
+-- one free slot more
+pub used-free : (k : ℕ) (l : List ℕ) (o : Order) → used (with_section 0 l o) ≡ used o
+used-free k l o = used-same QUEUES (with_section 0 l o) o (λ q w. with-other 0 (suc q) l o (λ z. omega (arith, z)))

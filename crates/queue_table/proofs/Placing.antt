@@ -1,0 +1,193 @@
+-- One step down a tree, and the way back.
+use Rattle.std.proofs.Common.{◌≡◌, ℕ, ◌+◌, ◌<◌, ◌≤◌, Bool, true, false, cond, eqb, List, length, get_or, set, ap, ◌∙◌, sym, subst, arith, inl, inr, get_or-set_same, get_or-set_other, length-set}
+use Rattle.std.proofs.lemmas.Bool.{cases_Bool, eq-eqb, ne_eqb}
+use Rattle.step_record.specs.declared.item.Item.{Item}
+use Rattle.queue_table.specs.Trees.{Tree, leaf, fork, tally, branch, turn, grafted, lowest, plucked, lifted, detached}
+use Rattle.queue_table.specs.Places.{IsOutside, IsWhole, IsFree, IsThere, Replaces}
+use Rattle.queue_table.proofs.Trees.{tally-here, same-slot, same-tree, any_default}
+use Rattle.queue_table.proofs.Sorting.{right-side, left-side}
+
+module _ (roots : ℕ) (links : List ℕ) (place i : ℕ) (l r : Tree) (w : IsWhole links roots place (fork i l r)) where
+  lone : tally i l + tally i r ≡ 0
+  lone = let c = tally-here i l r in let o = w.once i in omega (arith, c, o)
+
+  -- a slot of one branch is not the one above
+  not-here : (k : ℕ) → 1 ≤ tally k l + tally k r → i ≡ k → ⊥
+  not-here k m e = let a = ap (λ j. tally j l + tally j r) e in let z = lone in omega (arith, a, z, m)
+
+  pub right-whole : IsWhole links roots (branch roots i true) r
+  right-whole = record {
+    tree = w.tree.4;
+    once = λ k. (let o = w.once k in omega (arith, o));
+    outside = λ k side m e. not-here k (omega (arith, m)) (same-slot roots i k true side e);
+    within = w.tree.2;
+  }
+
+  pub left-whole : IsWhole links roots (branch roots i false) l
+  left-whole = record {
+    tree = w.tree.3;
+    once = λ k. (let o = w.once k in omega (arith, o));
+    outside = λ k side m e. not-here k (omega (arith, m)) (same-slot roots i k false side e);
+    within = (let p = w.tree.2 in omega (arith, p));
+  }
+
+  module _ (links2 : List ℕ) where
+    pub right-replaced : (r2 : Tree) → Replaces roots links links2 (branch roots i true) r r2 → Replaces roots links links2 place (fork i l r) (fork i l r2)
+    right-replaced r2 p =
+        let here = tally-here i l r in
+        let past : (q : ℕ) → IsOutside roots q (fork i l r) → get_or links2 q 0 ≡ get_or links q 0 =
+        λ q o. p.others q (o i true (omega (arith, here))) (λ k side m. o k side (omega (arith, m))) in
+        let beside : (k : ℕ) (side : Bool) → 1 ≤ tally k l → get_or links2 (branch roots k side) 0 ≡ get_or links (branch roots k side) 0 =
+        λ k side m. p.others (branch roots k side) (λ e. not-here k (omega (arith, m)) (sym (same-slot roots k i side true e)))
+        (λ j other n e. let s = same-slot roots k j side other e in let a = ap (λ x. tally x r) s in let o = w.once k in omega (arith, a, o, m, n)) in
+        let head : get_or links2 place 0 ≡ get_or links place 0 = past place w.outside in
+        let left : get_or links2 (branch roots i false) 0 ≡ get_or links (branch roots i false) 0 =
+        p.others (branch roots i false) (λ e. omega (arith, e)) (λ k side m e. not-here k (omega (arith, m)) (same-slot roots i k false side e)) in
+        let size = p.size in
+        let room = w.tree.2 in
+        record {
+          tree = (head ∙ w.tree.0, w.tree.1, omega (arith, room, size), same-tree links links2 roots (branch roots i false) (branch roots i false) l p.size left beside w.tree.3, p.tree);
+          others = λ q d o. past q o;
+          size = p.size;
+        }
+
+    pub left-replaced : (l2 : Tree) → Replaces roots links links2 (branch roots i false) l l2 → Replaces roots links links2 place (fork i l r) (fork i l2 r)
+    left-replaced l2 p =
+        let here = tally-here i l r in
+        let past : (q : ℕ) → IsOutside roots q (fork i l r) → get_or links2 q 0 ≡ get_or links q 0 =
+        λ q o. p.others q (o i false (omega (arith, here))) (λ k side m. o k side (omega (arith, m))) in
+        let beside : (k : ℕ) (side : Bool) → 1 ≤ tally k r → get_or links2 (branch roots k side) 0 ≡ get_or links (branch roots k side) 0 =
+        λ k side m. p.others (branch roots k side) (λ e. not-here k (omega (arith, m)) (sym (same-slot roots k i side false e)))
+        (λ j other n e. let s = same-slot roots k j side other e in let a = ap (λ x. tally x l) s in let o = w.once k in omega (arith, a, o, m, n)) in
+        let head : get_or links2 place 0 ≡ get_or links place 0 = past place w.outside in
+        let right : get_or links2 (branch roots i true) 0 ≡ get_or links (branch roots i true) 0 =
+        p.others (branch roots i true) (λ e. omega (arith, e)) (λ k side m e. not-here k (omega (arith, m)) (same-slot roots i k true side e)) in
+        let size = p.size in
+        let room = w.tree.2 in
+        record {
+          tree = (head ∙ w.tree.0, w.tree.1, omega (arith, room, size), p.tree, same-tree links links2 roots (branch roots i true) (branch roots i true) r p.size right beside w.tree.4);
+          others = λ q d o. past q o;
+          size = p.size;
+        }
+
+-- a slot put where there is none
+pub graft-end : (roots : ℕ) (links : List ℕ) (place at depth : ℕ) (item : Item) (t : Tree) → 1 ≤ at → branch roots at true < length links → IsWhole links roots place t → IsFree links roots place at t →
+    get_or links place 0 ≡ 0 → Replaces roots links (set links place at) place t (grafted depth item at t)
+graft-end roots links place at depth item leaf real room w f z = record {
+  tree = (get_or-set_same links place at 0 w.within, real, (let s = length-set links place at in omega (arith, s, room)), bare false, bare true);
+  others = λ q d o. get_or-set_other links place q at 0 d;
+  size = length-set links place at;
+}
+  where
+    bare : (side : Bool) → get_or (set links place at) (branch roots at side) 0 ≡ 0
+    bare side = get_or-set_other links place (branch roots at side) at 0 (λ e. f.apart side (sym e)) ∙ f.bare side
+graft-end roots links place at depth item (fork i l r) real room w f z = absurd (let a = w.tree.0 in let b = w.tree.1 in omega (arith, a, b, z))
+
+-- a slot put further down
+pub graft-on : (roots : ℕ) (links links2 : List ℕ) (place at depth next below : ℕ) (item : Item) (t : Tree) → IsWhole links roots place t → IsFree links roots place at t →
+    next ≡ get_or links place 0 → (next ≡ 0 → ⊥) → below ≡ branch roots next (turn depth item) →
+    ((u : Tree) → IsWhole links roots below u → IsFree links roots below at u → Replaces roots links links2 below u (grafted (depth + 1) item at u)) →
+    Replaces roots links links2 place t (grafted depth item at t)
+graft-on roots links links2 place at depth next below item leaf w f n some b ih = absurd (some (n ∙ w.tree))
+graft-on roots links links2 place at depth next below item (fork i l r) w f n some b ih =
+    let is : next ≡ i = n ∙ w.tree.0 in
+    let fresh = f.fresh in
+    let apart : (side other : Bool) → branch roots i side ≡ branch roots at other → ⊥ =
+    λ side other e. let s = same-slot roots i at side other e in let a = ap (λ k. tally k (fork i l r)) s in let here = tally-here i l r in omega (arith, a, here, fresh) in
+    elim (cases_Bool (turn depth item)) as (λ _. Replaces roots links links2 place (fork i l r) (cond (turn depth item) (fork i l (grafted (depth + 1) item at r)) (fork i (grafted (depth + 1) item at l) r))) [
+      | inl e ↦
+          let p : below ≡ branch roots i true = b ∙ (ap (branch roots next) e ∙ ap (λ k. branch roots k true) is) in
+          rw e (right-replaced roots links place i l r w links2 (grafted (depth + 1) item at r)
+          (subst (λ q. Replaces roots links links2 q r (grafted (depth + 1) item at r)) p
+          (ih r (subst (λ q. IsWhole links roots q r) (sym p) (right-whole roots links place i l r w))
+          record { fresh = omega (arith, fresh); bare = f.bare; apart = λ side e2. apart true side (sym p ∙ e2) })))
+      | inr e ↦
+          let p : below ≡ branch roots i false = b ∙ (ap (branch roots next) e ∙ ap (λ k. branch roots k false) is) in
+          rw e (left-replaced roots links place i l r w links2 (grafted (depth + 1) item at l)
+          (subst (λ q. Replaces roots links links2 q l (grafted (depth + 1) item at l)) p
+          (ih l (subst (λ q. IsWhole links roots q l) (sym p) (left-whole roots links place i l r w))
+          record { fresh = omega (arith, fresh); bare = f.bare; apart = λ side e2. apart false side (sym p ∙ e2) })))
+    ]
+
+-- the slot at the place taken out
+pub detach-end : (roots : ℕ) (links links2 : List ℕ) (place at depth : ℕ) (item : Item) (t : Tree) → IsWhole links roots place t → 1 ≤ tally at t → get_or links place 0 ≡ at →
+    Replaces roots links links2 place t (lifted t) → Replaces roots links links2 place t (detached depth item at t)
+detach-end roots links links2 place at depth item leaf w m e p = absurd (omega (arith, m))
+detach-end roots links links2 place at depth item (fork i l r) w m e p = let g : eqb i at ≡ true = eq-eqb i at (sym w.tree.0 ∙ e) in rw g p
+
+-- a slot further down taken out
+pub detach-on : (roots : ℕ) (links links2 : List ℕ) (place at depth next below : ℕ) (item : Item) (item_of : ℕ → Item) (t : Tree) → IsWhole links roots place t → IsThere item_of at item depth t →
+    next ≡ get_or links place 0 → (next ≡ at → ⊥) → below ≡ branch roots next (turn depth item) →
+    ((u : Tree) → IsWhole links roots below u → IsThere item_of at item (depth + 1) u → Replaces roots links links2 below u (detached (depth + 1) item at u)) →
+    Replaces roots links links2 place t (detached depth item at t)
+detach-on roots links links2 place at depth next below item item_of leaf w h n other b ih = absurd (let m = h.stands in omega (arith, m))
+detach-on roots links links2 place at depth next below item item_of (fork i l r) w h n other b ih =
+    let is : next ≡ i = n ∙ w.tree.0 in
+    let apart : at ≡ i → ⊥ = λ e. other (is ∙ sym e) in
+    let g : eqb i at ≡ false = ne_eqb i at (λ e. apart (sym e)) in
+    rw g (elim (cases_Bool (turn depth item)) as (λ _. Replaces roots links links2 place (fork i l r) (cond (turn depth item) (fork i l (detached (depth + 1) item at r)) (fork i (detached (depth + 1) item at l) r))) [
+      | inl e ↦
+          let p : below ≡ branch roots i true = b ∙ (ap (branch roots next) e ∙ ap (λ k. branch roots k true) is) in
+          rw e (right-replaced roots links place i l r w links2 (detached (depth + 1) item at r)
+          (subst (λ q. Replaces roots links links2 q r (detached (depth + 1) item at r)) p
+          (ih r (subst (λ q. IsWhole links roots q r) (sym p) (right-whole roots links place i l r w))
+          record { stands = right-side item_of depth item at i l r h.sorted h.its apart h.stands e; its = h.its; sorted = h.sorted.1 })))
+      | inr e ↦
+          let p : below ≡ branch roots i false = b ∙ (ap (branch roots next) e ∙ ap (λ k. branch roots k false) is) in
+          rw e (left-replaced roots links place i l r w links2 (detached (depth + 1) item at l)
+          (subst (λ q. Replaces roots links links2 q l (detached (depth + 1) item at l)) p
+          (ih l (subst (λ q. IsWhole links roots q l) (sym p) (left-whole roots links place i l r w))
+          record { stands = left-side item_of depth item at i l r h.sorted h.its apart h.stands e; its = h.its; sorted = h.sorted.0 })))
+    ])
+
+-- a lowest slot taken out
+
+zero_read : (links : List ℕ) (q p x : ℕ) → x ≡ get_or links q x → x ≡ 0 → q ≡ p → get_or links p 0 ≡ 0
+zero_read links q p x s z e = let f = rw z at s in ap (λ (n : ℕ). get_or links n 0) (sym e) ∙ sym f
+
+some_read : (links : List ℕ) (q p x : ℕ) → x ≡ get_or links q x → (x ≡ 0 → ⊥) → q ≡ p → p < length links → get_or links p 0 ≡ 0 → ⊥
+some_read links q p x s z e w f = z (s ∙ (any_default links q x 0 (omega (arith, e, w)) ∙ (ap (λ (n : ℕ). get_or links n 0) e ∙ f)))
+
+module _ (roots : ℕ) (links : List ℕ) (place at left : ℕ) (e : at ≡ get_or links place 0) (s : 1 ≤ at) (b : left ≡ branch roots at false) where
+  pub pluck-end : (x y : ℕ) (t : Tree) → IsWhole links roots place t → x ≡ get_or links left x → x ≡ 0 → y ≡ get_or links (left + 1) y → y ≡ 0 →
+      Replaces roots links (set links place 0) place t (plucked t) × (at ≡ lowest 0 t)
+  pluck-end x y leaf w fx zx fy zy = absurd (let z = w.tree in omega (arith, z, e, s))
+  pluck-end x y (fork i leaf leaf) w fx zx fy zy = (
+    record {
+      tree = get_or-set_same links place 0 0 w.within;
+      others = λ q d o. get_or-set_other links place q 0 0 d;
+      size = length-set links place 0;
+    },
+    e ∙ w.tree.0,
+  )
+  pluck-end x y (fork i leaf (fork j u v)) w fx zx fy zy = absurd (
+      let is : at ≡ i = e ∙ w.tree.0 in let z = zero_read links (left + 1) (branch roots i true) y fy zy (omega (arith, b, is)) in let c = w.tree.4.0 in let d = w.tree.4.1 in omega (arith, z, c, d))
+  pluck-end x y (fork i (fork j u v) r) w fx zx fy zy = absurd (
+      let is : at ≡ i = e ∙ w.tree.0 in let z = zero_read links left (branch roots i false) x fx zx (omega (arith, b, is)) in let c = w.tree.3.0 in let d = w.tree.3.1 in omega (arith, z, c, d))
+
+  module _ (links2 : List ℕ) (last : ℕ) where
+    pub pluck-left : (x : ℕ) (t : Tree) → IsWhole links roots place t → x ≡ get_or links left x → (x ≡ 0 → ⊥) →
+        ((u : Tree) → IsWhole links roots left u → Replaces roots links links2 left u (plucked u)) → ((u : Tree) → IsWhole links roots left u → last ≡ lowest 0 u) →
+        Replaces roots links links2 place t (plucked t) × (last ≡ lowest 0 t)
+    pluck-left x leaf w fx zx f g = absurd (let z = w.tree in omega (arith, z, e, s))
+    pluck-left x (fork i leaf r) w fx zx f g =
+        absurd (let is : at ≡ i = e ∙ w.tree.0 in let m = w.tree.2 in some_read links left (branch roots i false) x fx zx (omega (arith, b, is)) (omega (arith, m)) w.tree.3)
+    pluck-left x (fork i (fork j c d) r) w fx zx f g =
+        let is : at ≡ i = e ∙ w.tree.0 in
+        let p : left ≡ branch roots i false = omega (arith, b, is) in
+        let u : IsWhole links roots left (fork j c d) = subst (λ q. IsWhole links roots q (fork j c d)) (sym p) (left-whole roots links place i (fork j c d) r w) in
+        (left-replaced roots links place i (fork j c d) r w links2 (plucked (fork j c d)) (subst (λ q. Replaces roots links links2 q (fork j c d) (plucked (fork j c d))) p (f (fork j c d) u)), g (fork j c d) u)
+
+    pub pluck-right : (x y : ℕ) (t : Tree) → IsWhole links roots place t → x ≡ get_or links left x → x ≡ 0 → y ≡ get_or links (left + 1) y → (y ≡ 0 → ⊥) →
+        ((u : Tree) → IsWhole links roots (left + 1) u → Replaces roots links links2 (left + 1) u (plucked u)) → ((u : Tree) → IsWhole links roots (left + 1) u → last ≡ lowest 0 u) →
+        Replaces roots links links2 place t (plucked t) × (last ≡ lowest 0 t)
+    pluck-right x y leaf w fx zx fy zy f g = absurd (let z = w.tree in omega (arith, z, e, s))
+    pluck-right x y (fork i (fork j c d) r) w fx zx fy zy f g = absurd (
+        let is : at ≡ i = e ∙ w.tree.0 in let z = zero_read links left (branch roots i false) x fx zx (omega (arith, b, is)) in let m = w.tree.3.0 in let n = w.tree.3.1 in omega (arith, z, m, n))
+    pluck-right x y (fork i leaf leaf) w fx zx fy zy f g =
+        absurd (let is : at ≡ i = e ∙ w.tree.0 in some_read links (left + 1) (branch roots i true) y fy zy (omega (arith, b, is)) w.tree.2 w.tree.4)
+    pluck-right x y (fork i leaf (fork j c d)) w fx zx fy zy f g =
+        let is : at ≡ i = e ∙ w.tree.0 in
+        let p : left + 1 ≡ branch roots i true = omega (arith, b, is) in
+        let u : IsWhole links roots (left + 1) (fork j c d) = subst (λ q. IsWhole links roots q (fork j c d)) (sym p) (right-whole roots links place i leaf (fork j c d) w) in
+        (right-replaced roots links place i leaf (fork j c d) w links2 (plucked (fork j c d)) (subst (λ q. Replaces roots links links2 q (fork j c d) (plucked (fork j c d))) p (f (fork j c d) u)), g (fork j c d) u)

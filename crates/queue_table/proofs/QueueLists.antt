@@ -1,0 +1,113 @@
+-- Queues of distinct items, by number.
+use Rattle.std.proofs.Common.{◌≡◌, ℕ, suc, zero, ◌+◌, ◌<◌, ◌≤◌, true, false, eqb, nat_lt, Some, None, List, ap, ◌∙◌, sym, refl, arith, inl, inr}
+use Rattle.std.proofs.lemmas.Bool.{cases_eq, cases_lt, lt-ltb, le-ltb, ne_eqb, eq-eqb}
+use Rattle.step_record.specs.declared.item.Item.{Item}
+use Rattle.queue_table.specs.declared.records.Entry.{Entry}
+use Rattle.queue_table.specs.Entries.{occurrences}
+use Rattle.queue_table.specs.Queues.{QUEUES, Queues, with_queue, queue_below, queue_holding, times_below, IsDistinct, after_removal}
+use Rattle.queue_table.proofs.EntryLists.{times-without, times-gone}
+
+-- the item stands in none of the queues
+abbrev pub IsAbsent : Item → Queues → Type 0
+IsAbsent i s = (q : ℕ) → q < QUEUES → occurrences i (s q) ≡ 0
+
+absent-below : (n : ℕ) (i : Item) (s : Queues) → queue_below n i s ≡ None → (q : ℕ) → q < n → occurrences i (s q) ≡ 0
+absent-below zero i s h q w = absurd (omega (arith, w))
+absent-below (suc n) i s h q w =
+    elim (cases_lt 0 (occurrences i (s n))) [
+      | inl a ↦ absurd (let e = lt-ltb 0 (occurrences i (s n)) a in let no : Some n ≡ None = rw e at h in cc (no))
+      | inr a ↦
+          let e = le-ltb 0 (occurrences i (s n)) (omega (arith, a)) in
+          let h2 : queue_below n i s ≡ None = rw e at h in
+          elim (cases_eq q n) [
+            | inl z ↦ let b = ap (λ x. occurrences i (s x)) z in omega (arith, a, b)
+            | inr z ↦ absent-below n i s h2 q (omega (arith, w, z))
+          ]
+    ]
+
+pub absent : (i : Item) (s : Queues) → queue_holding i s ≡ None → IsAbsent i s
+absent i s h = absent-below QUEUES i s h
+
+is-absent-below : (n : ℕ) (i : Item) (s : Queues) → ((q : ℕ) → q < n → occurrences i (s q) ≡ 0) → queue_below n i s ≡ None
+is-absent-below zero i s h = refl
+is-absent-below (suc n) i s h =
+    let a = h n (omega arith) in
+    let e : nat_lt 0 (occurrences i (s n)) ≡ false = le-ltb 0 (occurrences i (s n)) (omega (arith, a)) in
+    rw e (is-absent-below n i s (λ q w. h q (omega (arith, w))))
+
+pub is_absent : (i : Item) (s : Queues) → IsAbsent i s → queue_holding i s ≡ None
+is_absent i s h = is-absent-below QUEUES i s h
+
+times-in : (n q : ℕ) (i : Item) (s : Queues) → q < n → occurrences i (s q) ≤ times_below n i s
+times-in zero q i s h = absurd (omega (arith, h))
+times-in (suc n) q i s h =
+    elim (cases_eq q n) [
+      | inl e ↦ let b = ap (λ x. occurrences i (s x)) e in omega (arith, b)
+      | inr d ↦ let r = times-in n q i s (omega (arith, h, d)) in omega (arith, r)
+    ]
+
+placed-below : (n q : ℕ) (i : Item) (s : Queues) → times_below n i s ≤ 1 → q < n → 1 ≤ occurrences i (s q) → queue_below n i s ≡ Some q
+placed-below zero q i s u w h = absurd (omega (arith, w))
+placed-below (suc n) q i s u w h =
+    elim (cases_eq q n) [
+      | inl e ↦
+          let b = ap (λ x. occurrences i (s x)) e in
+          let f : nat_lt 0 (occurrences i (s n)) ≡ true = lt-ltb 0 (occurrences i (s n)) (omega (arith, b, h)) in
+          rw f (ap Some (sym e))
+      | inr d ↦
+          let t = times-in n q i s (omega (arith, w, d)) in
+          let f : nat_lt 0 (occurrences i (s n)) ≡ false = le-ltb 0 (occurrences i (s n)) (omega (arith, t, h, u)) in
+          rw f (placed-below n q i s (omega (arith, u)) (omega (arith, w, d)) h)
+    ]
+
+pub placed : (q : ℕ) (i : Item) (s : Queues) → q < QUEUES → IsDistinct s → 1 ≤ occurrences i (s q) → queue_holding i s ≡ Some q
+placed q i s w u h = placed-below QUEUES q i s (u i) w h
+
+pub queue-few : (q : ℕ) (s : Queues) → q < QUEUES → IsDistinct s → (i : Item) → occurrences i (s q) ≤ 1
+queue-few q s w u i = let n = u i in let t = times-in QUEUES q i s w in omega (arith, n, t)
+
+-- taking out
+
+pub absent-taken : (i : Item) (s : Queues) → IsAbsent i (after_removal i s)
+absent-taken i s q w = times-gone i (s q)
+
+pub distinct-taken : (i : Item) (s : Queues) → IsDistinct s → IsDistinct (after_removal i s)
+distinct-taken i s u j = let a = less QUEUES in let n = u j in omega (arith, a, n)
+  where
+    less : (n : ℕ) → times_below n j (after_removal i s) ≤ times_below n j s
+    less zero = omega arith
+    less (suc n) = let a = times-without i j (s n) in let r = less n in omega (arith, a, r)
+
+-- an item that stands nowhere still stands nowhere once another is out
+pub still-absent : (i v : Item) (s : Queues) → IsAbsent i s → IsAbsent i (after_removal v s)
+still-absent i v s h q w = let a = h q w in let l = times-without v i (s q) in omega (arith, a, l)
+
+-- one queue replaced
+
+pub with-queue-same : (q : ℕ) (l : List Entry) (s : Queues) → with_queue q l s q ≡ l
+with-queue-same q l s = let f : eqb q q ≡ true = eq-eqb q q refl in rw f refl
+
+pub with-queue-other : (q j : ℕ) (l : List Entry) (s : Queues) → (j ≡ q → ⊥) → with_queue q l s j ≡ s j
+with-queue-other q j l s d = let f : eqb j q ≡ false = ne_eqb j q d in rw f refl
+
+times-past : (n q : ℕ) (i : Item) (l : List Entry) (s : Queues) → n ≤ q → times_below n i (with_queue q l s) ≡ times_below n i s
+times-past zero q i l s h = refl
+times-past (suc n) q i l s h =
+    let a = ap (occurrences i) (with-queue-other q n l s (λ e. omega (arith, e, h))) in
+    let r = times-past n q i l s (omega (arith, h)) in
+    omega (arith, a, r)
+
+pub times-with : (n q : ℕ) (i : Item) (l : List Entry) (s : Queues) → q < n → times_below n i (with_queue q l s) + occurrences i (s q) ≡ times_below n i s + occurrences i l
+times-with zero q i l s h = absurd (omega (arith, h))
+times-with (suc n) q i l s h =
+    elim (cases_eq q n) [
+      | inl e ↦
+          let a = times-past n q i l s (omega (arith, e)) in
+          let b = ap (λ x. occurrences i (with_queue q l s x)) (sym e) ∙ ap (occurrences i) (with-queue-same q l s) in
+          let c = ap (λ x. occurrences i (s x)) e in
+          omega (arith, a, b, c)
+      | inr d ↦
+          let r = times-with n q i l s (omega (arith, h, d)) in
+          let b = ap (occurrences i) (with-queue-other q n l s (λ z. omega (arith, z, d))) in
+          omega (arith, r, b)
+    ]

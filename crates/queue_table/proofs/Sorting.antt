@@ -1,0 +1,134 @@
+-- Search trees by the ways of their items.
+use Rattle.std.proofs.Common.{◌≡◌, ℕ, ◌+◌, ◌≤◌, true, false, Bool, cond, eqb, ap, ◌∙◌, sym, refl, arith, inl, inr}
+use Rattle.std.proofs.lemmas.Bool.{eq-eqb, ne_eqb, cases_Bool, cases_eq}
+use Rattle.step_record.specs.declared.item.Item.{Item}
+use Rattle.queue_table.specs.Trees.{Tree, leaf, fork, tally, turn, IsSorted, grafted, lowest, pruned, plucked, renamed, lifted, detached}
+use Rattle.queue_table.proofs.Trees.{some_or_none, tally-past}
+
+pub clash : (b : Bool) → b ≡ true → b ≡ false → ⊥
+clash b t f = let n : ◌≡◌ {A = ℕ} 1 0 = ap (λ (c : Bool). cond c 1 0) (sym t ∙ f) in omega (arith, n)
+
+-- items that stay leave the ways as they are
+pub sorted-same : (its its2 : ℕ → Item) (d : ℕ) (t : Tree) → ((k : ℕ) → 1 ≤ tally k t → its2 k ≡ its k) → IsSorted its d t → IsSorted its2 d t
+sorted-same its its2 d leaf e s = s
+sorted-same its its2 d (fork i l r) e s = (
+  sorted-same its its2 (d + 1) l (λ k m. e k (omega (arith, m))) s.0,
+  sorted-same its its2 (d + 1) r (λ k m. e k (omega (arith, m))) s.1,
+  (λ k m. ap (turn d) (e k (omega (arith, m))) ∙ s.2 k m),
+  (λ k m. ap (turn d) (e k (omega (arith, m))) ∙ s.3 k m),
+)
+
+-- a slot more
+
+pub grafted-tally : (d : ℕ) (x : Item) (at k : ℕ) (t : Tree) → tally k (grafted d x at t) ≡ cond (eqb k at) 1 0 + tally k t
+grafted-tally d x at k leaf = omega arith
+grafted-tally d x at k (fork i l r) =
+    elim (cases_Bool (turn d x)) as (λ _. tally k (cond (turn d x) (fork i l (grafted (d + 1) x at r)) (fork i (grafted (d + 1) x at l) r)) ≡ cond (eqb k at) 1 0 + tally k (fork i l r)) [
+      | inl e ↦ rw e (let h = grafted-tally (d + 1) x at k r in omega (arith, h))
+      | inr e ↦ rw e (let h = grafted-tally (d + 1) x at k l in omega (arith, h))
+    ]
+
+pub grafted-sorted : (its : ℕ → Item) (d : ℕ) (x : Item) (at : ℕ) (t : Tree) → its at ≡ x → IsSorted its d t → IsSorted its d (grafted d x at t)
+grafted-sorted its d x at leaf e s = (tt, tt, (λ k m. absurd (omega (arith, m))), (λ k m. absurd (omega (arith, m))))
+grafted-sorted its d x at (fork i l r) e s =
+    elim (cases_Bool (turn d x)) as (λ _. IsSorted its d (cond (turn d x) (fork i l (grafted (d + 1) x at r)) (fork i (grafted (d + 1) x at l) r))) [
+      | inl b ↦ rw b (s.0, grafted-sorted its (d + 1) x at r e s.1, s.2, (λ k m. side k r true b s.3 m))
+      | inr b ↦ rw b (grafted-sorted its (d + 1) x at l e s.0, s.1, (λ k m. side k l false b s.2 m), s.3)
+    ]
+  where
+    side : (k : ℕ) (u : Tree) (b : Bool) → turn d x ≡ b → ((j : ℕ) → 1 ≤ tally j u → turn d (its j) ≡ b) → 1 ≤ tally k (grafted (d + 1) x at u) → turn d (its k) ≡ b
+    side k u b w f m =
+        let h = grafted-tally (d + 1) x at k u in
+        elim (cases_eq k at) [
+          | inl q ↦ ap (λ j. turn d (its j)) q ∙ (ap (turn d) e ∙ w)
+          | inr q ↦ let g : eqb k at ≡ false = ne_eqb k at q in let h2 = rw g at h in f k (omega (arith, h2, m))
+        ]
+
+-- the lowest slot taken out
+
+abbrev last : ℕ → ℕ → Tree → ℕ
+last d k leaf = 0
+last d k (fork i l r) = cond (eqb k (lowest d (fork i l r))) 1 0
+
+pruned-tally : (d k i : ℕ) (l r : Tree) → tally k l ≡ last (lowest i r) k l + tally k (plucked l) → tally k r ≡ last i k r + tally k (plucked r) →
+    tally k (fork i l r) ≡ cond (eqb k (lowest d (fork i l r))) 1 0 + tally k (pruned i l r (plucked l) (plucked r))
+pruned-tally d k i (fork j a b) r x y = omega (arith, x)
+pruned-tally d k i leaf (fork j a b) x y = omega (arith, y)
+pruned-tally d k i leaf leaf x y = omega arith
+
+tree-tally : (d k : ℕ) (t : Tree) → tally k t ≡ last d k t + tally k (plucked t)
+tree-tally d k leaf = omega arith
+tree-tally d k (fork i l r) = pruned-tally d k i l r (tree-tally (lowest i r) k l) (tree-tally i k r)
+
+pub plucked-tally : (k i : ℕ) (l r : Tree) → tally k (fork i l r) ≡ cond (eqb k (lowest 0 (fork i l r))) 1 0 + tally k (plucked (fork i l r))
+plucked-tally k i l r = tree-tally 0 k (fork i l r)
+
+pub lifted-tally : (k i : ℕ) (l r : Tree) → tally k (fork i l r) ≡ cond (eqb k i) 1 0 + tally k (lifted (fork i l r))
+lifted-tally k i (fork j a b) r = let h = plucked-tally k i (fork j a b) r in omega (arith, h)
+lifted-tally k i leaf (fork j a b) = let h = plucked-tally k i leaf (fork j a b) in omega (arith, h)
+lifted-tally k i leaf leaf = omega arith
+
+pruned-sorted : (its : ℕ → Item) (d i : ℕ) (l r : Tree) → IsSorted its (d + 1) (plucked l) → IsSorted its (d + 1) (plucked r) → IsSorted its d (fork i l r) → IsSorted its d (pruned i l r (plucked l) (plucked r))
+pruned-sorted its d i (fork j a b) r x y s = (x, s.1, (λ k m. s.2 k (let h = plucked-tally k j a b in omega (arith, h, m))), s.3)
+pruned-sorted its d i leaf (fork j a b) x y s = (tt, y, (λ k m. absurd (omega (arith, m))), (λ k m. s.3 k (let h = plucked-tally k j a b in omega (arith, h, m))))
+pruned-sorted its d i leaf leaf x y s = tt
+
+plucked-sorted : (its : ℕ → Item) (d : ℕ) (t : Tree) → IsSorted its d t → IsSorted its d (plucked t)
+plucked-sorted its d leaf s = s
+plucked-sorted its d (fork i l r) s = pruned-sorted its d i l r (plucked-sorted its (d + 1) l s.0) (plucked-sorted its (d + 1) r s.1) s
+
+renamed-sorted : (its : ℕ → Item) (d k : ℕ) (t : Tree) → IsSorted its d t → IsSorted its d (renamed k t)
+renamed-sorted its d k leaf s = s
+renamed-sorted its d k (fork i l r) s = s
+
+pub lifted-sorted : (its : ℕ → Item) (d : ℕ) (t : Tree) → IsSorted its d t → IsSorted its d (lifted t)
+lifted-sorted its d t s = renamed-sorted its d (lowest 0 t) (plucked t) (plucked-sorted its d t s)
+
+-- a slot taken out
+
+-- on which side the slot stands
+pub right-side : (its : ℕ → Item) (d : ℕ) (x : Item) (at i : ℕ) (l r : Tree) → IsSorted its d (fork i l r) → its at ≡ x → (at ≡ i → ⊥) → 1 ≤ tally at (fork i l r) → turn d x ≡ true → 1 ≤ tally at r
+right-side its d x at i l r s e n m b =
+    let p = tally-past at i l r n in
+    elim (some_or_none (tally at l)) [
+      | inl y ↦ absurd (clash (turn d x) b (ap (turn d) (sym e) ∙ s.2 at y))
+      | inr z ↦ omega (arith, p, m, z)
+    ]
+
+pub left-side : (its : ℕ → Item) (d : ℕ) (x : Item) (at i : ℕ) (l r : Tree) → IsSorted its d (fork i l r) → its at ≡ x → (at ≡ i → ⊥) → 1 ≤ tally at (fork i l r) → turn d x ≡ false → 1 ≤ tally at l
+left-side its d x at i l r s e n m b =
+    let p = tally-past at i l r n in
+    elim (some_or_none (tally at r)) [
+      | inl y ↦ absurd (clash (turn d x) (ap (turn d) (sym e) ∙ s.3 at y) b)
+      | inr z ↦ omega (arith, p, m, z)
+    ]
+
+pub detached-tally : (its : ℕ → Item) (d : ℕ) (x : Item) (at k : ℕ) (t : Tree) → IsSorted its d t → its at ≡ x → 1 ≤ tally at t → tally k t ≡ cond (eqb k at) 1 0 + tally k (detached d x at t)
+detached-tally its d x at k leaf s e m = absurd (omega (arith, m))
+detached-tally its d x at k (fork i l r) s e m =
+    elim (cases_eq at i) as (λ _. tally k (fork i l r) ≡ cond (eqb k at) 1 0 + tally k (cond (eqb i at) (lifted (fork i l r)) (cond (turn d x) (fork i l (detached (d + 1) x at r)) (fork i (detached (d + 1) x at l) r)))) [
+      | inl q ↦ let g : eqb i i ≡ true = eq-eqb i i refl in rw (q, g) (lifted-tally k i l r)
+      | inr q ↦ (
+          let g : eqb i at ≡ false = ne_eqb i at (λ z. q (sym z)) in
+          rw g (elim (cases_Bool (turn d x)) as (λ _. tally k (fork i l r) ≡ cond (eqb k at) 1 0 + tally k (cond (turn d x) (fork i l (detached (d + 1) x at r)) (fork i (detached (d + 1) x at l) r))) [
+            | inl b ↦ rw b (let h = detached-tally its (d + 1) x at k r s.1 e (right-side its d x at i l r s e q m b) in omega (arith, h))
+            | inr b ↦ rw b (let h = detached-tally its (d + 1) x at k l s.0 e (left-side its d x at i l r s e q m b) in omega (arith, h))
+          ]))
+    ]
+
+pub detached-sorted : (its : ℕ → Item) (d : ℕ) (x : Item) (at : ℕ) (t : Tree) → IsSorted its d t → its at ≡ x → 1 ≤ tally at t → IsSorted its d (detached d x at t)
+detached-sorted its d x at leaf s e m = tt
+detached-sorted its d x at (fork i l r) s e m =
+    elim (cases_eq at i) as (λ _. IsSorted its d (cond (eqb i at) (lifted (fork i l r)) (cond (turn d x) (fork i l (detached (d + 1) x at r)) (fork i (detached (d + 1) x at l) r)))) [
+      | inl q ↦ let g : eqb i at ≡ true = eq-eqb i at (sym q) in rw g (lifted-sorted its d (fork i l r) s)
+      | inr q ↦ (
+          let g : eqb i at ≡ false = ne_eqb i at (λ z. q (sym z)) in
+          rw g (elim (cases_Bool (turn d x)) as (λ _. IsSorted its d (cond (turn d x) (fork i l (detached (d + 1) x at r)) (fork i (detached (d + 1) x at l) r))) [
+            | inl b ↦ (
+                let there = right-side its d x at i l r s e q m b in
+                rw b (s.0, detached-sorted its (d + 1) x at r s.1 e there, s.2, (λ k n. s.3 k (let h = detached-tally its (d + 1) x at k r s.1 e there in omega (arith, h, n)))))
+            | inr b ↦ (
+                let there = left-side its d x at i l r s e q m b in
+                rw b (detached-sorted its (d + 1) x at l s.0 e there, s.1, (λ k n. s.2 k (let h = detached-tally its (d + 1) x at k l s.0 e there in omega (arith, h, n))), s.3))
+          ]))
+    ]

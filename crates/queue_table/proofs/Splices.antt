@@ -1,0 +1,165 @@
+-- Splices of one slot out of linked slots and into them.
+use Rattle.std.proofs.Common.{◌≡◌, ℕ, suc, zero, ◌+◌, ◌<◌, ◌≤◌, true, cond, eqb, List, [], ◌∷◌, ◌++◌, length, get_or, set, ap, ◌∙◌, sym, refl, arith, get_or-set_same, get_or-set_other, length-set, append-nil, map}
+use Rattle.std.proofs.lemmas.Bool.{eq-eqb}
+use Rattle.queue_table.specs.Ring.{count, IsLinked, walk}
+
+pub count-append : (k : ℕ) (xs ys : List ℕ) → count k (xs ++ ys) ≡ count k xs + count k ys
+count-append k [] ys = omega arith
+count-append k (x ∷ xs) ys = let h : count k (xs ++ ys) ≡ count k xs + count k ys = count-append k xs ys in omega (arith, h)
+
+pub count-here : (k : ℕ) (l : List ℕ) → count k (k ∷ l) ≡ 1 + count k l
+count-here k l = let e : eqb k k ≡ true = eq-eqb k k refl in rw e refl
+
+pub apart : (k x : ℕ) (l : List ℕ) → count k (x ∷ l) ≡ 0 → k ≡ x → ⊥
+apart k x l h e = let n : count k (x ∷ l) ≡ 1 + count k l = rw (← e) (count-here k l) in omega arith
+
+-- a link of a slot that does not stand there
+pub linked-newer : (ns os : List ℕ) (a : ℕ) (l : List ℕ) (b u v : ℕ) → count u (a ∷ l) ≡ 0 → IsLinked ns os a l b → IsLinked (set ns u v) os a l b
+linked-newer ns os a [] b u v h k = (get_or-set_other ns u a v 0 (λ e. apart u a [] h (sym e)) ∙ k.0, k.1)
+linked-newer ns os a (i ∷ l) b u v h k =
+    let rest : count u (i ∷ l) ≡ 0 = omega arith in
+    (get_or-set_other ns u a v 0 (λ e. apart u a (i ∷ l) h (sym e)) ∙ k.0, k.1, linked-newer ns os i l b u v rest k.2)
+
+pub linked-older : (ns os : List ℕ) (a : ℕ) (l : List ℕ) (b u v : ℕ) → count u (l ++ b ∷ []) ≡ 0 → IsLinked ns os a l b → IsLinked ns (set os u v) a l b
+linked-older ns os a [] b u v h k = (k.0, get_or-set_other os u b v 0 (λ e. apart u b [] h (sym e)) ∙ k.1)
+linked-older ns os a (i ∷ l) b u v h k =
+    let rest : count u (l ++ b ∷ []) ≡ 0 = omega arith in
+    (k.0, get_or-set_other os u i v 0 (λ e. apart u i (l ++ b ∷ []) h (sym e)) ∙ k.1, linked-older ns os i l b u v rest k.2)
+
+-- two stretches
+pub linked-split : (ns os : List ℕ) (a : ℕ) (xs : List ℕ) (i : ℕ) (ys : List ℕ) (b : ℕ) → IsLinked ns os a (xs ++ i ∷ ys) b → IsLinked ns os a xs i × IsLinked ns os i ys b
+linked-split ns os a [] i ys b k = ((k.0, k.1), k.2)
+linked-split ns os a (x ∷ xs) i ys b k = let r = linked-split ns os x xs i ys b k.2 in ((k.0, k.1, r.0), r.1)
+
+pub linked-join : (ns os : List ℕ) (a : ℕ) (xs : List ℕ) (i : ℕ) (ys : List ℕ) (b : ℕ) → IsLinked ns os a xs i → IsLinked ns os i ys b → IsLinked ns os a (xs ++ i ∷ ys) b
+linked-join ns os a [] i ys b k r = (k.0, k.1, r)
+linked-join ns os a (x ∷ xs) i ys b k r = (k.0, k.1, linked-join ns os x xs i ys b k.2 r)
+
+-- the two ends of a stretch
+
+abbrev pub end_of : ℕ → List ℕ → ℕ
+end_of a [] = a
+end_of a (x ∷ xs) = end_of x xs
+
+abbrev pub start_of : List ℕ → ℕ → ℕ
+start_of [] b = b
+start_of (x ∷ xs) b = x
+
+pub end-stands : (a : ℕ) (xs : List ℕ) → 1 ≤ count (end_of a xs) (a ∷ xs)
+end-stands a [] = let n = count-here a [] in omega (arith, n)
+end-stands a (x ∷ xs) = let n = end-stands x xs in omega (arith, n)
+
+pub start-stands : (ys : List ℕ) (b : ℕ) → 1 ≤ count (start_of ys b) (ys ++ b ∷ [])
+start-stands [] b = let n = count-here b [] in omega (arith, n)
+start-stands (y ∷ ys) b = let n = count-here y (ys ++ b ∷ []) in omega (arith, n)
+
+pub older-end : (ns os : List ℕ) (a : ℕ) (xs : List ℕ) (i : ℕ) → IsLinked ns os a xs i → get_or os i 0 ≡ end_of a xs
+older-end ns os a [] i k = k.1
+older-end ns os a (x ∷ xs) i k = older-end ns os x xs i k.2
+
+pub newer-start : (ns os : List ℕ) (i : ℕ) (ys : List ℕ) (b : ℕ) → IsLinked ns os i ys b → get_or ns i 0 ≡ start_of ys b
+newer-start ns os i [] b k = k.0
+newer-start ns os i (y ∷ ys) b k = k.0
+
+-- the last link of a stretch led elsewhere
+pub linked-to : (ns os : List ℕ) (a : ℕ) (xs : List ℕ) (i b : ℕ) → end_of a xs < length ns → b < length os → (count (end_of a xs) (a ∷ xs) ≤ 1) → count b xs ≡ 0 → IsLinked ns os a xs i → IsLinked (set ns (end_of a xs) b) (set os b (end_of a xs)) a xs b
+linked-to ns os a [] i b u v few none k = (get_or-set_same ns a b 0 u, get_or-set_same os b a 0 v)
+linked-to ns os a (x ∷ xs) i b u v few none k =
+    let stands = end-stands x xs in
+    let e : end_of x xs ≡ end_of x xs = refl in
+    let away : count (end_of x xs) (a ∷ []) ≡ 0 = omega arith in
+    let rest : count b xs ≡ 0 = omega arith in (
+      get_or-set_other ns (end_of x xs) a b 0 (λ h. apart (end_of x xs) a [] away (sym h)) ∙ k.0,
+      get_or-set_other os b x (end_of x xs) 0 (λ h. apart b x xs none (sym h)) ∙ k.1,
+      linked-to ns os x xs i b u v (omega arith) rest k.2,
+    )
+
+count-self : (k : ℕ) → ◌≡◌ {A = ℕ} (cond (eqb k k) 1 0) 1
+count-self k = let e : eqb k k ≡ true = eq-eqb k k refl in rw e refl
+
+-- a slot leaves
+module _ (ns os : List ℕ) (a : ℕ) (xs : List ℕ) (i b : ℕ) where
+  pub unlinked : (ys : List ℕ) →
+      ((k : ℕ) → count k (a ∷ xs) + (cond (eqb k i) 1 0 + count k ys) ≤ 1) →
+      ((k : ℕ) → count k xs + (cond (eqb k i) 1 0 + count k (ys ++ b ∷ [])) ≤ 1) →
+      end_of a xs < length ns → start_of ys b < length os →
+      IsLinked ns os a (xs ++ i ∷ ys) b →
+      IsLinked (set ns (end_of a xs) (start_of ys b)) (set os (start_of ys b) (end_of a xs)) a (xs ++ ys) b
+  unlinked [] d e u v k =
+      let s = linked-split ns os a xs i [] b k in
+      let stands = end-stands a xs in
+      let f = d (end_of a xs) in
+      let g = e b in
+      let h = count-here b [] in
+      rw (append-nil xs) (linked-to ns os a xs i b u v (omega arith) (omega arith) s.0)
+  unlinked (j ∷ ys) d e u v k =
+      let s = linked-split ns os a xs i (j ∷ ys) b k in
+      let stands = end-stands a xs in
+      let f = d (end_of a xs) in
+      let g = e j in
+      let h = count-here j (ys ++ b ∷ []) in
+      let front = linked-to ns os a xs i j u v (omega arith) (omega arith) s.0 in
+      let back = linked-newer ns (set os j (end_of a xs)) j ys b (end_of a xs) j (omega arith) (linked-older ns os j ys b j (end_of a xs) (omega arith) s.1.2) in
+      linked-join (set ns (end_of a xs) j) (set os j (end_of a xs)) a xs j ys b front back
+
+  -- a slot comes
+  pub linked : (ys : List ℕ) →
+      ((k : ℕ) → count k (a ∷ xs) + (cond (eqb k i) 1 0 + count k ys) ≤ 1) →
+      ((k : ℕ) → count k xs + (cond (eqb k i) 1 0 + count k (ys ++ b ∷ [])) ≤ 1) →
+      end_of a xs < length ns → i < length ns → i < length os → start_of ys b < length os →
+      IsLinked ns os a (xs ++ ys) b →
+      IsLinked (set (set ns (end_of a xs) i) i (start_of ys b)) (set (set os i (end_of a xs)) (start_of ys b) i) a (xs ++ i ∷ ys) b
+  linked [] d e u w x v k =
+      let stands = end-stands a xs in
+      let f = d (end_of a xs) in
+      let di = d i in
+      let ei = e i in
+      let g = e b in
+      let h = count-here b [] in
+      let hi = count-here i [] in
+      let one = count-self i in
+      let old = rw (append-nil xs) at k in
+      let gone : count b (xs ++ i ∷ []) ≡ 0 = (let p = count-append b xs (i ∷ []) in omega arith) in
+      let front = linked-to ns os a xs b i u x (omega arith) (omega arith) old in
+      let front2 = linked-newer (set ns (end_of a xs) i) (set os i (end_of a xs)) a xs i i b (omega arith) front in
+      let front3 = linked-older (set (set ns (end_of a xs) i) i b) (set os i (end_of a xs)) a xs i b i gone front2 in
+      linked-join _ _ a xs i [] b front3 (
+        get_or-set_same (set ns (end_of a xs) i) i b 0 (rw (length-set ns (end_of a xs) i) w),
+        get_or-set_same (set os i (end_of a xs)) b i 0 (rw (length-set os i (end_of a xs)) v),
+      )
+  linked (j ∷ ys) d e u w x v k =
+      let s = linked-split ns os a xs j ys b k in
+      let stands = end-stands a xs in
+      let f = d (end_of a xs) in
+      let di = d i in
+      let ei = e i in
+      let g = e j in
+      let dj = d j in
+      let h = count-here j (ys ++ b ∷ []) in
+      let one = count-self i in
+      let onej = count-self j in
+      let gone : count j (xs ++ i ∷ []) ≡ 0 = (let p = count-append j xs (i ∷ []) in omega arith) in
+      let front = linked-to ns os a xs j i u x (omega arith) (omega arith) s.0 in
+      let front2 = linked-newer (set ns (end_of a xs) i) (set os i (end_of a xs)) a xs i i j (omega arith) front in
+      let front3 = linked-older (set (set ns (end_of a xs) i) i j) (set os i (end_of a xs)) a xs i j i gone front2 in
+      let back = linked-newer ns os j ys b (end_of a xs) i (omega arith) s.1 in
+      let back2 = linked-newer (set ns (end_of a xs) i) os j ys b i j (omega arith) back in
+      let back3 = linked-older (set (set ns (end_of a xs) i) i j) os j ys b i (end_of a xs) (omega arith) back2 in
+      let back4 = linked-older (set (set ns (end_of a xs) i) i j) (set os i (end_of a xs)) j ys b j i (omega arith) back3 in
+      linked-join _ _ a xs i (j ∷ ys) b front3 (
+        get_or-set_same (set ns (end_of a xs) i) i j 0 (rw (length-set ns (end_of a xs) i) w),
+        get_or-set_same (set os i (end_of a xs)) j i 0 (rw (length-set os i (end_of a xs)) v),
+        back4,
+      )
+
+-- what is walked
+
+pub walked : (ns os : List ℕ) (a : ℕ) (l : List ℕ) (b : ℕ) → IsLinked ns os a l b → walk ns a (length l) ≡ l
+walked ns os a [] b k = refl
+walked ns os a (i ∷ l) b k = rw k.0 (ap (λ t. i ∷ t) (walked ns os i l b k.2))
+
+-- one field written
+pub field_kept : {X Y : Type 0} (f : X → Y) (s : List X) (i : ℕ) (x d : X) → f x ≡ f (get_or s i d) → map f (set s i x) ≡ map f s
+field_kept f [] i x d h = refl
+field_kept f (y ∷ s) zero x d h = rw h refl
+field_kept f (y ∷ s) (suc i) x d h = ap (λ t. f y ∷ t) (field_kept f s i x d h)

@@ -1,0 +1,127 @@
+-- Trees as the links show them.
+use Rattle.std.proofs.Common.{◌≡◌, ℕ, suc, zero, ◌+◌, ◌<◌, ◌≤◌, Bool, true, false, cond, eqb, List, [], ◌∷◌, length, get_or, ap, ◌∙◌, sym, refl, arith, ◌⊎◌, inl, inr}
+use Rattle.std.proofs.lemmas.Bool.{eq-eqb, ne_eqb, cases_eq}
+use Rattle.queue_table.specs.Trees.{Tree, leaf, fork, tally, size, branch, IsTree}
+
+pub some_or_none : (n : ℕ) → (1 ≤ n) ⊎ (n ≡ 0)
+some_or_none zero = inr refl
+some_or_none (suc n) = inl (omega arith)
+
+-- what a tree holds
+
+pub tally-here : (i : ℕ) (l r : Tree) → tally i (fork i l r) ≡ 1 + (tally i l + tally i r)
+tally-here i l r = let e : eqb i i ≡ true = eq-eqb i i refl in rw e refl
+
+pub tally-past : (k i : ℕ) (l r : Tree) → (k ≡ i → ⊥) → tally k (fork i l r) ≡ tally k l + tally k r
+tally-past k i l r d = let e : eqb k i ≡ false = ne_eqb k i d in rw e (omega arith)
+
+pub members : (links : List ℕ) (roots place : ℕ) (t : Tree) (k : ℕ) → IsTree links roots place t → 1 ≤ tally k t → (1 ≤ k) × (branch roots k true < length links)
+members links roots place leaf k x m = absurd (omega (arith, m))
+members links roots place (fork i l r) k x m =
+    elim (cases_eq k i) [
+      | inl e ↦ let a = x.1 in let b = x.2 in (omega (arith, e, a), omega (arith, e, b))
+      | inr d ↦ (
+          let p = tally-past k i l r d in
+          elim (some_or_none (tally k l)) [
+            | inl a ↦ members links roots (branch roots i false) l k x.3 a
+            | inr z ↦ members links roots (branch roots i true) r k x.4 (omega (arith, p, m, z))
+          ])
+    ]
+
+-- where the link is none, so is the tree
+pub no-slots : (links : List ℕ) (roots place : ℕ) (t : Tree) (k : ℕ) → get_or links place 0 ≡ 0 → IsTree links roots place t → 1 ≤ tally k t → ⊥
+no-slots links roots place leaf k z x m = omega (arith, m)
+no-slots links roots place (fork i l r) k z x m = let a = x.0 in let b = x.1 in omega (arith, a, b, z)
+
+-- a tree in which no slot stands twice has no more slots than there are numbers below a bound of theirs
+
+abbrev sum : (ℕ → ℕ) → ℕ → ℕ
+sum f zero = 0
+sum f (suc n) = f n + sum f n
+
+sum-few : (f : ℕ → ℕ) (n : ℕ) → ((k : ℕ) → f k ≤ 1) → sum f n ≤ n
+sum-few f zero h = omega arith
+sum-few f (suc n) h = let a = h n in let b = sum-few f n h in omega (arith, a, b)
+
+sum-plus : (f g : ℕ → ℕ) (n : ℕ) → sum (λ k. f k + g k) n ≡ sum f n + sum g n
+sum-plus f g zero = refl
+sum-plus f g (suc n) = let h = sum-plus f g n in omega (arith, h)
+
+sum-zero : (n : ℕ) → ◌≡◌ {A = ℕ} (sum (λ k. 0) n) 0
+sum-zero zero = refl
+sum-zero (suc n) = let h = sum-zero n in omega (arith, h)
+
+sum-none : (i n : ℕ) → n ≤ i → ◌≡◌ {A = ℕ} (sum (λ k. cond (eqb k i) 1 0) n) 0
+sum-none i zero h = refl
+sum-none i (suc n) h =
+    let e : eqb n i ≡ false = ne_eqb n i (λ z. omega (arith, h, z)) in
+    let r = sum-none i n (omega (arith, h)) in
+    rw e (omega (arith, r))
+
+sum-one : (i n : ℕ) → i < n → ◌≡◌ {A = ℕ} (sum (λ k. cond (eqb k i) 1 0) n) 1
+sum-one i zero h = absurd (omega (arith, h))
+sum-one i (suc n) h =
+    elim (cases_eq n i) as (λ _. ◌≡◌ {A = ℕ} (cond (eqb n i) 1 0 + sum (λ k. cond (eqb k i) 1 0) n) 1) [
+      | inl z ↦ let e : eqb n i ≡ true = eq-eqb n i z in let r = sum-none i n (omega (arith, z)) in rw e (omega (arith, r))
+      | inr d ↦ let e : eqb n i ≡ false = ne_eqb n i d in let r = sum-one i n (omega (arith, h, d)) in rw e (omega (arith, r))
+    ]
+
+size-sum : (n : ℕ) (t : Tree) → ((k : ℕ) → 1 ≤ tally k t → k < n) → size t ≡ sum (λ k. tally k t) n
+size-sum n leaf h = sym (sum-zero n)
+size-sum n (fork i l r) h =
+    let a = size-sum n l (λ k m. h k (omega (arith, m))) in
+    let b = size-sum n r (λ k m. h k (omega (arith, m))) in
+    let o = sum-one i n (h i (let c = tally-here i l r in omega (arith, c))) in
+    let p = sum-plus (λ k. tally k l) (λ k. tally k r) n in
+    let q = sum-plus (λ k. cond (eqb k i) 1 0) (λ k. tally k l + tally k r) n in
+    omega (arith, a, b, o, p, q)
+
+pub size-few : (links : List ℕ) (roots place : ℕ) (t : Tree) → IsTree links roots place t → ((k : ℕ) → tally k t ≤ 1) → size t ≤ length links
+size-few links roots place t x once =
+    let s = size-sum (length links) t (λ k m. let w = (members links roots place t k x m).1 in omega (arith, w)) in
+    let f = sum-few (λ k. tally k t) (length links) once in
+    omega (arith, s, f)
+
+-- the tree at a place, n slots deep at most
+abbrev pub tree_at : List ℕ → ℕ → ℕ → ℕ → Tree
+tree_at links roots place zero = leaf
+tree_at links roots place (suc n) =
+    cond (eqb (get_or links place 0) 0) leaf (fork (get_or links place 0) (tree_at links roots (branch roots (get_or links place 0) false) n)
+    (tree_at links roots (branch roots (get_or links place 0) true) n))
+
+pub tree-is : (links : List ℕ) (roots place : ℕ) (t : Tree) (n : ℕ) → IsTree links roots place t → size t ≤ n → tree_at links roots place n ≡ t
+tree-is links roots place leaf zero x w = refl
+tree-is links roots place leaf (suc n) x w = let e : eqb (get_or links place 0) 0 ≡ true = eq-eqb _ 0 x in rw e refl
+tree-is links roots place (fork i l r) zero x w = absurd (omega (arith, w))
+tree-is links roots place (fork i l r) (suc n) x w =
+    let e : eqb i 0 ≡ false = ne_eqb i 0 (λ z. let b = x.1 in omega (arith, b, z)) in
+    let a = tree-is links roots (branch roots i false) l n x.3 (omega (arith, w)) in
+    let b = tree-is links roots (branch roots i true) r n x.4 (omega (arith, w)) in
+    rw (x.0, e) (ap (λ y. fork i y (tree_at links roots (branch roots i true) n)) a ∙ ap (λ y. fork i l y) b)
+
+-- places
+
+pub same-slot : (roots i k : ℕ) (a b : Bool) → branch roots i a ≡ branch roots k b → i ≡ k
+same-slot roots i k true true e = omega (arith, e)
+same-slot roots i k true false e = absurd (omega (arith, e))
+same-slot roots i k false true e = absurd (omega (arith, e))
+same-slot roots i k false false e = omega (arith, e)
+
+-- a tree whose links stay is shown as before, also at another place
+pub same-tree : (links links2 : List ℕ) (roots place place2 : ℕ) (t : Tree) → length links2 ≡ length links → get_or links2 place2 0 ≡ get_or links place 0 →
+    ((k : ℕ) (side : Bool) → 1 ≤ tally k t → get_or links2 (branch roots k side) 0 ≡ get_or links (branch roots k side) 0) → IsTree links roots place t → IsTree links2 roots place2 t
+same-tree links links2 roots place place2 leaf s h f x = h ∙ x
+same-tree links links2 roots place place2 (fork i l r) s h f x =
+    let here = tally-here i l r in
+    let w = x.2 in (
+      h ∙ x.0,
+      x.1,
+      omega (arith, w, s),
+      same-tree links links2 roots (branch roots i false) (branch roots i false) l s (f i false (omega (arith, here))) (λ k side m. f k side (omega (arith, m))) x.3,
+      same-tree links links2 roots (branch roots i true) (branch roots i true) r s (f i true (omega (arith, here))) (λ k side m. f k side (omega (arith, m))) x.4,
+    )
+
+pub any_default : (l : List ℕ) (i d e : ℕ) → i < length l → get_or l i d ≡ get_or l i e
+any_default [] i d e w = absurd (omega (arith, w))
+any_default (x ∷ l) zero d e w = refl
+any_default (x ∷ l) (suc i) d e w = any_default l i d e (omega (arith, w))

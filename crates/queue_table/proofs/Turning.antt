@@ -1,0 +1,190 @@
+-- A slot of a ring moved to another place of it.
+use Rattle.std.proofs.Common.{◌≡◌, ℕ, suc, zero, ◌+◌, ◌-◌, ◌<◌, ◌≤◌, false, cond, eqb, List, [], ◌∷◌, ◌++◌, length, get_or, set, ap, ◌∙◌, sym, refl, subst, arith, ◌⊎◌, inl, inr, length-set, length-append, append-nil}
+use Rattle.std.proofs.lemmas.Bool.{eqb-true, ne_eqb, cases_Bool, cases_eq, cond-true, cond-false}
+use Rattle.queue_table.specs.Ring.{count, IsLinked, IsRing, walk, ring_of, put_before, moved_before}
+use Rattle.step_record.specs.Keys.{keys_without}
+use Rattle.queue_table.proofs.Splices.{count-append, end_of, start_of, end-stands, start-stands, older-end, newer-start, linked-split, unlinked, linked, walked}
+
+length-walk : (ns : List ℕ) (a n : ℕ) → length (walk ns a n) ≡ n
+length-walk ns a zero = refl
+length-walk ns a (suc n) = ap suc (length-walk ns (get_or ns a 0) n)
+
+without-none : (k : ℕ) (l : List ℕ) → count k l ≡ 0 → keys_without k l ≡ l
+without-none k [] h = refl
+without-none k (x ∷ l) h =
+    elim (cases_Bool (eqb k x)) as (λ _. cond (eqb k x) (keys_without k l) (x ∷ keys_without k l) ≡ x ∷ l) [
+      | inl e ↦ absurd (let no : 1 + count k l ≡ 0 = rw e at h in omega arith)
+      | inr e ↦ rw e (ap (λ t. x ∷ t) (without-none k l (let r : 0 + count k l ≡ 0 = rw e at h in omega arith)))
+    ]
+
+-- where a slot stands
+pub record IsSplit (k : ℕ) (l : List ℕ) : Type 0 where
+  pub front : List ℕ
+  pub back : List ℕ
+  pub whole : l ≡ front ++ k ∷ back
+  pub rest : keys_without k l ≡ front ++ back
+
+pub split_at : (k : ℕ) (l : List ℕ) → count k l ≤ 1 → 1 ≤ count k l → IsSplit k l
+split_at k [] u h = absurd (omega arith)
+split_at k (x ∷ l) u h =
+    elim (cases_Bool (eqb k x)) [
+      | inl e ↦
+          let same : k ≡ x = eqb-true k x e in
+          let u2 : 1 + count k l ≤ 1 = rw e at u in
+          record { front = []; back = l; whole = ap (λ y. y ∷ l) (sym same); rest = cond-true (eqb k x) (keys_without k l) (x ∷ keys_without k l) e ∙ without-none k l (omega arith) }
+      | inr e ↦
+          let u2 : 0 + count k l ≤ 1 = rw e at u in
+          let h2 : 1 ≤ 0 + count k l = rw e at h in
+          let s = split_at k l (omega arith) (omega arith) in
+          record { front = x ∷ s.front; back = s.back; whole = ap (λ t. x ∷ t) s.whole; rest = cond-false (eqb k x) (keys_without k l) (x ∷ keys_without k l) e ∙ ap (λ t. x ∷ t) s.rest }
+    ]
+
+-- where it goes
+pub record IsSpot (k b : ℕ) (m : List ℕ) : Type 0 where
+  pub front : List ℕ
+  pub back : List ℕ
+  pub whole : m ≡ front ++ back
+  pub start : start_of back 0 ≡ b
+  pub put : put_before k b m ≡ front ++ k ∷ back
+
+pub spot : (k b : ℕ) (m : List ℕ) → (1 ≤ count b m) ⊎ (b ≡ 0) → IsSpot k b m
+spot k b [] (inl h) = absurd (omega arith)
+spot k b [] (inr h) = record { front = []; back = []; whole = refl; start = sym h; put = refl }
+spot k b (x ∷ m) h =
+    elim (cases_Bool (eqb b x)) [
+      | inl e ↦ record { front = []; back = x ∷ m; whole = refl; start = sym (eqb-true b x e); put = cond-true (eqb b x) (k ∷ x ∷ m) (x ∷ put_before k b m) e }
+      | inr e ↦
+          let g : (1 ≤ count b m) ⊎ (b ≡ 0) = elim h as (λ _. (1 ≤ count b m) ⊎ (b ≡ 0)) [ inl n ↦ inl (let n2 : 1 ≤ 0 + count b m = rw e at n in omega arith) | inr z ↦ inr z ] in
+          let s = spot k b m g in
+          record { front = x ∷ s.front; back = s.back; whole = ap (λ t. x ∷ t) s.whole; start = s.start; put = cond-false (eqb b x) (k ∷ x ∷ m) (x ∷ put_before k b m) e ∙ ap (λ t. x ∷ t) s.put }
+    ]
+
+count-mid : (j k : ℕ) (xs ys : List ℕ) → count j (xs ++ k ∷ ys) ≡ count j xs + (cond (eqb j k) 1 0 + count j ys)
+count-mid j k xs ys = count-append j xs (k ∷ ys)
+
+older-start : (ns os : List ℕ) (a : ℕ) (us vs : List ℕ) (b : ℕ) → IsLinked ns os a (us ++ vs) b → get_or os (start_of vs b) 0 ≡ end_of a us
+older-start ns os a us [] b k = older-end ns os a us b (rw (append-nil us) at k)
+older-start ns os a us (v ∷ vs) b k = older-end ns os a us v (linked-split ns os a us v vs b k).0
+
+-- how the ring stands once the slot is out, and once it is back
+pub record IsTurned (ns os l : List ℕ) (k b : ℕ) : Type 0 where
+  pub older_in : get_or os k 0 < length ns
+  pub newer_in : get_or ns k 0 < length ns
+  pub next_in : get_or (set os (get_or ns k 0) (get_or os k 0)) b 0 < length ns
+  pub long : length (moved_before k b l) ≡ length l
+  pub ring : (let e = get_or (set os (get_or ns k 0) (get_or os k 0)) b 0 in
+      IsRing (set (set (set ns (get_or os k 0) (get_or ns k 0)) e k) k b) (set (set (set os (get_or ns k 0) (get_or os k 0)) k e) b k) (moved_before k b l))
+
+-- the same facts, in the words of the code
+turned_to : (ns os l : List ℕ) (k b : ℕ) (r : IsRing ns os l) (xs ys us vs : List ℕ) → l ≡ xs ++ k ∷ ys → ((j : ℕ) → count j us + count j vs ≡ count j xs + count j ys) →
+    keys_without k l ≡ xs ++ ys → put_before k b (xs ++ ys) ≡ us ++ k ∷ vs → xs ++ ys ≡ us ++ vs →
+    get_or os k 0 ≡ end_of 0 xs → get_or ns k 0 ≡ start_of ys 0 → get_or (set os (start_of ys 0) (end_of 0 xs)) b 0 ≡ end_of 0 us → start_of vs 0 ≡ b →
+    get_or os k 0 < length ns → get_or ns k 0 < length ns → end_of 0 us < length ns →
+    IsLinked (set (set (set ns (end_of 0 xs) (start_of ys 0)) (end_of 0 us) k) k (start_of vs 0)) (set (set (set os (start_of ys 0) (end_of 0 xs)) k (end_of 0 us)) (start_of vs 0) k) 0 (us ++ k ∷ vs) 0 →
+    IsTurned ns os l k b
+turned_to ns os l k b r xs ys us vs wh sc wo pu mi oe ne ob st oi ni ui fin =
+    let e : ℕ = get_or (set os (get_or ns k 0) (get_or os k 0)) b 0 in
+    let oe2 : get_or (set os (get_or ns k 0) (get_or os k 0)) b 0 ≡ get_or (set os (start_of ys 0) (end_of 0 xs)) b 0 = ap (λ q. get_or (set os q (get_or os k 0)) b 0) ne ∙ ap (λ q. get_or (set os (start_of ys 0) q) b 0) oe in
+    let ee : e ≡ end_of 0 us = oe2 ∙ ob in
+    let mv : us ++ k ∷ vs ≡ moved_before k b l = sym pu ∙ ap (put_before k b) (sym wo) in
+    let ct : (j : ℕ) → count j (0 ∷ us ++ k ∷ vs) ≡ count j (0 ∷ l) = λ j. (let a = count-mid j k us vs in let c = count-mid j k xs ys in let d = ap (count j) wh in let f = sc j in omega (arith, a, c, d, f)) in
+    let lo : length (us ++ k ∷ vs) ≡ length l = (let a = ap length wh in let d = ap length mi in let f1 = length-append us (k ∷ vs) in let f2 = length-append xs (k ∷ ys) in let f3 = length-append us vs in let f4 = length-append xs ys in omega (arith, a, d, f1, f2, f3, f4)) in
+    let ring_as : (eo en ev bb : ℕ) → IsLinked (set (set (set ns eo en) ev k) k bb) (set (set (set os en eo) k ev) bb k) 0 (us ++ k ∷ vs) 0 → IsRing (set (set (set ns eo en) ev k) k bb) (set (set (set os en eo) k ev) bb k) (us ++ k ∷ vs) =
+    λ eo en ev bb f. (
+    let n1 = length-set (set (set ns eo en) ev k) k bb in
+    let n2 = length-set (set ns eo en) ev k in
+    let n3 = length-set ns eo en in
+    let o1 = length-set (set (set os en eo) k ev) bb k in
+    let o2 = length-set (set os en eo) k ev in
+    let o3 = length-set os en eo in
+    let same = r.same in
+    record {
+      linked = f;
+      once = λ j. (let a = ct j in let c = r.once j in omega (arith, a, c));
+      within = λ j h. (let a = ct j in let c = r.within j (omega (arith, a, h)) in omega (arith, n1, n2, n3, c));
+      all = λ j h. (let a = ct j in let c = r.all j (omega (arith, n1, n2, n3, h)) in omega (arith, a, c));
+      same = omega (arith, n1, n2, n3, o1, o2, o3);
+      long = (let rl = r.long in omega (arith, n1, n2, n3, lo, rl));
+    }) in
+    let a0 : IsRing (set (set (set ns (end_of 0 xs) (start_of ys 0)) (end_of 0 us) k) k (start_of vs 0)) (set (set (set os (start_of ys 0) (end_of 0 xs)) k (end_of 0 us)) (start_of vs 0) k) (us ++ k ∷ vs) = ring_as (end_of 0 xs) (start_of ys 0) (end_of 0 us) (start_of vs 0) fin in
+    let a1 = subst (λ bb. IsRing (set (set (set ns (end_of 0 xs) (start_of ys 0)) (end_of 0 us) k) k bb) (set (set (set os (start_of ys 0) (end_of 0 xs)) k (end_of 0 us)) bb k) (us ++ k ∷ vs)) st a0 in
+    let a2 = subst (λ ev. IsRing (set (set (set ns (end_of 0 xs) (start_of ys 0)) ev k) k b) (set (set (set os (start_of ys 0) (end_of 0 xs)) k ev) b k) (us ++ k ∷ vs)) (sym ee) a1 in
+    let a3 = subst (λ en. IsRing (set (set (set ns (end_of 0 xs) en) e k) k b) (set (set (set os en (end_of 0 xs)) k e) b k) (us ++ k ∷ vs)) (sym ne) a2 in
+    let a4 = subst (λ eo. IsRing (set (set (set ns eo (get_or ns k 0)) e k) k b) (set (set (set os (get_or ns k 0) eo) k e) b k) (us ++ k ∷ vs)) (sym oe) a3 in
+    record { older_in = oi; newer_in = ni; next_in = omega (arith, ee, ui); long = (let a = ap length mv in let c = ap length wh in let d = ap length mi in let f1 = length-append us (k ∷ vs) in let f2 = length-append xs (k ∷ ys) in let f3 = length-append us vs in let f4 = length-append xs ys in omega (arith, a, c, d, f1, f2, f3, f4)); ring = subst (IsRing _ _) mv a4 }
+
+module _ (ns os l : List ℕ) (k b : ℕ) (r : IsRing ns os l) where
+  stands_in : (j : ℕ) (xs ys : List ℕ) → l ≡ xs ++ k ∷ ys → count j (0 ∷ l) ≡ cond (eqb j 0) 1 0 + (count j xs + (cond (eqb j k) 1 0 + count j ys))
+  stands_in j xs ys e = ap (λ t. count j (0 ∷ t)) e ∙ ap (λ n. cond (eqb j 0) 1 0 + n) (count-mid j k xs ys)
+
+  pub turned : 1 ≤ k → k < length ns → b < length ns → (b ≡ k → ⊥) → IsTurned ns os l k b
+  turned p w v n =
+      let same = r.same in
+      let k0 : eqb k 0 ≡ false = ne_eqb k 0 (λ z. omega (arith, z)) in
+      let there : 1 ≤ 0 + count k l = rw k0 at (r.all k w) in
+      let few : 0 + count k l ≤ 1 = rw k0 at (r.once k) in
+      let s = split_at k l (omega arith) (omega arith) in
+      let xs : List ℕ = s.front in
+      let ys : List ℕ = s.back in
+      let old : IsLinked ns os 0 (xs ++ k ∷ ys) 0 = subst (λ (t : List ℕ). IsLinked ns os 0 t 0) s.whole r.linked in
+      let parts = linked-split ns os 0 xs k ys 0 old in
+      let oe : get_or os k 0 ≡ end_of 0 xs = older-end ns os 0 xs k parts.0 in
+      let ne : get_or ns k 0 ≡ start_of ys 0 = newer-start ns os k ys 0 parts.1 in
+      let d1 : (j : ℕ) → count j (0 ∷ xs) + (cond (eqb j k) 1 0 + count j ys) ≤ 1 = λ j. (let c = stands_in j xs ys s.whole in let o = r.once j in omega (arith, c, o)) in
+      let d2 : (j : ℕ) → count j xs + (cond (eqb j k) 1 0 + count j (ys ++ 0 ∷ [])) ≤ 1 = λ j. (let c = stands_in j xs ys s.whole in let o = r.once j in let a = count-append j ys (0 ∷ []) in omega (arith, c, o, a)) in
+      let eb : end_of 0 xs < length ns = r.within (end_of 0 xs) (let c = stands_in (end_of 0 xs) xs ys s.whole in let a = end-stands 0 xs in omega (arith, c, a)) in
+      let sb : start_of ys 0 < length ns = r.within (start_of ys 0) (let c = stands_in (start_of ys 0) xs ys s.whole in let a = start-stands ys 0 in let d = count-append (start_of ys 0) ys (0 ∷ []) in omega (arith, c, a, d)) in
+      let out = unlinked ns os 0 xs k 0 ys d1 d2 eb (omega arith) old in
+      let ns1 : List ℕ = set ns (end_of 0 xs) (start_of ys 0) in
+      let os1 : List ℕ = set os (start_of ys 0) (end_of 0 xs) in
+      let bk : eqb b k ≡ false = ne_eqb b k n in
+      let bt : 1 ≤ cond (eqb b 0) 1 0 + (count b xs + (0 + count b ys)) = (let c = stands_in b xs ys s.whole in let a = r.all b v in let c2 = rw bk at c in omega (arith, c2, a)) in
+      let there_b : (1 ≤ count b (xs ++ ys)) ⊎ (b ≡ 0) = elim (cases_eq b 0) [ inl z ↦ inr z | inr z ↦ inl (let f : eqb b 0 ≡ false = ne_eqb b 0 z in let g = rw f at bt in let a = count-append b xs ys in omega (arith, g, a)) ] in
+      let t = spot k b (xs ++ ys) there_b in
+      let us : List ℕ = t.front in
+      let vs : List ℕ = t.back in
+      let mid : IsLinked ns1 os1 0 (us ++ vs) 0 = subst (λ (q : List ℕ). IsLinked ns1 os1 0 q 0) t.whole out in
+      let ob : get_or os1 b 0 ≡ end_of 0 us = ap (λ q. get_or os1 q 0) (sym t.start) ∙ older-start ns1 os1 0 us vs 0 mid in
+      let same_count : (j : ℕ) → count j us + count j vs ≡ count j xs + count j ys = λ j. sym (count-append j us vs) ∙ (ap (count j) (sym t.whole) ∙ count-append j xs ys) in
+      let e1 : (j : ℕ) → count j (0 ∷ us) + (cond (eqb j k) 1 0 + count j vs) ≤ 1 = λ j. (let a = d1 j in let c = same_count j in omega (arith, a, c)) in
+      let e2 : (j : ℕ) → count j us + (cond (eqb j k) 1 0 + count j (vs ++ 0 ∷ [])) ≤ 1 = λ j. (let a = d2 j in let c = same_count j in let f = count-append j vs (0 ∷ []) in let g = count-append j ys (0 ∷ []) in omega (arith, a, c, f, g)) in
+      let ln = length-set ns (end_of 0 xs) (start_of ys 0) in
+      let lo = length-set os (start_of ys 0) (end_of 0 xs) in
+      let ub : end_of 0 us < length ns = r.within (end_of 0 us) (let c = stands_in (end_of 0 us) xs ys s.whole in let a = end-stands 0 us in let d = same_count (end_of 0 us) in omega (arith, c, a, d)) in
+      let ub1 : end_of 0 us < length ns1 = omega arith in
+      let kb1 : k < length ns1 = omega arith in
+      let kb2 : k < length os1 = omega arith in
+      let vb : start_of vs 0 < length os1 = rw t.start (omega arith) in
+      let final = linked ns1 os1 0 us k 0 vs e1 e2 ub1 kb1 kb2 vb mid in
+      turned_to ns os l k b r xs ys us vs s.whole same_count s.rest t.put t.whole oe ne ob t.start (omega (arith, oe)) (omega (arith, ne)) (omega arith) final
+
+pub ring-is : (ns os l : List ℕ) → IsRing ns os l → length l ≡ length ns - 1 → ring_of ns ≡ l
+ring-is ns os l r n = ap (walk ns 0) (sym n) ∙ walked ns os 0 l 0 r.linked
+
+pub length-ring_of : (ns : List ℕ) → length (ring_of ns) ≡ length ns - 1
+length-ring_of ns = length-walk ns 0 (length ns - 1)
+
+-- what the code leaves
+pub record IsMoved (ns os ns2 os2 : List ℕ) (k b : ℕ) : Type 0 where
+  pub order : ring_of ns2 ≡ moved_before k b (ring_of ns)
+  pub ring : IsRing ns2 os2 (ring_of ns2)
+
+pub moved : (ns os ns1 os1 ns2 os2 : List ℕ) (k b : ℕ) → IsTurned ns os (ring_of ns) k b →
+    ns1 ≡ set ns (get_or os k 0) (get_or ns k 0) → os1 ≡ set os (get_or ns k 0) (get_or os k 0) →
+    ns2 ≡ set (set ns1 (get_or os1 b 0) k) k b → os2 ≡ set (set os1 k (get_or os1 b 0)) b k →
+    IsMoved ns os ns2 os2 k b
+moved ns os ns1 os1 ns2 os2 k b t n1 o1 n2 o2 =
+    let ne : ns2 ≡ set (set (set ns (get_or os k 0) (get_or ns k 0)) (get_or (set os (get_or ns k 0) (get_or os k 0)) b 0) k) k b =
+    n2 ∙ (ap (λ q. set (set q (get_or os1 b 0) k) k b) n1 ∙ ap (λ q. set (set (set ns (get_or os k 0) (get_or ns k 0)) (get_or q b 0) k) k b) o1) in
+    let oe : os2 ≡ set (set (set os (get_or ns k 0) (get_or os k 0)) k (get_or (set os (get_or ns k 0) (get_or os k 0)) b 0)) b k =
+    o2 ∙ ap (λ q. set (set q k (get_or q b 0)) b k) o1 in
+    let r1 = subst (λ (q : List ℕ). IsRing q (set (set (set os (get_or ns k 0) (get_or os k 0)) k (get_or (set os (get_or ns k 0) (get_or os k 0)) b 0)) b k) (moved_before k b (ring_of ns))) (sym ne) t.ring in
+    let r2 : IsRing ns2 os2 (moved_before k b (ring_of ns)) = subst (λ q. IsRing ns2 q (moved_before k b (ring_of ns))) (sym oe) r1 in
+    let a = length-set (set (set ns (get_or os k 0) (get_or ns k 0)) (get_or (set os (get_or ns k 0) (get_or os k 0)) b 0) k) k b in
+    let c = length-set (set ns (get_or os k 0) (get_or ns k 0)) (get_or (set os (get_or ns k 0) (get_or os k 0)) b 0) k in
+    let d = length-set ns (get_or os k 0) (get_or ns k 0) in
+    let f = ap length ne in
+    let g = length-ring_of ns in
+    let h = t.long in
+    let order : ring_of ns2 ≡ moved_before k b (ring_of ns) = ring-is ns2 os2 (moved_before k b (ring_of ns)) r2 (omega (arith, a, c, d, f, g, h)) in
+    record { order = order; ring = subst (IsRing ns2 os2) (sym order) r2 }

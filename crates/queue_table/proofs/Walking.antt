@@ -1,0 +1,150 @@
+-- What a walk down a tree knows at the next place.
+use Rattle.std.proofs.Common.{◌≡◌, ℕ, ◌+◌, ◌^◌, ◌<◌, ◌≤◌, Bool, true, false, List, length, get_or, ap, ◌∙◌, sym, refl, arith, inl, inr}
+use Rattle.std.proofs.lemmas.Bool.{cases_Bool, cases_eq}
+use Rattle.step_record.specs.declared.item.Item.{Item}
+use Rattle.queue_table.specs.declared.slot_index.SlotIndex.{SlotIndex}
+use Rattle.queue_table.specs.Trees.{Tree, leaf, fork, tally, size, branch, turn, IsSorted}
+use Rattle.queue_table.specs.Places.{IsWhole, IsThere}
+use Rattle.queue_table.specs.Index.{IsFound}
+use Rattle.queue_table.specs.Walks.{HasTree, HasTreeWithin, IsOnWay}
+use Rattle.queue_table.proofs.Trees.{some_or_none, tally-here, tally-past, tree_at, tree-is, size-few}
+use Rattle.queue_table.proofs.Sorting.{clash, right-side, left-side}
+use Rattle.queue_table.proofs.Placing.{right-whole, left-whole}
+
+-- the branch of the slot at a place
+pub record IsStep (links : List ℕ) (roots next below : ℕ) (t : Tree) : Type 0 where
+  pub branch_shown : Tree
+  pub whole : IsWhole links roots below branch_shown
+  pub fewer : size branch_shown + 1 ≤ size t
+  pub inside : (k : ℕ) → tally k branch_shown ≤ tally k t
+  pub here : 1 ≤ tally next t
+  pub room : branch roots next true < length links
+
+pub step : (links : List ℕ) (roots place next below : ℕ) (side : Bool) (t : Tree) → IsWhole links roots place t → next ≡ get_or links place 0 → (next ≡ 0 → ⊥) → below ≡ branch roots next side → IsStep links roots next below t
+step links roots place next below side leaf w n z b = absurd (z (n ∙ w.tree))
+step links roots place next below true (fork i l r) w n z b =
+    let is : next ≡ i = n ∙ w.tree.0 in
+    rw (b, is) record {
+      branch_shown = r;
+      whole = right-whole roots links place i l r w;
+      fewer = omega arith;
+      inside = λ k. omega arith;
+      here = (let h = tally-here i l r in omega (arith, h));
+      room = w.tree.2;
+    }
+step links roots place next below false (fork i l r) w n z b =
+    let is : next ≡ i = n ∙ w.tree.0 in
+    rw (b, is) record {
+      branch_shown = l;
+      whole = left-whole roots links place i l r w;
+      fewer = omega arith;
+      inside = λ k. omega arith;
+      here = (let h = tally-here i l r in omega (arith, h));
+      room = w.tree.2;
+    }
+
+-- the links have both branches of the first slot
+pub top-room : (index : SlotIndex) (place at : ℕ) → HasTree index place 0 → get_or index.links.items place 0 ≡ at → 1 ≤ at → branch (2 ^ index.bits) at true < length index.links.items
+top-room index place at h n s =
+    (step index.links.items (2 ^ index.bits) place at (branch (2 ^ index.bits) at false) false h.shown h.whole (sym n) (λ z. omega (arith, z, s)) refl).room
+
+module _ (index : SlotIndex) (place depth next below : ℕ) (side : Bool) (n : next ≡ get_or index.links.items place 0) (b : below ≡ branch (2 ^ index.bits) next side) where
+  abbrev pub has-below : HasTree index place depth → (next ≡ 0 → ⊥) → HasTree index below (depth + 1)
+  has-below h z =
+      let s = step index.links.items (2 ^ index.bits) place next below side h.shown h.whole n z b in
+      let f = s.fewer in
+      let few = h.few in
+      record { shown = s.branch_shown; whole = s.whole; few = omega (arith, f, few); bits = h.bits }
+
+  pub within-below : (slots : ℕ) → HasTreeWithin index place depth slots → (next ≡ 0 → ⊥) → HasTreeWithin index below (depth + 1) slots
+  within-below slots h z =
+      let s = step index.links.items (2 ^ index.bits) place next below side h.has.shown h.has.whole n z b in
+      record { has = has-below h.has z; within = λ k m. h.within k (let i = s.inside k in omega (arith, i, m)) }
+
+-- the tree is less deep than any bound
+pub has-top : (index : SlotIndex) (place depth : ℕ) → HasTree index place depth → HasTree index place 0
+has-top index place depth h = record { shown = h.shown; whole = h.whole; few = (let f = h.few in omega (arith, f)); bits = h.bits }
+
+pub smaller : (links : List ℕ) (roots place next below : ℕ) (side : Bool) (t : Tree) → IsWhole links roots place t → next ≡ get_or links place 0 → (next ≡ 0 → ⊥) → below ≡ branch roots next side →
+    size (tree_at links roots below (length links)) < size (tree_at links roots place (length links))
+smaller links roots place next below side t w n z b =
+    let s = step links roots place next below side t w n z b in
+    let u = s.whole in
+    let x = tree-is links roots place t (length links) w.tree (size-few links roots place t w.tree w.once) in
+    let y = tree-is links roots below s.branch_shown (length links) u.tree (size-few links roots below s.branch_shown u.tree u.once) in
+    let f = s.fewer in
+    rw (x, y) (omega (arith, f))
+
+-- the slot at a place with a slot on its way below
+pub way-below : (index : SlotIndex) (place at next below : ℕ) (item : Item) (depth : ℕ) → IsOnWay index place at item depth → next ≡ get_or index.links.items place 0 → (next ≡ at → ⊥) →
+    below ≡ branch (2 ^ index.bits) next (turn depth item) → IsOnWay index below at item (depth + 1)
+way-below index place at next below item depth h n other b = on h.has.shown h.has.whole h.has.few h.there
+  where
+    on : (t : Tree) → IsWhole index.links.items (2 ^ index.bits) place t → size t + depth ≤ length index.links.items → IsThere h.item_of at item depth t → IsOnWay index below at item (depth + 1)
+    on leaf w few there = absurd (let m = there.stands in omega (arith, m))
+    on (fork i l r) w few there =
+        let is : next ≡ i = n ∙ w.tree.0 in
+        let apart : at ≡ i → ⊥ = λ e. other (is ∙ sym e) in
+        elim (cases_Bool (turn depth item)) [
+          | inl e ↦
+              let p : below ≡ branch (2 ^ index.bits) i true = b ∙ (ap (branch (2 ^ index.bits) next) e ∙ ap (λ k. branch (2 ^ index.bits) k true) is) in
+              record {
+                has = record { shown = r; whole = rw p (right-whole (2 ^ index.bits) index.links.items place i l r w); few = omega (arith, few); bits = h.has.bits };
+                item_of = h.item_of;
+                there = record { stands = right-side h.item_of depth item at i l r there.sorted there.its apart there.stands e; its = there.its; sorted = there.sorted.1 };
+              }
+          | inr e ↦
+              let p : below ≡ branch (2 ^ index.bits) i false = b ∙ (ap (branch (2 ^ index.bits) next) e ∙ ap (λ k. branch (2 ^ index.bits) k false) is) in
+              record {
+                has = record { shown = l; whole = rw p (left-whole (2 ^ index.bits) index.links.items place i l r w); few = omega (arith, few); bits = h.has.bits };
+                item_of = h.item_of;
+                there = record { stands = left-side h.item_of depth item at i l r there.sorted there.its apart there.stands e; its = there.its; sorted = there.sorted.0 };
+              }
+        ]
+
+-- what a search finds
+
+pub found-none : (links : List ℕ) (roots place : ℕ) (item : Item) (item_of : ℕ → Item) (t : Tree) → IsWhole links roots place t → get_or links place 0 ≡ 0 → IsFound item item_of (λ k. tally k t) 0
+found-none links roots place item item_of leaf w z = record { there = λ n. absurd (omega (arith, n)); missing = λ _ k m _. absurd (omega (arith, m)) }
+found-none links roots place item item_of (fork i l r) w z = absurd (let a = w.tree.0 in let b = w.tree.1 in omega (arith, a, b, z))
+
+pub found-here : (links : List ℕ) (roots place at : ℕ) (item : Item) (item_of : ℕ → Item) (t : Tree) → IsWhole links roots place t → at ≡ get_or links place 0 → (at ≡ 0 → ⊥) → item_of at ≡ item → IsFound item item_of (λ k. tally k t) at
+found-here links roots place at item item_of t w n z e = record {
+  there = λ _. ((step links roots place at (branch roots at true) true t w n z refl).here, e);
+  missing = λ q. absurd (z q);
+}
+
+pub found-on : (links : List ℕ) (roots place depth next below result : ℕ) (item : Item) (item_of : ℕ → Item) (t : Tree) → IsWhole links roots place t → IsSorted item_of depth t → next ≡ get_or links place 0 → (next ≡ 0 → ⊥) →
+    (item_of next ≡ item → ⊥) → below ≡ branch roots next (turn depth item) → ((u : Tree) → IsWhole links roots below u → IsSorted item_of (depth + 1) u → IsFound item item_of (λ k. tally k u) result) →
+    IsFound item item_of (λ k. tally k t) result
+found-on links roots place depth next below result item item_of leaf w s n z other b ih = absurd (z (n ∙ w.tree))
+found-on links roots place depth next below result item item_of (fork i l r) w s n z other b ih =
+    let is : next ≡ i = n ∙ w.tree.0 in
+    elim (cases_Bool (turn depth item)) [
+      | inl e ↦
+          let p : below ≡ branch roots i true = b ∙ (ap (branch roots next) e ∙ ap (λ k. branch roots k true) is) in
+          let f = ih r (rw p (right-whole roots links place i l r w)) s.1 in
+          record {
+            there = λ m. (let q = f.there m in ((let c = q.0 in omega (arith, c)), q.1));
+            missing = λ m k c d. elim (cases_eq k i) [
+              | inl h ↦ other (ap item_of (is ∙ sym h) ∙ d)
+              | inr h ↦ let o = tally-past k i l r h in elim (some_or_none (tally k l)) [
+                | inl a ↦ clash (turn depth item) e (ap (turn depth) (sym d) ∙ s.2 k a)
+                | inr a ↦ f.missing m k (omega (arith, o, a, c)) d
+              ]
+            ];
+          }
+      | inr e ↦
+          let p : below ≡ branch roots i false = b ∙ (ap (branch roots next) e ∙ ap (λ k. branch roots k false) is) in
+          let f = ih l (rw p (left-whole roots links place i l r w)) s.0 in
+          record {
+            there = λ m. (let q = f.there m in ((let c = q.0 in omega (arith, c)), q.1));
+            missing = λ m k c d. elim (cases_eq k i) [
+              | inl h ↦ other (ap item_of (is ∙ sym h) ∙ d)
+              | inr h ↦ let o = tally-past k i l r h in elim (some_or_none (tally k r)) [
+                | inl a ↦ clash (turn depth item) (ap (turn depth) (sym d) ∙ s.3 k a) e
+                | inr a ↦ f.missing m k (omega (arith, o, a, c)) d
+              ]
+            ];
+          }
+    ]

@@ -1,0 +1,22 @@
+use Rattle.std.proofs.lemmas.Grind.{common_steps}
+use Rattle.std.proofs.Common.{◌≤◌, List, length, subst, sym, arith, ◌≡◌}
+use Rattle.queue_table.specs.declared.slot.Slot.{Slot}
+use Rattle.queue_table.specs.Index.{capacity}
+use Rattle.queue_table.specs.QueueTable.{IsSame}
+use Rattle.queue_table.proofs.Growing.{held-first, same-first, no-list, first_loaded, sixteen}
+use Rattle.queue_table.proofs.growth.begin.Goals as goal
+
+pub returns-clause-held : goal.returns-clause-held
+returns-clause-held c =
+    let four = c.in_ok-first.ensures.len in
+    let some = sixteen c.first_bits-bits.result c.first_bits-bits.ensures.0 in
+    let room : length c.in_ok-first.first.items ≤ capacity c.in_ok-index.field-0.bits = rw c.in_ok-index.ensures.bits (omega (arith, four, some)) in
+    held-first c.in_ok-first.first.items c.in_ok-index.field-0 c.in_ok-first.ensures.queued (c.in_ok-index.ensures.empty _) room
+
+pub returns-clause-load : goal.returns-clause-load
+returns-clause-load c = first_loaded _ _ c.in_ok-first.ensures.len (omega (arith, c.in_ok-index.ensures.bits, c.first_bits-bits.ensures.0))
+
+pub returns-clause-same : goal.returns-clause-same
+returns-clause-same c =
+    let none : length c.args.slots.now.items ≡ 0 = grind (arith, common_steps) in
+    subst (λ (s : List Slot). IsSame s c.in_ok-first.first.items) (sym (no-list c.args.slots.now.items none)) (same-first c.in_ok-first.first.items c.in_ok-first.ensures.queued)

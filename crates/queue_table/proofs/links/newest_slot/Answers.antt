@@ -1,0 +1,12 @@
+use Rattle.std.proofs.Common.{suc, arith}
+use Rattle.queue_table.specs.Ring.{order_of}
+use Rattle.queue_table.specs.declared.slot.Slot.{Slot}
+use Rattle.queue_table.proofs.SlotWrites.{no_slot, field_at}
+use Rattle.queue_table.proofs.Ends.{last-slot}
+use Rattle.queue_table.proofs.links.newest_slot.Goals as goal
+
+pub returns : goal.returns
+returns c =
+    let f = field_at (λ (s : Slot). s.older) c.args.slots.now (suc (suc c.args.queue)) no_slot in
+    let low = c.requires.queue in
+    rw (c.slot_behind.ensures, ← f) (last-slot c.args.slots.now (suc c.args.queue) (order_of c.args.slots.now) (omega (arith, low)) c.requires.queued c.requires.some)

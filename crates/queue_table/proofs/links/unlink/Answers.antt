@@ -1,0 +1,5 @@
+use Rattle.queue_table.proofs.Frames.{links-then}
+use Rattle.queue_table.proofs.links.unlink.Goals as goal
+
+pub returns-clause-only : goal.returns-clause-only
+returns-clause-only c = links-then _ _ _ c.set_newer.ensures.only c.set_older.ensures.only

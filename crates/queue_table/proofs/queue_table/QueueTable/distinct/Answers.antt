@@ -1,0 +1,9 @@
+use Rattle.std.proofs.Common.{List, subst}
+use Rattle.queue_table.specs.declared.slot.Slot.{Slot}
+use Rattle.queue_table.specs.Queues.{IsDistinct}
+use Rattle.queue_table.specs.Ring.{lists}
+use Rattle.queue_table.proofs.Kept.{distinct-in}
+use Rattle.queue_table.proofs.queue_table.QueueTable.distinct.Goals as goal
+
+pub returns : goal.returns
+returns c = subst (λ (s : List Slot). IsDistinct (lists s)) c.self.view_is (distinct-in c.self.inside.slots.items _ _ c.self.invariant)

@@ -1,0 +1,79 @@
+-- Slots, index and lengths together, and what the calls of the table see of them.
+use Rattle.std.specs.Prelude.{◌≡◌, ℕ, suc, zero, ◌+◌, ◌*◌, ◌^◌, ◌<◌, ◌≤◌, Option, List, [], ◌∷◌, length, slice_index}
+use Rattle.step_record.specs.declared.item.Item.{Item}
+use Rattle.queue_table.specs.declared.records.Entry.{Entry}
+use Rattle.queue_table.specs.declared.lengths.Lengths.{Lengths}
+use Rattle.queue_table.specs.declared.slot.Slot.{Slot}
+use Rattle.queue_table.specs.Entries.{IsGap}
+use Rattle.queue_table.specs.Queues.{Queues}
+use Rattle.queue_table.specs.Ring.{entries, count, SECTIONS, FIRST, Order, used, order_of, lists_of, lists, slot_entry, slot_item}
+use Rattle.queue_table.specs.Ring.{IsNewer, IsQueued}
+use Rattle.queue_table.specs.declared.slot_index.SlotIndex.{SlotIndex}
+use Rattle.queue_table.specs.Index.{capacity, IsIndexed}
+
+-- the entries of each queue, oldest first
+abbrev pub queues : List Slot → Queues
+queues slots = lists slots
+
+-- for how many more items there is room
+abbrev pub spare : List Slot → ℕ
+spare slots = length (order_of slots 0)
+
+-- the slot is in use
+abbrev pub IsUsed : ℕ → List Slot → Type 0
+IsUsed at slots = 1 ≤ count at (used (order_of slots))
+
+-- the entry of a slot
+abbrev pub entry_at : ℕ → List Slot → Entry
+entry_at at slots = slot_entry (entries slots) at
+
+-- how many slots stand in each section
+abbrev pub IsCounted : Lengths → Order → Type 0
+IsCounted lengths o = (s : ℕ) → s < SECTIONS → slice_index lengths.at s ≡ length (o s)
+
+-- the index knows the used slots, with their items
+abbrev pub IsIndexOf : SlotIndex → List Entry → List ℕ → Type 0
+IsIndexOf index entries used = IsIndexed index (slot_item entries) (λ k. count k used)
+
+-- n slots from the first on that holds an item
+abbrev pub from_first : ℕ → List ℕ
+from_first zero = []
+from_first (suc n) = (n + FIRST) ∷ from_first n
+
+-- the index has a bucket for each half of a slot, but for the slot that was added last, until it has 2^31 buckets: so a
+-- search looks at few slots
+abbrev pub IsLoaded : ℕ → ℕ → Type 0
+IsLoaded slots bits = 0 < slots → bits < 31 → 2 * slots ≤ 2 ^ bits + 2
+
+-- the slots are linked in the order, and the index knows those in use and has branches for all
+pub record IsInSlots (slots : List Slot) (index : SlotIndex) (o : Order) : Type 0 where
+  pub queued : IsQueued slots o
+  pub indexed : IsIndexOf index (entries slots) (used o)
+  pub room : length slots ≤ capacity index.bits
+
+-- before the first room is made there is no slot; from then on slots and index hold together
+abbrev pub IsSound : List Slot → SlotIndex → Type 0
+IsSound slots index = 0 < length slots → IsInSlots slots index (order_of slots)
+
+-- what holds of the fields of a table
+pub record IsKept (slots : List Slot) (index : SlotIndex) (lengths : Lengths) : Type 0 where
+  pub held : IsSound slots index
+  pub counted : IsCounted lengths (order_of slots)
+  pub few : length slots < 2 ^ 32
+  pub load : IsLoaded (length slots) index.bits
+
+-- the slot is in use and holds the item
+pub record IsSlotOf (at : ℕ) (i : Item) (slots : List Slot) : Type 0 where
+  pub queued : IsQueued slots (order_of slots)
+  pub used : 1 ≤ count at (used (order_of slots))
+  pub item : slot_item (entries slots) at ≡ i
+
+-- the two items stand side by side in a queue of the order, and the slot is that of the newer one, or none of the queue
+pub record IsBehind (b q : ℕ) (older newer : Option Item) (slots : List Slot) (o : Order) : Type 0 where
+  pub gap : IsGap older newer (lists_of o (entries slots) q)
+  pub slot : IsNewer (λ k. slot_item (entries slots) k) newer b (o (suc q))
+
+-- the slots before and after the first ones are made
+pub record IsSame (old new : List Slot) : Type 0 where
+  pub lists : lists new ≡ lists old
+  pub lengths : (s : ℕ) → length (order_of new s) ≡ length (order_of old s)

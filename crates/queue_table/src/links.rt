@@ -1,0 +1,204 @@
+//! All slots stand in one ring, linked both ways, so that no move has a case for an end. Slots 0 to 6 hold no item:
+//! slot s stands before section s, and slot s + 1 behind it. Section 0 has the free slots, section q + 1 those of queue
+//! q, oldest first. Here A and B stand in queue 0, C in queue 1 and D in queue 4:
+//!
+//! ```text
+//!          free slots   queue 0          queue 1     queues 2, 3   queue 4
+//! +-> [0] - 9 - 12 - [1] - 7:A - 10:B - [2] - 8:C - [3] - [4] - [5] - 11:D - [6] -+
+//! +-------------------------------------------------------------------------------+
+//!
+//! index: bucket of A's hash -> slot 10:B        a tree of the slots whose items share the bucket:
+//!                              /       \        a bit of key and node a level says left or right
+//!                          7:A           11:D
+//! ```
+ghost use Rattle.std.specs.Prelude.{◌≡◌, ◌≢◌, ◌<◌, ◌≤◌, ℕ, suc, Some, IfOk, map, length, slice_index, slice_set};
+ghost use Rattle.queue_table.specs.Queues.{QUEUES, place_in};
+ghost use Rattle.queue_table.specs.Ring.{slot_item, count, walk, IsRing, ring_of, moved_before, ring, used};
+ghost use Rattle.queue_table.specs.Ring.{SECTIONS, FIRST, order_of, order_without, sent, lists, item_or, first_of, last_of};
+ghost use Rattle.queue_table.specs.Ring.{IsPlace, IsQueued, entries, olders, newers, tags, ChangesOnlyLinks};
+
+use crate::records::Place;
+use crate::slot::{Slot, set_newer, set_older, set_queue};
+use std::alloc::{AllocError, Global};
+use step_record::Item;
+
+/// The first slot that holds an item.
+pub(crate) const FIRST_SLOT: u32 = 7;
+
+/// Takes the slot out from between its neighbours.
+#[inline(always)]
+fn unlink(slots: &mut [Slot], at: u32)
+    requires at { at < length slots.old }
+    requires older { slice_index (olders slots.old) at < length slots.old }
+    requires newer { slice_index (newers slots.old) at < length slots.old }
+    ensures newers { newers slots.new ≡ slice_set (newers slots.old) (slice_index (olders slots.old) at)
+        (slice_index (newers slots.old) at) }
+    ensures olders { olders slots.new ≡ slice_set (olders slots.old) (slice_index (newers slots.old) at)
+        (slice_index (olders slots.old) at) }
+    ensures only { ChangesOnlyLinks slots.old slots.new }
+{
+    let slot = slots[at as usize];
+    let (older, newer) = (slot.older, slot.newer);
+    set_newer(slots, older as usize, newer);
+    set_older(slots, newer as usize, older);
+}
+
+/// Puts the slot between `before` and its older neighbour.
+#[inline(always)]
+pub(crate) fn link(slots: &mut [Slot], at: u32, before: u32)
+    requires at { at < length slots.old }
+    requires before { before < length slots.old }
+    requires older { slice_index (olders slots.old) before < length slots.old }
+    ensures newers { newers slots.new ≡ slice_set (slice_set (newers slots.old)
+        (slice_index (olders slots.old) before) at) at before }
+    ensures olders { olders slots.new ≡ slice_set (slice_set (olders slots.old) at
+        (slice_index (olders slots.old) before)) before at }
+    ensures only { ChangesOnlyLinks slots.old slots.new }
+{
+    let older = slots[before as usize].older;
+    set_newer(slots, older as usize, at);
+    set_newer(slots, at as usize, before);
+    set_older(slots, at as usize, older);
+    set_older(slots, before as usize, at);
+}
+
+/// Moves the slot to the place before another one.
+#[inline(always)]
+fn move_before(slots: &mut [Slot], at: u32, before: u32)
+    requires ring { IsRing (newers slots.old) (olders slots.old) (ring_of (newers slots.old)) }
+    requires at { (1 ≤ at) × (at < length slots.old) }
+    requires before { before < length slots.old }
+    requires apart { before ≢ at }
+    ensures ring { IsRing (newers slots.new) (olders slots.new) (ring_of (newers slots.new)) }
+    ensures order { ring_of (newers slots.new) ≡ moved_before at before (ring_of (newers slots.old)) }
+    ensures only { ChangesOnlyLinks slots.old slots.new }
+{
+    unlink(slots, at);
+    link(slots, at, before);
+}
+
+/// The slot that stands before the queue.
+#[inline(always)]
+fn slot_before(queue: u8) -> u32
+    requires { queue < QUEUES }
+    ensures { result ≡ suc queue }
+{
+    queue as u32 + 1
+}
+
+/// The slot that stands behind the queue.
+#[inline(always)]
+pub(crate) fn slot_behind(queue: u8) -> u32
+    requires { queue < QUEUES }
+    ensures { result ≡ suc (suc queue) }
+{
+    queue as u32 + 2
+}
+
+/// The free slot that was freed last.
+#[inline(always)]
+pub(crate) fn newest_free(slots: &[Slot]) -> u32
+    requires queued { IsQueued slots.now (order_of slots.now) }
+    requires room { 1 ≤ length (order_of slots.now 0) }
+    ensures { 1 ≤ count result (order_of slots.now 0) }
+{
+    slots[1].older
+}
+
+/// The first slot of a queue that is not empty.
+#[inline(always)]
+pub(crate) fn oldest_slot(slots: &[Slot], queue: u8) -> u32
+    requires queue { queue < QUEUES }
+    requires queued { IsQueued slots.now (order_of slots.now) }
+    requires some { 1 ≤ length (order_of slots.now (suc queue)) }
+    ensures { first_of (order_of slots.now (suc queue)) ≡ Some result }
+{
+    slots[slot_before(queue) as usize].newer
+}
+
+/// The last slot of a queue that is not empty.
+#[inline(always)]
+pub(crate) fn newest_slot(slots: &[Slot], queue: u8) -> u32
+    requires queue { queue < QUEUES }
+    requires queued { IsQueued slots.now (order_of slots.now) }
+    requires some { 1 ≤ length (order_of slots.now (suc queue)) }
+    ensures { last_of (order_of slots.now (suc queue)) ≡ Some result }
+{
+    slots[slot_behind(queue) as usize].older
+}
+
+/// The items of so many slots from the one that stands before the queue on.
+pub(crate) fn items_in(
+    slots: &[Slot],
+    alloc: Global,
+    queue: u8,
+    len: usize,
+) -> Result<Vec<Item>, AllocError>
+    requires queue { queue < QUEUES }
+    requires ring { 1 ≤ len → IsRing (newers slots.now) (olders slots.now) (ring (order_of slots.now)) }
+    ensures { IfOk result (λ v. v.items ≡ map (λ k. slot_item (entries slots.now) k)
+        (walk (newers slots.now) (suc queue) len)) }
+{
+    let mut list = Vec::with_capacity(alloc, len)?;
+    let mut at = slot_before(queue);
+    for step in 0..len {
+        at = slots[at as usize].newer;
+        list.push(slots[at as usize].item)?;
+    }
+    Ok(list)
+}
+
+/// The item of a slot, `None` at those that stand between the sections.
+#[inline(always)]
+fn item_of(slots: &[Slot], at: u32) -> Option<Item>
+    requires { at < length slots.now }
+    ensures { result ≡ item_or (entries slots.now) at }
+{
+    if at < FIRST_SLOT {
+        return None;
+    }
+    Some(slots[at as usize].item)
+}
+
+/// Moves the slot to the place before another one in a queue.
+#[inline(always)]
+pub(crate) fn send(slots: &mut [Slot], at: u32, queue: u8, before: u32)
+    requires queue { queue < QUEUES }
+    requires ring { IsRing (newers slots.old) (olders slots.old) (ring (order_of slots.old)) }
+    requires at { (FIRST ≤ at) × (at < length slots.old) }
+    requires place { IsPlace before (suc queue) (order_without at (order_of slots.old)) }
+    ensures ring { IsRing (newers slots.new) (olders slots.new) (ring (sent at (suc queue) before (order_of slots.old))) }
+    ensures entries { entries slots.new ≡ entries slots.old }
+    ensures tags { tags slots.new ≡ slice_set (tags slots.old) at queue }
+{
+    move_before(slots, at, before);
+    set_queue(slots, at as usize, queue);
+}
+
+/// Moves the slot to the free ones.
+#[inline(always)]
+pub(crate) fn release(slots: &mut [Slot], at: u32)
+    requires ring { IsRing (newers slots.old) (olders slots.old) (ring (order_of slots.old)) }
+    requires at { (FIRST ≤ at) × (at < length slots.old) }
+    ensures ring { IsRing (newers slots.new) (olders slots.new) (ring (sent at 0 1 (order_of slots.old))) }
+    ensures only { ChangesOnlyLinks slots.old slots.new }
+{
+    move_before(slots, at, 1);
+}
+
+/// Where the item of a slot in use stands, by the items next to it.
+#[inline(always)]
+pub(crate) fn place_of_slot(slots: &[Slot], at: u32) -> Place
+    requires queued { IsQueued slots.now (order_of slots.now) }
+    requires used { 1 ≤ count at (used (order_of slots.now)) }
+    ensures place { Some result ≡ place_in (slot_item (entries slots.now) at) (lists slots.now) }
+    ensures low { result.queue < QUEUES }
+    ensures queue { 1 ≤ count at (order_of slots.now (suc result.queue)) }
+{
+    let slot = slots[at as usize];
+    Place {
+        queue: slot.queue,
+        older: item_of(slots, slot.older),
+        newer: item_of(slots, slot.newer),
+    }
+}

@@ -1,0 +1,402 @@
+//! Slots, index and lengths together: what holds of the three, and the calls that keep it.
+ghost use Rattle.std.specs.Prelude.{◌≡◌, ◌≢◌, ◌<◌, ◌≤◌, ◌+◌, suc, [], Ok, Option, Some, None, OnOk, IfOk, IfSome, IfNone};
+ghost use Rattle.std.specs.Prelude.{length};
+ghost use Rattle.std.specs.List.{Contains};
+ghost use Rattle.step_record.specs.declared.item.Item.{Item};
+ghost use Rattle.queue_table.specs.Entries.{entry, items_of, oldest_of, newest_of, IsGap};
+ghost use Rattle.queue_table.specs.Queues.{QUEUES, empty_queues, queue_holding, items_below, place_in, IsDistinct};
+ghost use Rattle.queue_table.specs.Queues.{after_push, after_removal, after_send, after_count, after_return};
+ghost use Rattle.queue_table.specs.Ring.{order_of, order_without, first_of, last_of, IsPlace, IsQueued};
+ghost use Rattle.queue_table.specs.QueueTable.{queues, spare, entry_at, IsUsed, IsBehind, IsSlotOf};
+
+use crate::growth::grow;
+use crate::lengths::{Lengths, SECTIONS, section};
+use crate::links::{
+    items_in, newest_free, newest_slot, oldest_slot, place_of_slot, release, send, slot_behind,
+};
+use crate::records::{Entry, Found, Place};
+use crate::slot::{RingItems, Slot, set_count, set_entry};
+use crate::slot_index::SlotIndex;
+use std::alloc::{AllocError, Global};
+use std::marker::Model;
+use step_record::{Item, Key, Node};
+
+/// Queues by number, each item once, with a count beside it. A call that works on an item takes its slot, as `find`,
+/// `oldest` and `newest` give it.
+#[derive(Drop)]
+pub struct QueueTable {
+    slots: Vec<Slot>,
+    index: SlotIndex,
+    lengths: Lengths,
+}
+
+impl Model for QueueTable {
+    ghost use Rattle.std.specs.Prelude.{List};
+    ghost use Rattle.queue_table.specs.declared.slot.Slot.{Slot};
+    ghost use Rattle.queue_table.specs.QueueTable.{IsKept};
+
+    ghost Value = { List Slot };
+
+    ghost view = { λ t. t.slots.items };
+
+    ghost invariant = { λ t. IsKept t.slots.items t.index t.lengths };
+}
+
+// Up to so many bits, there are four buckets for each item of a first index, so that most have one item at most. A
+// larger index has two for each: past the processor's caches, its length costs more than a second slot in a tree.
+const MAX_SPARSE_BITS: u32 = 18;
+
+// How many bits number the buckets of a first index for so many items.
+fn bits_for(items: u32) -> u32 {
+    let bits = u32::wrapping_sub(33, items.wrapping_sub(1).leading_zeros());
+    if bits < MAX_SPARSE_BITS {
+        bits + 1
+    } else {
+        bits
+    }
+}
+
+impl QueueTable {
+    /// Empty queues, with no room yet. Allocates nothing. The first `reserve` makes a hash index that is large enough
+    /// for so many items.
+    pub fn for_items(alloc: Global, items: u32) -> QueueTable
+        ensures queues { queues result ≡ empty_queues }
+        ensures distinct { IsDistinct (queues result) }
+    {
+        QueueTable {
+            slots: Vec::new(alloc),
+            index: SlotIndex::unallocated(alloc, bits_for(items)),
+            lengths: Lengths { at: [0; SECTIONS] },
+        }
+    }
+
+    /// Reads what a search for each of these keys with this node reads first: of a slot both the item and a link, since
+    /// it may lie in two lines of the processor's cache.
+    #[inline(always)]
+    pub fn prefetch(&self, keys: &[Key], node: Node) -> u64 {
+        let mut read = 0;
+        for key in keys {
+            let at = self.index.first_slot(Item { key: *key, node }) as usize;
+            if at < self.slots.len() {
+                read ^= self.slots[at].item.key ^ self.slots[at].newer as u64;
+            }
+        }
+        read
+    }
+
+    /// Makes room for at least one more item; where there is room, it allocates nothing and returns Ok. The one error
+    /// is out of memory; queues and room are then as before.
+    #[inline(always)]
+    pub fn reserve(&mut self, alloc: Global) -> Result<(), AllocError>
+        ensures queues { queues self.new ≡ queues self.old }
+        ensures room { OnOk result (1 ≤ spare self.new) }
+        ensures enough { 1 ≤ spare self.old → result ≡ Ok tt }
+        ensures spare { spare self.old ≤ spare self.new }
+    {
+        if self.lengths.free() > 0 {
+            return Ok(());
+        }
+        grow(alloc, &mut self.slots, &mut self.index)?;
+        self.lengths.add_free();
+        Ok(())
+    }
+
+    /// For how many more items there is room.
+    #[inline(always)]
+    pub fn spare(&self) -> usize
+        ensures { result ≡ spare self.now }
+    {
+        self.lengths.free()
+    }
+
+    /// How many items stand in the queue.
+    #[inline(always)]
+    pub fn len(&self, queue: u8) -> usize
+        requires { queue < QUEUES }
+        ensures { result ≡ length (queues self.now queue) }
+    {
+        self.lengths.of(queue)
+    }
+
+    /// How many items stand in the queues.
+    #[inline(always)]
+    pub fn count(&self) -> usize
+        ensures { result ≡ items_below QUEUES (queues self.now) }
+    {
+        self.lengths.items()
+    }
+
+    /// A copy of the queue's items, oldest first.
+    pub fn list(&self, alloc: Global, queue: u8) -> Result<Vec<Item>, AllocError>
+        requires { queue < QUEUES }
+        ensures { IfOk result (λ v. v.items ≡ items_of (queues self.now queue)) }
+    {
+        items_in(&self.slots, alloc, queue, self.lengths.of(queue))
+    }
+
+    /// No item stands twice. Does nothing.
+    #[inline(always)]
+    pub fn distinct(&self)
+        ensures { IsDistinct (queues self.now) }
+    {
+        let _ = &self.slots;
+    }
+
+    // The slot in use that holds the item.
+    #[inline(always)]
+    fn find_slot(&self, item: Item) -> Option<u32>
+        ensures there { IfSome result (λ at. IsSlotOf at item self.now) }
+        ensures missing { IfNone result (queue_holding item (queues self.now) ≡ None) }
+        // Of every table: no item stands twice.
+        ensures distinct { IsDistinct (queues self.now) }
+    {
+        if self.slots.is_empty() {
+            return None;
+        }
+        match self.index.find(&RingItems { slots: &self.slots }, item) {
+            0 => None,
+            at => Some(at),
+        }
+    }
+
+    /// The slot of the item, with its queue and its count.
+    #[inline(always)]
+    pub fn find(&self, item: Item) -> Option<Found>
+        ensures used { IfSome result (λ f. IsUsed f.at self.now) }
+        ensures entry { IfSome result (λ f. entry_at f.at self.now ≡ entry item f.count) }
+        ensures low { IfSome result (λ f. f.queue < QUEUES) }
+        ensures queue { IfSome result (λ f. queue_holding item (queues self.now) ≡ Some f.queue) }
+        ensures stands { IfSome result (λ f. Contains (queues self.now f.queue) (entry item f.count)) }
+        ensures missing { IfNone result (queue_holding item (queues self.now) ≡ None) }
+        // Of every table: no item stands twice.
+        ensures distinct { IsDistinct (queues self.now) }
+    {
+        let at = self.find_slot(item)?;
+        let slot = &self.slots[at as usize];
+        Some(Found {
+            at,
+            queue: slot.queue,
+            count: slot.count,
+        })
+    }
+
+    /// The slot of a queue's oldest entry, with the entry.
+    #[inline(always)]
+    pub fn oldest(&self, queue: u8) -> Option<(u32, Entry)>
+        requires { queue < QUEUES }
+        ensures used { IfSome result (λ r. IsUsed r.0 self.now) }
+        ensures entry { IfSome result (λ r. entry_at r.0 self.now ≡ r.1) }
+        ensures first { IfSome result (λ r. oldest_of (queues self.now queue) ≡ Some r.1) }
+        ensures missing { IfNone result (queues self.now queue ≡ []) }
+    {
+        if self.lengths.of(queue) == 0 {
+            return None;
+        }
+        let at = oldest_slot(&self.slots, queue);
+        let slot = &self.slots[at as usize];
+        let entry = Entry {
+            item: slot.item,
+            count: slot.count,
+        };
+        Some((at, entry))
+    }
+
+    /// The slot of a queue's newest entry, with the entry.
+    #[inline(always)]
+    pub fn newest(&self, queue: u8) -> Option<(u32, Entry)>
+        requires { queue < QUEUES }
+        ensures used { IfSome result (λ r. IsUsed r.0 self.now) }
+        ensures entry { IfSome result (λ r. entry_at r.0 self.now ≡ r.1) }
+        ensures last { IfSome result (λ r. newest_of (queues self.now queue) ≡ Some r.1) }
+        ensures missing { IfNone result (queues self.now queue ≡ []) }
+    {
+        if self.lengths.of(queue) == 0 {
+            return None;
+        }
+        let at = newest_slot(&self.slots, queue);
+        let slot = &self.slots[at as usize];
+        let entry = Entry {
+            item: slot.item,
+            count: slot.count,
+        };
+        Some((at, entry))
+    }
+
+    /// Where the item of a slot stands.
+    #[inline(always)]
+    pub fn place(&self, at: u32) -> Place
+        requires { IsUsed at self.now }
+        ensures low { result.queue < QUEUES }
+        ensures place { Some result ≡ place_in (entry_at at self.now).item (queues self.now) }
+    {
+        place_of_slot(&self.slots, at)
+    }
+
+    // The slot behind a place: that of its newer neighbour, or the one that closes the queue.
+    fn slot_at_place(&self, place: Place) -> u32
+        requires { place.queue < QUEUES }
+        ensures last { place.newer ≡ None → result ≡ suc (suc place.queue) }
+        ensures newer { (n : Item) → place.newer ≡ Some n → queue_holding n (queues self.now) ≢ None
+            → IsSlotOf result n self.now }
+        // Of every table with slots: they are linked in their order.
+        ensures queued { 0 < length self.now → IsQueued self.now (order_of self.now) }
+    {
+        let _ = &self.slots;
+        let Some(newer) = place.newer else {
+            return slot_behind(place.queue);
+        };
+        self.find_slot(newer).unwrap_or(slot_behind(place.queue))
+    }
+
+    // Puts an entry whose item is not there into a free slot, and the slot before another one of a queue.
+    #[inline(always)]
+    fn put(&mut self, entry: Entry, queue: u8, before: u32)
+        requires queue { queue < QUEUES }
+        requires room { 1 ≤ spare self.old }
+        requires absent { queue_holding entry.item (queues self.old) ≡ None }
+        requires place { IsPlace before (suc queue) (order_of self.old) }
+        ensures distinct { IsDistinct (queues self.old) }
+        ensures spare { spare self.new + 1 ≡ spare self.old }
+        ensures recent { before ≡ suc (suc queue) → queues self.new ≡ after_push queue entry (queues self.old) }
+        ensures back { (older newer : Option Item) → IsBehind before queue older newer self.old (order_of self.old)
+            → queues self.new ≡ after_return queue older entry (queues self.old) }
+    {
+        let slots: &mut [Slot] = &mut self.slots;
+        let at = newest_free(slots);
+        set_entry(slots, at as usize, entry);
+        self.index.insert(at, entry.item);
+        send(slots, at, queue, before);
+        self.lengths.pass(0, section(queue));
+    }
+
+    // Moves a slot in use to the place before another one of a queue, with another count, and says where it stood.
+    #[inline(always)]
+    fn shift(&mut self, at: u32, queue: u8, before: u32, count: u8) -> Place
+        requires queue { queue < QUEUES }
+        requires used { IsUsed at self.old }
+        requires place { IsPlace before (suc queue) (order_without at (order_of self.old)) }
+        ensures low { result.queue < QUEUES }
+        ensures spare { spare self.new ≡ spare self.old }
+        ensures place { Some result ≡ place_in (entry_at at self.old).item (queues self.old) }
+        ensures recent { before ≡ suc (suc queue)
+            → queues self.new ≡ after_send (entry (entry_at at self.old).item count) queue (queues self.old) }
+        ensures back { (older newer : Option Item) → IsBehind before queue older newer self.old
+            (order_without at (order_of self.old))
+            → queues self.new ≡ after_return queue older (entry (entry_at at self.old).item count)
+            (after_removal (entry_at at self.old).item (queues self.old)) }
+    {
+        let slots: &mut [Slot] = &mut self.slots;
+        let from = place_of_slot(slots, at);
+        set_count(slots, at as usize, count);
+        send(slots, at, queue, before);
+        self.lengths.pass(section(from.queue), section(queue));
+        from
+    }
+
+    /// Puts an entry whose item stands in no queue at the recent end of one. It requires room, and takes room for one.
+    #[inline(always)]
+    pub fn push(&mut self, queue: u8, entry: Entry)
+        requires queue { queue < QUEUES }
+        requires room { 1 ≤ spare self.old }
+        requires absent { queue_holding entry.item (queues self.old) ≡ None }
+        ensures queues { queues self.new ≡ after_push queue entry (queues self.old) }
+        ensures spare { spare self.new + 1 ≡ spare self.old }
+        // Of every table: no item stands twice.
+        ensures distinct { IsDistinct (queues self.old) }
+    {
+        self.put(entry, queue, slot_behind(queue));
+    }
+
+    /// Puts an entry whose item stands in no queue into a place. It requires room, and takes room for one.
+    pub fn insert(&mut self, place: Place, entry: Entry)
+        requires queue { place.queue < QUEUES }
+        requires room { 1 ≤ spare self.old }
+        requires absent { queue_holding entry.item (queues self.old) ≡ None }
+        requires gap { IsGap place.older place.newer (queues self.old place.queue) }
+        ensures queues { queues self.new ≡ after_return place.queue place.older entry (queues self.old) }
+        ensures spare { spare self.new + 1 ≡ spare self.old }
+        // Of every table: no item stands twice.
+        ensures distinct { IsDistinct (queues self.old) }
+    {
+        let before = self.slot_at_place(place);
+        self.put(entry, place.queue, before);
+    }
+
+    /// Takes the item of a slot to the recent end of a queue, with another count, and says where it stood.
+    #[inline(always)]
+    pub fn send(&mut self, at: u32, queue: u8, count: u8) -> Place
+        requires queue { queue < QUEUES }
+        requires used { IsUsed at self.old }
+        ensures queues { queues self.new ≡ after_send (entry (entry_at at self.old).item count) queue (queues self.old) }
+        ensures low { result.queue < QUEUES }
+        ensures place { Some result ≡ place_in (entry_at at self.old).item (queues self.old) }
+        ensures spare { spare self.new ≡ spare self.old }
+    {
+        self.shift(at, queue, slot_behind(queue), count)
+    }
+
+    /// Takes the item of a slot into a place, with another count.
+    pub fn send_to(&mut self, at: u32, place: Place, count: u8)
+        requires queue { place.queue < QUEUES }
+        requires used { IsUsed at self.old }
+        requires gap { IsGap place.older place.newer (after_removal (entry_at at self.old).item (queues self.old) place.queue) }
+        ensures queues { queues self.new ≡ after_return place.queue place.older (entry (entry_at at self.old).item count)
+            (after_removal (entry_at at self.old).item (queues self.old)) }
+        ensures spare { spare self.new ≡ spare self.old }
+    {
+        let before = self.slot_at_place(place);
+        let _ = self.shift(at, place.queue, before, count);
+    }
+
+    /// Gives a slot an entry whose item stands in no queue, and takes it to the recent end of a queue. Says where the
+    /// item stood that it had. Takes no room.
+    #[inline(always)]
+    pub fn renew(&mut self, at: u32, queue: u8, entry: Entry) -> Place
+        requires queue { queue < QUEUES }
+        requires used { IsUsed at self.old }
+        requires absent { queue_holding entry.item (queues self.old) ≡ None }
+        ensures queues { queues self.new ≡ after_push queue entry (after_removal (entry_at at self.old).item (queues self.old)) }
+        ensures low { result.queue < QUEUES }
+        ensures place { Some result ≡ place_in (entry_at at self.old).item (queues self.old) }
+        ensures spare { spare self.new ≡ spare self.old }
+    {
+        let slots: &mut [Slot] = &mut self.slots;
+        let from = place_of_slot(slots, at);
+        let old = slots[at as usize].item;
+        self.index.remove(at, old);
+        set_entry(slots, at as usize, entry);
+        self.index.insert(at, entry.item);
+        send(slots, at, queue, slot_behind(queue));
+        self.lengths.pass(section(from.queue), section(queue));
+        from
+    }
+
+    /// Takes the item of a slot out, and says where it stood.
+    #[inline(always)]
+    pub fn remove(&mut self, at: u32) -> Place
+        requires used { IsUsed at self.old }
+        ensures queues { queues self.new ≡ after_removal (entry_at at self.old).item (queues self.old) }
+        ensures low { result.queue < QUEUES }
+        ensures place { Some result ≡ place_in (entry_at at self.old).item (queues self.old) }
+        ensures spare { spare self.new ≡ spare self.old + 1 }
+    {
+        let slots: &mut [Slot] = &mut self.slots;
+        let from = place_of_slot(slots, at);
+        let item = slots[at as usize].item;
+        self.index.remove(at, item);
+        release(slots, at);
+        self.lengths.pass(section(from.queue), 0);
+        from
+    }
+
+    /// Writes another count beside the item of a slot.
+    #[inline(always)]
+    pub fn set_count(&mut self, at: u32, count: u8)
+        requires used { IsUsed at self.old }
+        ensures queues { queues self.new ≡ after_count (entry_at at self.old).item count (queues self.old) }
+        ensures spare { spare self.new ≡ spare self.old }
+    {
+        let slots: &mut [Slot] = &mut self.slots;
+        set_count(slots, at as usize, count);
+    }
+}

@@ -1,0 +1,33 @@
+//! Entries, places in queues, and what a search finds.
+use step_record::Item;
+
+/// An item with the count beside it.
+#[derive(Clone, Copy)]
+pub struct Entry {
+    /// The item.
+    pub item: Item,
+    /// Its count.
+    pub count: u8,
+}
+
+/// A place in a queue, named by the items that stand next to it: `None` at an end of the queue.
+#[derive(Clone, Copy)]
+pub struct Place {
+    /// The number of the queue.
+    pub queue: u8,
+    /// The item right before the place, towards the oldest end.
+    pub older: Option<Item>,
+    /// The item right behind the place, towards the recent end.
+    pub newer: Option<Item>,
+}
+
+/// An item that stands in a queue: its slot, its queue and its count.
+#[derive(Clone, Copy)]
+pub struct Found {
+    /// The slot.
+    pub at: u32,
+    /// The number of the queue.
+    pub queue: u8,
+    /// The count.
+    pub count: u8,
+}

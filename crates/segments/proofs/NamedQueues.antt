@@ -1,0 +1,235 @@
+-- The queues by name, over the queues by number.
+use Rattle.std.proofs.Common.{◌≡◌, ℕ, ◌+◌, ◌≤◌, nat_lt, true, false, cond, Option, Some, None, List, [], ◌∷◌, ◌++◌, ap, ◌∙◌, sym, refl, arith, inl, inr}
+use Rattle.std.proofs.lemmas.Bool.{cases_Bool, cases_lt, lt-ltb, le-ltb}
+use Rattle.step_record.specs.declared.item.Item.{Item}
+use Rattle.queue_table.specs.declared.records.Entry.{Entry}
+use Rattle.queue_table.specs.declared.records.Place.{Place}
+use Rattle.queue_table.specs.Entries as Entries
+use Rattle.queue_table.specs.Entries.{items_of}
+use Rattle.queue_table.specs.Queues as ByNumber
+use Rattle.segments.specs.declared.records.Queue.{Queue}
+use Rattle.segments.specs.declared.records.Queue.TheVariants.{Window, Probation, Protected}
+use Rattle.segments.specs.Items.{is_same_item, occurrences, items_without, oldest_of, last_from, last_item, before, behind, IsGap, put_behind}
+use Rattle.segments.specs.Queues.{queue_of, with_queue, queue_holding, IsDistinct, queues_after_push, queues_without}
+use Rattle.segments.specs.Moves.{item_place}
+use Rattle.segments.proofs.QueueLists.{absent}
+use Rattle.segments.specs.Names.{number_of, name_of, named, IsNamed, named_place}
+
+-- one list: what is done to the entries is done to their items
+
+items-append : (l m : List Entry) → items_of (l ++ m) ≡ items_of l ++ items_of m
+items-append [] m = refl
+items-append (e ∷ l) m = ap (λ t. e.item ∷ t) (items-append l m)
+
+items-without : (i : Item) (l : List Entry) → items_of (Entries.entries_without i l) ≡ items_without i (items_of l)
+items-without i [] = refl
+items-without i (e ∷ l) =
+    elim (cases_Bool (is_same_item i e.item)) as (λ _. items_of (cond (is_same_item i e.item) (Entries.entries_without i l) (e ∷ Entries.entries_without i l)) ≡ cond (is_same_item i e.item) (items_without i (items_of l)) (e.item ∷ items_without i (items_of l))) [
+      | inl h ↦ rw h (items-without i l)
+      | inr h ↦ rw h (ap (λ t. e.item ∷ t) (items-without i l))
+    ]
+
+items-put : (o : Option Item) (x : Entry) (l : List Entry) → items_of (Entries.put_behind o x l) ≡ put_behind o x.item (items_of l)
+items-put None x l = refl
+items-put (Some a) x [] = refl
+items-put (Some a) x (e ∷ l) =
+    elim (cases_Bool (is_same_item a e.item)) as (λ _. items_of (cond (is_same_item a e.item) (e ∷ x ∷ l) (e ∷ Entries.put_behind (Some a) x l)) ≡ cond (is_same_item a e.item) (e.item ∷ x.item ∷ items_of l) (e.item ∷ put_behind (Some a) x.item (items_of l))) [
+      | inl h ↦ rw h refl
+      | inr h ↦ rw h (ap (λ t. e.item ∷ t) (items-put (Some a) x l))
+    ]
+
+items-before : (i : Item) (l : List Entry) → items_of (Entries.before i l) ≡ before i (items_of l)
+items-before i [] = refl
+items-before i (e ∷ l) =
+    elim (cases_Bool (is_same_item i e.item)) as (λ _. items_of (cond (is_same_item i e.item) [] (e ∷ Entries.before i l)) ≡ cond (is_same_item i e.item) [] (e.item ∷ before i (items_of l))) [
+      | inl h ↦ rw h refl
+      | inr h ↦ rw h (ap (λ t. e.item ∷ t) (items-before i l))
+    ]
+
+items-behind : (i : Item) (l : List Entry) → items_of (Entries.behind i l) ≡ behind i (items_of l)
+items-behind i [] = refl
+items-behind i (e ∷ l) =
+    elim (cases_Bool (is_same_item i e.item)) as (λ _. items_of (cond (is_same_item i e.item) l (Entries.behind i l)) ≡ cond (is_same_item i e.item) (items_of l) (behind i (items_of l))) [
+      | inl h ↦ rw h refl
+      | inr h ↦ rw h (items-behind i l)
+    ]
+
+last-is : (found : Option Item) (l : List Entry) → Entries.last_from found l ≡ last_from found (items_of l)
+last-is found [] = refl
+last-is found (e ∷ l) = last-is (Some e.item) l
+
+first-is : (l : List Entry) → Entries.first_item l ≡ oldest_of (items_of l)
+first-is [] = refl
+first-is (e ∷ l) = refl
+
+times-is : (i : Item) (l : List Entry) → occurrences i (items_of l) ≡ Entries.occurrences i l
+times-is i [] = refl
+times-is i (e ∷ l) = ap (λ n. cond (is_same_item i e.item) 1 0 + n) (times-is i l)
+
+oldest-is : (l : List Entry) (e : Entry) → Entries.oldest_of l ≡ Some e → oldest_of (items_of l) ≡ Some e.item
+oldest-is [] e h = absurd (cc h)
+oldest-is (x ∷ l) e h = let same : x ≡ e = cc in rw same refl
+
+-- a list of entries cut where its items are
+record IsCut (l : List Entry) (xs ys : List Item) : Type 0 where
+  before : List Entry
+  behind : List Entry
+  whole : l ≡ before ++ behind
+  items_before : items_of before ≡ xs
+  items_behind : items_of behind ≡ ys
+
+cut : (l : List Entry) (xs ys : List Item) → items_of l ≡ xs ++ ys → IsCut l xs ys
+cut l [] ys h = record { before = []; behind = l; whole = refl; items_before = refl; items_behind = h }
+cut [] (x ∷ xs) ys h = absurd (cc h)
+cut (e ∷ l) (x ∷ xs) ys h =
+    let c : IsCut l xs ys = cut l xs ys cc in
+    let first : e.item ≡ x = cc in
+    record {
+      before = e ∷ c.before;
+      behind = c.behind;
+      whole = ap (λ t. e ∷ t) c.whole;
+      items_before = ap (λ (t : List Item). e.item ∷ t) c.items_before ∙ ap (λ (a : Item). a ∷ xs) first;
+      items_behind = c.items_behind;
+    }
+
+-- one queue
+
+pub queue-named : (q : Queue) (s : ByNumber.Queues) → items_of (s (number_of q)) ≡ queue_of q (named s)
+queue-named Window s = refl
+queue-named Probation s = refl
+queue-named Protected s = refl
+
+with-named : (q : Queue) (l : List Entry) (s : ByNumber.Queues) → named (ByNumber.with_queue (number_of q) l s) ≡ with_queue q (items_of l) (named s)
+with-named Window l s = refl
+with-named Probation l s = refl
+with-named Protected l s = refl
+
+pub first-named : (q : Queue) (e : Entry) (s : ByNumber.Queues) → Entries.oldest_of (s (number_of q)) ≡ Some e → oldest_of (queue_of q (named s)) ≡ Some e.item
+first-named q e s h = ap oldest_of (sym (queue-named q s)) ∙ oldest-is (s (number_of q)) e h
+
+pub gap-numbered : (q : Queue) (older newer : Option Item) (s : ByNumber.Queues) → IsGap older newer (queue_of q (named s)) → Entries.IsGap older newer (s (number_of q))
+gap-numbered q older newer s g =
+    let c : IsCut (s (number_of q)) g.before g.behind = cut (s (number_of q)) g.before g.behind (queue-named q s ∙ g.whole) in
+    record {
+      before = c.before;
+      behind = c.behind;
+      whole = c.whole;
+      older_last = last-is None c.before ∙ (ap last_item c.items_before ∙ g.older_last);
+      newer_first = first-is c.behind ∙ (ap oldest_of c.items_behind ∙ g.newer_first);
+    }
+
+-- the queues
+
+pub push-named : (q : Queue) (e : Entry) (s : ByNumber.Queues) → named (ByNumber.after_push (number_of q) e s) ≡ queues_after_push q e.item (named s)
+push-named q e s =
+    with-named q (s (number_of q) ++ e ∷ []) s
+    ∙ ap (λ (l : List Item). with_queue q l (named s)) (items-append (s (number_of q)) (e ∷ []) ∙ ap (λ (l : List Item). l ++ e.item ∷ []) (queue-named q s))
+
+pub without-named : (i : Item) (s : ByNumber.Queues) → named (ByNumber.after_removal i s) ≡ queues_without i (named s)
+without-named i s = rw (items-without i (s 0), items-without i (s 1), items-without i (s 2)) refl
+
+pub return-named : (q : Queue) (o : Option Item) (e : Entry) (s : ByNumber.Queues) → named (ByNumber.after_return (number_of q) o e s) ≡ with_queue q (put_behind o e.item (queue_of q (named s))) (named s)
+return-named q o e s =
+    with-named q (Entries.put_behind o e (s (number_of q))) s
+    ∙ ap (λ (l : List Item). with_queue q l (named s)) (items-put o e (s (number_of q)) ∙ ap (put_behind o e.item) (queue-named q s))
+
+with-kept : (q : Queue) (l : List Entry) (s : ByNumber.Queues) → IsNamed s → IsNamed (ByNumber.with_queue (number_of q) l s)
+with-kept Window l s h = record { fourth = h.fourth; fifth = h.fifth }
+with-kept Probation l s h = record { fourth = h.fourth; fifth = h.fifth }
+with-kept Protected l s h = record { fourth = h.fourth; fifth = h.fifth }
+
+pub push-kept : (q : Queue) (e : Entry) (s : ByNumber.Queues) → IsNamed s → IsNamed (ByNumber.after_push (number_of q) e s)
+push-kept q e s h = with-kept q (s (number_of q) ++ e ∷ []) s h
+
+pub without-kept : (i : Item) (s : ByNumber.Queues) → IsNamed s → IsNamed (ByNumber.after_removal i s)
+without-kept i s h = record { fourth = ap (Entries.entries_without i) h.fourth; fifth = ap (Entries.entries_without i) h.fifth }
+
+pub return-kept : (q : Queue) (o : Option Item) (e : Entry) (s : ByNumber.Queues) → IsNamed s → IsNamed (ByNumber.after_return (number_of q) o e s)
+return-kept q o e s h = with-kept q (Entries.put_behind o e (s (number_of q))) s h
+
+pub distinct-named : (s : ByNumber.Queues) → ByNumber.IsDistinct s → IsDistinct (named s)
+distinct-named s d i = let few = d i in let w = times-is i (s 0) in let p = times-is i (s 1) in let r = times-is i (s 2) in omega (arith, few, w, p, r)
+
+-- where an item stands
+
+pub data IsShown : Option ℕ → Option Queue → Type 0 where
+  nowhere : IsShown None None
+  in_queue : (q : Queue) → IsShown (Some (number_of q)) (Some q)
+
+has-none : (n : ℕ) → n ≡ 0 → nat_lt 0 n ≡ false
+has-none n h = le-ltb 0 n (omega (arith, h))
+
+has-one : (n : ℕ) → 1 ≤ n → nat_lt 0 n ≡ true
+has-one n h = lt-ltb 0 n (omega (arith, h))
+
+pub holding-shown : (i : Item) (s : ByNumber.Queues) → ByNumber.IsDistinct s → IsNamed s → IsShown (ByNumber.queue_holding i s) (queue_holding i (named s))
+holding-shown i s d h =
+    let few = d i in
+    let w = times-is i (s 0) in
+    let p = times-is i (s 1) in
+    let r = times-is i (s 2) in
+    let z : nat_lt 0 (Entries.occurrences i (s 3)) ≡ false = has-none (Entries.occurrences i (s 3)) (ap (Entries.occurrences i) h.fourth) in
+    let u : nat_lt 0 (Entries.occurrences i (s 4)) ≡ false = has-none (Entries.occurrences i (s 4)) (ap (Entries.occurrences i) h.fifth) in
+    elim (cases_lt 0 (Entries.occurrences i (s 0))) [
+      | inl a ↦
+          let x = has-one (Entries.occurrences i (s 0)) (omega (arith, a)) in
+          let y = has-none (Entries.occurrences i (s 1)) (omega (arith, few, a)) in
+          let v = has-none (Entries.occurrences i (s 2)) (omega (arith, few, a)) in
+          rw (w, u, z, x, v, y) (in_queue Window)
+      | inr a ↦
+          let x = has-none (Entries.occurrences i (s 0)) (omega (arith, a)) in
+          elim (cases_lt 0 (Entries.occurrences i (s 1))) [
+            | inl b ↦
+                let y = has-one (Entries.occurrences i (s 1)) (omega (arith, b)) in
+                let v = has-none (Entries.occurrences i (s 2)) (omega (arith, few, b)) in
+                rw (w, p, u, z, x, v, y) (in_queue Probation)
+            | inr b ↦
+                let y = has-none (Entries.occurrences i (s 1)) (omega (arith, b)) in
+                elim (cases_lt 0 (Entries.occurrences i (s 2))) [
+                  | inl c ↦ let v = has-one (Entries.occurrences i (s 2)) (omega (arith, c)) in rw (w, p, r, u, z, x, y, v) (in_queue Protected)
+                  | inr c ↦ let v = has-none (Entries.occurrences i (s 2)) (omega (arith, c)) in rw (w, p, r, u, z, x, y, v) nowhere
+                ]
+          ]
+    ]
+
+name-number : (q : Queue) → name_of (number_of q) ≡ q
+name-number Window = refl
+name-number Probation = refl
+name-number Protected = refl
+
+shown-some : (n : ℕ) (o : Option ℕ) (q : Option Queue) → IsShown o q → o ≡ Some n → q ≡ Some (name_of n)
+shown-some n o q nowhere h = absurd (cc h)
+shown-some n o q (in_queue x) h = let e : number_of x ≡ n = cc in ap (λ (y : Queue). Some y) (sym (name-number x)) ∙ ap (λ (k : ℕ). Some (name_of k)) e
+
+shown-none : (o : Option ℕ) (q : Option Queue) → IsShown o q → o ≡ None → q ≡ None
+shown-none o q nowhere h = refl
+shown-none o q (in_queue x) h = absurd (cc h)
+
+pub missing-numbered : (i : Item) (s : ByNumber.Queues) → IsNamed s → queue_holding i (named s) ≡ None → ByNumber.queue_holding i s ≡ None
+missing-numbered i s h e =
+    let a = absent i (named s) e in
+    let w = has-none (Entries.occurrences i (s 0)) (sym (times-is i (s 0)) ∙ a.window) in
+    let p = has-none (Entries.occurrences i (s 1)) (sym (times-is i (s 1)) ∙ a.probation) in
+    let r = has-none (Entries.occurrences i (s 2)) (sym (times-is i (s 2)) ∙ a.protected) in
+    let z : nat_lt 0 (Entries.occurrences i (s 3)) ≡ false = has-none (Entries.occurrences i (s 3)) (ap (Entries.occurrences i) h.fourth) in
+    let u : nat_lt 0 (Entries.occurrences i (s 4)) ≡ false = has-none (Entries.occurrences i (s 4)) (ap (Entries.occurrences i) h.fifth) in
+    rw (u, z, r, p, w) refl
+
+place-at : (i : Item) (p : Place) (o : Option ℕ) (q : Option Queue) (s : ByNumber.Queues) → IsShown o q → Some p ≡ ByNumber.place_at i o s → Some (named_place p) ≡ item_place i q (named s)
+place-at i p o q s nowhere h = absurd (cc h)
+place-at i p o q s (in_queue x) h =
+    let here : Place = record { queue = number_of x; older = Entries.last_item (Entries.before i (s (number_of x))); newer = Entries.first_item (Entries.behind i (s (number_of x))) } in
+    let same : p ≡ here = cc in
+    let older : here.older ≡ last_item (before i (queue_of x (named s))) = last-is None (Entries.before i (s (number_of x))) ∙ ap last_item (items-before i (s (number_of x)) ∙ ap (before i) (queue-named x s)) in
+    let newer : here.newer ≡ oldest_of (behind i (queue_of x (named s))) = first-is (Entries.behind i (s (number_of x))) ∙ ap oldest_of (items-behind i (s (number_of x)) ∙ ap (behind i) (queue-named x s)) in
+    ap (λ (y : Place). Some (named_place y)) same ∙ rw (name-number x, older, newer) refl
+
+module _ (i : Item) (s : ByNumber.Queues) (d : ByNumber.IsDistinct s) (h : IsNamed s) where
+  pub holding-named : (n : ℕ) → ByNumber.queue_holding i s ≡ Some n → queue_holding i (named s) ≡ Some (name_of n)
+  holding-named n e = shown-some n _ _ (holding-shown i s d h) e
+
+  pub missing-named : ByNumber.queue_holding i s ≡ None → queue_holding i (named s) ≡ None
+  missing-named e = shown-none _ _ (holding-shown i s d h) e
+
+  pub place-named : (p : Place) → Some p ≡ ByNumber.place_in i s → Some (named_place p) ≡ item_place i (queue_holding i (named s)) (named s)
+  place-named p e = place-at i p _ _ s (holding-shown i s d h) e

@@ -1,5 +1,0 @@
-use Rattle.segments.proofs.Frames.{links-then}
-use Rattle.segments.proofs.links.unlink.Goals as goal
-
-pub returns-clause-only : goal.returns-clause-only
-returns-clause-only c = links-then _ _ _ c.set_newer.ensures.only c.set_older.ensures.only

@@ -1,5 +1,0 @@
-use Rattle.std.proofs.Common.{◌-◌, length}
-use Rattle.segments.proofs.slot_index.SlotIndex.+detach.Given as goal
-
-abbrev pub decreases-detach : goal.decreases-detach
-decreases-detach l = length l.self.now.links.items - l.depth

@@ -1,5 +1,0 @@
-use Rattle.std.proofs.Common.{◌-◌, length}
-use Rattle.segments.proofs.slot_index.SlotIndex.+find_below.Given as goal
-
-abbrev pub decreases-find_below : goal.decreases-find_below
-decreases-find_below g l = length l.self.now.links.items - l.depth

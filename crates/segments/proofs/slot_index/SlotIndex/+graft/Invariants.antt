@@ -1,5 +1,0 @@
-use Rattle.std.proofs.Common.{◌-◌, length}
-use Rattle.segments.proofs.slot_index.SlotIndex.+graft.Given as goal
-
-abbrev pub decreases-graft : goal.decreases-graft
-decreases-graft l = length l.self.now.links.items - l.depth
