@@ -6,7 +6,7 @@ use Rattle.clairvoyant.specs.declared.optimal_record.OptimalRecord.{OptimalRecor
 use Rattle.clairvoyant.specs.Belady.{belady_residents, belady_outcome}
 use Rattle.clairvoyant.specs.RankSet.{IsTied}
 use Rattle.step_record.specs.Stats.{stats_with, stats_without}
-use Rattle.clairvoyant.specs.Clairvoyant.{ClairvoyantState, clairvoyant_at, IsBeladyReached, clairvoyant_act}
+use Rattle.clairvoyant.specs.Clairvoyant.{ClairvoyantState, IsBeladyReached, clairvoyant_act}
 use Rattle.clairvoyant.specs.OptimalRecord.{record_at, outcome_of, undone_keys, clairvoyant_undone, ClairvoyantFits}
 use Rattle.clairvoyant.proofs.Records.{outcome-is, keys-back}
 use Rattle.clairvoyant.specs.Representation.{shown, IsRepresented}
@@ -33,14 +33,6 @@ module _ (c : ℕ) (t : List ℕ) (s u : Stats) (o : Outcome) (lt : s.accesses <
   pub next-accepted : (k : ℕ) (d : ClairvoyantState) → shown c t s ≡ d → k ≡ get_or t s.accesses 0 → clairvoyant_act d k ≡ Some (o, shown c t u)
   next-accepted k d e same =
       ap (λ x. clairvoyant_act x k) (sym e) ∙ act-next c t s k o lt r.short same is ∙ ap (λ x. Some (o, shown c t x)) (sym more)
-
-  pub next-seen : shown c t u ≡ clairvoyant_at c t (suc s.accesses)
-  next-seen = let n : IsBeladyReached (shown c t u) = next-reached in n.gives ∙ ap (clairvoyant_at c t) up
-
-  pub next-stands : (d : ClairvoyantState) → shown c t s ≡ d → (d ≡ clairvoyant_at d.capacity d.trace d.stats.accesses) × (o ≡ belady_outcome d.capacity d.trace d.stats.accesses) × (shown c t u ≡ clairvoyant_at d.capacity d.trace (suc d.stats.accesses))
-  next-stands d e =
-      let P : ClairvoyantState → Type 0 = λ x. (x ≡ clairvoyant_at x.capacity x.trace x.stats.accesses) × (o ≡ belady_outcome x.capacity x.trace x.stats.accesses) × (shown c t u ≡ clairvoyant_at x.capacity x.trace (suc x.stats.accesses)) in
-      subst P e (r.gives, is, next-seen)
 
   module _ (done : OptimalRecord) (last : done ≡ record_at c t s.accesses) where
     by : outcome_of done ≡ o

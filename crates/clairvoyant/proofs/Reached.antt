@@ -1,13 +1,13 @@
 -- What the first accesses of a trace give, one access further.
-use Rattle.std.proofs.Common.{◌≡◌, ℕ, suc, zero, ◌+◌, ◌-◌, ◌<◌, ◌≤◌, Bool, true, false, cond, ◌&&◌, eqb, nat_lt, inl, inr, Some, None, List, [], ◌∷◌, length, count_by, get_or, ap, ◌∙◌, sym, refl, subst, arith, add-one, length-append}
-use Rattle.std.proofs.lemmas.Bool.{cases_Bool, eq-eqb, ne_eqb, lt-ltb, le-ltb}
+use Rattle.std.proofs.Common.{◌≡◌, ℕ, suc, zero, ◌+◌, ◌-◌, ◌<◌, ◌≤◌, Bool, true, false, cond, ◌&&◌, eqb, nat_lt, inl, inr, Some, None, List, length, count_by, get_or, ap, ◌∙◌, sym, refl, subst, arith, add-one}
+use Rattle.std.proofs.lemmas.Bool.{cases_Bool, eq-eqb, lt-ltb}
 use Rattle.step_record.specs.declared.limits.TheConstants.{MAX_ACCESSES, MAX_STEPS}
 use Rattle.step_record.specs.declared.outcome.Outcome.{Outcome}
 use Rattle.step_record.specs.declared.stats.Stats.{Stats}
 use Rattle.step_record.specs.Keys.{has_key, keys_without}
 use Rattle.clairvoyant.specs.Keys.{residents_with, IsAscendingKeys}
 use Rattle.clairvoyant.specs.Belady.{farthest, belady_residents_after, belady_answer, belady_departure, belady_residents, belady_outcome, belady_outcomes}
-use Rattle.step_record.specs.Stats.{is_hit, is_miss, is_eviction, is_rejection, one_if, stats_with, stats_without, IsCounted, IsSmall, stats_of}
+use Rattle.step_record.specs.Stats.{is_hit, is_miss, is_eviction, is_rejection, one_if, stats_with, stats_without, IsCounted, stats_of}
 use Rattle.clairvoyant.specs.Clairvoyant.{IsBeladyReached, clairvoyant_act, is_next, clairvoyant_after}
 use Rattle.clairvoyant.specs.Representation.{shown}
 use Rattle.step_record.proofs.Counting.{stats-snoc}

@@ -111,20 +111,6 @@ module _ (bytes : List ℕ) (start from to others : ℕ) (order : start ≤ from
       later : (t : ℕ) → from + (t + 1) ≡ from + t + 1
       later t = omega arith
 
--- the bits behind the first ones
-pub marks_past : (bytes : List ℕ) (from to others skipped : ℕ) → MarksOthers bytes from to others → MarksOthers bytes (from + skipped) to (others / 2 ^ skipped)
-marks_past bytes from to others skipped marks =
-    let fewer : to - from - skipped ≡ to - (from + skipped) = omega arith in
-    ap (λ m. m / 2 ^ skipped) marks ∙ bits_after skipped (map is_other (chunk from (to - from) bytes))
-    ∙ ap mask_l (bits_of_drop is_other skipped (to - from) (drop from bytes) ∙ (λ i. map is_other (take (fewer i) (drop_past i))))
-  where
-    drop_past : drop skipped (drop from bytes) ≡ drop (from + skipped) bytes
-    drop_past = drop-drop skipped from bytes ∙ ap (λ k. drop k bytes) (omega arith)
-
--- the bits behind the first
-pub marks_behind : (bytes : List ℕ) (from to others : ℕ) → MarksOthers bytes from to others → MarksOthers bytes (from + 1) to (others / 2)
-marks_behind bytes from to others marks = marks_past bytes from to others 1 marks
-
 -- where no bit is left, all bytes are digits
 pub none_left : (bytes : List ℕ) (start from to : ℕ) → from ≤ to → to ≤ length bytes → DigitsBetween bytes start from → MarksOthers bytes from to 0 → DigitsBetween bytes start to
 none_left bytes start from to inside within none marks k low high = elim (cases_lt k from) [
