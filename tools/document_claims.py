@@ -2,7 +2,8 @@
 
 Each function returns what is wrong, as texts. PROOFS has tables of claims: a function with its file, a definition of the
 same crate or of another one that is named, and a mutation. PROOFS, MUTATIONS and PROVING name nothing that is not there,
-and each crate of crates.txt has one row of ARCHITECTURE, but for the crates of tests, which it names together.
+and each crate of crates.txt has one row of ARCHITECTURE, which is the first sentence of its root file; but for the crates of
+tests, which it names together.
 """
 import re
 from pathlib import Path
@@ -12,6 +13,8 @@ CLAIMS = "| Claim | Function | Definition | Mutation |"
 CODE = re.compile(r"`([^`]+)`")
 FILE = re.compile(r"`(\w+)/(src/[\w/]*(?:\.rt)?)`")
 FENCED = re.compile(r"^```.*?^```$", re.M | re.S)
+# Tools that have names of small repositories of their own.
+NAMING_OTHERS = ("check_tools", "check_new_policy")
 # Documents of which each name in the sources is looked up.
 NAMING = ("docs/PROOFS.md", "docs/MUTATIONS.md", "docs/PROVING.md")
 
@@ -31,7 +34,7 @@ class Sources:
                       for crate in self.crates}
         self.mutations = {it.stem for it in top.glob("crates/*/must-fail/*.edit")}
         more = [it.read_text(errors="replace") for pattern in ("crates/*/proofs/**/*.antt", "tools/*", "tools/*/*.py")
-                for it in top.glob(pattern) if it.is_file() and it.name != "check_tools"]
+                for it in top.glob(pattern) if it.is_file() and it.name not in NAMING_OTHERS]
         texts = [text for kind in (self.src, self.specs) for files in kind.values() for text in files.values()]
         self.words = set(re.findall(r"\w+", "\n".join(texts + more))) | self.mutations | {*self.crates}
         self.words |= set(re.findall(r"\w+", " ".join(str(it.relative_to(top)) for it in top.glob("crates/*/*/**/*"))))
@@ -89,14 +92,32 @@ def wrong_names(top, sources, document):
 
 
 def wrong_crates(top):
-    """Crates without their row of ARCHITECTURE, and rows without a crate."""
-    text = (top / "docs/ARCHITECTURE.md").read_text()
+    """Crates without their row of ARCHITECTURE, rows without a crate, and rows that a crate's root file says otherwise."""
+    text = (top / "docs/ARCHITECTURE.md").read_text().partition("\n## Crates\n")[2].partition("\n## ")[0]
     crates = [line.split(":")[0].split()[0] for line in (top / "crates.txt").read_text().splitlines() if re.match(r"\w", line)]
-    rows = re.findall(r"^\| `(\w+)` \|", text, re.M)
+    rows = re.findall(r"^\| `(\w+)` \| (.*) \|$", text, re.M)
+    named = [name for name, _ in rows]
     for crate in crates:
-        if rows.count(crate) != 1 and not (crate.endswith("_tests") and f"`{crate}`" in text):
-            yield f"{crate} has {rows.count(crate)} rows"
-    yield from (f"there is no crate {row}" for row in rows if row not in crates and not row[0].isupper() and "_" in row)
+        if named.count(crate) != 1 and not (crate.endswith("_tests") and f"`{crate}`" in text):
+            yield f"{crate} has {named.count(crate)} rows"
+    for name, row in rows:
+        if name not in crates:
+            yield f"there is no crate {name}"
+        elif (sentence := root_sentence(top / "crates" / name)) != (wanted := sentence_of(row)):
+            yield f"the root file of {name} begins '{sentence}', its row has '{wanted}'"
+
+
+def root_sentence(crate):
+    """The first sentence of a crate's root file."""
+    root = next((it for name in ("lib", "main") if (it := crate / f"src/{name}.rt").exists()), None)
+    text = re.match(r"(//!.*\n)*", root.read_text())[0] if root else ""
+    return re.split(r"(?<=\.)\s", re.sub(r"\s*//!\s*", " ", text).strip())[0]
+
+
+def sentence_of(row):
+    """A row of a table as a sentence, without links."""
+    text = re.sub(r" \(\[.*?\]\(.*?\)\)", "", row)
+    return f"{text[0].upper()}{text[1:]}."
 
 
 def wrong(top=TOP):

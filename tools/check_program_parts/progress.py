@@ -121,7 +121,7 @@ def expect_progress(check, trace, *words, is_counted=True, fault="", most_batche
 @part(15)
 def progress(check):
     """The line of each subcommand that has one. The calls rest for most of their time, so they are made side by side."""
-    longer = crowd(check, "longer", check.size(3, 60))
+    longer = crowd(check, "longer", check.size(3, 20))
     rows = longer.read_bytes().splitlines(keepends=True)
     driven = check.file("driven", b"".join(rows[:50000]))
     faulty = check.file("faulty", b"".join(rows) + b"x\n")

@@ -1,4 +1,5 @@
-//! A simulator of cache policies over recorded block traces.
+//! The program over readers, writers and files: `command`, a file for each subcommand; `main`. It simulates cache
+//! policies over recorded block traces.
 //!
 //! `command` is the whole program over readers and writers: it takes the words of a call, and carries the promise of
 //! what the program writes and with which status it ends. `main` hands it the words, the streams and the files of the

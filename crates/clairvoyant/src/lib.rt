@@ -1,5 +1,5 @@
-//! Belady's optimal policy (MIN or OPT, Belady 1966): the key whose next use is farthest is evicted.
-//! It is what every other policy is compared with.
+//! Belady's optimal policy (MIN, OPT), over a set of numbers as a hierarchical bitmap. The key whose next use is
+//! farthest is evicted (Belady 1966). It is what every other policy is compared with.
 //!
 //! The crate promises that the access at each place of the trace answers the outcome of the
 //! definition, which scans plain lists for the farthest next use, and leaves the residents that

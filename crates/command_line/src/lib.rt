@@ -1,4 +1,4 @@
-//! The program's command line, read by `clap`.
+//! Options as rows, `clap`'s commands made of them, arguments as typed values.
 //!
 //! Options and subcommands are rows (`options`), of which the commands are made that `clap` reads, and `parse` gives the
 //! arguments as typed values: configurations, policies, capacities, a format. Its promise is that what it gives is a

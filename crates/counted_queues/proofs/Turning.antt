@@ -1,7 +1,7 @@
 -- Turns of a queue, one by one, and all.
 use Rattle.std.proofs.Common.{◌≡◌, ℕ, zero, suc, ◌+◌, ◌-◌, ◌<◌, ◌≤◌, false, eqb, Option, Some, None, List, [], ◌∷◌, ◌++◌, length, ap, sym, ◌∙◌, refl, inl, inr, arith, append-nil}
 use Rattle.std.proofs.lemmas.Bool.{cases_eq, eq-eqb}
-use Rattle.std.proofs.lemmas.List.{get_or-set_same, set-set, length-set, set-get_or}
+use Rattle.std.proofs.lemmas.List.{get_or-set_same, set-set, length-set}
 use Rattle.queue_policies.specs.CountedKeys.{CountedKey, counted_more, AreCounted, oldest_count, total_count}
 use Rattle.queue_policies.specs.Turns.{turn_count_within, turn_count, after_turn, after_turns, before_turn, before_turns}
 use Rattle.queue_policies.proofs.Turns.{turned-total, turn-count-few}
@@ -50,16 +50,6 @@ key_in (Some e) = e
 pub entry-oldest : (k n : ℕ) (l : List CountedKey) → oldest_entry l ≡ Some (k, n) → (b : List CountedKey) × (l ≡ counted_key k n ∷ b)
 entry-oldest k n [] h = absurd (cc (h))
 entry-oldest k n (e ∷ l) h = (l, ap (λ v. counted_key (key_in v).0 (key_in v).1 ∷ l) h)
-
-entry-count : (l : List CountedKey) → oldest_entry l ≡ None → oldest_count l ≡ 0
-entry-count [] h = refl
-entry-count (e ∷ l) h = absurd (cc (h))
-
-pub none-count : (q : ℕ) (s : List (List CountedKey)) → oldest_entry (queue_of q s) ≡ None → oldest_count (queue_of q s) ≡ 0
-none-count q s h = entry-count (queue_of q s) h
-
-pub some-count : (k n : ℕ) (l : List CountedKey) → oldest_entry l ≡ Some (k, n) → oldest_count l ≡ n
-some-count k n l h = ap oldest_count (entry-oldest k n l h).1
 
 turned-list : (k n m : ℕ) (l b : List CountedKey) → l ≡ counted_key k n ∷ b → m ≡ n - 1 → b ++ counted_key k m ∷ [] ≡ after_turn l
 turned-list k n m l b e h = rw (e, h) refl
@@ -139,13 +129,6 @@ counted-before m (suc n) j l h g =
 
 -- ---- the loops
 
--- one of the turns undone
-pub undone-more : (q i : ℕ) (old now new : List (List CountedKey)) → length old ≡ 5 → q < 5 → now ≡ with_queue q (before_turns i (queue_of q old)) old
-    → new ≡ with_queue q (before_turn (queue_of q now)) now → new ≡ with_queue q (before_turns (suc i) (queue_of q old)) old
-undone-more q i old now new five low h e =
-    let last : queue_of q now ≡ before_turns i (queue_of q old) = rw h (replaced-queue q (before_turns i (queue_of q old)) old five low) in
-    e ∙ rw (last, h) (replaced-twice q (before_turns i (queue_of q old)) (before_turn (before_turns i (queue_of q old))) old)
-
 pub undone-counted : (m q i n : ℕ) (old now : List (List CountedKey)) → length old ≡ 5 → q < 5 → now ≡ with_queue q (before_turns i (queue_of q old)) old
     → i < n → AreCounted m (before_turns n (queue_of q old)) → AreCounted m (before_turn (queue_of q now))
 undone-counted m q i n old now five low h less g =
@@ -157,9 +140,6 @@ pub record IsTurning (q turns : ℕ) (old now : List (List CountedKey)) : Type 0
   pub queues : now ≡ with_queue q (queue_of q now) old
   pub count : turn_count (queue_of q old) ≡ turns + turn_count (queue_of q now)
   pub after : after_turns (turn_count (queue_of q old)) (queue_of q old) ≡ after_turns (turn_count (queue_of q now)) (queue_of q now)
-
-pub turning-starts : (q : ℕ) (s : List (List CountedKey)) → length s ≡ 5 → IsTurning q 0 s s
-turning-starts q s five = record { five = five; queues = sym (set-get_or s q []); count = omega arith; after = refl }
 
 pub turning-goes-on : (q turns : ℕ) (old now new : List (List CountedKey)) → q < 5 → IsTurning q turns old now → eqb (oldest_count (queue_of q now)) 0 ≡ false
     → new ≡ with_queue q (after_turn (queue_of q now)) now → IsTurning q (turns + 1) old new

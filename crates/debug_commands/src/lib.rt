@@ -1,5 +1,4 @@
-//! The commands of the debugger: their grammar, what each is answered, and the reading and answering of them line by
-//! line.
+//! Commands: grammar, breakpoints, answers over a `Timeline`. They are read and answered line by line.
 //!
 //! The debugger walks a `Timeline`: steps that can be made and undone one by one. What it answers is a definition over
 //! the timeline's steps alone (`specs/Answers.antt`, `specs/Dialogue.antt`): a position, a list of breakpoints, and the

@@ -1,5 +1,5 @@
-//! Where two policies part over one trace, how often they hit at the same accesses, and a debugger that walks there and
-//! back.
+//! Where two policies differ, how often they hit together, and their debugger. The debugger walks over one trace, there
+//! and back.
 //!
 //! `part` runs both policies side by side, once, and promises by their definitions over the whole trace: the access
 //! that it returns is the first at which just one of the two hits, and with `None` there is no such access. `compare` counts

@@ -1,4 +1,5 @@
-//! A debugger of the concurrent cache: it walks the journal of a run back and forth and shows the cache at each step.
+//! The debugger of a journal. It walks the journal of a run of the concurrent cache back and forth and shows the cache
+//! at each step.
 //!
 //! `run_replay` reads commands and answers them: it promises that with `Ok` it has written just the lines that the
 //! definition of its answers gives for the commands it read, in which what is shown is the state that the definition of

@@ -1,5 +1,5 @@
-//! The debuggers, under one name: of two policies over one trace, and of a concurrent cache's journal. Each is a crate
-//! of its own, with the promises of its functions.
+//! Both debuggers under one name. One is of two policies over one trace, the other of a concurrent cache's journal.
+//! Each is a crate of its own, with the promises of its functions.
 #![tactic(auto)]
 
 pub use debug_policies::{DebugFault, part, push_part, run_debug};

@@ -1,5 +1,4 @@
-//! The policies that keep each missed key and count no keys beyond a few bits: CLOCK, SIEVE, S3-FIFO, 2Q and ARC, as one
-//! engine.
+//! CLOCK, SIEVE, S3-FIFO, 2Q and ARC as one engine. They keep each missed key, and count no keys beyond a few bits.
 //!
 //! Each is a cache in a crate of its own, over its definition on plain lists. What they share stands here once: counts,
 //! the limit of steps, and undoing.

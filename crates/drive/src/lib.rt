@@ -1,5 +1,5 @@
-//! The workers of the concurrent cache, under one name: the walks of their calls (`walks`), their runs on threads
-//! (`workers`), and finishing a maintenance and quiet runs (`quiet_run`).
+//! `walks`, `workers` and `quiet_run` under one name. They are the walks of the workers' calls, their runs on threads,
+//! and finishing a maintenance and quiet runs.
 #![tactic(auto)]
 
 pub use quiet_run::{QuietFault, SettleFault, run_quiet, settle, theorems};

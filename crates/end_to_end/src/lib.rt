@@ -1,5 +1,6 @@
-//! Theorems as a caller of several crates sees them: what a run on threads leaves and what undoing it gives, that a
-//! report is the same however it is made, and what the undo records of a session hold.
+//! A run and its undoing, reports made in two ways, what records hold. A caller of several crates sees these theorems:
+//! what a run on threads leaves and what undoing it gives, that a report is the same however it is made, and what the
+//! undo records of a session hold.
 #![tactic(auto)]
 
 mod held_words;

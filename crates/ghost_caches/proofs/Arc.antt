@@ -128,10 +128,6 @@ t1-oldest : (l : List CountedKey) (v : ℕ) → first_or None l ≡ Some v → l
 t1-oldest [] v h = absurd (cc (h))
 t1-oldest (e ∷ l) v h = ap ToB1 (some-in e.key v h)
 
-t1-none : (l : List CountedKey) → first_or None l ≡ None → leaver_to_b1 (keys_of l) ≡ NoLeaver
-t1-none [] h = refl
-t1-none (e ∷ l) h = absurd (cc (h))
-
 t2-oldest : (l : List CountedKey) (v : ℕ) → first_or None l ≡ Some v → leaver_to_b2 (keys_of l) ≡ ToB2 v
 t2-oldest [] v h = absurd (cc (h))
 t2-oldest (e ∷ l) v h = ap ToB2 (some-in e.key v h)
@@ -147,9 +143,6 @@ module _ (t1 target : ℕ) (in_b2 gives : Bool) (s : QueueLists) (at : t1 ≡ le
 
   pub t1-leaves : gives ≡ true → (o : Option ℕ) → o ≡ first_or None s.entry → (v : ℕ) → o ≡ Some v → (p : ℕ) → ToB1 v ≡ arc_replace in_b2 target (arc_of p s)
   t1-leaves g o h v some p = rw (gives-is, g) (sym (t1-oldest s.entry v (sym h ∙ some)))
-
-  pub t1-empty : gives ≡ true → (o : Option ℕ) → o ≡ first_or None s.entry → o ≡ None → (p : ℕ) → NoLeaver ≡ arc_replace in_b2 target (arc_of p s)
-  t1-empty g o h none p = rw (gives-is, g) (sym (t1-none s.entry (sym h ∙ none)))
 
   pub t2-leaves : gives ≡ false → (o : Option ℕ) → o ≡ first_or None s.main → (v : ℕ) → o ≡ Some v → (p : ℕ) → ToB2 v ≡ arc_replace in_b2 target (arc_of p s)
   t2-leaves g o h v some p = rw (gives-is, g) (sym (t2-oldest s.main v (sym h ∙ some)))

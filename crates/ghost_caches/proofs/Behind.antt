@@ -38,9 +38,6 @@ pub newest-behind : (v k : ℕ) (l : List ℕ) → newest_key None l ≡ Some k 
 newest-behind v k [] h = absurd (cc (h))
 newest-behind v k (a ∷ l) h = h
 
-pub without-newest-behind : {A : Type 0} (v a : A) (l : List A) → without_newest (v ∷ a ∷ l) ≡ v ∷ without_newest (a ∷ l)
-without-newest-behind v a l = refl
-
 pub newest-stays : (v k : ℕ) (l : List ℕ) → newest_key None l ≡ Some k → without_newest (v ∷ l) ≡ v ∷ without_newest l
 newest-stays v k [] h = absurd (cc (h))
 newest-stays v k (a ∷ l) h = refl

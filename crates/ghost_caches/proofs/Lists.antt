@@ -77,9 +77,3 @@ list-with Entry l s = refl
 list-with Main l s = refl
 list-with EntryGhost l s = refl
 list-with MainGhost l s = refl
-
-pub with-twice : (q : QueueName) (l m : List CountedKey) (s : QueueLists) → with_list q l (with_list q m s) ≡ with_list q l s
-with-twice Entry l m s = refl
-with-twice Main l m s = refl
-with-twice EntryGhost l m s = refl
-with-twice MainGhost l m s = refl

@@ -1,5 +1,5 @@
 -- An S3-FIFO cache: its code is its definition.
-use Rattle.std.proofs.Common.{◌≡◌, ℕ, zero, suc, if◌then◌else◌, ◌+◌, ◌-◌, ◌*◌, ◌<◌, ◌≤◌, true, false, eqb, nat_lt, ◌||◌, Bool, Option, Some, None, Result, Ok, Err, IfOk, OnErr, List, [], ◌∷◌, ◌++◌, length, take, drop, ap, subst, sym, ◌∙◌, refl, inl, inr, arith, length-append}
+use Rattle.std.proofs.Common.{◌≡◌, ℕ, if◌then◌else◌, ◌+◌, ◌-◌, ◌*◌, ◌<◌, ◌≤◌, true, false, eqb, nat_lt, ◌||◌, Bool, Option, Some, None, Result, Ok, Err, IfOk, OnErr, List, [], ◌∷◌, ◌++◌, length, take, drop, ap, subst, sym, ◌∙◌, refl, inl, inr, arith, length-append}
 use Rattle.std.proofs.lemmas.Bool.{cases_Bool, eq-eqb, ne_eqb, lt-ltb, le-ltb}
 use Rattle.std.proofs.lemmas.List.{take-append-drop}
 use Rattle.step_record.specs.Keys.{has_key}
@@ -9,13 +9,13 @@ use Rattle.step_record.specs.declared.outcome.Outcome.TheVariants as outcome
 use Rattle.queue_policies.specs.declared.ghost_place.GhostPlace.{GhostPlace}
 use Rattle.queue_policies.specs.declared.ghost_place.GhostPlace.TheVariants.{Unknown}
 use Rattle.queue_policies.specs.declared.s3_fifo_record.S3FifoLeaver.{S3FifoLeaver}
-use Rattle.queue_policies.specs.declared.s3_fifo_record.S3FifoLeaver.TheVariants.{NoOne, OfSmall, OfMain}
+use Rattle.queue_policies.specs.declared.s3_fifo_record.S3FifoLeaver.TheVariants.{NoOne}
 use Rattle.queue_policies.specs.declared.s3_fifo_record.S3FifoRecord.{S3FifoRecord}
 use Rattle.queue_policies.specs.declared.s3_fifo_record.S3FifoRecord.TheVariants.{Hit, Miss}
 use Rattle.queue_policies.specs.CountedKeys.{CountedKey, keys_of, count_of, with_count, AreCounted, total_count}
 use Rattle.queue_policies.specs.Queues.{is_empty, without_oldest}
 use Rattle.queue_policies.specs.Turns.{turn_count, after_turns}
-use Rattle.queue_policies.specs.Ghost.{ghost_place_of, ghost_with, forgotten_key}
+use Rattle.queue_policies.specs.Ghost.{ghost_place_of, ghost_with}
 use Rattle.queue_policies.specs.S3Fifo.{S3FifoState, s3_fifo_residents, s3_fifo_main_size, main_gives, main_eviction, small_eviction, hit_count}
 use Rattle.queue_policies.specs.S3Fifo.{s3_fifo_with_count, without_ghost_key, s3_fifo_with_key, s3_fifo_act, IsS3Fifo}
 use Rattle.queue_policies.specs.S3FifoPlan.{promotion_count_within, promotion_count, after_promotions, planned_eviction, planned_room}
@@ -25,7 +25,7 @@ use Rattle.queue_policies.proofs.S3Fifo.{keeps, plan-made, plan-ghost, join-time
 use Rattle.queue_policies.proofs.Residents.{times-none, no-times, brought-few}
 use Rattle.queue_policies.proofs.S3FifoUndoing.{undoes}
 use Rattle.queue_policies.proofs.S3FifoPlan.{room-planned, not-promoted, has-room, one-promoted}
-use Rattle.counted_queues.specs.Queues.{counted_key, first_or, oldest_entry}
+use Rattle.counted_queues.specs.Queues.{counted_key, oldest_entry}
 use Rattle.counted_queues.proofs.Once.{has-append}
 use Rattle.ghost_caches.specs.declared.queue_name.QueueName.TheVariants.{Entry, Main, EntryGhost, MainGhost}
 use Rattle.ghost_caches.specs.QueueLists.{QueueLists, keys_in, with_list, lists_after_push, lists_with_ghost_key, lists_without_oldest, lists_with_count}
@@ -33,7 +33,7 @@ use Rattle.ghost_caches.specs.QueueLists.{IsNowhere, IsSomeOf, entries_without}
 use Rattle.ghost_caches.specs.S3FifoCache.{s3_fifo_of, IsS3FifoCache, s3_fifo_outcome, all_promoted, IsPromoted, S3FifoAsks, s3_fifo_coming_back}
 use Rattle.ghost_caches.proofs.Cuts.{keys-without}
 use Rattle.ghost_caches.proofs.Behind.{taken-out}
-use Rattle.ghost_caches.proofs.Ghosts.{some-in, ghost-keys}
+use Rattle.ghost_caches.proofs.Ghosts.{ghost-keys}
 
 -- ---- an access, once its outcome, state and record are the definition's
 
@@ -126,38 +126,11 @@ module _ (c k : ℕ) (s t : QueueLists) where
 
 -- ---- promotions
 
-module _ (c : ℕ) (s : QueueLists) where
-  pub main-full : s3_fifo_main_size c < length s.main → promotion_count c (s3_fifo_of s) ≡ 0
-  main-full h =
-      ap (λ room. promotion_count_within room s.entry) (let none : s3_fifo_main_size c + 1 - length s.main ≡ 0 = omega (arith, h) in none)
-
-  none-of : (room : ℕ) (l : List CountedKey) → oldest_entry l ≡ None → promotion_count_within room l ≡ 0
-  none-of zero [] h = refl
-  none-of (suc room) [] h = refl
-  none-of room (e ∷ l) h = absurd (cc (h))
-
-  pub none-left : oldest_entry s.entry ≡ None → promotion_count c (s3_fifo_of s) ≡ 0
-  none-left h = none-of (s3_fifo_main_size c + 1 - length s.main) s.entry h
-
 count-at : (k n : ℕ) (e : CountedKey) → ◌≡◌ {A = Option (ℕ × ℕ)} (Some (e.key, e.count)) (Some (k, n)) → e.count ≡ n
 count-at k n e h = ap (λ (v : Option (ℕ × ℕ)). elim v [ None ↦ e.count | Some z ↦ z.1 ]) h
 
 key-at : (k n : ℕ) (e : CountedKey) → ◌≡◌ {A = Option (ℕ × ℕ)} (Some (e.key, e.count)) (Some (k, n)) → e.key ≡ k
 key-at k n e h = ap (λ (v : Option (ℕ × ℕ)). elim v [ None ↦ e.key | Some z ↦ z.0 ]) h
-
-few-of : (room k n : ℕ) (l : List CountedKey) → oldest_entry l ≡ Some (k, n) → n < 2 → promotion_count_within room l ≡ 0
-few-of zero k n l h g = refl
-few-of (suc room) k n [] h g = refl
-few-of (suc room) k n (e ∷ l) h g =
-    let low : nat_lt e.count 2 ≡ true = lt-ltb e.count 2 (omega (arith, count-at k n e h, g)) in
-    rw low refl
-
-pub not-twice : (c k n : ℕ) (s : QueueLists) → oldest_entry s.entry ≡ Some (k, n) → n < 2 → promotion_count c (s3_fifo_of s) ≡ 0
-not-twice c k n s h g = few-of (s3_fifo_main_size c + 1 - length s.main) k n s.entry h g
-
-pub oldest-first : (k n : ℕ) (l : List CountedKey) → oldest_entry l ≡ Some (k, n) → first_or None l ≡ Some k
-oldest-first k n [] h = absurd (cc (h))
-oldest-first k n (e ∷ l) h = ap Some (key-at k n e h)
 
 -- by the small queue, written out
 promoted-in : (c k n : ℕ) (small main : List CountedKey) (g m : List CountedKey) → oldest_entry small ≡ Some (k, n) → 2 ≤ n
@@ -274,56 +247,11 @@ pub gives-is : (c small main size : ℕ) (g : Bool) (s : QueueLists) → g ≡ (
 gives-is c small main size g s h a b d =
     gives-of (s3_fifo_main_size c) s.entry s.main ∙ sym (h ∙ rw (a, b, d) refl)
 
-module _ (c : ℕ) (s : QueueLists) (gives : main_gives c (s3_fifo_of s) ≡ true) where
-  abbrev turned : List CountedKey
-  turned = after_turns (turn_count s.main) s.main
-
-  oldest-gone : (l : List CountedKey) → (main_eviction s.entry l (keys_in EntryGhost s)).1 ≡ record { small = s.entry; main = without_oldest l; ghost = keys_in EntryGhost s }
-  oldest-gone [] = refl
-  oldest-gone (e ∷ l) = refl
-
-  leaves-main : (n v : ℕ) (l : List CountedKey) → first_or None l ≡ Some v → OfMain v n ≡ leaver_of_main n l
-  leaves-main n v [] h = absurd (cc (h))
-  leaves-main n v (e ∷ l) h = ap (λ x. OfMain x n) (sym (some-in e.key v h))
-
-  none-main : (n : ℕ) (l : List CountedKey) → first_or None l ≡ None → NoOne ≡ leaver_of_main n l
-  none-main n [] h = refl
-  none-main n (e ∷ l) h = absurd (cc (h))
-
-  pub main-state : (t u : QueueLists) → t ≡ with_list Main turned s → u ≡ with_list Main (without_oldest t.main) t
-      → s3_fifo_of u ≡ (planned_eviction c (s3_fifo_of s)).1
-  main-state t u h e = rw (gives, e, h) (sym (oldest-gone turned))
-
-  pub main-leaver : (n v : ℕ) (t : QueueLists) → t ≡ with_list Main turned s → n ≡ turn_count s.main → first_or None t.main ≡ Some v
-      → OfMain v n ≡ leaver_of c (s3_fifo_of s)
-  main-leaver n v t h e o =
-      rw gives (leaves-main n v turned (ap (λ (x : QueueLists). first_or None x.main) (sym h) ∙ o) ∙ ap (λ x. leaver_of_main x turned) e)
-
-  pub main-none : (n : ℕ) (t : QueueLists) → t ≡ with_list Main turned s → first_or None t.main ≡ None → NoOne ≡ leaver_of c (s3_fifo_of s)
-  main-none n t h o = rw gives (none-main (turn_count s.main) turned (ap (λ (x : QueueLists). first_or None x.main) (sym h) ∙ o))
-
 module _ (c : ℕ) (s : QueueLists) (gives : main_gives c (s3_fifo_of s) ≡ false) where
-  small-in : (v n : ℕ) (forgotten : Option ℕ) (l m : List CountedKey) (g : List ℕ) → oldest_entry l ≡ Some (v, n)
-      → forgotten ≡ forgotten_key (s3_fifo_main_size c) v g
-      → OfSmall v n forgotten ≡ leaver_of_small c l g
-  small-in v n forgotten [] m g h e = absurd (cc (h))
-  small-in v n forgotten (x ∷ l) m g h e =
-      ap (OfSmall v n) e
-      ∙ ap (λ k. OfSmall k n (forgotten_key (s3_fifo_main_size c) k g)) (sym (key-at v n x h))
-      ∙ ap (λ k. OfSmall x.key k (forgotten_key (s3_fifo_main_size c) x.key g)) (sym (count-at v n x h))
-
   small-gone : (v n : ℕ) (l m : List CountedKey) (g : List ℕ) → oldest_entry l ≡ Some (v, n)
       → record { small = without_oldest l; main = m; ghost = ghost_with (s3_fifo_main_size c) v g } ≡ (small_eviction c l m g).1
   small-gone v n [] m g h = absurd (cc (h))
   small-gone v n (x ∷ l) m g h = ap (λ k. record { small = l; main = m; ghost = ghost_with (s3_fifo_main_size c) k g }) (sym (key-at v n x h))
-
-  small-empty : (l m : List CountedKey) (g : List ℕ) → oldest_entry l ≡ None → (NoOne ≡ leaver_of_small c l g) × ((record { small = l; main = m; ghost = g }) ≡ (small_eviction c l m g).1)
-  small-empty [] m g h = (refl, refl)
-  small-empty (x ∷ l) m g h = absurd (cc (h))
-
-  pub small-leaver : (v n : ℕ) (forgotten : Option ℕ) → oldest_entry s.entry ≡ Some (v, n)
-      → forgotten ≡ forgotten_key (s3_fifo_main_size c) v (keys_in EntryGhost s) → OfSmall v n forgotten ≡ leaver_of c (s3_fifo_of s)
-  small-leaver v n forgotten h e = rw gives (small-in v n forgotten s.entry s.main (keys_in EntryGhost s) h e)
 
   pub small-state : (v n : ℕ) (t : QueueLists) → oldest_entry s.entry ≡ Some (v, n)
       → t ≡ lists_with_ghost_key EntryGhost (s3_fifo_main_size c) v (lists_without_oldest Entry s)
@@ -331,12 +259,6 @@ module _ (c : ℕ) (s : QueueLists) (gives : main_gives c (s3_fifo_of s) ≡ fal
   small-state v n t h e =
       rw (gives, e) (ap (λ l. record { small = without_oldest s.entry; main = s.main; ghost = l }) (ghost-keys (s3_fifo_main_size c) v s.entry_ghost)
       ∙ small-gone v n s.entry s.main (keys_in EntryGhost s) h)
-
-  pub small-none : oldest_entry s.entry ≡ None → NoOne ≡ leaver_of c (s3_fifo_of s)
-  small-none h = rw gives (small-empty s.entry s.main (keys_in EntryGhost s) h).0
-
-  pub small-none-state : oldest_entry s.entry ≡ None → s3_fifo_of s ≡ (planned_eviction c (s3_fifo_of s)).1
-  small-none-state h = rw gives (small-empty s.entry s.main (keys_in EntryGhost s) h).1
 
 -- ---- a missed key is nowhere once a key left
 

@@ -50,9 +50,6 @@ kept-back done c s t i f at unused =
 
 -- ---- the steps
 
-pub joined-back : (s t : QueueLists) → t ≡ lists_without_newest Entry s → s3_fifo_of t ≡ before_join Unknown (s3_fifo_of s)
-joined-back s t e = rw e refl
-
 pub small-back : (v n : ℕ) (forgotten : Option ℕ) (s t : QueueLists)
     → t ≡ lists_after_return Entry v n (lists_without_newest EntryGhost (lists_with_forgotten EntryGhost forgotten s))
     → s3_fifo_of t ≡ before_leaving (OfSmall v n forgotten) (s3_fifo_of s)

@@ -15,7 +15,7 @@ use Rattle.ghost_policies.specs.declared.two_q.TwoQLeaver.TheVariants.{NoLeaver,
 use Rattle.ghost_policies.specs.declared.two_q.TwoQRecord.{TwoQRecord}
 use Rattle.ghost_policies.specs.declared.two_q.TwoQRecord.TheVariants.{Unmoved}
 use Rattle.ghost_policies.specs.TwoQ.{TwoQState, kout, two_q_leaver, two_q_act, two_q_after_recall, two_q_after_eviction, two_q_after_join}
-use Rattle.ghost_policies.specs.TwoQ.{two_q_outcome, two_q_residents, two_q_after_miss, leaver_of_a1in, leaver_of_am, kin}
+use Rattle.ghost_policies.specs.TwoQ.{two_q_outcome, two_q_residents, leaver_of_a1in, leaver_of_am, kin}
 use Rattle.ghost_policies.specs.TwoQ.{two_q_record_of, two_q_undone, two_q_forgotten, IsTwoQ}
 use Rattle.ghost_policies.proofs.Weights.{times-weight, has-append}
 use Rattle.ghost_policies.proofs.TwoQUndoing.{undoes, leaves}
@@ -24,7 +24,7 @@ use Rattle.counted_queues.specs.Queues.{first_or}
 use Rattle.ghost_caches.specs.declared.queue_name.QueueName.TheVariants.{Entry, Main, EntryGhost, MainGhost}
 use Rattle.ghost_caches.specs.QueueLists.{QueueLists, keys_in, with_list, lists_after_push, lists_with_ghost_key, lists_without_oldest}
 use Rattle.ghost_caches.specs.QueueLists.{IsNowhere, IsSomeOf, entries_without}
-use Rattle.ghost_caches.specs.TwoQCache.{two_q_of, IsTwoQCache, TwoQFits, TwoQAsks, coming_back}
+use Rattle.ghost_caches.specs.TwoQCache.{two_q_of, IsTwoQCache, TwoQAsks, coming_back}
 use Rattle.ghost_caches.proofs.Cuts.{keys-without}
 use Rattle.ghost_caches.proofs.Behind.{taken-out}
 use Rattle.ghost_caches.proofs.Ghosts.{some-in, joined-keys, ghost-keys}
@@ -35,9 +35,6 @@ module _ (c k : ℕ) (s : TwoQState) (i : IsTwoQ c s) (o : Outcome) (t : TwoQSta
     (acts : ◌≡◌ {A = Outcome × TwoQState} (o, t) (two_q_act c k s)) (is : r ≡ two_q_record_of c k s) where
   leads : (two_q_act c k s).1 ≡ t
   leads = ap (λ (a : Outcome × TwoQState). a.1) (sym acts)
-
-  pub fits : TwoQFits r record { capacity = c; state = t }
-  fits = record { before = s; key = k; is_state = i; leads = leads; is = sym is }
 
   pub undone : two_q_undone r t ≡ s
   undone = ap (λ x. two_q_undone x t) is ∙ ap (two_q_undone (two_q_record_of c k s)) (sym leads) ∙ undoes c k s i
@@ -79,11 +76,6 @@ module _ (c k : ℕ) (s t : QueueLists) where
   pub entry-record : has_key k (keys_in Main s) ≡ false → has_key k (keys_in Entry s) ≡ true
       → Unmoved ≡ two_q_record_of c k (two_q_of s)
   entry-record m e = rw (m, e) refl
-
-  pub missed-acts : (o : Outcome) → has_key k (keys_in Main s) ≡ false → has_key k (keys_in Entry s) ≡ false
-      → o ≡ two_q_outcome (two_q_leaver c (two_q_of s)) → two_q_of t ≡ two_q_after_miss c k (two_q_of s)
-      → ◌≡◌ {A = Outcome × TwoQState} (o, two_q_of t) (two_q_act c k (two_q_of s))
-  missed-acts o m e ends at = rw (m, e, ends, at) refl
 
   pub recalled : t ≡ with_list EntryGhost (entries_without k s.entry_ghost) s → two_q_of t ≡ two_q_after_recall k (two_q_of s)
   recalled e = rw e (ap (λ l. record { a1in = keys_in Entry s; a1out = l; am = keys_in Main s }) (keys-without k s.entry_ghost))

@@ -1,5 +1,5 @@
-//! Caches by the policies that remember keys which left: S3-FIFO, 2Q and ARC. Each does exactly what its policy's
-//! definition says, and an access is undone from its record alone.
+//! S3-FIFO, 2Q and ARC as caches over `counted_queues`. They remember keys that left. Each does exactly what its
+//! policy's definition says, and an access is undone from its record alone.
 #![tactic(auto)]
 
 mod arc_cache;

@@ -1,5 +1,5 @@
-//! Policies that remember keys which are no longer resident, read from their definitions alone: 2Q and ARC. Each access
-//! can be undone from a record of fixed size, and each miss keeps its key.
+//! 2Q and ARC as definitions, with the records that undo them. Both remember keys that are no longer resident. Each
+//! access can be undone from a record of fixed size, and each miss keeps its key.
 #![tactic(auto)]
 
 mod arc;

@@ -1,4 +1,5 @@
-//! The text of a session's journal: written from its applied steps, and read back into a session.
+//! The text of a journal, written and read. It is written from the applied steps of a session, and read back into a
+//! session.
 //!
 //! `write_journal` promises that with `Ok` it has written exactly the text of the applied steps.
 //! `read_journal` accepts exactly the texts whose entries are legal from the session's state and

@@ -1,4 +1,4 @@
-//! Callers of the library: short programs over a policy, over a session, over the concurrent cache on threads, and over
+//! Short programs of a caller. They are over a policy, over a session, over the concurrent cache on threads, and over
 //! the turn lock at a value of one's own. What each promises follows from the public contracts of the crates beneath.
 //! `docs/LIBRARY.md` goes through them; the crate `example_tests` runs each.
 #![tactic(auto)]

@@ -1,6 +1,7 @@
-//! The cache policies, each an engine whose steps are accesses: those of queues, as Lru and WindowTinyLfu, those that
-//! keep each missed key (of the crate `demand_cache`), and Belady's optimal policy, all of them in `AnyPolicy`. What each
-//! of them is stands in one table, `design_of`.
+//! One table of what each policy is, policies of queues as one engine, `AnyPolicy` over all; a job over a trace and its
+//! report. Each policy is an engine whose steps are accesses: those of queues, as Lru and WindowTinyLfu, those that
+//! keep each missed key (of the crate `demand_cache`), and Belady's optimal policy. What each of them is stands in one
+//! table, `design_of`.
 //!
 //! Each policy promises that for every list of accesses that it made, an access answers the outcome that the policy's
 //! definition gives after the whole list, and leaves the cache with that access at the list's end; and that each access

@@ -1,5 +1,6 @@
-//! Reports of jobs over a whole trace, with each job on a thread of its own that is fed the trace in batches: `run_actors`
-//! of a trace that is there, `run_reading` while it is read. `feed_in_rounds` is the order in which the actors are fed.
+//! Jobs on threads of their own, fed in batches, also while the trace is read. They make reports of a whole trace:
+//! `run_actors` of one that is there, `run_reading` while it is read. `feed_in_rounds` is the order in which the actors
+//! are fed.
 //!
 //! Both promise the same: with `Ok`, each report is `report_on` of its job and the trace, in the order of the jobs. So a
 //! policy's report does not depend on how many actors there are, on the size of a batch, or on how the trace came in.

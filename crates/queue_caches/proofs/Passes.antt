@@ -41,9 +41,6 @@ pub record IsPassing (passes : ℕ) (old now : SieveState) : Type 0 where
   pub count : pass_count old ≡ passes + pass_count now
   pub after : after_passes (pass_count old) old ≡ after_passes (pass_count now) now
 
-pub passing-starts : (s : SieveState) → IsPassing 0 s s
-passing-starts s = record { count = omega arith; after = refl }
-
 pub passing-goes-on : (passes : ℕ) (old now new : SieveState) → IsPassing passes old now → eqb (oldest_count now.ahead) 0 ≡ false
     → new ≡ after_pass now.passed now.ahead → IsPassing (passes + 1) old new
 passing-goes-on passes old now new h some e =

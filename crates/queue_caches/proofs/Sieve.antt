@@ -110,11 +110,6 @@ returned-lacks v n c wraps s t w h e =
     let sum = leaver-times v v wraps s.passed (without_newest s.ahead) (wrapped-any v n 0 wraps s popped refl w) in
     rw e (no-times v (keys_of (whole popped)) (omega (arith, few, same, one, sum)))
 
-pub wraps-passed : (v n : ℕ) (wraps : Bool) (s t : SieveState) → IsWrapped (Evicted v n wraps) s → t ≡ record { passed = s.passed; ahead = without_newest s.ahead }
-    → wraps ≡ true → t.passed ≡ []
-wraps-passed v n true s t w e yes_wraps = ap (λ (x : SieveState). x.passed) e ∙ w
-wraps-passed v n false s t w e yes_wraps = absurd (cc (yes_wraps))
-
 pub returned-counts : (v n c : ℕ) (wraps : Bool) (s t u : SieveState) → IsSieve c (sieve_undone (Evicted v n wraps) s)
     → t ≡ record { passed = s.passed; ahead = without_newest s.ahead } → u ≡ sieve_with_leaver v wraps t.passed t.ahead → AreCounted 255 (whole (before_passes n u))
 returned-counts v n c wraps s t u h e f =

@@ -21,10 +21,6 @@ use Rattle.queue_caches.proofs.Passes.{before-pass-is}
 abbrev two : List CountedKey → List CountedKey → List (List CountedKey)
 two x y = x ∷ y ∷ [] ∷ [] ∷ [] ∷ []
 
-is-two : (a : ℕ) (s : List (List CountedKey)) → IsSieveQueues a s → s ≡ two (queue_of 0 s) (queue_of 1 s)
-is-two zero s h = h.is
-is-two (suc a) s h = h.is
-
 two-absent : (k : ℕ) (x y : List CountedKey) → lacks k x → lacks k y → IsAbsent k (two x y)
 two-absent k x y h g zero = h
 two-absent k x y h g (suc zero) = g

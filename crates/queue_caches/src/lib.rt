@@ -1,5 +1,5 @@
-//! Caches by CLOCK and by SIEVE: each does what its definition in `queue_policies` does, and undoes an access from its
-//! record.
+//! CLOCK and SIEVE as caches over `counted_queues`. Each does what its definition in `queue_policies` does, and undoes
+//! an access from its record.
 #![tactic(auto)]
 
 mod clock_cache;

@@ -1,4 +1,5 @@
-//! Queues by number of distinct items, oldest first, with a small count beside each item.
+//! Five queues of distinct items by number, a count beside each, in one ring of slots with a hash index whose buckets are
+//! search trees.
 //!
 //! Layers above see a [`QueueTable`] as a list of entries for each of its queues, oldest first, and the room that is
 //! left. Each call leaves the lists that its contract names; one that takes an item out of its place says where it stood,

@@ -1,5 +1,5 @@
-//! What an access moves in the queues of a cache, and who leaves: one table of moves for the policies of queues and for
-//! the concurrent cache, for items with any node.
+//! The table of moves: what a hit, a miss and an eviction do to the queues, with an undo record. It is one table for
+//! the policies of queues and for the concurrent cache, for items with any node.
 //!
 //! `access`, `hit` and `evict` carry out the table, `specs/Table.antt`, and hand back the undo record of what they
 //! moved; `undo` takes it back from the record and the queues alone. A policy is a choice of `Rules` and of an

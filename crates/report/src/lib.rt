@@ -1,4 +1,4 @@
-//! Reports of policies over traces, and of intervals of traces, as comma-separated text.
+//! Reports and intervals as comma-separated text.
 //!
 //! `reports_text` is exactly the header line and one line a report, each ended by a line feed; `intervals_text` the same
 //! of intervals; with `Ok`, `write_reports` has written the one. A rate is a number of hundredths of a percent, rounded

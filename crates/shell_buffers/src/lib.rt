@@ -1,5 +1,5 @@
-//! The two kinds of buffer between the callers of a concurrent cache and its maintenance (Caffeine's Design page):
-//! striped read buffers, which may drop what is offered, and one write queue, which may refuse but loses nothing.
+//! Striped read buffers and the write queue. They stand between the callers of a concurrent cache and its maintenance
+//! (Caffeine's Design page). A read buffer may drop what it is offered; the write queue may refuse but loses nothing.
 //!
 //! Layers above see [`Stripes`] as one list of items a stripe, and [`WriteTasks`] as one list of tasks, each oldest
 //! first. Every contract names the lists that its call leaves; a full buffer answers `false` and stays as it is.

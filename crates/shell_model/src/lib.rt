@@ -1,5 +1,5 @@
-//! The concurrent cache as a definition: its state, what each step makes of it, the undo record of a step, and what
-//! holds of every list of steps.
+//! The concurrent cache as a definition, and what holds of every list of steps. The definition has its state, what each
+//! step makes of it, and the undo record of a step.
 #![tactic(auto)]
 
 mod holder;

@@ -1,5 +1,5 @@
-//! A Count-Min sketch of access frequencies, as TinyLFU (2017) keeps it: four rows of four-bit counters, sixteen to a
-//! word.
+//! A Count-Min sketch of four-bit counters, and its halving. TinyLFU (2017) keeps access frequencies so: four rows of
+//! counters, sixteen to a word.
 //!
 //! Each key has one counter in each row. A touch raises those four, up to 15, and a halving floors every counter to
 //! half. Both return a record that undoes them exactly: a touch's record is the key and four flags, and a halving's

@@ -1,5 +1,6 @@
-//! The statistics of Lru over a trace, without a cache: at every capacity from one pass, by stack distances (Mattson,
-//! Gecsei, Slutz and Traiger, "Evaluation techniques for storage hierarchies", 1970), or at one from a short pass.
+//! Lru over a trace without a cache: at every capacity, or at one. All capacities take one pass, by stack distances
+//! (Mattson, Gecsei, Slutz and Traiger, "Evaluation techniques for storage hierarchies", 1970), and one capacity takes
+//! a short one.
 //!
 //! Lru has the inclusion property: a cache of capacity c holds the c keys that were accessed last, so a larger cache
 //! holds what a smaller one does. Each access has therefore one number, its stack distance, that decides at every

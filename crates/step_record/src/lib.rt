@@ -1,6 +1,5 @@
-//! The words that all crates of the simulator share: keys and items, configurations and jobs,
-//! outcomes and their counts, the steps of the concurrent cache and their replies, and what an
-//! engine is whose every step can be undone.
+//! Keys, configurations, jobs, traces, outcomes and steps; engines whose every step can be undone; bits in words, lists
+//! by place. All crates of the simulator share them.
 //!
 //! The crate promises that a configuration is accepted exactly where each of its numbers is in
 //! its range, and states the law that every engine keeps: a step's reply and new data depend on

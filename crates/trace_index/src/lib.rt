@@ -1,4 +1,4 @@
-//! For each access of a trace, where its key comes next and where it came before.
+//! For each access, where its key comes next and came before.
 //!
 //! The crate promises that a [`NextUse`] gives the least later place of each access's key, and a [`PreviousUse`] the
 //! greatest earlier one. Each is found in one pass over the trace, from its end and from its start, in which

@@ -1,4 +1,4 @@
-//! Reads trace files: bytes to the accesses that they name.
+//! Trace files: bytes to accesses.
 //!
 //! Two formats of recorded block traces are read, LIRS and ARC. The bytes are cut into lines at
 //! each line feed, and each line by itself gives some accesses or is faulty. `read_trace` gives

@@ -1,4 +1,4 @@
-//! A ticket lock over a value that stands for a list of entries, as a session of steps does.
+//! A ticket lock whose value has a history. The value stands for a list of entries, as a session of steps does.
 //!
 //! The crate promises that whatever threads do, the value's list is one history of the passes' turns: past the
 //! entries that it was opened with, those of worker `w` are just the ones that the pass of worker `w` made, in their

@@ -1,4 +1,4 @@
-//! Walks: which steps a worker of the concurrent cache makes for each of its calls, one after another.
+//! Which act comes next in a walk, and the grammar of walks.
 //!
 //! A walk is the list of the steps, with their replies, by which a worker carries out one call (`specs/Walks.antt`). The
 //! crate promises that `next_step` makes walks and nothing else: whatever completes a walk after the replies so far is

@@ -1,4 +1,4 @@
-//! Workers on threads, over one session of the concurrent cache.
+//! Workers on threads over a session of the concurrent cache.
 //!
 //! `drive` has each worker enter one walk for each of its calls, in order, into the session, which the workers take in
 //! turns, or the beginning of such walks where it was refused a step. `Driven::list` lists one worker's entries.
