@@ -1,13 +1,13 @@
 -- Turns of a queue, one by one, and all.
 use Rattle.std.proofs.Common.{◌≡◌, ℕ, zero, suc, ◌+◌, ◌-◌, ◌<◌, ◌≤◌, false, eqb, Option, Some, None, List, [], ◌∷◌, ◌++◌, length, ap, sym, ◌∙◌, refl, inl, inr, arith, append-nil}
 use Rattle.std.proofs.lemmas.Bool.{cases_eq, eq-eqb}
-use Rattle.std.proofs.lemmas.List.{get_or-set_same, set-set, length-set}
+use Rattle.std.proofs.lemmas.List.{get_or-set_same, set-set, length-set, set-get_or}
 use Rattle.queue_policies.specs.CountedKeys.{CountedKey, counted_more, AreCounted, oldest_count, total_count}
 use Rattle.queue_policies.specs.Turns.{turn_count_within, turn_count, after_turn, after_turns, before_turn, before_turns}
 use Rattle.queue_policies.proofs.Turns.{turned-total, turn-count-few}
 use Rattle.queue_policies.proofs.Queues.{newest-from, without-newest}
 use Rattle.queue_policies.proofs.CountedKeys.{counted-append}
-use Rattle.counted_queues.specs.Queues.{IsStanding, queue_of, with_queue, counted_key, queues_after_push, queues_after_return, oldest_entry, newest_entry}
+use Rattle.counted_queues.specs.Queues.{queue_of, with_queue, counted_key, queues_after_push, queues_after_return, oldest_entry, newest_entry}
 
 -- ---- counts of turns
 
@@ -54,17 +54,11 @@ entry-oldest k n (e ∷ l) h = (l, ap (λ v. counted_key (key_in v).0 (key_in v)
 turned-list : (k n m : ℕ) (l b : List CountedKey) → l ≡ counted_key k n ∷ b → m ≡ n - 1 → b ++ counted_key k m ∷ [] ≡ after_turn l
 turned-list k n m l b e h = rw (e, h) refl
 
-pub turned-queues : (k n m q : ℕ) (s t : List (List CountedKey)) → length s ≡ 5 → q < 5 → oldest_entry (queue_of q s) ≡ Some (k, n) → suc m ≡ n
-    → ((p : IsStanding k n q s) → t ≡ queues_after_push q k m (with_queue q (p.before ++ p.behind) s))
-    → t ≡ with_queue q (after_turn (queue_of q s)) s
-turned-queues k n m q s t five low h less sent =
-    let e : (b : List CountedKey) × (queue_of q s ≡ counted_key k n ∷ b) = entry-oldest k n (queue_of q s) h in
-    let p : IsStanding k n q s = record { before = []; behind = e.0; low = low; whole = e.1 } in
-    let count : m ≡ n - 1 = omega (arith, less) in
-    let turned : e.0 ++ counted_key k m ∷ [] ≡ after_turn (queue_of q s) = turned-list k n m (queue_of q s) e.0 e.1 count in
-    let placed : queues_after_push q k m (with_queue q e.0 s) ≡ with_queue q (e.0 ++ counted_key k m ∷ []) s =
-    rw (replaced-queue q e.0 s five low) (replaced-twice q e.0 (e.0 ++ counted_key k m ∷ []) s) in
-    sent p ∙ placed ∙ ap (λ l. with_queue q l s) turned
+pub turned-queues : (k n m q : ℕ) (s : List (List CountedKey)) (b : List CountedKey) → length s ≡ 5 → q < 5 → queue_of q s ≡ counted_key k n ∷ b → suc m ≡ n
+    → queues_after_push q k m (with_queue q b s) ≡ with_queue q (after_turn (queue_of q s)) s
+turned-queues k n m q s b five low e less =
+    let turned : b ++ counted_key k m ∷ [] ≡ after_turn (queue_of q s) = turned-list k n m (queue_of q s) b e (omega (arith, less)) in
+    rw (replaced-queue q b s five low) (replaced-twice q b (b ++ counted_key k m ∷ []) s) ∙ ap (λ l. with_queue q l s) turned
 
 -- ---- one turn undone
 
@@ -90,16 +84,11 @@ last-back (f ∷ l) e = rw (newest-from f l e, without-newest (f ∷ l) e) refl
 returned-list : (k n m : ℕ) (l a : List CountedKey) → l ≡ a ++ counted_key k n ∷ [] → m ≡ n + 1 → counted_key k m ∷ a ≡ before_turn l
 returned-list k n m l a e h = rw (e, last-back a (counted_key k n), h) refl
 
-pub returned-queues : (k n m q : ℕ) (s t : List (List CountedKey)) → length s ≡ 5 → q < 5 → newest_entry (queue_of q s) ≡ Some (k, n) → m ≡ n + 1
-    → ((p : IsStanding k n q s) → t ≡ queues_after_return q k m (with_queue q (p.before ++ p.behind) s))
-    → t ≡ with_queue q (before_turn (queue_of q s)) s
-returned-queues k n m q s t five low h more sent =
-    let e : (a : List CountedKey) × (queue_of q s ≡ a ++ counted_key k n ∷ []) = entry-newest k n (queue_of q s) h in
-    let p : IsStanding k n q s = record { before = e.0; behind = []; low = low; whole = e.1 } in
-    let returned : counted_key k m ∷ e.0 ≡ before_turn (queue_of q s) = returned-list k n m (queue_of q s) e.0 e.1 more in
-    let placed : queues_after_return q k m (with_queue q (e.0 ++ []) s) ≡ with_queue q (counted_key k m ∷ e.0) s =
-    rw (append-nil e.0, replaced-queue q e.0 s five low) (replaced-twice q e.0 (counted_key k m ∷ e.0) s) in
-    sent p ∙ placed ∙ ap (λ l. with_queue q l s) returned
+pub returned-queues : (k n m q : ℕ) (s : List (List CountedKey)) (a : List CountedKey) → length s ≡ 5 → q < 5 → queue_of q s ≡ a ++ counted_key k n ∷ [] → m ≡ n + 1
+    → queues_after_return q k m (with_queue q (a ++ []) s) ≡ with_queue q (before_turn (queue_of q s)) s
+returned-queues k n m q s a five low e more =
+    let returned : counted_key k m ∷ a ≡ before_turn (queue_of q s) = returned-list k n m (queue_of q s) a e more in
+    rw (append-nil a, replaced-queue q a s five low) (replaced-twice q a (counted_key k m ∷ a) s) ∙ ap (λ l. with_queue q l s) returned
 
 pub returned-count : (k n m : ℕ) (l : List CountedKey) → newest_entry l ≡ Some (k, n) → AreCounted m (before_turn l) → n + 1 ≤ m
 returned-count k n m l h g =
@@ -129,6 +118,13 @@ counted-before m (suc n) j l h g =
 
 -- ---- the loops
 
+-- one of the turns undone
+pub undone-more : (q i : ℕ) (old now new : List (List CountedKey)) → length old ≡ 5 → q < 5 → now ≡ with_queue q (before_turns i (queue_of q old)) old
+    → new ≡ with_queue q (before_turn (queue_of q now)) now → new ≡ with_queue q (before_turns (suc i) (queue_of q old)) old
+undone-more q i old now new five low h e =
+    let last : queue_of q now ≡ before_turns i (queue_of q old) = rw h (replaced-queue q (before_turns i (queue_of q old)) old five low) in
+    e ∙ rw (last, h) (replaced-twice q (before_turns i (queue_of q old)) (before_turn (before_turns i (queue_of q old))) old)
+
 pub undone-counted : (m q i n : ℕ) (old now : List (List CountedKey)) → length old ≡ 5 → q < 5 → now ≡ with_queue q (before_turns i (queue_of q old)) old
     → i < n → AreCounted m (before_turns n (queue_of q old)) → AreCounted m (before_turn (queue_of q now))
 undone-counted m q i n old now five low h less g =
@@ -140,6 +136,9 @@ pub record IsTurning (q turns : ℕ) (old now : List (List CountedKey)) : Type 0
   pub queues : now ≡ with_queue q (queue_of q now) old
   pub count : turn_count (queue_of q old) ≡ turns + turn_count (queue_of q now)
   pub after : after_turns (turn_count (queue_of q old)) (queue_of q old) ≡ after_turns (turn_count (queue_of q now)) (queue_of q now)
+
+pub turning-starts : (q : ℕ) (s : List (List CountedKey)) → length s ≡ 5 → IsTurning q 0 s s
+turning-starts q s five = record { five = five; queues = sym (set-get_or s q []); count = omega arith; after = refl }
 
 pub turning-goes-on : (q turns : ℕ) (old now new : List (List CountedKey)) → q < 5 → IsTurning q turns old now → eqb (oldest_count (queue_of q now)) 0 ≡ false
     → new ≡ with_queue q (after_turn (queue_of q now)) now → IsTurning q (turns + 1) old new

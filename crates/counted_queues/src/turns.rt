@@ -5,10 +5,12 @@ ghost use Rattle.queue_policies.specs.Turns.{turn_count, after_turn, after_turns
 ghost use Rattle.counted_queues.specs.Queues.{queue_of, with_queue};
 
 use crate::CountedQueues;
+use queue_table::Place;
 
 impl CountedQueues {
     /// While the oldest key of the queue has a count, it goes to the recent end with its count less 1. Returns how
     /// many did. It needs no room.
+    #[inline(always)]
     pub fn make_turns(&mut self, queue: u8) -> u32
         requires queue { queue < 5 }
         requires few { total_count (queue_of queue self.old.queues) < 2 ^ 32 }
@@ -27,6 +29,7 @@ impl CountedQueues {
     }
 
     // One turn, where the oldest key has a count; whether it has.
+    #[inline(always)]
     fn make_turn(&mut self, queue: u8) -> bool
         requires { queue < 5 }
         ensures none { result ≡ false → oldest_count (queue_of queue self.old.queues) ≡ 0 }
@@ -37,13 +40,13 @@ impl CountedQueues {
         ensures spare { self.new.spare ≡ self.old.spare }
     {
         self.sound();
-        let Some((key, count)) = self.oldest_entry(queue) else {
+        let Some((at, entry)) = self.table.oldest(queue) else {
             return false;
         };
-        if count == 0 {
+        if entry.count == 0 {
             return false;
         }
-        self.send_recent(key, queue, count - 1);
+        let _ = self.table.send(at, queue, entry.count - 1);
         true
     }
 
@@ -70,8 +73,14 @@ impl CountedQueues {
         ensures spare { self.new.spare ≡ self.old.spare }
     {
         self.sound();
-        if let Some((key, count)) = self.newest_entry(queue) {
-            self.send_oldest(key, queue, count + 1);
-        }
+        let Some((at, entry)) = self.table.newest(queue) else {
+            return;
+        };
+        let place = Place {
+            queue,
+            older: None,
+            newer: self.oldest_but(queue, entry.item.key),
+        };
+        self.table.send_to(at, place, entry.count + 1);
     }
 }

@@ -56,7 +56,7 @@ impl ArcCache {
         ArcCache {
             capacity,
             p: 0,
-            queues: GhostQueues::new(alloc),
+            queues: GhostQueues::for_items(alloc, capacity),
         }
     }
 

@@ -43,16 +43,18 @@ impl Model for GhostQueues {
 }
 
 impl GhostQueues {
-    /// Empty queues, with no room yet. Allocates nothing.
-    pub(crate) fn new(alloc: Global) -> GhostQueues
+    /// Empty queues, with no room yet. Allocates nothing. The first `reserve` makes a hash index that is large enough for
+    /// so many keys.
+    pub(crate) fn for_items(alloc: Global, items: u32) -> GhostQueues
         ensures { result.lists ≡ empty_lists }
     {
         GhostQueues {
-            queues: CountedQueues::new(alloc),
+            queues: CountedQueues::for_items(alloc, items),
         }
     }
 
     /// How many keys are in the queue.
+    #[inline(always)]
     pub(crate) fn len(&self, queue: QueueName) -> usize
         ensures { result ≡ length (list_of queue self.now.lists) }
     {
@@ -60,6 +62,7 @@ impl GhostQueues {
     }
 
     /// The queue that has the key, and its count.
+    #[inline(always)]
     pub(crate) fn find(&self, key: Key) -> Option<(QueueName, u8)>
         ensures there { (q : QueueName) → has_key key (keys_in q self.now.lists) ≡ is_found_in q result }
         ensures count { IfSome result (λ r. r.1 ≡ count_of key (list_of r.0 self.now.lists)) }
@@ -75,6 +78,7 @@ impl GhostQueues {
     }
 
     /// The oldest key of the queue.
+    #[inline(always)]
     pub(crate) fn oldest(&self, queue: QueueName) -> Option<Key>
         ensures { result ≡ first_or None (list_of queue self.now.lists) }
     {
@@ -82,6 +86,7 @@ impl GhostQueues {
     }
 
     /// The newest key of the queue.
+    #[inline(always)]
     pub(crate) fn newest(&self, queue: QueueName) -> Option<Key>
         ensures { result ≡ newest_or None (list_of queue self.now.lists) }
     {
@@ -90,6 +95,7 @@ impl GhostQueues {
 
     /// Makes room for at least one more key. The one error is that an allocation failed; queues and room are then as
     /// before.
+    #[inline(always)]
     pub(crate) fn reserve(&mut self) -> Result<(), AllocError>
         ensures lists { self.new.lists ≡ self.old.lists }
         ensures room { OnOk result (1 ≤ self.new.spare) }
@@ -110,6 +116,7 @@ impl GhostQueues {
     }
 
     /// A key that is nowhere joins the recent end of a queue.
+    #[inline(always)]
     pub(crate) fn push_recent(&mut self, queue: QueueName, key: Key, count: u8)
         requires room { 1 ≤ self.old.spare }
         requires nowhere { IsNowhere key self.old.lists }
@@ -130,6 +137,7 @@ impl GhostQueues {
     }
 
     /// The oldest key of a queue is taken out, where there is one.
+    #[inline(always)]
     pub(crate) fn pop_oldest(&mut self, queue: QueueName) -> Option<Key>
         ensures key { result ≡ first_or None (list_of queue self.old.lists) }
         ensures lists { self.new.lists ≡ lists_without_oldest queue self.old.lists }
@@ -150,6 +158,7 @@ impl GhostQueues {
     }
 
     /// A key is taken out of its queue. Returns its older neighbour there.
+    #[inline(always)]
     pub(crate) fn take_out(&mut self, key: Key, queue: QueueName) -> Option<Key>
         requires { has_key key (keys_in queue self.old.lists) ≡ true }
         ensures older { result ≡ older_from None key (keys_in queue self.old.lists) }
@@ -162,25 +171,25 @@ impl GhostQueues {
     }
 
     /// A key goes from its queue to the recent end of a queue, without a count. Returns its older neighbour before.
+    #[inline(always)]
     pub(crate) fn renew(&mut self, key: Key, from: QueueName, to: QueueName) -> Option<Key>
         requires { has_key key (keys_in from self.old.lists) ≡ true }
         ensures older { result ≡ older_from None key (keys_in from self.old.lists) }
         ensures lists { self.new.lists ≡ lists_after_push to key 0 (lists_without_key from key self.old.lists) }
     {
         self.queues.sound();
-        let older = self.queues.older(key);
-        self.queues.send_recent(key, to.number(), 0);
-        older
+        self.queues.send_recent(key, to.number(), 0)
     }
 
     /// The oldest key of a queue goes to the recent end of a queue, with the given count.
+    #[inline(always)]
     pub(crate) fn pass_on(&mut self, key: Key, from: QueueName, to: QueueName, count: u8)
         requires { first_or None (list_of from self.old.lists) ≡ Some key }
         ensures lists { self.new.lists ≡ lists_after_push to key count (lists_without_oldest from self.old.lists) }
         ensures spare { self.old.spare ≤ self.new.spare }
     {
         self.queues.sound();
-        self.queues.send_recent(key, to.number(), count);
+        let _ = self.queues.send_recent(key, to.number(), count);
     }
 
     /// The newest key of a queue goes back to the old end of a queue, with the given count.
@@ -203,7 +212,7 @@ impl GhostQueues {
     {
         self.queues.sound();
         // It waits in a queue of its own, since its place may be in the queue that it leaves.
-        self.queues.send_recent(key, WAITING, 0);
+        let _ = self.queues.send_recent(key, WAITING, 0);
         let place = Place {
             queue: to.number(),
             older,
@@ -212,6 +221,7 @@ impl GhostQueues {
     }
 
     /// A key that was missed is remembered no more. Returns where the ghost remembered it.
+    #[inline(always)]
     pub(crate) fn recall(
         &mut self,
         key: Key,
@@ -233,6 +243,7 @@ impl GhostQueues {
 
     /// The oldest key of a queue leaves for a ghost of a given size, which forgets its oldest where it is over that
     /// size. Returns the key that was forgotten.
+    #[inline(always)]
     pub(crate) fn remember(
         &mut self,
         key: Key,
@@ -278,6 +289,7 @@ impl GhostQueues {
     }
 
     /// Gives a key another count, wherever it stands.
+    #[inline(always)]
     pub(crate) fn set_count(&mut self, key: Key, count: u8)
         ensures { self.new.lists ≡ lists_with_count key count self.old.lists }
     {
@@ -286,6 +298,7 @@ impl GhostQueues {
     }
 
     /// The oldest key of the queue, with its count.
+    #[inline(always)]
     pub(crate) fn oldest_entry(&self, queue: QueueName) -> Option<(Key, u8)>
         ensures { result ≡ oldest_entry (list_of queue self.now.lists) }
     {
@@ -301,6 +314,7 @@ impl GhostQueues {
 
     /// While the oldest key of the queue has a count, it goes to the recent end with its count less 1. Returns how many
     /// did.
+    #[inline(always)]
     pub(crate) fn make_turns(&mut self, queue: QueueName) -> u32
         requires { total_count (list_of queue self.old.lists) < 2 ^ 32 }
         ensures turns { result ≡ turn_count (list_of queue self.old.lists) }

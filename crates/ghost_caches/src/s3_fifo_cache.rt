@@ -55,7 +55,7 @@ impl S3FifoCache {
     {
         S3FifoCache {
             capacity,
-            queues: GhostQueues::new(alloc),
+            queues: GhostQueues::for_items(alloc, capacity),
         }
     }
 

@@ -49,7 +49,7 @@ impl TwoQCache {
     {
         TwoQCache {
             capacity,
-            queues: GhostQueues::new(alloc),
+            queues: GhostQueues::for_items(alloc, capacity),
         }
     }
 

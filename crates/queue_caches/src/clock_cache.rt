@@ -46,7 +46,7 @@ impl ClockCache {
     {
         ClockCache {
             capacity,
-            queues: CountedQueues::new(alloc),
+            queues: CountedQueues::for_items(alloc, capacity),
         }
     }
 

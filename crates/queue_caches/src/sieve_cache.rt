@@ -42,7 +42,7 @@ impl SieveCache {
     {
         SieveCache {
             capacity,
-            queues: SieveQueues::new(alloc),
+            queues: SieveQueues::for_items(alloc, capacity),
         }
     }
 

@@ -35,17 +35,18 @@ impl Model for SieveQueues {
 }
 
 impl SieveQueues {
-    /// Empty queues. Allocates nothing.
-    pub(crate) fn new(alloc: Global) -> SieveQueues
+    /// Empty queues. Allocates nothing. The first `reserve` makes a hash index that is large enough for so many keys.
+    pub(crate) fn for_items(alloc: Global, items: u32) -> SieveQueues
         ensures { result.state ≡ empty_sieve }
     {
         SieveQueues {
             ahead: 0,
-            queues: CountedQueues::new(alloc),
+            queues: CountedQueues::for_items(alloc, items),
         }
     }
 
     /// The visited bit of a key.
+    #[inline(always)]
     pub(crate) fn find(&self, key: Key) -> Option<u8>
         ensures there { IfSome result (λ bit. has_key key (sieve_residents self.now.state) ≡ true) }
         ensures bit { IfSome result (λ bit. bit ≡ count_of key (self.now.state.passed ++ self.now.state.ahead)) }
@@ -56,6 +57,7 @@ impl SieveQueues {
     }
 
     /// Gives a key another visited bit.
+    #[inline(always)]
     pub(crate) fn set_bit(&mut self, key: Key, bit: u8)
         ensures state { self.new.state ≡ sieve_with_count key bit self.old.state }
         ensures spare { self.new.spare ≡ self.old.spare }
@@ -65,6 +67,7 @@ impl SieveQueues {
     }
 
     /// Makes room for a key, or is refused the memory.
+    #[inline(always)]
     pub(crate) fn reserve(&mut self) -> Result<(), AllocError>
         ensures state { self.new.state ≡ self.old.state }
         ensures room { OnOk result (1 ≤ self.new.spare) }
@@ -73,6 +76,7 @@ impl SieveQueues {
     }
 
     /// How many keys there are.
+    #[inline(always)]
     pub(crate) fn len(&self) -> usize
         requires { length (sieve_residents self.now.state) < 2 ^ 63 }
         ensures { result ≡ length (sieve_residents self.now.state) }
@@ -89,6 +93,7 @@ impl SieveQueues {
     }
 
     /// A new key joins at the recent end, its bit clear.
+    #[inline(always)]
     pub(crate) fn push(&mut self, key: Key)
         requires room { 1 ≤ self.old.spare }
         requires absent { has_key key (sieve_residents self.old.state) ≡ false }
@@ -107,6 +112,7 @@ impl SieveQueues {
     }
 
     /// The key that the hand is at leaves. Returns it, and whether the hand wrapped.
+    #[inline(always)]
     pub(crate) fn pop_at_hand(&mut self) -> Option<(Key, bool)>
         ensures key { result ≡ key_at_hand self.old.state.ahead }
         ensures state { self.new.state ≡ after_leaving self.old.state.passed self.old.state.ahead }
@@ -132,6 +138,7 @@ impl SieveQueues {
 
     /// While the key that the hand is at has its bit set, the hand passes it and clears the bit. Returns how many it
     /// passed.
+    #[inline(always)]
     pub(crate) fn make_passes(&mut self) -> u32
         requires { total_count (self.old.state.passed ++ self.old.state.ahead) < 2 ^ 32 }
         ensures passes { result ≡ pass_count self.old.state }
@@ -146,6 +153,7 @@ impl SieveQueues {
     }
 
     // One pass, where the key that the hand is at has its bit set; whether it has.
+    #[inline(always)]
     fn make_pass(&mut self) -> bool
         ensures none { result ≡ false → oldest_count self.old.state.ahead ≡ 0 }
         ensures same { result ≡ false → self.new.state ≡ self.old.state }
@@ -164,17 +172,19 @@ impl SieveQueues {
     }
 
     // The hand passes the key that it is at.
+    #[inline(always)]
     fn pass(&mut self, key: Key, bit: u8)
         requires at { oldest_entry self.old.state.ahead ≡ Some (key, bit) }
         requires set { 1 ≤ bit }
         ensures state { self.new.state ≡ after_pass self.old.state.passed self.old.state.ahead }
         ensures spare { self.new.spare ≡ self.old.spare }
     {
-        self.queues.send_recent(key, 1 - self.ahead, bit - 1);
+        let _ = self.queues.send_recent(key, 1 - self.ahead, bit - 1);
         let _ = self.wrap();
     }
 
     // Where no key is ahead of the hand, it goes to the oldest; whether it did.
+    #[inline(always)]
     fn wrap(&mut self) -> bool
         ensures wraps { result ≡ is_empty self.old.state.ahead }
         ensures state { self.new.state ≡ after_wrap self.old.state.passed self.old.state.ahead }

@@ -1,37 +1,16 @@
-use Rattle.std.proofs.Common.{rules, arith, ◌≡◌, ◌≤◌, ◌++◌, ◌∷◌, [], None, Some, sym, nat_eq}
-use Rattle.std.specs.HashMap.{get}
-use Rattle.counted_queues.specs.Table.{ends_of}
-use Rattle.counted_queues.proofs.Listing.{listed, none-left, none-on, none-there, listed-all}
+use Rattle.std.proofs.Common.{◌≡◌, map, ap, ◌∙◌}
+use Rattle.step_record.specs.declared.item.Item.{Item}
+use Rattle.queue_policies.specs.CountedKeys.{keys_of}
+use Rattle.queue_table.specs.Entries.{items_of}
+use Rattle.queue_table.specs.QueueTable.{queues}
+use Rattle.counted_queues.specs.Queues.{queue_of}
+use Rattle.counted_queues.proofs.Entries.{listed-keys}
+use Rattle.counted_queues.proofs.Tables.{Shows, shows, at}
 use Rattle.counted_queues.proofs.counted_queues.CountedQueues.push_keys.Goals as goal
 
-pub loop-step-preserved : goal.loop-step-preserved
-loop-step-preserved c =
-    let f = get nat_eq c.self.inside.nodes in
-    let m = c.in-Some-get.node.now in
-    let some : f c.in-Some.key ≡ Some m = search rules in
-    let more : c.push.new.self.items ≡ c.loop-step.keys.items ++ c.in-Some.key ∷ [] = search rules in
-    listed f c.loop-step.keys.items c.push.new.self.items _ (ends_of c.args.queue c.self.inside.ends).len c.loop-step.step c.loop-step.at c.in-Some.key m c.in-Some.is some c.loop-step-test.true more c.loop-step.invariant
-
-pub returns-after-loop-step : goal.returns-after-loop-step
-returns-after-loop-step c =
-    let f = get nat_eq c.self.inside.nodes in
-    let q = c.args.queue in
-    let ends = c.self.inside.ends in
-    let n = (ends_of q ends).len in
-    let past : n ≤ c.loop-step.step = omega (arith, c.loop-step-test.false) in
-    rw (sym c.self.view_is) (listed-all f ends q c.args.keys.now.items c.loop-step.keys.items _ c.loop-step.at c.self.invariant.five c.requires (none-left f n c.loop-step.step c.loop-step.at past) c.loop-step.invariant)
-
-pub returns-in_default : goal.returns-in_default
-returns-in_default c =
-    let f = get nat_eq c.self.inside.nodes in
-    let q = c.args.queue in
-    let ends = c.self.inside.ends in
-    rw (sym c.self.view_is) (listed-all f ends q c.args.keys.now.items c.loop-step.keys.items _ c.loop-step.at c.self.invariant.five c.requires (none-on f _ c.loop-step.at c.in_default.is) c.loop-step.invariant)
-
-pub returns-in_default-get : goal.returns-in_default-get
-returns-in_default-get c =
-    let f = get nat_eq c.self.inside.nodes in
-    let q = c.args.queue in
-    let ends = c.self.inside.ends in
-    let none : f c.in-Some.key ≡ None = search rules in
-    rw (sym c.self.view_is) (listed-all f ends q c.args.keys.now.items c.loop-step.keys.items _ c.loop-step.at c.self.invariant.five c.requires (none-there f _ c.loop-step.at c.in-Some.key c.in-Some.is none) c.loop-step.invariant)
+pub returns : goal.returns
+returns c =
+    let h : Shows (queues c.self.inside.table) c.args.self.now.queues = shows _ _ c.args.self.now c.self.view_is c.self.invariant in
+    let keys : map (λ (i : Item). i.key) c.deref.result.now ≡ keys_of (queue_of c.args.queue c.args.self.now.queues) =
+    ap (map (λ (i : Item). i.key)) (c.deref.ensures.value ∙ c.in_ok-items.ensures ∙ ap items_of (at _ _ h c.args.queue)) ∙ listed-keys _ in
+    rw keys at c.add_keys.ensures

@@ -1,57 +1,38 @@
-use Rattle.std.proofs.Common.{rules, arith, ◌≡◌, ◌<◌, ◌≤◌, ◌^◌, None, Some, sym, refl, length, nat_eq}
-use Rattle.std.specs.HashMap.{get}
-use Rattle.counted_queues.specs.Queues.{queue_of}
-use Rattle.counted_queues.specs.Table.{ends_of, shown}
-use Rattle.counted_queues.proofs.Tables.{few, shown-is, table-shown}
-use Rattle.counted_queues.proofs.Unlinking.{standing-of, none-standing, none-empty}
-use Rattle.counted_queues.proofs.Moving.{closed-len, closed_ends, recent-table}
+use Rattle.std.proofs.Common.{ap, ◌∙◌}
+use Rattle.queue_table.specs.declared.records.Entry.{Entry}
+use Rattle.queue_table.specs.declared.records.Place.{Place}
+use Rattle.counted_queues.specs.Table.{key_at}
+use Rattle.counted_queues.proofs.Entries.{key-back}
+use Rattle.queue_table.specs.QueueTable.{queues}
+use Rattle.counted_queues.proofs.Tables.{Shows, shows, shown-is, shown-listed, sound, not-missing, missing-found, standing-found, found-place, sent}
 use Rattle.counted_queues.proofs.counted_queues.CountedQueues.send_recent.Goals as goal
 
-pub returns-in_default-clause-queues : goal.returns-in_default-clause-queues
-returns-in_default-clause-queues c n q p =
-    let none : get nat_eq c.self.inside.nodes c.args.key ≡ None = search rules in
-    absurd (none-standing _ c.self.inside.ends _ c.args.key n q c.self.invariant none (rw (sym c.self.view_is) at p))
+pub returns-in_err-found-clause-older : goal.returns-in_err-found-clause-older
+returns-in_err-found-clause-older c n q p =
+    let h : Shows (queues c.self.inside.table) c.args.self.now.queues = shows _ _ c.args.self.now c.self.view_is c.self.invariant in
+    absurd (not-missing _ _ h c.args.key n q p (missing-found _ _ h c.args.key _ c.item_of.ensures c.in_err-found.ensures.missing))
 
-pub close_gap-requires-clause-queue : goal.close_gap-requires-clause-queue
-close_gap-requires-clause-queue c =
-    let some : get nat_eq c.self.inside.nodes c.args.key ≡ Some c.in-Some.node.now = search rules in
-    (c.self.invariant.known c.args.key c.in-Some.node.now some).0
-
-pub close_gap-requires-clause-some : goal.close_gap-requires-clause-some
-close_gap-requires-clause-some c =
-    let some : get nat_eq c.self.inside.nodes c.args.key ≡ Some c.in-Some.node.now = search rules in
-    none-empty _ c.self.inside.ends _ c.args.key c.in-Some.node.now c.self.invariant some
-
-pub open_gap-requires-clause-few : goal.open_gap-requires-clause-few
-open_gap-requires-clause-few c =
-    let f = get nat_eq c.self.inside.nodes in
-    let q = c.args.queue in
-    let m = c.in-Some.node.now in
-    let ends = ends_of q c.self.inside.ends in
-    let some : f c.args.key ≡ Some m = search rules in
-    let most : ends.len ≤ length c.self.inside.nodes.entries = few c.self.inside.nodes.entries q ends (queue_of q (shown f c.self.inside.ends)) (c.self.invariant.queue q c.requires) in
-    let small : length c.self.inside.nodes.entries < 2 ^ 63 = search (rules, c.len.ensures.small, c.len.ensures.len) in
-    let less : (ends_of q (closed_ends m c.self.inside.ends)).len ≤ ends.len = closed-len q m c.self.inside.ends c.self.invariant.five (c.self.invariant.known c.args.key m some).0 in
-    rw c.close_gap.ensures.ends (omega (arith, most, small, less))
+pub returns-in_err-found-clause-queues : goal.returns-in_err-found-clause-queues
+returns-in_err-found-clause-queues c n q p =
+    let h : Shows (queues c.self.inside.table) c.args.self.now.queues = shows _ _ c.args.self.now c.self.view_is c.self.invariant in
+    absurd (not-missing _ _ h c.args.key n q p (missing-found _ _ h c.args.key _ c.item_of.ensures c.in_err-found.ensures.missing))
 
 pub invariant_of-self : goal.invariant_of-self
 invariant_of-self c =
-    let f = get nat_eq c.self.inside.nodes in
-    let m = c.in-Some.node.now in
-    let s = shown f c.self.inside.ends in
-    let some : f c.args.key ≡ Some m = search rules in
-    table-shown _ _ _ (recent-table f c.self.inside.ends c.close_gap.new.ends s c.args.key m.count m.queue m c.self.invariant some
-    (standing-of f c.self.inside.ends s c.args.key m c.self.invariant some) c.close_gap.ensures.ends
-    (get nat_eq c.close_gap.new.nodes) (get nat_eq c.open_gap.new.nodes) (get nat_eq c.replace.new.nodes) c.open_gap.new.ends c.args.queue c.args.count
-    _ _ c.requires c.close_gap.ensures.nodes c.open_gap.ensures.nodes c.replace.ensures.nodes c.open_gap.ensures.ends refl refl)
+    let h : Shows (queues c.self.inside.table) c.args.self.now.queues = shows _ _ c.args.self.now c.self.view_is c.self.invariant in
+    shown-listed _ _ (sent _ _ h (sound _ _ h c.find.ensures.distinct) c.args.key c.in_ok-found.found.count c.in_ok-found.found.queue (standing-found _ _ h c.args.key c.in_ok-found.found.count c.in_ok-found.found.queue _ c.item_of.ensures c.in_ok-found.ensures.low c.in_ok-found.ensures.stands) _ _ c.args.count c.args.queue (ap (λ (v : Entry). v.item) c.in_ok-found.ensures.entry ∙ c.item_of.ensures) c.requires c.send-place.ensures.queues)
 
 pub returns-clause-queues : goal.returns-clause-queues
 returns-clause-queues c n q p =
-    let f = get nat_eq c.self.inside.nodes in
-    let m = c.in-Some.node.now in
-    let s = shown f c.self.inside.ends in
-    let some : f c.args.key ≡ Some m = search rules in
-    rw (sym c.self.view_is) (shown-is _ _ _ (recent-table f c.self.inside.ends c.close_gap.new.ends s c.args.key n q m c.self.invariant some
-    record { before = p.before; behind = p.behind; low = p.low; whole = rw (sym c.self.view_is) at p.whole } c.close_gap.ensures.ends
-    (get nat_eq c.close_gap.new.nodes) (get nat_eq c.open_gap.new.nodes) (get nat_eq c.replace.new.nodes) c.open_gap.new.ends c.args.queue c.args.count
-    _ _ c.requires c.close_gap.ensures.nodes c.open_gap.ensures.nodes c.replace.ensures.nodes c.open_gap.ensures.ends refl refl))
+    let h : Shows (queues c.self.inside.table) c.args.self.now.queues = shows _ _ c.args.self.now c.self.view_is c.self.invariant in
+    shown-is _ _ (sent _ _ h (sound _ _ h c.find.ensures.distinct) c.args.key n q p _ _ c.args.count c.args.queue (ap (λ (v : Entry). v.item) c.in_ok-found.ensures.entry ∙ c.item_of.ensures) c.requires c.send-place.ensures.queues)
+
+pub returns-clause-absent : goal.returns-clause-absent
+returns-clause-absent c gone =
+    let h : Shows (queues c.self.inside.table) c.args.self.now.queues = shows _ _ c.args.self.now c.self.view_is c.self.invariant in
+    absurd (not-missing _ _ h c.args.key c.in_ok-found.found.count c.in_ok-found.found.queue (standing-found _ _ h c.args.key c.in_ok-found.found.count c.in_ok-found.found.queue _ c.item_of.ensures c.in_ok-found.ensures.low c.in_ok-found.ensures.stands) gone)
+
+pub returns-clause-older : goal.returns-clause-older
+returns-clause-older c n q p =
+    let h : Shows (queues c.self.inside.table) c.args.self.now.queues = shows _ _ c.args.self.now c.self.view_is c.self.invariant in
+    c.key_at.ensures ∙ ap (λ (v : Place). key_at v.older) (found-place _ _ h (sound _ _ h c.find.ensures.distinct) c.args.key n q p _ _ (ap (λ (v : Entry). v.item) c.in_ok-found.ensures.entry ∙ c.item_of.ensures) c.send-place.ensures.place) ∙ key-back _

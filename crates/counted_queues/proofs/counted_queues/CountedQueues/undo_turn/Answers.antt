@@ -1,24 +1,26 @@
-use Rattle.std.proofs.Common.{rules, ◌≡◌, ◌≤◌, ◌+◌, Some, None, [], refl, sym, arith}
-use Rattle.std.proofs.lemmas.List.{set-get_or}
-use Rattle.counted_queues.specs.Queues.{queue_of, newest_entry}
-use Rattle.counted_queues.proofs.Turning.{returned-queues, returned-count, entry-empty}
+use Rattle.std.proofs.Common.{◌≤◌, ◌+◌, arith}
+use Rattle.queue_table.specs.QueueTable.{queues}
+use Rattle.counted_queues.proofs.Tables.{Shows, shows, shown-is, shown-listed}
+use Rattle.counted_queues.proofs.Ends.{unturned, unturned-count, gap-unturned}
 use Rattle.counted_queues.proofs.counted_queues.CountedQueues.undo_turn.Goals as goal
 
-pub overflow_add-count : goal.overflow_add-count
-overflow_add-count c =
-    let entry : newest_entry (queue_of c.args.queue c.args.self.now.queues) ≡ Some (c.in-Some.key, c.in-Some.count) = search rules in
-    let few : c.in-Some.count + 1 ≤ 255 = returned-count c.in-Some.key c.in-Some.count 255 (queue_of c.args.queue c.args.self.now.queues) entry c.requires.counts in
+pub overflow_add-entry : goal.overflow_add-entry
+overflow_add-entry c =
+    let h : Shows (queues c.self.inside.table) c.args.self.now.queues = shows _ _ c.args.self.now c.self.view_is c.self.invariant in
+    let few : c.in-Some.entry.count + 1 ≤ 255 = unturned-count _ _ h c.sound.ensures c.args.queue c.requires.queue _ _ c.in-Some.ensures.entry 255 c.in-Some.ensures.last c.requires.counts in
     omega (arith, few)
 
-pub returns-in-Some-clause-queues : goal.returns-in-Some-clause-queues
-returns-in-Some-clause-queues c =
-    let entry : newest_entry (queue_of c.args.queue c.args.self.now.queues) ≡ Some (c.in-Some.key, c.in-Some.count) = search rules in
-    returned-queues c.in-Some.key c.in-Some.count (c.in-Some.count + 1) c.args.queue c.args.self.now.queues c.send_oldest.new.self.queues
-    c.sound.ensures.five c.requires.queue entry refl (c.send_oldest.ensures.queues c.in-Some.count c.args.queue)
+pub send_to-requires-clause-gap : goal.send_to-requires-clause-gap
+send_to-requires-clause-gap c =
+    let h : Shows (queues c.self.inside.table) c.args.self.now.queues = shows _ _ c.args.self.now c.self.view_is c.self.invariant in
+    gap-unturned _ _ h c.sound.ensures c.args.queue c.requires.queue _ _ c.in-Some.ensures.entry _ c.in-Some.ensures.last c.oldest_but.ensures
 
-pub returns-in_default-clause-queues : goal.returns-in_default-clause-queues
-returns-in_default-clause-queues c =
-    let s = c.args.self.now.queues in
-    let q = c.args.queue in
-    let none : newest_entry (queue_of q s) ≡ None = search rules in
-    rw (entry-empty (queue_of q s) none) (sym (set-get_or s q []))
+pub invariant_of-self : goal.invariant_of-self
+invariant_of-self c =
+    let h : Shows (queues c.self.inside.table) c.args.self.now.queues = shows _ _ c.args.self.now c.self.view_is c.self.invariant in
+    shown-listed _ _ (unturned _ _ h c.sound.ensures c.args.queue c.requires.queue _ _ c.in-Some.ensures.entry _ c.in-Some.ensures.last c.send_to.ensures.queues)
+
+pub returns-clause-queues : goal.returns-clause-queues
+returns-clause-queues c =
+    let h : Shows (queues c.self.inside.table) c.args.self.now.queues = shows _ _ c.args.self.now c.self.view_is c.self.invariant in
+    shown-is _ _ (unturned _ _ h c.sound.ensures c.args.queue c.requires.queue _ _ c.in-Some.ensures.entry _ c.in-Some.ensures.last c.send_to.ensures.queues)

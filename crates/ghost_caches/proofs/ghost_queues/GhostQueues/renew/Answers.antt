@@ -19,7 +19,7 @@ pub returns-clause-older : goal.returns-clause-older
 returns-clause-older c =
     let s = c.self.inside.queues.queues in
     let p : IsSplit c.args.key (queue_of (number_of c.args.from) s) = there c.args.key c.args.from s c.sound.ensures (rw (sym c.self.view_is) at c.requires) in
-    c.older-older.ensures p.count (number_of c.args.from) (stands c.args.key c.args.from s p)
+    c.send_recent.ensures.older p.count (number_of c.args.from) (stands c.args.key c.args.from s p)
     ∙ p.older None
     ∙ ap (λ l. older_from None c.args.key (keys_of l)) (sym (list-at c.args.from s))
     ∙ ap (λ (x : ShownQueues). older_from None c.args.key (keys_in c.args.from x.lists)) c.self.view_is
