@@ -1,5 +1,5 @@
 -- Every policy beside Belady's optimal policy.
-use Rattle.std.proofs.Common.{◌≡◌, ◌⊎◌, ℕ, zero, suc, ◌+◌, ◌<◌, ◌≤◌, true, false, cond, map, count_by, List, [], ◌∷◌, ◌++◌, length, take, get_or, ap, ◌∙◌, sym, refl, arith, inl, inr}
+use Rattle.std.proofs.Common.{◌≡◌, ◌⊎◌, ℕ, zero, suc, ◌+◌, ◌<◌, ◌≤◌, true, false, cond, map, count_by, List, [], ◌∷◌, ◌++◌, length, take, get_or, ap, ◌∙◌, sym, refl, arith}
 use Rattle.std.proofs.lemmas.List.Sums.{sum_by-cons}
 use Rattle.std.proofs.lemmas.List.{take_more, take_all}
 use Rattle.step_record.specs.Keys.{has_key}
@@ -8,8 +8,7 @@ use Rattle.step_record.specs.declared.job.Job.{Job}
 use Rattle.step_record.specs.declared.stats.Stats.{Stats}
 use Rattle.policies.specs.declared.design.Design.{Design}
 use Rattle.policies.specs.declared.design.Design.TheVariants as design
-use Rattle.policies.specs.Design.{design_of, has_queues, is_of_queues, is_optimal, knows_trace}
-use Rattle.step_record.specs.declared.outcome.Outcome.{Outcome}
+use Rattle.policies.specs.Design.{design_of, has_queues, is_optimal, knows_trace}
 use Rattle.step_record.specs.declared.outcome.Outcome.TheVariants.{Rejected}
 use Rattle.step_record.specs.Stats.{stats_of}
 use Rattle.queue_policies.specs.Residents.{KeepsResidents, outcomes_of_all}
@@ -110,7 +109,7 @@ none-hit (k ∷ t) =
     let rest = none-hit t in
     omega (arith, one, rest)
 
-no-hits : (t : List ℕ) (n : ℕ) → strategy_hits t (λ i. []) n ≡ 0
+pub no-hits : (t : List ℕ) (n : ℕ) → strategy_hits t (λ i. []) n ≡ 0
 no-hits t zero = refl
 no-hits t (suc n) = let rest = no-hits t n in omega (arith, rest)
 

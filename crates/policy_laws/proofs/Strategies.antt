@@ -11,16 +11,16 @@ use Rattle.queue_policies.specs.Residents.{KeepsResidents, state_after_all, outc
 use Rattle.policies.proofs.Demand.{state-push, outcomes-push, demand-came-from, kept-after}
 
 module _ {S : Type 0} (c : ℕ) (start : S) (act : ℕ → S → Outcome × S) (residents : S → List ℕ) (IsState : S → Type 0) (all : KeepsResidents c start act residents IsState) (t : List ℕ) where
-  abbrev state_at : ℕ → S
+  abbrev pub state_at : ℕ → S
   state_at i = state_after_all act start (take i t)
 
   abbrev pub residents_at : ℕ → List ℕ
   residents_at i = residents (state_at i)
 
-  next-is : (i : ℕ) → i < length t → state_at (suc i) ≡ (act (get_or t i 0) (state_at i)).1
+  pub next-is : (i : ℕ) → i < length t → state_at (suc i) ≡ (act (get_or t i 0) (state_at i)).1
   next-is i h = ap (state_after_all act start) (take-suc t i 0 h) ∙ state-push act start (take i t) (get_or t i 0)
 
-  kept-at : (i : ℕ) → IsState (state_at i)
+  pub kept-at : (i : ℕ) → IsState (state_at i)
   kept-at i = kept-after c start act residents IsState all (take i t)
 
   pub strategy : IsStrategy c t residents_at

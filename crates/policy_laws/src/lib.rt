@@ -1,6 +1,5 @@
-//! The policies beside one another: over every trace Belady's optimal policy has no fewer hits than any other, a larger
-//! capacity is no worse for it and for Lru, and Lru's misses are within an exact factor of those of any strategy.
-//! Segmented Lru loses no protected key to a scan.
+//! The policies beside Belady's, larger capacities, and scans: over every trace Belady's optimal policy has no fewer hits
+//! than any other, a larger capacity is no worse for it and for Lru, and segmented Lru loses no protected key to a scan.
 #![tactic(auto)]
 
 pub mod theorems;

@@ -1,8 +1,6 @@
 //! What every policy keeps. Each of these functions does nothing of its own: its contract is the theorem.
 ghost use Rattle.policy_laws.specs.Scans.{ScansSpareProtected};
 ghost use Rattle.policy_laws.specs.Theorems.{NoPolicyBeatsBelady, BeladyLeads, OptimalHitsGrow, LruHitsGrow};
-ghost use Rattle.policy_laws.specs.Theorems.{LruCompetes, LruCompetesWithoutBypass, LruTwiceAsLarge};
-ghost use Rattle.policy_laws.specs.Theorems.{LruCompetesWithAny, LruBoundIsTight};
 
 /// Over every trace, no policy has more hits than Belady's optimal policy at the same capacity. (Belady 1966.)
 pub fn no_policy_beats_belady()
@@ -34,48 +32,6 @@ pub fn lru_hits_grow()
     ensures { LruHitsGrow }
 {
     policies::theorems::lru_step_law();
-}
-
-/// At each place of every trace, Lru's misses at capacity c are at most (c + 1) / (c + 1 - h) times those of any
-/// strategy of capacity h, which may bypass the cache. (After Sleator and Tarjan 1985.)
-pub fn lru_competes()
-    ensures { LruCompetes }
-{
-    policies::theorems::lru_step_law();
-    policies::theorems::any_covers_trace();
-}
-
-/// Where the strategy never bypasses the cache, the factor is c / (c + 1 - h). (Sleator and Tarjan 1985.)
-pub fn lru_competes_without_bypass()
-    ensures { LruCompetesWithoutBypass }
-{
-    policies::theorems::lru_step_law();
-    policies::theorems::any_covers_trace();
-}
-
-/// With twice the capacity of a strategy (one key less is enough), Lru has at most twice its misses.
-pub fn lru_twice_as_large()
-    ensures { LruTwiceAsLarge }
-{
-    lru_competes();
-}
-
-/// The same bound beside every policy, Belady's optimal policy among them.
-pub fn lru_competes_with_any()
-    ensures { LruCompetesWithAny }
-{
-    lru_competes();
-    policies::theorems::any_covers_trace();
-    optimality::theorems::belady_is_strategy();
-    demand_cache::theorems::demand_keeps();
-}
-
-/// The factor of that bound is exact: on some traces, however long, a strategy does as well as it allows.
-pub fn lru_bound_is_tight()
-    ensures { LruBoundIsTight }
-{
-    policies::theorems::lru_step_law();
-    policies::theorems::any_covers_trace();
 }
 
 /// A scan, which accesses keys once each, leaves the protected queue of segmented Lru as it was, with the admission

@@ -4,7 +4,8 @@ use Rattle.std.specs.Prelude.{slice_index_or}
 use Rattle.std.proofs.lemmas.List.Elements.{All-map}
 use Rattle.step_record.specs.declared.job.Job.{Job}
 use Rattle.policies.specs.Residents.{StatsAddUp, MissesFit}
-use Rattle.policy_laws.specs.Theorems.{NoPolicyBeatsBelady, LruHitsGrow, OptimalHitsGrow, LruCompetesWithAny}
+use Rattle.policy_laws.specs.Theorems.{NoPolicyBeatsBelady, LruHitsGrow, OptimalHitsGrow}
+use Rattle.conservative_laws.specs.Theorems.{LruFifoClockCompeteWithAny}
 use Rattle.policies.specs.declared.report.Report.{Report}
 use Rattle.policies.specs.Reports.{report_on}
 use Rattle.report_laws.specs.ReportLaws.{AddsUp, AreOrdered, ReportsObeyLaws}
@@ -18,13 +19,13 @@ adds-up sums fits trace j =
     let sum = sums j trace in
     record { accesses = sum.0; hits = sum.1 ∙ sym sum.0; kept = fits j trace }
 
-module _ (best : NoPolicyBeatsBelady) (lru : LruHitsGrow) (optimal : OptimalHitsGrow) (competes : LruCompetesWithAny) where
+module _ (best : NoPolicyBeatsBelady) (lru : LruHitsGrow) (optimal : OptimalHitsGrow) (bound : LruFifoClockCompeteWithAny) where
   ordered : (trace : List ℕ) (j k : Job) → AreOrdered (report_on j trace) (report_on k trace)
   ordered trace j k = record {
     best = λ p c. best j k trace p (sym c);
     lru_grows = lru j k trace;
     optimal_grows = optimal j k trace;
-    lru_competes = competes j k trace;
+    competes = bound j k trace;
   }
 
   pub obey : StatsAddUp → MissesFit → ReportsObeyLaws

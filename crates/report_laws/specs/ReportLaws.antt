@@ -4,6 +4,7 @@ use Rattle.step_record.specs.declared.job.Job.{Job}
 use Rattle.step_record.specs.declared.job.Policy.TheVariants.{Lru, Clairvoyant}
 use Rattle.policies.specs.declared.report.Report.{Report}
 use Rattle.policies.specs.Reports.{report_on}
+use Rattle.conservative_laws.specs.Theorems.{IsLruFifoOrClock}
 
 -- each access is a hit or a miss, and the misses that were not evicted again fit the capacity
 pub record AddsUp (count : ℕ) (r : Report) : Type 0 where
@@ -18,8 +19,9 @@ pub record AreOrdered (r s : Report) : Type 0 where
   -- a larger capacity has no fewer hits
   pub lru_grows : r.policy ≡ Lru → s.policy ≡ Lru → r.capacity ≤ s.capacity → r.hits ≤ s.hits
   pub optimal_grows : r.policy ≡ Clairvoyant → s.policy ≡ Clairvoyant → r.capacity ≤ s.capacity → r.hits ≤ s.hits
-  -- Lru has at most (c + 1) / (c + 1 - h) times the misses of any policy of capacity h, where its own is c
-  pub lru_competes : r.policy ≡ Lru → (r.capacity + 1 - s.capacity) * r.misses ≤ (r.capacity + 1) * s.misses
+  -- Lru, FIFO and CLOCK have at most (c + 1) / (c + 1 - h) times the misses of any policy of capacity h, where their own
+  -- is c
+  pub competes : IsLruFifoOrClock r.policy → (r.capacity + 1 - s.capacity) * r.misses ≤ (r.capacity + 1) * s.misses
 
 -- the reports of jobs over a trace of so many accesses
 pub record ObeyLaws (count : ℕ) (reports : List Report) : Type 0 where

@@ -1,6 +1,6 @@
 //! What a reader of reports may rely on, whichever call made them: none has more hits than Belady's optimal policy at
-//! its capacity, a larger capacity is no worse for Lru and for Belady's policy, Lru's misses are within a factor of any
-//! other's, and the counts add up.
+//! its capacity, a larger capacity is no worse for Lru and for Belady's policy, the misses of Lru, FIFO and CLOCK are
+//! within a factor of any other's, and the counts add up.
 #![tactic(auto)]
 
 mod runs;

@@ -10,5 +10,5 @@ pub fn reports_obey_laws()
     policy_laws::theorems::no_policy_beats_belady();
     policy_laws::theorems::lru_hits_grow();
     policy_laws::theorems::optimal_hits_grow();
-    policy_laws::theorems::lru_competes_with_any();
+    conservative_laws::theorems::lru_fifo_clock_compete_with_any();
 }

@@ -1,4 +1,4 @@
-use Rattle.policy_laws.proofs.Competition.{lru_hits_grow}
+use Rattle.policy_laws.proofs.Lru.{lru_hits_grow}
 use Rattle.policy_laws.proofs.theorems.lru_hits_grow.Goals as goal
 
 pub returns : goal.returns

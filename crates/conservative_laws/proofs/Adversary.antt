@@ -1,0 +1,167 @@
+-- A trace that misses always, whatever the cache: each access is to a key that is not resident, of one more than fit.
+use Rattle.std.proofs.Common.{◌≡◌, ℕ, zero, suc, ◌+◌, ◌-◌, ◌*◌, ◌<◌, ◌≤◌, true, false, cond, eqb, nat_lt, List, [], ◌∷◌, ◌++◌, length, take, ap, ◌∙◌, sym, refl, subst, arith, inl, inr, length-append}
+use Rattle.std.proofs.Math.Nat.{mul-add, add-mul, mul-le-mul_left}
+use Rattle.std.proofs.lemmas.Bool.{cases_Bool, eqb-true, lt-ltb, le-ltb}
+use Rattle.std.proofs.lemmas.Bool.Decides.{nat_tests}
+use Rattle.std.proofs.lemmas.List.{take_all}
+use Rattle.step_record.specs.Keys.{has_key}
+use Rattle.step_record.specs.Stats.{one_if}
+use Rattle.step_record.specs.declared.job.Job.{Job}
+use Rattle.policies.specs.AnyPolicy.{stats_on}
+use Rattle.policies.proofs.Recency.{IsDistinct}
+use Rattle.queue_policies.specs.Residents.{times}
+use Rattle.queue_policies.proofs.Residents.{times-none, times-some}
+use Rattle.optimality.specs.Strategy.{IsStrategy, strategy_misses}
+use Rattle.conservative_laws.specs.Conservative.{misses_on}
+use Rattle.conservative_laws.specs.Theorems.{IsWorstFor}
+use Rattle.conservative_laws.proofs.Misses.{hits-few}
+use Rattle.conservative_laws.proofs.Stretches.{once-few, distinct-few}
+use Rattle.conservative_laws.proofs.Holding.{hits_of, hits-more, hold, hold-none, hold-length, hold-strategy, hold-next}
+use Rattle.conservative_laws.proofs.Loads.{load, load-none, load-next, Heaviest, heaviest}
+
+-- ---- the keys below a number
+
+abbrev down : ℕ → List ℕ
+down zero = []
+down (suc n) = n ∷ down n
+
+has-down : (x n : ℕ) → has_key x (down n) ≡ nat_lt x n
+has-down x zero = sym (le-ltb x 0 (omega arith))
+has-down x (suc n) = rw (has-down x n) (elim (cases_Bool (eqb x n)) as (λ _. cond (eqb x n) true (nat_lt x n) ≡ nat_lt x (suc n)) [
+  | inl e ↦ let same : x ≡ n = eqb-true x n e in rw e (sym (lt-ltb x (suc n) (omega (arith, same))))
+  | inr e ↦ rw e (grind (arith, nat_tests))
+])
+
+down-distinct : (n : ℕ) → IsDistinct (down n)
+down-distinct zero = tt
+down-distinct (suc n) = (has-down n n ∙ le-ltb n n (omega arith), down-distinct n)
+
+down-length : (n : ℕ) → length (down n) ≡ n
+down-length zero = refl
+down-length (suc n) = ap suc (down-length n)
+
+down-times : (x n : ℕ) → times x (down n) ≤ 1
+down-times x zero = omega arith
+down-times x (suc n) =
+    elim (cases_Bool (eqb x n)) as (λ _. one_if (eqb x n) + times x (down n) ≤ 1) [
+      | inl e ↦
+          let none : times x (down n) ≡ 0 = times-none x (down n) (has-down x n ∙ (let same : x ≡ n = eqb-true x n e in le-ltb x n (omega (arith, same)))) in
+          rw e (omega (arith, none))
+      | inr e ↦ let rest = down-times x n in rw e (omega (arith, rest))
+    ]
+
+-- the largest of them that is not in the list, and 0 where all are
+abbrev free_key : ℕ → List ℕ → ℕ
+free_key zero l = 0
+free_key (suc n) l = cond (has_key n l) (free_key n l) n
+
+free-below : (n : ℕ) (l : List ℕ) → free_key n l ≤ n - 1
+free-below zero l = omega arith
+free-below (suc n) l =
+    let rest = free-below n l in
+    elim (cases_Bool (has_key n l)) as (λ _. cond (has_key n l) (free_key n l) n ≤ suc n - 1) [
+      | inl e ↦ rw e (omega (arith, rest))
+      | inr e ↦ rw e (omega arith)
+    ]
+
+all-there : (n : ℕ) (l : List ℕ) → has_key (free_key n l) l ≡ true → (x : ℕ) → has_key x (down n) ≡ true → has_key x l ≡ true
+all-there zero l h x g = absurd (cc (g))
+all-there (suc n) l h x g =
+    elim (cases_Bool (has_key n l)) [
+      | inl e ↦ elim (cases_Bool (eqb x n)) [
+        | inl f ↦ ap (λ y. has_key y l) (eqb-true x n f) ∙ e
+        | inr f ↦ all-there n l (rw e at h) x (rw f at g)
+      ]
+      | inr e ↦ absurd (let no : has_key n l ≡ true = rw e at h in cc (no, e))
+    ]
+
+-- not all of them are in a shorter list
+free-absent : (n : ℕ) (l : List ℕ) → length l < n → has_key (free_key n l) l ≡ false
+free-absent n l less =
+    elim (cases_Bool (has_key (free_key n l) l)) [
+      | inl e ↦ absurd (
+          let few = once-few (down n) (down n) (λ x. down-times x n) (λ x g. g) in
+          let most = distinct-few (down n) l (all-there n l e) in
+          omega (arith, few, most, less, down-length n))
+      | inr e ↦ e
+    ]
+
+-- ---- the trace
+
+module _ (c : ℕ) (held : List ℕ → List ℕ) (fits : (keys : List ℕ) → length (held keys) ≤ c) where
+  -- n accesses, each to a key below c + 1 that is not resident
+  abbrev pub trace_of : ℕ → List ℕ
+  trace_of zero = []
+  trace_of (suc n) = trace_of n ++ free_key (suc c) (held (trace_of n)) ∷ []
+
+  trace-length : (n : ℕ) → length (trace_of n) ≡ n
+  trace-length zero = refl
+  trace-length (suc n) = omega (arith, length-append (trace_of n) (free_key (suc c) (held (trace_of n)) ∷ []), trace-length n)
+
+  no-hits : (n : ℕ) → hits_of held (trace_of n) ≡ 0
+  no-hits zero = refl
+  no-hits (suc n) =
+      let k : ℕ = free_key (suc c) (held (trace_of n)) in
+      let most : length (held (trace_of n)) ≤ c = fits (trace_of n) in
+      let out : one_if (has_key k (held (trace_of n))) ≡ 0 = ap one_if (free-absent (suc c) (held (trace_of n)) (omega (arith, most))) in
+      omega (arith, hits-more held (trace_of n) k, no-hits n, out)
+
+  -- each access is to one of those keys
+  one-time : (n : ℕ) → times (free_key (suc c) (held (trace_of n))) (down (suc c)) ≡ 1
+  one-time n =
+      let k : ℕ = free_key (suc c) (held (trace_of n)) in
+      let below : k ≤ suc c - 1 = free-below (suc c) (held (trace_of n)) in
+      let there : has_key k (down (suc c)) ≡ true = has-down k (suc c) ∙ lt-ltb k (suc c) (omega (arith, below)) in
+      omega (arith, times-some k (down (suc c)) there, down-times k (suc c))
+
+  full-load : (n : ℕ) → load (down (suc c)) (trace_of n) ≡ n
+  full-load zero = load-none (down (suc c))
+  full-load (suc n) = omega (arith, load-next (down (suc c)) (trace_of n) (free_key (suc c) (held (trace_of n))), full-load n, one-time n)
+
+  -- a strategy that keeps some keys for good hits all their accesses but the first
+  kept-hits : (ks : List ℕ) → IsDistinct ks → (n : ℕ) → hits_of (hold ks) (trace_of n) + length (hold ks (trace_of n)) ≡ load ks (trace_of n)
+  kept-hits ks d zero = let none : length (hold ks []) ≡ 0 = ap length (hold-none ks) in omega (arith, none, load-none ks)
+  kept-hits ks d (suc n) =
+      let k : ℕ = free_key (suc c) (held (trace_of n)) in
+      omega (arith, hits-more (hold ks) (trace_of n) k, hold-next ks (trace_of n) k d, load-next ks (trace_of n) k, kept-hits ks d n)
+
+-- ---- the bound
+
+few-misses : (c h n kept hits : ℕ) → h ≤ c + 1 → h * n ≤ (c + 1) * kept → kept ≤ hits + h → hits ≤ n → (c + 1) * (n - hits) ≤ (c + 1 - h) * n + (c + 1) * (c + 1)
+few-misses c h n kept hits le share most within =
+    let w : ℕ = c + 1 in
+    let up : w * kept ≤ w * (hits + h) = mul-le-mul_left w most in
+    let up_is : w * (hits + h) ≡ w * hits + w * h = mul-add w hits h in
+    let all : w * n ≡ w * (n - hits) + w * hits = (let e : n ≡ (n - hits) + hits = omega (arith, within) in ap (λ x. w * x) e ∙ mul-add w (n - hits) hits) in
+    let parts : w * n ≡ (w - h) * n + h * n = (let e : w ≡ (w - h) + h = omega (arith, le) in ap (λ x. x * n) e ∙ add-mul (w - h) h n) in
+    let room : w * h ≤ w * w = mul-le-mul_left w le in
+    omega (arith, share, up, up_is, all, parts, room)
+
+-- a job whose cache holds these keys after the accesses
+pub worst : (j : Job) (held : List ℕ → List ℕ) (fits : (keys : List ℕ) → length (held keys) ≤ j.config.capacity)
+    → ((t : List ℕ) (n : ℕ) → n ≤ length t → misses_on j t n ≡ strategy_misses t (λ i. held (take i t)) n) → (h n : ℕ) → h ≤ j.config.capacity + 1
+    → (trace : List ℕ) × (residents : ℕ → List ℕ) × IsWorstFor j h n trace residents
+worst j held fits counts h n le =
+    let c : ℕ = j.config.capacity in
+    let t : List ℕ = trace_of c held fits n in
+    let long : length t ≡ n = trace-length c held fits n in
+    let size : length (down (suc c)) ≡ suc c = down-length (suc c) in
+    let best : Heaviest t (down (suc c)) h = heaviest t h (suc c - h) (down (suc c)) (down-distinct (suc c)) (omega (arith, size, le)) in
+    let ks : List ℕ = best.keys in
+    let kept : length ks ≡ h = best.size in
+    let residents : ℕ → List ℕ = λ i. hold ks (take i t) in
+    let share : h * load (down (suc c)) t ≤ length (down (suc c)) * load ks t = best.share in
+    let whole : h * load (down (suc c)) t ≡ h * n = ap (λ x. h * x) (full-load c held fits n) in
+    let wide : length (down (suc c)) * load ks t ≡ (c + 1) * load ks t = (let e : length (down (suc c)) ≡ c + 1 = omega (arith, size) in ap (λ x. x * load ks t) e) in
+    let hits : hits_of (hold ks) t + length (hold ks t) ≡ load ks t = kept-hits c held fits ks best.distinct n in
+    let within : hits_of (hold ks) t ≤ length t = hits-few t residents (length t) in
+    let misses : (stats_on j t).misses ≡ n = ap (λ l. (stats_on j l).misses) (sym (take_all (length t) t (omega arith))) ∙ (counts t (length t) (omega arith) ∙ (ap (λ m. length t - m) (no-hits c held fits n) ∙ omega (arith, long))) in
+    let few = few-misses c h n (load ks t) (hits_of (hold ks) t) le (omega (arith, share, whole, wide)) (omega (arith, hits, hold-length ks t, kept)) (omega (arith, within, long)) in (
+      t,
+      residents,
+      record {
+        strategy = subst (λ x. IsStrategy x t residents) kept (hold-strategy ks t);
+        many = omega (arith, misses);
+        few = rw misses (subst (λ m. (c + 1) * (m - hits_of (hold ks) t) ≤ (c + 1 - h) * n + (c + 1) * (c + 1)) (sym long) few);
+      },
+    )

@@ -1,0 +1,146 @@
+-- CLOCK is conservative: in a stretch of few keys each miss is one of the evictions that were ahead of it, or fills up the
+-- cache.
+use Rattle.std.proofs.Common.{◌≡◌, ℕ, zero, suc, ◌+◌, ◌<◌, ◌≤◌, true, false, not, eqb, nat_lt, List, [], ◌∷◌, ◌++◌, length, take, get_or, ap, ◌∙◌, sym, refl, arith, inl, inr, length-append}
+use Rattle.std.proofs.lemmas.Bool.{cases_Bool, cases_lt, eqb-true, eq-eqb, ltb-false}
+use Rattle.step_record.specs.Keys.{has_key}
+use Rattle.step_record.specs.Stats.{one_if}
+use Rattle.policies.specs.Lru.{distinct_keys}
+use Rattle.optimality.specs.Strategy.{strategy_misses}
+use Rattle.queue_policies.specs.Residents.{times, state_after_all}
+use Rattle.queue_policies.specs.CountedKeys.{CountedKey, keys_of, with_count, oldest_count, total_count, AreCounted}
+use Rattle.queue_policies.specs.Turns.{after_turn, turn_count_within, turn_count, after_turns}
+use Rattle.queue_policies.specs.Clock.{marked_key, clock_eviction, clock_act, IsClock}
+use Rattle.queue_policies.proofs.Residents.{times-none, no-times}
+use Rattle.queue_policies.proofs.CountedKeys.{length-keys, keys-with}
+use Rattle.queue_policies.proofs.Turns.{settled, turns-times, turns-length, turns-counted}
+use Rattle.queue_policies.proofs.Clock.{keeps}
+use Rattle.policy_laws.proofs.Strategies.{next-is, kept-at}
+use Rattle.conservative_laws.specs.Conservative.{stretch, IsConservative}
+use Rattle.conservative_laws.proofs.Misses.{misses-next}
+use Rattle.conservative_laws.proofs.Stretches.{once-few, in-stretch}
+use Rattle.conservative_laws.proofs.Fifo.{once-more}
+use Rattle.conservative_laws.proofs.Evictions.{any_of, is_stale, evictions_ahead, ahead-few, ahead-joined, ahead-left, ahead-turned, ahead-hit}
+
+-- the queue before the access at each place, and its keys
+abbrev clock_queue : ℕ → List ℕ → ℕ → List CountedKey
+clock_queue c t n = state_after_all (clock_act c) [] (take n t)
+
+abbrev pub clock_keys : ℕ → List ℕ → ℕ → List ℕ
+clock_keys c t n = keys_of (clock_queue c t n)
+
+-- ---- turns
+
+turn-ahead : (ks : List ℕ) (queue : List CountedKey) → eqb (oldest_count queue) 0 ≡ false → AreCounted 1 queue → evictions_ahead ks (after_turn queue) ≡ evictions_ahead ks queue
+turn-ahead ks [] h bits = absurd (cc (h))
+turn-ahead ks (e ∷ l) h bits = ahead-turned ks e l h bits.0
+
+turns-ahead : (ks : List ℕ) (n : ℕ) (queue : List CountedKey) → AreCounted 1 queue → evictions_ahead ks (after_turns (turn_count_within n queue) queue) ≡ evictions_ahead ks queue
+turns-ahead ks zero queue bits = refl
+turns-ahead ks (suc n) queue bits =
+    elim (cases_Bool (eqb (oldest_count queue) 0)) [
+      | inl h ↦ rw h refl
+      | inr h ↦ rw h (turns-ahead ks n (after_turn queue) (turns-counted 1 1 queue bits) ∙ turn-ahead ks queue h bits)
+    ]
+
+-- ---- a full cache has a stale key
+
+none-stale : (ks : List ℕ) (queue : List CountedKey) → any_of (is_stale ks) queue ≡ false → (x : ℕ) → has_key x (keys_of queue) ≡ true → has_key x ks ≡ true
+none-stale ks [] h x g = absurd (cc (g))
+none-stale ks (e ∷ l) h x g =
+    elim (cases_Bool (has_key e.key ks)) [
+      | inl f ↦ elim (cases_Bool (eqb x e.key)) [
+        | inl s ↦ ap (λ y. has_key y ks) (eqb-true x e.key s) ∙ f
+        | inr s ↦ none-stale ks l (rw f at h) x (rw s at g)
+      ]
+      | inr f ↦ absurd (let no : true ≡ false = rw f at h in cc (no))
+    ]
+
+some-stale : (c k : ℕ) (ks : List ℕ) (queue : List CountedKey) → has_key k ks ≡ true → length (distinct_keys ks) ≤ c → c ≤ length queue → has_key k (keys_of queue) ≡ false → ((x : ℕ) → times x (keys_of queue) ≤ 1) → any_of (is_stale ks) queue ≡ true
+some-stale c k ks queue among few full out once =
+    elim (cases_Bool (any_of (is_stale ks) queue)) [
+      | inl h ↦ h
+      | inr h ↦ absurd (
+          let less : length (k ∷ keys_of queue) ≤ length (distinct_keys ks) = once-few (k ∷ keys_of queue) ks (once-more k [] (keys_of queue) out once)
+          (λ x g. elim (cases_Bool (eqb x k)) [
+            | inl s ↦ ap (λ y. has_key y ks) (eqb-true x k s) ∙ among
+            | inr s ↦ none-stale ks queue h x (rw s at g)
+          ]) in
+          omega (arith, less, few, full, length-keys queue))
+    ]
+
+-- ---- an access
+
+fresh-one : (k : ℕ) (ks : List ℕ) → has_key k ks ≡ true → is_stale ks (marked_key k) ≡ false
+fresh-one k ks among = ap not among
+
+evicts-ahead : (k : ℕ) (ks : List ℕ) (queue : List CountedKey) → has_key k ks ≡ true → oldest_count queue ≡ 0 → any_of (is_stale ks) queue ≡ true
+    → suc (evictions_ahead ks (clock_eviction k queue).1 + length queue) ≤ evictions_ahead ks queue + length (clock_eviction k queue).1
+evicts-ahead k ks [] among zero_count stale = absurd (cc (stale))
+evicts-ahead k ks (e ∷ l) among zero_count stale =
+    let joined : evictions_ahead ks (l ++ marked_key k ∷ []) ≡ evictions_ahead ks l = ahead-joined ks l (marked_key k) (fresh-one k ks among) refl in
+    let left : evictions_ahead ks (e ∷ l) ≡ suc (evictions_ahead ks l) = ahead-left ks e l (eq-eqb e.count 0 zero_count) stale in
+    omega (arith, joined, left, length-append l (marked_key k ∷ []))
+
+act-ahead : (c k : ℕ) (ks : List ℕ) (queue : List CountedKey) → has_key k ks ≡ true → length (distinct_keys ks) ≤ c → IsClock c queue
+    → one_if (not (has_key k (keys_of queue))) + evictions_ahead ks (clock_act c k queue).1 + length queue ≤ evictions_ahead ks queue + length (clock_act c k queue).1
+act-ahead c k ks queue among few is =
+    elim (cases_Bool (has_key k (keys_of queue))) [
+      | inl e ↦
+          let long : length (with_count k 1 queue) ≡ length queue = sym (length-keys (with_count k 1 queue)) ∙ (ap length (keys-with k 1 queue) ∙ length-keys queue) in
+          rw e (omega (arith, ahead-hit ks k among queue, long))
+      | inr e ↦ rw e (elim (cases_Bool (nat_lt (length queue) c)) [
+        | inl f ↦ rw f (omega (arith, ahead-joined ks queue (marked_key k) (fresh-one k ks among) refl, length-append queue (marked_key k ∷ [])))
+        | inr f ↦
+            let after : List CountedKey = after_turns (turn_count queue) queue in
+            let full : c ≤ length queue = ltb-false (length queue) c f in
+            let long : length after ≡ length queue = turns-length (turn_count queue) queue in
+            let same : (x : ℕ) → times x (keys_of after) ≡ times x (keys_of queue) = λ x. turns-times x (turn_count queue) queue in
+            let out : has_key k (keys_of after) ≡ false = no-times k (keys_of after) (let n = same k in let none = times-none k (keys_of queue) e in omega (arith, n, none)) in
+            let once : (x : ℕ) → times x (keys_of after) ≤ 1 = λ x. (let n = same x in let d = is.residents.distinct x in omega (arith, n, d)) in
+            let stale : any_of (is_stale ks) after ≡ true = some-stale c k ks after among few (omega (arith, full, long)) out once in
+            let ahead : evictions_ahead ks after ≡ evictions_ahead ks queue = turns-ahead ks (total_count queue) queue is.bits in
+            rw f (omega (arith, evicts-ahead k ks after among (settled queue) stale, ahead, long))
+      ])
+    ]
+
+-- ---- a stretch
+
+module _ (c : ℕ) (t : List ℕ) (room : 1 ≤ c) (i m : ℕ) (l : m ≤ length t) (few : length (distinct_keys (stretch t i m)) ≤ c) where
+  abbrev misses_at : ℕ → ℕ
+  misses_at n = strategy_misses t (clock_keys c t) n
+
+  is-clock : (n : ℕ) → IsClock c (clock_queue c t n)
+  is-clock n = kept-at c [] (clock_act c) keys_of (IsClock c) (keeps c room) t n
+
+  abbrev IsAhead : ℕ → Type 0
+  IsAhead n = misses_at n + evictions_ahead (stretch t i m) (clock_queue c t n) ≤ misses_at i + length (clock_queue c t n)
+
+  ahead-here : (n : ℕ) → n ≡ i → IsAhead n
+  ahead-here n same =
+      let misses : misses_at n ≡ misses_at i = ap misses_at same in
+      omega (arith, misses, ahead-few (stretch t i m) (clock_queue c t n))
+
+  ahead-next : (n : ℕ) → i ≤ n → n < m → IsAhead n → IsAhead (suc n)
+  ahead-next n h g now =
+      let k : ℕ = get_or t n 0 in
+      let ks : List ℕ = stretch t i m in
+      let next : misses_at (suc n) ≡ misses_at n + one_if (not (has_key k (clock_keys c t n))) = misses-next t (clock_keys c t) n in
+      let after : clock_queue c t (suc n) ≡ (clock_act c k (clock_queue c t n)).1 = next-is c [] (clock_act c) keys_of (IsClock c) (keeps c room) t n (omega (arith, g, l)) in
+      let ahead : evictions_ahead ks (clock_queue c t (suc n)) ≡ evictions_ahead ks (clock_act c k (clock_queue c t n)).1 = ap (evictions_ahead ks) after in
+      let long : length (clock_queue c t (suc n)) ≡ length (clock_act c k (clock_queue c t n)).1 = ap length after in
+      let one = act-ahead c k ks (clock_queue c t n) (in-stretch t i n m h g l) few (is-clock n) in
+      omega (arith, now, next, ahead, long, one)
+
+  ahead-at : (n : ℕ) → i ≤ n → n ≤ m → IsAhead n
+  ahead-at zero h g = ahead-here zero (omega (arith, h))
+  ahead-at (suc n) h g =
+      elim (cases_lt i (suc n)) [
+        | inl f ↦ ahead-next n (omega (arith, f)) (omega (arith, g)) (ahead-at n (omega (arith, f)) (omega (arith, g)))
+        | inr f ↦ ahead-here (suc n) (omega (arith, h, f))
+      ]
+
+pub clock-conservative : (c : ℕ) (t : List ℕ) → 1 ≤ c → IsConservative c t (strategy_misses t (clock_keys c t))
+clock-conservative c t room i m h l few =
+    let end = ahead-at c t room i m l few m h (omega arith) in
+    let fits = (is-clock c t room i m l few m).residents.fits in
+    omega (arith, end, fits, length-keys (clock_queue c t m))

@@ -1,0 +1,111 @@
+-- A strategy that keeps some keys for good, from their first access on.
+use Rattle.std.proofs.Common.{◌≡◌, ℕ, zero, suc, ◌+◌, ◌≤◌, Bool, true, false, cond, eqb, List, [], ◌∷◌, ◌++◌, length, take, get_or, ap, ◌∙◌, sym, refl, arith, inl, inr, length-append}
+use Rattle.std.proofs.Math.ListN.{get_or-append}
+use Rattle.std.proofs.Math.Seq.{get_or-append_seam, take-append_seam}
+use Rattle.std.proofs.lemmas.Bool.{cases_Bool, eqb-true, eq-eqb}
+use Rattle.std.proofs.lemmas.List.{take_more, take-append-le}
+use Rattle.std.proofs.lemmas.Bool.Decides.{nat_tests}
+use Rattle.step_record.specs.Keys.{has_key}
+use Rattle.step_record.specs.Stats.{one_if}
+use Rattle.policies.proofs.Recency.{IsDistinct}
+use Rattle.queue_policies.specs.Residents.{times}
+use Rattle.queue_policies.proofs.Residents.{times-none}
+use Rattle.optimality.specs.Strategy.{IsStrategy, strategy_hits}
+
+-- ---- hits of a cache that is a function of the accesses before
+
+abbrev pub hits_of : (List ℕ → List ℕ) → List ℕ → ℕ
+hits_of f xs = strategy_hits xs (λ i. f (take i xs)) (length xs)
+
+hits-within : (f : List ℕ → List ℕ) (xs ys : List ℕ) (n : ℕ) → n ≤ length xs → strategy_hits (xs ++ ys) (λ i. f (take i (xs ++ ys))) n ≡ strategy_hits xs (λ i. f (take i xs)) n
+hits-within f xs ys zero h = refl
+hits-within f xs ys (suc n) h =
+    rw (hits-within f xs ys n (omega (arith, h)), get_or-append xs ys 0 n (omega (arith, h)), take-append-le n xs ys (omega (arith, h))) refl
+
+pub hits-more : (f : List ℕ → List ℕ) (xs : List ℕ) (k : ℕ) → hits_of f (xs ++ k ∷ []) ≡ hits_of f xs + one_if (has_key k (f xs))
+hits-more f xs k =
+    let all : List ℕ = xs ++ k ∷ [] in
+    let long : length all ≡ suc (length xs) = omega (arith, length-append xs (k ∷ [])) in
+    ap (strategy_hits all (λ i. f (take i all))) long
+    ∙ (ap (λ m. m + one_if (has_key (get_or all (length xs) 0) (f (take (length xs) all)))) (hits-within f xs (k ∷ []) (length xs) (omega arith))
+    ∙ (ap (λ x. hits_of f xs + one_if (has_key x (f (take (length xs) all)))) (get_or-append_seam xs k [] 0)
+    ∙ ap (λ l. hits_of f xs + one_if (has_key k (f l))) (take-append_seam xs (k ∷ []))))
+
+-- ---- a strategy that keeps some keys for good, from their first access on
+
+abbrev pub hold : List ℕ → List ℕ → List ℕ
+hold [] xs = []
+hold (a ∷ ks) xs = cond (has_key a xs) (a ∷ hold ks xs) (hold ks xs)
+
+pub hold-none : (ks : List ℕ) → hold ks [] ≡ []
+hold-none [] = refl
+hold-none (a ∷ ks) = hold-none ks
+
+pub hold-length : (ks xs : List ℕ) → length (hold ks xs) ≤ length ks
+hold-length [] xs = omega arith
+hold-length (a ∷ ks) xs =
+    let rest : length (hold ks xs) ≤ length ks = hold-length ks xs in
+    elim (cases_Bool (has_key a xs)) as (λ _. length (cond (has_key a xs) (a ∷ hold ks xs) (hold ks xs)) ≤ suc (length ks)) [ inl e ↦ rw e (omega (arith, rest)) | inr e ↦ rw e (omega (arith, rest)) ]
+
+never : (b : Bool) → cond b false false ≡ false
+never true = refl
+never false = refl
+
+has-hold : (x : ℕ) (ks xs : List ℕ) → has_key x (hold ks xs) ≡ cond (has_key x ks) (has_key x xs) false
+has-hold x [] xs = refl
+has-hold x (a ∷ ks) xs =
+    elim (cases_Bool (has_key a xs)) as (λ _. has_key x (cond (has_key a xs) (a ∷ hold ks xs) (hold ks xs)) ≡ cond (cond (eqb x a) true (has_key x ks)) (has_key x xs) false) [
+      | inl e ↦ rw (e, has-hold x ks xs) (elim (cases_Bool (eqb x a)) as (λ _. cond (eqb x a) true (cond (has_key x ks) (has_key x xs) false) ≡ cond (cond (eqb x a) true (has_key x ks)) (has_key x xs) false) [
+        | inl f ↦ let there : has_key x xs ≡ true = ap (λ y. has_key y xs) (eqb-true x a f) ∙ e in rw (f, there) refl
+        | inr f ↦ rw f refl
+      ])
+      | inr e ↦ rw (e, has-hold x ks xs) (elim (cases_Bool (eqb x a)) as (λ _. cond (has_key x ks) (has_key x xs) false ≡ cond (cond (eqb x a) true (has_key x ks)) (has_key x xs) false) [
+        | inl f ↦ let out : has_key x xs ≡ false = ap (λ y. has_key y xs) (eqb-true x a f) ∙ e in rw (f, out) (never (has_key x ks))
+        | inr f ↦ rw f refl
+      ])
+    ]
+
+has-more : (x k : ℕ) (xs : List ℕ) → has_key x (xs ++ k ∷ []) ≡ cond (eqb x k) true (has_key x xs)
+has-more x k [] = refl
+has-more x k (a ∷ xs) =
+    rw (has-more x k xs) (elim (cases_Bool (eqb x a)) as (λ _. cond (eqb x a) true (cond (eqb x k) true (has_key x xs)) ≡ cond (eqb x k) true (cond (eqb x a) true (has_key x xs))) [
+      | inl e ↦ rw e (elim (cases_Bool (eqb x k)) as (λ _. true ≡ cond (eqb x k) true true) [ inl f ↦ rw f refl | inr f ↦ rw f refl ])
+      | inr e ↦ rw e refl
+    ])
+
+pub hold-strategy : (ks t : List ℕ) → IsStrategy (length ks) t (λ i. hold ks (take i t))
+hold-strategy ks t = record {
+  empty = hold-none ks;
+  on_demand = λ i x h g. (
+      let more : take (suc i) t ≡ take i t ++ get_or t i 0 ∷ [] = (let e : suc i ≡ i + 1 = omega arith in ap (λ n. take n t) e ∙ take_more t i 0 h) in
+      let now : cond (has_key x ks) (cond (eqb x (get_or t i 0)) true (has_key x (take i t))) false ≡ true = sym (has-hold x ks (take (suc i) t) ∙ ap (λ b. cond (has_key x ks) b false) (ap (has_key x) more ∙ has-more x (get_or t i 0) (take i t))) ∙ g in
+      elim (cases_Bool (eqb x (get_or t i 0))) [
+        | inl e ↦ inl (eqb-true x (get_or t i 0) e)
+        | inr e ↦ inr (has-hold x ks (take i t) ∙ (rw e at now))
+      ]);
+  fits = λ i h. hold-length ks (take i t);
+}
+
+-- each access to one of the keys is a hit, or brings that key in
+pub hold-next : (ks xs : List ℕ) (k : ℕ) → IsDistinct ks → length (hold ks (xs ++ k ∷ [])) + one_if (has_key k (hold ks xs)) ≡ length (hold ks xs) + times k ks
+hold-next [] xs k d = omega arith
+hold-next (a ∷ ks) xs k d =
+    let rest : length (hold ks (xs ++ k ∷ [])) + one_if (has_key k (hold ks xs)) ≡ length (hold ks xs) + times k ks = hold-next ks xs k d.1 in
+    elim (cases_Bool (eqb k a)) [
+      | inl e ↦
+          let same : k ≡ a = eqb-true k a e in
+          let self : eqb a k ≡ true = eq-eqb a k (sym same) in
+          let none : times k ks ≡ 0 = times-none k ks (ap (λ y. has_key y ks) same ∙ d.0) in
+          let out : has_key k (hold ks xs) ≡ false = has-hold k ks xs ∙ ap (λ b. cond b (has_key k xs) false) (ap (λ y. has_key y ks) same ∙ d.0) in
+          let not_hit : one_if (has_key k (hold ks xs)) ≡ 0 = ap one_if out in
+          rw (has-more a k xs, self, e) (elim (cases_Bool (has_key a xs)) [
+            | inl f ↦ rw (f, e) (omega (arith, rest, none, not_hit))
+            | inr f ↦ rw (f, out) (omega (arith, rest, none, not_hit))
+          ])
+      | inr e ↦
+          let apart : eqb a k ≡ false = grind (arith, nat_tests) in
+          rw (has-more a k xs, apart, e) (elim (cases_Bool (has_key a xs)) [
+            | inl f ↦ rw (f, e) (omega (arith, rest))
+            | inr f ↦ rw f (omega (arith, rest))
+          ])
+    ]

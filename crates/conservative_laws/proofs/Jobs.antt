@@ -1,0 +1,155 @@
+-- The jobs of Lru, FIFO and CLOCK: their misses are those of the definitions over plain keys.
+use Rattle.std.proofs.Common.{◌≡◌, ℕ, ◌+◌, ◌-◌, ◌*◌, ◌≤◌, map, List, [], ◌∷◌, length, take, count_by, ap, ◌∙◌, sym, refl, subst, arith, inl, inr}
+use Rattle.std.proofs.lemmas.Bool.{cases_lt}
+use Rattle.std.proofs.lemmas.List.{take_all, length-take-le}
+use Rattle.step_record.specs.declared.job.Job.{Job}
+use Rattle.step_record.specs.declared.job.Policy.TheVariants.{Lru, Fifo, Clock}
+use Rattle.step_record.specs.declared.outcome.Outcome.TheVariants.{Rejected}
+use Rattle.step_record.specs.Stats.{is_miss}
+use Rattle.queue_policies.specs.Residents.{AreResidents, outcomes_of_all}
+use Rattle.queue_policies.specs.CountedKeys.{CountedKey, keys_of}
+use Rattle.queue_policies.specs.Fifo.{fifo_act}
+use Rattle.queue_policies.specs.Clock.{clock_act, IsClock}
+use Rattle.queue_policies.proofs.Fifo.{keeps as fifo-keeps}
+use Rattle.queue_policies.proofs.Clock.{keeps as clock-keeps}
+use Rattle.demand_cache.specs.declared.demand_queues.DemandPolicy.{DemandPolicy}
+use Rattle.demand_cache.specs.declared.demand_queues.DemandPolicy.TheVariants as demand
+use Rattle.demand_cache.specs.declared.demand_queues.DemandQueues.TheVariants as queues
+use Rattle.demand_cache.specs.DemandQueues.{queues_act}
+use Rattle.demand_cache.specs.Theorems.{DemandKeeps}
+use Rattle.policies.specs.declared.design.Design.TheVariants as design
+use Rattle.policies.specs.AnyPolicy.{demand_run, demand_outcomes, outcomes_by, outcomes_on, stats_on}
+use Rattle.policies.specs.Design.{design_of, has_queues}
+use Rattle.policies.specs.Theorems.{LruStepLaw, FifoStepLaw, AnyCoversTrace}
+use Rattle.policies.proofs.Counting.{count-cons}
+use Rattle.policies.proofs.Demand.{with-room}
+use Rattle.optimality.specs.Strategy.{strategy_misses}
+use Rattle.optimality.specs.Theorems.{BeladyIsStrategy}
+use Rattle.policy_laws.proofs.Beaten.{ActsAsStrategy, acts-as-strategy}
+use Rattle.policy_laws.proofs.Lru.{lru_at}
+use Rattle.conservative_laws.specs.Conservative.{misses_on, IsConservative, FillsFirst}
+use Rattle.conservative_laws.specs.Theorems.{FillingCompetes, FillingCompetesWithoutBypass, LruFifoClockAreConservative, LruFifoClockCompete, LruFifoClockCompeteWithoutBypass, LruFifoClockTwiceAsLarge, LruFifoClockCompeteWithAny, IsLruFifoOrClock}
+use Rattle.conservative_laws.proofs.Misses.{none-hit, at-most-twice, stats-misses, misses-by, lru-misses, queue-misses-all}
+use Rattle.conservative_laws.proofs.Stretches.{empty-conservative}
+use Rattle.conservative_laws.proofs.Filling.{misses-are, fills-first}
+use Rattle.conservative_laws.proofs.Lru.{lru-conservative, lru-fills}
+use Rattle.conservative_laws.proofs.Fifo.{fifo_queue, fifo-conservative}
+use Rattle.conservative_laws.proofs.Clock.{clock_keys, clock-conservative}
+
+-- ---- the misses of a job
+
+misses-counted : (j : Job) (keys : List ℕ) → (stats_on j keys).misses ≡ count_by is_miss (outcomes_on j keys)
+unfolding stats_on
+misses-counted j keys = refl
+
+pub demand-misses : (p : DemandPolicy) (j : Job) (keys : List ℕ) → design_of j.policy ≡ design.Demand p → 1 ≤ j.config.capacity → (stats_on j keys).misses ≡ count_by is_miss (demand_run p j.config.capacity keys)
+demand-misses p j keys is room =
+    misses-counted j keys ∙ (ap (λ d. count_by is_miss (outcomes_by d j keys)) is ∙ ap (count_by is_miss) (with-room p j.config.capacity keys room))
+
+pub fifo-misses : FifoStepLaw → (j : Job) (keys : List ℕ) → j.policy ≡ Fifo → 1 ≤ j.config.capacity → (stats_on j keys).misses ≡ count_by is_miss (outcomes_of_all (fifo_act j.config.capacity) [] keys)
+fifo-misses law j keys is room = misses-counted j keys ∙ ap (count_by is_miss) (law j keys is room).1
+
+clock-outcomes : (c : ℕ) (queue : List CountedKey) (keys : List ℕ) → outcomes_of_all queues_act (queues.Clock record { capacity = c; queue = queue }) keys ≡ outcomes_of_all (clock_act c) queue keys
+clock-outcomes c queue [] = refl
+clock-outcomes c queue (k ∷ keys) = ap (λ os. (clock_act c k queue).0 ∷ os) (clock-outcomes c (clock_act c k queue).1 keys)
+
+pub clock-misses : (j : Job) (keys : List ℕ) → j.policy ≡ Clock → 1 ≤ j.config.capacity → (stats_on j keys).misses ≡ count_by is_miss (outcomes_of_all (clock_act j.config.capacity) [] keys)
+clock-misses j keys is room = demand-misses demand.Clock j keys (ap design_of is) room ∙ ap (count_by is_miss) (clock-outcomes j.config.capacity [] keys)
+
+-- without room each access is a miss
+all-rejected : (keys : List ℕ) → count_by is_miss (map (λ k. Rejected k) keys) ≡ length keys
+all-rejected [] = refl
+all-rejected (k ∷ keys) = let rest = all-rejected keys in omega (arith, rest, count-cons is_miss (Rejected k) (map (λ k. Rejected k) keys))
+
+pub demand-misses-all : (p : DemandPolicy) (j : Job) (keys : List ℕ) → design_of j.policy ≡ design.Demand p → j.config.capacity ≡ 0 → (stats_on j keys).misses ≡ length keys
+demand-misses-all p j keys is none =
+    misses-counted j keys
+    ∙ (ap (λ d. count_by is_miss (outcomes_by d j keys)) is
+    ∙ (ap (λ c. count_by is_miss (demand_outcomes p c keys)) none ∙ all-rejected keys))
+
+-- ---- as a conservative cache
+
+-- residents before each place of a trace, with the misses of the job
+record ActsConservatively (j : Job) (t : List ℕ) : Type 0 where
+  cache : ℕ → List ℕ
+  misses : (n : ℕ) → n ≤ length t → misses_on j t n ≡ strategy_misses t cache n
+  conservative : IsConservative j.config.capacity t (strategy_misses t cache)
+  fills : FillsFirst j.config.capacity t (strategy_misses t cache)
+
+acts-empty : (j : Job) (t : List ℕ) → j.config.capacity ≡ 0 → ((keys : List ℕ) → (stats_on j keys).misses ≡ length keys) → ActsConservatively j t
+acts-empty j t none all = record {
+  cache = λ i. [];
+  misses = λ n l. all (take n t) ∙ (length-take-le n t l ∙ sym (none-hit t n));
+  conservative = subst (λ c. IsConservative c t (strategy_misses t (λ i. []))) (sym none) (empty-conservative t (strategy_misses t (λ i. [])));
+  fills = λ n l few. omega (arith, few, none);
+}
+
+acts-lru : LruStepLaw → AnyCoversTrace → (j : Job) (t : List ℕ) → j.policy ≡ Lru → ActsConservatively j t
+acts-lru law covers j t is = record {
+  cache = lru_at j.config.capacity t;
+  misses = λ n l. lru-misses law covers j t n is l;
+  conservative = lru-conservative j.config.capacity t;
+  fills = lru-fills j.config.capacity t;
+}
+
+acts-fifo : FifoStepLaw → AnyCoversTrace → (j : Job) (t : List ℕ) → j.policy ≡ Fifo → ActsConservatively j t
+acts-fifo law covers j t is =
+    let c : ℕ = j.config.capacity in
+    elim (cases_lt 0 c) [
+      | inl room ↦ record {
+        cache = fifo_queue c t;
+        misses = λ n l. fifo-misses law j (take n t) is room ∙ misses-are c [] (fifo_act c) (λ queue. queue) (AreResidents c) (fifo-keeps c room) t n l;
+        conservative = fifo-conservative c t room;
+        fills = fills-first c [] (fifo_act c) (λ queue. queue) (AreResidents c) (fifo-keeps c room) t;
+      }
+      | inr less ↦ let none : c ≡ 0 = omega (arith, less) in acts-empty j t none (λ keys. queue-misses-all covers j keys (ap has_queues is) none)
+    ]
+
+acts-clock : (j : Job) (t : List ℕ) → j.policy ≡ Clock → ActsConservatively j t
+acts-clock j t is =
+    let c : ℕ = j.config.capacity in
+    elim (cases_lt 0 c) [
+      | inl room ↦ record {
+        cache = clock_keys c t;
+        misses = λ n l. clock-misses j (take n t) is room ∙ misses-are c [] (clock_act c) keys_of (IsClock c) (clock-keeps c room) t n l;
+        conservative = clock-conservative c t room;
+        fills = fills-first c [] (clock_act c) keys_of (IsClock c) (clock-keeps c room) t;
+      }
+      | inr less ↦ let none : c ≡ 0 = omega (arith, less) in acts-empty j t none (λ keys. demand-misses-all demand.Clock j keys (ap design_of is) none)
+    ]
+
+acts-conservatively : LruStepLaw → FifoStepLaw → AnyCoversTrace → (j : Job) (t : List ℕ) → IsLruFifoOrClock j.policy → ActsConservatively j t
+acts-conservatively lru fifo covers j t (inl is) = acts-lru lru covers j t is
+acts-conservatively lru fifo covers j t (inr (inl is)) = acts-fifo fifo covers j t is
+acts-conservatively lru fifo covers j t (inr (inr is)) = acts-clock j t is
+
+-- ---- the laws
+
+pub are_conservative : LruStepLaw → FifoStepLaw → AnyCoversTrace → LruFifoClockAreConservative
+are_conservative lru fifo covers j t is i n h l few =
+    let a : ActsConservatively j t = acts-conservatively lru fifo covers j t is in
+    let bound = a.conservative i n h l few in
+    omega (arith, bound, a.misses n l, a.misses i (omega (arith, h, l)))
+
+pub compete : FillingCompetes → LruStepLaw → FifoStepLaw → AnyCoversTrace → LruFifoClockCompete
+compete filling lru fifo covers j t h strategy n is s l =
+    let a : ActsConservatively j t = acts-conservatively lru fifo covers j t is in
+    rw (a.misses n l) (filling j.config.capacity h t a.cache strategy n a.conservative a.fills s l)
+
+pub compete_without_bypass : FillingCompetesWithoutBypass → LruStepLaw → FifoStepLaw → AnyCoversTrace → LruFifoClockCompeteWithoutBypass
+compete_without_bypass filling lru fifo covers j t h strategy n is s never l =
+    let a : ActsConservatively j t = acts-conservatively lru fifo covers j t is in
+    rw (a.misses n l) (filling j.config.capacity h t a.cache strategy n a.conservative a.fills s never l)
+
+pub twice_as_large : LruFifoClockCompete → LruFifoClockTwiceAsLarge
+twice_as_large law j t h strategy n is wide s l =
+    at-most-twice j.config.capacity h (misses_on j t n) (strategy_misses t strategy n) wide (law j t h strategy n is s l)
+
+pub compete_with_any : LruFifoClockCompete → AnyCoversTrace → BeladyIsStrategy → DemandKeeps → LruFifoClockCompeteWithAny
+compete_with_any law covers best keeps j other t is =
+    let h : ℕ = other.config.capacity in
+    let n : ℕ = length t in
+    let all : take n t ≡ t = take_all n t (omega arith) in
+    let own : ActsAsStrategy h t (stats_on other t).hits = acts-as-strategy best keeps other t in
+    let same = misses-by t own.residents n _ _ (stats-misses covers other t) own.same in
+    rw same (subst (λ l. (j.config.capacity + 1 - h) * (stats_on j l).misses ≤ (j.config.capacity + 1) * strategy_misses t own.residents n) all (law j t h own.residents n is own.strategy (omega arith)))

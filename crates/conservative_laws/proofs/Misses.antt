@@ -1,0 +1,86 @@
+-- The misses of a strategy and of a job.
+use Rattle.std.proofs.Common.{◌≡◌, ℕ, zero, suc, ◌+◌, ◌-◌, ◌*◌, ◌≤◌, true, not, List, [], length, take, get_or, ap, ◌∙◌, sym, arith, inl, inr}
+use Rattle.std.proofs.Math.Nat.{add-mul, mul-add, mul-le-mul_right, le_of_mul-le-mul_left}
+use Rattle.std.proofs.lemmas.Bool.{cases_Bool}
+use Rattle.std.proofs.lemmas.List.{take_all, length-take-le}
+use Rattle.step_record.specs.Keys.{has_key}
+use Rattle.step_record.specs.Stats.{one_if}
+use Rattle.step_record.specs.declared.job.Job.{Job}
+use Rattle.step_record.specs.declared.job.Policy.TheVariants.{Lru}
+use Rattle.policies.specs.Design.{has_queues}
+use Rattle.policies.specs.AnyPolicy.{outcomes_on, stats_on}
+use Rattle.policies.specs.Theorems.{LruStepLaw, AnyCoversTrace}
+use Rattle.policies.proofs.Balance.{residents-fit}
+use Rattle.policies.proofs.Counting.{hits-misses}
+use Rattle.optimality.specs.Strategy.{strategy_hits, strategy_misses}
+use Rattle.policy_laws.proofs.Beaten.{kept, no-hits, hits-are, stats-queues}
+use Rattle.policy_laws.proofs.Lru.{lru_at, hits-agree, nothing, lru-kept}
+
+-- ---- of a strategy
+
+pub hits-few : (t : List ℕ) (residents : ℕ → List ℕ) (i : ℕ) → strategy_hits t residents i ≤ i
+hits-few t residents zero = omega arith
+hits-few t residents (suc i) =
+    let rest : strategy_hits t residents i ≤ i = hits-few t residents i in
+    elim (cases_Bool (has_key (get_or t i 0) (residents i))) as (λ _. strategy_hits t residents i + one_if (has_key (get_or t i 0) (residents i)) ≤ suc i) [
+      | inl e ↦ rw e (omega (arith, rest))
+      | inr e ↦ rw e (omega (arith, rest))
+    ]
+
+pub misses-next : (t : List ℕ) (residents : ℕ → List ℕ) (i : ℕ) → strategy_misses t residents (suc i) ≡ strategy_misses t residents i + one_if (not (has_key (get_or t i 0) (residents i)))
+misses-next t residents i =
+    let few : strategy_hits t residents i ≤ i = hits-few t residents i in
+    elim (cases_Bool (has_key (get_or t i 0) (residents i))) as (λ _. suc i - (strategy_hits t residents i + one_if (has_key (get_or t i 0) (residents i))) ≡ (i - strategy_hits t residents i) + one_if (not (has_key (get_or t i 0) (residents i)))) [
+      | inl e ↦ rw e (omega (arith, few))
+      | inr e ↦ rw e (omega (arith, few))
+    ]
+
+-- without residents each access is a miss
+pub none-hit : (t : List ℕ) (n : ℕ) → strategy_misses t (λ i. []) n ≡ n
+none-hit t n = ap (λ m. n - m) (no-hits t n) ∙ omega arith
+
+-- with twice the capacity the factor is at most two
+pub at-most-twice : (c h m k : ℕ) → 2 * h ≤ c + 1 → (c + 1 - h) * m ≤ (c + 1) * k → m ≤ 2 * k
+at-most-twice c h m k wide most =
+    let d : ℕ = c + 1 - h in
+    let twice : (c + 1) * k ≤ (d + d) * k = mul-le-mul_right k (omega (arith, wide)) in
+    let sum : (d + d) * k ≡ d * k + d * k = add-mul d d k in
+    let two : d * (2 * k) ≡ d * k + d * k = (let e : 2 * k ≡ k + k = omega arith in ap (λ x. d * x) e ∙ mul-add d k k) in
+    let all : d * m ≤ d * (2 * k) = omega (arith, most, twice, sum, two) in
+    le_of_mul-le-mul_left all (omega (arith, wide))
+
+-- ---- of a job
+
+pub stats-misses : AnyCoversTrace → (j : Job) (keys : List ℕ) → (stats_on j keys).misses ≡ length keys - (stats_on j keys).hits
+unfolding stats_on
+stats-misses covers j keys =
+    let both = hits-misses (outcomes_on j keys) in
+    let long = covers j keys in
+    omega (arith, both, long)
+
+pub misses-by : (t : List ℕ) (r : ℕ → List ℕ) (n m k : ℕ) → k ≡ n - m → strategy_hits t r n ≡ m → k ≡ strategy_misses t r n
+misses-by t r n m k e h = e ∙ ap (λ x. n - x) (sym h)
+
+pub queue-misses : AnyCoversTrace → (j : Job) (trace : List ℕ) (n : ℕ) → has_queues j.policy ≡ true → n ≤ length trace
+    → (stats_on j (take n trace)).misses ≡ strategy_misses trace (kept j trace) n
+queue-misses covers j trace n e l =
+    let all = stats-misses covers j (take n trace) in
+    let hits = stats-queues j (take n trace) e in
+    let same = hits-are j trace n l in
+    let long = length-take-le n trace l in
+    omega (arith, all, hits, same, long)
+
+pub lru-misses : LruStepLaw → AnyCoversTrace → (j : Job) (trace : List ℕ) (n : ℕ) → j.policy ≡ Lru → n ≤ length trace
+    → (stats_on j (take n trace)).misses ≡ strategy_misses trace (lru_at j.config.capacity trace) n
+lru-misses stands covers j trace n is l =
+    queue-misses covers j trace n (ap has_queues is) l
+    ∙ ap (λ m. n - m) (hits-agree trace (kept j trace) (lru_at j.config.capacity trace) n (λ i. lru-kept stands j trace i is))
+
+-- a policy of queues without room
+pub queue-misses-all : AnyCoversTrace → (j : Job) (keys : List ℕ) → has_queues j.policy ≡ true → j.config.capacity ≡ 0 → (stats_on j keys).misses ≡ length keys
+queue-misses-all covers j keys is none =
+    let n : ℕ = length keys in
+    ap (λ l. (stats_on j l).misses) (sym (take_all n keys (omega arith)))
+    ∙ (queue-misses covers j keys n is (omega arith)
+    ∙ (ap (λ m. n - m) (hits-agree keys (kept j keys) (λ i. []) n (λ i. nothing (kept j keys i) (let few = residents-fit j (take i keys) in omega (arith, few, none))))
+    ∙ none-hit keys n))

@@ -1,0 +1,68 @@
+-- No policy that does not know the trace competes by a smaller factor.
+use Rattle.std.proofs.Common.{◌≡◌, ℕ, ◌≤◌, true, false, List, [], length, take, ap, ◌∙◌, sym, refl, arith, inl, inr}
+use Rattle.std.proofs.lemmas.Bool.{cases_lt}
+use Rattle.std.proofs.lemmas.List.{length-take-le}
+use Rattle.step_record.specs.declared.job.Job.{Job}
+use Rattle.queue_policies.specs.Residents.{KeepsResidents, state_after_all}
+use Rattle.demand_cache.specs.declared.demand_queues.DemandPolicy.{DemandPolicy}
+use Rattle.demand_cache.specs.declared.demand_queues.DemandQueues.{DemandQueues}
+use Rattle.demand_cache.specs.DemandQueues.{empty_queues, queues_act, queues_residents, IsQueues}
+use Rattle.demand_cache.specs.Theorems.{DemandKeeps}
+use Rattle.policies.specs.declared.design.Design.{Design}
+use Rattle.policies.specs.declared.design.Design.TheVariants as design
+use Rattle.policies.specs.Design.{design_of, is_of_queues, is_optimal}
+use Rattle.policies.specs.QueueCache.{residents_in, state_after}
+use Rattle.policies.specs.Theorems.{AnyCoversTrace}
+use Rattle.policies.proofs.Balance.{residents-fit}
+use Rattle.policies.proofs.Demand.{kept-after}
+use Rattle.optimality.specs.Strategy.{strategy_misses}
+use Rattle.conservative_laws.specs.Conservative.{misses_on}
+use Rattle.conservative_laws.specs.Theorems.{NoFactorIsSmaller}
+use Rattle.conservative_laws.proofs.Misses.{none-hit, queue-misses}
+use Rattle.conservative_laws.proofs.Filling.{misses-are}
+use Rattle.conservative_laws.proofs.Jobs.{demand-misses, demand-misses-all}
+use Rattle.conservative_laws.proofs.Adversary.{worst}
+
+-- what a job's cache holds after the accesses, whatever comes later
+record IsOnline (j : Job) : Type 0 where
+  held : List ℕ → List ℕ
+  fits : (keys : List ℕ) → length (held keys) ≤ j.config.capacity
+  misses : (t : List ℕ) (n : ℕ) → n ≤ length t → misses_on j t n ≡ strategy_misses t (λ i. held (take i t)) n
+
+queues-online : AnyCoversTrace → (j : Job) → is_of_queues (design_of j.policy) ≡ true → IsOnline j
+queues-online covers j is = record {
+  held = λ keys. residents_in (state_after j keys).queues;
+  fits = λ keys. residents-fit j keys;
+  misses = λ t n l. queue-misses covers j t n is l;
+}
+
+demand-online : DemandKeeps → (p : DemandPolicy) (j : Job) → design_of j.policy ≡ design.Demand p → IsOnline j
+demand-online law p j is =
+    let c : ℕ = j.config.capacity in
+    let start : DemandQueues = empty_queues p c in
+    elim (cases_lt 0 c) [
+      | inl room ↦
+          let all : KeepsResidents c start queues_act queues_residents (IsQueues c) = law p c room in
+          record {
+            held = λ keys. queues_residents (state_after_all queues_act start keys);
+            fits = λ keys. (all.holds _ (kept-after c start queues_act queues_residents (IsQueues c) all keys)).fits;
+            misses = λ t n l. demand-misses p j (take n t) is room ∙ misses-are c start queues_act queues_residents (IsQueues c) all t n l;
+          }
+      | inr less ↦
+          let none : c ≡ 0 = omega (arith, less) in
+          record {
+            held = λ keys. [];
+            fits = λ keys. omega arith;
+            misses = λ t n l. demand-misses-all p j (take n t) is none ∙ (length-take-le n t l ∙ sym (none-hit t n));
+          }
+    ]
+
+is-online : DemandKeeps → AnyCoversTrace → (x : Design) (j : Job) → design_of j.policy ≡ x → is_optimal x ≡ false → IsOnline j
+is-online law covers (design.Queues q) j is h = queues-online covers j (ap is_of_queues is)
+is-online law covers design.KnowsTrace j is h = absurd (cc (h))
+is-online law covers (design.Demand p) j is h = demand-online law p j is
+
+pub no_factor_is_smaller : DemandKeeps → AnyCoversTrace → NoFactorIsSmaller
+no_factor_is_smaller law covers j h n is le =
+    let a : IsOnline j = is-online law covers (design_of j.policy) j refl is in
+    worst j a.held a.fits a.misses h n le

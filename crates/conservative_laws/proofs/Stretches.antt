@@ -1,0 +1,108 @@
+-- Stretches of a trace, their distinct keys, and the misses in them.
+use Rattle.std.proofs.Common.{◌≡◌, ◌⊎◌, ℕ, zero, suc, ◌+◌, ◌<◌, ◌≤◌, Bool, true, false, cond, eqb, List, [], ◌∷◌, ◌++◌, length, take, drop, get_or, ap, ◌∙◌, sym, refl, arith, inl, inr, length-drop}
+use Rattle.std.proofs.lemmas.Bool.{cases_Bool, cases_lt, eqb-true, eq-eqb}
+use Rattle.std.proofs.lemmas.List.{take_more, drop-append-le, length-take-le}
+use Rattle.std.proofs.Math.Seq.{drop-length}
+use Rattle.step_record.specs.Keys.{has_key}
+use Rattle.step_record.specs.Stats.{one_if}
+use Rattle.policies.specs.Lru.{distinct_keys}
+use Rattle.policies.proofs.Balance.{has-append}
+use Rattle.optimality.proofs.Counting.{count_keys, count-short, count-subset, head-has}
+use Rattle.queue_policies.specs.Residents.{times}
+use Rattle.queue_policies.proofs.Residents.{no-times}
+use Rattle.conservative_laws.specs.Conservative.{stretch, IsConservative}
+
+-- ---- keys
+
+abbrev any : ℕ → Bool
+any x = true
+
+distinct-counted : (xs : List ℕ) → length (distinct_keys xs) ≡ count_keys any xs
+distinct-counted [] = refl
+distinct-counted (a ∷ xs) =
+    elim (cases_Bool (has_key a xs)) [
+      | inl e ↦ let rest = distinct-counted xs in rw e (omega (arith, rest))
+      | inr e ↦ let rest = distinct-counted xs in rw e (omega (arith, rest))
+    ]
+
+-- a list that has all keys of xs is no shorter than its distinct keys
+pub distinct-few : (xs l : List ℕ) → ((x : ℕ) → has_key x xs ≡ true → has_key x l ≡ true) → length (distinct_keys xs) ≤ length l
+distinct-few xs l h = omega (arith, distinct-counted xs, count-subset any xs l h, count-short any l)
+
+pub distinct-subset : (xs ys : List ℕ) → ((x : ℕ) → has_key x xs ≡ true → has_key x ys ≡ true) → length (distinct_keys xs) ≤ length (distinct_keys ys)
+distinct-subset xs ys h = omega (arith, distinct-counted xs, distinct-counted ys, count-subset any xs ys h)
+
+-- a list that has each of its keys once, all of them keys of xs, is no longer than the distinct keys of xs
+once-counted : (l : List ℕ) → ((x : ℕ) → times x l ≤ 1) → count_keys any l ≡ length l
+once-counted [] d = refl
+once-counted (a ∷ l) d =
+    let self : one_if (eqb a a) ≡ 1 = ap one_if (eq-eqb a a refl) in
+    let none : has_key a l ≡ false = no-times a l (let n = d a in omega (arith, n, self)) in
+    let rest : count_keys any l ≡ length l = once-counted l (λ x. let n = d x in omega (arith, n)) in
+    rw none (omega (arith, rest))
+
+pub once-few : (l xs : List ℕ) → ((x : ℕ) → times x l ≤ 1) → ((x : ℕ) → has_key x l ≡ true → has_key x xs ≡ true) → length l ≤ length (distinct_keys xs)
+once-few l xs d h = omega (arith, once-counted l d, distinct-counted xs, count-subset any l xs h)
+
+pub has-some : (x : ℕ) (l : List ℕ) → has_key x l ≡ true → 1 ≤ length l
+has-some x [] h = absurd (cc (h))
+has-some x (a ∷ l) h = omega arith
+
+-- ---- stretches
+
+pub stretch-none : (t : List ℕ) (i : ℕ) → i ≤ length t → stretch t i i ≡ []
+stretch-none t i h = ap (λ n. drop n (take i t)) (sym (length-take-le i t h)) ∙ drop-length (take i t)
+
+pub stretch-next : (t : List ℕ) (i n : ℕ) → i ≤ n → n < length t → stretch t i (suc n) ≡ stretch t i n ++ get_or t n 0 ∷ []
+stretch-next t i n h l =
+    let more : suc n ≡ n + 1 = omega arith in
+    let long : length (take n t) ≡ n = length-take-le n t (omega (arith, l)) in
+    ap (λ m. drop i (take m t)) more ∙ (ap (drop i) (take_more t n 0 l) ∙ drop-append-le i (take n t) (get_or t n 0 ∷ []) (omega (arith, long, h)))
+
+pub one-of : (x k : ℕ) (xs : List ℕ) → has_key x (xs ++ k ∷ []) ≡ true → (x ≡ k) ⊎ (has_key x xs ≡ true)
+one-of x k xs h =
+    let both : cond (has_key x xs) true (has_key x (k ∷ [])) ≡ true = sym (has-append x xs (k ∷ [])) ∙ h in
+    elim (cases_Bool (has_key x xs)) [
+      | inl e ↦ inr e
+      | inr e ↦ elim (cases_Bool (eqb x k)) [
+        | inl f ↦ inl (eqb-true x k f)
+        | inr f ↦ absurd (let no : false ≡ true = rw (e, f) at both in cc (no))
+      ]
+    ]
+
+pub has-first : (x : ℕ) (xs ys : List ℕ) → has_key x xs ≡ true → has_key x (xs ++ ys) ≡ true
+has-first x xs ys h = has-append x xs ys ∙ ap (λ b. cond b true (has_key x ys)) h
+
+pub has-last : (k : ℕ) (xs : List ℕ) → has_key k (xs ++ k ∷ []) ≡ true
+has-last k xs =
+    has-append k xs (k ∷ []) ∙ (elim (cases_Bool (has_key k xs)) as (λ _. cond (has_key k xs) true (has_key k (k ∷ [])) ≡ true) [ inl e ↦ rw e refl | inr e ↦ rw e (head-has k []) ])
+
+pub in-stretch : (t : List ℕ) (i n m : ℕ) → i ≤ n → n < m → m ≤ length t → has_key (get_or t n 0) (stretch t i m) ≡ true
+in-stretch t i n zero h g l = absurd (omega (arith, g))
+in-stretch t i n (suc m) h g l =
+    let more : stretch t i (suc m) ≡ stretch t i m ++ get_or t m 0 ∷ [] = stretch-next t i m (omega (arith, h, g)) (omega (arith, l)) in
+    elim (cases_lt n m) [
+      | inl f ↦ ap (has_key (get_or t n 0)) more ∙ has-first (get_or t n 0) (stretch t i m) (get_or t m 0 ∷ []) (in-stretch t i n m h f (omega (arith, l)))
+      | inr f ↦
+          let same : n ≡ m = omega (arith, f, g) in
+          ap (has_key (get_or t n 0)) more ∙ (ap (λ y. has_key (get_or t y 0) (stretch t i m ++ get_or t m 0 ∷ [])) same ∙ has-last (get_or t m 0) (stretch t i m))
+    ]
+
+-- ---- without room
+
+none-distinct : (xs : List ℕ) → length (distinct_keys xs) ≤ 0 → length xs ≤ 0
+none-distinct [] h = omega arith
+none-distinct (a ∷ xs) h =
+    elim (cases_Bool (has_key a xs)) [
+      | inl e ↦ let rest : length xs ≤ 0 = none-distinct xs (rw e at h) in absurd (omega (arith, rest, has-some a xs e))
+      | inr e ↦ absurd (let no : suc (length (distinct_keys xs)) ≤ 0 = rw e at h in omega (arith, no))
+    ]
+
+-- no stretch has no key
+pub empty-conservative : (t : List ℕ) (misses : ℕ → ℕ) → IsConservative 0 t misses
+empty-conservative t misses i n h l few =
+    let none : length (stretch t i n) ≤ 0 = none-distinct (stretch t i n) few in
+    let long : length (take n t) ≡ n = length-take-le n t l in
+    let same : n ≡ i = omega (arith, none, long, h, length-drop i (take n t)) in
+    let equal : misses n ≡ misses i = ap misses same in
+    omega (arith, equal)

@@ -1,0 +1,5 @@
+//! Lru, FIFO and CLOCK are conservative, so they compete with every strategy: their misses are within a factor of those
+//! of any strategy, which may know the whole trace. No policy that does not know the trace has a smaller factor.
+#![tactic(auto)]
+
+pub mod theorems;

@@ -1,0 +1,81 @@
+-- Lru at two capacities: what it holds at the smaller, it holds at the larger.
+use Rattle.std.proofs.Common.{◌≡◌, ℕ, zero, suc, ◌+◌, ◌-◌, ◌≤◌, true, List, [], ◌∷◌, length, take, drop, get_or, ap, ◌∙◌, sym, refl, arith, inl, inr, length-drop}
+use Rattle.std.proofs.lemmas.Bool.{cases_Bool, cases_lt}
+use Rattle.std.proofs.lemmas.List.{drop-drop}
+use Rattle.step_record.specs.Keys.{has_key}
+use Rattle.step_record.specs.declared.job.Job.{Job}
+use Rattle.step_record.specs.declared.job.Policy.TheVariants.{Lru}
+use Rattle.policies.specs.Design.{has_queues}
+use Rattle.policies.specs.Lru.{distinct_keys, lru_residents}
+use Rattle.policies.specs.QueueCache.{residents_in}
+use Rattle.policies.specs.SingleQueue.{single_queue}
+use Rattle.policies.specs.AnyPolicy.{stats_on}
+use Rattle.policies.specs.Theorems.{LruStepLaw}
+use Rattle.policies.proofs.Balance.{residents-fit}
+use Rattle.policies.proofs.Recency.{has-drop}
+use Rattle.optimality.specs.Strategy.{strategy_hits}
+use Rattle.policy_laws.specs.Theorems.{LruHitsGrow}
+use Rattle.policy_laws.proofs.Beaten.{kept, all-hits, stats-queues}
+
+-- ---- the residents of Lru
+
+-- before the access at each place
+abbrev pub lru_at : ℕ → List ℕ → ℕ → List ℕ
+lru_at c t i = lru_residents c (take i t)
+
+lru-fits : (c : ℕ) (xs : List ℕ) → length (lru_residents c xs) ≤ c
+lru-fits c xs = let cut = length-drop (length (distinct_keys xs) - c) (distinct_keys xs) in omega (arith, cut)
+
+pub hits-agree : (t : List ℕ) (r s : ℕ → List ℕ) (n : ℕ) → ((i : ℕ) → r i ≡ s i) → strategy_hits t r n ≡ strategy_hits t s n
+hits-agree t r s zero h = refl
+hits-agree t r s (suc i) h = rw (hits-agree t r s i h, h i) refl
+
+keys-in : (l : List ℕ) → residents_in (single_queue l) ≡ l
+keys-in [] = refl
+keys-in (a ∷ l) = ap (λ r. a ∷ r) (keys-in l)
+
+pub nothing : (l : List ℕ) → length l ≤ 0 → l ≡ []
+nothing [] h = refl
+nothing (a ∷ l) h = absurd (omega (arith, h))
+
+pub lru-kept : LruStepLaw → (j : Job) (trace : List ℕ) (i : ℕ) → j.policy ≡ Lru → kept j trace i ≡ lru_at j.config.capacity trace i
+lru-kept stands j trace i is =
+    let c : ℕ = j.config.capacity in
+    elim (cases_lt 0 c) [
+      | inl room ↦ ap residents_in (stands j (take i trace) 0 is room).0 ∙ keys-in (lru_at c trace i)
+      | inr empty ↦
+          let few = residents-fit j (take i trace) in
+          let few_too = lru-fits c (take i trace) in
+          nothing (kept j trace i) (omega (arith, few, empty)) ∙ sym (nothing (lru_at c trace i) (omega (arith, few_too, empty)))
+    ]
+
+-- ---- a larger capacity
+
+lru-among : (c d k : ℕ) (xs : List ℕ) → c ≤ d → has_key k (lru_residents c xs) ≡ true → has_key k (lru_residents d xs) ≡ true
+lru-among c d k xs le h =
+    let l : List ℕ = distinct_keys xs in
+    let n : ℕ = length l - d in
+    let more : length l - c ≡ n + (length l - c - n) = omega (arith, le) in
+    has-drop k (length l - c - n) (drop n l) (ap (has_key k) (drop-drop (length l - c - n) n l ∙ ap (λ m. drop m l) (sym more)) ∙ h)
+
+hits-more : (t : List ℕ) (r s : ℕ → List ℕ) (n : ℕ) → ((i k : ℕ) → has_key k (r i) ≡ true → has_key k (s i) ≡ true) → strategy_hits t r n ≤ strategy_hits t s n
+hits-more t r s zero h = omega arith
+hits-more t r s (suc i) h =
+    let rest : strategy_hits t r i ≤ strategy_hits t s i = hits-more t r s i h in
+    elim (cases_Bool (has_key (get_or t i 0) (r i))) as (λ _. strategy_hits t r (suc i) ≤ strategy_hits t s (suc i)) [
+      | inl e ↦ rw (e, h i (get_or t i 0) e) (omega (arith, rest))
+      | inr e ↦ rw e (omega (arith, rest))
+    ]
+
+lru-hits : LruStepLaw → (j : Job) (trace : List ℕ) → j.policy ≡ Lru → (stats_on j trace).hits ≡ strategy_hits trace (lru_at j.config.capacity trace) (length trace)
+lru-hits stands j trace is =
+    stats-queues j trace (ap has_queues is) ∙ (sym (all-hits j trace)
+    ∙ hits-agree trace (kept j trace) (lru_at j.config.capacity trace) (length trace) (λ i. lru-kept stands j trace i is))
+
+pub lru_hits_grow : LruStepLaw → LruHitsGrow
+lru_hits_grow stands small large trace is are le =
+    let few = lru-hits stands small trace is in
+    let many = lru-hits stands large trace are in
+    let more = hits-more trace (lru_at small.config.capacity trace) (lru_at large.config.capacity trace) (length trace)
+    (λ i k h. lru-among small.config.capacity large.config.capacity k (take i trace) le h) in
+    omega (arith, few, many, more)
