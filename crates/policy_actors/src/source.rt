@@ -64,27 +64,6 @@ impl<'t> AccessSource for TraceSource<'t> {
     fn leave(self) {}
 }
 
-// Gives the feeder a trace that is there, piece by piece. The one error is out of memory.
-fn feed_trace<S: FedTrace, W: Wait>(
-    feeder: &mut Feeder<'_, S, W>,
-    trace: &Trace,
-) -> Result<(), AllocError>
-    requires known { S.known ≡ Some trace.now }
-    requires none { feeder.old.place ≡ 0 }
-{
-    let mut read = Vec::new(feeder.alloc);
-    let mut rest = trace.keys();
-    while rest.len() > PIECE {
-        let (piece, later) = rest.split_at(PIECE);
-        read.extend_from_slice(piece)?;
-        feeder.follow(&mut read);
-        rest = later;
-    }
-    read.extend_from_slice(rest)?;
-    feeder.give(Trace::new(read), true);
-    Ok(())
-}
-
 /// A trace that a reader gives.
 #[derive(Drop)]
 pub struct ReaderSource<'r, R> {
@@ -125,4 +104,25 @@ impl<'r, R: CountedRead> AccessSource for ReaderSource<'r, R> {
         let ReaderSource { reader, format: _ } = self;
         (reader, Err(TraceFault::OutOfMemory))
     }
+}
+
+// Gives the feeder a trace that is there, piece by piece. The one error is out of memory.
+fn feed_trace<S: FedTrace, W: Wait>(
+    feeder: &mut Feeder<'_, S, W>,
+    trace: &Trace,
+) -> Result<(), AllocError>
+    requires known { S.known ≡ Some trace.now }
+    requires none { feeder.old.place ≡ 0 }
+{
+    let mut read = Vec::new(feeder.alloc);
+    let mut rest = trace.keys();
+    while rest.len() > PIECE {
+        let (piece, later) = rest.split_at(PIECE);
+        read.extend_from_slice(piece)?;
+        feeder.follow(&mut read);
+        rest = later;
+    }
+    read.extend_from_slice(rest)?;
+    feeder.give(Trace::new(read), true);
+    Ok(())
 }

@@ -2,26 +2,37 @@ use Rattle.std.proofs.Common.{◌≡◌, ◌≤◌, ◌∙◌, ◌++◌, length,
 use Rattle.std.proofs.lemmas.List.{take_all}
 use Rattle.std.specs.Io.KnownBytes.{Appends}
 use Rattle.journal_text.specs.Journal.{begun, ended_line, journal_of}
+use Rattle.journal_text.specs.TextBuffer.{IsTextWritten}
 use Rattle.journal_text.specs.Table.{text_of}
 use Rattle.journal_text.specs.declared.line.JournalLine.TheVariants.{Steps}
 use Rattle.journal_text.specs.declared.version.Version.TheVariants.{Two}
 use Rattle.journal_text.proofs.Written.{broken, finished, gathered, lines_of_two, part_of_more, passed}
 use Rattle.streams.specs.Part.{AppendsPart}
 use Rattle.journal_text.proofs.writer.write_journal.Goals as goal
+use Rattle.journal_text.proofs.writer.write_journal.Goals.{After-push_count_line}
+
+-- the whole text is written, but for what waits with the last line
+made : (g : _) (c : goal.After-push_count_line g) → IsTextWritten (g.W.CountedWrite.contents c.args.writer.now) (g.W.CountedWrite.contents c.make_room_for_line.new.writer)
+    c.push_count_line.new.text.items (journal_of Two c.args.session.now.kept)
+made g c =
+    let kept = c.args.session.now.kept in
+    let old = g.W.CountedWrite.contents c.args.writer.now in
+    let first = g.W.CountedWrite.contents c.write_entries.new.writer in
+    let mid = g.W.CountedWrite.contents c.make_room_for_line.new.writer in
+    let room = c.make_room_for_line.new.text.items in
+    let line = ended_line (text_of (Steps (length kept))) in
+    let count : c.push_count_line.new.text.items ≡ room ++ line = c.push_count_line.ensures.items ∙ ap (λ n. room ++ ended_line (text_of (Steps n))) c.len.ensures.len in
+    gathered old mid room c.push_count_line.new.text.items line (begun Two kept) (journal_of Two kept) count refl
+    (passed old first mid c.write_entries.new.text.items room (begun Two kept) c.in_ok-write_entries.ensures.written c.in_ok-make_room_for_line.ensures.written)
 
 pub returns-clause-text : goal.returns-clause-text
 returns-clause-text g c =
     let kept = c.args.session.now.kept in
     let old = g.W.CountedWrite.contents c.args.writer.now in
-    let first = g.W.CountedWrite.contents c.write_entries.new.writer in
     let mid = g.W.CountedWrite.contents c.make_room_for_line.new.writer in
     let new = g.W.CountedWrite.contents c.write_some.new.writer in
     let last = g.W.CountedWrite.contents c.flush.new.writer in
-    let before = passed old first mid c.write_entries.new.text.items c.make_room_for_line.new.text.items (begun Two kept) c.in_ok-write_entries.ensures.written c.in_ok-make_room_for_line.ensures.written in
-    let count : c.push_count_line.new.text.items ≡ c.make_room_for_line.new.text.items ++ ended_line (text_of (Steps (length kept))) =
-    c.push_count_line.ensures.items ∙ ap (λ n. c.make_room_for_line.new.text.items ++ ended_line (text_of (Steps n))) c.len.ensures.len in
-    let all = gathered old mid c.make_room_for_line.new.text.items c.push_count_line.new.text.items (ended_line (text_of (Steps (length kept)))) (begun Two kept) (journal_of Two kept)
-    count refl before in
+    let all = made g (goal.at.returns-clause-text g c).After-push_count_line in
     finished old mid new last c.push_count_line.new.text.items (journal_of Two kept) all
     (subst (Appends mid new) c.as_slice.ensures.value c.in_ok-write_some.ensures.bytes) c.in_ok-flush.ensures.bytes
 
@@ -42,29 +53,19 @@ pub returns-in_err-write_some-clause-part : goal.returns-in_err-write_some-claus
 returns-in_err-write_some-clause-part g c = λ failed.
     let kept = c.args.session.now.kept in
     let old = g.W.CountedWrite.contents c.args.writer.now in
-    let first = g.W.CountedWrite.contents c.write_entries.new.writer in
     let mid = g.W.CountedWrite.contents c.make_room_for_line.new.writer in
     let new = g.W.CountedWrite.contents c.write_some.new.writer in
-    let before = passed old first mid c.write_entries.new.text.items c.make_room_for_line.new.text.items (begun Two kept) c.in_ok-write_entries.ensures.written c.in_ok-make_room_for_line.ensures.written in
-    let count : c.push_count_line.new.text.items ≡ c.make_room_for_line.new.text.items ++ ended_line (text_of (Steps (length kept))) =
-    c.push_count_line.ensures.items ∙ ap (λ n. c.make_room_for_line.new.text.items ++ ended_line (text_of (Steps n))) c.len.ensures.len in
-    let all = gathered old mid c.make_room_for_line.new.text.items c.push_count_line.new.text.items (ended_line (text_of (Steps (length kept)))) (begun Two kept) (journal_of Two kept)
-    count refl before in
+    let all = made g (goal.at.returns-in_err-write_some-clause-part g c).After-push_count_line in
     broken old mid new c.push_count_line.new.text.items (journal_of Two kept) all (subst (AppendsPart mid new) c.as_slice.ensures.value c.in_err-write_some.ensures.part)
 
 pub returns-in_err-flush-clause-part : goal.returns-in_err-flush-clause-part
 returns-in_err-flush-clause-part g c = λ failed.
     let kept = c.args.session.now.kept in
     let old = g.W.CountedWrite.contents c.args.writer.now in
-    let first = g.W.CountedWrite.contents c.write_entries.new.writer in
     let mid = g.W.CountedWrite.contents c.make_room_for_line.new.writer in
     let new = g.W.CountedWrite.contents c.write_some.new.writer in
     let last = g.W.CountedWrite.contents c.flush.new.writer in
-    let before = passed old first mid c.write_entries.new.text.items c.make_room_for_line.new.text.items (begun Two kept) c.in_ok-write_entries.ensures.written c.in_ok-make_room_for_line.ensures.written in
-    let count : c.push_count_line.new.text.items ≡ c.make_room_for_line.new.text.items ++ ended_line (text_of (Steps (length kept))) =
-    c.push_count_line.ensures.items ∙ ap (λ n. c.make_room_for_line.new.text.items ++ ended_line (text_of (Steps n))) c.len.ensures.len in
-    let all = gathered old mid c.make_room_for_line.new.text.items c.push_count_line.new.text.items (ended_line (text_of (Steps (length kept)))) (begun Two kept) (journal_of Two kept)
-    count refl before in
+    let all = made g (goal.at.returns-in_err-flush-clause-part g c).After-push_count_line in
     let text = journal_of Two kept in
     let n : length text ≤ length text = omega arith in (
       length text,
