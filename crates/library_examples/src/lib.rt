@@ -15,4 +15,4 @@ pub use interval_hits::{hits_by_interval, outcomes};
 pub use log::{Log, LogLine};
 pub use log_turn::{AppendFault, append};
 pub use residents::{open_session, residents_at};
-pub use writers::{Written, last_pass, write_log};
+pub use writers::{Written, write_log};
