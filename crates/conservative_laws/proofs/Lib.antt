@@ -12,3 +12,4 @@ pub mod Loads
 pub mod Adversary
 pub mod Online
 pub mod Examples
+pub mod ReportLaws

@@ -2,6 +2,7 @@
 //! theorem.
 ghost use Rattle.conservative_laws.specs.Examples.{FifoAndClockHaveAnomaly};
 ghost use Rattle.conservative_laws.specs.Examples.{SieveIsNotConservative, S3FifoIsNotConservative};
+ghost use Rattle.conservative_laws.specs.ReportLaws.{ReportsObeyLaws};
 ghost use Rattle.conservative_laws.specs.Theorems.{ConservativeCompetes, ConservativeCompetesWithoutBypass};
 ghost use Rattle.conservative_laws.specs.Theorems.{FillingCompetes, FillingCompetesWithoutBypass};
 ghost use Rattle.conservative_laws.specs.Theorems.{LruFifoClockAreConservative, LruFifoClockCompete};
@@ -74,6 +75,19 @@ pub fn lru_fifo_clock_compete_with_any()
     policies::theorems::any_covers_trace();
     optimality::theorems::belady_is_strategy();
     demand_cache::theorems::demand_keeps();
+}
+
+/// So the reports of jobs over a trace, whichever call made them, obey laws that their reader can check: the counts add
+/// up, no policy has more hits than Belady's at its capacity, and Lru, FIFO and CLOCK keep the bound.
+pub fn reports_obey_laws()
+    ensures { ReportsObeyLaws }
+{
+    policies::theorems::stats_add_up();
+    policies::theorems::misses_fit();
+    policy_laws::theorems::no_policy_beats_belady();
+    policy_laws::theorems::lru_hits_grow();
+    policy_laws::theorems::optimal_hits_grow();
+    lru_fifo_clock_compete_with_any();
 }
 
 /// The factor of that bound is exact, and no policy has a smaller one but that which knows the trace: on some traces,

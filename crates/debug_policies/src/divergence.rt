@@ -89,7 +89,8 @@ fn find_parting<R: Threads, G: Gate>(
 // The first access of the last stretch, counted from the first of the trace as 1, at which just one of the caches hit.
 fn parting_in(both: &TwoCaches<'_>) -> Option<u64>
     requires { AreAbreastOfSome both.now }
-    ensures found { OnOutcomes both.now (λ os ps. AgreeBelow (both.now.start + 1) os ps → IfSome result (λ n. IsPart os ps (Some n))) }
+    ensures found { OnOutcomes both.now (λ os ps. AgreeBelow (both.now.start + 1) os ps
+        → IfSome result (λ n. IsPart os ps (Some n))) }
     ensures none { OnOutcomes both.now (λ os ps. AgreeBelow (both.now.start + 1) os ps
         → IfNone result (AgreeBelow (both.now.end + 1) os ps)) }
 {

@@ -1,6 +1,4 @@
-//! The configuration and the jobs of the tests.
-use policies::{ActorFault, Report};
-use std::test::Fail;
+//! The configuration and the job of the tests.
 use step_record::{Config, Job, Policy, Spread};
 
 // A small cache with one read buffer.
@@ -12,44 +10,8 @@ pub(crate) const SMALL: Config = Config {
     journal_limit: 1,
 };
 
-// Lru and Belady's policy with room for two keys.
-pub(crate) const TWO_JOBS: [Job; 2] = [
-    Job {
-        policy: Policy::Lru,
-        config: SMALL,
-    },
-    Job {
-        policy: Policy::Clairvoyant,
-        config: SMALL,
-    },
-];
-
-// Their reports over the accesses 1, 1, 2, 3, 1.
-pub(crate) const TWO_REPORTS: [Report; 2] = [
-    Report {
-        policy: Policy::Lru,
-        capacity: 2,
-        accesses: 5,
-        hits: 1,
-        misses: 4,
-        evictions: 2,
-        rejections: 0,
-    },
-    Report {
-        policy: Policy::Clairvoyant,
-        capacity: 2,
-        accesses: 5,
-        hits: 2,
-        misses: 3,
-        evictions: 1,
-        rejections: 0,
-    },
-];
-
-// A test that gets no reports fails by the fault's name.
-pub(crate) fn failed(fault: ActorFault) -> Fail {
-    match fault {
-        ActorFault::OutOfMemory => Fail::from("OutOfMemory"),
-        _ => Fail::from("refused"),
-    }
-}
+// Lru with room for two keys.
+pub(crate) const LRU: Job = Job {
+    policy: Policy::Lru,
+    config: SMALL,
+};

@@ -11,6 +11,4 @@ mod log_tests;
 #[cfg(test)]
 mod policy_tests;
 #[cfg(test)]
-mod report_tests;
-#[cfg(test)]
 mod run_tests;

@@ -1,6 +1,6 @@
 //! The programs of `library_examples` over a policy.
 use super::assertions::assert_equal;
-use super::jobs::TWO_JOBS;
+use super::jobs::LRU;
 use journal::Session;
 use library_examples::{hits_after, hits_by_interval, open_session, residents_at};
 use policies::AnyPolicy;
@@ -23,7 +23,7 @@ fn hits_after_a_warm_up(rt: HostRuntime) -> Result<(), Fail> {
 
 #[test]
 fn the_hits_of_each_interval(rt: HostRuntime) -> Result<(), Fail> {
-    let lru = &TWO_JOBS[0];
+    let lru = &LRU;
     assert!(rt; lru.config.check().is_ok());
     let trace = Trace::new(vec![in rt.alloc(); 1, 1, 1, 2, 3, 1, 1]?);
     let hits = hits_by_interval(rt.alloc(), lru, &trace, 3)?;
@@ -48,7 +48,7 @@ fn assert_seen(
 
 #[test]
 fn what_was_held_before(rt: HostRuntime) -> Result<(), Fail> {
-    let lru = &TWO_JOBS[0];
+    let lru = &LRU;
     assert!(rt; lru.config.check().is_ok());
     let trace = Trace::new(Vec::new(rt.alloc()));
     let mut session = open_session(rt.alloc(), lru, &trace)?;

@@ -17,4 +17,4 @@ pub use log::{Log, LogLine};
 pub use log_turn::{AppendFault, append};
 pub use residents::{open_session, residents_at};
 pub use warm_hits::hits_after;
-pub use writers::{Written, last_pass, write_log};
+pub use writers::{Written, write_log};

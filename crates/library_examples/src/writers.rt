@@ -86,7 +86,7 @@ fn write_all<G: Gate, R: Threads + Wait + Sync>(
 }
 
 // The last of the passes with its worker, and the others.
-pub fn last_pass(
+fn last_pass(
     book: &TurnBook<Log>,
     mut passes: Vec<Pass<Log>>,
 ) -> (Vec<Pass<Log>>, Option<(Pass<Log>, u8)>)

@@ -8,7 +8,7 @@ use Rattle.policy_laws.specs.Theorems.{NoPolicyBeatsBelady, LruHitsGrow, Optimal
 use Rattle.conservative_laws.specs.Theorems.{LruFifoClockCompeteWithAny}
 use Rattle.policies.specs.declared.report.Report.{Report}
 use Rattle.policies.specs.Reports.{report_on}
-use Rattle.report_laws.specs.ReportLaws.{AddsUp, AreOrdered, ReportsObeyLaws}
+use Rattle.conservative_laws.specs.ReportLaws.{AddsUp, AreOrdered, ReportsObeyLaws}
 
 -- a fact of every job is one of all reports
 of-all : (P : Report → Type 0) (jobs : List Job) (trace : List ℕ) → ((j : Job) → P (report_on j trace)) → All P (map (λ j. report_on j trace) jobs)

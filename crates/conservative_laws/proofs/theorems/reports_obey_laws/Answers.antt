@@ -1,5 +1,5 @@
-use Rattle.report_laws.proofs.ReportLaws.{obey}
-use Rattle.report_laws.proofs.theorems.reports_obey_laws.Goals as goal
+use Rattle.conservative_laws.proofs.ReportLaws.{obey}
+use Rattle.conservative_laws.proofs.theorems.reports_obey_laws.Goals as goal
 
 pub returns : goal.returns
 returns c =
