@@ -27,19 +27,19 @@ module _ (t : By.Queues) (s : List (List CountedKey)) (h : Shows t s) (u : IsSou
   popped-newest t2 last after =
       let o : IsNewestEntry e (queue_of q s) = newest-in t s h q e last in
       rw (newest-left e (queue_of q s) o) (subst (λ l. Shows t2 (with_queue q l s)) (append-nil o.before)
-        (removed t s h u e.item.key e.count q (newest-standing t s h q e low o) t2 g.item (item-is o.item) after))
+      (removed t s h u e.item.key e.count q (newest-standing t s h q e low o) t2 g.item (item-is o.item) after))
 
   pub turned : (t2 : By.Queues) (m : ℕ) → oldest_of (t q) ≡ Some e → suc m ≡ e.count → t2 ≡ By.after_send (entry g.item m) q t → Shows t2 (with_queue q (after_turn (queue_of q s)) s)
   turned t2 m first less after =
       let o : IsOldestEntry e (queue_of q s) = oldest-in t s h q e first in
       subst (Shows t2) (turned-queues e.item.key e.count m q s o.behind h.five low o.whole less)
-        (sent t s h u e.item.key e.count q (oldest-standing t s h q e low o) t2 g.item m q (item-is o.item) low after)
+      (sent t s h u e.item.key e.count q (oldest-standing t s h q e low o) t2 g.item m q (item-is o.item) low after)
 
   pub unturned : (t2 : By.Queues) → newest_of (t q) ≡ Some e → t2 ≡ By.after_return q None (entry g.item (e.count + 1)) (By.after_removal g.item t) → Shows t2 (with_queue q (before_turn (queue_of q s)) s)
   unturned t2 last after =
       let o : IsNewestEntry e (queue_of q s) = newest-in t s h q e last in
       subst (Shows t2) (returned-queues e.item.key e.count (e.count + 1) q s o.before h.five low o.whole refl)
-        (sent-front t s h u e.item.key e.count q (newest-standing t s h q e low o) t2 g.item (e.count + 1) q (item-is o.item) low after)
+      (sent-front t s h u e.item.key e.count q (newest-standing t s h q e low o) t2 g.item (e.count + 1) q (item-is o.item) low after)
 
   pub gap-unturned : (newer : Option Item) → newest_of (t q) ≡ Some e → newer ≡ item_at (first_or None (counted_without e.item.key (queue_of q s))) → IsGap None newer (By.after_removal g.item t q)
   gap-unturned newer last is =
