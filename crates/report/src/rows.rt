@@ -26,7 +26,7 @@ pub fn write_reports<W: CountedWrite>(
     ensures part { result ≡ Err WriteFault.Write
         → AppendsPart (W.contents writer.old) (W.contents writer.new) (reports_text reports.now) }
     ensures flushed { OnOk result (W.is_flushed writer.new ≡ true) }
-    // `Write` comes just where a write or the flush failed, or the millionth was interrupted.
+    // `Write` comes exactly where a write or the flush failed, or the millionth was interrupted.
     ensures tally { FailsWhere (result ≡ Err WriteFault.Write) (W.tally writer.old) (W.tally writer.new) }
 {
     let text = reports_text(alloc, reports)?;

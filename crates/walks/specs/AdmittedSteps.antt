@@ -23,7 +23,7 @@ AdmitsWalks perform count w n x =
     (es : Entries) → IsLegal perform x es → (a : Act) → MayMake w n (entries_of w es) a
     → count (data_after perform x es) < MAX_STEPS → perform (data_after perform x es) (step_of w a) ≢ None
 
--- From x on, after any legal entries of which those of the step's worker are its own, the machine takes the step.
+-- From x on, after any legal entries whose part by the step's worker is `own`, the machine takes the step.
 abbrev pub AdmitsNext : {D : Type 0} → (D → Step → Option (Reply × D)) → (D → ℕ) → D → Entries → Step → Type 0
 AdmitsNext perform count x own step =
     (es : Entries) → IsLegal perform x es → entries_of step.worker es ≡ own
