@@ -1,10 +1,11 @@
 -- A record of fields that want no quotes is written as they are, between commas.
-use Rattle.std.proofs.Common.{◌≡◌, ◌∙◌, ◌<◌, ◌≤◌, ◌^◌, ◌/◌, ◌%◌, ◌==◌, ℕ, false, List, [], ◌∷◌, ◌++◌, refl, ap, arith}
+use Rattle.std.proofs.Common.{◌≡◌, ◌∙◌, ◌<◌, ◌≤◌, ◌^◌, ◌/◌, ◌%◌, ◌==◌, ℕ, false, List, [], ◌∷◌, ◌++◌, Option, Some, refl, ap, subst, arith}
 use Rattle.std.proofs.lemmas.List.{append-nil}
 use Rattle.std.proofs.lemmas.List.Folds.{list_any-append}
 use Rattle.std.proofs.lemmas.Bool.{ne_eqb, or_from}
 use Rattle.std.proofs.lemmas.Str.Parse.{digit_from_value}
 use Rattle.std.proofs.lemmas.Fmt.{decimal_is_IsNumeral_wide}
+use Rattle.std.specs.Io.KnownBytes.{Keeps}
 use Rattle.std.specs.List.{join_with_byte, list_any}
 use Rattle.std.specs.Fmt.{decimal}
 use Rattle.std.specs.Str.Parse.{AllDigits}
@@ -36,6 +37,10 @@ body f (g ∷ gs) h = ap (λ t. t ++ (44 ∷ row_body default_writer (g ∷ gs))
 pub plain_row : (f g : List ℕ) (fs : List (List ℕ)) → AllPlain (f ∷ g ∷ fs) → row_text default_writer (f ∷ g ∷ fs) ≡ line_text (f ∷ g ∷ fs)
 unfolding line_text is_blank
 plain_row f g fs h = ap (λ t. t ++ 10 ∷ []) (body f (g ∷ fs) h)
+
+-- what a writer kept of known bytes
+pub kept : (old : Option (List ℕ)) (x y : List ℕ) → old ≡ Some x → Keeps old (Some y) → y ≡ x
+kept old x y is h = let k : Keeps (Some x) (Some y) = subst (λ (o : Option (List ℕ)). Keeps o (Some y)) is h in k
 
 -- ---- which fields want no quotes
 

@@ -3,8 +3,7 @@ ghost use Rattle.std.specs.Prelude.{IfOk, OnOk, ◌≡◌};
 ghost use Rattle.std.specs.Io.KnownBytes.{Appends};
 ghost use Rattle.csv.specs.Writing.{text_written};
 ghost use Rattle.report.specs.ReadyWriter.{IsWriterReady};
-ghost use Rattle.report.specs.IntervalText.{interval_header, interval_line, intervals_text};
-ghost use Rattle.report.specs.Text.{line_text};
+ghost use Rattle.report.specs.IntervalText.{interval_line, intervals_text};
 
 use super::Interval;
 use crate::rows::{number_text, rate_text, write_row};
@@ -17,23 +16,7 @@ pub fn intervals_text(alloc: Global, intervals: &[Interval]) -> Result<Vec<u8>, 
     ensures { IfOk result (λ v. v.items ≡ intervals_text intervals.now) }
 {
     let mut writer = WriterBuilder::new().from_writer(Vec::new(alloc));
-    write_interval_header(&mut writer)?;
-    for interval in intervals {
-        write_interval(alloc, &mut writer, interval)?;
-    }
-    match writer.into_inner() {
-        Ok(text) => Ok(text),
-        Err(_) => Err(AllocError),
-    }
-}
-
-// Writes the names of the fields.
-fn write_interval_header<W: Write + Drop>(writer: &mut Writer<W>) -> Result<(), AllocError>
-    ensures ready { IsWriterReady writer.old → OnOk result (IsWriterReady writer.new) }
-    ensures text { IsWriterReady writer.old → OnOk result (Appends (text_written W.contents writer.old)
-        (text_written W.contents writer.new) (line_text interval_header)) }
-{
-    let fields = [
+    let names = [
         "policy".as_bytes(),
         "capacity".as_bytes(),
         "first".as_bytes(),
@@ -44,7 +27,14 @@ fn write_interval_header<W: Write + Drop>(writer: &mut Writer<W>) -> Result<(), 
         "rejections".as_bytes(),
         "rate".as_bytes(),
     ];
-    write_row(writer, fields.as_slice())
+    write_row(&mut writer, names.as_slice())?;
+    for interval in intervals {
+        write_interval(alloc, &mut writer, interval)?;
+    }
+    match writer.into_inner() {
+        Ok(text) => Ok(text),
+        Err(_) => Err(AllocError),
+    }
 }
 
 // Writes the fields of an interval.

@@ -4,7 +4,7 @@ ghost use Rattle.std.specs.Fmt.{decimal};
 ghost use Rattle.std.specs.Io.KnownBytes.{Appends};
 ghost use Rattle.csv.specs.Writing.{default_writer, row_text, text_written};
 ghost use Rattle.report.specs.ReadyWriter.{IsWriterReady};
-ghost use Rattle.report.specs.Text.{header_fields, line_text, rate_text_of, report_line, reports_text};
+ghost use Rattle.report.specs.Text.{rate_text_of, report_line, reports_text};
 ghost use Rattle.streams.specs.Part.{AppendsPart};
 ghost use Rattle.streams.specs.Tally.{FailsWhere};
 
@@ -26,7 +26,7 @@ pub fn write_reports<W: CountedWrite>(
     ensures part { result ≡ Err WriteFault.Write
         → AppendsPart (W.contents writer.old) (W.contents writer.new) (reports_text reports.now) }
     ensures flushed { OnOk result (W.is_flushed writer.new ≡ true) }
-    // `Write` comes just where a write or the flush failed, or the millionth was interrupted.
+    // `Write` comes exactly where a write or the flush failed, or the millionth was interrupted.
     ensures tally { FailsWhere (result ≡ Err WriteFault.Write) (W.tally writer.old) (W.tally writer.new) }
 {
     let text = reports_text(alloc, reports)?;
@@ -39,7 +39,17 @@ pub fn reports_text(alloc: Global, reports: &[Report]) -> Result<Vec<u8>, AllocE
     ensures { IfOk result (λ v. v.items ≡ reports_text reports.now) }
 {
     let mut writer = WriterBuilder::new().from_writer(Vec::new(alloc));
-    write_header(&mut writer)?;
+    let names = [
+        "policy".as_bytes(),
+        "capacity".as_bytes(),
+        "accesses".as_bytes(),
+        "hits".as_bytes(),
+        "misses".as_bytes(),
+        "evictions".as_bytes(),
+        "rejections".as_bytes(),
+        "rate".as_bytes(),
+    ];
+    write_row(&mut writer, names.as_slice())?;
     for report in reports {
         write_report(alloc, &mut writer, report)?;
     }
@@ -79,25 +89,6 @@ pub fn write_row<W: Write + Drop>(
         Ok(()) => Ok(()),
         Err(_) => Err(AllocError),
     }
-}
-
-// Writes the names of the fields.
-fn write_header<W: Write + Drop>(writer: &mut Writer<W>) -> Result<(), AllocError>
-    ensures ready { IsWriterReady writer.old → OnOk result (IsWriterReady writer.new) }
-    ensures text { IsWriterReady writer.old → OnOk result (Appends (text_written W.contents writer.old)
-        (text_written W.contents writer.new) (line_text header_fields)) }
-{
-    let fields = [
-        "policy".as_bytes(),
-        "capacity".as_bytes(),
-        "accesses".as_bytes(),
-        "hits".as_bytes(),
-        "misses".as_bytes(),
-        "evictions".as_bytes(),
-        "rejections".as_bytes(),
-        "rate".as_bytes(),
-    ];
-    write_row(writer, fields.as_slice())
 }
 
 // Writes the fields of a report.

@@ -10,8 +10,7 @@ use Rattle.shell_model.specs.declared.record.ShellRecord.{ShellRecord}
 use Rattle.shell_model.specs.declared.record.Change.{Change}
 use Rattle.shell_model.specs.declared.record.Change.TheVariants.{Nothing, Offered, Updated, Added, Removed, Requested, Began, Read, Passed, Applied, Cleared, Evicted, Ended}
 use Rattle.shell_model.specs.Shell.{Shell, act_effect, counted_reply, act}
-use Rattle.shell_model.specs.ShellStats.{shell_stats_after, shell_stats_before, counted_of, IsCounted, is_hit_reply, is_miss_reply, is_kept_reply, is_full_reply, is_lost_reply, is_added_reply, is_updated_reply, is_refused_reply, is_eviction_reply, is_rejection_reply, is_begun_reply, is_busy_reply, is_removed_reply}
-use Rattle.step_record.specs.Stats.{one_if}
+use Rattle.shell_model.specs.ShellStats.{shell_stats_after, shell_stats_before, counted_of, IsCounted}
 use Rattle.shell_model.specs.Records.{before_change, FitsChange, undone_step, FitsStep, change_of}
 use Rattle.shell_model.specs.Consistency.{IsConsistent}
 use Rattle.shell_model.proofs.Undoing.{GoesTo, perform-goes}
@@ -20,49 +19,9 @@ plus-less : (a b : ℕ) → a + b - b ≡ a
 plus-less a b = omega arith
 
 -- what the reply added is taken away again
-stats-less : Reply → ShellStats → ShellStats
-stats-less r s = record {
-  hits = s.hits - one_if (is_hit_reply r);
-  misses = s.misses - one_if (is_miss_reply r);
-  kept = s.kept - one_if (is_kept_reply r);
-  full = s.full - one_if (is_full_reply r);
-  lost = s.lost - one_if (is_lost_reply r);
-  added = s.added - one_if (is_added_reply r);
-  updated = s.updated - one_if (is_updated_reply r);
-  refused = s.refused - one_if (is_refused_reply r);
-  evictions = s.evictions - one_if (is_eviction_reply r);
-  rejections = s.rejections - one_if (is_rejection_reply r);
-  begun = s.begun - one_if (is_begun_reply r);
-  busy = s.busy - one_if (is_busy_reply r);
-  removed = s.removed - one_if (is_removed_reply r);
-}
-
-by-count : (r : Reply) (s : ShellStats) → shell_stats_before (counted_of r) s ≡ stats-less r s
-unfolding stats-less
-by-count (reply.Hit n) s = simp unary_clauses
-by-count _ s = simp unary_clauses
-
-uncounted-less : (r : Reply) (s : ShellStats) → stats-less r (shell_stats_after r s) ≡ s
-unfolding stats-less
-uncounted-less r s =
-    rw (
-      plus-less s.hits (one_if (is_hit_reply r)),
-      plus-less s.misses (one_if (is_miss_reply r)),
-      plus-less s.kept (one_if (is_kept_reply r)),
-      plus-less s.full (one_if (is_full_reply r)),
-      plus-less s.lost (one_if (is_lost_reply r)),
-      plus-less s.added (one_if (is_added_reply r)),
-      plus-less s.updated (one_if (is_updated_reply r)),
-      plus-less s.refused (one_if (is_refused_reply r)),
-      plus-less s.evictions (one_if (is_eviction_reply r)),
-      plus-less s.rejections (one_if (is_rejection_reply r)),
-      plus-less s.begun (one_if (is_begun_reply r)),
-      plus-less s.busy (one_if (is_busy_reply r)),
-      plus-less s.removed (one_if (is_removed_reply r)),
-    ) refl
-
 pub uncounted-counted : (r : Reply) (s : ShellStats) → shell_stats_before (counted_of r) (shell_stats_after r s) ≡ s
-uncounted-counted r s = by-count r (shell_stats_after r s) ∙ uncounted-less r s
+uncounted-counted (reply.Hit n) s = simp unary_clauses
+uncounted-counted _ s = simp unary_clauses
 
 pub counted-fits : (r : Reply) (s : ShellStats) → IsCounted (counted_of r) (shell_stats_after r s)
 counted-fits (reply.Rejected i) s = (omega arith, omega arith)
@@ -81,49 +40,18 @@ counted-fits reply.Busy s = omega arith
 counted-fits _ s = tt
 
 tallied-fits : (c : Change) (y : Shell) (s : ShellStats) (n : ℕ) → FitsChange c y → FitsChange c record y { stats = s; applied = n }
-tallied-fits Nothing y s n h = tt
-tallied-fits (Offered k i) y s n h = h
-tallied-fits (Updated i) y s n h = h
-tallied-fits (Added i) y s n h = h
-tallied-fits (Removed i) y s n h = h
-tallied-fits (Requested b c) y s n h = h
-tallied-fits (Began w b) y s n h = h
 tallied-fits (Read k i t) y s n h = (record { moves = h.0.moves; frequency = h.0.frequency; stays = h.0.stays }, h.1, h.2)
-tallied-fits (Passed b c) y s n h = h
 tallied-fits (Applied b q i t) y s n h = (record { moves = h.0.moves; frequency = h.0.frequency; stays = h.0.stays }, h.1, h.2, h.3)
-tallied-fits (Cleared b i r) y s n h = h
 tallied-fits (Evicted b g) y s n h = (record { moves = h.0.moves; table = h.0.table }, h.1)
-tallied-fits (Ended k b c) y s n h = h
+tallied-fits _ y s n h = h
 
 tallied-back : (c : Change) (y : Shell) (s : ShellStats) (n : ℕ) → before_change c record y { stats = s; applied = n } ≡ record (before_change c y) { stats = s; applied = n }
 tallied-back Nothing y s n = refl
-tallied-back (Offered k i) y s n = refl
-tallied-back (Updated i) y s n = refl
-tallied-back (Added i) y s n = refl
-tallied-back (Removed i) y s n = refl
-tallied-back (Requested b c) y s n = refl
-tallied-back (Began w b) y s n = refl
-tallied-back (Read k i t) y s n = refl
-tallied-back (Passed b c) y s n = refl
-tallied-back (Applied b q i t) y s n = refl
-tallied-back (Cleared b i r) y s n = refl
-tallied-back (Evicted b g) y s n = refl
-tallied-back (Ended k b c) y s n = refl
+tallied-back _ y s n = refl
 
 pub same-tally : (c : Change) (y : Shell) → record (before_change c y) { stats = y.stats; applied = y.applied } ≡ before_change c y
 same-tally Nothing y = refl
-same-tally (Offered k i) y = refl
-same-tally (Updated i) y = refl
-same-tally (Added i) y = refl
-same-tally (Removed i) y = refl
-same-tally (Requested b c) y = refl
-same-tally (Began w b) y = refl
-same-tally (Read k i t) y = refl
-same-tally (Passed b c) y = refl
-same-tally (Applied b q i t) y = refl
-same-tally (Cleared b i r) y = refl
-same-tally (Evicted b g) y = refl
-same-tally (Ended k b c) y = refl
+same-tally _ y = refl
 
 abbrev pub IsUndone : Change → Shell → Option (Reply × Shell) → Type 0
 IsUndone c x None = Unit {0}

@@ -10,8 +10,9 @@ use Rattle.step_record.specs.History.{next_data, data_after, IsLegal}
 use Rattle.admission.specs.Shape.{Shape, IsShape}
 use Rattle.admission.specs.Frequency.{FrequencyData, frequency_of, frequency_with as recorded_key}
 use Rattle.shell_model.specs.Frequency.{frequency_recorded}
+use Rattle.shell_model.specs.declared.stats.Counted.TheVariants as counted
 use Rattle.shell_model.specs.declared.stats.ShellStats.{ShellStats}
-use Rattle.shell_model.specs.ShellStats.{shell_stats_after, AreAtMost, is_hit_reply, is_miss_reply, is_kept_reply, is_full_reply, is_lost_reply, is_added_reply, is_updated_reply, is_refused_reply, is_eviction_reply, is_rejection_reply, is_begun_reply, is_busy_reply, is_removed_reply}
+use Rattle.shell_model.specs.ShellStats.{shell_stats_after, AreAtMost, raises}
 use Rattle.step_record.specs.Stats.{one_if}
 use Rattle.shell_model.specs.Shell.{Shell, act}
 use Rattle.shell_model.specs.Laws.{MadeStep, IsShapeOf, empty_shell}
@@ -53,19 +54,19 @@ up false m n h = omega (arith, h)
 
 counted-most : (r : Reply) (s : ShellStats) (n : ℕ) → AreAtMost n s → AreAtMost (n + 1) (shell_stats_after r s)
 counted-most r s n h = record {
-  hits = up (is_hit_reply r) s.hits n h.hits;
-  misses = up (is_miss_reply r) s.misses n h.misses;
-  kept = up (is_kept_reply r) s.kept n h.kept;
-  full = up (is_full_reply r) s.full n h.full;
-  lost = up (is_lost_reply r) s.lost n h.lost;
-  added = up (is_added_reply r) s.added n h.added;
-  updated = up (is_updated_reply r) s.updated n h.updated;
-  refused = up (is_refused_reply r) s.refused n h.refused;
-  evictions = up (is_eviction_reply r) s.evictions n h.evictions;
-  rejections = up (is_rejection_reply r) s.rejections n h.rejections;
-  begun = up (is_begun_reply r) s.begun n h.begun;
-  busy = up (is_busy_reply r) s.busy n h.busy;
-  removed = up (is_removed_reply r) s.removed n h.removed;
+  hits = up (raises counted.Hit r) s.hits n h.hits;
+  misses = up (raises counted.Miss r) s.misses n h.misses;
+  kept = up (raises counted.Kept r) s.kept n h.kept;
+  full = up (raises counted.Full r) s.full n h.full;
+  lost = up (raises counted.Lost r) s.lost n h.lost;
+  added = up (raises counted.Added r) s.added n h.added;
+  updated = up (raises counted.Updated r) s.updated n h.updated;
+  refused = up (raises counted.Refused r) s.refused n h.refused;
+  evictions = up (raises counted.Evicted r) s.evictions n h.evictions;
+  rejections = up (raises counted.Rejected r) s.rejections n h.rejections;
+  begun = up (raises counted.Began r) s.begun n h.begun;
+  busy = up (raises counted.Busy r) s.busy n h.busy;
+  removed = up (raises counted.Removed r) s.removed n h.removed;
 }
 
 pub most-more : (m n : ℕ) (s : ShellStats) → m ≤ n → AreAtMost m s → AreAtMost n s

@@ -13,7 +13,11 @@ use Rattle.admission.specs.Shape.{Shape, IsShape}
 use Rattle.admission.proofs.Doors.{part_16}
 use Rattle.admission.proofs.Weighing.{frequency_is}
 use Rattle.shell_model.specs.declared.holder.Holder.{Holder}
-use Rattle.shell_model.specs.ShellStats.{is_hit_reply, is_miss_reply, is_kept_reply, is_full_reply, is_lost_reply, is_added_reply, is_updated_reply, is_refused_reply, is_eviction_reply, is_rejection_reply, is_begun_reply, is_busy_reply, is_removed_reply}
+use Rattle.step_record.specs.Stats.{one_if}
+use Rattle.shell_model.specs.declared.stats.Counted.{Counted}
+use Rattle.shell_model.specs.declared.stats.ShellStats.{ShellStats}
+use Rattle.shell_model.specs.declared.stats.Counted.TheVariants as counted
+use Rattle.shell_model.specs.ShellStats.{count_of, raises, shell_stats_after}
 use Rattle.shell_buffers.specs.Buffers.{stripe_at}
 use Rattle.shell_model.specs.Shell.{Shell, may_write, act}
 use Rattle.shell_model.specs.Consistency.{IsConsistent}
@@ -62,7 +66,7 @@ evict-seat : (w : ℕ) (r : Reply) (h : Holder) (o : Option Holder) (es : List M
 evict-seat w r h o es f = rw f (ap (λ (p : Phase). Some (h.worker, p)) (from-evictions Reads Reads (some_act is_evict es)))
 
 holder-step : (x : Shell) (w : ℕ) (b : Act) (r : Reply) (y : Shell) → Makes w x b r y → (es : List MadeStep)
-    → later None false (seat_of y.holder) es ≡ later (cond (is_begun_reply r) (Some (w, es)) None) (is_ending r) (seat_of x.holder) (made_of w b r ∷ es)
+    → later None false (seat_of y.holder) es ≡ later (cond (raises counted.Began r) (Some (w, es)) None) (is_ending r) (seat_of x.holder) (made_of w b r ∷ es)
 holder-step x w b r y (k.began e) es = ap (λ (p : Phase). Some (w, p)) refl
 holder-step x w b r y (k.write_empty h f g) es = write-seat w reply.Empty h x.holder es f g
 holder-step x w b r y (k.enough h f g) es = write-seat w reply.Enough h x.holder es f g
@@ -79,17 +83,17 @@ holder-step x w b r y made es = same-seat (seat_of x.holder) w b r es refl refl
 
 -- what came before the entries follows from what they say of a holder
 join : (e : MadeStep) (es : List MadeStep) (q : Option (ℕ × List MadeStep)) (t : Bool) (o u : Option (ℕ × Phase)) → t ≡ some_end es
-    → (later None false u es ≡ later (cond (is_begun_reply e.reply) (Some (e.step.worker, es)) None) (is_ending e.reply) o (e ∷ es))
+    → (later None false u es ≡ later (cond (raises counted.Began e.reply) (Some (e.step.worker, es)) None) (is_ending e.reply) o (e ∷ es))
     → later q t u es ≡ later (open_from e es q) (cond (is_ending e.reply) true t) o (e ∷ es)
 join e es (Some p) t o u h i = refl
-join e es None true o u h i = rw (← h) (over (is_begun_reply e.reply) (is_ending e.reply))
+join e es None true o u h i = rw (← h) (over (raises counted.Began e.reply) (is_ending e.reply))
   where
     over : (c d : Bool) → None ≡ later (cond c (cond true None (Some (e.step.worker, es))) None) (cond d true true) o (e ∷ es)
     over true true = refl
     over true false = refl
     over false true = refl
     over false false = refl
-join e es None false o u h i = i ∙ rw (← h) (over (is_begun_reply e.reply) (is_ending e.reply))
+join e es None false o u h i = i ∙ rw (← h) (over (raises counted.Began e.reply) (is_ending e.reply))
   where
     over : (c d : Bool) → later (cond c (Some (e.step.worker, es)) None) d o (e ∷ es) ≡ later (cond c (cond false None (Some (e.step.worker, es))) None) (cond d true false) o (e ∷ es)
     over true true = refl
@@ -143,25 +147,18 @@ opened-sound c sh k = record {
   frequency = frequency_is sh [] (omega (arith, k.is.width.1)) (sixteenths sh k.is) (omega (arith, k.is.size.1));
 }
 
+count-raised : (k : Counted) (r : Reply) (s : ShellStats) → count_of k (shell_stats_after r s) ≡ count_of k s + one_if (raises k r)
+count-raised counted.Nothing r s = refl
+count-raised _ r s = refl
+
+none-counted : (c : Config) (sh : Shape) (k : Counted) → count_of k (empty_shell c sh).stats ≡ 0
+none-counted c sh counted.Nothing = refl
+none-counted c sh _ = refl
+
 pub replies-law : (c : Config) (sh : Shape) (es : List MadeStep) → IsLegal act (empty_shell c sh) es → AreReplies (data_after act (empty_shell c sh) es).stats es
-replies-law c sh es l = record {
-  hits = stats-law (λ s. s.hits) is_hit_reply (λ r s. refl) (empty_shell c sh) es l ∙ zero-plus _;
-  misses = stats-law (λ s. s.misses) is_miss_reply (λ r s. refl) (empty_shell c sh) es l ∙ zero-plus _;
-  kept = stats-law (λ s. s.kept) is_kept_reply (λ r s. refl) (empty_shell c sh) es l ∙ zero-plus _;
-  full = stats-law (λ s. s.full) is_full_reply (λ r s. refl) (empty_shell c sh) es l ∙ zero-plus _;
-  lost = stats-law (λ s. s.lost) is_lost_reply (λ r s. refl) (empty_shell c sh) es l ∙ zero-plus _;
-  added = stats-law (λ s. s.added) is_added_reply (λ r s. refl) (empty_shell c sh) es l ∙ zero-plus _;
-  updated = stats-law (λ s. s.updated) is_updated_reply (λ r s. refl) (empty_shell c sh) es l ∙ zero-plus _;
-  refused = stats-law (λ s. s.refused) is_refused_reply (λ r s. refl) (empty_shell c sh) es l ∙ zero-plus _;
-  evictions = stats-law (λ s. s.evictions) is_eviction_reply (λ r s. refl) (empty_shell c sh) es l ∙ zero-plus _;
-  rejections = stats-law (λ s. s.rejections) is_rejection_reply (λ r s. refl) (empty_shell c sh) es l ∙ zero-plus _;
-  begun = stats-law (λ s. s.begun) is_begun_reply (λ r s. refl) (empty_shell c sh) es l ∙ zero-plus _;
-  busy = stats-law (λ s. s.busy) is_busy_reply (λ r s. refl) (empty_shell c sh) es l ∙ zero-plus _;
-  removed = stats-law (λ s. s.removed) is_removed_reply (λ r s. refl) (empty_shell c sh) es l ∙ zero-plus _;
-}
-  where
-    zero-plus : (n : ℕ) → 0 + n ≡ n
-    zero-plus n = omega arith
+replies-law c sh es l k =
+    let counted = stats-law (count_of k) (raises k) (count-raised k) (empty_shell c sh) es l in
+    omega (arith, counted, none-counted c sh k)
 
 pub history-laws : HistoryLaws
 history-laws c sh es k l =

@@ -23,11 +23,10 @@ use Rattle.shell_model.specs.declared.stats.ShellStats.{ShellStats}
 use Rattle.shell_buffers.specs.declared.task.Task.{Task}
 use Rattle.shell_buffers.specs.declared.task.Task.TheVariants.{Add, Update, Remove}
 use Rattle.shell_model.specs.declared.holder.Holder.{Holder}
-use Rattle.shell_model.specs.ShellStats.{is_hit_reply, is_miss_reply, is_kept_reply, is_full_reply, is_lost_reply}
-use Rattle.shell_model.specs.ShellStats.{is_added_reply, is_updated_reply}
+use Rattle.shell_model.specs.declared.stats.Counted.{Counted}
+use Rattle.shell_model.specs.declared.stats.Counted.TheVariants as counted
+use Rattle.shell_model.specs.ShellStats.{count_of, raises}
 use Rattle.step_record.specs.Stats.{one_if}
-use Rattle.shell_model.specs.ShellStats.{is_refused_reply, is_eviction_reply, is_rejection_reply, is_begun_reply}
-use Rattle.shell_model.specs.ShellStats.{is_busy_reply, is_removed_reply}
 use Rattle.shell_buffers.specs.Buffers.{stripe_at}
 use Rattle.replacement.specs.Rules.{main_size}
 use Rattle.shell_model.specs.Shell.{Shell, act}
@@ -159,7 +158,7 @@ phase_after p es = cond (some_act is_evict es) Evictions (cond (some_act is_drai
 -- the worker whose Began is the last that no Idle or Again follows, and what came since
 abbrev pub open_from : MadeStep → List MadeStep → Option (ℕ × List MadeStep) → Option (ℕ × List MadeStep)
 open_from e es (Some p) = Some p
-open_from e es None = cond (is_begun_reply e.reply) (cond (some_end es) None (Some (e.step.worker, es))) None
+open_from e es None = cond (raises counted.Began e.reply) (cond (some_end es) None (Some (e.step.worker, es))) None
 
 abbrev pub open_began : List MadeStep → Option (ℕ × List MadeStep)
 open_began [] = None
@@ -178,21 +177,9 @@ seat_from (Some p) = Some (p.0, phase_after Reads p.1)
 
 -- the laws
 
--- each statistic is the number of the replies that it counts
-pub record AreReplies (s : ShellStats) (es : List MadeStep) : Type 0 where
-  pub hits : s.hits ≡ tally (λ b r. one_if (is_hit_reply r)) es
-  pub misses : s.misses ≡ tally (λ b r. one_if (is_miss_reply r)) es
-  pub kept : s.kept ≡ tally (λ b r. one_if (is_kept_reply r)) es
-  pub full : s.full ≡ tally (λ b r. one_if (is_full_reply r)) es
-  pub lost : s.lost ≡ tally (λ b r. one_if (is_lost_reply r)) es
-  pub added : s.added ≡ tally (λ b r. one_if (is_added_reply r)) es
-  pub updated : s.updated ≡ tally (λ b r. one_if (is_updated_reply r)) es
-  pub refused : s.refused ≡ tally (λ b r. one_if (is_refused_reply r)) es
-  pub evictions : s.evictions ≡ tally (λ b r. one_if (is_eviction_reply r)) es
-  pub rejections : s.rejections ≡ tally (λ b r. one_if (is_rejection_reply r)) es
-  pub begun : s.begun ≡ tally (λ b r. one_if (is_begun_reply r)) es
-  pub busy : s.busy ≡ tally (λ b r. one_if (is_busy_reply r)) es
-  pub removed : s.removed ≡ tally (λ b r. one_if (is_removed_reply r)) es
+-- each statistic is the number of the replies that raise it
+abbrev pub AreReplies : ShellStats → List MadeStep → Type 0
+AreReplies s es = (c : Counted) → count_of c s ≡ tally (λ b r. one_if (raises c r)) es
 
 -- after the entries, from the empty state, the state is x
 pub record IsHistory (s : Shape) (es : List MadeStep) (x : Shell) : Type 0 where

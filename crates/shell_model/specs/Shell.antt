@@ -147,9 +147,6 @@ begin_effect w (Some h) x = (Busy, x)
 begin_effect w None x =
     (Began, record x { drain = drain.ToIdle; holder = Some record { worker = w; phase = Reads; left = MAX_TASKS } })
 
-abbrev pub recording : ℕ → Shell → Shell
-recording k x = record x { frequency = frequency_recorded x.frequency k }
-
 abbrev pub shell_after_touch : Item → Shell → Shell
 shell_after_touch i x =
     record x {

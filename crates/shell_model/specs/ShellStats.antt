@@ -8,74 +8,56 @@ use Rattle.shell_model.specs.declared.stats.Counted.{Counted}
 use Rattle.shell_model.specs.declared.stats.Counted.TheVariants as counted
 use Rattle.shell_model.specs.declared.stats.ShellStats.{ShellStats}
 
-abbrev pub is_hit_reply : Reply → Bool
-is_hit_reply (Hit n) = true
-is_hit_reply r = false
+-- the count of one kind
+abbrev pub count_of : Counted → ShellStats → ℕ
+count_of counted.Nothing s = 0
+count_of counted.Hit s = s.hits
+count_of counted.Miss s = s.misses
+count_of counted.Kept s = s.kept
+count_of counted.Full s = s.full
+count_of counted.Lost s = s.lost
+count_of counted.Added s = s.added
+count_of counted.Updated s = s.updated
+count_of counted.Refused s = s.refused
+count_of counted.Removed s = s.removed
+count_of counted.Evicted s = s.evictions
+count_of counted.Rejected s = s.rejections
+count_of counted.Began s = s.begun
+count_of counted.Busy s = s.busy
 
-abbrev pub is_miss_reply : Reply → Bool
-is_miss_reply Miss = true
-is_miss_reply r = false
-
-abbrev pub is_kept_reply : Reply → Bool
-is_kept_reply Kept = true
-is_kept_reply r = false
-
-abbrev pub is_full_reply : Reply → Bool
-is_full_reply Full = true
-is_full_reply r = false
-
-abbrev pub is_lost_reply : Reply → Bool
-is_lost_reply Lost = true
-is_lost_reply r = false
-
-abbrev pub is_added_reply : Reply → Bool
-is_added_reply (Added n) = true
-is_added_reply r = false
-
-abbrev pub is_updated_reply : Reply → Bool
-is_updated_reply (Present n) = true
-is_updated_reply r = false
-
-abbrev pub is_refused_reply : Reply → Bool
-is_refused_reply WritesFull = true
-is_refused_reply r = false
-
-abbrev pub is_eviction_reply : Reply → Bool
-is_eviction_reply (Evicted i) = true
-is_eviction_reply (Rejected i) = true
-is_eviction_reply r = false
-
-abbrev pub is_rejection_reply : Reply → Bool
-is_rejection_reply (Rejected i) = true
-is_rejection_reply r = false
-
-abbrev pub is_begun_reply : Reply → Bool
-is_begun_reply Began = true
-is_begun_reply r = false
-
-abbrev pub is_busy_reply : Reply → Bool
-is_busy_reply Busy = true
-is_busy_reply r = false
-
-abbrev pub is_removed_reply : Reply → Bool
-is_removed_reply (Removed n) = true
-is_removed_reply r = false
+-- whether a reply raises that count: an item that is rejected is evicted too
+abbrev pub raises : Counted → Reply → Bool
+raises counted.Hit (Hit n) = true
+raises counted.Miss Miss = true
+raises counted.Kept Kept = true
+raises counted.Full Full = true
+raises counted.Lost Lost = true
+raises counted.Added (Added n) = true
+raises counted.Updated (Present n) = true
+raises counted.Refused WritesFull = true
+raises counted.Removed (Removed n) = true
+raises counted.Evicted (Evicted i) = true
+raises counted.Evicted (Rejected i) = true
+raises counted.Rejected (Rejected i) = true
+raises counted.Began Began = true
+raises counted.Busy Busy = true
+raises c r = false
 
 abbrev pub shell_stats_after : Reply → ShellStats → ShellStats
 shell_stats_after r s = record {
-  hits = s.hits + one_if (is_hit_reply r);
-  misses = s.misses + one_if (is_miss_reply r);
-  kept = s.kept + one_if (is_kept_reply r);
-  full = s.full + one_if (is_full_reply r);
-  lost = s.lost + one_if (is_lost_reply r);
-  added = s.added + one_if (is_added_reply r);
-  updated = s.updated + one_if (is_updated_reply r);
-  refused = s.refused + one_if (is_refused_reply r);
-  evictions = s.evictions + one_if (is_eviction_reply r);
-  rejections = s.rejections + one_if (is_rejection_reply r);
-  begun = s.begun + one_if (is_begun_reply r);
-  busy = s.busy + one_if (is_busy_reply r);
-  removed = s.removed + one_if (is_removed_reply r);
+  hits = s.hits + one_if (raises counted.Hit r);
+  misses = s.misses + one_if (raises counted.Miss r);
+  kept = s.kept + one_if (raises counted.Kept r);
+  full = s.full + one_if (raises counted.Full r);
+  lost = s.lost + one_if (raises counted.Lost r);
+  added = s.added + one_if (raises counted.Added r);
+  updated = s.updated + one_if (raises counted.Updated r);
+  refused = s.refused + one_if (raises counted.Refused r);
+  evictions = s.evictions + one_if (raises counted.Evicted r);
+  rejections = s.rejections + one_if (raises counted.Rejected r);
+  begun = s.begun + one_if (raises counted.Began r);
+  busy = s.busy + one_if (raises counted.Busy r);
+  removed = s.removed + one_if (raises counted.Removed r);
 }
 
 -- the count that a reply raises
@@ -114,19 +96,8 @@ shell_stats_before counted.Busy s = record s { busy = s.busy - 1 }
 -- each count that the last reply raised is above 0
 abbrev pub IsCounted : Counted → ShellStats → Type 0
 IsCounted counted.Nothing s = Unit {0}
-IsCounted counted.Hit s = 1 ≤ s.hits
-IsCounted counted.Miss s = 1 ≤ s.misses
-IsCounted counted.Kept s = 1 ≤ s.kept
-IsCounted counted.Full s = 1 ≤ s.full
-IsCounted counted.Lost s = 1 ≤ s.lost
-IsCounted counted.Added s = 1 ≤ s.added
-IsCounted counted.Updated s = 1 ≤ s.updated
-IsCounted counted.Refused s = 1 ≤ s.refused
-IsCounted counted.Removed s = 1 ≤ s.removed
-IsCounted counted.Evicted s = 1 ≤ s.evictions
 IsCounted counted.Rejected s = (1 ≤ s.evictions) × (1 ≤ s.rejections)
-IsCounted counted.Began s = 1 ≤ s.begun
-IsCounted counted.Busy s = 1 ≤ s.busy
+IsCounted c s = 1 ≤ count_of c s
 
 -- no count stands higher
 pub record AreAtMost (n : ℕ) (s : ShellStats) : Type 0 where

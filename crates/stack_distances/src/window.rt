@@ -19,7 +19,7 @@ pub(crate) struct Window {
 }
 
 impl Window {
-    /// The window before any access, for a trace of so many. The only error is out of memory.
+    /// The window before any access, for a trace of that many accesses. The only error is out of memory.
     pub(crate) fn new(alloc: Global, capacity: u32, accesses: usize) -> Result<Window, AllocError>
         requires { accesses ≤ MAX_ACCESSES }
         ensures window { IfOk result (λ w. (keys : List ℕ) → length keys ≡ accesses → IsWindow keys 0 w) }

@@ -11,7 +11,7 @@ const BLOCK: usize = 64;
 /// How many bytes stand behind the end of each run that is found: a word that begins in the run may reach past it.
 pub const BEHIND: usize = 16;
 
-/// The place of a run of digits, maybe of none: of its first byte, and of the byte behind its last.
+/// The range of a run of digits, possibly empty: its first byte, and the byte after its last.
 #[derive(Clone, Copy)]
 pub struct DigitRun {
     pub start: usize,

@@ -28,7 +28,7 @@ use streams::place_of;
 pub struct Scan {
     alloc: Global,
     format: Format,
-    // The accesses that were read and not given away, and how many were.
+    // The accesses that were read and not handed over yet; how many were handed over.
     keys: Vec<Key>,
     given: usize,
     // The number of the line that comes to its end next.
@@ -81,7 +81,7 @@ impl Scan {
         }
     }
 
-    /// The accesses that the bytes name and that were not given away, where no more bytes come. The faults are those
+    /// The accesses that the bytes name and that were not handed over, where no more bytes come. The faults are those
     /// of `take`, of the last line.
     pub fn end(self) -> Result<Trace, TraceFault>
         requires { IsScan self }
@@ -270,7 +270,7 @@ impl Scan {
     }
 }
 
-// Adds the accesses of a line to those of the lines before it, of which so many were given away.
+// Adds the accesses of a line to those of the lines before it, `given` of which were handed over already.
 fn add_line(
     format: Format,
     text: &[u8],

@@ -76,29 +76,11 @@ follow w n o p r es s f h = absurd h.1
 -- a walk begins with the act of its place
 pub first_step : (w n : ℕ) (p : WalkPlace) (y : Entry Step Reply) (es : Entries) → IsAheadOf w n p (y ∷ es) → y.step ≡ step_of w (act_of_place w n p)
 first_step w n (at.Look k) y es h = h.0
-first_step w n (at.Offer i) y es h = h.0
-first_step w n (at.AfterRead a) y es h = h.0
-first_step w n (at.Put k) y es h = h.0
-first_step w n (at.Remove k) y es h = h.0
-first_step w n at.AfterWrite y es h = h.0
-first_step w n at.Begin y es h = h.0
-first_step w n (at.DrainRead s j) y es h = h.0
-first_step w n at.DrainWrite y es h = h.0
-first_step w n at.Evict y es h = h.0
-first_step w n at.End y es h = h.0
+first_step w n _ y es h = h.0
 
 pub not_over : (w n : ℕ) (p : WalkPlace) → IsAheadOf w n p [] → ⊥
 not_over w n (at.Look k) h = h
-not_over w n (at.Offer i) h = h
-not_over w n (at.AfterRead a) h = h
-not_over w n (at.Put k) h = h
-not_over w n (at.Remove k) h = h
-not_over w n at.AfterWrite h = h
-not_over w n at.Begin h = h
-not_over w n (at.DrainRead s j) h = h
-not_over w n at.DrainWrite h = h
-not_over w n at.Evict h = h
-not_over w n at.End h = h
+not_over w n _ h = h
 
 -- walks of which the first is under way
 record Open (w n : ℕ) (s : Standing) (es : Entries) : Type 0 where

@@ -195,21 +195,8 @@ not_mine w v x p e ne o =
 
 -- only the holder's acts move the window
 window_stays : (v : ℕ) (x : Shell) (b : Act) (r : Reply) (y : Shell) → Makes v x b r y → is_holding b ≡ false → is_over y ≡ is_over x
-window_stays v x b r y (k.read_empty st) h = absurd (cc (h))
-window_stays v x b r y (k.drained st i rest l e) h = absurd (cc (h))
-window_stays v x b r y (k.write_empty g f m) h = absurd (cc (h))
-window_stays v x b r y (k.enough g f m) h = absurd (cc (h))
-window_stays v x b r y (k.applied_add g f m i rest e l) h = absurd (cc (h))
-window_stays v x b r y (k.applied_update g f m i rest e l) h = absurd (cc (h))
-window_stays v x b r y (k.applied_remove g f m i rest e l) h = absurd (cc (h))
-window_stays v x b r y (k.fits g f) h = absurd (cc (h))
-window_stays v x b r y (k.shifted g f c i) h = absurd (cc (h))
-window_stays v x b r y (k.evicted g f c u i j) h = absurd (cc (h))
-window_stays v x b r y (k.rejected g f c i) h = absurd (cc (h))
-window_stays v x b r y k.not_yet h = absurd (cc (h))
-window_stays v x b r y (k.idle g f d e) h = absurd (cc (h))
-window_stays v x b r y (k.again g f d e) h = absurd (cc (h))
-window_stays v x b r y made h = refl
+window_stays v x b r y (k.read_empty st) h = absurd (cc h)
+window_stays v x b r y _ h = grind (arith)
 
 other_window : (w v : ℕ) (s : Standing) (x : Shell) (b : Act) (r : Reply) (y : Shell) → Makes v x b r y → (v ≡ w → ⊥) → (is_holding b ≡ true → Own v x) → phase_of (held_by w x.holder) ≡ s.at → Fitting s x → Fitting s y
 other_window w v s x b r y m ne o holds fit e =
@@ -225,22 +212,8 @@ abbrev Keeps : Standing → Act → Reply → Type 0
 Keeps s b r = (next_of s b r).fits ≡ true → ((b ≡ a.Evict) × (r ≡ reply.Fits)) ⊎ ((is_holding b ≡ false) × (s.fits ≡ true) × ((next_of s b r).at ≡ s.at))
 
 keeps : (w : ℕ) (s : Standing) (x : Shell) (b : Act) (r : Reply) (y : Shell) → Makes w x b r y → Keeps s b r
-keeps w s x b r y (k.began e) h = absurd (cc (h))
-keeps w s x b r y (k.read_empty st) h = absurd (cc (h))
-keeps w s x b r y (k.drained st i rest l e) h = absurd (cc (h))
-keeps w s x b r y (k.write_empty g f m) h = absurd (cc (h))
-keeps w s x b r y (k.enough g f m) h = absurd (cc (h))
-keeps w s x b r y (k.applied_add g f m i rest e l) h = absurd (cc (h))
-keeps w s x b r y (k.applied_update g f m i rest e l) h = absurd (cc (h))
-keeps w s x b r y (k.applied_remove g f m i rest e l) h = absurd (cc (h))
 keeps w s x b r y (k.fits g f) h = inl (refl, refl)
-keeps w s x b r y (k.shifted g f c i) h = absurd (cc (h))
-keeps w s x b r y (k.evicted g f c u i j) h = absurd (cc (h))
-keeps w s x b r y (k.rejected g f c i) h = absurd (cc (h))
-keeps w s x b r y k.not_yet h = absurd (cc (h))
-keeps w s x b r y (k.idle g f d e) h = absurd (cc (h))
-keeps w s x b r y (k.again g f d e) h = absurd (cc (h))
-keeps w s x b r y made h = inr (refl, h, refl)
+keeps w s x b r y _ h = grind (arith)
 
 own_window : (w : ℕ) (s : Standing) (x : Shell) (b : Act) (r : Reply) (y : Shell) → Makes w x b r y → (b ≡ a.Evict → r ≡ reply.Fits → is_over y ≡ false) → Fitting s x → Fitting (next_of s b r) y
 own_window w s x b r y m answered fit e =
