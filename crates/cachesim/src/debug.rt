@@ -19,12 +19,14 @@ use journal::Session;
 use journal_text::read_journal;
 use maintenance::Shell;
 use std::alloc::Global;
+use std::thread::Threads;
 use streams::{CountedRead, CountedWrite};
 use trace_read::read_trace;
 
 /// Reads the trace of the file, and answers the commands of the input about the two policies over
 /// it, each at once.
-pub fn debug<R: CountedRead, W: CountedWrite, F: Files>(
+pub fn debug<T: Threads, R: CountedRead, W: CountedWrite, F: Files>(
+    rt: &T,
     alloc: Global,
     arguments: &DebugArguments,
     input: &mut R,
@@ -44,7 +46,15 @@ pub fn debug<R: CountedRead, W: CountedWrite, F: Files>(
     let bytes = files.bytes(alloc, arguments.trace.as_str())?;
     let policies = &arguments.policies;
     let trace = read_trace(alloc, &mut bytes.as_slice(), policies.format)?;
-    run_debug(alloc, &trace, &policies.first, &policies.second, input, out)?;
+    run_debug(
+        rt,
+        alloc,
+        &trace,
+        &policies.first,
+        &policies.second,
+        input,
+        out,
+    )?;
     Ok(())
 }
 

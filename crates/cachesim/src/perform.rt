@@ -54,14 +54,14 @@ pub fn perform<T: Threads + Wait + Sync, R: CountedRead, W: CountedWrite, F: Fil
         }
         Arguments::Part(arguments) => {
             let trace = read_trace(alloc, input, arguments.format)?;
-            write_text(part(alloc, arguments, &trace, watch), out)
+            write_text(part(rt, alloc, arguments, &trace, watch), out)
         }
         Arguments::Compare(arguments) => {
             let trace = read_trace(alloc, input, arguments.policies.format)?;
-            write_text(compare(alloc, arguments, &trace), out)
+            write_text(compare(rt, alloc, arguments, &trace), out)
         }
         Arguments::Drive(arguments) => drive(rt, alloc, arguments, input, out, watch),
-        Arguments::Debug(arguments) => debug(alloc, arguments, input, out, files),
+        Arguments::Debug(arguments) => debug(rt, alloc, arguments, input, out, files),
         Arguments::Replay(arguments) => replay(alloc, arguments, input, out, files),
     }
 }

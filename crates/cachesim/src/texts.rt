@@ -102,7 +102,8 @@ pub fn intervals<T: Threads + Sync, P: Watch>(
 
 /// One line: the first access at which just one of the two policies hits, counted from 1, or `none`.
 #[tactic(auto, using(crate::proofs::Accepting::memory_alone, crate::proofs::Accepting::pair_accepted))]
-pub fn part<P: Watch>(
+pub fn part<R: Threads, P: Watch>(
+    rt: &R,
     alloc: Global,
     arguments: &PartArguments,
     trace: &Trace,
@@ -113,7 +114,7 @@ pub fn part<P: Watch>(
     ensures fault { IfErr result (λ fault. fault ≡ Fault.OutOfMemory) }
 {
     watch.begin("part", Some(trace.len().div_ceil(STRETCH) as u64));
-    let found = part_watched(alloc, trace, &arguments.first, &arguments.second, watch);
+    let found = part_watched(rt, alloc, trace, &arguments.first, &arguments.second, watch);
     watch.end();
     let mut line = Vec::new(alloc);
     push_part(&mut line, accepted(found)?)?;
@@ -122,26 +123,36 @@ pub fn part<P: Watch>(
 
 /// A header and a row: at how many accesses both of the two policies hit, only one of them, and neither; or such a row for
 /// each interval, where the arguments say how long one is.
-pub fn compare(alloc: Global, arguments: &CompareArguments, trace: &Trace) -> Result<Vec<u8>, Fault>
+pub fn compare<R: Threads>(
+    rt: &R,
+    alloc: Global,
+    arguments: &CompareArguments,
+    trace: &Trace,
+) -> Result<Vec<u8>, Fault>
     requires { IsAcceptedComparison arguments.now }
     ensures text { IfOk result (λ text. IsText (Compare arguments.now) trace.now text.items) }
     ensures fault { IfErr result (λ fault. fault ≡ Fault.OutOfMemory) }
 {
     match arguments.every {
-        Some(every) => compare_intervals(alloc, &arguments.policies, every, trace),
-        None => compare_whole(alloc, &arguments.policies, trace),
+        Some(every) => compare_intervals(rt, alloc, &arguments.policies, every, trace),
+        None => compare_whole(rt, alloc, &arguments.policies, trace),
     }
 }
 
 // The header and one row.
 #[tactic(auto, using(crate::proofs::Accepting::memory_alone, crate::proofs::Accepting::pair_accepted))]
-fn compare_whole(alloc: Global, pair: &PartArguments, trace: &Trace) -> Result<Vec<u8>, Fault>
+fn compare_whole<R: Threads>(
+    rt: &R,
+    alloc: Global,
+    pair: &PartArguments,
+    trace: &Trace,
+) -> Result<Vec<u8>, Fault>
     requires { IsAcceptedPart pair.now }
     ensures text { IfOk result (λ text. text.items ≡ compared_text pair.now None trace.now) }
     ensures fault { IfErr result (λ fault. fault ≡ Fault.OutOfMemory) }
 {
     let (first, second) = (&pair.first, &pair.second);
-    let counts = accepted(debug_policies::compare(alloc, trace, first, second))?;
+    let counts = accepted(debug_policies::compare(rt, alloc, trace, first, second))?;
     let mut text = Vec::new(alloc);
     push_comparison(&mut text, first, second, &counts)?;
     Ok(text)
@@ -149,7 +160,8 @@ fn compare_whole(alloc: Global, pair: &PartArguments, trace: &Trace) -> Result<V
 
 // The header and a row for each interval of so many accesses.
 #[tactic(auto, using(crate::proofs::Accepting::memory_alone, crate::proofs::Accepting::pair_accepted))]
-fn compare_intervals(
+fn compare_intervals<R: Threads>(
+    rt: &R,
     alloc: Global,
     pair: &PartArguments,
     every: u32,
@@ -161,7 +173,7 @@ fn compare_intervals(
     ensures fault { IfErr result (λ fault. fault ≡ Fault.OutOfMemory) }
 {
     let (first, second, every) = (&pair.first, &pair.second, every as usize);
-    let rows = debug_policies::compare_intervals(alloc, trace, first, second, every);
+    let rows = debug_policies::compare_intervals(rt, alloc, trace, first, second, every);
     let rows = accepted(rows)?;
     let mut text = Vec::new(alloc);
     push_compared_intervals(&mut text, first, second, rows.as_slice())?;

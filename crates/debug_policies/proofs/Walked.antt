@@ -14,7 +14,8 @@ use Rattle.policies.specs.AnyPolicy.{HasAccessed, outcomes_on}
 use Rattle.policies.specs.AnyStep.{any_act}
 use Rattle.policies.specs.Theorems.{AnyStepLaw, AnyAccepts, AnyAnswers}
 use Rattle.policies.proofs.Stretches.{next-ahead, added-next}
-use Rattle.debug_policies.specs.Part.{is_hit_at, AgreeBelow, IsPart, IsNoted, IsFirstOther}
+use Rattle.debug_policies.specs.Part.{is_hit_at, AgreeBelow}
+use Rattle.debug_policies.specs.TwoCaches.{IsNoted}
 
 -- ---- one access of one cache
 
@@ -82,25 +83,12 @@ noted-more noted os start i b order room e before =
     noted-on (set noted (i - start) b) os start i (get_or-set_same noted (i - start) b false room ∙ e)
     (λ j from below. get_or-set_other noted (i - start) (j - start) b false (λ same. omega (arith, same, from, below, order)) ∙ before j from below)
 
-pub agree-more : (noted : List Bool) (os ps : List Outcome) (start end : ℕ) → AgreeBelow (start + 1) os ps → IsNoted noted os start end
-    → IsNoted noted ps start end → AgreeBelow (end + 1) os ps
-agree-more noted os ps start end below one other zero lt = below zero (omega arith)
-agree-more noted os ps start end below one other (suc m) lt =
-    elim (cases_lt m start) [
-      | inl less ↦ below (suc m) (omega arith)
-      | inr more ↦ (
-          let on : m + 1 ≡ suc m = omega arith in
-          subst (λ (n : ℕ). is_hit_at os n ≡ is_hit_at ps n) on (sym (one m (omega arith) (omega arith)) ∙ other m (omega arith) (omega arith)))
+pub agree-next : (os ps : List Outcome) (i : ℕ) → is_hit_at os (i + 1) ≡ is_hit_at ps (i + 1) → AgreeBelow (i + 1) os ps → AgreeBelow (i + 1 + 1) os ps
+agree-next os ps i here below m lt =
+    elim (cases_lt m (i + 1)) [
+      | inl less ↦ below m less
+      | inr more ↦ (let same : i + 1 ≡ m = omega arith in subst (λ (n : ℕ). is_hit_at os n ≡ is_hit_at ps n) same here)
     ]
-
-pub parts-first : (noted : List Bool) (os ps : List Outcome) (start end place : ℕ) → AgreeBelow (start + 1) os ps → IsNoted noted os start end
-    → IsFirstOther noted ps start end place → IsPart os ps (Some (place + 1))
-parts-first noted os ps start end place below one p =
-    let from = p.from in
-    let to = p.below in (
-      (λ same. p.other (one place from to ∙ same)),
-      agree-more noted os ps start place below (λ j f t. one j f (omega (arith, t, to))) p.agree,
-    )
 
 pub agree-everywhere : (os ps : List Outcome) (n : ℕ) → length os ≡ n → length ps ≡ n → AgreeBelow (n + 1) os ps
     → (m : ℕ) → is_hit_at os m ≡ is_hit_at ps m

@@ -1,4 +1,5 @@
 pub mod Part
+pub mod TwoCaches
 pub mod OnePolicy
 pub mod TwoPolicies
 pub mod ConfigFault

@@ -1,5 +1,5 @@
 -- Where two policies part: the first access of a trace at which just one of them hits.
-use Rattle.std.specs.Prelude.{◌≡◌, ◌≢◌, ℕ, zero, suc, ◌+◌, ◌-◌, ◌<◌, ◌≤◌, Bool, false, Option, Some, None, List, ◌++◌}
+use Rattle.std.specs.Prelude.{◌≡◌, ◌≢◌, ℕ, zero, suc, ◌<◌, Bool, false, Option, Some, None, List, ◌++◌}
 use Rattle.std.specs.Prelude.{codes, slice_index_or, take}
 use Rattle.std.specs.Fmt.{decimal}
 use Rattle.step_record.specs.declared.job.Job.{Job}
@@ -27,18 +27,6 @@ IsPart first second None = (n : ℕ) → is_hit_at first n ≡ is_hit_at second 
 pub record IsPrepared (trace : List ℕ) (place : ℕ) (d : AnyPolicy) : Type 0 where
   pub job : Job
   pub stands : HasAccessed job trace (take place trace) d
-
--- the flags are those of the accesses from one place to another, counted from 0, which of them hit
-abbrev pub IsNoted : List Bool → List Outcome → ℕ → ℕ → Type 0
-IsNoted noted outcomes start end =
-    (i : ℕ) → start ≤ i → i < end → slice_index_or noted (i - start) false ≡ is_hit_at outcomes (i + 1)
-
--- at the place the flag and the access differ, and they agree before it
-pub record IsFirstOther (noted : List Bool) (outcomes : List Outcome) (start end place : ℕ) : Type 0 where
-  pub from : start ≤ place
-  pub below : place < end
-  pub other : slice_index_or noted (place - start) false ≢ is_hit_at outcomes (place + 1)
-  pub agree : IsNoted noted outcomes start place
 
 -- what is printed of it. (Format of this project.)
 abbrev pub part_line : Option ℕ → List ℕ

@@ -1,19 +1,18 @@
 //! How often two policies hit at the same accesses of each interval of a trace.
-ghost use Rattle.std.specs.Prelude.{◌≡◌, ◌≤◌, ◌++◌, [], ◌∷◌, IfOk, OnOk, Ok};
+ghost use Rattle.std.specs.Prelude.{◌≡◌, ◌≤◌, ◌++◌, List, ℕ, [], ◌∷◌, IfOk, OnOk};
 ghost use Rattle.std.specs.List.{flat_map};
-ghost use Rattle.step_record.specs.Config.{config_fault};
 ghost use Rattle.step_record.specs.declared.job.Job.{Job};
-ghost use Rattle.policies.specs.AnyPolicy.{HasAccessed};
 ghost use Rattle.policies.specs.FaultyJobs.{faulty_in, ReturnsFault};
 ghost use Rattle.debug_policies.specs.ComparedIntervals.{between, compared_intervals_on, compared_intervals_text};
 ghost use Rattle.debug_policies.specs.ComparedIntervals.{compared_row, IsLater};
-ghost use Rattle.debug_policies.specs.Part.{IsPrepared};
+ghost use Rattle.debug_policies.specs.TwoCaches.{AreAbreast, AreAbreastOfSome};
 
-use crate::comparison::{Comparison, count_in_both};
-use crate::divergence::open_both;
+use crate::comparison::{Comparison, count_up_to};
+use crate::two_caches::TwoCaches;
 use debug_commands::{push_counts_line, push_pieces};
-use policies::{ActorFault, AnyPolicy, check_jobs};
+use policies::ActorFault;
 use std::alloc::{AllocError, Global};
+use std::thread::Threads;
 use step_record::{Job, Trace};
 
 /// Accesses `from` to `to` of a trace, counted from 1, and at how many of them both of two policies hit, only the first,
@@ -30,7 +29,8 @@ pub struct ComparedInterval {
 /// says that the rows sum up to what `compare` returns.
 ///
 /// Errors: those of `compare`.
-pub fn compare_intervals(
+pub fn compare_intervals<R: Threads>(
+    rt: &R,
     alloc: Global,
     trace: &Trace,
     first: &Job,
@@ -41,9 +41,10 @@ pub fn compare_intervals(
     ensures rows { IfOk result (λ rows. rows.items ≡ compared_intervals_on every first.now second.now trace.now) }
     ensures fault { ReturnsFault (faulty_in (first.now ∷ second.now ∷ [])) result }
 {
-    check_jobs(&[*first, *second])?;
-    let rows = open_and_cut(alloc, trace, first, second, every)?;
-    Ok(rows)
+    let mut both = TwoCaches::open(alloc, trace, first, second)?;
+    let rows = cut(rt, alloc, &mut both, every);
+    drop(both);
+    Ok(rows?)
 }
 
 /// Adds the header and a row for each interval of two jobs, whose capacity is that of the first. The one error is that an
@@ -95,49 +96,28 @@ fn push_row(
     )
 }
 
-// Opens the caches of both jobs, and makes the rows.
-fn open_and_cut(
+// Makes the accesses of the trace in both caches, and a row for each interval: the difference of the counts before and
+// after.
+fn cut<R: Threads>(
+    rt: &R,
     alloc: Global,
-    trace: &Trace,
-    first: &Job,
-    second: &Job,
+    both: &mut TwoCaches<'_>,
     every: usize,
 ) -> Result<Vec<ComparedInterval>, AllocError>
-    requires some { 1 ≤ every }
-    requires first { config_fault first.now.config ≡ Ok tt }
-    requires second { config_fault second.now.config ≡ Ok tt }
-    ensures { IfOk result (λ rows. rows.items ≡ compared_intervals_on every first.now second.now trace.now) }
+    requires every { 1 ≤ every }
+    requires some { AreAbreastOfSome both.old }
+    requires start { both.old.end ≡ 0 }
+    ensures { (j k : Job) (trace : List ℕ) → AreAbreast j k trace both.old
+        → IfOk result (λ rows. rows.items ≡ compared_intervals_on every j k trace) }
 {
-    let (mut one, mut other) = open_both(alloc, trace, first, second)?;
-    let rows = cut(alloc, trace, every, &mut one, &mut other);
-    drop(one);
-    drop(other);
-    rows
-}
-
-// Makes the accesses of the trace in both caches, an interval at a time; its row is the difference of the counts before
-// and after.
-fn cut(
-    alloc: Global,
-    trace: &Trace,
-    every: usize,
-    one: &mut AnyPolicy,
-    other: &mut AnyPolicy,
-) -> Result<Vec<ComparedInterval>, AllocError>
-    requires some { 1 ≤ every }
-    requires one { IsPrepared trace.now 0 one.old }
-    requires other { IsPrepared trace.now 0 other.old }
-    ensures { (j k : Job) → HasAccessed j trace.now [] one.old → HasAccessed k trace.now [] other.old
-        → IfOk result (λ rows. rows.items ≡ compared_intervals_on every j k trace.now) }
-{
-    let len = trace.keys().len();
+    let len = both.trace.len();
     let mut rows = Vec::new(alloc);
     let mut counts = Comparison::none();
     let mut start = 0;
     for _number in 0..len.div_ceil(every) {
         let end = start + every.min(len - start);
         let before = counts;
-        count_in_both(trace, one, other, start, end, &mut counts)?;
+        count_up_to(rt, both, start, end, &mut counts)?;
         rows.push(between(&before, &counts))?;
         start = end;
     }

@@ -1,19 +1,17 @@
 //! How often two policies hit at the same accesses of a trace.
-ghost use Rattle.std.specs.Prelude.{◌≡◌, ◌≤◌, ◌-◌, ◌++◌, List, [], ◌∷◌, length, take, IfOk, OnOk, Ok};
-ghost use Rattle.step_record.specs.Config.{config_fault};
+ghost use Rattle.std.specs.Prelude.{◌≡◌, ◌≤◌, ◌++◌, List, ℕ, [], ◌∷◌, length, IfOk, OnOk};
 ghost use Rattle.step_record.specs.declared.job.Job.{Job};
-ghost use Rattle.step_record.specs.declared.outcome.Outcome.{Outcome};
 ghost use Rattle.step_record.specs.declared.limits.TheConstants.{MAX_ACCESSES};
-ghost use Rattle.policies.specs.AnyPolicy.{HasAccessed, outcomes_on};
 ghost use Rattle.policies.specs.FaultyJobs.{faulty_in, ReturnsFault};
 ghost use Rattle.debug_policies.specs.Comparison.{compared_on, compared_up_to, comparison_text, counts_with};
 ghost use Rattle.debug_policies.specs.Comparison.{IsUpTo, no_counts};
-ghost use Rattle.debug_policies.specs.Part.{IsNoted, IsPrepared};
+ghost use Rattle.debug_policies.specs.TwoCaches.{AreAbreast, AreAbreastOfSome, OnOutcomes};
 
-use crate::divergence::{First, STRETCH, Second, note_hits, open_both};
+use crate::two_caches::TwoCaches;
 use debug_commands::{push_counts_line, push_pieces};
-use policies::{ActorFault, AnyPolicy, check_jobs};
+use policies::ActorFault;
 use std::alloc::{AllocError, Global};
+use std::thread::Threads;
 use step_record::{Job, Trace};
 
 /// At how many accesses of a trace both of two policies hit, only the first, only the second, and neither.
@@ -57,11 +55,12 @@ impl Comparison {
 }
 
 /// At how many accesses of the trace the policies of both jobs hit, only that of the first, only that of the second, and
-/// neither.
+/// neither. The two caches make the accesses side by side where a thread can be made.
 ///
 /// Errors: `Config` with index 0 exactly where `Config::check` refuses the first job's configuration, with index 1
 /// exactly where it refuses the second's and accepts the first's; then `OutOfMemory`.
-pub fn compare(
+pub fn compare<R: Threads>(
+    rt: &R,
     alloc: Global,
     trace: &Trace,
     first: &Job,
@@ -70,9 +69,10 @@ pub fn compare(
     ensures counts { IfOk result (λ counts. counts ≡ compared_on first.now second.now trace.now) }
     ensures fault { ReturnsFault (faulty_in (first.now ∷ second.now ∷ [])) result }
 {
-    check_jobs(&[*first, *second])?;
-    let counts = open_and_count(alloc, trace, first, second)?;
-    Ok(counts)
+    let mut both = TwoCaches::open(alloc, trace, first, second)?;
+    let counts = count_all(rt, &mut both);
+    drop(both);
+    Ok(counts?)
 }
 
 /// Adds the header and the row of a comparison of two jobs, whose capacity is that of the first. The one error is that an
@@ -107,92 +107,60 @@ pub fn push_comparison(
     )
 }
 
-// Opens the caches of both jobs, and counts.
-fn open_and_count(
-    alloc: Global,
-    trace: &Trace,
-    first: &Job,
-    second: &Job,
-) -> Result<Comparison, AllocError>
-    requires first { config_fault first.now.config ≡ Ok tt }
-    requires second { config_fault second.now.config ≡ Ok tt }
-    ensures { IfOk result (λ counts. counts ≡ compared_on first.now second.now trace.now) }
-{
-    let (mut one, mut other) = open_both(alloc, trace, first, second)?;
-    let counts = count_all(trace, &mut one, &mut other);
-    drop(one);
-    drop(other);
-    counts
-}
-
 // Makes the accesses of the trace in both caches, and counts at which of them they hit.
-fn count_all(
-    trace: &Trace,
-    one: &mut AnyPolicy,
-    other: &mut AnyPolicy,
-) -> Result<Comparison, AllocError>
-    requires one { IsPrepared trace.now 0 one.old }
-    requires other { IsPrepared trace.now 0 other.old }
-    ensures { (j k : Job) → HasAccessed j trace.now [] one.old → HasAccessed k trace.now [] other.old
-        → IfOk result (λ counts. counts ≡ compared_on j k trace.now) }
+fn count_all<R: Threads>(rt: &R, both: &mut TwoCaches<'_>) -> Result<Comparison, AllocError>
+    requires some { AreAbreastOfSome both.old }
+    requires start { both.old.end ≡ 0 }
+    ensures { (j k : Job) (trace : List ℕ) → AreAbreast j k trace both.old
+        → IfOk result (λ counts. counts ≡ compared_on j k trace) }
 {
     let mut counts = Comparison::none();
-    let len = trace.keys().len();
-    count_in_both(trace, one, other, 0, len, &mut counts)?;
+    let len = both.trace.len();
+    count_up_to(rt, both, 0, len, &mut counts)?;
     Ok(counts)
 }
 
-/// Makes the accesses from one place of the trace up to another in both caches, and counts at which of them they hit. The
-/// one error is out of memory.
-pub(crate) fn count_in_both(
-    trace: &Trace,
-    one: &mut AnyPolicy,
-    other: &mut AnyPolicy,
+/// Counts the accesses from one place of the trace up to another by whether they hit in both caches, which make what they
+/// have not made of them. The one error is that an allocation failed.
+pub(crate) fn count_up_to<R: Threads>(
+    rt: &R,
+    both: &mut TwoCaches<'_>,
     start: usize,
     end: usize,
     counts: &mut Comparison,
 ) -> Result<(), AllocError>
+    requires some { AreAbreastOfSome both.old }
+    requires from { (both.old.start ≤ start) × (start ≤ both.old.end) }
     requires order { start ≤ end }
-    requires within { (end ≤ length trace.now) × (end ≤ MAX_ACCESSES) }
-    requires one { IsPrepared trace.now start one.old }
-    requires other { IsPrepared trace.now start other.old }
+    requires within { end ≤ length both.old.trace.now }
     requires few { IsUpTo start counts.old }
-    ensures one { (j : Job) → HasAccessed j trace.now (take start trace.now) one.old
-        → OnOk result (HasAccessed j trace.now (take end trace.now) one.new) }
-    ensures other { (k : Job) → HasAccessed k trace.now (take start trace.now) other.old
-        → OnOk result (HasAccessed k trace.now (take end trace.now) other.new) }
-    ensures counts { (j k : Job) → HasAccessed j trace.now (take start trace.now) one.old
-        → HasAccessed k trace.now (take start trace.now) other.old
-        → counts.old ≡ compared_up_to start (outcomes_on j trace.now) (outcomes_on k trace.now)
-        → OnOk result (counts.new ≡ compared_up_to end (outcomes_on j trace.now) (outcomes_on k trace.now)) }
+    ensures some { OnOk result (AreAbreastOfSome both.new) }
+    ensures abreast { (j k : Job) (trace : List ℕ) → AreAbreast j k trace both.old
+        → OnOk result (AreAbreast j k trace both.new) }
+    ensures to { OnOk result ((both.new.start ≤ end) × (end ≤ both.new.end)) }
+    ensures counts { OnOutcomes both.old (λ os ps. counts.old ≡ compared_up_to start os ps
+        → OnOk result (counts.new ≡ compared_up_to end os ps)) }
     ensures few { OnOk result (IsUpTo end counts.new) }
 {
-    let mut noted = [false; STRETCH];
-    let mut others = [false; STRETCH];
-    let mut place = start;
-    'stretches: while place < end {
-        let stop = place + STRETCH.min(end - place);
-        note_hits::<First>(one, trace, place, stop, &mut noted)?;
-        note_hits::<Second>(other, trace, place, stop, &mut others)?;
-        count_hits(&noted, &others, place, stop, counts);
-        place = stop;
+    count_hits(both, start, end.min(both.end), counts);
+    'stretches: while both.end < end {
+        both.advance(rt)?;
+        count_hits(both, both.start, end.min(both.end), counts);
     }
     Ok(())
 }
 
-// Counts the accesses from one place up to another by what both caches noted of them.
-fn count_hits(noted: &[bool], others: &[bool], start: usize, end: usize, counts: &mut Comparison)
-    requires order { start ≤ end }
-    requires within { end ≤ MAX_ACCESSES }
-    requires room { end - start ≤ length noted.now }
-    requires other_room { end - start ≤ length others.now }
+// Counts the accesses from one place of the last stretch up to another.
+fn count_hits(both: &TwoCaches<'_>, start: usize, end: usize, counts: &mut Comparison)
+    requires some { AreAbreastOfSome both.now }
+    requires places { (both.now.start ≤ start) × (start ≤ end) × (end ≤ both.now.end) }
     requires few { IsUpTo start counts.old }
-    ensures counts { (os ps : List Outcome) → end ≤ length os → end ≤ length ps
-        → IsNoted noted.now os start end → IsNoted others.now ps start end
-        → counts.old ≡ compared_up_to start os ps → counts.new ≡ compared_up_to end os ps }
+    ensures counts { OnOutcomes both.now (λ os ps. counts.old ≡ compared_up_to start os ps
+        → counts.new ≡ compared_up_to end os ps) }
     ensures few { IsUpTo end counts.new }
 {
     for i in start..end {
-        counts.count(noted[i - start], others[i - start]);
+        let (first, second) = both.hits_at(i);
+        counts.count(first, second);
     }
 }

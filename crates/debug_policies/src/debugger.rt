@@ -8,11 +8,13 @@ ghost use Rattle.debug_policies.specs.TwoPolicies.{access_facts, just_one, left_
 ghost use Rattle.debug_policies.specs.TwoPolicies.{IsPartWalk};
 ghost use Rattle.streams.specs.Tally.{FailsWhere};
 
-use crate::divergence::{hits, part, push_part};
+use crate::divergence::{part, push_part};
 use crate::one_policy::OnePolicy;
+use crate::two_caches::hits;
 use debug_commands::{DebugFault, Dialect, StepFacts, Timeline, answer_commands};
 use policies::theorems;
 use std::alloc::{AllocError, Global};
+use std::thread::Threads;
 use step_record::{Job, Key, Outcome, Trace};
 use streams::{CountedRead, CountedWrite};
 
@@ -22,7 +24,8 @@ use streams::{CountedRead, CountedWrite};
 /// Errors: `Config` with the index of the first job whose configuration `Config::check` refuses, before anything is
 /// read; `TooLarge` where a line goes past 2^20 bytes of input, with the lines before it answered; `OutOfMemory`,
 /// `Read` and `Write` where an allocation, the input or the output failed, after which output may be partial.
-pub fn run_debug<R: CountedRead, W: CountedWrite>(
+pub fn run_debug<T: Threads, R: CountedRead, W: CountedWrite>(
+    rt: &T,
     alloc: Global,
     trace: &Trace,
     first: &Job,
@@ -52,7 +55,7 @@ pub fn run_debug<R: CountedRead, W: CountedWrite>(
     if second.config.check().is_err() {
         return Err(DebugFault::Config { index: 1 });
     }
-    let mut both = TwoPolicies::open(alloc, trace, first, second)?;
+    let mut both = TwoPolicies::open(rt, alloc, trace, first, second)?;
     let answered = answer_commands(alloc, &mut both, commands, out);
     drop(both);
     answered
@@ -60,7 +63,8 @@ pub fn run_debug<R: CountedRead, W: CountedWrite>(
 
 // Two policies over one trace, both with as many accesses made.
 #[derive(Drop)]
-struct TwoPolicies<'a> {
+struct TwoPolicies<'a, T> {
+    rt: &'a T,
     trace: &'a Trace,
     first_job: Job,
     second_job: Job,
@@ -68,14 +72,15 @@ struct TwoPolicies<'a> {
     second: OnePolicy<'a>,
 }
 
-impl<'a> TwoPolicies<'a> {
+impl<'a, T: Threads> TwoPolicies<'a, T> {
     // Both before the first access. The one error is that an allocation failed.
     fn open(
+        rt: &'a T,
         alloc: Global,
         trace: &'a Trace,
         first: &Job,
         second: &Job,
-    ) -> Result<TwoPolicies<'a>, AllocError>
+    ) -> Result<TwoPolicies<'a, T>, AllocError>
         requires first { config_fault first.now.config ≡ Ok tt }
         requires second { config_fault second.now.config ≡ Ok tt }
         ensures timeline { IfOk result (λ w. policies_timeline w.trace.now w.first_job w.second_job
@@ -86,6 +91,7 @@ impl<'a> TwoPolicies<'a> {
         let one = OnePolicy::open(alloc, first, trace)?;
         match OnePolicy::open(alloc, second, trace) {
             Ok(other) => Ok(TwoPolicies {
+                rt,
                 trace,
                 first_job: *first,
                 second_job: *second,
@@ -100,7 +106,7 @@ impl<'a> TwoPolicies<'a> {
     }
 }
 
-impl<'a> Timeline for TwoPolicies<'a> {
+impl<'a, T: Threads> Timeline for TwoPolicies<'a, T> {
     ghost use Rattle.std.specs.Prelude.{ℕ, List};
     ghost use Rattle.step_record.specs.declared.job.Job.{Job};
     ghost use Rattle.debug_policies.specs.TwoPolicies.{policies_timeline, IsPartWalk};
@@ -155,7 +161,13 @@ impl<'a> Timeline for TwoPolicies<'a> {
 
     fn own(&self, alloc: Global, text: &mut Vec<u8>) -> Result<(), AllocError> {
         theorems::any_covers_trace();
-        match part(alloc, self.trace, &self.first_job, &self.second_job) {
+        match part(
+            self.rt,
+            alloc,
+            self.trace,
+            &self.first_job,
+            &self.second_job,
+        ) {
             Ok(found) => push_part(text, found),
             Err(_) => Err(AllocError),
         }

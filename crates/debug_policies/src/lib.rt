@@ -15,9 +15,11 @@ mod debugger;
 mod divergence;
 mod one_policy;
 pub mod theorems;
+mod two_caches;
 
 pub use compared_intervals::{ComparedInterval, compare_intervals, push_compared_intervals};
 pub use comparison::{Comparison, compare, push_comparison};
 pub use debug_commands::DebugFault;
 pub use debugger::run_debug;
-pub use divergence::{STRETCH, part, part_watched, push_part};
+pub use divergence::{part, part_watched, push_part};
+pub use two_caches::STRETCH;

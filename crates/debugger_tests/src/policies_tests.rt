@@ -6,6 +6,7 @@ use policies::ActorFault;
 use std::alloc::Global;
 use std::process::Abort;
 use std::test::Fail;
+use std::thread::Threads;
 use step_record::{Config, Job, Key, Policy, Spread, Trace};
 use streams::{CountedReader, CountedWriter};
 
@@ -42,7 +43,13 @@ const PARTS: [(&[Key], Policy, Option<u64>); 3] = [
 fn the_first_access_at_which_just_one_hits(rt: HostRuntime) -> Result<(), Fail> {
     for (keys, policy, wanted) in PARTS {
         let trace = trace_of(rt.alloc(), keys)?;
-        match part(rt.alloc(), &trace, &at_two(Policy::Lru), &at_two(policy)) {
+        match part(
+            &rt,
+            rt.alloc(),
+            &trace,
+            &at_two(Policy::Lru),
+            &at_two(policy),
+        ) {
             Ok(found) => assert_eq!(rt; found, wanted, "over {keys:?}"),
             Err(ActorFault::OutOfMemory) => return Err(Fail::from("out of memory")),
             Err(_) => return Err(Fail::from("no answer")),
@@ -53,6 +60,7 @@ fn the_first_access_at_which_just_one_hits(rt: HostRuntime) -> Result<(), Fail> 
 
 // The answer to commands about the trace 1 1 2 3 1 at capacity 2, with lru as `a` and slru as `b`, through these ends.
 fn answer_through(
+    rt: &impl Threads,
     alloc: Global,
     input: Pipe<'_>,
     output: &mut CountedWriter<Pipe<'_>>,
@@ -60,7 +68,7 @@ fn answer_through(
     let trace = trace_of(alloc, &[1, 1, 2, 3, 1])?;
     let (lru, segmented) = (at_two(Policy::Lru), at_two(Policy::SegmentedLru));
     let mut input = CountedReader::new(input);
-    match run_debug(alloc, &trace, &lru, &segmented, &mut input, output) {
+    match run_debug(rt, alloc, &trace, &lru, &segmented, &mut input, output) {
         Err(DebugFault::OutOfMemory) => Err(Fail::from("out of memory")),
         answer => Ok(answer),
     }
@@ -89,7 +97,7 @@ fault: Command
 ";
     let input = Pipe::of(rt.alloc(), commands.as_bytes(), ROOM)?;
     let mut output = CountedWriter::new(Pipe::of(rt.alloc(), b"", ROOM)?);
-    let answer = answer_through(rt.alloc(), input, &mut output)?;
+    let answer = answer_through(&rt, rt.alloc(), input, &mut output)?;
     assert_equal(&rt, answer, Ok(()));
     assert_equal(&rt, output.get_ref().taken.as_slice(), text.as_bytes());
     Ok(())
@@ -116,8 +124,8 @@ struct Ends {
 
 // Sees what the commands are answered through such ends, and that the front of the answers is written, all of them where
 // there is no fault.
-fn assert_through(
-    rt: &impl Abort,
+fn assert_through<R: Abort + Threads>(
+    rt: &R,
     alloc: Global,
     ends: Ends,
     wanted: Result<(), DebugFault>,
@@ -127,7 +135,7 @@ fn assert_through(
     input.interruptions = ends.interruptions.0;
     output.interruptions = ends.interruptions.1;
     let mut output = CountedWriter::new(output);
-    let answer = answer_through(alloc, input, &mut output)?;
+    let answer = answer_through(rt, alloc, input, &mut output)?;
     assert_eq!(rt; answer, wanted, "{ends:?}");
     assert!(rt; ANSWERS.starts_with(output.get_ref().taken.as_slice()));
     assert!(rt; answer.is_err() || output.get_ref().taken.len() == ANSWERS.len());

@@ -7,9 +7,8 @@ use Rattle.debug_policies.proofs.comparison.count_all.Goals as goal
 
 pub returns : goal.returns
 unfolding compared_on
-returns c = λ j k s t.
-    let trace = c.args.trace.now in
-    let long : length c.keys-len.result.now ≡ length trace = ap length c.keys-len.ensures.keys in
-    let all : length (outcomes_on j trace) ≡ length c.keys-len.result.now = omega (arith, long, any_covers_trace j trace) in
-    c.in_ok-count_in_both.ensures.counts j k s t c.none-counts.ensures
-    ∙ compared-all (outcomes_on j trace) (outcomes_on k trace) (length c.keys-len.result.now) all
+returns g c = λ j k trace a.
+    let long : length c.args.both.now.trace.now ≡ length trace = ap length a.over in
+    let all : length (outcomes_on j trace) ≡ c.len-len.result = omega (arith, long, c.len-len.ensures.len, any_covers_trace j trace) in
+    c.in_ok-count_up_to.ensures.counts j k trace a c.none-counts.ensures
+    ∙ compared-all (outcomes_on j trace) (outcomes_on k trace) c.len-len.result all

@@ -1,6 +1,4 @@
-use Rattle.std.proofs.Common.{arith}
-use Rattle.std.proofs.lemmas.Grind.{elements}
 use Rattle.debug_policies.proofs.divergence.part_watched.Goals as goal
 
-pub walk-requires-clause-second : goal.walk-requires-clause-second
-walk-requires-clause-second g c = grind (arith, elements)
+pub returns-clause-part : goal.returns-clause-part
+returns-clause-part g c = c.in_ok-found.ensures c.args.first.now c.args.second.now c.args.trace.now c.in_ok-both.ensures.opened.0

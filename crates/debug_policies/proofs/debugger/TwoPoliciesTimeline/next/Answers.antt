@@ -3,4 +3,4 @@ use Rattle.std.proofs.lemmas.Grind.{common_steps}
 use Rattle.debug_policies.proofs.debugger.TwoPoliciesTimeline.next.Goals as goal
 
 pub returns-clause-facts : goal.returns-clause-facts
-returns-clause-facts c = grind (arith, common_steps)
+returns-clause-facts g c = grind (arith, common_steps)

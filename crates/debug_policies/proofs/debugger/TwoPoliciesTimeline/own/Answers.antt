@@ -8,7 +8,7 @@ use Rattle.debug_policies.proofs.Texts.{at_last}
 use Rattle.debug_policies.proofs.debugger.TwoPoliciesTimeline.own.Goals as goal
 
 pub returns-in-Ok : goal.returns-in-Ok
-returns-in-Ok c =
+returns-in-Ok g c =
     let trace : List ℕ = c.args.self.now.trace.now in
     let first : Job = c.args.self.now.first_job in
     let second : Job = c.args.self.now.second_job in

@@ -7,7 +7,7 @@ use Rattle.debug_policies.proofs.Texts.{at_last, piece}
 use Rattle.debug_policies.proofs.debugger.TwoPoliciesTimeline.show.Goals as goal
 
 pub returns : goal.returns
-returns c =
+returns g c =
     let trace : List ℕ = c.args.self.now.trace.now in
     let first : Job = c.args.self.now.first_job in
     let second : Job = c.args.self.now.second_job in

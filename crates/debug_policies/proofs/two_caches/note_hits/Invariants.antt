@@ -1,8 +1,8 @@
 use Rattle.std.proofs.Common.{◌≡◌, take, length}
 use Rattle.step_record.specs.declared.job.Job.{Job}
 use Rattle.policies.specs.AnyPolicy.{HasAccessed, outcomes_on}
-use Rattle.debug_policies.specs.Part.{IsNoted}
-use Rattle.debug_policies.proofs.divergence.note_hits.Given as goal
+use Rattle.debug_policies.specs.TwoCaches.{IsNoted}
+use Rattle.debug_policies.proofs.two_caches.note_hits.Given as goal
 
 abbrev pub invariant-loop-i : goal.invariant-loop-i
 invariant-loop-i g l =

@@ -2,7 +2,7 @@ use Rattle.std.proofs.Common.{◌≡◌, ℕ, ◌∙◌, ◌-◌, ◌<◌, ◌�
 use Rattle.std.proofs.Math.ListN.{length-set}
 use Rattle.policies.specs.AnyPolicy.{HasAccessed, outcomes_on}
 use Rattle.debug_policies.proofs.Walked.{noted-more}
-use Rattle.debug_policies.proofs.divergence.note_hits.Goals as goal
+use Rattle.debug_policies.proofs.two_caches.note_hits.Goals as goal
 
 pub hit_at-requires-clause-stands : goal.hit_at-requires-clause-stands
 hit_at-requires-clause-stands g c = (let some = c.requires.stands in record { job = some.job; stands = c.loop-i.invariant.0 some.job some.stands })

@@ -2,8 +2,8 @@ use Rattle.std.proofs.Common.{◌∙◌, ◌<◌, length, take, ap, arith}
 use Rattle.step_record.specs.declared.job.Job.{Job}
 use Rattle.policies.specs.AnyPolicy.{HasAccessed}
 use Rattle.debug_policies.proofs.Walked.{ready, moves, answers, warmed}
-use Rattle.debug_policies.proofs.divergence.hit_at.Goals as goal
-use Rattle.debug_policies.proofs.divergence.hit_at.Goals.{After-prefetch_at}
+use Rattle.debug_policies.proofs.two_caches.hit_at.Goals as goal
+use Rattle.debug_policies.proofs.two_caches.hit_at.Goals.{After-prefetch_at}
 
 -- the place is one of the trace's keys
 below : (g : _) (c : goal.After-prefetch_at g) → c.args.i < length c.keys-keys.result.now
