@@ -131,6 +131,8 @@ def progress(check):
         (longer, ["sweep", "--policy", two[0], "--policy", two[1], 50, 60], {}),
         (longer, ["intervals", *cache, "--every", 100000, *two], {}),
         (longer, ["part", *cache, "--first", "wtinylfu", "--second", "wtinylfu"], {}),
+        (longer, ["compare", *cache, "--first", two[0], "--second", two[1]], {}),
+        (longer, ["compare", *cache, "--first", two[0], "--second", two[1], "--every", 100000], {}),
         (driven, ["drive", *alone, 2**24], {}),
         (driven, ["drive", *alone, 1000], {"fault": "fault: JournalFull\n"}),
         (faulty, ["run", *cache, "lru"], {"is_counted": False, "fault": f"fault: BadNumber line {len(rows) + 1}\n"})]

@@ -52,7 +52,8 @@ IsDriven config workers format input before after =
 abbrev pub IsRoomFor : Cause → ℕ → ℕ → Type 0
 IsRoomFor why limit n = (n ≤ limit) × (why ≡ cause.JournalFull → n ≡ limit)
 
--- A worker was refused a step for this cause, and the steps are those that were made up to the refusals.
+-- Workers were refused steps, the first of them for this cause as far as the steps show it (`IsCauseIn`), and the steps
+-- are those that were made up to the refusals.
 abbrev pub IsStopped : Cause → Config → ℕ → Format → Option (List ℕ) → Option (List ℕ) → Option (List ℕ) → Type 0
 IsStopped why config workers format input before after =
     IsJournalOf (AreOfReadsUpTo why config.journal_limit config.stripes workers) (IsRoomFor why config.journal_limit)

@@ -30,8 +30,7 @@ const INCOMPLETE: &[u8] = b"error: a policy or a number is missing\n";
 
 /// The program, of the words after its name, over an input and two outputs: it returns the
 /// status. `DONE` is 0, `FAULT` 1, with one line on the fault output, and `REFUSED` 2, a usage
-/// error. `debug` and `replay` read a file too; `run`, `sweep`, `intervals`, `part` and `drive` are
-/// watched.
+/// error. `debug` and `replay` read a file too; all other subcommands are watched.
 pub fn command<
     T: Threads + Wait + Sync,
     R: CountedRead,

@@ -21,8 +21,8 @@ use std::thread::Threads;
 use streams::{CountedRead, CountedWrite};
 use trace_read::read_trace;
 
-/// Does what the arguments ask for, over an input and an output. `debug` and `replay` read a file too; `run`, `sweep`,
-/// `intervals`, `part` and `drive` are watched.
+/// Does what the arguments ask for, over an input and an output. `debug` and `replay` read a file too; all others are
+/// watched.
 pub fn perform<T: Threads + Wait + Sync, R: CountedRead, W: CountedWrite, F: Files, P: Watch>(
     rt: &T,
     alloc: Global,
@@ -58,7 +58,7 @@ pub fn perform<T: Threads + Wait + Sync, R: CountedRead, W: CountedWrite, F: Fil
         }
         Arguments::Compare(arguments) => {
             let trace = read_trace(alloc, input, arguments.policies.format)?;
-            write_text(compare(rt, alloc, arguments, &trace), out)
+            write_text(compare(rt, alloc, arguments, &trace, watch), out)
         }
         Arguments::Drive(arguments) => drive(rt, alloc, arguments, input, out, watch),
         Arguments::Debug(arguments) => debug(rt, alloc, arguments, input, out, files),

@@ -113,7 +113,7 @@ pub fn part<R: Threads, P: Watch>(
     ensures text { IfOk result (λ text. IsText (Part arguments.now) trace.now text.items) }
     ensures fault { IfErr result (λ fault. fault ≡ Fault.OutOfMemory) }
 {
-    watch.begin("part", Some(trace.len().div_ceil(STRETCH) as u64));
+    watch.begin("part", Some(stretches(trace)));
     let found = part_watched(rt, alloc, trace, &arguments.first, &arguments.second, watch);
     watch.end();
     let mut line = Vec::new(alloc);
@@ -123,36 +123,41 @@ pub fn part<R: Threads, P: Watch>(
 
 /// A header and a row: at how many accesses both of the two policies hit, only one of them, and neither; or such a row for
 /// each interval, where the arguments say how long one is.
-pub fn compare<R: Threads>(
+pub fn compare<R: Threads, P: Watch>(
     rt: &R,
     alloc: Global,
     arguments: &CompareArguments,
     trace: &Trace,
+    watch: &P,
 ) -> Result<Vec<u8>, Fault>
     requires { IsAcceptedComparison arguments.now }
     ensures text { IfOk result (λ text. IsText (Compare arguments.now) trace.now text.items) }
     ensures fault { IfErr result (λ fault. fault ≡ Fault.OutOfMemory) }
 {
-    match arguments.every {
-        Some(every) => compare_intervals(rt, alloc, &arguments.policies, every, trace),
-        None => compare_whole(rt, alloc, &arguments.policies, trace),
-    }
+    watch.begin("compare", Some(stretches(trace)));
+    let text = match arguments.every {
+        Some(every) => compare_intervals(rt, alloc, &arguments.policies, every, trace, watch),
+        None => compare_whole(rt, alloc, &arguments.policies, trace, watch),
+    };
+    watch.end();
+    text
 }
 
 // The header and one row.
 #[tactic(auto, using(crate::proofs::Accepting::memory_alone, crate::proofs::Accepting::pair_accepted))]
-fn compare_whole<R: Threads>(
+fn compare_whole<R: Threads, P: Watch>(
     rt: &R,
     alloc: Global,
     pair: &PartArguments,
     trace: &Trace,
+    watch: &P,
 ) -> Result<Vec<u8>, Fault>
     requires { IsAcceptedPart pair.now }
     ensures text { IfOk result (λ text. text.items ≡ compared_text pair.now None trace.now) }
     ensures fault { IfErr result (λ fault. fault ≡ Fault.OutOfMemory) }
 {
     let (first, second) = (&pair.first, &pair.second);
-    let counts = accepted(debug_policies::compare(rt, alloc, trace, first, second))?;
+    let counts = accepted(debug_policies::compare(rt, alloc, trace, first, second, watch))?;
     let mut text = Vec::new(alloc);
     push_comparison(&mut text, first, second, &counts)?;
     Ok(text)
@@ -160,12 +165,13 @@ fn compare_whole<R: Threads>(
 
 // The header and a row for each interval of so many accesses.
 #[tactic(auto, using(crate::proofs::Accepting::memory_alone, crate::proofs::Accepting::pair_accepted))]
-fn compare_intervals<R: Threads>(
+fn compare_intervals<R: Threads, P: Watch>(
     rt: &R,
     alloc: Global,
     pair: &PartArguments,
     every: u32,
     trace: &Trace,
+    watch: &P,
 ) -> Result<Vec<u8>, Fault>
     requires accepted { IsAcceptedPart pair.now }
     requires some { 1 ≤ every }
@@ -173,11 +179,16 @@ fn compare_intervals<R: Threads>(
     ensures fault { IfErr result (λ fault. fault ≡ Fault.OutOfMemory) }
 {
     let (first, second, every) = (&pair.first, &pair.second, every as usize);
-    let rows = debug_policies::compare_intervals(rt, alloc, trace, first, second, every);
+    let rows = debug_policies::compare_intervals(rt, alloc, trace, first, second, every, watch);
     let rows = accepted(rows)?;
     let mut text = Vec::new(alloc);
     push_compared_intervals(&mut text, first, second, rows.as_slice())?;
     Ok(text)
+}
+
+// How many stretches of two caches a trace has.
+fn stretches(trace: &Trace) -> u64 {
+    trace.len().div_ceil(STRETCH) as u64
 }
 
 // How many batches of `MAX_BATCH` accesses there are, where each interval of a trace begins with a new one.

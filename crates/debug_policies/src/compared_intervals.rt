@@ -13,7 +13,7 @@ use debug_commands::{push_counts_line, push_pieces};
 use policies::ActorFault;
 use std::alloc::{AllocError, Global};
 use std::thread::Threads;
-use step_record::{Job, Trace};
+use step_record::{Gate, Job, Trace};
 
 /// Accesses `from` to `to` of a trace, counted from 1, and at how many of them both of two policies hit, only the first,
 /// only the second, and neither.
@@ -26,23 +26,24 @@ pub struct ComparedInterval {
 
 /// What is counted of the policies of both jobs over the trace, cut into intervals of `every` accesses, of which the last
 /// may be shorter: a row for each, in order. [`compared_intervals_add_up`](crate::theorems::compared_intervals_add_up)
-/// says that the rows sum up to what `compare` returns.
+/// says that the rows sum up to what `compare` returns. The gate is called as by `part_watched`.
 ///
 /// Errors: those of `compare`.
-pub fn compare_intervals<R: Threads>(
+pub fn compare_intervals<R: Threads, G: Gate>(
     rt: &R,
     alloc: Global,
     trace: &Trace,
     first: &Job,
     second: &Job,
     every: usize,
+    gate: &G,
 ) -> Result<Vec<ComparedInterval>, ActorFault>
     requires { 1 ≤ every }
     ensures rows { IfOk result (λ rows. rows.items ≡ compared_intervals_on every first.now second.now trace.now) }
     ensures fault { ReturnsFault (faulty_in (first.now ∷ second.now ∷ [])) result }
 {
     let mut both = TwoCaches::open(alloc, trace, first, second)?;
-    let rows = cut(rt, alloc, &mut both, every);
+    let rows = cut(rt, alloc, &mut both, every, gate);
     drop(both);
     Ok(rows?)
 }
@@ -98,11 +99,12 @@ fn push_row(
 
 // Makes the accesses of the trace in both caches, and a row for each interval: the difference of the counts before and
 // after.
-fn cut<R: Threads>(
+fn cut<R: Threads, G: Gate>(
     rt: &R,
     alloc: Global,
     both: &mut TwoCaches<'_>,
     every: usize,
+    gate: &G,
 ) -> Result<Vec<ComparedInterval>, AllocError>
     requires every { 1 ≤ every }
     requires some { AreAbreastOfSome both.old }
@@ -117,7 +119,7 @@ fn cut<R: Threads>(
     for _number in 0..len.div_ceil(every) {
         let end = start + every.min(len - start);
         let before = counts;
-        count_up_to(rt, both, start, end, &mut counts)?;
+        count_up_to(rt, both, start, end, &mut counts, gate)?;
         rows.push(between(&before, &counts))?;
         start = end;
     }

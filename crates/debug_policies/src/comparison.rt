@@ -12,7 +12,7 @@ use debug_commands::{push_counts_line, push_pieces};
 use policies::ActorFault;
 use std::alloc::{AllocError, Global};
 use std::thread::Threads;
-use step_record::{Job, Trace};
+use step_record::{Gate, Job, Trace};
 
 /// At how many accesses of a trace both of two policies hit, only the first, only the second, and neither.
 #[derive(Clone, Copy)]
@@ -55,22 +55,24 @@ impl Comparison {
 }
 
 /// At how many accesses of the trace the policies of both jobs hit, only that of the first, only that of the second, and
-/// neither. The two caches make the accesses side by side where a thread can be made.
+/// neither. The two caches make the accesses side by side where a thread can be made. The gate is called as by
+/// `part_watched`.
 ///
 /// Errors: `Config` with index 0 exactly where `Config::check` refuses the first job's configuration, with index 1
 /// exactly where it refuses the second's and accepts the first's; then `OutOfMemory`.
-pub fn compare<R: Threads>(
+pub fn compare<R: Threads, G: Gate>(
     rt: &R,
     alloc: Global,
     trace: &Trace,
     first: &Job,
     second: &Job,
+    gate: &G,
 ) -> Result<Comparison, ActorFault>
     ensures counts { IfOk result (λ counts. counts ≡ compared_on first.now second.now trace.now) }
     ensures fault { ReturnsFault (faulty_in (first.now ∷ second.now ∷ [])) result }
 {
     let mut both = TwoCaches::open(alloc, trace, first, second)?;
-    let counts = count_all(rt, &mut both);
+    let counts = count_all(rt, &mut both, gate);
     drop(both);
     Ok(counts?)
 }
@@ -108,7 +110,11 @@ pub fn push_comparison(
 }
 
 // Makes the accesses of the trace in both caches, and counts at which of them they hit.
-fn count_all<R: Threads>(rt: &R, both: &mut TwoCaches<'_>) -> Result<Comparison, AllocError>
+fn count_all<R: Threads, G: Gate>(
+    rt: &R,
+    both: &mut TwoCaches<'_>,
+    gate: &G,
+) -> Result<Comparison, AllocError>
     requires some { AreAbreastOfSome both.old }
     requires start { both.old.end ≡ 0 }
     ensures { (j k : Job) (trace : List ℕ) → AreAbreast j k trace both.old
@@ -116,18 +122,19 @@ fn count_all<R: Threads>(rt: &R, both: &mut TwoCaches<'_>) -> Result<Comparison,
 {
     let mut counts = Comparison::none();
     let len = both.trace.len();
-    count_up_to(rt, both, 0, len, &mut counts)?;
+    count_up_to(rt, both, 0, len, &mut counts, gate)?;
     Ok(counts)
 }
 
 /// Counts the accesses from one place of the trace up to another by whether they hit in both caches, which make what they
 /// have not made of them. The one error is that an allocation failed.
-pub(crate) fn count_up_to<R: Threads>(
+pub(crate) fn count_up_to<R: Threads, G: Gate>(
     rt: &R,
     both: &mut TwoCaches<'_>,
     start: usize,
     end: usize,
     counts: &mut Comparison,
+    gate: &G,
 ) -> Result<(), AllocError>
     requires some { AreAbreastOfSome both.old }
     requires from { (both.old.start ≤ start) × (start ≤ both.old.end) }
@@ -144,7 +151,7 @@ pub(crate) fn count_up_to<R: Threads>(
 {
     count_hits(both, start, end.min(both.end), counts);
     'stretches: while both.end < end {
-        both.advance(rt)?;
+        both.advance(rt, gate)?;
         count_hits(both, both.start, end.min(both.end), counts);
     }
     Ok(())

@@ -73,12 +73,8 @@ fn find_parting<R: Threads, G: Gate>(
     theorems::any_covers_trace();
     let len = both.trace.len();
     'stretches: while both.end < len {
-        let number = (both.end / STRETCH) as u64;
-        gate.before(0, number);
-        both.advance(rt)?;
-        let found = parting_in(both);
-        gate.after(0, number);
-        match found {
+        both.advance(rt, gate)?;
+        match parting_in(both) {
             Some(access) => return Ok(Some(access)),
             None => {}
         }

@@ -15,7 +15,7 @@ ghost use Rattle.debug_policies.specs.TwoCaches.{HasNotedOfSome, HasRun, IsNoted
 use policies::{ActorFault, AnyPolicy, check_jobs, theorems};
 use std::alloc::{AllocError, Global};
 use std::thread::{Threads, join_mut};
-use step_record::{Job, Key, Outcome, StepFault, Trace};
+use step_record::{Gate, Job, Key, Outcome, StepFault, Trace};
 
 /// Each cache makes so many accesses on a thread of its own before the two are compared: enough for a thread to pay.
 pub const STRETCH: usize = 65_536;
@@ -85,9 +85,13 @@ impl<'a> TwoCaches<'a> {
         }
     }
 
-    /// Makes the next stretch of the accesses in both caches, side by side where a thread can be made. The one error is
-    /// that an allocation failed.
-    pub(crate) fn advance<R: Threads>(&mut self, rt: &R) -> Result<(), AllocError>
+    /// Makes the next stretch of the accesses in both caches, side by side where a thread can be made, and calls the gate
+    /// around it as worker 0, with its number. The one error is that an allocation failed.
+    pub(crate) fn advance<R: Threads, G: Gate>(
+        &mut self,
+        rt: &R,
+        gate: &G,
+    ) -> Result<(), AllocError>
         requires { AreAbreastOfSome self.old }
         ensures some { OnOk result (AreAbreastOfSome self.new) }
         ensures abreast { (j k : Job) (trace : List ℕ) → AreAbreast j k trace self.old
@@ -97,6 +101,8 @@ impl<'a> TwoCaches<'a> {
     {
         self.start = self.end;
         self.end = self.start + STRETCH.min(self.trace.len() - self.start);
+        let number = (self.start / STRETCH) as u64;
+        gate.before(0, number);
         run_both(
             rt,
             self.trace,
@@ -105,6 +111,7 @@ impl<'a> TwoCaches<'a> {
             &mut self.first,
             &mut self.second,
         )?;
+        gate.after(0, number);
         Ok(())
     }
 

@@ -10,7 +10,7 @@ returns-in-Some g c = λ j k trace a.
     let ps = outcomes_on k trace in
     let below = subst (λ (n : ℕ). AgreeBelow (n + 1) os ps) (sym c.advance.ensures.start) (c.stretches.invariant.2 j k trace a) in
     subst (λ r. IfSome r (λ n. IsPart os ps (Some n))) c.in-Some.is
-    (c.parting_in-found.ensures.found j k trace (c.in_ok-advance.ensures.abreast j k trace (c.stretches.invariant.1 j k trace a)) below)
+    (c.parting_in.ensures.found j k trace (c.in_ok-advance.ensures.abreast j k trace (c.stretches.invariant.1 j k trace a)) below)
 
 pub stretches-smaller : goal.stretches-smaller
 stretches-smaller g c =
@@ -30,7 +30,7 @@ stretches-preserved g c = (
       let ps = outcomes_on k trace in
       let below = subst (λ (n : ℕ). AgreeBelow (n + 1) os ps) (sym c.advance.ensures.start) (c.stretches.invariant.2 j k trace a) in
       subst (λ r. IfNone r (AgreeBelow (c.advance.new.self.end + 1) os ps)) c.in-None.is
-      (c.parting_in-found.ensures.none j k trace (c.in_ok-advance.ensures.abreast j k trace (c.stretches.invariant.1 j k trace a)) below)),
+      (c.parting_in.ensures.none j k trace (c.in_ok-advance.ensures.abreast j k trace (c.stretches.invariant.1 j k trace a)) below)),
 )
 
 pub returns : goal.returns
