@@ -118,13 +118,6 @@ counted-before m (suc n) j l h g =
 
 -- ---- the loops
 
--- one of the turns undone
-pub undone-more : (q i : ℕ) (old now new : List (List CountedKey)) → length old ≡ 5 → q < 5 → now ≡ with_queue q (before_turns i (queue_of q old)) old
-    → new ≡ with_queue q (before_turn (queue_of q now)) now → new ≡ with_queue q (before_turns (suc i) (queue_of q old)) old
-undone-more q i old now new five low h e =
-    let last : queue_of q now ≡ before_turns i (queue_of q old) = rw h (replaced-queue q (before_turns i (queue_of q old)) old five low) in
-    e ∙ rw (last, h) (replaced-twice q (before_turns i (queue_of q old)) (before_turn (before_turns i (queue_of q old))) old)
-
 pub undone-counted : (m q i n : ℕ) (old now : List (List CountedKey)) → length old ≡ 5 → q < 5 → now ≡ with_queue q (before_turns i (queue_of q old)) old
     → i < n → AreCounted m (before_turns n (queue_of q old)) → AreCounted m (before_turn (queue_of q now))
 undone-counted m q i n old now five low h less g =
@@ -136,9 +129,6 @@ pub record IsTurning (q turns : ℕ) (old now : List (List CountedKey)) : Type 0
   pub queues : now ≡ with_queue q (queue_of q now) old
   pub count : turn_count (queue_of q old) ≡ turns + turn_count (queue_of q now)
   pub after : after_turns (turn_count (queue_of q old)) (queue_of q old) ≡ after_turns (turn_count (queue_of q now)) (queue_of q now)
-
-pub turning-starts : (q : ℕ) (s : List (List CountedKey)) → length s ≡ 5 → IsTurning q 0 s s
-turning-starts q s five = record { five = five; queues = sym (set-get_or s q []); count = omega arith; after = refl }
 
 pub turning-goes-on : (q turns : ℕ) (old now new : List (List CountedKey)) → q < 5 → IsTurning q turns old now → eqb (oldest_count (queue_of q now)) 0 ≡ false
     → new ≡ with_queue q (after_turn (queue_of q now)) now → IsTurning q (turns + 1) old new

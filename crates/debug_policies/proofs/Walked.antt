@@ -57,12 +57,6 @@ answers law j trace keys i d o e same lt s h =
 
 -- ---- the accesses at which both hit or neither does
 
-pub differs : (a b : Bool) → not (beq a b) ≡ true → a ≢ b
-differs true true h e = true≢false (sym h)
-differs true false h e = true≢false e
-differs false true h e = true≢false (sym e)
-differs false false h e = true≢false (sym h)
-
 pub agrees : (a b : Bool) → not (beq a b) ≡ false → a ≡ b
 agrees true true h = refl
 agrees true false h = absurd (true≢false h)
