@@ -40,8 +40,8 @@ abbrev pub from_first : ℕ → List ℕ
 from_first zero = []
 from_first (suc n) = (n + FIRST) ∷ from_first n
 
--- the index has a bucket for each half of a slot, but for the slot that was added last, until it has 2^31 buckets: so a
--- search looks at few slots
+-- the index has two buckets for each slot, the last one excepted, until it has 2^31 buckets: so a search looks at few
+-- slots
 abbrev pub IsLoaded : ℕ → ℕ → Type 0
 IsLoaded slots bits = 0 < slots → bits < 31 → 2 * slots ≤ 2 ^ bits + 2
 

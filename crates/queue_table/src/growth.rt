@@ -13,7 +13,7 @@ use crate::slot_index::SlotIndex;
 use std::alloc::{AllocError, Global};
 use step_record::Item;
 
-/// An index of 2^31 buckets has branches for so many slots.
+/// The most slots: the largest index, of 2^31 buckets, has branches for them.
 const MAX_SLOTS: usize = 1 << 30;
 
 /// The first index has at least 2^4 buckets.
@@ -55,7 +55,7 @@ fn first_slots(alloc: Global) -> Result<Vec<Slot>, AllocError>
     Ok(slots)
 }
 
-/// By how many bits the buckets of the first index are numbered, if so many are wished for.
+/// How many bits number the buckets of the first index: as many as wished, or the least where the wish is out of range.
 fn first_bits(wished: u32) -> u32
     ensures { (4 ≤ result) × (result < 32) }
 {

@@ -5,9 +5,22 @@
 //! left. Each call leaves the lists that its contract names; one that takes an item out of its place says where it stood,
 //! by the two items next to it, so that it can go back.
 //!
-//! No call walks a queue but `list`: the items stand in slots that are linked into one ring, and a hash index whose
-//! buckets are search trees finds the slot of an item, in 129 slots at most whatever the keys. Only `reserve` and `list`
-//! allocate.
+//! Only `list` walks a queue: the items stand in slots that are linked into one ring, and a hash index whose buckets are
+//! search trees finds the slot of an item, in 129 slots at most whatever the keys. Only `reserve` and `list` allocate.
+//!
+//! All slots stand in one ring, linked both ways, so that no move has a case for an end. Slots 0 to 6 hold no item:
+//! slot s stands before section s, and slot s + 1 behind it. Section 0 has the free slots, section q + 1 those of queue
+//! q, oldest first. Here A and B stand in queue 0, C in queue 1 and D in queue 4:
+//!
+//! ```text
+//!          free slots   queue 0          queue 1     queues 2, 3   queue 4
+//! +-> [0] - 9 - 12 - [1] - 7:A - 10:B - [2] - 8:C - [3] - [4] - [5] - 11:D - [6] -+
+//! +-------------------------------------------------------------------------------+
+//!
+//! index: bucket of A's hash -> slot 10:B        a tree of the slots whose items share the bucket:
+//!                              /       \        a bit of key and node a level says left or right
+//!                          7:A           11:D
+//! ```
 #![tactic(auto)]
 
 mod growth;

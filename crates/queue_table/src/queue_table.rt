@@ -42,8 +42,8 @@ impl Model for QueueTable {
     ghost invariant = { λ t. IsKept t.slots.items t.index t.lengths };
 }
 
-// Up to so many bits, there are four buckets for each item of a first index, so that most have one item at most. A
-// larger index has two for each: past the processor's caches, its length costs more than a second slot in a tree.
+// A first index of up to so many bits has four buckets for each item, so most hold one item at most. A larger one has
+// two for each: past the processor's caches, its length costs more than a second slot in a tree.
 const MAX_SPARSE_BITS: u32 = 18;
 
 // How many bits number the buckets of a first index for so many items.
@@ -287,9 +287,9 @@ impl QueueTable {
     {
         let slots: &mut [Slot] = &mut self.slots;
         let from = place_of_slot(slots, at);
+        self.lengths.pass(section(from.queue), section(queue));
         set_count(slots, at as usize, count);
         send(slots, at, queue, before);
-        self.lengths.pass(section(from.queue), section(queue));
         from
     }
 
@@ -362,12 +362,12 @@ impl QueueTable {
     {
         let slots: &mut [Slot] = &mut self.slots;
         let from = place_of_slot(slots, at);
+        self.lengths.pass(section(from.queue), section(queue));
         let old = slots[at as usize].item;
         self.index.remove(at, old);
         set_entry(slots, at as usize, entry);
         self.index.insert(at, entry.item);
         send(slots, at, queue, slot_behind(queue));
-        self.lengths.pass(section(from.queue), section(queue));
         from
     }
 
@@ -382,10 +382,10 @@ impl QueueTable {
     {
         let slots: &mut [Slot] = &mut self.slots;
         let from = place_of_slot(slots, at);
+        self.lengths.pass(section(from.queue), 0);
         let item = slots[at as usize].item;
         self.index.remove(at, item);
         release(slots, at);
-        self.lengths.pass(section(from.queue), 0);
         from
     }
 

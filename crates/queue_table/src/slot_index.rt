@@ -68,8 +68,8 @@ impl SlotIndex {
         self.bits
     }
 
-    /// The slot that holds the item, 0 where none does. Most buckets have one slot at most, which is looked at before
-    /// there is a way to go.
+    /// The slot that holds the item, 0 where none does. Most buckets hold at most one slot, so the root is compared
+    /// before a branch is chosen.
     #[inline(always)]
     pub fn find<I: SlotItems>(&self, items: &I, item: Item) -> u32
         requires { CanFind self.now (I.len items.now) }
