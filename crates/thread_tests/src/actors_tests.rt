@@ -37,6 +37,17 @@ fn actors_run_side_by_side(rt: HostRuntime) -> Result<(), Fail> {
     Ok(())
 }
 
+// Of every kind of policy: that of Belady's too, which makes its accesses once all are there.
+#[test]
+fn actors_of_each_kind_take_their_batches_in_turn(rt: HostRuntime) -> Result<(), Fail> {
+    let gate = Turns::new(rt.alloc(), 4)?;
+    let trace = Trace::new(vec![in rt.alloc(); 1, 1, 2, 3, 1]?);
+    let (jobs, wanted) = (four_jobs(), four_reports());
+    assert_run(&rt, rt.alloc(), &trace, (&jobs, 1), &gate, &wanted)?;
+    assert!(rt; gate.is_over(5));
+    Ok(())
+}
+
 // How many accesses and actors there are, how many accesses a batch has, and how many batches that makes.
 const BATCHES: [(usize, usize, u32, u64); 4] = [
     (0, 64, 3, 1),

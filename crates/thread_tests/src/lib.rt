@@ -17,6 +17,8 @@ mod reading_tests;
 #[cfg(test)]
 mod sessions;
 #[cfg(test)]
+mod stopped_tests;
+#[cfg(test)]
 mod sweep_tests;
 #[cfg(test)]
 mod walks_tests;

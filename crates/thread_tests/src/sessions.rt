@@ -1,4 +1,7 @@
 //! Sessions of the concurrent cache, the calls of their workers, and what a run of them leaves.
+ghost use Rattle.std.specs.Prelude.{◌≤◌};
+ghost use Rattle.step_record.specs.declared.limits.TheConstants.{MAX_JOURNAL_LIMIT};
+
 use super::assertions::assert_equal;
 use drive::{Cause, DriveFault, Driven, drive};
 use journal::Session;
@@ -19,15 +22,27 @@ pub(crate) const SMALL: Config = Config {
     journal_limit: 1,
 };
 
-// A session over a new cache.
+// A session over a new cache, with room for all that these tests do.
 pub(crate) fn fresh(
     rt: &impl Abort,
     alloc: Global,
     config: &Config,
 ) -> Result<Session<Shell>, Fail> {
+    opened(rt, alloc, config, 1_000_000)
+}
+
+// A session of at most so many steps over a new cache.
+pub(crate) fn opened(
+    rt: &impl Abort,
+    alloc: Global,
+    config: &Config,
+    limit: usize,
+) -> Result<Session<Shell>, Fail>
+    requires { (1 ≤ limit) × (limit ≤ MAX_JOURNAL_LIMIT) }
+{
     assert!(rt; config.check().is_ok());
     let shell = Shell::new(alloc, config)?;
-    Ok(Session::open(alloc, shell, 1_000_000))
+    Ok(Session::open(alloc, shell, limit))
 }
 
 // A piece for each worker, with its calls in order.

@@ -1,15 +1,15 @@
-//! Reports on this thread, and side by side at several capacities, over small traces whose reports were worked out by
-//! hand.
+//! Reports on this thread, and side by side at several capacities, and rows of intervals, over small traces whose reports
+//! were worked out by hand.
 use super::assertions::assert_equal;
-use super::gates::AllAlike;
+use super::gates::{AllAlike, Hold};
 use super::jobs::{counted, failed, four_jobs, four_reports, job};
-use policies::Report;
+use policies::{ActorFault, Interval, Report};
 use std::alloc::Global;
 use std::process::Abort;
 use std::test::Fail;
 use std::thread::Threads;
 use step_record::{Job, OpenGate, Policy, Trace};
-use sweeps::{run_one, sweep, sweep_batches, sweep_each};
+use sweeps::{intervals, run_one, sweep, sweep_batches, sweep_each};
 
 // Runs a job alone, and sees its report.
 fn assert_alone(
@@ -136,5 +136,63 @@ fn a_sweep_shows_its_batches(rt: HostRuntime) -> Result<(), Fail> {
     let swept = sweep_each(&rt, rt.alloc(), &trace, &jobs, &[2; 5], &gate);
     drop(swept.map_err(failed)?);
     assert!(rt; gate.is_over(10));
+    Ok(())
+}
+
+// What Lru and Belady's policy count over the accesses 1, 1, 2, 3, 1 in intervals of two. At the fourth access Lru evicts 1,
+// and Belady's policy 2, which does not come again.
+const INTERVALS: [(Policy, u64, u64, [u64; 5]); 6] = [
+    (Policy::Lru, 1, 2, [2, 1, 1, 0, 0]),
+    (Policy::Lru, 3, 4, [2, 0, 2, 1, 0]),
+    (Policy::Lru, 5, 5, [1, 0, 1, 1, 0]),
+    (Policy::Clairvoyant, 1, 2, [2, 1, 1, 0, 0]),
+    (Policy::Clairvoyant, 3, 4, [2, 0, 2, 1, 0]),
+    (Policy::Clairvoyant, 5, 5, [1, 1, 0, 0, 0]),
+];
+
+fn assert_intervals(rt: &impl Abort, rows: Result<Vec<Interval>, ActorFault>) -> Result<(), Fail> {
+    let rows = rows.map_err(failed)?;
+    assert_equal(rt, rows.len(), INTERVALS.len());
+    for (row, (policy, first, last, counts)) in rows.iter().zip(INTERVALS.iter()) {
+        assert_equal(rt, (row.first, row.last), (*first, *last));
+        assert_equal(rt, row.report, counted(*policy, 2, *counts));
+    }
+    Ok(())
+}
+
+#[test]
+fn intervals_of_two_policies(rt: HostRuntime) -> Result<(), Fail> {
+    let trace = Trace::new(vec![in rt.alloc(); 1, 1, 2, 3, 1]?);
+    let jobs = [job(Policy::Lru, 2), job(Policy::Clairvoyant, 2)];
+    let rows = intervals(&rt, rt.alloc(), &trace, &jobs, 2, &OpenGate);
+    assert_intervals(&rt, rows)
+}
+
+// Two intervals of each of two jobs, each of three batches.
+#[test]
+fn intervals_show_their_batches(rt: HostRuntime) -> Result<(), Fail> {
+    let trace = Trace::new(vec![in rt.alloc(); 1; 262_146]?);
+    let jobs = [job(Policy::Lru, 7), job(Policy::Clairvoyant, 7)];
+    let gate = AllAlike::new(rt.alloc(), 3)?;
+    let rows = intervals(&rt, rt.alloc(), &trace, &jobs, 131_073, &gate);
+    drop(rows.map_err(failed)?);
+    assert!(rt; gate.is_over(4));
+    Ok(())
+}
+
+// Neither of two jobs goes on with its first batch before the other has begun its own.
+#[test]
+fn jobs_are_held_side_by_side(rt: HostRuntime) -> Result<(), Fail> {
+    let trace = Trace::new(vec![in rt.alloc(); 1, 1, 2, 3, 1]?);
+    let jobs = [job(Policy::SegmentedLru, 2), job(Policy::Clairvoyant, 2)];
+    let (swept, cut) = (Hold::new(2, 1), Hold::new(2, 1));
+    let reports = sweep_each(&rt, rt.alloc(), &trace, &jobs, &[2], &swept);
+    drop(reports.map_err(failed)?);
+    let rows = intervals(&rt, rt.alloc(), &trace, &jobs, 5, &cut);
+    drop(rows.map_err(failed)?);
+    if swept.is_late() || cut.is_late() {
+        return Err(Fail::from("workers one after the other, or out of memory for a thread"));
+    }
+    assert_equal(&rt, (swept.over(), cut.over()), (2, 2));
     Ok(())
 }
