@@ -15,6 +15,8 @@ mod files;
 mod host;
 mod limits;
 mod perform;
+#[cfg(test)]
+mod tests;
 mod texts;
 
 pub use call::command;

@@ -4,6 +4,8 @@
 #[cfg(test)]
 mod assertions;
 #[cfg(test)]
+mod ends_tests;
+#[cfg(test)]
 mod pipe;
 #[cfg(test)]
 mod policies_tests;

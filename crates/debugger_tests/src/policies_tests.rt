@@ -1,13 +1,18 @@
 //! Small traces whose outcomes were worked out by hand.
 use super::assertions::assert_equal;
 use super::pipe::{Pipe, ROOM};
-use debug_policies::{DebugFault, part, run_debug};
+use debug_policies::{
+    ComparedInterval, Comparison, DebugFault, STRETCH, compare, compare_intervals, part,
+    part_watched, run_debug,
+};
 use policies::ActorFault;
 use std::alloc::Global;
 use std::process::Abort;
+use std::sync::atomic::AtomicU64;
+use std::sync::atomic::Ordering::SeqCst;
 use std::test::Fail;
 use std::thread::Threads;
-use step_record::{Config, Job, Key, Policy, Spread, Trace};
+use step_record::{Config, Gate, Job, Key, OpenGate, Policy, Spread, Trace};
 use streams::{CountedReader, CountedWriter};
 
 const fn at_two(policy: Policy) -> Job {
@@ -43,23 +48,127 @@ const PARTS: [(&[Key], Policy, Option<u64>); 3] = [
 fn the_first_access_at_which_just_one_hits(rt: HostRuntime) -> Result<(), Fail> {
     for (keys, policy, wanted) in PARTS {
         let trace = trace_of(rt.alloc(), keys)?;
-        match part(
-            &rt,
-            rt.alloc(),
-            &trace,
-            &at_two(Policy::Lru),
-            &at_two(policy),
-        ) {
+        let (lru, other) = (at_two(Policy::Lru), at_two(policy));
+        match part(&rt, rt.alloc(), &trace, &lru, &other) {
             Ok(found) => assert_eq!(rt; found, wanted, "over {keys:?}"),
-            Err(ActorFault::OutOfMemory) => return Err(Fail::from("out of memory")),
-            Err(_) => return Err(Fail::from("no answer")),
+            Err(fault) => return Err(failed(fault)),
         }
     }
     Ok(())
 }
 
+// A test that gets no answer fails by the fault's name.
+fn failed(fault: ActorFault) -> Fail {
+    match fault {
+        ActorFault::OutOfMemory => Fail::from("out of memory"),
+        _ => Fail::from("no answer"),
+    }
+}
+
+// At how many accesses both hit, the first alone, the second alone, and neither.
+fn counts_of(counts: &Comparison) -> [u64; 4] {
+    [
+        counts.both,
+        counts.first_only,
+        counts.second_only,
+        counts.neither,
+    ]
+}
+
+// Lru and SegmentedLru over the accesses 1, 1, 2, 3, 1 in intervals of two: the first and the last access, and the counts.
+const ROWS: [(u64, u64, [u64; 4]); 3] = [
+    (1, 2, [1, 0, 0, 1]),
+    (3, 4, [0, 0, 0, 2]),
+    (5, 5, [0, 0, 1, 0]),
+];
+
+fn assert_rows(rt: &impl Abort, rows: &[ComparedInterval]) {
+    assert_equal(rt, rows.len(), ROWS.len());
+    for (row, (from, to, counts)) in rows.iter().zip(ROWS.iter()) {
+        assert_equal(rt, (row.from, row.to), (*from, *to));
+        assert_equal(rt, counts_of(&row.counts), *counts);
+    }
+}
+
+#[test]
+fn how_often_two_policies_hit_together(rt: HostRuntime) -> Result<(), Fail> {
+    let trace = trace_of(rt.alloc(), &[1, 1, 2, 3, 1])?;
+    let (lru, segmented) = (at_two(Policy::Lru), at_two(Policy::SegmentedLru));
+    let counts = compare(&rt, rt.alloc(), &trace, &lru, &segmented, &OpenGate).map_err(failed)?;
+    assert_equal(&rt, counts_of(&counts), [1, 0, 1, 3]);
+    let rows = compare_intervals(&rt, rt.alloc(), &trace, &lru, &segmented, 2, &OpenGate);
+    assert_rows(&rt, rows.map_err(failed)?.as_slice());
+    Ok(())
+}
+
+// Counts the calls that begin and that are over, adds up their numbers, and sees that each is over before the next begins.
+#[derive(Drop)]
+struct InTurn {
+    begun: AtomicU64,
+    over: AtomicU64,
+    numbers: AtomicU64,
+    wrong: AtomicU64,
+}
+
+impl InTurn {
+    fn new() -> InTurn {
+        InTurn {
+            begun: AtomicU64::new(0),
+            over: AtomicU64::new(0),
+            numbers: AtomicU64::new(0),
+            wrong: AtomicU64::new(0),
+        }
+    }
+
+    // How many calls are over, and the sum of their numbers, where they were in turn.
+    fn seen(&self) -> Option<(u64, u64)> {
+        let over = self.over.load(SeqCst);
+        if self.wrong.load(SeqCst) > 0 || self.begun.load(SeqCst) != over {
+            return None;
+        }
+        Some((over, self.numbers.load(SeqCst)))
+    }
+}
+
+impl Gate for InTurn {
+    fn before(&self, _who: u8, n: u64) {
+        if self.begun.fetch_add(1, SeqCst) != self.over.load(SeqCst) {
+            self.wrong.fetch_add(1, SeqCst);
+        }
+        self.numbers.fetch_add(n, SeqCst);
+    }
+
+    fn after(&self, _who: u8, _n: u64) {
+        if self.over.fetch_add(1, SeqCst).wrapping_add(1) != self.begun.load(SeqCst) {
+            self.wrong.fetch_add(1, SeqCst);
+        }
+    }
+}
+
+// Over three stretches, of which the last has one access; and where the policies part in the first.
+#[test]
+fn the_gate_is_called_around_each_stretch(rt: HostRuntime) -> Result<(), Fail> {
+    let (lru, segmented) = (at_two(Policy::Lru), at_two(Policy::SegmentedLru));
+    let trace = Trace::new(vec![in rt.alloc(); 7; 2 * STRETCH + 1]?);
+    let gate = InTurn::new();
+    let found = part_watched(&rt, rt.alloc(), &trace, &lru, &segmented, &gate).map_err(failed)?;
+    assert_equal(&rt, (found, gate.seen()), (None, Some((3, 0 + 1 + 2))));
+    let gate = InTurn::new();
+    compare(&rt, rt.alloc(), &trace, &lru, &segmented, &gate).map_err(failed)?;
+    assert_equal(&rt, gate.seen(), Some((3, 0 + 1 + 2)));
+    let gate = InTurn::new();
+    let rows = compare_intervals(&rt, rt.alloc(), &trace, &lru, &segmented, 50_000, &gate);
+    drop(rows.map_err(failed)?);
+    assert_equal(&rt, gate.seen(), Some((3, 0 + 1 + 2)));
+    let trace = trace_of(rt.alloc(), &[1, 1, 2, 3, 1])?;
+    let gate = InTurn::new();
+    let found = part_watched(&rt, rt.alloc(), &trace, &lru, &segmented, &gate).map_err(failed)?;
+    assert_equal(&rt, (found, gate.seen()), (Some(5), Some((1, 0))));
+    Ok(())
+}
+
 // The answer to commands about the trace 1 1 2 3 1 at capacity 2, with lru as `a` and slru as `b`, through these ends.
-fn answer_through(
+pub fn answer_through(
     rt: &impl Threads,
     alloc: Global,
     input: Pipe<'_>,
@@ -100,79 +209,5 @@ fault: Command
     let answer = answer_through(&rt, rt.alloc(), input, &mut output)?;
     assert_equal(&rt, answer, Ok(()));
     assert_equal(&rt, output.get_ref().taken.as_slice(), text.as_bytes());
-    Ok(())
-}
-
-// Two commands, of which the second ends the run, and one after it.
-const COMMANDS: &[u8] = b"goto 5\nquit\nshow\n";
-
-// As many reads as there are bytes up to the line feed of `quit`.
-const READS: usize = 12;
-
-const ANSWERS: &[u8] = b"at 5\n";
-
-// As many writes as the answer has bytes, and a flush for each of the two commands.
-const WRITES: usize = 5 + 2;
-
-// How many calls each end lets pass, and by how many interruptions it is held up before.
-#[derive(Clone, Copy, Debug)]
-struct Ends {
-    reads: usize,
-    writes: usize,
-    interruptions: (u32, u32),
-}
-
-// Sees what the commands are answered through such ends, and that the front of the answers is written, all of them where
-// there is no fault.
-fn assert_through<R: Abort + Threads>(
-    rt: &R,
-    alloc: Global,
-    ends: Ends,
-    wanted: Result<(), DebugFault>,
-) -> Result<(), Fail> {
-    let mut input = Pipe::of(alloc, COMMANDS, ends.reads)?;
-    let mut output = Pipe::of(alloc, b"", ends.writes)?;
-    input.interruptions = ends.interruptions.0;
-    output.interruptions = ends.interruptions.1;
-    let mut output = CountedWriter::new(output);
-    let answer = answer_through(rt, alloc, input, &mut output)?;
-    assert_eq!(rt; answer, wanted, "{ends:?}");
-    assert!(rt; ANSWERS.starts_with(output.get_ref().taken.as_slice()));
-    assert!(rt; answer.is_err() || output.get_ref().taken.len() == ANSWERS.len());
-    Ok(())
-}
-
-const WHOLE: Ends = Ends {
-    reads: READS,
-    writes: WRITES,
-    interruptions: (0, 0),
-};
-
-#[test]
-fn each_read_or_write_that_fails_is_reported(rt: HostRuntime) -> Result<(), Fail> {
-    for reads in 0..READS {
-        let ends = Ends { reads, ..WHOLE };
-        assert_through(&rt, rt.alloc(), ends, Err(DebugFault::Read))?;
-    }
-    for writes in 0..WRITES {
-        let ends = Ends { writes, ..WHOLE };
-        assert_through(&rt, rt.alloc(), ends, Err(DebugFault::Write))?;
-    }
-    assert_through(&rt, rt.alloc(), WHOLE, Ok(()))
-}
-
-#[test]
-fn the_millionth_interruption_is_a_failure(rt: HostRuntime) -> Result<(), Fail> {
-    for (interruptions, wanted) in [
-        ((999_999, 999_999), Ok(())),
-        ((1_000_000, 0), Err(DebugFault::Read)),
-        ((0, 1_000_000), Err(DebugFault::Write)),
-    ] {
-        let ends = Ends {
-            interruptions,
-            ..WHOLE
-        };
-        assert_through(&rt, rt.alloc(), ends, wanted)?;
-    }
     Ok(())
 }

@@ -1,4 +1,6 @@
 //! A small session, worked out by hand: that of one access of one worker.
+ghost use Rattle.std.specs.Prelude.{◌≡◌, [], IfOk};
+
 use super::assertions::assert_equal;
 use super::pipe::ROOM;
 use debug_replay::{DebugFault, run_replay};
@@ -19,7 +21,7 @@ const CONFIG: Config = Config {
     journal_limit: 100,
 };
 
-const JOURNAL: &str = "cachesim journal 1
+pub const JOURNAL: &str = "cachesim journal 1
 0 look 1 = miss
 0 put 1 = added 0
 0 afterwrite = drain
@@ -31,11 +33,19 @@ const JOURNAL: &str = "cachesim journal 1
 0 end = idle
 ";
 
-// A session that holds the journal.
-fn opened(rt: &impl Abort, alloc: Global) -> Result<Session<Shell>, Fail> {
+// A session of no step.
+pub fn empty(rt: &impl Abort, alloc: Global) -> Result<Session<Shell>, Fail>
+    ensures kept { IfOk result (λ s. s.kept ≡ []) }
+    ensures tail { IfOk result (λ s. s.tail ≡ []) }
+{
     assert!(rt; CONFIG.check().is_ok());
     let shell = Shell::new(alloc, &CONFIG)?;
-    let mut session = Session::open(alloc, shell, 100);
+    Ok(Session::open(alloc, shell, 100))
+}
+
+// A session that holds the journal.
+pub fn opened(rt: &impl Abort, alloc: Global) -> Result<Session<Shell>, Fail> {
+    let mut session = empty(rt, alloc)?;
     read_journal(alloc, &mut JOURNAL.as_bytes(), &mut session)?;
     Ok(session)
 }
