@@ -1,5 +1,5 @@
 -- The oldest and the newest entry of a queue, taken out or turned.
-use Rattle.std.proofs.Common.{◌≡◌, ℕ, suc, ◌+◌, ◌<◌, ◌≤◌, Option, Some, None, List, ap, subst, ◌∙◌, refl, append-nil}
+use Rattle.std.proofs.Common.{◌≡◌, ℕ, suc, ◌+◌, ◌<◌, ◌≤◌, Option, Some, None, List, [], ◌∷◌, ap, sym, subst, ◌∙◌, refl, append-nil}
 use Rattle.step_record.specs.declared.item.Item.{Item}
 use Rattle.queue_table.specs.declared.records.Entry.{Entry}
 use Rattle.queue_table.specs.Entries.{entry, oldest_of, newest_of, IsGap}
@@ -7,9 +7,9 @@ use Rattle.queue_table.specs.Queues as By
 use Rattle.queue_policies.specs.CountedKeys.{CountedKey, AreCounted}
 use Rattle.queue_policies.specs.Queues.{without_oldest, without_newest}
 use Rattle.queue_policies.specs.Turns.{after_turn, before_turn}
-use Rattle.counted_queues.specs.Queues.{IsSound, queue_of, with_queue, first_or}
+use Rattle.counted_queues.specs.Queues.{IsSound, queue_of, with_queue, first_or, counted_key, queues_after_push}
 use Rattle.counted_queues.specs.Table.{item_of, item_at, counted_without}
-use Rattle.counted_queues.proofs.Entries.{IsOldestEntry, IsNewestEntry, newest-entry, newest-left}
+use Rattle.counted_queues.proofs.Entries.{IsOldestEntry, IsNewestEntry, newest-entry, newest-left, some-in}
 use Rattle.counted_queues.proofs.Tables.{Shows, oldest-in, newest-in, oldest-standing, newest-standing, removed, sent, sent-front, gap-front}
 use Rattle.counted_queues.proofs.Turning.{turned-queues, returned-queues, returned-count}
 
@@ -34,6 +34,14 @@ module _ (t : By.Queues) (s : List (List CountedKey)) (h : Shows t s) (u : IsSou
       let o : IsOldestEntry e (queue_of q s) = oldest-in t s h q e first in
       subst (Shows t2) (turned-queues e.item.key e.count m q s o.behind h.five low o.whole less)
       (sent t s h u e.item.key e.count q (oldest-standing t s h q e low o) t2 g.item m q (item-is o.item) low after)
+
+  -- the oldest goes to another queue
+  pub passed : (t2 : By.Queues) (m to k n : ℕ) (l : List CountedKey) → to < 5 → oldest_of (t q) ≡ Some e → queue_of q s ≡ counted_key k n ∷ l
+      → t2 ≡ By.after_send (entry g.item m) to t → Shows t2 (queues_after_push to k m (with_queue q l s))
+  passed t2 m to k n l few first whole after =
+      let o : IsOldestEntry e (queue_of q s) = oldest-in t s h q e first in
+      let key : e.item.key ≡ k = some-in e.item.key k (ap (first_or None) (sym o.whole ∙ whole)) in
+      sent t s h u k n q record { before = []; behind = l; low = low; whole = whole } t2 g.item m to (item-is o.item ∙ ap item_of key) few after
 
   pub unturned : (t2 : By.Queues) → newest_of (t q) ≡ Some e → t2 ≡ By.after_return q None (entry g.item (e.count + 1)) (By.after_removal g.item t) → Shows t2 (with_queue q (before_turn (queue_of q s)) s)
   unturned t2 last after =

@@ -1,7 +1,7 @@
 //! Five queues by number, with a count beside each key.
-ghost use Rattle.std.specs.Prelude.{◌≡◌, ◌+◌, ◌<◌, ◌≤◌, ◌++◌, ◌∷◌, length, ℕ, Ok, Some, None, OnOk, IfOk};
+ghost use Rattle.std.specs.Prelude.{◌≡◌, ◌+◌, ◌<◌, ◌≤◌, ◌++◌, ◌∷◌, List, length, ℕ, Ok, Some, None, OnOk, IfOk};
 ghost use Rattle.std.specs.Prelude.{IfSome, IfNone, IsTrue, false};
-ghost use Rattle.queue_policies.specs.CountedKeys.{count_of, keys_of};
+ghost use Rattle.queue_policies.specs.CountedKeys.{CountedKey, count_of, keys_of};
 ghost use Rattle.counted_queues.specs.Queues.{empty_queues, queue_of, with_queue, holds, counted_key};
 ghost use Rattle.counted_queues.specs.Queues.{queues_after_push, queues_after_return};
 ghost use Rattle.counted_queues.specs.Queues.{first_or, newest_or, IsAbsent, IsStanding, IsCutAt, IsSound};
@@ -14,6 +14,10 @@ use queue_table::QueueTable;
 use std::alloc::{AllocError, Global};
 use std::marker::Model;
 use step_record::{Item, Key};
+
+// The least number of keys at which keys are prefetched. Smaller queues stay in the processor's caches, where prefetching
+// costs more than it spares.
+const PREFETCH_FROM: usize = 65_536;
 
 /// A place in a queue.
 #[derive(Clone, Copy)]
@@ -29,6 +33,8 @@ pub struct Place {
 pub struct CountedQueues {
     alloc: Global,
     pub(crate) table: QueueTable,
+    /// A sum over what `prefetch` read, kept so that the compiler cannot drop the reads.
+    prefetched: u64,
 }
 
 impl Model for CountedQueues {
@@ -53,6 +59,7 @@ impl CountedQueues {
         CountedQueues {
             alloc,
             table: QueueTable::for_items(alloc, items),
+            prefetched: 0,
         }
     }
 
@@ -83,6 +90,25 @@ impl CountedQueues {
         ensures spare { self.old.spare ≤ self.new.spare }
     {
         self.table.reserve(self.alloc)
+    }
+
+    /// Prefetches what a search for each of these keys reads first, where the queues are larger than the processor's
+    /// caches. Unlike the reads of a search, these do not depend on one another, so the processor overlaps them. Changes
+    /// nothing that a caller can see.
+    #[inline(always)]
+    pub fn prefetch(&mut self, keys: &[Key])
+        ensures { self.new ≡ self.old }
+    {
+        if self.table.count() >= PREFETCH_FROM {
+            self.read_ahead(keys);
+        }
+    }
+
+    #[inline(never)]
+    fn read_ahead(&mut self, keys: &[Key])
+        ensures { self.new ≡ self.old }
+    {
+        self.prefetched ^= self.table.prefetch(keys, 0);
     }
 
     /// The queue in which the key stands, and its count.
@@ -232,6 +258,23 @@ impl CountedQueues {
         let found = self.table.find(item_of(key))?;
         let place = self.table.send(found.at, queue, count);
         key_at(place.older)
+    }
+
+    /// Moves the oldest key of a queue to the recent end of a queue, its own or another one, and gives it another count.
+    /// It needs no room, and no search. Nothing happens where the queue is empty.
+    #[inline(always)]
+    pub fn pass_oldest(&mut self, from: u8, to: u8, count: u8)
+        requires from { from < 5 }
+        requires to { to < 5 }
+        ensures queues { (k n : ℕ) (l : List CountedKey) → queue_of from self.old.queues ≡ counted_key k n ∷ l
+            → self.new.queues ≡ queues_after_push to k count (with_queue from l self.old.queues) }
+        ensures spare { self.new.spare ≡ self.old.spare }
+    {
+        self.sound();
+        let Some((at, _)) = self.table.oldest(from) else {
+            return;
+        };
+        let _ = self.table.send(at, to, count);
     }
 
     /// Moves a key from where it stands to the old end of a queue, its own or another one, and gives it another count.

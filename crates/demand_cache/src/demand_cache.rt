@@ -52,6 +52,14 @@ impl DemandCache {
         }
     }
 
+    /// Prefetches what accesses to these keys read first. It changes nothing.
+    #[inline(always)]
+    pub fn prefetch(&mut self, keys: &[Key])
+        ensures { self.new ≡ self.old }
+    {
+        self.queues.prefetch(keys);
+    }
+
     /// Makes an access that is not to be undone: that of `apply`, without its undo record.
     ///
     /// Errors: `NotNow` exactly where `MAX_STEPS` accesses are applied, and `OutOfMemory`; each leaves the cache as it

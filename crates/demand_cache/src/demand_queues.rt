@@ -73,6 +73,19 @@ impl DemandQueues {
         }
     }
 
+    /// Prefetches what accesses to these keys read first. Changes nothing that a caller can see.
+    pub fn prefetch(&mut self, keys: &[Key])
+        ensures { self.new ≡ self.old }
+    {
+        match self {
+            DemandQueues::Clock(cache) => cache.prefetch(keys),
+            DemandQueues::Sieve(cache) => cache.prefetch(keys),
+            DemandQueues::S3Fifo(cache) => cache.prefetch(keys),
+            DemandQueues::TwoQ(cache) => cache.prefetch(keys),
+            DemandQueues::Arc(cache) => cache.prefetch(keys),
+        }
+    }
+
     /// An access to a key, with the record that undoes it. The one error is that an allocation failed, for a key that is
     /// not resident; the queues are then as before.
     pub fn access(&mut self, key: Key) -> Result<(Outcome, QueuesRecord), AllocError>

@@ -53,6 +53,13 @@ impl GhostQueues {
         }
     }
 
+    /// Prefetches what accesses to these keys read first. Changes nothing that a caller can see.
+    pub(crate) fn prefetch(&mut self, keys: &[Key])
+        ensures { self.new ≡ self.old }
+    {
+        self.queues.prefetch(keys);
+    }
+
     /// How many keys are in the queue.
     #[inline(always)]
     pub(crate) fn len(&self, queue: QueueName) -> usize
@@ -189,7 +196,7 @@ impl GhostQueues {
         ensures spare { self.old.spare ≤ self.new.spare }
     {
         self.queues.sound();
-        let _ = self.queues.send_recent(key, to.number(), count);
+        self.queues.pass_oldest(from.number(), to.number(), count);
     }
 
     /// The newest key of a queue goes back to the old end of a queue, with the given count.

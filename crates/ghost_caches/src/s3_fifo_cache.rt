@@ -59,6 +59,13 @@ impl S3FifoCache {
         }
     }
 
+    /// Prefetches what accesses to these keys read first. Changes nothing that a caller can see.
+    pub fn prefetch(&mut self, keys: &[Key])
+        ensures { self.new ≡ self.old }
+    {
+        self.queues.prefetch(keys);
+    }
+
     /// An access to a key, with the record that undoes it. The one error is that an allocation failed; the cache is
     /// then as before.
     pub fn access(&mut self, key: Key) -> Result<(Outcome, S3FifoRecord), AllocError>

@@ -26,7 +26,7 @@ const PREFETCH_FROM: usize = 65_536;
 const PREFETCH_FROM_WHERE_COUNTING: usize = 4096;
 
 // How many accesses are prefetched at once.
-const AHEAD: usize = 16;
+pub(crate) const AHEAD: usize = 16;
 
 /// Marks a cache whose policy is known by its job alone.
 #[derive(Drop)]

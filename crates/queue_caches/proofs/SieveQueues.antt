@@ -138,16 +138,16 @@ sent-list : (k n : ℕ) (l b : List CountedKey) → l ≡ counted_key k n ∷ b 
 sent-list k n l b e = rw e refl
 
 pub sent : (a k n m : ℕ) (s t : List (List CountedKey)) → IsSieveQueues a s → oldest_entry (sieve_state a s).ahead ≡ Some (k, n)
-    → ((p : IsStanding k n a s) → t ≡ queues_after_push (1 - a) k m (with_queue a (p.before ++ p.behind) s))
+    → ((b : List CountedKey) → queue_of a s ≡ counted_key k n ∷ b → t ≡ queues_after_push (1 - a) k m (with_queue a b s))
     → t ≡ sieve_queues a record { passed = (sieve_state a s).passed ++ counted_key k m ∷ []; ahead = without_oldest (sieve_state a s).ahead }
 sent zero k n m s t h at move =
     let e : (b : List CountedKey) × (queue_of 0 s ≡ counted_key k n ∷ b) = entry-oldest k n (queue_of 0 s) at in
-    move (record { before = []; behind = e.0; low = omega arith; whole = e.1 })
+    move e.0 e.1
     ∙ ap (λ x. queues_after_push 1 k m (with_queue 0 e.0 x)) h.is
     ∙ ap (λ b. two b (queue_of 1 s ++ counted_key k m ∷ [])) (sent-list k n (queue_of 0 s) e.0 e.1)
 sent (suc zero) k n m s t h at move =
     let e : (b : List CountedKey) × (queue_of 1 s ≡ counted_key k n ∷ b) = entry-oldest k n (queue_of 1 s) at in
-    move (record { before = []; behind = e.0; low = omega arith; whole = e.1 })
+    move e.0 e.1
     ∙ ap (λ x. queues_after_push 0 k m (with_queue 1 e.0 x)) h.is
     ∙ ap (λ b. two (queue_of 0 s ++ counted_key k m ∷ []) b) (sent-list k n (queue_of 1 s) e.0 e.1)
 sent (suc (suc a)) k n m s t h at move = absurd (let low = h.low in omega (arith, low))

@@ -45,6 +45,13 @@ impl SieveQueues {
         }
     }
 
+    /// Prefetches what accesses to these keys read first. Changes nothing that a caller can see.
+    pub(crate) fn prefetch(&mut self, keys: &[Key])
+        ensures { self.new ≡ self.old }
+    {
+        self.queues.prefetch(keys);
+    }
+
     /// The visited bit of a key.
     #[inline(always)]
     pub(crate) fn find(&self, key: Key) -> Option<u8>
@@ -179,7 +186,7 @@ impl SieveQueues {
         ensures state { self.new.state ≡ after_pass self.old.state.passed self.old.state.ahead }
         ensures spare { self.new.spare ≡ self.old.spare }
     {
-        let _ = self.queues.send_recent(key, 1 - self.ahead, bit - 1);
+        self.queues.pass_oldest(self.ahead, 1 - self.ahead, bit - 1);
         let _ = self.wrap();
     }
 
