@@ -24,9 +24,6 @@ module _ (k : ℕ) (q : QueueName) (s : List (List CountedKey)) where
   pub oldest : first_or None (list_of q (lists_of s)) ≡ Some k → IsOldest k (queue_of (number_of q) s)
   oldest h = oldest-of-list k (queue_of (number_of q) s) (ap (first_or None) (sym (list-at q s)) ∙ h)
 
-  abbrev pub oldest-stands : (p : IsOldest k (queue_of (number_of q) s)) → IsStanding k p.count (number_of q) s
-  oldest-stands p = record { before = []; behind = p.behind; low = let low = number-low q in omega (arith, low); whole = p.whole }
-
   pub newest : newest_or None (list_of q (lists_of s)) ≡ Some k → IsNewest k (queue_of (number_of q) s)
   newest h = newest-of-list k (queue_of (number_of q) s) (ap (newest_or None) (sym (list-at q s)) ∙ h)
 
