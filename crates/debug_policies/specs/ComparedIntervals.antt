@@ -12,7 +12,7 @@ use Rattle.debug_policies.specs.declared.compared_intervals.ComparedInterval.{Co
 
 -- ---- the definition
 
--- what is counted of the accesses of an interval behind `before` others, which are counted from 1
+-- what is counted of the accesses of an interval after `before` others, which are counted from 1
 abbrev pub compared_behind : ℕ → List (Bool × Bool) → ComparedInterval
 compared_behind before hits = record { from = before + 1; to = before + length hits; counts = counts_of hits }
 

@@ -64,7 +64,7 @@ entries_without k (e ∷ l) = if eqb k e.key then entries_without k l else e ∷
 abbrev pub lists_without_key : QueueName → ℕ → QueueLists → QueueLists
 lists_without_key q k s = with_list q (entries_without k (list_of q s)) s
 
--- the entry right behind the key of an older one, in front of all where there is none
+-- the entry right after the key of an older one, in front of all where there is none
 abbrev pub entry_behind : Option ℕ → CountedKey → List CountedKey → List CountedKey
 entry_behind None e l = e ∷ l
 entry_behind (Some a) e [] = e ∷ []
@@ -75,7 +75,7 @@ abbrev pub HasPlace : Option ℕ → List CountedKey → Type 0
 HasPlace None l = Unit {0}
 HasPlace (Some a) l = has_key a (keys_of l) ≡ true
 
--- k right behind the older one
+-- k right after the older one
 abbrev pub lists_with_behind : QueueName → Option ℕ → ℕ → QueueLists → QueueLists
 lists_with_behind q older k s = with_list q (entry_behind older (counted_key k 0) (list_of q s)) s
 

@@ -209,7 +209,7 @@ impl GhostQueues {
         self.queues.send_oldest(key, to.number(), count);
     }
 
-    /// The newest key of a queue goes to its old place in a queue, right behind its older neighbour there, or in front
+    /// The newest key of a queue goes to its old place in a queue, right after its older neighbour there, or in front
     /// of all where it has none.
     pub(crate) fn put_back(&mut self, key: Key, from: QueueName, to: QueueName, older: Option<Key>)
         requires newest { newest_or None (list_of from self.old.lists) ≡ Some key }

@@ -62,9 +62,9 @@ pub struct ArcMiss {
 /// What an access to an ARC cache leaves to be undone from.
 #[derive(Clone, Copy, Debug)]
 pub enum ArcRecord {
-    /// The key of `t1` went to `t2`; it had stood right behind the other one, or in front of all.
+    /// The key of `t1` went to `t2`; it had stood right after the other one, or in front of all.
     FromT1(Key, Option<Key>),
-    /// The key of `t2` was renewed, which stood right behind the other one, or in front of all.
+    /// The key of `t2` was renewed, which stood right after the other one, or in front of all.
     FromT2(Key, Option<Key>),
     /// A miss.
     Missed(ArcMiss),

@@ -27,7 +27,7 @@ pub struct TwoQMiss {
 /// What an access to a 2Q cache leaves to be undone from.
 #[derive(Clone, Copy, Debug)]
 pub enum TwoQRecord {
-    /// The key of `am` was renewed, which stood right behind the other one, or in front of all.
+    /// The key of `am` was renewed, which stood right after the other one, or in front of all.
     Renewed(Key, Option<Key>),
     /// The key was in `a1in`, and nothing moved.
     Unmoved,

@@ -36,7 +36,7 @@ StandsIn bytes kept = (kept ≡ []) ⊎ ((v : Version) × (more : List ℕ) × (
 
 -- a session that was opened on x
 module _ {D : Type 0} (act : D → Step → Option (Reply × D)) (x : D) (limit : ℕ) where
-  -- What is wrong with the line that stands behind the lines of the entries es, and what is kept then.
+  -- What is wrong with the line that stands after the lines of the entries es, and what is kept then.
   abbrev pub IsWrong : JournalFault → Version → Entries → List ℕ → Entries → Type 0
   -- it is no line of the table
   IsWrong (fault.Line n) v es text kept =
@@ -74,7 +74,7 @@ module _ {D : Type 0} (act : D → Step → Option (Reply × D)) (x : D) (limit 
   -- the first line is no header, or has no line feed
   IsFault fault.Header bytes kept = (kept ≡ [])
       × ((v : Version) (more : List ℕ) → bytes ≢ ended_line (header v) ++ more)
-  -- a line is wrong, or there is a line more behind the count, which is itself the line behind those of the entries
+  -- a line is wrong, or there is a line more after the count, which is itself the line after those of the entries
   IsFault (fault.Line n) bytes kept = IsAtLine (fault.Line n) bytes kept
       ⊎ ((n ≡ length kept + 2)
       × ((more : List ℕ) × AreLines Two kept × (0 < length more) × (bytes ≡ journal_of Two kept ++ more)))

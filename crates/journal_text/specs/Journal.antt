@@ -27,7 +27,7 @@ entry_line e = ended_line (text_of (Made e))
 unfoldable pub begun : Version → Entries → List ℕ
 begun v es = ended_line (header v) ++ flat_map entry_line es
 
--- behind the entries of version 2, their count
+-- after the entries of version 2, their count
 abbrev pub closing_line : Version → ℕ → List ℕ
 closing_line One n = []
 closing_line Two n = ended_line (text_of (Steps n))

@@ -60,7 +60,7 @@ answer_of _ = None
 unfoldable pub answer_at : Reads Answer
 answer_at ws = named_at reply_word REPLIES ws >>= λ r. with_rest r.1 (answer_of r.0)
 
--- an act, with the numbers that stand behind its word
+-- an act, with the numbers that follow its word
 abbrev pub act_with_numbers : Act → Reads Act
 act_with_numbers (act.Look _) ws = wide_at ws >>= λ k. Some (act.Look k.0, k.1)
 act_with_numbers (act.Offer _ _) ws = small_at 256 ws >>= λ s. (item_at s.1 >>= λ i. Some (act.Offer s.0 i.0, i.1))
@@ -74,7 +74,7 @@ act_with_numbers a ws = Some (a, ws)
 unfoldable pub act_at : Reads Act
 act_at ws = named_at act_word ACTS ws >>= λ a. act_with_numbers a.0 a.1
 
--- a reply, with the numbers that stand behind its word
+-- a reply, with the numbers that follow its word
 abbrev pub reply_with_numbers : Reply → Reads Reply
 reply_with_numbers (reply.Hit _) ws = wide_at ws >>= λ n. Some (reply.Hit n.0, n.1)
 reply_with_numbers (reply.Added _) ws = wide_at ws >>= λ n. Some (reply.Added n.0, n.1)

@@ -61,7 +61,7 @@ abbrev pub name_in : List Word → List ℕ
 name_in (Named name ∷ words) = name
 name_in _ = []
 
--- the words behind it
+-- the words after it
 abbrev pub behind : List Word → List Word
 behind [] = []
 behind (w ∷ words) = words

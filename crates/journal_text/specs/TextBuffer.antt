@@ -5,7 +5,7 @@ use Rattle.std.specs.List.{All}
 use Rattle.step_record.specs.History.{Entries}
 use Rattle.journal_text.specs.Table.{entry_words, FitWords}
 
--- these bytes are those that the writer got since old, and behind them those that wait in the buffer
+-- these bytes are those that the writer got since old, and after them those that wait in the buffer
 abbrev pub IsTextWritten : Option (List ℕ) → Option (List ℕ) → List ℕ → List ℕ → Type 0
 IsTextWritten old new waiting bytes = (sent : List ℕ) × (bytes ≡ sent ++ waiting) × Appends old new sent
 

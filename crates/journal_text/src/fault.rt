@@ -14,7 +14,7 @@ pub enum JournalFault {
     OutOfMemory,
     /// The first line is not a header, or has no line feed.
     Header,
-    /// The line is not in the grammar, or there are bytes behind the count of the steps.
+    /// The line is not in the grammar, or there are bytes after the count of the steps.
     Line { step: usize },
     /// The step got another reply than the one that the line says.
     FalseReply { step: usize },

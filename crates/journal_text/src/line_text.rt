@@ -1,4 +1,4 @@
-//! A line as text, behind what a buffer holds already. The buffer has the room, so nothing fails.
+//! A line as text, appended to a buffer. The buffer has the room, so nothing fails.
 ghost use Rattle.std.specs.Prelude.{◌≡◌, ◌≤◌, ◌+◌, ◌*◌, ◌++◌, ◌∷◌, [], length, map, vec_len, vec_capacity};
 ghost use Rattle.std.specs.Fmt.{decimal};
 ghost use Rattle.journal_text.specs.Table.{act_words, behind, entry_words, reply_words, spaced, text_of, FitWords};
@@ -12,7 +12,7 @@ use itoa::Buffer;
 use step_record::{Act, Entry, Reply, Step};
 
 /// The room that is asked for a line and its line feed. A line has nine words at most, each of
-/// at most 20 bytes and with one byte behind it.
+/// at most 20 bytes and with one byte after it.
 pub const MAX_LINE: usize = 192;
 
 /// Adds an entry with its line feed. Its words fit, since its numbers are of their types.
@@ -98,7 +98,7 @@ fn push_act(text: &mut Vec<u8>, act: Act)
     push_act_numbers(text, act);
 }
 
-// Adds what stands behind the word of an act.
+// Adds what follows the word of an act.
 #[tactic(auto, unfolding(crate::specs::Table::spaced))]
 fn push_act_numbers(text: &mut Vec<u8>, act: Act)
     requires { vec_len text.old + 63 ≤ vec_capacity text.old }
@@ -130,7 +130,7 @@ fn push_reply(text: &mut Vec<u8>, reply: Reply)
     push_reply_numbers(text, reply);
 }
 
-// Adds what stands behind the word of a reply.
+// Adds what follows the word of a reply.
 fn push_reply_numbers(text: &mut Vec<u8>, reply: Reply)
     requires { vec_len text.old + 42 ≤ vec_capacity text.old }
     ensures items { text.new.items ≡ text.old.items ++ spaced (behind (reply_words reply)) }

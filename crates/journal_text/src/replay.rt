@@ -34,7 +34,7 @@ pub fn read_text<E: Engine<Step = Step, Reply = Reply>>(
     }
 }
 
-// Reads the lines behind the header.
+// Reads the lines after the header.
 fn read_lines<E: Engine<Step = Step, Reply = Reply>>(
     version: Version,
     lines: &[u8],
@@ -73,7 +73,7 @@ fn stop(version: Version, rest: &[u8]) -> Result<(), JournalFault>
     }
 }
 
-// The end of version 2, behind the count of the steps, which is the line behind those of the steps: there are no more
+// The end of version 2, after the count of the steps, which is the line after those of the steps: there are no more
 // bytes, or they are a line too many.
 fn end<E: Engine<Step = Step, Reply = Reply>>(
     behind: &[u8],
@@ -90,7 +90,7 @@ fn end<E: Engine<Step = Step, Reply = Reply>>(
     })
 }
 
-// The version that the header names, and the bytes behind the header.
+// The version that the header names, and the bytes after the header.
 fn header_of(bytes: &[u8]) -> Option<(Version, &[u8])>
     ensures { MatchOption result
         ((v : Version) (more : List ℕ) → bytes.now ≢ ended_line (header v) ++ more)
@@ -113,7 +113,7 @@ fn version_of(text: &[u8]) -> Option<Version>
     None
 }
 
-// The first line without its line feed, and the bytes behind that.
+// The first line without its line feed, and the bytes after that.
 fn first_line(bytes: &[u8]) -> Option<(&[u8], &[u8])>
     ensures { MatchOption result (HasNoFeed bytes.now)
         (λ l. HasNoFeed l.0.now × (bytes.now ≡ ended_line l.0.now ++ l.1.now)) }

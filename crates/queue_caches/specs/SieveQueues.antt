@@ -37,7 +37,7 @@ abbrev pub key_at_hand : List CountedKey → Option (ℕ × Bool)
 key_at_hand [] = None
 key_at_hand (e ∷ ahead) = Some (e.key, is_empty ahead)
 
--- where the hand has passed no key, it goes back behind the newest
+-- where the hand has passed no key, it goes back after the newest
 abbrev pub before_wrap : List CountedKey → List CountedKey → SieveState
 before_wrap [] ahead = record { passed = ahead; ahead = [] }
 before_wrap (e ∷ passed) ahead = record { passed = e ∷ passed; ahead = ahead }

@@ -234,7 +234,7 @@ impl SieveQueues {
         }
     }
 
-    // Where the hand has passed no key, it goes behind the newest.
+    // Where the hand has passed no key, it goes after the newest.
     fn unwrap(&mut self)
         ensures state { self.new.state ≡ before_wrap self.old.state.passed self.old.state.ahead }
         ensures spare { self.new.spare ≡ self.old.spare }

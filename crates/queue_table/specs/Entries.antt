@@ -64,7 +64,7 @@ abbrev pub before : Item → List Entry → List Entry
 before i [] = []
 before i (e ∷ l) = cond (is_same_item i e.item) [] (e ∷ before i l)
 
--- what stands behind the item
+-- what stands after the item
 abbrev pub behind : Item → List Entry → List Entry
 behind i [] = []
 behind i (e ∷ l) = cond (is_same_item i e.item) l (behind i l)
@@ -77,7 +77,7 @@ pub record IsGap (older newer : Option Item) (l : List Entry) : Type 0 where
   pub older_last : last_item before ≡ older
   pub newer_first : first_item behind ≡ newer
 
--- the entry put right behind its older neighbour, in front of all where there is none
+-- the entry put right after its older neighbour, in front of all where there is none
 abbrev pub put_behind : Option Item → Entry → List Entry → List Entry
 put_behind None x l = x ∷ l
 put_behind (Some a) x [] = x ∷ []

@@ -59,7 +59,7 @@ after_send e q s = after_push q e (after_removal e.item s)
 abbrev pub after_count : Item → ℕ → Queues → Queues
 after_count i n s j = entries_counted i n (s j)
 
--- the entry put back into a queue, right behind its older neighbour
+-- the entry put back into a queue, right after its older neighbour
 abbrev pub after_return : ℕ → Option Item → Entry → Queues → Queues
 after_return q older e s = with_queue q (put_behind older e (s q)) s
 

@@ -46,7 +46,7 @@ abbrev pub count : ℕ → List ℕ → ℕ
 count k [] = 0
 count k (x ∷ l) = cond (eqb k x) 1 0 + count k l
 
--- the slots of the list stand between a and b, each linked to the one before it and the one behind it
+-- the slots of the list stand between a and b, each linked to the one before it and the one after it
 abbrev pub IsLinked : List ℕ → List ℕ → ℕ → List ℕ → ℕ → Type 0
 IsLinked newers olders a [] b = (slice_index newers a ≡ b) × (slice_index olders b ≡ a)
 IsLinked newers olders a (i ∷ l) b =
@@ -82,7 +82,7 @@ moved_before k b l = put_before k b (keys_without k l)
 abbrev pub SECTIONS : ℕ
 SECTIONS = 6
 
--- slot k stands before section k, and slot k + 1 behind it; the slots from this one on are in the sections
+-- slot k stands before section k, and slot k + 1 after it; the slots from this one on are in the sections
 abbrev pub FIRST : ℕ
 FIRST = 7
 
@@ -90,7 +90,7 @@ FIRST = 7
 abbrev pub Order : Type 0
 Order = ℕ → List ℕ
 
--- n sections from section k on, each with the slot behind it
+-- n sections from section k on, each with the slot after it
 abbrev pub ring_from : ℕ → ℕ → Order → List ℕ
 ring_from zero k o = []
 ring_from (suc n) k o = o k ++ suc k ∷ ring_from n (suc k) o
@@ -110,7 +110,7 @@ used o = used_below QUEUES o
 abbrev pub with_section : ℕ → List ℕ → Order → Order
 with_section s l o j = cond (eqb j s) l (o j)
 
--- the list up to b, and what stands behind it
+-- the list up to b, and what stands after it
 abbrev pub until : ℕ → List ℕ → List ℕ
 until b [] = []
 until b (x ∷ l) = cond (eqb b x) [] (x ∷ until b l)
@@ -119,7 +119,7 @@ abbrev pub past : ℕ → List ℕ → List ℕ
 past b [] = []
 past b (x ∷ l) = cond (eqb b x) l (past b l)
 
--- the sections of a ring that begins behind slot 0
+-- the sections of a ring that begins after slot 0
 abbrev pub order_in : List ℕ → Order
 order_in l s = cond (nat_lt s SECTIONS) (until (suc s) (past s (0 ∷ l))) []
 
@@ -153,7 +153,7 @@ pub record IsQueued (slots : List Slot) (o : Order) : Type 0 where
   pub tagged : (q k : ℕ) → 1 ≤ count k (o (suc q)) → tag_at (tags slots) k ≡ q
   pub distinct : IsDistinct (lists_of o (entries slots))
 
--- b is a place in the section: one of its slots, or the one behind it
+-- b is a place in the section: one of its slots, or the one after it
 abbrev pub IsPlace : ℕ → ℕ → Order → Type 0
 IsPlace b s o = (1 ≤ count b (o s)) ⊎ (b ≡ suc s)
 

@@ -18,7 +18,7 @@ abbrev pub size : Tree → ℕ
 size leaf = 0
 size (fork i l r) = suc (size l + size r)
 
--- where the links have a slot's branch, the right one if true: side by side behind the roots
+-- where the links have a slot's branch, the right one if true: side by side after the roots
 abbrev pub branch : ℕ → ℕ → Bool → ℕ
 branch roots k right = roots + 2 * k + cond right 1 0
 

@@ -9,7 +9,7 @@
 //! search trees finds the slot of an item, in 129 slots at most whatever the keys. Only `reserve` and `list` allocate.
 //!
 //! All slots stand in one ring, linked both ways, so that no move has a case for an end. Slots 0 to 6 hold no item:
-//! slot s stands before section s, and slot s + 1 behind it. Section 0 has the free slots, section q + 1 those of queue
+//! slot s stands before section s, and slot s + 1 after it. Section 0 has the free slots, section q + 1 those of queue
 //! q, oldest first. Here A and B stand in queue 0, C in queue 1 and D in queue 4:
 //!
 //! ```text

@@ -1,5 +1,5 @@
 //! All slots stand in one ring, linked both ways, so that no move has a case for an end. Slots 0 to 6 hold no item:
-//! slot s stands before section s, and slot s + 1 behind it. Section 0 has the free slots, section q + 1 those of queue
+//! slot s stands before section s, and slot s + 1 after it. Section 0 has the free slots, section q + 1 those of queue
 //! q, oldest first. Here A and B stand in queue 0, C in queue 1 and D in queue 4:
 //!
 //! ```text
@@ -86,7 +86,7 @@ fn slot_before(queue: u8) -> u32
     queue as u32 + 1
 }
 
-/// The slot that stands behind the queue.
+/// The slot that stands after the queue.
 #[inline(always)]
 pub(crate) fn slot_behind(queue: u8) -> u32
     requires { queue < QUEUES }

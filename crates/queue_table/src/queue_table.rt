@@ -232,7 +232,7 @@ impl QueueTable {
         place_of_slot(&self.slots, at)
     }
 
-    // The slot behind a place: that of its newer neighbour, or the one that closes the queue.
+    // The slot after a place: that of its newer neighbour, or the one that closes the queue.
     fn slot_at_place(&self, place: Place) -> u32
         requires { place.queue < QUEUES }
         ensures last { place.newer ≡ None → result ≡ suc (suc place.queue) }

@@ -17,7 +17,7 @@ pub struct Place {
     pub queue: u8,
     /// The item right before the place, towards the oldest end.
     pub older: Option<Item>,
-    /// The item right behind the place, towards the recent end.
+    /// The item right after the place, towards the recent end.
     pub newer: Option<Item>,
 }
 

@@ -8,6 +8,6 @@ use Rattle.segments.specs.Queues.{Queues}
 abbrev pub queue_occurrences : Item → Queues → ℕ
 queue_occurrences i q = occurrences i q.window + occurrences i q.probation + occurrences i q.protected
 
--- how many items stand behind the window
+-- how many items stand after the window
 abbrev pub main_length : Queues → ℕ
 main_length q = length q.probation + length q.protected

@@ -67,7 +67,7 @@ target_of (Some r) = r.to
 abbrev pub IsDrop : Option MoveRecord → Type 0
 IsDrop o = IsOldest o × (target_of o ≡ None)
 
--- what was moved first, from a queue or from none, and what went out behind it: nothing did where an item of the queues
+-- what was moved first, from a queue or from none, and what went out after it: nothing did where an item of the queues
 -- was moved first
 abbrev pub IsBefore : Option QueuePlace → Option Queue → Option MoveRecord → Type 0
 IsBefore None to out = IsChange None to × IsDrop out

@@ -37,7 +37,7 @@ pub(crate) enum Spot {
     Protected,
 }
 
-/// The flags of the moves, and behind them the items. What is not there is an item of zeros.
+/// The flags of the moves, and after them the items. An absent item is stored as zeros.
 #[derive(Clone, Copy)]
 pub(crate) enum PackedMoves {
     /// An item of the queues was moved first, so none went out.
@@ -219,7 +219,7 @@ fn queue_of_place(place: Option<QueuePlace>) -> Option<Queue>
     }
 }
 
-// The item right behind a place.
+// The item right after a place.
 #[inline(always)]
 fn newer_item(place: Option<QueuePlace>) -> Option<Item>
     ensures { result ≡ newer_in place }

@@ -62,7 +62,7 @@ impl Stripes {
         self.buffers[stripe as usize].as_slice()
     }
 
-    /// Puts an item behind the newest of a stripe. A full stripe answers `false`, and keeps what it has.
+    /// Puts an item after the newest of a stripe. A full stripe answers `false`, and keeps what it has.
     pub fn offer(&mut self, stripe: u8, item: Item) -> bool
         requires { stripe < length self.old }
         ensures room { result ≡ nat_lt (length (stripe_at stripe self.old)) MAX_ITEMS }

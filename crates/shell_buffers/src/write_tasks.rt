@@ -43,7 +43,7 @@ impl WriteTasks {
         self.buffer.as_slice()
     }
 
-    /// Puts a task behind the newest. A full queue answers `false`, and keeps what it has.
+    /// Puts a task after the newest. A full queue answers `false`, and keeps what it has.
     pub fn push(&mut self, task: Task) -> bool
         ensures room { result ≡ nat_lt (length self.old) MAX_TASKS }
         ensures kept { result ≡ true → self.new ≡ self.old ++ task ∷ [] }

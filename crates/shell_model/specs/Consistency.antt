@@ -28,7 +28,7 @@ leaving i (Add j ∷ ts) = leaving i ts
 leaving i (Update j ∷ ts) = leaving i ts
 leaving i (Remove j ∷ ts) = cond (is_same_item i j) 1 0 + leaving i ts
 
--- behind a Remove no Add of its item waits
+-- after a Remove no Add of its item waits
 abbrev pub IsOrdered : List Task → Type 0
 IsOrdered [] = Unit {0}
 IsOrdered (Add j ∷ ts) = IsOrdered ts

@@ -32,7 +32,7 @@ impl FenwickTree {
         self.sums.len()
     }
 
-    /// Adds a count behind the others. The only error is out of memory.
+    /// Adds a count after the others. The only error is out of memory.
     pub(crate) fn push(&mut self, count: u32) -> Result<(), AllocError>
         requires { (total : ℕ → ℕ) × IsFenwickTree total self.old.sums.items
             × (total (length self.old.sums.items) + count ≤ MAX_ACCESSES) }

@@ -33,7 +33,7 @@ impl Marks {
         Ok(Marks { words, tree })
     }
 
-    /// Marks the place behind all that were marked. The only error is out of memory.
+    /// Marks the place after all that were marked. The only error is out of memory.
     pub(crate) fn put(&mut self, place: usize) -> Result<(), AllocError>
         requires within { place < WORD_BITS * length self.old.words.items }
         requires tree { length self.old.tree.sums.items ≡ place / WORD_BITS }

@@ -15,7 +15,7 @@ use trace_index::PreviousUse;
 /// It is found once, and the statistics of Lru at any capacity take a pass over these places then, in which no key is
 /// looked up. Lru holds the keys of a window of the trace, which ends at the latest access: an access is a hit where
 /// its key came in the window. A pass notes that by a bit at the access where the key came last. Where a miss finds the
-/// cache full, the window's first key whose bit is not set leaves, and the window begins behind that one.
+/// cache full, the window's first key whose bit is not set leaves, and the window begins after that one.
 #[derive(Drop)]
 pub struct Reuses<'a> {
     uses: PreviousUse<'a>,

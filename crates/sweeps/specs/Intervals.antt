@@ -16,7 +16,7 @@ use Rattle.policies.specs.declared.report.Interval.{Interval}
 
 -- ---- the definition
 
--- the outcomes of an interval behind `before` accesses, which are counted from 1
+-- the outcomes of an interval after `before` accesses, which are counted from 1
 abbrev pub interval_behind : Job → ℕ → List Outcome → Interval
 interval_behind job before outcomes = record {
   first = before + 1;

@@ -36,7 +36,7 @@ pub record IsDigitRuns (s : DigitRuns) : Type 0 where
   pub digits : DigitsBetween s.bytes.now s.start s.from
   pub marks : MarksOthers s.bytes.now s.from s.to s.others
 
--- a run of digits that was found, and the runs behind it
+-- a run of digits that was found, and the runs after it
 pub record IsNextRun (bytes : List ℕ) (run : DigitRun) (ahead : DigitRuns) : Type 0 where
   pub runs : IsDigitRuns ahead
   pub same : ahead.bytes.now ≡ bytes
@@ -45,7 +45,7 @@ pub record IsNextRun (bytes : List ℕ) (run : DigitRun) (ahead : DigitRuns) : T
   pub within : run.end + BEHIND ≤ length bytes
   pub digits : DigitsBetween bytes run.start run.end
 
--- the first line feed from a place on, and the runs behind it
+-- the first line feed from a place on, and the runs after it
 pub record IsLineEnd (bytes : List ℕ) (from : ℕ) (line : LineEnd) : Type 0 where
   pub runs : IsDigitRuns line.runs
   pub same : line.runs.bytes.now ≡ bytes

@@ -15,7 +15,7 @@ pub record IsNumberAt (bytes : List ℕ) (run : DigitRun) (number : ℕ) : Type 
   pub below : number < 10 ^ 16
 
 -- the first number, a space or a tab, and the second, with the end of its line, a gap, or a carriage return (13) before
--- the line's end behind it
+-- the line's end after it
 pub record AreTwoNumbers (bytes : List ℕ) (first : DigitRun) (numbers : TwoNumbers) : Type 0 where
   pub found : IsNextRun bytes numbers.second numbers.runs
   pub behind : numbers.second.start ≡ first.end + 1

@@ -8,7 +8,7 @@ use std::simd::prelude::*;
 // How many bytes are looked at at once.
 const BLOCK: usize = 64;
 
-/// How many bytes stand behind the end of each run that is found: a word that begins in the run may reach past it.
+/// How many bytes stand after the end of each run that is found: a word that begins in the run may reach past it.
 pub const BEHIND: usize = 16;
 
 /// The range of a run of digits, possibly empty: its first byte, and the byte after its last.
@@ -43,7 +43,7 @@ pub struct DigitRuns<'a> {
     others: u64,
 }
 
-/// Where a line ends, and the runs behind it.
+/// Where a line ends, and the runs after it.
 #[derive(Clone, Copy, Drop)]
 pub struct LineEnd<'a> {
     pub end: usize,
