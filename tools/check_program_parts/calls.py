@@ -61,7 +61,7 @@ class Check:
         self.faults.append(f"{name}: {text}")
 
     def call(self, *words, typed="", stdin=None, stdout=subprocess.PIPE, stderr=subprocess.PIPE, seconds=SECONDS, under=()):
-        """A call of the program, whose words may stand behind those of another one."""
+        """A call of the program, whose words may follow those of another one."""
         words = [it if isinstance(it, bytes) else str(it) for it in (*under, self.program, *words)]
         how = {"input": octets(typed)} if stdin is None else {"stdin": stdin}
         if isinstance(stdin, Path):

@@ -180,7 +180,7 @@ def sweeps(check):
 def traces(check):
     """The first faulty line of a trace."""
     for name, text, form, line in (
-            ("a letter behind a number", "1\n12a\n", "lirs", "BadNumber line 2"),
+            ("a letter after a number", "1\n12a\n", "lirs", "BadNumber line 2"),
             ("two numbers on a line", "1 2", "lirs", "BadNumber line 1"),
             ("a number of 65 bits", "18446744073709551616", "lirs", "BadNumber line 1"),
             ("a block without a length", "10", "arc", "MissingField line 1"),

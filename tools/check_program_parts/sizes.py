@@ -119,7 +119,7 @@ def lengths(check):
     check.expect("a long comparison", "compare", *pair, stdin=trace, **patient,
                  out=f"first,second,capacity,accesses,both,first_only,second_only,neither\n"
                      f"lru,clairvoyant,{capacity},{count},0,0,{hits},{count - hits}\n")
-    # Each key comes for the second time behind all others, and Belady's policy has some of them then.
+    # Each key comes for the second time after all others, and Belady's policy has some of them then.
     parted = check.answer("a long part", "part", *pair, stdin=trace).decode()
     check.expect_same("a long part", str(parted.startswith("part ") and keys < int(parted[5:]) < 2 * keys), "True")
     check.expect("a long part of one policy", "part", "--capacity", capacity, "--first", "slru", "--second", "slru", stdin=trace,
