@@ -270,9 +270,12 @@ MISTAKES = {
     "a sample that is not scaled": Mistake(check_sampled, "reports.py", "row.misses * self.inverse", "row.misses"),
     "a sample below 0": Mistake(check_sampled, "reports.py", "min(self.whole, row.misses", "max(0, row.misses"),
     "the capacity of a sample": Mistake(check_sampled, "measures.py", "round(it / trace.inverse)", "it"),
-    "a picture of one capacity": Mistake(check_drawn, "measures.py", "(top / low) ** (at", "(top / low) ** (0 * at"),
-    "a picture on a full disk": Mistake(check_drawn, "survey", "    if ended.returncode:", "    if False:"),
     "an output on a full disk": Mistake(check_lost_row, "traces.py", "    except OSError as fault:\n        sys.exit(f\"{tool}",
                                         "    except OSError as fault:\n        print(f\"{tool}"),
     "a packed file read as it is": Mistake(check_ways, "traces.py", "and not first.startswith((GZIP, ZSTD))", ""),
 }
+if shutil.which("gnuplot"):
+    MISTAKES |= {
+        "a picture of one capacity": Mistake(check_drawn, "measures.py", "(top / low) ** (at", "(top / low) ** (0 * at"),
+        "a picture on a full disk": Mistake(check_drawn, "survey", "    if ended.returncode:", "    if False:"),
+    }
