@@ -11,7 +11,7 @@ use step_record::Trace;
 
 #[test]
 fn hits_after_a_warm_up(rt: HostRuntime) -> Result<(), Fail> {
-    let lru = &TWO_JOBS[0];
+    let lru = &LRU;
     assert!(rt; lru.config.check().is_ok());
     let trace = Trace::new(vec![in rt.alloc(); 1, 1, 1, 2, 3, 1, 1]?);
     for (warm, wanted) in [(0, 3), (2, 2), (6, 1), (7, 0), (8, 0)] {
