@@ -5,10 +5,11 @@ ghost use Rattle.queue_policies.specs.CountedKeys.{CountedKey, count_of, keys_of
 ghost use Rattle.counted_queues.specs.Queues.{empty_queues, queue_of, with_queue, holds, counted_key};
 ghost use Rattle.counted_queues.specs.Queues.{queues_after_push, queues_after_return};
 ghost use Rattle.counted_queues.specs.Queues.{first_or, newest_or, IsAbsent, IsStanding, IsCutAt, IsSound};
-ghost use Rattle.counted_queues.specs.Queues.{oldest_entry, newest_entry};
-ghost use Rattle.counted_queues.specs.Table.{item_at, counted_without};
+ghost use Rattle.counted_queues.specs.Queues.{oldest_entry, newest_entry, IsRecounted, IsSent};
+ghost use Rattle.counted_queues.specs.Table.{item_at, counted_without, IsFound};
 ghost use Rattle.queue_policies.specs.Queues.{without_oldest, without_newest};
 
+use crate::found::FoundKey;
 use crate::keys::{add_keys, entry_of, item_at, item_of, key_at};
 use queue_table::QueueTable;
 use std::alloc::{AllocError, Global};
@@ -44,7 +45,7 @@ impl Model for CountedQueues {
 
     ghost Value = { Shown };
 
-    ghost view = { λ t. record { queues = listed (queues t.table); spare = spare t.table } };
+    ghost view = { λ t. record { queues = listed (queues t.table); spare = spare t.table; slots = t.table } };
 
     ghost invariant = { λ t. IsListed (queues t.table) };
 }
@@ -111,18 +112,25 @@ impl CountedQueues {
         self.prefetched ^= self.table.prefetch(keys, 0);
     }
 
-    /// The queue in which the key stands, and its count.
+    /// Where the key stands, and its count.
     #[inline(always)]
-    pub fn find(&self, key: Key) -> Option<(u8, u8)>
-        ensures low { IfSome result (λ r. r.0 < 5) }
-        ensures there { IfSome result (λ r. IsTrue (holds key r.0 self.now.queues)) }
-        ensures count { IfSome result (λ r. r.1 ≡ count_of key (queue_of r.0 self.now.queues)) }
+    pub fn find(&self, key: Key) -> Option<FoundKey>
+        ensures key { IfSome result (λ f. f.key ≡ key) }
+        ensures low { IfSome result (λ f. f.queue < 5) }
+        ensures there { IfSome result (λ f. IsTrue (holds key f.queue self.now.queues)) }
+        ensures count { IfSome result (λ f. f.count ≡ count_of key (queue_of f.queue self.now.queues)) }
+        ensures found { IfSome result (λ f. IsFound f self.now.slots) }
         ensures absent { IfNone result (IsAbsent key self.now.queues) }
         // Of every `CountedQueues`: no key stands twice.
         ensures sound { IsSound self.now.queues }
     {
         let found = self.table.find(item_of(key))?;
-        Some((found.queue, found.count))
+        Some(FoundKey {
+            key,
+            at: found.at,
+            queue: found.queue,
+            count: found.count,
+        })
     }
 
     /// The oldest key of the queue.
@@ -243,19 +251,17 @@ impl CountedQueues {
         self.table.insert(place, entry_of(key, count));
     }
 
-    /// Moves a key from where it stands to the recent end of a queue, its own or another one, and gives it another
-    /// count. It needs no room. Returns its older neighbour before. Nothing happens where the key stands in no queue.
+    /// Moves a key that was found to the recent end of a queue, its own or another one, and gives it another count. It
+    /// needs no room. Returns its older neighbour before.
     #[inline(always)]
-    pub fn send_recent(&mut self, key: Key, queue: u8, count: u8) -> Option<Key>
-        requires { queue < 5 }
-        ensures older { (n q : ℕ) (p : IsStanding key n q self.old.queues) → result ≡ newest_or None p.before }
-        ensures queues { (n q : ℕ) (p : IsStanding key n q self.old.queues)
-            → self.new.queues
-            ≡ queues_after_push queue key count (with_queue q (p.before ++ p.behind) self.old.queues) }
-        ensures absent { IsAbsent key self.old.queues → self.new.queues ≡ self.old.queues }
+    pub fn send_recent(&mut self, found: FoundKey, queue: u8, count: u8) -> Option<Key>
+        requires found { IsFound found self.old.slots }
+        requires queue { queue < 5 }
+        ensures older { (n q : ℕ) (p : IsStanding found.key n q self.old.queues) → result ≡ newest_or None p.before }
+        ensures queues { IsSent found.key queue count self.old.queues self.new.queues }
         ensures spare { self.new.spare ≡ self.old.spare }
     {
-        let found = self.table.find(item_of(key))?;
+        self.table.distinct();
         let place = self.table.send(found.at, queue, count);
         key_at(place.older)
     }
@@ -374,16 +380,26 @@ impl CountedQueues {
         self.table.insert(place, entry_of(key, count));
     }
 
-    /// Gives a key another count, where it stands. Nothing happens where it stands in no queue.
+    /// Gives a key that was found another count.
     #[inline(always)]
-    pub fn set_count(&mut self, key: Key, count: u8)
-        ensures queues { (n q : ℕ) (p : IsStanding key n q self.old.queues)
-            → self.new.queues ≡ with_queue q (p.before ++ counted_key key count ∷ p.behind) self.old.queues }
+    pub fn set_count(&mut self, found: FoundKey, count: u8)
+        requires { IsFound found self.old.slots }
+        ensures there { IsAbsent found.key self.old.queues → ⊥ }
+        ensures queues { IsRecounted found.key count self.old.queues self.new.queues }
+        ensures spare { self.new.spare ≡ self.old.spare }
+    {
+        self.table.distinct();
+        self.table.set_count(found.at, count);
+    }
+
+    /// Gives a key another count, where it stands. Nothing happens where it stands in no queue.
+    pub fn set_count_of(&mut self, key: Key, count: u8)
+        ensures queues { IsRecounted key count self.old.queues self.new.queues }
         ensures absent { IsAbsent key self.old.queues → self.new.queues ≡ self.old.queues }
         ensures spare { self.new.spare ≡ self.old.spare }
     {
-        if let Some(found) = self.table.find(item_of(key)) {
-            self.table.set_count(found.at, count);
+        if let Some(found) = self.find(key) {
+            self.set_count(found, count);
         }
     }
 

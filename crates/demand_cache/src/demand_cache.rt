@@ -1,5 +1,5 @@
 //! The engine: a cache whose accesses are counted and can be undone.
-ghost use Rattle.std.specs.Prelude.{◌≡◌, ◌+◌, ◌≤◌, ◌↔◌, [], Err, Some, None, IfOk, IfErr, OnOk, OnErr};
+ghost use Rattle.std.specs.Prelude.{◌≡◌, ◌+◌, ◌≤◌, ◌↔◌, [], length, Err, Some, None, IfOk, IfErr, OnOk, OnErr};
 ghost use Rattle.step_record.specs.declared.limits.TheConstants.{MAX_CAPACITY};
 ghost use Rattle.step_record.specs.Pace.{words_of_halvings};
 ghost use Rattle.step_record.specs.Stats.{stats_of};
@@ -9,6 +9,9 @@ use crate::demand_queues::{DemandPolicy, DemandQueues, QueuesRecord};
 use std::alloc::{AllocError, Global};
 use std::marker::Model;
 use step_record::{Engine, Key, MAX_STEPS, Outcome, Stats, StepFault};
+
+/// How many accesses are prefetched at once.
+pub const AHEAD: usize = 16;
 
 /// A cache of a policy that keeps each missed key.
 #[derive(Drop)]
@@ -52,25 +55,38 @@ impl DemandCache {
         }
     }
 
-    /// Prefetches what accesses to these keys read first. It changes nothing.
+    /// Reads ahead, for each few keys, what accesses to them read first, from the key at `i` on: to be called before each
+    /// access of a loop over them. It changes nothing.
     #[inline(always)]
-    pub fn prefetch(&mut self, keys: &[Key])
+    pub fn prefetch_at(&mut self, keys: &[Key], i: usize)
+        requires { i ≤ length keys.now }
         ensures { self.new ≡ self.old }
     {
-        self.queues.prefetch(keys);
+        if i % AHEAD == 0 {
+            let end = keys.len().min(i + AHEAD);
+            self.queues.prefetch(&keys[i..end]);
+        }
     }
 
-    /// Makes an access that is not to be undone: that of `apply`, without its undo record.
+    /// Makes an access that is not to be undone: that of `apply`, without its undo record. It is part of its caller, so
+    /// that the record is not made.
     ///
     /// Errors: `NotNow` exactly where `MAX_STEPS` accesses are applied, and `OutOfMemory`; each leaves the cache as it
     /// was.
+    #[inline(always)]
     pub fn access(&mut self, key: Key) -> Result<Outcome, StepFault>
         ensures accepted { IfOk result (λ o. demand_act self.old key ≡ Some (o, self.new)) }
         ensures not_now { result ≡ Err StepFault.NotNow ↔ demand_act self.old key ≡ None }
         ensures memory { result ≡ Err StepFault.OutOfMemory → demand_may_ask self.old key }
         ensures err { OnErr result (self.new ≡ self.old) }
     {
-        let (outcome, _) = self.apply(&key)?;
+        if self.stats.accesses == MAX_STEPS {
+            return Err(StepFault::NotNow);
+        }
+        let Ok((outcome, _)) = self.queues.access(key) else {
+            return Err(StepFault::OutOfMemory);
+        };
+        self.stats.count(outcome);
         Ok(outcome)
     }
 

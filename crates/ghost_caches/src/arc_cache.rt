@@ -69,6 +69,7 @@ impl ArcCache {
 
     /// An access to a key, with the record that undoes it. The one error is that an allocation failed; the cache is
     /// then as before.
+    #[inline(always)]
     pub fn access(&mut self, key: Key) -> Result<(Outcome, ArcRecord), AllocError>
         ensures acts { IfOk result (λ r. (r.0, self.new.state) ≡ arc_act self.old.capacity key self.old.state) }
         ensures record_is { IfOk result (λ r. r.1 ≡ arc_record_of self.old.capacity key self.old.state) }
@@ -109,6 +110,7 @@ impl ArcCache {
 }
 
 // An access to a key.
+#[inline(always)]
 fn step(
     queues: &mut GhostQueues,
     capacity: u32,
@@ -139,6 +141,7 @@ fn step(
 }
 
 // An access to a key that is not resident, which a ghost may remember. Room is made before anything moves.
+#[inline(always)]
 fn missed(
     queues: &mut GhostQueues,
     capacity: u32,
@@ -163,6 +166,7 @@ fn missed(
 }
 
 // A miss of a key, which a ghost may remember.
+#[inline(always)]
 fn miss(
     queues: &mut GhostQueues,
     capacity: u32,

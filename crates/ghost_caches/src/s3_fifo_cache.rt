@@ -68,6 +68,7 @@ impl S3FifoCache {
 
     /// An access to a key, with the record that undoes it. The one error is that an allocation failed; the cache is
     /// then as before.
+    #[inline(always)]
     pub fn access(&mut self, key: Key) -> Result<(Outcome, S3FifoRecord), AllocError>
         ensures acts { IfOk result (λ r. (r.0, self.new.state) ≡ s3_fifo_act self.old.capacity key self.old.state) }
         ensures record_is { IfOk result (λ r. r.1 ≡ s3_fifo_record_of self.old.capacity key self.old.state) }
@@ -108,6 +109,7 @@ impl S3FifoCache {
 }
 
 // An access to a key.
+#[inline(always)]
 fn step(
     queues: &mut GhostQueues,
     capacity: u32,
@@ -144,6 +146,7 @@ fn one_hit_more(count: u8) -> u8
 }
 
 // An access to a key that is not resident, which the ghost may remember. Room is made before anything moves.
+#[inline(always)]
 fn missed(
     queues: &mut GhostQueues,
     capacity: u32,
@@ -172,6 +175,7 @@ fn missed(
 }
 
 // Makes way for a key in a full cache: so many keys are promoted, and one leaves.
+#[inline(always)]
 fn make_way(queues: &mut GhostQueues, capacity: u32) -> (u32, S3FifoLeaver)
     requires some { 1 ≤ capacity }
     requires few { capacity ≤ MAX_CAPACITY }
@@ -239,6 +243,7 @@ fn promote_one(queues: &mut GhostQueues, capacity: u32) -> bool
 }
 
 // A key leaves, once all are promoted that are to be.
+#[inline(always)]
 fn evict(queues: &mut GhostQueues, capacity: u32) -> S3FifoLeaver
     requires some { 1 ≤ capacity }
     requires few { total_count queues.old.lists.main < 2 ^ 32 }

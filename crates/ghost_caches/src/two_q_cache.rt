@@ -62,6 +62,7 @@ impl TwoQCache {
 
     /// An access to a key, with the record that undoes it. The one error is that an allocation failed; the cache is
     /// then as before.
+    #[inline(always)]
     pub fn access(&mut self, key: Key) -> Result<(Outcome, TwoQRecord), AllocError>
         ensures acts { IfOk result (λ r. (r.0, self.new.state) ≡ two_q_act self.old.capacity key self.old.state) }
         ensures record_is { IfOk result (λ r. r.1 ≡ two_q_record_of self.old.capacity key self.old.state) }
@@ -102,6 +103,7 @@ impl TwoQCache {
 }
 
 // An access to a key.
+#[inline(always)]
 fn step(
     queues: &mut GhostQueues,
     capacity: u32,
@@ -128,6 +130,7 @@ fn step(
 }
 
 // An access to a key that is not resident, which the ghost may remember. Room is made before anything moves.
+#[inline(always)]
 fn missed(
     queues: &mut GhostQueues,
     capacity: u32,
@@ -151,6 +154,7 @@ fn missed(
 }
 
 // A miss of a key, which the ghost may remember.
+#[inline(always)]
 fn miss(queues: &mut GhostQueues, capacity: u32, key: Key, remembered: bool) -> TwoQMiss
     requires room { 1 ≤ queues.old.spare }
     requires entry { has_key key (keys_in Entry queues.old.lists) ≡ false }

@@ -1,4 +1,5 @@
-//! The accesses of a trace by a cache of queues: a loop for each policy, compiled for its design.
+//! The accesses of a trace by a cache: a loop for each policy of queues, compiled for its design, and one for the policies
+//! that keep each missed key.
 ghost use Rattle.std.specs.Prelude.{◌≡◌, ◌++◌, ℕ, List, OnOk};
 ghost use Rattle.step_record.specs.declared.job.Job.{Job};
 ghost use Rattle.policies.specs.declared.design.QueueDesign.{QueueDesign};
@@ -18,6 +19,7 @@ use crate::design::{
 };
 use crate::queue_cache::QueueCache;
 use crate::theorems;
+use demand_cache::DemandCache;
 use std::alloc::AllocError;
 use step_record::{Key, Policy, StepFault};
 
@@ -55,6 +57,25 @@ fn access_each<D: FixedDesign>(cache: &mut QueueCache, keys: &[Key]) -> Result<(
     for i in 0..keys.len() {
         cache.prefetch_at(keys, i);
         match cache.access_by::<D>(keys[i]) {
+            Ok(_) => {}
+            Err(StepFault::OutOfMemory) => return Err(AllocError),
+            Err(StepFault::NotNow) => unreachable!(),
+        }
+    }
+    Ok(())
+}
+
+/// The same by a cache of a policy that keeps each missed key.
+pub(crate) fn access_demand(cache: &mut DemandCache, keys: &[Key]) -> Result<(), AllocError>
+    requires { IsNext keys.now (AnyPolicy.Demand cache.old) }
+    ensures { (j : Job) (trace done : List ℕ) → HasAccessed j trace done (AnyPolicy.Demand cache.old)
+        → OnOk result (HasAccessed j trace (done ++ keys.now) (AnyPolicy.Demand cache.new)) }
+{
+    theorems::any_step_law();
+    theorems::any_accepts();
+    for i in 0..keys.len() {
+        cache.prefetch_at(keys, i);
+        match cache.access(keys[i]) {
             Ok(_) => {}
             Err(StepFault::OutOfMemory) => return Err(AllocError),
             Err(StepFault::NotNow) => unreachable!(),

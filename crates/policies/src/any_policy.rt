@@ -3,7 +3,7 @@ ghost use Rattle.std.specs.Prelude.{◌≡◌, ◌≤◌, ◌↔◌, IfOk, OnErr
 ghost use Rattle.std.specs.Prelude.{Ok, Err, Some, None, [], option_map, length};
 
 use crate::design::{Design, design_of};
-use crate::queue_cache::{AHEAD, ByJob, QueueCache};
+use crate::queue_cache::{ByJob, QueueCache};
 use crate::record::AccessRecord;
 use admission::Frequency;
 use clairvoyant::{Clairvoyant, NextUse, OptimalRecord};
@@ -97,12 +97,7 @@ impl AnyPolicy {
     {
         match self {
             AnyPolicy::Queues(cache) => cache.prefetch_at(keys, i),
-            AnyPolicy::Demand(cache) => {
-                if i % AHEAD == 0 {
-                    let end = keys.len().min(i + AHEAD);
-                    cache.prefetch(&keys[i..end]);
-                }
-            }
+            AnyPolicy::Demand(cache) => cache.prefetch_at(keys, i),
             AnyPolicy::Optimal(_) => {}
         }
     }
@@ -128,7 +123,10 @@ impl AnyPolicy {
                 Ok((outcome, _)) => Ok(outcome),
                 Err(fault) => Err(fault),
             },
-            AnyPolicy::Demand(cache) => cache.access(key),
+            AnyPolicy::Demand(cache) => match cache.apply(&key) {
+                Ok((outcome, _)) => Ok(outcome),
+                Err(fault) => Err(fault),
+            },
         }
     }
 

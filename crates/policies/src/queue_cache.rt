@@ -13,6 +13,7 @@ ghost use Rattle.policies.specs.QueueFields.{FewHalvings};
 use crate::design::{FixedDesign, Layout, QueueDesign};
 use crate::record::AccessRecord;
 use admission::{FreqRecord, Frequency};
+use demand_cache::AHEAD;
 use replacement::{KeptMoves, Rules, access, open_frequency, undo};
 use segments::{Queue, Segments};
 use std::alloc::{AllocError, Global};
@@ -24,9 +25,6 @@ use step_record::{Config, Engine, Item, Job, Key, MAX_STEPS, Outcome, Stats, Ste
 const PREFETCH_FROM: usize = 65_536;
 
 const PREFETCH_FROM_WHERE_COUNTING: usize = 4096;
-
-// How many accesses are prefetched at once.
-pub(crate) const AHEAD: usize = 16;
 
 /// Marks a cache whose policy is known by its job alone.
 #[derive(Drop)]

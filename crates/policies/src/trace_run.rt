@@ -6,7 +6,7 @@ ghost use Rattle.policies.specs.AnyPolicy.{HasAccessed};
 ghost use Rattle.policies.specs.Accesses.{IsNext};
 ghost use Rattle.policies.specs.Reports.{report_on};
 
-use crate::access_loops::access_queues;
+use crate::access_loops::{access_demand, access_queues};
 use crate::any_policy::AnyPolicy;
 use crate::report::Report;
 use crate::theorems;
@@ -42,8 +42,10 @@ pub fn access_all(cache: &mut AnyPolicy, keys: &[Key]) -> Result<(), AllocError>
     ensures { (j : Job) (trace done : List ℕ) → HasAccessed j trace done cache.old
         → OnOk result (HasAccessed j trace (done ++ keys.now) cache.new) }
 {
-    if let AnyPolicy::Queues(cache) = cache {
-        return access_queues(cache, keys);
+    match cache {
+        AnyPolicy::Queues(cache) => return access_queues(cache, keys),
+        AnyPolicy::Demand(cache) => return access_demand(cache, keys),
+        AnyPolicy::Optimal(_) => {}
     }
     theorems::any_step_law();
     theorems::any_accepts();

@@ -4,12 +4,13 @@ use Rattle.std.specs.Prelude.{◌≡◌, ℕ, zero, suc, ◌≤◌, Bool, Option
 use Rattle.queue_policies.specs.CountedKeys.{CountedKey}
 use Rattle.queue_policies.specs.Queues.{is_empty}
 use Rattle.queue_policies.specs.Sieve.{SieveState, after_wrap}
-use Rattle.counted_queues.specs.Queues.{queue_of}
+use Rattle.counted_queues.specs.Queues.{Slots, queue_of}
 
--- the state, and for how many more keys there is room
+-- the state, for how many more keys there is room, and the slots that hold the keys
 pub record SieveQueuesState : Type 0 where
   pub state : SieveState
   pub spare : ℕ
+  pub slots : Slots
 
 -- the state in the queues, where those ahead of the hand are queue 0 or 1
 abbrev pub sieve_state : ℕ → List (List CountedKey) → SieveState

@@ -59,6 +59,7 @@ impl ClockCache {
 
     /// An access to a key, with the record that undoes it. The one error is that an allocation failed; the cache is
     /// then as before.
+    #[inline(always)]
     pub fn access(&mut self, key: Key) -> Result<(Outcome, ClockRecord), AllocError>
         ensures acts { IfOk result (λ r. (r.0, self.new.queue) ≡ clock_act self.old.capacity key self.old.queue) }
         ensures record_is { IfOk result (λ r. r.1 ≡ clock_record_of self.old.capacity key self.old.queue) }
@@ -96,6 +97,7 @@ impl ClockCache {
     }
 }
 
+#[inline(always)]
 fn act(
     queues: &mut CountedQueues,
     capacity: u32,
@@ -106,9 +108,9 @@ fn act(
     ensures memory { OnErr result (has_key key (keys_of (queue_of 0 queues.old.queues)) ≡ false) }
     ensures err { OnErr result (queues.new.queues ≡ queues.old.queues) }
 {
-    if let Some((_, bit)) = queues.find(key) {
-        queues.set_count(key, 1);
-        return Ok((Outcome::Hit, ClockRecord::Hit(key, bit)));
+    if let Some(found) = queues.find(key) {
+        queues.set_count(found, 1);
+        return Ok((Outcome::Hit, ClockRecord::Hit(key, found.count)));
     }
     queues.reserve()?;
     if queues.len(0) < capacity as usize {
@@ -119,6 +121,7 @@ fn act(
 }
 
 // A miss of a full cache.
+#[inline(always)]
 fn evict(queues: &mut CountedQueues, key: Key) -> (Outcome, ClockRecord)
     requires room { 1 ≤ queues.old.spare }
     requires alone { IsFirstAlone queues.old.queues }
@@ -152,7 +155,7 @@ fn undo(queues: &mut CountedQueues, done: ClockRecord) -> Result<(), ClockRecord
     ensures asks { OnErr result (ClockAsks done) }
 {
     match done {
-        ClockRecord::Hit(key, bit) => queues.set_count(key, bit),
+        ClockRecord::Hit(key, bit) => queues.set_count_of(key, bit),
         ClockRecord::Kept => {
             let _ = queues.pop_recent(0);
         }

@@ -55,6 +55,7 @@ impl SieveCache {
 
     /// An access to a key, with the record that undoes it. The one error is that an allocation failed; the cache is
     /// then as before.
+    #[inline(always)]
     pub fn access(&mut self, key: Key) -> Result<(Outcome, SieveRecord), AllocError>
         ensures acts { IfOk result (λ r. (r.0, self.new.state) ≡ sieve_act self.old.capacity key self.old.state) }
         ensures record_is { IfOk result (λ r. r.1 ≡ sieve_record_of self.old.capacity key self.old.state) }
@@ -93,6 +94,7 @@ impl SieveCache {
     }
 }
 
+#[inline(always)]
 fn act(
     queues: &mut SieveQueues,
     capacity: u32,
@@ -103,9 +105,9 @@ fn act(
     ensures memory { OnErr result (has_key key (sieve_residents queues.old.state) ≡ false) }
     ensures err { OnErr result (queues.new.state ≡ queues.old.state) }
 {
-    if let Some(bit) = queues.find(key) {
-        queues.set_bit(key, 1);
-        return Ok((Outcome::Hit, SieveRecord::Hit(key, bit)));
+    if let Some(found) = queues.find(key) {
+        queues.visit(found);
+        return Ok((Outcome::Hit, SieveRecord::Hit(key, found.count)));
     }
     queues.reserve()?;
     if queues.len() < capacity as usize {
@@ -116,6 +118,7 @@ fn act(
 }
 
 // A miss of a full cache.
+#[inline(always)]
 fn evict(queues: &mut SieveQueues, key: Key) -> (Outcome, SieveRecord)
     requires room { 1 ≤ queues.old.spare }
     requires absent { has_key key (sieve_residents queues.old.state) ≡ false }

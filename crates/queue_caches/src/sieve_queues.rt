@@ -9,9 +9,10 @@ ghost use Rattle.queue_policies.specs.Sieve.{after_passes};
 ghost use Rattle.queue_policies.specs.Sieve.{sieve_with_key, sieve_with_count};
 ghost use Rattle.queue_policies.specs.SieveRecord.{newest_ahead, before_pass, before_passes, sieve_with_leaver};
 ghost use Rattle.counted_queues.specs.Queues.{oldest_entry};
+ghost use Rattle.counted_queues.specs.Table.{IsFound};
 ghost use Rattle.queue_caches.specs.SieveQueues.{after_leaving, before_wrap, key_at_hand};
 
-use counted_queues::CountedQueues;
+use counted_queues::{CountedQueues, FoundKey};
 use std::alloc::{AllocError, Global};
 use std::marker::Model;
 use step_record::Key;
@@ -29,7 +30,7 @@ impl Model for SieveQueues {
 
     ghost Value = { SieveQueuesState };
 
-    ghost view = { λ t. record { state = sieve_state t.ahead t.queues.queues; spare = t.queues.spare } };
+    ghost view = { λ t. record { state = sieve_state t.ahead t.queues.queues; spare = t.queues.spare; slots = t.queues.slots } };
 
     ghost invariant = { λ t. IsSieveQueues t.ahead t.queues.queues };
 }
@@ -52,25 +53,36 @@ impl SieveQueues {
         self.queues.prefetch(keys);
     }
 
-    /// The visited bit of a key.
+    /// Where a key stands, with its visited bit for a count.
     #[inline(always)]
-    pub(crate) fn find(&self, key: Key) -> Option<u8>
-        ensures there { IfSome result (λ bit. has_key key (sieve_residents self.now.state) ≡ true) }
-        ensures bit { IfSome result (λ bit. bit ≡ count_of key (self.now.state.passed ++ self.now.state.ahead)) }
+    pub(crate) fn find(&self, key: Key) -> Option<FoundKey>
+        ensures key { IfSome result (λ f. f.key ≡ key) }
+        ensures there { IfSome result (λ f. has_key key (sieve_residents self.now.state) ≡ true) }
+        ensures bit { IfSome result (λ f. f.count ≡ count_of key (self.now.state.passed ++ self.now.state.ahead)) }
+        ensures found { IfSome result (λ f. IsFound f self.now.slots) }
         ensures absent { IfNone result (has_key key (sieve_residents self.now.state) ≡ false) }
     {
-        let (_, bit) = self.queues.find(key)?;
-        Some(bit)
+        let found = self.queues.find(key)?;
+        Some(found)
+    }
+
+    /// Sets the visited bit of a key that was found.
+    #[inline(always)]
+    pub(crate) fn visit(&mut self, found: FoundKey)
+        requires { IsFound found self.old.slots }
+        ensures { self.new.state ≡ sieve_with_count found.key 1 self.old.state }
+    {
+        self.queues.sound();
+        self.queues.set_count(found, 1);
     }
 
     /// Gives a key another visited bit.
-    #[inline(always)]
     pub(crate) fn set_bit(&mut self, key: Key, bit: u8)
         ensures state { self.new.state ≡ sieve_with_count key bit self.old.state }
         ensures spare { self.new.spare ≡ self.old.spare }
     {
         self.queues.sound();
-        self.queues.set_count(key, bit);
+        self.queues.set_count_of(key, bit);
     }
 
     /// Makes room for a key, or is refused the memory.

@@ -27,13 +27,13 @@ undo_turns-requires-clause-counts c =
 pub returns-in-Hit-clause-ok : goal.returns-in-Hit-clause-ok
 returns-in-Hit-clause-ok c =
     let s = c.args.queues.now.queues in
-    let after : c.set_count.new.self.queues ≡ first_alone (with_count c.in-Hit.key c.in-Hit.bit (queue_of 0 s)) =
-    recount c.in-Hit.key c.in-Hit.bit s c.set_count.new.self.queues c.requires.alone c.set_count.ensures.queues c.set_count.ensures.absent in
+    let after : c.set_count_of.new.self.queues ≡ first_alone (with_count c.in-Hit.key c.in-Hit.bit (queue_of 0 s)) =
+    recount c.in-Hit.key c.in-Hit.bit s c.set_count_of.new.self.queues c.requires.alone c.set_count_of.ensures.queues c.set_count_of.ensures.absent in
     ap (queue_of 0) after ∙ ap (λ d. clock_undone d (queue_of 0 s)) (sym c.in-Hit.is)
 
 pub returns-in-Hit-clause-alone : goal.returns-in-Hit-clause-alone
 returns-in-Hit-clause-alone c =
     let s = c.args.queues.now.queues in
-    let after : c.set_count.new.self.queues ≡ first_alone (with_count c.in-Hit.key c.in-Hit.bit (queue_of 0 s)) =
-    recount c.in-Hit.key c.in-Hit.bit s c.set_count.new.self.queues c.requires.alone c.set_count.ensures.queues c.set_count.ensures.absent in
+    let after : c.set_count_of.new.self.queues ≡ first_alone (with_count c.in-Hit.key c.in-Hit.bit (queue_of 0 s)) =
+    recount c.in-Hit.key c.in-Hit.bit s c.set_count_of.new.self.queues c.requires.alone c.set_count_of.ensures.queues c.set_count_of.ensures.absent in
     rw after refl

@@ -7,11 +7,11 @@ use Rattle.queue_caches.proofs.sieve_queues.SieveQueues.set_bit.Goals as goal
 pub invariant_of-self : goal.invariant_of-self
 invariant_of-self c =
     let s = c.self.inside.queues.queues in
-    shown-queues c.self.inside.ahead c.set_count.new.self.queues (sieve_with_count c.args.key c.args.bit (sieve_state c.self.inside.ahead s)) c.self.invariant.low
-    (recounted c.self.inside.ahead c.args.key c.args.bit s c.set_count.new.self.queues c.self.invariant c.sound.ensures c.set_count.ensures.queues c.set_count.ensures.absent)
+    shown-queues c.self.inside.ahead c.set_count_of.new.self.queues (sieve_with_count c.args.key c.args.bit (sieve_state c.self.inside.ahead s)) c.self.invariant.low
+    (recounted c.self.inside.ahead c.args.key c.args.bit s c.set_count_of.new.self.queues c.self.invariant c.sound.ensures c.set_count_of.ensures.queues c.set_count_of.ensures.absent)
 
 pub returns-clause-state : goal.returns-clause-state
 returns-clause-state c =
     let s = c.self.inside.queues.queues in
-    rw (sym c.self.view_is) (shown-state c.self.inside.ahead c.set_count.new.self.queues (sieve_with_count c.args.key c.args.bit (sieve_state c.self.inside.ahead s))
-    (recounted c.self.inside.ahead c.args.key c.args.bit s c.set_count.new.self.queues c.self.invariant c.sound.ensures c.set_count.ensures.queues c.set_count.ensures.absent))
+    rw (sym c.self.view_is) (shown-state c.self.inside.ahead c.set_count_of.new.self.queues (sieve_with_count c.args.key c.args.bit (sieve_state c.self.inside.ahead s))
+    (recounted c.self.inside.ahead c.args.key c.args.bit s c.set_count_of.new.self.queues c.self.invariant c.sound.ensures c.set_count_of.ensures.queues c.set_count_of.ensures.absent))
