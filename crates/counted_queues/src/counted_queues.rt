@@ -266,6 +266,18 @@ impl CountedQueues {
         key_at(place.older)
     }
 
+    /// Moves a key from where it stands to the recent end of a queue, its own or another one, and gives it another count.
+    /// It needs no room.
+    pub fn send_recent_of(&mut self, key: Key, queue: u8, count: u8)
+        requires { queue < 5 }
+        ensures queues { IsSent key queue count self.old.queues self.new.queues }
+        ensures spare { self.new.spare ≡ self.old.spare }
+    {
+        if let Some(found) = self.find(key) {
+            let _ = self.send_recent(found, queue, count);
+        }
+    }
+
     /// Moves the oldest key of a queue to the recent end of a queue, its own or another one, and gives it another count.
     /// It needs no room, and no search. Nothing happens where the queue is empty.
     #[inline(always)]

@@ -4,7 +4,8 @@ use Rattle.std.specs.Prelude.{[], ◌∷◌, ◌++◌}
 use Rattle.step_record.specs.Keys.{has_key}
 use Rattle.queue_policies.specs.CountedKeys.{CountedKey, keys_of, with_count}
 use Rattle.queue_policies.specs.Queues.{without_oldest, without_newest}
-use Rattle.counted_queues.specs.Queues.{queue_of, counted_key}
+use Rattle.counted_queues.specs.Queues.{Slots, queue_of, counted_key}
+use Rattle.counted_queues.specs.declared.found.FoundKey.{FoundKey}
 use Rattle.ghost_caches.specs.declared.queue_name.QueueName.{QueueName}
 use Rattle.ghost_caches.specs.declared.queue_name.QueueName.TheVariants.{Entry, Main, EntryGhost, MainGhost}
 
@@ -14,10 +15,11 @@ pub record QueueLists : Type 0 where
   pub entry_ghost : List CountedKey
   pub main_ghost : List CountedKey
 
--- the queues, and for how many more keys there is room
+-- the queues, for how many more keys there is room, and the slots that hold the keys
 pub record ShownQueues : Type 0 where
   pub lists : QueueLists
   pub spare : ℕ
+  pub slots : Slots
 
 abbrev pub empty_lists : QueueLists
 empty_lists = record { entry = []; main = []; entry_ghost = []; main_ghost = [] }
@@ -123,6 +125,6 @@ abbrev pub lists_of : List (List CountedKey) → QueueLists
 lists_of s = record { entry = queue_of 0 s; main = queue_of 1 s; entry_ghost = queue_of 2 s; main_ghost = queue_of 3 s }
 
 -- whether a key was found in the queue
-abbrev pub is_found_in : QueueName → Option (QueueName × ℕ) → Bool
+abbrev pub is_found_in : QueueName → Option (QueueName × FoundKey) → Bool
 is_found_in q None = false
 is_found_in q (Some found) = eqb (number_of q) (number_of found.0)

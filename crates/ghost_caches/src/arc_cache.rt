@@ -126,12 +126,12 @@ fn step(
     ensures same_p { OnErr result (p.new ≡ p.old) }
 {
     match queues.find(key) {
-        Some((QueueName::Entry, _)) => {
-            let older = queues.renew(key, QueueName::Entry, QueueName::Main);
+        Some((QueueName::Entry, found)) => {
+            let older = queues.renew(found, QueueName::Entry, QueueName::Main);
             Ok((Outcome::Hit, ArcRecord::FromT1(key, older)))
         }
-        Some((QueueName::Main, _)) => {
-            let older = queues.renew(key, QueueName::Main, QueueName::Main);
+        Some((QueueName::Main, found)) => {
+            let older = queues.renew(found, QueueName::Main, QueueName::Main);
             Ok((Outcome::Hit, ArcRecord::FromT2(key, older)))
         }
         Some((QueueName::EntryGhost, _)) => missed(queues, capacity, p, key, ArcGhost::InB1),

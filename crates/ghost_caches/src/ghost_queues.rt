@@ -5,6 +5,7 @@ ghost use Rattle.step_record.specs.Keys.{has_key};
 ghost use Rattle.queue_policies.specs.CountedKeys.{count_of, keys_of, AreCounted, total_count};
 ghost use Rattle.queue_policies.specs.Turns.{turn_count, after_turns, before_turns};
 ghost use Rattle.queue_policies.specs.Ghost.{older_from, forgotten_key, ghost_place_of};
+ghost use Rattle.counted_queues.specs.Table.{IsFound};
 ghost use Rattle.counted_queues.specs.Queues.{first_or, newest_or, oldest_entry, newest_entry, counted_key};
 ghost use Rattle.ghost_caches.specs.declared.queue_name.QueueName.TheVariants.{Entry, Main};
 ghost use Rattle.ghost_caches.specs.QueueLists.{empty_lists, list_of, keys_in, with_list, lists_after_push};
@@ -15,7 +16,7 @@ ghost use Rattle.ghost_caches.specs.QueueLists.{lists_without_newest, lists_with
 ghost use Rattle.ghost_caches.specs.QueueLists.{lists_with_ghost_key, lists_with_forgotten};
 
 use crate::queue_name::QueueName;
-use counted_queues::{CountedQueues, Place};
+use counted_queues::{CountedQueues, FoundKey, Place};
 use queue_policies::GhostPlace;
 use std::alloc::{AllocError, Global};
 use std::marker::Model;
@@ -37,7 +38,7 @@ impl Model for GhostQueues {
 
     ghost Value = { ShownQueues };
 
-    ghost view = { λ t. record { lists = lists_of t.queues.queues; spare = t.queues.spare } };
+    ghost view = { λ t. record { lists = lists_of t.queues.queues; spare = t.queues.spare; slots = t.queues.slots } };
 
     ghost invariant = { λ t. queue_of 4 t.queues.queues ≡ [] };
 }
@@ -68,20 +69,22 @@ impl GhostQueues {
         self.queues.len(queue.number())
     }
 
-    /// The queue that has the key, and its count.
+    /// The queue that has the key, and where it stands.
     #[inline(always)]
-    pub(crate) fn find(&self, key: Key) -> Option<(QueueName, u8)>
+    pub(crate) fn find(&self, key: Key) -> Option<(QueueName, FoundKey)>
+        ensures key { IfSome result (λ r. r.1.key ≡ key) }
         ensures there { (q : QueueName) → has_key key (keys_in q self.now.lists) ≡ is_found_in q result }
-        ensures count { IfSome result (λ r. r.1 ≡ count_of key (list_of r.0 self.now.lists)) }
+        ensures count { IfSome result (λ r. r.1.count ≡ count_of key (list_of r.0 self.now.lists)) }
+        ensures found { IfSome result (λ r. IsFound r.1 self.now.slots) }
     {
-        let (queue, count) = self.queues.find(key)?;
-        let name = match queue {
+        let found = self.queues.find(key)?;
+        let name = match found.queue {
             0 => QueueName::Entry,
             1 => QueueName::Main,
             2 => QueueName::EntryGhost,
             _ => QueueName::MainGhost,
         };
-        Some((name, count))
+        Some((name, found))
     }
 
     /// The oldest key of the queue.
@@ -177,15 +180,18 @@ impl GhostQueues {
         place.older
     }
 
-    /// A key goes from its queue to the recent end of a queue, without a count. Returns its older neighbour before.
+    /// A key that was found goes from its queue to the recent end of a queue, without a count. Returns its older neighbour
+    /// before.
     #[inline(always)]
-    pub(crate) fn renew(&mut self, key: Key, from: QueueName, to: QueueName) -> Option<Key>
-        requires { has_key key (keys_in from self.old.lists) ≡ true }
-        ensures older { result ≡ older_from None key (keys_in from self.old.lists) }
-        ensures lists { self.new.lists ≡ lists_after_push to key 0 (lists_without_key from key self.old.lists) }
+    pub(crate) fn renew(&mut self, found: FoundKey, from: QueueName, to: QueueName) -> Option<Key>
+        requires found { IsFound found self.old.slots }
+        requires there { has_key found.key (keys_in from self.old.lists) ≡ true }
+        ensures older { result ≡ older_from None found.key (keys_in from self.old.lists) }
+        ensures lists { self.new.lists
+            ≡ lists_after_push to found.key 0 (lists_without_key from found.key self.old.lists) }
     {
         self.queues.sound();
-        self.queues.send_recent(key, to.number(), 0)
+        self.queues.send_recent(found, to.number(), 0)
     }
 
     /// The oldest key of a queue goes to the recent end of a queue, with the given count.
@@ -219,7 +225,7 @@ impl GhostQueues {
     {
         self.queues.sound();
         // It waits in a queue of its own, since its place may be in the queue that it leaves.
-        let _ = self.queues.send_recent(key, WAITING, 0);
+        self.queues.send_recent_of(key, WAITING, 0);
         let place = Place {
             queue: to.number(),
             older,
@@ -295,13 +301,22 @@ impl GhostQueues {
         self.pass_back(key, ghost_queue, to, count);
     }
 
-    /// Gives a key another count, wherever it stands.
+    /// Gives a key that was found another count.
     #[inline(always)]
-    pub(crate) fn set_count(&mut self, key: Key, count: u8)
+    pub(crate) fn set_count(&mut self, found: FoundKey, count: u8)
+        requires { IsFound found self.old.slots }
+        ensures { self.new.lists ≡ lists_with_count found.key count self.old.lists }
+    {
+        self.queues.sound();
+        self.queues.set_count(found, count);
+    }
+
+    /// Gives a key another count, wherever it stands.
+    pub(crate) fn set_count_of(&mut self, key: Key, count: u8)
         ensures { self.new.lists ≡ lists_with_count key count self.old.lists }
     {
         self.queues.sound();
-        self.queues.set_count(key, count);
+        self.queues.set_count_of(key, count);
     }
 
     /// The oldest key of the queue, with its count.

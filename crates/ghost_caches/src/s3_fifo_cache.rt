@@ -124,13 +124,13 @@ fn step(
     ensures err { OnErr result (queues.new.lists ≡ queues.old.lists) }
 {
     match queues.find(key) {
-        Some((QueueName::Entry, count)) => {
-            queues.set_count(key, one_hit_more(count));
-            Ok((Outcome::Hit, S3FifoRecord::Hit(key, count)))
+        Some((QueueName::Entry, found)) => {
+            queues.set_count(found, one_hit_more(found.count));
+            Ok((Outcome::Hit, S3FifoRecord::Hit(key, found.count)))
         }
-        Some((QueueName::Main, count)) => {
-            queues.set_count(key, one_hit_more(count));
-            Ok((Outcome::Hit, S3FifoRecord::Hit(key, count)))
+        Some((QueueName::Main, found)) => {
+            queues.set_count(found, one_hit_more(found.count));
+            Ok((Outcome::Hit, S3FifoRecord::Hit(key, found.count)))
         }
         Some((QueueName::EntryGhost, _)) => missed(queues, capacity, key, true),
         Some((QueueName::MainGhost, _)) => missed(queues, capacity, key, false),
@@ -316,7 +316,7 @@ fn step_back(queues: &mut GhostQueues, capacity: u32, done: S3FifoRecord) -> Res
 {
     match done {
         S3FifoRecord::Hit(key, count) => {
-            queues.set_count(key, count);
+            queues.set_count_of(key, count);
             Ok(())
         }
         S3FifoRecord::Miss(place, promoted, leaver) => {

@@ -118,8 +118,8 @@ fn step(
     ensures err { OnErr result (queues.new.lists ≡ queues.old.lists) }
 {
     match queues.find(key) {
-        Some((QueueName::Main, _)) => {
-            let older = queues.renew(key, QueueName::Main, QueueName::Main);
+        Some((QueueName::Main, found)) => {
+            let older = queues.renew(found, QueueName::Main, QueueName::Main);
             Ok((Outcome::Hit, TwoQRecord::Renewed(key, older)))
         }
         Some((QueueName::Entry, _)) => Ok((Outcome::Hit, TwoQRecord::Unmoved)),

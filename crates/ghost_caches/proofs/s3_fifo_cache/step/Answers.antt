@@ -2,7 +2,7 @@ use Rattle.std.proofs.Common.{◌≡◌, ◌∙◌, true, false, eqb, IfSome, ap
 use Rattle.step_record.specs.Keys.{has_key}
 use Rattle.queue_policies.specs.CountedKeys.{count_of}
 use Rattle.ghost_caches.specs.declared.queue_name.QueueName.TheVariants.{Entry, Main, EntryGhost}
-use Rattle.ghost_caches.specs.QueueLists.{list_of, keys_in, number_of, is_found_in}
+use Rattle.ghost_caches.specs.QueueLists.{list_of, lists_with_count, keys_in, number_of, is_found_in}
 use Rattle.ghost_caches.proofs.S3Fifo.{hit-acts, hit-record, small-there, small-count, main-there, main-count}
 use Rattle.ghost_caches.proofs.s3_fifo_cache.step.Goals as goal
 
@@ -25,36 +25,38 @@ pub returns-in-Some-Entry-default-clause-acts : goal.returns-in-Some-Entry-defau
 returns-in-Some-Entry-default-clause-acts c =
     let s = c.args.queues.now.lists in
     let at : has_key c.args.key (keys_in Entry s) ≡ true = c.find.ensures.there Entry ∙ ap (is_found_in Entry) c.in-Some-Entry-default.is ∙ ap (λ x. eqb (number_of Entry) (number_of x)) c.in-Some-Entry-default.field-0-0-is in
-    let found = subst (λ r. IfSome r (λ p. p.1 ≡ count_of c.args.key (list_of p.0 c.args.queues.now.lists))) c.in-Some-Entry-default.is c.find.ensures.count in
+    let found = subst (λ r. IfSome r (λ p. p.1.count ≡ count_of c.args.key (list_of p.0 c.args.queues.now.lists))) c.in-Some-Entry-default.is c.find.ensures.count in
     let there = rw c.in-Some-Entry-default.field-0-0-is at found in
-    let count : c.in-Some-Entry-default.count ≡ count_of c.args.key c.args.queues.now.lists.entry = search (rules, there) in
-    hit-acts c.args.capacity c.args.key c.in-Some-Entry-default.count s (small-there c.args.key s at) (count ∙ small-count c.args.key s at) c.one_hit_more.result c.set_count.new.self.lists c.one_hit_more.ensures c.set_count.ensures
+    let count : c.in-Some-Entry-default.found.count ≡ count_of c.args.key c.args.queues.now.lists.entry = search (rules, there) in
+    hit-acts c.args.capacity c.args.key c.in-Some-Entry-default.found.count s (small-there c.args.key s at) (count ∙ small-count c.args.key s at) c.one_hit_more.result c.set_count.new.self.lists c.one_hit_more.ensures
+    (subst (λ k. c.set_count.new.self.lists ≡ lists_with_count k c.one_hit_more.result s) (subst (λ r. IfSome r (λ p. p.1.key ≡ c.args.key)) c.in-Some-Entry-default.is c.find.ensures.key) c.set_count.ensures)
 
 pub returns-in-Some-Entry-default-clause-record_is : goal.returns-in-Some-Entry-default-clause-record_is
 returns-in-Some-Entry-default-clause-record_is c =
     let s = c.args.queues.now.lists in
     let at : has_key c.args.key (keys_in Entry s) ≡ true = c.find.ensures.there Entry ∙ ap (is_found_in Entry) c.in-Some-Entry-default.is ∙ ap (λ x. eqb (number_of Entry) (number_of x)) c.in-Some-Entry-default.field-0-0-is in
-    let found = subst (λ r. IfSome r (λ p. p.1 ≡ count_of c.args.key (list_of p.0 c.args.queues.now.lists))) c.in-Some-Entry-default.is c.find.ensures.count in
+    let found = subst (λ r. IfSome r (λ p. p.1.count ≡ count_of c.args.key (list_of p.0 c.args.queues.now.lists))) c.in-Some-Entry-default.is c.find.ensures.count in
     let there = rw c.in-Some-Entry-default.field-0-0-is at found in
-    let count : c.in-Some-Entry-default.count ≡ count_of c.args.key c.args.queues.now.lists.entry = search (rules, there) in
-    hit-record c.args.capacity c.args.key c.in-Some-Entry-default.count s (small-there c.args.key s at) (count ∙ small-count c.args.key s at)
+    let count : c.in-Some-Entry-default.found.count ≡ count_of c.args.key c.args.queues.now.lists.entry = search (rules, there) in
+    hit-record c.args.capacity c.args.key c.in-Some-Entry-default.found.count s (small-there c.args.key s at) (count ∙ small-count c.args.key s at)
 
 pub returns-in-Some-Main-default-clause-acts : goal.returns-in-Some-Main-default-clause-acts
 returns-in-Some-Main-default-clause-acts c =
     let s = c.args.queues.now.lists in
     let out : has_key c.args.key (keys_in Entry s) ≡ false = c.find.ensures.there Entry ∙ ap (is_found_in Entry) c.in-Some-Main-default.is ∙ ap (λ x. eqb (number_of Entry) (number_of x)) c.in-Some-Main-default.field-0-0-is in
     let at : has_key c.args.key (keys_in Main s) ≡ true = c.find.ensures.there Main ∙ ap (is_found_in Main) c.in-Some-Main-default.is ∙ ap (λ x. eqb (number_of Main) (number_of x)) c.in-Some-Main-default.field-0-0-is in
-    let found = subst (λ r. IfSome r (λ p. p.1 ≡ count_of c.args.key (list_of p.0 c.args.queues.now.lists))) c.in-Some-Main-default.is c.find.ensures.count in
+    let found = subst (λ r. IfSome r (λ p. p.1.count ≡ count_of c.args.key (list_of p.0 c.args.queues.now.lists))) c.in-Some-Main-default.is c.find.ensures.count in
     let there = rw c.in-Some-Main-default.field-0-0-is at found in
-    let count : c.in-Some-Main-default.count ≡ count_of c.args.key c.args.queues.now.lists.main = search (rules, there) in
-    hit-acts c.args.capacity c.args.key c.in-Some-Main-default.count s (main-there c.args.key s out at) (count ∙ main-count c.args.key s out) c.one_hit_more-in-Some-Main-default.result c.set_count-in-Some-Main-default.new.self.lists c.one_hit_more-in-Some-Main-default.ensures c.set_count-in-Some-Main-default.ensures
+    let count : c.in-Some-Main-default.found.count ≡ count_of c.args.key c.args.queues.now.lists.main = search (rules, there) in
+    hit-acts c.args.capacity c.args.key c.in-Some-Main-default.found.count s (main-there c.args.key s out at) (count ∙ main-count c.args.key s out) c.one_hit_more-in-Some-Main-default.result c.set_count-in-Some-Main-default.new.self.lists c.one_hit_more-in-Some-Main-default.ensures
+    (subst (λ k. c.set_count-in-Some-Main-default.new.self.lists ≡ lists_with_count k c.one_hit_more-in-Some-Main-default.result s) (subst (λ r. IfSome r (λ p. p.1.key ≡ c.args.key)) c.in-Some-Main-default.is c.find.ensures.key) c.set_count-in-Some-Main-default.ensures)
 
 pub returns-in-Some-Main-default-clause-record_is : goal.returns-in-Some-Main-default-clause-record_is
 returns-in-Some-Main-default-clause-record_is c =
     let s = c.args.queues.now.lists in
     let out : has_key c.args.key (keys_in Entry s) ≡ false = c.find.ensures.there Entry ∙ ap (is_found_in Entry) c.in-Some-Main-default.is ∙ ap (λ x. eqb (number_of Entry) (number_of x)) c.in-Some-Main-default.field-0-0-is in
     let at : has_key c.args.key (keys_in Main s) ≡ true = c.find.ensures.there Main ∙ ap (is_found_in Main) c.in-Some-Main-default.is ∙ ap (λ x. eqb (number_of Main) (number_of x)) c.in-Some-Main-default.field-0-0-is in
-    let found = subst (λ r. IfSome r (λ p. p.1 ≡ count_of c.args.key (list_of p.0 c.args.queues.now.lists))) c.in-Some-Main-default.is c.find.ensures.count in
+    let found = subst (λ r. IfSome r (λ p. p.1.count ≡ count_of c.args.key (list_of p.0 c.args.queues.now.lists))) c.in-Some-Main-default.is c.find.ensures.count in
     let there = rw c.in-Some-Main-default.field-0-0-is at found in
-    let count : c.in-Some-Main-default.count ≡ count_of c.args.key c.args.queues.now.lists.main = search (rules, there) in
-    hit-record c.args.capacity c.args.key c.in-Some-Main-default.count s (main-there c.args.key s out at) (count ∙ main-count c.args.key s out)
+    let count : c.in-Some-Main-default.found.count ≡ count_of c.args.key c.args.queues.now.lists.main = search (rules, there) in
+    hit-record c.args.capacity c.args.key c.in-Some-Main-default.found.count s (main-there c.args.key s out at) (count ∙ main-count c.args.key s out)

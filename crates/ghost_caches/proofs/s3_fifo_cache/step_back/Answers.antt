@@ -15,5 +15,5 @@ undo_miss-requires-clause-fits c =
 
 pub returns-in-Hit-clause-state : goal.returns-in-Hit-clause-state
 returns-in-Hit-clause-state c =
-    counted-is c.in-Hit.key c.in-Hit.count c.args.queues.now.lists c.set_count.new.self.lists c.set_count.ensures
+    counted-is c.in-Hit.key c.in-Hit.count c.args.queues.now.lists c.set_count_of.new.self.lists c.set_count_of.ensures
     ∙ ap (λ d. s3_fifo_undone d (s3_fifo_of c.args.queues.now.lists)) (sym c.in-Hit.is)

@@ -1,7 +1,7 @@
-use Rattle.std.proofs.Common.{◌≡◌, true, false, eqb, ap, ◌∙◌}
+use Rattle.std.proofs.Common.{◌≡◌, true, false, eqb, None, IfSome, ap, subst, ◌∙◌}
 use Rattle.step_record.specs.Keys.{has_key}
 use Rattle.ghost_caches.specs.declared.queue_name.QueueName.TheVariants.{Entry, Main, EntryGhost}
-use Rattle.ghost_caches.specs.QueueLists.{keys_in, number_of, is_found_in}
+use Rattle.ghost_caches.specs.QueueLists.{keys_in, lists_after_push, lists_without_key, number_of, is_found_in}
 use Rattle.ghost_caches.proofs.TwoQ.{main-acts, entry-acts, entry-record}
 use Rattle.ghost_caches.proofs.two_q_cache.step.Goals as goal
 
@@ -23,7 +23,8 @@ missed-requires-in-None-clause-remembered c = c.find.ensures.there EntryGhost �
 pub returns-in-Some-Main-default-clause-acts : goal.returns-in-Some-Main-default-clause-acts
 returns-in-Some-Main-default-clause-acts c =
     let there : has_key c.args.key (keys_in Main c.args.queues.now.lists) ≡ true = c.find.ensures.there Main ∙ ap (is_found_in Main) c.in-Some-Main-default.is ∙ ap (λ x. eqb (number_of Main) (number_of x)) c.in-Some-Main-default.field-0-0-is in
-    main-acts c.args.capacity c.args.key c.args.queues.now.lists c.renew-older.new.self.lists there c.renew-older.ensures.lists
+    main-acts c.args.capacity c.args.key c.args.queues.now.lists c.renew-older.new.self.lists there
+    (subst (λ k. c.renew-older.new.self.lists ≡ lists_after_push Main k 0 (lists_without_key Main k c.args.queues.now.lists)) (subst (λ r. IfSome r (λ p. p.1.key ≡ c.args.key)) c.in-Some-Main-default.is c.find.ensures.key) c.renew-older.ensures.lists)
 
 pub returns-in-Some-Entry-default-clause-acts : goal.returns-in-Some-Entry-default-clause-acts
 returns-in-Some-Entry-default-clause-acts c =

@@ -11,11 +11,11 @@ use Rattle.ghost_caches.proofs.ghost_queues.GhostQueues.put_back.Goals as goal
 pub send_back-requires-clause-place : goal.send_back-requires-clause-place
 send_back-requires-clause-place c =
     let s = c.self.inside.queues.queues in
-    let u = c.send_recent.new.self.queues in
+    let u = c.send_recent_of.new.self.queues in
     let p : IsNewest c.args.key (queue_of (number_of c.args.from) s) = newest c.args.key c.args.from s (rw (sym c.self.view_is) at c.requires.newest) in
     let less : without_newest (list_of c.args.from (lists_of s)) ≡ p.before = ap without_newest (list-at c.args.from s) ∙ p.rest in
     let sent : u ≡ queues_after_push 4 c.args.key 0 (with_queue (number_of c.args.from) p.before s) =
-    c.send_recent.ensures.queues p.count (number_of c.args.from) (newest-stands c.args.key c.args.from s p)
+    c.send_recent_of.ensures.queues p.count (number_of c.args.from) (newest-stands c.args.key c.args.from s p)
     ∙ ap (λ l. queues_after_push 4 c.args.key 0 (with_queue (number_of c.args.from) l s)) (append-nil p.before) in
     let place : HasPlace c.args.older (list_of c.args.to (with_list c.args.from p.before (lists_of s))) =
     rw less at (rw (sym c.self.view_is) at c.requires.place) in
@@ -26,22 +26,22 @@ send_back-requires-clause-place c =
 pub send_back-requires-clause-other : goal.send_back-requires-clause-other
 send_back-requires-clause-other c =
     let s = c.self.inside.queues.queues in
-    let u = c.send_recent.new.self.queues in
+    let u = c.send_recent_of.new.self.queues in
     let p : IsNewest c.args.key (queue_of (number_of c.args.from) s) = newest c.args.key c.args.from s (rw (sym c.self.view_is) at c.requires.newest) in
     let less : without_newest (list_of c.args.from (lists_of s)) ≡ p.before = ap without_newest (list-at c.args.from s) ∙ p.rest in
     let sent : u ≡ queues_after_push 4 c.args.key 0 (with_queue (number_of c.args.from) p.before s) =
-    c.send_recent.ensures.queues p.count (number_of c.args.from) (newest-stands c.args.key c.args.from s p)
+    c.send_recent_of.ensures.queues p.count (number_of c.args.from) (newest-stands c.args.key c.args.from s p)
     ∙ ap (λ l. queues_after_push 4 c.args.key 0 (with_queue (number_of c.args.from) l s)) (append-nil p.before) in
     absent-there c.args.from c.args.key p.before s u sent c.sound.ensures c.self.invariant c.args.to c.number.result c.number.ensures (rw less at (rw (sym c.self.view_is) at c.requires.absent))
 
 pub invariant_of-self : goal.invariant_of-self
 invariant_of-self c =
     let s = c.self.inside.queues.queues in
-    let u = c.send_recent.new.self.queues in
+    let u = c.send_recent_of.new.self.queues in
     let p : IsNewest c.args.key (queue_of (number_of c.args.from) s) = newest c.args.key c.args.from s (rw (sym c.self.view_is) at c.requires.newest) in
     let less : without_newest (list_of c.args.from (lists_of s)) ≡ p.before = ap without_newest (list-at c.args.from s) ∙ p.rest in
     let sent : u ≡ queues_after_push 4 c.args.key 0 (with_queue (number_of c.args.from) p.before s) =
-    c.send_recent.ensures.queues p.count (number_of c.args.from) (newest-stands c.args.key c.args.from s p)
+    c.send_recent_of.ensures.queues p.count (number_of c.args.from) (newest-stands c.args.key c.args.from s p)
     ∙ ap (λ l. queues_after_push 4 c.args.key 0 (with_queue (number_of c.args.from) l s)) (append-nil p.before) in
     let place : HasPlace c.args.older (list_of c.args.to (with_list c.args.from p.before (lists_of s))) =
     rw less at (rw (sym c.self.view_is) at c.requires.place) in
@@ -52,11 +52,11 @@ invariant_of-self c =
 pub returns : goal.returns
 returns c =
     let s = c.self.inside.queues.queues in
-    let u = c.send_recent.new.self.queues in
+    let u = c.send_recent_of.new.self.queues in
     let p : IsNewest c.args.key (queue_of (number_of c.args.from) s) = newest c.args.key c.args.from s (rw (sym c.self.view_is) at c.requires.newest) in
     let less : without_newest (list_of c.args.from (lists_of s)) ≡ p.before = ap without_newest (list-at c.args.from s) ∙ p.rest in
     let sent : u ≡ queues_after_push 4 c.args.key 0 (with_queue (number_of c.args.from) p.before s) =
-    c.send_recent.ensures.queues p.count (number_of c.args.from) (newest-stands c.args.key c.args.from s p)
+    c.send_recent_of.ensures.queues p.count (number_of c.args.from) (newest-stands c.args.key c.args.from s p)
     ∙ ap (λ l. queues_after_push 4 c.args.key 0 (with_queue (number_of c.args.from) l s)) (append-nil p.before) in
     let place : HasPlace c.args.older (list_of c.args.to (with_list c.args.from p.before (lists_of s))) =
     rw less at (rw (sym c.self.view_is) at c.requires.place) in
