@@ -1,5 +1,6 @@
-use Rattle.std.proofs.Common.{◌++◌, take, ap, ◌∙◌, sym, subst, Err}
+use Rattle.std.proofs.Common.{◌++◌, take, ap, ◌∙◌, sym, subst, arith, Err}
 use Rattle.std.specs.Prelude.{slice_index}
+use Rattle.std.proofs.lemmas.List.{take_all}
 use Rattle.policies.specs.declared.any_policy.AnyPolicy.TheVariants.{Demand}
 use Rattle.demand_cache.specs.DemandCache.{DemandState}
 use Rattle.policies.specs.AnyPolicy.{HasAccessed}
@@ -22,3 +23,7 @@ loop-i-preserved c = λ j trace done s.
     (c.any_step_law.ensures j trace (done ++ take i keys) (Demand c.prefetch_at.new.self) (slice_index keys i) _ (Demand c.access.new.self)
     (subst (λ (d : DemandState). HasAccessed j trace (done ++ take i keys) (Demand d)) (sym c.prefetch_at.ensures) (c.loop-i.invariant j trace done s))
     (ap as_demand c.in-Ok.ensures.accepted))
+
+pub returns : goal.returns
+returns c = λ j trace done s.
+    subst (λ l. HasAccessed j trace (done ++ l) (Demand c.loop-i.cache)) (take_all c.loop-i.i c.args.keys.now (omega arith)) (c.loop-i.invariant j trace done s)
