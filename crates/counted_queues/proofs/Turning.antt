@@ -1,7 +1,7 @@
 -- Turns of a queue, one by one, and all.
 use Rattle.std.proofs.Common.{◌≡◌, ℕ, zero, suc, ◌+◌, ◌-◌, ◌<◌, ◌≤◌, false, eqb, Option, Some, None, List, [], ◌∷◌, ◌++◌, length, ap, sym, ◌∙◌, refl, inl, inr, arith, append-nil}
 use Rattle.std.proofs.lemmas.Bool.{cases_eq, eq-eqb}
-use Rattle.std.proofs.lemmas.List.{get_or-set_same, set-set, length-set, set-get_or}
+use Rattle.std.proofs.lemmas.List.{get_or-set_same, set-set, length-set}
 use Rattle.queue_policies.specs.CountedKeys.{CountedKey, counted_more, AreCounted, oldest_count, total_count}
 use Rattle.queue_policies.specs.Turns.{turn_count_within, turn_count, after_turn, after_turns, before_turn, before_turns}
 use Rattle.queue_policies.proofs.Turns.{turned-total, turn-count-few}

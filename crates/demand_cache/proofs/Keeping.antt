@@ -1,6 +1,6 @@
 -- Each policy keeps its residents: by its own theorem.
 use Rattle.std.proofs.Common.{◌≡◌, ℕ, ◌≤◌, [], sym, subst, refl}
-use Rattle.queue_policies.specs.Residents.{IsAccess, AreResidents, KeepsResidents}
+use Rattle.queue_policies.specs.Residents.{IsAccess, AreResidents}
 use Rattle.queue_policies.specs.Theorems.{ClockKeeps, SieveKeeps, S3FifoKeeps}
 use Rattle.ghost_policies.specs.Theorems.{TwoQKeeps, ArcKeeps}
 use Rattle.queue_policies.specs.Clock.{clock_act, IsClock}

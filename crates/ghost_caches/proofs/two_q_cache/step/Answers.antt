@@ -1,4 +1,4 @@
-use Rattle.std.proofs.Common.{◌≡◌, true, false, eqb, None, IfSome, ap, subst, ◌∙◌}
+use Rattle.std.proofs.Common.{◌≡◌, true, false, eqb, IfSome, ap, subst, ◌∙◌}
 use Rattle.step_record.specs.Keys.{has_key}
 use Rattle.ghost_caches.specs.declared.queue_name.QueueName.TheVariants.{Entry, Main, EntryGhost}
 use Rattle.ghost_caches.specs.QueueLists.{keys_in, lists_after_push, lists_without_key, number_of, is_found_in}
