@@ -21,11 +21,9 @@ use Rattle.shell_buffers.specs.declared.task.Task.{Task}
 use Rattle.shell_buffers.specs.declared.task.Task.TheVariants.{Add, Update, Remove}
 use Rattle.shell_model.specs.declared.holder.Holder.{Holder}
 use Rattle.shell_model.specs.Frequency.{frequency_recorded}
-use Rattle.shell_model.specs.Shell.{Shell, node_of, table_with, window_size, in_phase, drain_at_end, may_write, act_effect, act}
-use Rattle.shell_model.specs.ShellEviction.{shift_effect}
+use Rattle.shell_model.specs.Shell.{Shell, node_of, table_with, window_size, drain_at_end, may_write, act_effect, counted_up, act}
 use Rattle.shell_model.specs.Laws.{IsShapeOf, empty_shell}
 use Rattle.shell_model.specs.ReachableShell.{IsReachable}
-use Rattle.shell_model.proofs.Histories.{counted_up}
 use Rattle.shell_model.proofs.Undoing.{sound-distinct, first-queued}
 use Rattle.shell_model.proofs.Reached.{reached-sound, reached-on}
 use Rattle.shell_laws.specs.Capacity.{tasks_applied, items_added, items_removed, IsNearCapacity}
@@ -197,8 +195,7 @@ module _ (c : Config) where
       let o = some-oldest x.queues.window (omega (arith, above)) in
       let i : Item = o.0 in
       let m = moved-total o.0 x.queues (sound-distinct x (reached-sound x at.reached)) (first-queued o.0 x.queues.window o.1) in
-      let h : Holder = record { worker = 0; phase = p; left = l } in
-      let z : Shell = shift_effect o.0 (in_phase Evictions h x) in
+      let z : Shell = record x { queues = queues_after_move o.0 Probation x.queues; holder = Some record { worker = 0; phase = Evictions; left = l } } in
       let over : nat_lt (window_size x.config) (length x.queues.window) ≡ true = lt-ltb (window_size x.config) (length x.queues.window) above in
       let fits : nat_lt x.config.capacity (total_items (queues_after_move o.0 Probation x.queues)) ≡ false = le-ltb x.config.capacity (total_items (queues_after_move o.0 Probation x.queues)) (let s = ap (λ (d : Config). d.capacity) at.config in let t = at.total in omega (arith, m.1, room, s, t)) in
       let e : act x (step_of a.Evict) ≡ Some (reply.Shifted o.0, counted_up (reply.Shifted o.0) z) = acted x z a.Evict (reply.Shifted o.0) (omega (arith, at.applied, few)) (rw (at.holder, over, o.1, fits) refl) in (
