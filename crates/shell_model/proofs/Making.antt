@@ -119,6 +119,11 @@ evict-changes : (h : Holder) (o : Option Item) (p : Plan) (x : Shell)
 evict-changes h None p x = refl
 evict-changes h (Some c) p x = refl
 
+pub evict-is : (w : ℕ) (h : Holder) (x : Shell) → held_by w x.holder ≡ Some h → act_effect w a.Evict x ≡ Some (evict_effect (in_phase Evictions x))
+evict-is w h x e =
+    ap (λ (o : Option Holder). with_shell x (if_held (λ k. Some ((evict_effect x).0, evict_change k x)) o)) e
+    ∙ ap Some (sym (evict-changes h (candidate_of (three_queues x.config) x.queues) (eviction_plan (three_queues x.config) (admits x.frequency) x.queues) x))
+
 ended-makes : (w : ℕ) (x : Shell) (h : Holder) (d : Drain) → Holds w h x → is_over x ≡ false → x.drain ≡ d → MakesBy w x a.End ((drain_at_end d).0, change.Ended h x.drain (drain_at_end d).1)
 ended-makes w x h drain.ToRequired f o e = m.again h drain.Required f o (rw e refl)
 ended-makes w x h drain.Required f o e = m.idle h drain.Idle f o (rw e refl)
